@@ -1,0 +1,2 @@
+pub mod StampLemmas
+pub mod Rows

@@ -1,0 +1,26 @@
+-- What one event shows in the trace, and lines of a trace.
+use Rattle.std.specs.Prelude.{ℕ, Bool, false, List, map, count_by}
+use Rattle.posix.specs.declared.entry.Entry.{Entry}
+use Rattle.posix.specs.declared.entry.Entry.TheVariants.{Noted, Ended, Halted}
+
+-- an entry with the number of its event
+pub record Line : Type 0 where
+  pub event : ℕ
+  pub entry : Entry
+
+abbrev pub line : ℕ → Entry → Line
+line k e = record { event = k; entry = e }
+
+-- the entries of event k
+abbrev pub numbered : ℕ → List Entry → List Line
+numbered k entries = map (line k) entries
+
+-- a wait reports that a process ended; no entry does yet
+abbrev pub reports_end : Entry → Bool
+reports_end (Noted pid value) = false
+reports_end (Ended pid status) = false
+reports_end Halted = false
+
+-- how many ends the lines report
+abbrev pub reported : List Line → ℕ
+reported lines = count_by (λ l. reports_end l.entry) lines

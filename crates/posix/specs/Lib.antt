@@ -1,0 +1,11 @@
+pub mod Signals
+pub mod Statuses
+pub mod Errnos
+pub mod Processes
+pub mod States
+pub mod Entries
+pub mod Execute
+pub mod Step
+pub mod Runs
+pub mod Printing
+pub mod Stamps

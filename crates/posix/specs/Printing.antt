@@ -1,0 +1,22 @@
+-- A trace as text: the number of the event and the words of the entry, separated by one space, and a line feed.
+use Rattle.std.specs.Prelude.{ℕ, List, [], ◌∷◌, ◌++◌, codes, decimal, flat_map}
+use Rattle.std.specs.List.{join_with_byte}
+use Rattle.std.specs.Fmt.{signed_decimal}
+use Rattle.posix.specs.declared.entry.Entry.{Entry}
+use Rattle.posix.specs.declared.entry.Entry.TheVariants.{Noted, Ended, Halted}
+use Rattle.posix.specs.Entries.{Line}
+
+abbrev pub words_of : Entry → List (List ℕ)
+words_of (Noted pid value) = codes "note" ∷ decimal pid ∷ signed_decimal value ∷ []
+words_of (Ended pid status) = codes "end" ∷ decimal pid ∷ decimal status ∷ []
+words_of Halted = codes "halt" ∷ []
+
+-- one line
+abbrev pub printed : ℕ → Entry → List ℕ
+printed event entry = join_with_byte 32 (decimal event ∷ words_of entry) ++ 10 ∷ []
+
+abbrev pub print_line : Line → List ℕ
+print_line l = printed l.event l.entry
+
+abbrev pub print : List Line → List ℕ
+print lines = flat_map print_line lines

@@ -1,0 +1,97 @@
+-- The record of one process.
+use Rattle.std.specs.Prelude.{ℕ, Bool, true, false, not, ℤ, pos, List, [], Option, None, slice_index_or, replicate}
+use Rattle.posix.specs.declared.ids.Ids.{Ids}
+use Rattle.posix.specs.declared.process.Carried.{Carried}
+use Rattle.posix.specs.declared.process.PendingSignal.{PendingSignal}
+use Rattle.posix.specs.declared.process.Handler.TheVariants as handler
+use Rattle.posix.specs.declared.process.Action.{Action}
+use Rattle.posix.specs.declared.process.Frame.{Frame}
+use Rattle.posix.specs.declared.process.Life.{Life}
+use Rattle.posix.specs.declared.process.Life.TheVariants.{Running, Stopped, Zombie}
+use Rattle.posix.specs.declared.process.News.{News}
+use Rattle.posix.specs.declared.process.News.TheVariants as news
+use Rattle.posix.specs.declared.process.Blocked.{Blocked}
+
+-- the user machine of a process (own)
+pub record Cpu : Type 0 where
+  pub pc : ℤ  -- a code address
+  pub registers : List ℤ  -- r0 to r7
+  pub memory : List ℤ  -- the words at 0 to 255
+
+-- In the words of XBD 3 and XSH 2.4; what Linux adds is in credentials(7), signal(7) and waitpid(2).
+pub record Process : Type 0 where
+  pub pid : ℕ  -- XBD 3 Process ID
+  pub birth : ℕ  -- 1 for process 1, 2 for the next one born, .. (own)
+  pub parent : ℕ  -- XSH getppid; 0 for process 1
+  pub group : ℕ  -- XBD 3 Process Group ID
+  pub session : ℕ  -- XBD 3 Session, by its leader's number
+  pub user : Ids ℕ  -- credentials(7)
+  pub group_ids : Ids ℕ
+  pub mask : ℕ  -- the signals that it blocks, XSH sigprocmask
+  pub standard : List (Option Carried)  -- the pending standard signals: signal s at s - 1, XSH 2.4.1
+  pub queue : List PendingSignal  -- the pending real-time signals, the first to come first, XSH 2.4.2
+  pub actions : List Action  -- of signal s at s - 1, XSH 2.4.3
+  pub frames : List Frame  -- of the handlers that haven't returned, the newest first (own)
+  pub life : Life
+  pub news : News  -- what no wait has reported, XSH waitpid
+  pub ran_exec : Bool  -- since its birth, XSH setpgid EACCES
+  pub alarm : Option ℕ  -- the tick at which it is due, XSH alarm
+  pub blocked : Option Blocked  -- the call that it waits in
+  pub program : ℕ  -- its place among the programs of the world (own)
+  pub cpu : Cpu
+
+abbrev pub is_zombie : Life → Bool
+is_zombie Running = false
+is_zombie Stopped = false
+is_zombie (Zombie status) = true
+
+abbrev pub is_living : Process → Bool
+is_living r = not (is_zombie r.life)
+
+-- register i as an argument of a call
+abbrev pub argument : Process → ℕ → ℤ
+argument r i = slice_index_or r.cpu.registers i (pos 0)
+
+-- ---- process 1 at boot
+
+abbrev pub root_ids : Ids ℕ
+root_ids = record { real = 0; effective = 0; saved = 0 }
+
+unfoldable pub nothing_pending : List (Option Carried)
+nothing_pending = replicate 31 None
+
+unfoldable pub default_actions : List Action
+default_actions = replicate 64 (record { handler = handler.Default; mask = 0; flags = 0 })
+
+unfoldable pub zero_registers : List ℤ
+zero_registers = replicate 8 (pos 0)
+
+unfoldable pub zero_memory : List ℤ
+zero_memory = replicate 256 (pos 0)
+
+-- execution begins at code address 16
+abbrev pub fresh_cpu : Cpu
+fresh_cpu = record { pc = pos 16; registers = zero_registers; memory = zero_memory }
+
+abbrev pub first_process : Process
+first_process = record {
+  pid = 1;
+  birth = 1;
+  parent = 0;
+  group = 1;
+  session = 1;
+  user = root_ids;
+  group_ids = root_ids;
+  mask = 0;
+  standard = nothing_pending;
+  queue = [];
+  actions = default_actions;
+  frames = [];
+  life = Running;
+  news = news.Nothing;
+  ran_exec = false;
+  alarm = None;
+  blocked = None;
+  program = 0;
+  cpu = fresh_cpu;
+}

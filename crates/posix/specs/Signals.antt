@@ -1,0 +1,50 @@
+-- Signals by number (signal(7), x86), and what they do by default.
+use Rattle.std.specs.Prelude.{ℕ, Bool, ◌&&◌, ◌||◌, ◌==◌, if◌then◌else◌, nat_le}
+use Rattle.posix.specs.declared.sig.DefaultAction.{DefaultAction}
+use Rattle.posix.specs.declared.sig.DefaultAction.TheVariants as default
+
+abbrev pub FPE : ℕ
+FPE = 8
+
+abbrev pub SEGV : ℕ
+SEGV = 11
+
+abbrev pub CHLD : ℕ
+CHLD = 17
+
+abbrev pub CONT : ℕ
+CONT = 18
+
+abbrev pub STOP : ℕ
+STOP = 19
+
+abbrev pub TTOU : ℕ
+TTOU = 22
+
+abbrev pub URG : ℕ
+URG = 23
+
+abbrev pub WINCH : ℕ
+WINCH = 28
+
+abbrev pub is_standard : ℕ → Bool
+is_standard s = nat_le 1 s && nat_le s 31
+
+abbrev pub is_realtime : ℕ → Bool
+is_realtime s = nat_le 34 s && nat_le s 64
+
+-- 32 and 33 are no signals (own)
+abbrev pub is_signal : ℕ → Bool
+is_signal s = is_standard s || is_realtime s
+
+-- STOP, TSTP, TTIN, TTOU
+abbrev pub is_stop_signal : ℕ → Bool
+is_stop_signal s = nat_le STOP s && nat_le s TTOU
+
+-- signal(7), the table "Standard signals"; a real-time signal ends the process
+abbrev pub default_action : ℕ → DefaultAction
+default_action s =
+    if s == CHLD || s == URG || s == WINCH then default.Ignore
+    else if s == CONT then default.Continue
+    else if is_stop_signal s then default.Stop
+    else default.Terminate

@@ -1,0 +1,88 @@
+-- The state of the machine: the records of the processes, and what the system holds beside them.
+use Rattle.std.specs.Prelude.{ℕ, ◌==◌, Bool, false, not, if◌then◌else◌, List, [], ◌∷◌, ◌++◌, map, filter, find, slice_get, Option, option_and_then, replicate}
+use Rattle.posix.specs.declared.instr.Instr.{Instr}
+use Rattle.posix.specs.Processes.{Process, first_process}
+
+-- a program, and the ids that it takes on as it is run, XSH exec
+pub record Program : Type 0 where
+  pub setuid : Option ℕ
+  pub setgid : Option ℕ
+  pub instructions : List Instr
+
+-- what a world text stands for
+pub record World : Type 0 where
+  pub pidmax : ℕ
+  pub consoles : ℕ
+  pub programs : List Program
+
+-- a terminal, XBD 11.1 General Terminal Interface
+pub record Console : Type 0 where
+  pub session : ℕ  -- 0 for none
+  pub foreground : ℕ  -- a process group, 0 for none
+  pub lines : List (List ℕ)  -- finished, and not read yet
+  pub edited : List ℕ
+  pub tostop : Bool
+
+-- the whole of the machine (own)
+pub record State : Type 0 where
+  pub world : World  -- never changes
+  pub processes : List Process  -- each number once, rising
+  pub consoles : List Console
+  pub last_pid : ℕ  -- the number that was given last
+  pub births : ℕ
+  pub ticks : ℕ
+  pub order : List ℕ  -- the processes that have a place; the first is current
+  pub dropped : ℕ
+  pub halted : Bool
+
+-- ---- records
+
+abbrev pub has_pid : ℕ → Process → Bool
+has_pid p r = r.pid == p
+
+abbrev pub process : State → ℕ → Option Process
+process s p = find (has_pid p) s.processes
+
+abbrev pub at : ℕ → (Process → Process) → Process → Process
+at p f r = if r.pid == p then f r else r
+
+-- the state with the record of p changed
+abbrev pub change : State → ℕ → (Process → Process) → State
+change s p f = record s { processes = map (at p f) s.processes }
+
+-- ---- places: who may act, and in which order (own)
+
+abbrev pub without : ℕ → List ℕ → List ℕ
+without p order = filter (λ q. not (q == p)) order
+
+abbrev pub lose_place : State → ℕ → State
+lose_place s p = record s { order = without p s.order }
+
+-- the place of p is the last one
+abbrev pub go_last : State → ℕ → State
+go_last s p = record s { order = without p s.order ++ p ∷ [] }
+
+abbrev pub current : State → Option ℕ
+current s = slice_get s.order 0
+
+abbrev pub current_process : State → Option Process
+current_process s = option_and_then (process s) (current s)
+
+-- ---- the start
+
+abbrev pub unused_console : Console
+unused_console = record { session = 0; foreground = 0; lines = []; edited = []; tostop = false }
+
+-- process 1 runs the first program and has the only place (own)
+abbrev pub boot : World → State
+boot w = record {
+  world = w;
+  processes = first_process ∷ [];
+  consoles = replicate w.consoles unused_console;
+  last_pid = 1;
+  births = 1;
+  ticks = 0;
+  order = 1 ∷ [];
+  dropped = 0;
+  halted = false;
+}

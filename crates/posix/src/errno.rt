@@ -1,0 +1,41 @@
+//! Error numbers.
+
+ghost use Rattle.std.specs.Prelude.{◌≡◌};
+ghost use Rattle.posix.specs.Errnos.{errno_number};
+
+/// Why a system call is refused: the error numbers of this kernel (errno(3), x86).
+#[derive(Clone, Copy, Debug, PartialEq, Eq)]
+pub enum Errno {
+    EPERM,
+    ENOENT,
+    ESRCH,
+    EINTR,
+    EIO,
+    ECHILD,
+    EAGAIN,
+    EACCES,
+    EFAULT,
+    EINVAL,
+    ENOTTY,
+}
+
+impl Errno {
+    /// Its number; a refused call gives the negative of it.
+    pub fn number(self) -> u8
+        ensures { result ≡ errno_number self }
+    {
+        match self {
+            Errno::EPERM => 1,
+            Errno::ENOENT => 2,
+            Errno::ESRCH => 3,
+            Errno::EINTR => 4,
+            Errno::EIO => 5,
+            Errno::ECHILD => 10,
+            Errno::EAGAIN => 11,
+            Errno::EACCES => 13,
+            Errno::EFAULT => 14,
+            Errno::EINVAL => 22,
+            Errno::ENOTTY => 25,
+        }
+    }
+}

@@ -1,0 +1,10 @@
+//! Events.
+
+/// One atomic step of the machine, from outside (own).
+#[derive(Clone, Copy, Debug, PartialEq, Eq)]
+pub enum Event {
+    /// The current process does one thing.
+    Step,
+    /// The time goes on by one, and the current process goes to the end of the order.
+    Tick,
+}

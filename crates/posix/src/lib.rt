@@ -1,0 +1,26 @@
+//! Numbers and types of the kernel, and the definitions that every contract cites.
+//!
+//! The definitions stand in `specs/`: signals, status words, the record of a process, the state of
+//! the machine, one instruction, one event, whole runs, and how a trace is printed.
+#![tactic(auto)]
+
+pub mod entry;
+pub mod errno;
+pub mod event;
+pub mod ids;
+pub mod instr;
+pub mod laws;
+pub mod pid;
+pub mod process;
+pub mod sig;
+pub mod status;
+
+pub use entry::Entry;
+pub use errno::Errno;
+pub use event::Event;
+pub use ids::{Gid, Ids, Uid};
+pub use instr::{Call, Instr, Register, Trap};
+pub use pid::Pid;
+pub use process::{Action, Blocked, Carried, Frame, Handler, Life, News, PendingSignal};
+pub use sig::{DefaultAction, Sig, SigSet};
+pub use status::Status;

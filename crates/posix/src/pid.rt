@@ -1,0 +1,54 @@
+//! Process numbers.
+
+ghost use Rattle.std.specs.Prelude.{◌≡◌, ◌≤◌, ◌↔◌, IsSome, IfSome};
+
+use std::marker::Model;
+
+/// The number of a process, a process group or a session: 0 to 2,147,483,647 (`pid_t`).
+///
+/// Number 0 is no process: it is the parent of process 1 and the sender of the kernel's own signals,
+/// and stands for no session and no foreground process group.
+#[derive(Clone, Copy, Debug, PartialEq, Eq, PartialOrd, Ord)]
+pub struct Pid {
+    number: u32,
+}
+
+impl Model for Pid {
+    ghost use Rattle.std.specs.Prelude.{ℕ, ◌≤◌};
+
+    ghost Value = { ℕ };
+
+    ghost view = { λ p. p.number };
+
+    ghost invariant = { λ p. p.number ≤ 2147483647 };
+
+    ghost inverse = { λ n. record { number = n } };
+}
+
+impl Pid {
+    /// Process 1, which runs the first program of a world and whose end halts the machine.
+    pub const INIT: Pid = Pid { number: 1 };
+
+    /// The greatest number of a `Pid`.
+    pub const MAX: u32 = 2_147_483_647;
+
+    /// The process number `number`; none above [`Pid::MAX`].
+    pub fn new(number: u32) -> Option<Pid>
+        ensures some { IsSome result ↔ (number ≤ 2147483647) }
+        ensures value { IfSome result (λ p. p ≡ number) }
+    {
+        if number <= Pid::MAX {
+            Some(Pid { number })
+        } else {
+            None
+        }
+    }
+
+    /// Its number.
+    pub fn number(self) -> u32
+        ensures value { result ≡ self }
+        ensures range { result ≤ 2147483647 }
+    {
+        self.number
+    }
+}

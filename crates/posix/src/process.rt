@@ -1,0 +1,71 @@
+//! What the record of a process is made of.
+
+use crate::pid::Pid;
+use crate::sig::{Sig, SigSet};
+use crate::status::Status;
+
+/// What comes with a signal: a value and its sender, number 0 where the kernel sent it.
+#[derive(Clone, Copy, Debug, PartialEq, Eq)]
+pub struct Carried {
+    pub value: i64,
+    pub sender: Pid,
+}
+
+/// A pending signal with what comes with it.
+#[derive(Clone, Copy, Debug, PartialEq, Eq)]
+pub struct PendingSignal {
+    pub sig: Sig,
+    pub carried: Carried,
+}
+
+/// What a process does with a signal that is delivered: the default, nothing, or the code at an
+/// address (XSH 2.4.3 Signal Actions).
+#[derive(Clone, Copy, Debug, PartialEq, Eq)]
+pub enum Handler {
+    Default,
+    Ignore,
+    At(i64),
+}
+
+/// The action for one signal: its handler, the signals that the handler blocks besides, and flags
+/// (XSH sigaction): SA_NOCLDSTOP 1, SA_NOCLDWAIT 2, SA_SIGINFO 4, SA_RESTART 0x10000000, SA_NODEFER
+/// 0x40000000, SA_RESETHAND 0x80000000.
+#[derive(Clone, Copy, Debug, PartialEq, Eq)]
+pub struct Action {
+    pub handler: Handler,
+    pub mask: SigSet,
+    pub flags: u64,
+}
+
+/// What a handler gives back as it returns.
+#[derive(Clone, Copy, Debug, PartialEq, Eq)]
+pub struct Frame {
+    pub pc: i64,
+    pub registers: [i64; 8],
+    pub mask: SigSet,
+}
+
+/// Whether a process runs, is stopped or has ended. Running and stopped processes are living.
+#[derive(Clone, Copy, Debug, PartialEq, Eq)]
+pub enum Life {
+    Running,
+    Stopped,
+    Zombie(Status),
+}
+
+/// What happened to a process that no wait has reported yet.
+#[derive(Clone, Copy, Debug, PartialEq, Eq)]
+pub enum News {
+    Nothing,
+    StoppedBy(Sig),
+    Continued,
+}
+
+/// The call that a process is blocked in; for sigsuspend with the signal mask before it.
+#[derive(Clone, Copy, Debug, PartialEq, Eq)]
+pub enum Blocked {
+    Waitpid,
+    Read,
+    Pause,
+    Sigsuspend(SigSet),
+}

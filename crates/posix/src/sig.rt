@@ -1,0 +1,202 @@
+//! Signals.
+
+ghost use Rattle.std.specs.Prelude.{◌≡◌, ◌↔◌, IsSome, IfSome, true};
+ghost use Rattle.std.specs.List.{range_with_len};
+ghost use Rattle.posix.specs.Signals.{is_signal, is_realtime as is_realtime_number, default_action as default_action_of};
+
+use std::marker::Model;
+
+/// A signal's number: 1 to 31 for the standard signals, 34 to 64 for the real-time signals
+/// (signal(7), x86). The numbers 32 and 33 are no signals (own).
+#[derive(Clone, Copy, Debug, PartialEq, Eq, PartialOrd, Ord)]
+pub struct Sig {
+    number: u8,
+}
+
+impl Model for Sig {
+    ghost use Rattle.std.specs.Prelude.{ℕ, ◌≡◌, true};
+    ghost use Rattle.posix.specs.Signals.{is_signal};
+
+    ghost Value = { ℕ };
+
+    ghost view = { λ s. s.number };
+
+    ghost invariant = { λ s. is_signal s.number ≡ true };
+
+    ghost inverse = { λ n. record { number = n } };
+}
+
+/// What a signal does to a process whose action for it is the default (signal(7), "Standard
+/// signals").
+#[derive(Clone, Copy, Debug, PartialEq, Eq)]
+pub enum DefaultAction {
+    Terminate,
+    Ignore,
+    Stop,
+    Continue,
+}
+
+impl Sig {
+    pub const HUP: Sig = Sig { number: 1 };
+
+    pub const INT: Sig = Sig { number: 2 };
+
+    pub const QUIT: Sig = Sig { number: 3 };
+
+    pub const ILL: Sig = Sig { number: 4 };
+
+    pub const TRAP: Sig = Sig { number: 5 };
+
+    pub const ABRT: Sig = Sig { number: 6 };
+
+    pub const BUS: Sig = Sig { number: 7 };
+
+    pub const FPE: Sig = Sig { number: 8 };
+
+    pub const KILL: Sig = Sig { number: 9 };
+
+    pub const USR1: Sig = Sig { number: 10 };
+
+    pub const SEGV: Sig = Sig { number: 11 };
+
+    pub const USR2: Sig = Sig { number: 12 };
+
+    pub const PIPE: Sig = Sig { number: 13 };
+
+    pub const ALRM: Sig = Sig { number: 14 };
+
+    pub const TERM: Sig = Sig { number: 15 };
+
+    pub const STKFLT: Sig = Sig { number: 16 };
+
+    pub const CHLD: Sig = Sig { number: 17 };
+
+    pub const CONT: Sig = Sig { number: 18 };
+
+    pub const STOP: Sig = Sig { number: 19 };
+
+    pub const TSTP: Sig = Sig { number: 20 };
+
+    pub const TTIN: Sig = Sig { number: 21 };
+
+    pub const TTOU: Sig = Sig { number: 22 };
+
+    pub const URG: Sig = Sig { number: 23 };
+
+    pub const XCPU: Sig = Sig { number: 24 };
+
+    pub const XFSZ: Sig = Sig { number: 25 };
+
+    pub const VTALRM: Sig = Sig { number: 26 };
+
+    pub const PROF: Sig = Sig { number: 27 };
+
+    pub const WINCH: Sig = Sig { number: 28 };
+
+    pub const IO: Sig = Sig { number: 29 };
+
+    pub const PWR: Sig = Sig { number: 30 };
+
+    pub const SYS: Sig = Sig { number: 31 };
+
+    /// The standard signals, 1 to 31, in their order (signal(7)).
+    pub fn standard() -> [Sig; 31]
+        ensures { result ≡ range_with_len 1 31 }
+    {
+        [
+            Sig::HUP,
+            Sig::INT,
+            Sig::QUIT,
+            Sig::ILL,
+            Sig::TRAP,
+            Sig::ABRT,
+            Sig::BUS,
+            Sig::FPE,
+            Sig::KILL,
+            Sig::USR1,
+            Sig::SEGV,
+            Sig::USR2,
+            Sig::PIPE,
+            Sig::ALRM,
+            Sig::TERM,
+            Sig::STKFLT,
+            Sig::CHLD,
+            Sig::CONT,
+            Sig::STOP,
+            Sig::TSTP,
+            Sig::TTIN,
+            Sig::TTOU,
+            Sig::URG,
+            Sig::XCPU,
+            Sig::XFSZ,
+            Sig::VTALRM,
+            Sig::PROF,
+            Sig::WINCH,
+            Sig::IO,
+            Sig::PWR,
+            Sig::SYS,
+        ]
+    }
+
+    /// The signal `number`; none where no signal has that number.
+    pub fn new(number: u8) -> Option<Sig>
+        ensures some { IsSome result ↔ (is_signal number ≡ true) }
+        ensures value { IfSome result (λ s. s ≡ number) }
+    {
+        if matches!(number, 1..=31 | 34..=64) {
+            Some(Sig { number })
+        } else {
+            None
+        }
+    }
+
+    /// Its number.
+    pub fn number(self) -> u8
+        ensures value { result ≡ self }
+        ensures range { is_signal result ≡ true }
+    {
+        self.number
+    }
+
+    /// Whether it is a real-time signal.
+    pub fn is_realtime(self) -> bool
+        ensures { result ≡ is_realtime_number self }
+    {
+        self.number >= 34
+    }
+
+    /// What it does where the action for it is the default.
+    pub fn default_action(self) -> DefaultAction
+        ensures { result ≡ default_action_of self }
+    {
+        match self.number {
+            17 | 23 | 28 => DefaultAction::Ignore,
+            18 => DefaultAction::Continue,
+            19..=22 => DefaultAction::Stop,
+            _ => DefaultAction::Terminate,
+        }
+    }
+}
+
+/// A set of signals, as a signal mask: signal s is bit s - 1.
+#[derive(Clone, Copy, Debug, PartialEq, Eq)]
+pub struct SigSet {
+    bits: u64,
+}
+
+impl Model for SigSet {
+    ghost use Rattle.std.specs.Prelude.{ℕ};
+
+    ghost Value = { ℕ };
+
+    ghost view = { λ s. s.bits };
+
+    ghost invariant = { λ _. Unit {0} };
+
+    ghost inverse = { λ n. record { bits = n } };
+}
+
+impl SigSet {
+    /// No signal.
+    pub const EMPTY: SigSet = SigSet { bits: 0 };
+}

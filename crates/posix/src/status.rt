@@ -1,0 +1,69 @@
+//! Wait statuses.
+
+ghost use Rattle.std.specs.Prelude.{◌≡◌, ◌<◌, ◌^◌};
+ghost use Rattle.posix.specs.Statuses.{exited as exited_word, killed as killed_word, stopped as stopped_word, continued as continued_word};
+
+use crate::sig::Sig;
+use std::marker::Model;
+
+/// What a wait reports of a process, as the status word of waitpid(2): 0 to 65,535.
+#[derive(Clone, Copy, Debug, PartialEq, Eq)]
+pub struct Status {
+    word: u16,
+}
+
+impl Model for Status {
+    ghost use Rattle.std.specs.Prelude.{ℕ, ◌<◌, ◌^◌};
+
+    ghost Value = { ℕ };
+
+    ghost view = { λ s. s.word };
+
+    ghost invariant = { λ s. s.word < 2 ^ 16 };
+
+    ghost inverse = { λ n. record { word = n } };
+}
+
+impl Status {
+    /// The process exited. Of the code the low eight bits count (XSH _exit).
+    pub fn exited(code: i64) -> Status
+        ensures { result ≡ exited_word code }
+    {
+        Status {
+            word: (code.cast_unsigned() % 256) as u16 * 256,
+        }
+    }
+
+    /// A signal ended the process.
+    pub fn killed(sig: Sig) -> Status
+        ensures { result ≡ killed_word sig }
+    {
+        Status {
+            word: u16::from(sig.number()),
+        }
+    }
+
+    /// A signal stopped the process.
+    pub fn stopped(sig: Sig) -> Status
+        ensures { result ≡ stopped_word sig }
+    {
+        Status {
+            word: u16::from(sig.number()) * 256 + 0x7f,
+        }
+    }
+
+    /// The process was continued.
+    pub fn continued() -> Status
+        ensures { result ≡ continued_word }
+    {
+        Status { word: 0xffff }
+    }
+
+    /// The status word.
+    pub fn word(self) -> u16
+        ensures value { result ≡ self }
+        ensures range { result < 2 ^ 16 }
+    {
+        self.word
+    }
+}
