@@ -1,0 +1,5 @@
+pub mod WordLemmas
+pub mod LineLemmas
+pub mod EventLemmas
+pub mod ReaderLemmas
+pub mod Rows

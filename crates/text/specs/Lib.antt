@@ -1,0 +1,7 @@
+pub mod Lines
+pub mod Words
+pub mod Numbers
+pub mod Reading
+pub mod EventLists
+pub mod EventTexts
+pub mod WorldTexts

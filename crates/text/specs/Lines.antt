@@ -1,0 +1,29 @@
+-- The lines of a text: each ends in a line feed, which the last may lack.
+use Rattle.std.specs.Prelude.{ℕ, ◌==◌, List, [], ◌∷◌, ◌++◌, if◌then◌else◌}
+
+-- the lines that are ended, and what follows the last line feed
+pub record Lines : Type 0 where
+  pub whole : List (List ℕ)
+  pub rest : List ℕ
+
+-- one line before others
+abbrev pub after_line : List ℕ → Lines → Lines
+after_line line ls = record ls { whole = line ∷ ls.whole }
+
+-- the lines of a text, of whose first line some bytes have come
+abbrev pub lines_from : List ℕ → List ℕ → Lines
+lines_from begun [] = record { whole = []; rest = begun }
+lines_from begun (b ∷ bs) = if b == 10 then after_line begun (lines_from [] bs) else lines_from (begun ++ b ∷ []) bs
+
+-- the lines of a text
+abbrev pub lines_of : List ℕ → Lines
+lines_of text = lines_from [] text
+
+-- a final line feed doesn't begin another line
+abbrev pub last_line : List ℕ → List (List ℕ)
+last_line [] = []
+last_line (b ∷ bs) = (b ∷ bs) ∷ []
+
+-- every line, the last also where it lacks its line feed
+abbrev pub all_lines : List ℕ → List (List ℕ)
+all_lines text = (lines_of text).whole ++ last_line (lines_of text).rest

@@ -1,0 +1,49 @@
+-- Numbers in words.
+use Rattle.std.specs.Prelude.{ℕ, ◌+◌, ◌-◌, ◌*◌, fold, length, nat_lt, ◌==◌, ◌&&◌, ℤ, pos, neg_ℤ, negsuc, Bool, List, [], ◌∷◌, if◌then◌else◌, Option, Some, None, Result, Ok, Err, int_le, unsigned_abs, option_map}
+use Rattle.std.specs.List.{list_all}
+use Rattle.std.specs.Char.{is_ascii_digit}
+use Rattle.text.specs.declared.fault.Reason.{Reason}
+use Rattle.text.specs.declared.fault.Reason.TheVariants.{BadNumber, OutOfRange}
+
+-- the number that decimal digits stand for
+abbrev pub value_of : List ℕ → ℕ
+value_of ds = fold (λ n d. n * 10 + (d - 48)) 0 ds
+
+-- one or more decimal digits
+abbrev pub is_numeral : List ℕ → Bool
+is_numeral ds = nat_lt 0 (length ds) && list_all is_ascii_digit ds
+
+-- a number without a sign
+abbrev pub natural : List ℕ → Option ℕ
+natural ds = if is_numeral ds then Some (value_of ds) else None
+
+-- an optional `-` and one or more digits
+abbrev pub number : List ℕ → Option ℤ
+number [] = None
+number (b ∷ bs) = if b == 45 then option_map (λ n. neg_ℤ (pos n)) (natural bs) else option_map pos (natural (b ∷ bs))
+
+-- from low to high
+abbrev pub is_within : ℤ → ℤ → ℤ → Bool
+is_within low high z = int_le low z && int_le z high
+
+-- from -2 ^ 63 to 2 ^ 63 - 1
+abbrev pub is_i64 : ℤ → Bool
+is_i64 z = is_within (negsuc 9223372036854775807) (pos 9223372036854775807) z
+
+-- a number, if there is one, has to be in its range
+abbrev pub ranged : ℕ → ℕ → Option ℤ → Result ℕ Reason
+ranged low high None = Err BadNumber
+ranged low high (Some z) = if is_within (pos low) (pos high) z then Ok (unsigned_abs z) else Err OutOfRange
+
+-- a number from low to high
+abbrev pub number_in : ℕ → ℕ → List ℕ → Result ℕ Reason
+number_in low high w = ranged low high (number w)
+
+-- likewise for an i64
+abbrev pub fitting : Option ℤ → Result ℤ Reason
+fitting None = Err BadNumber
+fitting (Some z) = if is_i64 z then Ok z else Err OutOfRange
+
+-- an i64
+abbrev pub integer : List ℕ → Result ℤ Reason
+integer w = fitting (number w)

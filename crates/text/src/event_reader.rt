@@ -1,0 +1,203 @@
+//! Event texts, read in pieces.
+
+ghost use Rattle.std.specs.Prelude.{◌≡◌, ◌-◌, ◌≤◌, [], ◌∷◌, ◌++◌, length, List, ℕ, Some, None, Err, MatchResult, IfOk, IfErr, IfSome, IsSome};
+ghost use Rattle.text.specs.Words.{words};
+ghost use Rattle.text.specs.Reading.{Answers, IsFaultOf};
+ghost use Rattle.text.specs.EventTexts.{Adds, EndsLine, Meets, HasRead, event_line as event_line_of, counted as counted_of, event_text, most_events};
+
+use crate::event_list::EventList;
+use crate::fault::{Reason, TextFault};
+use crate::numbers::number_in;
+use crate::words::{first_word, next_word, no_more_words, words_within};
+use arrayvec::ArrayVec;
+use posix::Event;
+use std::alloc::Global;
+use std::marker::Model;
+
+/// The most events of a text.
+const MAX_EVENTS: u64 = 1_000_000_000_000;
+
+/// Adds the events of `step N` or `tick N`, N from 1 to 1,000,000, where `line` is what stands behind
+/// the first word. More events than a text may have are `OutOfRange`. After an error the list is
+/// unchanged.
+#[tactic(auto, unfolding(crate::specs::EventTexts::counted))]
+fn add_counted(list: &mut EventList, event: Event, line: &[u8]) -> Result<(), Reason>
+    requires { length list.old ≤ most_events }
+    ensures adds { Adds list.old list.new result (counted_of (most_events - length list.old) event (words line.now)) }
+    ensures within { length list.new ≤ most_events }
+{
+    let (word, rest) = first_word(line)?;
+    let count = u64::from(number_in(1, 1_000_000, word)?);
+    if count > MAX_EVENTS - list.len() {
+        return Err(Reason::OutOfRange);
+    }
+    no_more_words(rest)?;
+    list.push(event, count)?;
+    Ok(())
+}
+
+/// Adds the events of a line. After an error the list is unchanged.
+fn add_line(list: &mut EventList, line: &[u8]) -> Result<(), Reason>
+    requires { length list.old ≤ most_events }
+    ensures adds { (consoles : ℕ) → Adds list.old list.new result (event_line_of consoles (most_events - length list.old) line.now) }
+    ensures within { length list.new ≤ most_events }
+{
+    let Some((word, rest)) = next_word(words_within(line)?) else {
+        return Ok(());
+    };
+    match word {
+        b"step" => add_counted(list, Event::Step, rest),
+        b"tick" => add_counted(list, Event::Tick, rest),
+        _ => Err(Reason::UnknownWord),
+    }
+}
+
+/// Reads an event text that comes in pieces, however it is cut.
+///
+/// A line is `step N` or `tick N`, N from 1 to 1,000,000: so many events. A text has at most
+/// 1,000,000,000,000 events.
+#[derive(Drop)]
+pub struct EventReader {
+    consoles: u8,
+    events: EventList,
+    /// How many lines ended.
+    lines: u64,
+    /// The line that hasn't ended, up to one byte above the limit.
+    partial: ArrayVec<u8, 201>,
+    fault: Option<TextFault>,
+}
+
+impl Model for EventReader {
+    ghost use Rattle.std.specs.Prelude.{◌≤◌, length};
+    ghost use Rattle.text.specs.EventTexts.{Progress, most_events};
+
+    ghost Value = { Progress };
+
+    ghost view = { λ r. record { consoles = r.consoles; reading = record { lines = r.lines; events = r.events; fault = r.fault }; partial = r.partial.items } };
+
+    ghost invariant = { λ r. length r.events ≤ most_events };
+}
+
+impl EventReader {
+    /// Before the first piece of a text for a world of so many consoles.
+    pub fn new(alloc: Global, consoles: u8) -> EventReader
+        ensures read { HasRead [] result }
+        ensures consoles { result.consoles ≡ consoles }
+        ensures fault { result.reading.fault ≡ None }
+    {
+        EventReader {
+            consoles,
+            events: EventList::new(alloc),
+            lines: 0,
+            partial: ArrayVec::new(),
+            fault: None,
+        }
+    }
+
+    /// The number of consoles of the world that the text is for.
+    pub fn consoles(&self) -> u8
+        ensures { result ≡ self.now.consoles }
+    {
+        self.consoles
+    }
+
+    /// Judges the line that has come.
+    fn end_line(&mut self)
+        requires { self.old.reading.fault ≡ None }
+        ensures ends { EndsLine self.old self.new }
+        ensures consoles { self.new.consoles ≡ self.old.consoles }
+    {
+        if self.lines == u64::MAX {
+            self.fault = Some(TextFault {
+                line: u64::MAX,
+                reason: Reason::Memory,
+            });
+            return;
+        }
+        let line = self.lines + 1;
+        let judged = add_line(&mut self.events, self.partial.as_slice());
+        self.partial.clear();
+        match judged {
+            Ok(()) => self.lines = line,
+            Err(reason) => self.fault = Some(TextFault { line, reason }),
+        }
+    }
+
+    /// Takes one byte of the text.
+    fn feed_byte(&mut self, byte: u8)
+        ensures read { (text : List ℕ) → HasRead text self.old → HasRead (text ++ byte ∷ []) self.new }
+        ensures consoles { self.new.consoles ≡ self.old.consoles }
+        ensures stays { IsSome self.old.reading.fault → self.new ≡ self.old }
+    {
+        if self.fault.is_some() {
+            return;
+        }
+        if byte == b'\n' {
+            self.end_line();
+            return;
+        }
+        if self.partial.is_full() {
+            return;
+        }
+        self.partial.push(byte);
+    }
+
+    /// Takes the next piece of the text.
+    ///
+    /// The answer is a fault as soon as the end of a faulty line has come, or with reason `Memory` where
+    /// memory is refused or the lines are too many to be counted. From then on the reader stays as it
+    /// is, and each call answers that fault.
+    pub fn feed(&mut self, piece: &[u8]) -> Result<(), TextFault>
+        ensures read { (text : List ℕ) → HasRead text self.old → HasRead (text ++ piece.now) self.new }
+        ensures fault { MatchResult result (λ _. self.new.reading.fault ≡ None) (λ f. self.new.reading.fault ≡ Some f) }
+        ensures answer { IfErr result (λ f. (text more : List ℕ) → HasRead text self.old → IsFaultOf (event_text self.old.consoles (text ++ piece.now ++ more)) f) }
+        ensures stays { IsSome self.old.reading.fault → self.new ≡ self.old }
+        ensures consoles { self.new.consoles ≡ self.old.consoles }
+    {
+        for byte in piece {
+            self.feed_byte(*byte);
+        }
+        if let Some(fault) = self.fault {
+            return Err(fault);
+        }
+        Ok(())
+    }
+
+    /// Judges the last line, where it lacks its line feed.
+    fn end_text(&mut self)
+        ensures meets { (text : List ℕ) → HasRead text self.old → Meets self.new.reading (event_text self.old.consoles text) }
+        ensures stays { IsSome self.old.reading.fault → self.new ≡ self.old }
+    {
+        if self.fault.is_some() {
+            return;
+        }
+        if self.partial.is_empty() {
+            return;
+        }
+        self.end_line();
+    }
+
+    /// The events of the text that came, or its least faulty line and the reason: the fault that was
+    /// answered before, where there was one.
+    pub fn finish(mut self) -> Result<EventList, TextFault>
+        ensures answer { (text : List ℕ) → HasRead text self → Answers result (event_text self.consoles text) }
+        ensures fault { IfSome self.reading.fault (λ f. result ≡ Err f) }
+        ensures within { IfOk result (λ list. length list ≤ most_events) }
+    {
+        self.end_text();
+        match self.fault {
+            Some(fault) => Err(fault),
+            None => Ok(self.events),
+        }
+    }
+}
+
+/// The events of a whole text for a world of so many consoles, or its least faulty line and the reason.
+pub fn read_events(alloc: Global, consoles: u8, text: &[u8]) -> Result<EventList, TextFault>
+    ensures answer { Answers result (event_text consoles text.now) }
+    ensures within { IfOk result (λ list. length list ≤ most_events) }
+{
+    let mut reader = EventReader::new(alloc, consoles);
+    reader.feed(text)?;
+    reader.finish()
+}

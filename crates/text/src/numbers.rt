@@ -1,0 +1,67 @@
+//! Numbers in words: an optional `-`, and one or more decimal digits.
+
+ghost use Rattle.std.specs.Prelude.{◌≡◌, ◌≤◌, ◌^◌, ◌-◌, true, min, IfOk};
+ghost use Rattle.std.specs.List.{list_all};
+ghost use Rattle.std.specs.Char.{is_ascii_digit};
+ghost use Rattle.text.specs.Numbers.{integer as integer_of, is_numeral, number_in as number_in_of, value_of};
+
+use crate::fault::Reason;
+
+/// Whether all bytes are digits.
+fn are_digits(text: &[u8]) -> bool
+    ensures { result ≡ list_all is_ascii_digit text.now }
+{
+    text.iter().all(|b| b.is_ascii_digit())
+}
+
+/// Whether these are one or more digits.
+fn is_number(text: &[u8]) -> bool
+    ensures { result ≡ is_numeral text.now }
+{
+    !text.is_empty() && are_digits(text)
+}
+
+/// The value of digits, or the greatest u64 where it is greater.
+#[tactic(auto, using(std::proofs::lemmas::List::Sums::fold_more))]
+fn magnitude(text: &[u8]) -> u64
+    requires { is_numeral text.now ≡ true }
+    ensures { result ≡ min (value_of text.now) (2 ^ 64 - 1) }
+{
+    let mut value: u64 = 0;
+    for b in text {
+        value = value
+            .saturating_mul(10)
+            .saturating_add(u64::from(b.saturating_sub(b'0')));
+    }
+    value
+}
+
+/// The i64 that a word says. No number is `BadNumber`, and one outside i64 `OutOfRange`.
+pub fn integer(word: &[u8]) -> Result<i64, Reason>
+    ensures { result ≡ integer_of word.now }
+{
+    let negative = !word.is_empty() && word[0] == b'-';
+    let digits = if negative { &word[1..] } else { word };
+    if !is_number(digits) {
+        return Err(Reason::BadNumber);
+    }
+    let magnitude = magnitude(digits);
+    match i64::try_from(magnitude) {
+        Ok(value) => Ok(if negative { -value } else { value }),
+        Err(_) if negative && magnitude == i64::MIN.unsigned_abs() => Ok(i64::MIN),
+        Err(_) => Err(Reason::OutOfRange),
+    }
+}
+
+/// The number from `low` to `high` that a word says. No number is `BadNumber`, and another
+/// `OutOfRange`.
+pub fn number_in(low: u32, high: u32, word: &[u8]) -> Result<u32, Reason>
+    ensures value { result ≡ number_in_of low high word.now }
+    ensures range { IfOk result (λ n. (low ≤ n) × (n ≤ high)) }
+{
+    let value = integer(word)?;
+    if value < i64::from(low) || value > i64::from(high) {
+        return Err(Reason::OutOfRange);
+    }
+    u32::try_from(value).map_err(|_| Reason::OutOfRange)
+}
