@@ -1,0 +1,44 @@
+-- Counted runs of events, one after another.
+use Rattle.std.proofs.Common.{◌≡◌, ℕ, ◌+◌, ◌-◌, ◌<◌, ◌≤◌, List, [], ◌∷◌, ◌++◌, length, take, drop, ap, sym, ◌∙◌, append-nil, length-append, get_or, arith}
+use Rattle.std.specs.Prelude.{replicate}
+use Rattle.std.proofs.lemmas.List.{length-replicate, replicate-append-replicate, take_more, take-append-drop}
+use Rattle.std.proofs.lemmas.List.Concat.{flat_map-append}
+use Rattle.std.proofs.lemmas.Grind.{common_steps}
+use Rattle.posix.specs.declared.event.Event.{Event}
+use Rattle.text.specs.declared.event_list.EventRun.{EventRun}
+use Rattle.text.specs.EventLists.{expanded, run_events}
+
+pub replicate_more : (n : ℕ) (x : Event) → replicate n x ++ x ∷ [] ≡ replicate (n + 1) x
+replicate_more n x = grind (arith, common_steps)
+
+pub replicate_split : (i n : ℕ) (x : Event) → i < n → (replicate i x ++ x ∷ []) ++ replicate (n - (i + 1)) x ≡ replicate n x
+replicate_split i n x lt =
+    let all : (i + 1) + (n - (i + 1)) ≡ n = omega arith in
+    ap (λ (l : List Event). l ++ replicate (n - (i + 1)) x) (replicate_more i x) ∙ replicate-append-replicate (i + 1) (n - (i + 1)) x ∙ ap (λ (m : ℕ). replicate m x) all
+
+pub expanded_more : (rs : List EventRun) (i : ℕ) (d : EventRun) → i < length rs → expanded (take (i + 1) rs) ≡ expanded (take i rs) ++ run_events (get_or rs i d)
+expanded_more rs i d lt =
+    ap expanded (take_more rs i d lt) ∙ flat_map-append run_events (take i rs) (get_or rs i d ∷ [])
+    ∙ ap (λ (l : List Event). expanded (take i rs) ++ l) (append-nil (run_events (get_or rs i d)))
+
+pub expanded_split : (rs : List EventRun) (i : ℕ) (d : EventRun) → i < length rs → (expanded (take i rs) ++ run_events (get_or rs i d)) ++ expanded (drop (i + 1) rs) ≡ expanded rs
+expanded_split rs i d lt =
+    ap (λ (l : List Event). l ++ expanded (drop (i + 1) rs)) (sym (expanded_more rs i d lt)) ∙ sym (flat_map-append run_events (take (i + 1) rs) (drop (i + 1) rs))
+    ∙ ap expanded (take-append-drop (i + 1) rs)
+
+-- the run at i is within the limit that all are within
+pub run_fits : (rs : List EventRun) (d : EventRun) (now old i most : ℕ) (all : List Event) → i < length rs → expanded rs ≡ all → now ≡ old + length (expanded (take i rs)) →
+    old + length all ≤ most → now + (get_or rs i d).count ≤ most
+run_fits rs d now old i most all lt same at fits =
+    let split = ap length (expanded_split rs i d lt ∙ same) in
+    let len : length ((expanded (take i rs) ++ run_events (get_or rs i d)) ++ expanded (drop (i + 1) rs)) ≡
+    (length (expanded (take i rs)) + (get_or rs i d).count) + length (expanded (drop (i + 1) rs)) =
+    simp (length-append, length-replicate) in
+    omega (arith, split, len)
+
+pub events_more : (rs : List EventRun) (d : EventRun) (i old now new : ℕ) → i < length rs → now ≡ old + length (expanded (take i rs)) → new ≡ now + (get_or rs i d).count →
+    new ≡ old + length (expanded (take (i + 1) rs))
+events_more rs d i old now new lt at more =
+    let len : length (expanded (take i rs) ++ run_events (get_or rs i d)) ≡ length (expanded (take i rs)) + (get_or rs i d).count = simp (length-append, length-replicate) in
+    let step = ap length (expanded_more rs i d lt) in
+    omega (arith, step, len)

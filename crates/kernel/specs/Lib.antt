@@ -1,0 +1,5 @@
+pub mod Sinks
+pub mod Views
+pub mod Progress
+pub mod Summaries
+pub mod Headline

@@ -1,0 +1,57 @@
+//! A run, from two texts to a printed trace.
+
+ghost use Rattle.kernel.specs.Headline.{Headline};
+
+use crate::machine::Kernel;
+use crate::progress::write_trace;
+use crate::sink::Sink;
+use crate::summary::Summary;
+use std::alloc::Global;
+use text::{Reason, TextFault, read_events, read_world};
+use thiserror::Error;
+
+/// Why a run didn't come to its end.
+#[derive(Clone, Copy, Debug, PartialEq, Eq, Error)]
+pub enum RunError {
+    /// The world text is refused; nothing was put.
+    #[error("world: {0}")]
+    World(TextFault),
+    /// The event text is refused; nothing was put.
+    #[error("events: {0}")]
+    Events(TextFault),
+    /// There was no memory to read the texts and to boot; nothing was put.
+    #[error("out of memory")]
+    Memory,
+    /// The sink failed. What it took is a beginning of the trace.
+    #[error("cannot write")]
+    Write,
+}
+
+/// Runs the events of a text in the world of another, and puts the printed trace into a sink.
+///
+/// Both texts are read whole before the first byte is put, the world text first. Lines are put in
+/// pieces of 8 KiB or more, but for the last. After a put that failed nothing is put.
+pub fn run<S: Sink>(
+    alloc: Global,
+    world: &[u8],
+    events: &[u8],
+    out: &mut S,
+) -> Result<Summary, RunError>
+    ensures { Headline world.now events.now out.old out.new (S.seen out.old) (S.seen out.new) result }
+{
+    let world = read_world(alloc, world).map_err(|fault| match fault.reason {
+        Reason::Memory => RunError::Memory,
+        _ => RunError::World(fault),
+    })?;
+    let events = read_events(alloc, world.consoles(), events).map_err(
+        |fault| match fault.reason {
+            Reason::Memory => RunError::Memory,
+            _ => RunError::Events(fault),
+        },
+    )?;
+    let mut kernel = Kernel::boot(alloc, &world).map_err(|_| RunError::Memory)?;
+    match write_trace(&mut kernel, &events, out) {
+        Ok(()) => Ok(kernel.summary()),
+        Err(_) => Err(RunError::Write),
+    }
+}
