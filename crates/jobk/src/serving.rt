@@ -1,0 +1,164 @@
+//! What the program does: its texts and its statuses.
+
+ghost use Rattle.std.specs.Prelude.{◌≤◌};
+
+use crate::words::{Request, requested};
+use arrayvec::ArrayString;
+use kernel::{RunError, Sink, SinkFault, put_all, run};
+use std::alloc::Global;
+use std::fmt::Write;
+
+/// Why a file isn't read.
+#[derive(Clone, Copy, Debug, PartialEq, Eq)]
+pub enum FileFault {
+    /// There is no such file, or the device failed.
+    Device,
+    /// There was no memory for its bytes.
+    Memory,
+}
+
+/// Why the words aren't known.
+#[derive(Clone, Copy, Debug, PartialEq, Eq)]
+pub enum WordsFault {
+    /// A word is no text in UTF-8.
+    NotText,
+    /// There was no memory for the words.
+    Memory,
+}
+
+/// Reads named files.
+pub trait ReadFiles {
+    /// The bytes of a file.
+    fn read_file(&self, name: &str) -> Result<Vec<u8>, FileFault>;
+}
+
+/// Why the program doesn't end with status 0.
+#[derive(Clone, Copy, Debug, PartialEq, Eq)]
+enum Failure<'a> {
+    Usage,
+    CannotRead(&'a str),
+    Run(RunError),
+}
+
+const USAGE: &[u8] = b"usage: jobk run WORLD EVENTS | jobk audit TRACE\n";
+
+/// The world that is run without any words: a program that notes a number and exits.
+const STORED_WORLD: &[u8] =
+    b"pidmax 40\nconsoles 1\nprogram init\nset r1, 7\nnote r1\nsys exit\nend\n";
+
+const STORED_EVENTS: &[u8] = b"step 3\n";
+
+impl<'a> Failure<'a> {
+    /// Why a file of this name isn't read.
+    fn of_file(fault: FileFault, name: &'a str) -> Self {
+        match fault {
+            FileFault::Device => Failure::CannotRead(name),
+            FileFault::Memory => Failure::Run(RunError::Memory),
+        }
+    }
+
+    /// The status of the program, which isn't 0.
+    fn status(self) -> u8
+        ensures { (1 ≤ result) × (result ≤ 3) }
+    {
+        match self {
+            Failure::Run(RunError::World(_) | RunError::Events(_)) => 1,
+            Failure::Usage => 2,
+            Failure::CannotRead(_) | Failure::Run(RunError::Memory | RunError::Write) => 3,
+        }
+    }
+}
+
+/// Runs the two texts.
+fn run_texts<'a, O: Sink>(
+    alloc: Global,
+    world: &[u8],
+    events: &[u8],
+    out: &mut O,
+) -> Result<(), Failure<'a>> {
+    match run(alloc, world, events, out) {
+        Ok(_) => Ok(()),
+        Err(why) => Err(Failure::Run(why)),
+    }
+}
+
+/// Runs two files. Both are read before either is judged, the world first.
+fn run_files<'a, F: ReadFiles, O: Sink>(
+    alloc: Global,
+    files: &F,
+    world: &'a str,
+    events: &'a str,
+    out: &mut O,
+) -> Result<(), Failure<'a>> {
+    let world_bytes = files
+        .read_file(world)
+        .map_err(|fault| Failure::of_file(fault, world))?;
+    let event_bytes = files
+        .read_file(events)
+        .map_err(|fault| Failure::of_file(fault, events))?;
+    run_texts(alloc, world_bytes.as_slice(), event_bytes.as_slice(), out)
+}
+
+/// Does what the words ask for.
+fn serve_words<'a, F: ReadFiles, O: Sink>(
+    alloc: Global,
+    words: &'a [&'a str],
+    files: &F,
+    out: &mut O,
+) -> Result<(), Failure<'a>> {
+    if words.is_empty() {
+        return run_texts(alloc, STORED_WORLD, STORED_EVENTS, out);
+    }
+    match requested(alloc, words) {
+        Request::Run { world, events } => run_files(alloc, files, world, events, out),
+        Request::Usage => Err(Failure::Usage),
+        Request::NoMemory => Err(Failure::Run(RunError::Memory)),
+    }
+}
+
+/// Tells a failure, as far as the error output takes it. It takes no memory.
+fn tell<E: Sink>(failure: Failure<'_>, err: &mut E) -> Result<(), SinkFault> {
+    match failure {
+        Failure::Usage => put_all(err, USAGE),
+        Failure::CannotRead(name) => {
+            put_all(err, b"jobk: cannot read ")?;
+            put_all(err, name.as_bytes())?;
+            put_all(err, b"\n")
+        }
+        Failure::Run(why) => tell_run_error(why, err),
+    }
+}
+
+/// Tells why a run failed. The longest of these texts has less than 80 bytes.
+fn tell_run_error<E: Sink>(why: RunError, err: &mut E) -> Result<(), SinkFault> {
+    let mut text = ArrayString::<128>::new();
+    let _ = writeln!(text, "jobk: {why}");
+    put_all(err, text.as_str().as_bytes())
+}
+
+/// Does what the words of the command line ask for, without the program's name, and gives the status
+/// of the program: 0 when it is done, 1 for a refused text, 2 for other words, 3 for a device or
+/// memory. Traces go to `out` and messages to `err`; a failing `err` changes no status. Without any
+/// words the program runs its own stored world.
+pub fn serve<'a, F: ReadFiles, O: Sink, E: Sink>(
+    alloc: Global,
+    words: Result<&'a [&'a str], WordsFault>,
+    files: &F,
+    out: &mut O,
+    err: &mut E,
+) -> u8
+    ensures { result ≤ 3 }
+{
+    let done = match words {
+        Ok(words) => serve_words(alloc, words, files, out),
+        Err(WordsFault::NotText) => Err(Failure::Usage),
+        Err(WordsFault::Memory) => Err(Failure::Run(RunError::Memory)),
+    };
+    match done {
+        Ok(()) => 0,
+        Err(failure) => {
+            let _ = tell(failure, err);
+            failure.status()
+        }
+    }
+}

@@ -1,0 +1,277 @@
+//! Runs through `serve` with files in memory, and each call that takes memory once with enough of it.
+
+use crate::serving::{FileFault, ReadFiles, WordsFault, serve};
+use arrayvec::ArrayVec;
+use kernel::{Kernel, WriteSink, run};
+use posix::{Entry, Event, Pid, Sig, Status};
+use std::alloc::Global;
+use std::io;
+use std::process::Abort;
+use std::test::Fail;
+use text::{EventReader, Reason, TextFault, read_world};
+use umach::{Call, Cpu, Instr, Program, Trap};
+
+/// Two files, `world` and `events`.
+#[derive(Drop)]
+struct MemoryFiles {
+    alloc: Global,
+    world: &'static [u8],
+    events: &'static [u8],
+}
+
+impl ReadFiles for MemoryFiles {
+    fn read_file(&self, name: &str) -> Result<Vec<u8>, FileFault> {
+        let bytes = match name {
+            "world" => self.world,
+            "events" => self.events,
+            "too_large" => return Err(FileFault::Memory),
+            _ => return Err(FileFault::Device),
+        };
+        Vec::from_slice(self.alloc, bytes).map_err(|_| FileFault::Memory)
+    }
+}
+
+const NOTE_AND_EXIT: &[u8] =
+    b"pidmax 40\nconsoles 1\nprogram init\nset r1, 7\nnote r1\nsys exit\nend\n";
+
+const OFF_THE_END: &[u8] = b"pidmax 40\nconsoles 1\nprogram init\nset r1, 7\nend\n";
+
+const UNKNOWN_WORD: &[u8] = b"pidmax 40\nconsoles 1\nprogram init\njmp away\nend\n";
+
+const TRACE: &[u8] = b"2 note 1 7\n3 end 1 1792\n3 halt\n";
+
+const USAGE: &[u8] = b"usage: jobk run WORLD EVENTS | jobk audit TRACE\n";
+
+const NO_MEMORY: &[u8] = b"jobk: out of memory\n";
+
+/// The words are served with this trace, this message and this status.
+fn expect_served<R: Abort + AllocGlobal>(
+    rt: &R,
+    files: &MemoryFiles,
+    words: Result<&[&str], WordsFault>,
+    trace: &[u8],
+    told: &[u8],
+    status: u8,
+) {
+    let mut out = WriteSink::new(Vec::<u8>::new(rt.alloc()));
+    let mut err = WriteSink::new(Vec::<u8>::new(rt.alloc()));
+    let got = serve(rt.alloc(), words, files, &mut out, &mut err);
+    assert_eq!(rt; got, status);
+    assert_eq!(rt; out.into_writer().as_slice(), trace);
+    assert_eq!(rt; err.into_writer().as_slice(), told);
+}
+
+/// The texts are run with this trace, this message and this status.
+fn expect_run<R: Abort + AllocGlobal>(
+    rt: &R,
+    world: &'static [u8],
+    events: &'static [u8],
+    trace: &[u8],
+    told: &[u8],
+    status: u8,
+) {
+    let files = MemoryFiles {
+        alloc: rt.alloc(),
+        world,
+        events,
+    };
+    expect_served(
+        rt,
+        &files,
+        Ok(&["run", "world", "events"]),
+        trace,
+        told,
+        status,
+    );
+}
+
+#[test]
+fn texts_are_run(rt: HostRuntime) {
+    expect_run(&rt, NOTE_AND_EXIT, b"step 3\n", TRACE, b"", 0);
+    expect_run(&rt, NOTE_AND_EXIT, b"step 5\n", TRACE, b"", 0);
+    expect_run(&rt, NOTE_AND_EXIT, b"", b"", b"", 0);
+    expect_run(
+        &rt,
+        OFF_THE_END,
+        b"step 2\n",
+        b"2 end 1 11\n2 halt\n",
+        b"",
+        0,
+    );
+}
+
+#[test]
+fn texts_are_refused(rt: HostRuntime) {
+    let world = b"jobk: world: line 4: unknown word\n".as_slice();
+    expect_run(&rt, UNKNOWN_WORD, b"step 1\n", b"", world, 1);
+    expect_run(&rt, UNKNOWN_WORD, b"step 0\n", b"", world, 1);
+    let events = b"jobk: events: line 2: out of range\n".as_slice();
+    expect_run(&rt, NOTE_AND_EXIT, b"step 1\nstep 0\n", b"", events, 1);
+}
+
+/// The words are served with this trace, this message and this status, the stored texts being files.
+fn expect_words<R: Abort + AllocGlobal>(
+    rt: &R,
+    words: Result<&[&str], WordsFault>,
+    trace: &[u8],
+    told: &[u8],
+    status: u8,
+) {
+    let files = MemoryFiles {
+        alloc: rt.alloc(),
+        world: NOTE_AND_EXIT,
+        events: b"step 3\n",
+    };
+    expect_served(rt, &files, words, trace, told, status);
+}
+
+#[test]
+fn words_are_served_or_refused(rt: HostRuntime) {
+    expect_words(&rt, Ok(&[]), TRACE, b"", 0);
+    expect_words(&rt, Ok(&["run", "--", "world", "events"]), TRACE, b"", 0);
+    expect_words(&rt, Ok(&["run", "world"]), b"", USAGE, 2);
+    expect_words(&rt, Ok(&["run", "world", "events", "more"]), b"", USAGE, 2);
+    expect_words(&rt, Ok(&["audit", "world"]), b"", USAGE, 2);
+    expect_words(&rt, Ok(&["--help"]), b"", USAGE, 2);
+    expect_words(&rt, Err(WordsFault::NotText), b"", USAGE, 2);
+    expect_words(&rt, Err(WordsFault::Memory), b"", NO_MEMORY, 3);
+}
+
+#[test]
+fn files_are_refused(rt: HostRuntime) {
+    let gone = b"jobk: cannot read gone\n".as_slice();
+    expect_words(&rt, Ok(&["run", "gone", "lost"]), b"", gone, 3);
+    expect_words(&rt, Ok(&["run", "world", "gone"]), b"", gone, 3);
+    expect_words(&rt, Ok(&["run", "too_large", "events"]), b"", NO_MEMORY, 3);
+}
+
+#[test]
+fn an_output_takes_no_more(rt: HostRuntime) {
+    let files = MemoryFiles {
+        alloc: rt.alloc(),
+        world: NOTE_AND_EXIT,
+        events: b"step 3\n",
+    };
+    let words = ["run", "world", "events"];
+    let mut out = WriteSink::new(ArrayVec::<u8, 5>::new());
+    let mut err = WriteSink::new(Vec::<u8>::new(rt.alloc()));
+    let status = serve(rt.alloc(), Ok(&words), &files, &mut out, &mut err);
+    assert_eq!(rt; status, 3);
+    assert_eq!(rt; out.into_writer().as_slice(), b"2 not".as_slice());
+    assert_eq!(rt;
+        err.into_writer().as_slice(),
+        b"jobk: cannot write\n".as_slice()
+    );
+}
+
+#[test]
+fn a_failing_error_output_changes_no_status(rt: HostRuntime) {
+    let files = MemoryFiles {
+        alloc: rt.alloc(),
+        world: NOTE_AND_EXIT,
+        events: b"step 3\n",
+    };
+    let mut out = WriteSink::new(ArrayVec::<u8, 0>::new());
+    let mut err = WriteSink::new(ArrayVec::<u8, 3>::new());
+    let words = ["run", "world", "events"];
+    assert_eq!(rt;
+        serve(rt.alloc(), Ok(&words), &files, &mut out, &mut err),
+        3
+    );
+    let words = ["run", "world"];
+    assert_eq!(rt;
+        serve(rt.alloc(), Ok(&words), &files, &mut out, &mut err),
+        2
+    );
+}
+
+/// A writer that keeps how many bytes each write had.
+#[derive(Drop)]
+struct Sizes {
+    sizes: Vec<usize>,
+}
+
+impl io::Write for Sizes {
+    fn write(&mut self, bytes: &[u8]) -> io::Result<usize> {
+        self.sizes.push(bytes.len())?;
+        Ok(bytes.len())
+    }
+
+    fn flush(&mut self) -> io::Result<()> {
+        Ok(())
+    }
+}
+
+#[test]
+fn lines_are_put_in_large_pieces(rt: HostRuntime) -> Result<(), Fail> {
+    let mut world = Vec::from_slice(rt.alloc(), b"pidmax 40\nconsoles 1\nprogram init\n")?;
+    for _ in 0..1000 {
+        world.extend_from_slice(b"note r0\n")?;
+    }
+    world.extend_from_slice(b"end\n")?;
+    let mut out = WriteSink::new(Sizes {
+        sizes: Vec::new(rt.alloc()),
+    });
+    let summary = run(rt.alloc(), world.as_slice(), b"step 1000000\n", &mut out)?;
+    assert_eq!(rt; summary.events, 1_000_000);
+    assert!(rt; summary.halted);
+    // 1,000 lines of 11 to 14 bytes, and the end: two pieces.
+    let written = out.into_writer();
+    assert_eq!(rt; written.sizes.len(), 2);
+    assert!(rt; written.sizes.as_slice().first() >= Some(&8192));
+    Ok(())
+}
+
+#[test]
+fn an_event_text_comes_in_pieces(rt: HostRuntime) -> Result<(), Fail> {
+    let mut reader = EventReader::new(rt.alloc(), 1);
+    reader.feed(b"ti")?;
+    reader.feed(b"ck 2 # two\nstep 10000")?;
+    reader.feed(b"00")?;
+    let events = reader.finish()?;
+    assert_eq!(rt; events.len(), 1_000_002);
+    assert_eq!(rt; events.runs().len(), 2);
+    Ok(())
+}
+
+#[test]
+fn a_fault_is_answered_for_good(rt: HostRuntime) {
+    let fault = TextFault {
+        line: 2,
+        reason: Reason::BadNumber,
+    };
+    let mut reader = EventReader::new(rt.alloc(), 1);
+    assert_eq!(rt; reader.feed(b"step 1\nstep one\nstep 1"), Err(fault));
+    assert_eq!(rt; reader.feed(b"\nfly\n"), Err(fault));
+    assert!(rt; reader.finish().err() == Some(fault));
+}
+
+#[test]
+fn a_kernel_shows_its_entries(rt: HostRuntime) -> Result<(), Fail> {
+    let world = read_world(rt.alloc(), NOTE_AND_EXIT)?;
+    let mut kernel = Kernel::boot(rt.alloc(), &world)?;
+    let pid = Pid::INIT;
+    let status = Status::exited(7);
+    assert_eq!(rt; kernel.event(Event::Step).len(), 0);
+    assert_eq!(rt;
+        kernel.event(Event::Step).as_slice(),
+        [Entry::Noted { pid, value: 7 }].as_slice()
+    );
+    assert_eq!(rt;
+        kernel.event(Event::Step).as_slice(),
+        [Entry::Ended { pid, status }, Entry::Halted].as_slice()
+    );
+    assert_eq!(rt; kernel.event(Event::Tick).len(), 0);
+    assert_eq!(rt; kernel.events(), 4);
+    Ok(())
+}
+
+#[test]
+fn a_processor_traps(rt: HostRuntime) -> Result<(), Fail> {
+    let mut program = Program::new(rt.alloc());
+    let mut cpu = Cpu::new(rt.alloc())?;
+    assert_eq!(rt; cpu.exec_one(&program), Trap::Fault(Sig::SEGV));
+    program.push(Instr::Sys(Call::Exit))?;
+    assert_eq!(rt; cpu.exec_one(&program), Trap::Call(Call::Exit));
+    Ok(())
+}
