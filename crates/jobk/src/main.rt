@@ -1,6 +1,10 @@
 //! `jobk`: runs a world of small programs over a list of events, and prints the trace.
 #![tactic(auto)]
 
+#[cfg(test)]
+mod machine_tests;
+#[cfg(test)]
+mod process_tests;
 mod serving;
 #[cfg(test)]
 mod tests;

@@ -36,7 +36,9 @@ const NOTE_AND_EXIT: &[u8] =
 
 const OFF_THE_END: &[u8] = b"pidmax 40\nconsoles 1\nprogram init\nset r1, 7\nend\n";
 
-const UNKNOWN_WORD: &[u8] = b"pidmax 40\nconsoles 1\nprogram init\njmp away\nend\n";
+const UNKNOWN_WORD: &[u8] = b"pidmax 40\nconsoles 1\nprogram init\nfly away\nend\n";
+
+const UNKNOWN_NAME: &[u8] = b"pidmax 40\nconsoles 1\nprogram init\njmp away\nend\n";
 
 const TRACE: &[u8] = b"2 note 1 7\n3 end 1 1792\n3 halt\n";
 
@@ -62,7 +64,7 @@ fn expect_served<R: Abort + AllocGlobal>(
 }
 
 /// The texts are run with this trace, this message and this status.
-fn expect_run<R: Abort + AllocGlobal>(
+pub fn expect_run<R: Abort + AllocGlobal>(
     rt: &R,
     world: &'static [u8],
     events: &'static [u8],
@@ -105,6 +107,8 @@ fn texts_are_refused(rt: HostRuntime) {
     let world = b"jobk: world: line 4: unknown word\n".as_slice();
     expect_run(&rt, UNKNOWN_WORD, b"step 1\n", b"", world, 1);
     expect_run(&rt, UNKNOWN_WORD, b"step 0\n", b"", world, 1);
+    let world = b"jobk: world: line 4: name unknown\n".as_slice();
+    expect_run(&rt, UNKNOWN_NAME, b"step 1\n", b"", world, 1);
     let events = b"jobk: events: line 2: out of range\n".as_slice();
     expect_run(&rt, NOTE_AND_EXIT, b"step 1\nstep 0\n", b"", events, 1);
 }

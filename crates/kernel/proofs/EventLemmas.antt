@@ -1,5 +1,5 @@
 -- Counted runs of events, one after another.
-use Rattle.std.proofs.Common.{◌≡◌, ℕ, ◌+◌, ◌-◌, ◌<◌, ◌≤◌, List, [], ◌∷◌, ◌++◌, length, take, drop, ap, sym, ◌∙◌, append-nil, length-append, get_or, arith}
+use Rattle.std.proofs.Common.{◌≡◌, ℕ, ◌+◌, ◌-◌, ◌*◌, ◌<◌, ◌≤◌, List, [], ◌∷◌, ◌++◌, length, take, drop, ap, sym, ◌∙◌, append-nil, length-append, get_or, arith}
 use Rattle.std.specs.Prelude.{replicate}
 use Rattle.std.proofs.lemmas.List.{length-replicate, replicate-append-replicate, take_more, take-append-drop}
 use Rattle.std.proofs.lemmas.List.Concat.{flat_map-append}
@@ -35,6 +35,12 @@ run_fits rs d now old i most all lt same at fits =
     (length (expanded (take i rs)) + (get_or rs i d).count) + length (expanded (drop (i + 1) rs)) =
     simp (length-append, length-replicate) in
     omega (arith, split, len)
+
+-- four ends for each event that was given, the run at i included
+pub ends_fit : (rs : List EventRun) (d : EventRun) (now old i most ends more : ℕ) (all : List Event) → i < length rs → expanded rs ≡ all → now ≡ old + length (expanded (take i rs)) →
+    old + length all ≤ most → ends ≤ 4 * length (expanded (take i rs)) → more ≤ 4 * length (replicate (get_or rs i d).count (get_or rs i d).event) → ends + more ≤ 4 * most
+ends_fit rs d now old i most ends more all lt same at fits a b =
+    omega (arith, run_fits rs d now old i most all lt same at fits, length-replicate (get_or rs i d).count (get_or rs i d).event)
 
 pub events_more : (rs : List EventRun) (d : EventRun) (i old now new : ℕ) → i < length rs → now ≡ old + length (expanded (take i rs)) → new ≡ now + (get_or rs i d).count →
     new ≡ old + length (expanded (take (i + 1) rs))

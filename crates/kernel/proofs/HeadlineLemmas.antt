@@ -1,10 +1,10 @@
--- A run whose whole trace was taken.
+-- Runs whose trace was taken, to its end or not.
 use Rattle.std.proofs.Common.{◌≡◌, ℕ, ◌+◌, List, length, ap, subst, ◌∙◌, zero-add}
 use Rattle.std.specs.Prelude.{Result, Ok, Err}
 use Rattle.std.specs.Result.{MatchResult, IsErrAnd, IfOk}
 use Rattle.text.specs.Reading.{Answers}
 use Rattle.posix.specs.declared.event.Event.{Event}
-use Rattle.posix.specs.Entries.{Line}
+use Rattle.posix.specs.Entries.{Line, reported}
 use Rattle.posix.specs.States.{World, boot}
 use Rattle.posix.specs.Runs.{RunsFrom}
 use Rattle.text.specs.declared.fault.TextFault.{TextFault}
@@ -13,9 +13,9 @@ use Rattle.text.specs.WorldTexts.{world_text}
 use Rattle.kernel.specs.declared.summary.Summary.{Summary}
 use Rattle.kernel.specs.Sinks.{Seen}
 use Rattle.kernel.specs.Views.{KernelView}
-use Rattle.kernel.specs.Progress.{WritesTrace}
+use Rattle.kernel.specs.Progress.{WritesTrace, BreaksTrace}
 use Rattle.kernel.specs.Summaries.{summary_of}
-use Rattle.kernel.specs.Headline.{Traces}
+use Rattle.kernel.specs.Headline.{Traces, CutsShort}
 
 -- a value that a `map_err` hands on was there before it
 ok_before : {A E F : Type 0} (r : Result A E) (m : Result A F) (x : A) (Q : E → F → Type 0) →
@@ -23,20 +23,23 @@ ok_before : {A E F : Type 0} (r : Result A E) (m : Result A F) (x : A) (Q : E �
 ok_before {A = A} {F = F} (Ok y) m x Q h e = let same : y ≡ x = cc in ap (λ (z : A). Ok z) same
 ok_before {A = A} {F = F} (Err e) m x Q h same = absurd (subst (λ (n : Result A F). IsErrAnd n (Q e)) same h)
 
+-- what a reader answered, and a `map_err` handed on, is what the text means
 pub answered : {A F : Type 0} (r meaning : Result A TextFault) (m : Result A F) (x : A) (Q : TextFault → F → Type 0) →
     MatchResult r (λ y. m ≡ Ok y) (λ e. IsErrAnd m (Q e)) → m ≡ Ok x → Answers r meaning → meaning ≡ Ok x
 answered {A = A} r meaning m x Q h e a = subst (λ (n : Result A TextFault). Answers n meaning) (ok_before r m x Q h e) a
 
-pub given : {A E F : Type 0} (r : Result A E) (m : Result A F) (x : A) (P : A → Type 0) (Q : E → F → Type 0) →
+-- what holds of any value of a result holds of the one that a `map_err` handed on
+pub ok_holds : {A E F : Type 0} (r : Result A E) (m : Result A F) (x : A) (P : A → Type 0) (Q : E → F → Type 0) →
     MatchResult r (λ y. m ≡ Ok y) (λ e. IsErrAnd m (Q e)) → m ≡ Ok x → IfOk r P → P x
-given {A = A} {E = E} r m x P Q h e a = subst (λ (n : Result A E). IfOk n P) (ok_before r m x Q h e) a
+ok_holds {A = A} {E = E} r m x P Q h e a = subst (λ (n : Result A E). IfOk n P) (ok_before r m x Q h e) a
 
-pub traces : (world_bytes event_bytes : List ℕ) (w : World) (consoles : ℕ) (events : List Event) (old new : KernelView) (a b : Seen) (summary : Summary) →
+-- a kernel that was booted, whose trace was written and counted, traces the run of the texts
+pub traces : (world_bytes event_bytes : List ℕ) (w : World) (consoles : ℕ) (events : List Event) (old new : KernelView) (a b : Seen) (ends : ℕ) (summary : Summary) →
     world_text world_bytes ≡ Ok w → consoles ≡ w.consoles → event_text consoles event_bytes ≡ Ok events →
-    old ≡ record { state = boot w; events = 0 } → WritesTrace (old.events + 1) old.state events new.state a b →
-    new.events ≡ old.events + length events → ((lines : List Line) → summary ≡ summary_of new.events lines new.state) →
+    old ≡ record { state = boot w; events = 0 } → WritesTrace (old.events + 1) old.state events new.state a b ends →
+    new.events ≡ old.events + length events → ((lines : List Line) → reported lines ≡ ends → summary ≡ summary_of new.events lines new.state) →
     Traces world_bytes event_bytes a b summary
-traces world_bytes event_bytes w consoles events old new a b summary world_is same events_are booted writes count counted = record {
+traces world_bytes event_bytes w consoles events old new a b ends summary world_is same events_are booted writes count counted = record {
   events = events;
   lines = writes.lines;
   last = new.state;
@@ -47,6 +50,23 @@ traces world_bytes event_bytes w consoles events old new a b summary world_is sa
     run = subst (λ (k : KernelView). RunsFrom (k.events + 1) k.state events writes.lines new.state) booted writes.run;
   };
   taken = writes.taken;
-  counted = counted writes.lines ∙ ap (λ (n : ℕ). summary_of n writes.lines new.state)
+  counted = counted writes.lines writes.counted ∙ ap (λ (n : ℕ). summary_of n writes.lines new.state)
       (count ∙ ap (λ (k : KernelView). k.events + length events) booted ∙ zero-add (length events));
+}
+
+-- a kernel that was booted, whose trace broke off, cuts the run of the texts short
+pub cuts_short : (world_bytes event_bytes : List ℕ) (w : World) (consoles : ℕ) (events : List Event) (old : KernelView) (a b : Seen) →
+    world_text world_bytes ≡ Ok w → consoles ≡ w.consoles → event_text consoles event_bytes ≡ Ok events →
+    old ≡ record { state = boot w; events = 0 } → BreaksTrace (old.events + 1) old.state events a b → CutsShort world_bytes event_bytes a b
+cuts_short world_bytes event_bytes w consoles events old a b world_is same events_are booted breaks = record {
+  events = events;
+  lines = breaks.lines;
+  last = breaks.last;
+  run = record {
+    world = w;
+    world_is = world_is;
+    events_are = subst (λ (n : ℕ). event_text n event_bytes ≡ Ok events) same events_are;
+    run = subst (λ (k : KernelView). RunsFrom (k.events + 1) k.state events breaks.lines breaks.last) booted breaks.run;
+  };
+  broken = breaks.broken;
 }

@@ -1,5 +1,7 @@
+pub mod ReportLemmas
+pub mod CallLemmas
 pub mod SinkLemmas
 pub mod RunLemmas
 pub mod EventLemmas
-pub mod SummaryLemmas
+pub mod CensusLemmas
 pub mod HeadlineLemmas

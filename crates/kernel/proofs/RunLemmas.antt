@@ -1,17 +1,19 @@
 -- How runs of the machine are joined, and what is written of them.
-use Rattle.std.proofs.Common.{◌≡◌, ℕ, ◌+◌, ◌<◌, List, [], ◌∷◌, ◌++◌, length, take, drop, refl, ap, sym, subst, ◌∙◌, append_assoc, append-nil, add-zero, get_or, arith}
-use Rattle.std.proofs.lemmas.List.{take_more, take-append-drop, map-append}
+use Rattle.std.proofs.Common.{◌≡◌, ℕ, ◌+◌, ◌<◌, ◌≤◌, List, [], ◌∷◌, ◌++◌, length, take, drop, refl, ap, sym, subst, ◌∙◌, append_assoc, append-nil, add-zero, length-append, get_or, arith, cond, Bool, true, false}
+use Rattle.std.specs.Int.{from_bool}
+use Rattle.std.proofs.lemmas.List.{take_more, take-append-drop, map-append, length-map}
 use Rattle.std.proofs.lemmas.List.Concat.{flat_map-append}
+use Rattle.std.proofs.lemmas.List.Sums.{sum_by-append, count_by-le-length}
 use Rattle.posix.specs.declared.event.Event.{Event}
 use Rattle.posix.specs.declared.entry.Entry.{Entry}
-use Rattle.posix.specs.Entries.{Line, line, numbered}
+use Rattle.posix.specs.Entries.{Line, line, numbered, reported, reports_end}
 use Rattle.posix.specs.States.{State}
 use Rattle.posix.specs.Step.{IsStep, next}
 use Rattle.posix.specs.Runs.{RunsFrom}
 use Rattle.posix.specs.Printing.{print, print_line, printed}
 use Rattle.kernel.specs.Sinks.{Seen, TakesAll, Gathers, BreaksOff}
 use Rattle.kernel.specs.Progress.{Writes, Stops, WritesTrace, BreaksTrace}
-use Rattle.kernel.proofs.SinkLemmas.{gathers_none, gathers_then, gathers_break, break_on, flush_takes, flush_breaks}
+use Rattle.kernel.proofs.SinkLemmas.{gathers_then, gathers_break, break_on, flush_takes, flush_breaks}
 
 -- ---- runs
 
@@ -34,32 +36,42 @@ runs_then (x ∷ xs) ys k a b c ls ms (mid, entries, rest, step, lines, p) q =
 runs_on : (xs : List Event) (k : ℕ) (a : State) → (ls : List Line) × (b : State) × RunsFrom k a xs ls b
 runs_on [] k a = ([], a, (refl, refl))
 runs_on (x ∷ xs) k a =
-    let done = next a x in
+    let done = next true a x in
     let more = runs_on xs (k + 1) done.state in
-    (numbered k done.entries ++ more.0, more.1, (done.state, done.entries, more.0, record { comes = refl }, refl, more.2))
+    (numbered k done.entries ++ more.0, more.1, (done.state, done.entries, more.0, record { granted = true; comes = refl }, refl, more.2))
 
+-- lines after lines print as the one text after the other
 print_then : (ls ms : List Line) → print (ls ++ ms) ≡ print ls ++ print ms
 print_then ls ms = flat_map-append print_line ls ms
 
+-- lines after lines report the ends of both
+reported_then : (ls ms : List Line) → reported (ls ++ ms) ≡ reported ls + reported ms
+reported_then ls ms = sum_by-append (λ (l : Line). cond (reports_end l.entry) 1 0) ls ms
+
 -- ---- what is written of them
 
-writes_then : (k : ℕ) (xs ys : List Event) (s m e : State) (a b c : Seen) (p q r : List ℕ) →
-    Writes k s xs m a p b q → Writes (k + length xs) m ys e b q c r → Writes k s (xs ++ ys) e a p c r
-writes_then k xs ys s m e a b c p q r w v = record {
+-- what is written of events, and then of those after them, is written of all
+writes_then : (k : ℕ) (xs ys : List Event) (s m e : State) (a b c : Seen) (p q r : List ℕ) (g h : ℕ) →
+    Writes k s xs m a p b q g → Writes (k + length xs) m ys e b q c r h → Writes k s (xs ++ ys) e a p c r (g + h)
+writes_then k xs ys s m e a b c p q r g h w v = record {
   lines = w.lines ++ v.lines;
   run = runs_then xs ys k s m e w.lines v.lines w.run v.run;
   gathered = rw print_then (gathers_then a b c p q r (print w.lines) (print v.lines) w.gathered v.gathered);
+  counted = reported_then w.lines v.lines ∙ rw (w.counted, v.counted) refl;
+  bound = omega (arith, w.bound, v.bound, length-append xs ys);
 }
 
-writes_stop : (k : ℕ) (xs ys : List Event) (s m : State) (a b c : Seen) (p q : List ℕ) →
-    Writes k s xs m a p b q → Stops (k + length xs) m ys b q c → Stops k s (xs ++ ys) a p c
-writes_stop k xs ys s m a b c p q w v = record {
+-- where events are written, and those after them break off, all break off
+writes_stop : (k : ℕ) (xs ys : List Event) (s m : State) (a b c : Seen) (p q : List ℕ) (g : ℕ) →
+    Writes k s xs m a p b q g → Stops (k + length xs) m ys b q c → Stops k s (xs ++ ys) a p c
+writes_stop k xs ys s m a b c p q g w v = record {
   lines = w.lines ++ v.lines;
   last = v.last;
   run = runs_then xs ys k s m v.last w.lines v.lines w.run v.run;
   broken = rw print_then (gathers_break a b c p q (print w.lines) (print v.lines) w.gathered v.broken);
 }
 
+-- what broke off did so whatever events come after
 stops_on : (k : ℕ) (xs ys : List Event) (s : State) (a b : Seen) (p : List ℕ) → Stops k s xs a p b → Stops k s (xs ++ ys) a p b
 stops_on k xs ys s a b p v =
     let more = runs_on ys (k + length xs) v.last in
@@ -71,32 +83,33 @@ stops_on k xs ys s a b p v =
     }
 
 -- what was written goes on by another list of events
-pub writes_next : (k j : ℕ) (xs ys zs : List Event) (s m e : State) (a b c : Seen) (p q r : List ℕ) → j ≡ k + length xs → xs ++ ys ≡ zs →
-    Writes k s xs m a p b q → Writes j m ys e b q c r → Writes k s zs e a p c r
-writes_next k j xs ys zs s m e a b c p q r at all w v =
-    subst (λ (l : List Event). Writes k s l e a p c r) all (writes_then k xs ys s m e a b c p q r w (subst (λ (n : ℕ). Writes n m ys e b q c r) at v))
+pub writes_next : (k j : ℕ) (xs ys zs : List Event) (s m e : State) (a b c : Seen) (p q r : List ℕ) (g h : ℕ) → j ≡ k + length xs → xs ++ ys ≡ zs →
+    Writes k s xs m a p b q g → Writes j m ys e b q c r h → Writes k s zs e a p c r (g + h)
+writes_next k j xs ys zs s m e a b c p q r g h at all w v =
+    subst (λ (l : List Event). Writes k s l e a p c r (g + h)) all
+    (writes_then k xs ys s m e a b c p q r g h w (subst (λ (n : ℕ). Writes n m ys e b q c r h) at v))
 
-pub stops_next : (k j : ℕ) (xs ys more zs : List Event) (s m : State) (a b c : Seen) (p q : List ℕ) → j ≡ k + length xs → (xs ++ ys) ++ more ≡ zs →
-    Writes k s xs m a p b q → Stops j m ys b q c → Stops k s zs a p c
-stops_next k j xs ys more zs s m a b c p q at all w v =
+-- or it breaks off in them, and no events after them matter
+pub stops_next : (k j : ℕ) (xs ys more zs : List Event) (s m : State) (a b c : Seen) (p q : List ℕ) (g : ℕ) → j ≡ k + length xs → (xs ++ ys) ++ more ≡ zs →
+    Writes k s xs m a p b q g → Stops j m ys b q c → Stops k s zs a p c
+stops_next k j xs ys more zs s m a b c p q g at all w v =
     subst (λ (l : List Event). Stops k s l a p c) all
-    (stops_on k (xs ++ ys) more s a c p (writes_stop k xs ys s m a b c p q w (subst (λ (n : ℕ). Stops n m ys b q c) at v)))
-
--- nothing is written of no events
-pub writes_none : (k : ℕ) (s : State) (a : Seen) (p : List ℕ) → Writes k s [] s a p a p
-writes_none k s a p = record { lines = []; run = (refl, refl); gathered = gathers_none a p }
+    (stops_on k (xs ++ ys) more s a c p (writes_stop k xs ys s m a b c p q g w (subst (λ (n : ℕ). Stops n m ys b q c) at v)))
 
 -- ---- the entries of one event
 
+-- entries after entries print as the one text after the other
 numbered_then : (k : ℕ) (xs ys : List Entry) → print (numbered k (xs ++ ys)) ≡ print (numbered k xs) ++ print (numbered k ys)
 numbered_then k xs ys = ap print (map-append (line k) xs ys) ∙ print_then (numbered k xs) (numbered k ys)
 
+-- the entries up to place i print as those before it, and then the one at i
 pub entries_more : (k : ℕ) (es : List Entry) (i : ℕ) (d : Entry) → i < length es →
     print (numbered k (take (i + 1) es)) ≡ print (numbered k (take i es)) ++ printed k (get_or es i d)
 entries_more k es i d lt =
     ap (λ (l : List Entry). print (numbered k l)) (take_more es i d lt) ∙ numbered_then k (take i es) (get_or es i d ∷ [])
     ∙ ap (λ (l : List ℕ). print (numbered k (take i es)) ++ l) (append-nil (printed k (get_or es i d)))
 
+-- all entries print as those before place i, the one at i and those after it
 entries_split : (k : ℕ) (es : List Entry) (i : ℕ) (d : Entry) → i < length es →
     print (numbered k es) ≡ print (numbered k (take i es)) ++ (printed k (get_or es i d) ++ print (numbered k (drop (i + 1) es)))
 entries_split k es i d lt =
@@ -111,6 +124,7 @@ entry_gathered k es i d a b c p q r text lt e g h =
     subst (Gathers a p c r) (sym (entries_more k es i d lt))
     (gathers_then a b c p q r (print (numbered k (take i es))) (printed k (get_or es i d)) g (subst (Gathers b q c r) e h))
 
+-- the entries before place i wait, and the one at i breaks off
 pub entry_broken : (k : ℕ) (es : List Entry) (i : ℕ) (d : Entry) (a b c : Seen) (p q text : List ℕ) → i < length es → text ≡ printed k (get_or es i d) →
     Gathers a p b q (print (numbered k (take i es))) → BreaksOff b c (q ++ text) → BreaksOff a c (p ++ print (numbered k es))
 entry_broken k es i d a b c p q text lt e g h =
@@ -121,41 +135,72 @@ entry_broken k es i d a b c p q text lt e g h =
     subst (λ (l : List ℕ). BreaksOff a c (p ++ l)) (sym (entries_split k es i d lt))
     (gathers_break a b c p q (print (numbered k (take i es))) (printed k (get_or es i d) ++ rest) g all)
 
--- one event, whose entries are gathered
-pub one_writes : (k : ℕ) (x : Event) (s e : State) (es : List Entry) (a b : Seen) (p q : List ℕ) → IsStep s x es e →
-    Gathers a p b q (print (numbered k es)) → Writes k s (x ∷ []) e a p b q
-one_writes k x s e es a b p q step g = record {
-  lines = numbered k es;
-  run = (e, es, [], step, sym (append-nil (numbered k es)), (refl, refl));
-  gathered = g;
-}
+-- a Bool as a number
+one_or_none : (b : Bool) → cond b 1 0 ≡ from_bool b
+one_or_none true = refl
+one_or_none false = refl
 
-pub one_stops : (k : ℕ) (x : Event) (s e : State) (es : List Entry) (a b : Seen) (p : List ℕ) → IsStep s x es e →
-    BreaksOff a b (p ++ print (numbered k es)) → Stops k s (x ∷ []) a p b
-one_stops k x s e es a b p step g = record {
+-- the ends before place i, and then the one at i
+pub ends_more : (k : ℕ) (es : List Entry) (i : ℕ) (d : Entry) → i < length es →
+    reported (numbered k (take (i + 1) es)) ≡ reported (numbered k (take i es)) + from_bool (reports_end (get_or es i d))
+ends_more k es i d lt =
+    ap (λ (l : List Entry). reported (numbered k l)) (take_more es i d lt) ∙ ap reported (map-append (line k) (take i es) (get_or es i d ∷ []))
+    ∙ reported_then (numbered k (take i es)) (numbered k (get_or es i d ∷ [])) ∙ omega (arith, one_or_none (reports_end (get_or es i d)))
+
+-- no more ends than entries
+pub ends_within : (k : ℕ) (es : List Entry) → reported (numbered k es) ≤ length es
+ends_within k es = omega (arith, count_by-le-length (λ (l : Line). reports_end l.entry) (numbered k es), length-map es (line k))
+
+-- ---- one event
+
+-- the same entries with the same number are the same lines
+same_lines : (j k : ℕ) (fs es : List Entry) → j ≡ k → fs ≡ es → numbered j fs ≡ numbered k es
+same_lines j k fs es at same = ap (λ (n : ℕ). numbered n fs) at ∙ ap (numbered k) same
+
+-- its entries are gathered
+pub one_writes : (k j : ℕ) (x : Event) (s e : State) (es fs : List Entry) (a b : Seen) (p q : List ℕ) (g : ℕ) → j ≡ k → fs ≡ es → length es ≤ 4 → IsStep s x es e →
+    Gathers a p b q (print (numbered j fs)) → reported (numbered j fs) ≡ g → Writes k s (x ∷ []) e a p b q g
+one_writes k j x s e es fs a b p q g at same few step gathered counted =
+    let lines = same_lines j k fs es at same in
+    record {
+      lines = numbered k es;
+      run = (e, es, [], step, sym (append-nil (numbered k es)), (refl, refl));
+      gathered = subst (λ (l : List Line). Gathers a p b q (print l)) lines gathered;
+      counted = sym (ap reported lines) ∙ counted;
+      bound = omega (arith, ends_within k es, few, ap reported lines, counted);
+    }
+
+-- or they break off
+pub one_stops : (k j : ℕ) (x : Event) (s e : State) (es fs : List Entry) (a b : Seen) (p : List ℕ) → j ≡ k → fs ≡ es → IsStep s x es e →
+    BreaksOff a b (p ++ print (numbered j fs)) → Stops k s (x ∷ []) a p b
+one_stops k j x s e es fs a b p at same step broken = record {
   lines = numbered k es;
   last = e;
   run = (e, es, [], step, sym (append-nil (numbered k es)), (refl, refl));
-  broken = g;
+  broken = subst (λ (l : List Line). BreaksOff a b (p ++ print l)) (same_lines j k fs es at same) broken;
 }
 
 -- ---- all that waited is put
 
-pub writes_all : (k : ℕ) (xs : List Event) (s e : State) (a b c : Seen) (p q : List ℕ) → p ≡ [] → Writes k s xs e a p b q → TakesAll b c q → WritesTrace k s xs e a c
-writes_all k xs s e a b c p q none w t = record {
+-- where all that waits is taken, the trace is
+pub writes_all : (k : ℕ) (xs : List Event) (s e : State) (a b c : Seen) (p q : List ℕ) (g : ℕ) → p ≡ [] → Writes k s xs e a p b q g → TakesAll b c q → WritesTrace k s xs e a c g
+writes_all k xs s e a b c p q g none w t = record {
   lines = w.lines;
   run = w.run;
   taken = flush_takes a b c q (print w.lines) (subst (λ (l : List ℕ). Gathers a l b q (print w.lines)) none w.gathered) t;
+  counted = w.counted;
 }
 
-pub writes_break : (k : ℕ) (xs : List Event) (s e : State) (a b c : Seen) (p q : List ℕ) → p ≡ [] → Writes k s xs e a p b q → BreaksOff b c q → BreaksTrace k s xs a c
-writes_break k xs s e a b c p q none w t = record {
+-- where what waits breaks off, the trace does
+pub writes_break : (k : ℕ) (xs : List Event) (s e : State) (a b c : Seen) (p q : List ℕ) (g : ℕ) → p ≡ [] → Writes k s xs e a p b q g → BreaksOff b c q → BreaksTrace k s xs a c
+writes_break k xs s e a b c p q g none w t = record {
   lines = w.lines;
   last = e;
   run = w.run;
   broken = flush_breaks a b c q (print w.lines) (subst (λ (l : List ℕ). Gathers a l b q (print w.lines)) none w.gathered) t;
 }
 
+-- where the writing broke off, the trace did
 pub stops_break : (k : ℕ) (xs : List Event) (s : State) (a b : Seen) (p : List ℕ) → p ≡ [] → Stops k s xs a p b → BreaksTrace k s xs a b
 stops_break k xs s a b p none w = record {
   lines = w.lines;

@@ -1,5 +1,6 @@
 pub mod Sinks
 pub mod Views
+pub mod Events
 pub mod Progress
 pub mod Summaries
 pub mod Headline

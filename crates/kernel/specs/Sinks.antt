@@ -18,7 +18,7 @@ failures_after old result bytes = if is_failure result bytes then (old + 1) % 2 
 -- All bytes were taken, and no put failed.
 pub record TakesAll (old new : Seen) (bytes : List ℕ) : Type 0 where
   pub taken : Appends old.taken new.taken bytes
-  pub fine : new.failures ≡ old.failures
+  pub no_failure : new.failures ≡ old.failures
 
 -- A beginning of the bytes was taken, one put failed, and it was the last.
 pub record BreaksOff (old new : Seen) (bytes : List ℕ) : Type 0 where
@@ -34,4 +34,4 @@ pub record Gathers (old : Seen) (before : List ℕ) (new : Seen) (after : List �
   pub front : List ℕ
   pub split : before ++ bytes ≡ front ++ after
   pub taken : Appends old.taken new.taken front
-  pub fine : new.failures ≡ old.failures
+  pub no_failure : new.failures ≡ old.failures

@@ -2,10 +2,11 @@
 
 ghost use Rattle.kernel.specs.Headline.{Headline};
 
-use crate::machine::Kernel;
+use crate::kernel_on::KernelOn;
 use crate::progress::write_trace;
 use crate::sink::Sink;
 use crate::summary::Summary;
+use proctable::{Kin, ScanTable};
 use std::alloc::Global;
 use text::{Reason, TextFault, read_events, read_world};
 use thiserror::Error;
@@ -27,11 +28,12 @@ pub enum RunError {
     Write,
 }
 
-/// Runs the events of a text in the world of another, and puts the printed trace into a sink.
+/// Runs the events of a text in the world of another, on a table of processes, and puts the printed
+/// trace into a sink.
 ///
 /// Both texts are read whole before the first byte is put, the world text first. Lines are put in
 /// pieces of 8 KiB or more, but for the last. After a put that failed nothing is put.
-pub fn run<S: Sink>(
+pub fn run_on<K: Kin, S: Sink>(
     alloc: Global,
     world: &[u8],
     events: &[u8],
@@ -49,9 +51,21 @@ pub fn run<S: Sink>(
             _ => RunError::Events(fault),
         },
     )?;
-    let mut kernel = Kernel::boot(alloc, &world).map_err(|_| RunError::Memory)?;
+    let mut kernel = KernelOn::<K>::boot(alloc, &world).map_err(|_| RunError::Memory)?;
     match write_trace(&mut kernel, &events, out) {
-        Ok(()) => Ok(kernel.summary()),
+        Ok(ends) => Ok(kernel.summary(ends)),
         Err(_) => Err(RunError::Write),
     }
+}
+
+/// [`run_on`] the table of processes that the program uses.
+pub fn run<S: Sink>(
+    alloc: Global,
+    world: &[u8],
+    events: &[u8],
+    out: &mut S,
+) -> Result<Summary, RunError>
+    ensures { Headline world.now events.now out.old out.new (S.seen out.old) (S.seen out.new) result }
+{
+    run_on::<ScanTable, S>(alloc, world, events, out)
 }

@@ -1,2 +1,12 @@
 pub mod StampLemmas
 pub mod Rows
+pub mod TableLemmas
+pub mod WalkLemmas
+pub mod MapLemmas
+pub mod RegularLemmas
+pub mod WaitLemmas
+pub mod OrderLemmas
+pub mod SettleLemmas
+pub mod TurnLemmas
+pub mod RefusalLemmas
+pub mod CountLemmas

@@ -32,11 +32,13 @@ Contains_from_is_in q order e =
 
 -- p is in the list no more, and the others stay
 is_in_without : (p q : ℕ) (order : List ℕ) → is_in q (without p order) ≡ cond (q == p) false (is_in q order)
+unfolding without
 is_in_without p q [] = grind arith
 is_in_without p q (x ∷ xs) = grind (arith, is_in_without p q xs, eqb-true, eqb-false)
 
 -- p is in the list, and the others stay
 is_in_last : (p q : ℕ) (order : List ℕ) → is_in q (without p order ++ p ∷ []) ≡ cond (q == p) true (is_in q order)
+unfolding without
 is_in_last p q order = rw (list_any-append (λ x. x == q) (without p order) (p ∷ []), is_in_without p q order) (grind (arith, eqb-true, eqb-false, eq-eqb))
 
 -- the field `placed`, as an equation of tests
@@ -67,11 +69,13 @@ is_other p x e = grind arith
 
 -- no element is p
 all_others : (p : ℕ) (order : List ℕ) → All (λ x. (x == p) ≡ false) (without p order)
+unfolding without
 all_others p order =
     All-weaker (λ x. not (x == p) ≡ true) (λ x. (x == p) ≡ false) (is_other p) (without p order) (filter_passes (λ x. not (x == p)) order)
 
 -- a list without p rises as before
 rising_without : (p : ℕ) (order : List ℕ) (stamps : Stamps) → Rises stamps order → Rises stamps (without p order)
+unfolding without
 rising_without p order stamps rising = AllPairs-filter (λ q r. IsBelow (stamps q) (stamps r)) (λ x. not (x == p)) order rising
 
 -- p has no stamp, and the others have one where they had
@@ -102,6 +106,7 @@ below_next n (Some m) e below = below m refl
 -- p goes last and has the next stamp
 pub last_keeps_order : (p n : ℕ) (order : List ℕ) (stamps : Stamps) → AllBelow n stamps → IsRisingOrder order stamps
     → IsRisingOrder (without p order ++ p ∷ []) (with_stamp p n stamps)
+unfolding without
 last_keeps_order p n order stamps below h =
     rising_order (without p order ++ p ∷ []) (with_stamp p n stamps)
     (λ q. is_in_last p q order ∙ ap (cond (q == p) true) (is_in_is_some order stamps h q) ∙ sym (is_some_with p n q stamps))

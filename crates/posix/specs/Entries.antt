@@ -1,7 +1,7 @@
 -- What one event shows in the trace, and lines of a trace.
-use Rattle.std.specs.Prelude.{ℕ, Bool, false, List, map, count_by}
+use Rattle.std.specs.Prelude.{ℕ, Bool, false, ◌%◌, nat_lt, List, map, count_by}
 use Rattle.posix.specs.declared.entry.Entry.{Entry}
-use Rattle.posix.specs.declared.entry.Entry.TheVariants.{Noted, Ended, Halted}
+use Rattle.posix.specs.declared.entry.Entry.TheVariants.{Noted, Called, Reported, NoMemory, Ended, Halted}
 
 -- an entry with the number of its event
 pub record Line : Type 0 where
@@ -15,9 +15,17 @@ line k e = record { event = k; entry = e }
 abbrev pub numbered : ℕ → List Entry → List Line
 numbered k entries = map (line k) entries
 
--- a wait reports that a process ended; no entry does yet
+-- whether a status word tells that a process ended: its low byte is 127 where it was stopped, and 255
+-- where it was continued, waitpid(2)
+abbrev pub tells_end : ℕ → Bool
+tells_end status = nat_lt (status % 256) 127
+
+-- a wait reports that a process ended
 abbrev pub reports_end : Entry → Bool
 reports_end (Noted pid value) = false
+reports_end (Called pid call result) = false
+reports_end (Reported pid child status) = tells_end status
+reports_end (NoMemory pid call) = false
 reports_end (Ended pid status) = false
 reports_end Halted = false
 

@@ -1,11 +1,15 @@
 -- One instruction, on a processor and its memory (own).
-use Rattle.std.specs.Prelude.{◌≡◌, ℕ, ◌-◌, if◌then◌else◌, nat_le, List, Option, Some, None, ℤ, pos, negsuc, slice_get, slice_set, slice_index_or}
-use Rattle.std.specs.Int.{w64, int_wrapping_add}
+use Rattle.std.specs.Prelude.{◌≡◌, ℕ, ◌-◌, Bool, true, false, not, if◌then◌else◌, ◌==◌, nat_le, nat_lt, List, Option, Some, None, ℤ, pos, negsuc, int_rem, slice_get, slice_set, slice_index_or}
+use Rattle.std.specs.Int.{w64, int_wrapping_add, int_wrapping_sub, int_wrapping_mul, int_wrapping_div, int_bit_and, int_bit_or, int_bit_xor}
 use Rattle.posix.specs.declared.instr.Instr.{Instr}
-use Rattle.posix.specs.declared.instr.Instr.TheVariants.{Set, Note, Sys}
+use Rattle.posix.specs.declared.instr.Instr.TheVariants.{Set, Move, Compute, Load, Store, Jump, JumpIf, Note, Sys}
+use Rattle.posix.specs.declared.instr.Operator.{Operator}
+use Rattle.posix.specs.declared.instr.Operator.TheVariants.{Add, Sub, Mul, Div, Rem, And, Or, Xor}
+use Rattle.posix.specs.declared.instr.Condition.{Condition}
+use Rattle.posix.specs.declared.instr.Condition.TheVariants.{Zero, NotZero, Negative}
 use Rattle.posix.specs.declared.instr.Trap.{Trap}
 use Rattle.posix.specs.declared.instr.Trap.TheVariants as trap
-use Rattle.posix.specs.Signals.{SEGV}
+use Rattle.posix.specs.Signals.{FPE, SEGV}
 use Rattle.posix.specs.Processes.{Cpu}
 
 -- how an instruction came out, and the processor after it
@@ -23,10 +27,75 @@ set_register c r z = record c { registers = slice_set c.registers r z }
 abbrev pub move_on : Cpu → Cpu
 move_on c = record c { pc = int_wrapping_add w64 c.pc (pos 1) }
 
+-- the instruction was run
+abbrev pub done : Cpu → Executed
+done c = record { trap = trap.Next; cpu = c }
+
+-- a machine fault leaves the processor as it was
+abbrev pub faulted : Cpu → ℕ → Executed
+faulted c signal = record { trap = trap.Fault signal; cpu = c }
+
+-- ---- operators and tests
+
+abbrev pub is_zero : ℤ → Bool
+is_zero (pos n) = n == 0
+is_zero (negsuc n) = false
+
+abbrev pub is_negative : ℤ → Bool
+is_negative (pos n) = false
+is_negative (negsuc n) = true
+
+-- Results wrap, also the quotient of the least number by -1. There is none by 0.
+abbrev pub computed : Operator → ℤ → ℤ → Option ℤ
+computed Add x y = Some (int_wrapping_add w64 x y)
+computed Sub x y = Some (int_wrapping_sub w64 x y)
+computed Mul x y = Some (int_wrapping_mul w64 x y)
+computed Div x y = if is_zero y then None else Some (int_wrapping_div w64 x y)
+computed Rem x y = if is_zero y then None else Some (int_rem x y)
+computed And x y = Some (int_bit_and w64 x y)
+computed Or x y = Some (int_bit_or w64 x y)
+computed Xor x y = Some (int_bit_xor w64 x y)
+
+abbrev pub passes : Condition → ℤ → Bool
+passes Zero z = is_zero z
+passes NotZero z = not (is_zero z)
+passes Negative z = is_negative z
+
+-- a result for a register, or a fault FPE
+abbrev pub put_result : Cpu → ℕ → Option ℤ → Executed
+put_result c r None = faulted c FPE
+put_result c r (Some z) = done (move_on (set_register c r z))
+
+-- ---- memory
+
+-- the address that a value names: 0 to 255
+abbrev pub address_of : ℤ → Option ℕ
+address_of (pos n) = if nat_lt n 256 then Some n else None
+address_of (negsuc n) = None
+
+abbrev pub load_from : Cpu → ℕ → Option ℕ → Executed
+load_from c r None = faulted c SEGV
+load_from c r (Some address) = done (move_on (set_register c r (slice_index_or c.memory address (pos 0))))
+
+abbrev pub store_at : Cpu → ℤ → Option ℕ → Executed
+store_at c z None = faulted c SEGV
+store_at c z (Some address) = done (move_on (record c { memory = slice_set c.memory address z }))
+
+-- ---- instructions
+
+abbrev pub jump : Cpu → ℕ → Cpu
+jump c address = record c { pc = pos address }
+
 -- a call leaves the pc at it
 abbrev pub execute : Cpu → Instr → Executed
-execute c (Set r z) = record { trap = trap.Next; cpu = move_on (set_register c r z) }
-execute c (Note r) = record { trap = trap.Note (register c r); cpu = move_on c }
+execute c (Set a z) = done (move_on (set_register c a z))
+execute c (Move a b) = done (move_on (set_register c a (register c b)))
+execute c (Compute operator a b) = put_result c a (computed operator (register c a) (register c b))
+execute c (Load a b) = load_from c a (address_of (register c b))
+execute c (Store a b) = store_at c (register c a) (address_of (register c b))
+execute c (Jump address) = done (jump c address)
+execute c (JumpIf condition a address) = done (if passes condition (register c a) then jump c address else move_on c)
+execute c (Note a) = record { trap = trap.Note (register c a); cpu = move_on c }
 execute c (Sys call) = record { trap = trap.Call call; cpu = c }
 
 -- the instruction at place i of a program has code address 16 + i
@@ -36,16 +105,16 @@ fetched program (negsuc n) = None
 
 -- outside the program is a fault, which leaves the pc
 abbrev pub execute_fetched : Cpu → Option Instr → Executed
-execute_fetched c None = record { trap = trap.Fault SEGV; cpu = c }
+execute_fetched c None = faulted c SEGV
 execute_fetched c (Some instr) = execute c instr
 
 -- the instruction at the pc is run
 unfoldable pub exec_one : List Instr → Cpu → Executed
 exec_one program c = execute_fetched c (fetched program c.pc)
 
--- a call and a fault leave the processor as it was
-abbrev pub StaysAtCall : Trap → Cpu → Cpu → Type 0
-StaysAtCall trap.Next old new = Unit {0}
-StaysAtCall (trap.Note value) old new = Unit {0}
-StaysAtCall (trap.Call call) old new = new ≡ old
-StaysAtCall (trap.Fault sig) old new = new ≡ old
+-- a call and a fault leave a thing as it was
+abbrev pub StaysUnlessRun : {A : Type 0} → Trap → A → A → Type 0
+StaysUnlessRun trap.Next old new = Unit {0}
+StaysUnlessRun (trap.Note value) old new = Unit {0}
+StaysUnlessRun (trap.Call call) old new = new ≡ old
+StaysUnlessRun (trap.Fault sig) old new = new ≡ old

@@ -3,11 +3,16 @@ use Rattle.std.specs.Prelude.{ℕ, List, [], ◌∷◌, ◌++◌, codes, decimal
 use Rattle.std.specs.List.{join_with_byte}
 use Rattle.std.specs.Fmt.{signed_decimal}
 use Rattle.posix.specs.declared.entry.Entry.{Entry}
-use Rattle.posix.specs.declared.entry.Entry.TheVariants.{Noted, Ended, Halted}
+use Rattle.posix.specs.declared.entry.Entry.TheVariants.{Noted, Called, Reported, NoMemory, Ended, Halted}
+use Rattle.posix.specs.declared.instr.Call.TheVariants.{Waitpid}
+use Rattle.posix.specs.Calls.{call_text}
 use Rattle.posix.specs.Entries.{Line}
 
 abbrev pub words_of : Entry → List (List ℕ)
 words_of (Noted pid value) = codes "note" ∷ decimal pid ∷ signed_decimal value ∷ []
+words_of (Called pid call result) = codes "call" ∷ decimal pid ∷ call_text call ∷ codes "=" ∷ signed_decimal result ∷ []
+words_of (Reported pid child status) = codes "call" ∷ decimal pid ∷ call_text Waitpid ∷ codes "=" ∷ decimal child ∷ codes "status" ∷ decimal status ∷ []
+words_of (NoMemory pid call) = codes "call" ∷ decimal pid ∷ call_text call ∷ codes "=" ∷ codes "-11" ∷ codes "memory" ∷ []
 words_of (Ended pid status) = codes "end" ∷ decimal pid ∷ decimal status ∷ []
 words_of Halted = codes "halt" ∷ []
 

@@ -45,6 +45,11 @@ is_zombie Running = false
 is_zombie Stopped = false
 is_zombie (Zombie status) = true
 
+abbrev pub is_running : Life → Bool
+is_running Running = true
+is_running Stopped = false
+is_running (Zombie status) = false
+
 abbrev pub is_living : Process → Bool
 is_living r = not (is_zombie r.life)
 

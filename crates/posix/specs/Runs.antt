@@ -4,7 +4,7 @@ use Rattle.posix.specs.declared.event.Event.{Event}
 use Rattle.posix.specs.declared.entry.Entry.{Entry}
 use Rattle.posix.specs.Entries.{Line, numbered}
 use Rattle.posix.specs.States.{State, World, boot}
-use Rattle.posix.specs.Step.{IsStep, next}
+use Rattle.posix.specs.Step.{IsStep}
 
 -- From old, the events with the numbers from k on may show these lines and lead to new.
 abbrev pub RunsFrom : ℕ → State → List Event → List Line → State → Type 0
@@ -16,11 +16,3 @@ RunsFrom k old (event ∷ events) lines new =
 -- In a world the events, which are numbered from 1, may show these lines and lead to this last state.
 abbrev pub Runs : World → List Event → List Line → State → Type 0
 Runs world events lines last = RunsFrom 1 (boot world) events lines last
-
--- the lines of the run, computed
-abbrev pub lines_from : ℕ → State → List Event → List Line
-lines_from k s [] = []
-lines_from k s (event ∷ events) = let done = next s event in numbered k done.entries ++ lines_from (k + 1) done.state events
-
-abbrev pub lines_of : World → List Event → List Line
-lines_of world events = lines_from 1 (boot world) events

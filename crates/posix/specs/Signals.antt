@@ -41,7 +41,8 @@ is_signal s = is_standard s || is_realtime s
 abbrev pub is_stop_signal : ℕ → Bool
 is_stop_signal s = nat_le STOP s && nat_le s TTOU
 
--- signal(7), the table "Standard signals"; a real-time signal ends the process
+-- signal(7), the table "Standard signals": where it says Core the process ends without one (own); a
+-- real-time signal ends the process
 abbrev pub default_action : ℕ → DefaultAction
 default_action s =
     if s == CHLD || s == URG || s == WINCH then default.Ignore

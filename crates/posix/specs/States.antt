@@ -1,7 +1,10 @@
 -- The state of the machine: the records of the processes, and what the system holds beside them.
-use Rattle.std.specs.Prelude.{ℕ, ◌==◌, Bool, false, not, if◌then◌else◌, List, [], ◌∷◌, ◌++◌, map, filter, find, slice_get, Option, option_and_then, replicate}
+use Rattle.std.specs.Prelude.{ℕ, ◌==◌, Bool, false, not, List, [], ◌∷◌, ◌++◌, filter, slice_get, Option, option_and_then, replicate}
+use Rattle.std.specs.List.{list_any}
 use Rattle.posix.specs.declared.instr.Instr.{Instr}
 use Rattle.posix.specs.Processes.{Process, first_process}
+use Rattle.posix.specs.Tables.{lookup, changed}
+use Rattle.posix.specs.NextPid.{is_free, next_free}
 
 -- a program, and the ids that it takes on as it is run, XSH exec
 pub record Program : Type 0 where
@@ -37,23 +40,27 @@ pub record State : Type 0 where
 
 -- ---- records
 
-abbrev pub has_pid : ℕ → Process → Bool
-has_pid p r = r.pid == p
-
 abbrev pub process : State → ℕ → Option Process
-process s p = find (has_pid p) s.processes
-
-abbrev pub at : ℕ → (Process → Process) → Process → Process
-at p f r = if r.pid == p then f r else r
+process s p = lookup p s.processes
 
 -- the state with the record of p changed
 abbrev pub change : State → ℕ → (Process → Process) → State
-change s p f = record s { processes = map (at p f) s.processes }
+change s p f = record s { processes = changed p f s.processes }
+
+-- the number of the next process, or none
+abbrev pub next_pid : State → Option ℕ
+next_pid s = next_free (is_free s.processes) s.last_pid s.world.pidmax
 
 -- ---- places: who may act, and in which order (own)
 
-abbrev pub without : ℕ → List ℕ → List ℕ
+unfoldable pub is_in : ℕ → List ℕ → Bool
+is_in p order = list_any (λ q. q == p) order
+
+unfoldable pub without : ℕ → List ℕ → List ℕ
 without p order = filter (λ q. not (q == p)) order
+
+abbrev pub has_place : State → ℕ → Bool
+has_place s p = is_in p s.order
 
 abbrev pub lose_place : State → ℕ → State
 lose_place s p = record s { order = without p s.order }

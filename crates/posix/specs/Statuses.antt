@@ -6,6 +6,7 @@ use Rattle.std.specs.Int.{cast_unsigned, w64}
 abbrev pub exited : ℤ → ℕ
 exited code = cast_unsigned w64 code % 256 * 256
 
+-- no core is written, so the bit for it is never set (own)
 abbrev pub killed : ℕ → ℕ
 killed s = s
 

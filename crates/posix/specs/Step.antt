@@ -1,57 +1,46 @@
 -- One event of the machine.
-use Rattle.std.specs.Prelude.{◌≡◌, ℕ, ◌+◌, true, if◌then◌else◌, List, [], ◌∷◌, Option, Some, None, slice_get}
+use Rattle.std.specs.Prelude.{◌≡◌, ℕ, ◌+◌, Bool, if◌then◌else◌, List, [], ◌∷◌, Option, Some, None, slice_get}
 use Rattle.posix.specs.declared.instr.Instr.{Instr}
-use Rattle.posix.specs.declared.instr.Call.{Call}
-use Rattle.posix.specs.declared.instr.Call.TheVariants.{Exit}
 use Rattle.posix.specs.declared.instr.Trap.{Trap}
 use Rattle.posix.specs.declared.instr.Trap.TheVariants as trap
 use Rattle.posix.specs.declared.event.Event.{Event}
 use Rattle.posix.specs.declared.event.Event.TheVariants.{Step, Tick}
 use Rattle.posix.specs.declared.entry.Entry.{Entry}
-use Rattle.posix.specs.declared.entry.Entry.TheVariants.{Noted, Ended, Halted}
-use Rattle.posix.specs.declared.process.Life.TheVariants.{Zombie}
-use Rattle.posix.specs.Statuses.{exited, killed}
-use Rattle.posix.specs.Processes.{Process, Cpu, argument}
+use Rattle.posix.specs.declared.entry.Entry.TheVariants.{Noted}
+use Rattle.posix.specs.declared.process.Blocked.{Blocked}
+use Rattle.posix.specs.Statuses.{killed}
+use Rattle.posix.specs.Processes.{Process, Cpu}
 use Rattle.posix.specs.States.{Program, State, change, lose_place, go_last, current, current_process}
 use Rattle.posix.specs.Execute.{exec_one}
-
--- what an event comes to: the state after it, and what it shows
-pub record Outcome : Type 0 where
-  pub state : State
-  pub entries : List Entry
-
--- nothing is shown
-abbrev pub silent : State → Outcome
-silent s = record { state = s; entries = [] }
-
--- ---- ends
-
-abbrev pub make_zombie : ℕ → Process → Process
-make_zombie status r = record r { life = Zombie status }
-
--- The end of process 1, XSH _exit: it is a zombie with its status and loses its place, and the machine
--- halts; nothing else changes (own).
-abbrev pub end_first_process : State → Process → ℕ → Outcome
-end_first_process s r status = record {
-  state = record (lose_place (change s r.pid (make_zombie status)) r.pid) { halted = true };
-  entries = Ended r.pid status ∷ Halted ∷ [];
-}
+use Rattle.posix.specs.Outcomes.{Outcome, silent, Attempted, Done, Block}
+use Rattle.posix.specs.Attempts.{attempt, attempt_again}
+use Rattle.posix.specs.Ends.{end_process}
+use Rattle.posix.specs.Settle.{settle}
 
 -- ---- a step
 
--- a call, by its name: XSH _exit
-abbrev pub attempt : State → Process → Call → Outcome
-attempt s r Exit = end_first_process s r (exited (argument r 1))
-
-abbrev pub set_cpu : Cpu → Process → Process
+unfoldable pub set_cpu : Cpu → Process → Process
 set_cpu c r = record r { cpu = c }
 
+unfoldable pub enter : Blocked → Process → Process
+enter b r = record r { blocked = Some b }
+
+-- a call that has to wait: the process is blocked in it, with the pc at the call, and loses its place
+abbrev pub begin_call : State → Process → Attempted → Outcome
+begin_call s r (Done outcome) = outcome
+begin_call s r (Block b) = silent (lose_place (change s r.pid (enter b)) r.pid)
+
 -- What follows an instruction. A machine fault ends the process by its signal, XSH 2.4.3 (own).
-abbrev pub after_trap : State → Process → Cpu → Trap → Outcome
-after_trap s r c trap.Next = silent (change s r.pid (set_cpu c))
-after_trap s r c (trap.Note z) = record { state = change s r.pid (set_cpu c); entries = Noted r.pid z ∷ [] }
-after_trap s r c (trap.Call call) = attempt s r call
-after_trap s r c (trap.Fault sig) = end_first_process s r (killed sig)
+unfoldable pub after_trap : Bool → State → Process → Cpu → Trap → Outcome
+after_trap granted s r c trap.Next = silent (change s r.pid (set_cpu c))
+after_trap granted s r c (trap.Note z) = record { state = change s r.pid (set_cpu c); entries = Noted r.pid z ∷ [] }
+after_trap granted s r c (trap.Call call) = begin_call s r (attempt granted s r call)
+after_trap granted s r c (trap.Fault sig) = end_process s r (killed sig)
+
+-- the process that is blocked still has to wait: it loses its place
+abbrev pub go_on : State → Process → Attempted → Outcome
+go_on s r (Done outcome) = outcome
+go_on s r (Block b) = silent (lose_place s r.pid)
 
 abbrev pub instructions : Option Program → List Instr
 instructions None = []
@@ -60,16 +49,16 @@ instructions (Some program) = program.instructions
 abbrev pub code_of : State → Process → List Instr
 code_of s r = instructions (slice_get s.world.programs r.program)
 
--- The instruction at the pc is run. A pending KILL, a blocked call and a chosen signal will come before
--- it, and places will be given anew after each event: in the states that a run reaches as yet nothing of
--- that is there, since process 1 is alone, is sent no signal, and keeps its place until it ends.
-abbrev pub act : State → Process → Outcome
-act s r = let done = exec_one (code_of s r) r.cpu in after_trap s r done.cpu done.trap
+-- Of a process that is blocked the call is attempted afresh; else the instruction at the pc is run. A
+-- pending KILL and a chosen signal will come before it: there are no signals yet.
+unfoldable pub act : Bool → State → Process → Option Blocked → Outcome
+act granted s r (Some b) = go_on s r (attempt_again s r b)
+act granted s r None = let done = exec_one (code_of s r) r.cpu in after_trap granted s r done.cpu done.trap
 
 -- without a current process nothing happens
-abbrev pub step : State → Option Process → Outcome
-step s None = silent s
-step s (Some r) = act s r
+unfoldable pub step : Bool → State → Option Process → Outcome
+step granted s None = silent s
+step granted s (Some r) = act granted s r r.blocked
 
 -- ---- a tick
 
@@ -81,19 +70,24 @@ rotate s (Some p) = go_last s p
 abbrev pub pass_time : State → State
 pass_time s = record s { ticks = s.ticks + 1 }
 
-abbrev pub tick : State → State
+unfoldable pub tick : State → State
 tick s = rotate (pass_time s) (current s)
 
 -- ---- an event
 
-abbrev pub happens : State → Event → Outcome
-happens s Step = step s (current_process s)
-happens s Tick = silent (tick s)
+unfoldable pub happens : Bool → State → Event → Outcome
+happens granted s Step = step granted s (current_process s)
+happens granted s Tick = silent (tick s)
 
--- after a halt no event changes or shows anything
-abbrev pub next : State → Event → Outcome
-next s event = if s.halted then silent s else happens s event
+abbrev pub settled : Outcome → Outcome
+settled o = record o { state = settle o.state }
 
--- From old, the event may show these entries and lead to new.
+-- After a halt no event changes or shows anything.
+unfoldable pub next : Bool → State → Event → Outcome
+next granted s event = if s.halted then silent s else settled (happens granted s event)
+
+-- From old, the event may show these entries and lead to new. All is fixed but for one choice: whether
+-- the host grants the memory that a fork needs.
 pub record IsStep (old : State) (event : Event) (entries : List Entry) (new : State) : Type 0 where
-  pub comes : next old event ≡ record { state = new; entries = entries }
+  pub granted : Bool
+  pub comes : next granted old event ≡ record { state = new; entries = entries }

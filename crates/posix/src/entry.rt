@@ -1,5 +1,6 @@
 //! Entries of a trace.
 
+use crate::instr::Call;
 use crate::pid::Pid;
 use crate::status::Status;
 
@@ -7,9 +8,33 @@ use crate::status::Status;
 #[derive(Clone, Copy, Debug, Default, PartialEq, Eq)]
 pub enum Entry {
     /// A process noted the value of a register.
-    Noted { pid: Pid, value: i64 },
+    Noted {
+        pid: Pid,
+        value: i64,
+    },
+    /// A call completed with a result, which is the negative of an [`Errno`](crate::Errno) where it was
+    /// refused.
+    Called {
+        pid: Pid,
+        call: Call,
+        result: i64,
+    },
+    /// A wait of a process reported the status of a child.
+    Reported {
+        pid: Pid,
+        child: Pid,
+        status: Status,
+    },
+    /// A call was refused with EAGAIN, since the host had no memory for what it asks.
+    NoMemory {
+        pid: Pid,
+        call: Call,
+    },
     /// A process ended.
-    Ended { pid: Pid, status: Status },
+    Ended {
+        pid: Pid,
+        status: Status,
+    },
     /// The machine halted, since process 1 ended.
     #[default]
     Halted,

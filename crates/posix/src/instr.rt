@@ -24,8 +24,14 @@ impl Model for Register {
 }
 
 impl Register {
-    /// r1, which holds the first argument of a call.
+    /// r0, which gets the result of a call.
+    pub const RESULT: Register = Register { number: 0 };
+
+    /// r1, which holds the first argument of a call, and gets a second result.
     pub const FIRST_ARGUMENT: Register = Register { number: 1 };
+
+    /// r2, which holds the second argument of a call.
+    pub const SECOND_ARGUMENT: Register = Register { number: 2 };
 
     /// The register `number`; none from 8 on.
     pub fn new(number: u8) -> Option<Register>
@@ -53,13 +59,64 @@ impl Register {
 pub enum Call {
     /// The process ends with the code in r1 (XSH _exit).
     Exit,
+    /// A child like the caller is born (XSH fork).
+    Fork,
+    /// Waits for a child that r1 names, with the options in r2 (XSH waitpid).
+    Waitpid,
+    /// Waits for a signal (XSH pause).
+    Pause,
+    /// The caller goes to the end of the order (XSH sched_yield).
+    SchedYield,
+    /// The caller's number (XSH getpid).
+    Getpid,
+    /// The number of the caller's parent, 0 for process 1 (XSH getppid).
+    Getppid,
 }
 
-/// One instruction of the user machine (own).
+/// An operator on two words. Results wrap (own).
+#[derive(Clone, Copy, Debug, PartialEq, Eq)]
+pub enum Operator {
+    Add,
+    Sub,
+    Mul,
+    /// The quotient, cut towards 0; a fault FPE by 0.
+    Div,
+    /// The remainder of that quotient; a fault FPE by 0.
+    Rem,
+    And,
+    Or,
+    Xor,
+}
+
+/// A test of one word (own).
+#[derive(Clone, Copy, Debug, PartialEq, Eq)]
+pub enum Condition {
+    /// It is 0.
+    Zero,
+    /// It isn't 0.
+    NotZero,
+    /// It is below 0.
+    Negative,
+}
+
+/// One instruction of the user machine (own). The code address of the instruction at place i of a
+/// program, from 0, is 16 + i.
 #[derive(Clone, Copy, Debug, PartialEq, Eq)]
 pub enum Instr {
     /// `set rA, V`: rA := V.
     Set(Register, i64),
+    /// `mov rA, rB`: rA := rB.
+    Move(Register, Register),
+    /// `add rA, rB` and the like: rA := rA operator rB.
+    Compute(Operator, Register, Register),
+    /// `ld rA, rB`: rA := the word at the address in rB; a fault SEGV outside 0 to 255.
+    Load(Register, Register),
+    /// `st rA, rB`: the word at the address in rB := rA; a fault SEGV outside 0 to 255.
+    Store(Register, Register),
+    /// `jmp L`: goes on at a code address.
+    Jump(u16),
+    /// `jz rA, L` and the like: goes on at a code address if rA passes the test.
+    JumpIf(Condition, Register, u16),
     /// `note rA`: the trace shows rA.
     Note(Register),
     /// `sys NAME`: the call of that name.

@@ -14,13 +14,15 @@ pub mod pid;
 pub mod process;
 pub mod sig;
 pub mod status;
+pub mod wait_options;
 
 pub use entry::Entry;
 pub use errno::Errno;
 pub use event::Event;
 pub use ids::{Gid, Ids, Uid};
-pub use instr::{Call, Instr, Register, Trap};
+pub use instr::{Call, Condition, Instr, Operator, Register, Trap};
 pub use pid::Pid;
-pub use process::{Action, Blocked, Carried, Frame, Handler, Life, News, PendingSignal};
+pub use process::{Action, Blocked, Carried, Frame, Handler, Life, News, PendingSignal, Report};
 pub use sig::{DefaultAction, Sig, SigSet};
 pub use status::Status;
+pub use wait_options::WaitOptions;

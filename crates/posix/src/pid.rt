@@ -26,6 +26,9 @@ impl Model for Pid {
 }
 
 impl Pid {
+    /// Number 0, which is no process.
+    pub const NONE: Pid = Pid { number: 0 };
+
     /// Process 1, which runs the first program of a world and whose end halts the machine.
     pub const INIT: Pid = Pid { number: 1 };
 

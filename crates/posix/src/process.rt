@@ -22,8 +22,11 @@ pub struct PendingSignal {
 /// address (XSH 2.4.3 Signal Actions).
 #[derive(Clone, Copy, Debug, PartialEq, Eq)]
 pub enum Handler {
+    /// The signal's default action (signal(7)).
     Default,
+    /// Nothing happens.
     Ignore,
+    /// The code at this address is entered.
     At(i64),
 }
 
@@ -48,16 +51,22 @@ pub struct Frame {
 /// Whether a process runs, is stopped or has ended. Running and stopped processes are living.
 #[derive(Clone, Copy, Debug, PartialEq, Eq)]
 pub enum Life {
+    /// It runs, or is blocked in a call.
     Running,
+    /// A signal stopped it.
     Stopped,
+    /// It ended with this status, which no wait has reported.
     Zombie(Status),
 }
 
 /// What happened to a process that no wait has reported yet.
 #[derive(Clone, Copy, Debug, PartialEq, Eq)]
 pub enum News {
+    /// There is none.
     Nothing,
+    /// This signal stopped it.
     StoppedBy(Sig),
+    /// It was continued.
     Continued,
 }
 
@@ -68,4 +77,17 @@ pub enum Blocked {
     Read,
     Pause,
     Sigsuspend(SigSet),
+}
+
+/// What a wait has to report of the children that it names (XSH waitpid).
+#[derive(Clone, Copy, Debug, PartialEq, Eq)]
+pub enum Report {
+    /// No child is named.
+    NoChild,
+    /// None of the named children has something to report.
+    Nothing,
+    /// A child ended, with this status.
+    End(Pid, Status),
+    /// A child was stopped or continued, with this status.
+    Change(Pid, Status),
 }

@@ -8,14 +8,17 @@ use Rattle.posix.specs.declared.event.Event.{Event}
 use Rattle.text.specs.declared.event_list.EventRun.{EventRun}
 use Rattle.text.specs.EventLists.{expanded}
 
+-- another run adds its events at the end
 pub expanded_push : (rs : List EventRun) (r : EventRun) → expanded (rs ++ r ∷ []) ≡ expanded rs ++ replicate r.count r.event
 expanded_push rs r = grind (arith, common_steps)
 
+-- at a place within the list the default doesn't matter
 get_or_any : (rs : List EventRun) (i : ℕ) (d e : EventRun) → i < length rs → get_or rs i d ≡ get_or rs i e
 get_or_any [] i d e h = absurd (omega arith)
 get_or_any (r ∷ rs) zero d e h = refl
 get_or_any (r ∷ rs) (suc i) d e h = get_or_any rs i d e (omega arith)
 
+-- the last run grows by n, and n of its events come at the end
 last_grow : (rs : List EventRun) (i n : ℕ) (d : EventRun) → i + 1 ≡ length rs →
     expanded (set rs i (record { event = (get_or rs i d).event; count = (get_or rs i d).count + n })) ≡ expanded rs ++ replicate n (get_or rs i d).event
 last_grow [] i n d h = absurd (omega arith)
@@ -35,6 +38,7 @@ expanded_grow rs i n r q event last r_is q_is same =
     let f : (get_or rs i q).event ≡ event = ap (λ (x : EventRun). x.event) (sym q_is) ∙ same in
     rw (e, ← f) (last_grow rs i n q last)
 
+-- the run at a place is no longer than all
 within_all : (rs : List EventRun) (i : ℕ) (d : EventRun) → i < length rs → (get_or rs i d).count ≤ length (expanded rs)
 within_all [] i d h = absurd (omega arith)
 within_all (r ∷ rs) zero d h = omega (arith, length-append (replicate r.count r.event) (expanded rs), length-replicate r.count r.event)

@@ -2,4 +2,5 @@ pub mod WordLemmas
 pub mod LineLemmas
 pub mod EventLemmas
 pub mod ReaderLemmas
+pub mod EachLemmas
 pub mod Rows

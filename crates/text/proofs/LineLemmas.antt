@@ -11,18 +11,22 @@ use Rattle.text.proofs.WordLemmas.{drop_here, take_here}
 abbrev pub all_from : List ℕ → List ℕ → List (List ℕ)
 all_from begun bs = (lines_from begun bs).whole ++ last_line (lines_from begun bs).rest
 
+-- a line feed ends the first line
 pub all_from-end : (begun : List ℕ) (c : ℕ) (bs : List ℕ) → (c == 10) ≡ true → all_from begun (c ∷ bs) ≡ begun ∷ all_lines bs
 all_from-end begun c bs h = rw h refl
 
+-- another byte belongs to the first line
 pub all_from-more : (begun : List ℕ) (c : ℕ) (bs : List ℕ) → (c == 10) ≡ false → all_from begun (c ∷ bs) ≡ all_from (begun ++ c ∷ []) bs
 all_from-more begun c bs h = rw h refl
 
+-- past a byte that is no line feed, the lines are the same
 pub line_more : (bs : List ℕ) (i : ℕ) → i < length bs → (get_or bs i 0 ≡ 10 → ⊥) → all_from (take (i + 1) bs) (drop (i + 1) bs) ≡ all_from (take i bs) (drop i bs)
 line_more bs i lt h =
     let ne : (get_or bs i 0 == 10) ≡ false = grind (arith, nat_tests) in
     ap (λ (w : List ℕ). all_from w (drop (i + 1) bs)) (take_here bs i lt)
     ∙ sym (ap (all_from (take i bs)) (drop_here bs i lt) ∙ all_from-more (take i bs) (get_or bs i 0) (drop (i + 1) bs) ne)
 
+-- at a line feed, the bytes before it are the first line
 pub line_taken : (bs : List ℕ) (i : ℕ) → i < length bs → get_or bs i 0 ≡ 10 → all_from (take i bs) (drop i bs) ≡ take i bs ∷ all_lines (drop (i + 1) bs)
 line_taken bs i lt h =
     let eq : (get_or bs i 0 == 10) ≡ true = grind (arith, nat_tests) in
@@ -33,6 +37,7 @@ pub some_line : (bs : List ℕ) → 0 < length bs → last_line bs ≡ bs ∷ []
 some_line [] h = absurd (omega arith)
 some_line (b ∷ bs) h = refl
 
+-- where no line feed has come by the end, the whole text is one line
 pub line_rest : (bs : List ℕ) (i : ℕ) → 0 < length bs → i ≡ length bs → all_from (take i bs) (drop i bs) ≡ bs ∷ all_lines []
 line_rest bs i some e =
     let none : drop i bs ≡ [] = grind (arith, common_steps) in

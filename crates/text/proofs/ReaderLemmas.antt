@@ -16,16 +16,20 @@ use Rattle.text.specs.EventTexts.{Reading, next_line, read_lines, read_whole, st
 
 -- ---- lines
 
+-- the last line ends, and an empty one begins
 abbrev ended : Lines → Lines
 ended ls = record { whole = ls.whole ++ ls.rest ∷ []; rest = [] }
 
+-- the last line has one more byte
 abbrev extended : ℕ → Lines → Lines
 extended c ls = record { whole = ls.whole; rest = ls.rest ++ c ∷ [] }
 
+-- where both sides of a test end their last line, so does the test
 ended_if : (t : Bool) (begun : List ℕ) (X A Y B : Lines) → X ≡ ended A → Y ≡ ended B → cond t (after_line begun X) Y ≡ ended (cond t (after_line begun A) B)
 ended_if true begun X A Y B e f = ap (after_line begun) e
 ended_if false begun X A Y B e f = f
 
+-- where both sides of a test have one more byte, so has the test
 extended_if : (c : ℕ) (t : Bool) (begun : List ℕ) (X A Y B : Lines) → X ≡ extended c A → Y ≡ extended c B → cond t (after_line begun X) Y ≡ extended c (cond t (after_line begun A) B)
 extended_if c true begun X A Y B e f = ap (after_line begun) e
 extended_if c false begun X A Y B e f = f
@@ -47,6 +51,7 @@ no_last (b ∷ bs) h = absurd (omega arith)
 
 -- ---- the beginning of a line, up to a byte above the limit
 
+-- a line longer than n is so by its first n + 1 bytes
 long_taken : (n : ℕ) (line : List ℕ) → n < length line → ltb n (length (take (n + 1) line)) ≡ ltb n (length line)
 long_taken n line long = rw length-take (grind (arith, nat_tests))
 
@@ -60,25 +65,31 @@ event_line_taken n room line = elim (cases_lt 200 (length line)) [
   | inr short ↦ ap (event_line n room) (take_all 201 line (omega arith))
 ]
 
+-- where n bytes are taken, one more changes nothing
 pub take_full : (n : ℕ) (xs : List ℕ) (c : ℕ) → length (take n xs) ≡ n → take n (xs ++ c ∷ []) ≡ take n xs
 take_full n xs c h = let le : n ≤ length xs = omega (arith, length-take n xs) in take-append-le n xs (c ∷ []) le
 
+-- where fewer than n bytes are taken, one more is taken after them
 pub take_room : (n : ℕ) (xs : List ℕ) (c : ℕ) → length (take n xs) < n → take n (xs ++ c ∷ []) ≡ take n xs ++ c ∷ []
 take_room n xs c h =
     let le : length xs < n = omega (arith, length-take n xs) in
     take_all n (xs ++ c ∷ []) (omega (arith, length-append xs (c ∷ []))) ∙ ap (λ (ys : List ℕ). ys ++ c ∷ []) (sym (take_all n xs (omega arith)))
 
+-- where none is taken, there is none
 empty_taken : (n : ℕ) (rest : List ℕ) → 0 < n → length (take n rest) ≡ 0 → length rest ≡ 0
 empty_taken n rest some h = omega (arith, length-take n rest)
 
+-- where some are taken, there are some
 rest_some : (n : ℕ) (rest : List ℕ) → 0 < length (take n rest) → 0 < length rest
 rest_some n rest h = omega (arith, length-take n rest)
 
 -- ---- lines, read
 
+-- lines and one more are read as the lines, and then the one
 read_more : (n : ℕ) (r : Reading) (ls : List (List ℕ)) (l : List ℕ) → read_lines n r (ls ++ l ∷ []) ≡ next_line (read_lines n r ls).fault n (read_lines n r ls) l
 read_more n r ls l = fold_push (λ a line. next_line a.fault n a line) r ls l
 
+-- without a fault, the next line is judged by its first 201 bytes
 next_at : (n : ℕ) (r : Reading) (rest : List ℕ) → r.fault ≡ None → next_line r.fault n r rest ≡ judged_line n r (take 201 rest)
 next_at n r rest h = rw (h, event_line_taken) refl
 
@@ -87,39 +98,48 @@ fault_kept : (o : Option TextFault) (n : ℕ) (r : Reading) (l : List ℕ) (f : 
 fault_kept (Some g) n r l f e h = h
 fault_kept None n r l f e h = cc
 
+-- a fault stays where one more line is read
 fault_stays : (n : ℕ) (r : Reading) (ls : List (List ℕ)) (l : List ℕ) (f : TextFault) → (read_lines n r ls).fault ≡ Some f → (read_lines n r (ls ++ l ∷ [])).fault ≡ Some f
 fault_stays n r ls l f h = rw (read_more n r ls l) (fault_kept (read_lines n r ls).fault n (read_lines n r ls) l f refl h)
 
+-- a fault stays where one more byte comes
 whole_stays : (t : Bool) (n : ℕ) (text : List ℕ) (c : ℕ) (f : TextFault) → (c == 10) ≡ t → (read_whole n text).fault ≡ Some f → (read_whole n (text ++ c ∷ [])).fault ≡ Some f
 whole_stays true n text c f e h = rw (lines_end [] text c e) (fault_stays n start (lines_of text).whole (lines_of text).rest f h)
 whole_stays false n text c f e h = rw (lines_more [] text c e) h
 
+-- a fault stays at the end of the text, whatever its last line is
 fault_at_end : (n : ℕ) (text rest : List ℕ) (f : TextFault) → (read_whole n text).fault ≡ Some f → (read_lines n start ((lines_of text).whole ++ last_line rest)).fault ≡ Some f
 fault_at_end n text [] f h = rw append-nil h
 fault_at_end n text (b ∷ rest) f h = fault_stays n start (lines_of text).whole (b ∷ rest) f h
 
+-- where there is a fault, it is the answer
 answer_fault : (r : Reading) (f : TextFault) → r.fault ≡ Some f → answer r ≡ Err f
 answer_fault r f h = rw h refl
 
+-- where there is no fault, the events are the answer
 answer_fine : (r : Reading) → r.fault ≡ None → answer r ≡ Ok r.events
 answer_fine r h = rw h refl
 
 -- ---- what a reader keeps, by whether it has a fault
 
+-- where there is no fault, what is kept is that of a reader without one
 read_fine : (o : Option TextFault) (text : List ℕ) (p : Progress) → o ≡ None → HasReadTo o text p → HasReadTo None text p
 read_fine None text p e h = h
 read_fine (Some f) text p e h = cc
 
+-- and the other way round
 fine_read : (o : Option TextFault) (text : List ℕ) (p : Progress) → o ≡ None → HasReadTo None text p → HasReadTo o text p
 fine_read None text p e h = h
 fine_read (Some f) text p e h = cc
 
+-- where there is a fault, what is kept is that of a reader with it
 was_fault : (o : Option TextFault) (f : TextFault) (text : List ℕ) (p : Progress) → o ≡ Some f → HasReadTo o text p → HasReadTo (Some f) text p
 was_fault None f text p e h = cc
 was_fault (Some g) f text p e h = let same : f ≡ g = cc in rw same h
 
 -- ---- after a fault
 
+-- with a fault, what is kept stays where one more byte comes
 kept_at : (o : Option TextFault) (text : List ℕ) (c : ℕ) (p : Progress) → is_some o ≡ true → HasReadTo o text p → HasReadTo o (text ++ c ∷ []) p
 kept_at None text c p e h = cc
 kept_at (Some g) text c p e h = elim h [ inl m ↦ inl m | inr q ↦ inr (whole_stays (c == 10) p.consoles text c g refl q) ]
@@ -128,6 +148,7 @@ kept_at (Some g) text c p e h = elim h [ inl m ↦ inl m | inr q ↦ inr (whole_
 pub kept : (text : List ℕ) (c : ℕ) (p : Progress) → is_some p.reading.fault ≡ true → HasRead text p → HasRead (text ++ c ∷ []) p
 kept text c p e h = kept_at p.reading.fault text c p e h
 
+-- nothing that comes matters, however much
 kept_all : (more text : List ℕ) (p : Progress) → is_some p.reading.fault ≡ true → HasRead text p → HasRead (text ++ more) p
 kept_all [] text p e h = rw append-nil h
 kept_all (c ∷ more) text p e h = let k = kept_all more (text ++ c ∷ []) p e (kept text c p e h) in rw append_assoc at k
@@ -144,6 +165,7 @@ read_fault text p f e h = elim (was_fault p.reading.fault f text p e h) [
 pub fault_answers : (text more : List ℕ) (n : ℕ) (p : Progress) (f : TextFault) → p.reading.fault ≡ Some f → p.consoles ≡ n → HasRead text p → IsFaultOf (event_text n (text ++ more)) f
 fault_answers text more n p f e same h = rw (← same) (read_fault (text ++ more) p f e (kept_all more text p (ap is_some e) h))
 
+-- where no fault is seen, there is none
 pub no_fault : (o : Option TextFault) → is_some o ≡ false → o ≡ None
 no_fault None h = refl
 no_fault (Some f) h = cc
@@ -169,23 +191,27 @@ line_refused m r partial events line reason same adds = elim (adds m).1 [
 
 -- ---- the end of a line
 
+-- a line feed has the line so far judged
 whole_ended : (text : List ℕ) (c : ℕ) (old : Progress) → (c == 10) ≡ true → old.reading.fault ≡ None → HasReadTo None text old →
     read_whole old.consoles (text ++ c ∷ []) ≡ judged_line old.consoles old.reading old.partial
 whole_ended text c old e fine h =
     rw (lines_end [] text c e, read_more old.consoles start (lines_of text).whole (lines_of text).rest, ← h.0, h.1) (next_at old.consoles old.reading (lines_of text).rest fine)
 
+-- after the end of a line the reader keeps what it should, by its fault then
 ended_to : (o : Option TextFault) (text : List ℕ) (c : ℕ) (old new : Progress) → (c == 10) ≡ true → old.reading.fault ≡ None → new.consoles ≡ old.consoles →
     HasReadTo None text old → EndsLineTo o old new → HasReadTo o (text ++ c ∷ []) new
 ended_to None text c old new e fine same f (reads, empty) =
     rw same (reads ∙ sym (whole_ended text c old e fine f), empty ∙ sym (ap (λ (ls : Lines). take 201 ls.rest) (lines_end [] text c e)))
 ended_to (Some fault) text c old new e fine same f why = rw same (elim why [ inl m ↦ inl m | inr q ↦ inr (rw (whole_ended text c old e fine f) q) ])
 
+-- after the end of a line the reader keeps what it should
 pub line_ended : (text : List ℕ) (c : ℕ) (old new : Progress) → (c == 10) ≡ true → old.reading.fault ≡ None → new.consoles ≡ old.consoles →
     HasRead text old → EndsLine old new → HasRead (text ++ c ∷ []) new
 line_ended text c old new e fine same h ends = ended_to new.reading.fault text c old new e fine same (read_fine old.reading.fault text old fine h) ends
 
 -- ---- another byte of a line
 
+-- after another byte of a line the reader keeps what it should
 pub byte_kept : (text : List ℕ) (c : ℕ) (old : Progress) (more : List ℕ) → (c == 10) ≡ false → old.reading.fault ≡ None → HasRead text old →
     ((xs : List ℕ) → old.partial ≡ take 201 xs → more ≡ take 201 (xs ++ c ∷ [])) → HasRead (text ++ c ∷ []) (record old { partial = more })
 byte_kept text c old more e fine h taken =
@@ -196,17 +222,21 @@ byte_kept text c old more e fine h taken =
 
 -- ---- the end of a text
 
+-- without a fault, the events are to be what the text means
 meets_to_none : (o : Option TextFault) (n : ℕ) (text : List ℕ) (events : List Event) → o ≡ None → event_text n text ≡ Ok events → MeetsTo o events (event_text n text)
 meets_to_none None n text events e h = h
 meets_to_none (Some g) n text events e h = cc
 
+-- with a fault, by that fault, it is what the text means
 meets_to : (o : Option TextFault) (text : List ℕ) (p : Progress) → o ≡ p.reading.fault → is_some o ≡ true → HasRead text p → MeetsTo o p.reading.events (event_text p.consoles text)
 meets_to None text p same e h = cc
 meets_to (Some f) text p same e h = read_fault text p f (sym same) h
 
+-- with a fault, what was read is what the text means
 pub meets_fault : (text : List ℕ) (p : Progress) → is_some p.reading.fault ≡ true → HasRead text p → Meets p.reading (event_text p.consoles text)
 meets_fault text p e h = meets_to p.reading.fault text p refl e h
 
+-- so it is without a fault, where no last line is begun
 pub meets_no_last : (text : List ℕ) (p : Progress) → p.reading.fault ≡ None → length p.partial ≡ 0 → HasRead text p → Meets p.reading (event_text p.consoles text)
 unfolding event_text
 meets_no_last text p e none h =
@@ -216,12 +246,14 @@ meets_no_last text p e none h =
     meets_to_none p.reading.fault p.consoles text p.reading.events e
     (ap (λ (ls : List (List ℕ)). answer (read_lines p.consoles start ls)) lines ∙ ap answer (sym f.0) ∙ answer_fine p.reading e)
 
+-- all lines are read where a last line that is begun is judged
 all_read : (text : List ℕ) (old : Progress) → old.reading.fault ≡ None → 0 < length old.partial → HasReadTo None text old →
     read_lines old.consoles start (all_lines text) ≡ judged_line old.consoles old.reading old.partial
 all_read text old e some f =
     let rest : 0 < length (lines_of text).rest = rest_some 201 (lines_of text).rest (subst (λ (l : List ℕ). 0 < length l) f.1 some) in
     rw (some_line (lines_of text).rest rest, read_more old.consoles start (lines_of text).whole (lines_of text).rest, ← f.0, f.1) (next_at old.consoles old.reading (lines_of text).rest e)
 
+-- a last line that is begun is judged, and the text means that, by its fault then
 meets_ends : (o : Option TextFault) (text : List ℕ) (old new : Progress) → o ≡ new.reading.fault → old.reading.fault ≡ None → 0 < length old.partial →
     EndsLineTo o old new → HasReadTo None text old → MeetsTo o new.reading.events (event_text old.consoles text)
 unfolding event_text
@@ -231,5 +263,6 @@ meets_ends (Some g) text old new same e some why f = elim why [
   | inr q ↦ inr (ap answer (all_read text old e some f) ∙ answer_fault (judged_line old.consoles old.reading old.partial) g q)
 ]
 
+-- so it is where a last line that is begun is judged
 pub meets_last : (text : List ℕ) (old new : Progress) → old.reading.fault ≡ None → 0 < length old.partial → EndsLine old new → HasRead text old → Meets new.reading (event_text old.consoles text)
 meets_last text old new e some ends h = meets_ends new.reading.fault text old new refl e some ends (read_fine old.reading.fault text old e h)

@@ -1,26 +1,41 @@
 -- Worked texts, computed: worlds, events and faults.
-use Rattle.std.specs.Prelude.{◌≡◌, ℕ, List, [], ◌∷◌, ◌++◌, refl, replicate, Result, Ok, Err, None, codes, pos, negsuc}
+use Rattle.std.specs.Prelude.{◌≡◌, ℕ, List, [], ◌∷◌, ◌++◌, refl, replicate, Result, Ok, Err, Option, Some, None, codes, pos, negsuc, flat_map}
 use Rattle.posix.specs.declared.event.Event.TheVariants.{Step, Tick}
 use Rattle.posix.specs.declared.instr.Instr.{Instr}
-use Rattle.posix.specs.declared.instr.Instr.TheVariants.{Set, Note, Sys}
-use Rattle.posix.specs.declared.instr.Call.TheVariants.{Exit}
-use Rattle.posix.specs.States.{World}
+use Rattle.posix.specs.declared.instr.Instr.TheVariants.{Set, Move, Compute, Load, Store, Jump, JumpIf, Note, Sys}
+use Rattle.posix.specs.declared.instr.Operator.TheVariants.{Add, Sub, Mul, Div, Rem, And, Or, Xor}
+use Rattle.posix.specs.declared.instr.Condition.TheVariants.{Zero, NotZero, Negative}
+use Rattle.posix.specs.declared.instr.Call.TheVariants.{Exit, Fork, Waitpid, Pause, SchedYield, Getpid}
+use Rattle.posix.specs.States.{Program, World}
 use Rattle.text.specs.declared.fault.Reason.{Reason}
-use Rattle.text.specs.declared.fault.Reason.TheVariants.{UnknownWord, BadNumber, OutOfRange, LineTooLong, EndMissing, NoProgram}
+use Rattle.text.specs.declared.fault.Reason.TheVariants.{UnknownWord, BadNumber, OutOfRange, NameUnknown, NameTwice, LineTooLong, EndMissing, NoProgram}
 use Rattle.text.specs.declared.fault.TextFault.{TextFault}
-use Rattle.text.specs.WorldTexts.{world_text, operands, header, program_line, instruction_line, inner_line, line_at}
+use Rattle.text.specs.Names.{defined}
+use Rattle.text.specs.Instructions.{operation_named, two_registers, target, operands}
+use Rattle.text.specs.Outlines.{completed, program_of}
+use Rattle.text.specs.WorldTexts.{world_text, world_of, header, setting, program_line, label_line, instruction_line, inner_line, pidmax_line, consoles_line, outer_line, line_at}
 use Rattle.text.specs.EventTexts.{event_text, counted}
 
--- opens every definition of an operation
+-- opens every definition of a text
 unfoldable everything : Unit {0}
-unfolding world_text operands header program_line instruction_line inner_line line_at event_text counted
+unfolding defined operation_named two_registers target operands completed program_of world_text world_of header setting program_line label_line instruction_line inner_line pidmax_line consoles_line outer_line line_at event_text counted
 everything = tt
 
+abbrev program : Option ℕ → Option ℕ → List Instr → Program
+program setuid setgid code = record { setuid = setuid; setgid = setgid; instructions = code }
+
+abbrev worlds : ℕ → ℕ → List Program → Result World TextFault
+worlds pidmax consoles programs = Ok (record { pidmax = pidmax; consoles = consoles; programs = programs })
+
 abbrev world : ℕ → ℕ → List Instr → Result World TextFault
-world pidmax consoles code = Ok (record { pidmax = pidmax; consoles = consoles; programs = record { setuid = None; setgid = None; instructions = code } ∷ [] })
+world pidmax consoles code = worlds pidmax consoles (program None None code ∷ [])
 
 abbrev refused : {A : Type 0} → ℕ → Reason → Result A TextFault
 refused k why = Err (record { line = k; reason = why })
+
+-- a header of two lines
+abbrev header_text : List ℕ
+header_text = codes "pidmax 2\nconsoles 0\n"
 
 -- ---- worlds
 
@@ -29,12 +44,61 @@ unfolding everything
 row_note_and_exit = refl
 
 -- comments, blank lines, every separator, the ends of i64, and no line feed at the end
-row_separators : world_text (codes "# a world\n\npidmax\t2 # the least\r\nconsoles,8\n\nprogram a_0\nset,r0 -9223372036854775808\nset r7\t9223372036854775807\nend")
-    ≡ world 2 8 (Set 0 (negsuc 9223372036854775807) ∷ Set 7 (pos 9223372036854775807) ∷ [])
+row_separators : world_text (codes "# a world\n\npidmax\t2 # the least\r\nconsoles,8\n\nprogram a_0\nset,r0 -9223372036854775808\nset r7\t9223372036854775807\nend") ≡
+    world 2 8 (Set 0 (negsuc 9223372036854775807) ∷ Set 7 (pos 9223372036854775807) ∷ [])
 unfolding everything
 row_separators = refl
 
-row_empty_world : world_text [] ≡ refused 1 EndMissing
+row_every_instruction : world_text (codes "pidmax 2\nconsoles 0\nprogram a\nl: # a label\nset r0, @l\nset r1, $a\nmov r2, r3\nadd r0, r1\nsub r0, r1\nmul r0, r1\ndiv r0, r1\nrem r0, r1\nand r0, r1\nor r0, r1\nxor r0, r1\nld r4, r5\nst r6, r7\njmp l\njz r1, l\njnz r2, m\njlt r3, m\nm:\nnote r7\nsys sched_yield\nend\n") ≡
+    world 2 0 (Set 0 (pos 16) ∷ Set 1 (pos 0) ∷ Move 2 3 ∷ Compute Add 0 1 ∷ Compute Sub 0 1 ∷ Compute Mul 0 1 ∷ Compute Div 0 1 ∷ Compute Rem 0 1
+    ∷ Compute And 0 1 ∷ Compute Or 0 1 ∷ Compute Xor 0 1 ∷ Load 4 5 ∷ Store 6 7 ∷ Jump 16 ∷ JumpIf Zero 1 16 ∷ JumpIf NotZero 2 33 ∷ JumpIf Negative 3 33
+    ∷ Note 7 ∷ Sys SchedYield ∷ [])
+unfolding everything
+row_every_instruction = refl
+
+row_division : world_text (codes "pidmax 40\nconsoles 1\nprogram init\nset r1, -7\nset r2, 2\ndiv r1, r2\nnote r1\nset r1, -7\nrem r1, r2\nnote r1\nsys getpid\nnote r0\nset r2, 0\ndiv r1, r2\nend\n") ≡
+    world 40 1 (Set 1 (negsuc 6) ∷ Set 2 (pos 2) ∷ Compute Div 1 2 ∷ Note 1 ∷ Set 1 (negsuc 6) ∷ Compute Rem 1 2 ∷ Note 1 ∷ Sys Getpid ∷ Note 0 ∷ Set 2 (pos 0)
+    ∷ Compute Div 1 2 ∷ [])
+unfolding everything
+row_division = refl
+
+row_numbers_wrap_and_are_reused : world_text (codes "pidmax 4\nconsoles 1\nprogram init\nsys fork\njz r0, wait\nsys fork\njz r0, die\nsys fork\njz r0, wait\nset r1, 3\nset r2, 0\nsys waitpid\nsys fork\njz r0, wait\nsys fork\nwait:\nsys pause\ndie:\nsys exit\nend\n") ≡
+    world 4 1 (Sys Fork ∷ JumpIf Zero 0 28 ∷ Sys Fork ∷ JumpIf Zero 0 29 ∷ Sys Fork ∷ JumpIf Zero 0 28 ∷ Set 1 (pos 3) ∷ Set 2 (pos 0) ∷ Sys Waitpid ∷ Sys Fork
+    ∷ JumpIf Zero 0 28 ∷ Sys Fork ∷ Sys Pause ∷ Sys Exit ∷ [])
+unfolding everything
+row_numbers_wrap_and_are_reused = refl
+
+row_turns : world_text (codes "pidmax 40\nconsoles 1\nprogram init\nsys fork\nloop:\nnote r0\njmp loop\nend\n") ≡ world 40 1 (Sys Fork ∷ Note 0 ∷ Jump 17 ∷ [])
+unfolding everything
+row_turns = refl
+
+row_fork_bomb : world_text (codes "pidmax 8\nconsoles 1\nprogram init\nagain:\nsys fork\njmp again\nend\n") ≡ world 8 1 (Sys Fork ∷ Jump 16 ∷ [])
+unfolding everything
+row_fork_bomb = refl
+
+-- names of programs are used before they are defined; labels are those of their program
+row_ids_and_later_programs : world_text (codes "pidmax 2\nconsoles 0\nprogram a setuid 0 setgid 2147483647\nset r1, $c\nend\nprogram b setgid 7\nx:\nend\nprogram c setuid 1\nset r1, $a\nx:\njmp x\nend\n") ≡
+    worlds 2 0 (program (Some 0) (Some 2147483647) (Set 1 (pos 2) ∷ []) ∷ program None (Some 7) [] ∷ program (Some 1) None (Set 1 (pos 0) ∷ Jump 17 ∷ []) ∷ [])
+unfolding everything
+row_ids_and_later_programs = refl
+
+-- every name may be a label
+row_words_as_labels : world_text (codes "pidmax 2\nconsoles 0\nprogram set\nend:\nset: # a label, too\njmp end\njmp set\nend\n") ≡ world 2 0 (Jump 16 ∷ Jump 16 ∷ [])
+unfolding everything
+row_words_as_labels = refl
+
+-- ---- faults
+
+row_unknown_label : world_text (codes "pidmax 40\nconsoles 1\nprogram init\njmp away\nend\n") ≡ refused 4 NameUnknown
+unfolding everything
+row_unknown_label = refl
+
+-- before the end that is missing
+row_label_unknown : world_text (codes "pidmax 40\nconsoles 1\nprogram init\njmp away\n") ≡ refused 4 NameUnknown
+unfolding everything
+row_label_unknown = refl
+
+row_empty_world : world_text ([]) ≡ refused 1 EndMissing
 unfolding everything
 row_empty_world = refl
 
@@ -54,7 +118,11 @@ row_pidmax_too_small : world_text (codes "pidmax 1\nconsoles 1\n") ≡ refused 1
 unfolding everything
 row_pidmax_too_small = refl
 
-row_too_many_consoles : world_text (codes "pidmax 40\nconsoles 9\n") ≡ refused 2 OutOfRange
+row_pidmax_too_large : world_text (codes "pidmax 4194305\nconsoles 1\nprogram init\nsys exit\nend\n") ≡ refused 1 OutOfRange
+unfolding everything
+row_pidmax_too_large = refl
+
+row_too_many_consoles : world_text (codes "pidmax 40\nconsoles 65\nprogram init\nsys exit\nend\n") ≡ refused 2 OutOfRange
 unfolding everything
 row_too_many_consoles = refl
 
@@ -71,25 +139,138 @@ row_bad_number : world_text (codes "pidmax +2\n") ≡ refused 1 BadNumber
 unfolding everything
 row_bad_number = refl
 
-row_second_program : world_text (codes "pidmax 2\nconsoles 0\nprogram a\nend\nprogram b\nend\n") ≡ refused 5 UnknownWord
-unfolding everything
-row_second_program = refl
-
-row_malformed_name : world_text (codes "pidmax 2\nconsoles 0\nprogram 9a\nend\n") ≡ refused 3 UnknownWord
+row_malformed_name : world_text (header_text ++ codes "program 9a\nend\n") ≡ refused 3 UnknownWord
 unfolding everything
 row_malformed_name = refl
 
-row_value_too_large : world_text (codes "pidmax 2\nconsoles 0\nprogram a\nset r1, 9223372036854775808\nend\n") ≡ refused 4 OutOfRange
+row_name_of_17 : world_text (header_text ++ codes "program abcdefghijklmnop\nend\nprogram abcdefghijklmnopq\nend\n") ≡ refused 5 UnknownWord
+unfolding everything
+row_name_of_17 = refl
+
+row_value_too_large : world_text (header_text ++ codes "program a\nset r1, 9223372036854775808\nend\n") ≡ refused 4 OutOfRange
 unfolding everything
 row_value_too_large = refl
 
-row_label_is_unknown : world_text (codes "pidmax 2\nconsoles 0\nprogram a\nset r1, @x\nend\n") ≡ refused 4 UnknownWord
+row_malformed_reference : world_text (header_text ++ codes "program a\nset r1, @9\nend\n") ≡ refused 4 UnknownWord
 unfolding everything
-row_label_is_unknown = refl
+row_malformed_reference = refl
 
-row_unknown_instruction : world_text (codes "pidmax 2\nconsoles 0\nprogram a\njmp away\nend\n") ≡ refused 4 UnknownWord
+row_no_value : world_text (header_text ++ codes "program a\nset r1, x\nend\n") ≡ refused 4 BadNumber
+unfolding everything
+row_no_value = refl
+
+row_unknown_instruction : world_text (header_text ++ codes "program a\nfly away\nend\n") ≡ refused 4 UnknownWord
 unfolding everything
 row_unknown_instruction = refl
+
+row_unknown_call : world_text (header_text ++ codes "program a\nsys fly\nend\n") ≡ refused 4 UnknownWord
+unfolding everything
+row_unknown_call = refl
+
+row_label_not_alone : world_text (header_text ++ codes "program a\na: jmp a\nend\n") ≡ refused 4 UnknownWord
+unfolding everything
+row_label_not_alone = refl
+
+row_label_apart : world_text (header_text ++ codes "program a\na :\nend\n") ≡ refused 4 UnknownWord
+unfolding everything
+row_label_apart = refl
+
+-- the name comes before the word too many
+row_label_twice : world_text (header_text ++ codes "program a\na:\na: jmp a\nend\n") ≡ refused 5 NameTwice
+unfolding everything
+row_label_twice = refl
+
+row_program_twice : world_text (header_text ++ codes "program a\nend\nprogram a setuid x\nend\n") ≡ refused 5 NameTwice
+unfolding everything
+row_program_twice = refl
+
+row_ids_in_another_order : world_text (header_text ++ codes "program a setgid 1 setuid 1\nend\n") ≡ refused 3 UnknownWord
+unfolding everything
+row_ids_in_another_order = refl
+
+row_id_too_large : world_text (header_text ++ codes "program a setuid 2147483648\nend\n") ≡ refused 3 OutOfRange
+unfolding everything
+row_id_too_large = refl
+
+row_program_within_a_program : world_text (header_text ++ codes "program a\nprogram b\nend\n") ≡ refused 4 UnknownWord
+unfolding everything
+row_program_within_a_program = refl
+
+row_label_between_programs : world_text (header_text ++ codes "program a\nend\na:\n") ≡ refused 5 UnknownWord
+unfolding everything
+row_label_between_programs = refl
+
+row_program_unknown : world_text (header_text ++ codes "program a\nset r1, $b\nend\n") ≡ refused 4 NameUnknown
+unfolding everything
+row_program_unknown = refl
+
+row_label_of_another_program : world_text (header_text ++ codes "program a\njmp x\nend\nprogram b\nx:\nend\n") ≡ refused 4 NameUnknown
+unfolding everything
+row_label_of_another_program = refl
+
+-- A line is refused: before it the names that the lines before it define are known.
+
+row_use_before_a_fault : world_text (header_text ++ codes "program a\njmp x\njmp y\nx:\nfly\ny:\nend\n") ≡ refused 5 NameUnknown
+unfolding everything
+row_use_before_a_fault = refl
+
+row_use_after_a_fault : world_text (header_text ++ codes "program a\njmp x\nx:\nfly\njmp y\nend\n") ≡ refused 6 UnknownWord
+unfolding everything
+row_use_after_a_fault = refl
+
+row_program_defined_after_a_fault : world_text (header_text ++ codes "program a\nset r1, $b\nend\nfly\nprogram b\nend\n") ≡ refused 4 NameUnknown
+unfolding everything
+row_program_defined_after_a_fault = refl
+
+row_label_that_ends_a_text : world_text (header_text ++ codes "program a\njmp x\nx:\n") ≡ refused 6 EndMissing
+unfolding everything
+row_label_that_ends_a_text = refl
+
+-- ---- limits
+
+-- n programs, each of another name
+abbrev some_programs : List ℕ → List ℕ
+some_programs [] = []
+some_programs (b ∷ bs) = codes "program p" ++ b ∷ codes "\nend\n" ++ some_programs bs
+
+row_32_programs : world_text (header_text ++ some_programs (codes "abcdefghijklmnopqrstuvwxyz012345")) ≡ worlds 2 0 (replicate 32 (program None None []))
+unfolding everything
+row_32_programs = refl
+
+-- the 33rd isn't looked at
+row_33_programs : world_text (header_text ++ some_programs (codes "abcdefghijklmnopqrstuvwxyz012345") ++ codes "program pa\n") ≡ refused 67 OutOfRange
+unfolding everything
+row_33_programs = refl
+
+row_33_programs_unknown : world_text (header_text ++ some_programs (codes "abcdefghijklmnopqrstuvwxyz012345") ++ codes "fly\n") ≡ refused 67 UnknownWord
+unfolding everything
+row_33_programs_unknown = refl
+
+abbrev thousand : List ℕ
+thousand = header_text ++ codes "program a\njmp x\n" ++ flat_map (λ (n : ℕ). codes "note r1\n") (replicate 999 0)
+
+-- a label may stand behind the last
+row_1000_instructions : world_text (thousand ++ codes "x:\nend\n") ≡ world 2 0 (Jump 1016 ∷ replicate 999 (Note 1))
+unfolding everything
+row_1000_instructions = refl
+
+row_1001_instructions : world_text (thousand ++ codes "x:\nnote x\nend\n") ≡ refused 1005 OutOfRange
+unfolding everything
+row_1001_instructions = refl
+
+row_1001_instructions_unknown : world_text (thousand ++ codes "x:\nnotes r1\nend\n") ≡ refused 1005 UnknownWord
+unfolding everything
+row_1001_instructions_unknown = refl
+
+-- a line of 200 bytes is read
+row_200_bytes : world_text (header_text ++ codes "program a #" ++ replicate 189 35 ++ codes "\nend\n") ≡ world 2 0 []
+unfolding everything
+row_200_bytes = refl
+
+-- one of 201 is too long, whatever its words are
+row_201_bytes : world_text (header_text ++ codes "program 9 #" ++ replicate 190 35 ++ codes "\nend\n") ≡ refused 3 LineTooLong
+unfolding everything
+row_201_bytes = refl
 
 -- ---- events
 

@@ -4,4 +4,7 @@ pub mod Numbers
 pub mod Reading
 pub mod EventLists
 pub mod EventTexts
+pub mod Names
+pub mod Instructions
+pub mod Outlines
 pub mod WorldTexts

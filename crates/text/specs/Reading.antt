@@ -48,3 +48,13 @@ IsFaultOf meaning fault = (fault.reason ≡ Memory) ⊎ (meaning ≡ Err fault)
 abbrev pub Answers : {A : Type 0} → Result A TextFault → Result A TextFault → Type 0
 Answers (Ok x) meaning = meaning ≡ Ok x
 Answers (Err fault) meaning = IsFaultOf meaning fault
+
+-- Likewise, where the answer is seen in some way.
+abbrev pub AnswersAs : {X A : Type 0} → Result X TextFault → (X → A) → Result A TextFault → Type 0
+AnswersAs (Ok x) view meaning = meaning ≡ Ok (view x)
+AnswersAs (Err fault) view meaning = IsFaultOf meaning fault
+
+-- what each element gives, or the first fault
+abbrev pub each : {A B E : Type 0} → (A → Result B E) → List A → Result (List B) E
+each f [] = Ok []
+each f (x ∷ xs) = f x >>= λ y. (each f xs >>= λ ys. Ok (y ∷ ys))

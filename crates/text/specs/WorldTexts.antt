@@ -1,126 +1,45 @@
--- World texts: what a line says, and what a text says. So far a world is one program of `set`, `note` and `sys`.
-use Rattle.std.specs.Prelude.{◌≡◌, ◌⊎◌, ℕ, ◌+◌, ◌-◌, ◌==◌, ◌&&◌, ◌||◌, Bool, false, List, [], ◌∷◌, ◌++◌, length, codes, nat_le, if◌then◌else◌, Option, Some, None, find, Result, Ok, Err, ℤ, bytes_eq}
-use Rattle.posix.specs.declared.instr.Instr.{Instr}
-use Rattle.posix.specs.declared.instr.Instr.TheVariants.{Set, Note, Sys}
-use Rattle.posix.specs.declared.instr.Call.{Call}
-use Rattle.posix.specs.declared.instr.Call.TheVariants.{Exit}
+-- World texts: what a line says, and what a text says.
+use Rattle.std.specs.Prelude.{◌≡◌, ◌⊎◌, ℕ, ◌+◌, ◌-◌, List, [], ◌∷◌, ◌++◌, length, drop, take, codes, nat_le, if◌then◌else◌, Option, Some, None, Result, Ok, Err, bytes_eq}
 use Rattle.posix.specs.States.{Program, World}
 use Rattle.text.specs.declared.fault.Reason.{Reason}
 use Rattle.text.specs.declared.fault.Reason.TheVariants.{UnknownWord, OutOfRange, EndMissing, NoProgram, Memory}
 use Rattle.text.specs.declared.fault.TextFault.{TextFault}
+use Rattle.text.specs.declared.names.Definition.{Definition}
+use Rattle.text.specs.declared.sketch.Sketch.{Sketch}
 use Rattle.text.specs.declared.instructions.Operation.{Operation}
-use Rattle.text.specs.declared.instructions.Operation.TheVariants as operation
 use Rattle.text.specs.declared.draft.Place.{Place}
 use Rattle.text.specs.declared.draft.Place.TheVariants.{BeforePidmax, BeforeConsoles, BetweenPrograms, InProgram}
 use Rattle.text.specs.Lines.{all_lines}
-use Rattle.text.specs.Words.{is_name}
-use Rattle.text.specs.Numbers.{number_in, integer}
-use Rattle.text.specs.Reading.{◌>>=◌, first, no_more, known, words_within, unless}
-
--- ---- instructions
-
--- how an operation is written
-abbrev pub operation_text : Operation → List ℕ
-operation_text operation.Set = codes "set"
-operation_text operation.Note = codes "note"
-operation_text operation.Sys = codes "sys"
-
--- for looking an operation up
-abbrev pub all_operations : List Operation
-all_operations = operation.Set ∷ operation.Note ∷ operation.Sys ∷ []
-
--- the operation that a word names
-abbrev pub operation_named : List ℕ → Option Operation
-operation_named w = find (λ o. bytes_eq w (operation_text o)) all_operations
-
--- how a call is written
-abbrev pub call_text : Call → List ℕ
-call_text Exit = codes "exit"
-
--- for looking a call up
-abbrev pub all_calls : List Call
-all_calls = Exit ∷ []
-
--- the call that a word names
-abbrev pub call_named : List ℕ → Option Call
-call_named w = find (λ c. bytes_eq w (call_text c)) all_calls
-
--- `r0` to `r7`
-abbrev pub register : List ℕ → Result ℕ Reason
-register (r ∷ d ∷ []) = if r == 114 && nat_le 48 d && nat_le d 55 then Ok (d - 48) else Err UnknownWord
-register _ = Err UnknownWord
-
--- a word that begins with `@` or `$`
-abbrev pub is_reference : List ℕ → Bool
-is_reference [] = false
-is_reference (b ∷ bs) = (b == 64) || (b == 36)
-
--- the value behind `set rA`
-abbrev pub set_value : List ℕ → Result ℤ Reason
-set_value w = if is_reference w then Err UnknownWord else integer w
-
--- the words behind the one that begins an instruction
-unfoldable pub operands : Operation → List (List ℕ) → Result Instr Reason
-operands operation.Set ws = do
-  a ← first register ws
-  v ← first set_value a.rest
-  no_more v.rest (Set a.value v.value)
-operands operation.Note ws = first register ws >>= λ a. no_more a.rest (Note a.value)
-operands operation.Sys ws = first (λ w. known (call_named w)) ws >>= λ c. no_more c.rest (Sys c.value)
-
--- ---- lines
+use Rattle.text.specs.Numbers.{number_in}
+use Rattle.text.specs.Names.{new_name}
+use Rattle.text.specs.Instructions.{operation_named, operands}
+use Rattle.text.specs.Outlines.{Outline, program_of}
+use Rattle.text.specs.Reading.{◌>>=◌, Read, first, no_more, known, words_within, unless, each}
 
 -- what the lines so far said
 pub record Draft : Type 0 where
   pub place : Place
   pub pidmax : ℕ
   pub consoles : ℕ
-  pub programs : List Program  -- that ended
-  pub opened : Program  -- the one that the place is in
+  pub names : List Definition  -- of the programs that began
+  pub programs : List Outline  -- that ended
+  pub opened : Outline  -- the one that the place is in
 
 -- before its first line
-abbrev pub empty_program : Program
-empty_program = record { setuid = None; setgid = None; instructions = [] }
+abbrev pub empty_outline : Option ℕ → Option ℕ → Outline
+empty_outline setuid setgid = record { setuid = setuid; setgid = setgid; labels = []; code = [] }
 
 -- the least world, until the header has come
 abbrev pub empty_draft : Draft
-empty_draft = record { place = BeforePidmax; pidmax = 2; consoles = 0; programs = []; opened = empty_program }
+empty_draft = record { place = BeforePidmax; pidmax = 2; consoles = 0; names = []; programs = []; opened = empty_outline None None }
+
+-- ---- the header
 
 -- the one number behind a word of the header
 unfoldable pub header : ℕ → ℕ → List (List ℕ) → Result ℕ Reason
 header low high ws = first (number_in low high) ws >>= λ n. no_more n.rest n.value
 
--- the name of a program
-abbrev pub name : List ℕ → Result (List ℕ) Reason
-name w = if is_name w then Ok w else Err UnknownWord
-
--- a program begins
-abbrev pub open_program : Draft → Draft
-open_program d = record d { place = InProgram }
-
--- behind `program`; so far there is one program
-unfoldable pub program_line : Draft → List (List ℕ) → Result Draft Reason
-program_line d ws = if nat_le 1 (length d.programs) then Err UnknownWord else (first name ws >>= λ n. no_more n.rest (open_program d))
-
--- the program ends
-abbrev pub close_program : Draft → Draft
-close_program d = record d { place = BetweenPrograms; programs = d.programs ++ d.opened ∷ []; opened = empty_program }
-
--- the program has one instruction more
-abbrev pub add_instruction : Draft → Instr → Draft
-add_instruction d i = let p = d.opened in record d { opened = record p { instructions = p.instructions ++ i ∷ [] } }
-
--- an instruction, of which a program has at most 1,000
-unfoldable pub instruction_line : Draft → Operation → List (List ℕ) → Result Draft Reason
-instruction_line d o ws = if nat_le 1000 (length d.opened.instructions) then Err OutOfRange else (operands o ws >>= λ i. Ok (add_instruction d i))
-
--- a line within a program
-unfoldable pub inner_line : Draft → List ℕ → List (List ℕ) → Result Draft Reason
-inner_line d w ws =
-    if bytes_eq w (codes "end") then no_more ws (close_program d)
-    else (known (operation_named w) >>= λ o. instruction_line d o ws)
-
--- the first line of the header
+-- its first line
 abbrev pub with_pidmax : Draft → ℕ → Draft
 with_pidmax d n = record d { place = BeforeConsoles; pidmax = n }
 
@@ -128,26 +47,103 @@ with_pidmax d n = record d { place = BeforeConsoles; pidmax = n }
 abbrev pub with_consoles : Draft → ℕ → Draft
 with_consoles d n = record d { place = BetweenPrograms; consoles = n }
 
--- a line whose first word is w, at a place
-unfoldable pub line_at : Place → Draft → List ℕ → List (List ℕ) → Result Draft Reason
-line_at BeforePidmax d w ws = if bytes_eq w (codes "pidmax") then (header 2 32768 ws >>= λ n. Ok (with_pidmax d n)) else Err UnknownWord
-line_at BeforeConsoles d w ws = if bytes_eq w (codes "consoles") then (header 0 8 ws >>= λ n. Ok (with_consoles d n)) else Err UnknownWord
-line_at BetweenPrograms d w ws = if bytes_eq w (codes "program") then program_line d ws else Err UnknownWord
-line_at InProgram d w ws = inner_line d w ws
+-- ---- programs
+
+-- `setuid U` or `setgid G`, where it is there
+unfoldable pub setting : List ℕ → List (List ℕ) → Result (Read (Option ℕ)) Reason
+setting word [] = Ok (record { value = None; rest = [] })
+setting word (w ∷ ws) =
+    if bytes_eq w word then (first (number_in 0 2147483647) ws >>= λ n. Ok (record { value = Some n.value; rest = n.rest }))
+    else Ok (record { value = None; rest = w ∷ ws })
+
+-- a program begins
+abbrev pub open_program : Draft → List ℕ → Option ℕ → Option ℕ → Draft
+open_program d name setuid setgid = record d {
+  place = InProgram;
+  names = d.names ++ record { name = name; number = length d.programs } ∷ [];
+  opened = empty_outline setuid setgid;
+}
+
+-- behind `program`, of which a world has at most 32
+unfoldable pub program_line : Draft → List (List ℕ) → Result Draft Reason
+program_line d ws = if nat_le 32 (length d.programs) then Err OutOfRange else (do
+  name ← first (new_name d.names) ws
+  user ← setting (codes "setuid") name.rest
+  group ← setting (codes "setgid") user.rest
+  no_more group.rest (open_program d name.value user.value group.value))
+
+-- the program ends
+abbrev pub close_program : Draft → Draft
+close_program d = record d { place = BetweenPrograms; programs = d.programs ++ d.opened ∷ []; opened = empty_outline None None }
+
+-- ---- lines of a program
+
+-- a name for the code address of the next instruction
+abbrev pub add_label : Draft → List ℕ → Draft
+add_label d name =
+    let p = d.opened in record d { opened = record p { labels = p.labels ++ record { name = name; number = 16 + length p.code } ∷ [] } }
+
+-- a label alone
+unfoldable pub label_line : Draft → List ℕ → List (List ℕ) → Result Draft Reason
+label_line d w ws = new_name d.opened.labels w >>= λ name. no_more ws (add_label d name)
+
+-- on line k
+abbrev pub add_instruction : ℕ → Draft → Sketch → Draft
+add_instruction k d s = let p = d.opened in record d { opened = record p { code = p.code ++ record { line = k; sketch = s } ∷ [] } }
+
+-- an instruction on line k, of which a program has at most 1,000
+unfoldable pub instruction_line : ℕ → Draft → Operation → List (List ℕ) → Result Draft Reason
+instruction_line k d o ws = if nat_le 1000 (length d.opened.code) then Err OutOfRange else (operands o ws >>= λ s. Ok (add_instruction k d s))
+
+-- what stands before the `:` that ends a word
+abbrev pub before_colon : List ℕ → Option (List ℕ)
+before_colon w = if bytes_eq (drop (length w - 1) w) (codes ":") then Some (take (length w - 1) w) else None
+
+-- a label, or an instruction on line k
+abbrev pub label_or_instruction : ℕ → Draft → Option (List ℕ) → List ℕ → List (List ℕ) → Result Draft Reason
+label_or_instruction k d (Some name) w ws = label_line d name ws
+label_or_instruction k d None w ws = known (operation_named w) >>= λ o. instruction_line k d o ws
+
+-- line k, within a program
+unfoldable pub inner_line : ℕ → Draft → List ℕ → List (List ℕ) → Result Draft Reason
+inner_line k d w ws =
+    if bytes_eq w (codes "end") then no_more ws (close_program d)
+    else label_or_instruction k d (before_colon w) w ws
+
+-- ---- lines
+
+-- the first line with words
+unfoldable pub pidmax_line : Draft → List ℕ → List (List ℕ) → Result Draft Reason
+pidmax_line d w ws = if bytes_eq w (codes "pidmax") then (header 2 32768 ws >>= λ n. Ok (with_pidmax d n)) else Err UnknownWord
+
+-- the second
+unfoldable pub consoles_line : Draft → List ℕ → List (List ℕ) → Result Draft Reason
+consoles_line d w ws = if bytes_eq w (codes "consoles") then (header 0 8 ws >>= λ n. Ok (with_consoles d n)) else Err UnknownWord
+
+-- between programs
+unfoldable pub outer_line : Draft → List ℕ → List (List ℕ) → Result Draft Reason
+outer_line d w ws = if bytes_eq w (codes "program") then program_line d ws else Err UnknownWord
+
+-- line k, whose first word is w, at a place
+unfoldable pub line_at : Place → ℕ → Draft → List ℕ → List (List ℕ) → Result Draft Reason
+line_at BeforePidmax k d w ws = pidmax_line d w ws
+line_at BeforeConsoles k d w ws = consoles_line d w ws
+line_at BetweenPrograms k d w ws = outer_line d w ws
+line_at InProgram k d w ws = inner_line k d w ws
 
 -- a line without words changes nothing
-abbrev pub world_words : Draft → List (List ℕ) → Result Draft Reason
-world_words d [] = Ok d
-world_words d (w ∷ ws) = line_at d.place d w ws
+abbrev pub world_words : ℕ → Draft → List (List ℕ) → Result Draft Reason
+world_words k d [] = Ok d
+world_words k d (w ∷ ws) = line_at d.place k d w ws
 
--- a line
-abbrev pub world_line : Draft → List ℕ → Result Draft Reason
-world_line d line = words_within line >>= world_words d
+-- line k
+abbrev pub world_line : ℕ → Draft → List ℕ → Result Draft Reason
+world_line k d line = words_within line >>= world_words k d
 
--- How a function that changes a draft went.
-abbrev pub Becomes : {X : Type 0} → Draft → Result X Reason → Result Draft Reason → Type 0
-Becomes new (Ok x) meaning = meaning ≡ Ok new
-Becomes new (Err reason) meaning = (reason ≡ Memory) ⊎ (meaning ≡ Err reason)
+-- How a function that changes a draft went: after a refusal the draft is as it was.
+abbrev pub Becomes : {X : Type 0} → Draft → Draft → Result X Reason → Result Draft Reason → Type 0
+Becomes old new (Ok x) meaning = meaning ≡ Ok new
+Becomes old new (Err reason) meaning = (new ≡ old) × ((reason ≡ Memory) ⊎ (meaning ≡ Err reason))
 
 -- how many programs are open
 abbrev pub opened_at : Place → ℕ
@@ -158,36 +154,49 @@ opened_at InProgram = 1
 
 -- ---- texts
 
+-- the programs that began
+abbrev pub outlines_at : Place → List Outline → Outline → List Outline
+outlines_at BeforePidmax programs opened = programs
+outlines_at BeforeConsoles programs opened = programs
+outlines_at BetweenPrograms programs opened = programs
+outlines_at InProgram programs opened = programs ++ opened ∷ []
+
+-- they with their names looked up
+abbrev pub programs_of : Draft → Result (List Program) TextFault
+programs_of d = each (program_of d.names) (outlines_at d.place d.programs d.opened)
+
+-- The lines before a fault made d, and they define the names that they may use: the first of them that uses another is the
+-- least faulty line.
+unfoldable pub world_of : Draft → Option TextFault → Result World TextFault
+world_of d fault =
+    programs_of d >>= λ programs. unless fault (record { pidmax = d.pidmax; consoles = d.consoles; programs = programs })
+
 -- a text needs a program
-abbrev pub no_programs : List Program → ℕ → Option TextFault
+abbrev pub no_programs : List Outline → ℕ → Option TextFault
 no_programs [] k = Some (record { line = k; reason = NoProgram })
 no_programs (p ∷ ps) k = None
 
 -- the fault of a text that ends at a place; k is the number of its lines and one more
-abbrev pub fault_at_end : Place → List Program → ℕ → Option TextFault
+abbrev pub fault_at_end : Place → List Outline → ℕ → Option TextFault
 fault_at_end BeforePidmax ps k = Some (record { line = k; reason = EndMissing })
 fault_at_end BeforeConsoles ps k = Some (record { line = k; reason = EndMissing })
 fault_at_end BetweenPrograms ps k = no_programs ps k
 fault_at_end InProgram ps k = Some (record { line = k; reason = EndMissing })
 
--- a finished draft
-abbrev pub world_of : Draft → World
-world_of d = record { pidmax = d.pidmax; consoles = d.consoles; programs = d.programs }
-
 -- the text ends
 abbrev pub world_at_end : Draft → ℕ → Result World TextFault
-world_at_end d k = unless (fault_at_end d.place d.programs k) (world_of d)
+world_at_end d k = world_of d (fault_at_end d.place d.programs k)
 
 -- line k is refused, or the rest follows
-abbrev pub goes_on : ℕ → (Draft → Result World TextFault) → Result Draft Reason → Result World TextFault
-goes_on k rest (Ok d) = rest d
-goes_on k rest (Err reason) = Err (record { line = k; reason = reason })
+abbrev pub goes_on : ℕ → Draft → (Draft → Result World TextFault) → Result Draft Reason → Result World TextFault
+goes_on k before rest (Ok d) = rest d
+goes_on k before rest (Err reason) = world_of before (Some (record { line = k; reason = reason }))
 
 -- the lines after the k-th
 abbrev pub world_from : ℕ → Draft → List (List ℕ) → Result World TextFault
 world_from k d [] = world_at_end d (k + 1)
-world_from k d (line ∷ lines) = goes_on (k + 1) (λ e. world_from (k + 1) e lines) (world_line d line)
+world_from k d (line ∷ lines) = goes_on (k + 1) d (λ e. world_from (k + 1) e lines) (world_line (k + 1) d line)
 
--- the world that a text stands for, or its first faulty line and the reason
+-- the world that a text stands for, or its least faulty line and the reason
 unfoldable pub world_text : List ℕ → Result World TextFault
 world_text text = world_from 0 empty_draft (all_lines text)

@@ -1,18 +1,25 @@
 //! A world of which some lines have come.
 
-ghost use Rattle.std.specs.Prelude.{◌≡◌, ◌≤◌, Ok, IfOk};
+ghost use Rattle.std.specs.Prelude.{◌≡◌, ◌≤◌, length, Ok, Err, Some, IfOk, IfSome, MatchOption, MatchResult};
 ghost use Rattle.text.specs.Words.{words};
-ghost use Rattle.text.specs.WorldTexts.{Becomes, close_program as closed, empty_draft, header as header_of, inner_line as inner_line_of, instruction_line as instruction_line_of, line_at as line_at_of, world_at_end, world_line as world_line_of};
+ghost use Rattle.text.specs.Reading.{Answers, AnswersAs, IsFaultOf};
+ghost use Rattle.text.specs.declared.fault.Reason.TheVariants.{Memory};
+ghost use Rattle.text.specs.WorldTexts.{Becomes, before_colon as before_colon_of, close_program as closed, consoles_line as consoles_line_of, empty_draft, fault_at_end, header as header_of, inner_line as inner_line_of, instruction_line as instruction_line_of, label_line as label_line_of, line_at as line_at_of, outer_line as outer_line_of, outlines_at, pidmax_line as pidmax_line_of, programs_of, setting as setting_of, world_at_end, world_line as world_line_of, world_of};
 
 use crate::fault::{Reason, TextFault};
 use crate::instructions::{Operation, operands, operation_named};
+use crate::names::{Definition, new_name};
 use crate::numbers::number_in;
-use crate::words::{first_word, is_name, next_word, no_more_words, words_within};
-use crate::world::World;
+use crate::outline::{Outline, programs};
+use crate::words::{first_word, next_word, no_more_words, words_within};
+use posix::{Gid, Uid};
 use std::alloc::Global;
 use std::marker::Model;
 use std::mem;
-use umach::Program;
+use umach::{Program, World};
+
+/// The most programs of a world.
+const MAX_PROGRAMS: usize = 32;
 
 /// What may come next in a world text.
 #[derive(Clone, Copy, Debug, PartialEq, Eq)]
@@ -30,10 +37,12 @@ pub struct Draft {
     place: Place,
     pidmax: u32,
     consoles: u8,
+    /// The names of the programs that began.
+    names: Vec<Definition>,
     /// The programs that ended.
-    programs: Vec<Program>,
+    programs: Vec<Outline>,
     /// The program that the place is in.
-    opened: Program,
+    opened: Outline,
 }
 
 impl Model for Draft {
@@ -42,7 +51,7 @@ impl Model for Draft {
 
     ghost Value = { DraftOf };
 
-    ghost view = { λ d. record { place = d.place; pidmax = d.pidmax; consoles = d.consoles; programs = d.programs.items; opened = d.opened } };
+    ghost view = { λ d. record { place = d.place; pidmax = d.pidmax; consoles = d.consoles; names = d.names.items; programs = d.programs.items; opened = d.opened } };
 
     ghost invariant = { λ d. (2 ≤ d.pidmax) × (d.pidmax ≤ 32768) × (d.consoles ≤ 8) × (length d.programs.items + opened_at d.place ≤ 32) };
 }
@@ -59,6 +68,29 @@ fn header(low: u32, high: u32, line: &[u8]) -> Result<u32, Reason>
     Ok(number)
 }
 
+/// The number of `setuid U` or `setgid G`, where the line begins with that word, and what follows it.
+#[tactic(auto, unfolding(crate::specs::WorldTexts::setting))]
+fn setting<'a>(name: &[u8], line: &'a [u8]) -> Result<(Option<u32>, &'a [u8]), Reason>
+    ensures value { MatchResult result (λ f. setting_of name.now (words line.entry.now) ≡ Ok (record { value = f.0; rest = words f.1.now })) (λ reason. setting_of name.now (words line.entry.now) ≡ Err reason) }
+    ensures range { IfOk result (λ f. IfSome f.0 (λ n. n ≤ 2147483647)) }
+{
+    match next_word(line) {
+        Some((word, rest)) if word == name => {
+            let (word, rest) = first_word(rest)?;
+            let number = number_in(0, Uid::MAX, word)?;
+            Ok((Some(number), rest))
+        }
+        _ => Ok((None, line)),
+    }
+}
+
+/// What stands before the `:` that ends a word.
+fn before_colon(word: &[u8]) -> Option<&[u8]>
+    ensures { MatchOption result (before_colon_of word.now ≡ None) (λ name. before_colon_of word.now ≡ Some name.now) }
+{
+    word.strip_suffix(b":")
+}
+
 impl Draft {
     /// Before the first line.
     pub fn new(alloc: Global) -> Draft
@@ -69,39 +101,40 @@ impl Draft {
             place: Place::BeforePidmax,
             pidmax: 2,
             consoles: 0,
+            names: Vec::new(alloc),
             programs: Vec::new(alloc),
-            opened: Program::new(alloc),
+            opened: Outline::new(alloc, None, None),
         }
     }
 
-    /// Takes the next line. It is refused for its length or its words, or with `Memory`; the draft then
-    /// stands for nothing.
-    pub fn take_line(&mut self, line: &[u8]) -> Result<(), Reason>
-        ensures { Becomes self.new result (world_line_of self.old line.now) }
+    /// Takes the next line, the `number`-th. It is refused for its length or its words, or with
+    /// `Memory`; the draft is then unchanged.
+    pub fn take_line(&mut self, number: u64, line: &[u8]) -> Result<(), Reason>
+        ensures { Becomes self.old self.new result (world_line_of number self.old line.now) }
     {
         match next_word(words_within(line)?) {
-            Some((word, rest)) => self.take_words(word, rest),
+            Some((word, rest)) => self.take_words(number, word, rest),
             None => Ok(()),
         }
     }
 
     /// Takes a line of a first word and those of `rest`.
     #[tactic(auto, unfolding(crate::specs::WorldTexts::line_at))]
-    fn take_words(&mut self, word: &[u8], rest: &[u8]) -> Result<(), Reason>
-        ensures { Becomes self.new result (line_at_of self.old.place self.old word.now (words rest.now)) }
+    fn take_words(&mut self, number: u64, word: &[u8], rest: &[u8]) -> Result<(), Reason>
+        ensures { Becomes self.old self.new result (line_at_of self.old.place number self.old word.now (words rest.now)) }
     {
         match self.place {
             Place::BeforePidmax => self.pidmax_line(word, rest),
             Place::BeforeConsoles => self.consoles_line(word, rest),
-            Place::BetweenPrograms => self.program_line(word, rest),
-            Place::InProgram => self.inner_line(word, rest),
+            Place::BetweenPrograms => self.outer_line(word, rest),
+            Place::InProgram => self.inner_line(number, word, rest),
         }
     }
 
     /// The line `pidmax N`, N from 2 to 32,768.
-    #[tactic(auto, unfolding(crate::specs::WorldTexts::line_at))]
+    #[tactic(auto, unfolding(crate::specs::WorldTexts::pidmax_line))]
     fn pidmax_line(&mut self, word: &[u8], rest: &[u8]) -> Result<(), Reason>
-        ensures { Becomes self.new result (line_at_of Place.BeforePidmax self.old word.now (words rest.now)) }
+        ensures { Becomes self.old self.new result (pidmax_line_of self.old word.now (words rest.now)) }
     {
         if word != b"pidmax".as_slice() {
             return Err(Reason::UnknownWord);
@@ -112,9 +145,9 @@ impl Draft {
     }
 
     /// The line `consoles N`, N from 0 to 8.
-    #[tactic(auto, unfolding(crate::specs::WorldTexts::line_at))]
+    #[tactic(auto, unfolding(crate::specs::WorldTexts::consoles_line))]
     fn consoles_line(&mut self, word: &[u8], rest: &[u8]) -> Result<(), Reason>
-        ensures { Becomes self.new result (line_at_of Place.BeforeConsoles self.old word.now (words rest.now)) }
+        ensures { Becomes self.old self.new result (consoles_line_of self.old word.now (words rest.now)) }
     {
         if word != b"consoles".as_slice() {
             return Err(Reason::UnknownWord);
@@ -124,35 +157,51 @@ impl Draft {
         Ok(())
     }
 
-    /// The line `program NAME`. So far a world has one program.
-    #[tactic(auto, unfolding(crate::specs::WorldTexts::line_at, crate::specs::WorldTexts::program_line))]
-    fn program_line(&mut self, word: &[u8], rest: &[u8]) -> Result<(), Reason>
-        ensures { Becomes self.new result (line_at_of Place.BetweenPrograms self.old word.now (words rest.now)) }
+    /// A line between programs: `program NAME`, then optionally `setuid U`, then optionally `setgid G`.
+    #[tactic(auto, unfolding(crate::specs::WorldTexts::outer_line, crate::specs::WorldTexts::program_line))]
+    fn outer_line(&mut self, word: &[u8], rest: &[u8]) -> Result<(), Reason>
+        requires { self.old.place ≡ Place.BetweenPrograms }
+        ensures { Becomes self.old self.new result (outer_line_of self.old word.now (words rest.now)) }
     {
-        if word != b"program".as_slice() || !self.programs.is_empty() {
+        if word != b"program".as_slice() {
             return Err(Reason::UnknownWord);
         }
-        let (name, rest) = first_word(rest)?;
-        if !is_name(name) {
-            return Err(Reason::UnknownWord);
+        if self.programs.len() >= MAX_PROGRAMS {
+            return Err(Reason::OutOfRange);
         }
+        let (word, rest) = first_word(rest)?;
+        let name = new_name(self.names.as_slice(), word)?;
+        let (user, rest) = setting(b"setuid", rest)?;
+        let (group, rest) = setting(b"setgid", rest)?;
         no_more_words(rest)?;
+        let number = self.programs.len() as u16;
+        self.names
+            .push(Definition { name, number })
+            .map_err(|_| Reason::Memory)?;
+        self.opened = Outline::new(
+            self.alloc,
+            user.and_then(Uid::new),
+            group.and_then(Gid::new),
+        );
         self.place = Place::InProgram;
         Ok(())
     }
 
-    /// A line within a program: an instruction, or `end`.
+    /// A line within a program: an instruction, a label, or `end`.
     #[tactic(auto, unfolding(crate::specs::WorldTexts::inner_line))]
-    fn inner_line(&mut self, word: &[u8], rest: &[u8]) -> Result<(), Reason>
+    fn inner_line(&mut self, number: u64, word: &[u8], rest: &[u8]) -> Result<(), Reason>
         requires { self.old.place ≡ Place.InProgram }
-        ensures { Becomes self.new result (inner_line_of self.old word.now (words rest.now)) }
+        ensures { Becomes self.old self.new result (inner_line_of number self.old word.now (words rest.now)) }
     {
         if word == b"end".as_slice() {
             no_more_words(rest)?;
             return self.close_program();
         }
+        if let Some(name) = before_colon(word) {
+            return self.label_line(name, rest);
+        }
         match operation_named(word) {
-            Some(operation) => self.instruction_line(operation, rest),
+            Some(operation) => self.instruction_line(number, operation, rest),
             None => Err(Reason::UnknownWord),
         }
     }
@@ -160,39 +209,102 @@ impl Draft {
     /// Ends the program that the place is in.
     fn close_program(&mut self) -> Result<(), Reason>
         requires { self.old.place ≡ Place.InProgram }
-        ensures { Becomes self.new result (Ok (closed self.old)) }
+        ensures { Becomes self.old self.new result (Ok (closed self.old)) }
     {
-        let program = mem::replace(&mut self.opened, Program::new(self.alloc));
-        self.programs.push(program).map_err(|_| Reason::Memory)?;
+        self.programs.reserve(1)?;
+        let outline = mem::replace(&mut self.opened, Outline::new(self.alloc, None, None));
+        self.programs.push_reserved(outline);
         self.place = Place::BetweenPrograms;
+        Ok(())
+    }
+
+    /// A label: a name for the code address of the next instruction.
+    #[tactic(auto, unfolding(crate::specs::WorldTexts::label_line))]
+    fn label_line(&mut self, word: &[u8], rest: &[u8]) -> Result<(), Reason>
+        ensures { Becomes self.old self.new result (label_line_of self.old word.now (words rest.now)) }
+    {
+        let name = self.opened.new_label(word)?;
+        no_more_words(rest)?;
+        self.opened.add_label(name)?;
         Ok(())
     }
 
     /// An instruction, of which a program has at most 1,000.
     #[tactic(auto, unfolding(crate::specs::WorldTexts::instruction_line))]
-    fn instruction_line(&mut self, operation: Operation, rest: &[u8]) -> Result<(), Reason>
-        ensures { Becomes self.new result (instruction_line_of self.old operation (words rest.now)) }
+    fn instruction_line(
+        &mut self,
+        number: u64,
+        operation: Operation,
+        rest: &[u8],
+    ) -> Result<(), Reason>
+        ensures { Becomes self.old self.new result (instruction_line_of number self.old operation (words rest.now)) }
     {
-        if self.opened.len() == Program::MAX_LEN {
+        if self.opened.is_full() {
             return Err(Reason::OutOfRange);
         }
-        let instr = operands(operation, rest)?;
-        self.opened.push(instr)?;
+        let sketch = operands(operation, rest)?;
+        self.opened.add_instruction(number, sketch)?;
         Ok(())
     }
 
-    /// The world, where the text ends here. `line` is the number of its lines plus one, at which a
-    /// fault stands: `EndMissing` within the header or a program, `NoProgram` after the header.
-    pub fn finish(self, line: u64) -> Result<World, TextFault>
-        ensures { result ≡ world_at_end self line }
+    /// The programs that began, with their names looked up. The first name that isn't found is
+    /// `NameUnknown` at its line, and `line` is that of a fault `Memory`.
+    #[tactic(auto, using(crate::proofs::EachLemmas::each_rules))]
+    fn completed(&self, line: u64) -> Result<Vec<Program>, TextFault>
+        ensures answer { AnswersAs result (λ v. v.items) (programs_of self.now) }
+        ensures len { IfOk result (λ v. length v.items ≡ length (outlines_at self.now.place self.now.programs self.now.opened)) }
+    {
+        let names = self.names.as_slice();
+        let mut programs = programs(self.alloc, names, self.programs.as_slice(), line)?;
+        if self.place == Place::InProgram {
+            let program = self.opened.program(self.alloc, names, line)?;
+            programs.push(program).map_err(|_| TextFault {
+                line,
+                reason: Reason::Memory,
+            })?;
+        }
+        Ok(programs)
+    }
+
+    /// The fault of a text that has this fault behind the lines so far: it, or the first name of theirs
+    /// that they don't define. `Memory` stays as it is.
+    #[tactic(auto, unfolding(crate::specs::WorldTexts::world_of))]
+    pub fn refused(&self, fault: TextFault) -> TextFault
+        ensures answer { IsFaultOf (world_of self.now (Some fault)) result }
+        ensures memory { fault.reason ≡ Memory → result.reason ≡ Memory }
+    {
+        if fault.reason == Reason::Memory {
+            return fault;
+        }
+        match self.completed(fault.line) {
+            Ok(_) => fault,
+            Err(unknown) => unknown,
+        }
+    }
+
+    /// The fault of a text that ends here, and has one line fewer than `line`.
+    fn fault_at_end(&self, line: u64) -> Option<TextFault>
+        ensures { result ≡ fault_at_end self.now.place self.now.programs line }
     {
         let reason = match self.place {
             Place::BetweenPrograms if self.programs.is_empty() => Reason::NoProgram,
-            Place::BetweenPrograms => {
-                return Ok(World::new(self.pidmax, self.consoles, self.programs));
-            }
+            Place::BetweenPrograms => return None,
             Place::BeforePidmax | Place::BeforeConsoles | Place::InProgram => Reason::EndMissing,
         };
-        Err(TextFault { line, reason })
+        Some(TextFault { line, reason })
+    }
+
+    /// The world, where the text ends here. `line` is the number of its lines plus one, at which a
+    /// fault of the end stands: `EndMissing` within the header or a program, `NoProgram` after the
+    /// header. A name that the text doesn't define comes before it.
+    #[tactic(auto, unfolding(crate::specs::WorldTexts::world_of))]
+    pub fn finish(self, line: u64) -> Result<World, TextFault>
+        ensures { Answers result (world_at_end self line) }
+    {
+        if let Some(fault) = self.fault_at_end(line) {
+            return Err(self.refused(fault));
+        }
+        let programs = self.completed(line)?;
+        Ok(World::new(self.pidmax, self.consoles, programs))
     }
 }

@@ -6,24 +6,24 @@ ghost use Rattle.text.specs.declared.fault.Reason.TheVariants.{Memory};
 use std::alloc::AllocError;
 use thiserror::Error;
 
-/// Why a line is refused. On one line `LineTooLong` comes first, and then the first word from the left
-/// that is refused.
+/// Why a line is refused. On one line `LineTooLong` comes first, then the first word from the left that
+/// is refused, and `NameUnknown` last.
 #[derive(Clone, Copy, Debug, PartialEq, Eq, Error)]
 pub enum Reason {
-    /// A word that its place doesn't allow, or a word too few or too many.
+    /// A word that its place doesn't allow, a malformed name or register, or a word too few or too many.
     #[error("unknown word")]
     UnknownWord,
     /// The place of a number holds none.
     #[error("bad number")]
     BadNumber,
-    /// A number outside its range, more instructions than a program may have, or more events than a
-    /// text may have.
+    /// A number outside its range, more programs than a world may have, more instructions than a program
+    /// may have, or more events than a text may have.
     #[error("out of range")]
     OutOfRange,
-    /// A name that is used and never defined.
+    /// A label or a program that is used and never defined.
     #[error("name unknown")]
     NameUnknown,
-    /// A name that was defined before.
+    /// A label or a program that was defined before.
     #[error("name twice")]
     NameTwice,
     /// More than 200 bytes without the line feed.

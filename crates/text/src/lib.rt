@@ -5,20 +5,23 @@
 //! words is skipped, but counted. The least faulty line of a text is reported, with a [`Reason`].
 #![tactic(auto)]
 
+mod calls;
 mod draft;
 pub mod event_list;
 pub mod event_reader;
 pub mod fault;
 mod instructions;
+mod names;
 mod numbers;
+mod outline;
 pub mod print;
+mod sketch;
 mod words;
-pub mod world;
 pub mod world_reader;
 
 pub use event_list::{EventList, EventRun};
 pub use event_reader::{EventReader, read_events};
 pub use fault::{Reason, TextFault};
 pub use print::print_entry;
-pub use world::World;
+pub use umach::World;
 pub use world_reader::read_world;

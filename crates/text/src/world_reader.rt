@@ -6,19 +6,28 @@ ghost use Rattle.text.specs.WorldTexts.{world_text};
 use crate::draft::Draft;
 use crate::fault::TextFault;
 use crate::words::next_line;
-use crate::world::World;
 use std::alloc::Global;
+use umach::World;
 
 /// The world that a text stands for, or its least faulty line and the reason.
 ///
 /// The first line with words is `pidmax N`, N from 2 to 32,768, and the second `consoles N`, N from 0 to
-/// 8. Then a program follows: `program NAME`, a line for each of at most 1,000 instructions, and `end`.
-/// A name is a letter a to z, and then at most 15 of a to z, 0 to 9 and `_`. An instruction is
-/// `set rA, V`, V a decimal i64, `note rA` or `sys exit`. A line whose place in the text is wrong is
-/// `UnknownWord` at its first word.
+/// 8. Then 1 to 32 programs follow. Each begins with `program NAME`, then optionally `setuid U`, then
+/// optionally `setgid G` on that line, ids from 0 to 2,147,483,647, and ends with the line `end`. Each
+/// line between is a label `NAME:`, which stands for the code address of the next instruction, or one of
+/// at most 1,000 instructions.
 ///
-/// `EndMissing` and `NoProgram` have the number of lines plus one. `Memory` has the line at which memory
-/// was refused.
+/// An instruction is `set rA, V`, V a decimal i64, `@label` or `$program`; `mov`, `add`, `sub`, `mul`,
+/// `div`, `rem`, `and`, `or`, `xor`, `ld` or `st` and then `rA, rB`; `jmp label`; `jz`, `jnz` or `jlt` and
+/// then `rA, label`; `note rA`; or `sys` and the name of a call. `$program` is the program's number, from
+/// 0. A name is a letter a to z, and then at most 15 of a to z, 0 to 9 and `_`. A label belongs to its
+/// program; a label and a program may be used before they are defined.
+///
+/// A line whose place in the text is wrong is `UnknownWord` at its first word. A 33rd program and a
+/// 1,001st instruction are `OutOfRange` at their first word. A name that is used and never defined is
+/// `NameUnknown` at the line that uses it. From a line on that is refused for another reason no name is
+/// looked up, and none counts as defined. `EndMissing` and `NoProgram` have the number of lines plus one.
+/// `Memory` has the line at which memory was refused, and can stand in place of any answer.
 #[tactic(auto, unfolding(crate::specs::WorldTexts::world_text))]
 pub fn read_world(alloc: Global, text: &[u8]) -> Result<World, TextFault>
     ensures { Answers result (world_text text.now) }
@@ -29,10 +38,13 @@ pub fn read_world(alloc: Global, text: &[u8]) -> Result<World, TextFault>
     while let Some((line, more)) = next_line(rest) {
         rest = more;
         lines += 1;
-        draft.take_line(line).map_err(|reason| TextFault {
-            line: lines,
-            reason,
-        })?;
+        if let Err(reason) = draft.take_line(lines, line) {
+            let fault = TextFault {
+                line: lines,
+                reason,
+            };
+            return Err(draft.refused(fault));
+        }
     }
     draft.finish(lines + 1)
 }

@@ -1,12 +1,12 @@
 //! The processor of a process, and the run of one instruction.
 
-ghost use Rattle.std.specs.Prelude.{◌≡◌, IfOk};
+ghost use Rattle.std.specs.Prelude.{◌≡◌, ◌<◌, IfOk, IfSome, if◌then◌else◌};
 ghost use Rattle.posix.specs.Processes.{fresh_cpu};
-ghost use Rattle.posix.specs.Execute.{exec_one as executed, execute as execute_instr, set_register, register as register_of, fetched, StaysAtCall};
+ghost use Rattle.posix.specs.Execute.{exec_one as executed, execute as execute_instr, set_register, register as register_of, move_on, put_result, load_from, store_at, address_of, jump, computed, passes as passed, fetched, StaysUnlessRun};
 
 use crate::memory::UserMem;
 use crate::program::Program;
-use posix::{Instr, Register, Sig, Trap};
+use posix::{Condition, Instr, Operator, Register, Sig, Trap};
 use std::alloc::{AllocError, Global};
 use std::marker::Model;
 
@@ -43,11 +43,37 @@ impl Cpu {
         })
     }
 
+    /// Another processor in the same state, with a memory of its own; an error where the host has no
+    /// memory for it.
+    pub fn try_clone(&self) -> Result<Cpu, AllocError>
+        ensures { IfOk result (λ c. c ≡ self.now) }
+    {
+        Ok(Cpu {
+            pc: self.pc,
+            registers: self.registers,
+            memory: self.memory.try_clone()?,
+        })
+    }
+
     /// The value of a register.
     pub fn register(&self, register: Register) -> i64
         ensures { result ≡ register_of self.now register }
     {
         self.registers[register.index()]
+    }
+
+    /// Writes a register; the pc, the other registers and the memory stay.
+    pub fn set_register(&mut self, register: Register, value: i64)
+        ensures { self.new ≡ set_register self.old register value }
+    {
+        self.registers[register.index()] = value;
+    }
+
+    /// Moves the pc on by one; it wraps. Registers and memory stay.
+    pub fn move_on(&mut self)
+        ensures { self.new ≡ move_on self.old }
+    {
+        self.pc = self.pc.wrapping_add(1);
     }
 
     /// Runs the instruction of a program at the pc. A call and a machine fault leave the processor as
@@ -56,7 +82,7 @@ impl Cpu {
     pub fn exec_one(&mut self, program: &Program) -> Trap
         ensures trap { result ≡ (executed program.now.instructions self.old).trap }
         ensures cpu { self.new ≡ (executed program.now.instructions self.old).cpu }
-        ensures stays { StaysAtCall result self.old self.new }
+        ensures stays { StaysUnlessRun result self.old self.new }
     {
         match fetch(program, self.pc) {
             None => Trap::Fault(Sig::SEGV),
@@ -68,27 +94,173 @@ impl Cpu {
     fn execute(&mut self, instr: Instr) -> Trap
         ensures trap { result ≡ (execute_instr self.old instr).trap }
         ensures cpu { self.new ≡ (execute_instr self.old instr).cpu }
-        ensures stays { StaysAtCall result self.old self.new }
+        ensures stays { StaysUnlessRun result self.old self.new }
     {
         match instr {
-            Instr::Set(register, value) => {
-                self.set_register(register, value);
-                self.pc = self.pc.wrapping_add(1);
-                Trap::Next
+            Instr::Set(target, value) => self.put(target, value),
+            Instr::Move(target, source) => {
+                let value = self.register(source);
+                self.put(target, value)
             }
+            Instr::Compute(operator, target, operand) => {
+                let result = compute(operator, self.register(target), self.register(operand));
+                self.put_result(target, result)
+            }
+            Instr::Load(target, pointer) => {
+                let address = address_in(self.register(pointer));
+                self.load_from(target, address)
+            }
+            Instr::Store(source, pointer) => {
+                let value = self.register(source);
+                let address = address_in(self.register(pointer));
+                self.store_at(value, address)
+            }
+            Instr::Jump(address) => self.jump(address),
+            Instr::JumpIf(condition, tested, address) => self.jump_if(condition, tested, address),
             Instr::Note(register) => {
-                self.pc = self.pc.wrapping_add(1);
-                Trap::Note(self.register(register))
+                let value = self.register(register);
+                self.move_on();
+                Trap::Note(value)
             }
             Instr::Sys(call) => Trap::Call(call),
         }
     }
 
-    /// Writes a register.
-    fn set_register(&mut self, register: Register, value: i64)
-        ensures { self.new ≡ set_register self.old register value }
+    /// Writes a register and moves on.
+    fn put(&mut self, register: Register, value: i64) -> Trap
+        ensures trap { result ≡ Trap.Next }
+        ensures cpu { self.new ≡ move_on (set_register self.old register value) }
     {
-        self.registers[register.index()] = value;
+        self.set_register(register, value);
+        self.move_on();
+        Trap::Next
+    }
+
+    /// Puts a result into a register; a fault FPE without a result.
+    fn put_result(&mut self, register: Register, value: Option<i64>) -> Trap
+        ensures trap { result ≡ (put_result self.old register value).trap }
+        ensures cpu { self.new ≡ (put_result self.old register value).cpu }
+        ensures stays { StaysUnlessRun result self.old self.new }
+    {
+        match value {
+            None => Trap::Fault(Sig::FPE),
+            Some(value) => self.put(register, value),
+        }
+    }
+
+    /// Loads a register from an address of the memory; a fault SEGV without an address.
+    fn load_from(&mut self, register: Register, address: Option<usize>) -> Trap
+        requires { IfSome address (λ a. a < 256) }
+        ensures trap { result ≡ (load_from self.old register address).trap }
+        ensures cpu { self.new ≡ (load_from self.old register address).cpu }
+        ensures stays { StaysUnlessRun result self.old self.new }
+    {
+        match address {
+            None => Trap::Fault(Sig::SEGV),
+            Some(address) => {
+                let value = self.memory.get(address);
+                self.put(register, value)
+            }
+        }
+    }
+
+    /// Stores a value at an address of the memory; a fault SEGV without an address.
+    fn store_at(&mut self, value: i64, address: Option<usize>) -> Trap
+        requires { IfSome address (λ a. a < 256) }
+        ensures trap { result ≡ (store_at self.old value address).trap }
+        ensures cpu { self.new ≡ (store_at self.old value address).cpu }
+        ensures stays { StaysUnlessRun result self.old self.new }
+    {
+        match address {
+            None => Trap::Fault(Sig::SEGV),
+            Some(address) => {
+                self.memory.set(address, value);
+                self.move_on();
+                Trap::Next
+            }
+        }
+    }
+
+    /// Goes on at a code address.
+    fn jump(&mut self, address: u16) -> Trap
+        ensures trap { result ≡ Trap.Next }
+        ensures cpu { self.new ≡ jump self.old address }
+    {
+        self.pc = i64::from(address);
+        Trap::Next
+    }
+
+    /// Goes on at a code address if a register passes a test, and else at the next instruction.
+    fn jump_if(&mut self, condition: Condition, register: Register, address: u16) -> Trap
+        ensures trap { result ≡ Trap.Next }
+        ensures cpu { self.new ≡ (if passed condition (register_of self.old register) then jump self.old address else move_on self.old) }
+    {
+        if passes(condition, self.register(register)) {
+            return self.jump(address);
+        }
+        self.move_on();
+        Trap::Next
+    }
+}
+
+/// The result of an operator; none of a division by 0.
+fn compute(operator: Operator, x: i64, y: i64) -> Option<i64>
+    ensures { result ≡ computed operator x y }
+{
+    match operator {
+        Operator::Add => Some(x.wrapping_add(y)),
+        Operator::Sub => Some(x.wrapping_sub(y)),
+        Operator::Mul => Some(x.wrapping_mul(y)),
+        Operator::Div => divide(x, y),
+        Operator::Rem => remainder(x, y),
+        Operator::And => Some(x & y),
+        Operator::Or => Some(x | y),
+        Operator::Xor => Some(x ^ y),
+    }
+}
+
+/// The quotient, cut towards 0; none by 0.
+fn divide(x: i64, y: i64) -> Option<i64>
+    ensures { result ≡ computed Operator.Div x y }
+{
+    if y == 0 {
+        None
+    } else {
+        Some(x.wrapping_div(y))
+    }
+}
+
+/// The remainder of that quotient; none by 0.
+fn remainder(x: i64, y: i64) -> Option<i64>
+    ensures { result ≡ computed Operator.Rem x y }
+{
+    if y == 0 {
+        None
+    } else {
+        Some(x.wrapping_rem(y))
+    }
+}
+
+/// Whether a value passes a test.
+fn passes(condition: Condition, value: i64) -> bool
+    ensures { result ≡ passed condition value }
+{
+    match condition {
+        Condition::Zero => value == 0,
+        Condition::NotZero => value != 0,
+        Condition::Negative => value < 0,
+    }
+}
+
+/// The address in the memory that a value names; none outside 0 to 255.
+fn address_in(value: i64) -> Option<usize>
+    ensures named { result ≡ address_of value }
+    ensures within { IfSome result (λ a. a < 256) }
+{
+    if value < 0 || value >= 256 {
+        None
+    } else {
+        Some(value as usize)
     }
 }
 

@@ -40,6 +40,18 @@ impl Program {
         }
     }
 
+    /// A program of at most 1,000 instructions, which takes on these ids as it is run.
+    pub fn from_parts(setuid: Option<Uid>, setgid: Option<Gid>, instructions: Vec<Instr>) -> Self
+        requires { length instructions.items ≤ 1000 }
+        ensures { result ≡ record { setuid = setuid; setgid = setgid; instructions = instructions.items } }
+    {
+        Program {
+            setuid,
+            setgid,
+            instructions,
+        }
+    }
+
     /// How many instructions it has.
     pub fn len(&self) -> usize
         ensures value { result ≡ length self.now.instructions }

@@ -6,7 +6,7 @@ abbrev pub invariant-loop-done : goal.invariant-loop-done
 invariant-loop-done g l = record {
   within : l.done ≤ length l.bytes;
   taken : Appends (g.S.Sink.seen l.fn.out).taken (g.S.Sink.seen l.out).taken (take l.done l.bytes);
-  fine : (g.S.Sink.seen l.out).failures ≡ (g.S.Sink.seen l.fn.out).failures;
+  no_failure : (g.S.Sink.seen l.out).failures ≡ (g.S.Sink.seen l.fn.out).failures;
 }
 
 abbrev pub decreases-loop-done : goal.decreases-loop-done

@@ -1,0 +1,154 @@
+//! Calls of the machine and its parts that take memory, each once with enough of it.
+
+ghost use Rattle.std.specs.Prelude.{◌≡◌, ◌≤◌, IfOk, IsSome, []};
+ghost use Rattle.posix.specs.Tables.{lookup, children_in};
+
+use life::Machine;
+use pidalloc::{PidTable, Role};
+use posix::{Life, News, Pid, Register, Report, Status, WaitOptions};
+use proctable::{Body, Facts, Kin, ScanTable};
+use sched::Order;
+use std::alloc::{AllocError, Global};
+use std::test::Fail;
+use text::read_world;
+use umach::{Cpu, UserMem};
+
+const WORLD: &[u8] = b"pidmax 8\nconsoles 1\nprogram init\nsys fork\nend\n";
+
+/// The process number `number`.
+fn pid(number: u32) -> Pid
+    requires { number ≤ 2147483647 }
+    ensures { result ≡ number }
+{
+    match Pid::new(number) {
+        Some(pid) => pid,
+        None => unreachable!(),
+    }
+}
+
+#[test]
+fn memories_and_worlds_are_copied(rt: HostRuntime) -> Result<(), Fail> {
+    let mut memory = UserMem::zeroed(rt.alloc())?;
+    memory.set(255, 7);
+    let copy = memory.try_clone()?;
+    memory.set(255, 8);
+    assert_eq!(rt; (copy.get(0), copy.get(255)), (0, 7));
+    let mut cpu = Cpu::new(rt.alloc())?;
+    cpu.set_register(Register::RESULT, 7);
+    let copy = cpu.try_clone()?;
+    cpu.set_register(Register::RESULT, 8);
+    assert_eq!(rt; copy.register(Register::RESULT), 7);
+    let world = read_world(rt.alloc(), WORLD)?;
+    let copy = world.try_clone(rt.alloc())?;
+    assert_eq!(rt; (copy.pidmax(), copy.consoles()), (8, 1));
+    assert_eq!(rt; copy.programs().len(), 1);
+    Ok(())
+}
+
+#[test]
+#[tactic(auto, unfolding(pidalloc::specs::Rows::borne, pidalloc::specs::Rows::given_up))]
+fn numbers_are_given(rt: HostRuntime) -> Result<(), Fail> {
+    let mut pids = PidTable::new(rt.alloc(), 4)?;
+    let two = pid(2);
+    assert_eq!(rt; pids.next(), Some(two));
+    pids.bear(two, Role::Group);
+    assert_eq!(rt; pids.next(), Some(pid(3)));
+    pids.give_up(two, Role::Group);
+    assert_eq!(rt; pids.next(), Some(two));
+    pids.bear(two, Role::Process);
+    assert_eq!(rt; pids.next(), Some(pid(3)));
+    Ok(())
+}
+
+#[test]
+#[tactic(auto, unfolding(posix::specs::States::is_in))]
+fn places_are_given(rt: HostRuntime) -> Result<(), Fail> {
+    let two = pid(2);
+    let mut order = Order::new(rt.alloc());
+    order.reserve_one(0)?;
+    order.place(Pid::INIT);
+    order.reserve_one(1)?;
+    order.place(two);
+    assert_eq!(rt; order.current(), Some(Pid::INIT));
+    order.go_last(Pid::INIT);
+    assert_eq!(rt; order.current(), Some(two));
+    order.drop_place(two);
+    assert_eq!(rt; order.current(), Some(Pid::INIT));
+    Ok(())
+}
+
+/// A table of process 1 and its child, process 2.
+#[tactic(auto, unfolding(posix::specs::Tables::lookup, posix::specs::Tables::inserted, posix::specs::Tables::children_in))]
+fn family(alloc: Global) -> Result<ScanTable, AllocError>
+    ensures first { IfOk result (λ t. IsSome (lookup 1 t.processes)) }
+    ensures second { IfOk result (λ t. IsSome (lookup 2 t.processes)) }
+    ensures childless { IfOk result (λ t. children_in 2 t.processes ≡ []) }
+{
+    let mut table = ScanTable::empty(alloc);
+    let first = Body::first(alloc)?;
+    let child = first.fork(2)?;
+    table.reserve()?;
+    table.insert(Pid::INIT, Pid::NONE, first);
+    table.reserve()?;
+    table.insert(pid(2), Pid::INIT, child);
+    Ok(table)
+}
+
+/// The small fields of process 2 in such a table.
+fn child() -> Facts {
+    Facts {
+        pid: pid(2),
+        parent: Pid::INIT,
+        group: Pid::INIT,
+        session: Pid::INIT,
+        life: Life::Running,
+        news: News::Nothing,
+        blocked: None,
+        program: 0,
+    }
+}
+
+#[test]
+fn a_family_is_walked(rt: HostRuntime) -> Result<(), Fail> {
+    let mut table = family(rt.alloc())?;
+    let two = pid(2);
+    assert!(rt; table.get(two) == Some(child()));
+    assert_eq!(rt; table.first_child(Pid::INIT), Some(two));
+    assert_eq!(rt; table.next_sibling(two), None);
+    assert_eq!(rt; table.next_after(Pid::INIT), Some(two));
+    Ok(())
+}
+
+#[test]
+fn a_family_changes(rt: HostRuntime) -> Result<(), Fail> {
+    let mut table = family(rt.alloc())?;
+    let two = pid(2);
+    table.adopt(Pid::INIT, two);
+    let parent = two;
+    assert!(rt; table.get(two) == Some(Facts { parent, ..child() }));
+    let mut table = family(rt.alloc())?;
+    table.remove(two);
+    assert!(rt; table.get(two) == None);
+    let mut table = family(rt.alloc())?;
+    table.update(two).bury(Status::exited(7));
+    let life = Life::Zombie(Status::exited(7));
+    assert!(rt; table.get(two) == Some(Facts { life, ..child() }));
+    Ok(())
+}
+
+#[test]
+#[tactic(auto, unfolding(posix::specs::Tables::lookup))]
+fn a_machine_has_births_and_ends(rt: HostRuntime) -> Result<(), Fail> {
+    let world = read_world(rt.alloc(), WORLD)?;
+    let mut machine = Machine::<ScanTable>::boot(rt.alloc(), &world)?;
+    let child = pid(2);
+    assert!(rt; machine.next_pid() == Some(child));
+    machine.fork(Pid::INIT, child)?;
+    assert!(rt; machine.facts(child).is_some());
+    machine.end(child, Status::exited(5));
+    assert!(rt; machine.facts(Pid::INIT).is_some());
+    let report = machine.wait_attempt(Pid::INIT, Pid::INIT, -1, WaitOptions::WNOHANG);
+    assert_eq!(rt; report, Report::End(child, Status::exited(5)));
+    assert_eq!(rt; machine.births(), 2);
+    Ok(())
+}

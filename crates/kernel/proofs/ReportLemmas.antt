@@ -1,0 +1,189 @@
+-- The child that a wait reports.
+use Rattle.std.proofs.Common.{◌≡◌, ◌≢◌, ℕ, Bool, true, false, cond, refl, ap, sym, ◌∙◌, arith, subst, List, [], ◌∷◌, filter, find, Option, Some, None, ◌==◌, nat_lt, ℤ}
+use Rattle.std.specs.Option.{IsSome}
+use Rattle.std.proofs.lemmas.Bool.{eqb-true, eq-eqb, ne_eqb}
+use Rattle.posix.specs.declared.process.Life.{Life}
+use Rattle.posix.specs.declared.process.Life.TheVariants.{Running, Stopped, Zombie}
+use Rattle.posix.specs.declared.process.News.{News}
+use Rattle.posix.specs.declared.process.News.TheVariants as news
+use Rattle.posix.specs.declared.process.Report.{Report}
+use Rattle.posix.specs.declared.process.Report.TheVariants as found
+use Rattle.posix.specs.Statuses.{stopped, continued}
+use Rattle.posix.specs.Processes.{Process, is_zombie, argument}
+use Rattle.posix.specs.Tables.{IsRising, has_pid, lookup, changed, inserted, removed, is_child, children_in, at}
+use Rattle.posix.specs.States.{State, process}
+use Rattle.posix.specs.Regular.{IsRegular, IsPlaced}
+use Rattle.posix.specs.Waits.{is_named, has_option, WUNTRACED, WCONTINUED, report_change, report_life, report_of, reports, report_found, report_among, report}
+use Rattle.posix.proofs.TableLemmas.{Above, lookup_above, rising_filter, pid_looked}
+use Rattle.posix.proofs.WalkLemmas.{in_filter}
+use Rattle.posix.proofs.MapLemmas.{at_pid, some_map}
+use Rattle.posix.proofs.RegularLemmas.{lookup_kept}
+
+-- the child that a report names, if it names one
+abbrev pub child_named : Report → Option ℕ
+child_named found.NoChild = None
+child_named found.Nothing = None
+child_named (found.End p status) = Some p
+child_named (found.Change p status) = Some p
+
+-- whether it reports an end
+abbrev pub is_end : Report → Bool
+is_end found.NoChild = false
+is_end found.Nothing = false
+is_end (found.End p status) = true
+is_end (found.Change p status) = false
+
+-- ---- what one child has to report
+
+-- a change, reported or not, is no end
+change_if : (b : Bool) (p status : ℕ) → is_end (cond b (found.Change p status) found.Nothing) ≡ false
+change_if true p status = refl
+change_if false p status = refl
+
+-- news are no end
+change_no_end : (options p : ℕ) (n : News) → is_end (report_change options p n) ≡ false
+change_no_end options p news.Nothing = refl
+change_no_end options p (news.StoppedBy s) = change_if (has_option options WUNTRACED) p (stopped s)
+change_no_end options p news.Continued = change_if (has_option options WCONTINUED) p continued
+
+-- what a life has to report is an end just where it is that of a zombie
+life_end : (options p : ℕ) (l : Life) (n : News) → is_end (report_life options p l n) ≡ is_zombie l
+life_end options p Running n = change_no_end options p n
+life_end options p Stopped n = change_no_end options p n
+life_end options p (Zombie status) n = refl
+
+-- an end is that of a zombie
+of_zombie : (options : ℕ) (r : Process) → is_end (report_of options r) ≡ is_zombie r.life
+unfolding report_of
+of_zombie options r = life_end options r.pid r.life r.news
+
+-- a change that is reported names the child that is given
+named_if : (b : Bool) (p status q : ℕ) → child_named (cond b (found.Change p status) found.Nothing) ≡ Some q → p ≡ q
+named_if true p status q e = cc
+named_if false p status q e = absurd (cc)
+
+-- news name the child that has them
+change_named : (options p : ℕ) (n : News) (q : ℕ) → child_named (report_change options p n) ≡ Some q → p ≡ q
+change_named options p news.Nothing q e = absurd (cc)
+change_named options p (news.StoppedBy s) q e = named_if (has_option options WUNTRACED) p (stopped s) q e
+change_named options p news.Continued q e = named_if (has_option options WCONTINUED) p continued q e
+
+-- what a life has to report names the child that has it
+life_named : (options p : ℕ) (l : Life) (n : News) (q : ℕ) → child_named (report_life options p l n) ≡ Some q → p ≡ q
+life_named options p Running n q e = change_named options p n q e
+life_named options p Stopped n q e = change_named options p n q e
+life_named options p (Zombie status) n q e = cc
+
+-- the child that is named is the one that reports
+of_named : (options : ℕ) (r : Process) (q : ℕ) → child_named (report_of options r) ≡ Some q → r.pid ≡ q
+unfolding report_of
+of_named options r q e = life_named options r.pid r.life r.news q e
+
+-- ---- what a wait finds
+
+-- who is found is there
+find_looked : (t : Process → Bool) (rs : List Process) → IsRising rs → (r : Process) → find t rs ≡ Some r → lookup r.pid rs ≡ Some r
+unfolding lookup IsRising
+find_looked t [] up r e = absurd (cc)
+find_looked t (x ∷ xs) up r e =
+    elim (t x) as (λ b. cond b (Some x) (find t xs) ≡ Some r → find (has_pid r.pid) (x ∷ xs) ≡ Some r) [
+      | true ↦ λ k. let same : x ≡ r = cc in rw (eq-eqb x.pid r.pid (ap (λ (q : Process). q.pid) same)) (ap Some same)
+      | false ↦ λ k.
+          let later = find_looked t xs up.1 r k in
+          let other : x.pid ≢ r.pid = (λ same. let no = sym (lookup_above r.pid xs (subst (λ n. Above n xs) same up.0)) ∙ later in absurd (cc)) in
+          rw (ne_eqb x.pid r.pid other) later
+    ] e
+
+-- who is found there and reports this
+record InFound (options : ℕ) (rs : List Process) (o : Report) : Type 0 where
+  what : Process
+  found : lookup what.pid rs ≡ Some what
+  says : report_of options what ≡ o
+
+-- a report that names a child is that of somebody there
+in_found : (options : ℕ) (rs : List Process) → IsRising rs → (o : Report) (child : ℕ) → report_among options rs ≡ o → child_named o ≡ Some child → InFound options rs o
+in_found options [] up o child e named = let no : None ≡ Some child = ap child_named e ∙ named in absurd (cc)
+in_found options (x ∷ xs) up o child e named =
+    elim (find (reports options) (x ∷ xs)) as (λ f. find (reports options) (x ∷ xs) ≡ f → report_found options f ≡ o → InFound options (x ∷ xs) o) [
+      | None ↦ λ t k. let no : None ≡ Some child = ap child_named k ∙ named in absurd (cc)
+      | Some r ↦ λ t k. record { what = r; found = find_looked (reports options) (x ∷ xs) up r t; says = k }
+    ] refl e
+
+-- a child of the caller, a zombie or not
+pub record IsChild (rs : List Process) (caller child : ℕ) (ended : Bool) : Type 0 where
+  pub what : Process
+  pub found : lookup child rs ≡ Some what
+  pub parent : what.parent ≡ caller
+  pub dead : is_zombie what.life ≡ ended
+
+-- what is reported is reported of a child, and an end of a zombie
+pub reported : (rs : List Process) → IsRising rs → (caller group : ℕ) (choice : ℤ) (options : ℕ) (o : Report) (child : ℕ)
+    → report rs caller group choice options ≡ o → child_named o ≡ Some child → IsChild rs caller child (is_end o)
+unfolding report children_in
+reported rs up caller group choice options o child e named =
+    let kids = filter (is_child caller) rs in
+    let kids_up = rising_filter (is_child caller) rs up in
+    let f = in_found options (filter (is_named group choice) kids) (rising_filter (is_named group choice) kids kids_up) o child e named in
+    let a = in_filter (is_named group choice) kids kids_up f.what.pid f.what f.found in
+    let b = in_filter (is_child caller) rs up f.what.pid f.what a.found in
+    let here : f.what.pid ≡ child = of_named options f.what child (ap child_named f.says ∙ named) in
+    record {
+      what = f.what;
+      found = subst (λ n. lookup n rs ≡ Some f.what) here b.found;
+      parent = eqb-true _ _ b.passes;
+      dead = sym (of_zombie options f.what) ∙ ap is_end f.says;
+    }
+
+-- what a wait of p finds
+abbrev pub Finds : State → ℕ → ℕ → Report → Type 0
+Finds s p options o = (me : Process) → process s p ≡ Some me → o ≡ report s.processes me.pid me.group (argument me 1) options
+
+-- the same said of equal things
+pub finds_same : (p options : ℕ) {s t : State} {o q : Report} → s ≡ t → o ≡ q → Finds s p options o → Finds t p options q
+finds_same p options {t = t} {o = o} st oq h =
+    subst (λ (x : Report). Finds t p options x) oq (subst (λ (x : State). Finds x p options o) st h)
+
+-- what is found of a child is found of a child of p
+pub waited : (s : State) → IsRegular s → (p : ℕ) → IsPlaced s.processes p → (options : ℕ) (o : Report) (child : ℕ)
+    → Finds s p options o → child_named o ≡ Some child → IsChild s.processes p child (is_end o)
+waited s i p me options o child finds named =
+    subst (λ n. IsChild s.processes n child (is_end o)) (pid_looked p s.processes me.what me.found)
+    (reported s.processes i.rising me.what.pid me.what.group (argument me.what 1) options o child (sym (finds me.what me.found)) named)
+
+-- ---- the table afterwards
+
+-- process 1 is nobody's child
+pub not_first : (s : State) → IsRegular s → (caller child : ℕ) (ended : Bool) → IsPlaced s.processes caller → IsChild s.processes caller child ended → child ≢ 1
+not_first s i caller child ended me h same =
+    let one : i.first.what ≡ h.what = let both = sym i.first.found ∙ ap (λ n. lookup n s.processes) (sym same) ∙ h.found in cc in
+    let parent : 0 ≡ caller = sym i.first.parent ∙ ap (λ (r : Process). r.parent) one ∙ h.parent in
+    let named : me.what.pid ≡ caller = pid_looked caller s.processes me.what me.found in
+    let least = (i.bounded caller me.what me.found).least in
+    absurd (omega (arith, parent, named, least))
+
+-- the caller is there after a zombie is gone
+pub caller_stays : (rs : List Process) (caller child : ℕ) → IsPlaced rs caller → IsChild rs caller child true → IsSome (lookup caller (removed child rs))
+caller_stays rs caller child me h =
+    let apart : caller ≢ child = (λ same.
+    let one : me.what ≡ h.what = let both = sym me.found ∙ ap (λ n. lookup n rs) same ∙ h.found in cc in
+    let no : false ≡ true = sym me.living ∙ ap (λ (r : Process). is_zombie r.life) one ∙ h.dead in
+    absurd (cc)) in
+    subst IsSome (sym (lookup_kept child caller rs apart ∙ me.found)) refl
+
+-- who is there is there after a change
+pub some_changed : (p q : ℕ) (f : Process → Process) → ((r : Process) → (f r).pid ≡ r.pid) → (rs : List Process) → IsSome (lookup q rs) → IsSome (lookup q (changed p f rs))
+unfolding changed
+some_changed p q f keeps rs h = some_map (at p f) (at_pid p f keeps) q rs h
+
+-- who is there is there after a birth
+pub some_inserted : (new : Process) (q : ℕ) (rs : List Process) → IsSome (lookup q rs) → IsSome (lookup q (inserted new rs))
+unfolding lookup inserted
+some_inserted new q [] h = absurd (cc)
+some_inserted new q (r ∷ rs) h = elim (nat_lt new.pid r.pid) as (λ b. IsSome (find (has_pid q) (cond b (new ∷ r ∷ rs) (r ∷ inserted new rs)))) [
+  | true ↦ elim (new.pid == q) as (λ b. IsSome (cond b (Some new) (find (has_pid q) (r ∷ rs)))) [ true ↦ refl | false ↦ h ]
+  | false ↦ elim (r.pid == q) as (λ b. IsSome (cond b (Some r) (find (has_pid q) rs)) → IsSome (cond b (Some r) (find (has_pid q) (inserted new rs)))) [ true ↦ λ k. refl | false ↦ λ k. some_inserted new q rs k ] h
+]
+
+-- who has a living record is there
+pub some_looked : (rs : List Process) (p : ℕ) → IsPlaced rs p → IsSome (lookup p rs)
+some_looked rs p h = subst IsSome (sym h.found) refl

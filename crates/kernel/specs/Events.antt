@@ -1,0 +1,47 @@
+-- What the functions of one event come to.
+use Rattle.std.specs.Prelude.{◌≡◌, ℕ, Bool, true, List, Some}
+use Rattle.posix.specs.declared.instr.Call.{Call}
+use Rattle.posix.specs.declared.event.Event.{Event}
+use Rattle.posix.specs.declared.entry.Entry.{Entry}
+use Rattle.posix.specs.Processes.{Process}
+use Rattle.posix.specs.States.{State, process, current_process, has_place}
+use Rattle.posix.specs.Regular.{IsPlaced}
+use Rattle.posix.specs.Outcomes as outcome
+use Rattle.posix.specs.Attempts.{attempt}
+use Rattle.posix.specs.Step.{begin_call, act, step, happens}
+use Rattle.kernel.specs.declared.calls.Attempted.{Attempted}
+use Rattle.kernel.specs.declared.calls.Attempted.TheVariants.{Done, Block}
+
+-- The code's attempt came to what the definition says.
+abbrev pub Comes : State → outcome.Attempted → Attempted → State → Type 0
+Comes old (outcome.Done o) (Done entries) new = (entries.items ≡ o.entries) × (new ≡ o.state)
+Comes old (outcome.Block b) (Block c) new = (c ≡ b) × (new ≡ old)
+Comes old (outcome.Done o) (Block c) new = ⊥
+Comes old (outcome.Block b) (Done entries) new = ⊥
+
+-- The call of p may come to this.
+abbrev pub Attempts : State → ℕ → Call → Attempted → State → Type 0
+Attempts old p call result new = (me : Process) → process old p ≡ Some me → (granted : Bool) × Comes old (attempt granted old me call) result new
+
+-- p has a place, and is a record that is no zombie.
+pub record IsActing (s : State) (p : ℕ) : Type 0 where
+  pub placed : IsPlaced s.processes p
+  pub place : has_place s p ≡ true
+
+-- p may begin the call so.
+abbrev pub Begins : State → ℕ → Call → List Entry → State → Type 0
+Begins old p call entries new = (me : Process) → process old p ≡ Some me
+    → (granted : Bool) × (begin_call old me (attempt granted old me call) ≡ record { state = new; entries = entries })
+
+-- p may act so.
+abbrev pub ActsAs : State → ℕ → List Entry → State → Type 0
+ActsAs old p entries new = (me : Process) → process old p ≡ Some me
+    → (granted : Bool) × (act granted old me me.blocked ≡ record { state = new; entries = entries })
+
+-- The current process may act so.
+abbrev pub Steps : State → List Entry → State → Type 0
+Steps old entries new = (granted : Bool) × (step granted old (current_process old) ≡ record { state = new; entries = entries })
+
+-- An event may come to this, before places are given.
+abbrev pub Happens : State → Event → List Entry → State → Type 0
+Happens old event entries new = (granted : Bool) × (happens granted old event ≡ record { state = new; entries = entries })

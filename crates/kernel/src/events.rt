@@ -1,0 +1,125 @@
+//! One event of the machine. What it shows is added to a list of entries that is empty before, so that
+//! an instruction that shows nothing moves none.
+
+ghost use Rattle.std.specs.Prelude.{◌≡◌, ◌+◌, [], ◌<◌, ◌^◌, Some, option_map};
+ghost use Rattle.posix.specs.Processes.{Process};
+ghost use Rattle.posix.specs.States.{process};
+ghost use Rattle.posix.specs.Step.{tick as ticking, go_on as going_on, IsStep};
+ghost use Rattle.posix.specs.Attempts.{attempt_again};
+ghost use Rattle.posix.specs.Regular.{IsPlaced};
+ghost use Rattle.proctable.specs.Body.{facts_of};
+ghost use Rattle.kernel.specs.Events.{ActsAs, Begins, Happens, IsActing, Steps};
+
+use crate::calls::{Attempted, attempt, attempt_again, end};
+use crate::entries::Entries;
+use crate::settle::settle;
+use life::Machine;
+use posix::{Blocked, Call, Entry, Event, Pid, Status, Trap};
+use proctable::{Facts, Kin};
+
+/// A process that has a place asks for a call. Where it has to wait it is blocked in the call and loses
+/// its place.
+fn begin_call<K: Kin>(machine: &mut Machine<K>, pid: Pid, call: Call, entries: &mut Entries)
+    requires acting { IsActing machine.old pid }
+    requires births { machine.old.births + 1 < 2 ^ 64 }
+    requires none { entries.old.items ≡ [] }
+    ensures { Begins machine.old pid call entries.new.items machine.new }
+{
+    match attempt(machine, pid, call) {
+        Attempted::Done(shown) => *entries = shown,
+        Attempted::Block(blocked) => {
+            machine.enter(pid, blocked);
+            machine.lose_place(pid);
+        }
+    }
+}
+
+/// A process that is blocked in a call, and no zombie, takes it up. Where it still has to wait it loses
+/// its place.
+fn go_on<K: Kin>(machine: &mut Machine<K>, pid: Pid, blocked: Blocked, entries: &mut Entries)
+    requires placed { IsPlaced machine.old.processes pid }
+    requires none { entries.old.items ≡ [] }
+    ensures { (me : Process) → process machine.old pid ≡ Some me → going_on machine.old me (attempt_again machine.old me blocked) ≡ record { state = machine.new; entries = entries.new.items } }
+{
+    match attempt_again(machine, pid, blocked) {
+        Attempted::Done(shown) => *entries = shown,
+        Attempted::Block(_) => machine.lose_place(pid),
+    }
+}
+
+/// A process that has a place, with these facts, acts: it takes up its call, or runs an instruction.
+#[tactic(auto, unfolding(posix::specs::Step::act, posix::specs::Step::after_trap))]
+fn act<K: Kin>(machine: &mut Machine<K>, pid: Pid, facts: Facts, entries: &mut Entries)
+    requires acting { IsActing machine.old pid }
+    requires facts { Some facts ≡ option_map facts_of (process machine.old pid) }
+    requires births { machine.old.births + 1 < 2 ^ 64 }
+    requires none { entries.old.items ≡ [] }
+    ensures { ActsAs machine.old pid entries.new.items machine.new }
+{
+    if let Some(blocked) = facts.blocked {
+        return go_on(machine, pid, blocked, entries);
+    }
+    match machine.run(pid, facts.program) {
+        Trap::Next => {}
+        Trap::Note(value) => entries.push(Entry::Noted { pid, value }),
+        Trap::Call(call) => begin_call(machine, pid, call, entries),
+        Trap::Fault(sig) => *entries = end(machine, pid, Status::killed(sig)),
+    }
+}
+
+/// The current process acts. Nothing happens where there is none.
+#[tactic(auto, unfolding(posix::specs::Step::step))]
+fn step<K: Kin>(machine: &mut Machine<K>, entries: &mut Entries)
+    requires births { machine.old.births + 1 < 2 ^ 64 }
+    requires none { entries.old.items ≡ [] }
+    ensures { Steps machine.old entries.new.items machine.new }
+{
+    let Some(pid) = machine.current() else {
+        return;
+    };
+    let Some(facts) = machine.facts(pid) else {
+        return;
+    };
+    act(machine, pid, facts, entries);
+}
+
+/// The time goes on by one, and the current process goes to the end of the order.
+#[tactic(auto, unfolding(posix::specs::Step::tick))]
+fn tick<K: Kin>(machine: &mut Machine<K>)
+    requires { machine.old.ticks + 1 < 2 ^ 64 }
+    ensures { machine.new ≡ ticking machine.old }
+{
+    machine.pass_time();
+    if let Some(pid) = machine.current() {
+        machine.go_last(pid);
+    }
+}
+
+/// An event, before places are given.
+#[tactic(auto, unfolding(posix::specs::Step::happens))]
+fn happen<K: Kin>(machine: &mut Machine<K>, event: Event, entries: &mut Entries)
+    requires births { machine.old.births + 1 < 2 ^ 64 }
+    requires ticks { machine.old.ticks + 1 < 2 ^ 64 }
+    requires none { entries.old.items ≡ [] }
+    ensures { Happens machine.old event entries.new.items machine.new }
+{
+    match event {
+        Event::Step => step(machine, entries),
+        Event::Tick => tick(machine),
+    }
+}
+
+/// One event. After a halt nothing changes, and nothing is shown.
+#[tactic(auto, unfolding(posix::specs::Step::next))]
+pub fn next<K: Kin>(machine: &mut Machine<K>, event: Event, entries: &mut Entries)
+    requires births { machine.old.births + 1 < 2 ^ 64 }
+    requires ticks { machine.old.ticks + 1 < 2 ^ 64 }
+    requires none { entries.old.items ≡ [] }
+    ensures { IsStep machine.old event entries.new.items machine.new }
+{
+    if machine.is_halted() {
+        return;
+    }
+    happen(machine, event, entries);
+    settle(machine);
+}

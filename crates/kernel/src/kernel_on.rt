@@ -1,0 +1,90 @@
+//! The kernel of one world.
+
+ghost use Rattle.std.specs.Prelude.{◌≡◌, ◌+◌, ◌<◌, [], IfOk, true};
+ghost use Rattle.posix.specs.States.{boot as boot_of};
+ghost use Rattle.posix.specs.Step.{IsStep};
+ghost use Rattle.text.specs.EventTexts.{most_events};
+ghost use Rattle.kernel.specs.Views.{KernelView};
+ghost use Rattle.kernel.specs.Summaries.{census_of};
+
+use crate::entries::Entries;
+use crate::events::next;
+use crate::summary::{Census, take_census};
+use arrayvec::ArrayVec;
+use life::Machine;
+use posix::Event;
+use proctable::{Kin, ScanTable};
+use std::alloc::{AllocError, Global};
+use std::marker::Model;
+use umach::World;
+
+/// The kernel of one world.
+pub type Kernel = KernelOn<ScanTable>;
+
+/// The kernel of one world over a table of processes: the machine, and the count of events.
+#[derive(Drop)]
+pub struct KernelOn<K: Kin> {
+    machine: Machine<K>,
+    events: u64,
+}
+
+impl<K: Kin> Model for KernelOn<K> {
+    ghost use Rattle.std.specs.Prelude.{◌≤◌, ◌+◌};
+    ghost use Rattle.kernel.specs.Views.{KernelView};
+
+    ghost Value = { KernelView };
+
+    ghost view = { λ k. record { state = k.machine; events = k.events } };
+
+    ghost invariant = { λ k. (k.machine.births ≤ k.events + 1) × (k.machine.ticks ≤ k.events) };
+}
+
+impl<K: Kin> KernelOn<K> {
+    /// The machine at its start; an error where there is no memory for it.
+    pub fn boot(alloc: Global, world: &World) -> Result<Self, AllocError>
+        ensures { IfOk result (λ k. k ≡ record { state = boot_of world.now; events = 0 }) }
+    {
+        Ok(KernelOn {
+            machine: Machine::boot(alloc, world)?,
+            events: 0,
+        })
+    }
+
+    /// How many events were given, after a halt too.
+    pub fn events(&self) -> u64
+        ensures { result ≡ self.now.events }
+    {
+        self.events
+    }
+
+    /// The number of consoles.
+    pub fn consoles(&self) -> u8
+        ensures { result ≡ self.now.state.world.consoles }
+    {
+        self.machine.consoles()
+    }
+
+    /// One event, of which fewer than 1,000,000,000,000 were given before: the machine takes the step that
+    /// the definitions give, and shows its entries. Memory is taken only by a fork, which shows where it
+    /// was refused; so there is no error. After a halt the state stays, nothing is shown, and the event is
+    /// counted.
+    pub fn event(&mut self, event: Event) -> Entries
+        requires { self.old.events < most_events }
+        ensures step { IsStep self.old.state event result.items self.new.state }
+        ensures events { self.new.events ≡ self.old.events + 1 }
+        ensures halted { self.old.state.halted ≡ true → (result.items ≡ []) × (self.new.state ≡ self.old.state) }
+    {
+        self.events += 1;
+        let mut entries = ArrayVec::new();
+        next(&mut self.machine, event, &mut entries);
+        entries
+    }
+
+    /// Counts the processes.
+    pub fn census(&mut self) -> Census
+        ensures value { result ≡ census_of self.old.state }
+        ensures same { self.new ≡ self.old }
+    {
+        take_census(&mut self.machine)
+    }
+}

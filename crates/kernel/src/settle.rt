@@ -1,0 +1,63 @@
+//! Places for all processes that can act.
+
+ghost use Rattle.std.specs.Prelude.{◌≡◌, IsSome, Some};
+ghost use Rattle.posix.specs.Processes.{Process};
+ghost use Rattle.posix.specs.States.{process};
+ghost use Rattle.posix.specs.Settle.{can_act as acting, settle as settling, woken};
+
+use crate::calls::has_to_wait;
+use life::Machine;
+use posix::{Blocked, Life, Pid};
+use proctable::Kin;
+
+/// Whether a process that is there can act: it runs, and is in no call that it has to wait in.
+#[tactic(auto, unfolding(posix::specs::Settle::can_act, posix::specs::Attempts::attempt_again))]
+fn can_act<K: Kin>(machine: &mut Machine<K>, pid: Pid) -> bool
+    requires { IsSome (process machine.old pid) }
+    ensures value { (me : Process) → process machine.old pid ≡ Some me → result ≡ acting machine.old me }
+    ensures same { machine.new ≡ machine.old }
+{
+    let Some(facts) = machine.facts(pid) else {
+        return false;
+    };
+    let Life::Running = facts.life else {
+        return false;
+    };
+    match facts.blocked {
+        None => true,
+        Some(Blocked::Waitpid) => !has_to_wait(machine, pid),
+        Some(_) => false,
+    }
+}
+
+/// Gives a process that is there the last place, if it has none and can act.
+#[tactic(auto, unfolding(posix::specs::Settle::woken))]
+fn wake<K: Kin>(machine: &mut Machine<K>, pid: Pid)
+    requires { IsSome (process machine.old pid) }
+    ensures { machine.new ≡ woken machine.old pid }
+{
+    if !machine.has_place(pid) && can_act(machine, pid) {
+        machine.place(pid);
+    }
+}
+
+/// Asks all processes, in the rising order of their numbers.
+fn wake_all<K: Kin>(machine: &mut Machine<K>)
+    ensures { machine.new ≡ settling machine.old }
+{
+    let mut next = machine.next_after(Pid::NONE);
+    while let Some(pid) = next {
+        wake(machine, pid);
+        next = machine.next_after(pid);
+    }
+}
+
+/// Each process that can act has a place: those that have none get theirs at the end of the order, in
+/// the rising order of their numbers. Where each process has a place none is asked.
+pub fn settle<K: Kin>(machine: &mut Machine<K>)
+    ensures { machine.new ≡ settling machine.old }
+{
+    if !machine.is_full() {
+        wake_all(machine);
+    }
+}

@@ -1,0 +1,101 @@
+-- The walk of a wait over the children of its caller.
+use Rattle.std.proofs.Common.{◌≡◌, ◌<◌, ℕ, ℤ, refl, ap, sym, ◌∙◌, arith, List, length, Option, Some, None, option_map}
+use Rattle.posix.specs.declared.process.Report.{Report}
+use Rattle.posix.specs.declared.process.Report.TheVariants as found
+use Rattle.posix.specs.Processes.{Process}
+use Rattle.posix.specs.Tables.{IsRising, lookup, children_in, first_pid, left_of, next_sibling}
+use Rattle.posix.specs.Waits.{report}
+use Rattle.posix.proofs.WalkLemmas.{AtChild, at_child, at_first}
+use Rattle.posix.specs.Waits.{look}
+use Rattle.posix.proofs.WaitLemmas.{scan, scan_is_report, after_look}
+use Rattle.proctable.specs.declared.facts.Facts.{Facts}
+use Rattle.proctable.specs.Body.{facts_of}
+use Rattle.life.proofs.SoundLemmas.{facts_are, none_read}
+
+-- the walk begins at the first child
+pub first_here : (rs : List Process) → IsRising rs → (p : ℕ) (next : Option ℕ) → next ≡ first_pid (children_in p rs) → first_pid (left_of next (children_in p rs)) ≡ next
+first_here rs up p next e = rw e (ap first_pid (at_first rs up p))
+
+-- and all children are left
+pub first_todo : (rs : List Process) → IsRising rs → (p : ℕ) (next : Option ℕ) → next ≡ first_pid (children_in p rs) → left_of next (children_in p rs) ≡ children_in p rs
+first_todo rs up p next e = rw e (at_first rs up p)
+
+-- the walk over the children of p among rs is at the child c; now is what is read of rs
+pub record IsAtChild (rs now : List Process) (p c : ℕ) (next : Option ℕ) : Type 0 where
+  pub rising : IsRising rs
+  pub comes : next ≡ Some c
+  pub here : first_pid (left_of next (children_in p rs)) ≡ next
+  pub same : now ≡ rs
+
+-- the facts of the child c were read, and o is what a look at them says
+pub record Says (now : List Process) (c group : ℕ) (choice : ℤ) (options : ℕ) (o : Report) : Type 0 where
+  pub facts : Facts
+  pub read : Some facts ≡ option_map facts_of (lookup c now)
+  pub said : (r : Process) → facts ≡ facts_of r → o ≡ look group choice options r
+
+child_here : (rs now : List Process) (p c : ℕ) (next : Option ℕ) → IsAtChild rs now p c next → AtChild rs p c
+child_here rs now p c next w = at_child rs w.rising p c (ap (λ (o : Option ℕ). first_pid (left_of o (children_in p rs))) (sym w.comes) ∙ w.here ∙ w.comes)
+
+-- the child is there
+pub surely_read : (rs now : List Process) (p c : ℕ) (next : Option ℕ) → IsAtChild rs now p c next → None ≡ option_map facts_of (lookup c now) → ⊥
+surely_read rs now p c next w e =
+    let both = sym (none_read _ e) ∙ ap (lookup c) w.same ∙ (child_here rs now p c next w).found in
+    cc
+
+pub child_less : (rs now : List Process) (p c : ℕ) (next after : Option ℕ) → IsAtChild rs now p c next → after ≡ next_sibling c rs
+    → length (left_of after (children_in p rs)) < length (left_of next (children_in p rs))
+child_less rs now p c next after w e = let l = ap length (child_here rs now p c next w).left in rw (w.comes, e) (omega (arith, l))
+
+pub next_here : (rs now : List Process) (p c : ℕ) (next after : Option ℕ) → IsAtChild rs now p c next → after ≡ next_sibling c rs → first_pid (left_of after (children_in p rs)) ≡ after
+next_here rs now p c next after w e = rw e (child_here rs now p c next w).next
+
+-- what is left says what the child says, and then the others
+child_scan : (rs now : List Process) (p c : ℕ) (next after : Option ℕ) (group : ℕ) (choice : ℤ) (options : ℕ) (o so_far : Report) → IsAtChild rs now p c next → Says now c group choice options o → after ≡ next_sibling c rs
+    → scan group choice options so_far (left_of next (children_in p rs)) ≡ after_look o so_far (λ s. scan group choice options s (left_of after (children_in p rs)))
+unfolding scan
+child_scan rs now p c next after group choice options o so_far w a e =
+    let k = child_here rs now p c next w in
+    let said = a.said k.what (facts_are _ k.what a.facts a.read (ap (lookup c) w.same ∙ k.found)) in
+    rw (w.comes, e, k.left, said) refl
+
+-- a child that has something to report ends the search
+found_here : (o so_far : Report) (rest : Report → Report) → (o ≡ found.NoChild → ⊥) → (o ≡ found.Nothing → ⊥) → after_look o so_far rest ≡ o
+found_here found.NoChild so_far rest h k = absurd (h refl)
+found_here found.Nothing so_far rest h k = absurd (k refl)
+found_here (found.End p w) so_far rest h k = refl
+found_here (found.Change p w) so_far rest h k = refl
+
+-- all children were asked
+all_asked : (rs : List Process) (p group : ℕ) (z choice : ℤ) (options : ℕ) → z ≡ choice → scan group z options found.NoChild (children_in p rs) ≡ report rs p group choice options
+unfolding report
+all_asked rs p group z choice options same = scan_is_report group z options (children_in p rs) ∙ ap (λ z. report rs p group z options) same
+
+pub reported_here : (rs now : List Process) (p c : ℕ) (next : Option ℕ) (group : ℕ) (z choice : ℤ) (options : ℕ) (o so_far : Report) → IsAtChild rs now p c next → Says now c group z options o → z ≡ choice
+    → scan group z options so_far (left_of next (children_in p rs)) ≡ scan group z options found.NoChild (children_in p rs) → (o ≡ found.NoChild → ⊥) → (o ≡ found.Nothing → ⊥) → o ≡ report rs p group choice options
+reported_here rs now p c next group z choice options o so_far w a same todo h k =
+    sym (found_here o so_far (λ s. scan group z options s (left_of (next_sibling c rs) (children_in p rs))) h k) ∙ sym (child_scan rs now p c next (next_sibling c rs) group z options o so_far w a refl) ∙ todo ∙ all_asked rs p group z choice options same
+
+pub none_left : (rs : List Process) (p : ℕ) (next : Option ℕ) (group : ℕ) (z choice : ℤ) (options : ℕ) (so_far : Report) → next ≡ None → z ≡ choice
+    → scan group z options so_far (left_of next (children_in p rs)) ≡ scan group z options found.NoChild (children_in p rs) → so_far ≡ report rs p group choice options
+unfolding scan
+none_left rs p next group z choice options so_far none same todo =
+    let left : scan group z options so_far (left_of next (children_in p rs)) ≡ so_far = rw none refl in
+    sym left ∙ todo ∙ all_asked rs p group z choice options same
+
+-- the search goes on behind a child that isn't named
+pub unnamed_here : (rs now : List Process) (p c : ℕ) (next after : Option ℕ) (group : ℕ) (choice : ℤ) (options : ℕ) (o so_far later : Report) → IsAtChild rs now p c next → Says now c group choice options o → after ≡ next_sibling c rs
+    → o ≡ found.NoChild → later ≡ so_far → scan group choice options so_far (left_of next (children_in p rs)) ≡ scan group choice options found.NoChild (children_in p rs)
+    → scan group choice options later (left_of after (children_in p rs)) ≡ scan group choice options found.NoChild (children_in p rs)
+unnamed_here rs now p c next after group choice options o so_far later w a e none stays todo =
+    let rest = child_scan rs now p c next after group choice options o so_far w a e in
+    let others = rw none at rest in
+    rw stays (sym others ∙ todo)
+
+-- and behind one that has nothing to report
+pub nothing_here : (rs now : List Process) (p c : ℕ) (next after : Option ℕ) (group : ℕ) (choice : ℤ) (options : ℕ) (o so_far later : Report) → IsAtChild rs now p c next → Says now c group choice options o → after ≡ next_sibling c rs
+    → o ≡ found.Nothing → later ≡ found.Nothing → scan group choice options so_far (left_of next (children_in p rs)) ≡ scan group choice options found.NoChild (children_in p rs)
+    → scan group choice options later (left_of after (children_in p rs)) ≡ scan group choice options found.NoChild (children_in p rs)
+nothing_here rs now p c next after group choice options o so_far later w a e nothing is todo =
+    let rest = child_scan rs now p c next after group choice options o so_far w a e in
+    let others = rw nothing at rest in
+    rw is (sym others ∙ todo)

@@ -1,0 +1,4 @@
+pub mod SoundLemmas
+pub mod EndLemmas
+pub mod CodeLemmas
+pub mod ChildLemmas

@@ -1,0 +1,298 @@
+-- What keeps a machine sound.
+use Rattle.std.proofs.Common.{◌≡◌, ◌≢◌, ◌==◌, ℕ, suc, ◌+◌, ◌-◌, ◌≤◌, Bool, true, false, cond, refl, ap, sym, ◌∙◌, arith, subst, List, [], ◌∷◌, length, map, Option, Some, None, option_map}
+use Rattle.std.specs.Option.{IsSome}
+use Rattle.std.specs.List.{AllByRecursion}
+use Rattle.std.proofs.lemmas.Bool.{eqb-true, eqb-false, ne_eqb}
+use Rattle.std.proofs.lemmas.List.{length-replicate}
+use Rattle.posix.specs.Processes.{Process, is_zombie, first_process}
+use Rattle.posix.specs.Tables.{IsRising, at, lookup, changed, removed, inserted, adopted, reparented, children_in}
+use Rattle.posix.specs.States.{World, State, boot, process, next_pid, is_in}
+use Rattle.posix.specs.NextPid.{is_free, next_free}
+use Rattle.posix.specs.Regular.{IsRegular, HasFirst, IsBounded, IsPlaced, IsDistinct}
+use Rattle.posix.specs.Ends.{buried, make_zombie}
+use Rattle.posix.proofs.TableLemmas.{Above, pid_looked}
+use Rattle.posix.proofs.RegularLemmas.{Keeps, keeps_at, regular_change, regular_inserted, regular_removed}
+use Rattle.posix.proofs.MapLemmas.{some_map}
+use Rattle.posix.proofs.SettleLemmas.{all_looked}
+use Rattle.pidalloc.specs.Rows.{Pids, IsPids, is_free_in, unborne_table, born_in, gone_from}
+use Rattle.pidalloc.specs.Tallies.{IsTallied}
+use Rattle.pidalloc.proofs.FreeLemmas.{next_found}
+use Rattle.pidalloc.proofs.TallyLemmas.{CanBear, CanGiveUp, can_bear, can_give_up, next_same, free_none, tallied_unborne, tallied_born, tallied_map, tallied_gone, length_inserted, length_removed}
+use Rattle.sched.specs.Places.{Places}
+use Rattle.proctable.specs.declared.facts.Facts.{Facts}
+use Rattle.proctable.specs.Body.{facts_of}
+use Rattle.life.specs.Machines.{IsKept, IsSound, state_of}
+
+-- who is looked up
+pub record There (o : Option Process) : Type 0 where
+  pub what : Process
+  pub found : o ≡ Some what
+
+pub there : (o : Option Process) → IsSome o → There o
+there None h = absurd (cc)
+there (Some r) h = record { what = r; found = refl }
+
+-- a process that is found is there
+pub is_there : (o : Option Process) (r : Process) → o ≡ Some r → IsSome o
+is_there o r e = rw e refl
+
+-- what the value of a machine says of a process, its parts say
+pub found_in : (s t : State) → s ≡ t → (p : ℕ) (r : Process) → process t p ≡ Some r → lookup p s.processes ≡ Some r
+found_in s t same p r found = ap (λ (s : State). lookup p s.processes) same ∙ found
+
+-- the facts that were read of a record
+pub facts_are : (o : Option Process) (r : Process) (f : Facts) → Some f ≡ option_map facts_of o → o ≡ Some r → f ≡ facts_of r
+facts_are o r f e there = let both : Some f ≡ Some (facts_of r) = e ∙ ap (option_map facts_of) there in cc
+
+-- nothing was read where nobody is there
+pub none_read : (o : Option Process) → None ≡ option_map facts_of o → o ≡ None
+none_read None e = refl
+none_read (Some r) e = absurd (cc)
+
+-- ---- changes of records
+
+length_map : (g : Process → Process) (rs : List Process) → length (map g rs) ≡ length rs
+length_map g [] = refl
+length_map g (r ∷ rs) = ap suc (length_map g rs)
+
+-- the numbers and the room stay kept where each record keeps its numbers
+pub kept_map : (g : Process → Process) → ((r : Process) → (g r).pid ≡ r.pid) → ((r : Process) → (g r).group ≡ r.group) → ((r : Process) → (g r).session ≡ r.session)
+    → (m : ℕ) (rs : List Process) (p : Pids) (a b : Places) (n : ℕ) → a.room ≤ b.room → IsKept m rs p a n → IsKept m (map g rs) p b n
+kept_map g kp kg ks m rs p a b n e k = record {
+  greatest = k.greatest;
+  table = k.table;
+  tallied = tallied_map p g kp kg ks rs k.tallied;
+  count = k.count ∙ sym (length_map g rs);
+  room = let r = k.room in omega (arith, r, e);
+}
+
+-- and where the places change but keep their room
+pub kept_order : (m : ℕ) (rs : List Process) (p : Pids) (a b : Places) (n : ℕ) → a.room ≤ b.room → IsKept m rs p a n → IsKept m rs p b n
+kept_order m rs p a b n e k = record { greatest = k.greatest; table = k.table; tallied = k.tallied; count = k.count; room = let r = k.room in omega (arith, r, e) }
+
+-- a change of one record that keeps its numbers, its life and its parent
+pub sound_change : (p : ℕ) (f : Process → Process) → Keeps f → (s : State) (pids : Pids) (places : Places) (n : ℕ) → IsSound s pids places n → IsSound (record s { processes = changed p f s.processes }) pids places n
+unfolding changed
+sound_change p f k s pids places n i =
+    let h = keeps_at p f k in
+    record { regular = regular_change p f k s i.regular; kept = kept_map (at p f) h.pid h.group h.session s.world.pidmax s.processes pids places places n (omega arith) i.kept }
+
+-- ---- ends
+
+-- no number changes at an end
+pub kept_departed : (p w m : ℕ) (rs : List Process) (pids : Pids) (a b : Places) (n : ℕ) → a.room ≤ b.room → IsKept m rs pids a n → IsKept m (adopted p 1 (changed p (buried w) rs)) pids b n
+unfolding changed adopted buried
+kept_departed p w m rs pids a b n e k =
+    kept_map (reparented p 1) (λ r. grind arith) (λ r. grind arith) (λ r. grind arith) m _ pids a b n e
+    (kept_map (at p (buried w)) (λ r. grind arith) (λ r. grind arith) (λ r. grind arith) m rs pids a a n (omega arith) k)
+
+-- nor at the end of process 1
+pub kept_halted : (w m : ℕ) (rs : List Process) (pids : Pids) (a b : Places) (n : ℕ) → a.room ≤ b.room → IsKept m rs pids a n → IsKept m (changed 1 (make_zombie w) rs) pids b n
+unfolding changed make_zombie
+kept_halted w m rs pids a b n e k = kept_map (at 1 (make_zombie w)) (λ r. grind arith) (λ r. grind arith) (λ r. grind arith) m rs pids a b n e k
+
+-- ---- numbers
+
+-- the number that the rows give next is that of the state
+pub next_is : (s : State) (p : Pids) (places : Places) (n : ℕ) → s.last_pid ≡ p.last → IsSound s p places n → next_free (is_free_in p.rows) p.last p.pidmax ≡ next_pid s
+next_is s p places n last i =
+    next_same p s.processes i.kept.tallied ∙ ap (λ m. next_free (is_free s.processes) p.last m) i.kept.greatest ∙ ap (λ l. next_free (is_free s.processes) l s.world.pidmax) (sym last)
+
+-- in a rising list of numbers up to m there are no more than m
+no_more : (low m : ℕ) (rs : List Process) → IsRising rs → Above low rs → AllByRecursion (λ (r : Process). r.pid ≤ m) rs → low ≤ m → length rs + low ≤ m
+unfolding IsRising
+no_more low m [] up above most l = omega (arith, l)
+no_more low m (r ∷ rs) up above most l =
+    let rest = no_more r.pid m rs up.1 up.0 most.1 most.0 in
+    omega (arith, rest, above.0)
+
+above_none : (rs : List Process) → AllByRecursion (λ (r : Process). 1 ≤ r.pid) rs → Above 0 rs
+above_none [] a = tt
+above_none (r ∷ rs) a = (omega (arith, a.0), above_none rs a.1)
+
+-- there are no more processes than numbers
+pub few : (s : State) → IsRegular s → length s.processes ≤ s.world.pidmax
+few s i =
+    let l = no_more 0 s.world.pidmax s.processes i.rising
+    (above_none s.processes (all_looked _ s.processes i.rising (λ p r e. (i.bounded p r e).least)))
+    (all_looked _ s.processes i.rising (λ p r e. (i.bounded p r e).pid)) (omega arith) in
+    omega (arith, l)
+
+-- process 1 is still there
+pub first_changed : (p w : ℕ) (rs : List Process) → HasFirst rs → IsSome (lookup 1 (changed p (buried w) rs))
+unfolding changed buried
+first_changed p w rs first = some_map (at p (buried w)) (λ r. grind arith) 1 rs (is_there _ first.what first.found)
+
+-- ---- births
+
+-- the number of the next child is free, and in its range
+pub record IsNew (rs : List Process) (m child : ℕ) : Type 0 where
+  pub least : 1 ≤ child
+  pub greatest : child ≤ m
+  pub fresh : lookup child rs ≡ None
+
+pub next_is_new : (s t : State) (p : Pids) (places : Places) (n child : ℕ) → s ≡ t → s.last_pid ≡ p.last → IsSound s p places n → next_pid t ≡ Some child → IsNew s.processes p.pidmax child
+next_is_new s t p places n child now last i next =
+    let same = i.kept.greatest in
+    let given = i.kept.table.given in
+    let here : next_pid s ≡ Some child = ap (λ (s : State). next_pid s) now ∙ next in
+    let f = next_found (is_free s.processes) s.last_pid s.world.pidmax child (omega (arith, last, given, same)) here in
+    let high = f.greatest in
+    record { least = f.least; greatest = omega (arith, high, same); fresh = free_none child s.processes f.free }
+
+-- and no more than 32,768
+pub not_many : (s : State) (p : Pids) (places : Places) (n : ℕ) → IsSound s p places n → length s.processes ≤ 32768
+not_many s p places n i =
+    let l = few s i.regular in
+    let same = i.kept.greatest in
+    let limit = i.kept.table.limit in
+    omega (arith, l, same, limit)
+
+-- the rows have room for one more process in the group and session of its parent
+pub room_to_bear : (s t : State) (p : Pids) (places : Places) (n child parent group session : ℕ) → s ≡ t → s.last_pid ≡ p.last → IsSound s p places n → next_pid t ≡ Some child → IsPlaced t.processes parent
+    → ((me : Process) → lookup parent s.processes ≡ Some me → (group ≡ me.group) × (session ≡ me.session)) → CanBear p child group session
+room_to_bear s t p places n child parent group session now last i next me like =
+    let l = not_many s p places n i in
+    let fresh = next_is_new s t p places n child now last i next in
+    let found = found_in s t now parent me.what me.found in
+    let bounds = i.regular.bounded parent me.what found in
+    let m = i.kept.greatest in
+    let a = bounds.group in
+    let b = bounds.session in
+    let groups = like me.what found in
+    let same_group = groups.0 in
+    let same_session = groups.1 in
+    can_bear p s.processes i.kept.tallied (omega (arith, l)) child group session fresh.greatest (omega (arith, a, m, same_group)) (omega (arith, b, m, same_session))
+
+-- a birth
+pub sound_born : (w : World) (rs : List Process) (p q : Pids) (a b : Places) (births ticks dropped : ℕ) (h : Bool) (n : ℕ) (new me : Process)
+    → IsSound (state_of w rs p a births ticks dropped h) p a n → IsNew rs p.pidmax new.pid → lookup new.parent rs ≡ Some me → is_zombie me.life ≡ false
+    → new.group ≡ me.group → new.session ≡ me.session → new.life ≡ me.life
+    → q ≡ born_in p new.pid new.group new.session → q.pidmax ≡ p.pidmax → IsPids q → b.pids ≡ a.pids → n + 1 ≤ b.room
+    → IsSound (state_of w (inserted new rs) q b (births + 1) ticks dropped h) q b (n + 1)
+sound_born w rs p q a b births ticks dropped h n new me i fresh there up group session life bore same table order room =
+    let s = state_of w rs p a births ticks dropped h in
+    let k = i.kept in
+    let bounds = i.regular.bounded new.parent me there in
+    let most = k.greatest in
+    let g = bounds.group in
+    let l = bounds.session in
+    let high = fresh.greatest in
+    let r = regular_inserted new q.last (births + 1) s i.regular fresh.fresh
+    (record { least = fresh.least; pid = omega (arith, high, most); group = omega (arith, g, group); session = omega (arith, l, session) })
+    (ap is_zombie life ∙ up) me there up in
+    record {
+      regular = rw order (record { rising = r.rising; bounded = r.bounded; first = r.first; placed = r.placed; distinct = r.distinct; childless = r.childless });
+      kept = record {
+        greatest = same ∙ k.greatest;
+        table = table;
+        tallied = subst (λ x. IsTallied x (inserted new rs)) (sym bore) (tallied_born p new rs k.table.size k.tallied);
+        count = let c = k.count in let e = length_inserted new rs in omega (arith, c, e);
+        room = room;
+      };
+    }
+
+-- ---- collections
+
+-- the rows hold the three numbers of a record that is there
+pub record IsHeld (p : Pids) (pid : ℕ) (f : Facts) : Type 0 where
+  pub range : pid ≤ p.pidmax
+  pub counts : CanGiveUp p pid f.group f.session
+
+pub rows_hold : (s t : State) (p : Pids) (places : Places) (n pid : ℕ) (r : Process) (f : Facts) → s ≡ t → IsSound s p places n → process t pid ≡ Some r → Some f ≡ option_map facts_of (lookup pid s.processes) → IsHeld p pid f
+rows_hold s t p places n pid r f now i found read =
+    let there = found_in s t now pid r found in
+    let bounds = i.regular.bounded pid r there in
+    let m = i.kept.greatest in
+    let a = bounds.pid in
+    let b = bounds.group in
+    let c = bounds.session in
+    let named = pid_looked pid s.processes r there in
+    let counts : CanGiveUp p pid r.group r.session = can_give_up p s.processes i.kept.tallied pid r there (omega (arith, a, m, named)) (omega (arith, b, m)) (omega (arith, c, m)) in
+    record { range = omega (arith, a, m, named); counts = subst (λ (f : Facts). CanGiveUp p pid f.group f.session) (sym (facts_are _ r f read there)) counts }
+
+-- there is a record to take out
+pub one_less : (s t : State) (p : Pids) (places : Places) (n pid : ℕ) (r : Process) → s ≡ t → IsSound s p places n → process t pid ≡ Some r → 1 ≤ n
+one_less s t p places n pid r now i found =
+    let e = length_removed pid r s.processes i.regular.rising (found_in s t now pid r found) in
+    let c = i.kept.count in
+    omega (arith, e, c)
+
+-- a zombie goes
+pub sound_collected : (w : World) (rs : List Process) (p q : Pids) (a : Places) (births ticks dropped : ℕ) (h : Bool) (n pid : ℕ) (r : Process) (f : Facts) (t : State)
+    → state_of w rs p a births ticks dropped h ≡ t → IsSound (state_of w rs p a births ticks dropped h) p a n
+    → process t pid ≡ Some r → is_zombie r.life ≡ true → pid ≢ 1 → Some f ≡ option_map facts_of (lookup pid rs)
+    → q ≡ gone_from p pid f.group f.session → q.pidmax ≡ p.pidmax → IsPids q
+    → IsSound (state_of w (removed pid rs) q a births ticks dropped h) q a (n - 1)
+sound_collected w rs p q a births ticks dropped h n pid r f t now i found dead other read gone same table =
+    let s = state_of w rs p a births ticks dropped h in
+    let k = i.kept in
+    let there : lookup pid rs ≡ Some r = found_in s t now pid r found in
+    let x = regular_removed pid r s i.regular other there dead in
+    let e = length_removed pid r rs i.regular.rising there in
+    let left : q ≡ gone_from p pid r.group r.session = gone ∙ ap (λ (f : Facts). gone_from p pid f.group f.session) (facts_are _ r f read there) in
+    record {
+      regular = record { rising = x.rising; bounded = x.bounded; first = x.first; placed = x.placed; distinct = x.distinct; childless = x.childless };
+      kept = record {
+        greatest = same ∙ k.greatest;
+        table = table;
+        tallied = subst (λ x. IsTallied x (removed pid rs)) (sym left) (tallied_gone p pid r rs k.table.size i.regular.rising k.tallied there);
+        count = let c = k.count in omega (arith, c, e);
+        room = let o = k.room in omega (arith, o);
+      };
+    }
+
+-- ---- the start
+
+-- process 1 alone
+first_alone : inserted first_process [] ≡ first_process ∷ []
+unfolding inserted
+first_alone = refl
+
+pub regular_first : (w : World) → 2 ≤ w.pidmax → IsRegular (boot w)
+unfolding lookup IsRising children_in is_in IsDistinct
+regular_first w most = record {
+  rising = (tt, tt);
+  bounded = λ p r e. one p r e;
+  first = record { what = first_process; found = refl; parent = refl };
+  placed = λ p e. elim (p == 1) as (λ b. (p == 1) ≡ b → IsPlaced (first_process ∷ []) p) [
+    | true ↦ λ t. subst (IsPlaced (first_process ∷ [])) (sym (eqb-true _ _ t)) (record { what = first_process; found = refl; living = refl })
+    | false ↦ λ t. let u : (1 == p) ≡ false = ne_eqb _ _ (λ x. eqb-false _ _ t (sym x)) in absurd (let k : false ≡ true = sym (rw u refl) ∙ e in cc)
+  ] refl;
+  distinct = (refl, tt);
+  childless = λ p r ne e z. elim (1 == p) as (λ b. (1 == p) ≡ b → cond b (Some first_process) None ≡ Some r → children_in p (first_process ∷ []) ≡ []) [
+    | true ↦ λ t k. absurd (ne (sym (eqb-true _ _ t)))
+    | false ↦ λ t k. absurd (cc)
+  ] refl e;
+}
+  where
+    one : (p : ℕ) (r : Process) → cond (1 == p) (Some first_process) None ≡ Some r → IsBounded w.pidmax r
+    one p r e = elim (1 == p) as (λ b. cond b (Some first_process) None ≡ Some r → IsBounded w.pidmax r) [
+      | true ↦ λ k. subst (IsBounded w.pidmax) (let same : first_process ≡ r = cc in same) (record { least = omega arith; pid = omega (arith, most); group = omega (arith, most); session = omega (arith, most) })
+      | false ↦ λ k. absurd (cc)
+    ] e
+
+-- a machine with process 1 alone
+pub sound_first : (w : World) (q : Pids) (b : Places) → 2 ≤ w.pidmax → q ≡ born_in (unborne_table w.pidmax) 1 1 1 → q.pidmax ≡ w.pidmax → IsPids q → b.pids ≡ 1 ∷ [] → 1 ≤ b.room
+    → IsSound (state_of w (inserted first_process []) q b 1 0 0 false) q b 1
+sound_first w q b most bore same table order room =
+    let r = regular_first w most in
+    record {
+      regular = rw (order, first_alone) (record { rising = r.rising; bounded = r.bounded; first = r.first; placed = r.placed; distinct = r.distinct; childless = r.childless });
+      kept = record {
+        greatest = same;
+        table = table;
+        tallied = subst (λ x. IsTallied x (inserted first_process [])) (sym bore) (tallied_born (unborne_table w.pidmax) first_process [] (length-replicate _ _) (tallied_unborne w.pidmax));
+        count = ap length (sym first_alone);
+        room = room;
+      };
+    }
+
+-- and it is the machine at boot
+pub first_is_boot : (w : World) (q : Pids) (b : Places) → q.last ≡ 1 → b.pids ≡ 1 ∷ [] → state_of w (inserted first_process []) q b 1 0 0 false ≡ boot w
+first_is_boot w q b last order = rw (order, last, first_alone) refl
+
+-- nobody is there at the start
+pub nobody_there : (p : ℕ) → lookup p [] ≡ None
+unfolding lookup
+nobody_there p = refl

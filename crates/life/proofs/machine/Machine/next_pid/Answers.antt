@@ -1,0 +1,7 @@
+use Rattle.std.proofs.Common.{refl, ap, ◌∙◌}
+use Rattle.posix.specs.States.{State, next_pid}
+use Rattle.life.proofs.SoundLemmas.{next_is}
+use Rattle.life.proofs.machine.Machine.next_pid.Goals as goal
+
+pub returns : goal.returns
+returns g c = c.next.ensures ∙ next_is _ _ _ _ refl c.self.invariant ∙ ap (λ (s : State). next_pid s) c.self.view_is

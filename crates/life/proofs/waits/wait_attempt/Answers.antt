@@ -1,0 +1,51 @@
+use Rattle.std.proofs.Common.{rules, ap, sym, ◌∙◌, to_z, of_z, w64}
+use Rattle.posix.specs.declared.process.Report.TheVariants as found
+use Rattle.posix.specs.Tables.{next_sibling}
+use Rattle.posix.proofs.WaitLemmas.{scan}
+use Rattle.life.proofs.ChildLemmas.{IsAtChild, first_here, first_todo, surely_read, child_less, next_here, reported_here, none_left, unnamed_here, nothing_here}
+use Rattle.life.proofs.waits.wait_attempt.Goals as goal
+use Rattle.life.proofs.waits.wait_attempt.Goals.{in-NoChild, in-Nothing}
+
+pub loop-next-init : goal.loop-next-init
+loop-next-init g c =
+    let up = c.first_child-next.ensures.rising in
+    record {
+      same = c.first_child-next.ensures.contents;
+      room = c.first_child-next.ensures.room;
+      here = first_here _ up c.args.caller _ c.first_child-next.ensures.value;
+      todo = ap (scan c.args.group (to_z w64 (of_z w64 c.args.choice)) c.args.options.0 found.NoChild) (first_todo _ up c.args.caller _ c.first_child-next.ensures.value);
+    }
+
+pub returns-in_default-get-clause-value : goal.returns-in_default-get-clause-value
+returns-in_default-get-clause-value g c = absurd
+    (surely_read _ _ c.args.caller c.in-Some.child _ (record { rising = c.first_child-next.ensures.rising; comes = c.in-Some.is; here = c.loop-next.invariant.here; same = c.loop-next.invariant.same })
+    (sym c.in_default-get.is ∙ c.get.ensures.value))
+
+pub returns-in_default-look-clause-value : goal.returns-in_default-look-clause-value
+returns-in_default-look-clause-value g c = reported_here _ _ c.args.caller c.in-Some.child _ c.args.group (to_z w64 (of_z w64 c.args.choice)) c.args.choice c.args.options.0 _ c.loop-next.found
+    (record { rising = c.first_child-next.ensures.rising; comes = c.in-Some.is; here = c.loop-next.invariant.here; same = c.loop-next.invariant.same })
+    (record { facts = _; read = c.in-Some-get.ensures.value; said = c.look.ensures }) (search rules) c.loop-next.invariant.todo c.in_default-look.not-NoChild c.in_default-look.not-Nothing
+
+pub loop-next-smaller : goal.loop-next-smaller
+loop-next-smaller g c = child_less _ _ c.args.caller c.in-Some.child _ _
+    (record { rising = c.first_child-next.ensures.rising; comes = c.in-Some.is; here = c.loop-next.invariant.here; same = c.loop-next.invariant.same })
+    (c.next_sibling-next.ensures.value ∙ ap (next_sibling c.in-Some.child) (c.in-Some-get.ensures.contents ∙ c.loop-next.invariant.same))
+
+pub loop-next-preserved : goal.loop-next-preserved
+loop-next-preserved g c =
+    let walk : IsAtChild (g.K.Kin.contents c.args.table.now) _ c.args.caller c.in-Some.child c.loop-next.next = record { rising = c.first_child-next.ensures.rising; comes = c.in-Some.is; here = c.loop-next.invariant.here; same = c.loop-next.invariant.same } in
+    let next = c.next_sibling-next.ensures.value ∙ ap (next_sibling c.in-Some.child) (c.in-Some-get.ensures.contents ∙ c.loop-next.invariant.same) in
+    record {
+      same = c.next_sibling-next.ensures.contents ∙ c.in-Some-get.ensures.contents ∙ c.loop-next.invariant.same;
+      room = c.next_sibling-next.ensures.room ∙ c.in-Some-get.ensures.room ∙ c.loop-next.invariant.room;
+      here = next_here _ _ c.args.caller c.in-Some.child _ _ walk next;
+      todo = elim c.match-look.branch [
+        | in-NoChild w ↦ unnamed_here _ _ c.args.caller c.in-Some.child _ _ c.args.group _ c.args.options.0 _ c.loop-next.found _ walk
+            (record { facts = _; read = c.in-Some-get.ensures.value; said = c.look.ensures }) next w.in-NoChild.is w.found-is c.loop-next.invariant.todo
+        | in-Nothing w ↦ nothing_here _ _ c.args.caller c.in-Some.child _ _ c.args.group _ c.args.options.0 _ c.loop-next.found _ walk
+            (record { facts = _; read = c.in-Some-get.ensures.value; said = c.look.ensures }) next w.in-Nothing.is w.found-is c.loop-next.invariant.todo
+      ];
+    }
+
+pub returns-clause-value : goal.returns-clause-value
+returns-clause-value g c = none_left _ c.args.caller _ c.args.group (to_z w64 (of_z w64 c.args.choice)) c.args.choice c.args.options.0 c.loop-next.found c.in_default.is (search rules) c.loop-next.invariant.todo

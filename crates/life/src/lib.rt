@@ -1,0 +1,13 @@
+//! Births, ends and waits, over any table of processes.
+//!
+//! A [`Machine`] holds the state of a world: the processes, the numbers that they bear, and the order in
+//! which they act. Its calls change the state as the definitions say.
+#![tactic(auto)]
+
+mod births;
+mod ends;
+pub mod machine;
+pub mod waits;
+
+pub use machine::Machine;
+pub use waits::wait_attempt;

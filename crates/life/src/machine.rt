@@ -1,0 +1,248 @@
+//! The machine: all that the state of a world consists of.
+
+ghost use Rattle.std.specs.Prelude.{◌≡◌, ◌+◌, ◌<◌, ◌^◌, ◌++◌, ◌∷◌, [], IfOk, IsSome, Some, length, nat_le, option_map, false, true};
+ghost use Rattle.posix.specs.Processes.{Process, argument as argument_of};
+ghost use Rattle.posix.specs.Tables.{next_above};
+ghost use Rattle.posix.specs.States.{boot as boot_of, process, change, current as current_of, lose_place as losing_place, go_last as going_last, has_place as has_place_in};
+ghost use Rattle.posix.specs.Regular.{IsRegular, IsPlaced};
+ghost use Rattle.posix.specs.Execute.{exec_one, StaysUnlessRun};
+ghost use Rattle.posix.specs.Outcomes.{finish as finish_of};
+ghost use Rattle.posix.specs.Step.{code_of, enter as entering, set_cpu, pass_time as passing_time};
+ghost use Rattle.proctable.specs.Body.{facts_of};
+
+use pidalloc::PidTable;
+use posix::{Blocked, Pid, Register, Sig, Trap};
+use proctable::changes::{self, enter_in, finish_in, run_in};
+use proctable::{Body, Facts, Kin};
+use sched::Order;
+use std::alloc::{AllocError, Global};
+use std::marker::Model;
+use umach::World;
+
+/// The state of a world over a table of processes.
+#[derive(Drop)]
+pub struct Machine<K: Kin> {
+    pub(crate) world: World,
+    pub(crate) table: K,
+    pub(crate) pids: PidTable,
+    pub(crate) order: Order,
+    /// How many processes are in the table.
+    pub(crate) records: usize,
+    pub(crate) births: u64,
+    pub(crate) ticks: u64,
+    pub(crate) dropped: u64,
+    pub(crate) halted: bool,
+}
+
+impl<K: Kin> Model for Machine<K> {
+    ghost use Rattle.posix.specs.States.{State};
+    ghost use Rattle.life.specs.Machines.{state_of, IsSound};
+
+    ghost Value = { State };
+
+    ghost view = { λ m. state_of m.world (K.contents m.table) m.pids m.order m.births m.ticks m.dropped m.halted };
+
+    ghost invariant = { λ m. IsSound (state_of m.world (K.contents m.table) m.pids m.order m.births m.ticks m.dropped m.halted) m.pids m.order m.records };
+}
+
+impl<K: Kin> Machine<K> {
+    /// The machine at its start; an error where the host has no memory for it.
+    pub fn boot(alloc: Global, world: &World) -> Result<Self, AllocError>
+        ensures { IfOk result (λ m. m ≡ boot_of world.now) }
+    {
+        let world = world.try_clone(alloc)?;
+        let mut pids = PidTable::new(alloc, world.pidmax())?;
+        let mut table = K::empty(alloc);
+        table.reserve()?;
+        let mut order = Order::new(alloc);
+        order.reserve_one(0)?;
+        let first = Body::first(alloc)?;
+        table.insert(Pid::INIT, Pid::NONE, first);
+        pids.bear_all(Pid::INIT, Pid::INIT, Pid::INIT);
+        order.place(Pid::INIT);
+        Ok(Machine {
+            world,
+            table,
+            pids,
+            order,
+            records: 1,
+            births: 1,
+            ticks: 0,
+            dropped: 0,
+            halted: false,
+        })
+    }
+
+    // ---- what there is
+
+    /// The number of consoles: 0 to 8.
+    pub fn consoles(&self) -> u8
+        ensures { result ≡ self.now.world.consoles }
+    {
+        self.world.consoles()
+    }
+
+    /// Whether the machine has halted.
+    pub fn is_halted(&self) -> bool
+        ensures { result ≡ self.now.halted }
+    {
+        self.halted
+    }
+
+    /// How many processes were born, process 1 included.
+    pub fn births(&self) -> u64
+        ensures { result ≡ self.now.births }
+    {
+        self.births
+    }
+
+    /// How many ended children were dropped, since their parent ignores its children: none yet.
+    pub fn dropped(&self) -> u64
+        ensures { result ≡ self.now.dropped }
+    {
+        self.dropped
+    }
+
+    /// The process that acts next.
+    pub fn current(&self) -> Option<Pid>
+        ensures { result ≡ current_of self.now }
+    {
+        self.order.current()
+    }
+
+    /// Whether a process has a place in the order.
+    pub fn has_place(&self, pid: Pid) -> bool
+        ensures { result ≡ has_place_in self.now pid }
+    {
+        self.order.has(pid)
+    }
+
+    /// Whether there are as many places as processes: then each process has one.
+    pub fn is_full(&self) -> bool
+        ensures value { result ≡ nat_le (length self.now.processes) (length self.now.order) }
+        ensures regular { IsRegular self.now }
+    {
+        self.records <= self.order.len()
+    }
+
+    /// The small fields of a process; none where it isn't there.
+    pub fn facts(&mut self, pid: Pid) -> Option<Facts>
+        ensures value { result ≡ option_map facts_of (process self.old pid) }
+        ensures same { self.new ≡ self.old }
+        ensures regular { IsRegular self.old }
+        ensures size { length self.old.processes < 2 ^ 63 }
+    {
+        self.table.get(pid)
+    }
+
+    /// The process with the least number above `pid`.
+    pub fn next_after(&mut self, pid: Pid) -> Option<Pid>
+        ensures value { result ≡ next_above pid self.old.processes }
+        ensures same { self.new ≡ self.old }
+        ensures regular { IsRegular self.old }
+    {
+        self.table.next_after(pid)
+    }
+
+    /// The parent of a process that is there; number 0 for process 1.
+    pub fn parent(&mut self, pid: Pid) -> Pid
+        requires { IsSome (process self.old pid) }
+        ensures value { (me : Process) → process self.old pid ≡ Some me → result ≡ me.parent }
+        ensures same { self.new ≡ self.old }
+    {
+        match self.table.get(pid) {
+            Some(facts) => facts.parent,
+            None => Pid::NONE,
+        }
+    }
+
+    /// The process group of a process that is there.
+    pub fn group(&mut self, pid: Pid) -> Pid
+        requires { IsSome (process self.old pid) }
+        ensures value { (me : Process) → process self.old pid ≡ Some me → result ≡ me.group }
+        ensures same { self.new ≡ self.old }
+    {
+        match self.table.get(pid) {
+            Some(facts) => facts.group,
+            None => Pid::NONE,
+        }
+    }
+
+    /// A register of a process that is there.
+    pub fn argument(&mut self, pid: Pid, register: Register) -> i64
+        requires { IsSome (process self.old pid) }
+        ensures value { (me : Process) → process self.old pid ≡ Some me → result ≡ argument_of me register }
+        ensures same { self.new ≡ self.old }
+        ensures regular { IsRegular self.old }
+    {
+        changes::argument_of(&mut self.table, pid, register)
+    }
+
+    // ---- changes of one process
+
+    /// Runs the instruction at the pc of a process that is there and runs this program. A call and a
+    /// machine fault change nothing.
+    pub fn run(&mut self, pid: Pid, program: u8) -> Trap
+        requires there { IsSome (process self.old pid) }
+        requires program { (me : Process) → process self.old pid ≡ Some me → me.program ≡ program }
+        ensures trap { (me : Process) → process self.old pid ≡ Some me → result ≡ (exec_one (code_of self.old me) me.cpu).trap }
+        ensures state { (me : Process) → process self.old pid ≡ Some me → self.new ≡ change self.old pid (set_cpu (exec_one (code_of self.old me) me.cpu).cpu) }
+        ensures stays { StaysUnlessRun result self.old self.new }
+    {
+        match self.world.programs().get(usize::from(program)) {
+            Some(program) => run_in(&mut self.table, pid, program),
+            None => Trap::Fault(Sig::SEGV),
+        }
+    }
+
+    /// The call of a process that is there gives a value: it is in r0, the pc moves on, and the process
+    /// is in no call.
+    pub fn finish(&mut self, pid: Pid, value: i64)
+        requires { IsSome (process self.old pid) }
+        ensures { self.new ≡ finish_of self.old pid ((0, value) ∷ []) }
+    {
+        finish_in(&mut self.table, pid, value);
+    }
+
+    /// A process that is there is blocked in a call.
+    pub fn enter(&mut self, pid: Pid, blocked: Blocked)
+        requires { IsSome (process self.old pid) }
+        ensures { self.new ≡ change self.old pid (entering blocked) }
+    {
+        enter_in(&mut self.table, pid, blocked);
+    }
+
+    // ---- places
+
+    /// A process that has no place, and isn't a zombie, gets the last one.
+    pub fn place(&mut self, pid: Pid)
+        requires there { IsPlaced self.old.processes pid }
+        requires none { has_place_in self.old pid ≡ false }
+        ensures { self.new ≡ record self.old { order = self.old.order ++ pid ∷ [] } }
+    {
+        self.order.place(pid);
+    }
+
+    /// A process loses its place, if it has one.
+    pub fn lose_place(&mut self, pid: Pid)
+        ensures { self.new ≡ losing_place self.old pid }
+    {
+        self.order.drop_place(pid);
+    }
+
+    /// A process that has a place gets the last one.
+    pub fn go_last(&mut self, pid: Pid)
+        requires { has_place_in self.old pid ≡ true }
+        ensures { self.new ≡ going_last self.old pid }
+    {
+        self.order.go_last(pid);
+    }
+
+    /// The time goes on by one tick.
+    pub fn pass_time(&mut self)
+        requires { self.old.ticks + 1 < 2 ^ 64 }
+        ensures { self.new ≡ passing_time self.old }
+    {
+        self.ticks += 1;
+    }
+}

@@ -1,0 +1,147 @@
+//! Waits.
+
+ghost use Rattle.std.specs.Prelude.{◌≡◌, ◌≢◌, ◌∷◌, [], IsSome, Some, true, pos};
+ghost use Rattle.posix.specs.Processes.{Process, is_zombie};
+ghost use Rattle.posix.specs.Tables.{lookup, removed};
+ghost use Rattle.posix.specs.States.{process, change};
+ghost use Rattle.posix.specs.Outcomes.{finish};
+ghost use Rattle.posix.specs.Waits.{is_named as is_named_by, report, report_change as report_change_of, report_life as report_life_of, report_of, news_told};
+ghost use Rattle.posix.specs.Waits.{look as look_of};
+ghost use Rattle.proctable.specs.Body.{facts_of};
+
+use crate::machine::Machine;
+use bitflags::Flags;
+use posix::{Life, News, Pid, Report, Status, WaitOptions};
+use proctable::changes::{finish_wait_in, tell_news_in};
+use proctable::{Facts, Kin};
+
+/// Whether a wait with this choice, of a caller in process group `group`, names the child `pid` in process
+/// group `child_group`.
+fn is_named(group: Pid, choice: i64, pid: Pid, child_group: Pid) -> bool
+    ensures { (r : Process) → r.pid ≡ pid → r.group ≡ child_group → result ≡ is_named_by group choice r }
+{
+    match choice {
+        0 => child_group == group,
+        -1 => true,
+        1.. => choice.unsigned_abs() == u64::from(pid.number()),
+        _ => choice.unsigned_abs() == u64::from(child_group.number()),
+    }
+}
+
+/// What the news of a process are for a wait.
+fn report_change(options: WaitOptions, pid: Pid, news: News) -> Report
+    ensures { result ≡ report_change_of options.0 pid news }
+{
+    match news {
+        News::StoppedBy(sig) if options.contains(WaitOptions::WUNTRACED) => {
+            Report::Change(pid, Status::stopped(sig))
+        }
+        News::Continued if options.contains(WaitOptions::WCONTINUED) => {
+            Report::Change(pid, Status::continued())
+        }
+        _ => Report::Nothing,
+    }
+}
+
+/// What a child has to report.
+fn report_life(options: WaitOptions, pid: Pid, life: Life, news: News) -> Report
+    ensures { result ≡ report_life_of options.0 pid life news }
+{
+    match life {
+        Life::Zombie(status) => Report::End(pid, status),
+        Life::Running | Life::Stopped => report_change(options, pid, news),
+    }
+}
+
+/// What a wait learns from one child: `NoChild` where it isn't named.
+#[tactic(auto, unfolding(posix::specs::Waits::report_of, posix::specs::Waits::look))]
+fn look(group: Pid, choice: i64, options: WaitOptions, child: Facts) -> Report
+    ensures { (r : Process) → child ≡ facts_of r → result ≡ look_of group choice options.0 r }
+{
+    if is_named(group, choice, child.pid, child.group) {
+        report_life(options, child.pid, child.life, child.news)
+    } else {
+        Report::NoChild
+    }
+}
+
+/// What a wait has to report: of the children of `caller` that `choice` names, the one with the least
+/// number that has something to report. Above 0 the choice is a child's number, 0 stands for the process
+/// group `group` of the caller, -1 for any child, and a number below -1 for the process group of its
+/// absolute value (XSH waitpid). Nothing changes.
+pub fn wait_attempt<K: Kin>(
+    table: &mut K,
+    caller: Pid,
+    group: Pid,
+    choice: i64,
+    options: WaitOptions,
+) -> Report
+    requires { IsSome (lookup caller (K.contents table.old)) }
+    ensures value { result ≡ report (K.contents table.old) caller group choice options.0 }
+    ensures contents { K.contents table.new ≡ K.contents table.old }
+    ensures room { K.room table.new ≡ K.room table.old }
+{
+    let mut found = Report::NoChild;
+    let mut next = table.first_child(caller);
+    while let Some(child) = next {
+        let Some(facts) = table.get(child) else {
+            return found;
+        };
+        match look(group, choice, options, facts) {
+            Report::NoChild => {}
+            Report::Nothing => found = Report::Nothing,
+            report => return report,
+        }
+        next = table.next_sibling(child);
+    }
+    found
+}
+
+impl<K: Kin> Machine<K> {
+    /// What a wait of a process that is there has to report, by [`wait_attempt`].
+    pub fn wait_attempt(
+        &mut self,
+        caller: Pid,
+        group: Pid,
+        choice: i64,
+        options: WaitOptions,
+    ) -> Report
+        requires { IsSome (process self.old caller) }
+        ensures value { result ≡ report self.old.processes caller group choice options.0 }
+        ensures same { self.new ≡ self.old }
+    {
+        wait_attempt(&mut self.table, caller, group, choice, options)
+    }
+
+    /// The record of a zombie that isn't process 1 goes, and it no longer bears its own number, its
+    /// group's and its session's (XSH waitpid).
+    pub fn collect(&mut self, pid: Pid)
+        requires other { pid ≢ 1 }
+        requires zombie { (child : Process) × (process self.old pid ≡ Some child) × (is_zombie child.life ≡ true) }
+        ensures { self.new ≡ record self.old { processes = removed pid self.old.processes } }
+    {
+        let Some(facts) = self.table.get(pid) else {
+            return;
+        };
+        self.table.remove(pid);
+        self.pids.give_up_all(pid, facts.group, facts.session);
+        self.records -= 1;
+    }
+
+    /// A wait has reported the news of a process that is there: they become none.
+    pub fn tell_news(&mut self, pid: Pid)
+        requires { IsSome (process self.old pid) }
+        ensures { self.new ≡ change self.old pid news_told }
+    {
+        tell_news_in(&mut self.table, pid);
+    }
+
+    /// The wait of a process that is there reports a child: its number is in r0, its status in r1, the pc
+    /// moves on, and the process is in no call (XSH waitpid).
+    pub fn finish_wait(&mut self, pid: Pid, child: Pid, status: Status)
+        requires { IsSome (process self.old pid) }
+        ensures { self.new ≡ finish self.old pid ((0, pos child) ∷ (1, pos status) ∷ []) }
+    {
+        finish_wait_in(&mut self.table, pid, child, status);
+    }
+}

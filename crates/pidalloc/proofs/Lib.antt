@@ -1,0 +1,4 @@
+pub mod RowLemmas
+pub mod FreeLemmas
+pub mod TallyLemmas
+pub mod BagLemmas

@@ -1,0 +1,263 @@
+-- The rows of a table of numbers and the records of the processes that bear them.
+use Rattle.std.proofs.Common.{◌≡◌, ℕ, suc, ◌+◌, ◌<◌, ◌≤◌, ◌^◌, Bool, true, false, cond, not, ◌&&◌, ◌||◌, refl, ap, sym, ◌∙◌, arith, subst, List, [], ◌∷◌, length, map, filter, find, Some, None, ◌==◌, nat_lt}
+use Rattle.std.specs.List.{list_any}
+use Rattle.std.proofs.lemmas.Bool.{eqb-true, eq-eqb, ne_eqb}
+use Rattle.posix.specs.Processes.{Process}
+use Rattle.posix.specs.Tables.{IsRising, lookup, has_pid, inserted, removed, bears}
+use Rattle.posix.specs.NextPid.{is_free, next_free}
+use Rattle.posix.proofs.TableLemmas.{Above, remove_above, pid_looked}
+use Rattle.pidalloc.specs.Rows.{Row, Pids, unborne_table, row, is_free_row, is_free_in, with_row, one_more, one_less, borne, given_up, born_in, gone_from}
+use Rattle.pidalloc.specs.Rows as roles
+use Rattle.pidalloc.specs.Tallies.{tally, IsTallied}
+use Rattle.pidalloc.proofs.FreeLemmas.{next_free_same}
+use Rattle.pidalloc.proofs.RowLemmas.{no_row, row_with_three, same_row, more, less, less_more}
+
+-- ---- free numbers
+
+-- no records are counted where none passes the test
+none_counted : (t : Process → Bool) (rs : List Process) → (length (filter t rs) == 0) ≡ not (list_any t rs)
+none_counted t [] = refl
+none_counted t (r ∷ rs) = elim (t r) as (λ b. (length (cond b (r ∷ filter t rs) (filter t rs)) == 0) ≡ not (b || list_any t rs)) [ true ↦ ne_eqb _ _ (λ e. omega (arith, e)) | false ↦ none_counted t rs ]
+
+-- a record passes one of two tests where one passes the first or one the second
+any_or : (t u : Process → Bool) (rs : List Process) → list_any (λ r. t r || u r) rs ≡ (list_any t rs || list_any u rs)
+any_or t u [] = refl
+any_or t u (r ∷ rs) = elim (t r) as (λ b. ((b || u r) || list_any (λ r. t r || u r) rs) ≡ ((b || list_any t rs) || (u r || list_any u rs))) [
+  | true ↦ refl
+  | false ↦ elim (u r) as (λ b. (b || list_any (λ r. t r || u r) rs) ≡ (list_any t rs || (b || list_any u rs))) [ true ↦ or_true (list_any t rs) | false ↦ any_or t u rs ]
+]
+  where
+    or_true : (b : Bool) → true ≡ (b || true)
+    or_true true = refl
+    or_true false = refl
+
+-- not one or the other is neither
+not_or : (a b : Bool) → not (a || b) ≡ (not a && not b)
+not_or true b = refl
+not_or false b = refl
+
+-- a row that counts nothing is that of a number that no record has
+pub free_row : (rs : List Process) (n : ℕ) → is_free_row (tally n rs) ≡ is_free rs n
+unfolding tally is_free
+free_row rs n =
+    let a = none_counted (λ r. r.pid == n) rs in
+    let b = none_counted (λ r. r.group == n) rs in
+    let c = none_counted (λ r. r.session == n) rs in
+    let all : list_any (bears n) rs ≡ ((list_any (λ r. r.pid == n) rs || list_any (λ r. r.group == n) rs) || list_any (λ r. r.session == n) rs) =
+    any_or (λ r. r.pid == n || r.group == n) (λ r. r.session == n) rs ∙ ap (λ x. x || list_any (λ r. r.session == n) rs) (any_or (λ r. r.pid == n) (λ r. r.group == n) rs) in
+    rw (a, b, c, all) (sym (not_or _ _ ∙ ap (λ x. x && not (list_any (λ r. r.session == n) rs)) (not_or _ _)))
+
+-- the next number is the next that no record has
+pub next_same : (p : Pids) (rs : List Process) → IsTallied p rs → next_free (is_free_in p.rows) p.last p.pidmax ≡ next_free (is_free rs) p.last p.pidmax
+unfolding is_free_in
+next_same p rs t = next_free_same _ _ p.last p.pidmax (λ k l. ap is_free_row (t k l) ∙ free_row rs k)
+
+-- nobody has a free number
+pub free_none : (n : ℕ) (rs : List Process) → is_free rs n ≡ true → lookup n rs ≡ None
+unfolding is_free lookup
+free_none n [] e = refl
+free_none n (r ∷ rs) e = elim (r.pid == n) as (λ b. not (((b || r.group == n) || r.session == n) || list_any (bears n) rs) ≡ true → cond b (Some r) (find (has_pid n) rs) ≡ None) [
+  | true ↦ λ h. absurd (cc)
+  | false ↦ λ h. free_none n rs (rest ((false || r.group == n) || r.session == n) (list_any (bears n) rs) h)
+] e
+  where
+    rest : (a b : Bool) → not (a || b) ≡ true → not b ≡ true
+    rest true b h = absurd (cc)
+    rest false b h = h
+
+-- ---- counts of records
+
+-- a record in front counts the same behind one that comes in
+swap_counted : (t : Process → Bool) (x y : Process) (xs ys : List Process) → length (filter t xs) ≡ length (filter t (y ∷ ys)) → length (filter t (x ∷ xs)) ≡ length (filter t (y ∷ x ∷ ys))
+swap_counted t x y xs ys h = over (t x) (t y) h
+  where
+    over : (a b : Bool) → length (filter t xs) ≡ length (cond b (y ∷ filter t ys) (filter t ys))
+        → length (cond a (x ∷ filter t xs) (filter t xs)) ≡ length (cond b (y ∷ cond a (x ∷ filter t ys) (filter t ys)) (cond a (x ∷ filter t ys) (filter t ys)))
+    over true true h = ap suc h
+    over true false h = ap suc h
+    over false true h = h
+    over false false h = h
+
+-- a record that comes in counts as if it came in front
+pub counted_inserted : (t : Process → Bool) (new : Process) (rs : List Process) → length (filter t (inserted new rs)) ≡ length (filter t (new ∷ rs))
+unfolding inserted
+counted_inserted t new [] = refl
+counted_inserted t new (r ∷ rs) = elim (nat_lt new.pid r.pid) as (λ b. length (filter t (cond b (new ∷ r ∷ rs) (r ∷ inserted new rs))) ≡ length (filter t (new ∷ r ∷ rs))) [
+  | true ↦ refl
+  | false ↦ swap_counted t r new (inserted new rs) rs (counted_inserted t new rs)
+]
+
+-- a record that goes counted as if it went from the front
+pub counted_removed : (t : Process → Bool) (p : ℕ) (r : Process) (rs : List Process) → IsRising rs → lookup p rs ≡ Some r → length (filter t rs) ≡ length (filter t (r ∷ removed p rs))
+unfolding lookup removed IsRising
+counted_removed t p r [] up e = absurd (cc)
+counted_removed t p r (x ∷ xs) up e =
+    elim (x.pid == p) as (λ b. (x.pid == p) ≡ b → cond b (Some x) (find (has_pid p) xs) ≡ Some r
+    → length (filter t (x ∷ xs)) ≡ length (filter t (r ∷ cond (not b) (x ∷ removed p xs) (removed p xs)))) [
+      | true ↦ λ u k.
+          let same : x ≡ r = cc in
+          let gone : removed p xs ≡ xs = remove_above p xs (subst (λ n. Above n xs) (eqb-true _ _ u) up.0) in
+          ap (λ y. length (filter t (y ∷ xs))) same ∙ ap (λ ys. length (filter t (r ∷ ys))) (sym gone)
+      | false ↦ λ u k. swap_counted t x r xs (removed p xs) (counted_removed t p r xs up.1 k)
+    ] refl e
+
+-- changes that leave the test leave the count
+counted_map : (t : Process → Bool) (g : Process → Process) → ((r : Process) → t (g r) ≡ t r) → (rs : List Process) → length (filter t (map g rs)) ≡ length (filter t rs)
+counted_map t g keeps [] = refl
+counted_map t g keeps (r ∷ rs) = rw (keeps r) (elim (t r) as (λ b. length (cond b (g r ∷ filter t (map g rs)) (filter t (map g rs))) ≡ length (cond b (r ∷ filter t rs) (filter t rs))) [
+  | true ↦ ap suc (counted_map t g keeps rs)
+  | false ↦ counted_map t g keeps rs
+])
+
+-- a record that is found and passes the test is counted
+counted_found : (t : Process → Bool) (p : ℕ) (r : Process) (rs : List Process) → t r ≡ true → lookup p rs ≡ Some r → 1 ≤ length (filter t rs)
+unfolding lookup
+counted_found t p r [] h e = absurd (cc)
+counted_found t p r (x ∷ xs) h e =
+    elim (x.pid == p) as (λ b. cond b (Some x) (find (has_pid p) xs) ≡ Some r → 1 ≤ length (filter t (x ∷ xs))) [
+      | true ↦ λ k. let same : x ≡ r = cc in let u : t x ≡ true = ap t same ∙ h in rw u (omega arith)
+      | false ↦ λ k. let i = counted_found t p r xs h k in elim (t x) as (λ b. 1 ≤ length (cond b (x ∷ filter t xs) (filter t xs))) [ true ↦ omega arith | false ↦ i ]
+    ] e
+
+-- no more are counted than there are
+fewer : (t : Process → Bool) (rs : List Process) → length (filter t rs) ≤ length rs
+fewer t [] = omega arith
+fewer t (r ∷ rs) = elim (t r) as (λ b. length (cond b (r ∷ filter t rs) (filter t rs)) ≤ length (r ∷ rs)) [ true ↦ omega (arith, fewer t rs) | false ↦ omega (arith, fewer t rs) ]
+
+-- a test that all pass counts them all
+all_counted : (rs : List Process) → length (filter (λ r. true) rs) ≡ length rs
+all_counted [] = refl
+all_counted (r ∷ rs) = ap suc (all_counted rs)
+
+-- a record that comes in makes one more
+pub length_inserted : (new : Process) (rs : List Process) → length (inserted new rs) ≡ length rs + 1
+length_inserted new rs = let e = counted_inserted (λ r. true) new rs in let f = all_counted (inserted new rs) in let g = all_counted rs in omega (arith, e, f, g)
+
+-- a record that goes makes one less
+pub length_removed : (p : ℕ) (r : Process) (rs : List Process) → IsRising rs → lookup p rs ≡ Some r → length rs ≡ length (removed p rs) + 1
+length_removed p r rs up e = let h = counted_removed (λ r. true) p r rs up e in let f = all_counted rs in let g = all_counted (removed p rs) in omega (arith, h, f, g)
+
+-- ---- tallies
+
+-- the numbers of a record in front are borne once more
+pub tally_more : (n : ℕ) (r : Process) (rs : List Process) → tally n (r ∷ rs) ≡ more (r.pid == n) (r.group == n) (r.session == n) (tally n rs)
+unfolding tally
+tally_more n r rs = over (r.pid == n) (r.group == n) (r.session == n) (filter (λ r. r.pid == n) rs) (filter (λ r. r.group == n) rs) (filter (λ r. r.session == n) rs)
+  where
+    over : (p g s : Bool) (ps gs ss : List Process)
+        → (let left : Row = record { process = length (cond p (r ∷ ps) ps); group = length (cond g (r ∷ gs) gs); session = length (cond s (r ∷ ss) ss) } in left)
+        ≡ more p g s (record { process = length ps; group = length gs; session = length ss })
+    over true true true ps gs ss = same_row _ _ (omega arith) (omega arith) (omega arith)
+    over true true false ps gs ss = same_row _ _ (omega arith) (omega arith) refl
+    over true false true ps gs ss = same_row _ _ (omega arith) refl (omega arith)
+    over true false false ps gs ss = same_row _ _ (omega arith) refl refl
+    over false true true ps gs ss = same_row _ _ refl (omega arith) (omega arith)
+    over false true false ps gs ss = same_row _ _ refl (omega arith) refl
+    over false false true ps gs ss = same_row _ _ refl refl (omega arith)
+    over false false false ps gs ss = refl
+
+-- the numbers of a record that comes in are borne once more
+pub tally_inserted : (n : ℕ) (new : Process) (rs : List Process) → tally n (inserted new rs) ≡ more (new.pid == n) (new.group == n) (new.session == n) (tally n rs)
+unfolding tally
+tally_inserted n new rs =
+    same_row _ _ (counted_inserted (λ r. r.pid == n) new rs) (counted_inserted (λ r. r.group == n) new rs) (counted_inserted (λ r. r.session == n) new rs) ∙ tally_more n new rs
+
+-- those of one that goes are given up once
+pub tally_removed : (n p : ℕ) (r : Process) (rs : List Process) → IsRising rs → lookup p rs ≡ Some r → tally n (removed p rs) ≡ less (r.pid == n) (r.group == n) (r.session == n) (tally n rs)
+unfolding tally
+tally_removed n p r rs up e =
+    let front : tally n rs ≡ tally n (r ∷ removed p rs) =
+    same_row _ _ (counted_removed (λ r. r.pid == n) p r rs up e) (counted_removed (λ r. r.group == n) p r rs up e) (counted_removed (λ r. r.session == n) p r rs up e) in
+    sym (ap (less (r.pid == n) (r.group == n) (r.session == n)) (front ∙ tally_more n r (removed p rs)) ∙ less_more (r.pid == n) (r.group == n) (r.session == n) (tally n (removed p rs)))
+
+-- other changes of records leave the tallies
+pub tally_map : (n : ℕ) (g : Process → Process) → ((r : Process) → (g r).pid ≡ r.pid) → ((r : Process) → (g r).group ≡ r.group) → ((r : Process) → (g r).session ≡ r.session)
+    → (rs : List Process) → tally n (map g rs) ≡ tally n rs
+unfolding tally
+tally_map n g pid group session rs = same_row _ _
+    (counted_map (λ r. r.pid == n) g (λ r. ap (λ m. m == n) (pid r)) rs)
+    (counted_map (λ r. r.group == n) g (λ r. ap (λ m. m == n) (group r)) rs)
+    (counted_map (λ r. r.session == n) g (λ r. ap (λ m. m == n) (session r)) rs)
+
+-- no count of a row is above k
+pub record IsWithin (k : ℕ) (r : Row) : Type 0 where
+  pub process : r.process ≤ k
+  pub group : r.group ≤ k
+  pub session : r.session ≤ k
+
+-- no count is above the number of records
+pub tally_within : (n : ℕ) (rs : List Process) → IsWithin (length rs) (tally n rs)
+unfolding tally
+tally_within n rs = record { process = fewer (λ r. r.pid == n) rs; group = fewer (λ r. r.group == n) rs; session = fewer (λ r. r.session == n) rs }
+
+-- the numbers of a record that is there are borne
+pub record IsCounted (rs : List Process) (pid : ℕ) (r : Process) : Type 0 where
+  pub process : 1 ≤ (tally pid rs).process
+  pub group : 1 ≤ (tally r.group rs).group
+  pub session : 1 ≤ (tally r.session rs).session
+
+-- the three numbers of who is found are counted
+pub tally_found : (pid : ℕ) (r : Process) (rs : List Process) → lookup pid rs ≡ Some r → IsCounted rs pid r
+unfolding tally
+tally_found pid r rs e = record {
+  process = counted_found (λ q. q.pid == pid) pid r rs (eq-eqb _ _ (pid_looked pid rs r e)) e;
+  group = counted_found (λ q. q.group == r.group) pid r rs (eq-eqb _ _ refl) e;
+  session = counted_found (λ q. q.session == r.session) pid r rs (eq-eqb _ _ refl) e;
+}
+
+-- ---- a whole birth, and a whole removal
+
+-- what a table needs before three numbers are borne, and before they are given up
+pub record CanBear (p : Pids) (n group session : ℕ) : Type 0 where
+  pub pid_count : (row p.rows n).process < 4294967295
+  pub group_count : (row p.rows group).group < 4294967295
+  pub session_count : (row p.rows session).session < 4294967295
+
+pub record CanGiveUp (p : Pids) (n group session : ℕ) : Type 0 where
+  pub pid_count : 1 ≤ (row p.rows n).process
+  pub group_count : 1 ≤ (row p.rows group).group
+  pub session_count : 1 ≤ (row p.rows session).session
+
+-- a table that counts few enough records can bear three numbers more
+pub can_bear : (p : Pids) (rs : List Process) → IsTallied p rs → length rs < 2 ^ 31 → (pid group session : ℕ) → pid ≤ p.pidmax → group ≤ p.pidmax → session ≤ p.pidmax → CanBear p pid group session
+can_bear p rs t l pid group session a b c = record {
+  pid_count = let w = (tally_within pid rs).process in let e = ap (λ (r : Row). r.process) (t pid a) in omega (arith, w, e, l);
+  group_count = let w = (tally_within group rs).group in let e = ap (λ (r : Row). r.group) (t group b) in omega (arith, w, e, l);
+  session_count = let w = (tally_within session rs).session in let e = ap (λ (r : Row). r.session) (t session c) in omega (arith, w, e, l);
+}
+
+-- the three numbers of a record that is there can be given up
+pub can_give_up : (p : Pids) (rs : List Process) → IsTallied p rs → (pid : ℕ) (r : Process) → lookup pid rs ≡ Some r → pid ≤ p.pidmax → r.group ≤ p.pidmax → r.session ≤ p.pidmax
+    → CanGiveUp p pid r.group r.session
+can_give_up p rs t pid r e a b c = let f = tally_found pid r rs e in record {
+  pid_count = let l = f.process in let g = ap (λ (r : Row). r.process) (t pid a) in omega (arith, l, g);
+  group_count = let l = f.group in let g = ap (λ (r : Row). r.group) (t r.group b) in omega (arith, l, g);
+  session_count = let l = f.session in let g = ap (λ (r : Row). r.session) (t r.session c) in omega (arith, l, g);
+}
+
+-- at the start the rows count no records
+pub tallied_unborne : (pidmax : ℕ) → IsTallied (unborne_table pidmax) []
+unfolding tally
+tallied_unborne pidmax = λ n l. no_row (pidmax + 1) n
+
+-- after a birth the rows count the records with the new one
+pub tallied_born : (p : Pids) (new : Process) (rs : List Process) → length p.rows ≡ p.pidmax + 1 → IsTallied p rs → IsTallied (born_in p new.pid new.group new.session) (inserted new rs)
+unfolding born_in borne
+tallied_born p new rs size t = λ q l.
+    row_with_three p.rows new.pid new.group new.session q (one_more roles.Process) (one_more roles.Group) (one_more roles.Session) (omega (arith, size, l))
+    ∙ ap (more (new.pid == q) (new.group == q) (new.session == q)) (t q l) ∙ sym (tally_inserted q new rs)
+
+-- after a removal they count the others
+pub tallied_gone : (p : Pids) (pid : ℕ) (r : Process) (rs : List Process) → length p.rows ≡ p.pidmax + 1 → IsRising rs → IsTallied p rs → lookup pid rs ≡ Some r
+    → IsTallied (gone_from p pid r.group r.session) (removed pid rs)
+unfolding gone_from given_up
+tallied_gone p pid r rs size up t e = λ q l.
+    let named = pid_looked pid rs r e in
+    row_with_three p.rows pid r.group r.session q (one_less roles.Process) (one_less roles.Group) (one_less roles.Session) (omega (arith, size, l))
+    ∙ ap (less (pid == q) (r.group == q) (r.session == q)) (t q l)
+    ∙ ap (λ n. less (n == q) (r.group == q) (r.session == q) (tally q rs)) (sym named) ∙ sym (tally_removed q pid r rs up e)
+
+-- other changes of records leave a table that counts them
+pub tallied_map : (p : Pids) (g : Process → Process) → ((r : Process) → (g r).pid ≡ r.pid) → ((r : Process) → (g r).group ≡ r.group) → ((r : Process) → (g r).session ≡ r.session)
+    → (rs : List Process) → IsTallied p rs → IsTallied p (map g rs)
+tallied_map p g pid group session rs t = λ n l. t n l ∙ sym (tally_map n g pid group session rs)

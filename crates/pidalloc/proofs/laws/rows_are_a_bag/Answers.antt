@@ -1,0 +1,8 @@
+use Rattle.pidalloc.proofs.BagLemmas.{counts, next_after}
+use Rattle.pidalloc.proofs.laws.rows_are_a_bag.Goals as goal
+
+pub returns-clause-counts : goal.returns-clause-counts
+returns-clause-counts c = counts
+
+pub returns-clause-next : goal.returns-clause-next
+returns-clause-next c = next_after

@@ -1,0 +1,53 @@
+-- The rows of a table as a bag of numbers, each in a role.
+use Rattle.std.specs.Prelude.{ℕ, ◌≤◌, ◌==◌, ◌&&◌, Bool, true, false, List, [], ◌∷◌, length, filter}
+use Rattle.pidalloc.specs.Rows.{Role, Process, Group, Session, Pids, row, count_of, borne, given_up}
+
+pub data Change : Type 0 where
+  Bear : ℕ → Role → Change
+  GiveUp : ℕ → Role → Change
+
+abbrev pub after_one : Pids → Change → Pids
+after_one p (Bear n role) = borne p n role
+after_one p (GiveUp n role) = given_up p n role
+
+unfoldable pub after : Pids → List Change → Pids
+after p [] = p
+after p (c ∷ cs) = after (after_one p c) cs
+
+-- the number is in the table, and borne where it is given up
+abbrev pub IsAllowed : Pids → Change → Type 0
+IsAllowed p (Bear n role) = n ≤ p.pidmax
+IsAllowed p (GiveUp n role) = (n ≤ p.pidmax) × (1 ≤ count_of role (row p.rows n))
+
+unfoldable pub AreAllowed : Pids → List Change → Type 0
+AreAllowed p [] = Unit {0}
+AreAllowed p (c ∷ cs) = IsAllowed p c × AreAllowed (after_one p c) cs
+
+abbrev pub same_role : Role → Role → Bool
+same_role Process Process = true
+same_role Group Group = true
+same_role Session Session = true
+same_role a b = false
+
+abbrev pub bears_it : Role → ℕ → Change → Bool
+bears_it role n (Bear m other) = m == n && same_role role other
+bears_it role n (GiveUp m other) = false
+
+abbrev pub gives_it_up : Role → ℕ → Change → Bool
+gives_it_up role n (Bear m other) = false
+gives_it_up role n (GiveUp m other) = m == n && same_role role other
+
+-- how often the number n was borne in a role
+unfoldable pub times_borne : Role → ℕ → List Change → ℕ
+times_borne role n cs = length (filter (bears_it role n) cs)
+
+-- how often it was given up
+unfoldable pub times_given_up : Role → ℕ → List Change → ℕ
+times_given_up role n cs = length (filter (gives_it_up role n) cs)
+
+abbrev pub is_even : Role → ℕ → List Change → Bool
+is_even role n cs = times_borne role n cs == times_given_up role n cs
+
+-- nobody bears n: in each role it was given up as often as borne
+unfoldable pub is_free_after : List Change → ℕ → Bool
+is_free_after cs n = is_even Process n cs && is_even Group n cs && is_even Session n cs

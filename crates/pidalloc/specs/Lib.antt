@@ -1,0 +1,3 @@
+pub mod Rows
+pub mod Tallies
+pub mod Bags

@@ -1,0 +1,16 @@
+-- Rows that count the records of processes.
+use Rattle.std.specs.Prelude.{◌≡◌, ℕ, ◌≤◌, ◌==◌, List, length, filter}
+use Rattle.posix.specs.Processes.{Process}
+use Rattle.pidalloc.specs.Rows.{Row, Pids, row}
+
+-- how often n is the number of a process, of its group and of its session
+unfoldable pub tally : ℕ → List Process → Row
+tally n rs = record {
+  process = length (filter (λ r. r.pid == n) rs);
+  group = length (filter (λ r. r.group == n) rs);
+  session = length (filter (λ r. r.session == n) rs);
+}
+
+-- each row counts the records
+abbrev pub IsTallied : Pids → List Process → Type 0
+IsTallied p rs = (n : ℕ) → n ≤ p.pidmax → row p.rows n ≡ tally n rs

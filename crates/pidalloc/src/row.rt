@@ -1,0 +1,65 @@
+//! How often one number is borne.
+
+ghost use Rattle.std.specs.Prelude.{◌≡◌, ◌<◌, ◌≤◌};
+ghost use Rattle.pidalloc.specs.Rows.{is_free_row, count_of, one_more, one_less};
+
+/// What a number is borne as: by a process, as its own number, that of its process group or that of
+/// its session (XBD 3 Process ID, Process Group ID, Session).
+#[derive(Clone, Copy, Debug, PartialEq, Eq)]
+pub enum Role {
+    Process,
+    Group,
+    Session,
+}
+
+/// How many processes bear a number, as each of the three.
+#[derive(Clone, Copy, Debug, PartialEq, Eq)]
+pub struct Row {
+    pub process: u32,
+    pub group: u32,
+    pub session: u32,
+}
+
+impl Row {
+    /// The row of a number that nobody bears.
+    pub fn unborne() -> Row
+        ensures { result ≡ record { process = 0; group = 0; session = 0 } }
+    {
+        Row {
+            process: 0,
+            group: 0,
+            session: 0,
+        }
+    }
+
+    /// Whether nobody bears the number.
+    pub fn is_free(self) -> bool
+        ensures { result ≡ is_free_row self }
+    {
+        self.process == 0 && self.group == 0 && self.session == 0
+    }
+
+    /// One process more bears it in this role.
+    pub fn bear(&mut self, role: Role)
+        requires { count_of role self.old < 4294967295 }
+        ensures { self.new ≡ one_more role self.old }
+    {
+        match role {
+            Role::Process => self.process += 1,
+            Role::Group => self.group += 1,
+            Role::Session => self.session += 1,
+        }
+    }
+
+    /// One process less bears it in this role.
+    pub fn give_up(&mut self, role: Role)
+        requires { 1 ≤ count_of role self.old }
+        ensures { self.new ≡ one_less role self.old }
+    {
+        match role {
+            Role::Process => self.process -= 1,
+            Role::Group => self.group -= 1,
+            Role::Session => self.session -= 1,
+        }
+    }
+}

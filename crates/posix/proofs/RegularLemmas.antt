@@ -1,0 +1,347 @@
+-- What keeps a state regular.
+use Rattle.std.proofs.Common.{◌≡◌, ◌≢◌, ℕ, ◌≤◌, true, false, cond, not, ◌||◌, refl, ap, sym, ◌∙◌, arith, subst, List, [], ◌∷◌, map, filter, find, Some, None, ◌==◌, nat_lt, inl, inr, ℤ}
+use Rattle.std.specs.List.{list_any}
+use Rattle.std.proofs.lemmas.Bool.{eqb-true, eqb-false, eq-eqb, ne_eqb, cases_eq}
+use Rattle.posix.specs.declared.process.Blocked.{Blocked}
+use Rattle.posix.specs.Processes.{Process, Cpu, is_zombie}
+use Rattle.posix.specs.Tables.{lookup, has_pid, at, changed, inserted, removed, is_child, children_in, reparented, adopted}
+use Rattle.posix.specs.States.{State, is_in, without, change, lose_place}
+use Rattle.posix.specs.Regular.{IsRegular, IsBounded, IsDistinct}
+use Rattle.posix.specs.Outcomes.{finished}
+use Rattle.posix.specs.Ends.{make_zombie, buried, halt, depart}
+use Rattle.posix.specs.Waits.{news_told}
+use Rattle.posix.specs.Step.{set_cpu, enter}
+use Rattle.posix.proofs.TableLemmas.{rising_map, rising_changed, rising_adopted, rising_inserted, rising_removed, pid_reparented, pid_looked}
+use Rattle.posix.proofs.MapLemmas.{at_pid, lookup_back, lookup_on, adopted_changed, children_map, children_adopted, children_elsewhere}
+
+-- a change that keeps all that a regular state asks of a record
+pub record Keeps (g : Process → Process) : Type 0 where
+  pub pid : (r : Process) → (g r).pid ≡ r.pid
+  pub parent : (r : Process) → (g r).parent ≡ r.parent
+  pub group : (r : Process) → (g r).group ≡ r.group
+  pub session : (r : Process) → (g r).session ≡ r.session
+  pub zombie : (r : Process) → is_zombie (g r).life ≡ is_zombie r.life
+
+-- made to one process only, such a change is one too
+pub keeps_at : (p : ℕ) (f : Process → Process) → Keeps f → Keeps (at p f)
+keeps_at p f k = record {
+  pid = λ r. grind (arith, k.pid r);
+  parent = λ r. grind (arith, k.parent r);
+  group = λ r. grind (arith, k.group r);
+  session = λ r. grind (arith, k.session r);
+  zombie = λ r. elim (r.pid == p) as (λ b. is_zombie (cond b (f r) r).life ≡ is_zombie r.life) [ true ↦ k.zombie r | false ↦ refl ];
+}
+
+-- numbers within their range stay so
+bounded_as : (m : ℕ) (r q : Process) → IsBounded m q → r.pid ≡ q.pid → r.group ≡ q.group → r.session ≡ q.session → IsBounded m r
+bounded_as m r q b p g s = record { least = omega (arith, b.least); pid = omega (arith, b.pid); group = omega (arith, b.group); session = omega (arith, b.session) }
+
+-- a state stays regular by such a change of each record
+pub regular_map : (g : Process → Process) → Keeps g → (s : State) → IsRegular s → IsRegular (record s { processes = map g s.processes })
+regular_map g k s i = record {
+  rising = rising_map g k.pid s.processes i.rising;
+  bounded = λ p r e.
+      let b = lookup_back g k.pid p s.processes r e in
+      bounded_as s.world.pidmax r b.what (i.bounded p b.what b.found) (ap (λ (r : Process). r.pid) b.is ∙ k.pid b.what)
+      (ap (λ (r : Process). r.group) b.is ∙ k.group b.what) (ap (λ (r : Process). r.session) b.is ∙ k.session b.what);
+  first = record { what = g i.first.what; found = lookup_on g k.pid 1 s.processes i.first.what i.first.found; parent = k.parent i.first.what ∙ i.first.parent };
+  placed = λ p e. let o = i.placed p e in record { what = g o.what; found = lookup_on g k.pid p s.processes o.what o.found; living = k.zombie o.what ∙ o.living };
+  distinct = i.distinct;
+  childless = λ p r ne e z.
+      let b = lookup_back g k.pid p s.processes r e in
+      let old : is_zombie b.what.life ≡ true = sym (k.zombie b.what) ∙ ap (λ (r : Process). is_zombie r.life) (sym b.is) ∙ z in
+      children_map g k.parent p s.processes ∙ ap (map g) (i.childless p b.what ne b.found old);
+}
+
+-- a state stays regular by such a change of one record
+pub regular_change : (p : ℕ) (f : Process → Process) → Keeps f → (s : State) → IsRegular s → IsRegular (change s p f)
+unfolding changed
+regular_change p f k s i = regular_map (at p f) (keeps_at p f k) s i
+
+-- ---- the order
+
+-- who is in what is left is another, and was there
+pub record IsOther (p q : ℕ) (o : List ℕ) : Type 0 where
+  pub apart : q ≢ p
+  pub among : is_in q o ≡ true
+
+-- who is in the order without p is not p, and was in the order
+pub in_without : (p q : ℕ) (o : List ℕ) → is_in q (without p o) ≡ true → IsOther p q o
+unfolding is_in without
+in_without p q [] e = absurd (cc)
+in_without p q (x ∷ xs) e = elim (x == p) as (λ b. (x == p) ≡ b → list_any (λ y. y == q) (cond (not b) (x ∷ filter (λ y. not (y == p)) xs) (filter (λ y. not (y == p)) xs)) ≡ true → IsOther p q (x ∷ xs)) [
+  | true ↦ λ t h. let i = in_without p q xs h in record { apart = i.apart; among = grind (arith, i.among) }
+  | false ↦ λ t h. elim (x == q) as (λ b. (x == q) ≡ b → (b || list_any (λ y. y == q) (filter (λ y. not (y == p)) xs)) ≡ true → IsOther p q (x ∷ xs)) [
+    | true ↦ λ u k. record { apart = λ same. eqb-false _ _ t (eqb-true _ _ u ∙ same); among = rw u refl }
+    | false ↦ λ u k. let i = in_without p q xs k in record { apart = i.apart; among = rw u i.among }
+  ] refl h
+] refl e
+
+-- who is not in the order is not in what is left of it
+not_in_without : (p q : ℕ) (o : List ℕ) → is_in q o ≡ false → is_in q (without p o) ≡ false
+unfolding is_in without
+not_in_without p q [] e = e
+not_in_without p q (x ∷ xs) e = grind (arith, not_in_without p q xs)
+
+-- what is left of an order names nobody twice
+pub distinct_without : (p : ℕ) (o : List ℕ) → IsDistinct o → IsDistinct (without p o)
+unfolding IsDistinct without
+distinct_without p [] d = tt
+distinct_without p (x ∷ xs) d = elim (x == p) as (λ b. IsDistinct (cond (not b) (x ∷ filter (λ q. not (q == p)) xs) (filter (λ q. not (q == p)) xs))) [
+  | true ↦ distinct_without p xs d.1
+  | false ↦ (not_in_without p x xs d.0, distinct_without p xs d.1)
+]
+
+-- a state stays regular where a process loses its place in the order
+pub regular_lose : (p : ℕ) (s : State) → IsRegular s → IsRegular (lose_place s p)
+regular_lose p s i = record {
+  rising = i.rising;
+  bounded = i.bounded;
+  first = i.first;
+  placed = λ q e. i.placed q (in_without p q s.order e).among;
+  distinct = distinct_without p s.order i.distinct;
+  childless = i.childless;
+}
+
+-- ---- ends
+
+-- the record of another process stays
+pub lookup_other : (p q : ℕ) (f : Process → Process) → ((r : Process) → (f r).pid ≡ r.pid) → q ≢ p → (rs : List Process) (r : Process) → lookup q rs ≡ Some r → lookup q (changed p f rs) ≡ Some r
+unfolding changed
+lookup_other p q f k ne rs r e =
+    let named : r.pid ≡ q = pid_looked q rs r e in
+    let away : (r.pid == p) ≡ false = ne_eqb _ _ (λ x. ne (sym named ∙ x)) in
+    lookup_on (at p f) (at_pid p f k) q rs r e ∙ ap Some (rw away refl)
+
+-- and was the same
+pub other_back : (p q : ℕ) (f : Process → Process) → ((r : Process) → (f r).pid ≡ r.pid) → q ≢ p → (rs : List Process) (r : Process) → lookup q (changed p f rs) ≡ Some r → lookup q rs ≡ Some r
+unfolding changed
+other_back p q f k ne rs r e =
+    let b = lookup_back (at p f) (at_pid p f k) q rs r e in
+    let named : b.what.pid ≡ q = pid_looked q rs b.what b.found in
+    let away : (b.what.pid == p) ≡ false = ne_eqb _ _ (λ x. ne (sym named ∙ x)) in
+    let same : r ≡ b.what = b.is ∙ rw away refl in
+    b.found ∙ ap Some (sym same)
+
+-- A process that is changed, to a zombie say, and loses its place: all others are as they were.
+pub regular_leave : (p : ℕ) (f : Process → Process) → ((r : Process) → (f r).pid ≡ r.pid) → ((r : Process) → (f r).parent ≡ r.parent)
+    → ((r : Process) → (f r).group ≡ r.group) → ((r : Process) → (f r).session ≡ r.session)
+    → (s : State) → IsRegular s → (p ≢ 1 → children_in p s.processes ≡ []) → IsRegular (lose_place (change s p f) p)
+unfolding changed
+regular_leave p f kp kq kg ks s i none = record {
+  rising = rising_changed p f kp s.processes i.rising;
+  bounded = λ q r e.
+      let b = lookup_back (at p f) (at_pid p f kp) q s.processes r e in
+      bounded_as s.world.pidmax r b.what (i.bounded q b.what b.found) (ap (λ (r : Process). r.pid) b.is ∙ at_pid p f kp b.what)
+      (ap (λ (r : Process). r.group) b.is ∙ group_at b.what) (ap (λ (r : Process). r.session) b.is ∙ session_at b.what);
+  first = record { what = at p f i.first.what; found = lookup_on (at p f) (at_pid p f kp) 1 s.processes i.first.what i.first.found; parent = parent_at i.first.what ∙ i.first.parent };
+  placed = λ q e.
+      let other = in_without p q s.order e in
+      let o = i.placed q other.among in
+      record { what = o.what; found = lookup_other p q f kp other.apart s.processes o.what o.found; living = o.living };
+  distinct = distinct_without p s.order i.distinct;
+  childless = λ q r ne e z. children_map (at p f) parent_at q s.processes ∙ ap (map (at p f)) (elim (cases_eq q p) [
+    | inl same ↦ subst (λ n. children_in n s.processes ≡ []) (sym same) (none (λ x. ne (same ∙ x)))
+    | inr away ↦ i.childless q r ne (other_back p q f kp away s.processes r e) z
+  ]);
+}
+  where
+    parent_at : (r : Process) → (at p f r).parent ≡ r.parent
+    parent_at r = grind (arith, kq r)
+
+    group_at : (r : Process) → (at p f r).group ≡ r.group
+    group_at r = grind (arith, kg r)
+
+    session_at : (r : Process) → (at p f r).session ≡ r.session
+    session_at r = grind (arith, ks r)
+
+-- the children of p, which is not process 1, go to process 1
+pub regular_adopted : (p : ℕ) → 1 ≤ p → p ≢ 1 → (s : State) → IsRegular s → IsRegular (record s { processes = adopted p 1 s.processes })
+unfolding adopted
+regular_adopted p least ne s i = record {
+  rising = rising_adopted p 1 s.processes i.rising;
+  bounded = λ q r e.
+      let b = lookup_back (reparented p 1) (pid_reparented p 1) q s.processes r e in
+      bounded_as s.world.pidmax r b.what (i.bounded q b.what b.found) (ap (λ (r : Process). r.pid) b.is ∙ pid_reparented p 1 b.what)
+      (ap (λ (r : Process). r.group) b.is ∙ group_reparented b.what) (ap (λ (r : Process). r.session) b.is ∙ session_reparented b.what);
+  first = record {
+    what = reparented p 1 i.first.what;
+    found = lookup_on (reparented p 1) (pid_reparented p 1) 1 s.processes i.first.what i.first.found;
+    parent = let t : (i.first.what.parent == p) ≡ false = ne_eqb _ _ (λ x. omega (arith, least, i.first.parent, x)) in rw t i.first.parent;
+  };
+  placed = λ q e.
+      let o = i.placed q e in
+      record { what = reparented p 1 o.what; found = lookup_on (reparented p 1) (pid_reparented p 1) q s.processes o.what o.found; living = ap is_zombie (life_reparented o.what) ∙ o.living };
+  distinct = i.distinct;
+  childless = λ q r other e z.
+      let b = lookup_back (reparented p 1) (pid_reparented p 1) q s.processes r e in
+      let old : is_zombie b.what.life ≡ true = sym (ap is_zombie (ap (λ (r : Process). r.life) b.is ∙ life_reparented b.what)) ∙ z in
+      children_elsewhere p 1 q other s.processes (i.childless q b.what other b.found old);
+}
+  where
+    group_reparented : (r : Process) → (reparented p 1 r).group ≡ r.group
+    group_reparented r = grind arith
+
+    session_reparented : (r : Process) → (reparented p 1 r).session ≡ r.session
+    session_reparented r = grind arith
+
+    life_reparented : (r : Process) → (reparented p 1 r).life ≡ r.life
+    life_reparented r = elim (r.parent == p) as (λ b. (cond b (record r { parent = 1 }) r).life ≡ r.life) [ true ↦ refl | false ↦ refl ]
+
+-- a burial and an adoption of one record may come in either order
+commutes : (p w : ℕ) (r : Process) → buried w (reparented p 1 r) ≡ reparented p 1 (buried w r)
+unfolding buried
+commutes p w r = elim (r.parent == p) as (λ b. buried w (cond b (record r { parent = 1 }) r) ≡ cond b (record (buried w r) { parent = 1 }) (buried w r)) [ true ↦ refl | false ↦ refl ]
+
+-- a state stays regular where a process other than process 1 departs
+pub regular_depart : (p w : ℕ) → 1 ≤ p → p ≢ 1 → (s : State) → IsRegular s → IsRegular (depart s p w)
+unfolding buried
+regular_depart p w least ne s i =
+    let given = record s { processes = adopted p 1 s.processes } in
+    let left = regular_leave p (buried w) (λ r. refl) (λ r. refl) (λ r. refl) (λ r. refl) given (regular_adopted p least ne s i)
+    (λ other. children_adopted p 1 (λ x. ne (sym x)) s.processes) in
+    subst (λ rs. IsRegular (record s { processes = rs; order = without p s.order })) (adopted_changed p 1 p (buried w) (commutes p w) s.processes) left
+
+-- a state stays regular where the machine halts
+pub regular_halt : (w : ℕ) (s : State) → IsRegular s → IsRegular (halt s w)
+unfolding make_zombie
+regular_halt w s i =
+    let left = regular_leave 1 (make_zombie w) (λ r. refl) (λ r. refl) (λ r. refl) (λ r. refl) s i (λ ne. absurd (ne refl)) in
+    record { rising = left.rising; bounded = left.bounded; first = left.first; placed = left.placed; distinct = left.distinct; childless = left.childless }
+
+-- ---- births and collections
+
+-- the record of another process stays where a new one goes in
+pub lookup_inserted : (new : Process) (q : ℕ) (rs : List Process) → q ≢ new.pid → lookup q (inserted new rs) ≡ lookup q rs
+unfolding lookup inserted
+lookup_inserted new q [] ne = rw (ne_eqb new.pid q (λ e. ne (sym e))) refl
+lookup_inserted new q (r ∷ rs) ne = elim (nat_lt new.pid r.pid) as (λ b. find (has_pid q) (cond b (new ∷ r ∷ rs) (r ∷ inserted new rs)) ≡ find (has_pid q) (r ∷ rs)) [
+  | true ↦ rw (ne_eqb new.pid q (λ e. ne (sym e))) refl
+  | false ↦ elim (r.pid == q) as (λ b. cond b (Some r) (find (has_pid q) (inserted new rs)) ≡ cond b (Some r) (find (has_pid q) rs)) [ true ↦ refl | false ↦ lookup_inserted new q rs ne ]
+]
+
+-- the new one is found by its pid
+pub lookup_new : (new : Process) (rs : List Process) → lookup new.pid rs ≡ None → lookup new.pid (inserted new rs) ≡ Some new
+unfolding lookup inserted
+lookup_new new [] e = rw (eq-eqb new.pid new.pid refl) refl
+lookup_new new (r ∷ rs) e = elim (nat_lt new.pid r.pid) as (λ b. find (has_pid new.pid) (cond b (new ∷ r ∷ rs) (r ∷ inserted new rs)) ≡ Some new) [
+  | true ↦ rw (eq-eqb new.pid new.pid refl) refl
+  | false ↦ elim (r.pid == new.pid) as (λ b. cond b (Some r) (find (has_pid new.pid) rs) ≡ None → cond b (Some r) (find (has_pid new.pid) (inserted new rs)) ≡ Some new) [ true ↦ λ k. absurd (cc) | false ↦ λ k. lookup_new new rs k ] e
+]
+
+-- who has no child gets none by the birth of another's
+children_inserted : (new : Process) (q : ℕ) (rs : List Process) → new.parent ≢ q → children_in q rs ≡ [] → children_in q (inserted new rs) ≡ []
+unfolding children_in inserted
+children_inserted new q [] ne e = rw (ne_eqb new.parent q ne) refl
+children_inserted new q (r ∷ rs) ne e = elim (nat_lt new.pid r.pid) as (λ b. filter (is_child q) (cond b (new ∷ r ∷ rs) (r ∷ inserted new rs)) ≡ []) [
+  | true ↦ rw (ne_eqb new.parent q ne) e
+  | false ↦ elim (r.parent == q) as (λ b. cond b (r ∷ filter (is_child q) rs) (filter (is_child q) rs) ≡ [] → cond b (r ∷ filter (is_child q) (inserted new rs)) (filter (is_child q) (inserted new rs)) ≡ []) [
+    | true ↦ λ k. absurd (cc)
+    | false ↦ λ k. children_inserted new q rs ne k
+  ] e
+]
+
+-- A living record that is new goes in, with a parent that is living, and the other counts may change.
+pub regular_inserted : (new : Process) (last births : ℕ) (s : State) → IsRegular s → lookup new.pid s.processes ≡ None → IsBounded s.world.pidmax new → is_zombie new.life ≡ false
+    → (me : Process) → lookup new.parent s.processes ≡ Some me → is_zombie me.life ≡ false
+    → IsRegular (record s { processes = inserted new s.processes; last_pid = last; births = births })
+regular_inserted new last births s i fresh bounds living me there up = record {
+  rising = rising_inserted new s.processes i.rising fresh;
+  bounded = λ q r e. elim (cases_eq q new.pid) [
+    | inl same ↦
+        let one : new ≡ r = let both = sym (lookup_new new s.processes fresh) ∙ ap (λ n. lookup n (inserted new s.processes)) (sym same) ∙ e in cc in
+        subst (IsBounded s.world.pidmax) one bounds
+    | inr away ↦ i.bounded q r (sym (lookup_inserted new q s.processes away) ∙ e)
+  ];
+  first = record { what = i.first.what; found = still 1 i.first.what i.first.found; parent = i.first.parent };
+  placed = λ q e. let o = i.placed q e in record { what = o.what; found = still q o.what o.found; living = o.living };
+  distinct = i.distinct;
+  childless = λ q r ne e z. elim (cases_eq q new.pid) [
+    | inl same ↦
+        let one : new ≡ r = let both = sym (lookup_new new s.processes fresh) ∙ ap (λ n. lookup n (inserted new s.processes)) (sym same) ∙ e in cc in
+        let both : false ≡ true = sym living ∙ ap (λ (r : Process). is_zombie r.life) one ∙ z in
+        absurd (cc)
+    | inr away ↦
+        let old : lookup q s.processes ≡ Some r = sym (lookup_inserted new q s.processes away) ∙ e in
+        children_inserted new q s.processes (λ x.
+        let one : me ≡ r = let both = sym there ∙ ap (λ n. lookup n s.processes) x ∙ old in cc in
+        let both : false ≡ true = sym up ∙ ap (λ (r : Process). is_zombie r.life) one ∙ z in
+        absurd (cc)) (i.childless q r ne old z)
+  ];
+}
+  where
+    -- who was there is there
+    still : (q : ℕ) (r : Process) → lookup q s.processes ≡ Some r → lookup q (inserted new s.processes) ≡ Some r
+    still q r e = lookup_inserted new q s.processes (λ x. let both = sym e ∙ ap (λ n. lookup n s.processes) x ∙ fresh in absurd (cc)) ∙ e
+
+-- the record of another process stays where one is removed
+pub lookup_kept : (p q : ℕ) (rs : List Process) → q ≢ p → lookup q (removed p rs) ≡ lookup q rs
+unfolding lookup removed
+lookup_kept p q [] ne = refl
+lookup_kept p q (r ∷ rs) ne = elim (r.pid == p) as (λ b. (r.pid == p) ≡ b → find (has_pid q) (cond (not b) (r ∷ filter (λ r. not (r.pid == p)) rs) (filter (λ r. not (r.pid == p)) rs)) ≡ find (has_pid q) (r ∷ rs)) [
+  | true ↦ λ t. let away : (r.pid == q) ≡ false = ne_eqb _ _ (λ x. ne (sym x ∙ eqb-true _ _ t)) in rw away (lookup_kept p q rs ne)
+  | false ↦ λ t. elim (r.pid == q) as (λ b. cond b (Some r) (find (has_pid q) (filter (λ r. not (r.pid == p)) rs)) ≡ cond b (Some r) (find (has_pid q) rs)) [ true ↦ refl | false ↦ lookup_kept p q rs ne ]
+] refl
+
+-- the one that is removed is not found
+pub lookup_removed : (p : ℕ) (rs : List Process) → lookup p (removed p rs) ≡ None
+unfolding lookup removed
+lookup_removed p [] = refl
+lookup_removed p (r ∷ rs) = elim (r.pid == p) as (λ b. (r.pid == p) ≡ b → find (has_pid p) (cond (not b) (r ∷ filter (λ r. not (r.pid == p)) rs) (filter (λ r. not (r.pid == p)) rs)) ≡ None) [
+  | true ↦ λ t. lookup_removed p rs
+  | false ↦ λ t. rw t (lookup_removed p rs)
+] refl
+
+-- who has no child gets none
+children_removed : (p q : ℕ) (rs : List Process) → children_in q rs ≡ [] → children_in q (removed p rs) ≡ []
+unfolding children_in removed
+children_removed p q [] e = refl
+children_removed p q (r ∷ rs) e = elim (r.parent == q) as (λ b. (r.parent == q) ≡ b → cond b (r ∷ filter (is_child q) rs) (filter (is_child q) rs) ≡ [] → filter (is_child q) (cond (not (r.pid == p)) (r ∷ filter (λ r. not (r.pid == p)) rs) (filter (λ r. not (r.pid == p)) rs)) ≡ []) [
+  | true ↦ λ t k. absurd (cc)
+  | false ↦ λ t k. elim (r.pid == p) as (λ b. filter (is_child q) (cond (not b) (r ∷ filter (λ r. not (r.pid == p)) rs) (filter (λ r. not (r.pid == p)) rs)) ≡ []) [
+    | true ↦ children_removed p q rs k
+    | false ↦ rw t (children_removed p q rs k)
+  ]
+] refl e
+
+-- the record of a zombie other than process 1 goes
+pub regular_removed : (p : ℕ) (zombie : Process) (s : State) → IsRegular s → p ≢ 1 → lookup p s.processes ≡ Some zombie → is_zombie zombie.life ≡ true → IsRegular (record s { processes = removed p s.processes })
+regular_removed p zombie s i other there dead = record {
+  rising = rising_removed p s.processes i.rising;
+  bounded = λ q r e. i.bounded q r (was q r e);
+  first = record { what = i.first.what; found = lookup_kept p 1 s.processes (λ x. other (sym x)) ∙ i.first.found; parent = i.first.parent };
+  placed = λ q e.
+      let o = i.placed q e in
+      let apart : q ≢ p = (λ x.
+      let one : o.what ≡ zombie = let both = sym o.found ∙ ap (λ n. lookup n s.processes) x ∙ there in cc in
+      let both : false ≡ true = sym o.living ∙ ap (λ (r : Process). is_zombie r.life) one ∙ dead in
+      absurd (cc)) in
+      record { what = o.what; found = lookup_kept p q s.processes apart ∙ o.found; living = o.living };
+  distinct = i.distinct;
+  childless = λ q r ne e z. children_removed p q s.processes (i.childless q r ne (was q r e) z);
+}
+  where
+    was : (q : ℕ) (r : Process) → lookup q (removed p s.processes) ≡ Some r → lookup q s.processes ≡ Some r
+    was q r e = sym (lookup_kept p q s.processes (λ x. let both = sym (lookup_removed p s.processes) ∙ ap (λ n. lookup n (removed p s.processes)) (sym x) ∙ e in absurd (cc))) ∙ e
+
+-- ---- changes that keep
+
+-- a call that ends with its results keeps what a regular state asks
+pub keeps_finished : (results : List (ℕ × ℤ)) → Keeps (finished results)
+unfolding finished
+keeps_finished results = record { pid = λ r. refl; parent = λ r. refl; group = λ r. refl; session = λ r. refl; zombie = λ r. refl }
+
+-- so does another content of the cpu
+pub keeps_set_cpu : (c : Cpu) → Keeps (set_cpu c)
+unfolding set_cpu
+keeps_set_cpu c = record { pid = λ r. refl; parent = λ r. refl; group = λ r. refl; session = λ r. refl; zombie = λ r. refl }
+
+-- so does a process that blocks in a call
+pub keeps_enter : (b : Blocked) → Keeps (enter b)
+unfolding enter
+keeps_enter b = record { pid = λ r. refl; parent = λ r. refl; group = λ r. refl; session = λ r. refl; zombie = λ r. refl }
+
+-- so do news that are told
+pub keeps_news_told : Keeps news_told
+unfolding news_told
+keeps_news_told = record { pid = λ r. refl; parent = λ r. refl; group = λ r. refl; session = λ r. refl; zombie = λ r. refl }

@@ -1,0 +1,76 @@
+-- A wait that looks at one child after another.
+use Rattle.std.proofs.Common.{◌≡◌, ℕ, Bool, true, false, cond, refl, sym, List, [], ◌∷◌, filter, find, Some, ℤ}
+use Rattle.posix.specs.declared.process.Life.{Life}
+use Rattle.posix.specs.declared.process.Life.TheVariants.{Running, Stopped, Zombie}
+use Rattle.posix.specs.declared.process.News.{News}
+use Rattle.posix.specs.declared.process.News.TheVariants as news
+use Rattle.posix.specs.declared.process.Report.{Report}
+use Rattle.posix.specs.declared.process.Report.TheVariants as found
+use Rattle.posix.specs.Statuses.{stopped, continued}
+use Rattle.posix.specs.Processes.{Process}
+use Rattle.posix.specs.Waits.{is_named, is_something, has_option, WUNTRACED, WCONTINUED, report_change, report_life, report_of, reports, report_found, report_among, look}
+
+-- what a look makes of what was found so far: it ends the search, or the rest follows
+abbrev pub after_look : Report → Report → (Report → Report) → Report
+after_look found.NoChild so_far rest = rest so_far
+after_look found.Nothing so_far rest = rest found.Nothing
+after_look (found.End p w) so_far rest = found.End p w
+after_look (found.Change p w) so_far rest = found.Change p w
+
+unfoldable pub scan : ℕ → ℤ → ℕ → Report → List Process → Report
+scan group choice options so_far [] = so_far
+scan group choice options so_far (r ∷ rs) = after_look (look group choice options r) so_far (λ s. scan group choice options s rs)
+
+abbrev is_no_child : Report → Bool
+is_no_child found.NoChild = true
+is_no_child found.Nothing = false
+is_no_child (found.End p w) = false
+is_no_child (found.Change p w) = false
+
+-- a child is a child, whatever it reports
+either : (b : Bool) (p w : ℕ) → is_no_child (cond b (found.Change p w) found.Nothing) ≡ false
+either true p w = refl
+either false p w = refl
+
+change_is_there : (options p : ℕ) (n : News) → is_no_child (report_change options p n) ≡ false
+change_is_there options p news.Nothing = refl
+change_is_there options p (news.StoppedBy s) = either (has_option options WUNTRACED) p (stopped s)
+change_is_there options p news.Continued = either (has_option options WCONTINUED) p continued
+
+life_is_there : (options p : ℕ) (l : Life) (n : News) → is_no_child (report_life options p l n) ≡ false
+life_is_there options p Running n = change_is_there options p n
+life_is_there options p Stopped n = change_is_there options p n
+life_is_there options p (Zombie w) n = refl
+
+is_there : (options : ℕ) (r : Process) → is_no_child (report_of options r) ≡ false
+unfolding report_of
+is_there options r = life_is_there options r.pid r.life r.news
+
+-- one child that is named, and then the others
+one_named : (o : Report) (rest : Report → Report) (options : ℕ) (r : Process) (rs : List Process) → report_of options r ≡ o → is_no_child o ≡ false
+    → rest found.Nothing ≡ report_found options (find (reports options) rs) → (so_far : Report)
+    → after_look o so_far rest ≡ report_found options (cond (is_something o) (Some r) (find (reports options) rs))
+one_named found.NoChild rest options r rs e child h so_far = absurd (cc)
+one_named found.Nothing rest options r rs e child h so_far = h
+one_named (found.End p w) rest options r rs e child h so_far = sym e
+one_named (found.Change p w) rest options r rs e child h so_far = sym e
+
+-- where one is named already
+scan_found : (group : ℕ) (choice : ℤ) (options : ℕ) (rs : List Process) → scan group choice options found.Nothing rs ≡ report_found options (find (reports options) (filter (is_named group choice) rs))
+unfolding scan look
+scan_found group choice options [] = refl
+scan_found group choice options (r ∷ rs) = elim (is_named group choice r) as (λ b. after_look (cond b (report_of options r) found.NoChild) found.Nothing (λ s. scan group choice options s rs)
+    ≡ report_found options (find (reports options) (cond b (r ∷ filter (is_named group choice) rs) (filter (is_named group choice) rs)))) [
+      | true ↦ one_named (report_of options r) (λ s. scan group choice options s rs) options r (filter (is_named group choice) rs) refl (is_there options r) (scan_found group choice options rs) found.Nothing
+      | false ↦ scan_found group choice options rs
+    ]
+
+-- looking at one after another finds what the definition names
+pub scan_is_report : (group : ℕ) (choice : ℤ) (options : ℕ) (rs : List Process) → scan group choice options found.NoChild rs ≡ report_among options (filter (is_named group choice) rs)
+unfolding scan look
+scan_is_report group choice options [] = refl
+scan_is_report group choice options (r ∷ rs) = elim (is_named group choice r) as (λ b. after_look (cond b (report_of options r) found.NoChild) found.NoChild (λ s. scan group choice options s rs)
+    ≡ report_among options (cond b (r ∷ filter (is_named group choice) rs) (filter (is_named group choice) rs))) [
+      | true ↦ one_named (report_of options r) (λ s. scan group choice options s rs) options r (filter (is_named group choice) rs) refl (is_there options r) (scan_found group choice options rs) found.NoChild
+      | false ↦ scan_is_report group choice options rs
+    ]

@@ -1,0 +1,37 @@
+-- What holds of every state that the machine reaches: the type of a machine keeps it.
+use Rattle.std.specs.Prelude.{◌≡◌, ◌≢◌, ℕ, ◌≤◌, true, false, List, [], ◌∷◌, Some}
+use Rattle.posix.specs.Processes.{Process, is_zombie}
+use Rattle.posix.specs.Tables.{IsRising, lookup, children_in}
+use Rattle.posix.specs.States.{State, is_in}
+
+-- the numbers of a record are within their range
+pub record IsBounded (pidmax : ℕ) (r : Process) : Type 0 where
+  pub least : 1 ≤ r.pid
+  pub pid : r.pid ≤ pidmax
+  pub group : r.group ≤ pidmax
+  pub session : r.session ≤ pidmax
+
+-- process 1 is there, without a parent
+pub record HasFirst (rs : List Process) : Type 0 where
+  pub what : Process
+  pub found : lookup 1 rs ≡ Some what
+  pub parent : what.parent ≡ 0
+
+-- who has a place is there, and no zombie
+pub record IsPlaced (rs : List Process) (p : ℕ) : Type 0 where
+  pub what : Process
+  pub found : lookup p rs ≡ Some what
+  pub living : is_zombie what.life ≡ false
+
+-- each number once
+unfoldable pub IsDistinct : List ℕ → Type 0
+IsDistinct [] = Unit {0}
+IsDistinct (p ∷ ps) = (is_in p ps ≡ false) × IsDistinct ps
+
+pub record IsRegular (s : State) : Type 0 where
+  pub rising : IsRising s.processes
+  pub bounded : (p : ℕ) (r : Process) → lookup p s.processes ≡ Some r → IsBounded s.world.pidmax r
+  pub first : HasFirst s.processes
+  pub placed : (p : ℕ) → is_in p s.order ≡ true → IsPlaced s.processes p
+  pub distinct : IsDistinct s.order
+  pub childless : (p : ℕ) (r : Process) → p ≢ 1 → lookup p s.processes ≡ Some r → is_zombie r.life ≡ true → children_in p s.processes ≡ []

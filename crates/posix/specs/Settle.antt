@@ -1,0 +1,37 @@
+-- After each event: a place for each process that can act.
+use Rattle.std.specs.Prelude.{ℕ, Bool, true, false, ◌&&◌, not, if◌then◌else◌, [], ◌∷◌, ◌++◌, filter, Option, Some, None}
+use Rattle.posix.specs.declared.process.Blocked.{Blocked}
+use Rattle.posix.specs.Processes.{Process, is_running}
+use Rattle.posix.specs.Tables.{pids}
+use Rattle.posix.specs.States.{State, process, has_place}
+use Rattle.posix.specs.Outcomes.{Attempted, Done, Block}
+use Rattle.posix.specs.Attempts.{attempt_again}
+
+abbrev pub is_block : Attempted → Bool
+is_block (Block b) = true
+is_block (Done outcome) = false
+
+-- it is in no call, or its call needn't wait any longer
+abbrev pub can_go_on : State → Process → Option Blocked → Bool
+can_go_on s r None = true
+can_go_on s r (Some b) = not (is_block (attempt_again s r b))
+
+-- No signal can be pending or chosen yet.
+unfoldable pub can_act : State → Process → Bool
+can_act s r = is_running r.life && can_go_on s r r.blocked
+
+abbrev pub wakes : State → Process → Bool
+wakes s r = not (has_place s r.pid) && can_act s r
+
+-- The places are given at the end of the order, in the rising order of the numbers. All processes are
+-- asked. A process that had a place and can't act any more keeps the place until its turn (own).
+unfoldable pub settle : State → State
+settle s = record s { order = s.order ++ pids (filter (wakes s) s.processes) }
+
+-- one process is asked: p gets the last place if it wakes
+abbrev pub woken_if : State → Option Process → State
+woken_if s None = s
+woken_if s (Some r) = if wakes s r then record s { order = s.order ++ r.pid ∷ [] } else s
+
+unfoldable pub woken : State → ℕ → State
+woken s p = woken_if s (process s p)

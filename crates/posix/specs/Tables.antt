@@ -1,0 +1,81 @@
+-- The processes of a machine as a list in rising order of their numbers, and what is done to it.
+use Rattle.std.specs.Prelude.{ℕ, ◌<◌, ◌==◌, Bool, ◌||◌, not, if◌then◌else◌, nat_le, nat_lt, List, [], ◌∷◌, map, filter, find, Option, Some, None}
+use Rattle.std.specs.Option.{option_map_or}
+use Rattle.std.specs.List.{AllByRecursion}
+use Rattle.posix.specs.Processes.{Process}
+
+-- each number once, rising
+unfoldable pub IsRising : List Process → Type 0
+IsRising [] = Unit {0}
+IsRising (r ∷ rs) = AllByRecursion (λ q. r.pid < q.pid) rs × IsRising rs
+
+-- ---- one record
+
+abbrev pub has_pid : ℕ → Process → Bool
+has_pid p r = r.pid == p
+
+unfoldable pub lookup : ℕ → List Process → Option Process
+lookup p rs = find (has_pid p) rs
+
+abbrev pub at : ℕ → (Process → Process) → Process → Process
+at p f r = if r.pid == p then f r else r
+
+-- the record of p changed
+unfoldable pub changed : ℕ → (Process → Process) → List Process → List Process
+changed p f rs = map (at p f) rs
+
+unfoldable pub inserted : Process → List Process → List Process
+inserted new [] = new ∷ []
+inserted new (r ∷ rs) = if nat_lt new.pid r.pid then new ∷ r ∷ rs else r ∷ inserted new rs
+
+unfoldable pub removed : ℕ → List Process → List Process
+removed p rs = filter (λ r. not (r.pid == p)) rs
+
+abbrev pub pids : List Process → List ℕ
+pids rs = map (λ r. r.pid) rs
+
+-- the least number, where there is one
+abbrev pub first_pid : List Process → Option ℕ
+first_pid [] = None
+first_pid (r ∷ rs) = Some r.pid
+
+abbrev pub above : ℕ → List Process → List Process
+above n rs = filter (λ r. nat_lt n r.pid) rs
+
+-- the least number above n
+unfoldable pub next_above : ℕ → List Process → Option ℕ
+next_above n rs = first_pid (above n rs)
+
+-- ---- children
+
+abbrev pub is_child : ℕ → Process → Bool
+is_child p r = r.parent == p
+
+-- the children of p, zombies included, XBD 3 Child Process
+unfoldable pub children_in : ℕ → List Process → List Process
+children_in p rs = filter (is_child p) rs
+
+abbrev pub parent_of : ℕ → List Process → ℕ
+parent_of p rs = option_map_or (λ r. r.parent) (lookup p rs) 0
+
+-- the next of the children of its parent
+unfoldable pub next_sibling : ℕ → List Process → Option ℕ
+next_sibling c rs = first_pid (above c (children_in (parent_of c rs) rs))
+
+abbrev pub reparented : ℕ → ℕ → Process → Process
+reparented from to r = if r.parent == from then record r { parent = to } else r
+
+-- the children of one process become those of another
+unfoldable pub adopted : ℕ → ℕ → List Process → List Process
+adopted from to rs = map (reparented from to) rs
+
+-- what is left of a list, from the number that comes next
+abbrev pub left_of : Option ℕ → List Process → List Process
+left_of None rs = []
+left_of (Some n) rs = filter (λ r. nat_le n r.pid) rs
+
+-- ---- numbers
+
+-- a process, a process group or a session has the number n as long as r is there, zombies included
+abbrev pub bears : ℕ → Process → Bool
+bears n r = r.pid == n || r.group == n || r.session == n

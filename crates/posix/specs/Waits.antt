@@ -1,0 +1,115 @@
+-- Waits, XSH waitpid and waitpid(2).
+use Rattle.std.specs.Prelude.{ℕ, zero, suc, ◌+◌, ◌==◌, Bool, true, false, if◌then◌else◌, List, [], ◌∷◌, filter, find, Option, Some, None, ℤ, pos, negsuc, bit_and}
+use Rattle.std.specs.Int.{cast_unsigned, w64}
+use Rattle.posix.specs.declared.instr.Call.TheVariants.{Waitpid}
+use Rattle.posix.specs.declared.errno.Errno.TheVariants.{EINVAL, ECHILD}
+use Rattle.posix.specs.declared.entry.Entry.TheVariants.{Reported}
+use Rattle.posix.specs.declared.process.Life.{Life}
+use Rattle.posix.specs.declared.process.Life.TheVariants.{Running, Stopped, Zombie}
+use Rattle.posix.specs.declared.process.News.{News}
+use Rattle.posix.specs.declared.process.News.TheVariants as news
+use Rattle.posix.specs.declared.process.Blocked.TheVariants as blocked
+use Rattle.posix.specs.declared.process.Report.{Report}
+use Rattle.posix.specs.declared.process.Report.TheVariants as found
+use Rattle.posix.specs.Statuses.{stopped, continued}
+use Rattle.posix.specs.Processes.{Process, argument}
+use Rattle.posix.specs.Tables.{removed, children_in}
+use Rattle.posix.specs.States.{State, change}
+use Rattle.posix.specs.Outcomes.{Attempted, Done, Block, gives, refused, finish}
+
+-- ---- options
+
+abbrev pub WNOHANG : ℕ
+WNOHANG = 1
+
+abbrev pub WUNTRACED : ℕ
+WUNTRACED = 2
+
+abbrev pub WCONTINUED : ℕ
+WCONTINUED = 8
+
+-- a register as a set of options: all 64 bits count (own)
+abbrev pub options_in : ℤ → ℕ
+options_in z = cast_unsigned w64 z
+
+abbrev pub are_known : ℕ → Bool
+are_known options = bit_and options (WNOHANG + WUNTRACED + WCONTINUED) == options
+
+abbrev pub has_option : ℕ → ℕ → Bool
+has_option options option = bit_and options option == option
+
+-- ---- what there is to report
+
+-- A child is named by a choice: above 0 by its number, 0 the caller's process group, -1 any, below -1
+-- the process group of the absolute value.
+abbrev pub is_named : ℕ → ℤ → Process → Bool
+is_named group (pos zero) r = r.group == group
+is_named group (pos (suc n)) r = r.pid == suc n
+is_named group (negsuc zero) r = true
+is_named group (negsuc (suc n)) r = r.group == n + 2
+
+abbrev pub report_change : ℕ → ℕ → News → Report
+report_change options p news.Nothing = found.Nothing
+report_change options p (news.StoppedBy s) = if has_option options WUNTRACED then found.Change p (stopped s) else found.Nothing
+report_change options p news.Continued = if has_option options WCONTINUED then found.Change p continued else found.Nothing
+
+abbrev pub report_life : ℕ → ℕ → Life → News → Report
+report_life options p Running change = report_change options p change
+report_life options p Stopped change = report_change options p change
+report_life options p (Zombie status) change = found.End p status
+
+-- what a child has to report
+unfoldable pub report_of : ℕ → Process → Report
+report_of options r = report_life options r.pid r.life r.news
+
+abbrev pub is_something : Report → Bool
+is_something found.NoChild = false
+is_something found.Nothing = false
+is_something (found.End p status) = true
+is_something (found.Change p status) = true
+
+abbrev pub reports : ℕ → Process → Bool
+reports options r = is_something (report_of options r)
+
+abbrev pub report_found : ℕ → Option Process → Report
+report_found options None = found.Nothing
+report_found options (Some r) = report_of options r
+
+-- of the named children the least that has something to report
+abbrev pub report_among : ℕ → List Process → Report
+report_among options [] = found.NoChild
+report_among options (r ∷ rs) = report_found options (find (reports options) (r ∷ rs))
+
+-- what a caller of this number and process group finds
+unfoldable pub report : List Process → ℕ → ℕ → ℤ → ℕ → Report
+report rs caller group choice options = report_among options (filter (is_named group choice) (children_in caller rs))
+
+-- what one child says: it isn't named, or this is its report
+unfoldable pub look : ℕ → ℤ → ℕ → Process → Report
+look group choice options r = if is_named group choice r then report_of options r else found.NoChild
+
+-- ---- the call
+
+unfoldable pub news_told : Process → Process
+news_told r = record r { news = news.Nothing }
+
+-- the call of p reports a child with a status
+abbrev pub gives_report : State → ℕ → ℕ → ℕ → Attempted
+gives_report s p child status = Done (record {
+  state = finish s p ((0, pos child) ∷ (1, pos status) ∷ []);
+  entries = Reported p child status ∷ [];
+})
+
+-- The record of a child that ended goes; of another one the news become none.
+abbrev pub wait_with : State → ℕ → ℕ → Report → Attempted
+wait_with s p options found.NoChild = refused s p Waitpid ECHILD
+wait_with s p options found.Nothing = if has_option options WNOHANG then gives s p Waitpid (pos 0) else Block blocked.Waitpid
+wait_with s p options (found.End child status) = gives_report (record s { processes = removed child s.processes }) p child status
+wait_with s p options (found.Change child status) = gives_report (change s child news_told) p child status
+
+-- the choice is in r1, the options are in r2
+unfoldable pub wait : State → Process → Attempted
+wait s me =
+    let options = options_in (argument me 2) in
+    if are_known options then wait_with s me.pid options (report s.processes me.pid me.group (argument me 1) options)
+    else refused s me.pid Waitpid EINVAL

@@ -1,0 +1,2 @@
+pub mod Bodies
+pub mod SlotLemmas

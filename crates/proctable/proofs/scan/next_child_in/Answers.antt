@@ -1,0 +1,9 @@
+use Rattle.std.proofs.Common.{◌∙◌, ◌+◌}
+use Rattle.std.proofs.lemmas.List.{take_rest}
+use Rattle.proctable.proofs.SlotLemmas.{first_is, sibling_is}
+use Rattle.proctable.proofs.scan.next_child_in.Goals as goal
+
+pub returns : goal.returns
+returns c =
+    rw (c.first_child_in.ensures, c.parent.ensures, take_rest c.args.slots.now (c.found-at.result + 1))
+    (first_is _ _ ∙ sibling_is c.args.slots.now c.requires.rising c.args.pid c.found-at.result c.index-slots-at.result c.found-at.ensures c.index-slots-at.is)

@@ -1,0 +1,24 @@
+//! The small fields of a process.
+
+use posix::{Blocked, Life, News, Pid};
+
+/// The fields of a process that a reader gets by value.
+#[derive(Clone, Copy, Debug, PartialEq, Eq)]
+pub struct Facts {
+    /// Its own number.
+    pub pid: Pid,
+    /// Its parent's number; 0 for process 1.
+    pub parent: Pid,
+    /// Its process group (XBD 3 Process Group ID).
+    pub group: Pid,
+    /// Its session, by the number of the leader (XBD 3 Session).
+    pub session: Pid,
+    /// Whether it runs, is stopped or has ended.
+    pub life: Life,
+    /// What no wait has reported of it yet (XSH waitpid).
+    pub news: News,
+    /// The call that it waits in.
+    pub blocked: Option<Blocked>,
+    /// Its place among the programs of the world.
+    pub program: u8,
+}

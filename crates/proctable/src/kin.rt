@@ -1,0 +1,130 @@
+//! What a table of processes has to do.
+
+ghost use Rattle.std.specs.Prelude.{◌≡◌, ◌+◌, ◌^◌, ◌<◌, ◌≤◌, ◌⊎◌, ℕ, Bool, [], List, None, Some, IsSome, IsTrue, OnOk, option_map, length};
+ghost use Rattle.std.specs.Borrow.{sem, Lends};
+ghost use Rattle.posix.specs.Processes.{Process};
+ghost use Rattle.posix.specs.Tables.{IsRising, lookup, inserted, removed, children_in, first_pid, next_above, next_sibling, parent_of, adopted};
+ghost use Rattle.proctable.specs.declared.body.Body.{Body};
+ghost use Rattle.proctable.specs.Body.{process_of, facts_of, with_body, body_row};
+
+use crate::body::Body;
+use crate::facts::Facts;
+use posix::Pid;
+use std::alloc::{AllocError, Global};
+
+/// A table of processes, zombies included, seen as the list of their records in rising order of their
+/// numbers.
+///
+/// Methods that take a `&mut` ensure that this order rises in the table that they are given. Those that
+/// only read leave the processes and the room unchanged.
+pub trait Kin: Drop {
+    /// The processes.
+    ghost contents: { Self → List Process };
+
+    /// How many more processes can be put in without memory.
+    ghost room: { Self → ℕ };
+
+    /// How many slots have been read.
+    ghost reads: { Self → ℕ };
+
+    /// Whether the table counts the slots that it reads. Then the bounds on `reads` hold.
+    ghost counts: { Bool };
+
+    /// The table with another body for a process, whose slot was read once.
+    ghost put: { Self → ℕ → Body → Self };
+
+    /// A table without processes. It takes no memory.
+    fn empty(alloc: Global) -> Self
+        ensures contents { contents result ≡ [] }
+        ensures reads { reads result ≡ 0 };
+
+    /// Makes room for one more process. At an error the host has no memory for it, and the processes are
+    /// unchanged.
+    fn reserve(&mut self) -> Result<(), AllocError>
+        ensures ok { OnOk result (0 < room self.new) }
+        ensures rising { IsRising (contents self.old) }
+        ensures room { room self.old ≤ room self.new }
+        ensures contents { contents self.new ≡ contents self.old }
+        ensures reads { reads self.new ≡ reads self.old };
+
+    /// Puts in a process that isn't there, where there is room for one. Its parent is there, or number 0.
+    /// The others are unchanged.
+    fn insert(&mut self, pid: Pid, parent: Pid, body: Body)
+        requires room { 0 < room self.old }
+        requires fresh { lookup pid (contents self.old) ≡ None }
+        requires parent { (parent ≡ 0) ⊎ IsSome (lookup parent (contents self.old)) }
+        ensures rising { IsRising (contents self.old) }
+        ensures contents { contents self.new ≡ inserted (process_of pid parent body) (contents self.old) }
+        ensures room { room self.old ≤ room self.new + 1 };
+
+    /// The small fields of a process; none where it isn't there.
+    fn get(&mut self, pid: Pid) -> Option<Facts>
+        ensures value { result ≡ option_map facts_of (lookup pid (contents self.old)) }
+        ensures rising { IsRising (contents self.old) }
+        ensures size { length (contents self.old) < 2 ^ 63 }
+        ensures contents { contents self.new ≡ contents self.old }
+        ensures room { room self.new ≡ room self.old }
+        ensures reads { IsTrue counts → reads self.new ≤ reads self.old + 1 };
+
+    /// All of a process that is there but its number and its parent's, for the caller to change. The
+    /// other processes and the room are unchanged.
+    fn update(&mut self, pid: Pid) -> &mut Body
+        requires { IsSome (lookup pid (contents self.old)) }
+        ensures* lends { sem 𝓛 (Lends Self.row body_row self.entry result (put self.old pid)) }
+        ensures rising { IsRising (contents self.old) }
+        ensures value { lookup pid (contents self.old) ≡ Some (process_of pid (parent_of pid (contents self.old)) result.now) };
+
+    /// Takes out a process without children; nothing changes where it isn't there.
+    fn remove(&mut self, pid: Pid)
+        requires { children_in pid (contents self.old) ≡ [] }
+        ensures rising { IsRising (contents self.old) }
+        ensures contents { contents self.new ≡ removed pid (contents self.old) }
+        ensures room { room self.old ≤ room self.new };
+
+    /// The child of a process that is there with the least number; none where it has no child.
+    fn first_child(&mut self, pid: Pid) -> Option<Pid>
+        requires { IsSome (lookup pid (contents self.old)) }
+        ensures value { result ≡ first_pid (children_in pid (contents self.old)) }
+        ensures rising { IsRising (contents self.old) }
+        ensures contents { contents self.new ≡ contents self.old }
+        ensures room { room self.new ≡ room self.old }
+        ensures reads { IsTrue counts → reads self.new ≤ reads self.old + 1 };
+
+    /// Of the children of the same parent, the one with the least number above that of a process that is
+    /// there; none where there is no such child.
+    fn next_sibling(&mut self, pid: Pid) -> Option<Pid>
+        requires { IsSome (lookup pid (contents self.old)) }
+        ensures value { result ≡ next_sibling pid (contents self.old) }
+        ensures rising { IsRising (contents self.old) }
+        ensures contents { contents self.new ≡ contents self.old }
+        ensures room { room self.new ≡ room self.old }
+        ensures reads { IsTrue counts → reads self.new ≤ reads self.old + 1 };
+
+    /// The process with the least number above `pid`, which need not be there; none where there is none.
+    fn next_after(&mut self, pid: Pid) -> Option<Pid>
+        ensures value { result ≡ next_above pid (contents self.old) }
+        ensures rising { IsRising (contents self.old) }
+        ensures contents { contents self.new ≡ contents self.old }
+        ensures room { room self.new ≡ room self.old }
+        ensures reads { IsTrue counts → reads self.new ≤ reads self.old + 1 };
+
+    /// Gives the children of one process to another, which is there.
+    fn adopt(&mut self, from: Pid, to: Pid)
+        requires { IsSome (lookup to (contents self.old)) }
+        ensures rising { IsRising (contents self.old) }
+        ensures contents { contents self.new ≡ adopted from to (contents self.old) }
+        ensures room { room self.new ≡ room self.old };
+
+    /// How many slots have been read; 0 in a table that doesn't count them.
+    fn visits(&self) -> u64
+        ensures { result ≡ reads self.now };
+
+    /// Another body is a change of one process.
+    ghost puts: { (t : Self) (pid : ℕ) (b : Body) → contents (put t pid b) ≡ with_body (contents t) pid b };
+
+    /// Another body takes no room.
+    ghost keeps_room: { (t : Self) (pid : ℕ) (b : Body) → room (put t pid b) ≡ room t };
+
+    /// To change one process takes one slot.
+    ghost put_reads: { (t : Self) (pid : ℕ) (b : Body) → IsTrue counts → reads (put t pid b) ≤ reads t + 1 };
+}

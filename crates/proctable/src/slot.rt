@@ -1,0 +1,87 @@
+//! A place of the table that scans.
+
+ghost use Rattle.std.specs.Prelude.{◌≡◌};
+ghost use Rattle.std.specs.Borrow.{sem, Lends};
+ghost use Rattle.posix.specs.Tables.{reparented};
+ghost use Rattle.proctable.specs.Body.{facts_of, process_of, give_body, body_row};
+ghost use Rattle.proctable.specs.contracts.slot.Slot.{the_row as slot_row};
+
+use crate::body::Body;
+use crate::facts::Facts;
+use posix::Pid;
+use std::marker::Model;
+
+/// A process with its number and its parent's.
+#[derive(Drop)]
+pub struct Slot {
+    pid: Pid,
+    parent: Pid,
+    body: Body,
+}
+
+impl Model for Slot {
+    ghost use Rattle.posix.specs.Processes.{Process};
+
+    ghost Value = { Process };
+
+    ghost use Rattle.proctable.specs.Body.{process_of};
+
+    ghost view = { λ s. process_of s.pid s.parent s.body };
+}
+
+impl Slot {
+    /// A process of these parts.
+    pub fn new(pid: Pid, parent: Pid, body: Body) -> Slot
+        ensures { result ≡ process_of pid parent body }
+    {
+        Slot { pid, parent, body }
+    }
+
+    /// Its number.
+    pub fn pid(&self) -> Pid
+        ensures { result ≡ self.now.pid }
+    {
+        self.pid
+    }
+
+    /// Its parent's number.
+    pub fn parent(&self) -> Pid
+        ensures { result ≡ self.now.parent }
+    {
+        self.parent
+    }
+
+    /// Its small fields.
+    pub fn facts(&self) -> Facts
+        ensures { result ≡ facts_of self.now }
+    {
+        Facts {
+            pid: self.pid,
+            parent: self.parent,
+            group: self.body.group,
+            session: self.body.session,
+            life: self.body.life,
+            news: self.body.news,
+            blocked: self.body.blocked,
+            program: self.body.program,
+        }
+    }
+
+    /// If it is a child of `from`, it becomes one of `to`.
+    pub fn reparent(&mut self, from: Pid, to: Pid)
+        ensures { self.new ≡ reparented from to self.old }
+    {
+        if self.parent == from {
+            self.parent = to;
+        }
+    }
+
+    /// All of it but the numbers.
+    #[tactic(auto, unfolding(crate::specs::Body::give_body))]
+    pub fn body_mut(&mut self) -> &mut Body
+        ensures* lends { sem 𝓛 (Lends slot_row body_row self.entry result (λ b. give_body b self.old)) }
+        ensures value { self.old ≡ process_of self.old.pid self.old.parent result.now }
+    {
+        &mut self.body
+    }
+}

@@ -1,0 +1,7 @@
+//! The order in which processes act.
+#![tactic(auto)]
+
+pub mod order;
+
+pub use order::Order;
+pub use posix::Pid;

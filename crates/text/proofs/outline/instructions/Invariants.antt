@@ -1,0 +1,12 @@
+use Rattle.std.proofs.Common.{◌≡◌, ◌++◌, length, drop}
+use Rattle.std.specs.Prelude.{Ok}
+use Rattle.text.specs.Outlines.{completed}
+use Rattle.text.specs.Reading.{◌>>=◌, each}
+use Rattle.text.proofs.outline.instructions.Given as goal
+
+abbrev pub invariant-loop-written : goal.invariant-loop-written
+invariant-loop-written l = record {
+  rest : each (completed l.names.programs.now l.names.labels.now) l.code
+      ≡ (each (completed l.names.programs.now l.names.labels.now) (drop l.written-index l.code) >>= λ rest. Ok (l.instructions.items ++ rest));
+  len : length l.instructions.items ≡ l.written-index;
+}

@@ -1,5 +1,0 @@
-use Rattle.std.proofs.Common.{◌≡◌, take}
-use Rattle.text.proofs.world.clone_programs.Given as goal
-
-abbrev pub invariant-loop-program : goal.invariant-loop-program
-invariant-loop-program l = l.copies.items ≡ take l.program-index l.programs

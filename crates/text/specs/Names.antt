@@ -1,0 +1,19 @@
+-- Names, and what they stand for.
+use Rattle.std.specs.Prelude.{ℕ, List, if◌then◌else◌, Option, is_some, option_map, find, Result, Ok, Err, bytes_eq}
+use Rattle.text.specs.declared.fault.Reason.{Reason}
+use Rattle.text.specs.declared.fault.Reason.TheVariants.{UnknownWord, NameTwice}
+use Rattle.text.specs.declared.names.Definition.{Definition}
+use Rattle.text.specs.Words.{is_name}
+use Rattle.text.specs.Reading.{◌>>=◌}
+
+-- the name that a word is
+abbrev pub name : List ℕ → Result (List ℕ) Reason
+name w = if is_name w then Ok w else Err UnknownWord
+
+-- the code address or the number of a program that a name stands for, where it is defined
+unfoldable pub defined : List ℕ → List Definition → Option ℕ
+defined n ds = option_map (λ d. d.number) (find (λ d. bytes_eq d.name n) ds)
+
+-- a name that isn't defined yet
+abbrev pub new_name : List Definition → List ℕ → Result (List ℕ) Reason
+new_name ds w = name w >>= λ n. if is_some (defined n ds) then Err NameTwice else Ok n

@@ -1,0 +1,188 @@
+//! Programs as they are written.
+
+ghost use Rattle.std.specs.Prelude.{◌≡◌, ◌<◌, ◌≤◌, ◌+◌, ◌++◌, ◌∷◌, [], length, IfOk, OnOk, OnErr, nat_le};
+ghost use Rattle.text.specs.Names.{new_name as new_name_of};
+ghost use Rattle.text.specs.Outlines.{completed, names_for, program_of};
+ghost use Rattle.text.specs.Reading.{Answers, AnswersAs, each};
+ghost use Rattle.text.specs.WorldTexts.{empty_outline};
+
+use crate::fault::{Reason, TextFault};
+use crate::names::{Definition, Name, new_name, number_of};
+use crate::sketch::{Sketch, Use, Written};
+use posix::{Gid, Instr, Uid};
+use std::alloc::{AllocError, Global};
+use std::marker::Model;
+use umach::Program;
+
+/// A program whose names aren't looked up yet, of at most 1,000 instructions.
+#[derive(Drop)]
+pub struct Outline {
+    setuid: Option<Uid>,
+    setgid: Option<Gid>,
+    labels: Vec<Definition>,
+    code: Vec<Written>,
+}
+
+impl Model for Outline {
+    ghost use Rattle.std.specs.Prelude.{length, ◌≤◌};
+    ghost use Rattle.text.specs.Outlines.{Outline as OutlineOf};
+
+    ghost Value = { OutlineOf };
+
+    ghost view = { λ p. record { setuid = p.setuid; setgid = p.setgid; labels = p.labels.items; code = p.code.items } };
+
+    ghost invariant = { λ p. length p.code.items ≤ 1000 };
+}
+
+impl Outline {
+    /// A program without an instruction, which takes on these ids as it is run.
+    pub fn new(alloc: Global, setuid: Option<Uid>, setgid: Option<Gid>) -> Outline
+        ensures { result ≡ empty_outline setuid setgid }
+    {
+        Outline {
+            setuid,
+            setgid,
+            labels: Vec::new(alloc),
+            code: Vec::new(alloc),
+        }
+    }
+
+    /// Whether it has 1,000 instructions, and so takes no more.
+    pub fn is_full(&self) -> bool
+        ensures { result ≡ nat_le 1000 (length self.now.code) }
+    {
+        self.code.len() >= Program::MAX_LEN
+    }
+
+    /// The name that a word is, which no label has yet. A word that is no name is `UnknownWord`, and
+    /// a label's name `NameTwice`.
+    pub fn new_label(&self, word: &[u8]) -> Result<Name, Reason>
+        ensures { result ≡ new_name_of self.now.labels word.now }
+    {
+        new_name(self.labels.as_slice(), word)
+    }
+
+    /// Adds a label, which stands for the code address of the next instruction. At an error there is no
+    /// memory for it, and the outline is unchanged.
+    pub fn add_label(&mut self, name: Name) -> Result<(), AllocError>
+        ensures ok { OnOk result (self.new ≡ record self.old { labels = self.old.labels ++ record { name = name; number = 16 + length self.old.code } ∷ [] }) }
+        ensures err { OnErr result (self.new ≡ self.old) }
+    {
+        let number = FIRST_ADDRESS + self.code.len() as u16;
+        self.labels.push(Definition { name, number })?;
+        Ok(())
+    }
+
+    /// Adds an instruction to fewer than 1,000. At an error there is no memory for it, and the outline is
+    /// unchanged.
+    pub fn add_instruction(&mut self, line: u64, sketch: Sketch) -> Result<(), AllocError>
+        requires { length self.old.code < 1000 }
+        ensures ok { OnOk result (self.new ≡ record self.old { code = self.old.code ++ record { line = line; sketch = sketch } ∷ [] }) }
+        ensures err { OnErr result (self.new ≡ self.old) }
+    {
+        self.code.push(Written { line, sketch })?;
+        Ok(())
+    }
+
+    /// The program, with its names looked up in these of programs and in its own labels. The first name
+    /// that isn't found is `NameUnknown` at its line, and `line` is that of a fault `Memory`.
+    #[tactic(auto, unfolding(crate::specs::Outlines::program_of))]
+    pub fn program(
+        &self,
+        alloc: Global,
+        programs: &[Definition],
+        line: u64,
+    ) -> Result<Program, TextFault>
+        ensures { Answers result (program_of programs.now self.now) }
+    {
+        let names = Names {
+            programs,
+            labels: self.labels.as_slice(),
+        };
+        let instructions = instructions(alloc, names, self.code.as_slice(), line)?;
+        Ok(Program::from_parts(self.setuid, self.setgid, instructions))
+    }
+}
+
+/// The code address of a program's first instruction.
+const FIRST_ADDRESS: u16 = 16;
+
+/// The names that a program may use.
+#[derive(Clone, Copy)]
+struct Names<'a> {
+    programs: &'a [Definition],
+    labels: &'a [Definition],
+}
+
+impl<'a> Names<'a> {
+    /// Those that a use looks its name up in.
+    fn of(self, need: Use) -> &'a [Definition]
+        ensures { result.now ≡ names_for self.entry.programs.now self.entry.labels.now need }
+    {
+        match need {
+            Use::SetProgram(_) => self.programs,
+            Use::SetLabel(_) | Use::JumpTo | Use::JumpIf(_, _) => self.labels,
+        }
+    }
+}
+
+/// An instruction with its name looked up; a name that isn't found is `NameUnknown`.
+#[tactic(auto, unfolding(crate::specs::Outlines::completed))]
+fn complete(names: Names<'_>, written: &Written) -> Result<Instr, TextFault>
+    ensures { result ≡ completed names.entry.programs.now names.entry.labels.now written.now }
+{
+    match &written.sketch {
+        Sketch::Ready(instr) => Ok(*instr),
+        Sketch::Lacks(need, name) => match number_of(names.of(*need), name) {
+            Some(number) => Ok(need.with_number(number)),
+            None => Err(TextFault {
+                line: written.line,
+                reason: Reason::NameUnknown,
+            }),
+        },
+    }
+}
+
+/// Instructions with their names looked up, as [`Outline::program`] says.
+fn instructions(
+    alloc: Global,
+    names: Names<'_>,
+    code: &[Written],
+    line: u64,
+) -> Result<Vec<Instr>, TextFault>
+    ensures answer { AnswersAs result (λ v. v.items) (each (completed names.entry.programs.now names.entry.labels.now) code.now) }
+    ensures len { IfOk result (λ v. length v.items ≡ length code.now) }
+{
+    let memory = TextFault {
+        line,
+        reason: Reason::Memory,
+    };
+    let mut instructions = Vec::with_capacity(alloc, code.len()).map_err(|_| memory)?;
+    for written in code {
+        let instr = complete(names, written)?;
+        instructions.push(instr).map_err(|_| memory)?;
+    }
+    Ok(instructions)
+}
+
+/// These programs with their names looked up, in their order, as [`Outline::program`] says.
+pub fn programs(
+    alloc: Global,
+    names: &[Definition],
+    outlines: &[Outline],
+    line: u64,
+) -> Result<Vec<Program>, TextFault>
+    ensures answer { AnswersAs result (λ v. v.items) (each (program_of names.now) outlines.now) }
+    ensures len { IfOk result (λ v. length v.items ≡ length outlines.now) }
+{
+    let memory = TextFault {
+        line,
+        reason: Reason::Memory,
+    };
+    let mut programs = Vec::with_capacity(alloc, outlines.len()).map_err(|_| memory)?;
+    for outline in outlines {
+        let program = outline.program(alloc, names, line)?;
+        programs.push(program).map_err(|_| memory)?;
+    }
+    Ok(programs)
+}

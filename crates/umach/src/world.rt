@@ -1,0 +1,89 @@
+//! Worlds.
+
+ghost use Rattle.std.specs.Prelude.{◌≡◌, ◌≤◌, IfOk, length};
+
+use crate::program::Program;
+use std::alloc::{AllocError, Global};
+use std::marker::Model;
+
+/// What a world text stands for: the greatest process number, the number of consoles, and the
+/// programs, of which process 1 runs the first.
+#[derive(Drop)]
+pub struct World {
+    pidmax: u32,
+    consoles: u8,
+    programs: Vec<Program>,
+}
+
+impl Model for World {
+    ghost use Rattle.std.specs.Prelude.{length, ◌≤◌};
+    ghost use Rattle.posix.specs.States.{World as WorldOf};
+
+    ghost Value = { WorldOf };
+
+    ghost view = { λ w. record { pidmax = w.pidmax; consoles = w.consoles; programs = w.programs.items } };
+
+    ghost invariant = { λ w. (2 ≤ w.pidmax) × (w.pidmax ≤ 32768) × (w.consoles ≤ 8) × (1 ≤ length w.programs.items) × (length w.programs.items ≤ 32) };
+}
+
+impl World {
+    /// A world of these parts: `pidmax` from 2 to 32,768, at most 8 consoles, 1 to 32 programs.
+    pub fn new(pidmax: u32, consoles: u8, programs: Vec<Program>) -> World
+        requires pidmax_range { (2 ≤ pidmax) × (pidmax ≤ 32768) }
+        requires consoles_range { consoles ≤ 8 }
+        requires programs_range { (1 ≤ length programs.items) × (length programs.items ≤ 32) }
+        ensures { result ≡ record { pidmax = pidmax; consoles = consoles; programs = programs.items } }
+    {
+        World {
+            pidmax,
+            consoles,
+            programs,
+        }
+    }
+
+    /// The greatest process number that is given: 2 to 32,768.
+    pub fn pidmax(&self) -> u32
+        ensures value { result ≡ self.now.pidmax }
+        ensures range { (2 ≤ result) × (result ≤ 32768) }
+    {
+        self.pidmax
+    }
+
+    /// The number of consoles: 0 to 8.
+    pub fn consoles(&self) -> u8
+        ensures value { result ≡ self.now.consoles }
+        ensures range { result ≤ 8 }
+    {
+        self.consoles
+    }
+
+    /// The programs: 1 to 32.
+    pub fn programs(&self) -> &[Program]
+        ensures value { result.now ≡ self.now.programs }
+        ensures range { (1 ≤ length result.now) × (length result.now ≤ 32) }
+    {
+        self.programs.as_slice()
+    }
+
+    /// Another world of the same parts; an error where there is no memory for it.
+    pub fn try_clone(&self, alloc: Global) -> Result<World, AllocError>
+        ensures { IfOk result (λ w. w ≡ self.now) }
+    {
+        Ok(World {
+            pidmax: self.pidmax,
+            consoles: self.consoles,
+            programs: clone_programs(alloc, self.programs.as_slice())?,
+        })
+    }
+}
+
+/// The same programs.
+fn clone_programs(alloc: Global, programs: &[Program]) -> Result<Vec<Program>, AllocError>
+    ensures { IfOk result (λ copies. copies.items ≡ programs.now) }
+{
+    let mut copies = Vec::with_capacity(alloc, programs.len())?;
+    for program in programs {
+        copies.push(program.try_clone(alloc)?)?;
+    }
+    Ok(copies)
+}
