@@ -3,6 +3,7 @@
 ghost use Rattle.std.specs.Prelude.{◌≡◌, ◌≤◌, IfOk, IsSome, []};
 ghost use Rattle.posix.specs.Tables.{lookup, children_in};
 
+use creds::Creds;
 use life::Machine;
 use pidalloc::{PidTable, Role};
 use posix::{Life, News, Pid, Register, Report, Status, WaitOptions};
@@ -101,6 +102,8 @@ fn child() -> Facts {
         parent: Pid::INIT,
         group: Pid::INIT,
         session: Pid::INIT,
+        creds: Creds::root(),
+        chosen: None,
         life: Life::Running,
         news: News::Nothing,
         blocked: None,

@@ -7,6 +7,8 @@ mod machine_tests;
 mod process_tests;
 mod serving;
 #[cfg(test)]
+mod signal_tests;
+#[cfg(test)]
 mod tests;
 mod words;
 

@@ -203,7 +203,7 @@ fn a_wait_has_the_least_choice(rt: HostRuntime) {
 }
 
 /// The texts are run with these numbers.
-fn expect_summary<R: Abort + AllocGlobal>(rt: &R, world: &[u8], events: &[u8], want: Summary) {
+pub fn expect_summary<R: Abort + AllocGlobal>(rt: &R, world: &[u8], events: &[u8], want: Summary) {
     let mut out = WriteSink::new(Vec::<u8>::new(rt.alloc()));
     let got = run(rt.alloc(), world, events, &mut out);
     assert!(rt; got == Ok(want));

@@ -97,12 +97,12 @@ pub wait_nothing : (s : State) (p : ℕ) (me : Process) (options : ℕ) → proc
 wait_nothing s p me options there known same finds at_once =
     wait_finds s p me options found.Nothing there known same finds ∙ ap (λ b. cond b (outcome.gives s me.pid Waitpid (pos 0)) (outcome.Block blocked.Waitpid)) at_once
 
--- the options are there where all are known
-pub some_known : {A : Type 0} → (o : Option A) (n : ℕ) → IsSome o ↔ (bit_and n 11 ≡ n) → is_some o ≡ are_known n
-some_known o n h =
-    elim (is_some o) as (λ b. is_some o ≡ b → b ≡ are_known n) [
+-- bits are accepted where all are known
+pub some_bits : {A : Type 0} → (o : Option A) (n all : ℕ) → IsSome o ↔ (bit_and n all ≡ n) → is_some o ≡ (bit_and n all == n)
+some_bits o n all h =
+    elim (is_some o) as (λ b. is_some o ≡ b → b ≡ (bit_and n all == n)) [
       | true ↦ λ t. sym (eq-eqb _ _ (h.0 t))
-      | false ↦ λ t. elim (are_known n) as (λ d. are_known n ≡ d → false ≡ d) [
+      | false ↦ λ t. elim (bit_and n all == n) as (λ d. (bit_and n all == n) ≡ d → false ≡ d) [
         | true ↦ λ u. let no : false ≡ true = sym t ∙ h.1 (eqb-true _ _ u) in absurd (cc)
         | false ↦ λ u. refl
       ] refl

@@ -5,3 +5,6 @@ pub mod RunLemmas
 pub mod EventLemmas
 pub mod CensusLemmas
 pub mod HeadlineLemmas
+pub mod ChosenLemmas
+pub mod DeliveryLemmas
+pub mod SignalCallLemmas

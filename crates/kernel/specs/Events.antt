@@ -8,7 +8,8 @@ use Rattle.posix.specs.States.{State, process, current_process, has_place}
 use Rattle.posix.specs.Regular.{IsPlaced}
 use Rattle.posix.specs.Outcomes as outcome
 use Rattle.posix.specs.Attempts.{attempt}
-use Rattle.posix.specs.Step.{begin_call, act, step, happens}
+use Rattle.posix.specs.Execute.{exec_one}
+use Rattle.posix.specs.Step.{code_of, begin_call, after_trap, act, step, happens}
 use Rattle.kernel.specs.declared.calls.Attempted.{Attempted}
 use Rattle.kernel.specs.declared.calls.Attempted.TheVariants.{Done, Block}
 
@@ -33,10 +34,15 @@ abbrev pub Begins : State → ℕ → Call → List Entry → State → Type 0
 Begins old p call entries new = (me : Process) → process old p ≡ Some me
     → (granted : Bool) × (begin_call old me (attempt granted old me call) ≡ record { state = new; entries = entries })
 
+-- p may run the instruction at its pc so.
+abbrev pub Runs : State → ℕ → List Entry → State → Type 0
+Runs old p entries new = (me : Process) → process old p ≡ Some me
+    → (granted : Bool) × (after_trap granted old me (exec_one (code_of old me) me.cpu).cpu (exec_one (code_of old me) me.cpu).trap ≡ record { state = new; entries = entries })
+
 -- p may act so.
 abbrev pub ActsAs : State → ℕ → List Entry → State → Type 0
 ActsAs old p entries new = (me : Process) → process old p ≡ Some me
-    → (granted : Bool) × (act granted old me me.blocked ≡ record { state = new; entries = entries })
+    → (granted : Bool) × (act granted old me ≡ record { state = new; entries = entries })
 
 -- The current process may act so.
 abbrev pub Steps : State → List Entry → State → Type 0

@@ -7,11 +7,14 @@ ghost use Rattle.posix.specs.Regular.{IsRegular, IsPlaced};
 ghost use Rattle.posix.specs.Outcomes.{gives as giving, refused as refusing, no_memory as without_memory};
 ghost use Rattle.posix.specs.Waits.{report, are_known, options_in, wait as waiting, gives_report as giving_report};
 ghost use Rattle.posix.specs.Attempts.{attempt_again as attempting_again};
-ghost use Rattle.posix.specs.Ends.{end_process};
 ghost use Rattle.posix.specs.Settle.{is_block};
 ghost use Rattle.kernel.specs.Events.{Comes, Attempts, IsActing};
 
+use crate::delivery::end;
 use crate::entries::{Entries, shown};
+use crate::id_calls::{getegid, geteuid, getgid, getuid, setegid, seteuid, setgid, setuid};
+use crate::signal_calls::{kill, sigaction, sigpending, sigprocmask, sigreturn, sigsuspend};
+use arrayvec::ArrayVec;
 use bitflags::Flags;
 use life::Machine;
 use posix::{Blocked, Call, Entry, Errno, Pid, Register, Report, Status, WaitOptions};
@@ -25,7 +28,7 @@ pub enum Attempted {
 }
 
 /// The call of a process that is there gives a value.
-fn gives<K: Kin>(machine: &mut Machine<K>, pid: Pid, call: Call, value: i64) -> Attempted
+pub fn gives<K: Kin>(machine: &mut Machine<K>, pid: Pid, call: Call, value: i64) -> Attempted
     requires { IsSome (process machine.old pid) }
     ensures { Comes machine.old (giving machine.old pid call value) result machine.new }
 {
@@ -38,7 +41,7 @@ fn gives<K: Kin>(machine: &mut Machine<K>, pid: Pid, call: Call, value: i64) -> 
 }
 
 /// The call of a process that is there is refused.
-fn refused<K: Kin>(machine: &mut Machine<K>, pid: Pid, call: Call, errno: Errno) -> Attempted
+pub fn refused<K: Kin>(machine: &mut Machine<K>, pid: Pid, call: Call, errno: Errno) -> Attempted
     requires { IsSome (process machine.old pid) }
     ensures { Comes machine.old (refusing machine.old pid call errno) result machine.new }
 {
@@ -106,22 +109,9 @@ fn exit<K: Kin>(machine: &mut Machine<K>, pid: Pid) -> Attempted
     ensures { Attempts machine.old pid Call.Exit result machine.new }
 {
     let code = machine.argument(pid, Register::FIRST_ARGUMENT);
-    Attempted::Done(end(machine, pid, Status::exited(code)))
-}
-
-/// The end of a process that is there, and what it shows.
-#[tactic(auto, unfolding(posix::specs::Ends::end_process))]
-pub fn end<K: Kin>(machine: &mut Machine<K>, pid: Pid, status: Status) -> Entries
-    requires { IsSome (process machine.old pid) }
-    ensures state { (me : Process) → process machine.old pid ≡ Some me → machine.new ≡ (end_process machine.old me status).state }
-    ensures entries { (me : Process) → process machine.old pid ≡ Some me → result.items ≡ (end_process machine.old me status).entries }
-{
-    machine.end(pid, status);
-    let mut entries = shown(Entry::Ended { pid, status });
-    if pid == Pid::INIT {
-        entries.push(Entry::Halted);
-    }
-    entries
+    let mut entries = ArrayVec::new();
+    end(machine, pid, Status::exited(code), &mut entries);
+    Attempted::Done(entries)
 }
 
 /// What the wait of a process that is there, with its choice in r1, has to report.
@@ -216,6 +206,20 @@ pub fn attempt<K: Kin>(machine: &mut Machine<K>, pid: Pid, call: Call) -> Attemp
         Call::SchedYield => sched_yield(machine, pid),
         Call::Getpid => getpid(machine, pid),
         Call::Getppid => getppid(machine, pid),
+        Call::Getuid => getuid(machine, pid),
+        Call::Geteuid => geteuid(machine, pid),
+        Call::Getgid => getgid(machine, pid),
+        Call::Getegid => getegid(machine, pid),
+        Call::Setuid => setuid(machine, pid),
+        Call::Seteuid => seteuid(machine, pid),
+        Call::Setgid => setgid(machine, pid),
+        Call::Setegid => setegid(machine, pid),
+        Call::Kill => kill(machine, pid),
+        Call::Sigaction => sigaction(machine, pid),
+        Call::Sigprocmask => sigprocmask(machine, pid),
+        Call::Sigpending => sigpending(machine, pid),
+        Call::Sigsuspend => sigsuspend(machine, pid),
+        Call::Sigreturn => sigreturn(machine, pid),
     }
 }
 

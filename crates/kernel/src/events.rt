@@ -3,18 +3,20 @@
 
 ghost use Rattle.std.specs.Prelude.{◌≡◌, ◌+◌, [], ◌<◌, ◌^◌, Some, option_map};
 ghost use Rattle.posix.specs.Processes.{Process};
+ghost use Rattle.posix.specs.Choice.{chosen};
 ghost use Rattle.posix.specs.States.{process};
 ghost use Rattle.posix.specs.Step.{tick as ticking, go_on as going_on, IsStep};
 ghost use Rattle.posix.specs.Attempts.{attempt_again};
 ghost use Rattle.posix.specs.Regular.{IsPlaced};
 ghost use Rattle.proctable.specs.Body.{facts_of};
-ghost use Rattle.kernel.specs.Events.{ActsAs, Begins, Happens, IsActing, Steps};
+ghost use Rattle.kernel.specs.Events.{ActsAs, Begins, Happens, IsActing, Runs, Steps};
 
-use crate::calls::{Attempted, attempt, attempt_again, end};
+use crate::calls::{Attempted, attempt, attempt_again};
+use crate::delivery::{deliver, end, fault};
 use crate::entries::Entries;
 use crate::settle::settle;
 use life::Machine;
-use posix::{Blocked, Call, Entry, Event, Pid, Status, Trap};
+use posix::{Blocked, Call, Entry, Event, Pid, Sig, Status, Trap};
 use proctable::{Facts, Kin};
 
 /// A process that has a place asks for a call. Where it has to wait it is blocked in the call and loses
@@ -34,21 +36,49 @@ fn begin_call<K: Kin>(machine: &mut Machine<K>, pid: Pid, call: Call, entries: &
     }
 }
 
-/// A process that is blocked in a call, and no zombie, takes it up. Where it still has to wait it loses
-/// its place.
-fn go_on<K: Kin>(machine: &mut Machine<K>, pid: Pid, blocked: Blocked, entries: &mut Entries)
+/// A process that is blocked in a call, and no zombie, takes it up. Where it still has to wait the signal
+/// that is chosen for it is delivered; without one it loses its place.
+fn go_on<K: Kin>(
+    machine: &mut Machine<K>,
+    pid: Pid,
+    blocked: Blocked,
+    signal: Option<Sig>,
+    entries: &mut Entries,
+)
     requires placed { IsPlaced machine.old.processes pid }
+    requires signal { (me : Process) → process machine.old pid ≡ Some me → signal ≡ chosen me.life me.signals }
     requires none { entries.old.items ≡ [] }
     ensures { (me : Process) → process machine.old pid ≡ Some me → going_on machine.old me (attempt_again machine.old me blocked) ≡ record { state = machine.new; entries = entries.new.items } }
 {
     match attempt_again(machine, pid, blocked) {
         Attempted::Done(shown) => *entries = shown,
-        Attempted::Block(_) => machine.lose_place(pid),
+        Attempted::Block(_) => match signal {
+            Some(sig) => deliver(machine, pid, sig, entries),
+            None => machine.lose_place(pid),
+        },
     }
 }
 
-/// A process that has a place, with these facts, acts: it takes up its call, or runs an instruction.
-#[tactic(auto, unfolding(posix::specs::Step::act, posix::specs::Step::after_trap))]
+/// A process that has a place, and runs this program, runs the instruction at its pc.
+#[tactic(auto, unfolding(posix::specs::Step::after_trap))]
+fn run<K: Kin>(machine: &mut Machine<K>, pid: Pid, program: u8, entries: &mut Entries)
+    requires acting { IsActing machine.old pid }
+    requires program { (me : Process) → process machine.old pid ≡ Some me → me.program ≡ program }
+    requires births { machine.old.births + 1 < 2 ^ 64 }
+    requires none { entries.old.items ≡ [] }
+    ensures { Runs machine.old pid entries.new.items machine.new }
+{
+    match machine.run(pid, program) {
+        Trap::Next => {}
+        Trap::Note(value) => entries.push(Entry::Noted { pid, value }),
+        Trap::Call(call) => begin_call(machine, pid, call, entries),
+        Trap::Fault(sig) => fault(machine, pid, sig, entries),
+    }
+}
+
+/// A process that has a place, with these facts, acts: KILL ends it; it takes up its call; a signal is
+/// delivered to it; or it runs an instruction.
+#[tactic(auto, unfolding(posix::specs::Step::act, posix::specs::Step::act_in))]
 fn act<K: Kin>(machine: &mut Machine<K>, pid: Pid, facts: Facts, entries: &mut Entries)
     requires acting { IsActing machine.old pid }
     requires facts { Some facts ≡ option_map facts_of (process machine.old pid) }
@@ -56,14 +86,21 @@ fn act<K: Kin>(machine: &mut Machine<K>, pid: Pid, facts: Facts, entries: &mut E
     requires none { entries.old.items ≡ [] }
     ensures { ActsAs machine.old pid entries.new.items machine.new }
 {
-    if let Some(blocked) = facts.blocked {
-        return go_on(machine, pid, blocked, entries);
+    let Facts {
+        chosen,
+        blocked,
+        program,
+        ..
+    } = facts;
+    if chosen == Some(Sig::KILL) {
+        return end(machine, pid, Status::killed(Sig::KILL), entries);
     }
-    match machine.run(pid, facts.program) {
-        Trap::Next => {}
-        Trap::Note(value) => entries.push(Entry::Noted { pid, value }),
-        Trap::Call(call) => begin_call(machine, pid, call, entries),
-        Trap::Fault(sig) => *entries = end(machine, pid, Status::killed(sig)),
+    if let Some(blocked) = blocked {
+        return go_on(machine, pid, blocked, chosen, entries);
+    }
+    match chosen {
+        Some(sig) => deliver(machine, pid, sig, entries),
+        None => run(machine, pid, program, entries),
     }
 }
 

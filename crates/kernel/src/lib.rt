@@ -2,12 +2,15 @@
 #![tactic(auto)]
 
 mod calls;
+mod delivery;
 pub mod entries;
 mod events;
+mod id_calls;
 pub mod kernel_on;
 mod pending;
 mod progress;
 mod settle;
+mod signal_calls;
 pub mod sink;
 pub mod summary;
 pub mod texts;

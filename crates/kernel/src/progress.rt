@@ -12,7 +12,8 @@ use crate::pending::Pending;
 use crate::sink::{Sink, SinkFault};
 use posix::{Entry, Event};
 use proctable::Kin;
-use text::{EventList, EventRun, print_entry};
+use text::{EventList, EventRun};
+use trace::print_entry;
 
 /// Whether an entry tells that a wait reported an end, and not a stop (low byte 127) or a continuation
 /// (255), waitpid(2).

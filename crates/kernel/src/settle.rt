@@ -1,17 +1,38 @@
 //! Places for all processes that can act.
 
-ghost use Rattle.std.specs.Prelude.{◌≡◌, IsSome, Some};
+ghost use Rattle.std.specs.Prelude.{◌≡◌, ◌||◌, IsSome, Some, is_some, option_map};
 ghost use Rattle.posix.specs.Processes.{Process};
 ghost use Rattle.posix.specs.States.{process};
-ghost use Rattle.posix.specs.Settle.{can_act as acting, settle as settling, woken};
+ghost use Rattle.posix.specs.Choice.{chosen};
+ghost use Rattle.posix.specs.Settle.{can_act as acting, can_go_on, settle as settling, woken};
+ghost use Rattle.proctable.specs.Body.{facts_of};
 
 use crate::calls::has_to_wait;
 use life::Machine;
 use posix::{Blocked, Life, Pid};
-use proctable::Kin;
+use proctable::{Facts, Kin};
 
-/// Whether a process that is there can act: it runs, and is in no call that it has to wait in.
-#[tactic(auto, unfolding(posix::specs::Settle::can_act, posix::specs::Attempts::attempt_again))]
+/// Whether a process that is there, with these facts, needn't wait: it is in no call, or its call can be
+/// completed, or a signal is chosen for it.
+#[tactic(auto, unfolding(posix::specs::Attempts::attempt_again))]
+fn is_awake<K: Kin>(machine: &mut Machine<K>, pid: Pid, facts: Facts) -> bool
+    requires there { IsSome (process machine.old pid) }
+    requires facts { Some facts ≡ option_map facts_of (process machine.old pid) }
+    ensures value { (me : Process) → process machine.old pid ≡ Some me → result ≡ (can_go_on machine.old me me.blocked || is_some (chosen me.life me.signals)) }
+    ensures same { machine.new ≡ machine.old }
+{
+    if facts.chosen.is_some() {
+        return true;
+    }
+    match facts.blocked {
+        None => true,
+        Some(Blocked::Waitpid) => !has_to_wait(machine, pid),
+        Some(_) => false,
+    }
+}
+
+/// Whether a process that is there can act: KILL is pending for it, or it runs and needn't wait.
+#[tactic(auto, unfolding(posix::specs::Settle::can_act))]
 fn can_act<K: Kin>(machine: &mut Machine<K>, pid: Pid) -> bool
     requires { IsSome (process machine.old pid) }
     ensures value { (me : Process) → process machine.old pid ≡ Some me → result ≡ acting machine.old me }
@@ -20,13 +41,10 @@ fn can_act<K: Kin>(machine: &mut Machine<K>, pid: Pid) -> bool
     let Some(facts) = machine.facts(pid) else {
         return false;
     };
-    let Life::Running = facts.life else {
-        return false;
-    };
-    match facts.blocked {
-        None => true,
-        Some(Blocked::Waitpid) => !has_to_wait(machine, pid),
-        Some(_) => false,
+    match facts.life {
+        Life::Running => is_awake(machine, pid, facts),
+        Life::Stopped => facts.chosen.is_some(),
+        Life::Zombie(_) => false,
     }
 }
 

@@ -1,18 +1,19 @@
 -- What keeps a machine sound.
-use Rattle.std.proofs.Common.{◌≡◌, ◌≢◌, ◌==◌, ℕ, suc, ◌+◌, ◌-◌, ◌≤◌, Bool, true, false, cond, refl, ap, sym, ◌∙◌, arith, subst, List, [], ◌∷◌, length, map, Option, Some, None, option_map}
+use Rattle.std.proofs.Common.{◌≡◌, ◌≢◌, ◌==◌, ℕ, suc, ◌+◌, ◌-◌, ◌≤◌, Bool, true, false, cond, refl, ap, sym, ◌∙◌, arith, subst, List, [], ◌∷◌, length, map, Option, Some, None, option_map, Result, Ok, Err, OnOk, OnErr}
 use Rattle.std.specs.Option.{IsSome}
 use Rattle.std.specs.List.{AllByRecursion}
 use Rattle.std.proofs.lemmas.Bool.{eqb-true, eqb-false, ne_eqb}
 use Rattle.std.proofs.lemmas.List.{length-replicate}
+use Rattle.posix.specs.declared.process.PendingSignal.{PendingSignal}
 use Rattle.posix.specs.Processes.{Process, is_zombie, first_process}
 use Rattle.posix.specs.Tables.{IsRising, at, lookup, changed, removed, inserted, adopted, reparented, children_in}
 use Rattle.posix.specs.States.{World, State, boot, process, next_pid, is_in}
 use Rattle.posix.specs.NextPid.{is_free, next_free}
 use Rattle.posix.specs.Regular.{IsRegular, HasFirst, IsBounded, IsPlaced, IsDistinct}
-use Rattle.posix.specs.Ends.{buried, make_zombie}
-use Rattle.posix.proofs.TableLemmas.{Above, pid_looked}
-use Rattle.posix.proofs.RegularLemmas.{Keeps, keeps_at, regular_change, regular_inserted, regular_removed}
-use Rattle.posix.proofs.MapLemmas.{some_map}
+use Rattle.posix.specs.Ends.{buried, make_zombie, noticed}
+use Rattle.posix.proofs.TableLemmas.{Above, pid_looked, rising_map}
+use Rattle.posix.proofs.RegularLemmas.{Keeps, keeps_at, keeps_noticed, regular_map, regular_inserted, regular_removed}
+use Rattle.posix.proofs.MapLemmas.{at_pid, lookup_on, some_map}
 use Rattle.posix.proofs.SettleLemmas.{all_looked}
 use Rattle.pidalloc.specs.Rows.{Pids, IsPids, is_free_in, unborne_table, born_in, gone_from}
 use Rattle.pidalloc.specs.Tallies.{IsTallied}
@@ -21,7 +22,8 @@ use Rattle.pidalloc.proofs.TallyLemmas.{CanBear, CanGiveUp, can_bear, can_give_u
 use Rattle.sched.specs.Places.{Places}
 use Rattle.proctable.specs.declared.facts.Facts.{Facts}
 use Rattle.proctable.specs.Body.{facts_of}
-use Rattle.life.specs.Machines.{IsKept, IsSound, state_of}
+use Rattle.life.specs.Machines.{IsKept, HaveParents, IsSound, state_of}
+use Rattle.life.proofs.ParentLemmas.{parents_map, parents_adopted, parents_removed, parents_inserted, parents_first}
 
 -- who is looked up
 pub record There (o : Option Process) : Type 0 where
@@ -49,6 +51,11 @@ pub none_read : (o : Option Process) → None ≡ option_map facts_of o → o �
 none_read None e = refl
 none_read (Some r) e = absurd (cc)
 
+-- what holds at success and at an error holds
+pub either : {T E P Q S : Type 0} (r : Result T E) → OnOk r P → OnErr r Q → (P → S) → (Q → S) → S
+either (Ok x) p q f g = f p
+either (Err e) p q f g = g q
+
 -- ---- changes of records
 
 length_map : (g : Process → Process) (rs : List Process) → length (map g rs) ≡ length rs
@@ -70,12 +77,19 @@ kept_map g kp kg ks m rs p a b n e k = record {
 pub kept_order : (m : ℕ) (rs : List Process) (p : Pids) (a b : Places) (n : ℕ) → a.room ≤ b.room → IsKept m rs p a n → IsKept m rs p b n
 kept_order m rs p a b n e k = record { greatest = k.greatest; table = k.table; tallied = k.tallied; count = k.count; room = let r = k.room in omega (arith, r, e) }
 
--- a change of one record that keeps its numbers, its life and its parent
+-- a change of each record that keeps its numbers, its life and its parent
+pub sound_map : (g : Process → Process) → Keeps g → (s : State) (pids : Pids) (places : Places) (n : ℕ) → IsSound s pids places n → IsSound (record s { processes = map g s.processes }) pids places n
+sound_map g k s pids places n i = record {
+  regular = regular_map g k s i.regular;
+  parents = parents_map g k.pid k.parent s.processes i.parents;
+  counted = i.counted;
+  kept = kept_map g k.pid k.group k.session s.world.pidmax s.processes pids places places n (omega arith) i.kept;
+}
+
+-- and of one record
 pub sound_change : (p : ℕ) (f : Process → Process) → Keeps f → (s : State) (pids : Pids) (places : Places) (n : ℕ) → IsSound s pids places n → IsSound (record s { processes = changed p f s.processes }) pids places n
 unfolding changed
-sound_change p f k s pids places n i =
-    let h = keeps_at p f k in
-    record { regular = regular_change p f k s i.regular; kept = kept_map (at p f) h.pid h.group h.session s.world.pidmax s.processes pids places places n (omega arith) i.kept }
+sound_change p f k s pids places n i = sound_map (at p f) (keeps_at p f k) s pids places n i
 
 -- ---- ends
 
@@ -90,6 +104,52 @@ kept_departed p w m rs pids a b n e k =
 pub kept_halted : (w m : ℕ) (rs : List Process) (pids : Pids) (a b : Places) (n : ℕ) → a.room ≤ b.room → IsKept m rs pids a n → IsKept m (changed 1 (make_zombie w) rs) pids b n
 unfolding changed make_zombie
 kept_halted w m rs pids a b n e k = kept_map (at 1 (make_zombie w)) (λ r. grind arith) (λ r. grind arith) (λ r. grind arith) m rs pids a b n e k
+
+-- who is there keeps a parent that is there, at an end
+pub parents_departed : (p w : ℕ) (rs : List Process) → HasFirst rs → HaveParents rs → HaveParents (adopted p 1 (changed p (buried w) rs))
+unfolding changed buried
+parents_departed p w rs first h =
+    let k = at_pid p (buried w) (λ r. refl) in
+    parents_adopted p (map (at p (buried w)) rs) (some_map (at p (buried w)) k 1 rs (is_there _ first.what first.found)) (parents_map (at p (buried w)) k (λ r. grind arith) rs h)
+
+-- and at the end of process 1
+pub parents_halted : (w : ℕ) (rs : List Process) → HaveParents rs → HaveParents (changed 1 (make_zombie w) rs)
+unfolding changed make_zombie
+parents_halted w rs h = parents_map (at 1 (make_zombie w)) (λ r. grind arith) (λ r. grind arith) rs h
+
+-- ---- children that are dropped
+
+-- a zombie stays one where a process has notice
+pub zombie_noticed : (signal : PendingSignal) (p c : ℕ) (rs : List Process) (it : Process) → lookup c rs ≡ Some it → is_zombie it.life ≡ true
+    → (x : Process) × (lookup c (changed p (noticed signal) rs) ≡ Some x) × (is_zombie x.life ≡ true)
+unfolding changed
+zombie_noticed signal p c rs it e dead =
+    let k = keeps_at p (noticed signal) (keeps_noticed signal) in
+    (at p (noticed signal) it, lookup_on (at p (noticed signal)) k.pid c rs it e, k.zombie it ∙ dead)
+
+-- where a process had notice of the child c, and its record went, it can be counted among those dropped
+pub room_to_drop : (s u t : State) (pids : Pids) (places : Places) (n : ℕ) (signal : PendingSignal) (p c : ℕ) (it : Process) (before told : List Process) → IsSound s pids places n → lookup c s.processes ≡ Some it
+    → before ≡ s.processes → told ≡ changed p (noticed signal) before → u ≡ record s { processes = removed c told } → t ≡ u → t.dropped + 1 + length t.processes ≤ t.births
+unfolding changed
+room_to_drop s u t pids places n signal p c it before told i e was had gone is =
+    let k = keeps_at p (noticed signal) (keeps_noticed signal) in
+    let rs = map (at p (noticed signal)) s.processes in
+    let one = length_removed c (at p (noticed signal) it) rs (rising_map _ k.pid s.processes i.regular.rising) (lookup_on _ k.pid c s.processes it e) in
+    let all = length_map (at p (noticed signal)) s.processes in
+    let count = i.kept.count in
+    let most = i.counted in
+    rw (is, gone, had, was) (omega (arith, one, all, count, most))
+
+-- and a machine that counts it is sound
+pub sound_dropped : (s : State) (pids : Pids) (places : Places) (n : ℕ) → IsSound s pids places n → s.dropped + 1 + length s.processes ≤ s.births → IsSound (record s { dropped = s.dropped + 1 }) pids places n
+sound_dropped s pids places n i l =
+    let r = i.regular in
+    record {
+      regular = record { rising = r.rising; bounded = r.bounded; first = r.first; placed = r.placed; distinct = r.distinct; childless = r.childless };
+      parents = i.parents;
+      counted = let c = i.kept.count in omega (arith, c, l);
+      kept = i.kept;
+    }
 
 -- ---- numbers
 
@@ -183,6 +243,8 @@ sound_born w rs p q a b births ticks dropped h n new me i fresh there up group s
     (ap is_zombie life ∙ up) me there up in
     record {
       regular = rw order (record { rising = r.rising; bounded = r.bounded; first = r.first; placed = r.placed; distinct = r.distinct; childless = r.childless });
+      parents = parents_inserted new rs fresh.fresh (is_there _ me there) i.parents;
+      counted = let c = i.counted in omega (arith, c);
       kept = record {
         greatest = same ∙ k.greatest;
         table = table;
@@ -233,6 +295,8 @@ sound_collected w rs p q a births ticks dropped h n pid r f t now i found dead o
     let left : q ≡ gone_from p pid r.group r.session = gone ∙ ap (λ (f : Facts). gone_from p pid f.group f.session) (facts_are _ r f read there) in
     record {
       regular = record { rising = x.rising; bounded = x.bounded; first = x.first; placed = x.placed; distinct = x.distinct; childless = x.childless };
+      parents = parents_removed pid rs (i.regular.childless pid r other there dead) i.parents;
+      counted = let c = i.counted in omega (arith, c);
       kept = record {
         greatest = same ∙ k.greatest;
         table = table;
@@ -279,6 +343,8 @@ sound_first w q b most bore same table order room =
     let r = regular_first w most in
     record {
       regular = rw (order, first_alone) (record { rising = r.rising; bounded = r.bounded; first = r.first; placed = r.placed; distinct = r.distinct; childless = r.childless });
+      parents = rw first_alone parents_first;
+      counted = omega arith;
       kept = record {
         greatest = same;
         table = table;

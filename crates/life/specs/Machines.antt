@@ -1,6 +1,7 @@
 -- The parts of a machine as a state, and what holds of them.
-use Rattle.std.specs.Prelude.{◌≡◌, ℕ, ◌≤◌, Bool, List, length}
+use Rattle.std.specs.Prelude.{◌≡◌, ◌≢◌, ℕ, ◌+◌, ◌≤◌, Bool, List, length, Some, IsSome}
 use Rattle.posix.specs.Processes.{Process}
+use Rattle.posix.specs.Tables.{lookup}
 use Rattle.posix.specs.States.{World, State, boot}
 use Rattle.posix.specs.Regular.{IsRegular}
 use Rattle.pidalloc.specs.Rows.{Pids, IsPids}
@@ -27,6 +28,12 @@ pub record IsKept (pidmax : ℕ) (rs : List Process) (pids : Pids) (places : Pla
   pub count : records ≡ length rs
   pub room : records ≤ places.room
 
+-- the parent of each process other than process 1 is there
+abbrev pub HaveParents : List Process → Type 0
+HaveParents rs = (p : ℕ) (r : Process) → p ≢ 1 → lookup p rs ≡ Some r → IsSome (lookup r.parent rs)
+
 pub record IsSound (s : State) (pids : Pids) (places : Places) (records : ℕ) : Type 0 where
   pub regular : IsRegular s
+  pub parents : HaveParents s.processes
+  pub counted : s.dropped + records ≤ s.births  -- each was born
   pub kept : IsKept s.world.pidmax s.processes pids places records

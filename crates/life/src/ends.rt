@@ -1,14 +1,17 @@
 //! Ends.
 
-ghost use Rattle.std.specs.Prelude.{◌≡◌, ◌≢◌, IsSome, Some};
-ghost use Rattle.posix.specs.Processes.{Process};
+ghost use Rattle.std.specs.Prelude.{◌≡◌, ◌≢◌, IsSome, Some, true};
+ghost use Rattle.posix.specs.Processes.{Process, is_zombie};
+ghost use Rattle.posix.specs.Tables.{children_in, first_pid, next_sibling as sibling_after};
+ghost use Rattle.posix.specs.Regular.{IsRegular};
 ghost use Rattle.posix.specs.States.{process};
-ghost use Rattle.posix.specs.Ends.{depart as departing, halt as halting, end_process};
+ghost use Rattle.posix.specs.Ends.{depart as departing, halt as halting, end_process, child_signal as child_signal_of, notice_of_end as noticing_end, tell_of_all, zombies_of};
 
 use crate::machine::Machine;
-use posix::{Pid, Status};
+use posix::{Carried, Life, PendingSignal, Pid, Sig, Status};
 use proctable::Kin;
 use proctable::changes::{bury_in, end_in};
+use proctable::signals::{drops_children, notice_in};
 
 impl<K: Kin> Machine<K> {
     /// The process is a zombie and loses its place, and its children become those of process 1.
@@ -31,9 +34,60 @@ impl<K: Kin> Machine<K> {
         self.halted = true;
     }
 
-    /// A process that is there ends with this status. At the end of process 1 the machine halts; any other
-    /// becomes a zombie without a place, and its children become those of process 1 (XSH _exit,
-    /// Consequences of Process Termination).
+    /// The parent gets notice that a child, which is a zombie other than process 1, ended with this
+    /// status, and the child is dropped where the parent drops its children (XSH _exit).
+    #[tactic(auto, unfolding(posix::specs::Ends::notice_of_end))]
+    fn notice_of_end(&mut self, parent: Pid, child: Pid, status: Status)
+        requires parent { IsSome (process self.old parent) }
+        requires other { child ≢ 1 }
+        requires zombie { (it : Process) × (process self.old child ≡ Some it) × (is_zombie it.life ≡ true) }
+        ensures { self.new ≡ noticing_end self.old parent child status }
+    {
+        let drops = drops_children(&mut self.table, parent);
+        notice_in(&mut self.table, parent, child_signal(child, status));
+        if drops {
+            self.collect(child);
+            self.dropped += 1;
+        }
+    }
+
+    /// The child of a process that is there with the least number.
+    fn first_child(&mut self, pid: Pid) -> Option<Pid>
+        requires { IsSome (process self.old pid) }
+        ensures value { result ≡ first_pid (children_in pid self.old.processes) }
+        ensures same { self.new ≡ self.old }
+        ensures regular { IsRegular self.old }
+    {
+        self.table.first_child(pid)
+    }
+
+    /// Of the children of the same parent, the one with the least number above that of a process that is
+    /// there.
+    fn next_sibling(&mut self, pid: Pid) -> Option<Pid>
+        requires { IsSome (process self.old pid) }
+        ensures value { result ≡ sibling_after pid self.old.processes }
+        ensures same { self.new ≡ self.old }
+        ensures regular { IsRegular self.old }
+    {
+        self.table.next_sibling(pid)
+    }
+
+    /// Whether a process that is there runs, is stopped or has ended.
+    fn life(&mut self, pid: Pid) -> Life
+        requires { IsSome (process self.old pid) }
+        ensures value { (it : Process) → process self.old pid ≡ Some it → result ≡ it.life }
+        ensures same { self.new ≡ self.old }
+    {
+        match self.table.get(pid) {
+            Some(facts) => facts.life,
+            None => Life::Running,
+        }
+    }
+
+    /// A process that is there ends with this status. At the end of process 1 the machine halts. Any other
+    /// becomes a zombie without a place; its children become those of process 1, which gets notice of those
+    /// that have ended; and its parent gets notice of its end, and may drop it (XSH _exit, Consequences of
+    /// Process Termination).
     #[tactic(auto, unfolding(posix::specs::Ends::end_process))]
     pub fn end(&mut self, pid: Pid, status: Status)
         requires { IsSome (process self.old pid) }
@@ -42,7 +96,40 @@ impl<K: Kin> Machine<K> {
         if pid == Pid::INIT {
             self.halt(status);
         } else {
+            tell_of_zombies(self, pid);
+            let parent = self.parent(pid);
             self.depart(pid, status);
+            self.notice_of_end(parent, pid, status);
+        }
+    }
+}
+
+/// Notice that a child ended, as a signal (XSH _exit).
+fn child_signal(child: Pid, status: Status) -> PendingSignal
+    ensures { result ≡ child_signal_of child status }
+{
+    PendingSignal {
+        sig: Sig::CHLD,
+        carried: Carried {
+            value: i64::from(status.word()),
+            sender: child,
+        },
+    }
+}
+
+/// Process 1 gets notice of the ends of the zombies among the children of another process that is there,
+/// in rising order.
+fn tell_of_zombies<K: Kin>(machine: &mut Machine<K>, pid: Pid)
+    requires there { IsSome (process machine.old pid) }
+    requires other { pid ≢ 1 }
+    ensures state { machine.new ≡ tell_of_all machine.old (zombies_of pid machine.old.processes) }
+    ensures same { process machine.new pid ≡ process machine.old pid }
+{
+    let mut next = machine.first_child(pid);
+    while let Some(child) = next {
+        next = machine.next_sibling(child);
+        if let Life::Zombie(status) = machine.life(child) {
+            machine.notice_of_end(Pid::INIT, child, status);
         }
     }
 }

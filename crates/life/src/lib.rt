@@ -7,7 +7,10 @@
 mod births;
 mod ends;
 pub mod machine;
+pub mod sends;
+pub mod signals;
 pub mod waits;
 
 pub use machine::Machine;
+pub use sends::send;
 pub use waits::wait_attempt;

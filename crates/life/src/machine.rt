@@ -1,18 +1,20 @@
 //! The machine: all that the state of a world consists of.
 
-ghost use Rattle.std.specs.Prelude.{◌≡◌, ◌+◌, ◌<◌, ◌^◌, ◌++◌, ◌∷◌, [], IfOk, IsSome, Some, length, nat_le, option_map, false, true};
+ghost use Rattle.std.specs.Prelude.{◌≡◌, ◌≢◌, ◌+◌, ◌<◌, ◌^◌, ◌++◌, ◌∷◌, [], IfOk, IsSome, Some, length, nat_le, option_map, false, true};
 ghost use Rattle.posix.specs.Processes.{Process, argument as argument_of};
 ghost use Rattle.posix.specs.Tables.{next_above};
 ghost use Rattle.posix.specs.States.{boot as boot_of, process, change, current as current_of, lose_place as losing_place, go_last as going_last, has_place as has_place_in};
 ghost use Rattle.posix.specs.Regular.{IsRegular, IsPlaced};
 ghost use Rattle.posix.specs.Execute.{exec_one, StaysUnlessRun};
-ghost use Rattle.posix.specs.Outcomes.{finish as finish_of};
+ghost use Rattle.posix.specs.Outcomes.{finish as finish_of, write as write_of};
+ghost use Rattle.posix.specs.SignalCalls.{give_credentials as giving_credentials};
 ghost use Rattle.posix.specs.Step.{code_of, enter as entering, set_cpu, pass_time as passing_time};
 ghost use Rattle.proctable.specs.Body.{facts_of};
 
+use creds::Creds;
 use pidalloc::PidTable;
 use posix::{Blocked, Pid, Register, Sig, Trap};
-use proctable::changes::{self, enter_in, finish_in, run_in};
+use proctable::changes::{self, enter_in, finish_in, give_credentials_in, run_in, write_in};
 use proctable::{Body, Facts, Kin};
 use sched::Order;
 use std::alloc::{AllocError, Global};
@@ -96,7 +98,7 @@ impl<K: Kin> Machine<K> {
         self.births
     }
 
-    /// How many ended children were dropped, since their parent ignores its children: none yet.
+    /// How many ended children were dropped, since their parent drops its children.
     pub fn dropped(&self) -> u64
         ensures { result ≡ self.now.dropped }
     {
@@ -148,6 +150,7 @@ impl<K: Kin> Machine<K> {
     pub fn parent(&mut self, pid: Pid) -> Pid
         requires { IsSome (process self.old pid) }
         ensures value { (me : Process) → process self.old pid ≡ Some me → result ≡ me.parent }
+        ensures there { pid ≢ 1 → IsSome (process self.old result) }
         ensures same { self.new ≡ self.old }
     {
         match self.table.get(pid) {
@@ -166,6 +169,27 @@ impl<K: Kin> Machine<K> {
             Some(facts) => facts.group,
             None => Pid::NONE,
         }
+    }
+
+    /// The ids of a process that is there.
+    pub fn creds(&mut self, pid: Pid) -> Creds
+        requires { IsSome (process self.old pid) }
+        ensures value { (me : Process) → process self.old pid ≡ Some me → result ≡ me.credentials }
+        ensures same { self.new ≡ self.old }
+    {
+        match self.table.get(pid) {
+            Some(facts) => facts.creds,
+            None => Creds::root(),
+        }
+    }
+
+    /// The call that a process that is there is blocked in.
+    pub fn blocked(&mut self, pid: Pid) -> Option<Blocked>
+        requires { IsSome (process self.old pid) }
+        ensures value { (me : Process) → process self.old pid ≡ Some me → result ≡ me.blocked }
+        ensures same { self.new ≡ self.old }
+    {
+        self.table.get(pid)?.blocked
     }
 
     /// A register of a process that is there.
@@ -204,12 +228,28 @@ impl<K: Kin> Machine<K> {
         finish_in(&mut self.table, pid, value);
     }
 
-    /// A process that is there is blocked in a call.
+    /// A process that is there is blocked in a call; in sigsuspend with the signal mask in r1.
     pub fn enter(&mut self, pid: Pid, blocked: Blocked)
         requires { IsSome (process self.old pid) }
         ensures { self.new ≡ change self.old pid (entering blocked) }
     {
         enter_in(&mut self.table, pid, blocked);
+    }
+
+    /// A register of a process that is there gets a further result of its call.
+    pub fn write(&mut self, pid: Pid, register: Register, value: i64)
+        requires { IsSome (process self.old pid) }
+        ensures { self.new ≡ write_of self.old pid register value }
+    {
+        write_in(&mut self.table, pid, register, value);
+    }
+
+    /// The ids of a process that is there become these.
+    pub fn give_credentials(&mut self, pid: Pid, creds: Creds)
+        requires { IsSome (process self.old pid) }
+        ensures { self.new ≡ change self.old pid (giving_credentials creds) }
+    {
+        give_credentials_in(&mut self.table, pid, creds);
     }
 
     // ---- places

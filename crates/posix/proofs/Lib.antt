@@ -7,6 +7,9 @@ pub mod RegularLemmas
 pub mod WaitLemmas
 pub mod OrderLemmas
 pub mod SettleLemmas
+pub mod NoticeLemmas
+pub mod ActLemmas
 pub mod TurnLemmas
 pub mod RefusalLemmas
 pub mod CountLemmas
+pub mod RangeLemmas

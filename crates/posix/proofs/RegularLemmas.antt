@@ -1,15 +1,21 @@
 -- What keeps a state regular.
-use Rattle.std.proofs.Common.{◌≡◌, ◌≢◌, ℕ, ◌≤◌, true, false, cond, not, ◌||◌, refl, ap, sym, ◌∙◌, arith, subst, List, [], ◌∷◌, map, filter, find, Some, None, ◌==◌, nat_lt, inl, inr, ℤ}
+use Rattle.std.proofs.Common.{◌≡◌, ◌≢◌, ℕ, ◌≤◌, Bool, true, false, cond, not, ◌||◌, refl, ap, sym, ◌∙◌, arith, subst, List, [], ◌∷◌, map, filter, find, Some, None, ◌==◌, nat_lt, inl, inr, ℤ}
 use Rattle.std.specs.List.{list_any}
 use Rattle.std.proofs.lemmas.Bool.{eqb-true, eqb-false, eq-eqb, ne_eqb, cases_eq}
 use Rattle.posix.specs.declared.process.Blocked.{Blocked}
-use Rattle.posix.specs.Processes.{Process, Cpu, is_zombie}
+use Rattle.posix.specs.declared.process.Frame.{Frame}
+use Rattle.posix.specs.declared.process.PendingSignal.{PendingSignal}
+use Rattle.posix.specs.Processes.{Process, Signals, Credentials, Cpu, is_zombie}
 use Rattle.posix.specs.Tables.{lookup, has_pid, at, changed, inserted, removed, is_child, children_in, reparented, adopted}
 use Rattle.posix.specs.States.{State, is_in, without, change, lose_place}
 use Rattle.posix.specs.Regular.{IsRegular, IsBounded, IsDistinct}
-use Rattle.posix.specs.Outcomes.{finished}
-use Rattle.posix.specs.Ends.{make_zombie, buried, halt, depart}
+use Rattle.posix.specs.Outcomes.{finished, written}
+use Rattle.posix.specs.Generation.{signalled}
+use Rattle.posix.specs.Handlers.{handles, is_full, returned}
+use Rattle.posix.specs.Ends.{make_zombie, buried, halt, depart, noticed, ignores_children}
 use Rattle.posix.specs.Waits.{news_told}
+use Rattle.posix.specs.Delivery.{take_out}
+use Rattle.posix.specs.SignalCalls.{give_credentials, give_signals}
 use Rattle.posix.specs.Step.{set_cpu, enter}
 use Rattle.posix.proofs.TableLemmas.{rising_map, rising_changed, rising_adopted, rising_inserted, rising_removed, pid_reparented, pid_looked}
 use Rattle.posix.proofs.MapLemmas.{at_pid, lookup_back, lookup_on, adopted_changed, children_map, children_adopted, children_elsewhere}
@@ -345,3 +351,60 @@ keeps_enter b = record { pid = λ r. refl; parent = λ r. refl; group = λ r. re
 pub keeps_news_told : Keeps news_told
 unfolding news_told
 keeps_news_told = record { pid = λ r. refl; parent = λ r. refl; group = λ r. refl; session = λ r. refl; zombie = λ r. refl }
+
+-- so does a register that is written
+pub keeps_written : (i : ℕ) (z : ℤ) → Keeps (written i z)
+unfolding written
+keeps_written i z = record { pid = λ r. refl; parent = λ r. refl; group = λ r. refl; session = λ r. refl; zombie = λ r. refl }
+
+-- what both sides of a test have
+either : {A : Type 0} (f : Process → A) (b : Bool) (x y : Process) (a : A) → f x ≡ a → f y ≡ a → f (cond b x y) ≡ a
+either f true x y a h k = h
+either f false x y a h k = k
+
+-- so does a handler that is entered, or that there is no room for
+pub keeps_handles : (signal : PendingSignal) (address : ℤ) → Keeps (handles signal address)
+unfolding handles
+keeps_handles signal address = record {
+  pid = λ r. either (λ (q : Process). q.pid) (is_full r.signals) _ _ r.pid refl refl;
+  parent = λ r. either (λ (q : Process). q.parent) (is_full r.signals) _ _ r.parent refl refl;
+  group = λ r. either (λ (q : Process). q.group) (is_full r.signals) _ _ r.group refl refl;
+  session = λ r. either (λ (q : Process). q.session) (is_full r.signals) _ _ r.session refl refl;
+  zombie = λ r. either (λ (q : Process). is_zombie q.life) (is_full r.signals) _ _ (is_zombie r.life) refl refl;
+}
+
+-- so does a handler that returns
+pub keeps_returned : (frame : Frame) → Keeps (returned frame)
+unfolding returned
+keeps_returned frame = record { pid = λ r. refl; parent = λ r. refl; group = λ r. refl; session = λ r. refl; zombie = λ r. refl }
+
+-- so does a signal that is taken out
+pub keeps_take_out : (n : ℕ) → Keeps (take_out n)
+unfolding take_out
+keeps_take_out n = record { pid = λ r. refl; parent = λ r. refl; group = λ r. refl; session = λ r. refl; zombie = λ r. refl }
+
+-- so do new ids
+pub keeps_give_credentials : (c : Credentials) → Keeps (give_credentials c)
+unfolding give_credentials
+keeps_give_credentials c = record { pid = λ r. refl; parent = λ r. refl; group = λ r. refl; session = λ r. refl; zombie = λ r. refl }
+
+-- so do new actions and a new mask
+pub keeps_give_signals : (g : Signals) → Keeps (give_signals g)
+unfolding give_signals
+keeps_give_signals g = record { pid = λ r. refl; parent = λ r. refl; group = λ r. refl; session = λ r. refl; zombie = λ r. refl }
+
+-- so does a signal that is generated
+pub keeps_signalled : (signal : PendingSignal) → Keeps (signalled signal)
+unfolding signalled
+keeps_signalled signal = record { pid = λ r. refl; parent = λ r. refl; group = λ r. refl; session = λ r. refl; zombie = λ r. refl }
+
+-- so does a notice of an end
+pub keeps_noticed : (signal : PendingSignal) → Keeps (noticed signal)
+unfolding noticed
+keeps_noticed signal = let k = keeps_signalled signal in record {
+  pid = λ r. either (λ (q : Process). q.pid) (ignores_children r.signals) _ _ r.pid refl (k.pid r);
+  parent = λ r. either (λ (q : Process). q.parent) (ignores_children r.signals) _ _ r.parent refl (k.parent r);
+  group = λ r. either (λ (q : Process). q.group) (ignores_children r.signals) _ _ r.group refl (k.group r);
+  session = λ r. either (λ (q : Process). q.session) (ignores_children r.signals) _ _ r.session refl (k.session r);
+  zombie = λ r. either (λ (q : Process). is_zombie q.life) (ignores_children r.signals) _ _ (is_zombie r.life) refl (k.zombie r);
+}

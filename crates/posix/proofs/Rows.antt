@@ -3,25 +3,32 @@ use Rattle.std.specs.Prelude.{ℕ, ◌≡◌, ◌==◌, if◌then◌else◌, ◌
 use Rattle.std.specs.Fmt.{digits}
 use Rattle.posix.specs.declared.event.Event.{Event}
 use Rattle.posix.specs.declared.event.Event.TheVariants.{Step, Tick}
-use Rattle.posix.specs.declared.entry.Entry.TheVariants.{Noted, Called, Reported, NoMemory, Ended, Halted}
+use Rattle.posix.specs.declared.entry.Entry.TheVariants.{Noted, Called, Reported, NoMemory, Handled, Returned, Ended, Halted}
 use Rattle.posix.specs.declared.instr.Instr.{Instr}
 use Rattle.posix.specs.declared.instr.Instr.TheVariants.{Set, Compute, Jump, JumpIf, Note, Sys}
 use Rattle.posix.specs.declared.instr.Operator.TheVariants.{Div, Rem}
 use Rattle.posix.specs.declared.instr.Condition.TheVariants.{Zero}
-use Rattle.posix.specs.declared.instr.Call.TheVariants.{Exit, Fork, Waitpid, Pause, SchedYield, Getpid}
+use Rattle.posix.specs.declared.instr.Call.TheVariants.{Exit, Fork, Waitpid, Pause, SchedYield, Getpid, Kill, Sigaction, Sigprocmask, Sigsuspend, Sigreturn}
 use Rattle.posix.specs.Processes.{nothing_pending, default_actions, zero_registers, zero_memory}
 use Rattle.posix.specs.Tables.{lookup, changed, inserted, removed, children_in, adopted}
 use Rattle.posix.specs.NextPid.{is_free, next_free}
 use Rattle.posix.specs.States.{Program, World, State, boot, is_in, without}
 use Rattle.posix.specs.Entries.{Line, line, numbered}
 use Rattle.posix.specs.Execute.{exec_one}
-use Rattle.posix.specs.Outcomes.{finished}
+use Rattle.posix.specs.Outcomes.{finished, written}
+use Rattle.posix.specs.Credentials.{setuid, seteuid, setgid, setegid}
+use Rattle.posix.specs.Generation.{generated, signalled, signalled_all}
+use Rattle.posix.specs.Choice.{least_ready, chosen, taken}
+use Rattle.posix.specs.Handlers.{entered, at_handler, handles, returned, set_action, set_mask}
+use Rattle.posix.specs.Delivery.{handle, take_out, deliver, fault, return_from_handler}
+use Rattle.posix.specs.Sends.{targets, permitted, sending, sent_among, sent, kill}
+use Rattle.posix.specs.SignalCalls.{give_credentials, give_signals, sigaction, sigprocmask, set_of, sigpending}
 use Rattle.posix.specs.Births.{child_of, fork_as}
-use Rattle.posix.specs.Ends.{make_zombie, buried, end_process}
+use Rattle.posix.specs.Ends.{make_zombie, buried, noticed, notice_of_end, zombies_of, tell_of_all, end_process}
 use Rattle.posix.specs.Waits.{report_of, report, news_told, wait}
 use Rattle.posix.specs.Attempts.{attempt, attempt_again}
 use Rattle.posix.specs.Settle.{can_act, settle}
-use Rattle.posix.specs.Step.{set_cpu, enter, after_trap, act, step, tick, happens, next}
+use Rattle.posix.specs.Step.{set_cpu, enter, after_trap, act_in, act, step, tick, happens, next}
 use Rattle.posix.specs.Printing.{print}
 
 abbrev program : Option ℕ → Option ℕ → List Instr → Program
@@ -42,7 +49,7 @@ trace w events = trace_from 1 (boot w) (λ k. true) events
 
 -- opens every definition of an operation
 unfoldable everything : Unit {0}
-unfolding nothing_pending default_actions zero_registers zero_memory exec_one digits lookup changed inserted removed children_in adopted is_free next_free is_in without finished child_of fork_as make_zombie buried end_process report_of report news_told wait attempt attempt_again can_act settle set_cpu enter after_trap act step tick happens next
+unfolding nothing_pending default_actions zero_registers zero_memory exec_one digits lookup changed inserted removed children_in adopted is_free next_free is_in without finished written setuid seteuid setgid setegid generated signalled signalled_all least_ready chosen taken entered at_handler handles returned set_action set_mask child_of fork_as make_zombie buried noticed notice_of_end zombies_of tell_of_all end_process report_of report news_told wait handle take_out deliver fault return_from_handler targets permitted sending sent_among sent kill give_credentials give_signals sigaction sigprocmask set_of sigpending attempt attempt_again can_act settle set_cpu enter after_trap act_in act step tick happens next
 everything = tt
 
 abbrev note_and_exit : World
@@ -119,3 +126,28 @@ row_extreme_targets : trace (world 40 1 (program None None (Set 1 (negsuc 922337
     ≡ line 2 (Called 1 Waitpid (negsuc 9)) ∷ []
 unfolding everything
 row_extreme_targets = refl
+
+row_children_ignored : trace (world 40 1 (program None None (Set 1 (pos 17) ∷ Set 2 (pos 1) ∷ Sys Sigaction ∷ Sys Fork ∷ JumpIf Zero 0 26 ∷ Sys Fork ∷ JumpIf Zero 0 26 ∷ Set 1 (negsuc 0) ∷ Set 2 (pos 0) ∷ Sys Waitpid ∷ Sys Exit ∷ []) ∷ [])) (replicate 15 Step)
+    ≡ line 3 (Called 1 Sigaction (pos 0)) ∷ line 4 (Called 1 Fork (pos 2)) ∷ line 6 (Called 1 Fork (pos 3)) ∷ line 12 (Ended 2 4352) ∷ line 14 (Ended 3 4352) ∷ line 15 (Called 1 Waitpid (negsuc 9)) ∷ []
+unfolding everything
+row_children_ignored = refl
+
+row_completed_call_goes_first : trace (world 40 1 (program None None (Set 1 (pos 17) ∷ Set 2 (pos 25) ∷ Sys Sigaction ∷ Sys Fork ∷ JumpIf Zero 0 24 ∷ Set 1 (negsuc 0) ∷ Sys Waitpid ∷ Note 1 ∷ Sys Exit ∷ Sys Sigreturn ∷ []) ∷ [])) (replicate 13 Step)
+    ≡ line 3 (Called 1 Sigaction (pos 0)) ∷ line 4 (Called 1 Fork (pos 2)) ∷ line 9 (Ended 2 4352) ∷ line 10 (Reported 1 2 4352) ∷ line 11 (Handled 1 17 (pos 4352) 2) ∷ line 12 (Returned 1) ∷ line 13 (Noted 1 (pos 4352)) ∷ []
+unfolding everything
+row_completed_call_goes_first = refl
+
+row_interrupted_wait : trace (world 40 1 (program None None (Set 1 (pos 10) ∷ Set 2 (pos 28) ∷ Sys Sigaction ∷ Sys Fork ∷ JumpIf Zero 0 24 ∷ Set 1 (negsuc 0) ∷ Sys Waitpid ∷ Sys Pause ∷ Set 1 (pos 1) ∷ Set 2 (pos 10) ∷ Sys Kill ∷ Sys Pause ∷ Sys Sigreturn ∷ []) ∷ [])) (replicate 15 Step)
+    ≡ line 3 (Called 1 Sigaction (pos 0)) ∷ line 4 (Called 1 Fork (pos 2)) ∷ line 11 (Called 2 Kill (pos 0)) ∷ line 13 (Called 1 Waitpid (negsuc 3)) ∷ line 13 (Handled 1 10 (pos 0) 2) ∷ line 14 (Returned 1) ∷ []
+unfolding everything
+row_interrupted_wait = refl
+
+row_restarted_wait : trace (world 40 1 (program None None (Set 4 (pos 268435456) ∷ Set 1 (pos 10) ∷ Set 2 (pos 29) ∷ Sys Sigaction ∷ Sys Fork ∷ JumpIf Zero 0 25 ∷ Set 1 (negsuc 0) ∷ Sys Waitpid ∷ Sys Pause ∷ Set 1 (pos 1) ∷ Set 2 (pos 10) ∷ Sys Kill ∷ Sys Pause ∷ Sys Sigreturn ∷ []) ∷ [])) (replicate 16 Step)
+    ≡ line 4 (Called 1 Sigaction (pos 0)) ∷ line 5 (Called 1 Fork (pos 2)) ∷ line 12 (Called 2 Kill (pos 0)) ∷ line 14 (Handled 1 10 (pos 0) 2) ∷ line 15 (Returned 1) ∷ []
+unfolding everything
+row_restarted_wait = refl
+
+row_suspend_restores_the_mask : trace (world 40 1 (program None None (Set 1 (pos 10) ∷ Set 2 (pos 31) ∷ Sys Sigaction ∷ Set 1 (pos 2) ∷ Set 2 (pos 512) ∷ Sys Sigprocmask ∷ Set 1 (pos 1) ∷ Set 2 (pos 10) ∷ Sys Kill ∷ Set 1 (pos 0) ∷ Sys Sigsuspend ∷ Set 1 (pos 0) ∷ Set 2 (pos 0) ∷ Sys Sigprocmask ∷ Note 2 ∷ Sys Sigreturn ∷ []) ∷ [])) (replicate 17 Step)
+    ≡ line 3 (Called 1 Sigaction (pos 0)) ∷ line 6 (Called 1 Sigprocmask (pos 0)) ∷ line 9 (Called 1 Kill (pos 0)) ∷ line 12 (Called 1 Sigsuspend (negsuc 3)) ∷ line 12 (Handled 1 10 (pos 0) 1) ∷ line 13 (Returned 1) ∷ line 16 (Called 1 Sigprocmask (pos 0)) ∷ line 17 (Noted 1 (pos 512)) ∷ []
+unfolding everything
+row_suspend_restores_the_mask = refl

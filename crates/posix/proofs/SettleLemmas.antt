@@ -1,5 +1,5 @@
 -- To ask the records one after another, from the least number on, is to settle; and what settles stays regular.
-use Rattle.std.proofs.Common.{◌≡◌, ℕ, ◌<◌, ◌≤◌, Bool, true, false, cond, not, ◌&&◌, ◌||◌, refl, ap, sym, ◌∙◌, arith, subst, List, [], ◌∷◌, ◌++◌, append-nil, length, filter, find, Option, Some, None, ◌==◌, ℤ, nat_lt, inl, inr}
+use Rattle.std.proofs.Common.{◌≡◌, ℕ, ◌<◌, ◌≤◌, Bool, true, false, cond, not, ◌&&◌, ◌||◌, refl, ap, sym, ◌∙◌, arith, subst, List, [], ◌∷◌, ◌++◌, append-nil, length, filter, find, Option, Some, None, ◌==◌, ℤ, nat_lt, inl, inr, is_some}
 use Rattle.std.specs.List.{list_any, AllByRecursion}
 use Rattle.std.specs.Option.{IfSome}
 use Rattle.std.proofs.lemmas.Bool.{eqb-true, eq-eqb, ne_eqb, cases_order, ltb-true}
@@ -10,12 +10,15 @@ use Rattle.posix.specs.declared.process.Blocked.{Blocked}
 use Rattle.posix.specs.declared.process.Blocked.TheVariants as blocked
 use Rattle.posix.specs.declared.process.Report.{Report}
 use Rattle.posix.specs.declared.process.Report.TheVariants as found
-use Rattle.posix.specs.Processes.{Process, is_running, is_zombie, argument}
+use Rattle.posix.specs.Signals.{KILL}
+use Rattle.posix.specs.Processes.{Process, is_running, is_zombie, is_living, argument}
 use Rattle.posix.specs.Tables.{IsRising, has_pid, lookup, pids, first_pid, above, next_above, left_of}
 use Rattle.posix.specs.States.{State, is_in}
 use Rattle.posix.specs.Regular.{IsPlaced}
 use Rattle.posix.specs.Outcomes.{Attempted}
 use Rattle.posix.specs.Waits.{wait, wait_with, report, options_in, are_known, has_option}
+use Rattle.posix.specs.Generation.{is_pending}
+use Rattle.posix.specs.Choice.{chosen}
 use Rattle.posix.specs.Attempts.{attempt_again}
 use Rattle.posix.specs.Settle.{woken, woken_if, settle, wakes, can_act, can_go_on, is_block}
 use Rattle.posix.proofs.TableLemmas.{Above, above_less, lookup_above, pid_looked}
@@ -73,26 +76,23 @@ can_go_on_same s t same r (Some (blocked.Sigsuspend mask)) = refl
 -- where waits find the same, the same processes can act
 pub can_act_same : (s t : State) → ReportsSame s t → (r : Process) → can_act s r ≡ can_act t r
 unfolding can_act
-can_act_same s t same r = ap (λ b. is_running r.life && b) (can_go_on_same s t same r r.blocked)
+can_act_same s t same r =
+    ap (λ b. is_living r && is_pending r.signals KILL || is_running r.life && (b || is_some (chosen r.life r.signals))) (can_go_on_same s t same r r.blocked)
 
 -- the order doesn't count
 pub can_act_order : (s : State) (o : List ℕ) (r : Process) → can_act (record s { order = o }) r ≡ can_act s r
 can_act_order s o r = can_act_same (record s { order = o }) s (λ caller group choice options. refl) r
 
--- who can act runs
-pub can_act_runs : (s : State) (r : Process) → can_act s r ≡ true → is_running r.life ≡ true
-unfolding can_act
-can_act_runs s r e = grind arith
+-- a zombie can't act, whatever else
+zombie_rests : (l : Life) (k g : Bool) → (not (is_zombie l) && k || is_running l && g) ≡ true → is_zombie l ≡ false
+zombie_rests Running k g e = refl
+zombie_rests Stopped k g e = refl
+zombie_rests (Zombie status) k g e = absurd (cc)
 
--- who runs is no zombie
-running_lives : (l : Life) → is_running l ≡ true → is_zombie l ≡ false
-running_lives Running e = refl
-running_lives Stopped e = refl
-running_lives (Zombie status) e = absurd (cc)
-
--- so it is no zombie
+-- who can act is no zombie
 pub can_act_lives : (s : State) (r : Process) → can_act s r ≡ true → is_zombie r.life ≡ false
-can_act_lives s r e = running_lives r.life (can_act_runs s r e)
+unfolding can_act
+can_act_lives s r e = zombie_rests r.life (is_pending r.signals KILL) (can_go_on s r r.blocked || is_some (chosen r.life r.signals)) e
 
 -- ---- what one asking comes to
 

@@ -1,39 +1,25 @@
 -- Who can act has a place, keeps it, and comes nearer to its turn.
-use Rattle.std.proofs.Common.{◌≡◌, ◌≢◌, ℕ, zero, suc, add-zero, append_assoc, ◌+◌, ◌≤◌, Bool, true, false, cond, not, ◌&&◌, ◌||◌, refl, ap, sym, ◌∙◌, arith, subst, List, [], ◌∷◌, ◌++◌, filter, find, Option, Some, None, option_and_then, ◌==◌, slice_get, inl, inr, ◌⊎◌}
+use Rattle.std.proofs.Common.{◌≡◌, ◌≢◌, ℕ, zero, suc, add-zero, append_assoc, ◌+◌, ◌≤◌, Bool, true, false, cond, not, ◌&&◌, ◌||◌, refl, ap, sym, ◌∙◌, arith, subst, List, [], ◌∷◌, ◌++◌, filter, find, Option, Some, None, option_and_then, ◌==◌, slice_get, inl, inr}
 use Rattle.std.specs.List.{list_any}
 use Rattle.std.proofs.lemmas.Bool.{eqb-true, eq-eqb, ne_eqb}
 use Rattle.std.proofs.lemmas.List.Sums.{sum_by-cons}
-use Rattle.posix.specs.declared.instr.Call.{Call}
-use Rattle.posix.specs.declared.instr.Call.TheVariants.{Exit, Fork, Waitpid, Pause, SchedYield, Getpid, Getppid}
-use Rattle.posix.specs.declared.instr.Trap.{Trap}
-use Rattle.posix.specs.declared.instr.Trap.TheVariants as trap
 use Rattle.posix.specs.declared.event.Event.{Event}
 use Rattle.posix.specs.declared.event.Event.TheVariants.{Step, Tick}
 use Rattle.posix.specs.declared.entry.Entry.{Entry}
-use Rattle.posix.specs.declared.entry.Entry.TheVariants.{Ended, Halted}
-use Rattle.posix.specs.declared.process.Blocked.{Blocked}
-use Rattle.posix.specs.declared.process.Blocked.TheVariants as blocked
-use Rattle.posix.specs.declared.process.Report.{Report}
-use Rattle.posix.specs.declared.process.Report.TheVariants as found
-use Rattle.posix.specs.Statuses.{exited, killed}
-use Rattle.posix.specs.Processes.{Process, Cpu, argument, first_process}
+use Rattle.posix.specs.Processes.{Process, first_process}
 use Rattle.posix.specs.Tables.{lookup, has_pid, pids}
-use Rattle.posix.specs.States.{State, World, boot, is_in, without, current, next_pid, process}
+use Rattle.posix.specs.States.{State, World, boot, is_in, without, current, process}
 use Rattle.posix.specs.Regular.{IsDistinct}
-use Rattle.posix.specs.Execute.{exec_one}
-use Rattle.posix.specs.Outcomes.{Outcome, Attempted, Done, Block}
-use Rattle.posix.specs.Births.{fork_as}
-use Rattle.posix.specs.Ends.{end_process, halt, depart}
-use Rattle.posix.specs.Waits.{wait, wait_with, report, options_in, are_known, has_option}
-use Rattle.posix.specs.Attempts.{attempt, attempt_again}
+use Rattle.posix.specs.Outcomes.{Outcome}
 use Rattle.posix.specs.Settle.{settle, wakes, can_act}
-use Rattle.posix.specs.Step.{IsStep, next, happens, step, act, after_trap, begin_call, go_on, tick, rotate, pass_time, code_of}
+use Rattle.posix.specs.Step.{IsStep, next, happens, step, act, tick, rotate, pass_time}
 use Rattle.posix.specs.Entries.{Line, numbered}
 use Rattle.posix.specs.Runs.{RunsFrom}
 use Rattle.posix.specs.Turns.{NoWakeIsLost, places_before, is_tick, ticks_in, HasTurn}
 use Rattle.posix.proofs.TableLemmas.{pid_looked}
 use Rattle.posix.proofs.OrderLemmas.{without_absent}
 use Rattle.posix.proofs.SettleLemmas.{can_act_order}
+use Rattle.posix.proofs.ActLemmas.{Turned, acted}
 
 -- ---- what an event comes to
 
@@ -151,95 +137,6 @@ first_has_place w p r e act =
 
 -- ---- the order after an event
 
--- nothing happens to the order, or p loses its place, or p goes last
-abbrev Turned : ℕ → List ℕ → List ℕ → Type 0
-Turned p old new = (new ≡ old) ⊎ ((new ≡ without p old) ⊎ (new ≡ without p old ++ p ∷ []))
-
--- the same of an attempt that is done
-abbrev TurnedBy : ℕ → List ℕ → Attempted → Type 0
-TurnedBy p old (Done outcome) = Turned p old outcome.state.order
-TurnedBy p old (Block b) = Unit {0}
-
--- of both sides of a test
-turned_if : (p : ℕ) (old : List ℕ) (b : Bool) (x y : Attempted) → TurnedBy p old x → TurnedBy p old y → TurnedBy p old (cond b x y)
-turned_if p old true x y h k = h
-turned_if p old false x y h k = k
-
--- a wait leaves the order
-turned_with : (s : State) (me : Process) (options : ℕ) (what : Report) → TurnedBy me.pid s.order (wait_with s me.pid options what)
-turned_with s me options found.NoChild = inl refl
-turned_with s me options found.Nothing = turned_if me.pid s.order (has_option options 1) _ _ (inl refl) tt
-turned_with s me options (found.End p status) = inl refl
-turned_with s me options (found.Change p status) = inl refl
-
--- a wait leaves the order
-turned_wait : (s : State) (me : Process) → TurnedBy me.pid s.order (wait s me)
-unfolding wait
-turned_wait s me = turned_if me.pid s.order (are_known (options_in (argument me 2))) _ _
-    (turned_with s me (options_in (argument me 2)) (report s.processes me.pid me.group (argument me 1) (options_in (argument me 2)))) (inl refl)
-
--- an outcome by its parts
-abbrev ended : State → List Entry → Outcome
-ended s entries = record { state = s; entries = entries }
-
--- who ends loses its place
-turned_end : (s : State) (r : Process) (status : ℕ) → Turned r.pid s.order (end_process s r status).state.order
-unfolding end_process
-turned_end s r status =
-    elim (r.pid == 1) as (λ b. (r.pid == 1) ≡ b → Turned r.pid s.order (cond b (ended (halt s status) (Ended r.pid status ∷ Halted ∷ [])) (ended (depart s r.pid status) (Ended r.pid status ∷ []))).state.order) [
-      | true ↦ λ t. inr (inl (ap (λ n. without n s.order) (sym (eqb-true r.pid 1 t))))
-      | false ↦ λ t. inr (inl refl)
-    ] refl
-
--- a fork leaves the order
-turned_fork : (granted : Bool) (s : State) (me : Process) (n : Option ℕ) → TurnedBy me.pid s.order (fork_as granted s me n)
-unfolding fork_as
-turned_fork granted s me None = inl refl
-turned_fork granted s me (Some n) = turned_if me.pid s.order granted _ _ (inl refl) (inl refl)
-
--- an attempt turns its caller alone
-turned_attempt : (granted : Bool) (s : State) (me : Process) (call : Call) → TurnedBy me.pid s.order (attempt granted s me call)
-unfolding attempt
-turned_attempt granted s me Exit = turned_end s me (exited (argument me 1))
-turned_attempt granted s me Fork = turned_fork granted s me (next_pid s)
-turned_attempt granted s me Waitpid = turned_wait s me
-turned_attempt granted s me Pause = tt
-turned_attempt granted s me SchedYield = inr (inr refl)
-turned_attempt granted s me Getpid = inl refl
-turned_attempt granted s me Getppid = inl refl
-
--- so does one afresh
-turned_again : (s : State) (me : Process) (b : Blocked) → TurnedBy me.pid s.order (attempt_again s me b)
-unfolding attempt_again
-turned_again s me blocked.Waitpid = turned_wait s me
-turned_again s me blocked.Read = tt
-turned_again s me blocked.Pause = tt
-turned_again s me (blocked.Sigsuspend mask) = tt
-
--- who is blocked loses its place
-turned_begin : (s : State) (r : Process) (a : Attempted) → TurnedBy r.pid s.order a → Turned r.pid s.order (begin_call s r a).state.order
-turned_begin s r (Done outcome) h = h
-turned_begin s r (Block b) h = inr (inl refl)
-
--- who stays blocked loses its place
-turned_on : (s : State) (r : Process) (a : Attempted) → TurnedBy r.pid s.order a → Turned r.pid s.order (go_on s r a).state.order
-turned_on s r (Done outcome) h = h
-turned_on s r (Block b) h = inr (inl refl)
-
--- what follows an instruction turns the current process alone
-turned_trap : (granted : Bool) (s : State) (r : Process) (c : Cpu) (t : Trap) → Turned r.pid s.order (after_trap granted s r c t).state.order
-unfolding after_trap
-turned_trap granted s r c trap.Next = inl refl
-turned_trap granted s r c (trap.Note z) = inl refl
-turned_trap granted s r c (trap.Call call) = turned_begin s r _ (turned_attempt granted s r call)
-turned_trap granted s r c (trap.Fault sig) = turned_end s r (killed sig)
-
--- an action turns the current process alone
-turned_act : (granted : Bool) (s : State) (r : Process) (b : Option Blocked) → Turned r.pid s.order (act granted s r b).state.order
-unfolding act
-turned_act granted s r (Some b) = turned_on s r _ (turned_again s r b)
-turned_act granted s r None = let done = exec_one (code_of s r) r.cpu in turned_trap granted s r done.cpu done.trap
-
 -- one other than q may have turned
 abbrev OtherTurned : ℕ → List ℕ → List ℕ → Type 0
 OtherTurned q old new = (p : ℕ) × (p ≢ q) × Turned p old new
@@ -252,7 +149,7 @@ nobody_turned q old = (suc q, λ e. omega (arith, e), inl refl)
 turned_found : (granted : Bool) (s : State) (p q : ℕ) → p ≢ q → (o : Option Process) → lookup p s.processes ≡ o → OtherTurned q s.order (step granted s o).state.order
 unfolding step
 turned_found granted s p q ne None e = nobody_turned q s.order
-turned_found granted s p q ne (Some r) e = (r.pid, λ k. ne (sym (pid_looked p s.processes r e) ∙ k), turned_act granted s r r.blocked)
+turned_found granted s p q ne (Some r) e = (r.pid, λ k. ne (sym (pid_looked p s.processes r e) ∙ k), (acted granted s r).order)
 
 -- no process, no turn
 turned_none : (granted : Bool) (s : State) (q : ℕ) → OtherTurned q s.order (step granted s None).state.order

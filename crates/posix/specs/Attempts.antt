@@ -1,7 +1,7 @@
 -- Attempts of system calls.
 use Rattle.std.specs.Prelude.{Bool, pos}
 use Rattle.posix.specs.declared.instr.Call.{Call}
-use Rattle.posix.specs.declared.instr.Call.TheVariants.{Exit, Fork, Waitpid, Pause, SchedYield, Getpid, Getppid}
+use Rattle.posix.specs.declared.instr.Call.TheVariants.{Exit, Fork, Waitpid, Pause, SchedYield, Getpid, Getppid, Getuid, Geteuid, Getgid, Getegid, Setuid, Seteuid, Setgid, Setegid, Kill, Sigaction, Sigprocmask, Sigpending, Sigsuspend, Sigreturn}
 use Rattle.posix.specs.declared.process.Blocked.{Blocked}
 use Rattle.posix.specs.declared.process.Blocked.TheVariants as blocked
 use Rattle.posix.specs.Statuses.{exited}
@@ -11,6 +11,10 @@ use Rattle.posix.specs.Outcomes.{Attempted, Done, Block, gives}
 use Rattle.posix.specs.Births.{fork_as}
 use Rattle.posix.specs.Ends.{end_process}
 use Rattle.posix.specs.Waits.{wait}
+use Rattle.posix.specs.Credentials.{setuid, seteuid, setgid, setegid}
+use Rattle.posix.specs.Delivery.{return_from_handler}
+use Rattle.posix.specs.Sends.{kill}
+use Rattle.posix.specs.SignalCalls.{set_credentials, sigaction, sigprocmask, sigpending}
 
 -- What each call does, XSH under its name. Whether the host grants memory matters where a call needs
 -- some: a fork with a number for the child.
@@ -22,9 +26,22 @@ attempt granted s me Pause = Block blocked.Pause
 attempt granted s me SchedYield = gives (go_last s me.pid) me.pid SchedYield (pos 0)
 attempt granted s me Getpid = gives s me.pid Getpid (pos me.pid)
 attempt granted s me Getppid = gives s me.pid Getppid (pos me.parent)
+attempt granted s me Getuid = gives s me.pid Getuid (pos me.credentials.user.real)
+attempt granted s me Geteuid = gives s me.pid Geteuid (pos me.credentials.user.effective)
+attempt granted s me Getgid = gives s me.pid Getgid (pos me.credentials.group.real)
+attempt granted s me Getegid = gives s me.pid Getegid (pos me.credentials.group.effective)
+attempt granted s me Setuid = set_credentials s me.pid Setuid (setuid me.credentials (argument me 1))
+attempt granted s me Seteuid = set_credentials s me.pid Seteuid (seteuid me.credentials (argument me 1))
+attempt granted s me Setgid = set_credentials s me.pid Setgid (setgid me.credentials (argument me 1))
+attempt granted s me Setegid = set_credentials s me.pid Setegid (setegid me.credentials (argument me 1))
+attempt granted s me Kill = kill s me
+attempt granted s me Sigaction = sigaction s me
+attempt granted s me Sigprocmask = sigprocmask s me
+attempt granted s me Sigpending = sigpending s me
+attempt granted s me Sigsuspend = Block (blocked.Sigsuspend me.signals.mask)
+attempt granted s me Sigreturn = Done (return_from_handler s me)
 
--- The call that a process is blocked in, attempted afresh. No process is blocked in read or sigsuspend
--- yet.
+-- The call that a process is blocked in, attempted afresh. No process is blocked in read yet.
 unfoldable pub attempt_again : State → Process → Blocked → Attempted
 attempt_again s me blocked.Waitpid = wait s me
 attempt_again s me blocked.Read = Block blocked.Read

@@ -15,8 +15,7 @@ child_of birth me n = finished ((0, pos 0) ∷ []) (record me {
   pid = n;
   birth = birth;
   parent = me.pid;
-  standard = nothing_pending;
-  queue = [];
+  signals = record (me.signals) { standard = nothing_pending; queue = [] };
   news = news.Nothing;
   ran_exec = false;
   alarm = None;

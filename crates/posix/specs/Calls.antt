@@ -1,7 +1,7 @@
 -- System calls by their names.
 use Rattle.std.specs.Prelude.{ℕ, List, [], ◌∷◌, codes, Option, find, bytes_eq}
 use Rattle.posix.specs.declared.instr.Call.{Call}
-use Rattle.posix.specs.declared.instr.Call.TheVariants.{Exit, Fork, Waitpid, Pause, SchedYield, Getpid, Getppid}
+use Rattle.posix.specs.declared.instr.Call.TheVariants.{Exit, Fork, Waitpid, Pause, SchedYield, Getpid, Getppid, Getuid, Geteuid, Getgid, Getegid, Setuid, Seteuid, Setgid, Setegid, Kill, Sigaction, Sigprocmask, Sigpending, Sigsuspend, Sigreturn}
 
 -- how a call is written, in world texts and in traces
 abbrev pub call_text : Call → List ℕ
@@ -12,10 +12,26 @@ call_text Pause = codes "pause"
 call_text SchedYield = codes "sched_yield"
 call_text Getpid = codes "getpid"
 call_text Getppid = codes "getppid"
+call_text Getuid = codes "getuid"
+call_text Geteuid = codes "geteuid"
+call_text Getgid = codes "getgid"
+call_text Getegid = codes "getegid"
+call_text Setuid = codes "setuid"
+call_text Seteuid = codes "seteuid"
+call_text Setgid = codes "setgid"
+call_text Setegid = codes "setegid"
+call_text Kill = codes "kill"
+call_text Sigaction = codes "sigaction"
+call_text Sigprocmask = codes "sigprocmask"
+call_text Sigpending = codes "sigpending"
+call_text Sigsuspend = codes "sigsuspend"
+call_text Sigreturn = codes "sigreturn"
 
 -- all calls, for looking one up
 abbrev pub all_calls : List Call
-all_calls = Exit ∷ Fork ∷ Waitpid ∷ Pause ∷ SchedYield ∷ Getpid ∷ Getppid ∷ []
+all_calls = Exit ∷ Fork ∷ Waitpid ∷ Pause ∷ SchedYield ∷ Getpid ∷ Getppid
+    ∷ Getuid ∷ Geteuid ∷ Getgid ∷ Getegid ∷ Setuid ∷ Seteuid ∷ Setgid ∷ Setegid
+    ∷ Kill ∷ Sigaction ∷ Sigprocmask ∷ Sigpending ∷ Sigsuspend ∷ Sigreturn ∷ []
 
 -- the call that a word names
 abbrev pub call_named : List ℕ → Option Call

@@ -1,24 +1,30 @@
 -- Ends, XSH _exit, Consequences of Process Termination.
-use Rattle.std.specs.Prelude.{ℕ, ◌==◌, true, if◌then◌else◌, [], ◌∷◌, None}
+use Rattle.std.specs.Prelude.{ℕ, ◌+◌, ◌==◌, Bool, true, false, ◌||◌, if◌then◌else◌, List, [], ◌∷◌, filter, None, pos}
+use Rattle.std.specs.Option.{option_map_or}
 use Rattle.posix.specs.declared.entry.Entry.TheVariants.{Ended, Halted}
-use Rattle.posix.specs.declared.process.Life.TheVariants.{Zombie}
+use Rattle.posix.specs.declared.process.Life.{Life}
+use Rattle.posix.specs.declared.process.Life.TheVariants.{Running, Stopped, Zombie}
 use Rattle.posix.specs.declared.process.News.TheVariants as news
-use Rattle.posix.specs.Processes.{Process, nothing_pending}
-use Rattle.posix.specs.Tables.{changed, adopted}
+use Rattle.posix.specs.declared.process.PendingSignal.{PendingSignal}
+use Rattle.posix.specs.Signals.{CHLD}
+use Rattle.posix.specs.Processes.{Process, Signals, nothing_pending, is_zombie}
+use Rattle.posix.specs.Tables.{lookup, changed, removed, adopted, children_in}
 use Rattle.posix.specs.States.{State, change, without, lose_place}
 use Rattle.posix.specs.Outcomes.{Outcome}
+use Rattle.posix.specs.Generation.{action, has_flag, is_ignored, signalled, SA_NOCLDWAIT}
 
 unfoldable pub make_zombie : ℕ → Process → Process
 make_zombie status r = record r { life = Zombie status }
+
+abbrev pub forgotten : Signals → Signals
+forgotten g = record g { standard = nothing_pending; queue = []; frames = [] }
 
 -- A zombie: nothing is pending for it, it has no frames, no news and no alarm, and is in no call. The
 -- rest stays, and nobody sees it.
 unfoldable pub buried : ℕ → Process → Process
 buried status r = record r {
   life = Zombie status;
-  standard = nothing_pending;
-  queue = [];
-  frames = [];
+  signals = forgotten r.signals;
   news = news.Nothing;
   alarm = None;
   blocked = None;
@@ -29,12 +35,62 @@ buried status r = record r {
 abbrev pub halt : State → ℕ → State
 halt s status = record (lose_place (change s 1 (make_zombie status)) 1) { halted = true }
 
--- The end of any other process: it is a zombie with its status and loses its place, and its children
--- become those of process 1. Its parent is given no notice yet, since there are no signals.
+-- The process is a zombie with its status and loses its place, and its children become those of process 1.
 abbrev pub depart : State → ℕ → ℕ → State
 depart s p status = record s { processes = adopted p 1 (changed p (buried status) s.processes); order = without p s.order }
 
+-- ---- notice of an end
+
+-- CHLD with the status word as its value and the child as its sender
+abbrev pub child_signal : ℕ → ℕ → PendingSignal
+child_signal child status = record { sig = CHLD; carried = record { value = pos status; sender = child } }
+
+abbrev pub ignores_children : Signals → Bool
+ignores_children g = is_ignored (action g CHLD).handler
+
+-- a parent that ignores CHLD gets none
+unfoldable pub noticed : PendingSignal → Process → Process
+noticed signal r = if ignores_children r.signals then r else signalled signal r
+
+-- the parent ignores CHLD or has SA_NOCLDWAIT, XSH _exit and sigaction
+abbrev pub drops_children : Signals → Bool
+drops_children g = ignores_children g || has_flag (action g CHLD) SA_NOCLDWAIT
+
+abbrev pub is_dropping : ℕ → List Process → Bool
+is_dropping parent rs = option_map_or (λ r. drops_children r.signals) (lookup parent rs) false
+
+-- the record of a zombie goes without a report
+abbrev pub drop_child : State → ℕ → State
+drop_child s child = record s { processes = removed child s.processes; dropped = s.dropped + 1 }
+
+-- The parent gets notice that a child ended, and the child is dropped where the parent drops its children.
+unfoldable pub notice_of_end : State → ℕ → ℕ → ℕ → State
+notice_of_end s parent child status =
+    let told = change s parent (noticed (child_signal child status)) in
+    if is_dropping parent s.processes then drop_child told child else told
+
+abbrev pub status_of : Life → ℕ
+status_of (Zombie status) = status
+status_of Running = 0
+status_of Stopped = 0
+
+-- the zombies among the children of p, in rising order
+unfoldable pub zombies_of : ℕ → List Process → List Process
+zombies_of p rs = filter (λ r. is_zombie r.life) (children_in p rs)
+
+-- process 1 gets notice of the end of each, one after another
+unfoldable pub tell_of_all : State → List Process → State
+tell_of_all s [] = s
+tell_of_all s (r ∷ rs) = tell_of_all (notice_of_end s 1 r.pid (status_of r.life)) rs
+
+-- ---- the end of a process
+
+-- In this order: process 1 takes the machine with it. Any other process becomes a zombie; its children
+-- go to process 1, which gets notice of those that have ended; and its parent gets notice of its end.
 unfoldable pub end_process : State → Process → ℕ → Outcome
 end_process s r status =
     if r.pid == 1 then record { state = halt s status; entries = Ended r.pid status ∷ Halted ∷ [] }
-    else record { state = depart s r.pid status; entries = Ended r.pid status ∷ [] }
+    else record {
+      state = notice_of_end (tell_of_all (depart s r.pid status) (zombies_of r.pid s.processes)) r.parent r.pid status;
+      entries = Ended r.pid status ∷ [];
+    }

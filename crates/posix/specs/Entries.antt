@@ -1,7 +1,7 @@
 -- What one event shows in the trace, and lines of a trace.
 use Rattle.std.specs.Prelude.{ℕ, Bool, false, ◌%◌, nat_lt, List, map, count_by}
 use Rattle.posix.specs.declared.entry.Entry.{Entry}
-use Rattle.posix.specs.declared.entry.Entry.TheVariants.{Noted, Called, Reported, NoMemory, Ended, Halted}
+use Rattle.posix.specs.declared.entry.Entry.TheVariants.{Noted, Called, Reported, NoMemory, Handled, Discarded, Returned, Ended, Halted}
 
 -- an entry with the number of its event
 pub record Line : Type 0 where
@@ -26,6 +26,9 @@ reports_end (Noted pid value) = false
 reports_end (Called pid call result) = false
 reports_end (Reported pid child status) = tells_end status
 reports_end (NoMemory pid call) = false
+reports_end (Handled pid sig value sender) = false
+reports_end (Discarded pid sig) = false
+reports_end (Returned pid) = false
 reports_end (Ended pid status) = false
 reports_end Halted = false
 

@@ -1,4 +1,5 @@
 pub mod Signals
+pub mod SignalSets
 pub mod Statuses
 pub mod Errnos
 pub mod Calls
@@ -9,9 +10,16 @@ pub mod States
 pub mod Entries
 pub mod Execute
 pub mod Outcomes
+pub mod Credentials
+pub mod Generation
+pub mod Choice
+pub mod Handlers
 pub mod Births
 pub mod Ends
 pub mod Waits
+pub mod Delivery
+pub mod Sends
+pub mod SignalCalls
 pub mod Attempts
 pub mod Settle
 pub mod Step

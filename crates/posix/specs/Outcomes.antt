@@ -43,6 +43,13 @@ finish s p results = change s p (finished results)
 abbrev pub gives : State → ℕ → Call → ℤ → Attempted
 gives s p call z = Done (record { state = finish s p ((0, z) ∷ []); entries = Called p call z ∷ [] })
 
+-- registers are written as more results of a call
+unfoldable pub written : ℕ → ℤ → Process → Process
+written i z r = record r { cpu = set_register r.cpu i z }
+
+abbrev pub write : State → ℕ → ℕ → ℤ → State
+write s p i z = change s p (written i z)
+
 abbrev pub minus : ℕ → ℤ
 minus zero = pos 0
 minus (suc n) = negsuc n

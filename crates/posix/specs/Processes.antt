@@ -5,6 +5,7 @@ use Rattle.posix.specs.declared.process.Carried.{Carried}
 use Rattle.posix.specs.declared.process.PendingSignal.{PendingSignal}
 use Rattle.posix.specs.declared.process.Handler.TheVariants as handler
 use Rattle.posix.specs.declared.process.Action.{Action}
+use Rattle.posix.specs.declared.sa_flags.SaFlags.{SaFlags}
 use Rattle.posix.specs.declared.process.Frame.{Frame}
 use Rattle.posix.specs.declared.process.Life.{Life}
 use Rattle.posix.specs.declared.process.Life.TheVariants.{Running, Stopped, Zombie}
@@ -18,6 +19,19 @@ pub record Cpu : Type 0 where
   pub registers : List ℤ  -- r0 to r7
   pub memory : List ℤ  -- the words at 0 to 255
 
+-- the ids of a process, credentials(7)
+pub record Credentials : Type 0 where
+  pub user : Ids ℕ
+  pub group : Ids ℕ
+
+-- the signals of a process, XSH 2.4
+pub record Signals : Type 0 where
+  pub mask : ℕ  -- the signals that it blocks, XSH sigprocmask
+  pub standard : List (Option Carried)  -- the pending standard signals: signal s at s - 1, XSH 2.4.1
+  pub queue : List PendingSignal  -- the pending real-time signals, the first to come first, XSH 2.4.2
+  pub actions : List Action  -- of signal s at s - 1, XSH 2.4.3
+  pub frames : List Frame  -- of the handlers that haven't returned, the newest last (own)
+
 -- In the words of XBD 3 and XSH 2.4; what Linux adds is in credentials(7), signal(7) and waitpid(2).
 pub record Process : Type 0 where
   pub pid : ℕ  -- XBD 3 Process ID
@@ -25,13 +39,8 @@ pub record Process : Type 0 where
   pub parent : ℕ  -- XSH getppid; 0 for process 1
   pub group : ℕ  -- XBD 3 Process Group ID
   pub session : ℕ  -- XBD 3 Session, by its leader's number
-  pub user : Ids ℕ  -- credentials(7)
-  pub group_ids : Ids ℕ
-  pub mask : ℕ  -- the signals that it blocks, XSH sigprocmask
-  pub standard : List (Option Carried)  -- the pending standard signals: signal s at s - 1, XSH 2.4.1
-  pub queue : List PendingSignal  -- the pending real-time signals, the first to come first, XSH 2.4.2
-  pub actions : List Action  -- of signal s at s - 1, XSH 2.4.3
-  pub frames : List Frame  -- of the handlers that haven't returned, the newest first (own)
+  pub credentials : Credentials
+  pub signals : Signals
   pub life : Life
   pub news : News  -- what no wait has reported, XSH waitpid
   pub ran_exec : Bool  -- since its birth, XSH setpgid EACCES
@@ -62,11 +71,23 @@ argument r i = slice_index_or r.cpu.registers i (pos 0)
 abbrev pub root_ids : Ids ℕ
 root_ids = record { real = 0; effective = 0; saved = 0 }
 
+abbrev pub root : Credentials
+root = record { user = root_ids; group = root_ids }
+
 unfoldable pub nothing_pending : List (Option Carried)
 nothing_pending = replicate 31 None
 
+abbrev pub no_flags : SaFlags
+no_flags = record { 0 = 0 }
+
+abbrev pub initial_action : Action
+initial_action = record { handler = handler.Default; mask = 0; flags = no_flags }
+
 unfoldable pub default_actions : List Action
-default_actions = replicate 64 (record { handler = handler.Default; mask = 0; flags = 0 })
+default_actions = replicate 64 initial_action
+
+abbrev pub initial_signals : Signals
+initial_signals = record { mask = 0; standard = nothing_pending; queue = []; actions = default_actions; frames = [] }
 
 unfoldable pub zero_registers : List ℤ
 zero_registers = replicate 8 (pos 0)
@@ -85,13 +106,8 @@ first_process = record {
   parent = 0;
   group = 1;
   session = 1;
-  user = root_ids;
-  group_ids = root_ids;
-  mask = 0;
-  standard = nothing_pending;
-  queue = [];
-  actions = default_actions;
-  frames = [];
+  credentials = root;
+  signals = initial_signals;
   life = Running;
   news = news.Nothing;
   ran_exec = false;

@@ -1,10 +1,13 @@
 -- After each event: a place for each process that can act.
-use Rattle.std.specs.Prelude.{ℕ, Bool, true, false, ◌&&◌, not, if◌then◌else◌, [], ◌∷◌, ◌++◌, filter, Option, Some, None}
+use Rattle.std.specs.Prelude.{ℕ, Bool, true, false, ◌&&◌, ◌||◌, not, is_some, if◌then◌else◌, [], ◌∷◌, ◌++◌, filter, Option, Some, None}
 use Rattle.posix.specs.declared.process.Blocked.{Blocked}
-use Rattle.posix.specs.Processes.{Process, is_running}
+use Rattle.posix.specs.Signals.{KILL}
+use Rattle.posix.specs.Processes.{Process, is_running, is_living}
 use Rattle.posix.specs.Tables.{pids}
 use Rattle.posix.specs.States.{State, process, has_place}
 use Rattle.posix.specs.Outcomes.{Attempted, Done, Block}
+use Rattle.posix.specs.Generation.{is_pending}
+use Rattle.posix.specs.Choice.{chosen}
 use Rattle.posix.specs.Attempts.{attempt_again}
 
 abbrev pub is_block : Attempted → Bool
@@ -16,9 +19,11 @@ abbrev pub can_go_on : State → Process → Option Blocked → Bool
 can_go_on s r None = true
 can_go_on s r (Some b) = not (is_block (attempt_again s r b))
 
--- No signal can be pending or chosen yet.
+-- KILL is pending for it, or it runs and goes on or takes a signal
 unfoldable pub can_act : State → Process → Bool
-can_act s r = is_running r.life && can_go_on s r r.blocked
+can_act s r =
+    is_living r && is_pending r.signals KILL
+    || is_running r.life && (can_go_on s r r.blocked || is_some (chosen r.life r.signals))
 
 abbrev pub wakes : State → Process → Bool
 wakes s r = not (has_place s r.pid) && can_act s r

@@ -1,5 +1,5 @@
 -- One event of the machine.
-use Rattle.std.specs.Prelude.{◌≡◌, ℕ, ◌+◌, Bool, if◌then◌else◌, List, [], ◌∷◌, Option, Some, None, slice_get}
+use Rattle.std.specs.Prelude.{◌≡◌, ℕ, ◌+◌, Bool, if◌then◌else◌, List, [], ◌∷◌, Option, Some, None, slice_get, ℤ}
 use Rattle.posix.specs.declared.instr.Instr.{Instr}
 use Rattle.posix.specs.declared.instr.Trap.{Trap}
 use Rattle.posix.specs.declared.instr.Trap.TheVariants as trap
@@ -8,13 +8,20 @@ use Rattle.posix.specs.declared.event.Event.TheVariants.{Step, Tick}
 use Rattle.posix.specs.declared.entry.Entry.{Entry}
 use Rattle.posix.specs.declared.entry.Entry.TheVariants.{Noted}
 use Rattle.posix.specs.declared.process.Blocked.{Blocked}
+use Rattle.posix.specs.declared.process.Blocked.TheVariants as blocked
 use Rattle.posix.specs.Statuses.{killed}
-use Rattle.posix.specs.Processes.{Process, Cpu}
+use Rattle.posix.specs.Signals.{KILL}
+use Rattle.posix.specs.SignalSets.{set_in}
+use Rattle.posix.specs.Processes.{Process, Signals, Cpu, argument}
 use Rattle.posix.specs.States.{Program, State, change, lose_place, go_last, current, current_process}
 use Rattle.posix.specs.Execute.{exec_one}
 use Rattle.posix.specs.Outcomes.{Outcome, silent, Attempted, Done, Block}
 use Rattle.posix.specs.Attempts.{attempt, attempt_again}
+use Rattle.posix.specs.Generation.{is_pending}
+use Rattle.posix.specs.Choice.{chosen}
+use Rattle.posix.specs.Handlers.{give_mask}
 use Rattle.posix.specs.Ends.{end_process}
+use Rattle.posix.specs.Delivery.{deliver, fault}
 use Rattle.posix.specs.Settle.{settle}
 
 -- ---- a step
@@ -22,25 +29,38 @@ use Rattle.posix.specs.Settle.{settle}
 unfoldable pub set_cpu : Cpu → Process → Process
 set_cpu c r = record r { cpu = c }
 
+-- sigsuspend begins with the mask in r1
+abbrev pub waiting_signals : Blocked → ℤ → Signals → Signals
+waiting_signals blocked.Waitpid z g = g
+waiting_signals blocked.Read z g = g
+waiting_signals blocked.Pause z g = g
+waiting_signals (blocked.Sigsuspend earlier) z g = give_mask (set_in z) g
+
 unfoldable pub enter : Blocked → Process → Process
-enter b r = record r { blocked = Some b }
+enter b r = record r { blocked = Some b; signals = waiting_signals b (argument r 1) r.signals }
 
 -- a call that has to wait: the process is blocked in it, with the pc at the call, and loses its place
 abbrev pub begin_call : State → Process → Attempted → Outcome
 begin_call s r (Done outcome) = outcome
 begin_call s r (Block b) = silent (lose_place (change s r.pid (enter b)) r.pid)
 
--- What follows an instruction. A machine fault ends the process by its signal, XSH 2.4.3 (own).
+-- what follows an instruction
 unfoldable pub after_trap : Bool → State → Process → Cpu → Trap → Outcome
 after_trap granted s r c trap.Next = silent (change s r.pid (set_cpu c))
 after_trap granted s r c (trap.Note z) = record { state = change s r.pid (set_cpu c); entries = Noted r.pid z ∷ [] }
 after_trap granted s r c (trap.Call call) = begin_call s r (attempt granted s r call)
-after_trap granted s r c (trap.Fault sig) = end_process s r (killed sig)
+after_trap granted s r c (trap.Fault sig) = fault s r sig
 
--- the process that is blocked still has to wait: it loses its place
+-- a signal that is chosen is delivered, or else this happens
+abbrev pub deliver_or : State → Process → Option ℕ → Outcome → Outcome
+deliver_or s r (Some n) other = deliver s r n
+deliver_or s r None other = other
+
+-- A call that can be completed goes before any signal but KILL. Where the process still has to wait, a
+-- signal is delivered; without one it loses its place.
 abbrev pub go_on : State → Process → Attempted → Outcome
 go_on s r (Done outcome) = outcome
-go_on s r (Block b) = silent (lose_place s r.pid)
+go_on s r (Block b) = deliver_or s r (chosen r.life r.signals) (silent (lose_place s r.pid))
 
 abbrev pub instructions : Option Program → List Instr
 instructions None = []
@@ -49,16 +69,22 @@ instructions (Some program) = program.instructions
 abbrev pub code_of : State → Process → List Instr
 code_of s r = instructions (slice_get s.world.programs r.program)
 
--- Of a process that is blocked the call is attempted afresh; else the instruction at the pc is run. A
--- pending KILL and a chosen signal will come before it: there are no signals yet.
-unfoldable pub act : Bool → State → Process → Option Blocked → Outcome
-act granted s r (Some b) = go_on s r (attempt_again s r b)
-act granted s r None = let done = exec_one (code_of s r) r.cpu in after_trap granted s r done.cpu done.trap
+-- Of a process that is blocked the call is attempted afresh; else a signal is delivered, or the
+-- instruction at the pc is run.
+unfoldable pub act_in : Bool → State → Process → Option Blocked → Outcome
+act_in granted s r (Some b) = go_on s r (attempt_again s r b)
+act_in granted s r None =
+    let done = exec_one (code_of s r) r.cpu in
+    deliver_or s r (chosen r.life r.signals) (after_trap granted s r done.cpu done.trap)
+
+-- KILL goes before all
+unfoldable pub act : Bool → State → Process → Outcome
+act granted s r = if is_pending r.signals KILL then end_process s r (killed KILL) else act_in granted s r r.blocked
 
 -- without a current process nothing happens
 unfoldable pub step : Bool → State → Option Process → Outcome
 step granted s None = silent s
-step granted s (Some r) = act granted s r r.blocked
+step granted s (Some r) = act granted s r
 
 -- ---- a tick
 

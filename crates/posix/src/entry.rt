@@ -2,6 +2,7 @@
 
 use crate::instr::Call;
 use crate::pid::Pid;
+use crate::sig::Sig;
 use crate::status::Status;
 
 /// What one event shows in the trace, without the event's number (own).
@@ -29,6 +30,22 @@ pub enum Entry {
     NoMemory {
         pid: Pid,
         call: Call,
+    },
+    /// A process entered the handler of a signal that came with a value and from a sender.
+    Handled {
+        pid: Pid,
+        sig: Sig,
+        value: i64,
+        sender: Pid,
+    },
+    /// A signal was delivered to a process without effect.
+    Discarded {
+        pid: Pid,
+        sig: Sig,
+    },
+    /// The newest handler of a process returned.
+    Returned {
+        pid: Pid,
     },
     /// A process ended.
     Ended {

@@ -44,9 +44,9 @@ pub fn order_is_rising_stamps()
 
 /// No wake is lost.
 ///
-/// A process can act if it runs, and is in no call or in one that needn't wait any longer. At the start
-/// and after each event each process that can act has a place. After a halt no event changes or shows
-/// anything.
+/// A living process can act if KILL is pending for it. One that runs can also act if it is in no call, or
+/// in one that needn't wait any longer, or if a signal is chosen for it. At the start and after each event
+/// each process that can act has a place. After a halt no event changes or shows anything.
 pub fn no_wake_is_lost()
     ensures start { (w : World) → NoWakeIsLost (boot w) }
     ensures after { (old new : State) (event : Event) (entries : List Entry) → IsStep old event entries new → old.halted ≡ false → NoWakeIsLost new }
@@ -74,13 +74,14 @@ pub fn turns_come()
 
 /// Refusals change little.
 ///
-/// A call with a negative result, and one for which the host has no memory, changes of its caller the
-/// result register, the pc and the blocked call, and nothing else. Where each process that can act has
-/// a place, and the list of processes rises, the whole event changes no more than that. A call that is
-/// taken up again asks for no memory yet.
+/// A call with a negative result other than -4, and one for which the host has no memory, changes of its
+/// caller the result register, the pc and the blocked call, and nothing else. Where each process that can
+/// act has a place, and the list of processes rises, the whole event changes no more than that. A call that
+/// a signal interrupts gives -4 and a handler is entered, which is no refusal. A call that is taken up
+/// again asks for no memory yet.
 pub fn refusals_change_little()
     ensures refused { (granted : Bool) (s : State) (me : Process) (call : Call) (o : Outcome) → attempt granted s me call ≡ Done o
-        → (p n : ℕ) (called : Call) → Contains o.entries (Called p called (negsuc n)) → o.state ≡ finish s me.pid ((0, negsuc n) ∷ []) }
+        → (p n : ℕ) (called : Call) → n ≢ 3 → Contains o.entries (Called p called (negsuc n)) → o.state ≡ finish s me.pid ((0, negsuc n) ∷ []) }
     ensures no_memory { (granted : Bool) (s : State) (me : Process) (call : Call) (o : Outcome) → attempt granted s me call ≡ Done o
         → (p : ℕ) (called : Call) → Contains o.entries (NoMemory p called) → o.state ≡ finish s me.pid ((0, refusal EAGAIN) ∷ []) }
     ensures again_refused { (s : State) (me : Process) (blocked : Blocked) (o : Outcome) → attempt_again s me blocked ≡ Done o
@@ -88,7 +89,7 @@ pub fn refusals_change_little()
     ensures again_no_memory { (s : State) (me : Process) (blocked : Blocked) (o : Outcome) → attempt_again s me blocked ≡ Done o
         → (p : ℕ) (called : Call) → Contains o.entries (NoMemory p called) → o.state ≡ finish s me.pid ((0, refusal EAGAIN) ∷ []) }
     ensures event_refused { (old new : State) (event : Event) (entries : List Entry) → IsStep old event entries new → IsRising old.processes → NoWakeIsLost old
-        → (p n : ℕ) (call : Call) → Contains entries (Called p call (negsuc n)) → new ≡ finish old p ((0, negsuc n) ∷ []) }
+        → (p n : ℕ) (call : Call) → n ≢ 3 → Contains entries (Called p call (negsuc n)) → new ≡ finish old p ((0, negsuc n) ∷ []) }
     ensures event_no_memory { (old new : State) (event : Event) (entries : List Entry) → IsStep old event entries new → IsRising old.processes → NoWakeIsLost old
         → (p : ℕ) (call : Call) → Contains entries (NoMemory p call) → new ≡ finish old p ((0, refusal EAGAIN) ∷ []) }
 {}

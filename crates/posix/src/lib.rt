@@ -12,7 +12,9 @@ pub mod instr;
 pub mod laws;
 pub mod pid;
 pub mod process;
+pub mod sa_flags;
 pub mod sig;
+pub mod sig_set;
 pub mod status;
 pub mod wait_options;
 
@@ -22,7 +24,11 @@ pub use event::Event;
 pub use ids::{Gid, Ids, Uid};
 pub use instr::{Call, Condition, Instr, Operator, Register, Trap};
 pub use pid::Pid;
-pub use process::{Action, Blocked, Carried, Frame, Handler, Life, News, PendingSignal, Report};
-pub use sig::{DefaultAction, Sig, SigSet};
+pub use process::{
+    Action, Blocked, Carried, Frame, Handler, Life, News, PendingSignal, Report, Sending,
+};
+pub use sa_flags::SaFlags;
+pub use sig::{DefaultAction, Sig};
+pub use sig_set::SigSet;
 pub use status::Status;
 pub use wait_options::WaitOptions;

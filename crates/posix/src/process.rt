@@ -1,7 +1,9 @@
 //! What the record of a process is made of.
 
 use crate::pid::Pid;
-use crate::sig::{Sig, SigSet};
+use crate::sa_flags::SaFlags;
+use crate::sig::Sig;
+use crate::sig_set::SigSet;
 use crate::status::Status;
 
 /// What comes with a signal: a value and its sender, number 0 where the kernel sent it.
@@ -31,17 +33,16 @@ pub enum Handler {
 }
 
 /// The action for one signal: its handler, the signals that the handler blocks besides, and flags
-/// (XSH sigaction): SA_NOCLDSTOP 1, SA_NOCLDWAIT 2, SA_SIGINFO 4, SA_RESTART 0x10000000, SA_NODEFER
-/// 0x40000000, SA_RESETHAND 0x80000000.
+/// (XSH sigaction).
 #[derive(Clone, Copy, Debug, PartialEq, Eq)]
 pub struct Action {
     pub handler: Handler,
     pub mask: SigSet,
-    pub flags: u64,
+    pub flags: SaFlags,
 }
 
 /// What a handler gives back as it returns.
-#[derive(Clone, Copy, Debug, PartialEq, Eq)]
+#[derive(Clone, Copy, Debug, Default, PartialEq, Eq)]
 pub struct Frame {
     pub pc: i64,
     pub registers: [i64; 8],
@@ -77,6 +78,17 @@ pub enum Blocked {
     Read,
     Pause,
     Sigsuspend(SigSet),
+}
+
+/// Whom a signal that is sent finds (XSH kill).
+#[derive(Clone, Copy, Debug, PartialEq, Eq, PartialOrd, Ord)]
+pub enum Sending {
+    /// No process is meant.
+    NobodyFound,
+    /// Of the processes that are meant none may be signalled.
+    NobodyPermitted,
+    /// At least one may be signalled.
+    Permitted,
 }
 
 /// What a wait has to report of the children that it names (XSH waitpid).

@@ -177,26 +177,3 @@ impl Sig {
         }
     }
 }
-
-/// A set of signals, as a signal mask: signal s is bit s - 1.
-#[derive(Clone, Copy, Debug, PartialEq, Eq)]
-pub struct SigSet {
-    bits: u64,
-}
-
-impl Model for SigSet {
-    ghost use Rattle.std.specs.Prelude.{ℕ};
-
-    ghost Value = { ℕ };
-
-    ghost view = { λ s. s.bits };
-
-    ghost invariant = { λ _. Unit {0} };
-
-    ghost inverse = { λ n. record { bits = n } };
-}
-
-impl SigSet {
-    /// No signal.
-    pub const EMPTY: SigSet = SigSet { bits: 0 };
-}

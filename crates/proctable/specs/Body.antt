@@ -2,6 +2,7 @@
 use Rattle.std.specs.Prelude.{ℕ, List}
 use Rattle.std.specs.Borrow.{RattleType}
 use Rattle.posix.specs.Processes.{Process, first_process}
+use Rattle.posix.specs.Choice.{chosen}
 use Rattle.posix.specs.Tables.{changed}
 use Rattle.proctable.specs.declared.body.Body.{Body}
 use Rattle.proctable.specs.declared.facts.Facts.{Facts}
@@ -18,6 +19,8 @@ process_of p q b = record first_process {
   parent = q;
   group = b.group;
   session = b.session;
+  credentials = b.creds;
+  signals = b.signals;
   life = b.life;
   news = b.news;
   blocked = b.blocked;
@@ -39,6 +42,8 @@ facts_of r = record {
   parent = r.parent;
   group = r.group;
   session = r.session;
+  creds = r.credentials;
+  chosen = chosen r.life r.signals;
   life = r.life;
   news = r.news;
   blocked = r.blocked;

@@ -1,22 +1,29 @@
 //! What a table keeps of a process beside its number and its parent's.
 
-ghost use Rattle.std.specs.Prelude.{◌≡◌, IfOk, pos, ℕ, ◌∷◌, []};
+ghost use Rattle.std.specs.Prelude.{◌≡◌, IfOk, OnOk, OnErr, Some, None, pos, ℕ, ◌∷◌, [], true, false};
+ghost use Rattle.posix.specs.declared.process.Frame.{Frame};
 ghost use Rattle.posix.specs.Processes.{first_process};
 ghost use Rattle.posix.specs.Births.{child_of};
-ghost use Rattle.posix.specs.Ends.{buried, make_zombie};
-ghost use Rattle.posix.specs.Outcomes.{finished};
+ghost use Rattle.posix.specs.Ends.{buried, make_zombie, noticed};
+ghost use Rattle.posix.specs.Outcomes.{finished, written};
+ghost use Rattle.posix.specs.Generation.{signalled};
+ghost use Rattle.posix.specs.Choice.{carried_by};
+ghost use Rattle.posix.specs.Handlers.{handles, is_full, newest_frame, returned};
+ghost use Rattle.posix.specs.Delivery.{take_out};
+ghost use Rattle.posix.specs.SignalCalls.{give_credentials};
 ghost use Rattle.posix.specs.Step.{enter};
 ghost use Rattle.posix.specs.Waits.{news_told};
 ghost use Rattle.proctable.specs.Body.{process_of};
 
-use posix::{Blocked, Life, News, Pid, Register, Status};
+use creds::Creds;
+use posix::{Blocked, Carried, Life, News, PendingSignal, Pid, Register, Sig, SigSet, Status};
+use signal::{FramesFull, NoFrame, Signals, leave_call, mask_before};
 use std::alloc::{AllocError, Global};
 use umach::Cpu;
 
 /// A process without its number and its parent.
 ///
-/// The ids, the signal mask, pending signals, actions, frames, the alarm and the exec mark of a process
-/// are not here: they stay as they are at boot.
+/// Its alarm and its exec mark are not here: they stay as they are at boot.
 #[derive(Drop)]
 pub struct Body {
     /// 1 for process 1, 2 for the next one born, and so on.
@@ -25,6 +32,10 @@ pub struct Body {
     pub group: Pid,
     /// Its session, by the number of the leader (XBD 3 Session).
     pub session: Pid,
+    /// Its user and group ids (credentials(7)).
+    pub creds: Creds,
+    /// Its signal mask, pending signals, actions and frames (XSH 2.4).
+    pub signals: Signals,
     /// Whether it runs, is stopped or has ended.
     pub life: Life,
     /// What no wait has reported of it yet (XSH waitpid).
@@ -46,6 +57,8 @@ impl Body {
             birth: 1,
             group: Pid::INIT,
             session: Pid::INIT,
+            creds: Creds::root(),
+            signals: Signals::initial(),
             life: Life::Running,
             news: News::Nothing,
             blocked: None,
@@ -54,8 +67,8 @@ impl Body {
         })
     }
 
-    /// The child of a fork, with this birth number: like the caller, but without news, and its call gave
-    /// 0 (XSH fork). An error where the host has no memory for it.
+    /// The child of a fork, with this birth number: like the caller, but nothing is pending for it and
+    /// there is no news of it, and its call gave 0 (XSH fork). An error where the host has no memory for it.
     #[tactic(auto, unfolding(posix::specs::Births::child_of, posix::specs::Outcomes::finished))]
     pub fn fork(&self, birth: u64) -> Result<Body, AllocError>
         ensures { IfOk result (λ b. (p q n : ℕ) → process_of n p b ≡ child_of birth (process_of p q self.now) n) }
@@ -67,6 +80,8 @@ impl Body {
             birth,
             group: self.group,
             session: self.session,
+            creds: self.creds,
+            signals: self.signals.fork(),
             life: self.life,
             news: News::Nothing,
             blocked: None,
@@ -82,6 +97,7 @@ impl Body {
         ensures { (p q : ℕ) → process_of p q self.new ≡ buried status (process_of p q self.old) }
     {
         self.life = Life::Zombie(status);
+        self.signals.forget();
         self.news = News::Nothing;
         self.blocked = None;
     }
@@ -130,6 +146,82 @@ impl Body {
     pub fn enter(&mut self, blocked: Blocked)
         ensures { (p q : ℕ) → process_of p q self.new ≡ enter blocked (process_of p q self.old) }
     {
+        if let Blocked::Sigsuspend(_) = blocked {
+            let set = SigSet::from_word(self.cpu.register(Register::FIRST_ARGUMENT));
+            self.signals.replace_mask(set);
+        }
         self.blocked = Some(blocked);
+    }
+
+    /// A register gets a further result of a call.
+    #[tactic(auto, unfolding(posix::specs::Outcomes::written))]
+    pub fn write(&mut self, register: Register, value: i64)
+        ensures { (p q : ℕ) → process_of p q self.new ≡ written register value (process_of p q self.old) }
+    {
+        self.cpu.set_register(register, value);
+    }
+
+    /// The ids become these.
+    #[tactic(auto, unfolding(posix::specs::SignalCalls::give_credentials))]
+    pub fn give_credentials(&mut self, creds: Creds)
+        ensures { (p q : ℕ) → process_of p q self.new ≡ give_credentials creds (process_of p q self.old) }
+    {
+        self.creds = creds;
+    }
+
+    // ---- signals
+
+    /// A signal is generated for the process, whose number this is (XSH 2.4.1).
+    #[tactic(auto, unfolding(posix::specs::Generation::signalled))]
+    pub fn signal(&mut self, pid: Pid, signal: PendingSignal)
+        ensures { (q : ℕ) → process_of pid q self.new ≡ signalled signal (process_of pid q self.old) }
+    {
+        self.signals.generate(pid, self.life, signal);
+    }
+
+    /// The process, whose number this is, gets notice of a child by a signal, unless it ignores CHLD (XSH
+    /// _exit).
+    #[tactic(auto, unfolding(posix::specs::Ends::noticed))]
+    pub fn notice(&mut self, pid: Pid, signal: PendingSignal)
+        ensures { (q : ℕ) → process_of pid q self.new ≡ noticed signal (process_of pid q self.old) }
+    {
+        if !self.signals.ignores_children() {
+            self.signal(pid, signal);
+        }
+    }
+
+    /// A signal is no longer pending. This is what it came with, or value 0 and sender 0 where it wasn't.
+    #[tactic(auto, unfolding(posix::specs::Delivery::take_out))]
+    pub fn take_signal(&mut self, sig: Sig) -> Carried
+        ensures value { result ≡ carried_by sig self.old.signals }
+        ensures state { (p q : ℕ) → process_of p q self.new ≡ take_out sig (process_of p q self.old) }
+    {
+        self.signals.take(sig)
+    }
+
+    /// The process leaves the call that it is blocked in, and enters the handler of a signal at an address
+    /// (XSH 2.4.3). At an error there are 16 frames already, and the handler isn't entered.
+    #[tactic(auto, unfolding(posix::specs::Handlers::handles))]
+    pub fn handle(&mut self, signal: PendingSignal, address: i64) -> Result<(), FramesFull>
+        ensures room { OnOk result (is_full self.old.signals ≡ false) }
+        ensures full { OnErr result (is_full self.old.signals ≡ true) }
+        ensures state { (p q : ℕ) → process_of p q self.new ≡ handles signal address (process_of p q self.old) }
+    {
+        let action = self.signals.action(signal.sig);
+        let saved = mask_before(self.blocked, self.signals.mask());
+        leave_call(self.blocked, &action, &mut self.cpu);
+        self.blocked = None;
+        self.signals
+            .enter_handler(&mut self.cpu, signal, address, saved)
+    }
+
+    /// The newest handler returns (sigreturn(2)). At an error there is no frame, and nothing changes.
+    #[tactic(auto, unfolding(posix::specs::Handlers::returned))]
+    pub fn return_from_handler(&mut self) -> Result<(), NoFrame>
+        ensures ok { OnOk result ((frame : Frame) × (newest_frame self.old.signals ≡ Some frame) × ((p q : ℕ) → process_of p q self.new ≡ returned frame (process_of p q self.old))) }
+        ensures none { OnErr result (newest_frame self.old.signals ≡ None) }
+        ensures same { OnErr result (self.new ≡ self.old) }
+    {
+        self.signals.leave_handler(&mut self.cpu)
     }
 }

@@ -5,7 +5,8 @@ ghost use Rattle.posix.specs.Processes.{Process, argument};
 ghost use Rattle.posix.specs.Births.{child_of};
 ghost use Rattle.posix.specs.Ends.{buried, make_zombie};
 ghost use Rattle.posix.specs.Execute.{exec_one, StaysUnlessRun};
-ghost use Rattle.posix.specs.Outcomes.{finished};
+ghost use Rattle.posix.specs.Outcomes.{finished, written};
+ghost use Rattle.posix.specs.SignalCalls.{give_credentials};
 ghost use Rattle.posix.specs.Step.{enter, set_cpu};
 ghost use Rattle.posix.specs.Tables.{lookup, changed};
 ghost use Rattle.posix.specs.Waits.{news_told};
@@ -13,6 +14,7 @@ ghost use Rattle.proctable.specs.Body.{process_of};
 
 use crate::body::Body;
 use crate::kin::Kin;
+use creds::Creds;
 use posix::{Blocked, Pid, Register, Status, Trap};
 use std::alloc::AllocError;
 use umach::Program;
@@ -104,4 +106,22 @@ pub fn run_in<K: Kin>(table: &mut K, pid: Pid, program: &Program) -> Trap
     ensures room { K.room table.new ≡ K.room table.old }
 {
     table.update(pid).cpu.exec_one(program)
+}
+
+/// A register of a process gets a further result of its call.
+pub fn write_in<K: Kin>(table: &mut K, pid: Pid, register: Register, value: i64)
+    requires { IsSome (lookup pid (K.contents table.old)) }
+    ensures contents { K.contents table.new ≡ changed pid (written register value) (K.contents table.old) }
+    ensures room { K.room table.new ≡ K.room table.old }
+{
+    table.update(pid).write(register, value);
+}
+
+/// The ids of a process become these.
+pub fn give_credentials_in<K: Kin>(table: &mut K, pid: Pid, creds: Creds)
+    requires { IsSome (lookup pid (K.contents table.old)) }
+    ensures contents { K.contents table.new ≡ changed pid (give_credentials creds) (K.contents table.old) }
+    ensures room { K.room table.new ≡ K.room table.old }
+{
+    table.update(pid).give_credentials(creds);
 }

@@ -1,6 +1,7 @@
 //! The small fields of a process.
 
-use posix::{Blocked, Life, News, Pid};
+use creds::Creds;
+use posix::{Blocked, Life, News, Pid, Sig};
 
 /// The fields of a process that a reader gets by value.
 #[derive(Clone, Copy, Debug, PartialEq, Eq)]
@@ -13,6 +14,10 @@ pub struct Facts {
     pub group: Pid,
     /// Its session, by the number of the leader (XBD 3 Session).
     pub session: Pid,
+    /// Its user and group ids (credentials(7)).
+    pub creds: Creds,
+    /// The signal that is delivered to it next (XSH 2.4.1).
+    pub chosen: Option<Sig>,
     /// Whether it runs, is stopped or has ended.
     pub life: Life,
     /// What no wait has reported of it yet (XSH waitpid).

@@ -7,6 +7,7 @@ pub mod changes;
 pub mod facts;
 pub mod kin;
 pub mod scan;
+pub mod signals;
 mod slot;
 
 pub use body::Body;

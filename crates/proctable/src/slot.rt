@@ -60,6 +60,8 @@ impl Slot {
             parent: self.parent,
             group: self.body.group,
             session: self.body.session,
+            creds: self.body.creds,
+            chosen: self.body.signals.choose(self.body.life),
             life: self.body.life,
             news: self.body.news,
             blocked: self.body.blocked,

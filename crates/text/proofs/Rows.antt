@@ -5,7 +5,7 @@ use Rattle.posix.specs.declared.instr.Instr.{Instr}
 use Rattle.posix.specs.declared.instr.Instr.TheVariants.{Set, Move, Compute, Load, Store, Jump, JumpIf, Note, Sys}
 use Rattle.posix.specs.declared.instr.Operator.TheVariants.{Add, Sub, Mul, Div, Rem, And, Or, Xor}
 use Rattle.posix.specs.declared.instr.Condition.TheVariants.{Zero, NotZero, Negative}
-use Rattle.posix.specs.declared.instr.Call.TheVariants.{Exit, Fork, Waitpid, Pause, SchedYield, Getpid}
+use Rattle.posix.specs.declared.instr.Call.TheVariants.{Exit, Fork, Waitpid, Pause, SchedYield, Getpid, Getuid, Geteuid, Getgid, Getegid, Setuid, Seteuid, Setgid, Setegid, Kill, Sigaction, Sigprocmask, Sigpending, Sigsuspend, Sigreturn}
 use Rattle.posix.specs.States.{Program, World}
 use Rattle.text.specs.declared.fault.Reason.{Reason}
 use Rattle.text.specs.declared.fault.Reason.TheVariants.{UnknownWord, BadNumber, OutOfRange, NameUnknown, NameTwice, LineTooLong, EndMissing, NoProgram}
@@ -75,6 +75,18 @@ row_turns = refl
 row_fork_bomb : world_text (codes "pidmax 8\nconsoles 1\nprogram init\nagain:\nsys fork\njmp again\nend\n") ≡ world 8 1 (Sys Fork ∷ Jump 16 ∷ [])
 unfolding everything
 row_fork_bomb = refl
+
+row_ids_and_signals : world_text (header_text ++ codes "program a\nsys getuid\nsys geteuid\nsys getgid\nsys getegid\nsys setuid\nsys seteuid\nsys setgid\nsys setegid\nsys kill\nsys sigaction\nsys sigprocmask\nsys sigpending\nsys sigsuspend\nsys sigreturn\nend\n") ≡
+    world 2 0 (Sys Getuid ∷ Sys Geteuid ∷ Sys Getgid ∷ Sys Getegid ∷ Sys Setuid ∷ Sys Seteuid ∷ Sys Setgid ∷ Sys Setegid ∷ Sys Kill ∷ Sys Sigaction ∷ Sys Sigprocmask
+    ∷ Sys Sigpending ∷ Sys Sigsuspend ∷ Sys Sigreturn ∷ [])
+unfolding everything
+row_ids_and_signals = refl
+
+row_restarted_wait : world_text (codes "pidmax 40\nconsoles 1\nprogram init\nset r4, 268435456\nset r1, 10\nset r2, @h\nsys sigaction\nsys fork\njz r0, kid\nset r1, -1\nsys waitpid\nsys pause\nkid:\nset r1, 1\nset r2, 10\nsys kill\nsys pause\nh:\nsys sigreturn\nend\n") ≡
+    world 40 1 (Set 4 (pos 268435456) ∷ Set 1 (pos 10) ∷ Set 2 (pos 29) ∷ Sys Sigaction ∷ Sys Fork ∷ JumpIf Zero 0 25 ∷ Set 1 (negsuc 0) ∷ Sys Waitpid ∷ Sys Pause ∷ Set 1 (pos 1)
+    ∷ Set 2 (pos 10) ∷ Sys Kill ∷ Sys Pause ∷ Sys Sigreturn ∷ [])
+unfolding everything
+row_restarted_wait = refl
 
 -- names of programs are used before they are defined; labels are those of their program
 row_ids_and_later_programs : world_text (codes "pidmax 2\nconsoles 0\nprogram a setuid 0 setgid 2147483647\nset r1, $c\nend\nprogram b setgid 7\nx:\nend\nprogram c setuid 1\nset r1, $a\nx:\njmp x\nend\n") ≡

@@ -5,13 +5,13 @@ ghost use Rattle.posix.specs.Calls.{call_named as call_named_of};
 ghost use Rattle.text.specs.Words.{words};
 ghost use Rattle.text.specs.Instructions.{lacking as lacking_of, operands as operands_of, operation_named as operation_named_of, operation_text as operation_text_of, register as register_of, set_value as set_value_of, target as target_of, two_registers as two_registers_of};
 
-use crate::calls::call_named;
 use crate::fault::Reason;
 use crate::names::Name;
 use crate::numbers::integer;
 use crate::sketch::{Sketch, Use};
 use crate::words::{first_word, no_more_words};
 use posix::{Condition, Instr, Operator, Register};
+use trace::call_named;
 
 /// What the first word of an instruction names.
 #[derive(Clone, Copy, Debug, PartialEq, Eq)]

@@ -1,11 +1,10 @@
-//! The texts of a run: world texts and event texts are read, and the lines of a trace are printed.
+//! The texts of a run, read: world texts and event texts.
 //!
 //! A text is a list of lines, each ended by a line feed, which the last may lack. Space, tab, carriage
 //! return and comma separate words. `#` and what follows it on a line is skipped, and a line without
 //! words is skipped, but counted. The least faulty line of a text is reported, with a [`Reason`].
 #![tactic(auto)]
 
-mod calls;
 mod draft;
 pub mod event_list;
 pub mod event_reader;
@@ -14,7 +13,6 @@ mod instructions;
 mod names;
 mod numbers;
 mod outline;
-pub mod print;
 mod sketch;
 mod words;
 pub mod world_reader;
@@ -22,6 +20,5 @@ pub mod world_reader;
 pub use event_list::{EventList, EventRun};
 pub use event_reader::{EventReader, read_events};
 pub use fault::{Reason, TextFault};
-pub use print::print_entry;
 pub use umach::World;
 pub use world_reader::read_world;

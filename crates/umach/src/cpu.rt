@@ -3,10 +3,11 @@
 ghost use Rattle.std.specs.Prelude.{◌≡◌, ◌<◌, IfOk, IfSome, if◌then◌else◌};
 ghost use Rattle.posix.specs.Processes.{fresh_cpu};
 ghost use Rattle.posix.specs.Execute.{exec_one as executed, execute as execute_instr, set_register, register as register_of, move_on, put_result, load_from, store_at, address_of, jump, computed, passes as passed, fetched, StaysUnlessRun};
+ghost use Rattle.posix.specs.Handlers.{frame_of, restore};
 
 use crate::memory::UserMem;
 use crate::program::Program;
-use posix::{Condition, Instr, Operator, Register, Sig, Trap};
+use posix::{Condition, Frame, Instr, Operator, Register, Sig, SigSet, Trap};
 use std::alloc::{AllocError, Global};
 use std::marker::Model;
 
@@ -74,6 +75,32 @@ impl Cpu {
         ensures { self.new ≡ move_on self.old }
     {
         self.pc = self.pc.wrapping_add(1);
+    }
+
+    /// What a handler that is entered now gives back as it returns, with this signal mask.
+    pub fn frame(&self, mask: SigSet) -> Frame
+        ensures { result ≡ frame_of self.now mask }
+    {
+        Frame {
+            pc: self.pc,
+            registers: self.registers,
+            mask,
+        }
+    }
+
+    /// The pc and the registers become those of a frame; the memory stays (sigreturn(2)).
+    pub fn restore(&mut self, frame: &Frame)
+        ensures { self.new ≡ restore frame.now self.old }
+    {
+        self.pc = frame.pc;
+        self.registers = frame.registers;
+    }
+
+    /// Goes on at any code address; registers and memory stay.
+    pub fn go_to(&mut self, address: i64)
+        ensures { self.new ≡ record self.old { pc = address } }
+    {
+        self.pc = address;
     }
 
     /// Runs the instruction of a program at the pc. A call and a machine fault leave the processor as

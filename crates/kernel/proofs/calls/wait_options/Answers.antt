@@ -3,7 +3,7 @@ use Rattle.std.specs.Int.{cast_unsigned}
 use Rattle.posix.specs.Processes.{argument}
 use Rattle.posix.specs.Waits.{options_in, are_known}
 use Rattle.bitflags.specs.Sets.{known_from}
-use Rattle.kernel.proofs.CallLemmas.{some_known}
+use Rattle.kernel.proofs.CallLemmas.{some_bits}
 use Rattle.kernel.proofs.calls.wait_options.Goals as goal
 
 pub returns-clause-known : goal.returns-clause-known
@@ -11,4 +11,4 @@ unfolding known_from
 returns-clause-known g c = λ me e.
     let kept : to_z w64 (of_z w64 c.argument-bits.result) ≡ c.argument-bits.result = search rules in
     let bits : c.cast_unsigned.result ≡ options_in (argument me 2) = c.cast_unsigned.ensures ∙ ap (cast_unsigned w64) (kept ∙ c.argument-bits.ensures.value me e) in
-    some_known c.from_bits.result c.cast_unsigned.result (c.from_bits.ensures.known tt) ∙ ap are_known bits
+    some_bits c.from_bits.result c.cast_unsigned.result 11 (c.from_bits.ensures.known tt) ∙ ap are_known bits

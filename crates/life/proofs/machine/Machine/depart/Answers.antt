@@ -1,7 +1,7 @@
 use Rattle.std.proofs.Common.{arith}
 use Rattle.posix.proofs.RegularLemmas.{regular_depart}
 use Rattle.posix.proofs.TableLemmas.{pid_looked}
-use Rattle.life.proofs.SoundLemmas.{there, found_in, kept_departed, first_changed}
+use Rattle.life.proofs.SoundLemmas.{there, found_in, parents_departed, kept_departed, first_changed}
 use Rattle.life.proofs.machine.Machine.depart.Goals as goal
 
 pub adopt-requires : goal.adopt-requires
@@ -15,5 +15,7 @@ invariant_of-self g c =
     let least = (c.self.invariant.regular.bounded c.args.pid me.what found).least in
     rw (c.adopt.ensures.contents, c.bury_in.ensures.contents, c.drop_place.ensures.pids) record {
       regular = regular_depart c.args.pid c.args.status (omega (arith, least, named)) c.requires.other _ c.self.invariant.regular;
+      parents = parents_departed c.args.pid c.args.status _ c.self.invariant.regular.first c.self.invariant.parents;
+      counted = c.self.invariant.counted;
       kept = kept_departed c.args.pid c.args.status _ _ _ _ _ _ (let r = c.drop_place.ensures.room in omega (arith, r)) c.self.invariant.kept;
     }

@@ -9,5 +9,7 @@ invariant_of-self g c =
     let h = subst (λ (s : State). is_in c.args.pid s.order ≡ true) (sym c.self.view_is) c.requires in
     rw c.go_last.ensures.pids record {
       regular = regular_last c.args.pid _ c.self.invariant.regular h;
+      parents = c.self.invariant.parents;
+      counted = c.self.invariant.counted;
       kept = kept_order _ _ _ _ _ _ (let r = c.go_last.ensures.room in omega (arith, r)) c.self.invariant.kept;
     }

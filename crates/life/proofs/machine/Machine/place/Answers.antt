@@ -20,5 +20,7 @@ invariant_of-self g c =
     let none = subst (λ (s : State). is_in c.args.pid s.order ≡ false) (sym c.self.view_is) c.requires.none in
     rw c.place.ensures.pids record {
       regular = regular_placed c.args.pid _ c.self.invariant.regular there none;
+      parents = c.self.invariant.parents;
+      counted = c.self.invariant.counted;
       kept = kept_order _ _ _ _ _ _ (let r = c.place.ensures.room in omega (arith, r)) c.self.invariant.kept;
     }

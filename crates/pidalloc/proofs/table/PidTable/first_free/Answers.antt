@@ -1,6 +1,6 @@
 use Rattle.std.proofs.Common.{◌≡◌, ℕ, Option, Some, None, IsSome, IfSome, sym, ap, ◌∙◌, arith}
 use Rattle.pidalloc.specs.Rows.{is_free_in}
-use Rattle.pidalloc.proofs.FreeLemmas.{find_range_first, find_range_none}
+use Rattle.posix.proofs.RangeLemmas.{find_range_first, find_range_none}
 use Rattle.pidalloc.proofs.table.PidTable.first_free.Goals as goal
 
 is_that : (o : Option ℕ) (n : ℕ) → IsSome o → IfSome o (λ p. p ≡ n) → o ≡ Some n

@@ -1,0 +1,173 @@
+-- Calls on ids and on signals.
+use Rattle.std.proofs.Common.{◌≡◌, ◌≢◌, ℕ, Bool, true, false, cond, refl, ap, sym, ◌∙◌, subst, Option, Some, None, List, [], ◌∷◌, ℤ, Result}
+use Rattle.std.specs.Int.{cast_unsigned, w64}
+use Rattle.std.specs.Option.{IsSome}
+use Rattle.posix.specs.declared.instr.Call.{Call}
+use Rattle.posix.specs.declared.instr.Call.TheVariants.{Kill, Sigaction}
+use Rattle.posix.specs.declared.errno.Errno.{Errno}
+use Rattle.posix.specs.declared.errno.Errno.TheVariants.{EINVAL}
+use Rattle.posix.specs.declared.process.Action.{Action}
+use Rattle.posix.specs.declared.process.PendingSignal.{PendingSignal}
+use Rattle.posix.specs.declared.process.Sending.{Sending}
+use Rattle.posix.specs.declared.process.Sending.TheVariants as found
+use Rattle.posix.specs.Processes.{Process, Credentials, Signals, argument}
+use Rattle.posix.specs.Tables.{lookup, changed, pids}
+use Rattle.posix.specs.States.{State, process, change}
+use Rattle.posix.specs.Outcomes as outcome
+use Rattle.posix.specs.Generation.{action, signalled, signalled_all}
+use Rattle.posix.specs.Handlers.{set_action}
+use Rattle.posix.specs.Sends.{permitted, sending, sent, sent_among, sent_by, signal_in, signal_or_none, send_with, kill, kill_with}
+use Rattle.posix.specs.SignalCalls.{set_credentials, give_signals, is_question, are_flags, action_in, gives_action, sigaction, sigaction_of, sigaction_with}
+use Rattle.posix.proofs.RegularLemmas.{Keeps, keeps_written, keeps_give_signals, keeps_signalled}
+use Rattle.kernel.specs.declared.calls.Attempted.{Attempted}
+use Rattle.kernel.specs.declared.calls.Attempted.TheVariants.{Done, Block}
+use Rattle.kernel.specs.Events.{Comes}
+use Rattle.kernel.proofs.CallLemmas.{some_is, gives_after}
+use Rattle.kernel.proofs.ReportLemmas.{some_changed}
+use Rattle.kernel.proofs.ChosenLemmas.{sent_nobody}
+
+-- ---- who is there
+
+-- who is there is there in an equal state
+pub there_same : (s t : State) (p : ℕ) → t ≡ s → IsSome (process s p) → IsSome (process t p)
+there_same s t p e h = subst (λ (x : State). IsSome (process x p)) (sym e) h
+
+-- who is there is there after a change that keeps the numbers
+pub there_changed : (s t : State) (p q : ℕ) (f : Process → Process) → Keeps f → t ≡ change s p f → IsSome (process s q) → IsSome (process t q)
+there_changed s t p q f k e h = there_same (change s p f) t q e (some_changed p q f k.pid s.processes h)
+
+-- after a register is written
+pub there_written : (s t : State) (p i : ℕ) (z : ℤ) → t ≡ outcome.write s p i z → IsSome (process s p) → IsSome (process t p)
+there_written s t p i z e h = there_changed s t p p (outcome.written i z) (keeps_written i z) e h
+
+-- after its signals are changed
+pub there_given : (A : Process → Signals → Type 0) (s t u : State) (p : ℕ) → t ≡ s → IsSome (process s p)
+    → ((me : Process) → process t p ≡ Some me → (g : Signals) × A me g × (u ≡ change t p (give_signals g))) → IsSome (process u p)
+there_given A s t u p same h given =
+    let here = there_same s t p same h in
+    let me = some_is (process t p) here in
+    let g = given me.0 me.1 in
+    there_changed t u p p (give_signals g.0) (keeps_give_signals g.0) g.2 here
+
+-- after a signal is generated for several
+some_signalled : (signal : PendingSignal) (ps : List ℕ) (q : ℕ) (rs : List Process) → IsSome (lookup q rs) → IsSome (lookup q (signalled_all signal ps rs))
+unfolding signalled_all
+some_signalled signal [] q rs h = h
+some_signalled signal (p ∷ ps) q rs h =
+    some_signalled signal ps q (changed p (signalled signal) rs) (some_changed p q (signalled signal) (keeps_signalled signal).pid rs h)
+
+-- after a signal is sent to those that are meant
+some_sent_among : (me : Process) (s : Option ℕ) (qs rs : List Process) (q : ℕ) → IsSome (lookup q rs) → IsSome (lookup q (sent_among me s qs rs))
+unfolding sent_among
+some_sent_among me None qs rs q h = h
+some_sent_among me (Some n) qs rs q h = some_signalled (sent_by me.pid n) (pids (permitted me (Some n) qs)) q rs h
+
+-- after a signal is sent
+some_sent : (me : Process) (choice : ℤ) (s : Option ℕ) (rs : List Process) (q : ℕ) → IsSome (lookup q rs) → IsSome (lookup q (sent me choice s rs))
+unfolding sent
+some_sent me choice s rs q h = some_sent_among me s _ rs q h
+
+abbrev pub sent_in : State → Process → ℤ → Option ℕ → State
+sent_in s me choice sig = record s { processes = sent me choice sig s.processes }
+
+-- the sender is there afterwards
+pub there_sent : (s t u : State) (p : ℕ) (choice : ℤ) (sig : Option ℕ) → t ≡ s → IsSome (process s p)
+    → ((me : Process) → process t p ≡ Some me → u ≡ sent_in t me choice sig) → IsSome (process u p)
+there_sent s t u p choice sig same h send =
+    let here = there_same s t p same h in
+    let me = some_is (process t p) here in
+    there_same (sent_in t me.0 choice sig) u p (send me.0 me.1) (some_sent me.0 choice sig t.processes p here)
+
+-- ---- the same said of equal things
+
+-- a change
+pub change_after : (s t u : State) (p q : ℕ) (f : Process → Process) → u ≡ change t p f → t ≡ s → p ≡ q → u ≡ change s q f
+change_after s t u p q f e ts pq = e ∙ ap (λ (x : State). change x p f) ts ∙ ap (λ (k : ℕ). change s k f) pq
+
+-- a register that is written
+pub write_after : (s t u : State) (p q i : ℕ) (v z : ℤ) → u ≡ outcome.write t p i v → t ≡ s → p ≡ q → v ≡ z → u ≡ outcome.write s q i z
+write_after s t u p q i v z e ts pq vz = change_after s t u p q (outcome.written i v) e ts pq ∙ ap (outcome.write s q i) vz
+
+-- a call that is refused
+pub refused_after : (s u : State) (p q : ℕ) (call : Call) (errno : Errno) (r : Attempted) (n : State) → u ≡ s → p ≡ q
+    → Comes u (outcome.refused u p call errno) r n → Comes s (outcome.refused s q call errno) r n
+refused_after s u p q call errno r n us pq h = gives_after s s u p q call (outcome.refusal errno) (outcome.refusal errno) r n us pq refl h
+
+-- a call that sets ids
+pub set_after : (s u : State) (p q : ℕ) (call : Call) (a b : Result Credentials Errno) (r : Attempted) (n : State) → u ≡ s → p ≡ q → a ≡ b
+    → Comes u (set_credentials u p call a) r n → Comes s (set_credentials s q call b) r n
+set_after s u p q call a b r n us pq ab h =
+    let x = subst (λ (t : State). Comes t (set_credentials t p call a) r n) us h in
+    let y = subst (λ (k : ℕ). Comes s (set_credentials s k call a) r n) pq x in
+    subst (λ (w : Result Credentials Errno). Comes s (set_credentials s q call w) r n) ab y
+
+-- it doesn't look at the state before
+comes_given : (s t u : State) (p : ℕ) (a : Action) (r : Attempted) (n : State) → Comes s (gives_action u p a) r n → Comes t (gives_action u p a) r n
+comes_given s t u p a (Done entries) n h = h
+comes_given s t u p a (Block b) n h = h
+
+-- a sigaction that gives an action
+pub given_after : (s t u : State) (p q : ℕ) (a b : Action) (r : Attempted) (n : State) → u ≡ t → p ≡ q → a ≡ b
+    → Comes u (gives_action u p a) r n → Comes s (gives_action t q b) r n
+given_after s t u p q a b r n ut pq ab h =
+    let x = subst (λ (y : State). Comes y (gives_action y p a) r n) ut h in
+    let y = subst (λ (k : ℕ). Comes t (gives_action t k a) r n) pq x in
+    comes_given t s t q b r n (subst (λ (c : Action). Comes t (gives_action t q c) r n) ab y)
+
+-- ---- a kill
+
+-- a kill that names no signal
+pub kill_unknown : (s : State) (me : Process) → signal_or_none (argument me 2) ≡ None → kill s me ≡ outcome.refused s me.pid Kill EINVAL
+unfolding kill
+kill_unknown s me none = ap (kill_with s me) none
+
+-- a kill that finds w
+pub kill_finds : (s : State) (me : Process) (sig : Option ℕ) (w : Sending) → signal_or_none (argument me 2) ≡ Some sig → sending me (argument me 1) sig s.processes ≡ w
+    → kill s me ≡ send_with s me (argument me 1) sig w
+unfolding kill
+kill_finds s me sig w some finds = ap (kill_with s me) some ∙ ap (send_with s me (argument me 1) sig) finds
+
+-- what is found in an equal state with an equal choice
+pub finds_after : (s t : State) (me : Process) (v z : ℤ) (sig : Option ℕ) (w x : Sending) → x ≡ sending me v sig t.processes → t ≡ s → v ≡ z → x ≡ w
+    → sending me z sig s.processes ≡ w
+finds_after s t me v z sig w x e ts vz xw =
+    ap (λ (k : ℤ). sending me k sig s.processes) (sym vz) ∙ ap (λ (y : State). sending me v sig y.processes) (sym ts) ∙ sym e ∙ xw
+
+-- what is sent in an equal state with an equal choice
+pub sent_after : (s t u : State) (me : Process) (v z : ℤ) (sig : Option ℕ) → u ≡ sent_in t me v sig → t ≡ s → v ≡ z → u ≡ sent_in s me z sig
+sent_after s t u me v z sig e ts vz = e ∙ ap (λ (y : State). sent_in y me v sig) ts ∙ ap (λ (k : ℤ). sent_in s me k sig) vz
+
+-- a kill that is refused changes nothing
+pub sent_same : (s u : State) (me : Process) (z : ℤ) (sig : Option ℕ) (w : Sending) → u ≡ sent_in s me z sig → sending me z sig s.processes ≡ w → w ≢ found.Permitted → u ≡ s
+sent_same s u me z sig w e finds ne = e ∙ ap (λ (rs : List Process). record s { processes = rs }) (sent_nobody me z sig s.processes w finds ne)
+
+-- ---- a sigaction
+
+abbrev flagged : State → Process → ℕ → Bool → outcome.Attempted
+flagged s me n b = cond b (sigaction_with s me (action me.signals n) (set_action n (action_in me) me.signals)) (outcome.refused s me.pid Sigaction EINVAL)
+
+abbrev asked : State → Process → ℕ → Bool → outcome.Attempted
+asked s me n b = cond b (gives_action s me.pid (action me.signals n)) (flagged s me n (are_flags (cast_unsigned w64 (argument me 4))))
+
+-- a sigaction that names no signal
+pub sigaction_unknown : (s : State) (me : Process) → signal_in (argument me 1) ≡ None → sigaction s me ≡ outcome.refused s me.pid Sigaction EINVAL
+unfolding sigaction
+sigaction_unknown s me none = ap (sigaction_of s me) none
+
+-- one that asks for the action
+pub sigaction_asks : (s : State) (me : Process) (n : ℕ) → signal_in (argument me 1) ≡ Some n → is_question (argument me 2) ≡ true → sigaction s me ≡ gives_action s me.pid (action me.signals n)
+unfolding sigaction
+sigaction_asks s me n some asks = ap (sigaction_of s me) some ∙ ap (asked s me n) asks
+
+-- one with an unknown flag
+pub sigaction_unflagged : (s : State) (me : Process) (n : ℕ) → signal_in (argument me 1) ≡ Some n → is_question (argument me 2) ≡ false → are_flags (cast_unsigned w64 (argument me 4)) ≡ false
+    → sigaction s me ≡ outcome.refused s me.pid Sigaction EINVAL
+unfolding sigaction
+sigaction_unflagged s me n some asks flags = ap (sigaction_of s me) some ∙ ap (asked s me n) asks ∙ ap (flagged s me n) flags
+
+-- one that sets the action
+pub sigaction_sets : (s : State) (me : Process) (n : ℕ) (w : Result Signals Errno) → signal_in (argument me 1) ≡ Some n → is_question (argument me 2) ≡ false → are_flags (cast_unsigned w64 (argument me 4)) ≡ true
+    → set_action n (action_in me) me.signals ≡ w → sigaction s me ≡ sigaction_with s me (action me.signals n) w
+unfolding sigaction
+sigaction_sets s me n w some asks flags sets =
+    ap (sigaction_of s me) some ∙ ap (asked s me n) asks ∙ ap (flagged s me n) flags ∙ ap (sigaction_with s me (action me.signals n)) sets

@@ -1,0 +1,175 @@
+//! Delivery of signals, machine faults, and returns from handlers.
+
+ghost use Rattle.std.specs.Prelude.{◌≡◌, ◌==◌, ◌≤◌, ◌++◌, [], IsSome, Some, length, if◌then◌else◌};
+ghost use Rattle.posix.specs.Processes.{Process};
+ghost use Rattle.posix.specs.States.{process};
+ghost use Rattle.posix.specs.Ends.{end_process};
+ghost use Rattle.posix.specs.Delivery.{call_of as call_in, interruption as interruption_of, handle as handling, discard as discarding, act_by_default as acting_by_default, deliver as delivering, fault as faulting, return_from_handler as returning};
+ghost use Rattle.posix.specs.Signals.{default_action};
+
+use crate::entries::Entries;
+use life::Machine;
+use posix::{
+    Action, Blocked, Call, Carried, DefaultAction, Entry, Errno, Handler, PendingSignal, Pid, Sig,
+    Status,
+};
+use proctable::Kin;
+use signal::is_interrupted;
+
+/// The end of a process that is there, and what it shows.
+#[tactic(auto, unfolding(posix::specs::Ends::end_process))]
+pub fn end<K: Kin>(machine: &mut Machine<K>, pid: Pid, status: Status, entries: &mut Entries)
+    requires there { IsSome (process machine.old pid) }
+    requires room { length entries.old.items ≤ 2 }
+    ensures state { (me : Process) → process machine.old pid ≡ Some me → machine.new ≡ (end_process machine.old me status).state }
+    ensures entries { (me : Process) → process machine.old pid ≡ Some me → entries.new.items ≡ entries.old.items ++ (end_process machine.old me status).entries }
+{
+    machine.end(pid, status);
+    entries.push(Entry::Ended { pid, status });
+    if pid == Pid::INIT {
+        entries.push(Entry::Halted);
+    }
+}
+
+/// The call in which a process is blocked. No process is blocked in read yet.
+fn call_of(blocked: Blocked) -> Call
+    ensures { result ≡ call_in blocked }
+{
+    match blocked {
+        Blocked::Waitpid => Call::Waitpid,
+        Blocked::Read | Blocked::Pause => Call::Pause,
+        Blocked::Sigsuspend(_) => Call::Sigsuspend,
+    }
+}
+
+/// Shows that the call that a process is blocked in, if any, is interrupted as a handler with this action
+/// is entered, if it is.
+fn show_interruption(pid: Pid, blocked: &Option<Blocked>, action: &Action, entries: &mut Entries)
+    requires { entries.old.items ≡ [] }
+    ensures items { entries.new.items ≡ interruption_of pid blocked.now action.now }
+    ensures len { length entries.new.items ≤ 1 }
+{
+    let interrupted = is_interrupted(*blocked, action);
+    if let Some(blocked) = *blocked
+        && interrupted
+    {
+        entries.push(Entry::Called {
+            pid,
+            call: call_of(blocked),
+            result: -i64::from(Errno::EINTR.number()),
+        });
+    }
+}
+
+/// A process that is there enters the handler of a signal at an address. Where there is no room for
+/// another frame it ends by SEGV (own).
+#[tactic(auto, unfolding(posix::specs::Delivery::handle))]
+fn handle<K: Kin>(
+    machine: &mut Machine<K>,
+    pid: Pid,
+    signal: PendingSignal,
+    address: i64,
+    entries: &mut Entries,
+)
+    requires there { IsSome (process machine.old pid) }
+    requires none { entries.old.items ≡ [] }
+    ensures { (me : Process) → process machine.old pid ≡ Some me → handling machine.old me signal address ≡ record { state = machine.new; entries = entries.new.items } }
+{
+    let PendingSignal { sig, carried } = signal;
+    let action = machine.action(pid, sig);
+    let blocked = machine.blocked(pid);
+    show_interruption(pid, &blocked, &action, entries);
+    match machine.handle(pid, signal, address) {
+        Ok(()) => entries.push(Entry::Handled {
+            pid,
+            sig,
+            value: carried.value,
+            sender: carried.sender,
+        }),
+        Err(_) => end(machine, pid, Status::killed(Sig::SEGV), entries),
+    }
+}
+
+/// The default action for a signal of a process that is there. It has no effect on process 1 (kill(2)).
+fn act_by_default<K: Kin>(machine: &mut Machine<K>, pid: Pid, sig: Sig, entries: &mut Entries)
+    requires there { IsSome (process machine.old pid) }
+    requires none { entries.old.items ≡ [] }
+    ensures { (me : Process) → process machine.old pid ≡ Some me → (if me.pid == 1 then discarding machine.old me.pid sig else acting_by_default machine.old me sig (default_action sig)) ≡ record { state = machine.new; entries = entries.new.items } }
+{
+    if pid == Pid::INIT {
+        entries.push(Entry::Discarded { pid, sig });
+        return;
+    }
+    match sig.default_action() {
+        DefaultAction::Terminate => end(machine, pid, Status::killed(sig), entries),
+        DefaultAction::Ignore | DefaultAction::Stop | DefaultAction::Continue => {
+            entries.push(Entry::Discarded { pid, sig });
+        }
+    }
+}
+
+/// A pending signal of a process that is there is taken out, and its action done.
+#[tactic(auto, unfolding(posix::specs::Delivery::deliver))]
+pub fn deliver<K: Kin>(machine: &mut Machine<K>, pid: Pid, sig: Sig, entries: &mut Entries)
+    requires there { IsSome (process machine.old pid) }
+    requires none { entries.old.items ≡ [] }
+    ensures { (me : Process) → process machine.old pid ≡ Some me → delivering machine.old me sig ≡ record { state = machine.new; entries = entries.new.items } }
+{
+    let action = machine.action(pid, sig);
+    let carried = machine.take_signal(pid, sig);
+    match action.handler {
+        Handler::At(address) => {
+            handle(
+                machine,
+                pid,
+                PendingSignal { sig, carried },
+                address,
+                entries,
+            );
+        }
+        Handler::Ignore => entries.push(Entry::Discarded { pid, sig }),
+        Handler::Default => act_by_default(machine, pid, sig, entries),
+    }
+}
+
+/// A machine fault of a process that is there: its handler is entered, if there is one and it isn't
+/// blocked, or else the process ends by the signal, also process 1 (own).
+#[tactic(auto, unfolding(posix::specs::Delivery::fault))]
+pub fn fault<K: Kin>(machine: &mut Machine<K>, pid: Pid, sig: Sig, entries: &mut Entries)
+    requires there { IsSome (process machine.old pid) }
+    requires none { entries.old.items ≡ [] }
+    ensures { (me : Process) → process machine.old pid ≡ Some me → faulting machine.old me sig ≡ record { state = machine.new; entries = entries.new.items } }
+{
+    let action = machine.action(pid, sig);
+    let mask = machine.mask(pid);
+    match action.handler {
+        Handler::At(address) if !mask.contains(sig) => {
+            let carried = Carried {
+                value: 0,
+                sender: Pid::NONE,
+            };
+            handle(
+                machine,
+                pid,
+                PendingSignal { sig, carried },
+                address,
+                entries,
+            );
+        }
+        _ => end(machine, pid, Status::killed(sig), entries),
+    }
+}
+
+/// The newest handler of a process that is there returns; without one that is a fault SEGV
+/// (sigreturn(2)).
+#[tactic(auto, unfolding(posix::specs::Delivery::return_from_handler))]
+pub fn return_from_handler<K: Kin>(machine: &mut Machine<K>, pid: Pid, entries: &mut Entries)
+    requires there { IsSome (process machine.old pid) }
+    requires none { entries.old.items ≡ [] }
+    ensures { (me : Process) → process machine.old pid ≡ Some me → returning machine.old me ≡ record { state = machine.new; entries = entries.new.items } }
+{
+    match machine.return_from_handler(pid) {
+        Ok(()) => entries.push(Entry::Returned { pid }),
+        Err(_) => fault(machine, pid, Sig::SEGV, entries),
+    }
+}

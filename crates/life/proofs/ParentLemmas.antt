@@ -1,0 +1,70 @@
+-- What keeps the parent of each process there.
+use Rattle.std.proofs.Common.{◌≡◌, ◌≢◌, ℕ, true, false, cond, refl, ap, sym, ◌∙◌, subst, List, [], ◌∷◌, map, filter, find, Some, None, ◌==◌, inl, inr}
+use Rattle.std.specs.Option.{IsSome}
+use Rattle.std.proofs.lemmas.Bool.{eqb-true, eqb-false, cases_eq}
+use Rattle.posix.specs.Processes.{Process, first_process}
+use Rattle.posix.specs.Tables.{has_pid, lookup, is_child, children_in, inserted, removed, reparented, adopted}
+use Rattle.posix.proofs.TableLemmas.{pid_reparented}
+use Rattle.posix.proofs.MapLemmas.{lookup_back, some_map}
+use Rattle.posix.proofs.RegularLemmas.{lookup_inserted, lookup_new, lookup_kept, lookup_removed}
+
+abbrev pub HaveParents : List Process → Type 0
+HaveParents rs = (p : ℕ) (r : Process) → p ≢ 1 → lookup p rs ≡ Some r → IsSome (lookup r.parent rs)
+
+-- parents stay there by a change of each record that keeps its number and its parent
+pub parents_map : (g : Process → Process) → ((r : Process) → (g r).pid ≡ r.pid) → ((r : Process) → (g r).parent ≡ r.parent) → (rs : List Process) → HaveParents rs → HaveParents (map g rs)
+parents_map g kp kq rs h = λ p r ne e.
+    let b = lookup_back g kp p rs r e in
+    let same : r.parent ≡ b.what.parent = ap (λ (r : Process). r.parent) b.is ∙ kq b.what in
+    rw same (some_map g kp b.what.parent rs (h p b.what ne b.found))
+
+-- and where the children of one process become those of process 1
+pub parents_adopted : (p : ℕ) (rs : List Process) → IsSome (lookup 1 rs) → HaveParents rs → HaveParents (adopted p 1 rs)
+unfolding adopted
+parents_adopted p rs first h = λ q r ne e.
+    let b = lookup_back (reparented p 1) (pid_reparented p 1) q rs r e in
+    rw b.is (elim (b.what.parent == p) as (λ t. IsSome (lookup (cond t (record b.what { parent = 1 }) b.what).parent (map (reparented p 1) rs))) [
+      | true ↦ some_map (reparented p 1) (pid_reparented p 1) 1 rs first
+      | false ↦ some_map (reparented p 1) (pid_reparented p 1) b.what.parent rs (h q b.what ne b.found)
+    ])
+
+-- nobody who is there is a child of who has none
+no_child : (c q : ℕ) (r : Process) (rs : List Process) → lookup q rs ≡ Some r → children_in c rs ≡ [] → r.parent ≢ c
+unfolding lookup children_in
+no_child c q r [] e none = absurd (cc)
+no_child c q r (x ∷ xs) e none =
+    elim (x.parent == c) as (λ b. (x.parent == c) ≡ b → cond b (x ∷ filter (is_child c) xs) (filter (is_child c) xs) ≡ [] → r.parent ≢ c) [
+      | true ↦ λ t k. absurd (cc)
+      | false ↦ λ t k. elim (x.pid == q) as (λ b. cond b (Some x) (find (has_pid q) xs) ≡ Some r → r.parent ≢ c) [
+        | true ↦ λ u same. let here : x ≡ r = cc in eqb-false _ _ t (ap (λ (r : Process). r.parent) here ∙ same)
+        | false ↦ λ u. no_child c q r xs u k
+      ] e
+    ] refl none
+
+-- and where one goes that has no child
+pub parents_removed : (c : ℕ) (rs : List Process) → children_in c rs ≡ [] → HaveParents rs → HaveParents (removed c rs)
+parents_removed c rs none h = λ q r ne e.
+    let apart : q ≢ c = (λ x. let both = sym (lookup_removed c rs) ∙ ap (λ n. lookup n (removed c rs)) (sym x) ∙ e in absurd (cc)) in
+    let was : lookup q rs ≡ Some r = sym (lookup_kept c q rs apart) ∙ e in
+    rw (lookup_kept c r.parent rs (no_child c q r rs was none)) (h q r ne was)
+
+-- and where a child of one of them goes in
+pub parents_inserted : (new : Process) (rs : List Process) → lookup new.pid rs ≡ None → IsSome (lookup new.parent rs) → HaveParents rs → HaveParents (inserted new rs)
+parents_inserted new rs fresh there h = λ q r ne e. elim (cases_eq q new.pid) [
+  | inl same ↦
+      let one : new ≡ r = let both = sym (lookup_new new rs fresh) ∙ ap (λ n. lookup n (inserted new rs)) (sym same) ∙ e in cc in
+      still r.parent (subst (λ (q : Process). IsSome (lookup q.parent rs)) one there)
+  | inr away ↦ still r.parent (h q r ne (sym (lookup_inserted new q rs away) ∙ e))
+]
+  where
+    -- who was there is there
+    still : (n : ℕ) → IsSome (lookup n rs) → IsSome (lookup n (inserted new rs))
+    still n some = rw (lookup_inserted new n rs (λ x. let none : lookup n rs ≡ None = ap (λ n. lookup n rs) x ∙ fresh in let both = rw none at some in absurd (cc))) some
+
+-- process 1 alone has none
+pub parents_first : HaveParents (first_process ∷ [])
+unfolding lookup
+parents_first = λ p r ne e. elim (1 == p) as (λ b. (1 == p) ≡ b → cond b (Some first_process) None ≡ Some r → IsSome (lookup r.parent (first_process ∷ []))) [
+  | true ↦ λ t k. absurd (ne (sym (eqb-true _ _ t)))
+  | false ↦ λ t k. absurd (cc)
+] refl e

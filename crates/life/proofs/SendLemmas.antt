@@ -1,0 +1,404 @@
+-- To signal the processes one after another, from the least number on, is to send to all that are meant.
+use Rattle.std.proofs.Common.{◌≡◌, ℕ, zero, suc, ◌<◌, ◌≤◌, Bool, true, false, cond, refl, ap, sym, ◌∙◌, arith, subst, List, [], ◌∷◌, ◌++◌, append-nil, map, filter, find, Option, Some, None, option_map, ◌==◌, ◌-◌, ℤ, pos, negsuc, nat_abs, int_lt, Result, Ok, Err, nat_lt, nat_le, inl, inr}
+use Rattle.std.specs.List.{AllByRecursion}
+use Rattle.std.specs.Option.{IfSome}
+use Rattle.std.specs.Ordering.{ord_max}
+use Rattle.std.specs.Result.{OkIff, result_ok}
+use Rattle.std.specs.Int.{FitsUnsignedBits}
+use Rattle.std.proofs.lemmas.List.Elements.{filter-append}
+use Rattle.std.proofs.lemmas.Bool.{eqb-true, eq-eqb, ne_eqb, ltb-true, ltb-false, cases_order}
+use Rattle.std.proofs.lemmas.Bool.Decides.{nat_tests}
+use Rattle.posix.specs.declared.process.PendingSignal.{PendingSignal}
+use Rattle.posix.specs.declared.process.Sending.{Sending}
+use Rattle.posix.specs.declared.process.Sending.TheVariants as found
+use Rattle.posix.specs.contracts.process.SendingOrd.TheImpl as order
+use Rattle.posix.specs.Processes.{Process}
+use Rattle.posix.specs.Tables.{IsRising, has_pid, lookup, pids, at, changed, first_pid, above, next_above, left_of}
+use Rattle.posix.specs.Credentials.{may}
+use Rattle.posix.specs.Generation.{signalled, signalled_all}
+use Rattle.posix.specs.Sends.{is_target, targets, permitted, sending_permitted, sending_found, sending, sent_by, sent_among, sent}
+use Rattle.posix.proofs.TableLemmas.{Above, above_less}
+use Rattle.posix.proofs.WalkLemmas.{above_all, head_above, left_of_head}
+use Rattle.posix.specs.States.{State}
+use Rattle.posix.proofs.RegularLemmas.{keeps_signalled}
+use Rattle.pidalloc.specs.Rows.{Pids}
+use Rattle.sched.specs.Places.{Places}
+use Rattle.life.specs.Machines.{IsSound}
+use Rattle.life.proofs.SoundLemmas.{sound_change}
+use Rattle.proctable.specs.declared.facts.Facts.{Facts}
+use Rattle.proctable.specs.Body.{facts_of}
+
+-- those with the number p: one, or none
+abbrev pub numbered : ℕ → List Process → List Process
+numbered p rs = filter (has_pid p) rs
+
+-- ---- what is left
+
+-- from number 0 on, all are left
+pub left_of_none : (rs : List Process) → left_of (Some 0) rs ≡ rs
+left_of_none [] = refl
+left_of_none (x ∷ xs) = let t : nat_le 0 x.pid ≡ true = grind (arith, nat_tests) in rw t (ap (λ ys. x ∷ ys) (left_of_none xs))
+
+-- in a list above p nobody has the number p
+none_numbered : (p : ℕ) (rs : List Process) → Above p rs → numbered p rs ≡ []
+none_numbered p [] a = refl
+none_numbered p (x ∷ xs) a = rw (ne_eqb x.pid p (λ e. omega (arith, a.0, e))) (none_numbered p xs a.1)
+
+-- from p on, p is left, if it is there, and those above
+left_split : (p : ℕ) (rs : List Process) → IsRising rs → left_of (Some p) rs ≡ numbered p rs ++ above p rs
+unfolding IsRising
+left_split p [] up = refl
+left_split p (x ∷ xs) up =
+    elim (cases_order x.pid p) [
+      | inl eq ↦
+          let t : nat_le p x.pid ≡ true = grind (arith, nat_tests) in
+          let u : nat_lt p x.pid ≡ false = grind (arith, nat_tests) in
+          rw (t, u, eq-eqb x.pid p eq) (ap (λ ys. x ∷ ys) (left_split p xs up.1))
+      | inr (inl lt) ↦
+          let t : nat_le p x.pid ≡ false = grind (arith, nat_tests) in
+          let u : nat_lt p x.pid ≡ false = grind (arith, nat_tests) in
+          rw (t, u, ne_eqb x.pid p (λ k. omega (arith, k))) (left_split p xs up.1)
+      | inr (inr gt) ↦
+          let t : nat_le p x.pid ≡ true = grind (arith, nat_tests) in
+          let u : nat_lt p x.pid ≡ true = grind (arith, nat_tests) in
+          let none : numbered p xs ≡ [] = none_numbered p xs (above_less p x.pid xs gt up.0) in
+          let rest : left_of (Some p) xs ≡ above p xs = left_split p xs up.1 ∙ ap (λ ys. ys ++ above p xs) none in
+          rw (t, u, ne_eqb x.pid p (λ k. omega (arith, k)), none) (ap (λ ys. x ∷ ys) rest)
+    ]
+
+-- a head below what comes next is not left
+passed : (o : Option ℕ) (x : Process) (xs : List Process) (n : ℕ) → x.pid ≤ n → IfSome o (λ y. n < y) → left_of o (x ∷ xs) ≡ left_of o xs
+passed None x xs n l h = refl
+passed (Some y) x xs n l h = let t : nat_le y x.pid ≡ false = grind (arith, nat_tests, h) in rw t refl
+
+-- from the first above p on, those above p are left
+left_next : (p : ℕ) (rs : List Process) → IsRising rs → left_of (next_above p rs) rs ≡ above p rs
+unfolding next_above IsRising
+left_next p [] up = refl
+left_next p (x ∷ xs) up =
+    elim (nat_lt p x.pid) as (λ b. nat_lt p x.pid ≡ b → left_of (first_pid (cond b (x ∷ above p xs) (above p xs))) (x ∷ xs) ≡ cond b (x ∷ above p xs) (above p xs)) [
+      | true ↦ λ t.
+          let all : above p xs ≡ xs = above_all p xs (above_less p x.pid xs (ltb-true p x.pid t) up.0) in
+          left_of_head (x ∷ xs) up ∙ ap (λ ys. x ∷ ys) (sym all)
+      | false ↦ λ t. passed (first_pid (above p xs)) x xs p (ltb-false p x.pid t) (head_above p xs) ∙ left_next p xs up.1
+    ] refl
+
+-- ---- one process signalled
+
+-- those above p stay where p is signalled
+above_signalled : (p : ℕ) (signal : PendingSignal) (rs : List Process) → above p (changed p (signalled signal) rs) ≡ above p rs
+unfolding changed signalled
+above_signalled p signal [] = refl
+above_signalled p signal (x ∷ xs) =
+    elim (x.pid == p) as (λ b. (x.pid == p) ≡ b → above p (cond b (signalled signal x) x ∷ map (at p (signalled signal)) xs) ≡ above p (x ∷ xs)) [
+      | true ↦ λ t.
+          let named : x.pid ≡ p = eqb-true _ _ t in
+          let u : nat_lt p x.pid ≡ false = grind (arith, nat_tests) in
+          rw u (above_signalled p signal xs)
+      | false ↦ λ t. elim (nat_lt p x.pid) as (λ b. cond b (x ∷ above p (map (at p (signalled signal)) xs)) (above p (map (at p (signalled signal)) xs)) ≡ cond b (x ∷ above p xs) (above p xs)) [
+        | true ↦ ap (λ ys. x ∷ ys) (above_signalled p signal xs)
+        | false ↦ above_signalled p signal xs
+      ]
+    ] refl
+
+-- nor do they change where p is signalled several times
+above_signalled_all : (p : ℕ) (signal : PendingSignal) (qs rs : List Process) → AllByRecursion (λ (q : Process). q.pid ≡ p) qs → above p (signalled_all signal (pids qs) rs) ≡ above p rs
+unfolding signalled_all
+above_signalled_all p signal [] rs a = refl
+above_signalled_all p signal (q ∷ qs) rs a =
+    above_signalled_all p signal qs _ a.1 ∙ ap (λ n. above p (changed n (signalled signal) rs)) a.0 ∙ above_signalled p signal rs
+
+-- what all have, those that pass a test have
+all_filter : (P : Process → Type 0) (t : Process → Bool) (rs : List Process) → AllByRecursion P rs → AllByRecursion P (filter t rs)
+all_filter P t [] a = tt
+all_filter P t (r ∷ rs) a = elim (t r) as (λ b. AllByRecursion P (cond b (r ∷ filter t rs) (filter t rs))) [ true ↦ (a.0, all_filter P t rs a.1) | false ↦ all_filter P t rs a.1 ]
+
+-- those with the number p have it
+all_numbered : (p : ℕ) (rs : List Process) → AllByRecursion (λ (q : Process). q.pid ≡ p) (numbered p rs)
+all_numbered p [] = tt
+all_numbered p (x ∷ xs) = elim (x.pid == p) as (λ b. (x.pid == p) ≡ b → AllByRecursion (λ (q : Process). q.pid ≡ p) (cond b (x ∷ numbered p xs) (numbered p xs))) [
+  | true ↦ λ t. (eqb-true _ _ t, all_numbered p xs)
+  | false ↦ λ t. all_numbered p xs
+] refl
+
+-- those above p stay where a signal is sent to p
+above_sent : (me : Process) (choice : ℤ) (s : Option ℕ) (p : ℕ) (rs : List Process) → above p (sent_among me s (targets me choice (numbered p rs)) rs) ≡ above p rs
+unfolding sent_among targets permitted
+above_sent me choice None p rs = refl
+above_sent me choice (Some n) p rs = above_signalled_all p (sent_by me.pid n) _ rs (all_filter _ (may me (Some n)) _ (all_filter _ (is_target me choice) _ (all_numbered p rs)))
+
+-- ---- several, part by part
+
+-- the numbers of some and then of others
+pids_append : (xs ys : List Process) → pids (xs ++ ys) ≡ pids xs ++ pids ys
+pids_append [] ys = refl
+pids_append (x ∷ xs) ys = ap (λ l. x.pid ∷ l) (pids_append xs ys)
+
+-- some are signalled and then others
+signalled_append : (signal : PendingSignal) (ps qs : List ℕ) (rs : List Process) → signalled_all signal (ps ++ qs) rs ≡ signalled_all signal qs (signalled_all signal ps rs)
+unfolding signalled_all
+signalled_append signal [] qs rs = refl
+signalled_append signal (p ∷ ps) qs rs = signalled_append signal ps qs (changed p (signalled signal) rs)
+
+-- a signal to some and then to others is one to all of them
+sent_append : (me : Process) (s : Option ℕ) (xs ys rs : List Process) → sent_among me s (xs ++ ys) rs ≡ sent_among me s ys (sent_among me s xs rs)
+unfolding sent_among permitted
+sent_append me None xs ys rs = refl
+sent_append me (Some n) xs ys rs =
+    ap (λ qs. signalled_all (sent_by me.pid n) (pids qs) rs) (filter-append (may me (Some n)) xs ys)
+    ∙ ap (λ ps. signalled_all (sent_by me.pid n) ps rs) (pids_append (filter (may me (Some n)) xs) (filter (may me (Some n)) ys))
+    ∙ signalled_append (sent_by me.pid n) (pids (filter (may me (Some n)) xs)) (pids (filter (may me (Some n)) ys)) rs
+
+-- whom a signal to some and then to others finds
+abbrev pub joined : Sending → Sending → Sending
+joined found.NobodyFound b = b
+joined found.NobodyPermitted found.NobodyFound = found.NobodyPermitted
+joined found.NobodyPermitted found.NobodyPermitted = found.NobodyPermitted
+joined found.NobodyPermitted found.Permitted = found.Permitted
+joined found.Permitted b = found.Permitted
+
+-- brackets don't count
+joined_twice : (a b c : Sending) → joined (joined a b) c ≡ joined a (joined b c)
+joined_twice found.NobodyFound b c = refl
+joined_twice found.NobodyPermitted found.NobodyFound c = refl
+joined_twice found.NobodyPermitted found.NobodyPermitted found.NobodyFound = refl
+joined_twice found.NobodyPermitted found.NobodyPermitted found.NobodyPermitted = refl
+joined_twice found.NobodyPermitted found.NobodyPermitted found.Permitted = refl
+joined_twice found.NobodyPermitted found.Permitted c = refl
+joined_twice found.Permitted b c = refl
+
+-- nor does nobody
+pub joined_none : (a : Sending) → joined a found.NobodyFound ≡ a
+joined_none found.NobodyFound = refl
+joined_none found.NobodyPermitted = refl
+joined_none found.Permitted = refl
+
+-- it is the greater one
+pub joined_max : (a b : Sending) → ord_max order.cmp-value.it a b ≡ joined a b
+joined_max found.NobodyFound found.NobodyFound = refl
+joined_max found.NobodyFound found.NobodyPermitted = refl
+joined_max found.NobodyFound found.Permitted = refl
+joined_max found.NobodyPermitted found.NobodyFound = refl
+joined_max found.NobodyPermitted found.NobodyPermitted = refl
+joined_max found.NobodyPermitted found.Permitted = refl
+joined_max found.Permitted found.NobodyFound = refl
+joined_max found.Permitted found.NobodyPermitted = refl
+joined_max found.Permitted found.Permitted = refl
+
+-- among some and then others
+joined_permitted : (xs ys : List Process) → joined (sending_permitted xs) (sending_permitted ys) ≡ sending_permitted (xs ++ ys)
+joined_permitted [] [] = refl
+joined_permitted [] (y ∷ ys) = refl
+joined_permitted (x ∷ xs) ys = refl
+
+-- whom a signal to all of them finds
+sending_append : (me : Process) (s : Option ℕ) (xs ys : List Process) → joined (sending_found me s xs) (sending_found me s ys) ≡ sending_found me s (xs ++ ys)
+unfolding permitted
+sending_append me s [] ys = refl
+sending_append me s (x ∷ xs) [] = joined_none _ ∙ ap (λ l. sending_permitted (filter (may me s) (x ∷ l))) (sym (append-nil xs))
+sending_append me s (x ∷ xs) (y ∷ ys) =
+    joined_permitted (filter (may me s) (x ∷ xs)) (filter (may me s) (y ∷ ys)) ∙ ap sending_permitted (sym (filter-append (may me s) (x ∷ xs) (y ∷ ys)))
+
+-- ---- one step of the walk
+
+-- of those left from p on, the targets are p, if it is one, and the targets above
+targets_split : (me : Process) (choice : ℤ) (p : ℕ) (rs : List Process) → IsRising rs → targets me choice (left_of (Some p) rs) ≡ targets me choice (numbered p rs) ++ targets me choice (above p rs)
+unfolding targets
+targets_split me choice p rs up = ap (filter (is_target me choice)) (left_split p rs up) ∙ filter-append (is_target me choice) (numbered p rs) (above p rs)
+
+-- now is the table rs after the signal was sent to p, and next comes after p
+pub record IsSent (me : Process) (choice : ℤ) (s : Option ℕ) (p : ℕ) (rs now : List Process) (next : Option ℕ) : Type 0 where
+  pub rising : IsRising rs
+  pub rising_now : IsRising now
+  pub sent : now ≡ sent_among me s (targets me choice (numbered p rs)) rs
+  pub comes : next ≡ next_above p now
+
+-- where the walk goes on
+pub walked : (me : Process) (choice : ℤ) (s : Option ℕ) (p : ℕ) (rs mid now : List Process) (next : Option ℕ) → IsRising rs → mid ≡ sent_among me s (targets me choice (numbered p rs)) rs
+    → IsRising mid → now ≡ mid → next ≡ next_above p mid → IsSent me choice s p rs now next
+walked me choice s p rs mid now next up e up_mid same comes =
+    record { rising = up; rising_now = subst IsRising (sym same) up_mid; sent = same ∙ e; comes = comes ∙ ap (next_above p) (sym same) }
+
+-- the same are left as were above p
+left_same : (me : Process) (choice : ℤ) (s : Option ℕ) (p : ℕ) (rs now : List Process) (next : Option ℕ) → IsSent me choice s p rs now next → left_of next now ≡ above p rs
+left_same me choice s p rs now next i = ap (λ (o : Option ℕ). left_of o now) i.comes ∙ left_next p now i.rising_now ∙ ap (above p) i.sent ∙ above_sent me choice s p rs
+
+-- what is left to do gives what it gave before
+pub sent_step : (me : Process) (choice : ℤ) (s : Option ℕ) (p : ℕ) (rs now : List Process) (next : Option ℕ) → IsSent me choice s p rs now next
+    → sent_among me s (targets me choice (left_of next now)) now ≡ sent_among me s (targets me choice (left_of (Some p) rs)) rs
+sent_step me choice s p rs now next i =
+    ap (λ qs. sent_among me s (targets me choice qs) now) (left_same me choice s p rs now next i)
+    ∙ ap (sent_among me s (targets me choice (above p rs))) i.sent
+    ∙ sym (sent_append me s (targets me choice (numbered p rs)) (targets me choice (above p rs)) rs)
+    ∙ ap (λ qs. sent_among me s qs rs) (sym (targets_split me choice p rs i.rising))
+
+-- and finds with those found by now what it found before
+pub sending_step : (me : Process) (choice : ℤ) (s : Option ℕ) (p : ℕ) (rs now : List Process) (next : Option ℕ) → IsSent me choice s p rs now next
+    → (a b : Sending) → b ≡ sending me choice s (numbered p rs) → joined (joined a b) (sending me choice s (left_of next now)) ≡ joined a (sending me choice s (left_of (Some p) rs))
+unfolding sending
+sending_step me choice s p rs now next i a b e =
+    joined_twice a b (sending_found me s (targets me choice (left_of next now)))
+    ∙ ap (joined a) (ap (λ b. joined b (sending_found me s (targets me choice (left_of next now)))) e
+    ∙ ap (λ qs. joined (sending_found me s (targets me choice (numbered p rs))) (sending_found me s (targets me choice qs))) (left_same me choice s p rs now next i)
+    ∙ sending_append me s (targets me choice (numbered p rs)) (targets me choice (above p rs))
+    ∙ ap (sending_found me s) (sym (targets_split me choice p rs i.rising)))
+
+-- ---- one number
+
+-- these are the facts of the record that is there
+pub record IsRead (o : Option Process) (f : Facts) : Type 0 where
+  pub what : Process
+  pub found : o ≡ Some what
+  pub facts : f ≡ facts_of what
+
+-- what was read are those of a record
+pub is_read : (o : Option Process) (f : Facts) → Some f ≡ option_map facts_of o → IsRead o f
+is_read None f e = absurd (cc)
+is_read (Some r) f e = record { what = r; found = refl; facts = cc }
+
+-- who is there is the one with its number
+numbered_one : (p : ℕ) (rs : List Process) → IsRising rs → (q : Process) → lookup p rs ≡ Some q → numbered p rs ≡ q ∷ []
+unfolding lookup IsRising
+numbered_one p [] up q e = absurd (cc)
+numbered_one p (x ∷ xs) up q e =
+    elim (x.pid == p) as (λ b. (x.pid == p) ≡ b → cond b (Some x) (find (has_pid p) xs) ≡ Some q → cond b (x ∷ numbered p xs) (numbered p xs) ≡ q ∷ []) [
+      | true ↦ λ t k.
+          let same : x ≡ q = cc in
+          let none : numbered p xs ≡ [] = none_numbered p xs (subst (λ n. Above n xs) (eqb-true _ _ t) up.0) in
+          rw (none, same) refl
+      | false ↦ λ t k. numbered_one p xs up.1 q k
+    ] refl e
+
+-- where nobody is there, nobody has the number
+numbered_none : (p : ℕ) (rs : List Process) → lookup p rs ≡ None → numbered p rs ≡ []
+unfolding lookup
+numbered_none p [] e = refl
+numbered_none p (x ∷ xs) e =
+    elim (x.pid == p) as (λ b. cond b (Some x) (find (has_pid p) xs) ≡ None → cond b (x ∷ numbered p xs) (numbered p xs) ≡ []) [
+      | true ↦ λ k. absurd (cc)
+      | false ↦ λ k. numbered_none p xs k
+    ] e
+
+-- who is there and is meant is the target with its number
+pub target_one : (me : Process) (choice : ℤ) (p : ℕ) (rs : List Process) → IsRising rs → (q : Process) → lookup p rs ≡ Some q → is_target me choice q ≡ true → targets me choice (numbered p rs) ≡ q ∷ []
+unfolding targets
+target_one me choice p rs up q e t = rw (numbered_one p rs up q e, t) refl
+
+-- who is there and isn't meant is none
+pub target_other : (me : Process) (choice : ℤ) (p : ℕ) (rs : List Process) → IsRising rs → (q : Process) → lookup p rs ≡ Some q → is_target me choice q ≡ false → targets me choice (numbered p rs) ≡ []
+unfolding targets
+target_other me choice p rs up q e t = rw (numbered_one p rs up q e, t) refl
+
+-- where nobody is there, there is none
+pub target_none : (me : Process) (choice : ℤ) (p : ℕ) (rs : List Process) → lookup p rs ≡ None → targets me choice (numbered p rs) ≡ []
+unfolding targets
+target_none me choice p rs e = rw (numbered_none p rs e) refl
+
+-- the targets decide whom a signal finds
+pub sending_targets : (me : Process) (choice : ℤ) (s : Option ℕ) (qs rs : List Process) → targets me choice rs ≡ qs → sending me choice s rs ≡ sending_found me s qs
+unfolding sending
+sending_targets me choice s qs rs e = ap (sending_found me s) e
+
+-- among nobody there are no targets
+pub targets_none : (me : Process) (choice : ℤ) → targets me choice [] ≡ []
+unfolding targets
+targets_none me choice = refl
+
+-- and nobody is found
+pub sending_none : (me : Process) (choice : ℤ) (s : Option ℕ) → sending me choice s [] ≡ found.NobodyFound
+sending_none me choice s = sending_targets me choice s [] [] (targets_none me choice)
+
+-- a test that was passed is passed again
+filter_twice : (t : Process → Bool) (rs : List Process) → filter t (filter t rs) ≡ filter t rs
+filter_twice t [] = refl
+filter_twice t (x ∷ xs) = elim (t x) as (λ b. t x ≡ b → filter t (cond b (x ∷ filter t xs) (filter t xs)) ≡ cond b (x ∷ filter t xs) (filter t xs)) [
+  | true ↦ λ e. rw e (ap (λ ys. x ∷ ys) (filter_twice t xs))
+  | false ↦ λ e. filter_twice t xs
+] refl
+
+-- a number above 0 means those with it
+pub targets_numbered : (me : Process) (choice : ℤ) (p n : ℕ) (rs : List Process) → choice ≡ pos (suc n) → p ≡ suc n → targets me choice (numbered p rs) ≡ targets me choice rs
+unfolding targets
+targets_numbered me choice p n rs e f = rw (e, f) (filter_twice (has_pid (suc n)) rs)
+
+-- ---- a signal to one process
+
+-- nobody is signalled where nobody is meant
+pub sent_nobody : (me : Process) (s : Option ℕ) (rs : List Process) → sent_among me s [] rs ≡ rs
+unfolding sent_among permitted signalled_all
+sent_nobody me None rs = refl
+sent_nobody me (Some n) rs = refl
+
+-- nor by signal 0
+pub sent_none : (me : Process) (qs rs : List Process) → sent_among me None qs rs ≡ rs
+unfolding sent_among
+sent_none me qs rs = refl
+
+-- nor who may not be
+pub sent_refused : (me : Process) (s : Option ℕ) (q : Process) (rs : List Process) → may me s q ≡ false → sent_among me s (q ∷ []) rs ≡ rs
+unfolding sent_among permitted signalled_all
+sent_refused me None q rs e = refl
+sent_refused me (Some n) q rs e = rw e refl
+
+-- who may be is
+sent_one : (me : Process) (n : ℕ) (q : Process) (rs : List Process) → may me (Some n) q ≡ true → sent_among me (Some n) (q ∷ []) rs ≡ changed q.pid (signalled (sent_by me.pid n)) rs
+unfolding sent_among permitted signalled_all
+sent_one me n q rs e = rw e refl
+
+-- the same of their facts
+pub signal_one : (me it : Facts) (r q : Process) (s : Option ℕ) (n : ℕ) (signal : PendingSignal) (rs now : List Process) → me ≡ facts_of r → it ≡ facts_of q → s ≡ Some n → signal ≡ sent_by me.pid n → may r s q ≡ true
+    → now ≡ changed it.pid (signalled signal) rs → now ≡ sent_among r s (q ∷ []) rs
+signal_one me it r q s n signal rs now e f some is allowed done =
+    done
+    ∙ ap (λ x. changed it.pid (signalled x) rs) (is ∙ ap (λ (f : Facts). sent_by f.pid n) e)
+    ∙ ap (λ (f : Facts). changed f.pid (signalled (sent_by r.pid n)) rs) f
+    ∙ sym (sent_one r n q rs (ap (λ s. may r s q) (sym some) ∙ allowed))
+    ∙ ap (λ s. sent_among r s (q ∷ []) rs) (sym some)
+
+-- whether it may be decides what is found
+pub sending_one : (me : Process) (s : Option ℕ) (q : Process) (b : Bool) → may me s q ≡ b → sending_permitted (permitted me s (q ∷ [])) ≡ cond b found.Permitted found.NobodyPermitted
+unfolding permitted
+sending_one me s q true e = rw e refl
+sending_one me s q false e = rw e refl
+
+-- ---- the walk
+
+-- no more than this many numbers may come next, of those below m
+abbrev pub numbers_left : ℕ → Option ℕ → ℕ
+numbers_left m None = 0
+numbers_left m (Some p) = m - p
+
+-- fewer do after p
+pub fewer_left : (m p : ℕ) (rs : List Process) (next : Option ℕ) → p < m → next ≡ next_above p rs → numbers_left m next < m - p
+unfolding next_above
+fewer_left m p rs next l e = of_option next (subst (λ o. IfSome o (λ y. p < y)) (sym e) (head_above p rs))
+  where
+    of_option : (o : Option ℕ) → IfSome o (λ y. p < y) → numbers_left m o < m - p
+    of_option None h = omega arith
+    of_option (Some y) h = omega (arith, h)
+
+-- ---- a number that is a target
+
+-- what fits a number above 0 is that number
+pub number_of : {E : Type 0} (z : ℤ) (r : Result ℕ E) (n : ℕ) → int_lt z (pos 1) ≡ false → OkIff r (FitsUnsignedBits 32 z) (nat_abs z) → Some n ≡ result_ok r → (o : Option ℕ) → IfSome o (λ p. p ≡ n)
+    → IfSome o (λ p. (x : ℕ) × (z ≡ pos (suc x)) × (p ≡ suc x))
+number_of (negsuc m) r n l f e o h = absurd (cc)
+number_of (pos zero) r n l f e o h = absurd (cc)
+number_of (pos (suc m)) (Err why) n l f e o h = absurd (cc)
+number_of (pos (suc m)) (Ok k) n l f e None h = tt
+number_of (pos (suc m)) (Ok k) n l f e (Some p) h = let same : n ≡ k = cc in (m, refl, h ∙ same ∙ f.1)
+
+-- ---- a sound machine
+
+-- one signal after another keeps a machine sound
+sound_signalled : (signal : PendingSignal) (ps : List ℕ) (t : State) (p : Pids) (places : Places) (n : ℕ) → IsSound t p places n → IsSound (record t { processes = signalled_all signal ps t.processes }) p places n
+unfolding signalled_all
+sound_signalled signal [] t p places n i = i
+sound_signalled signal (q ∷ qs) t p places n i =
+    sound_signalled signal qs (record t { processes = changed q (signalled signal) t.processes }) p places n (sound_change q (signalled signal) (keeps_signalled signal) t p places n i)
+
+-- so does a signal that is sent
+pub sound_sent : (me : Process) (choice : ℤ) (s : Option ℕ) (t : State) (p : Pids) (places : Places) (n : ℕ) → IsSound t p places n → IsSound (record t { processes = sent me choice s t.processes }) p places n
+unfolding sent sent_among
+sound_sent me choice None t p places n i = i
+sound_sent me choice (Some signal) t p places n i = sound_signalled (sent_by me.pid signal) _ t p places n i

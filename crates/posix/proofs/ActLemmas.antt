@@ -1,0 +1,283 @@
+-- What a process does as its turn comes changes its own place alone, and raises the count of births by one at most.
+use Rattle.std.proofs.Common.{◌≡◌, ◌≤◌, ℕ, ◌+◌, Bool, true, false, cond, refl, ap, sym, ◌∙◌, arith, List, [], ◌∷◌, ◌++◌, Option, Some, None, ◌==◌, ℤ, inl, inr, ◌⊎◌, Result, Ok, Err}
+use Rattle.std.proofs.lemmas.Bool.{eqb-true}
+use Rattle.std.specs.Int.{cast_unsigned, w64}
+use Rattle.posix.specs.declared.instr.Call.{Call}
+use Rattle.posix.specs.declared.instr.Call.TheVariants.{Exit, Fork, Waitpid, Pause, SchedYield, Getpid, Getppid, Getuid, Geteuid, Getgid, Getegid, Setuid, Seteuid, Setgid, Setegid, Kill, Sigaction, Sigprocmask, Sigpending, Sigsuspend, Sigreturn}
+use Rattle.posix.specs.declared.instr.Trap.{Trap}
+use Rattle.posix.specs.declared.instr.Trap.TheVariants as trap
+use Rattle.posix.specs.declared.errno.Errno.{Errno}
+use Rattle.posix.specs.declared.sig.DefaultAction.{DefaultAction}
+use Rattle.posix.specs.declared.sig.DefaultAction.TheVariants as default
+use Rattle.posix.specs.declared.process.Action.{Action}
+use Rattle.posix.specs.declared.process.Blocked.{Blocked}
+use Rattle.posix.specs.declared.process.Blocked.TheVariants as blocked
+use Rattle.posix.specs.declared.process.Frame.{Frame}
+use Rattle.posix.specs.declared.process.Handler.{Handler}
+use Rattle.posix.specs.declared.process.Handler.TheVariants as handler
+use Rattle.posix.specs.declared.process.PendingSignal.{PendingSignal}
+use Rattle.posix.specs.declared.process.Report.{Report}
+use Rattle.posix.specs.declared.process.Report.TheVariants as found
+use Rattle.posix.specs.declared.process.Sending.{Sending}
+use Rattle.posix.specs.declared.process.Sending.TheVariants as sends
+use Rattle.posix.specs.Signals.{KILL, SEGV, default_action}
+use Rattle.posix.specs.SignalSets.{has, set_in}
+use Rattle.posix.specs.Statuses.{exited, killed}
+use Rattle.posix.specs.Processes.{Process, Signals, Credentials, Cpu, argument}
+use Rattle.posix.specs.States.{State, without, change, next_pid}
+use Rattle.posix.specs.Execute.{exec_one}
+use Rattle.posix.specs.Outcomes.{Outcome, Attempted, Done, Block}
+use Rattle.posix.specs.Credentials.{setuid, seteuid, setgid, setegid}
+use Rattle.posix.specs.Generation.{action, is_pending}
+use Rattle.posix.specs.Choice.{chosen, carried_by, from_kernel}
+use Rattle.posix.specs.Handlers.{handles, is_full, newest_frame, set_action, set_mask}
+use Rattle.posix.specs.Births.{fork_as}
+use Rattle.posix.specs.Ends.{end_process}
+use Rattle.posix.specs.Waits.{wait, wait_with, report, options_in, are_known, has_option, WNOHANG}
+use Rattle.posix.specs.Delivery.{handle, act_by_default, act_on, take_out, deliver, fault_with, fault, return_to, return_from_handler}
+use Rattle.posix.specs.Sends.{sending, send_with, signal_in, signal_or_none, kill_with, kill}
+use Rattle.posix.specs.SignalCalls.{set_credentials, is_question, are_flags, action_in, sigaction_with, sigaction_of, sigaction, sigprocmask_with, sigprocmask, sigpending}
+use Rattle.posix.specs.Attempts.{attempt, attempt_again}
+use Rattle.posix.specs.Step.{act, act_in, after_trap, begin_call, deliver_or, go_on, code_of}
+use Rattle.posix.proofs.NoticeLemmas.{end_first, end_other}
+
+-- nothing happens to the order, or p loses its place, or p goes last
+abbrev pub Turned : ℕ → List ℕ → List ℕ → Type 0
+Turned p old new = (new ≡ old) ⊎ ((new ≡ without p old) ⊎ (new ≡ without p old ++ p ∷ []))
+
+-- the order turned by p alone, one birth happened at most, and no time passed
+pub record Acted (p : ℕ) (old new : State) : Type 0 where
+  pub births : new.births ≤ old.births + 1
+  pub ticks : new.ticks ≡ old.ticks
+  pub order : Turned p old.order new.order
+
+-- nothing of that changed
+stays : (p : ℕ) (s t : State) → t.births ≡ s.births → t.ticks ≡ s.ticks → t.order ≡ s.order → Acted p s t
+stays p s t b k o = record { births = omega (arith, b); ticks = k; order = inl o }
+
+-- p lost its place
+leaves : (p : ℕ) (s t : State) → t.births ≡ s.births → t.ticks ≡ s.ticks → t.order ≡ without p s.order → Acted p s t
+leaves p s t b k o = record { births = omega (arith, b); ticks = k; order = inr (inl o) }
+
+-- the same of an attempt that is done
+abbrev ActedIf : ℕ → State → Attempted → Type 0
+ActedIf p s (Done o) = Acted p s o.state
+ActedIf p s (Block b) = Unit {0}
+
+-- of both sides of a test
+acted_if : (p : ℕ) (s : State) (b : Bool) (x y : Attempted) → ActedIf p s x → ActedIf p s y → ActedIf p s (cond b x y)
+acted_if p s true x y h k = h
+acted_if p s false x y h k = k
+
+-- of both outcomes of a test
+acted_either : (p : ℕ) (s : State) (b : Bool) (x y : Outcome) → Acted p s x.state → Acted p s y.state → Acted p s (cond b x y).state
+acted_either p s true x y h k = h
+acted_either p s false x y h k = k
+
+-- ---- ends and signals
+
+-- who ends loses its place
+acted_end : (s : State) (r : Process) (status : ℕ) → Acted r.pid s (end_process s r status).state
+acted_end s r status = elim (r.pid == 1) as (λ b. (r.pid == 1) ≡ b → Acted r.pid s (end_process s r status).state) [
+  | true ↦ λ t.
+      let is = end_first s r status t in
+      leaves r.pid s _ (ap (λ (n : State). n.births) is) (ap (λ (n : State). n.ticks) is) (ap (λ (n : State). n.order) is ∙ ap (λ n. without n s.order) (sym (eqb-true r.pid 1 t)))
+  | false ↦ λ t.
+      let is = end_other s r status t in
+      leaves r.pid s _ (ap (λ (n : State). n.births) is) (ap (λ (n : State). n.ticks) is) (ap (λ (n : State). n.order) is)
+] refl
+
+-- who enters a handler keeps its place, or ends
+acted_handle : (s : State) (r : Process) (signal : PendingSignal) (address : ℤ) → Acted r.pid s (handle s r signal address).state
+unfolding handle
+acted_handle s r signal address =
+    let h = acted_end (change s r.pid (handles signal address)) r (killed SEGV) in
+    acted_either r.pid s (is_full r.signals) _ _ (record { births = h.births; ticks = h.ticks; order = h.order }) (stays r.pid s _ refl refl refl)
+
+-- a default action
+acted_default : (s : State) (r : Process) (n : ℕ) (a : DefaultAction) → Acted r.pid s (act_by_default s r n a).state
+acted_default s r n default.Terminate = acted_end s r (killed n)
+acted_default s r n default.Ignore = stays r.pid s _ refl refl refl
+acted_default s r n default.Stop = stays r.pid s _ refl refl refl
+acted_default s r n default.Continue = stays r.pid s _ refl refl refl
+
+-- the action of a signal
+acted_on : (s : State) (r : Process) (signal : PendingSignal) (h : Handler) → Acted r.pid s (act_on s r signal h).state
+acted_on s r signal (handler.At address) = acted_handle s r signal address
+acted_on s r signal handler.Ignore = stays r.pid s _ refl refl refl
+acted_on s r signal handler.Default =
+    acted_either r.pid s (r.pid == 1) _ _ (stays r.pid s _ refl refl refl) (acted_default s r signal.sig (default_action signal.sig))
+
+-- a delivery
+acted_deliver : (s : State) (r : Process) (n : ℕ) → Acted r.pid s (deliver s r n).state
+unfolding deliver
+acted_deliver s r n =
+    let h = acted_on (change s r.pid (take_out n)) r (record { sig = n; carried = carried_by n r.signals }) (action r.signals n).handler in
+    record { births = h.births; ticks = h.ticks; order = h.order }
+
+-- a fault, by the handler of its signal
+acted_fault_with : (s : State) (r : Process) (n : ℕ) (h : Handler) → Acted r.pid s (fault_with s r n h).state
+acted_fault_with s r n (handler.At address) =
+    acted_either r.pid s (has r.signals.mask n) _ _ (acted_end s r (killed n)) (acted_handle s r (record { sig = n; carried = from_kernel }) address)
+acted_fault_with s r n handler.Ignore = acted_end s r (killed n)
+acted_fault_with s r n handler.Default = acted_end s r (killed n)
+
+-- a fault
+acted_fault : (s : State) (r : Process) (n : ℕ) → Acted r.pid s (fault s r n).state
+unfolding fault
+acted_fault s r n = acted_fault_with s r n (action r.signals n).handler
+
+-- a return to a frame
+acted_return_to : (s : State) (r : Process) (frame : Option Frame) → Acted r.pid s (return_to s r frame).state
+acted_return_to s r None = acted_fault s r SEGV
+acted_return_to s r (Some frame) = stays r.pid s _ refl refl refl
+
+-- a return from a handler
+acted_return : (s : State) (r : Process) → Acted r.pid s (return_from_handler s r).state
+unfolding return_from_handler
+acted_return s r = acted_return_to s r (newest_frame r.signals)
+
+-- ---- calls
+
+-- a fork, granted or not
+acted_fork : (granted : Bool) (s : State) (me : Process) (n : Option ℕ) → ActedIf me.pid s (fork_as granted s me n)
+unfolding fork_as
+acted_fork granted s me None = stays me.pid s _ refl refl refl
+acted_fork granted s me (Some n) = acted_if me.pid s granted _ _ (record { births = omega arith; ticks = refl; order = inl refl }) (stays me.pid s _ refl refl refl)
+
+-- a wait, by what it found
+acted_with : (s : State) (p options : ℕ) (what : Report) → ActedIf p s (wait_with s p options what)
+acted_with s p options found.NoChild = stays p s _ refl refl refl
+acted_with s p options found.Nothing = acted_if p s (has_option options WNOHANG) _ _ (stays p s _ refl refl refl) tt
+acted_with s p options (found.End child status) = stays p s _ refl refl refl
+acted_with s p options (found.Change child status) = stays p s _ refl refl refl
+
+-- a wait
+acted_wait : (s : State) (me : Process) → ActedIf me.pid s (wait s me)
+unfolding wait
+acted_wait s me =
+    acted_if me.pid s (are_known (options_in (argument me 2))) _ _
+    (acted_with s me.pid (options_in (argument me 2)) (report s.processes me.pid me.group (argument me 1) (options_in (argument me 2))))
+    (stays me.pid s _ refl refl refl)
+
+-- a change of ids
+acted_ids : (s : State) (p : ℕ) (call : Call) (c : Result Credentials Errno) → ActedIf p s (set_credentials s p call c)
+acted_ids s p call (Ok c) = stays p s _ refl refl refl
+acted_ids s p call (Err why) = stays p s _ refl refl refl
+
+-- a signal that is sent, by whom it finds
+acted_send : (s : State) (me : Process) (choice : ℤ) (sig : Option ℕ) (what : Sending) → ActedIf me.pid s (send_with s me choice sig what)
+acted_send s me choice sig sends.NobodyFound = stays me.pid s _ refl refl refl
+acted_send s me choice sig sends.NobodyPermitted = stays me.pid s _ refl refl refl
+acted_send s me choice sig sends.Permitted = stays me.pid s _ refl refl refl
+
+-- a signal that is sent, by what it is
+acted_kill_with : (s : State) (me : Process) (sig : Option (Option ℕ)) → ActedIf me.pid s (kill_with s me sig)
+acted_kill_with s me None = stays me.pid s _ refl refl refl
+acted_kill_with s me (Some sig) = acted_send s me (argument me 1) sig (sending me (argument me 1) sig s.processes)
+
+-- a signal that is sent
+acted_kill : (s : State) (me : Process) → ActedIf me.pid s (kill s me)
+unfolding kill
+acted_kill s me = acted_kill_with s me (signal_or_none (argument me 2))
+
+-- a new action, or a refusal
+acted_action_with : (s : State) (me : Process) (old : Action) (g : Result Signals Errno) → ActedIf me.pid s (sigaction_with s me old g)
+acted_action_with s me old (Ok g) = stays me.pid s _ refl refl refl
+acted_action_with s me old (Err why) = stays me.pid s _ refl refl refl
+
+-- a question for an action or a new one, by the signal
+acted_action_of : (s : State) (me : Process) (n : Option ℕ) → ActedIf me.pid s (sigaction_of s me n)
+acted_action_of s me None = stays me.pid s _ refl refl refl
+acted_action_of s me (Some n) =
+    acted_if me.pid s (is_question (argument me 2)) _ _ (stays me.pid s _ refl refl refl)
+    (acted_if me.pid s (are_flags (cast_unsigned w64 (argument me 4))) _ _ (acted_action_with s me (action me.signals n) (set_action n (action_in me) me.signals)) (stays me.pid s _ refl refl refl))
+
+-- a question for an action or a new one
+acted_action : (s : State) (me : Process) → ActedIf me.pid s (sigaction s me)
+unfolding sigaction
+acted_action s me = acted_action_of s me (signal_in (argument me 1))
+
+-- a new mask, or a refusal
+acted_mask_with : (s : State) (me : Process) (g : Result Signals Errno) → ActedIf me.pid s (sigprocmask_with s me g)
+acted_mask_with s me (Ok g) = stays me.pid s _ refl refl refl
+acted_mask_with s me (Err why) = stays me.pid s _ refl refl refl
+
+-- a question for the mask or a new one
+acted_mask : (s : State) (me : Process) → ActedIf me.pid s (sigprocmask s me)
+unfolding sigprocmask
+acted_mask s me = acted_mask_with s me (set_mask (argument me 1) (set_in (argument me 2)) me.signals)
+
+-- a question for what is pending
+acted_pending : (s : State) (me : Process) → ActedIf me.pid s (sigpending s me)
+unfolding sigpending
+acted_pending s me = stays me.pid s _ refl refl refl
+
+-- each call
+acted_attempt : (granted : Bool) (s : State) (me : Process) (call : Call) → ActedIf me.pid s (attempt granted s me call)
+unfolding attempt
+acted_attempt granted s me Exit = acted_end s me (exited (argument me 1))
+acted_attempt granted s me Fork = acted_fork granted s me (next_pid s)
+acted_attempt granted s me Waitpid = acted_wait s me
+acted_attempt granted s me Pause = tt
+acted_attempt granted s me SchedYield = record { births = omega arith; ticks = refl; order = inr (inr refl) }
+acted_attempt granted s me Getpid = stays me.pid s _ refl refl refl
+acted_attempt granted s me Getppid = stays me.pid s _ refl refl refl
+acted_attempt granted s me Getuid = stays me.pid s _ refl refl refl
+acted_attempt granted s me Geteuid = stays me.pid s _ refl refl refl
+acted_attempt granted s me Getgid = stays me.pid s _ refl refl refl
+acted_attempt granted s me Getegid = stays me.pid s _ refl refl refl
+acted_attempt granted s me Setuid = acted_ids s me.pid Setuid (setuid me.credentials (argument me 1))
+acted_attempt granted s me Seteuid = acted_ids s me.pid Seteuid (seteuid me.credentials (argument me 1))
+acted_attempt granted s me Setgid = acted_ids s me.pid Setgid (setgid me.credentials (argument me 1))
+acted_attempt granted s me Setegid = acted_ids s me.pid Setegid (setegid me.credentials (argument me 1))
+acted_attempt granted s me Kill = acted_kill s me
+acted_attempt granted s me Sigaction = acted_action s me
+acted_attempt granted s me Sigprocmask = acted_mask s me
+acted_attempt granted s me Sigpending = acted_pending s me
+acted_attempt granted s me Sigsuspend = tt
+acted_attempt granted s me Sigreturn = acted_return s me
+
+-- each call afresh
+acted_again : (s : State) (me : Process) (b : Blocked) → ActedIf me.pid s (attempt_again s me b)
+unfolding attempt_again
+acted_again s me blocked.Waitpid = acted_wait s me
+acted_again s me blocked.Read = tt
+acted_again s me blocked.Pause = tt
+acted_again s me (blocked.Sigsuspend mask) = tt
+
+-- ---- a turn
+
+-- who is blocked loses its place
+acted_begin : (s : State) (r : Process) (a : Attempted) → ActedIf r.pid s a → Acted r.pid s (begin_call s r a).state
+acted_begin s r (Done o) h = h
+acted_begin s r (Block b) h = leaves r.pid s _ refl refl refl
+
+-- a signal that is chosen, or else what happens
+acted_or : (s : State) (r : Process) (n : Option ℕ) (other : Outcome) → Acted r.pid s other.state → Acted r.pid s (deliver_or s r n other).state
+acted_or s r None other h = h
+acted_or s r (Some n) other h = acted_deliver s r n
+
+-- who stays blocked, and takes no signal, loses its place
+acted_go_on : (s : State) (r : Process) (a : Attempted) → ActedIf r.pid s a → Acted r.pid s (go_on s r a).state
+acted_go_on s r (Done o) h = h
+acted_go_on s r (Block b) h = acted_or s r (chosen r.life r.signals) _ (leaves r.pid s _ refl refl refl)
+
+-- what follows an instruction
+acted_trap : (granted : Bool) (s : State) (r : Process) (c : Cpu) (t : Trap) → Acted r.pid s (after_trap granted s r c t).state
+unfolding after_trap
+acted_trap granted s r c trap.Next = stays r.pid s _ refl refl refl
+acted_trap granted s r c (trap.Note z) = stays r.pid s _ refl refl refl
+acted_trap granted s r c (trap.Call call) = acted_begin s r _ (acted_attempt granted s r call)
+acted_trap granted s r c (trap.Fault sig) = acted_fault s r sig
+
+-- a turn in a call, or in none
+acted_in : (granted : Bool) (s : State) (r : Process) (b : Option Blocked) → Acted r.pid s (act_in granted s r b).state
+unfolding act_in
+acted_in granted s r (Some b) = acted_go_on s r _ (acted_again s r b)
+acted_in granted s r None = let done = exec_one (code_of s r) r.cpu in acted_or s r (chosen r.life r.signals) _ (acted_trap granted s r done.cpu done.trap)
+
+-- a turn
+pub acted : (granted : Bool) (s : State) (r : Process) → Acted r.pid s (act granted s r).state
+unfolding act
+acted granted s r = acted_either r.pid s (is_pending r.signals KILL) _ _ (acted_end s r (killed KILL)) (acted_in granted s r r.blocked)

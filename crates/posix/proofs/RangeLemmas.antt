@@ -1,0 +1,17 @@
+-- Searches through ranges of numbers.
+use Rattle.std.proofs.Common.{◌≡◌, ℕ, zero, suc, ◌+◌, ◌<◌, ◌≤◌, Bool, true, false, refl, arith, find, Some, None, inl, inr}
+use Rattle.std.specs.List.{range_with_len}
+use Rattle.std.proofs.lemmas.Bool.{cases_eq}
+
+-- where no number of a range passes none is found
+pub find_range_none : (f : ℕ → Bool) (a n : ℕ) → ((k : ℕ) → a ≤ k → k < a + n → f k ≡ false) → find f (range_with_len a n) ≡ None
+find_range_none f a zero h = refl
+find_range_none f a (suc n) h = rw (h a (omega arith) (omega arith)) (find_range_none f (a + 1) n (λ k lo hi. h k (omega arith) (omega arith)))
+
+-- the first number that passes is found
+pub find_range_first : (f : ℕ → Bool) (a n s : ℕ) → a ≤ s → s < a + n → ((k : ℕ) → a ≤ k → k < s → f k ≡ false) → f s ≡ true → find f (range_with_len a n) ≡ Some s
+find_range_first f a zero s lo hi h e = absurd (omega arith)
+find_range_first f a (suc n) s lo hi h e = elim (cases_eq a s) [
+  | inl same ↦ rw (same, e) refl
+  | inr ne ↦ rw (h a (omega arith) (omega arith)) (find_range_first f (a + 1) n s (omega arith) (omega arith) (λ k l u. h k (omega arith) u) e)
+]

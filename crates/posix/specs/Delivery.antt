@@ -1,0 +1,90 @@
+-- Delivery of signals, and machine faults, XSH 2.4.1 and 2.4.3.
+use Rattle.std.specs.Prelude.{ℕ, ◌==◌, if◌then◌else◌, List, [], ◌∷◌, ◌++◌, Option, Some, None, ℤ}
+use Rattle.posix.specs.declared.instr.Call.{Call}
+use Rattle.posix.specs.declared.instr.Call.TheVariants as call
+use Rattle.posix.specs.declared.errno.Errno.TheVariants.{EINTR}
+use Rattle.posix.specs.declared.sig.DefaultAction.{DefaultAction}
+use Rattle.posix.specs.declared.sig.DefaultAction.TheVariants as default
+use Rattle.posix.specs.declared.entry.Entry.{Entry}
+use Rattle.posix.specs.declared.entry.Entry.TheVariants.{Called, Handled, Discarded, Returned}
+use Rattle.posix.specs.declared.process.Action.{Action}
+use Rattle.posix.specs.declared.process.Blocked.{Blocked}
+use Rattle.posix.specs.declared.process.Blocked.TheVariants as blocked
+use Rattle.posix.specs.declared.process.Frame.{Frame}
+use Rattle.posix.specs.declared.process.Handler.{Handler}
+use Rattle.posix.specs.declared.process.Handler.TheVariants as handler
+use Rattle.posix.specs.declared.process.PendingSignal.{PendingSignal}
+use Rattle.posix.specs.Signals.{SEGV, default_action}
+use Rattle.posix.specs.SignalSets.{has}
+use Rattle.posix.specs.Statuses.{killed}
+use Rattle.posix.specs.Processes.{Process}
+use Rattle.posix.specs.States.{State, change}
+use Rattle.posix.specs.Outcomes.{Outcome, refusal}
+use Rattle.posix.specs.Generation.{action}
+use Rattle.posix.specs.Choice.{taken, carried_by, from_kernel}
+use Rattle.posix.specs.Handlers.{handles, is_full, is_interrupted, newest_frame, returned}
+use Rattle.posix.specs.Ends.{end_process}
+
+-- the call that it is; no process is blocked in read yet
+abbrev pub call_of : Blocked → Call
+call_of blocked.Waitpid = call.Waitpid
+call_of blocked.Read = call.Pause
+call_of blocked.Pause = call.Pause
+call_of (blocked.Sigsuspend earlier) = call.Sigsuspend
+
+-- what a call that is interrupted shows
+abbrev pub interruption : ℕ → Option Blocked → Action → List Entry
+interruption p None a = []
+interruption p (Some b) a = if is_interrupted (Some b) a then Called p (call_of b) (refusal EINTR) ∷ [] else []
+
+-- The handler at an address is entered. Where there is no room for a frame the process ends by SEGV (own).
+unfoldable pub handle : State → Process → PendingSignal → ℤ → Outcome
+handle s r signal address =
+    let first = interruption r.pid r.blocked (action r.signals signal.sig) in
+    let t = change s r.pid (handles signal address) in
+    if is_full r.signals then (let o = end_process t r (killed SEGV) in record { state = o.state; entries = first ++ o.entries })
+    else record { state = t; entries = first ++ Handled r.pid signal.sig signal.carried.value signal.carried.sender ∷ [] }
+
+-- the signal has no effect
+abbrev pub discard : State → ℕ → ℕ → Outcome
+discard s p n = record { state = s; entries = Discarded p n ∷ [] }
+
+-- No signal that stops is sent yet.
+abbrev pub act_by_default : State → Process → ℕ → DefaultAction → Outcome
+act_by_default s r n default.Terminate = end_process s r (killed n)
+act_by_default s r n default.Ignore = discard s r.pid n
+act_by_default s r n default.Stop = discard s r.pid n
+act_by_default s r n default.Continue = discard s r.pid n
+
+-- default actions have no effect on process 1, kill(2)
+abbrev pub act_on : State → Process → PendingSignal → Handler → Outcome
+act_on s r signal (handler.At address) = handle s r signal address
+act_on s r signal handler.Ignore = discard s r.pid signal.sig
+act_on s r signal handler.Default = if r.pid == 1 then discard s r.pid signal.sig else act_by_default s r signal.sig (default_action signal.sig)
+
+unfoldable pub take_out : ℕ → Process → Process
+take_out n r = record r { signals = taken n r.signals }
+
+-- the signal n of r is taken out, and its action done
+unfoldable pub deliver : State → Process → ℕ → Outcome
+deliver s r n = act_on (change s r.pid (take_out n)) r (record { sig = n; carried = carried_by n r.signals }) (action r.signals n).handler
+
+-- A machine fault enters the handler, if there is one and it isn't blocked; else the process ends, also
+-- process 1 (own).
+abbrev pub fault_with : State → Process → ℕ → Handler → Outcome
+fault_with s r n (handler.At address) =
+    if has r.signals.mask n then end_process s r (killed n)
+    else handle s r (record { sig = n; carried = from_kernel }) address
+fault_with s r n handler.Ignore = end_process s r (killed n)
+fault_with s r n handler.Default = end_process s r (killed n)
+
+unfoldable pub fault : State → Process → ℕ → Outcome
+fault s r n = fault_with s r n (action r.signals n).handler
+
+-- The newest handler returns; without one that is a fault SEGV, sigreturn(2).
+abbrev pub return_to : State → Process → Option Frame → Outcome
+return_to s r None = fault s r SEGV
+return_to s r (Some frame) = record { state = change s r.pid (returned frame); entries = Returned r.pid ∷ [] }
+
+unfoldable pub return_from_handler : State → Process → Outcome
+return_from_handler s r = return_to s r (newest_frame r.signals)

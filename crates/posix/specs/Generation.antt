@@ -1,0 +1,96 @@
+-- Generation of signals: what a signal that is sent to a process does to its signals, XSH 2.4.1 and 2.4.3.
+use Rattle.std.specs.Prelude.{ℕ, ◌-◌, Bool, true, false, ◌&&◌, ◌||◌, not, if◌then◌else◌, ◌==◌, List, [], ◌∷◌, Option, Some, None, is_some, slice_index_or, slice_set, bit_and}
+use Rattle.posix.specs.declared.sig.DefaultAction.{DefaultAction}
+use Rattle.posix.specs.declared.sig.DefaultAction.TheVariants as default
+use Rattle.posix.specs.declared.process.Action.{Action}
+use Rattle.posix.specs.declared.process.Carried.{Carried}
+use Rattle.posix.specs.declared.process.PendingSignal.{PendingSignal}
+use Rattle.posix.specs.declared.process.Handler.{Handler}
+use Rattle.posix.specs.declared.process.Handler.TheVariants as handler
+use Rattle.posix.specs.declared.process.Life.{Life}
+use Rattle.posix.specs.Signals.{default_action}
+use Rattle.posix.specs.SignalSets.{has}
+use Rattle.posix.specs.Processes.{Process, Signals, initial_action, is_zombie}
+use Rattle.posix.specs.Tables.{changed}
+
+-- ---- actions
+
+abbrev pub action : Signals → ℕ → Action
+action g s = slice_index_or g.actions (s - 1) initial_action
+
+abbrev pub is_caught : Handler → Bool
+is_caught handler.Default = false
+is_caught handler.Ignore = false
+is_caught (handler.At address) = true
+
+abbrev pub is_ignored : Handler → Bool
+is_ignored handler.Default = false
+is_ignored handler.Ignore = true
+is_ignored (handler.At address) = false
+
+-- the default is to ignore the signal or to continue
+abbrev pub is_harmless : DefaultAction → Bool
+is_harmless default.Terminate = false
+is_harmless default.Ignore = true
+is_harmless default.Stop = false
+is_harmless default.Continue = true
+
+-- the action does nothing with the signal
+abbrev pub does_nothing : Handler → ℕ → Bool
+does_nothing handler.Default s = is_harmless (default_action s)
+does_nothing handler.Ignore s = true
+does_nothing (handler.At address) s = false
+
+-- the flags of sigaction(2)
+abbrev pub SA_NOCLDWAIT : ℕ
+SA_NOCLDWAIT = 2
+
+abbrev pub SA_SIGINFO : ℕ
+SA_SIGINFO = 4
+
+abbrev pub SA_RESTART : ℕ
+SA_RESTART = 268435456
+
+abbrev pub SA_NODEFER : ℕ
+SA_NODEFER = 1073741824
+
+abbrev pub SA_RESETHAND : ℕ
+SA_RESETHAND = 2147483648
+
+abbrev pub has_flag : Action → ℕ → Bool
+has_flag a flag = bit_and a.flags.0 flag == flag
+
+-- ---- pending signals
+
+abbrev pub is_pending : Signals → ℕ → Bool
+is_pending g s = is_some (slice_index_or g.standard (s - 1) None)
+
+-- the pending signal s is this, or none is
+abbrev pub with_pending : ℕ → Option Carried → Signals → Signals
+with_pending s c g = record g { standard = slice_set g.standard (s - 1) c }
+
+-- A standard signal that is pending already keeps the value and the sender that it came with first
+-- (own). Real-time signals aren't kept yet: nothing sends one.
+abbrev pub make_pending : PendingSignal → Signals → Signals
+make_pending signal g = if is_pending g signal.sig then g else with_pending signal.sig (Some signal.carried) g
+
+-- Nothing is generated for a zombie, nor for process 1 where it has no handler for the signal, kill(2).
+abbrev pub is_deaf : ℕ → Life → Signals → ℕ → Bool
+is_deaf p life g s = is_zombie life || (p == 1 && not (is_caught (action g s).handler))
+
+-- the signal is kept: it is blocked, also if it is ignored, or its action does something
+abbrev pub keeps : Signals → ℕ → Bool
+keeps g s = has g.mask s || not (does_nothing (action g s).handler s)
+
+-- The signals of process p after one is generated for it. That stop signals discard a pending CONT, and
+-- CONT those and continues a stopped process, follows: nothing sends these yet.
+unfoldable pub generated : ℕ → Life → PendingSignal → Signals → Signals
+generated p life signal g = if not (is_deaf p life g signal.sig) && keeps g signal.sig then make_pending signal g else g
+
+unfoldable pub signalled : PendingSignal → Process → Process
+signalled signal r = record r { signals = generated r.pid r.life signal r.signals }
+
+-- a signal is generated for each of several processes, one after another
+unfoldable pub signalled_all : PendingSignal → List ℕ → List Process → List Process
+signalled_all signal [] rs = rs
+signalled_all signal (p ∷ ps) rs = signalled_all signal ps (changed p (signalled signal) rs)

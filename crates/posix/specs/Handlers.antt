@@ -1,0 +1,130 @@
+-- Signal handlers: how one is entered, and how it returns, XSH 2.4.3, sigaction(2), sigreturn(2).
+use Rattle.std.specs.Prelude.{ℕ, ◌-◌, Bool, false, ◌||◌, not, if◌then◌else◌, ◌==◌, nat_le, [], ◌∷◌, ◌++◌, length, take, Option, Some, None, ℤ, pos, zero, suc, negsuc, slice_get, slice_set, Result, Ok, Err}
+use Rattle.posix.specs.declared.errno.Errno.{Errno}
+use Rattle.posix.specs.declared.errno.Errno.TheVariants.{EINTR, EINVAL}
+use Rattle.posix.specs.declared.process.Action.{Action}
+use Rattle.posix.specs.declared.process.Blocked.{Blocked}
+use Rattle.posix.specs.declared.process.Blocked.TheVariants as blocked
+use Rattle.posix.specs.declared.process.Frame.{Frame}
+use Rattle.posix.specs.declared.process.Handler.TheVariants as handler
+use Rattle.posix.specs.declared.process.PendingSignal.{PendingSignal}
+use Rattle.posix.specs.Signals.{KILL, STOP}
+use Rattle.posix.specs.SignalSets.{just, union, except, maskable}
+use Rattle.posix.specs.Processes.{Cpu, Process, Signals}
+use Rattle.posix.specs.Execute.{set_register, move_on}
+use Rattle.posix.specs.Outcomes.{refusal}
+use Rattle.posix.specs.Generation.{has_flag, SA_SIGINFO, SA_RESTART, SA_NODEFER, SA_RESETHAND, action, does_nothing}
+use Rattle.posix.specs.Choice.{taken}
+
+-- ---- the call that a process is blocked in as a handler is entered
+
+-- waitpid and read are begun again after the handler where the action asks for it
+abbrev pub is_restarted : Blocked → Action → Bool
+is_restarted blocked.Waitpid a = has_flag a SA_RESTART
+is_restarted blocked.Read a = has_flag a SA_RESTART
+is_restarted blocked.Pause a = false
+is_restarted (blocked.Sigsuspend earlier) a = false
+
+-- it is in a call that isn't
+abbrev pub is_interrupted : Option Blocked → Action → Bool
+is_interrupted None a = false
+is_interrupted (Some b) a = not (is_restarted b a)
+
+-- a call that is interrupted gives -4, and the pc moves on; one that is begun again leaves the pc at it
+abbrev pub leave_call : Option Blocked → Action → Cpu → Cpu
+leave_call b a c = if is_interrupted b a then move_on (set_register c 0 (refusal EINTR)) else c
+
+-- the mask to go back to: of sigsuspend the one before it
+abbrev pub mask_before : Option Blocked → ℕ → ℕ
+mask_before None mask = mask
+mask_before (Some blocked.Waitpid) mask = mask
+mask_before (Some blocked.Read) mask = mask
+mask_before (Some blocked.Pause) mask = mask
+mask_before (Some (blocked.Sigsuspend earlier)) mask = earlier
+
+-- ---- a handler is entered
+
+-- at most 16 handlers haven't returned (own)
+abbrev pub most_frames : ℕ
+most_frames = 16
+
+abbrev pub is_full : Signals → Bool
+is_full g = nat_le most_frames (length g.frames)
+
+abbrev pub frame_of : Cpu → ℕ → Frame
+frame_of c mask = record { pc = c.pc; registers = c.registers; mask = mask }
+
+-- the present mask, that of the action, and the signal itself
+abbrev pub handler_mask : ℕ → ℕ → Action → ℕ
+handler_mask s mask a = maskable (union (union mask a.mask) (if has_flag a SA_NODEFER then 0 else just s))
+
+-- with SA_RESETHAND the handler is the default from now on; mask and flags stay, SA_SIGINFO too (own)
+abbrev pub after_entry : Action → Action
+after_entry a = if has_flag a SA_RESETHAND then record a { handler = handler.Default } else a
+
+-- the signals of a process that enters the handler of s, and goes back to the saved mask
+unfoldable pub entered : ℕ → Cpu → ℕ → Signals → Signals
+entered s c saved g = record g {
+  mask = handler_mask s g.mask (action g s);
+  actions = slice_set g.actions (s - 1) (after_entry (action g s));
+  frames = g.frames ++ frame_of c saved ∷ [];
+}
+
+-- r1 is the signal, and with SA_SIGINFO r2 and r3 are the value and the sender
+abbrev pub handler_arguments : PendingSignal → Action → Cpu → Cpu
+handler_arguments signal a c =
+    let d = set_register c 1 (pos signal.sig) in
+    if has_flag a SA_SIGINFO then set_register (set_register d 2 signal.carried.value) 3 (pos signal.carried.sender) else d
+
+unfoldable pub at_handler : PendingSignal → Action → ℤ → Cpu → Cpu
+at_handler signal a address c = record (handler_arguments signal a c) { pc = address }
+
+-- The process leaves its call, and enters the handler at an address where there is room for a frame.
+unfoldable pub handles : PendingSignal → ℤ → Process → Process
+handles signal address r =
+    let a = action r.signals signal.sig in
+    let c = leave_call r.blocked a r.cpu in
+    if is_full r.signals then record r { cpu = c; blocked = None }
+    else record r {
+      signals = entered signal.sig c (mask_before r.blocked r.signals.mask) r.signals;
+      cpu = at_handler signal a address c;
+      blocked = None;
+    }
+
+-- ---- a handler returns
+
+abbrev pub newest_frame : Signals → Option Frame
+newest_frame g = slice_get g.frames (length g.frames - 1)
+
+abbrev pub restore : Frame → Cpu → Cpu
+restore frame c = record c { pc = frame.pc; registers = frame.registers }
+
+-- the mask of the newest frame, which goes
+abbrev pub left : Frame → Signals → Signals
+left frame g = record g { mask = frame.mask; frames = take (length g.frames - 1) g.frames }
+
+unfoldable pub returned : Frame → Process → Process
+returned frame r = record r { signals = left frame r.signals; cpu = restore frame r.cpu }
+
+-- ---- actions and masks, XSH sigaction and sigprocmask
+
+-- An action that does nothing with the signal discards it where it is pending, blocked or not.
+abbrev pub give_action : ℕ → Action → Signals → Signals
+give_action s a g =
+    let h = record g { actions = slice_set g.actions (s - 1) (record a { mask = maskable a.mask }) } in
+    if does_nothing a.handler s then taken s h else h
+
+-- KILL and STOP can't be caught or ignored
+unfoldable pub set_action : ℕ → Action → Signals → Result Signals Errno
+set_action s a g = if s == KILL || s == STOP then Err EINVAL else Ok (give_action s a g)
+
+abbrev pub give_mask : ℕ → Signals → Signals
+give_mask mask g = record g { mask = maskable mask }
+
+-- SIG_BLOCK 0, SIG_UNBLOCK 1, SIG_SETMASK 2
+unfoldable pub set_mask : ℤ → ℕ → Signals → Result Signals Errno
+set_mask (pos zero) set g = Ok (give_mask (union g.mask set) g)
+set_mask (pos (suc zero)) set g = Ok (give_mask (except g.mask set) g)
+set_mask (pos (suc (suc zero))) set g = Ok (give_mask set g)
+set_mask (pos (suc (suc (suc n)))) set g = Err EINVAL
+set_mask (negsuc n) set g = Err EINVAL

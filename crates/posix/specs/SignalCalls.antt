@@ -1,0 +1,105 @@
+-- Calls by which a process changes its own ids, actions and signal mask: XSH setuid, seteuid, setgid, setegid, sigaction,
+-- sigprocmask and sigpending.
+use Rattle.std.specs.Prelude.{ℕ, zero, suc, ◌+◌, ◌*◌, ◌==◌, Bool, false, if◌then◌else◌, List, [], ◌∷◌, Option, Some, None, ℤ, pos, negsuc, bit_and, Result, Ok, Err}
+use Rattle.std.specs.Int.{cast_signed, cast_unsigned, w64}
+use Rattle.posix.specs.declared.instr.Call.{Call}
+use Rattle.posix.specs.declared.instr.Call.TheVariants.{Sigaction, Sigprocmask, Sigpending}
+use Rattle.posix.specs.declared.errno.Errno.{Errno}
+use Rattle.posix.specs.declared.errno.Errno.TheVariants.{EINVAL}
+use Rattle.posix.specs.declared.process.Action.{Action}
+use Rattle.posix.specs.declared.process.Carried.{Carried}
+use Rattle.posix.specs.declared.process.Handler.{Handler}
+use Rattle.posix.specs.declared.process.Handler.TheVariants as handler
+use Rattle.posix.specs.SignalSets.{set_in, word_of}
+use Rattle.posix.specs.Processes.{Process, Credentials, Signals, argument}
+use Rattle.posix.specs.States.{State, change}
+use Rattle.posix.specs.Outcomes.{Attempted, gives, refused, write}
+use Rattle.posix.specs.Generation.{action}
+use Rattle.posix.specs.Handlers.{set_action, set_mask}
+use Rattle.posix.specs.Sends.{signal_in}
+
+-- ---- ids
+
+unfoldable pub give_credentials : Credentials → Process → Process
+give_credentials c r = record r { credentials = c }
+
+-- the ids are set, or the call is refused
+abbrev pub set_credentials : State → ℕ → Call → Result Credentials Errno → Attempted
+set_credentials s p call (Ok c) = gives (change s p (give_credentials c)) p call (pos 0)
+set_credentials s p call (Err why) = refused s p call why
+
+-- ---- actions
+
+unfoldable pub give_signals : Signals → Process → Process
+give_signals g r = record r { signals = g }
+
+-- a handler as a register: 0 for the default, 1 to ignore, else a code address
+abbrev pub handler_word : Handler → ℤ
+handler_word handler.Default = pos 0
+handler_word handler.Ignore = pos 1
+handler_word (handler.At address) = address
+
+abbrev pub handler_in : ℤ → Handler
+handler_in (pos zero) = handler.Default
+handler_in (pos (suc zero)) = handler.Ignore
+handler_in (pos (suc (suc n))) = handler.At (pos (n + 2))
+handler_in (negsuc n) = handler.At (negsuc n)
+
+-- -1 asks for the action, and sets none (own)
+abbrev pub is_question : ℤ → Bool
+is_question (pos n) = false
+is_question (negsuc n) = n == 0
+
+abbrev pub all_flags : ℕ
+all_flags = 1 + 2 + 4 + 268435456 + 1073741824 + 2147483648
+
+abbrev pub are_flags : ℕ → Bool
+are_flags n = bit_and n all_flags == n
+
+-- the handler in r2, the mask in r3, the flags in r4
+abbrev pub action_in : Process → Action
+action_in me = record { handler = handler_in (argument me 2); mask = set_in (argument me 3); flags = record { 0 = cast_unsigned w64 (argument me 4) } }
+
+-- the call gives an action in r2, r3 and r4
+abbrev pub gives_action : State → ℕ → Action → Attempted
+gives_action s p a =
+    gives (write (write (write s p 2 (handler_word a.handler)) p 3 (word_of a.mask)) p 4 (cast_signed w64 a.flags.0)) p Sigaction (pos 0)
+
+abbrev pub sigaction_with : State → Process → Action → Result Signals Errno → Attempted
+sigaction_with s me old (Ok g) = gives_action (change s me.pid (give_signals g)) me.pid old
+sigaction_with s me old (Err why) = refused s me.pid Sigaction why
+
+abbrev pub sigaction_of : State → Process → Option ℕ → Attempted
+sigaction_of s me None = refused s me.pid Sigaction EINVAL
+sigaction_of s me (Some n) =
+    if is_question (argument me 2) then gives_action s me.pid (action me.signals n)
+    else if are_flags (cast_unsigned w64 (argument me 4)) then sigaction_with s me (action me.signals n) (set_action n (action_in me) me.signals)
+    else refused s me.pid Sigaction EINVAL
+
+-- the signal is in r1
+unfoldable pub sigaction : State → Process → Attempted
+sigaction s me = sigaction_of s me (signal_in (argument me 1))
+
+-- ---- the mask
+
+abbrev pub sigprocmask_with : State → Process → Result Signals Errno → Attempted
+sigprocmask_with s me (Ok g) = gives (write (change s me.pid (give_signals g)) me.pid 2 (word_of me.signals.mask)) me.pid Sigprocmask (pos 0)
+sigprocmask_with s me (Err why) = refused s me.pid Sigprocmask why
+
+-- what is done is in r1, the set in r2, and the call gives the old mask in r2
+unfoldable pub sigprocmask : State → Process → Attempted
+sigprocmask s me = sigprocmask_with s me (set_mask (argument me 1) (set_in (argument me 2)) me.signals)
+
+-- ---- what is pending
+
+abbrev pub bit_of : Option Carried → ℕ
+bit_of None = 0
+bit_of (Some c) = 1
+
+unfoldable pub set_of : List (Option Carried) → ℕ
+set_of [] = 0
+set_of (c ∷ cs) = 2 * set_of cs + bit_of c
+
+-- the set of pending signals, in r1
+unfoldable pub sigpending : State → Process → Attempted
+sigpending s me = gives (write s me.pid 1 (word_of (set_of me.signals.standard))) me.pid Sigpending (pos 0)

@@ -1,0 +1,116 @@
+//! Sets of signals.
+
+ghost use Rattle.std.specs.Prelude.{◌≡◌, ◌==◌, pos};
+ghost use Rattle.std.specs.Int.{cast_signed, cast_unsigned, w64};
+ghost use Rattle.posix.specs.SignalSets.{has, just, union as union_of, except as except_of, maskable as maskable_of, set_in, word_of};
+
+use crate::sig::Sig;
+use std::marker::Model;
+
+/// A set of signals, as a signal mask: signal s is bit s - 1. The bits of 32 and 33, which are no
+/// signals, may be set.
+#[derive(Clone, Copy, Debug, Default, PartialEq, Eq)]
+pub struct SigSet {
+    bits: u64,
+}
+
+impl Model for SigSet {
+    ghost use Rattle.std.specs.Prelude.{ℕ};
+
+    ghost Value = { ℕ };
+
+    ghost view = { λ s. s.bits };
+
+    ghost invariant = { λ _. Unit {0} };
+
+    ghost inverse = { λ n. record { bits = n } };
+}
+
+/// The bits of KILL, STOP, 32 and 33.
+const UNBLOCKABLE: u64 = 1 << 8 | 1 << 18 | 1 << 31 | 1 << 32;
+
+impl SigSet {
+    /// No signal.
+    pub const EMPTY: SigSet = SigSet { bits: 0 };
+
+    /// The set with these bits.
+    pub fn from_bits(bits: u64) -> SigSet
+        ensures { result ≡ bits }
+    {
+        SigSet { bits }
+    }
+
+    /// Its bits.
+    pub fn bits(self) -> u64
+        ensures { result ≡ self }
+    {
+        self.bits
+    }
+
+    /// The set that a register holds.
+    pub fn from_word(word: i64) -> SigSet
+        ensures { result ≡ set_in word }
+    {
+        SigSet {
+            bits: word.cast_unsigned(),
+        }
+    }
+
+    /// It as a register holds it.
+    pub fn word(self) -> i64
+        ensures { result ≡ word_of self }
+    {
+        self.bits.cast_signed()
+    }
+
+    /// The set of one signal.
+    pub fn just(sig: Sig) -> SigSet
+        ensures { result ≡ just sig }
+    {
+        SigSet {
+            bits: 1 << (sig.number() - 1),
+        }
+    }
+
+    /// Whether it has no bit.
+    pub fn is_empty(self) -> bool
+        ensures { result ≡ (self == 0) }
+    {
+        self.bits == 0
+    }
+
+    /// Whether it holds a signal.
+    pub fn contains(self, sig: Sig) -> bool
+        ensures { result ≡ has self sig }
+    {
+        self.bits >> (sig.number() - 1) & 1 == 1
+    }
+
+    /// The signals of both sets.
+    pub fn union(self, other: SigSet) -> SigSet
+        ensures { result ≡ union_of self other }
+    {
+        SigSet {
+            bits: self.bits | other.bits,
+        }
+    }
+
+    /// Its signals that aren't in the other set.
+    pub fn except(self, other: SigSet) -> SigSet
+        ensures { result ≡ except_of self other }
+    {
+        SigSet {
+            bits: self.bits & !other.bits,
+        }
+    }
+
+    /// What a signal mask keeps of it: all but KILL and STOP, which can't be blocked, and 32 and 33
+    /// (XSH sigprocmask).
+    pub fn maskable(self) -> SigSet
+        ensures { result ≡ maskable_of self }
+    {
+        SigSet {
+            bits: self.bits & !UNBLOCKABLE,
+        }
+    }
+}

@@ -1,0 +1,319 @@
+//! The signals of one process.
+
+ghost use Rattle.std.specs.Prelude.{◌≡◌, [], true, false, None, Some, Ok, Err, OnOk, OnErr, IfErr, IfSome, IsSome};
+ghost use Rattle.posix.specs.Processes.{initial_signals, nothing_pending};
+ghost use Rattle.posix.specs.Ends.{forgotten, ignores_children as ignores_children_of, drops_children as drops_children_of};
+ghost use Rattle.posix.specs.Generation.{action as action_of, is_deaf as is_deaf_to, keeps as keeps_of, generated};
+ghost use Rattle.posix.specs.Choice.{chosen, least_ready as least_ready_of, carried_by, taken};
+ghost use Rattle.posix.specs.Handlers.{is_full as is_full_of, handler_mask as handler_mask_of, entered, at_handler, after_entry as after_entry_of, handler_arguments, newest_frame, left, restore, set_action as set_action_of, set_mask as set_mask_of, give_mask};
+ghost use Rattle.posix.specs.SignalCalls.{set_of};
+
+use crate::actions::{Actions, does_nothing, is_caught};
+use crate::frames::{Frames, FramesFull, NoFrame};
+use crate::pending::Pending;
+use bitflags::Flags;
+use posix::{
+    Action, Carried, Errno, Handler, Life, PendingSignal, Pid, Register, SaFlags, Sig, SigSet,
+};
+use std::marker::Model;
+use umach::Cpu;
+
+/// The signals of one process (XSH 2.4).
+#[derive(Drop)]
+pub struct Signals {
+    /// The signals that it blocks.
+    mask: SigSet,
+    pending: Pending,
+    actions: Actions,
+    frames: Frames,
+}
+
+impl Model for Signals {
+    ghost use Rattle.std.specs.Prelude.{[]};
+    ghost use Rattle.posix.specs.Processes.{Signals as SignalsOf};
+
+    ghost Value = { SignalsOf };
+
+    ghost view = { λ s. record { mask = s.mask; standard = s.pending; queue = []; actions = s.actions; frames = s.frames } };
+}
+
+impl Signals {
+    /// Those of process 1 at boot: none is blocked or pending, the actions are the defaults.
+    pub fn initial() -> Signals
+        ensures { result ≡ initial_signals }
+    {
+        Signals {
+            mask: SigSet::EMPTY,
+            pending: Pending::new(),
+            actions: Actions::new(),
+            frames: Frames::new(),
+        }
+    }
+
+    /// Those of a child that is born now: the same, but nothing is pending (XSH fork).
+    pub fn fork(&self) -> Signals
+        ensures { result ≡ record self.now { standard = nothing_pending; queue = [] } }
+    {
+        Signals {
+            mask: self.mask,
+            pending: Pending::new(),
+            actions: self.actions,
+            frames: self.frames.copy(),
+        }
+    }
+
+    /// Those of a process that has ended: nothing is pending, and there is no frame; the rest stays.
+    pub fn forget(&mut self)
+        ensures { self.new ≡ forgotten self.old }
+    {
+        self.pending = Pending::new();
+        self.frames = Frames::new();
+    }
+
+    // ---- what there is
+
+    /// The signal mask: the signals that are blocked.
+    pub fn mask(&self) -> SigSet
+        ensures { result ≡ self.now.mask }
+    {
+        self.mask
+    }
+
+    /// The set of pending signals (XSH sigpending).
+    pub fn pending(&self) -> SigSet
+        ensures { result ≡ set_of self.now.standard }
+    {
+        self.pending.set()
+    }
+
+    /// The action for a signal.
+    pub fn action(&self, sig: Sig) -> Action
+        ensures { result ≡ action_of self.now sig }
+    {
+        self.actions.get(sig)
+    }
+
+    /// Whether the process ignores CHLD, and so gets no notice of its children.
+    pub fn ignores_children(&self) -> bool
+        ensures { result ≡ ignores_children_of self.now }
+    {
+        matches!(self.action(Sig::CHLD).handler, Handler::Ignore)
+    }
+
+    /// Whether the children of the process are dropped as they end: it ignores CHLD or has SA_NOCLDWAIT
+    /// (XSH _exit).
+    pub fn drops_children(&self) -> bool
+        ensures { result ≡ drops_children_of self.now }
+    {
+        self.ignores_children() || self.action(Sig::CHLD).flags.contains(SaFlags::SA_NOCLDWAIT)
+    }
+
+    // ---- generation and choice
+
+    /// Whether nothing is generated: for a zombie, and for process 1 where it has no handler (kill(2)).
+    fn is_deaf(&self, pid: Pid, life: Life, sig: Sig) -> bool
+        ensures { result ≡ is_deaf_to pid life self.now sig }
+    {
+        matches!(life, Life::Zombie(_))
+            || (pid == Pid::INIT && !is_caught(self.action(sig).handler))
+    }
+
+    /// Whether a signal is kept: it is blocked, or its action does something.
+    fn keeps(&self, sig: Sig) -> bool
+        ensures { result ≡ keeps_of self.now sig }
+    {
+        self.mask.contains(sig) || !does_nothing(self.action(sig).handler, sig)
+    }
+
+    /// A signal is generated for the process, which has this number and life. For a zombie, and for process
+    /// 1 where it has no handler for the signal, nothing is; nor where the signal isn't blocked and its
+    /// action does nothing. Else it is pending; one that was pending already keeps what it came with first
+    /// (XSH 2.4.1).
+    #[tactic(auto, unfolding(posix::specs::Generation::generated))]
+    pub fn generate(&mut self, pid: Pid, life: Life, signal: PendingSignal)
+        ensures { self.new ≡ generated pid life signal self.old }
+    {
+        let sig = signal.sig;
+        if !self.is_deaf(pid, life, sig) && self.keeps(sig) && !self.pending.contains(sig) {
+            self.pending.insert(sig, signal.carried);
+        }
+    }
+
+    /// The least pending signal that isn't blocked.
+    #[tactic(auto, unfolding(posix::specs::Choice::least_ready))]
+    fn least_ready(&self) -> Option<Sig>
+        ensures { result ≡ least_ready_of self.now }
+    {
+        let ready = self.pending.set().bits() & !self.mask.bits();
+        if ready == 0 {
+            return None;
+        }
+        Sig::new(ready.trailing_zeros() as u8 + 1)
+    }
+
+    /// The signal that is delivered next: KILL before all, and then the least one that is pending and
+    /// isn't blocked; of a process that doesn't run KILL alone.
+    #[tactic(auto, unfolding(posix::specs::Choice::chosen))]
+    pub fn choose(&self, life: Life) -> Option<Sig>
+        ensures { result ≡ chosen life self.now }
+    {
+        if self.pending.contains(Sig::KILL) {
+            return Some(Sig::KILL);
+        }
+        match life {
+            Life::Running => self.least_ready(),
+            Life::Stopped | Life::Zombie(_) => None,
+        }
+    }
+
+    /// A signal is no longer pending. This is what it came with, or value 0 and sender 0 where it wasn't.
+    #[tactic(auto, unfolding(posix::specs::Choice::taken))]
+    pub fn take(&mut self, sig: Sig) -> Carried
+        ensures value { result ≡ carried_by sig self.old }
+        ensures state { self.new ≡ taken sig self.old }
+    {
+        match self.pending.remove(sig) {
+            Some(carried) => carried,
+            None => Carried {
+                value: 0,
+                sender: Pid::NONE,
+            },
+        }
+    }
+
+    // ---- handlers
+
+    /// What a handler with this action blocks: what is blocked, what the action names, and without
+    /// SA_NODEFER the signal itself.
+    fn handler_mask(&self, sig: Sig, action: &Action) -> SigSet
+        ensures { result ≡ handler_mask_of sig self.now.mask action.now }
+    {
+        let itself = if action.flags.contains(SaFlags::SA_NODEFER) {
+            SigSet::EMPTY
+        } else {
+            SigSet::just(sig)
+        };
+        self.mask.union(action.mask).union(itself).maskable()
+    }
+
+    /// The handler of a signal at an address is entered; it returns to where the processor is, with the
+    /// `saved` mask. A frame is made; the mask grows by that of the action and the signal; with
+    /// SA_RESETHAND the handler becomes the default. r1 is the signal, and with SA_SIGINFO r2 is the value
+    /// that it came with and r3 the sender (XSH 2.4.3). At an error there are 16 frames already, and
+    /// nothing changes.
+    #[tactic(auto, unfolding(posix::specs::Handlers::entered, posix::specs::Handlers::at_handler))]
+    pub fn enter_handler(
+        &mut self,
+        cpu: &mut Cpu,
+        signal: PendingSignal,
+        address: i64,
+        saved: SigSet,
+    ) -> Result<(), FramesFull>
+        ensures room { OnOk result (is_full_of self.old ≡ false) }
+        ensures signals { OnOk result (self.new ≡ entered signal.sig cpu.old saved self.old) }
+        ensures cpu { OnOk result (cpu.new ≡ at_handler signal (action_of self.old signal.sig) address cpu.old) }
+        ensures full { OnErr result (is_full_of self.old ≡ true) }
+        ensures signals_stay { OnErr result (self.new ≡ self.old) }
+        ensures cpu_stays { OnErr result (cpu.new ≡ cpu.old) }
+    {
+        let action = self.action(signal.sig);
+        self.frames.push(cpu.frame(saved))?;
+        self.mask = self.handler_mask(signal.sig, &action);
+        self.actions.set(signal.sig, after_entry(action));
+        give_arguments(cpu, signal, &action);
+        cpu.go_to(address);
+        Ok(())
+    }
+
+    /// The newest handler returns: pc, registers and mask become those of its frame, which goes
+    /// (sigreturn(2)). At an error there is no frame, and nothing changes.
+    pub fn leave_handler(&mut self, cpu: &mut Cpu) -> Result<(), NoFrame>
+        ensures some { OnOk result (IsSome (newest_frame self.old)) }
+        ensures signals { OnOk result (IfSome (newest_frame self.old) (λ frame. self.new ≡ left frame self.old)) }
+        ensures cpu { OnOk result (IfSome (newest_frame self.old) (λ frame. cpu.new ≡ restore frame cpu.old)) }
+        ensures none { OnErr result (newest_frame self.old ≡ None) }
+        ensures signals_stay { OnErr result (self.new ≡ self.old) }
+        ensures cpu_stays { OnErr result (cpu.new ≡ cpu.old) }
+    {
+        let Some(frame) = self.frames.pop() else {
+            return Err(NoFrame);
+        };
+        self.mask = frame.mask;
+        cpu.restore(&frame);
+        Ok(())
+    }
+
+    // ---- actions and masks
+
+    /// Sets the action for a signal; its mask can't hold KILL and STOP. Where the action does nothing with
+    /// the signal, one that is pending goes, blocked or not. At the error EINVAL, for KILL and STOP, nothing
+    /// changes (XSH sigaction).
+    #[tactic(auto, unfolding(posix::specs::Handlers::set_action, posix::specs::Choice::taken))]
+    pub fn set_action(&mut self, sig: Sig, action: Action) -> Result<(), Errno>
+        ensures ok { OnOk result (set_action_of sig action self.old ≡ Ok self.new) }
+        ensures err { IfErr result (λ why. set_action_of sig action self.old ≡ Err why) }
+        ensures same { OnErr result (self.new ≡ self.old) }
+    {
+        if sig == Sig::KILL || sig == Sig::STOP {
+            return Err(Errno::EINVAL);
+        }
+        let mask = action.mask.maskable();
+        self.actions.set(sig, Action { mask, ..action });
+        if does_nothing(action.handler, sig) {
+            self.pending.remove(sig);
+        }
+        Ok(())
+    }
+
+    /// Changes the signal mask: `how` 0 adds the set, 1 takes it away, 2 makes it the mask. KILL and STOP
+    /// stay unblocked. At the error EINVAL, for another `how`, nothing changes (XSH sigprocmask).
+    #[tactic(auto, unfolding(posix::specs::Handlers::set_mask))]
+    pub fn set_mask(&mut self, how: i64, set: SigSet) -> Result<(), Errno>
+        ensures ok { OnOk result (set_mask_of how set self.old ≡ Ok self.new) }
+        ensures err { IfErr result (λ why. set_mask_of how set self.old ≡ Err why) }
+        ensures same { OnErr result (self.new ≡ self.old) }
+    {
+        let mask = match how {
+            0 => self.mask.union(set),
+            1 => self.mask.except(set),
+            2 => set,
+            _ => return Err(Errno::EINVAL),
+        };
+        self.replace_mask(mask);
+        Ok(())
+    }
+
+    /// The set is the signal mask from now on; KILL and STOP stay unblocked (XSH sigsuspend).
+    pub fn replace_mask(&mut self, set: SigSet)
+        ensures { self.new ≡ give_mask set self.old }
+    {
+        self.mask = set.maskable();
+    }
+}
+
+/// The action for a signal once its handler is entered: with SA_RESETHAND the handler is the default; mask
+/// and flags stay.
+fn after_entry(action: Action) -> Action
+    ensures { result ≡ after_entry_of action }
+{
+    if action.flags.contains(SaFlags::SA_RESETHAND) {
+        Action {
+            handler: Handler::Default,
+            ..action
+        }
+    } else {
+        action
+    }
+}
+
+/// r1 is the signal, and with SA_SIGINFO r2 is the value that it came with and r3 the sender.
+fn give_arguments(cpu: &mut Cpu, signal: PendingSignal, action: &Action)
+    ensures { cpu.new ≡ handler_arguments signal action.now cpu.old }
+{
+    cpu.set_register(Register::FIRST_ARGUMENT, i64::from(signal.sig.number()));
+    if action.flags.contains(SaFlags::SA_SIGINFO) {
+        let carried = signal.carried;
+        cpu.set_register(Register::SECOND_ARGUMENT, carried.value);
+        cpu.set_register(Register::THIRD_ARGUMENT, i64::from(carried.sender.number()));
+    }
+}

@@ -1,0 +1,11 @@
+//! Lines of a trace, and the names of system calls.
+//!
+//! A trace has one line for each thing that an event shows: the number of the event and some words, with
+//! one space between two and a line feed at the end. World texts name system calls by the same names.
+#![tactic(auto)]
+
+pub mod calls;
+pub mod print;
+
+pub use calls::{call_name, call_named};
+pub use print::print_entry;
