@@ -1,20 +1,17 @@
 -- Counted runs of events, one after another.
-use Rattle.std.proofs.Common.{◌≡◌, ℕ, ◌+◌, ◌-◌, ◌*◌, ◌<◌, ◌≤◌, List, [], ◌∷◌, ◌++◌, length, take, drop, ap, sym, ◌∙◌, append-nil, length-append, get_or, arith}
+use Rattle.std.proofs.Common.{◌≡◌, ℕ, ◌+◌, ◌-◌, ◌*◌, ◌<◌, ◌≤◌, List, [], ◌∷◌, ◌++◌, length, take, drop, ap, sym, ◌∙◌, append-nil, length-append, get_or, refl, arith}
 use Rattle.std.specs.Prelude.{replicate}
 use Rattle.std.proofs.lemmas.List.{length-replicate, replicate-append-replicate, take_more, take-append-drop}
 use Rattle.std.proofs.lemmas.List.Concat.{flat_map-append}
-use Rattle.std.proofs.lemmas.Grind.{common_steps}
 use Rattle.posix.specs.declared.event.Event.{Event}
 use Rattle.text.specs.declared.event_list.EventRun.{EventRun}
 use Rattle.text.specs.EventLists.{expanded, run_events}
 
-pub replicate_more : (n : ℕ) (x : Event) → replicate n x ++ x ∷ [] ≡ replicate (n + 1) x
-replicate_more n x = grind (arith, common_steps)
+pub replicate_joined : (a b n : ℕ) (x : Event) → a + b ≡ n → replicate a x ++ replicate b x ≡ replicate n x
+replicate_joined a b n x e = replicate-append-replicate a b x ∙ ap (λ (m : ℕ). replicate m x) e
 
-pub replicate_split : (i n : ℕ) (x : Event) → i < n → (replicate i x ++ x ∷ []) ++ replicate (n - (i + 1)) x ≡ replicate n x
-replicate_split i n x lt =
-    let all : (i + 1) + (n - (i + 1)) ≡ n = omega arith in
-    ap (λ (l : List Event). l ++ replicate (n - (i + 1)) x) (replicate_more i x) ∙ replicate-append-replicate (i + 1) (n - (i + 1)) x ∙ ap (λ (m : ℕ). replicate m x) all
+pub replicate_three : (a b c n : ℕ) (x : Event) → (a + b) + c ≡ n → (replicate a x ++ replicate b x) ++ replicate c x ≡ replicate n x
+replicate_three a b c n x e = ap (λ (l : List Event). l ++ replicate c x) (replicate_joined a b (a + b) x refl) ∙ replicate_joined (a + b) c n x e
 
 pub expanded_more : (rs : List EventRun) (i : ℕ) (d : EventRun) → i < length rs → expanded (take (i + 1) rs) ≡ expanded (take i rs) ++ run_events (get_or rs i d)
 expanded_more rs i d lt =

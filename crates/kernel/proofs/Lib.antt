@@ -8,3 +8,6 @@ pub mod HeadlineLemmas
 pub mod ChosenLemmas
 pub mod DeliveryLemmas
 pub mod SignalCallLemmas
+pub mod OwnLemmas
+pub mod PlainLemmas
+pub mod BurstLemmas

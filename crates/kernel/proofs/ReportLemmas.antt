@@ -183,7 +183,3 @@ some_inserted new q (r ∷ rs) h = elim (nat_lt new.pid r.pid) as (λ b. IsSome 
   | true ↦ elim (new.pid == q) as (λ b. IsSome (cond b (Some new) (find (has_pid q) (r ∷ rs)))) [ true ↦ refl | false ↦ h ]
   | false ↦ elim (r.pid == q) as (λ b. IsSome (cond b (Some r) (find (has_pid q) rs)) → IsSome (cond b (Some r) (find (has_pid q) (inserted new rs)))) [ true ↦ λ k. refl | false ↦ λ k. some_inserted new q rs k ] h
 ]
-
--- who has a living record is there
-pub some_looked : (rs : List Process) (p : ℕ) → IsPlaced rs p → IsSome (lookup p rs)
-some_looked rs p h = subst IsSome (sym h.found) refl

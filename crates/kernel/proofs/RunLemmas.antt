@@ -1,7 +1,8 @@
 -- How runs of the machine are joined, and what is written of them.
 use Rattle.std.proofs.Common.{◌≡◌, ℕ, ◌+◌, ◌<◌, ◌≤◌, List, [], ◌∷◌, ◌++◌, length, take, drop, refl, ap, sym, subst, ◌∙◌, append_assoc, append-nil, add-zero, length-append, get_or, arith, cond, Bool, true, false}
+use Rattle.std.specs.Prelude.{replicate}
 use Rattle.std.specs.Int.{from_bool}
-use Rattle.std.proofs.lemmas.List.{take_more, take-append-drop, map-append, length-map}
+use Rattle.std.proofs.lemmas.List.{take_more, take-append-drop, map-append, length-map, length-replicate, replicate_more}
 use Rattle.std.proofs.lemmas.List.Concat.{flat_map-append}
 use Rattle.std.proofs.lemmas.List.Sums.{sum_by-append, count_by-le-length}
 use Rattle.posix.specs.declared.event.Event.{Event}
@@ -157,27 +158,37 @@ ends_within k es = omega (arith, count_by-le-length (λ (l : Line). reports_end 
 same_lines : (j k : ℕ) (fs es : List Entry) → j ≡ k → fs ≡ es → numbered j fs ≡ numbered k es
 same_lines j k fs es at same = ap (λ (n : ℕ). numbered n fs) at ∙ ap (numbered k) same
 
--- its entries are gathered
-pub one_writes : (k j : ℕ) (x : Event) (s e : State) (es fs : List Entry) (a b : Seen) (p q : List ℕ) (g : ℕ) → j ≡ k → fs ≡ es → length es ≤ 4 → IsStep s x es e →
-    Gathers a p b q (print (numbered j fs)) → reported (numbered j fs) ≡ g → Writes k s (x ∷ []) e a p b q g
-one_writes k j x s e es fs a b p q g at same few step gathered counted =
-    let lines = same_lines j k fs es at same in
+-- an event after others that showed nothing
+pub one_after : (k e n : ℕ) (x : Event) (s m t : State) (i : ℕ) (es fs : List Entry) → RunsFrom k s (replicate n x) (numbered i fs) m → fs ≡ [] → IsStep m x es t → e ≡ k + n
+    → RunsFrom k s (replicate (n + 1) x) (numbered e es) t
+one_after k e n x s m t i es fs run none step at =
+    let quiet : RunsFrom k s (replicate n x) [] m = subst (λ (l : List Entry). RunsFrom k s (replicate n x) (numbered i l) m) none run in
+    let here : e ≡ k + length (replicate n x) = omega (arith, at, length-replicate n x) in
+    let one : RunsFrom (k + length (replicate n x)) m (x ∷ []) (numbered e es) t =
+    subst (λ (j : ℕ). RunsFrom j m (x ∷ []) (numbered e es) t) here (t, es, [], step, sym (append-nil (numbered e es)), (refl, refl)) in
+    subst (λ (l : List Event). RunsFrom k s l (numbered e es) t) (replicate_more n x) (runs_then (replicate n x) (x ∷ []) k s m t [] (numbered e es) quiet one)
+
+-- what the last of some events shows is gathered
+pub some_writes : (k j e n : ℕ) (x : Event) (s t : State) (es fs : List Entry) (a b : Seen) (p q : List ℕ) (g : ℕ) → 0 < n → j ≡ e → fs ≡ es → length es ≤ 4
+    → RunsFrom k s (replicate n x) (numbered e es) t → Gathers a p b q (print (numbered j fs)) → reported (numbered j fs) ≡ g → Writes k s (replicate n x) t a p b q g
+some_writes k j e n x s t es fs a b p q g some at same few run gathered counted =
+    let lines = same_lines j e fs es at same in
     record {
-      lines = numbered k es;
-      run = (e, es, [], step, sym (append-nil (numbered k es)), (refl, refl));
+      lines = numbered e es;
+      run = run;
       gathered = subst (λ (l : List Line). Gathers a p b q (print l)) lines gathered;
       counted = sym (ap reported lines) ∙ counted;
-      bound = omega (arith, ends_within k es, few, ap reported lines, counted);
+      bound = omega (arith, ends_within e es, few, some, length-replicate n x, ap reported lines, counted);
     }
 
--- or they break off
-pub one_stops : (k j : ℕ) (x : Event) (s e : State) (es fs : List Entry) (a b : Seen) (p : List ℕ) → j ≡ k → fs ≡ es → IsStep s x es e →
-    BreaksOff a b (p ++ print (numbered j fs)) → Stops k s (x ∷ []) a p b
-one_stops k j x s e es fs a b p at same step broken = record {
-  lines = numbered k es;
-  last = e;
-  run = (e, es, [], step, sym (append-nil (numbered k es)), (refl, refl));
-  broken = subst (λ (l : List Line). BreaksOff a b (p ++ print l)) (same_lines j k fs es at same) broken;
+-- or it breaks off
+pub some_stops : (k j e n : ℕ) (x : Event) (s t : State) (es fs : List Entry) (a b : Seen) (p : List ℕ) → j ≡ e → fs ≡ es
+    → RunsFrom k s (replicate n x) (numbered e es) t → BreaksOff a b (p ++ print (numbered j fs)) → Stops k s (replicate n x) a p b
+some_stops k j e n x s t es fs a b p at same run broken = record {
+  lines = numbered e es;
+  last = t;
+  run = run;
+  broken = subst (λ (l : List Line). BreaksOff a b (p ++ print l)) (same_lines j e fs es at same) broken;
 }
 
 -- ---- all that waited is put

@@ -6,21 +6,19 @@ use Rattle.posix.specs.declared.instr.Call.{Call}
 use Rattle.posix.specs.declared.instr.Call.TheVariants.{Kill, Sigaction}
 use Rattle.posix.specs.declared.errno.Errno.{Errno}
 use Rattle.posix.specs.declared.errno.Errno.TheVariants.{EINVAL}
-use Rattle.posix.specs.declared.process.Action.{Action}
 use Rattle.posix.specs.declared.process.PendingSignal.{PendingSignal}
 use Rattle.posix.specs.declared.process.Sending.{Sending}
 use Rattle.posix.specs.declared.process.Sending.TheVariants as found
-use Rattle.posix.specs.Processes.{Process, Credentials, Signals, argument}
+use Rattle.posix.specs.Processes.{Process, Signals, argument}
 use Rattle.posix.specs.Tables.{lookup, changed, pids}
 use Rattle.posix.specs.States.{State, process, change}
 use Rattle.posix.specs.Outcomes as outcome
 use Rattle.posix.specs.Generation.{action, signalled, signalled_all}
 use Rattle.posix.specs.Handlers.{set_action}
 use Rattle.posix.specs.Sends.{permitted, sending, sent, sent_among, sent_by, signal_in, signal_or_none, send_with, kill, kill_with}
-use Rattle.posix.specs.SignalCalls.{set_credentials, give_signals, is_question, are_flags, action_in, gives_action, sigaction, sigaction_of, sigaction_with}
-use Rattle.posix.proofs.RegularLemmas.{Keeps, keeps_written, keeps_give_signals, keeps_signalled}
+use Rattle.posix.specs.SignalCalls.{is_question, are_flags, action_in, gives_action, sigaction, sigaction_of, sigaction_with}
+use Rattle.posix.proofs.RegularLemmas.{Keeps, keeps_signalled}
 use Rattle.kernel.specs.declared.calls.Attempted.{Attempted}
-use Rattle.kernel.specs.declared.calls.Attempted.TheVariants.{Done, Block}
 use Rattle.kernel.specs.Events.{Comes}
 use Rattle.kernel.proofs.CallLemmas.{some_is, gives_after}
 use Rattle.kernel.proofs.ReportLemmas.{some_changed}
@@ -31,23 +29,6 @@ use Rattle.kernel.proofs.ChosenLemmas.{sent_nobody}
 -- who is there is there in an equal state
 pub there_same : (s t : State) (p : ℕ) → t ≡ s → IsSome (process s p) → IsSome (process t p)
 there_same s t p e h = subst (λ (x : State). IsSome (process x p)) (sym e) h
-
--- who is there is there after a change that keeps the numbers
-pub there_changed : (s t : State) (p q : ℕ) (f : Process → Process) → Keeps f → t ≡ change s p f → IsSome (process s q) → IsSome (process t q)
-there_changed s t p q f k e h = there_same (change s p f) t q e (some_changed p q f k.pid s.processes h)
-
--- after a register is written
-pub there_written : (s t : State) (p i : ℕ) (z : ℤ) → t ≡ outcome.write s p i z → IsSome (process s p) → IsSome (process t p)
-there_written s t p i z e h = there_changed s t p p (outcome.written i z) (keeps_written i z) e h
-
--- after its signals are changed
-pub there_given : (A : Process → Signals → Type 0) (s t u : State) (p : ℕ) → t ≡ s → IsSome (process s p)
-    → ((me : Process) → process t p ≡ Some me → (g : Signals) × A me g × (u ≡ change t p (give_signals g))) → IsSome (process u p)
-there_given A s t u p same h given =
-    let here = there_same s t p same h in
-    let me = some_is (process t p) here in
-    let g = given me.0 me.1 in
-    there_changed t u p p (give_signals g.0) (keeps_give_signals g.0) g.2 here
 
 -- after a signal is generated for several
 some_signalled : (signal : PendingSignal) (ps : List ℕ) (q : ℕ) (rs : List Process) → IsSome (lookup q rs) → IsSome (lookup q (signalled_all signal ps rs))
@@ -80,39 +61,10 @@ there_sent s t u p choice sig same h send =
 
 -- ---- the same said of equal things
 
--- a change
-pub change_after : (s t u : State) (p q : ℕ) (f : Process → Process) → u ≡ change t p f → t ≡ s → p ≡ q → u ≡ change s q f
-change_after s t u p q f e ts pq = e ∙ ap (λ (x : State). change x p f) ts ∙ ap (λ (k : ℕ). change s k f) pq
-
--- a register that is written
-pub write_after : (s t u : State) (p q i : ℕ) (v z : ℤ) → u ≡ outcome.write t p i v → t ≡ s → p ≡ q → v ≡ z → u ≡ outcome.write s q i z
-write_after s t u p q i v z e ts pq vz = change_after s t u p q (outcome.written i v) e ts pq ∙ ap (outcome.write s q i) vz
-
 -- a call that is refused
 pub refused_after : (s u : State) (p q : ℕ) (call : Call) (errno : Errno) (r : Attempted) (n : State) → u ≡ s → p ≡ q
     → Comes u (outcome.refused u p call errno) r n → Comes s (outcome.refused s q call errno) r n
 refused_after s u p q call errno r n us pq h = gives_after s s u p q call (outcome.refusal errno) (outcome.refusal errno) r n us pq refl h
-
--- a call that sets ids
-pub set_after : (s u : State) (p q : ℕ) (call : Call) (a b : Result Credentials Errno) (r : Attempted) (n : State) → u ≡ s → p ≡ q → a ≡ b
-    → Comes u (set_credentials u p call a) r n → Comes s (set_credentials s q call b) r n
-set_after s u p q call a b r n us pq ab h =
-    let x = subst (λ (t : State). Comes t (set_credentials t p call a) r n) us h in
-    let y = subst (λ (k : ℕ). Comes s (set_credentials s k call a) r n) pq x in
-    subst (λ (w : Result Credentials Errno). Comes s (set_credentials s q call w) r n) ab y
-
--- it doesn't look at the state before
-comes_given : (s t u : State) (p : ℕ) (a : Action) (r : Attempted) (n : State) → Comes s (gives_action u p a) r n → Comes t (gives_action u p a) r n
-comes_given s t u p a (Done entries) n h = h
-comes_given s t u p a (Block b) n h = h
-
--- a sigaction that gives an action
-pub given_after : (s t u : State) (p q : ℕ) (a b : Action) (r : Attempted) (n : State) → u ≡ t → p ≡ q → a ≡ b
-    → Comes u (gives_action u p a) r n → Comes s (gives_action t q b) r n
-given_after s t u p q a b r n ut pq ab h =
-    let x = subst (λ (y : State). Comes y (gives_action y p a) r n) ut h in
-    let y = subst (λ (k : ℕ). Comes t (gives_action t k a) r n) pq x in
-    comes_given t s t q b r n (subst (λ (c : Action). Comes t (gives_action t q c) r n) ab y)
 
 -- ---- a kill
 

@@ -25,11 +25,6 @@ appends_then (Some u) None c xs ys p q = absurd p
 appends_then (Some u) (Some v) None xs ys p q = absurd q
 appends_then (Some u) (Some v) (Some w) xs ys p q = q ∙ ap (λ (l : List ℕ). l ++ ys) p ∙ append_assoc u xs ys
 
--- nothing comes to what is known where nothing is put
-appends_none : (a : Option (List ℕ)) → Appends a a []
-appends_none None = tt
-appends_none (Some u) = sym (append-nil u)
-
 -- bytes that were put stay where nothing more is put
 pub appends_kept : (a b c : Option (List ℕ)) (xs : List ℕ) → Appends a b xs → Keeps b c → Appends a c xs
 appends_kept None b c xs p q = tt
@@ -79,10 +74,6 @@ failed_at a b c bs i no_failure counted last p = record {
 }
 
 -- ---- bytes that wait
-
--- of no bytes none is taken, and what waited waits
-pub gathers_none : (a : Seen) (p : List ℕ) → Gathers a p a p []
-gathers_none a p = record { front = []; split = append-nil p; taken = appends_none a.taken; no_failure = refl }
 
 -- bytes gathered, and then more, are gathered one after the other
 pub gathers_then : (a b c : Seen) (p q r xs ys : List ℕ) → Gathers a p b q xs → Gathers b q c r ys → Gathers a p c r (xs ++ ys)

@@ -1,14 +1,14 @@
 //! System calls.
 
-ghost use Rattle.std.specs.Prelude.{◌≡◌, ◌+◌, ◌<◌, ◌^◌, IsSome, IfSome, Some, is_some};
+ghost use Rattle.std.specs.Prelude.{◌≡◌, ◌+◌, ◌<◌, ◌^◌, pos, IsSome, IfSome, Some, is_some, OnOk, IfErr};
 ghost use Rattle.posix.specs.Processes.{Process, argument};
 ghost use Rattle.posix.specs.States.{process};
 ghost use Rattle.posix.specs.Regular.{IsRegular, IsPlaced};
-ghost use Rattle.posix.specs.Outcomes.{gives as giving, refused as refusing, no_memory as without_memory};
+ghost use Rattle.posix.specs.Outcomes.{gives as giving, refused as refusing, no_memory as without_memory, refusal};
 ghost use Rattle.posix.specs.Waits.{report, are_known, options_in, wait as waiting, gives_report as giving_report};
 ghost use Rattle.posix.specs.Attempts.{attempt_again as attempting_again};
 ghost use Rattle.posix.specs.Settle.{is_block};
-ghost use Rattle.kernel.specs.Events.{Comes, Attempts, IsActing};
+ghost use Rattle.kernel.specs.Events.{Comes, Gives, Attempts, IsActing};
 
 use crate::delivery::end;
 use crate::entries::{Entries, shown};
@@ -18,7 +18,7 @@ use arrayvec::ArrayVec;
 use bitflags::Flags;
 use life::Machine;
 use posix::{Blocked, Call, Entry, Errno, Pid, Register, Report, Status, WaitOptions};
-use proctable::Kin;
+use proctable::{Kin, Own};
 
 /// What an attempt of a call came to: it is done, with what it shows, or the process has to wait.
 #[derive(Drop)]
@@ -27,17 +27,42 @@ pub enum Attempted {
     Block(Blocked),
 }
 
-/// The call of a process that is there gives a value.
-pub fn gives<K: Kin>(machine: &mut Machine<K>, pid: Pid, call: Call, value: i64) -> Attempted
-    requires { IsSome (process machine.old pid) }
-    ensures { Comes machine.old (giving machine.old pid call value) result machine.new }
+/// The call of a process, with this of its own, gives a value.
+pub fn answer(own: &mut Own, pid: Pid, call: Call, value: i64) -> Attempted
+    ensures { Gives (λ r. r) pid call value own.old result own.new }
 {
-    machine.finish(pid, value);
+    own.finish(value);
     Attempted::Done(shown(Entry::Called {
         pid,
         call,
         result: value,
     }))
+}
+
+/// The call of a process, with this of its own, is refused.
+pub fn refuse(own: &mut Own, pid: Pid, call: Call, errno: Errno) -> Attempted
+    ensures { Gives (λ r. r) pid call (refusal errno) own.old result own.new }
+{
+    answer(own, pid, call, -i64::from(errno.number()))
+}
+
+/// The call of a process, with this of its own, gives 0 where it is done, or is refused.
+pub fn answer_done(own: &mut Own, pid: Pid, call: Call, done: Result<(), Errno>) -> Attempted
+    ensures ok { OnOk done (Gives (λ r. r) pid call (pos 0) own.old result own.new) }
+    ensures err { IfErr done (λ why. Gives (λ r. r) pid call (refusal why) own.old result own.new) }
+{
+    match done {
+        Ok(()) => answer(own, pid, call, 0),
+        Err(errno) => refuse(own, pid, call, errno),
+    }
+}
+
+/// The call of a process that is there gives a value.
+pub fn gives<K: Kin>(machine: &mut Machine<K>, pid: Pid, call: Call, value: i64) -> Attempted
+    requires { IsSome (process machine.old pid) }
+    ensures { Comes machine.old (giving machine.old pid call value) result machine.new }
+{
+    answer(machine.own(pid), pid, call, value)
 }
 
 /// The call of a process that is there is refused.
@@ -53,7 +78,7 @@ fn no_memory<K: Kin>(machine: &mut Machine<K>, pid: Pid, call: Call) -> Attempte
     requires { IsSome (process machine.old pid) }
     ensures { Comes machine.old (without_memory machine.old pid call) result machine.new }
 {
-    machine.finish(pid, -i64::from(Errno::EAGAIN.number()));
+    machine.own(pid).finish(-i64::from(Errno::EAGAIN.number()));
     Attempted::Done(shown(Entry::NoMemory { pid, call }))
 }
 
@@ -108,7 +133,7 @@ fn exit<K: Kin>(machine: &mut Machine<K>, pid: Pid) -> Attempted
     requires { IsSome (process machine.old pid) }
     ensures { Attempts machine.old pid Call.Exit result machine.new }
 {
-    let code = machine.argument(pid, Register::FIRST_ARGUMENT);
+    let code = machine.look(pid).cpu.register(Register::FIRST_ARGUMENT);
     let mut entries = ArrayVec::new();
     end(machine, pid, Status::exited(code), &mut entries);
     Attempted::Done(entries)
@@ -121,7 +146,7 @@ fn find_report<K: Kin>(machine: &mut Machine<K>, pid: Pid, options: WaitOptions)
     ensures same { machine.new ≡ machine.old }
     ensures regular { IsRegular machine.old }
 {
-    let choice = machine.argument(pid, Register::FIRST_ARGUMENT);
+    let choice = machine.look(pid).cpu.register(Register::FIRST_ARGUMENT);
     let group = machine.group(pid);
     machine.wait_attempt(pid, group, choice, options)
 }
@@ -133,7 +158,7 @@ fn wait_options<K: Kin>(machine: &mut Machine<K>, pid: Pid) -> Option<WaitOption
     ensures value { (me : Process) → process machine.old pid ≡ Some me → IfSome result (λ options. options.0 ≡ options_in (argument me 2)) }
     ensures same { machine.new ≡ machine.old }
 {
-    let bits = machine.argument(pid, Register::SECOND_ARGUMENT);
+    let bits = machine.look(pid).cpu.register(Register::SECOND_ARGUMENT);
     WaitOptions::from_bits(bits.cast_unsigned())
 }
 
@@ -142,7 +167,7 @@ fn gives_report<K: Kin>(machine: &mut Machine<K>, pid: Pid, child: Pid, status: 
     requires { IsSome (process machine.old pid) }
     ensures { Comes machine.old (giving_report machine.old pid child status) result machine.new }
 {
-    machine.finish_wait(pid, child, status);
+    machine.own(pid).finish_wait(child, status);
     Attempted::Done(shown(Entry::Reported { pid, child, status }))
 }
 

@@ -76,10 +76,10 @@ fn handle<K: Kin>(
     ensures { (me : Process) → process machine.old pid ≡ Some me → handling machine.old me signal address ≡ record { state = machine.new; entries = entries.new.items } }
 {
     let PendingSignal { sig, carried } = signal;
-    let action = machine.action(pid, sig);
-    let blocked = machine.blocked(pid);
-    show_interruption(pid, &blocked, &action, entries);
-    match machine.handle(pid, signal, address) {
+    let own = machine.own(pid);
+    let action = own.signals.action(sig);
+    show_interruption(pid, &own.blocked, &action, entries);
+    match own.handle(signal, address) {
         Ok(()) => entries.push(Entry::Handled {
             pid,
             sig,
@@ -115,8 +115,9 @@ pub fn deliver<K: Kin>(machine: &mut Machine<K>, pid: Pid, sig: Sig, entries: &m
     requires none { entries.old.items ≡ [] }
     ensures { (me : Process) → process machine.old pid ≡ Some me → delivering machine.old me sig ≡ record { state = machine.new; entries = entries.new.items } }
 {
-    let action = machine.action(pid, sig);
-    let carried = machine.take_signal(pid, sig);
+    let own = machine.own(pid);
+    let action = own.signals.action(sig);
+    let carried = own.signals.take(sig);
     match action.handler {
         Handler::At(address) => {
             handle(
@@ -135,13 +136,15 @@ pub fn deliver<K: Kin>(machine: &mut Machine<K>, pid: Pid, sig: Sig, entries: &m
 /// A machine fault of a process that is there: its handler is entered, if there is one and it isn't
 /// blocked, or else the process ends by the signal, also process 1 (own).
 #[tactic(auto, unfolding(posix::specs::Delivery::fault))]
+#[inline(never)]
 pub fn fault<K: Kin>(machine: &mut Machine<K>, pid: Pid, sig: Sig, entries: &mut Entries)
     requires there { IsSome (process machine.old pid) }
     requires none { entries.old.items ≡ [] }
     ensures { (me : Process) → process machine.old pid ≡ Some me → faulting machine.old me sig ≡ record { state = machine.new; entries = entries.new.items } }
 {
-    let action = machine.action(pid, sig);
-    let mask = machine.mask(pid);
+    let own = machine.look(pid);
+    let action = own.signals.action(sig);
+    let mask = own.signals.mask();
     match action.handler {
         Handler::At(address) if !mask.contains(sig) => {
             let carried = Carried {
@@ -168,7 +171,7 @@ pub fn return_from_handler<K: Kin>(machine: &mut Machine<K>, pid: Pid, entries: 
     requires none { entries.old.items ≡ [] }
     ensures { (me : Process) → process machine.old pid ≡ Some me → returning machine.old me ≡ record { state = machine.new; entries = entries.new.items } }
 {
-    match machine.return_from_handler(pid) {
+    match machine.own(pid).return_from_handler() {
         Ok(()) => entries.push(Entry::Returned { pid }),
         Err(_) => fault(machine, pid, Sig::SEGV, entries),
     }

@@ -1,15 +1,16 @@
 //! One event of the machine. What it shows is added to a list of entries that is empty before, so that
 //! an instruction that shows nothing moves none.
 
-ghost use Rattle.std.specs.Prelude.{◌≡◌, ◌+◌, [], ◌<◌, ◌^◌, Some, option_map};
+ghost use Rattle.std.specs.Prelude.{◌≡◌, ◌+◌, [], ◌<◌, ◌≤◌, ◌^◌, Some, option_map, false};
 ghost use Rattle.posix.specs.Processes.{Process};
 ghost use Rattle.posix.specs.Choice.{chosen};
 ghost use Rattle.posix.specs.States.{process};
 ghost use Rattle.posix.specs.Step.{tick as ticking, go_on as going_on, IsStep};
 ghost use Rattle.posix.specs.Attempts.{attempt_again};
 ghost use Rattle.posix.specs.Regular.{IsPlaced};
+ghost use Rattle.posix.specs.Turns.{NoWakeIsLost};
 ghost use Rattle.proctable.specs.Body.{facts_of};
-ghost use Rattle.kernel.specs.Events.{ActsAs, Begins, Happens, IsActing, Runs, Steps};
+ghost use Rattle.kernel.specs.Events.{ActsAs, Begins, Bursts, Happens, IsActing, Runs, Steps};
 
 use crate::calls::{Attempted, attempt, attempt_again};
 use crate::delivery::{deliver, end, fault};
@@ -21,6 +22,7 @@ use proctable::{Facts, Kin};
 
 /// A process that has a place asks for a call. Where it has to wait it is blocked in the call and loses
 /// its place.
+#[inline(never)]
 fn begin_call<K: Kin>(machine: &mut Machine<K>, pid: Pid, call: Call, entries: &mut Entries)
     requires acting { IsActing machine.old pid }
     requires births { machine.old.births + 1 < 2 ^ 64 }
@@ -30,7 +32,7 @@ fn begin_call<K: Kin>(machine: &mut Machine<K>, pid: Pid, call: Call, entries: &
     match attempt(machine, pid, call) {
         Attempted::Done(shown) => *entries = shown,
         Attempted::Block(blocked) => {
-            machine.enter(pid, blocked);
+            machine.own(pid).enter(blocked);
             machine.lose_place(pid);
         }
     }
@@ -38,6 +40,7 @@ fn begin_call<K: Kin>(machine: &mut Machine<K>, pid: Pid, call: Call, entries: &
 
 /// A process that is blocked in a call, and no zombie, takes it up. Where it still has to wait the signal
 /// that is chosen for it is delivered; without one it loses its place.
+#[inline(never)]
 fn go_on<K: Kin>(
     machine: &mut Machine<K>,
     pid: Pid,
@@ -122,6 +125,7 @@ fn step<K: Kin>(machine: &mut Machine<K>, entries: &mut Entries)
 
 /// The time goes on by one, and the current process goes to the end of the order.
 #[tactic(auto, unfolding(posix::specs::Step::tick))]
+#[inline(never)]
 fn tick<K: Kin>(machine: &mut Machine<K>)
     requires { machine.old.ticks + 1 < 2 ^ 64 }
     ensures { machine.new ≡ ticking machine.old }
@@ -143,6 +147,36 @@ fn happen<K: Kin>(machine: &mut Machine<K>, event: Event, entries: &mut Entries)
     match event {
         Event::Step => step(machine, entries),
         Event::Tick => tick(machine),
+    }
+}
+
+/// The current process runs plain instructions, at most so many, and the one after them where that gives a
+/// note: none where it is in a call, or a signal is chosen for it. The number of instructions that were
+/// run; nobody gets a place by them.
+pub fn burst<K: Kin>(machine: &mut Machine<K>, most: u64, entries: &mut Entries) -> u64
+    requires awake { NoWakeIsLost machine.old }
+    requires going { machine.old.halted ≡ false }
+    requires some { 0 < most }
+    requires none { entries.old.items ≡ [] }
+    ensures runs { Bursts machine.old result entries.new.items machine.new }
+    ensures within { result ≤ most }
+{
+    let Some(pid) = machine.current() else {
+        return 0;
+    };
+    let Some(facts) = machine.facts(pid) else {
+        return 0;
+    };
+    if facts.chosen.is_some() || facts.blocked.is_some() {
+        return 0;
+    }
+    let (count, trap) = machine.run_until(pid, facts.program, most);
+    match trap {
+        Trap::Note(value) => {
+            entries.push(Entry::Noted { pid, value });
+            count + 1
+        }
+        Trap::Next | Trap::Call(_) | Trap::Fault(_) => count,
     }
 }
 

@@ -1,16 +1,12 @@
 //! Calls on the ids of a process.
 
-ghost use Rattle.std.specs.Prelude.{◌≡◌, IsSome, Some, Ok, Err, OnOk, IfErr, Result};
-ghost use Rattle.posix.specs.declared.errno.Errno.{Errno};
-ghost use Rattle.posix.specs.Processes.{Process, Credentials};
+ghost use Rattle.std.specs.Prelude.{IsSome};
 ghost use Rattle.posix.specs.States.{process};
-ghost use Rattle.posix.specs.SignalCalls.{set_credentials as setting};
-ghost use Rattle.kernel.specs.Events.{Comes, Attempts};
+ghost use Rattle.kernel.specs.Events.{Attempts};
 
-use crate::calls::{Attempted, gives, refused};
-use creds::Creds;
+use crate::calls::{Attempted, answer, answer_done};
 use life::Machine;
-use posix::{Call, Errno, Pid, Register};
+use posix::{Call, Pid, Register};
 use proctable::Kin;
 
 /// The caller's real user id (XSH getuid).
@@ -19,8 +15,9 @@ pub fn getuid<K: Kin>(machine: &mut Machine<K>, pid: Pid) -> Attempted
     requires { IsSome (process machine.old pid) }
     ensures { Attempts machine.old pid Call.Getuid result machine.new }
 {
-    let id = machine.creds(pid).user().real;
-    gives(machine, pid, Call::Getuid, i64::from(id.number()))
+    let own = machine.own(pid);
+    let id = own.creds.user().real;
+    answer(own, pid, Call::Getuid, i64::from(id.number()))
 }
 
 /// The caller's effective user id (XSH geteuid).
@@ -29,8 +26,9 @@ pub fn geteuid<K: Kin>(machine: &mut Machine<K>, pid: Pid) -> Attempted
     requires { IsSome (process machine.old pid) }
     ensures { Attempts machine.old pid Call.Geteuid result machine.new }
 {
-    let id = machine.creds(pid).user().effective;
-    gives(machine, pid, Call::Geteuid, i64::from(id.number()))
+    let own = machine.own(pid);
+    let id = own.creds.user().effective;
+    answer(own, pid, Call::Geteuid, i64::from(id.number()))
 }
 
 /// The caller's real group id (XSH getgid).
@@ -39,8 +37,9 @@ pub fn getgid<K: Kin>(machine: &mut Machine<K>, pid: Pid) -> Attempted
     requires { IsSome (process machine.old pid) }
     ensures { Attempts machine.old pid Call.Getgid result machine.new }
 {
-    let id = machine.creds(pid).group().real;
-    gives(machine, pid, Call::Getgid, i64::from(id.number()))
+    let own = machine.own(pid);
+    let id = own.creds.group().real;
+    answer(own, pid, Call::Getgid, i64::from(id.number()))
 }
 
 /// The caller's effective group id (XSH getegid).
@@ -49,28 +48,9 @@ pub fn getegid<K: Kin>(machine: &mut Machine<K>, pid: Pid) -> Attempted
     requires { IsSome (process machine.old pid) }
     ensures { Attempts machine.old pid Call.Getegid result machine.new }
 {
-    let id = machine.creds(pid).group().effective;
-    gives(machine, pid, Call::Getegid, i64::from(id.number()))
-}
-
-/// The ids of a process that is there become these, and its call gives 0; or the call is refused.
-fn set_credentials<K: Kin>(
-    machine: &mut Machine<K>,
-    pid: Pid,
-    call: Call,
-    done: Result<(), Errno>,
-    creds: Creds,
-) -> Attempted
-    requires { IsSome (process machine.old pid) }
-    ensures { (new : Result Credentials Errno) → OnOk done (new ≡ Ok creds) → IfErr done (λ why. new ≡ Err why) → Comes machine.old (setting machine.old pid call new) result machine.new }
-{
-    match done {
-        Ok(()) => {
-            machine.give_credentials(pid, creds);
-            gives(machine, pid, call, 0)
-        }
-        Err(errno) => refused(machine, pid, call, errno),
-    }
+    let own = machine.own(pid);
+    let id = own.creds.group().effective;
+    answer(own, pid, Call::Getegid, i64::from(id.number()))
 }
 
 /// Sets the user ids (XSH setuid).
@@ -79,10 +59,9 @@ pub fn setuid<K: Kin>(machine: &mut Machine<K>, pid: Pid) -> Attempted
     requires { IsSome (process machine.old pid) }
     ensures { Attempts machine.old pid Call.Setuid result machine.new }
 {
-    let id = machine.argument(pid, Register::FIRST_ARGUMENT);
-    let mut creds = machine.creds(pid);
-    let done = creds.setuid(id);
-    set_credentials(machine, pid, Call::Setuid, done, creds)
+    let own = machine.own(pid);
+    let done = own.creds.setuid(own.cpu.register(Register::FIRST_ARGUMENT));
+    answer_done(own, pid, Call::Setuid, done)
 }
 
 /// Sets the effective user id (XSH seteuid).
@@ -91,10 +70,11 @@ pub fn seteuid<K: Kin>(machine: &mut Machine<K>, pid: Pid) -> Attempted
     requires { IsSome (process machine.old pid) }
     ensures { Attempts machine.old pid Call.Seteuid result machine.new }
 {
-    let id = machine.argument(pid, Register::FIRST_ARGUMENT);
-    let mut creds = machine.creds(pid);
-    let done = creds.seteuid(id);
-    set_credentials(machine, pid, Call::Seteuid, done, creds)
+    let own = machine.own(pid);
+    let done = own
+        .creds
+        .seteuid(own.cpu.register(Register::FIRST_ARGUMENT));
+    answer_done(own, pid, Call::Seteuid, done)
 }
 
 /// Sets the group ids (XSH setgid).
@@ -103,10 +83,9 @@ pub fn setgid<K: Kin>(machine: &mut Machine<K>, pid: Pid) -> Attempted
     requires { IsSome (process machine.old pid) }
     ensures { Attempts machine.old pid Call.Setgid result machine.new }
 {
-    let id = machine.argument(pid, Register::FIRST_ARGUMENT);
-    let mut creds = machine.creds(pid);
-    let done = creds.setgid(id);
-    set_credentials(machine, pid, Call::Setgid, done, creds)
+    let own = machine.own(pid);
+    let done = own.creds.setgid(own.cpu.register(Register::FIRST_ARGUMENT));
+    answer_done(own, pid, Call::Setgid, done)
 }
 
 /// Sets the effective group id (XSH setegid).
@@ -115,8 +94,9 @@ pub fn setegid<K: Kin>(machine: &mut Machine<K>, pid: Pid) -> Attempted
     requires { IsSome (process machine.old pid) }
     ensures { Attempts machine.old pid Call.Setegid result machine.new }
 {
-    let id = machine.argument(pid, Register::FIRST_ARGUMENT);
-    let mut creds = machine.creds(pid);
-    let done = creds.setegid(id);
-    set_credentials(machine, pid, Call::Setegid, done, creds)
+    let own = machine.own(pid);
+    let done = own
+        .creds
+        .setegid(own.cpu.register(Register::FIRST_ARGUMENT));
+    answer_done(own, pid, Call::Setegid, done)
 }

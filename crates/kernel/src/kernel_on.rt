@@ -1,14 +1,16 @@
 //! The kernel of one world.
 
-ghost use Rattle.std.specs.Prelude.{◌≡◌, ◌+◌, ◌<◌, [], IfOk, true};
+ghost use Rattle.std.specs.Prelude.{◌≡◌, ◌+◌, ◌<◌, ◌≤◌, [], IfOk, true, replicate};
 ghost use Rattle.posix.specs.States.{boot as boot_of};
+ghost use Rattle.posix.specs.Entries.{numbered};
+ghost use Rattle.posix.specs.Runs.{RunsFrom};
 ghost use Rattle.posix.specs.Step.{IsStep};
 ghost use Rattle.text.specs.EventTexts.{most_events};
 ghost use Rattle.kernel.specs.Views.{KernelView};
 ghost use Rattle.kernel.specs.Summaries.{census_of};
 
 use crate::entries::Entries;
-use crate::events::next;
+use crate::events::{burst, next};
 use crate::summary::{Census, take_census};
 use arrayvec::ArrayVec;
 use life::Machine;
@@ -29,14 +31,15 @@ pub struct KernelOn<K: Kin> {
 }
 
 impl<K: Kin> Model for KernelOn<K> {
-    ghost use Rattle.std.specs.Prelude.{◌≤◌, ◌+◌};
+    ghost use Rattle.std.specs.Prelude.{◌≤◌, ◌+◌, ◌≡◌, false};
+    ghost use Rattle.posix.specs.Turns.{NoWakeIsLost};
     ghost use Rattle.kernel.specs.Views.{KernelView};
 
     ghost Value = { KernelView };
 
     ghost view = { λ k. record { state = k.machine; events = k.events } };
 
-    ghost invariant = { λ k. (k.machine.births ≤ k.events + 1) × (k.machine.ticks ≤ k.events) };
+    ghost invariant = { λ k. (k.machine.births ≤ k.events + 1) × (k.machine.ticks ≤ k.events) × (k.machine.halted ≡ false → NoWakeIsLost k.machine) };
 }
 
 impl<K: Kin> KernelOn<K> {
@@ -74,10 +77,53 @@ impl<K: Kin> KernelOn<K> {
         ensures events { self.new.events ≡ self.old.events + 1 }
         ensures halted { self.old.state.halted ≡ true → (result.items ≡ []) × (self.new.state ≡ self.old.state) }
     {
-        self.events += 1;
         let mut entries = ArrayVec::new();
-        next(&mut self.machine, event, &mut entries);
+        match event {
+            Event::Step => {
+                self.steps(1, &mut entries);
+            }
+            Event::Tick => self.event_into(event, &mut entries),
+        }
         entries
+    }
+
+    /// Events `Step`, at least one and at most so many: as many as the current process runs plain
+    /// instructions, and the one after them. Only the last may show something, which is added to a list
+    /// that is empty. How many events they are.
+    #[inline]
+    pub fn steps(&mut self, most: u64, entries: &mut Entries) -> u64
+        requires few { self.old.events + most ≤ most_events }
+        requires some { 0 < most }
+        requires none { entries.old.items ≡ [] }
+        ensures some { 0 < result }
+        ensures within { result ≤ most }
+        ensures runs { RunsFrom (self.old.events + 1) self.old.state (replicate result Event.Step) (numbered self.new.events entries.new.items) self.new.state }
+        ensures events { self.new.events ≡ self.old.events + result }
+    {
+        if self.machine.is_halted() {
+            self.event_into(Event::Step, entries);
+            return 1;
+        }
+        let count = burst(&mut self.machine, most, entries);
+        self.events += count;
+        if count == most || !entries.is_empty() {
+            return count;
+        }
+        self.event_into(Event::Step, entries);
+        count + 1
+    }
+
+    /// [`KernelOn::event`], whose entries are added to a list that is empty.
+    #[inline]
+    pub fn event_into(&mut self, event: Event, entries: &mut Entries)
+        requires few { self.old.events < most_events }
+        requires none { entries.old.items ≡ [] }
+        ensures step { IsStep self.old.state event entries.new.items self.new.state }
+        ensures events { self.new.events ≡ self.old.events + 1 }
+        ensures halted { self.old.state.halted ≡ true → (entries.new.items ≡ []) × (self.new.state ≡ self.old.state) }
+    {
+        self.events += 1;
+        next(&mut self.machine, event, entries);
     }
 
     /// Counts the processes.

@@ -38,6 +38,7 @@ impl Pending {
     }
 
     /// Adds a line of at most 128 bytes. All that waits is put once it is 8 KiB or more.
+    #[inline(never)]
     pub fn add<S: Sink>(&mut self, line: &[u8], out: &mut S) -> Result<(), SinkFault>
         requires { length line.now ≤ 128 }
         ensures ok { OnOk result (Gathers (S.seen out.old) self.old (S.seen out.new) self.new line.now) }

@@ -1,19 +1,22 @@
 //! Events, one after another, to a printed trace.
 
-ghost use Rattle.std.specs.Prelude.{◌≡◌, ◌+◌, ◌≤◌, ◌<◌, ◌∷◌, ◌++◌, [], length, IfOk, OnOk, OnErr, replicate};
+ghost use Rattle.std.specs.Prelude.{◌≡◌, ◌+◌, ◌-◌, ◌≤◌, ◌<◌, ◌++◌, [], length, IfOk, OnOk, OnErr, replicate};
 ghost use Rattle.posix.specs.Entries.{numbered, reported, reports_end as reports_end_of};
-ghost use Rattle.posix.specs.Printing.{print};
+ghost use Rattle.posix.specs.Runs.{RunsFrom};
+ghost use Rattle.posix.specs.Printing.{print, printed};
 ghost use Rattle.text.specs.EventTexts.{most_events};
 ghost use Rattle.kernel.specs.Sinks.{Gathers, BreaksOff};
 ghost use Rattle.kernel.specs.Progress.{Writes, Stops, WritesTrace, BreaksTrace};
 
+use crate::entries::Entries;
 use crate::kernel_on::KernelOn;
 use crate::pending::Pending;
 use crate::sink::{Sink, SinkFault};
+use arrayvec::ArrayVec;
 use posix::{Entry, Event};
 use proctable::Kin;
 use text::{EventList, EventRun};
-use trace::print_entry;
+use trace::{print_entry, write_note};
 
 /// Whether an entry tells that a wait reported an end, and not a stop (low byte 127) or a continuation
 /// (255), waitpid(2).
@@ -30,6 +33,41 @@ fn reports_end(entry: &Entry) -> bool
     }
 }
 
+/// Prints an entry. It isn't inlined, so that a note makes no room for other lines.
+#[inline(never)]
+fn write_other<S: Sink>(
+    event: u64,
+    entry: &Entry,
+    pending: &mut Pending,
+    out: &mut S,
+) -> Result<(), SinkFault>
+    ensures ok { OnOk result (Gathers (S.seen out.old) pending.old (S.seen out.new) pending.new (printed event entry.now)) }
+    ensures err { OnErr result (BreaksOff (S.seen out.old) (S.seen out.new) (pending.old ++ printed event entry.now)) }
+{
+    let line = print_entry(event, entry);
+    pending.add(line.as_slice(), out)
+}
+
+/// Prints an entry: a note, which comes often, from the end of its line on.
+fn write_entry<S: Sink>(
+    event: u64,
+    entry: &Entry,
+    pending: &mut Pending,
+    out: &mut S,
+) -> Result<(), SinkFault>
+    ensures ok { OnOk result (Gathers (S.seen out.old) pending.old (S.seen out.new) pending.new (printed event entry.now)) }
+    ensures err { OnErr result (BreaksOff (S.seen out.old) (S.seen out.new) (pending.old ++ printed event entry.now)) }
+{
+    match entry {
+        Entry::Noted { pid, value } => {
+            let mut line = [0; 72];
+            let start = write_note(&mut line, event, *pid, *value);
+            pending.add(&line[start..], out)
+        }
+        _ => write_other(event, entry, pending, out),
+    }
+}
+
 /// Prints the entries of an event. At `Ok`, here and below, the number of ends that the lines report.
 fn write_entries<S: Sink>(
     event: u64,
@@ -43,27 +81,55 @@ fn write_entries<S: Sink>(
 {
     let mut ends = 0;
     for entry in entries {
-        let line = print_entry(event, entry);
-        pending.add(line.as_slice(), out)?;
+        write_entry(event, entry, pending, out)?;
         ends += u64::from(reports_end(entry));
     }
     Ok(ends)
 }
 
-/// Gives one event to the kernel, and prints what it shows.
-fn run_one<K: Kin, S: Sink>(
+/// Gives the kernel one event at least once and at most so many times: as often as only the last of them may
+/// show something, which is added to a list that is empty.
+#[inline]
+fn give<K: Kin>(kernel: &mut KernelOn<K>, event: Event, most: u64, entries: &mut Entries)
+    requires few { kernel.old.events + most ≤ most_events }
+    requires some { 0 < most }
+    requires none { entries.old.items ≡ [] }
+    ensures some { kernel.old.events < kernel.new.events }
+    ensures within { kernel.new.events ≤ kernel.old.events + most }
+    ensures runs { RunsFrom (kernel.old.events + 1) kernel.old.state (replicate (kernel.new.events - kernel.old.events) event) (numbered kernel.new.events entries.new.items) kernel.new.state }
+{
+    match event {
+        Event::Step => {
+            kernel.steps(most, entries);
+        }
+        Event::Tick => kernel.event_into(event, entries),
+    }
+}
+
+/// Gives one event at least once and at most so many times, and prints what the last of them shows; the
+/// list is room for it.
+#[inline]
+fn run_some<K: Kin, S: Sink>(
     kernel: &mut KernelOn<K>,
     event: Event,
+    most: u64,
+    entries: &mut Entries,
     pending: &mut Pending,
     out: &mut S,
 ) -> Result<u64, SinkFault>
-    requires { kernel.old.events < most_events }
-    ensures ok { IfOk result (Writes (kernel.old.events + 1) kernel.old.state (event ∷ []) kernel.new.state (S.seen out.old) pending.old (S.seen out.new) pending.new) }
-    ensures err { OnErr result (Stops (kernel.old.events + 1) kernel.old.state (event ∷ []) (S.seen out.old) pending.old (S.seen out.new)) }
-    ensures events { kernel.new.events ≡ kernel.old.events + 1 }
+    requires few { kernel.old.events + most ≤ most_events }
+    requires some { 0 < most }
+    requires none { entries.old.items ≡ [] }
+    ensures ok { IfOk result (Writes (kernel.old.events + 1) kernel.old.state (replicate (kernel.new.events - kernel.old.events) event) kernel.new.state (S.seen out.old) pending.old (S.seen out.new) pending.new) }
+    ensures err { OnErr result (Stops (kernel.old.events + 1) kernel.old.state (replicate (kernel.new.events - kernel.old.events) event) (S.seen out.old) pending.old (S.seen out.new)) }
+    ensures some { kernel.old.events < kernel.new.events }
+    ensures within { kernel.new.events ≤ kernel.old.events + most }
+    ensures none { entries.new.items ≡ [] }
 {
-    let entries = kernel.event(event);
-    write_entries(kernel.events(), entries.as_slice(), pending, out)
+    give(kernel, event, most, entries);
+    let put = write_entries(kernel.events(), entries.as_slice(), pending, out);
+    entries.clear();
+    put
 }
 
 /// Gives so many times one event.
@@ -78,9 +144,12 @@ fn run_many<K: Kin, S: Sink>(
     ensures err { OnErr result (Stops (kernel.old.events + 1) kernel.old.state (replicate run.count run.event) (S.seen out.old) pending.old (S.seen out.new)) }
     ensures events { OnOk result (kernel.new.events ≡ kernel.old.events + run.count) }
 {
+    let last = kernel.events() + run.count;
     let mut ends = 0;
-    for i in 0..run.count {
-        ends += run_one(kernel, run.event, pending, out)?;
+    let mut entries = ArrayVec::new();
+    while kernel.events() < last {
+        let most = last - kernel.events();
+        ends += run_some(kernel, run.event, most, &mut entries, pending, out)?;
     }
     Ok(ends)
 }

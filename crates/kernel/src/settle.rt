@@ -60,6 +60,7 @@ fn wake<K: Kin>(machine: &mut Machine<K>, pid: Pid)
 }
 
 /// Asks all processes, in the rising order of their numbers.
+#[inline(never)]
 fn wake_all<K: Kin>(machine: &mut Machine<K>)
     ensures { machine.new ≡ settling machine.old }
 {

@@ -1,20 +1,21 @@
 //! Calls on signals.
 
-ghost use Rattle.std.specs.Prelude.{◌≡◌, ◌==◌, ℕ, IsSome, IsNone, IfSome, Some, is_some};
+ghost use Rattle.std.specs.Prelude.{◌≡◌, ◌==◌, ℕ, pos, IsSome, IsNone, IfSome, Some, is_some};
 ghost use Rattle.std.specs.Int.{cast_unsigned, w64};
 ghost use Rattle.posix.specs.Processes.{Process, argument};
 ghost use Rattle.posix.specs.States.{process};
 ghost use Rattle.posix.specs.Sends.{signal_in as signal_number_in, signal_or_none as signal_number_or_none};
-ghost use Rattle.posix.specs.SignalCalls.{handler_word as handler_word_of, handler_in as handler_held_in, is_question as is_question_in, are_flags, action_in as action_held_in, gives_action as giving_action};
-ghost use Rattle.kernel.specs.Events.{Comes, Attempts};
+ghost use Rattle.posix.specs.SignalCalls.{handler_word as handler_word_of, handler_in as handler_held_in, is_question as is_question_in, are_flags, action_in as action_held_in};
+ghost use Rattle.proctable.specs.Body.{give_own};
+ghost use Rattle.kernel.specs.Events.{Gives, holding, Attempts};
 
-use crate::calls::{Attempted, gives, refused};
+use crate::calls::{Attempted, answer, gives, refuse, refused};
 use crate::delivery;
 use arrayvec::ArrayVec;
 use bitflags::Flags;
 use life::Machine;
 use posix::{Action, Blocked, Call, Errno, Handler, Pid, Register, SaFlags, Sending, Sig, SigSet};
-use proctable::Kin;
+use proctable::{Kin, Own};
 
 // ---- arguments
 
@@ -67,16 +68,15 @@ fn is_question(word: i64) -> bool
     matches!(word, -1)
 }
 
-/// The action in r2, r3 and r4 of a process that is there; none where r4 has a bit that is no flag's.
-fn action_in<K: Kin>(machine: &mut Machine<K>, pid: Pid) -> Option<Action>
-    requires { IsSome (process machine.old pid) }
-    ensures known { (me : Process) → process machine.old pid ≡ Some me → is_some result ≡ are_flags (cast_unsigned w64 (argument me 4)) }
-    ensures value { (me : Process) → process machine.old pid ≡ Some me → IfSome result (λ a. a ≡ action_held_in me) }
-    ensures same { machine.new ≡ machine.old }
+/// The action in r2, r3 and r4 of a process with this of its own; none where r4 has a bit that is no
+/// flag's.
+fn action_in(own: &Own) -> Option<Action>
+    ensures known { (r : Process) → is_some result ≡ are_flags (cast_unsigned w64 (argument (give_own own.now r) 4)) }
+    ensures value { (r : Process) → IfSome result (λ a. a ≡ action_held_in (give_own own.now r)) }
 {
-    let handler = handler_in(machine.argument(pid, Register::SECOND_ARGUMENT));
-    let mask = SigSet::from_word(machine.argument(pid, Register::THIRD_ARGUMENT));
-    let bits = machine.argument(pid, Register::FOURTH_ARGUMENT);
+    let handler = handler_in(own.cpu.register(Register::SECOND_ARGUMENT));
+    let mask = SigSet::from_word(own.cpu.register(Register::THIRD_ARGUMENT));
+    let bits = own.cpu.register(Register::FOURTH_ARGUMENT);
     let flags = SaFlags::from_bits(bits.cast_unsigned())?;
     Some(Action {
         handler,
@@ -93,10 +93,11 @@ pub fn kill<K: Kin>(machine: &mut Machine<K>, pid: Pid) -> Attempted
     requires { IsSome (process machine.old pid) }
     ensures { Attempts machine.old pid Call.Kill result machine.new }
 {
-    let Some(sig) = signal_or_none(machine.argument(pid, Register::SECOND_ARGUMENT)) else {
+    let cpu = &machine.look(pid).cpu;
+    let target = cpu.register(Register::FIRST_ARGUMENT);
+    let Some(sig) = signal_or_none(cpu.register(Register::SECOND_ARGUMENT)) else {
         return refused(machine, pid, Call::Kill, Errno::EINVAL);
     };
-    let target = machine.argument(pid, Register::FIRST_ARGUMENT);
     match machine.send(pid, target, sig) {
         Sending::NobodyFound => refused(machine, pid, Call::Kill, Errno::ESRCH),
         Sending::NobodyPermitted => refused(machine, pid, Call::Kill, Errno::EPERM),
@@ -104,19 +105,15 @@ pub fn kill<K: Kin>(machine: &mut Machine<K>, pid: Pid) -> Attempted
     }
 }
 
-/// The sigaction of a process that is there gives an action.
-fn gives_action<K: Kin>(machine: &mut Machine<K>, pid: Pid, action: &Action) -> Attempted
-    requires { IsSome (process machine.old pid) }
-    ensures { Comes machine.old (giving_action machine.old pid action.now) result machine.new }
+/// The sigaction of a process, with this of its own, gives an action.
+fn answer_action(own: &mut Own, pid: Pid, action: &Action) -> Attempted
+    ensures { Gives (holding action.now) pid Call.Sigaction (pos 0) own.old result own.new }
 {
-    machine.write(pid, Register::SECOND_ARGUMENT, handler_word(action.handler));
-    machine.write(pid, Register::THIRD_ARGUMENT, action.mask.word());
-    machine.write(
-        pid,
-        Register::FOURTH_ARGUMENT,
-        action.flags.bits().cast_signed(),
-    );
-    gives(machine, pid, Call::Sigaction, 0)
+    let cpu = &mut own.cpu;
+    cpu.set_register(Register::SECOND_ARGUMENT, handler_word(action.handler));
+    cpu.set_register(Register::THIRD_ARGUMENT, action.mask.word());
+    cpu.set_register(Register::FOURTH_ARGUMENT, action.flags.bits().cast_signed());
+    answer(own, pid, Call::Sigaction, 0)
 }
 
 /// Asks for the action for a signal, or sets it (XSH sigaction).
@@ -125,19 +122,20 @@ pub fn sigaction<K: Kin>(machine: &mut Machine<K>, pid: Pid) -> Attempted
     requires { IsSome (process machine.old pid) }
     ensures { Attempts machine.old pid Call.Sigaction result machine.new }
 {
-    let Some(sig) = signal_in(machine.argument(pid, Register::FIRST_ARGUMENT)) else {
-        return refused(machine, pid, Call::Sigaction, Errno::EINVAL);
+    let own = machine.own(pid);
+    let Some(sig) = signal_in(own.cpu.register(Register::FIRST_ARGUMENT)) else {
+        return refuse(own, pid, Call::Sigaction, Errno::EINVAL);
     };
-    let old = machine.action(pid, sig);
-    if is_question(machine.argument(pid, Register::SECOND_ARGUMENT)) {
-        return gives_action(machine, pid, &old);
+    let old = own.signals.action(sig);
+    if is_question(own.cpu.register(Register::SECOND_ARGUMENT)) {
+        return answer_action(own, pid, &old);
     }
-    let Some(action) = action_in(machine, pid) else {
-        return refused(machine, pid, Call::Sigaction, Errno::EINVAL);
+    let Some(action) = action_in(own) else {
+        return refuse(own, pid, Call::Sigaction, Errno::EINVAL);
     };
-    match machine.set_action(pid, sig, action) {
-        Ok(()) => gives_action(machine, pid, &old),
-        Err(errno) => refused(machine, pid, Call::Sigaction, errno),
+    match own.signals.set_action(sig, action) {
+        Ok(()) => answer_action(own, pid, &old),
+        Err(errno) => refuse(own, pid, Call::Sigaction, errno),
     }
 }
 
@@ -147,15 +145,16 @@ pub fn sigprocmask<K: Kin>(machine: &mut Machine<K>, pid: Pid) -> Attempted
     requires { IsSome (process machine.old pid) }
     ensures { Attempts machine.old pid Call.Sigprocmask result machine.new }
 {
-    let how = machine.argument(pid, Register::FIRST_ARGUMENT);
-    let set = SigSet::from_word(machine.argument(pid, Register::SECOND_ARGUMENT));
-    let old = machine.mask(pid);
-    match machine.set_mask(pid, how, set) {
+    let own = machine.own(pid);
+    let how = own.cpu.register(Register::FIRST_ARGUMENT);
+    let set = SigSet::from_word(own.cpu.register(Register::SECOND_ARGUMENT));
+    let old = own.signals.mask();
+    match own.signals.set_mask(how, set) {
         Ok(()) => {
-            machine.write(pid, Register::SECOND_ARGUMENT, old.word());
-            gives(machine, pid, Call::Sigprocmask, 0)
+            own.cpu.set_register(Register::SECOND_ARGUMENT, old.word());
+            answer(own, pid, Call::Sigprocmask, 0)
         }
-        Err(errno) => refused(machine, pid, Call::Sigprocmask, errno),
+        Err(errno) => refuse(own, pid, Call::Sigprocmask, errno),
     }
 }
 
@@ -165,9 +164,10 @@ pub fn sigpending<K: Kin>(machine: &mut Machine<K>, pid: Pid) -> Attempted
     requires { IsSome (process machine.old pid) }
     ensures { Attempts machine.old pid Call.Sigpending result machine.new }
 {
-    let set = machine.pending(pid);
-    machine.write(pid, Register::FIRST_ARGUMENT, set.word());
-    gives(machine, pid, Call::Sigpending, 0)
+    let own = machine.own(pid);
+    own.cpu
+        .set_register(Register::FIRST_ARGUMENT, own.signals.pending().word());
+    answer(own, pid, Call::Sigpending, 0)
 }
 
 /// Waits for a signal with another signal mask (XSH sigsuspend).
@@ -176,7 +176,7 @@ pub fn sigsuspend<K: Kin>(machine: &mut Machine<K>, pid: Pid) -> Attempted
     requires { IsSome (process machine.old pid) }
     ensures { Attempts machine.old pid Call.Sigsuspend result machine.new }
 {
-    Attempted::Block(Blocked::Sigsuspend(machine.mask(pid)))
+    Attempted::Block(Blocked::Sigsuspend(machine.look(pid).signals.mask()))
 }
 
 /// Returns from the newest handler (sigreturn(2)).

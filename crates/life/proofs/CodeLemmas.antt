@@ -1,12 +1,15 @@
 -- The code that a process runs.
-use Rattle.std.proofs.Common.{◌≡◌, ◌≤◌, ℕ, ℤ, pos, negsuc, true, false, cond, refl, ap, sym, ◌∙◌, List, [], length, slice_get, slice_index_or, Option, Some, None, nat_lt, nat_le, ◌-◌, arith, ⊎_elim}
+use Rattle.std.proofs.Common.{◌≡◌, ◌≤◌, ◌<◌, ℕ, zero, suc, ℤ, pos, negsuc, true, false, cond, refl, ap, sym, ◌∙◌, List, [], length, slice_get, slice_index_or, Option, Some, None, nat_lt, nat_le, ◌-◌, arith, ⊎_elim}
 use Rattle.std.proofs.lemmas.Bool.{ltb-true, ltb-false}
 use Rattle.std.proofs.lemmas.Option.{slice_get_read, slice_get_cases}
 use Rattle.posix.specs.declared.instr.Instr.{Instr}
 use Rattle.posix.specs.Processes.{Process}
 use Rattle.posix.specs.States.{Program, State, process, change}
-use Rattle.posix.specs.Execute.{exec_one, faulted, fetched}
+use Rattle.posix.specs.declared.instr.Trap.{Trap}
+use Rattle.posix.specs.declared.instr.Trap.TheVariants as trap
+use Rattle.posix.specs.Execute.{StaysUnlessRun, Executed, exec_one, faulted, fetched}
 use Rattle.posix.specs.Step.{code_of, instructions, set_cpu}
+use Rattle.umach.specs.Bursts.{then_rest, exec_until}
 use Rattle.posix.specs.Tables.{IsRising}
 use Rattle.posix.proofs.TableLemmas.{changed_id}
 
@@ -31,7 +34,21 @@ pub no_code : (s : State) (me : Process) → code_of s me ≡ [] → exec_one (c
 unfolding exec_one
 no_code s me e = rw (e, nothing_there me.cpu.pc) refl
 
+-- and the first ends a run of them
+pub no_burst : (s : State) (me : Process) (most : ℕ) → code_of s me ≡ [] → 0 < most → exec_until (code_of s me) most me.cpu ≡ record { count = 0; trap = trap.Fault 11; cpu = me.cpu }
+unfolding exec_until
+no_burst s me zero e lt = absurd (omega (arith, lt))
+no_burst s me (suc most) e lt =
+    ap (λ (x : Executed). then_rest x.trap me.cpu x.cpu (exec_until (code_of s me) most x.cpu)) (no_code s me e)
+
 -- a fault changes no record
 pub same_cpu : (s : State) (p : ℕ) (me : Process) → IsRising s.processes → process s p ≡ Some me → s ≡ change s p (set_cpu me.cpu)
 unfolding set_cpu
 same_cpu s p me up e = ap (λ rs. record s { processes = rs }) (sym (changed_id p (set_cpu me.cpu) s.processes up me e refl))
+
+-- what leaves a thing leaves what is made of it
+pub stays_by : {A B : Type 0} (f : A → B) (t : Trap) (a b : A) → StaysUnlessRun t a b → StaysUnlessRun t (f a) (f b)
+stays_by f trap.Next a b h = tt
+stays_by f (trap.Note value) a b h = tt
+stays_by f (trap.Call call) a b h = ap f h
+stays_by f (trap.Fault sig) a b h = ap f h

@@ -5,3 +5,4 @@ pub mod ParentLemmas
 pub mod CodeLemmas
 pub mod ChildLemmas
 pub mod SendLemmas
+pub mod LoanLemmas

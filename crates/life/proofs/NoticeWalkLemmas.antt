@@ -13,22 +13,8 @@ use Rattle.posix.specs.Ends.{child_signal, noticed, is_dropping, drop_child, not
 use Rattle.posix.proofs.TableLemmas.{pid_looked, lookup_changed}
 use Rattle.posix.proofs.WalkLemmas.{AtChild, at_child, at_first, head_above}
 use Rattle.posix.proofs.MapLemmas.{children_changed}
+use Rattle.proctable.proofs.SlotLemmas.{filters_commute}
 use Rattle.posix.proofs.RegularLemmas.{keeps_noticed, regular_change, regular_removed, lookup_kept, lookup_other}
-
--- of some that are removed and some that stay, either may come first
-filter_swap : (t u : Process → Bool) (rs : List Process) → filter t (filter u rs) ≡ filter u (filter t rs)
-filter_swap t u [] = refl
-filter_swap t u (r ∷ rs) =
-    elim (t r) as (λ a. t r ≡ a → filter t (cond (u r) (r ∷ filter u rs) (filter u rs)) ≡ filter u (cond a (r ∷ filter t rs) (filter t rs))) [
-      | true ↦ λ e. elim (u r) as (λ b. filter t (cond b (r ∷ filter u rs) (filter u rs)) ≡ cond b (r ∷ filter u (filter t rs)) (filter u (filter t rs))) [
-        | true ↦ rw e (ap (λ l. r ∷ l) (filter_swap t u rs))
-        | false ↦ filter_swap t u rs
-      ]
-      | false ↦ λ e. elim (u r) as (λ b. filter t (cond b (r ∷ filter u rs) (filter u rs)) ≡ filter u (filter t rs)) [
-        | true ↦ rw e (filter_swap t u rs)
-        | false ↦ filter_swap t u rs
-      ]
-    ] refl
 
 -- what is left from above c is left without c
 left_without : (o : Option ℕ) (c : ℕ) → IfSome o (λ y. c < y) → (rs : List Process) → left_of o (removed c rs) ≡ left_of o rs
@@ -88,7 +74,7 @@ kids_noticed s p c w i least =
 -- the children of p without c
 children_without : (p c : ℕ) (rs : List Process) → children_in p (removed c rs) ≡ removed c (children_in p rs)
 unfolding children_in removed
-children_without p c rs = filter_swap (is_child p) (λ r. not (r.pid == c)) rs
+children_without p c rs = filters_commute (is_child p) (λ r. not (r.pid == c)) rs
 
 -- behind the zombie the children of p are the same
 left_told : (s : State) (p c w : ℕ) → IsRegular s → IsToTell s p c w → left_of (next_sibling c s.processes) (children_in p (notice_of_end s 1 c w).processes) ≡ left_of (next_sibling c s.processes) (children_in p s.processes)

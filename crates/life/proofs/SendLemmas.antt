@@ -5,6 +5,7 @@ use Rattle.std.specs.Option.{IfSome}
 use Rattle.std.specs.Ordering.{ord_max}
 use Rattle.std.specs.Result.{OkIff, result_ok}
 use Rattle.std.specs.Int.{FitsUnsignedBits}
+use Rattle.std.proofs.lemmas.List.{map-append}
 use Rattle.std.proofs.lemmas.List.Elements.{filter-append}
 use Rattle.std.proofs.lemmas.Bool.{eqb-true, eq-eqb, ne_eqb, ltb-true, ltb-false, cases_order}
 use Rattle.std.proofs.lemmas.Bool.Decides.{nat_tests}
@@ -129,11 +130,6 @@ above_sent me choice (Some n) p rs = above_signalled_all p (sent_by me.pid n) _ 
 
 -- ---- several, part by part
 
--- the numbers of some and then of others
-pids_append : (xs ys : List Process) → pids (xs ++ ys) ≡ pids xs ++ pids ys
-pids_append [] ys = refl
-pids_append (x ∷ xs) ys = ap (λ l. x.pid ∷ l) (pids_append xs ys)
-
 -- some are signalled and then others
 signalled_append : (signal : PendingSignal) (ps qs : List ℕ) (rs : List Process) → signalled_all signal (ps ++ qs) rs ≡ signalled_all signal qs (signalled_all signal ps rs)
 unfolding signalled_all
@@ -146,7 +142,7 @@ unfolding sent_among permitted
 sent_append me None xs ys rs = refl
 sent_append me (Some n) xs ys rs =
     ap (λ qs. signalled_all (sent_by me.pid n) (pids qs) rs) (filter-append (may me (Some n)) xs ys)
-    ∙ ap (λ ps. signalled_all (sent_by me.pid n) ps rs) (pids_append (filter (may me (Some n)) xs) (filter (may me (Some n)) ys))
+    ∙ ap (λ ps. signalled_all (sent_by me.pid n) ps rs) (map-append (λ r. r.pid) (filter (may me (Some n)) xs) (filter (may me (Some n)) ys))
     ∙ signalled_append (sent_by me.pid n) (pids (filter (may me (Some n)) xs)) (pids (filter (may me (Some n)) ys)) rs
 
 -- whom a signal to some and then to others finds

@@ -3,7 +3,7 @@ use Rattle.std.proofs.Common.{◌≡◌, ◌≢◌, ◌==◌, ℕ, suc, ◌+◌,
 use Rattle.std.specs.Option.{IsSome}
 use Rattle.std.specs.List.{AllByRecursion}
 use Rattle.std.proofs.lemmas.Bool.{eqb-true, eqb-false, ne_eqb}
-use Rattle.std.proofs.lemmas.List.{length-replicate}
+use Rattle.std.proofs.lemmas.List.{length-map, length-replicate}
 use Rattle.posix.specs.declared.process.PendingSignal.{PendingSignal}
 use Rattle.posix.specs.Processes.{Process, is_zombie, first_process}
 use Rattle.posix.specs.Tables.{IsRising, at, lookup, changed, removed, inserted, adopted, reparented, children_in}
@@ -58,10 +58,6 @@ either (Err e) p q f g = g q
 
 -- ---- changes of records
 
-length_map : (g : Process → Process) (rs : List Process) → length (map g rs) ≡ length rs
-length_map g [] = refl
-length_map g (r ∷ rs) = ap suc (length_map g rs)
-
 -- the numbers and the room stay kept where each record keeps its numbers
 pub kept_map : (g : Process → Process) → ((r : Process) → (g r).pid ≡ r.pid) → ((r : Process) → (g r).group ≡ r.group) → ((r : Process) → (g r).session ≡ r.session)
     → (m : ℕ) (rs : List Process) (p : Pids) (a b : Places) (n : ℕ) → a.room ≤ b.room → IsKept m rs p a n → IsKept m (map g rs) p b n
@@ -69,7 +65,7 @@ kept_map g kp kg ks m rs p a b n e k = record {
   greatest = k.greatest;
   table = k.table;
   tallied = tallied_map p g kp kg ks rs k.tallied;
-  count = k.count ∙ sym (length_map g rs);
+  count = k.count ∙ sym (length-map rs g);
   room = let r = k.room in omega (arith, r, e);
 }
 
@@ -135,7 +131,7 @@ room_to_drop s u t pids places n signal p c it before told i e was had gone is =
     let k = keeps_at p (noticed signal) (keeps_noticed signal) in
     let rs = map (at p (noticed signal)) s.processes in
     let one = length_removed c (at p (noticed signal) it) rs (rising_map _ k.pid s.processes i.regular.rising) (lookup_on _ k.pid c s.processes it e) in
-    let all = length_map (at p (noticed signal)) s.processes in
+    let all = length-map s.processes (at p (noticed signal)) in
     let count = i.kept.count in
     let most = i.counted in
     rw (is, gone, had, was) (omega (arith, one, all, count, most))

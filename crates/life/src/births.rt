@@ -1,16 +1,29 @@
 //! Births.
 
-ghost use Rattle.std.specs.Prelude.{◌≡◌, ◌+◌, ◌<◌, ◌^◌, Some, OnOk, OnErr};
+ghost use Rattle.std.specs.Prelude.{◌≡◌, ◌+◌, ◌<◌, ◌^◌, ℕ, Some, IsSome, IfOk, OnOk, OnErr};
 ghost use Rattle.posix.specs.Processes.{Process};
 ghost use Rattle.posix.specs.States.{process, next_pid as next_pid_of};
-ghost use Rattle.posix.specs.Births.{born};
+ghost use Rattle.posix.specs.Births.{born, child_of};
+ghost use Rattle.posix.specs.Tables.{lookup};
+ghost use Rattle.proctable.specs.Body.{process_of};
 ghost use Rattle.posix.specs.Regular.{IsPlaced};
 
 use crate::machine::Machine;
 use posix::Pid;
-use proctable::Kin;
-use proctable::changes::newborn;
+use proctable::{Body, Kin};
 use std::alloc::AllocError;
+
+/// What a child of a process would be, with this birth number (XSH fork). The table is unchanged. An
+/// error where the host has no memory for it.
+fn newborn<K: Kin>(table: &mut K, pid: Pid, birth: u64) -> Result<Body, AllocError>
+    requires { IsSome (lookup pid (K.contents table.old)) }
+    ensures child { IfOk result (λ b. (me : Process) → lookup pid (K.contents table.old) ≡ Some me → (n : ℕ) → process_of n pid b ≡ child_of birth me n) }
+    ensures groups { IfOk result (λ b. (me : Process) → lookup pid (K.contents table.old) ≡ Some me → (b.group ≡ me.group) × (b.session ≡ me.session)) }
+    ensures contents { K.contents table.new ≡ K.contents table.old }
+    ensures room { K.room table.new ≡ K.room table.old }
+{
+    table.update(pid).fork(birth)
+}
 
 impl<K: Kin> Machine<K> {
     /// The number that the next child gets, if there is one.

@@ -2,16 +2,14 @@
 
 ghost use Rattle.std.specs.Prelude.{◌≡◌, ◌≢◌, IsSome, Some, true};
 ghost use Rattle.posix.specs.Processes.{Process, is_zombie};
-ghost use Rattle.posix.specs.Tables.{children_in, first_pid, next_sibling as sibling_after};
+ghost use Rattle.posix.specs.Tables.{lookup, changed, children_in, first_pid, next_sibling as sibling_after};
 ghost use Rattle.posix.specs.Regular.{IsRegular};
 ghost use Rattle.posix.specs.States.{process};
-ghost use Rattle.posix.specs.Ends.{depart as departing, halt as halting, end_process, child_signal as child_signal_of, notice_of_end as noticing_end, tell_of_all, zombies_of};
+ghost use Rattle.posix.specs.Ends.{depart as departing, halt as halting, end_process, child_signal as child_signal_of, notice_of_end as noticing_end, tell_of_all, zombies_of, noticed, drops_children as drops_children_of};
 
 use crate::machine::Machine;
 use posix::{Carried, Life, PendingSignal, Pid, Sig, Status};
 use proctable::Kin;
-use proctable::changes::{bury_in, end_in};
-use proctable::signals::{drops_children, notice_in};
 
 impl<K: Kin> Machine<K> {
     /// The process is a zombie and loses its place, and its children become those of process 1.
@@ -20,7 +18,7 @@ impl<K: Kin> Machine<K> {
         requires other { pid ≢ 1 }
         ensures { self.new ≡ departing self.old pid status }
     {
-        bury_in(&mut self.table, pid, status);
+        self.table.update(pid).bury(status);
         self.table.adopt(pid, Pid::INIT);
         self.order.drop_place(pid);
     }
@@ -29,7 +27,7 @@ impl<K: Kin> Machine<K> {
     fn halt(&mut self, status: Status)
         ensures { self.new ≡ halting self.old status }
     {
-        end_in(&mut self.table, Pid::INIT, status);
+        self.table.update(Pid::INIT).end(status);
         self.order.drop_place(Pid::INIT);
         self.halted = true;
     }
@@ -43,8 +41,7 @@ impl<K: Kin> Machine<K> {
         requires zombie { (it : Process) × (process self.old child ≡ Some it) × (is_zombie it.life ≡ true) }
         ensures { self.new ≡ noticing_end self.old parent child status }
     {
-        let drops = drops_children(&mut self.table, parent);
-        notice_in(&mut self.table, parent, child_signal(child, status));
+        let drops = notice_in(&mut self.table, parent, child_signal(child, status));
         if drops {
             self.collect(child);
             self.dropped += 1;
@@ -102,6 +99,20 @@ impl<K: Kin> Machine<K> {
             self.notice_of_end(parent, pid, status);
         }
     }
+}
+
+/// A process gets notice of a child by a signal, unless it ignores CHLD; and whether it drops its children
+/// as they end (XSH _exit).
+fn notice_in<K: Kin>(table: &mut K, pid: Pid, signal: PendingSignal) -> bool
+    requires { IsSome (lookup pid (K.contents table.old)) }
+    ensures value { (me : Process) → lookup pid (K.contents table.old) ≡ Some me → result ≡ drops_children_of me.signals }
+    ensures contents { K.contents table.new ≡ changed pid (noticed signal) (K.contents table.old) }
+    ensures room { K.room table.new ≡ K.room table.old }
+{
+    let body = table.update(pid);
+    let drops = body.own.signals.drops_children();
+    body.notice(pid, signal);
+    drops
 }
 
 /// Notice that a child ended, as a signal (XSH _exit).

@@ -8,7 +8,6 @@ mod births;
 mod ends;
 pub mod machine;
 pub mod sends;
-pub mod signals;
 pub mod waits;
 
 pub use machine::Machine;

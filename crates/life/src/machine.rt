@@ -1,21 +1,21 @@
 //! The machine: all that the state of a world consists of.
 
-ghost use Rattle.std.specs.Prelude.{◌≡◌, ◌≢◌, ◌+◌, ◌<◌, ◌^◌, ◌++◌, ◌∷◌, [], IfOk, IsSome, Some, length, nat_le, option_map, false, true};
-ghost use Rattle.posix.specs.Processes.{Process, argument as argument_of};
+ghost use Rattle.std.specs.Prelude.{◌≡◌, ◌≢◌, ◌+◌, ◌<◌, ◌^◌, ◌++◌, ◌∷◌, [], ⊤, IfOk, IfSome, IsSome, Some, length, nat_le, option_map, false, true};
+ghost use mathlib.Core.Option.{none};
+ghost use Rattle.std.specs.Borrow.{sem, Lends, follows_so};
+ghost use Rattle.posix.specs.Processes.{Process};
 ghost use Rattle.posix.specs.Tables.{next_above};
 ghost use Rattle.posix.specs.States.{boot as boot_of, process, change, current as current_of, lose_place as losing_place, go_last as going_last, has_place as has_place_in};
 ghost use Rattle.posix.specs.Regular.{IsRegular, IsPlaced};
 ghost use Rattle.posix.specs.Execute.{exec_one, StaysUnlessRun};
-ghost use Rattle.posix.specs.Outcomes.{finish as finish_of, write as write_of};
-ghost use Rattle.posix.specs.SignalCalls.{give_credentials as giving_credentials};
-ghost use Rattle.posix.specs.Step.{code_of, enter as entering, set_cpu, pass_time as passing_time};
-ghost use Rattle.proctable.specs.Body.{facts_of};
+ghost use Rattle.posix.specs.Step.{code_of, set_cpu, pass_time as passing_time};
+ghost use Rattle.proctable.specs.Body.{facts_of, own_of, give_own, own_row};
+ghost use Rattle.life.specs.contracts.machine.Machine.{the_row as machine_row};
+ghost use Rattle.umach.specs.Bursts.{exec_until, IsWithin};
 
-use creds::Creds;
 use pidalloc::PidTable;
-use posix::{Blocked, Pid, Register, Sig, Trap};
-use proctable::changes::{self, enter_in, finish_in, give_credentials_in, run_in, write_in};
-use proctable::{Body, Facts, Kin};
+use posix::{Pid, Sig, Trap};
+use proctable::{Body, Facts, Kin, Own};
 use sched::Order;
 use std::alloc::{AllocError, Global};
 use std::marker::Model;
@@ -171,38 +171,18 @@ impl<K: Kin> Machine<K> {
         }
     }
 
-    /// The ids of a process that is there.
-    pub fn creds(&mut self, pid: Pid) -> Creds
-        requires { IsSome (process self.old pid) }
-        ensures value { (me : Process) → process self.old pid ≡ Some me → result ≡ me.credentials }
-        ensures same { self.new ≡ self.old }
-    {
-        match self.table.get(pid) {
-            Some(facts) => facts.creds,
-            None => Creds::root(),
-        }
-    }
+    // ---- one process
 
-    /// The call that a process that is there is blocked in.
-    pub fn blocked(&mut self, pid: Pid) -> Option<Blocked>
+    /// Lends what a process that is there may change of itself. Nothing else changes.
+    pub fn own(&mut self, pid: Pid) -> &mut Own
         requires { IsSome (process self.old pid) }
-        ensures value { (me : Process) → process self.old pid ≡ Some me → result ≡ me.blocked }
-        ensures same { self.new ≡ self.old }
-    {
-        self.table.get(pid)?.blocked
-    }
-
-    /// A register of a process that is there.
-    pub fn argument(&mut self, pid: Pid, register: Register) -> i64
-        requires { IsSome (process self.old pid) }
-        ensures value { (me : Process) → process self.old pid ≡ Some me → result ≡ argument_of me register }
-        ensures same { self.new ≡ self.old }
+        ensures* lends { sem 𝓛 (Lends (machine_row K.row K.Kin) own_row self.entry result (λ o. change self.old pid (give_own o))) }
+        ensures value { IfSome (process self.old pid) (λ me. result.now ≡ own_of me) }
         ensures regular { IsRegular self.old }
     {
-        changes::argument_of(&mut self.table, pid, register)
+        let body = self.table.update(pid);
+        &mut body.own
     }
-
-    // ---- changes of one process
 
     /// Runs the instruction at the pc of a process that is there and runs this program. A call and a
     /// machine fault change nothing.
@@ -214,42 +194,39 @@ impl<K: Kin> Machine<K> {
         ensures stays { StaysUnlessRun result self.old self.new }
     {
         match self.world.programs().get(usize::from(program)) {
-            Some(program) => run_in(&mut self.table, pid, program),
+            Some(program) => self.table.update(pid).own.cpu.exec_one(program),
             None => Trap::Fault(Sig::SEGV),
         }
     }
 
-    /// The call of a process that is there gives a value: it is in r0, the pc moves on, and the process
-    /// is in no call.
-    pub fn finish(&mut self, pid: Pid, value: i64)
-        requires { IsSome (process self.old pid) }
-        ensures { self.new ≡ finish_of self.old pid ((0, value) ∷ []) }
+    /// A process that is there, and runs this program, runs plain instructions, at most so many, and the one
+    /// after them, which may give a note. The number of the plain ones, and how that one came out; a call
+    /// and a machine fault change nothing.
+    #[inline]
+    pub fn run_until(&mut self, pid: Pid, program: u8, most: u64) -> (u64, Trap)
+        requires there { IsSome (process self.old pid) }
+        requires program { (me : Process) → process self.old pid ≡ Some me → me.program ≡ program }
+        requires some { 0 < most }
+        ensures count { (me : Process) → process self.old pid ≡ Some me → result.0 ≡ (exec_until (code_of self.old me) most me.cpu).count }
+        ensures trap { (me : Process) → process self.old pid ≡ Some me → result.1 ≡ (exec_until (code_of self.old me) most me.cpu).trap }
+        ensures state { (me : Process) → process self.old pid ≡ Some me → self.new ≡ change self.old pid (set_cpu (exec_until (code_of self.old me) most me.cpu).cpu) }
+        ensures within { IsWithin most result.0 result.1 }
     {
-        finish_in(&mut self.table, pid, value);
+        match self.world.programs().get(usize::from(program)) {
+            Some(program) => self.table.update(pid).own.cpu.run_until(program, most),
+            None => (0, Trap::Fault(Sig::SEGV)),
+        }
     }
 
-    /// A process that is there is blocked in a call; in sigsuspend with the signal mask in r1.
-    pub fn enter(&mut self, pid: Pid, blocked: Blocked)
+    /// Shows what a process that is there may change of itself. Nothing changes.
+    pub fn look(&mut self, pid: Pid) -> &Own
         requires { IsSome (process self.old pid) }
-        ensures { self.new ≡ change self.old pid (entering blocked) }
+        ensures* lends { sem 𝓛 (follows_so (machine_row K.row K.Kin) (machine_row K.row K.Kin) self.entry.ghost_name none (λ _ _. ⊤) (λ n. n ≡ self.old)) }
+        ensures value { IfSome (process self.old pid) (λ me. result.now ≡ own_of me) }
+        ensures regular { IsRegular self.old }
     {
-        enter_in(&mut self.table, pid, blocked);
-    }
-
-    /// A register of a process that is there gets a further result of its call.
-    pub fn write(&mut self, pid: Pid, register: Register, value: i64)
-        requires { IsSome (process self.old pid) }
-        ensures { self.new ≡ write_of self.old pid register value }
-    {
-        write_in(&mut self.table, pid, register, value);
-    }
-
-    /// The ids of a process that is there become these.
-    pub fn give_credentials(&mut self, pid: Pid, creds: Creds)
-        requires { IsSome (process self.old pid) }
-        ensures { self.new ≡ change self.old pid (giving_credentials creds) }
-    {
-        give_credentials_in(&mut self.table, pid, creds);
+        let body = self.table.update(pid);
+        &body.own
     }
 
     // ---- places

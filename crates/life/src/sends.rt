@@ -10,7 +10,6 @@ ghost use Rattle.proctable.specs.Body.{facts_of};
 
 use crate::machine::Machine;
 use posix::{Carried, PendingSignal, Pid, Sending, Sig};
-use proctable::signals::signal_in;
 use proctable::{Facts, Kin};
 
 /// Whether a sender means a process: above 0 the target is its number, 0 stands for the sender's process
@@ -56,7 +55,7 @@ fn send_to<K: Kin>(table: &mut K, me: &Facts, sig: &Option<Sig>, it: &Facts) -> 
         return Sending::NobodyPermitted;
     }
     if let Some(sig) = *sig {
-        signal_in(table, it.pid, sent(me.pid, sig));
+        table.update(it.pid).signal(it.pid, sent(me.pid, sig));
     }
     Sending::Permitted
 }

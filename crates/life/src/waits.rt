@@ -1,10 +1,9 @@
 //! Waits.
 
-ghost use Rattle.std.specs.Prelude.{◌≡◌, ◌≢◌, ◌∷◌, [], IsSome, Some, true, pos};
+ghost use Rattle.std.specs.Prelude.{◌≡◌, ◌≢◌, IsSome, Some, true};
 ghost use Rattle.posix.specs.Processes.{Process, is_zombie};
 ghost use Rattle.posix.specs.Tables.{lookup, removed};
 ghost use Rattle.posix.specs.States.{process, change};
-ghost use Rattle.posix.specs.Outcomes.{finish};
 ghost use Rattle.posix.specs.Waits.{is_named as is_named_by, report, report_change as report_change_of, report_life as report_life_of, report_of, news_told};
 ghost use Rattle.posix.specs.Waits.{look as look_of};
 ghost use Rattle.proctable.specs.Body.{facts_of};
@@ -12,7 +11,6 @@ ghost use Rattle.proctable.specs.Body.{facts_of};
 use crate::machine::Machine;
 use bitflags::Flags;
 use posix::{Life, News, Pid, Report, Status, WaitOptions};
-use proctable::changes::{finish_wait_in, tell_news_in};
 use proctable::{Facts, Kin};
 
 /// Whether a wait with this choice, of a caller in process group `group`, names the child `pid` in process
@@ -133,15 +131,6 @@ impl<K: Kin> Machine<K> {
         requires { IsSome (process self.old pid) }
         ensures { self.new ≡ change self.old pid news_told }
     {
-        tell_news_in(&mut self.table, pid);
-    }
-
-    /// The wait of a process that is there reports a child: its number is in r0, its status in r1, the pc
-    /// moves on, and the process is in no call (XSH waitpid).
-    pub fn finish_wait(&mut self, pid: Pid, child: Pid, status: Status)
-        requires { IsSome (process self.old pid) }
-        ensures { self.new ≡ finish self.old pid ((0, pos child) ∷ (1, pos status) ∷ []) }
-    {
-        finish_wait_in(&mut self.table, pid, child, status);
+        self.table.update(pid).tell_news();
     }
 }

@@ -64,7 +64,7 @@ some_fit (r ∷ rs) up o d h =
     omega (arith, rest, l)
 
 -- who is placed is found
-placed_some : (rs : List Process) (p : ℕ) → IsPlaced rs p → IsSome (lookup p rs)
+pub placed_some : (rs : List Process) (p : ℕ) → IsPlaced rs p → IsSome (lookup p rs)
 placed_some rs p h = rw h.found refl
 
 -- no more places than records

@@ -332,20 +332,10 @@ regular_removed p zombie s i other there dead = record {
 
 -- ---- changes that keep
 
--- a call that ends with its results keeps what a regular state asks
-pub keeps_finished : (results : List (ℕ × ℤ)) → Keeps (finished results)
-unfolding finished
-keeps_finished results = record { pid = λ r. refl; parent = λ r. refl; group = λ r. refl; session = λ r. refl; zombie = λ r. refl }
-
 -- so does another content of the cpu
 pub keeps_set_cpu : (c : Cpu) → Keeps (set_cpu c)
 unfolding set_cpu
 keeps_set_cpu c = record { pid = λ r. refl; parent = λ r. refl; group = λ r. refl; session = λ r. refl; zombie = λ r. refl }
-
--- so does a process that blocks in a call
-pub keeps_enter : (b : Blocked) → Keeps (enter b)
-unfolding enter
-keeps_enter b = record { pid = λ r. refl; parent = λ r. refl; group = λ r. refl; session = λ r. refl; zombie = λ r. refl }
 
 -- so do news that are told
 pub keeps_news_told : Keeps news_told
@@ -373,20 +363,10 @@ keeps_handles signal address = record {
   zombie = λ r. either (λ (q : Process). is_zombie q.life) (is_full r.signals) _ _ (is_zombie r.life) refl refl;
 }
 
--- so does a handler that returns
-pub keeps_returned : (frame : Frame) → Keeps (returned frame)
-unfolding returned
-keeps_returned frame = record { pid = λ r. refl; parent = λ r. refl; group = λ r. refl; session = λ r. refl; zombie = λ r. refl }
-
 -- so does a signal that is taken out
 pub keeps_take_out : (n : ℕ) → Keeps (take_out n)
 unfolding take_out
 keeps_take_out n = record { pid = λ r. refl; parent = λ r. refl; group = λ r. refl; session = λ r. refl; zombie = λ r. refl }
-
--- so do new ids
-pub keeps_give_credentials : (c : Credentials) → Keeps (give_credentials c)
-unfolding give_credentials
-keeps_give_credentials c = record { pid = λ r. refl; parent = λ r. refl; group = λ r. refl; session = λ r. refl; zombie = λ r. refl }
 
 -- so do new actions and a new mask
 pub keeps_give_signals : (g : Signals) → Keeps (give_signals g)

@@ -1,9 +1,11 @@
 -- To ask the records one after another, from the least number on, is to settle; and what settles stays regular.
-use Rattle.std.proofs.Common.{◌≡◌, ℕ, ◌<◌, ◌≤◌, Bool, true, false, cond, not, ◌&&◌, ◌||◌, refl, ap, sym, ◌∙◌, arith, subst, List, [], ◌∷◌, ◌++◌, append-nil, length, filter, find, Option, Some, None, ◌==◌, ℤ, nat_lt, inl, inr, is_some}
+use Rattle.std.proofs.Common.{◌≡◌, ℕ, ◌<◌, ◌≤◌, Bool, true, false, cond, not, ◌&&◌, ◌||◌, refl, ap, sym, ◌∙◌, arith, subst, List, [], ◌∷◌, ◌++◌, append-nil, append_assoc, length, filter, find, Option, Some, None, ◌==◌, ℤ, nat_lt, inl, inr, is_some}
 use Rattle.std.specs.List.{list_any, AllByRecursion}
 use Rattle.std.specs.Option.{IfSome}
 use Rattle.std.proofs.lemmas.Bool.{eqb-true, eq-eqb, ne_eqb, cases_order, ltb-true}
 use Rattle.std.proofs.lemmas.Bool.Decides.{nat_tests}
+use Rattle.std.proofs.lemmas.List.{map-append}
+use Rattle.std.proofs.lemmas.List.Elements.{filter-append}
 use Rattle.posix.specs.declared.process.Life.{Life}
 use Rattle.posix.specs.declared.process.Life.TheVariants.{Running, Stopped, Zombie}
 use Rattle.posix.specs.declared.process.Blocked.{Blocked}
@@ -192,21 +194,6 @@ before_step (x ∷ xs) up p =
           rw (t, u, ne_eqb x.pid p (λ e. omega (arith, e)), v, none_before x.pid x.pid xs (omega arith) up.0, none_before x.pid p xs (omega arith) up.0, absent) refl
     ]
 
--- a filter goes through a list part by part
-filter_append : (t : Process → Bool) (xs ys : List Process) → filter t (xs ++ ys) ≡ filter t xs ++ filter t ys
-filter_append t [] ys = refl
-filter_append t (x ∷ xs) ys = elim (t x) as (λ b. cond b (x ∷ filter t (xs ++ ys)) (filter t (xs ++ ys)) ≡ cond b (x ∷ filter t xs) (filter t xs) ++ filter t ys) [ true ↦ ap (λ l. x ∷ l) (filter_append t xs ys) | false ↦ filter_append t xs ys ]
-
--- numbers go through a list part by part
-pids_append : (xs ys : List Process) → pids (xs ++ ys) ≡ pids xs ++ pids ys
-pids_append [] ys = refl
-pids_append (x ∷ xs) ys = ap (λ l. x.pid ∷ l) (pids_append xs ys)
-
--- brackets don't count
-append_twice : (xs ys zs : List ℕ) → (xs ++ ys) ++ zs ≡ xs ++ (ys ++ zs)
-append_twice [] ys zs = refl
-append_twice (x ∷ xs) ys zs = ap (λ l. x ∷ l) (append_twice xs ys zs)
-
 -- behind which there is no p
 in_append : (p : ℕ) (xs ys : List ℕ) → is_in p ys ≡ false → is_in p (xs ++ ys) ≡ is_in p xs
 unfolding is_in
@@ -236,7 +223,7 @@ step_some s news r e =
     let w : wakes (record s { order = s.order ++ news }) r ≡ wakes s r = wakes_later s news r e in
     ap (λ b. cond b (record s { order = (s.order ++ news) ++ r.pid ∷ [] }) (record s { order = s.order ++ news })) w
     ∙ elim (wakes s r) as (λ b. cond b (record s { order = (s.order ++ news) ++ r.pid ∷ [] }) (record s { order = s.order ++ news }) ≡ record s { order = s.order ++ (news ++ pids (cond b (r ∷ []) [])) }) [
-      | true ↦ ap (λ o. record s { order = o }) (append_twice s.order news (r.pid ∷ []))
+      | true ↦ ap (λ o. record s { order = o }) (append_assoc s.order news (r.pid ∷ []))
       | false ↦ ap (λ o. record s { order = s.order ++ o }) (sym (append-nil _))
     ]
 
@@ -254,7 +241,7 @@ pub woken_step : (s : State) → IsRising s.processes → (p : ℕ) → woken (w
 unfolding woken woken_before next_above
 woken_step s up p =
     step_if s p (lookup p s.processes) refl
-    ∙ ap (λ o. record s { order = s.order ++ o }) (sym (ap (λ rs. pids (filter (wakes s) rs)) (before_step s.processes up p) ∙ ap pids (filter_append (wakes s) (before (Some p) s.processes) (one (lookup p s.processes))) ∙ pids_append (filter (wakes s) (before (Some p) s.processes)) (filter (wakes s) (one (lookup p s.processes)))))
+    ∙ ap (λ o. record s { order = s.order ++ o }) (sym (ap (λ rs. pids (filter (wakes s) rs)) (before_step s.processes up p) ∙ ap pids (filter-append (wakes s) (before (Some p) s.processes) (one (lookup p s.processes))) ∙ map-append (λ r. r.pid) (filter (wakes s) (before (Some p) s.processes)) (filter (wakes s) (one (lookup p s.processes)))))
 
 -- at the start nobody was asked
 pub woken_first : (s : State) → IsRising s.processes → ((p : ℕ) (r : Process) → lookup p s.processes ≡ Some r → 1 ≤ r.pid)

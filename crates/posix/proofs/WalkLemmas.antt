@@ -7,10 +7,6 @@ use Rattle.posix.specs.Processes.{Process}
 use Rattle.posix.specs.Tables.{IsRising, has_pid, lookup, is_child, children_in, first_pid, above, left_of, parent_of, next_sibling}
 use Rattle.posix.proofs.TableLemmas.{Above, rising_filter}
 
--- those whose pid is n or greater
-from : ℕ → List Process → List Process
-from n rs = filter (λ r. nat_le n r.pid) rs
-
 -- of a list above n, all lie above n
 pub above_all : (n : ℕ) (rs : List Process) → Above n rs → above n rs ≡ rs
 above_all n [] a = refl

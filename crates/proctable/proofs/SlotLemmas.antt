@@ -133,7 +133,7 @@ first_is p (x ∷ xs) =
     elim (x.parent == p) as (λ b. option_map (λ (r : Process). r.pid) (cond b (Some x) (find (is_child p) xs)) ≡ first_pid (cond b (x ∷ filter (is_child p) xs) (filter (is_child p) xs))) [ true ↦ refl | false ↦ first_is p xs ]
 
 -- two tests may come in either order
-filters_commute : (s t : Process → Bool) (rs : List Process) → filter s (filter t rs) ≡ filter t (filter s rs)
+pub filters_commute : (s t : Process → Bool) (rs : List Process) → filter s (filter t rs) ≡ filter t (filter s rs)
 filters_commute s t [] = refl
 filters_commute s t (x ∷ xs) =
     let rest = filters_commute s t xs in
@@ -203,8 +203,3 @@ in_place xs ys n e l = subst (λ m. take m (ys ++ drop (length ys) xs) ≡ ys) (
     taken : (ys zs : List Process) → take (length ys) (ys ++ zs) ≡ ys
     taken [] zs = refl
     taken (y ∷ ys) zs = ap (λ l. y ∷ l) (taken ys zs)
-
--- there are as many records after a change of each
-pub mapped : (f : Process → Process) (xs : List Process) → length (map f xs) ≡ length xs
-mapped f [] = refl
-mapped f (x ∷ xs) = ap suc (mapped f xs)

@@ -1,15 +1,33 @@
 -- A process as a table keeps it.
-use Rattle.std.specs.Prelude.{ℕ, List}
+use Rattle.std.specs.Prelude.{ℕ, [], List, None, pos}
 use Rattle.std.specs.Borrow.{RattleType}
-use Rattle.posix.specs.Processes.{Process, first_process}
+use Rattle.posix.specs.Processes.{Process, first_process, nothing_pending}
+use Rattle.posix.specs.Execute.{set_register, move_on}
 use Rattle.posix.specs.Choice.{chosen}
 use Rattle.posix.specs.Tables.{changed}
 use Rattle.proctable.specs.declared.body.Body.{Body}
 use Rattle.proctable.specs.declared.facts.Facts.{Facts}
+use Rattle.proctable.specs.declared.own.Own.{Own}
 use Rattle.proctable.specs.contracts.body.Body.{the_row}
+use Rattle.proctable.specs.contracts.own.Own.{the_row as the_own_row}
 
 abbrev pub body_row : RattleType
 body_row = the_row
+
+abbrev pub own_row : RattleType
+own_row = the_own_row
+
+-- what a process may change of itself
+abbrev pub own_of : Process → Own
+own_of r = record { creds = r.credentials; signals = r.signals; blocked = r.blocked; program = r.program; cpu = r.cpu }
+
+-- the process with this in its place
+abbrev pub give_own : Own → Process → Process
+give_own o r = record r { credentials = o.creds; signals = o.signals; blocked = o.blocked; program = o.program; cpu = o.cpu }
+
+-- that of a child, whose call gave 0
+abbrev pub forked : Own → Own
+forked o = record o { signals = record (o.signals) { standard = nothing_pending; queue = [] }; blocked = None; cpu = move_on (set_register o.cpu 0 (pos 0)) }
 
 -- the process with this number, this parent and this body; all else is as at boot
 abbrev pub process_of : ℕ → ℕ → Body → Process
@@ -19,13 +37,13 @@ process_of p q b = record first_process {
   parent = q;
   group = b.group;
   session = b.session;
-  credentials = b.creds;
-  signals = b.signals;
+  credentials = b.own.creds;
+  signals = b.own.signals;
   life = b.life;
   news = b.news;
-  blocked = b.blocked;
-  program = b.program;
-  cpu = b.cpu;
+  blocked = b.own.blocked;
+  program = b.own.program;
+  cpu = b.own.cpu;
 }
 
 -- the process with another body

@@ -205,5 +205,9 @@ fn remove_slot(slots: &mut Vec<Slot>, at: usize)
     ensures len { vec_len slots.new + 1 ≡ vec_len slots.old }
     ensures capacity { vec_capacity slots.new ≡ vec_capacity slots.old }
 {
+    // The last one isn't moved.
+    if at + 1 == slots.len() {
+        return slots.truncate(at);
+    }
     let _slot = slots.remove(at);
 }

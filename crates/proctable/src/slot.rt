@@ -60,12 +60,12 @@ impl Slot {
             parent: self.parent,
             group: self.body.group,
             session: self.body.session,
-            creds: self.body.creds,
-            chosen: self.body.signals.choose(self.body.life),
+            creds: self.body.own.creds,
+            chosen: self.body.own.signals.choose(self.body.life),
             life: self.body.life,
             news: self.body.news,
-            blocked: self.body.blocked,
-            program: self.body.program,
+            blocked: self.body.own.blocked,
+            program: self.body.own.program,
         }
     }
 

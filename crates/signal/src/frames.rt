@@ -49,6 +49,13 @@ impl Frames {
         Frames { frames }
     }
 
+    /// Takes all frames out.
+    pub fn clear(&mut self)
+        ensures { self.new ≡ [] }
+    {
+        self.frames.clear();
+    }
+
     /// Adds a frame. At an error there are 16 already, and nothing changes.
     pub fn push(&mut self, frame: Frame) -> Result<(), FramesFull>
         ensures room { OnOk result (nat_le most_frames (length self.old) ≡ false) }

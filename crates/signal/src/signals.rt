@@ -67,7 +67,7 @@ impl Signals {
         ensures { self.new ≡ forgotten self.old }
     {
         self.pending = Pending::new();
-        self.frames = Frames::new();
+        self.frames.clear();
     }
 
     // ---- what there is

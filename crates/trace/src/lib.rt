@@ -5,7 +5,9 @@
 #![tactic(auto)]
 
 pub mod calls;
+pub mod note;
 pub mod print;
 
 pub use calls::{call_name, call_named};
+pub use note::write_note;
 pub use print::print_entry;

@@ -4,6 +4,7 @@ ghost use Rattle.std.specs.Prelude.{◌≡◌, ◌<◌, IfOk, IfSome, if◌then�
 ghost use Rattle.posix.specs.Processes.{fresh_cpu};
 ghost use Rattle.posix.specs.Execute.{exec_one as executed, execute as execute_instr, set_register, register as register_of, move_on, put_result, load_from, store_at, address_of, jump, computed, passes as passed, fetched, StaysUnlessRun};
 ghost use Rattle.posix.specs.Handlers.{frame_of, restore};
+ghost use Rattle.umach.specs.Bursts.{exec_until, IsWithin};
 
 use crate::memory::UserMem;
 use crate::program::Program;
@@ -106,6 +107,7 @@ impl Cpu {
     /// Runs the instruction of a program at the pc. A call and a machine fault leave the processor as
     /// it was.
     #[tactic(auto, unfolding(posix::specs::Execute::exec_one))]
+    #[inline(always)]
     pub fn exec_one(&mut self, program: &Program) -> Trap
         ensures trap { result ≡ (executed program.now.instructions self.old).trap }
         ensures cpu { self.new ≡ (executed program.now.instructions self.old).cpu }
@@ -117,7 +119,27 @@ impl Cpu {
         }
     }
 
+    /// Runs plain instructions, at most so many, and the one after them, which may give a note. The number of
+    /// the plain ones, and how that one came out; a call and a machine fault leave the processor as it
+    /// was.
+    #[inline(never)]
+    pub fn run_until(&mut self, program: &Program, most: u64) -> (u64, Trap)
+        ensures count { result.0 ≡ (exec_until program.now.instructions most self.old).count }
+        ensures trap { result.1 ≡ (exec_until program.now.instructions most self.old).trap }
+        ensures cpu { self.new ≡ (exec_until program.now.instructions most self.old).cpu }
+        ensures within { IsWithin most result.0 result.1 }
+    {
+        for done in 0..most {
+            let trap = self.exec_one(program);
+            if trap != Trap::Next {
+                return (done, trap);
+            }
+        }
+        (most, Trap::Next)
+    }
+
     /// Runs an instruction.
+    #[inline(always)]
     fn execute(&mut self, instr: Instr) -> Trap
         ensures trap { result ≡ (execute_instr self.old instr).trap }
         ensures cpu { self.new ≡ (execute_instr self.old instr).cpu }

@@ -6,10 +6,11 @@ use Rattle.posix.specs.States.{State, process, next_pid}
 use Rattle.posix.specs.Outcomes.{refusal}
 use Rattle.posix.specs.Births.{fork_as, born, child_of}
 use Rattle.posix.specs.Attempts.{attempt}
+use Rattle.posix.proofs.OrderLemmas.{placed_some}
 use Rattle.posix.proofs.TableLemmas.{pid_looked}
 use Rattle.kernel.specs.Events.{Comes}
 use Rattle.kernel.proofs.CallLemmas.{gives_after, no_memory_after}
-use Rattle.kernel.proofs.ReportLemmas.{some_inserted, some_looked}
+use Rattle.kernel.proofs.ReportLemmas.{some_inserted}
 use Rattle.kernel.proofs.calls.fork.Goals as goal
 
 pub returns-in_default : goal.returns-in_default
@@ -28,7 +29,7 @@ gives-requires g c =
     let s = c.args.machine.now in
     let me = c.requires.acting.placed in
     subst (λ (t : State). IsSome (process t c.args.pid)) (sym (c.in-Ok.ensures.ok me.what me.found))
-    (some_inserted (child_of (s.births + 1) me.what c.in-Some.child) c.args.pid s.processes (some_looked s.processes c.args.pid me))
+    (some_inserted (child_of (s.births + 1) me.what c.in-Some.child) c.args.pid s.processes (placed_some s.processes c.args.pid me))
 
 pub returns-in-Ok : goal.returns-in-Ok
 unfolding attempt fork_as

@@ -8,11 +8,12 @@ use Rattle.posix.specs.States.{State, process, change}
 use Rattle.posix.specs.Regular.{IsRegular}
 use Rattle.posix.specs.Outcomes as outcome
 use Rattle.posix.specs.Waits.{WNOHANG, has_option, news_told}
+use Rattle.posix.proofs.OrderLemmas.{placed_some}
 use Rattle.posix.proofs.TableLemmas.{pid_looked}
 use Rattle.posix.proofs.RegularLemmas.{keeps_news_told}
 use Rattle.kernel.specs.Events.{Comes}
 use Rattle.kernel.proofs.CallLemmas.{gives_after, report_after, wait_unknown, wait_finds, wait_nothing}
-use Rattle.kernel.proofs.ReportLemmas.{finds_same, waited, not_first, caller_stays, some_changed, some_looked}
+use Rattle.kernel.proofs.ReportLemmas.{finds_same, waited, not_first, caller_stays, some_changed}
 use Rattle.kernel.proofs.calls.wait.Goals as goal
 
 pub returns-in_default : goal.returns-in_default
@@ -65,7 +66,7 @@ gives_report-requires-in-Change g c =
     let s = c.args.machine.now in
     let same = c.tell_news.ensures ∙ ap (λ (t : State). change t c.in-Change.child news_told) (c.find_report.ensures.same ∙ c.wait_options.ensures.same) in
     subst (λ (t : State). IsSome (process t c.args.pid)) (sym same)
-    (some_changed c.in-Change.child c.args.pid news_told keeps_news_told.pid s.processes (some_looked s.processes c.args.pid c.requires))
+    (some_changed c.in-Change.child c.args.pid news_told keeps_news_told.pid s.processes (placed_some s.processes c.args.pid c.requires))
 
 pub returns-in-NoChild : goal.returns-in-NoChild
 returns-in-NoChild g c = λ me e.

@@ -3,6 +3,7 @@ use Rattle.posix.specs.States.{State, change, lose_place}
 use Rattle.posix.specs.Attempts.{attempt}
 use Rattle.posix.specs.Step.{begin_call, enter}
 use Rattle.posix.proofs.TableLemmas.{pid_looked}
+use Rattle.life.proofs.LoanLemmas.{was_written}
 use Rattle.kernel.proofs.CallLemmas.{block_is, same_outcome}
 use Rattle.kernel.proofs.events.begin_call.Goals as goal
 
@@ -17,6 +18,6 @@ returns-in-Block g c = λ me e.
           ∙ same_outcome (lose_place (change s me.pid (enter c.in-Block.blocked)) me.pid) c.lose_place.new.self [] c.args.entries.now.items
           (ap (λ n. lose_place (change s n (enter c.in-Block.blocked)) n) named
           ∙ ap (λ (t : State). lose_place (change t c.args.pid (enter c.in-Block.blocked)) c.args.pid) (sym b.1)
-          ∙ ap (λ (t : State). lose_place t c.args.pid) (sym c.enter.ensures)
+          ∙ ap (λ (t : State). lose_place t c.args.pid) (sym (was_written _ c.args.pid c.own.result.now c.enter.new.self (enter c.in-Block.blocked) c.own.ensures.regular c.own.ensures.value c.enter.ensures))
           ∙ sym c.lose_place.ensures) (sym c.requires.none),
     )

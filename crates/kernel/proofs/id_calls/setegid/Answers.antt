@@ -1,24 +1,17 @@
-use Rattle.std.proofs.Common.{◌≡◌, ◌∙◌, ap, sym, true, ℤ, rules, to_z, of_z, w64}
+use Rattle.std.proofs.Common.{◌≡◌, ◌∙◌, ap, refl, rules, to_z, of_z, w64}
 use Rattle.posix.specs.declared.instr.Call.TheVariants.{Setegid}
-use Rattle.posix.specs.Processes.{Credentials, argument}
-use Rattle.posix.specs.States.{State, process}
 use Rattle.posix.specs.Credentials.{setegid}
 use Rattle.posix.specs.Attempts.{attempt}
-use Rattle.posix.proofs.TableLemmas.{pid_looked}
-use Rattle.kernel.proofs.SignalCallLemmas.{set_after}
+use Rattle.kernel.proofs.OwnLemmas.{Loan, calls_own, sets}
 use Rattle.kernel.proofs.id_calls.setegid.Goals as goal
 
 pub returns : goal.returns
 unfolding attempt
 returns g c = λ me e.
     let s = c.args.machine.now in
-    let named = sym (pid_looked c.args.pid s.processes me e) in
-    let kept : to_z w64 (of_z w64 c.argument-id.result) ≡ c.argument-id.result = search rules in
-    let id : to_z w64 (of_z w64 c.argument-id.result) ≡ argument me 1 = kept ∙ c.argument-id.ensures.value me e in
-    let old : c.creds-creds.result ≡ me.credentials = c.creds-creds.ensures.value me (ap (λ (t : State). process t c.args.pid) c.argument-id.ensures.same ∙ e) in
-    let new = ap (λ (z : ℤ). setegid c.creds-creds.result z) id ∙ ap (λ (k : Credentials). setegid k (argument me 1)) old in (
-      true,
-      set_after s c.creds-creds.new.self c.args.pid me.pid Setegid (setegid c.creds-creds.result (to_z w64 (of_z w64 c.argument-id.result))) (setegid me.credentials (argument me 1))
-          c.set_credentials.result c.set_credentials.new.machine (c.creds-creds.ensures.same ∙ c.argument-id.ensures.same) named new
-          (c.set_credentials.ensures (setegid c.creds-creds.result (to_z w64 (of_z w64 c.argument-id.result))) c.setegid-done.ensures.ok c.setegid-done.ensures.err),
-    )
+    let o = c.own-own.result.now in
+    let kept : to_z w64 (of_z w64 c.register.result) ≡ c.register.result = search rules in
+    let loan : Loan s _ c.args.pid o c.answer_done.new.own = record { regular = c.own-own.ensures.regular; value = c.own-own.ensures.value; after = refl } in
+    let set = ap (setegid o.creds) (kept ∙ c.register.ensures) in
+    calls_own s _ c.args.pid o c.answer_done.new.own me Setegid c.answer_done.result loan e
+    (sets s _ c.args.pid Setegid o c.answer_done.new.own c.setegid-done.new.self c.setegid-done.result _ _ c.answer_done.result loan set c.setegid-done.ensures.ok c.setegid-done.ensures.err c.setegid-done.ensures.same c.answer_done.ensures.ok c.answer_done.ensures.err)

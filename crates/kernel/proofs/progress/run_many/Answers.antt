@@ -1,20 +1,37 @@
-use Rattle.std.proofs.Common.{◌+◌, ◌-◌, ◌∷◌, [], arith}
+use Rattle.std.proofs.Common.{◌+◌, ◌-◌, arith}
 use Rattle.std.specs.Prelude.{replicate}
 use Rattle.std.proofs.lemmas.List.{length-replicate}
 use Rattle.kernel.proofs.RunLemmas.{writes_next, stops_next}
-use Rattle.kernel.proofs.EventLemmas.{replicate_more, replicate_split}
+use Rattle.kernel.proofs.EventLemmas.{replicate_joined, replicate_three}
 use Rattle.kernel.proofs.SinkLemmas.{on_err}
 use Rattle.kernel.proofs.progress.run_many.Goals as goal
 
 pub returns-in_err-ends-clause-err : goal.returns-in_err-ends-clause-err
 returns-in_err-ends-clause-err g c =
+    let from = c.args.kernel.now.events in
+    let mid = c.loop-run.kernel.events in
+    let to = c.run_some.new.kernel.events in
+    let x = c.args.run.event in
+    let i = c.loop-run.invariant in
+    let e = c.run_some.ensures in
     on_err c.from_residual.result
-    (stops_next _ _ (replicate c.loop-i.i c.args.run.event) (c.args.run.event ∷ []) (replicate (c.args.run.count - (c.loop-i.i + 1)) c.args.run.event) _ _ _ _ (g.S.Sink.seen c.loop-i.out) _ _ _ _
-    (omega (arith, length-replicate c.loop-i.i c.args.run.event)) (replicate_split c.loop-i.i c.args.run.count c.args.run.event (omega arith)) c.loop-i.invariant.writes c.in_err-ends.ensures.err)
+    (stops_next _ (mid + 1) (replicate (mid - from) x) (replicate (to - mid) x) (replicate (c.args.run.count - (to - from)) x) _ _ _ _ (g.S.Sink.seen c.loop-run.out) _ _ _ _
+    (omega (arith, length-replicate (mid - from) x, i.from)) (replicate_three (mid - from) (to - mid) (c.args.run.count - (to - from)) c.args.run.count x (omega (arith, i.from, i.to, i.last, e.some, e.within, c.loop-run-test.true, c.events-in-loop-run.ensures, c.events-in-loop-run-2.ensures, c.events.ensures)))
+    i.writes c.in_err-ends.ensures.err)
 
-pub loop-i-preserved : goal.loop-i-preserved
-loop-i-preserved g c = record {
-  writes = writes_next _ (c.loop-i.kernel.events + 1) (replicate c.loop-i.i c.args.run.event) (c.args.run.event ∷ []) _ _ _ _ _ (g.S.Sink.seen c.loop-i.out) _ _ _ _ _ _
-      (omega (arith, length-replicate c.loop-i.i c.args.run.event)) (replicate_more c.loop-i.i c.args.run.event) c.loop-i.invariant.writes c.in_ok-ends.ensures.ok;
-  events = omega arith;
-}
+pub loop-run-preserved : goal.loop-run-preserved
+loop-run-preserved g c =
+    let from = c.args.kernel.now.events in
+    let mid = c.loop-run.kernel.events in
+    let to = c.run_some.new.kernel.events in
+    let x = c.args.run.event in
+    let i = c.loop-run.invariant in
+    let e = c.run_some.ensures in
+    record {
+      writes = writes_next _ (mid + 1) (replicate (mid - from) x) (replicate (to - mid) x) (replicate (to - from) x) _ _ _ _ (g.S.Sink.seen c.loop-run.out) _ _ _ _ _ _
+          (omega (arith, length-replicate (mid - from) x, i.from)) (replicate_joined (mid - from) (to - mid) (to - from) x (omega (arith, i.from, e.some))) i.writes c.in_ok-ends.ensures.ok;
+      none = c.in_ok-ends.ensures.none;
+      from = omega (arith, i.from, e.some);
+      to = omega (arith, i.from, i.to, i.last, e.some, e.within, c.loop-run-test.true, c.events-in-loop-run.ensures, c.events-in-loop-run-2.ensures, c.events.ensures);
+      last = omega (arith, i.last, c.events.ensures);
+    }

@@ -1,70 +1,52 @@
-use Rattle.std.proofs.Common.{◌≡◌, ◌∙◌, ap, sym, refl, subst, true, ℕ, ℤ, pos, rules, to_z, of_z, w64, Ok}
+use Rattle.std.proofs.Common.{◌≡◌, ◌∙◌, ap, sym, subst, refl, ℕ, ℤ, pos, rules, to_z, of_z, w64, Ok, Err}
 use Rattle.posix.specs.declared.instr.Call.TheVariants.{Sigprocmask}
 use Rattle.posix.specs.SignalSets.{set_in, word_of}
-use Rattle.posix.specs.Processes.{Process, Signals, argument}
-use Rattle.posix.specs.States.{State, process, change}
-use Rattle.posix.specs.Outcomes.{write}
+use Rattle.posix.specs.States.{change}
+use Rattle.posix.specs.Execute.{register}
+use Rattle.posix.specs.Outcomes.{refusal, written}
 use Rattle.posix.specs.Handlers.{set_mask}
 use Rattle.posix.specs.SignalCalls.{give_signals, sigprocmask, sigprocmask_with}
 use Rattle.posix.specs.Attempts.{attempt}
-use Rattle.posix.proofs.TableLemmas.{pid_looked}
-use Rattle.kernel.specs.Events.{Comes}
-use Rattle.kernel.proofs.CallLemmas.{gives_after}
-use Rattle.kernel.proofs.SignalCallLemmas.{there_given, there_written, change_after, write_after, refused_after}
+use Rattle.posix.proofs.RegularLemmas.{keeps_written, keeps_give_signals}
+use Rattle.proctable.specs.Body.{give_own}
+use Rattle.kernel.specs.Events.{Comes, Gives}
+use Rattle.kernel.proofs.OwnLemmas.{Loan, caller, calls_own, gives_twice, gives_own, gives_after_write, wrote}
 use Rattle.kernel.proofs.signal_calls.sigprocmask.Goals as goal
 
-pub write-requires : goal.write-requires
-write-requires g c =
-    let how = to_z w64 (of_z w64 c.argument-how.result) in
-    let same = c.mask-old.ensures.same ∙ c.argument.ensures.same ∙ c.argument-how.ensures.same in
-    there_given (λ (me : Process) (h : Signals). set_mask how c.from_word-set.result me.signals ≡ Ok h) c.args.machine.now c.mask-old.new.self c.set_mask.new.self c.args.pid same c.requires c.in-Ok.ensures.ok
-
-pub gives-requires : goal.gives-requires
-gives-requires g c =
-    let how = to_z w64 (of_z w64 c.argument-how.result) in
-    let same = c.mask-old.ensures.same ∙ c.argument.ensures.same ∙ c.argument-how.ensures.same in
-    there_written c.set_mask.new.self c.write.new.self c.args.pid 2 (to_z w64 (of_z w64 c.word.result)) c.write.ensures
-    (there_given (λ (me : Process) (h : Signals). set_mask how c.from_word-set.result me.signals ≡ Ok h) c.args.machine.now c.mask-old.new.self c.set_mask.new.self c.args.pid same c.requires c.in-Ok.ensures.ok)
-
 pub returns-in-Ok : goal.returns-in-Ok
-unfolding attempt sigprocmask
+unfolding attempt sigprocmask give_signals
 returns-in-Ok g c = λ me e.
     let s = c.args.machine.now in
-    let named = sym (pid_looked c.args.pid s.processes me e) in
-    let there = ap (λ (t : State). process t c.args.pid) c.argument-how.ensures.same ∙ e in
-    let later = ap (λ (t : State). process t c.args.pid) c.argument.ensures.same ∙ there in
-    let last = ap (λ (t : State). process t c.args.pid) c.mask-old.ensures.same ∙ later in
-    let same = c.mask-old.ensures.same ∙ c.argument.ensures.same ∙ c.argument-how.ensures.same in
-    let kept_how : to_z w64 (of_z w64 c.argument-how.result) ≡ c.argument-how.result = search rules in
-    let kept_set : to_z w64 (of_z w64 c.argument.result) ≡ c.argument.result = search rules in
+    let o = c.own-own.result.now in
+    let n = change s c.args.pid (give_own c.answer.new.own) in
+    let h = c.set_mask.new.self in
+    let z = word_of o.signals.mask in
+    let kept_how : to_z w64 (of_z w64 c.register-how.result) ≡ c.register-how.result = search rules in
+    let kept_set : to_z w64 (of_z w64 c.register.result) ≡ c.register.result = search rules in
     let kept_word : to_z w64 (of_z w64 c.word.result) ≡ c.word.result = search rules in
-    let how : to_z w64 (of_z w64 c.argument-how.result) ≡ argument me 1 = kept_how ∙ c.argument-how.ensures.value me e in
-    let set : c.from_word-set.result ≡ set_in (argument me 2) = c.from_word-set.ensures ∙ ap set_in (kept_set ∙ c.argument.ensures.value me there) in
-    let word : to_z w64 (of_z w64 c.word.result) ≡ word_of me.signals.mask = kept_word ∙ c.word.ensures ∙ ap word_of (c.mask-old.ensures.value me later) in
-    let given = c.in-Ok.ensures.ok me last in
-    let is = ap (λ (z : ℤ). set_mask z (set_in (argument me 2)) me.signals) (sym how) ∙ ap (λ (n : ℕ). set_mask (to_z w64 (of_z w64 c.argument-how.result)) n me.signals) (sym set) ∙ given.1 in
-    let masked = change_after s c.mask-old.new.self c.set_mask.new.self c.args.pid me.pid (give_signals given.0) given.2 same named in
-    let written = write_after (change s me.pid (give_signals given.0)) c.set_mask.new.self c.write.new.self c.args.pid me.pid 2 (to_z w64 (of_z w64 c.word.result)) (word_of me.signals.mask) c.write.ensures masked named word in (
-      true,
-      subst (λ w. Comes s (sigprocmask_with s me w) c.gives.result c.gives.new.machine) (sym is)
-          (gives_after s (write (change s me.pid (give_signals given.0)) me.pid 2 (word_of me.signals.mask)) c.write.new.self c.args.pid me.pid Sigprocmask (pos 0) (pos 0) c.gives.result c.gives.new.machine
-          written named refl c.gives.ensures),
-    )
+    let is : set_mask (register o.cpu 1) (set_in (register o.cpu 2)) o.signals ≡ Ok h =
+    ap (λ (v : ℤ). set_mask v (set_in (register o.cpu 2)) o.signals) (sym (kept_how ∙ c.register-how.ensures))
+    ∙ ap (λ (n : ℕ). set_mask (to_z w64 (of_z w64 c.register-how.result)) n o.signals) (sym (c.from_word-set.ensures ∙ ap set_in (kept_set ∙ c.register.ensures))) ∙ c.in-Ok.ensures.ok in
+    let loan : Loan s n c.args.pid o c.answer.new.own = record { regular = c.own-own.ensures.regular; value = c.own-own.ensures.value; after = refl } in
+    let wrote_it = wrote (record o { signals = h }) c.set_register.new.self 2 (to_z w64 (of_z w64 c.word.result)) z c.set_register.ensures (kept_word ∙ c.word.ensures ∙ ap word_of c.mask-old.ensures) in
+    calls_own s n c.args.pid o c.answer.new.own me Sigprocmask c.answer.result loan e
+    (subst (λ w. Comes s (sigprocmask_with s (caller c.args.pid o me) w) c.answer.result n) (sym is)
+    (gives_twice s s n c.args.pid Sigprocmask (pos 0) o c.answer.new.own (give_signals h) (written 2 z) c.answer.result loan (keeps_give_signals h).pid (keeps_written 2 z).pid
+    (gives_after_write c.args.pid Sigprocmask (pos 0) (pos 0) o (record o { signals = h; cpu = c.set_register.new.self }) c.answer.new.own (λ q. written 2 z (give_signals h q)) (λ q. q) c.answer.result wrote_it refl c.answer.ensures)))
 
 pub returns-in-Err : goal.returns-in-Err
 unfolding attempt sigprocmask
 returns-in-Err g c = λ me e.
     let s = c.args.machine.now in
-    let named = sym (pid_looked c.args.pid s.processes me e) in
-    let there = ap (λ (t : State). process t c.args.pid) c.argument-how.ensures.same ∙ e in
-    let same = c.mask-old.ensures.same ∙ c.argument.ensures.same ∙ c.argument-how.ensures.same in
-    let last = ap (λ (t : State). process t c.args.pid) same ∙ e in
-    let kept_how : to_z w64 (of_z w64 c.argument-how.result) ≡ c.argument-how.result = search rules in
-    let kept_set : to_z w64 (of_z w64 c.argument.result) ≡ c.argument.result = search rules in
-    let how : to_z w64 (of_z w64 c.argument-how.result) ≡ argument me 1 = kept_how ∙ c.argument-how.ensures.value me e in
-    let set : c.from_word-set.result ≡ set_in (argument me 2) = c.from_word-set.ensures ∙ ap set_in (kept_set ∙ c.argument.ensures.value me there) in
-    let is = ap (λ (z : ℤ). set_mask z (set_in (argument me 2)) me.signals) (sym how) ∙ ap (λ (n : ℕ). set_mask (to_z w64 (of_z w64 c.argument-how.result)) n me.signals) (sym set) ∙ c.in-Err.ensures.err me last in (
-      true,
-      subst (λ w. Comes s (sigprocmask_with s me w) c.refused.result c.refused.new.machine) (sym is)
-          (refused_after s c.set_mask.new.self c.args.pid me.pid Sigprocmask c.in-Err.errno c.refused.result c.refused.new.machine (c.in-Err.ensures.same ∙ same) named c.refused.ensures),
-    )
+    let o = c.own-own.result.now in
+    let n = change s c.args.pid (give_own c.refuse.new.own) in
+    let kept_how : to_z w64 (of_z w64 c.register-how.result) ≡ c.register-how.result = search rules in
+    let kept_set : to_z w64 (of_z w64 c.register.result) ≡ c.register.result = search rules in
+    let is : set_mask (register o.cpu 1) (set_in (register o.cpu 2)) o.signals ≡ Err c.in-Err.errno =
+    ap (λ (v : ℤ). set_mask v (set_in (register o.cpu 2)) o.signals) (sym (kept_how ∙ c.register-how.ensures))
+    ∙ ap (λ (n : ℕ). set_mask (to_z w64 (of_z w64 c.register-how.result)) n o.signals) (sym (c.from_word-set.ensures ∙ ap set_in (kept_set ∙ c.register.ensures))) ∙ c.in-Err.ensures.err in
+    let loan : Loan s n c.args.pid o c.refuse.new.own = record { regular = c.own-own.ensures.regular; value = c.own-own.ensures.value; after = refl } in
+    let same = subst (λ x. Gives (λ q. q) c.args.pid Sigprocmask (refusal c.in-Err.errno) (record o { signals = x }) c.refuse.result c.refuse.new.own) c.in-Err.ensures.same c.refuse.ensures in
+    calls_own s n c.args.pid o c.refuse.new.own me Sigprocmask c.refuse.result loan e
+    (subst (λ w. Comes s (sigprocmask_with s (caller c.args.pid o me) w) c.refuse.result n) (sym is)
+    (gives_own s s n c.args.pid Sigprocmask (refusal c.in-Err.errno) o c.refuse.new.own c.refuse.result loan same))

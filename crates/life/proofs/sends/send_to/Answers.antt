@@ -1,4 +1,6 @@
 use Rattle.std.proofs.Common.{◌≡◌, sym, ◌∙◌, arith, true, false}
+use Rattle.posix.specs.Generation.{signalled}
+use Rattle.proctable.proofs.Bodies.{changed_here}
 use Rattle.life.proofs.SendLemmas.{sent_refused, sent_none, signal_one, sending_one}
 use Rattle.life.proofs.sends.send_to.Goals as goal
 
@@ -20,7 +22,8 @@ returns-in-Some-clause-sending g c = λ r q e f.
 pub returns-in-Some-clause-contents : goal.returns-in-Some-clause-contents
 returns-in-Some-clause-contents g c = λ r q e f.
     let yes : c.may_signal.result ≡ true = grind arith in
-    signal_one c.args.me.now c.args.it.now r q c.args.sig.now c.in-Some.sig c.sent.result _ _ e f c.in-Some.is c.sent.ensures (sym (c.may_signal.ensures r q e f) ∙ yes) c.signal_in.ensures.contents
+    signal_one c.args.me.now c.args.it.now r q c.args.sig.now c.in-Some.sig c.sent.result _ _ e f c.in-Some.is c.sent.ensures (sym (c.may_signal.ensures r q e f) ∙ yes) (g.met.K.Kin.puts c.args.table.now c.args.it.now.pid c.signal.new.self
+    ∙ changed_here _ c.update.ensures.rising c.args.it.now.pid c.update.result.now c.signal.new.self (signalled c.sent.result) c.update.ensures.value c.signal.ensures)
 
 pub returns-in_default-clause-sending : goal.returns-in_default-clause-sending
 returns-in_default-clause-sending g c = λ r q e f.

@@ -1,19 +1,19 @@
 use Rattle.std.proofs.Common.{ap, sym, ◌∙◌, subst, arith}
+use Rattle.posix.specs.declared.event.Event.{Event}
+use Rattle.posix.specs.declared.event.Event.TheVariants.{Step}
 use Rattle.posix.specs.Outcomes.{Outcome}
-use Rattle.posix.proofs.CountLemmas.{Counts, counts_next, next_halted}
-use Rattle.kernel.specs.Views.{KernelView}
+use Rattle.posix.specs.Step.{IsStep}
+use Rattle.posix.proofs.CountLemmas.{next_halted}
+use Rattle.kernel.proofs.BurstLemmas.{only_step}
 use Rattle.kernel.proofs.kernel_on.KernelOn.event.Goals as goal
 
-pub invariant_of-self : goal.invariant_of-self
-invariant_of-self g c =
-    let k = subst (Counts c.self.inside.machine) (ap (λ (o : Outcome). o.state) c.next.ensures.comes) (counts_next c.next.ensures.granted c.self.inside.machine c.args.event) in
-    let b = k.births in
-    let t = k.ticks in
-    let old = c.self.invariant in
-    (omega (arith, b, old.0), omega (arith, t, old.1))
+pub returns-in-Step-clause-step : goal.returns-in-Step-clause-step
+returns-in-Step-clause-step g c =
+    subst (λ (x : Event). IsStep c.args.self.now.state x c.steps.new.entries.items c.steps.new.self.state) (sym c.in-Step.is)
+    (only_step _ _ c.steps.result _ _ _ (omega (arith, c.steps.ensures.some, c.steps.ensures.within)) c.steps.ensures.runs)
 
-pub returns-clause-halted : goal.returns-clause-halted
-returns-clause-halted g c = λ e.
-    let halted = ap (λ (k : KernelView). k.state.halted) c.self.view_is ∙ e in
-    let o = sym c.next.ensures.comes ∙ next_halted c.next.ensures.granted c.self.inside.machine c.args.event halted in
-    (ap (λ (o : Outcome). o.entries) o, ap (λ (o : Outcome). o.state) o ∙ ap (λ (k : KernelView). k.state) c.self.view_is)
+pub returns-in-Step-clause-halted : goal.returns-in-Step-clause-halted
+returns-in-Step-clause-halted g c = λ e.
+    let step = only_step _ _ c.steps.result _ _ _ (omega (arith, c.steps.ensures.some, c.steps.ensures.within)) c.steps.ensures.runs in
+    let is = sym step.comes ∙ next_halted step.granted c.args.self.now.state Step e in
+    (ap (λ (o : Outcome). o.entries) is, ap (λ (o : Outcome). o.state) is)

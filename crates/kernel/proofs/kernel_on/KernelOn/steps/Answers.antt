@@ -1,0 +1,32 @@
+use Rattle.std.proofs.Common.{◌≡◌, ◌≢◌, ◌+◌, ap, subst, arith, rules, [], length}
+use Rattle.std.specs.Prelude.{replicate}
+use Rattle.posix.specs.declared.event.Event.TheVariants.{Step}
+use Rattle.posix.specs.States.{State}
+use Rattle.posix.specs.Entries.{numbered}
+use Rattle.posix.specs.Runs.{RunsFrom}
+use Rattle.kernel.specs.Views.{KernelView}
+use Rattle.kernel.proofs.RunLemmas.{one_after}
+use Rattle.kernel.proofs.BurstLemmas.{shows_some, nothing}
+use Rattle.kernel.proofs.kernel_on.KernelOn.steps.Goals.{then-count-most-via-then-count-most, then-count-most-via-else-count-most+then-not-is_empty}
+use Rattle.kernel.proofs.kernel_on.KernelOn.steps.Goals as goal
+
+pub returns-then-count-most-clause-some : goal.returns-then-count-most-clause-some
+returns-then-count-most-clause-some g c = elim c.then-count-most.branch [
+  | then-count-most-via-then-count-most w ↦ omega (arith, w.if-count-most.true, c.requires.some)
+  | then-count-most-via-else-count-most+then-not-is_empty w ↦
+      let some : c.burst-count.new.entries.items ≢ [] = search rules in
+      shows_some _ _ _ _ c.burst-count.ensures.runs some
+]
+
+pub returns-clause-runs : goal.returns-clause-runs
+returns-clause-runs g c =
+    let n = c.burst-count.result in
+    let zero : length c.burst-count.new.entries.items ≡ 0 = grind arith in
+    let none = nothing c.burst-count.new.entries.items zero in
+    let started = ap (λ (k : KernelView). k.state) c.self.view_is in
+    let counted = ap (λ (k : KernelView). k.events) c.self.view_is in
+    let m = c.burst-count.new.machine in
+    let run : RunsFrom (c.args.self.now.events + 1) c.args.self.now.state (replicate n Step) (numbered (c.args.self.now.events + n) c.burst-count.new.entries.items) m =
+    subst (λ (s : State). RunsFrom (c.args.self.now.events + 1) s (replicate n Step) (numbered (c.args.self.now.events + n) c.burst-count.new.entries.items) m) started (c.burst-count.ensures.runs.runs c.args.self.now.events) in
+    one_after (c.args.self.now.events + 1) c.event_into-2.new.self.events n Step c.args.self.now.state m c.event_into-2.new.self.state _ _ _ run none c.event_into-2.ensures.step
+    (omega (arith, c.event_into-2.ensures.events, counted))

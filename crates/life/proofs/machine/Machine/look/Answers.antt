@@ -1,0 +1,16 @@
+use Rattle.std.proofs.Common.{◌∙◌, refl}
+use Rattle.proctable.proofs.Bodies.{same_body}
+use Rattle.life.proofs.LoanLemmas.{own_if}
+use Rattle.life.proofs.machine.Machine.look.Goals as goal
+
+pub invariant_of-self : goal.invariant_of-self
+invariant_of-self g c =
+    let same = g.met.K.Kin.puts c.self.inside.table c.args.pid c.update-body.result.now ∙ same_body _ c.update-body.ensures.rising c.args.pid c.update-body.result.now c.update-body.ensures.value in
+    rw same c.self.invariant
+
+pub returns : goal.returns
+returns g c =
+    let same = g.met.K.Kin.puts c.self.inside.table c.args.pid c.update-body.result.now ∙ same_body _ c.update-body.ensures.rising c.args.pid c.update-body.result.now c.update-body.ensures.value in (
+      (refl, λ _. tt, rw (← c.self.view_is, same) refl),
+      record { lends = tt; value = own_if _ _ c.self.view_is c.args.pid c.update-body.result.now c.update-body.ensures.value; regular = rw (← c.self.view_is) c.self.invariant.regular },
+    )

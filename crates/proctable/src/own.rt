@@ -1,0 +1,126 @@
+//! What a process may change of itself: nothing that the shape of the machine depends on.
+
+ghost use Rattle.std.specs.Prelude.{◌≡◌, IfOk, OnOk, OnErr, Some, None, pos, ◌∷◌, [], true, false};
+ghost use Rattle.posix.specs.declared.process.Frame.{Frame};
+ghost use Rattle.posix.specs.Processes.{Process, first_process};
+ghost use Rattle.posix.specs.Outcomes.{finished};
+ghost use Rattle.posix.specs.Handlers.{handles, is_full, newest_frame, returned};
+ghost use Rattle.posix.specs.Step.{enter};
+ghost use Rattle.proctable.specs.Body.{own_of, give_own, forked};
+
+use creds::Creds;
+use posix::{Blocked, PendingSignal, Pid, Register, SigSet, Status};
+use signal::{FramesFull, NoFrame, Signals, leave_call, mask_before};
+use std::alloc::{AllocError, Global};
+use umach::Cpu;
+
+/// What may change of a process without leave of the machine: no number that it bears, and neither its
+/// life nor its news.
+///
+/// Its exec mark is not here: it stays as it is at boot.
+#[derive(Drop)]
+pub struct Own {
+    /// Its user and group ids (credentials(7)).
+    pub creds: Creds,
+    /// Its signal mask, pending signals, actions and frames (XSH 2.4).
+    pub signals: Signals,
+    /// The call that it waits in.
+    pub blocked: Option<Blocked>,
+    /// Its place among the programs of the world.
+    pub program: u8,
+    /// Its registers and its memory.
+    pub cpu: Cpu,
+}
+
+impl Own {
+    /// That of process 1 at boot. An error where the host has no memory for it.
+    pub fn first(alloc: Global) -> Result<Own, AllocError>
+        ensures { IfOk result (λ o. o ≡ own_of first_process) }
+    {
+        Ok(Own {
+            creds: Creds::root(),
+            signals: Signals::initial(),
+            blocked: None,
+            program: 0,
+            cpu: Cpu::new(alloc)?,
+        })
+    }
+
+    /// That of the child of a fork: nothing is pending for it, and its call gave 0 (XSH fork). An error
+    /// where the host has no memory for it.
+    pub fn fork(&self) -> Result<Own, AllocError>
+        ensures { IfOk result (λ o. o ≡ forked self.now) }
+    {
+        let mut cpu = self.cpu.try_clone()?;
+        cpu.set_register(Register::RESULT, 0);
+        cpu.move_on();
+        Ok(Own {
+            creds: self.creds,
+            signals: self.signals.fork(),
+            blocked: None,
+            program: self.program,
+            cpu,
+        })
+    }
+
+    /// The call gives a value, and the process leaves it.
+    #[tactic(auto, unfolding(posix::specs::Outcomes::finished))]
+    pub fn finish(&mut self, value: i64)
+        ensures { (r : Process) → give_own self.new r ≡ finished ((0, value) ∷ []) (give_own self.old r) }
+    {
+        self.cpu.set_register(Register::RESULT, value);
+        self.cpu.move_on();
+        self.blocked = None;
+    }
+
+    /// The call gives the number of a child and its status, and the process leaves it (XSH waitpid).
+    #[tactic(auto, unfolding(posix::specs::Outcomes::finished))]
+    pub fn finish_wait(&mut self, child: Pid, status: Status)
+        ensures { (r : Process) → give_own self.new r ≡ finished ((0, pos child) ∷ (1, pos status) ∷ []) (give_own self.old r) }
+    {
+        self.cpu
+            .set_register(Register::RESULT, i64::from(child.number()));
+        self.cpu
+            .set_register(Register::FIRST_ARGUMENT, i64::from(status.word()));
+        self.cpu.move_on();
+        self.blocked = None;
+    }
+
+    /// The process waits in a call.
+    #[tactic(auto, unfolding(posix::specs::Step::enter))]
+    pub fn enter(&mut self, blocked: Blocked)
+        ensures { (r : Process) → give_own self.new r ≡ enter blocked (give_own self.old r) }
+    {
+        if let Blocked::Sigsuspend(_) = blocked {
+            let set = SigSet::from_word(self.cpu.register(Register::FIRST_ARGUMENT));
+            self.signals.replace_mask(set);
+        }
+        self.blocked = Some(blocked);
+    }
+
+    /// The process leaves the call that it is blocked in, and enters the handler of a signal at an address
+    /// (XSH 2.4.3). At an error there are 16 frames already, and the handler isn't entered.
+    #[tactic(auto, unfolding(posix::specs::Handlers::handles))]
+    pub fn handle(&mut self, signal: PendingSignal, address: i64) -> Result<(), FramesFull>
+        ensures room { OnOk result (is_full self.old.signals ≡ false) }
+        ensures full { OnErr result (is_full self.old.signals ≡ true) }
+        ensures state { (r : Process) → give_own self.new r ≡ handles signal address (give_own self.old r) }
+    {
+        let action = self.signals.action(signal.sig);
+        let saved = mask_before(self.blocked, self.signals.mask());
+        leave_call(self.blocked, &action, &mut self.cpu);
+        self.blocked = None;
+        self.signals
+            .enter_handler(&mut self.cpu, signal, address, saved)
+    }
+
+    /// The newest handler returns (sigreturn(2)). At an error there is no frame, and nothing changes.
+    #[tactic(auto, unfolding(posix::specs::Handlers::returned))]
+    pub fn return_from_handler(&mut self) -> Result<(), NoFrame>
+        ensures ok { OnOk result ((frame : Frame) × (newest_frame self.old.signals ≡ Some frame) × ((r : Process) → give_own self.new r ≡ returned frame (give_own self.old r))) }
+        ensures none { OnErr result (newest_frame self.old.signals ≡ None) }
+        ensures same { OnErr result (self.new ≡ self.old) }
+    {
+        self.signals.leave_handler(&mut self.cpu)
+    }
+}
