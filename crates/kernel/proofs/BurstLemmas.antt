@@ -3,7 +3,7 @@ use Rattle.std.proofs.Common.{◌≡◌, ◌⊎◌, ⊎_elim, ◌==◌, ℕ, zer
 use Rattle.std.specs.Prelude.{replicate}
 use Rattle.posix.specs.declared.instr.Trap.{Trap}
 use Rattle.posix.specs.declared.instr.Trap.TheVariants as trap
-use Rattle.posix.specs.declared.instr.Call.{Call}
+use Rattle.posix.specs.declared.call.Call.{Call}
 use Rattle.posix.specs.declared.event.Event.TheVariants.{Step}
 use Rattle.posix.specs.declared.entry.Entry.{Entry}
 use Rattle.posix.specs.declared.entry.Entry.TheVariants.{Noted}
@@ -15,16 +15,16 @@ use Rattle.posix.specs.Execute.{exec_one}
 use Rattle.posix.specs.Choice.{chosen}
 use Rattle.posix.specs.Runs.{RunsFrom}
 use Rattle.posix.specs.Step.{IsStep, after_trap, code_of, set_cpu}
-use Rattle.posix.specs.Turns.{NoWakeIsLost}
+use Rattle.posix.specs.Settle.{NoWakeIsLost}
 use Rattle.posix.specs.Regular.{IsRegular}
 use Rattle.posix.proofs.TableLemmas.{pid_looked, lookup_changed, rising_changed, changed_id}
-use Rattle.posix.proofs.TurnLemmas.{act_has_place}
+use Rattle.posix.proofs.WakeLemmas.{act_has_place}
 use Rattle.posix.proofs.OrderLemmas.{first_in}
 use Rattle.proctable.specs.declared.facts.Facts.{Facts}
 use Rattle.proctable.specs.Body.{facts_of}
 use Rattle.umach.specs.Bursts.{Burst, then_rest, exec_until}
 use Rattle.kernel.specs.Events.{Bursts}
-use Rattle.kernel.proofs.CallLemmas.{same_outcome}
+use Rattle.calls.proofs.CallLemmas.{same_outcome}
 use Rattle.kernel.proofs.PlainLemmas.{plain_step, none_of}
 
 -- p is current, and about to run an instruction

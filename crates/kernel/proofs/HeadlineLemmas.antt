@@ -11,7 +11,7 @@ use Rattle.text.specs.declared.fault.TextFault.{TextFault}
 use Rattle.text.specs.EventTexts.{event_text}
 use Rattle.text.specs.WorldTexts.{world_text}
 use Rattle.kernel.specs.declared.summary.Summary.{Summary}
-use Rattle.kernel.specs.Sinks.{Seen}
+use Rattle.sink.specs.Sinks.{Seen}
 use Rattle.kernel.specs.Views.{KernelView}
 use Rattle.kernel.specs.Progress.{WritesTrace, BreaksTrace}
 use Rattle.kernel.specs.Summaries.{summary_of}

@@ -1,13 +1,6 @@
-pub mod ReportLemmas
-pub mod CallLemmas
-pub mod SinkLemmas
 pub mod RunLemmas
 pub mod EventLemmas
 pub mod CensusLemmas
 pub mod HeadlineLemmas
-pub mod ChosenLemmas
-pub mod DeliveryLemmas
-pub mod SignalCallLemmas
-pub mod OwnLemmas
 pub mod PlainLemmas
 pub mod BurstLemmas

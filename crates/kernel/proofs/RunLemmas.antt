@@ -12,9 +12,9 @@ use Rattle.posix.specs.States.{State}
 use Rattle.posix.specs.Step.{IsStep, next}
 use Rattle.posix.specs.Runs.{RunsFrom}
 use Rattle.posix.specs.Printing.{print, print_line, printed}
-use Rattle.kernel.specs.Sinks.{Seen, TakesAll, Gathers, BreaksOff}
+use Rattle.sink.specs.Sinks.{Seen, TakesAll, Gathers, BreaksOff}
 use Rattle.kernel.specs.Progress.{Writes, Stops, WritesTrace, BreaksTrace}
-use Rattle.kernel.proofs.SinkLemmas.{gathers_then, gathers_break, break_on, flush_takes, flush_breaks}
+use Rattle.sink.proofs.SinkLemmas.{gathers_then, gathers_break, break_on, flush_takes, flush_breaks}
 
 -- ---- runs
 

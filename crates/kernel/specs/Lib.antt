@@ -1,4 +1,3 @@
-pub mod Sinks
 pub mod Views
 pub mod Events
 pub mod Progress

@@ -5,7 +5,7 @@ use Rattle.posix.specs.Entries.{Line, reported}
 use Rattle.posix.specs.States.{State}
 use Rattle.posix.specs.Runs.{RunsFrom}
 use Rattle.posix.specs.Printing.{print}
-use Rattle.kernel.specs.Sinks.{Seen, TakesAll, Gathers, BreaksOff}
+use Rattle.sink.specs.Sinks.{Seen, TakesAll, Gathers, BreaksOff}
 
 -- The events, numbered from k on, led from old to new; of the bytes that waited, and the printed trace
 -- after them, a beginning was taken, and the rest waits; the trace reports so many ends.

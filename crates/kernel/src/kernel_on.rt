@@ -9,10 +9,10 @@ ghost use Rattle.text.specs.EventTexts.{most_events};
 ghost use Rattle.kernel.specs.Views.{KernelView};
 ghost use Rattle.kernel.specs.Summaries.{census_of};
 
-use crate::entries::Entries;
 use crate::events::{burst, next};
 use crate::summary::{Census, take_census};
 use arrayvec::ArrayVec;
+use calls::Entries;
 use life::Machine;
 use posix::Event;
 use proctable::{Kin, ScanTable};
@@ -32,7 +32,7 @@ pub struct KernelOn<K: Kin> {
 
 impl<K: Kin> Model for KernelOn<K> {
     ghost use Rattle.std.specs.Prelude.{◌≤◌, ◌+◌, ◌≡◌, false};
-    ghost use Rattle.posix.specs.Turns.{NoWakeIsLost};
+    ghost use Rattle.posix.specs.Settle.{NoWakeIsLost};
     ghost use Rattle.kernel.specs.Views.{KernelView};
 
     ghost Value = { KernelView };

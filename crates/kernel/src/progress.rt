@@ -5,16 +5,15 @@ ghost use Rattle.posix.specs.Entries.{numbered, reported, reports_end as reports
 ghost use Rattle.posix.specs.Runs.{RunsFrom};
 ghost use Rattle.posix.specs.Printing.{print, printed};
 ghost use Rattle.text.specs.EventTexts.{most_events};
-ghost use Rattle.kernel.specs.Sinks.{Gathers, BreaksOff};
+ghost use Rattle.sink.specs.Sinks.{Gathers, BreaksOff};
 ghost use Rattle.kernel.specs.Progress.{Writes, Stops, WritesTrace, BreaksTrace};
 
-use crate::entries::Entries;
 use crate::kernel_on::KernelOn;
-use crate::pending::Pending;
-use crate::sink::{Sink, SinkFault};
 use arrayvec::ArrayVec;
+use calls::Entries;
 use posix::{Entry, Event};
 use proctable::Kin;
+use sink::{LineBuffer, Sink, SinkFault};
 use text::{EventList, EventRun};
 use trace::{print_entry, write_note};
 
@@ -38,7 +37,7 @@ fn reports_end(entry: &Entry) -> bool
 fn write_other<S: Sink>(
     event: u64,
     entry: &Entry,
-    pending: &mut Pending,
+    pending: &mut LineBuffer,
     out: &mut S,
 ) -> Result<(), SinkFault>
     ensures ok { OnOk result (Gathers (S.seen out.old) pending.old (S.seen out.new) pending.new (printed event entry.now)) }
@@ -52,7 +51,7 @@ fn write_other<S: Sink>(
 fn write_entry<S: Sink>(
     event: u64,
     entry: &Entry,
-    pending: &mut Pending,
+    pending: &mut LineBuffer,
     out: &mut S,
 ) -> Result<(), SinkFault>
     ensures ok { OnOk result (Gathers (S.seen out.old) pending.old (S.seen out.new) pending.new (printed event entry.now)) }
@@ -72,7 +71,7 @@ fn write_entry<S: Sink>(
 fn write_entries<S: Sink>(
     event: u64,
     entries: &[Entry],
-    pending: &mut Pending,
+    pending: &mut LineBuffer,
     out: &mut S,
 ) -> Result<u64, SinkFault>
     ensures ok { OnOk result (Gathers (S.seen out.old) pending.old (S.seen out.new) pending.new (print (numbered event entries.now))) }
@@ -114,7 +113,7 @@ fn run_some<K: Kin, S: Sink>(
     event: Event,
     most: u64,
     entries: &mut Entries,
-    pending: &mut Pending,
+    pending: &mut LineBuffer,
     out: &mut S,
 ) -> Result<u64, SinkFault>
     requires few { kernel.old.events + most ≤ most_events }
@@ -136,7 +135,7 @@ fn run_some<K: Kin, S: Sink>(
 fn run_many<K: Kin, S: Sink>(
     kernel: &mut KernelOn<K>,
     run: EventRun,
-    pending: &mut Pending,
+    pending: &mut LineBuffer,
     out: &mut S,
 ) -> Result<u64, SinkFault>
     requires { kernel.old.events + run.count ≤ most_events }
@@ -158,7 +157,7 @@ fn run_many<K: Kin, S: Sink>(
 fn run_events<K: Kin, S: Sink>(
     kernel: &mut KernelOn<K>,
     events: &EventList,
-    pending: &mut Pending,
+    pending: &mut LineBuffer,
     out: &mut S,
 ) -> Result<u64, SinkFault>
     requires { kernel.old.events + length events.now ≤ most_events }
@@ -187,7 +186,7 @@ pub fn write_trace<K: Kin, S: Sink>(
     ensures err { OnErr result (BreaksTrace (kernel.old.events + 1) kernel.old.state events.now (S.seen out.old) (S.seen out.new)) }
     ensures events { OnOk result (kernel.new.events ≡ kernel.old.events + length events.now) }
 {
-    let mut pending = Pending::new();
+    let mut pending = LineBuffer::new();
     let ends = run_events(kernel, events, &mut pending, out)?;
     pending.flush(out)?;
     Ok(ends)

@@ -4,9 +4,9 @@ ghost use Rattle.kernel.specs.Headline.{Headline};
 
 use crate::kernel_on::KernelOn;
 use crate::progress::write_trace;
-use crate::sink::Sink;
 use crate::summary::Summary;
 use proctable::{Kin, ScanTable};
+use sink::Sink;
 use std::alloc::Global;
 use text::{Reason, TextFault, read_events, read_world};
 use thiserror::Error;

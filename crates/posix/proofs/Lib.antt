@@ -1,5 +1,3 @@
-pub mod StampLemmas
-pub mod Rows
 pub mod TableLemmas
 pub mod WalkLemmas
 pub mod MapLemmas
@@ -9,7 +7,7 @@ pub mod OrderLemmas
 pub mod SettleLemmas
 pub mod NoticeLemmas
 pub mod ActLemmas
-pub mod TurnLemmas
-pub mod RefusalLemmas
 pub mod CountLemmas
 pub mod RangeLemmas
+pub mod WakeLemmas
+pub mod UnseenLemmas

@@ -1,6 +1,6 @@
 -- Births, XSH fork.
 use Rattle.std.specs.Prelude.{ℕ, ◌+◌, Bool, false, if◌then◌else◌, [], ◌∷◌, Option, Some, None, pos}
-use Rattle.posix.specs.declared.instr.Call.TheVariants.{Fork}
+use Rattle.posix.specs.declared.call.Call.TheVariants.{Fork}
 use Rattle.posix.specs.declared.errno.Errno.TheVariants.{EAGAIN}
 use Rattle.posix.specs.declared.process.News.TheVariants as news
 use Rattle.posix.specs.Processes.{Process, nothing_pending}

@@ -1,7 +1,7 @@
 -- System calls by their names.
 use Rattle.std.specs.Prelude.{ℕ, List, [], ◌∷◌, codes, Option, find, bytes_eq}
-use Rattle.posix.specs.declared.instr.Call.{Call}
-use Rattle.posix.specs.declared.instr.Call.TheVariants.{Exit, Fork, Waitpid, Pause, SchedYield, Getpid, Getppid, Getuid, Geteuid, Getgid, Getegid, Setuid, Seteuid, Setgid, Setegid, Kill, Sigaction, Sigprocmask, Sigpending, Sigsuspend, Sigreturn}
+use Rattle.posix.specs.declared.call.Call.{Call}
+use Rattle.posix.specs.declared.call.Call.TheVariants.{Exit, Fork, Waitpid, Pause, SchedYield, Getpid, Getppid, Getuid, Geteuid, Getgid, Getegid, Setuid, Seteuid, Setgid, Setegid, Kill, Sigaction, Sigprocmask, Sigpending, Sigsuspend, Sigreturn}
 
 -- how a call is written, in world texts and in traces
 abbrev pub call_text : Call → List ℕ

@@ -26,5 +26,3 @@ pub mod Step
 pub mod Runs
 pub mod Printing
 pub mod Regular
-pub mod Stamps
-pub mod Turns

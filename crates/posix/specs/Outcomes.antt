@@ -1,6 +1,6 @@
 -- What an event and an attempt of a call come to.
 use Rattle.std.specs.Prelude.{ℕ, zero, suc, List, [], ◌∷◌, None, ℤ, pos, negsuc}
-use Rattle.posix.specs.declared.instr.Call.{Call}
+use Rattle.posix.specs.declared.call.Call.{Call}
 use Rattle.posix.specs.declared.errno.Errno.{Errno}
 use Rattle.posix.specs.declared.errno.Errno.TheVariants.{EAGAIN}
 use Rattle.posix.specs.declared.entry.Entry.{Entry}

@@ -4,7 +4,7 @@ use Rattle.std.specs.List.{join_with_byte}
 use Rattle.std.specs.Fmt.{signed_decimal}
 use Rattle.posix.specs.declared.entry.Entry.{Entry}
 use Rattle.posix.specs.declared.entry.Entry.TheVariants.{Noted, Called, Reported, NoMemory, Handled, Discarded, Returned, Ended, Halted}
-use Rattle.posix.specs.declared.instr.Call.TheVariants.{Waitpid}
+use Rattle.posix.specs.declared.call.Call.TheVariants.{Waitpid}
 use Rattle.posix.specs.Calls.{call_text}
 use Rattle.posix.specs.Entries.{Line}
 

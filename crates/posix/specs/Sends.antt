@@ -1,6 +1,6 @@
 -- Signals that processes send, XSH kill and kill(2).
 use Rattle.std.specs.Prelude.{ℕ, zero, suc, ◌+◌, Bool, not, ◌||◌, ◌==◌, if◌then◌else◌, List, [], ◌∷◌, filter, Option, Some, None, ℤ, pos, negsuc}
-use Rattle.posix.specs.declared.instr.Call.TheVariants.{Kill}
+use Rattle.posix.specs.declared.call.Call.TheVariants.{Kill}
 use Rattle.posix.specs.declared.errno.Errno.TheVariants.{EPERM, ESRCH, EINVAL}
 use Rattle.posix.specs.declared.process.PendingSignal.{PendingSignal}
 use Rattle.posix.specs.declared.process.Sending.{Sending}

@@ -1,5 +1,5 @@
 -- After each event: a place for each process that can act.
-use Rattle.std.specs.Prelude.{ℕ, Bool, true, false, ◌&&◌, ◌||◌, not, is_some, if◌then◌else◌, [], ◌∷◌, ◌++◌, filter, Option, Some, None}
+use Rattle.std.specs.Prelude.{◌≡◌, ℕ, Bool, true, false, ◌&&◌, ◌||◌, not, is_some, if◌then◌else◌, [], ◌∷◌, ◌++◌, filter, Option, Some, None}
 use Rattle.posix.specs.declared.process.Blocked.{Blocked}
 use Rattle.posix.specs.Signals.{KILL}
 use Rattle.posix.specs.Processes.{Process, is_running, is_living}
@@ -40,3 +40,7 @@ woken_if s (Some r) = if wakes s r then record s { order = s.order ++ r.pid ∷ 
 
 unfoldable pub woken : State → ℕ → State
 woken s p = woken_if s (process s p)
+
+-- each process that can act has a place
+abbrev pub NoWakeIsLost : State → Type 0
+NoWakeIsLost s = (p : ℕ) (r : Process) → process s p ≡ Some r → can_act s r ≡ true → has_place s p ≡ true

@@ -2,8 +2,8 @@
 -- sigprocmask and sigpending.
 use Rattle.std.specs.Prelude.{ℕ, zero, suc, ◌+◌, ◌*◌, ◌==◌, Bool, false, if◌then◌else◌, List, [], ◌∷◌, Option, Some, None, ℤ, pos, negsuc, bit_and, Result, Ok, Err}
 use Rattle.std.specs.Int.{cast_signed, cast_unsigned, w64}
-use Rattle.posix.specs.declared.instr.Call.{Call}
-use Rattle.posix.specs.declared.instr.Call.TheVariants.{Sigaction, Sigprocmask, Sigpending}
+use Rattle.posix.specs.declared.call.Call.{Call}
+use Rattle.posix.specs.declared.call.Call.TheVariants.{Sigaction, Sigprocmask, Sigpending}
 use Rattle.posix.specs.declared.errno.Errno.{Errno}
 use Rattle.posix.specs.declared.errno.Errno.TheVariants.{EINVAL}
 use Rattle.posix.specs.declared.process.Action.{Action}

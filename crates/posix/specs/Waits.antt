@@ -1,7 +1,7 @@
 -- Waits, XSH waitpid and waitpid(2).
 use Rattle.std.specs.Prelude.{ℕ, zero, suc, ◌+◌, ◌==◌, Bool, true, false, if◌then◌else◌, List, [], ◌∷◌, filter, find, Option, Some, None, ℤ, pos, negsuc, bit_and}
 use Rattle.std.specs.Int.{cast_unsigned, w64}
-use Rattle.posix.specs.declared.instr.Call.TheVariants.{Waitpid}
+use Rattle.posix.specs.declared.call.Call.TheVariants.{Waitpid}
 use Rattle.posix.specs.declared.errno.Errno.TheVariants.{EINVAL, ECHILD}
 use Rattle.posix.specs.declared.entry.Entry.TheVariants.{Reported}
 use Rattle.posix.specs.declared.process.Life.{Life}

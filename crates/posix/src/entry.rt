@@ -1,6 +1,6 @@
 //! Entries of a trace.
 
-use crate::instr::Call;
+use crate::call::Call;
 use crate::pid::Pid;
 use crate::sig::Sig;
 use crate::status::Status;

@@ -2,6 +2,7 @@
 
 ghost use Rattle.std.specs.Prelude.{◌≡◌, ◌<◌, ◌↔◌, IsSome, IfSome};
 
+use crate::call::Call;
 use crate::sig::Sig;
 use std::marker::Model;
 
@@ -58,54 +59,6 @@ impl Register {
     {
         usize::from(self.number)
     }
-}
-
-/// A system call.
-#[derive(Clone, Copy, Debug, PartialEq, Eq)]
-pub enum Call {
-    /// The process ends with the code in r1 (XSH _exit).
-    Exit,
-    /// A child like the caller is born (XSH fork).
-    Fork,
-    /// Waits for a child that r1 names, with the options in r2 (XSH waitpid).
-    Waitpid,
-    /// Waits for a signal (XSH pause).
-    Pause,
-    /// The caller goes to the end of the order (XSH sched_yield).
-    SchedYield,
-    /// The caller's number (XSH getpid).
-    Getpid,
-    /// The number of the caller's parent, 0 for process 1 (XSH getppid).
-    Getppid,
-    /// The caller's real user id (XSH getuid).
-    Getuid,
-    /// The caller's effective user id (XSH geteuid).
-    Geteuid,
-    /// The caller's real group id (XSH getgid).
-    Getgid,
-    /// The caller's effective group id (XSH getegid).
-    Getegid,
-    /// Sets the user ids to r1, or where the caller isn't privileged the effective one (XSH setuid).
-    Setuid,
-    /// Sets the effective user id to r1 (XSH seteuid).
-    Seteuid,
-    /// Sets the group ids to r1, or where the caller isn't privileged the effective one (XSH setgid).
-    Setgid,
-    /// Sets the effective group id to r1 (XSH setegid).
-    Setegid,
-    /// Sends the signal in r2, or with 0 none, to the processes that r1 names (XSH kill).
-    Kill,
-    /// Sets the action for the signal in r1 to the handler in r2 with the mask in r3 and the flags in r4,
-    /// and gives the old ones (XSH sigaction).
-    Sigaction,
-    /// Changes the signal mask as r1 says by the set in r2, and gives the old one (XSH sigprocmask).
-    Sigprocmask,
-    /// The set of pending signals (XSH sigpending).
-    Sigpending,
-    /// Waits for a signal with the signal mask in r1 (XSH sigsuspend).
-    Sigsuspend,
-    /// Returns from the newest handler (sigreturn(2)).
-    Sigreturn,
 }
 
 /// An operator on two words. Results wrap (own).

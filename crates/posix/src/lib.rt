@@ -4,12 +4,12 @@
 //! the machine, one instruction, one event, whole runs, and how a trace is printed.
 #![tactic(auto)]
 
+pub mod call;
 pub mod entry;
 pub mod errno;
 pub mod event;
 pub mod ids;
 pub mod instr;
-pub mod laws;
 pub mod pid;
 pub mod process;
 pub mod sa_flags;
@@ -18,11 +18,12 @@ pub mod sig_set;
 pub mod status;
 pub mod wait_options;
 
+pub use call::Call;
 pub use entry::Entry;
 pub use errno::Errno;
 pub use event::Event;
 pub use ids::{Gid, Ids, Uid};
-pub use instr::{Call, Condition, Instr, Operator, Register, Trap};
+pub use instr::{Condition, Instr, Operator, Register, Trap};
 pub use pid::Pid;
 pub use process::{
     Action, Blocked, Carried, Frame, Handler, Life, News, PendingSignal, Report, Sending,

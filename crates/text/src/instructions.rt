@@ -10,8 +10,7 @@ use crate::names::Name;
 use crate::numbers::integer;
 use crate::sketch::{Sketch, Use};
 use crate::words::{first_word, no_more_words};
-use posix::{Condition, Instr, Operator, Register};
-use trace::call_named;
+use posix::{Call, Condition, Instr, Operator, Register};
 
 /// What the first word of an instruction names.
 #[derive(Clone, Copy, Debug, PartialEq, Eq)]
@@ -147,7 +146,7 @@ fn sys_operands(line: &[u8]) -> Result<Sketch, Reason>
     ensures { result ≡ operands_of Operation.Sys (words line.now) }
 {
     let (word, rest) = first_word(line)?;
-    let call = call_named(word).ok_or(Reason::UnknownWord)?;
+    let call = Call::named(word).ok_or(Reason::UnknownWord)?;
     no_more_words(rest)?;
     Ok(Sketch::Ready(Instr::Sys(call)))
 }

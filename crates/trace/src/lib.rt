@@ -4,10 +4,8 @@
 //! one space between two and a line feed at the end. World texts name system calls by the same names.
 #![tactic(auto)]
 
-pub mod calls;
 pub mod note;
 pub mod print;
 
-pub use calls::{call_name, call_named};
 pub use note::write_note;
 pub use print::print_entry;

@@ -6,7 +6,6 @@ ghost use Rattle.std.specs.Fmt.{signed_decimal};
 ghost use Rattle.posix.specs.Calls.{call_text};
 ghost use Rattle.posix.specs.Printing.{printed, words_of};
 
-use crate::calls::call_name;
 use arrayvec::ArrayVec;
 use itoa::Buffer;
 use posix::{Call, Entry, Pid, Sig, Status};
@@ -71,7 +70,7 @@ fn put_call(line: &mut Line, pid: Pid, call: Call)
     put(line, b" call");
     put_next(line, u64::from(pid.number()));
     put(line, b" ");
-    put(line, call_name(call));
+    put(line, call.name());
     put(line, b" =");
 }
 

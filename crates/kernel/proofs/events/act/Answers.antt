@@ -6,8 +6,8 @@ use Rattle.posix.specs.Choice.{chosen}
 use Rattle.posix.specs.Ends.{end_process}
 use Rattle.proctable.specs.declared.facts.Facts.{Facts}
 use Rattle.proctable.specs.Body.{facts_of}
-use Rattle.kernel.proofs.CallLemmas.{same_outcome}
-use Rattle.kernel.proofs.ChosenLemmas.{act_killed, act_blocked, act_delivers, act_runs, kill_chosen, no_kill_chosen, chosen_is, chosen_not}
+use Rattle.calls.proofs.CallLemmas.{same_outcome}
+use Rattle.calls.proofs.ChosenLemmas.{act_killed, act_blocked, act_delivers, act_runs, kill_chosen, no_kill_chosen, chosen_is, chosen_not}
 use Rattle.kernel.proofs.events.act.Goals as goal
 
 pub returns-then-eq : goal.returns-then-eq

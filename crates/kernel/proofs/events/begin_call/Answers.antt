@@ -4,7 +4,7 @@ use Rattle.posix.specs.Attempts.{attempt}
 use Rattle.posix.specs.Step.{begin_call, enter}
 use Rattle.posix.proofs.TableLemmas.{pid_looked}
 use Rattle.life.proofs.LoanLemmas.{was_written}
-use Rattle.kernel.proofs.CallLemmas.{block_is, same_outcome}
+use Rattle.calls.proofs.CallLemmas.{block_is, same_outcome}
 use Rattle.kernel.proofs.events.begin_call.Goals as goal
 
 pub returns-in-Block : goal.returns-in-Block

@@ -5,7 +5,7 @@ use Rattle.posix.specs.Outcomes.{silent}
 use Rattle.posix.specs.Attempts.{attempt_again}
 use Rattle.posix.specs.Step.{go_on, deliver_or}
 use Rattle.posix.proofs.TableLemmas.{pid_looked}
-use Rattle.kernel.proofs.CallLemmas.{block_is, same_outcome}
+use Rattle.calls.proofs.CallLemmas.{block_is, same_outcome}
 use Rattle.kernel.proofs.events.go_on.Goals as goal
 
 pub deliver-requires-clause-there : goal.deliver-requires-clause-there

@@ -5,7 +5,7 @@ use Rattle.posix.specs.States.{change}
 use Rattle.posix.specs.Execute.{exec_one}
 use Rattle.posix.specs.Step.{after_trap, code_of, set_cpu}
 use Rattle.posix.proofs.TableLemmas.{pid_looked}
-use Rattle.kernel.proofs.CallLemmas.{same_outcome}
+use Rattle.calls.proofs.CallLemmas.{same_outcome}
 use Rattle.kernel.proofs.events.run.Goals as goal
 
 pub returns-in-Next : goal.returns-in-Next

@@ -1,7 +1,7 @@
 use Rattle.std.proofs.Common.{◌∙◌, sym, subst}
 use Rattle.posix.specs.States.{State}
 use Rattle.posix.proofs.OrderLemmas.{first_in}
-use Rattle.kernel.specs.Events.{IsActing}
+use Rattle.calls.specs.Outcomes.{IsActing}
 use Rattle.kernel.proofs.events.step.Goals as goal
 
 pub act-requires-clause-acting : goal.act-requires-clause-acting

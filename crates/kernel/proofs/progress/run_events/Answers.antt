@@ -3,7 +3,7 @@ use Rattle.text.specs.EventLists.{expanded}
 use Rattle.text.specs.EventTexts.{most_events}
 use Rattle.kernel.proofs.RunLemmas.{writes_next, stops_next}
 use Rattle.kernel.proofs.EventLemmas.{expanded_more, expanded_split, run_fits, ends_fit, events_more}
-use Rattle.kernel.proofs.SinkLemmas.{on_err}
+use Rattle.sink.proofs.SinkLemmas.{on_err}
 use Rattle.kernel.proofs.progress.run_events.Goals as goal
 
 pub run_many-requires : goal.run_many-requires

@@ -3,7 +3,7 @@ use Rattle.std.specs.Prelude.{replicate}
 use Rattle.std.proofs.lemmas.List.{length-replicate}
 use Rattle.kernel.proofs.RunLemmas.{writes_next, stops_next}
 use Rattle.kernel.proofs.EventLemmas.{replicate_joined, replicate_three}
-use Rattle.kernel.proofs.SinkLemmas.{on_err}
+use Rattle.sink.proofs.SinkLemmas.{on_err}
 use Rattle.kernel.proofs.progress.run_many.Goals as goal
 
 pub returns-in_err-ends-clause-err : goal.returns-in_err-ends-clause-err

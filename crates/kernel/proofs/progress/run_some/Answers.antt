@@ -1,7 +1,7 @@
 use Rattle.std.proofs.Common.{◌+◌, ◌-◌, length, ap, arith}
 use Rattle.std.proofs.lemmas.Result.{on_err_weaker}
 use Rattle.kernel.proofs.RunLemmas.{some_writes, some_stops}
-use Rattle.kernel.proofs.SinkLemmas.{if_ok_both}
+use Rattle.sink.proofs.SinkLemmas.{if_ok_both}
 use Rattle.kernel.proofs.progress.run_some.Goals as goal
 
 pub returns-clause-ok : goal.returns-clause-ok

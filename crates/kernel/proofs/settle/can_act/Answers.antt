@@ -2,7 +2,7 @@ use Rattle.std.proofs.Common.{◌≡◌, ◌∙◌, ap, sym, Some, option_map, i
 use Rattle.posix.specs.States.{State, process}
 use Rattle.proctable.specs.declared.facts.Facts.{Facts}
 use Rattle.proctable.specs.Body.{facts_of}
-use Rattle.kernel.proofs.ChosenLemmas.{running_acts, stopped_acts, same_awake}
+use Rattle.calls.proofs.ChosenLemmas.{running_acts, stopped_acts, same_awake}
 use Rattle.kernel.proofs.settle.can_act.Goals as goal
 
 pub returns-in-Running-clause-value : goal.returns-in-Running-clause-value

@@ -3,7 +3,7 @@ use Rattle.posix.specs.States.{State, process}
 use Rattle.posix.specs.Regular.{IsPlaced}
 use Rattle.posix.specs.Settle.{can_act}
 use Rattle.posix.proofs.SettleLemmas.{woken_is, wakes_placed}
-use Rattle.kernel.proofs.CallLemmas.{some_is}
+use Rattle.calls.proofs.CallLemmas.{some_is}
 use Rattle.kernel.proofs.settle.wake.Goals.{else-not-has_place-via-then-not-has_place+else-can_act, else-not-has_place-via-else-not-has_place}
 use Rattle.kernel.proofs.settle.wake.Goals as goal
 

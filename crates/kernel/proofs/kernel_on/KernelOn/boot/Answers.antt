@@ -1,7 +1,7 @@
 use Rattle.std.proofs.Common.{sym, subst, arith, ◌≤◌}
 use Rattle.posix.specs.States.{State}
-use Rattle.posix.specs.Turns.{NoWakeIsLost}
-use Rattle.posix.proofs.TurnLemmas.{first_has_place}
+use Rattle.posix.specs.Settle.{NoWakeIsLost}
+use Rattle.posix.proofs.WakeLemmas.{first_has_place}
 use Rattle.kernel.proofs.kernel_on.KernelOn.boot.Goals as goal
 
 pub invariant_of-result : goal.invariant_of-result

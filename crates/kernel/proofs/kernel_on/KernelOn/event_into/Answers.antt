@@ -1,8 +1,8 @@
 use Rattle.std.proofs.Common.{◌≡◌, true, false, refl, ap, sym, ◌∙◌, subst, arith}
 use Rattle.posix.specs.States.{State}
 use Rattle.posix.specs.Outcomes.{Outcome}
-use Rattle.posix.specs.Turns.{NoWakeIsLost}
-use Rattle.posix.proofs.TurnLemmas.{act_has_place}
+use Rattle.posix.specs.Settle.{NoWakeIsLost}
+use Rattle.posix.proofs.WakeLemmas.{act_has_place}
 use Rattle.posix.proofs.CountLemmas.{Counts, counts_next, next_halted}
 use Rattle.kernel.specs.Views.{KernelView}
 use Rattle.kernel.proofs.kernel_on.KernelOn.event_into.Goals as goal

@@ -1,0 +1,6 @@
+pub mod ReportLemmas
+pub mod CallLemmas
+pub mod ChosenLemmas
+pub mod DeliveryLemmas
+pub mod OwnLemmas
+pub mod SignalCallLemmas

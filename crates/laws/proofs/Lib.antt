@@ -1,0 +1,4 @@
+pub mod StampLemmas
+pub mod Rows
+pub mod TurnLemmas
+pub mod RefusalLemmas

@@ -1,0 +1,485 @@
+-- What a refused call changes.
+use Rattle.std.proofs.Common.{◌≡◌, ◌≢◌, ℕ, zero, suc, ◌+◌, Bool, true, false, cond, not, ◌&&◌, refl, ap, sym, ◌∙◌, arith, subst, List, [], ◌∷◌, ◌++◌, append-nil, map, filter, find, Option, Some, None, option_and_then, option_map, ◌==◌, Contains, pos, negsuc, ℤ, Result, Ok, Err}
+use Rattle.std.specs.Int.{cast_unsigned, w64}
+use Rattle.std.specs.List.{AllByRecursion}
+use Rattle.std.proofs.lemmas.Bool.{eqb-true}
+use Rattle.posix.specs.declared.call.Call.{Call}
+use Rattle.posix.specs.declared.call.Call.TheVariants.{Exit, Fork, Waitpid, Pause, SchedYield, Getpid, Getppid, Getuid, Geteuid, Getgid, Getegid, Setuid, Seteuid, Setgid, Setegid, Kill, Sigaction, Sigprocmask, Sigpending, Sigsuspend, Sigreturn}
+use Rattle.posix.specs.declared.instr.Trap.{Trap}
+use Rattle.posix.specs.declared.instr.Trap.TheVariants as trap
+use Rattle.posix.specs.declared.event.Event.{Event}
+use Rattle.posix.specs.declared.event.Event.TheVariants.{Step, Tick}
+use Rattle.posix.specs.declared.errno.Errno.{Errno}
+use Rattle.posix.specs.declared.errno.Errno.TheVariants.{EPERM, ENOENT, ESRCH, EINTR, EIO, ECHILD, EAGAIN, EACCES, EFAULT, EINVAL, ENOTTY}
+use Rattle.posix.specs.declared.entry.Entry.{Entry}
+use Rattle.posix.specs.declared.entry.Entry.TheVariants.{Noted, Called, Reported, NoMemory, Handled, Discarded, Returned, Ended, Halted}
+use Rattle.posix.specs.declared.sig.DefaultAction.{DefaultAction}
+use Rattle.posix.specs.declared.sig.DefaultAction.TheVariants as default
+use Rattle.posix.specs.declared.process.Action.{Action}
+use Rattle.posix.specs.declared.process.Blocked.{Blocked}
+use Rattle.posix.specs.declared.process.Blocked.TheVariants as blocked
+use Rattle.posix.specs.declared.process.Frame.{Frame}
+use Rattle.posix.specs.declared.process.Handler.{Handler}
+use Rattle.posix.specs.declared.process.Handler.TheVariants as handler
+use Rattle.posix.specs.declared.process.PendingSignal.{PendingSignal}
+use Rattle.posix.specs.declared.process.Report.{Report}
+use Rattle.posix.specs.declared.process.Report.TheVariants as found
+use Rattle.posix.specs.declared.process.Sending.{Sending}
+use Rattle.posix.specs.declared.process.Sending.TheVariants as sends
+use Rattle.posix.specs.Signals.{KILL, SEGV, default_action}
+use Rattle.posix.specs.SignalSets.{has, set_in}
+use Rattle.posix.specs.Statuses.{exited, killed}
+use Rattle.posix.specs.Processes.{Process, Signals, Credentials, Cpu, argument}
+use Rattle.posix.specs.Tables.{IsRising, lookup, at, changed, children_in, pids}
+use Rattle.posix.specs.States.{State, is_in, change, current, next_pid, process}
+use Rattle.posix.specs.Execute.{exec_one}
+use Rattle.posix.specs.Outcomes.{Outcome, Attempted, Done, Block, finish, finished, refusal, refused}
+use Rattle.posix.specs.Credentials.{setuid, seteuid, setgid, setegid}
+use Rattle.posix.specs.Generation.{action, is_pending}
+use Rattle.posix.specs.Choice.{chosen, carried_by, from_kernel}
+use Rattle.posix.specs.Handlers.{handles, is_full, is_interrupted, newest_frame, set_action, set_mask}
+use Rattle.posix.specs.Births.{fork_as}
+use Rattle.posix.specs.Ends.{end_process}
+use Rattle.posix.specs.Waits.{wait, wait_with, report, is_named, report_of, report_life, report_found, report_among, reports, is_something, options_in, are_known, has_option}
+use Rattle.posix.specs.Delivery.{call_of, interruption, handle, act_by_default, act_on, take_out, deliver, fault_with, fault, return_to, return_from_handler}
+use Rattle.posix.specs.Sends.{sending, send_with, signal_in, signal_or_none, kill_with, kill}
+use Rattle.posix.specs.SignalCalls.{set_credentials, is_question, are_flags, action_in, sigaction_with, sigaction_of, sigaction, sigprocmask_with, sigprocmask, sigpending}
+use Rattle.posix.specs.Attempts.{attempt, attempt_again}
+use Rattle.posix.specs.Settle.{settle, wakes, can_act}
+use Rattle.posix.specs.Step.{IsStep, next, happens, step, act, act_in, after_trap, begin_call, deliver_or, go_on, code_of}
+use Rattle.posix.specs.Settle.{NoWakeIsLost}
+use Rattle.posix.proofs.TableLemmas.{pid_looked}
+use Rattle.posix.proofs.MapLemmas.{children_map}
+use Rattle.posix.proofs.OrderLemmas.{first_in}
+use Rattle.posix.proofs.SettleLemmas.{ReportsSame, can_act_same, all_looked}
+use Rattle.posix.proofs.WakeLemmas.{next_awake, next_entries, next_nothing}
+use Rattle.posix.proofs.UnseenLemmas.{Unseen, settle_unseen}
+
+-- ---- what entries tell of a refusal
+
+-- where the entry tells that a call of p was refused, by a result that counts, this is all that changed
+abbrev Explained : (ℕ → Type 0) → State → ℕ → State → Entry → Type 0
+Explained C s p new (Noted q value) = Unit {0}
+Explained C s p new (Called q call (pos n)) = Unit {0}
+Explained C s p new (Called q call (negsuc n)) = C n → (q ≡ p) × (new ≡ finish s p ((0, negsuc n) ∷ []))
+Explained C s p new (Reported q child status) = Unit {0}
+Explained C s p new (NoMemory q call) = (q ≡ p) × (new ≡ finish s p ((0, refusal EAGAIN) ∷ []))
+Explained C s p new (Handled q sig value sender) = Unit {0}
+Explained C s p new (Discarded q sig) = Unit {0}
+Explained C s p new (Returned q) = Unit {0}
+Explained C s p new (Ended q status) = Unit {0}
+Explained C s p new Halted = Unit {0}
+
+-- all negative results
+abbrev Any : ℕ → Type 0
+Any n = Unit {0}
+
+-- all but -4, which a call gives that a signal interrupts
+abbrev NotInterrupted : ℕ → Type 0
+NotInterrupted n = n ≢ 3
+
+-- the same of all entries of an outcome
+abbrev ExplainedBy : (ℕ → Type 0) → State → ℕ → Outcome → Type 0
+ExplainedBy C s p o = AllByRecursion (Explained C s p o.state) o.entries
+
+-- the same of an attempt that is done
+abbrev ExplainedIf : (ℕ → Type 0) → State → ℕ → Attempted → Type 0
+ExplainedIf C s p (Done o) = ExplainedBy C s p o
+ExplainedIf C s p (Block b) = Unit {0}
+
+-- of both sides of a test
+explained_if : (C : ℕ → Type 0) (s : State) (p : ℕ) (b : Bool) (x y : Attempted) → ExplainedIf C s p x → ExplainedIf C s p y → ExplainedIf C s p (cond b x y)
+explained_if C s p true x y h k = h
+explained_if C s p false x y h k = k
+
+-- of both outcomes of a test
+explained_either : (C : ℕ → Type 0) (s : State) (p : ℕ) (b : Bool) (x y : Outcome) → ExplainedBy C s p x → ExplainedBy C s p y → ExplainedBy C s p (cond b x y)
+explained_either C s p true x y h k = h
+explained_either C s p false x y h k = k
+
+-- ---- calls that no signal enters into
+
+-- a refusal
+explained_refused : (C : ℕ → Type 0) (s : State) (p : ℕ) (call : Call) (errno : Errno) → ExplainedIf C s p (refused s p call errno)
+explained_refused C s p call EPERM = (λ c. (refl, refl), tt)
+explained_refused C s p call ENOENT = (λ c. (refl, refl), tt)
+explained_refused C s p call ESRCH = (λ c. (refl, refl), tt)
+explained_refused C s p call EINTR = (λ c. (refl, refl), tt)
+explained_refused C s p call EIO = (λ c. (refl, refl), tt)
+explained_refused C s p call ECHILD = (λ c. (refl, refl), tt)
+explained_refused C s p call EAGAIN = (λ c. (refl, refl), tt)
+explained_refused C s p call EACCES = (λ c. (refl, refl), tt)
+explained_refused C s p call EFAULT = (λ c. (refl, refl), tt)
+explained_refused C s p call EINVAL = (λ c. (refl, refl), tt)
+explained_refused C s p call ENOTTY = (λ c. (refl, refl), tt)
+
+-- a wait by what it found
+explained_with : (C : ℕ → Type 0) (s : State) (p options : ℕ) (what : Report) → ExplainedIf C s p (wait_with s p options what)
+explained_with C s p options found.NoChild = explained_refused C s p Waitpid ECHILD
+explained_with C s p options found.Nothing = explained_if C s p (has_option options 1) _ _ (tt, tt) tt
+explained_with C s p options (found.End child status) = (tt, tt)
+explained_with C s p options (found.Change child status) = (tt, tt)
+
+-- a wait
+explained_wait : (C : ℕ → Type 0) (s : State) (me : Process) → ExplainedIf C s me.pid (wait s me)
+unfolding wait
+explained_wait C s me =
+    explained_if C s me.pid (are_known (options_in (argument me 2))) _ _
+    (explained_with C s me.pid (options_in (argument me 2)) (report s.processes me.pid me.group (argument me 1) (options_in (argument me 2))))
+    (explained_refused C s me.pid Waitpid EINVAL)
+
+-- a fork
+explained_fork : (C : ℕ → Type 0) (granted : Bool) (s : State) (me : Process) (n : Option ℕ) → ExplainedIf C s me.pid (fork_as granted s me n)
+unfolding fork_as
+explained_fork C granted s me None = explained_refused C s me.pid Fork EAGAIN
+explained_fork C granted s me (Some n) = explained_if C s me.pid granted _ _ (tt, tt) ((refl, refl), tt)
+
+-- a change of ids
+explained_ids : (C : ℕ → Type 0) (s : State) (p : ℕ) (call : Call) (c : Result Credentials Errno) → ExplainedIf C s p (set_credentials s p call c)
+explained_ids C s p call (Ok c) = (tt, tt)
+explained_ids C s p call (Err why) = explained_refused C s p call why
+
+-- a signal that is sent, by whom it finds
+explained_send : (C : ℕ → Type 0) (s : State) (me : Process) (choice : ℤ) (sig : Option ℕ) (what : Sending) → ExplainedIf C s me.pid (send_with s me choice sig what)
+explained_send C s me choice sig sends.NobodyFound = explained_refused C s me.pid Kill ESRCH
+explained_send C s me choice sig sends.NobodyPermitted = explained_refused C s me.pid Kill EPERM
+explained_send C s me choice sig sends.Permitted = (tt, tt)
+
+-- a signal that is sent, by what it is
+explained_kill_with : (C : ℕ → Type 0) (s : State) (me : Process) (sig : Option (Option ℕ)) → ExplainedIf C s me.pid (kill_with s me sig)
+explained_kill_with C s me None = explained_refused C s me.pid Kill EINVAL
+explained_kill_with C s me (Some sig) = explained_send C s me (argument me 1) sig (sending me (argument me 1) sig s.processes)
+
+-- a signal that is sent
+explained_kill : (C : ℕ → Type 0) (s : State) (me : Process) → ExplainedIf C s me.pid (kill s me)
+unfolding kill
+explained_kill C s me = explained_kill_with C s me (signal_or_none (argument me 2))
+
+-- a new action
+explained_action_with : (C : ℕ → Type 0) (s : State) (me : Process) (old : Action) (g : Result Signals Errno) → ExplainedIf C s me.pid (sigaction_with s me old g)
+explained_action_with C s me old (Ok g) = (tt, tt)
+explained_action_with C s me old (Err why) = explained_refused C s me.pid Sigaction why
+
+-- a question for an action or a new one, by the signal
+explained_action_of : (C : ℕ → Type 0) (s : State) (me : Process) (n : Option ℕ) → ExplainedIf C s me.pid (sigaction_of s me n)
+explained_action_of C s me None = explained_refused C s me.pid Sigaction EINVAL
+explained_action_of C s me (Some n) =
+    explained_if C s me.pid (is_question (argument me 2)) _ _ (tt, tt)
+    (explained_if C s me.pid (are_flags (cast_unsigned w64 (argument me 4))) _ _
+    (explained_action_with C s me (action me.signals n) (set_action n (action_in me) me.signals)) (explained_refused C s me.pid Sigaction EINVAL))
+
+-- a question for an action or a new one
+explained_action : (C : ℕ → Type 0) (s : State) (me : Process) → ExplainedIf C s me.pid (sigaction s me)
+unfolding sigaction
+explained_action C s me = explained_action_of C s me (signal_in (argument me 1))
+
+-- a new mask
+explained_mask_with : (C : ℕ → Type 0) (s : State) (me : Process) (g : Result Signals Errno) → ExplainedIf C s me.pid (sigprocmask_with s me g)
+explained_mask_with C s me (Ok g) = (tt, tt)
+explained_mask_with C s me (Err why) = explained_refused C s me.pid Sigprocmask why
+
+-- a question for the mask or a new one
+explained_mask : (C : ℕ → Type 0) (s : State) (me : Process) → ExplainedIf C s me.pid (sigprocmask s me)
+unfolding sigprocmask
+explained_mask C s me = explained_mask_with C s me (set_mask (argument me 1) (set_in (argument me 2)) me.signals)
+
+-- a question for what is pending
+explained_pending : (C : ℕ → Type 0) (s : State) (me : Process) → ExplainedIf C s me.pid (sigpending s me)
+unfolding sigpending
+explained_pending C s me = (tt, tt)
+
+-- each call afresh
+explained_again : (C : ℕ → Type 0) (s : State) (me : Process) (b : Blocked) → ExplainedIf C s me.pid (attempt_again s me b)
+unfolding attempt_again
+explained_again C s me blocked.Waitpid = explained_wait C s me
+explained_again C s me blocked.Read = tt
+explained_again C s me blocked.Pause = tt
+explained_again C s me (blocked.Sigsuspend mask) = tt
+
+-- ---- ends and deliveries refuse nothing
+
+-- no entry tells of a refusal, whatever changed
+abbrev NoRefusal : List Entry → Type 0
+NoRefusal es = (s new : State) (p : ℕ) → AllByRecursion (Explained NotInterrupted s p new) es
+
+-- of both outcomes of a test
+none_either : (b : Bool) (x y : Outcome) → NoRefusal x.entries → NoRefusal y.entries → NoRefusal (cond b x y).entries
+none_either true x y h k = h
+none_either false x y h k = k
+
+-- of one list after another
+none_append : (xs ys : List Entry) → NoRefusal xs → NoRefusal ys → NoRefusal (xs ++ ys)
+none_append [] ys h k = k
+none_append (x ∷ xs) ys h k = λ s new p. ((h s new p).0, none_append xs ys (λ s new p. (h s new p).1) k s new p)
+
+-- an end
+none_end : (s : State) (r : Process) (status : ℕ) → NoRefusal (end_process s r status).entries
+unfolding end_process
+none_end s r status = none_either (r.pid == 1) _ _ (λ s new p. (tt, (tt, tt))) (λ s new p. (tt, tt))
+
+-- a call that is interrupted gives -4
+none_interrupted : (p : ℕ) (b : Option Blocked) (a : Action) → NoRefusal (interruption p b a)
+none_interrupted p None a = λ s new q. tt
+none_interrupted p (Some b) a = elim (is_interrupted (Some b) a) as (λ t. NoRefusal (cond t (Called p (call_of b) (refusal EINTR) ∷ []) [])) [
+  | true ↦ λ s new q. (λ other. absurd (other refl), tt)
+  | false ↦ λ s new q. tt
+]
+
+-- a handler that is entered
+none_handle : (s : State) (r : Process) (signal : PendingSignal) (address : ℤ) → NoRefusal (handle s r signal address).entries
+unfolding handle
+none_handle s r signal address =
+    let first = interruption r.pid r.blocked (action r.signals signal.sig) in
+    let told = none_interrupted r.pid r.blocked (action r.signals signal.sig) in
+    none_either (is_full r.signals) _ _
+    (none_append first _ told (none_end (change s r.pid (handles signal address)) r (killed SEGV)))
+    (none_append first _ told (λ s new p. (tt, tt)))
+
+-- a default action
+none_default : (s : State) (r : Process) (n : ℕ) (a : DefaultAction) → NoRefusal (act_by_default s r n a).entries
+none_default s r n default.Terminate = none_end s r (killed n)
+none_default s r n default.Ignore = λ s new p. (tt, tt)
+none_default s r n default.Stop = λ s new p. (tt, tt)
+none_default s r n default.Continue = λ s new p. (tt, tt)
+
+-- the action of a signal
+none_on : (s : State) (r : Process) (signal : PendingSignal) (h : Handler) → NoRefusal (act_on s r signal h).entries
+none_on s r signal (handler.At address) = none_handle s r signal address
+none_on s r signal handler.Ignore = λ s new p. (tt, tt)
+none_on s r signal handler.Default =
+    none_either (r.pid == 1) _ _ (λ s new p. (tt, tt)) (none_default s r signal.sig (default_action signal.sig))
+
+-- a delivery
+none_deliver : (s : State) (r : Process) (n : ℕ) → NoRefusal (deliver s r n).entries
+unfolding deliver
+none_deliver s r n = none_on (change s r.pid (take_out n)) r (record { sig = n; carried = carried_by n r.signals }) (action r.signals n).handler
+
+-- a fault, by the handler of its signal
+none_fault_with : (s : State) (r : Process) (n : ℕ) (h : Handler) → NoRefusal (fault_with s r n h).entries
+none_fault_with s r n (handler.At address) =
+    none_either (has r.signals.mask n) _ _ (none_end s r (killed n)) (none_handle s r (record { sig = n; carried = from_kernel }) address)
+none_fault_with s r n handler.Ignore = none_end s r (killed n)
+none_fault_with s r n handler.Default = none_end s r (killed n)
+
+-- a fault
+none_fault : (s : State) (r : Process) (n : ℕ) → NoRefusal (fault s r n).entries
+unfolding fault
+none_fault s r n = none_fault_with s r n (action r.signals n).handler
+
+-- a return to a frame
+none_return_to : (s : State) (r : Process) (frame : Option Frame) → NoRefusal (return_to s r frame).entries
+none_return_to s r None = none_fault s r SEGV
+none_return_to s r (Some frame) = λ s new p. (tt, tt)
+
+-- a return from a handler
+none_return : (s : State) (r : Process) → NoRefusal (return_from_handler s r).entries
+unfolding return_from_handler
+none_return s r = none_return_to s r (newest_frame r.signals)
+
+-- ---- all calls
+
+-- each call
+explained_attempt : (granted : Bool) (s : State) (me : Process) (call : Call) → ExplainedIf NotInterrupted s me.pid (attempt granted s me call)
+unfolding attempt
+explained_attempt granted s me Exit = none_end s me (exited (argument me 1)) s (end_process s me (exited (argument me 1))).state me.pid
+explained_attempt granted s me Fork = explained_fork NotInterrupted granted s me (next_pid s)
+explained_attempt granted s me Waitpid = explained_wait NotInterrupted s me
+explained_attempt granted s me Pause = tt
+explained_attempt granted s me SchedYield = (tt, tt)
+explained_attempt granted s me Getpid = (tt, tt)
+explained_attempt granted s me Getppid = (tt, tt)
+explained_attempt granted s me Getuid = (tt, tt)
+explained_attempt granted s me Geteuid = (tt, tt)
+explained_attempt granted s me Getgid = (tt, tt)
+explained_attempt granted s me Getegid = (tt, tt)
+explained_attempt granted s me Setuid = explained_ids NotInterrupted s me.pid Setuid (setuid me.credentials (argument me 1))
+explained_attempt granted s me Seteuid = explained_ids NotInterrupted s me.pid Seteuid (seteuid me.credentials (argument me 1))
+explained_attempt granted s me Setgid = explained_ids NotInterrupted s me.pid Setgid (setgid me.credentials (argument me 1))
+explained_attempt granted s me Setegid = explained_ids NotInterrupted s me.pid Setegid (setegid me.credentials (argument me 1))
+explained_attempt granted s me Kill = explained_kill NotInterrupted s me
+explained_attempt granted s me Sigaction = explained_action NotInterrupted s me
+explained_attempt granted s me Sigprocmask = explained_mask NotInterrupted s me
+explained_attempt granted s me Sigpending = explained_pending NotInterrupted s me
+explained_attempt granted s me Sigsuspend = tt
+explained_attempt granted s me Sigreturn = none_return s me s (return_from_handler s me).state me.pid
+
+-- ---- an entry among others
+
+-- what all entries have, each has
+all_contains : (P : Entry → Type 0) (es : List Entry) → AllByRecursion P es → (e : Entry) → Contains es e → P e
+all_contains P [] h e c = let l = c.1 in absurd (omega arith)
+all_contains P (x ∷ xs) h e (zero, l, is) = subst P is h.0
+all_contains P (x ∷ xs) h e (suc k, l, is) = all_contains P xs h.1 e (k, omega arith, is)
+
+-- ---- an attempt
+
+-- a negative result of an attempt
+pub attempt_refused : (granted : Bool) (s : State) (me : Process) (call : Call) (o : Outcome) → attempt granted s me call ≡ Done o
+    → (p n : ℕ) (called : Call) → n ≢ 3 → Contains o.entries (Called p called (negsuc n)) → o.state ≡ finish s me.pid ((0, negsuc n) ∷ [])
+attempt_refused granted s me call o is p n called other c =
+    (all_contains (Explained NotInterrupted s me.pid o.state) o.entries (subst (ExplainedIf NotInterrupted s me.pid) is (explained_attempt granted s me call)) (Called p called (negsuc n)) c other).1
+
+-- no memory in an attempt
+pub attempt_no_memory : (granted : Bool) (s : State) (me : Process) (call : Call) (o : Outcome) → attempt granted s me call ≡ Done o
+    → (p : ℕ) (called : Call) → Contains o.entries (NoMemory p called) → o.state ≡ finish s me.pid ((0, refusal EAGAIN) ∷ [])
+attempt_no_memory granted s me call o is p called c =
+    (all_contains (Explained NotInterrupted s me.pid o.state) o.entries (subst (ExplainedIf NotInterrupted s me.pid) is (explained_attempt granted s me call)) (NoMemory p called) c).1
+
+-- a negative result of an attempt afresh
+pub again_refused : (s : State) (me : Process) (b : Blocked) (o : Outcome) → attempt_again s me b ≡ Done o
+    → (p n : ℕ) (called : Call) → Contains o.entries (Called p called (negsuc n)) → o.state ≡ finish s me.pid ((0, negsuc n) ∷ [])
+again_refused s me b o is p n called c =
+    (all_contains (Explained Any s me.pid o.state) o.entries (subst (ExplainedIf Any s me.pid) is (explained_again Any s me b)) (Called p called (negsuc n)) c tt).1
+
+-- no memory in an attempt afresh
+pub again_no_memory : (s : State) (me : Process) (b : Blocked) (o : Outcome) → attempt_again s me b ≡ Done o
+    → (p : ℕ) (called : Call) → Contains o.entries (NoMemory p called) → o.state ≡ finish s me.pid ((0, refusal EAGAIN) ∷ [])
+again_no_memory s me b o is p called c =
+    (all_contains (Explained Any s me.pid o.state) o.entries (subst (ExplainedIf Any s me.pid) is (explained_again Any s me b)) (NoMemory p called) c).1
+
+-- ---- an event
+
+-- a call that begins
+explained_begin : (s : State) (r : Process) (a : Attempted) → ExplainedIf NotInterrupted s r.pid a → ExplainedBy NotInterrupted s r.pid (begin_call s r a)
+explained_begin s r (Done o) h = h
+explained_begin s r (Block b) h = tt
+
+-- a signal that is chosen, or else what happens
+explained_or : (s : State) (r : Process) (n : Option ℕ) (other : Outcome) → ExplainedBy NotInterrupted s r.pid other → ExplainedBy NotInterrupted s r.pid (deliver_or s r n other)
+explained_or s r None other h = h
+explained_or s r (Some n) other h = none_deliver s r n s (deliver s r n).state r.pid
+
+-- a call that goes on
+explained_on : (s : State) (r : Process) (a : Attempted) → ExplainedIf NotInterrupted s r.pid a → ExplainedBy NotInterrupted s r.pid (go_on s r a)
+explained_on s r (Done o) h = h
+explained_on s r (Block b) h = explained_or s r (chosen r.life r.signals) _ tt
+
+-- what follows an instruction
+explained_trap : (granted : Bool) (s : State) (r : Process) (c : Cpu) (t : Trap) → ExplainedBy NotInterrupted s r.pid (after_trap granted s r c t)
+unfolding after_trap
+explained_trap granted s r c trap.Next = tt
+explained_trap granted s r c (trap.Note z) = (tt, tt)
+explained_trap granted s r c (trap.Call call) = explained_begin s r _ (explained_attempt granted s r call)
+explained_trap granted s r c (trap.Fault sig) = none_fault s r sig s (fault s r sig).state r.pid
+
+-- a turn in a call, or in none
+explained_in : (granted : Bool) (s : State) (r : Process) (b : Option Blocked) → ExplainedBy NotInterrupted s r.pid (act_in granted s r b)
+unfolding act_in
+explained_in granted s r (Some b) = explained_on s r _ (explained_again NotInterrupted s r b)
+explained_in granted s r None = let done = exec_one (code_of s r) r.cpu in explained_or s r (chosen r.life r.signals) _ (explained_trap granted s r done.cpu done.trap)
+
+-- a turn
+explained_act : (granted : Bool) (s : State) (r : Process) → ExplainedBy NotInterrupted s r.pid (act granted s r)
+unfolding act
+explained_act granted s r =
+    explained_either NotInterrupted s r.pid (is_pending r.signals KILL) _ _
+    (none_end s r (killed KILL) s (end_process s r (killed KILL)).state r.pid) (explained_in granted s r r.blocked)
+
+-- the same of p by the name that the entry gives; and p is current
+abbrev Told : State → State → Entry → Type 0
+Told s new (Noted q value) = Unit {0}
+Told s new (Called q call (pos n)) = Unit {0}
+Told s new (Called q call (negsuc n)) = n ≢ 3 → (current s ≡ Some q) × (new ≡ finish s q ((0, negsuc n) ∷ []))
+Told s new (Reported q child status) = Unit {0}
+Told s new (NoMemory q call) = (current s ≡ Some q) × (new ≡ finish s q ((0, refusal EAGAIN) ∷ []))
+Told s new (Handled q sig value sender) = Unit {0}
+Told s new (Discarded q sig) = Unit {0}
+Told s new (Returned q) = Unit {0}
+Told s new (Ended q status) = Unit {0}
+Told s new Halted = Unit {0}
+
+-- an entry of the current process
+told : (s : State) (p : ℕ) (new : State) (e : Entry) → current s ≡ Some p → Explained NotInterrupted s p new e → Told s new e
+told s p new (Noted q value) first h = tt
+told s p new (Called q call (pos n)) first h = tt
+told s p new (Called q call (negsuc n)) first h = λ other. (first ∙ ap Some (sym (h other).0), (h other).1 ∙ ap (λ m. finish s m ((0, negsuc n) ∷ [])) (sym (h other).0))
+told s p new (Reported q child status) first h = tt
+told s p new (NoMemory q call) first h = (first ∙ ap Some (sym h.0), h.1 ∙ ap (λ m. finish s m ((0, refusal EAGAIN) ∷ [])) (sym h.0))
+told s p new (Handled q sig value sender) first h = tt
+told s p new (Discarded q sig) first h = tt
+told s p new (Returned q) first h = tt
+told s p new (Ended q status) first h = tt
+told s p new Halted first h = tt
+
+-- all entries of the current process
+told_all : (s : State) (p : ℕ) (new : State) (es : List Entry) → current s ≡ Some p → AllByRecursion (Explained NotInterrupted s p new) es → AllByRecursion (Told s new) es
+told_all s p new [] first h = tt
+told_all s p new (e ∷ es) first h = (told s p new e first h.0, told_all s p new es first h.1)
+
+-- the same of all entries of an outcome
+abbrev ToldBy : State → Outcome → Type 0
+ToldBy s o = AllByRecursion (Told s o.state) o.entries
+
+-- a step of the process that is found
+told_found : (granted : Bool) (s : State) (p : ℕ) → current s ≡ Some p → (o : Option Process) → lookup p s.processes ≡ o → ToldBy s (step granted s o)
+unfolding step
+told_found granted s p first None e = tt
+told_found granted s p first (Some r) e =
+    told_all s r.pid (act granted s r).state (act granted s r).entries (first ∙ ap Some (sym (pid_looked p s.processes r e))) (explained_act granted s r)
+
+-- no process shows nothing
+told_none : (granted : Bool) (s : State) → ToldBy s (step granted s None)
+unfolding step
+told_none granted s = tt
+
+-- a step
+told_step : (granted : Bool) (s : State) (c : Option ℕ) → current s ≡ c → ToldBy s (step granted s (option_and_then (process s) c))
+told_step granted s None e = told_none granted s
+told_step granted s (Some p) e = told_found granted s p e (lookup p s.processes) refl
+
+-- an event
+told_happens : (granted : Bool) (s : State) (event : Event) → ToldBy s (happens granted s event)
+unfolding happens
+told_happens granted s Step = told_step granted s (current s) refl
+told_happens granted s Tick = tt
+
+-- the state before all are asked, and what an entry tells of it
+record Unsettled (s new : State) (e : Entry) : Type 0 where
+  mid : State
+  is : new ≡ settle mid
+  tells : Told s mid e
+
+-- an entry that an event shows
+unsettled : (granted : Bool) (s : State) (event : Event) (e : Entry) → Contains (next granted s event).entries e → Unsettled s (next granted s event).state e
+unsettled granted s event e c =
+    elim s.halted as (λ b. s.halted ≡ b → Unsettled s (next granted s event).state e) [
+      | true ↦ λ h. let l = (subst (λ es. Contains es e) (next_nothing granted s event h) c).1 in absurd (omega arith)
+      | false ↦ λ h.
+          let there : Contains (happens granted s event).entries e = subst (λ es. Contains es e) (next_entries granted s event h) c in
+          record {
+            mid = (happens granted s event).state;
+            is = next_awake granted s event h;
+            tells = all_contains (Told s (happens granted s event).state) _ (told_happens granted s event) e there;
+          }
+    ] refl
+
+-- the same in the relation
+unsettled_step : (old new : State) (event : Event) (entries : List Entry) → IsStep old event entries new → (e : Entry) → Contains entries e → Unsettled old new e
+unsettled_step old new event entries h e c =
+    subst (λ (o : Outcome). Contains o.entries e → Unsettled old o.state e) h.comes (unsettled h.granted old event e) c
+
+-- ---- nobody wakes by a refusal
+
+-- a call that is finished changes nothing that others see
+unseen_finished : (ws : List (ℕ × ℤ)) → Unseen (finished ws)
+unfolding finished
+unseen_finished ws = record { pid = λ r. refl; parent = λ r. refl; group = λ r. refl; life = λ r. refl; news = λ r. refl }
+
+-- to settle gives no place then
+settle_finished : (s : State) (p : ℕ) (ws : List (ℕ × ℤ)) → IsRising s.processes → NoWakeIsLost s → is_in p s.order ≡ true → settle (finish s p ws) ≡ finish s p ws
+settle_finished s p ws = settle_unseen s p (finished ws) (unseen_finished ws)
+
+-- a negative result of an event
+pub event_refused : (old new : State) (event : Event) (entries : List Entry) → IsStep old event entries new → IsRising old.processes → NoWakeIsLost old
+    → (p n : ℕ) (call : Call) → n ≢ 3 → Contains entries (Called p call (negsuc n)) → new ≡ finish old p ((0, negsuc n) ∷ [])
+event_refused old new event entries h up placed p n call other c =
+    let u = unsettled_step old new event entries h (Called p call (negsuc n)) c in
+    let t = u.tells other in
+    u.is ∙ ap settle t.1 ∙ settle_finished old p ((0, negsuc n) ∷ []) up placed (first_in p old.order t.0)
+
+-- no memory in an event
+pub event_no_memory : (old new : State) (event : Event) (entries : List Entry) → IsStep old event entries new → IsRising old.processes → NoWakeIsLost old
+    → (p : ℕ) (call : Call) → Contains entries (NoMemory p call) → new ≡ finish old p ((0, refusal EAGAIN) ∷ [])
+event_no_memory old new event entries h up placed p call c =
+    let u = unsettled_step old new event entries h (NoMemory p call) c in
+    u.is ∙ ap settle u.tells.1 ∙ settle_finished old p ((0, refusal EAGAIN) ∷ []) up placed (first_in p old.order u.tells.0)

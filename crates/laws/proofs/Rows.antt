@@ -1,0 +1,153 @@
+-- Worked runs, computed from a world and events to the lines of the trace.
+use Rattle.std.specs.Prelude.{ℕ, ◌≡◌, ◌==◌, if◌then◌else◌, ◌+◌, Bool, true, false, refl, List, [], ◌∷◌, ◌++◌, replicate, Option, None, pos, negsuc, codes}
+use Rattle.std.specs.Fmt.{digits}
+use Rattle.posix.specs.declared.event.Event.{Event}
+use Rattle.posix.specs.declared.event.Event.TheVariants.{Step, Tick}
+use Rattle.posix.specs.declared.entry.Entry.TheVariants.{Noted, Called, Reported, NoMemory, Handled, Returned, Ended, Halted}
+use Rattle.posix.specs.declared.instr.Instr.{Instr}
+use Rattle.posix.specs.declared.instr.Instr.TheVariants.{Set, Compute, Jump, JumpIf, Note, Sys}
+use Rattle.posix.specs.declared.instr.Operator.TheVariants.{Div, Rem}
+use Rattle.posix.specs.declared.instr.Condition.TheVariants.{Zero}
+use Rattle.posix.specs.declared.call.Call.TheVariants.{Exit, Fork, Waitpid, Pause, SchedYield, Getpid, Kill, Sigaction, Sigprocmask, Sigsuspend, Sigreturn}
+use Rattle.posix.specs.Processes.{nothing_pending, default_actions, zero_registers, zero_memory}
+use Rattle.posix.specs.Tables.{lookup, changed, inserted, removed, children_in, adopted}
+use Rattle.posix.specs.NextPid.{is_free, next_free}
+use Rattle.posix.specs.States.{Program, World, State, boot, is_in, without}
+use Rattle.posix.specs.Entries.{Line, line, numbered}
+use Rattle.posix.specs.Execute.{exec_one}
+use Rattle.posix.specs.Outcomes.{finished, written}
+use Rattle.posix.specs.Credentials.{setuid, seteuid, setgid, setegid}
+use Rattle.posix.specs.Generation.{generated, signalled, signalled_all}
+use Rattle.posix.specs.Choice.{least_ready, chosen, taken}
+use Rattle.posix.specs.Handlers.{entered, at_handler, handles, returned, set_action, set_mask}
+use Rattle.posix.specs.Delivery.{handle, take_out, deliver, fault, return_from_handler}
+use Rattle.posix.specs.Sends.{targets, permitted, sending, sent_among, sent, kill}
+use Rattle.posix.specs.SignalCalls.{give_credentials, give_signals, sigaction, sigprocmask, set_of, sigpending}
+use Rattle.posix.specs.Births.{child_of, fork_as}
+use Rattle.posix.specs.Ends.{make_zombie, buried, noticed, notice_of_end, zombies_of, tell_of_all, end_process}
+use Rattle.posix.specs.Waits.{report_of, report, news_told, wait}
+use Rattle.posix.specs.Attempts.{attempt, attempt_again}
+use Rattle.posix.specs.Settle.{can_act, settle}
+use Rattle.posix.specs.Step.{set_cpu, enter, after_trap, act_in, act, step, tick, happens, next}
+use Rattle.posix.specs.Printing.{print}
+
+abbrev program : Option ℕ → Option ℕ → List Instr → Program
+program setuid setgid instructions = record { setuid = setuid; setgid = setgid; instructions = instructions }
+
+abbrev world : ℕ → ℕ → List Program → World
+world pidmax consoles programs = record { pidmax = pidmax; consoles = consoles; programs = programs }
+
+-- the lines of a run in which the k-th event, and those after it, are granted memory or not
+abbrev trace_from : ℕ → State → (ℕ → Bool) → List Event → List Line
+trace_from k s granted [] = []
+trace_from k s granted (event ∷ events) =
+    let done = next (granted k) s event in numbered k done.entries ++ trace_from (k + 1) done.state granted events
+
+-- with ample memory
+abbrev trace : World → List Event → List Line
+trace w events = trace_from 1 (boot w) (λ k. true) events
+
+-- opens every definition of an operation
+unfoldable everything : Unit {0}
+unfolding nothing_pending default_actions zero_registers zero_memory exec_one digits lookup changed inserted removed children_in adopted is_free next_free is_in without finished written setuid seteuid setgid setegid generated signalled signalled_all least_ready chosen taken entered at_handler handles returned set_action set_mask child_of fork_as make_zombie buried noticed notice_of_end zombies_of tell_of_all end_process report_of report news_told wait handle take_out deliver fault return_from_handler targets permitted sending sent_among sent kill give_credentials give_signals sigaction sigprocmask set_of sigpending attempt attempt_again can_act settle set_cpu enter after_trap act_in act step tick happens next
+everything = tt
+
+abbrev note_and_exit : World
+note_and_exit = world 40 1 (program None None (Set 1 (pos 7) ∷ Note 1 ∷ Sys Exit ∷ []) ∷ [])
+
+row_note_and_exit : trace note_and_exit (replicate 3 Step)
+    ≡ line 2 (Noted 1 (pos 7)) ∷ line 3 (Ended 1 1792) ∷ line 3 (Halted) ∷ []
+unfolding everything
+row_note_and_exit = refl
+
+row_note_and_exit_printed : print (trace note_and_exit (replicate 3 Step)) ≡ codes "2 note 1 7\n3 end 1 1792\n3 halt\n"
+unfolding everything
+row_note_and_exit_printed = refl
+
+row_silent_after_halt : trace note_and_exit (replicate 5 Step)
+    ≡ line 2 (Noted 1 (pos 7)) ∷ line 3 (Ended 1 1792) ∷ line 3 (Halted) ∷ []
+unfolding everything
+row_silent_after_halt = refl
+
+row_no_events : trace note_and_exit [] ≡ []
+unfolding everything
+row_no_events = refl
+
+row_runs_off_the_end : trace (world 40 1 (program None None (Set 1 (pos 7) ∷ []) ∷ [])) (replicate 2 Step)
+    ≡ line 2 (Ended 1 11) ∷ line 2 (Halted) ∷ []
+unfolding everything
+row_runs_off_the_end = refl
+
+-- a tick is an event, too, and changes nothing for a process alone
+row_ticks_count : trace note_and_exit (Step ∷ Tick ∷ Step ∷ Tick ∷ Step ∷ []) ≡ line 3 (Noted 1 (pos 7)) ∷ line 5 (Ended 1 1792) ∷ line 5 (Halted) ∷ []
+unfolding everything
+row_ticks_count = refl
+
+row_division : trace (world 40 1 (program None None (Set 1 (negsuc 6) ∷ Set 2 (pos 2) ∷ Compute Div 1 2 ∷ Note 1 ∷ Set 1 (negsuc 6) ∷ Compute Rem 1 2 ∷ Note 1 ∷ Sys Getpid ∷ Note 0 ∷ Set 2 (pos 0) ∷ Compute Div 1 2 ∷ []) ∷ [])) (replicate 11 Step)
+    ≡ line 4 (Noted 1 (negsuc 2)) ∷ line 7 (Noted 1 (negsuc 0)) ∷ line 8 (Called 1 Getpid (pos 1)) ∷ line 9 (Noted 1 (pos 1)) ∷ line 11 (Ended 1 8) ∷ line 11 (Halted) ∷ []
+unfolding everything
+row_division = refl
+
+row_numbers_wrap_and_are_reused : trace (world 4 1 (program None None (Sys Fork ∷ JumpIf Zero 0 28 ∷ Sys Fork ∷ JumpIf Zero 0 29 ∷ Sys Fork ∷ JumpIf Zero 0 28 ∷ Set 1 (pos 3) ∷ Set 2 (pos 0) ∷ Sys Waitpid ∷ Sys Fork ∷ JumpIf Zero 0 28 ∷ Sys Fork ∷ Sys Pause ∷ Sys Exit ∷ []) ∷ [])) (replicate 19 Step)
+    ≡ line 1 (Called 1 Fork (pos 2)) ∷ line 3 (Called 1 Fork (pos 3)) ∷ line 5 (Called 1 Fork (pos 4)) ∷ line 13 (Ended 3 0) ∷ line 16 (Reported 1 3 0) ∷ line 17 (Called 1 Fork (pos 3)) ∷ line 19 (Called 1 Fork (negsuc 10)) ∷ []
+unfolding everything
+row_numbers_wrap_and_are_reused = refl
+
+row_parent_dies_with_a_zombie_child : trace (world 40 1 (program None None (Sys Fork ∷ JumpIf Zero 0 21 ∷ Set 1 (negsuc 0) ∷ Sys Waitpid ∷ Jump 18 ∷ Sys Fork ∷ JumpIf Zero 0 26 ∷ Sys SchedYield ∷ Set 1 (pos 2) ∷ Sys Exit ∷ Set 1 (pos 5) ∷ Sys Exit ∷ []) ∷ [])) (replicate 20 Step)
+    ≡ line 1 (Called 1 Fork (pos 2)) ∷ line 6 (Called 2 Fork (pos 3)) ∷ line 8 (Called 2 SchedYield (pos 0)) ∷ line 11 (Ended 3 1280) ∷ line 13 (Ended 2 512) ∷ line 14 (Reported 1 2 512) ∷ line 17 (Reported 1 3 1280) ∷ line 20 (Called 1 Waitpid (negsuc 9)) ∷ []
+unfolding everything
+row_parent_dies_with_a_zombie_child = refl
+
+row_turns : trace (world 40 1 (program None None (Sys Fork ∷ Note 0 ∷ Jump 17 ∷ []) ∷ [])) (replicate 3 Step ++ (Tick ∷ []) ++ replicate 2 Step)
+    ≡ line 1 (Called 1 Fork (pos 2)) ∷ line 2 (Noted 1 (pos 2)) ∷ line 5 (Noted 2 (pos 0)) ∷ []
+unfolding everything
+row_turns = refl
+
+row_fork_bomb : trace (world 8 1 (program None None (Sys Fork ∷ Jump 16 ∷ []) ∷ [])) (replicate 15 Step ++ (Tick ∷ []) ++ replicate 2 Step)
+    ≡ line 1 (Called 1 Fork (pos 2)) ∷ line 3 (Called 1 Fork (pos 3)) ∷ line 5 (Called 1 Fork (pos 4)) ∷ line 7 (Called 1 Fork (pos 5)) ∷ line 9 (Called 1 Fork (pos 6)) ∷ line 11 (Called 1 Fork (pos 7)) ∷ line 13 (Called 1 Fork (pos 8)) ∷ line 15 (Called 1 Fork (negsuc 10)) ∷ line 18 (Called 2 Fork (negsuc 10)) ∷ []
+unfolding everything
+row_fork_bomb = refl
+
+abbrev two_forks : World
+two_forks = world 40 1 (program None None (Sys Fork ∷ Sys Fork ∷ []) ∷ [])
+
+row_refused_fork : trace_from 1 (boot two_forks) (λ k. if k == 1 then false else true) (replicate 2 Step)
+    ≡ line 1 (NoMemory 1 Fork) ∷ line 2 (Called 1 Fork (pos 2)) ∷ []
+unfolding everything
+row_refused_fork = refl
+
+row_refused_fork_printed : print (trace_from 1 (boot two_forks) (λ k. if k == 1 then false else true) (replicate 2 Step))
+    ≡ codes "1 call 1 fork = -11 memory\n2 call 1 fork = 2\n"
+unfolding everything
+row_refused_fork_printed = refl
+
+-- waitpid of the least i64 names no process group
+row_extreme_targets : trace (world 40 1 (program None None (Set 1 (negsuc 9223372036854775807) ∷ Sys Waitpid ∷ []) ∷ [])) (replicate 2 Step)
+    ≡ line 2 (Called 1 Waitpid (negsuc 9)) ∷ []
+unfolding everything
+row_extreme_targets = refl
+
+row_children_ignored : trace (world 40 1 (program None None (Set 1 (pos 17) ∷ Set 2 (pos 1) ∷ Sys Sigaction ∷ Sys Fork ∷ JumpIf Zero 0 26 ∷ Sys Fork ∷ JumpIf Zero 0 26 ∷ Set 1 (negsuc 0) ∷ Set 2 (pos 0) ∷ Sys Waitpid ∷ Sys Exit ∷ []) ∷ [])) (replicate 15 Step)
+    ≡ line 3 (Called 1 Sigaction (pos 0)) ∷ line 4 (Called 1 Fork (pos 2)) ∷ line 6 (Called 1 Fork (pos 3)) ∷ line 12 (Ended 2 4352) ∷ line 14 (Ended 3 4352) ∷ line 15 (Called 1 Waitpid (negsuc 9)) ∷ []
+unfolding everything
+row_children_ignored = refl
+
+row_completed_call_goes_first : trace (world 40 1 (program None None (Set 1 (pos 17) ∷ Set 2 (pos 25) ∷ Sys Sigaction ∷ Sys Fork ∷ JumpIf Zero 0 24 ∷ Set 1 (negsuc 0) ∷ Sys Waitpid ∷ Note 1 ∷ Sys Exit ∷ Sys Sigreturn ∷ []) ∷ [])) (replicate 13 Step)
+    ≡ line 3 (Called 1 Sigaction (pos 0)) ∷ line 4 (Called 1 Fork (pos 2)) ∷ line 9 (Ended 2 4352) ∷ line 10 (Reported 1 2 4352) ∷ line 11 (Handled 1 17 (pos 4352) 2) ∷ line 12 (Returned 1) ∷ line 13 (Noted 1 (pos 4352)) ∷ []
+unfolding everything
+row_completed_call_goes_first = refl
+
+row_interrupted_wait : trace (world 40 1 (program None None (Set 1 (pos 10) ∷ Set 2 (pos 28) ∷ Sys Sigaction ∷ Sys Fork ∷ JumpIf Zero 0 24 ∷ Set 1 (negsuc 0) ∷ Sys Waitpid ∷ Sys Pause ∷ Set 1 (pos 1) ∷ Set 2 (pos 10) ∷ Sys Kill ∷ Sys Pause ∷ Sys Sigreturn ∷ []) ∷ [])) (replicate 15 Step)
+    ≡ line 3 (Called 1 Sigaction (pos 0)) ∷ line 4 (Called 1 Fork (pos 2)) ∷ line 11 (Called 2 Kill (pos 0)) ∷ line 13 (Called 1 Waitpid (negsuc 3)) ∷ line 13 (Handled 1 10 (pos 0) 2) ∷ line 14 (Returned 1) ∷ []
+unfolding everything
+row_interrupted_wait = refl
+
+row_restarted_wait : trace (world 40 1 (program None None (Set 4 (pos 268435456) ∷ Set 1 (pos 10) ∷ Set 2 (pos 29) ∷ Sys Sigaction ∷ Sys Fork ∷ JumpIf Zero 0 25 ∷ Set 1 (negsuc 0) ∷ Sys Waitpid ∷ Sys Pause ∷ Set 1 (pos 1) ∷ Set 2 (pos 10) ∷ Sys Kill ∷ Sys Pause ∷ Sys Sigreturn ∷ []) ∷ [])) (replicate 16 Step)
+    ≡ line 4 (Called 1 Sigaction (pos 0)) ∷ line 5 (Called 1 Fork (pos 2)) ∷ line 12 (Called 2 Kill (pos 0)) ∷ line 14 (Handled 1 10 (pos 0) 2) ∷ line 15 (Returned 1) ∷ []
+unfolding everything
+row_restarted_wait = refl
+
+row_suspend_restores_the_mask : trace (world 40 1 (program None None (Set 1 (pos 10) ∷ Set 2 (pos 31) ∷ Sys Sigaction ∷ Set 1 (pos 2) ∷ Set 2 (pos 512) ∷ Sys Sigprocmask ∷ Set 1 (pos 1) ∷ Set 2 (pos 10) ∷ Sys Kill ∷ Set 1 (pos 0) ∷ Sys Sigsuspend ∷ Set 1 (pos 0) ∷ Set 2 (pos 0) ∷ Sys Sigprocmask ∷ Note 2 ∷ Sys Sigreturn ∷ []) ∷ [])) (replicate 17 Step)
+    ≡ line 3 (Called 1 Sigaction (pos 0)) ∷ line 6 (Called 1 Sigprocmask (pos 0)) ∷ line 9 (Called 1 Kill (pos 0)) ∷ line 12 (Called 1 Sigsuspend (negsuc 3)) ∷ line 12 (Handled 1 10 (pos 0) 1) ∷ line 13 (Returned 1) ∷ line 16 (Called 1 Sigprocmask (pos 0)) ∷ line 17 (Noted 1 (pos 512)) ∷ []
+unfolding everything
+row_suspend_restores_the_mask = refl

@@ -1,0 +1,328 @@
+-- Who has a place keeps it, and comes nearer to its turn.
+use Rattle.std.proofs.Common.{◌≡◌, ◌≢◌, ℕ, zero, suc, add-zero, append_assoc, ◌+◌, ◌≤◌, Bool, true, false, cond, not, ◌&&◌, ◌||◌, refl, ap, sym, ◌∙◌, arith, subst, List, [], ◌∷◌, ◌++◌, filter, find, Option, Some, None, option_and_then, ◌==◌, slice_get, inl, inr}
+use Rattle.std.specs.List.{list_any}
+use Rattle.std.proofs.lemmas.Bool.{eqb-true, eq-eqb, ne_eqb}
+use Rattle.std.proofs.lemmas.List.Sums.{sum_by-cons}
+use Rattle.posix.specs.declared.event.Event.{Event}
+use Rattle.posix.specs.declared.event.Event.TheVariants.{Step, Tick}
+use Rattle.posix.specs.declared.entry.Entry.{Entry}
+use Rattle.posix.specs.Processes.{Process, first_process}
+use Rattle.posix.specs.Tables.{lookup, has_pid, pids}
+use Rattle.posix.specs.States.{State, World, boot, is_in, without, current, process}
+use Rattle.posix.specs.Regular.{IsDistinct}
+use Rattle.posix.specs.Outcomes.{Outcome}
+use Rattle.posix.specs.Settle.{settle, wakes, can_act}
+use Rattle.posix.specs.Step.{IsStep, next, happens, step, act, tick, rotate, pass_time}
+use Rattle.posix.specs.Entries.{Line, numbered}
+use Rattle.posix.specs.Runs.{RunsFrom}
+use Rattle.posix.specs.Settle.{NoWakeIsLost}
+use Rattle.laws.specs.Turns.{places_before, is_tick, ticks_in, HasTurn}
+use Rattle.posix.proofs.TableLemmas.{pid_looked}
+use Rattle.posix.proofs.OrderLemmas.{without_absent}
+use Rattle.posix.proofs.SettleLemmas.{can_act_order}
+use Rattle.posix.proofs.ActLemmas.{Turned, acted}
+use Rattle.posix.proofs.WakeLemmas.{next_awake, next_halted, next_entries, next_nothing, nothing_after_halt, in_front, others_stay, act_has_place, first_has_place}
+
+-- ---- the order after an event
+
+-- one other than q may have turned
+abbrev OtherTurned : ℕ → List ℕ → List ℕ → Type 0
+OtherTurned q old new = (p : ℕ) × (p ≢ q) × Turned p old new
+
+-- the order stays
+nobody_turned : (q : ℕ) (old : List ℕ) → OtherTurned q old old
+nobody_turned q old = (suc q, λ e. omega (arith, e), inl refl)
+
+-- a step turns the process that is found
+turned_found : (granted : Bool) (s : State) (p q : ℕ) → p ≢ q → (o : Option Process) → lookup p s.processes ≡ o → OtherTurned q s.order (step granted s o).state.order
+unfolding step
+turned_found granted s p q ne None e = nobody_turned q s.order
+turned_found granted s p q ne (Some r) e = (r.pid, λ k. ne (sym (pid_looked p s.processes r e) ∙ k), (acted granted s r).order)
+
+-- no process, no turn
+turned_none : (granted : Bool) (s : State) (q : ℕ) → OtherTurned q s.order (step granted s None).state.order
+unfolding step
+turned_none granted s q = nobody_turned q s.order
+
+-- a step turns another than q where q isn't current
+turned_step : (granted : Bool) (s : State) (q : ℕ) (c : Option ℕ) → c ≢ Some q → OtherTurned q s.order (step granted s (option_and_then (process s) c)).state.order
+turned_step granted s q None ne = turned_none granted s q
+turned_step granted s q (Some p) ne = turned_found granted s p q (λ e. ne (ap Some e)) (lookup p s.processes) refl
+
+-- a tick turns another than q where q isn't current
+turned_rotate : (s : State) (q : ℕ) (c : Option ℕ) → c ≢ Some q → OtherTurned q s.order (rotate (pass_time s) c).order
+turned_rotate s q None ne = nobody_turned q s.order
+turned_rotate s q (Some p) ne = (p, λ e. ne (ap Some e), inr (inr refl))
+
+-- an event turns another than q where q isn't current
+turned_event : (granted : Bool) (s : State) (event : Event) (q : ℕ) → current s ≢ Some q → OtherTurned q s.order (happens granted s event).state.order
+unfolding happens tick
+turned_event granted s Step q ne = turned_step granted s q (current s) ne
+turned_event granted s Tick q ne = turned_rotate s q (current s) ne
+
+-- ---- how many are before q
+
+-- the first is before another
+first_other : (q x : ℕ) (xs : List ℕ) → (x == q) ≡ false → places_before q (x ∷ xs) ≡ places_before q xs + 1
+unfolding places_before
+first_other q x xs e = rw e refl
+
+-- who comes behind doesn't count
+before_front : (q : ℕ) (xs ys : List ℕ) → is_in q xs ≡ true → places_before q (xs ++ ys) ≡ places_before q xs
+unfolding places_before is_in
+before_front q [] ys e = absurd (cc)
+before_front q (x ∷ xs) ys e =
+    elim (x == q) as (λ b. (b || list_any (λ y. y == q) xs) ≡ true → cond b 0 (places_before q (xs ++ ys) + 1) ≡ cond b 0 (places_before q xs + 1)) [
+      | true ↦ λ k. refl
+      | false ↦ λ k. ap (λ n. n + 1) (before_front q xs ys k)
+    ] e
+
+-- with p gone, no more are before another
+before_without : (p q : ℕ) (o : List ℕ) → p ≢ q → places_before q (without p o) ≤ places_before q o
+unfolding places_before without
+before_without p q [] ne = omega arith
+before_without p q (x ∷ xs) ne =
+    elim (x == p) as (λ b. (x == p) ≡ b → places_before q (cond (not b) (x ∷ filter (λ y. not (y == p)) xs) (filter (λ y. not (y == p)) xs)) ≤ cond (x == q) 0 (places_before q xs + 1)) [
+      | true ↦ λ t.
+          let away : (x == q) ≡ false = ne_eqb _ _ (λ k. ne (sym (eqb-true x p t) ∙ k)) in
+          let l : places_before q (filter (λ y. not (y == p)) xs) ≤ places_before q xs = before_without p q xs ne in
+          rw away (omega (arith, l))
+      | false ↦ λ t.
+          let l : places_before q (filter (λ y. not (y == p)) xs) ≤ places_before q xs = before_without p q xs ne in
+          elim (x == q) as (λ b. cond b 0 (places_before q (filter (λ y. not (y == p)) xs) + 1) ≤ cond b 0 (places_before q xs + 1)) [ true ↦ omega arith | false ↦ omega (arith, l) ]
+    ] refl
+
+-- a place, and no more before it than there were
+abbrev Nearer : ℕ → List ℕ → List ℕ → Type 0
+Nearer q old new = (is_in q new ≡ true) × (places_before q new ≤ places_before q old)
+
+-- another's turn brings q nearer
+nearer_turned : (p q : ℕ) (old new : List ℕ) → p ≢ q → is_in q old ≡ true → Turned p old new → Nearer q old new
+nearer_turned p q old new ne e (inl same) = (ap (is_in q) same ∙ e, rw same (omega arith))
+nearer_turned p q old new ne e (inr (inl less)) = (ap (is_in q) less ∙ others_stay p q old ne e, rw less (before_without p q old ne))
+nearer_turned p q old new ne e (inr (inr last)) =
+    let stays = others_stay p q old ne e in (
+      ap (is_in q) last ∙ in_front q (without p old) (p ∷ []) stays,
+      rw (last, before_front q (without p old) (p ∷ []) stays) (before_without p q old ne),
+    )
+
+-- to settle leaves who is before q
+nearer_settled : (s : State) (q : ℕ) (old : List ℕ) → Nearer q old s.order → Nearer q old (settle s).order
+unfolding settle
+nearer_settled s q old h = (in_front q s.order _ h.0, rw (before_front q s.order (pids (filter (wakes s) s.processes)) h.0) h.1)
+
+-- an event before a halt brings q nearer
+nearer_awake : (granted : Bool) (s : State) (event : Event) (q : ℕ) → is_in q s.order ≡ true → current s ≢ Some q → Nearer q s.order (settle (happens granted s event).state).order
+nearer_awake granted s event q e ne =
+    let t = turned_event granted s event q ne in
+    nearer_settled _ q s.order (nearer_turned t.0 q s.order _ t.1 e t.2)
+
+-- an event brings q nearer
+nearer_next : (granted : Bool) (s : State) (event : Event) (q : ℕ) → is_in q s.order ≡ true → current s ≢ Some q → Nearer q s.order (next granted s event).state.order
+nearer_next granted s event q e ne =
+    elim s.halted as (λ b. s.halted ≡ b → Nearer q s.order (next granted s event).state.order) [
+      | true ↦ λ h. subst (λ (n : State). Nearer q s.order n.order) (sym (next_halted granted s event h)) (e, omega arith)
+      | false ↦ λ h. subst (λ (n : State). Nearer q s.order n.order) (sym (next_awake granted s event h)) (nearer_awake granted s event q e ne)
+    ] refl
+
+-- a step of the relation brings q nearer
+nearer_after : (old new : State) (event : Event) (entries : List Entry) → IsStep old event entries new
+    → (q : ℕ) → is_in q old.order ≡ true → current old ≢ Some q → Nearer q old.order new.order
+nearer_after old new event entries h q e ne = subst (λ (o : Outcome). Nearer q old.order o.state.order) h.comes (nearer_next h.granted old event q e ne)
+
+-- who isn't current keeps its place
+pub place_stays : (old new : State) (event : Event) (entries : List Entry) → IsStep old event entries new
+    → (q : ℕ) → is_in q old.order ≡ true → current old ≢ Some q → is_in q new.order ≡ true
+place_stays old new event entries h q e ne = (nearer_after old new event entries h q e ne).0
+
+-- no more places come before it
+pub place_nears : (old new : State) (event : Event) (entries : List Entry) → IsStep old event entries new
+    → (q : ℕ) → is_in q old.order ≡ true → current old ≢ Some q → places_before q new.order ≤ places_before q old.order
+place_nears old new event entries h q e ne = (nearer_after old new event entries h q e ne).1
+
+-- ---- a tick
+
+-- the first is before each other
+one_before : (p q : ℕ) (o : List ℕ) → IsDistinct o → slice_get o 0 ≡ Some p → p ≢ q → places_before q o ≡ places_before q (without p o) + 1
+unfolding without IsDistinct
+one_before p q [] d e ne = absurd (cc)
+one_before p q (x ∷ xs) d e ne =
+    let same : x ≡ p = cc in
+    let rest : filter (λ y. not (y == p)) xs ≡ xs = without_absent p xs (subst (λ n. is_in n xs ≡ false) same d.0) in
+    let t : (x == p) ≡ true = eq-eqb x p same in
+    let u : (x == q) ≡ false = ne_eqb _ _ (λ k. ne (sym same ∙ k)) in
+    first_other q x xs u ∙ ap (λ l. places_before q l + 1) (sym (rw t rest))
+
+-- who has a place is not in an order without a first
+no_first : (q : ℕ) (o : List ℕ) → slice_get o 0 ≡ None → is_in q o ≡ true → ⊥
+unfolding is_in
+no_first q [] k e = absurd (cc)
+no_first q (x ∷ xs) k e = absurd (cc)
+
+-- a rotation takes one from before q
+tick_rotates : (s : State) (q : ℕ) (c : Option ℕ) → current s ≡ c → IsDistinct s.order → is_in q s.order ≡ true → c ≢ Some q
+    → places_before q s.order ≡ places_before q (rotate (pass_time s) c).order + 1
+tick_rotates s q None k d e ne = absurd (no_first q s.order k e)
+tick_rotates s q (Some p) k d e ne =
+    let away : p ≢ q = λ x. ne (ap Some x) in
+    one_before p q s.order d k away ∙ ap (λ n. n + 1) (sym (before_front q (without p s.order) (p ∷ []) (others_stay p q s.order away e)))
+
+-- to settle leaves how many are before q
+settle_counts : (s : State) (q : ℕ) → is_in q s.order ≡ true → places_before q (settle s).order ≡ places_before q s.order
+unfolding settle
+settle_counts s q e = before_front q s.order _ e
+
+-- a tick takes one from before q
+tick_counts : (granted : Bool) (s : State) (q : ℕ) → IsDistinct s.order → is_in q s.order ≡ true → current s ≢ Some q
+    → places_before q s.order ≡ places_before q (happens granted s Tick).state.order + 1
+unfolding happens tick
+tick_counts granted s q d e ne = tick_rotates s q (current s) refl d e ne
+
+-- a tick leaves q its place
+tick_stays : (granted : Bool) (s : State) (q : ℕ) → is_in q s.order ≡ true → current s ≢ Some q → is_in q (happens granted s Tick).state.order ≡ true
+tick_stays granted s q e ne = let t = turned_event granted s Tick q ne in (nearer_turned t.0 q s.order _ t.1 e t.2).0
+
+-- a tick before a halt takes one from before q
+tick_next : (granted : Bool) (s : State) (q : ℕ) → s.halted ≡ false → IsDistinct s.order → is_in q s.order ≡ true → current s ≢ Some q
+    → places_before q s.order ≡ places_before q (next granted s Tick).state.order + 1
+tick_next granted s q h d e ne =
+    tick_counts granted s q d e ne
+    ∙ ap (λ n. n + 1) (sym (settle_counts _ q (tick_stays granted s q e ne)))
+    ∙ ap (λ (n : State). places_before q n.order + 1) (sym (next_awake granted s Tick h))
+
+-- at a tick one place less comes before q
+pub tick_nears : (old new : State) (entries : List Entry) → IsStep old Tick entries new → old.halted ≡ false → IsDistinct old.order
+    → (q : ℕ) → is_in q old.order ≡ true → current old ≢ Some q → places_before q old.order ≡ places_before q new.order + 1
+tick_nears old new entries h awake d q e ne =
+    tick_next h.granted old q awake d e ne ∙ ap (λ (o : Outcome). places_before q o.state.order + 1) h.comes
+
+-- ---- the turn
+
+-- with no place before it a process is current
+pub turn_is_here : (q : ℕ) (o : List ℕ) → is_in q o ≡ true → places_before q o ≡ 0 → slice_get o 0 ≡ Some q
+unfolding is_in places_before
+turn_is_here q [] e k = absurd (cc)
+turn_is_here q (x ∷ xs) e k =
+    elim (x == q) as (λ b. (x == q) ≡ b → cond b 0 (places_before q xs + 1) ≡ 0 → Some x ≡ Some q) [
+      | true ↦ λ t h. ap Some (eqb-true x q t)
+      | false ↦ λ t h. absurd (omega arith)
+    ] refl k
+
+-- with places before it the process isn't current
+not_current : (q n : ℕ) (o : List ℕ) → places_before q o ≡ suc n → slice_get o 0 ≢ Some q
+unfolding places_before
+not_current q n [] k e = absurd (cc)
+not_current q n (x ∷ xs) k e =
+    let same : x ≡ q = cc in
+    let none : (x == q) ≡ true = eq-eqb x q same in
+    let no : 0 ≡ suc n = rw none at k in
+    absurd (omega arith)
+
+-- ---- a run
+
+-- at a tick fewer are before another than the first
+fewer_before : (p q : ℕ) (o : List ℕ) → slice_get o 0 ≡ Some p → p ≢ q → places_before q (without p o) + 1 ≤ places_before q o
+unfolding without
+fewer_before p q [] e ne = absurd (cc)
+fewer_before p q (x ∷ xs) e ne =
+    let same : x ≡ p = cc in
+    let t : (x == p) ≡ true = eq-eqb x p same in
+    let u : (x == q) ≡ false = ne_eqb _ _ (λ k. ne (sym same ∙ k)) in
+    let l : places_before q (filter (λ y. not (y == p)) xs) ≤ places_before q xs = before_without p q xs ne in
+    let f = first_other q x xs u in
+    rw t (omega (arith, l, f))
+
+-- a rotation takes at least one from before q
+tick_lowers : (s : State) (q : ℕ) (c : Option ℕ) → current s ≡ c → is_in q s.order ≡ true → c ≢ Some q
+    → places_before q (rotate (pass_time s) c).order + 1 ≤ places_before q s.order
+tick_lowers s q None k e ne = absurd (no_first q s.order k e)
+tick_lowers s q (Some p) k e ne =
+    let away : p ≢ q = λ x. ne (ap Some x) in
+    rw (before_front q (without p s.order) (p ∷ []) (others_stay p q s.order away e)) (fewer_before p q s.order k away)
+
+-- a tick takes at least one from before q
+tick_happens : (granted : Bool) (s : State) (q : ℕ) → is_in q s.order ≡ true → current s ≢ Some q
+    → places_before q (happens granted s Tick).state.order + 1 ≤ places_before q s.order
+unfolding happens tick
+tick_happens granted s q e ne = tick_lowers s q (current s) refl e ne
+
+-- a tick before a halt takes at least one from before q
+tick_lessens : (granted : Bool) (s : State) (q : ℕ) → s.halted ≡ false → is_in q s.order ≡ true → current s ≢ Some q
+    → places_before q (next granted s Tick).state.order + 1 ≤ places_before q s.order
+tick_lessens granted s q h e ne =
+    let l = tick_happens granted s q e ne in
+    let k = settle_counts (happens granted s Tick).state q (tick_stays granted s q e ne) in
+    let n = ap (λ (n : State). places_before q n.order) (next_awake granted s Tick h) in
+    omega (arith, l, k, n)
+
+-- what is left of the ticks is enough
+enough : (old new : State) (event : Event) (entries : List Entry) (events : List Event) → IsStep old event entries new → old.halted ≡ false
+    → (q : ℕ) → is_in q old.order ≡ true → current old ≢ Some q → places_before q old.order ≤ ticks_in (event ∷ events) → places_before q new.order ≤ ticks_in events
+enough old new Step entries events h awake q e ne l =
+    let n = place_nears old new Step entries h q e ne in
+    omega (arith, n, l)
+enough old new Tick entries events h awake q e ne l =
+    let n = tick_lessens h.granted old q awake e ne in
+    let k = ap (λ (o : Outcome). places_before q o.state.order) h.comes in
+    let one : ticks_in (Tick ∷ events) ≡ 1 + ticks_in events = sum_by-cons (λ e. cond (is_tick e) 1 0) Tick events in
+    omega (arith, n, k, l, one)
+
+-- a halt lasts
+halt_lasts : (k : ℕ) (s last : State) (events : List Event) (lines : List Line) → RunsFrom k s events lines last → s.halted ≡ true → last.halted ≡ true
+halt_lasts k s last [] lines run h = ap (λ (s : State). s.halted) run.1 ∙ h
+halt_lasts k s last (event ∷ events) lines run h =
+    halt_lasts (k + 1) run.0 last events run.2 run.5 (ap (λ (s : State). s.halted) (nothing_after_halt s run.0 event run.1 run.3 h) ∙ h)
+
+-- without a halt at the end there was none before
+awake_before : (k : ℕ) (s last : State) (events : List Event) (lines : List Line) → RunsFrom k s events lines last → last.halted ≡ false → s.halted ≡ false
+awake_before k s last events lines run awake =
+    elim s.halted as (λ b. s.halted ≡ b → s.halted ≡ false) [
+      | true ↦ λ h. let no = sym (halt_lasts k s last events lines run h) ∙ awake in absurd (cc)
+      | false ↦ λ h. h
+    ] refl
+
+-- the turn is at the start
+turn_now : (q k : ℕ) (old last : State) (events : List Event) (lines : List Line) → RunsFrom k old events lines last → current old ≡ Some q → HasTurn q k old events lines last
+turn_now q k old last events lines run turn = record {
+  early = [];
+  late = events;
+  shown = [];
+  rest = lines;
+  mid = old;
+  all_events = refl;
+  all_lines = refl;
+  before = (refl, refl);
+  turn = turn;
+  after = subst (λ n. RunsFrom n old events lines last) (sym (add-zero k)) run;
+}
+
+-- the turn comes after the first event
+turn_later : (q k : ℕ) (old mid last : State) (event : Event) (events : List Event) (entries : List Entry) (lines rest : List Line)
+    → IsStep old event entries mid → lines ≡ numbered k entries ++ rest → HasTurn q (k + 1) mid events rest last → HasTurn q k old (event ∷ events) lines last
+turn_later q k old mid last event events entries lines rest step is h = record {
+  early = event ∷ h.early;
+  late = h.late;
+  shown = numbered k entries ++ h.shown;
+  rest = h.rest;
+  mid = h.mid;
+  all_events = ap (λ es. event ∷ es) h.all_events;
+  all_lines = is ∙ ap (λ ls. numbered k entries ++ ls) h.all_lines ∙ sym (append_assoc (numbered k entries) h.shown h.rest);
+  before = (mid, entries, h.shown, step, refl, h.before);
+  turn = h.turn;
+  after = subst (λ n. RunsFrom n h.mid h.late h.rest last) (omega arith) h.after;
+}
+
+-- with enough ticks the turn comes
+pub turn_comes : (q k : ℕ) (old last : State) (events : List Event) (lines : List Line) → RunsFrom k old events lines last → last.halted ≡ false
+    → is_in q old.order ≡ true → places_before q old.order ≤ ticks_in events → HasTurn q k old events lines last
+turn_comes q k old last [] lines run awake e l = turn_now q k old last [] lines run (turn_is_here q old.order e (omega (arith, l)))
+turn_comes q k old last (event ∷ events) lines run awake e l =
+    elim (places_before q old.order) as (λ n. places_before q old.order ≡ n → HasTurn q k old (event ∷ events) lines last) [
+      | zero ↦ λ z. turn_now q k old last (event ∷ events) lines run (turn_is_here q old.order e z)
+      | suc n ↦ λ z.
+          let ne : current old ≢ Some q = not_current q n old.order z in
+          let lit : old.halted ≡ false = awake_before k old last (event ∷ events) lines run awake in
+          let stays = place_stays old run.0 event run.1 run.3 q e ne in
+          let left = enough old run.0 event run.1 events run.3 lit q e ne l in
+          turn_later q k old run.0 last event events run.1 lines run.2 run.3 run.4 (turn_comes q (k + 1) run.0 last events run.2 run.5 awake stays left)
+    ] refl

@@ -1,0 +1,18 @@
+-- The laws that no search finds.
+use Rattle.std.proofs.Common.{ap, sym, ◌∙◌}
+use Rattle.posix.specs.Outcomes.{Outcome}
+use Rattle.posix.proofs.CountLemmas.{next_halted}
+use Rattle.posix.proofs.WakeLemmas.{first_has_place, act_has_place, nothing_after_halt}
+use Rattle.laws.proofs.no_wake_is_lost.Goals as goal
+
+pub returns-clause-start : goal.returns-clause-start
+returns-clause-start c = first_has_place
+
+pub returns-clause-after : goal.returns-clause-after
+returns-clause-after c = act_has_place
+
+pub returns-clause-halted : goal.returns-clause-halted
+returns-clause-halted c = nothing_after_halt
+
+pub returns-clause-silent : goal.returns-clause-silent
+returns-clause-silent c = λ old new event entries step halted. ap (λ (o : Outcome). o.entries) (sym step.comes ∙ next_halted step.granted old event halted)

@@ -1,0 +1,36 @@
+-- Who has a place, and how long a process waits for its turn.
+use Rattle.std.specs.Prelude.{◌≡◌, ℕ, ◌+◌, ◌==◌, Bool, true, false, if◌then◌else◌, List, [], ◌∷◌, ◌++◌, length, count_by, Some}
+use Rattle.posix.specs.declared.event.Event.{Event}
+use Rattle.posix.specs.declared.event.Event.TheVariants.{Step, Tick}
+use Rattle.posix.specs.Processes.{Process}
+use Rattle.posix.specs.Entries.{Line}
+use Rattle.posix.specs.States.{State, process, has_place, current}
+use Rattle.posix.specs.Settle.{can_act}
+use Rattle.posix.specs.Runs.{RunsFrom}
+
+-- how many places come before that of q; all, where it has none
+unfoldable pub places_before : ℕ → List ℕ → ℕ
+places_before q [] = 0
+places_before q (p ∷ ps) = if p == q then 0 else places_before q ps + 1
+
+abbrev pub is_tick : Event → Bool
+is_tick Step = false
+is_tick Tick = true
+
+-- how many of the events are ticks
+abbrev pub ticks_in : List Event → ℕ
+ticks_in events = count_by is_tick events
+
+-- The run of the events from old to last, numbered from k on, comes through a state in which q is
+-- current.
+pub record HasTurn (q k : ℕ) (old : State) (events : List Event) (lines : List Line) (last : State) : Type 0 where
+  pub early : List Event
+  pub late : List Event
+  pub shown : List Line  -- by the early events
+  pub rest : List Line  -- by the late ones
+  pub mid : State
+  pub all_events : events ≡ early ++ late
+  pub all_lines : lines ≡ shown ++ rest
+  pub before : RunsFrom k old early shown mid
+  pub turn : current mid ≡ Some q
+  pub after : RunsFrom (k + length early) mid late rest last

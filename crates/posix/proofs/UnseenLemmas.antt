@@ -1,0 +1,161 @@
+-- A change of one process that others see nothing of gives nobody a place.
+use Rattle.std.proofs.Common.{◌≡◌, ◌≢◌, ℕ, zero, suc, ◌+◌, Bool, true, false, cond, not, ◌&&◌, refl, ap, sym, ◌∙◌, arith, subst, List, [], ◌∷◌, ◌++◌, append-nil, map, filter, find, Option, Some, None, option_and_then, option_map, ◌==◌, Contains, pos, negsuc, ℤ, Result, Ok, Err}
+use Rattle.std.specs.Int.{cast_unsigned, w64}
+use Rattle.std.specs.List.{AllByRecursion}
+use Rattle.std.proofs.lemmas.Bool.{eqb-true}
+use Rattle.posix.specs.declared.call.Call.{Call}
+use Rattle.posix.specs.declared.call.Call.TheVariants.{Exit, Fork, Waitpid, Pause, SchedYield, Getpid, Getppid, Getuid, Geteuid, Getgid, Getegid, Setuid, Seteuid, Setgid, Setegid, Kill, Sigaction, Sigprocmask, Sigpending, Sigsuspend, Sigreturn}
+use Rattle.posix.specs.declared.instr.Trap.{Trap}
+use Rattle.posix.specs.declared.instr.Trap.TheVariants as trap
+use Rattle.posix.specs.declared.event.Event.{Event}
+use Rattle.posix.specs.declared.event.Event.TheVariants.{Step, Tick}
+use Rattle.posix.specs.declared.errno.Errno.{Errno}
+use Rattle.posix.specs.declared.errno.Errno.TheVariants.{EPERM, ENOENT, ESRCH, EINTR, EIO, ECHILD, EAGAIN, EACCES, EFAULT, EINVAL, ENOTTY}
+use Rattle.posix.specs.declared.entry.Entry.{Entry}
+use Rattle.posix.specs.declared.entry.Entry.TheVariants.{Noted, Called, Reported, NoMemory, Handled, Discarded, Returned, Ended, Halted}
+use Rattle.posix.specs.declared.sig.DefaultAction.{DefaultAction}
+use Rattle.posix.specs.declared.sig.DefaultAction.TheVariants as default
+use Rattle.posix.specs.declared.process.Action.{Action}
+use Rattle.posix.specs.declared.process.Blocked.{Blocked}
+use Rattle.posix.specs.declared.process.Blocked.TheVariants as blocked
+use Rattle.posix.specs.declared.process.Frame.{Frame}
+use Rattle.posix.specs.declared.process.Handler.{Handler}
+use Rattle.posix.specs.declared.process.Handler.TheVariants as handler
+use Rattle.posix.specs.declared.process.PendingSignal.{PendingSignal}
+use Rattle.posix.specs.declared.process.Report.{Report}
+use Rattle.posix.specs.declared.process.Report.TheVariants as found
+use Rattle.posix.specs.declared.process.Sending.{Sending}
+use Rattle.posix.specs.declared.process.Sending.TheVariants as sends
+use Rattle.posix.specs.Signals.{KILL, SEGV, default_action}
+use Rattle.posix.specs.SignalSets.{has, set_in}
+use Rattle.posix.specs.Statuses.{exited, killed}
+use Rattle.posix.specs.Processes.{Process, Signals, Credentials, Cpu, argument}
+use Rattle.posix.specs.Tables.{IsRising, lookup, at, changed, children_in, pids}
+use Rattle.posix.specs.States.{State, is_in, change, current, next_pid, process}
+use Rattle.posix.specs.Execute.{exec_one}
+use Rattle.posix.specs.Outcomes.{Outcome, Attempted, Done, Block, finish, finished, refusal, refused}
+use Rattle.posix.specs.Credentials.{setuid, seteuid, setgid, setegid}
+use Rattle.posix.specs.Generation.{action, is_pending}
+use Rattle.posix.specs.Choice.{chosen, carried_by, from_kernel}
+use Rattle.posix.specs.Handlers.{handles, is_full, is_interrupted, newest_frame, set_action, set_mask}
+use Rattle.posix.specs.Births.{fork_as}
+use Rattle.posix.specs.Ends.{end_process}
+use Rattle.posix.specs.Waits.{wait, wait_with, report, is_named, report_of, report_life, report_found, report_among, reports, is_something, options_in, are_known, has_option}
+use Rattle.posix.specs.Delivery.{call_of, interruption, handle, act_by_default, act_on, take_out, deliver, fault_with, fault, return_to, return_from_handler}
+use Rattle.posix.specs.Sends.{sending, send_with, signal_in, signal_or_none, kill_with, kill}
+use Rattle.posix.specs.SignalCalls.{set_credentials, is_question, are_flags, action_in, sigaction_with, sigaction_of, sigaction, sigprocmask_with, sigprocmask, sigpending}
+use Rattle.posix.specs.Attempts.{attempt, attempt_again}
+use Rattle.posix.specs.Settle.{settle, wakes, can_act}
+use Rattle.posix.specs.Step.{IsStep, next, happens, step, act, act_in, after_trap, begin_call, deliver_or, go_on, code_of}
+use Rattle.posix.specs.Settle.{NoWakeIsLost}
+use Rattle.posix.proofs.TableLemmas.{pid_looked}
+use Rattle.posix.proofs.MapLemmas.{children_map}
+use Rattle.posix.proofs.OrderLemmas.{first_in}
+use Rattle.posix.proofs.SettleLemmas.{ReportsSame, can_act_same, all_looked}
+
+-- nothing is changed that others see in a child
+pub record Unseen (g : Process → Process) : Type 0 where
+  pub pid : (r : Process) → (g r).pid ≡ r.pid
+  pub parent : (r : Process) → (g r).parent ≡ r.parent
+  pub group : (r : Process) → (g r).group ≡ r.group
+  pub life : (r : Process) → (g r).life ≡ r.life
+  pub news : (r : Process) → (g r).news ≡ r.news
+
+-- nor by a change of one record
+unseen_at : (p : ℕ) (f : Process → Process) → Unseen f → Unseen (at p f)
+unseen_at p f u = record {
+  pid = λ r. grind (arith, u.pid r);
+  parent = λ r. grind (arith, u.parent r);
+  group = λ r. grind (arith, u.group r);
+  life = λ r. elim (r.pid == p) as (λ b. (cond b (f r) r).life ≡ r.life) [ true ↦ u.life r | false ↦ refl ];
+  news = λ r. elim (r.pid == p) as (λ b. (cond b (f r) r).news ≡ r.news) [ true ↦ u.news r | false ↦ refl ];
+}
+
+-- children are named as before
+same_name : (g : Process → Process) → Unseen g → (group : ℕ) (choice : ℤ) (r : Process) → is_named group choice (g r) ≡ is_named group choice r
+same_name g u group (pos zero) r = ap (λ n. n == group) (u.group r)
+same_name g u group (pos (suc n)) r = ap (λ m. m == suc n) (u.pid r)
+same_name g u group (negsuc zero) r = refl
+same_name g u group (negsuc (suc n)) r = ap (λ m. m == n + 2) (u.group r)
+
+-- a child has the same to report
+same_report : (g : Process → Process) → Unseen g → (options : ℕ) (r : Process) → report_of options (g r) ≡ report_of options r
+unfolding report_of
+same_report g u options r =
+    ap (λ p. report_life options p (g r).life (g r).news) (u.pid r)
+    ∙ ap (λ l. report_life options r.pid l (g r).news) (u.life r)
+    ∙ ap (λ n. report_life options r.pid r.life n) (u.news r)
+
+-- a test that a map doesn't change
+filter_map : (t : Process → Bool) (g : Process → Process) → ((r : Process) → t (g r) ≡ t r) → (rs : List Process) → filter t (map g rs) ≡ map g (filter t rs)
+filter_map t g same [] = refl
+filter_map t g same (r ∷ rs) =
+    ap (λ b. cond b (g r ∷ filter t (map g rs)) (filter t (map g rs))) (same r)
+    ∙ elim (t r) as (λ b. cond b (g r ∷ filter t (map g rs)) (filter t (map g rs)) ≡ map g (cond b (r ∷ filter t rs) (filter t rs))) [
+      | true ↦ ap (λ l. g r ∷ l) (filter_map t g same rs)
+      | false ↦ filter_map t g same rs
+    ]
+
+-- a test that a map doesn't change
+find_map : (t : Process → Bool) (g : Process → Process) → ((r : Process) → t (g r) ≡ t r) → (rs : List Process) → find t (map g rs) ≡ option_map g (find t rs)
+find_map t g same [] = refl
+find_map t g same (r ∷ rs) =
+    ap (λ b. cond b (Some (g r)) (find t (map g rs))) (same r)
+    ∙ elim (t r) as (λ b. cond b (Some (g r)) (find t (map g rs)) ≡ option_map g (cond b (Some r) (find t rs))) [ true ↦ refl | false ↦ find_map t g same rs ]
+
+-- the same is found
+same_found : (g : Process → Process) → Unseen g → (options : ℕ) (o : Option Process) → report_found options (option_map g o) ≡ report_found options o
+same_found g u options None = refl
+same_found g u options (Some r) = same_report g u options r
+
+-- the same is found among all
+same_among : (g : Process → Process) → Unseen g → (options : ℕ) (rs : List Process) → report_among options (map g rs) ≡ report_among options rs
+same_among g u options [] = refl
+same_among g u options (r ∷ rs) =
+    ap (report_found options) (find_map (reports options) g (λ x. ap is_something (same_report g u options x)) (r ∷ rs))
+    ∙ same_found g u options (find (reports options) (r ∷ rs))
+
+-- waits find the same
+report_unseen : (g : Process → Process) → Unseen g → (rs : List Process) (caller group : ℕ) (choice : ℤ) (options : ℕ)
+    → report (map g rs) caller group choice options ≡ report rs caller group choice options
+unfolding report
+report_unseen g u rs caller group choice options =
+    ap (λ cs. report_among options (filter (is_named group choice) cs)) (children_map g u.parent caller rs)
+    ∙ ap (report_among options) (filter_map (is_named group choice) g (same_name g u group choice) (children_in caller rs))
+    ∙ same_among g u options (filter (is_named group choice) (children_in caller rs))
+
+-- waits find the same after such a change
+reports_unseen : (s : State) (p : ℕ) (f : Process → Process) → Unseen f → ReportsSame (change s p f) s
+unfolding changed
+reports_unseen s p f u caller group choice options = report_unseen (at p f) (unseen_at p f u) s.processes caller group choice options
+
+-- nobody wakes by it
+sleeps : (s : State) (p : ℕ) (f : Process → Process) → Unseen f → NoWakeIsLost s → is_in p s.order ≡ true
+    → (q : ℕ) (r : Process) → lookup q s.processes ≡ Some r → wakes (change s p f) (at p f r) ≡ false
+sleeps s p f u placed first q r e =
+    elim (r.pid == p) as (λ b. (r.pid == p) ≡ b → wakes (change s p f) (cond b (f r) r) ≡ false) [
+      | true ↦ λ t.
+          let named : (f r).pid ≡ p = u.pid r ∙ eqb-true r.pid p t in
+          ap (λ n. not (is_in n s.order) && can_act (change s p f) (f r)) named ∙ ap (λ b. not b && can_act (change s p f) (f r)) first
+      | false ↦ λ t.
+          ap (λ n. not (is_in n s.order) && can_act (change s p f) r) (pid_looked q s.processes r e)
+          ∙ ap (λ b. not (is_in q s.order) && b) (can_act_same (change s p f) s (reports_unseen s p f u) r)
+          ∙ elim (can_act s r) as (λ b. can_act s r ≡ b → (not (is_in q s.order) && b) ≡ false) [
+            | true ↦ λ k. ap (λ b. not b && true) (placed q r e k)
+            | false ↦ λ k. grind arith
+          ] refl
+    ] refl
+
+-- where no record passes none is left
+none_pass : (t : Process → Bool) (g : Process → Process) (rs : List Process) → AllByRecursion (λ (r : Process). t (g r) ≡ false) rs → filter t (map g rs) ≡ []
+none_pass t g [] h = refl
+none_pass t g (r ∷ rs) h = rw h.0 (none_pass t g rs h.1)
+
+-- to settle gives no place then
+pub settle_unseen : (s : State) (p : ℕ) (f : Process → Process) → Unseen f → IsRising s.processes → NoWakeIsLost s → is_in p s.order ≡ true → settle (change s p f) ≡ change s p f
+unfolding settle changed
+settle_unseen s p f u up placed first =
+    let none : filter (wakes (change s p f)) (map (at p f) s.processes) ≡ [] =
+    none_pass (wakes (change s p f)) (at p f) s.processes (all_looked _ s.processes up (sleeps s p f u placed first)) in
+    ap (λ rs. record (change s p f) { order = s.order ++ pids rs }) none
+    ∙ ap (λ o. record (change s p f) { order = o }) (append-nil s.order)

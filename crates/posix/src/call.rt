@@ -1,0 +1,117 @@
+//! System calls and their names.
+
+ghost use Rattle.std.specs.Prelude.{◌≡◌, ◌≤◌, length};
+
+/// A system call.
+#[derive(Clone, Copy, Debug, PartialEq, Eq)]
+pub enum Call {
+    /// The process ends with the code in r1 (XSH _exit).
+    Exit,
+    /// A child like the caller is born (XSH fork).
+    Fork,
+    /// Waits for a child that r1 names, with the options in r2 (XSH waitpid).
+    Waitpid,
+    /// Waits for a signal (XSH pause).
+    Pause,
+    /// The caller goes to the end of the order (XSH sched_yield).
+    SchedYield,
+    /// The caller's number (XSH getpid).
+    Getpid,
+    /// The number of the caller's parent, 0 for process 1 (XSH getppid).
+    Getppid,
+    /// The caller's real user id (XSH getuid).
+    Getuid,
+    /// The caller's effective user id (XSH geteuid).
+    Geteuid,
+    /// The caller's real group id (XSH getgid).
+    Getgid,
+    /// The caller's effective group id (XSH getegid).
+    Getegid,
+    /// Sets the user ids to r1, or where the caller isn't privileged the effective one (XSH setuid).
+    Setuid,
+    /// Sets the effective user id to r1 (XSH seteuid).
+    Seteuid,
+    /// Sets the group ids to r1, or where the caller isn't privileged the effective one (XSH setgid).
+    Setgid,
+    /// Sets the effective group id to r1 (XSH setegid).
+    Setegid,
+    /// Sends the signal in r2, or with 0 none, to the processes that r1 names (XSH kill).
+    Kill,
+    /// Sets the action for the signal in r1 to the handler in r2 with the mask in r3 and the flags in r4,
+    /// and gives the old ones (XSH sigaction).
+    Sigaction,
+    /// Changes the signal mask as r1 says by the set in r2, and gives the old one (XSH sigprocmask).
+    Sigprocmask,
+    /// The set of pending signals (XSH sigpending).
+    Sigpending,
+    /// Waits for a signal with the signal mask in r1 (XSH sigsuspend).
+    Sigsuspend,
+    /// Returns from the newest handler (sigreturn(2)).
+    Sigreturn,
+}
+
+impl Call {
+    ghost use Rattle.posix.specs.Calls.{call_named, call_text};
+
+    /// Every call.
+    pub const ALL: [Call; 21] = [
+        Call::Exit,
+        Call::Fork,
+        Call::Waitpid,
+        Call::Pause,
+        Call::SchedYield,
+        Call::Getpid,
+        Call::Getppid,
+        Call::Getuid,
+        Call::Geteuid,
+        Call::Getgid,
+        Call::Getegid,
+        Call::Setuid,
+        Call::Seteuid,
+        Call::Setgid,
+        Call::Setegid,
+        Call::Kill,
+        Call::Sigaction,
+        Call::Sigprocmask,
+        Call::Sigpending,
+        Call::Sigsuspend,
+        Call::Sigreturn,
+    ];
+
+    /// How it is written, in world texts and in traces: at most 16 bytes.
+    pub fn name(self) -> &'static [u8]
+        ensures text { result.now ≡ call_text self }
+        ensures len { length result.now ≤ 16 }
+    {
+        match self {
+            Call::Exit => b"exit",
+            Call::Fork => b"fork",
+            Call::Waitpid => b"waitpid",
+            Call::Pause => b"pause",
+            Call::SchedYield => b"sched_yield",
+            Call::Getpid => b"getpid",
+            Call::Getppid => b"getppid",
+            Call::Getuid => b"getuid",
+            Call::Geteuid => b"geteuid",
+            Call::Getgid => b"getgid",
+            Call::Getegid => b"getegid",
+            Call::Setuid => b"setuid",
+            Call::Seteuid => b"seteuid",
+            Call::Setgid => b"setgid",
+            Call::Setegid => b"setegid",
+            Call::Kill => b"kill",
+            Call::Sigaction => b"sigaction",
+            Call::Sigprocmask => b"sigprocmask",
+            Call::Sigpending => b"sigpending",
+            Call::Sigsuspend => b"sigsuspend",
+            Call::Sigreturn => b"sigreturn",
+        }
+    }
+
+    /// The call that a word names.
+    pub fn named(word: &[u8]) -> Option<Call>
+        ensures { result ≡ call_named word.now }
+    {
+        Call::ALL.iter().copied().find(|call| word == call.name())
+    }
+}
