@@ -59,24 +59,24 @@ pub fn answer_done(own: &mut Own, pid: Pid, call: Call, done: Result<(), Errno>)
 
 /// The call of a process that is there gives a value.
 pub fn gives<K: Kin>(machine: &mut Machine<K>, pid: Pid, call: Call, value: i64) -> Attempted
-    requires { IsSome (process machine.old pid) }
-    ensures { Comes machine.old (giving machine.old pid call value) result machine.new }
+    requires { IsSome (process machine.old.state pid) }
+    ensures { Comes machine.old.state (giving machine.old.state pid call value) result machine.new.state }
 {
     answer(machine.own(pid), pid, call, value)
 }
 
 /// The call of a process that is there is refused.
 pub fn refused<K: Kin>(machine: &mut Machine<K>, pid: Pid, call: Call, errno: Errno) -> Attempted
-    requires { IsSome (process machine.old pid) }
-    ensures { Comes machine.old (refusing machine.old pid call errno) result machine.new }
+    requires { IsSome (process machine.old.state pid) }
+    ensures { Comes machine.old.state (refusing machine.old.state pid call errno) result machine.new.state }
 {
     gives(machine, pid, call, -i64::from(errno.number()))
 }
 
 /// The call of a process that is there is refused, since the host has no memory for what it asks.
 fn no_memory<K: Kin>(machine: &mut Machine<K>, pid: Pid, call: Call) -> Attempted
-    requires { IsSome (process machine.old pid) }
-    ensures { Comes machine.old (without_memory machine.old pid call) result machine.new }
+    requires { IsSome (process machine.old.state pid) }
+    ensures { Comes machine.old.state (without_memory machine.old.state pid call) result machine.new.state }
 {
     machine.own(pid).finish(-i64::from(Errno::EAGAIN.number()));
     Attempted::Done(shown(Entry::NoMemory { pid, call }))
@@ -85,8 +85,8 @@ fn no_memory<K: Kin>(machine: &mut Machine<K>, pid: Pid, call: Call) -> Attempte
 /// The caller's number (XSH getpid).
 #[tactic(auto, unfolding(posix::specs::Attempts::attempt))]
 fn getpid<K: Kin>(machine: &mut Machine<K>, pid: Pid) -> Attempted
-    requires { IsSome (process machine.old pid) }
-    ensures { Attempts machine.old pid Call.Getpid result machine.new }
+    requires { IsSome (process machine.old.state pid) }
+    ensures { Attempts machine.old.state pid Call.Getpid result machine.new.state }
 {
     gives(machine, pid, Call::Getpid, i64::from(pid.number()))
 }
@@ -94,8 +94,8 @@ fn getpid<K: Kin>(machine: &mut Machine<K>, pid: Pid) -> Attempted
 /// The number of the caller's parent (XSH getppid).
 #[tactic(auto, unfolding(posix::specs::Attempts::attempt))]
 fn getppid<K: Kin>(machine: &mut Machine<K>, pid: Pid) -> Attempted
-    requires { IsSome (process machine.old pid) }
-    ensures { Attempts machine.old pid Call.Getppid result machine.new }
+    requires { IsSome (process machine.old.state pid) }
+    ensures { Attempts machine.old.state pid Call.Getppid result machine.new.state }
 {
     let parent = machine.parent(pid);
     gives(machine, pid, Call::Getppid, i64::from(parent.number()))
@@ -104,8 +104,8 @@ fn getppid<K: Kin>(machine: &mut Machine<K>, pid: Pid) -> Attempted
 /// The caller goes to the end of the order (XSH sched_yield).
 #[tactic(auto, unfolding(posix::specs::Attempts::attempt))]
 fn sched_yield<K: Kin>(machine: &mut Machine<K>, pid: Pid) -> Attempted
-    requires { IsActing machine.old pid }
-    ensures { Attempts machine.old pid Call.SchedYield result machine.new }
+    requires { IsActing machine.old.state pid }
+    ensures { Attempts machine.old.state pid Call.SchedYield result machine.new.state }
 {
     machine.go_last(pid);
     gives(machine, pid, Call::SchedYield, 0)
@@ -114,9 +114,9 @@ fn sched_yield<K: Kin>(machine: &mut Machine<K>, pid: Pid) -> Attempted
 /// A child like the caller is born (XSH fork).
 #[tactic(auto, unfolding(posix::specs::Attempts::attempt, posix::specs::Births::fork_as))]
 fn fork<K: Kin>(machine: &mut Machine<K>, pid: Pid) -> Attempted
-    requires acting { IsActing machine.old pid }
-    requires births { machine.old.births + 1 < 2 ^ 64 }
-    ensures { Attempts machine.old pid Call.Fork result machine.new }
+    requires acting { IsActing machine.old.state pid }
+    requires births { machine.old.state.births + 1 < 2 ^ 64 }
+    ensures { Attempts machine.old.state pid Call.Fork result machine.new.state }
 {
     let Some(child) = machine.next_pid() else {
         return refused(machine, pid, Call::Fork, Errno::EAGAIN);
@@ -130,8 +130,8 @@ fn fork<K: Kin>(machine: &mut Machine<K>, pid: Pid) -> Attempted
 /// The process ends with the code in r1 (XSH _exit).
 #[tactic(auto, unfolding(posix::specs::Attempts::attempt))]
 fn exit<K: Kin>(machine: &mut Machine<K>, pid: Pid) -> Attempted
-    requires { IsSome (process machine.old pid) }
-    ensures { Attempts machine.old pid Call.Exit result machine.new }
+    requires { IsSome (process machine.old.state pid) }
+    ensures { Attempts machine.old.state pid Call.Exit result machine.new.state }
 {
     let code = machine.look(pid).cpu.register(Register::FIRST_ARGUMENT);
     let mut entries = ArrayVec::new();
@@ -141,10 +141,10 @@ fn exit<K: Kin>(machine: &mut Machine<K>, pid: Pid) -> Attempted
 
 /// What the wait of a process that is there, with its choice in r1, has to report.
 fn find_report<K: Kin>(machine: &mut Machine<K>, pid: Pid, options: WaitOptions) -> Report
-    requires { IsSome (process machine.old pid) }
-    ensures value { (me : Process) → process machine.old pid ≡ Some me → result ≡ report machine.old.processes me.pid me.group (argument me 1) options.0 }
-    ensures same { machine.new ≡ machine.old }
-    ensures regular { IsRegular machine.old }
+    requires { IsSome (process machine.old.state pid) }
+    ensures value { (me : Process) → process machine.old.state pid ≡ Some me → result ≡ report machine.old.state.processes me.pid me.group (argument me 1) options.0 }
+    ensures same { machine.new.state ≡ machine.old.state }
+    ensures regular { IsRegular machine.old.state }
 {
     let choice = machine.look(pid).cpu.register(Register::FIRST_ARGUMENT);
     let group = machine.group(pid);
@@ -153,10 +153,10 @@ fn find_report<K: Kin>(machine: &mut Machine<K>, pid: Pid, options: WaitOptions)
 
 /// The options of the wait of a process that is there; none where a bit in r2 is unknown.
 fn wait_options<K: Kin>(machine: &mut Machine<K>, pid: Pid) -> Option<WaitOptions>
-    requires { IsSome (process machine.old pid) }
-    ensures known { (me : Process) → process machine.old pid ≡ Some me → is_some result ≡ are_known (options_in (argument me 2)) }
-    ensures value { (me : Process) → process machine.old pid ≡ Some me → IfSome result (λ options. options.0 ≡ options_in (argument me 2)) }
-    ensures same { machine.new ≡ machine.old }
+    requires { IsSome (process machine.old.state pid) }
+    ensures known { (me : Process) → process machine.old.state pid ≡ Some me → is_some result ≡ are_known (options_in (argument me 2)) }
+    ensures value { (me : Process) → process machine.old.state pid ≡ Some me → IfSome result (λ options. options.0 ≡ options_in (argument me 2)) }
+    ensures same { machine.new.state ≡ machine.old.state }
 {
     let bits = machine.look(pid).cpu.register(Register::SECOND_ARGUMENT);
     WaitOptions::from_bits(bits.cast_unsigned())
@@ -164,8 +164,8 @@ fn wait_options<K: Kin>(machine: &mut Machine<K>, pid: Pid) -> Option<WaitOption
 
 /// The wait of a process that is there reports a child.
 fn gives_report<K: Kin>(machine: &mut Machine<K>, pid: Pid, child: Pid, status: Status) -> Attempted
-    requires { IsSome (process machine.old pid) }
-    ensures { Comes machine.old (giving_report machine.old pid child status) result machine.new }
+    requires { IsSome (process machine.old.state pid) }
+    ensures { Comes machine.old.state (giving_report machine.old.state pid child status) result machine.new.state }
 {
     machine.own(pid).finish_wait(child, status);
     Attempted::Done(shown(Entry::Reported { pid, child, status }))
@@ -174,8 +174,8 @@ fn gives_report<K: Kin>(machine: &mut Machine<K>, pid: Pid, child: Pid, status: 
 /// Waits for a child (XSH waitpid).
 #[tactic(auto, unfolding(posix::specs::Waits::wait))]
 fn wait<K: Kin>(machine: &mut Machine<K>, pid: Pid) -> Attempted
-    requires { IsPlaced machine.old.processes pid }
-    ensures { (me : Process) → process machine.old pid ≡ Some me → Comes machine.old (waiting machine.old me) result machine.new }
+    requires { IsPlaced machine.old.state.processes pid }
+    ensures { (me : Process) → process machine.old.state pid ≡ Some me → Comes machine.old.state (waiting machine.old.state me) result machine.new.state }
 {
     let Some(options) = wait_options(machine, pid) else {
         return refused(machine, pid, Call::Waitpid, Errno::EINVAL);
@@ -203,9 +203,9 @@ fn wait<K: Kin>(machine: &mut Machine<K>, pid: Pid) -> Attempted
 /// Whether the wait of a process that is there would have to wait.
 #[tactic(auto, unfolding(posix::specs::Waits::wait))]
 pub fn has_to_wait<K: Kin>(machine: &mut Machine<K>, pid: Pid) -> bool
-    requires { IsSome (process machine.old pid) }
-    ensures value { (me : Process) → process machine.old pid ≡ Some me → result ≡ is_block (waiting machine.old me) }
-    ensures same { machine.new ≡ machine.old }
+    requires { IsSome (process machine.old.state pid) }
+    ensures value { (me : Process) → process machine.old.state pid ≡ Some me → result ≡ is_block (waiting machine.old.state me) }
+    ensures same { machine.new.state ≡ machine.old.state }
 {
     let Some(options) = wait_options(machine, pid) else {
         return false;
@@ -219,9 +219,9 @@ pub fn has_to_wait<K: Kin>(machine: &mut Machine<K>, pid: Pid) -> bool
 /// A process that has a place attempts a call.
 #[tactic(auto, unfolding(posix::specs::Attempts::attempt))]
 pub fn attempt<K: Kin>(machine: &mut Machine<K>, pid: Pid, call: Call) -> Attempted
-    requires acting { IsActing machine.old pid }
-    requires births { machine.old.births + 1 < 2 ^ 64 }
-    ensures { Attempts machine.old pid call result machine.new }
+    requires acting { IsActing machine.old.state pid }
+    requires births { machine.old.state.births + 1 < 2 ^ 64 }
+    ensures { Attempts machine.old.state pid call result machine.new.state }
 {
     match call {
         Call::Exit => exit(machine, pid),
@@ -251,8 +251,8 @@ pub fn attempt<K: Kin>(machine: &mut Machine<K>, pid: Pid, call: Call) -> Attemp
 /// A process that is no zombie attempts the call afresh that it is blocked in.
 #[tactic(auto, unfolding(posix::specs::Attempts::attempt_again))]
 pub fn attempt_again<K: Kin>(machine: &mut Machine<K>, pid: Pid, blocked: Blocked) -> Attempted
-    requires { IsPlaced machine.old.processes pid }
-    ensures { (me : Process) → process machine.old pid ≡ Some me → Comes machine.old (attempting_again machine.old me blocked) result machine.new }
+    requires { IsPlaced machine.old.state.processes pid }
+    ensures { (me : Process) → process machine.old.state pid ≡ Some me → Comes machine.old.state (attempting_again machine.old.state me blocked) result machine.new.state }
 {
     match blocked {
         Blocked::Waitpid => wait(machine, pid),

@@ -19,10 +19,10 @@ use signal::is_interrupted;
 /// The end of a process that is there, and what it shows.
 #[tactic(auto, unfolding(posix::specs::Ends::end_process))]
 pub fn end<K: Kin>(machine: &mut Machine<K>, pid: Pid, status: Status, entries: &mut Entries)
-    requires there { IsSome (process machine.old pid) }
+    requires there { IsSome (process machine.old.state pid) }
     requires room { length entries.old.items ≤ 2 }
-    ensures state { (me : Process) → process machine.old pid ≡ Some me → machine.new ≡ (end_process machine.old me status).state }
-    ensures entries { (me : Process) → process machine.old pid ≡ Some me → entries.new.items ≡ entries.old.items ++ (end_process machine.old me status).entries }
+    ensures state { (me : Process) → process machine.old.state pid ≡ Some me → machine.new.state ≡ (end_process machine.old.state me status).state }
+    ensures entries { (me : Process) → process machine.old.state pid ≡ Some me → entries.new.items ≡ entries.old.items ++ (end_process machine.old.state me status).entries }
 {
     machine.end(pid, status);
     entries.push(Entry::Ended { pid, status });
@@ -71,9 +71,9 @@ fn handle<K: Kin>(
     address: i64,
     entries: &mut Entries,
 )
-    requires there { IsSome (process machine.old pid) }
+    requires there { IsSome (process machine.old.state pid) }
     requires none { entries.old.items ≡ [] }
-    ensures { (me : Process) → process machine.old pid ≡ Some me → handling machine.old me signal address ≡ record { state = machine.new; entries = entries.new.items } }
+    ensures { (me : Process) → process machine.old.state pid ≡ Some me → handling machine.old.state me signal address ≡ record { state = machine.new.state; entries = entries.new.items } }
 {
     let PendingSignal { sig, carried } = signal;
     let own = machine.own(pid);
@@ -92,9 +92,9 @@ fn handle<K: Kin>(
 
 /// The default action for a signal of a process that is there. It has no effect on process 1 (kill(2)).
 fn act_by_default<K: Kin>(machine: &mut Machine<K>, pid: Pid, sig: Sig, entries: &mut Entries)
-    requires there { IsSome (process machine.old pid) }
+    requires there { IsSome (process machine.old.state pid) }
     requires none { entries.old.items ≡ [] }
-    ensures { (me : Process) → process machine.old pid ≡ Some me → (if me.pid == 1 then discarding machine.old me.pid sig else acting_by_default machine.old me sig (default_action sig)) ≡ record { state = machine.new; entries = entries.new.items } }
+    ensures { (me : Process) → process machine.old.state pid ≡ Some me → (if me.pid == 1 then discarding machine.old.state me.pid sig else acting_by_default machine.old.state me sig (default_action sig)) ≡ record { state = machine.new.state; entries = entries.new.items } }
 {
     if pid == Pid::INIT {
         entries.push(Entry::Discarded { pid, sig });
@@ -111,9 +111,9 @@ fn act_by_default<K: Kin>(machine: &mut Machine<K>, pid: Pid, sig: Sig, entries:
 /// A pending signal of a process that is there is taken out, and its action done.
 #[tactic(auto, unfolding(posix::specs::Delivery::deliver))]
 pub fn deliver<K: Kin>(machine: &mut Machine<K>, pid: Pid, sig: Sig, entries: &mut Entries)
-    requires there { IsSome (process machine.old pid) }
+    requires there { IsSome (process machine.old.state pid) }
     requires none { entries.old.items ≡ [] }
-    ensures { (me : Process) → process machine.old pid ≡ Some me → delivering machine.old me sig ≡ record { state = machine.new; entries = entries.new.items } }
+    ensures { (me : Process) → process machine.old.state pid ≡ Some me → delivering machine.old.state me sig ≡ record { state = machine.new.state; entries = entries.new.items } }
 {
     let own = machine.own(pid);
     let action = own.signals.action(sig);
@@ -138,9 +138,9 @@ pub fn deliver<K: Kin>(machine: &mut Machine<K>, pid: Pid, sig: Sig, entries: &m
 #[tactic(auto, unfolding(posix::specs::Delivery::fault))]
 #[inline(never)]
 pub fn fault<K: Kin>(machine: &mut Machine<K>, pid: Pid, sig: Sig, entries: &mut Entries)
-    requires there { IsSome (process machine.old pid) }
+    requires there { IsSome (process machine.old.state pid) }
     requires none { entries.old.items ≡ [] }
-    ensures { (me : Process) → process machine.old pid ≡ Some me → faulting machine.old me sig ≡ record { state = machine.new; entries = entries.new.items } }
+    ensures { (me : Process) → process machine.old.state pid ≡ Some me → faulting machine.old.state me sig ≡ record { state = machine.new.state; entries = entries.new.items } }
 {
     let own = machine.look(pid);
     let action = own.signals.action(sig);
@@ -167,9 +167,9 @@ pub fn fault<K: Kin>(machine: &mut Machine<K>, pid: Pid, sig: Sig, entries: &mut
 /// (sigreturn(2)).
 #[tactic(auto, unfolding(posix::specs::Delivery::return_from_handler))]
 pub fn return_from_handler<K: Kin>(machine: &mut Machine<K>, pid: Pid, entries: &mut Entries)
-    requires there { IsSome (process machine.old pid) }
+    requires there { IsSome (process machine.old.state pid) }
     requires none { entries.old.items ≡ [] }
-    ensures { (me : Process) → process machine.old pid ≡ Some me → returning machine.old me ≡ record { state = machine.new; entries = entries.new.items } }
+    ensures { (me : Process) → process machine.old.state pid ≡ Some me → returning machine.old.state me ≡ record { state = machine.new.state; entries = entries.new.items } }
 {
     match machine.own(pid).return_from_handler() {
         Ok(()) => entries.push(Entry::Returned { pid }),

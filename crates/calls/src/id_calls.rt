@@ -12,8 +12,8 @@ use proctable::Kin;
 /// The caller's real user id (XSH getuid).
 #[tactic(auto, unfolding(posix::specs::Attempts::attempt))]
 pub fn getuid<K: Kin>(machine: &mut Machine<K>, pid: Pid) -> Attempted
-    requires { IsSome (process machine.old pid) }
-    ensures { Attempts machine.old pid Call.Getuid result machine.new }
+    requires { IsSome (process machine.old.state pid) }
+    ensures { Attempts machine.old.state pid Call.Getuid result machine.new.state }
 {
     let own = machine.own(pid);
     let id = own.creds.user().real;
@@ -23,8 +23,8 @@ pub fn getuid<K: Kin>(machine: &mut Machine<K>, pid: Pid) -> Attempted
 /// The caller's effective user id (XSH geteuid).
 #[tactic(auto, unfolding(posix::specs::Attempts::attempt))]
 pub fn geteuid<K: Kin>(machine: &mut Machine<K>, pid: Pid) -> Attempted
-    requires { IsSome (process machine.old pid) }
-    ensures { Attempts machine.old pid Call.Geteuid result machine.new }
+    requires { IsSome (process machine.old.state pid) }
+    ensures { Attempts machine.old.state pid Call.Geteuid result machine.new.state }
 {
     let own = machine.own(pid);
     let id = own.creds.user().effective;
@@ -34,8 +34,8 @@ pub fn geteuid<K: Kin>(machine: &mut Machine<K>, pid: Pid) -> Attempted
 /// The caller's real group id (XSH getgid).
 #[tactic(auto, unfolding(posix::specs::Attempts::attempt))]
 pub fn getgid<K: Kin>(machine: &mut Machine<K>, pid: Pid) -> Attempted
-    requires { IsSome (process machine.old pid) }
-    ensures { Attempts machine.old pid Call.Getgid result machine.new }
+    requires { IsSome (process machine.old.state pid) }
+    ensures { Attempts machine.old.state pid Call.Getgid result machine.new.state }
 {
     let own = machine.own(pid);
     let id = own.creds.group().real;
@@ -45,8 +45,8 @@ pub fn getgid<K: Kin>(machine: &mut Machine<K>, pid: Pid) -> Attempted
 /// The caller's effective group id (XSH getegid).
 #[tactic(auto, unfolding(posix::specs::Attempts::attempt))]
 pub fn getegid<K: Kin>(machine: &mut Machine<K>, pid: Pid) -> Attempted
-    requires { IsSome (process machine.old pid) }
-    ensures { Attempts machine.old pid Call.Getegid result machine.new }
+    requires { IsSome (process machine.old.state pid) }
+    ensures { Attempts machine.old.state pid Call.Getegid result machine.new.state }
 {
     let own = machine.own(pid);
     let id = own.creds.group().effective;
@@ -56,8 +56,8 @@ pub fn getegid<K: Kin>(machine: &mut Machine<K>, pid: Pid) -> Attempted
 /// Sets the user ids (XSH setuid).
 #[tactic(auto, unfolding(posix::specs::Attempts::attempt))]
 pub fn setuid<K: Kin>(machine: &mut Machine<K>, pid: Pid) -> Attempted
-    requires { IsSome (process machine.old pid) }
-    ensures { Attempts machine.old pid Call.Setuid result machine.new }
+    requires { IsSome (process machine.old.state pid) }
+    ensures { Attempts machine.old.state pid Call.Setuid result machine.new.state }
 {
     let own = machine.own(pid);
     let done = own.creds.setuid(own.cpu.register(Register::FIRST_ARGUMENT));
@@ -67,8 +67,8 @@ pub fn setuid<K: Kin>(machine: &mut Machine<K>, pid: Pid) -> Attempted
 /// Sets the effective user id (XSH seteuid).
 #[tactic(auto, unfolding(posix::specs::Attempts::attempt))]
 pub fn seteuid<K: Kin>(machine: &mut Machine<K>, pid: Pid) -> Attempted
-    requires { IsSome (process machine.old pid) }
-    ensures { Attempts machine.old pid Call.Seteuid result machine.new }
+    requires { IsSome (process machine.old.state pid) }
+    ensures { Attempts machine.old.state pid Call.Seteuid result machine.new.state }
 {
     let own = machine.own(pid);
     let done = own
@@ -80,8 +80,8 @@ pub fn seteuid<K: Kin>(machine: &mut Machine<K>, pid: Pid) -> Attempted
 /// Sets the group ids (XSH setgid).
 #[tactic(auto, unfolding(posix::specs::Attempts::attempt))]
 pub fn setgid<K: Kin>(machine: &mut Machine<K>, pid: Pid) -> Attempted
-    requires { IsSome (process machine.old pid) }
-    ensures { Attempts machine.old pid Call.Setgid result machine.new }
+    requires { IsSome (process machine.old.state pid) }
+    ensures { Attempts machine.old.state pid Call.Setgid result machine.new.state }
 {
     let own = machine.own(pid);
     let done = own.creds.setgid(own.cpu.register(Register::FIRST_ARGUMENT));
@@ -91,8 +91,8 @@ pub fn setgid<K: Kin>(machine: &mut Machine<K>, pid: Pid) -> Attempted
 /// Sets the effective group id (XSH setegid).
 #[tactic(auto, unfolding(posix::specs::Attempts::attempt))]
 pub fn setegid<K: Kin>(machine: &mut Machine<K>, pid: Pid) -> Attempted
-    requires { IsSome (process machine.old pid) }
-    ensures { Attempts machine.old pid Call.Setegid result machine.new }
+    requires { IsSome (process machine.old.state pid) }
+    ensures { Attempts machine.old.state pid Call.Setegid result machine.new.state }
 {
     let own = machine.own(pid);
     let done = own

@@ -90,8 +90,8 @@ fn action_in(own: &Own) -> Option<Action>
 /// Sends a signal (XSH kill).
 #[tactic(auto, unfolding(posix::specs::Attempts::attempt, posix::specs::Sends::kill))]
 pub fn kill<K: Kin>(machine: &mut Machine<K>, pid: Pid) -> Attempted
-    requires { IsSome (process machine.old pid) }
-    ensures { Attempts machine.old pid Call.Kill result machine.new }
+    requires { IsSome (process machine.old.state pid) }
+    ensures { Attempts machine.old.state pid Call.Kill result machine.new.state }
 {
     let cpu = &machine.look(pid).cpu;
     let target = cpu.register(Register::FIRST_ARGUMENT);
@@ -119,8 +119,8 @@ fn answer_action(own: &mut Own, pid: Pid, action: &Action) -> Attempted
 /// Asks for the action for a signal, or sets it (XSH sigaction).
 #[tactic(auto, unfolding(posix::specs::Attempts::attempt, posix::specs::SignalCalls::sigaction))]
 pub fn sigaction<K: Kin>(machine: &mut Machine<K>, pid: Pid) -> Attempted
-    requires { IsSome (process machine.old pid) }
-    ensures { Attempts machine.old pid Call.Sigaction result machine.new }
+    requires { IsSome (process machine.old.state pid) }
+    ensures { Attempts machine.old.state pid Call.Sigaction result machine.new.state }
 {
     let own = machine.own(pid);
     let Some(sig) = signal_in(own.cpu.register(Register::FIRST_ARGUMENT)) else {
@@ -142,8 +142,8 @@ pub fn sigaction<K: Kin>(machine: &mut Machine<K>, pid: Pid) -> Attempted
 /// Changes the signal mask (XSH sigprocmask).
 #[tactic(auto, unfolding(posix::specs::Attempts::attempt, posix::specs::SignalCalls::sigprocmask))]
 pub fn sigprocmask<K: Kin>(machine: &mut Machine<K>, pid: Pid) -> Attempted
-    requires { IsSome (process machine.old pid) }
-    ensures { Attempts machine.old pid Call.Sigprocmask result machine.new }
+    requires { IsSome (process machine.old.state pid) }
+    ensures { Attempts machine.old.state pid Call.Sigprocmask result machine.new.state }
 {
     let own = machine.own(pid);
     let how = own.cpu.register(Register::FIRST_ARGUMENT);
@@ -161,8 +161,8 @@ pub fn sigprocmask<K: Kin>(machine: &mut Machine<K>, pid: Pid) -> Attempted
 /// The set of pending signals (XSH sigpending).
 #[tactic(auto, unfolding(posix::specs::Attempts::attempt, posix::specs::SignalCalls::sigpending))]
 pub fn sigpending<K: Kin>(machine: &mut Machine<K>, pid: Pid) -> Attempted
-    requires { IsSome (process machine.old pid) }
-    ensures { Attempts machine.old pid Call.Sigpending result machine.new }
+    requires { IsSome (process machine.old.state pid) }
+    ensures { Attempts machine.old.state pid Call.Sigpending result machine.new.state }
 {
     let own = machine.own(pid);
     own.cpu
@@ -173,8 +173,8 @@ pub fn sigpending<K: Kin>(machine: &mut Machine<K>, pid: Pid) -> Attempted
 /// Waits for a signal with another signal mask (XSH sigsuspend).
 #[tactic(auto, unfolding(posix::specs::Attempts::attempt))]
 pub fn sigsuspend<K: Kin>(machine: &mut Machine<K>, pid: Pid) -> Attempted
-    requires { IsSome (process machine.old pid) }
-    ensures { Attempts machine.old pid Call.Sigsuspend result machine.new }
+    requires { IsSome (process machine.old.state pid) }
+    ensures { Attempts machine.old.state pid Call.Sigsuspend result machine.new.state }
 {
     Attempted::Block(Blocked::Sigsuspend(machine.look(pid).signals.mask()))
 }
@@ -182,8 +182,8 @@ pub fn sigsuspend<K: Kin>(machine: &mut Machine<K>, pid: Pid) -> Attempted
 /// Returns from the newest handler (sigreturn(2)).
 #[tactic(auto, unfolding(posix::specs::Attempts::attempt))]
 pub fn sigreturn<K: Kin>(machine: &mut Machine<K>, pid: Pid) -> Attempted
-    requires { IsSome (process machine.old pid) }
-    ensures { Attempts machine.old pid Call.Sigreturn result machine.new }
+    requires { IsSome (process machine.old.state pid) }
+    ensures { Attempts machine.old.state pid Call.Sigreturn result machine.new.state }
 {
     let mut entries = ArrayVec::new();
     delivery::return_from_handler(machine, pid, &mut entries);

@@ -1,6 +1,7 @@
 //! Runs of several processes, those in which the host has no memory for a fork included.
 
-ghost use Rattle.std.specs.Prelude.{◌≡◌, refl, false};
+ghost use Rattle.std.specs.Prelude.{◌≡◌, refl};
+ghost use Rattle.std.proofs.Common.{arith};
 ghost use Rattle.proctable.specs.Slots.{put_body};
 
 use crate::tests::expect_run;
@@ -257,7 +258,7 @@ impl<const REFUSED: usize> Kin for RefusingTable<REFUSED> {
 
     ghost reads = { λ t. 0 };
 
-    ghost counts = { false };
+    ghost one_more = { λ n. n };
 
     ghost put = { λ t p b. record t { table = put_body t.table p b } };
 
@@ -265,7 +266,9 @@ impl<const REFUSED: usize> Kin for RefusingTable<REFUSED> {
 
     ghost keeps_room = { λ t p b. refl };
 
-    ghost put_reads = { λ t p b h. absurd (Prim.cc) };
+    ghost put_reads = { λ t p b. refl };
+
+    ghost at_most_one = { λ n. Prim.omega arith };
 
     fn empty(alloc: Global) -> Self {
         RefusingTable {
@@ -315,7 +318,7 @@ impl<const REFUSED: usize> Kin for RefusingTable<REFUSED> {
         self.table.adopt(from, to);
     }
 
-    fn visits(&self) -> u64 {
+    fn visits(&self) -> u128 {
         0
     }
 }

@@ -5,7 +5,7 @@ use Rattle.std.specs.Result.{MatchResult, IsErrAnd, IfOk}
 use Rattle.text.specs.Reading.{Answers}
 use Rattle.posix.specs.declared.event.Event.{Event}
 use Rattle.posix.specs.Entries.{Line, reported}
-use Rattle.posix.specs.States.{World, boot}
+use Rattle.posix.specs.States.{World, State, boot}
 use Rattle.posix.specs.Runs.{RunsFrom}
 use Rattle.text.specs.declared.fault.TextFault.{TextFault}
 use Rattle.text.specs.EventTexts.{event_text}
@@ -36,10 +36,10 @@ ok_holds {A = A} {E = E} r m x P Q h e a = subst (λ (n : Result A E). IfOk n P)
 -- a kernel that was booted, whose trace was written and counted, traces the run of the texts
 pub traces : (world_bytes event_bytes : List ℕ) (w : World) (consoles : ℕ) (events : List Event) (old new : KernelView) (a b : Seen) (ends : ℕ) (summary : Summary) →
     world_text world_bytes ≡ Ok w → consoles ≡ w.consoles → event_text consoles event_bytes ≡ Ok events →
-    old ≡ record { state = boot w; events = 0 } → WritesTrace (old.events + 1) old.state events new.state a b ends →
+    old.state ≡ boot w → old.events ≡ 0 → WritesTrace (old.events + 1) old.state events new.state a b ends →
     new.events ≡ old.events + length events → ((lines : List Line) → reported lines ≡ ends → summary ≡ summary_of new.events lines new.state) →
     Traces world_bytes event_bytes a b summary
-traces world_bytes event_bytes w consoles events old new a b ends summary world_is same events_are booted writes count counted = record {
+traces world_bytes event_bytes w consoles events old new a b ends summary world_is same events_are booted none writes count counted = record {
   events = events;
   lines = writes.lines;
   last = new.state;
@@ -47,18 +47,18 @@ traces world_bytes event_bytes w consoles events old new a b ends summary world_
     world = w;
     world_is = world_is;
     events_are = subst (λ (n : ℕ). event_text n event_bytes ≡ Ok events) same events_are;
-    run = subst (λ (k : KernelView). RunsFrom (k.events + 1) k.state events writes.lines new.state) booted writes.run;
+    run = subst (λ (n : ℕ). RunsFrom (n + 1) (boot w) events writes.lines new.state) none (subst (λ (s : State). RunsFrom (old.events + 1) s events writes.lines new.state) booted writes.run);
   };
   taken = writes.taken;
   counted = counted writes.lines writes.counted ∙ ap (λ (n : ℕ). summary_of n writes.lines new.state)
-      (count ∙ ap (λ (k : KernelView). k.events + length events) booted ∙ zero-add (length events));
+      (count ∙ ap (λ (n : ℕ). n + length events) none ∙ zero-add (length events));
 }
 
 -- a kernel that was booted, whose trace broke off, cuts the run of the texts short
 pub cuts_short : (world_bytes event_bytes : List ℕ) (w : World) (consoles : ℕ) (events : List Event) (old : KernelView) (a b : Seen) →
     world_text world_bytes ≡ Ok w → consoles ≡ w.consoles → event_text consoles event_bytes ≡ Ok events →
-    old ≡ record { state = boot w; events = 0 } → BreaksTrace (old.events + 1) old.state events a b → CutsShort world_bytes event_bytes a b
-cuts_short world_bytes event_bytes w consoles events old a b world_is same events_are booted breaks = record {
+    old.state ≡ boot w → old.events ≡ 0 → BreaksTrace (old.events + 1) old.state events a b → CutsShort world_bytes event_bytes a b
+cuts_short world_bytes event_bytes w consoles events old a b world_is same events_are booted none breaks = record {
   events = events;
   lines = breaks.lines;
   last = breaks.last;
@@ -66,7 +66,7 @@ cuts_short world_bytes event_bytes w consoles events old a b world_is same event
     world = w;
     world_is = world_is;
     events_are = subst (λ (n : ℕ). event_text n event_bytes ≡ Ok events) same events_are;
-    run = subst (λ (k : KernelView). RunsFrom (k.events + 1) k.state events breaks.lines breaks.last) booted breaks.run;
+    run = subst (λ (n : ℕ). RunsFrom (n + 1) (boot w) events breaks.lines breaks.last) none (subst (λ (s : State). RunsFrom (old.events + 1) s events breaks.lines breaks.last) booted breaks.run);
   };
   broken = breaks.broken;
 }

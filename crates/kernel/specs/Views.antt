@@ -2,7 +2,8 @@
 use Rattle.std.specs.Prelude.{ℕ}
 use Rattle.posix.specs.States.{State}
 
--- the state of the machine, and how many events were given
+-- the state of the machine, how many events were given, and how many slots of its table were read
 pub record KernelView : Type 0 where
   pub state : State
   pub events : ℕ
+  pub reads : ℕ

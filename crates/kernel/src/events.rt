@@ -7,7 +7,7 @@ ghost use Rattle.posix.specs.Choice.{chosen};
 ghost use Rattle.posix.specs.States.{process};
 ghost use Rattle.posix.specs.Step.{tick as ticking, go_on as going_on, IsStep};
 ghost use Rattle.posix.specs.Attempts.{attempt_again};
-ghost use Rattle.posix.specs.Regular.{IsPlaced};
+ghost use Rattle.posix.specs.Regular.{IsPlaced, IsRegular};
 ghost use Rattle.posix.specs.Settle.{NoWakeIsLost};
 ghost use Rattle.proctable.specs.Body.{facts_of};
 ghost use Rattle.calls.specs.Outcomes.{IsActing};
@@ -25,10 +25,10 @@ use proctable::{Facts, Kin};
 /// its place.
 #[inline(never)]
 fn begin_call<K: Kin>(machine: &mut Machine<K>, pid: Pid, call: Call, entries: &mut Entries)
-    requires acting { IsActing machine.old pid }
-    requires births { machine.old.births + 1 < 2 ^ 64 }
+    requires acting { IsActing machine.old.state pid }
+    requires births { machine.old.state.births + 1 < 2 ^ 64 }
     requires none { entries.old.items ≡ [] }
-    ensures { Begins machine.old pid call entries.new.items machine.new }
+    ensures { Begins machine.old.state pid call entries.new.items machine.new.state }
 {
     match attempt(machine, pid, call) {
         Attempted::Done(shown) => *entries = shown,
@@ -49,10 +49,10 @@ fn go_on<K: Kin>(
     signal: Option<Sig>,
     entries: &mut Entries,
 )
-    requires placed { IsPlaced machine.old.processes pid }
-    requires signal { (me : Process) → process machine.old pid ≡ Some me → signal ≡ chosen me.life me.signals }
+    requires placed { IsPlaced machine.old.state.processes pid }
+    requires signal { (me : Process) → process machine.old.state pid ≡ Some me → signal ≡ chosen me.life me.signals }
     requires none { entries.old.items ≡ [] }
-    ensures { (me : Process) → process machine.old pid ≡ Some me → going_on machine.old me (attempt_again machine.old me blocked) ≡ record { state = machine.new; entries = entries.new.items } }
+    ensures { (me : Process) → process machine.old.state pid ≡ Some me → going_on machine.old.state me (attempt_again machine.old.state me blocked) ≡ record { state = machine.new.state; entries = entries.new.items } }
 {
     match attempt_again(machine, pid, blocked) {
         Attempted::Done(shown) => *entries = shown,
@@ -66,11 +66,11 @@ fn go_on<K: Kin>(
 /// A process that has a place, and runs this program, runs the instruction at its pc.
 #[tactic(auto, unfolding(posix::specs::Step::after_trap))]
 fn run<K: Kin>(machine: &mut Machine<K>, pid: Pid, program: u8, entries: &mut Entries)
-    requires acting { IsActing machine.old pid }
-    requires program { (me : Process) → process machine.old pid ≡ Some me → me.program ≡ program }
-    requires births { machine.old.births + 1 < 2 ^ 64 }
+    requires acting { IsActing machine.old.state pid }
+    requires program { (me : Process) → process machine.old.state pid ≡ Some me → me.program ≡ program }
+    requires births { machine.old.state.births + 1 < 2 ^ 64 }
     requires none { entries.old.items ≡ [] }
-    ensures { Runs machine.old pid entries.new.items machine.new }
+    ensures { Runs machine.old.state pid entries.new.items machine.new.state }
 {
     match machine.run(pid, program) {
         Trap::Next => {}
@@ -84,11 +84,11 @@ fn run<K: Kin>(machine: &mut Machine<K>, pid: Pid, program: u8, entries: &mut En
 /// delivered to it; or it runs an instruction.
 #[tactic(auto, unfolding(posix::specs::Step::act, posix::specs::Step::act_in))]
 fn act<K: Kin>(machine: &mut Machine<K>, pid: Pid, facts: Facts, entries: &mut Entries)
-    requires acting { IsActing machine.old pid }
-    requires facts { Some facts ≡ option_map facts_of (process machine.old pid) }
-    requires births { machine.old.births + 1 < 2 ^ 64 }
+    requires acting { IsActing machine.old.state pid }
+    requires facts { Some facts ≡ option_map facts_of (process machine.old.state pid) }
+    requires births { machine.old.state.births + 1 < 2 ^ 64 }
     requires none { entries.old.items ≡ [] }
-    ensures { ActsAs machine.old pid entries.new.items machine.new }
+    ensures { ActsAs machine.old.state pid entries.new.items machine.new.state }
 {
     let Facts {
         chosen,
@@ -111,9 +111,9 @@ fn act<K: Kin>(machine: &mut Machine<K>, pid: Pid, facts: Facts, entries: &mut E
 /// The current process acts. Nothing happens where there is none.
 #[tactic(auto, unfolding(posix::specs::Step::step))]
 fn step<K: Kin>(machine: &mut Machine<K>, entries: &mut Entries)
-    requires births { machine.old.births + 1 < 2 ^ 64 }
+    requires births { machine.old.state.births + 1 < 2 ^ 64 }
     requires none { entries.old.items ≡ [] }
-    ensures { Steps machine.old entries.new.items machine.new }
+    ensures { Steps machine.old.state entries.new.items machine.new.state }
 {
     let Some(pid) = machine.current() else {
         return;
@@ -128,8 +128,8 @@ fn step<K: Kin>(machine: &mut Machine<K>, entries: &mut Entries)
 #[tactic(auto, unfolding(posix::specs::Step::tick))]
 #[inline(never)]
 fn tick<K: Kin>(machine: &mut Machine<K>)
-    requires { machine.old.ticks + 1 < 2 ^ 64 }
-    ensures { machine.new ≡ ticking machine.old }
+    requires { machine.old.state.ticks + 1 < 2 ^ 64 }
+    ensures { machine.new.state ≡ ticking machine.old.state }
 {
     machine.pass_time();
     if let Some(pid) = machine.current() {
@@ -140,10 +140,10 @@ fn tick<K: Kin>(machine: &mut Machine<K>)
 /// An event, before places are given.
 #[tactic(auto, unfolding(posix::specs::Step::happens))]
 fn happen<K: Kin>(machine: &mut Machine<K>, event: Event, entries: &mut Entries)
-    requires births { machine.old.births + 1 < 2 ^ 64 }
-    requires ticks { machine.old.ticks + 1 < 2 ^ 64 }
+    requires births { machine.old.state.births + 1 < 2 ^ 64 }
+    requires ticks { machine.old.state.ticks + 1 < 2 ^ 64 }
     requires none { entries.old.items ≡ [] }
-    ensures { Happens machine.old event entries.new.items machine.new }
+    ensures { Happens machine.old.state event entries.new.items machine.new.state }
 {
     match event {
         Event::Step => step(machine, entries),
@@ -155,12 +155,14 @@ fn happen<K: Kin>(machine: &mut Machine<K>, event: Event, entries: &mut Entries)
 /// note: none where it is in a call, or a signal is chosen for it. The number of instructions that were
 /// run; nobody gets a place by them.
 pub fn burst<K: Kin>(machine: &mut Machine<K>, most: u64, entries: &mut Entries) -> u64
-    requires awake { NoWakeIsLost machine.old }
-    requires going { machine.old.halted ≡ false }
+    requires regular { IsRegular machine.old.state }
+    requires awake { NoWakeIsLost machine.old.state }
+    requires going { machine.old.state.halted ≡ false }
     requires some { 0 < most }
     requires none { entries.old.items ≡ [] }
-    ensures runs { Bursts machine.old result entries.new.items machine.new }
+    ensures runs { Bursts machine.old.state result entries.new.items machine.new.state }
     ensures within { result ≤ most }
+    ensures regular { IsRegular machine.new.state }
 {
     let Some(pid) = machine.current() else {
         return 0;
@@ -184,10 +186,11 @@ pub fn burst<K: Kin>(machine: &mut Machine<K>, most: u64, entries: &mut Entries)
 /// One event. After a halt nothing changes, and nothing is shown.
 #[tactic(auto, unfolding(posix::specs::Step::next))]
 pub fn next<K: Kin>(machine: &mut Machine<K>, event: Event, entries: &mut Entries)
-    requires births { machine.old.births + 1 < 2 ^ 64 }
-    requires ticks { machine.old.ticks + 1 < 2 ^ 64 }
+    requires births { machine.old.state.births + 1 < 2 ^ 64 }
+    requires ticks { machine.old.state.ticks + 1 < 2 ^ 64 }
     requires none { entries.old.items ≡ [] }
-    ensures { IsStep machine.old event entries.new.items machine.new }
+    ensures step { IsStep machine.old.state event entries.new.items machine.new.state }
+    ensures regular { IsRegular machine.new.state }
 {
     if machine.is_halted() {
         return;

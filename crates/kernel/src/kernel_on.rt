@@ -5,6 +5,7 @@ ghost use Rattle.posix.specs.States.{boot as boot_of};
 ghost use Rattle.posix.specs.Entries.{numbered};
 ghost use Rattle.posix.specs.Runs.{RunsFrom};
 ghost use Rattle.posix.specs.Step.{IsStep};
+ghost use Rattle.posix.specs.Regular.{IsRegular};
 ghost use Rattle.text.specs.EventTexts.{most_events};
 ghost use Rattle.kernel.specs.Views.{KernelView};
 ghost use Rattle.kernel.specs.Summaries.{census_of};
@@ -33,19 +34,23 @@ pub struct KernelOn<K: Kin> {
 impl<K: Kin> Model for KernelOn<K> {
     ghost use Rattle.std.specs.Prelude.{◌≤◌, ◌+◌, ◌≡◌, false};
     ghost use Rattle.posix.specs.Settle.{NoWakeIsLost};
+    ghost use Rattle.posix.specs.Regular.{IsRegular};
     ghost use Rattle.kernel.specs.Views.{KernelView};
 
     ghost Value = { KernelView };
 
-    ghost view = { λ k. record { state = k.machine; events = k.events } };
+    ghost view = { λ k. record { state = k.machine.state; events = k.events; reads = k.machine.reads } };
 
-    ghost invariant = { λ k. (k.machine.births ≤ k.events + 1) × (k.machine.ticks ≤ k.events) × (k.machine.halted ≡ false → NoWakeIsLost k.machine) };
+    ghost invariant = { λ k. (k.machine.state.births ≤ k.events + 1) × (k.machine.state.ticks ≤ k.events) × (k.machine.state.halted ≡ false → NoWakeIsLost k.machine.state) × IsRegular k.machine.state };
 }
 
 impl<K: Kin> KernelOn<K> {
     /// The machine at its start; an error where there is no memory for it.
     pub fn boot(alloc: Global, world: &World) -> Result<Self, AllocError>
-        ensures { IfOk result (λ k. k ≡ record { state = boot_of world.now; events = 0 }) }
+        ensures state { IfOk result (λ k. k.state ≡ boot_of world.now) }
+        ensures events { IfOk result (λ k. k.events ≡ 0) }
+        ensures reads { IfOk result (λ k. k.reads ≤ 6) }
+        ensures regular { IfOk result (λ k. IsRegular k.state) }
     {
         Ok(KernelOn {
             machine: Machine::boot(alloc, world)?,
@@ -58,6 +63,14 @@ impl<K: Kin> KernelOn<K> {
         ensures { result ≡ self.now.events }
     {
         self.events
+    }
+
+    /// How many slots of the table of processes have been read, up to the greatest u128; 0 over a table
+    /// that doesn't count them.
+    pub fn visits(&self) -> u128
+        ensures { result ≡ self.now.reads }
+    {
+        self.machine.visits()
     }
 
     /// The number of consoles.
@@ -76,6 +89,7 @@ impl<K: Kin> KernelOn<K> {
         ensures step { IsStep self.old.state event result.items self.new.state }
         ensures events { self.new.events ≡ self.old.events + 1 }
         ensures halted { self.old.state.halted ≡ true → (result.items ≡ []) × (self.new.state ≡ self.old.state) }
+        ensures regular { IsRegular self.new.state }
     {
         let mut entries = ArrayVec::new();
         match event {
@@ -99,6 +113,7 @@ impl<K: Kin> KernelOn<K> {
         ensures within { result ≤ most }
         ensures runs { RunsFrom (self.old.events + 1) self.old.state (replicate result Event.Step) (numbered self.new.events entries.new.items) self.new.state }
         ensures events { self.new.events ≡ self.old.events + result }
+        ensures regular { IsRegular self.new.state }
     {
         if self.machine.is_halted() {
             self.event_into(Event::Step, entries);
@@ -121,6 +136,7 @@ impl<K: Kin> KernelOn<K> {
         ensures step { IsStep self.old.state event entries.new.items self.new.state }
         ensures events { self.new.events ≡ self.old.events + 1 }
         ensures halted { self.old.state.halted ≡ true → (entries.new.items ≡ []) × (self.new.state ≡ self.old.state) }
+        ensures regular { IsRegular self.new.state }
     {
         self.events += 1;
         next(&mut self.machine, event, entries);
@@ -129,7 +145,7 @@ impl<K: Kin> KernelOn<K> {
     /// Counts the processes.
     pub fn census(&mut self) -> Census
         ensures value { result ≡ census_of self.old.state }
-        ensures same { self.new ≡ self.old }
+        ensures same { (self.new.state ≡ self.old.state) × (self.new.events ≡ self.old.events) }
     {
         take_census(&mut self.machine)
     }

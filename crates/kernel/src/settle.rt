@@ -4,6 +4,7 @@ ghost use Rattle.std.specs.Prelude.{◌≡◌, ◌||◌, IsSome, Some, is_some, 
 ghost use Rattle.posix.specs.Processes.{Process};
 ghost use Rattle.posix.specs.States.{process};
 ghost use Rattle.posix.specs.Choice.{chosen};
+ghost use Rattle.posix.specs.Regular.{IsRegular};
 ghost use Rattle.posix.specs.Settle.{can_act as acting, can_go_on, settle as settling, woken};
 ghost use Rattle.proctable.specs.Body.{facts_of};
 
@@ -16,10 +17,10 @@ use proctable::{Facts, Kin};
 /// completed, or a signal is chosen for it.
 #[tactic(auto, unfolding(posix::specs::Attempts::attempt_again))]
 fn is_awake<K: Kin>(machine: &mut Machine<K>, pid: Pid, facts: Facts) -> bool
-    requires there { IsSome (process machine.old pid) }
-    requires facts { Some facts ≡ option_map facts_of (process machine.old pid) }
-    ensures value { (me : Process) → process machine.old pid ≡ Some me → result ≡ (can_go_on machine.old me me.blocked || is_some (chosen me.life me.signals)) }
-    ensures same { machine.new ≡ machine.old }
+    requires there { IsSome (process machine.old.state pid) }
+    requires facts { Some facts ≡ option_map facts_of (process machine.old.state pid) }
+    ensures value { (me : Process) → process machine.old.state pid ≡ Some me → result ≡ (can_go_on machine.old.state me me.blocked || is_some (chosen me.life me.signals)) }
+    ensures same { machine.new.state ≡ machine.old.state }
 {
     if facts.chosen.is_some() {
         return true;
@@ -34,9 +35,9 @@ fn is_awake<K: Kin>(machine: &mut Machine<K>, pid: Pid, facts: Facts) -> bool
 /// Whether a process that is there can act: KILL is pending for it, or it runs and needn't wait.
 #[tactic(auto, unfolding(posix::specs::Settle::can_act))]
 fn can_act<K: Kin>(machine: &mut Machine<K>, pid: Pid) -> bool
-    requires { IsSome (process machine.old pid) }
-    ensures value { (me : Process) → process machine.old pid ≡ Some me → result ≡ acting machine.old me }
-    ensures same { machine.new ≡ machine.old }
+    requires { IsSome (process machine.old.state pid) }
+    ensures value { (me : Process) → process machine.old.state pid ≡ Some me → result ≡ acting machine.old.state me }
+    ensures same { machine.new.state ≡ machine.old.state }
 {
     let Some(facts) = machine.facts(pid) else {
         return false;
@@ -51,8 +52,8 @@ fn can_act<K: Kin>(machine: &mut Machine<K>, pid: Pid) -> bool
 /// Gives a process that is there the last place, if it has none and can act.
 #[tactic(auto, unfolding(posix::specs::Settle::woken))]
 fn wake<K: Kin>(machine: &mut Machine<K>, pid: Pid)
-    requires { IsSome (process machine.old pid) }
-    ensures { machine.new ≡ woken machine.old pid }
+    requires { IsSome (process machine.old.state pid) }
+    ensures { machine.new.state ≡ woken machine.old.state pid }
 {
     if !machine.has_place(pid) && can_act(machine, pid) {
         machine.place(pid);
@@ -62,7 +63,8 @@ fn wake<K: Kin>(machine: &mut Machine<K>, pid: Pid)
 /// Asks all processes, in the rising order of their numbers.
 #[inline(never)]
 fn wake_all<K: Kin>(machine: &mut Machine<K>)
-    ensures { machine.new ≡ settling machine.old }
+    ensures state { machine.new.state ≡ settling machine.old.state }
+    ensures regular { IsRegular machine.new.state }
 {
     let mut next = machine.next_after(Pid::NONE);
     while let Some(pid) = next {
@@ -74,7 +76,8 @@ fn wake_all<K: Kin>(machine: &mut Machine<K>)
 /// Each process that can act has a place: those that have none get theirs at the end of the order, in
 /// the rising order of their numbers. Where each process has a place none is asked.
 pub fn settle<K: Kin>(machine: &mut Machine<K>)
-    ensures { machine.new ≡ settling machine.old }
+    ensures state { machine.new.state ≡ settling machine.old.state }
+    ensures regular { IsRegular machine.new.state }
 {
     if !machine.is_full() {
         wake_all(machine);

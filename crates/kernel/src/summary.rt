@@ -43,8 +43,8 @@ pub struct Census {
 
 /// Counts the processes of a machine.
 pub(crate) fn take_census<K: Kin>(machine: &mut Machine<K>) -> Census
-    ensures value { result ≡ census_of machine.old }
-    ensures same { machine.new ≡ machine.old }
+    ensures value { result ≡ census_of machine.old.state }
+    ensures same { machine.new.state ≡ machine.old.state }
 {
     let mut living = 0;
     let mut zombies = 0;
@@ -68,10 +68,10 @@ pub(crate) fn take_census<K: Kin>(machine: &mut Machine<K>) -> Census
 
 /// Whether a process is a zombie.
 fn is_zombie<K: Kin>(machine: &mut Machine<K>, pid: Pid) -> bool
-    ensures value { (r : Process) → process machine.old pid ≡ Some r → result ≡ is_zombie_of r.life }
-    ensures same { machine.new ≡ machine.old }
-    ensures regular { IsRegular machine.old }
-    ensures size { length machine.old.processes < 2 ^ 63 }
+    ensures value { (r : Process) → process machine.old.state pid ≡ Some r → result ≡ is_zombie_of r.life }
+    ensures same { machine.new.state ≡ machine.old.state }
+    ensures regular { IsRegular machine.old.state }
+    ensures size { length machine.old.state.processes < 2 ^ 63 }
 {
     let Some(facts) = machine.facts(pid) else {
         return false;
@@ -83,7 +83,7 @@ impl<K: Kin> KernelOn<K> {
     /// The numbers of the run so far, whose trace reported so many ends.
     pub fn summary(&mut self, reported: u64) -> Summary
         ensures value { (lines : List Line) → reported_of lines ≡ reported → result ≡ summary_of self.old.events lines self.old.state }
-        ensures same { self.new ≡ self.old }
+        ensures same { (self.new.state ≡ self.old.state) × (self.new.events ≡ self.old.events) }
     {
         let census = self.census();
         Summary {

@@ -6,3 +6,4 @@ pub mod CodeLemmas
 pub mod ChildLemmas
 pub mod SendLemmas
 pub mod LoanLemmas
+pub mod ViewLemmas

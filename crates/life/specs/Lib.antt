@@ -1,1 +1,2 @@
 pub mod Machines
+pub mod Loans

@@ -20,6 +20,11 @@ state_of world processes pids places births ticks dropped halted = record (boot 
   halted = halted;
 }
 
+-- the state of a machine, and how many slots of its table have been read
+pub record MachineView : Type 0 where
+  pub state : State
+  pub reads : ℕ
+
 -- The rows count which numbers the processes bear, and there is room for a place for each.
 pub record IsKept (pidmax : ℕ) (rs : List Process) (pids : Pids) (places : Places) (records : ℕ) : Type 0 where
   pub greatest : pids.pidmax ≡ pidmax

@@ -28,7 +28,7 @@ fn newborn<K: Kin>(table: &mut K, pid: Pid, birth: u64) -> Result<Body, AllocErr
 impl<K: Kin> Machine<K> {
     /// The number that the next child gets, if there is one.
     pub fn next_pid(&self) -> Option<Pid>
-        ensures { result ≡ next_pid_of self.now }
+        ensures { result ≡ next_pid_of self.now.state }
     {
         self.pids.next()
     }
@@ -37,11 +37,11 @@ impl<K: Kin> Machine<K> {
     /// [`Machine::next_pid`] gives (XSH fork). At an error the host has no memory for it, and nothing has
     /// changed: all memory is taken before the first change.
     pub fn fork(&mut self, parent: Pid, child: Pid) -> Result<(), AllocError>
-        requires parent { IsPlaced self.old.processes parent }
-        requires child { next_pid_of self.old ≡ Some child }
-        requires births { self.old.births + 1 < 2 ^ 64 }
-        ensures ok { OnOk result ((me : Process) → process self.old parent ≡ Some me → self.new ≡ born self.old me child) }
-        ensures err { OnErr result (self.new ≡ self.old) }
+        requires parent { IsPlaced self.old.state.processes parent }
+        requires child { next_pid_of self.old.state ≡ Some child }
+        requires births { self.old.state.births + 1 < 2 ^ 64 }
+        ensures ok { OnOk result ((me : Process) → process self.old.state parent ≡ Some me → self.new.state ≡ born self.old.state me child) }
+        ensures err { OnErr result (self.new.state ≡ self.old.state) }
     {
         let body = newborn(&mut self.table, parent, self.births + 1)?;
         self.table.reserve()?;

@@ -1,6 +1,6 @@
 //! The machine: all that the state of a world consists of.
 
-ghost use Rattle.std.specs.Prelude.{◌≡◌, ◌≢◌, ◌+◌, ◌<◌, ◌^◌, ◌++◌, ◌∷◌, [], ⊤, IfOk, IfSome, IsSome, Some, length, nat_le, option_map, false, true};
+ghost use Rattle.std.specs.Prelude.{◌≡◌, ◌≢◌, ◌+◌, ◌<◌, ◌≤◌, ◌^◌, ◌++◌, ◌∷◌, [], ⊤, IfOk, IfSome, IsSome, Some, length, nat_le, option_map, false, true};
 ghost use mathlib.Core.Option.{none};
 ghost use Rattle.std.specs.Borrow.{sem, Lends, follows_so};
 ghost use Rattle.posix.specs.Processes.{Process};
@@ -11,6 +11,7 @@ ghost use Rattle.posix.specs.Execute.{exec_one, StaysUnlessRun};
 ghost use Rattle.posix.specs.Step.{code_of, set_cpu, pass_time as passing_time};
 ghost use Rattle.proctable.specs.Body.{facts_of, own_of, give_own, own_row};
 ghost use Rattle.life.specs.contracts.machine.Machine.{the_row as machine_row};
+ghost use Rattle.life.specs.Loans.{lent, looked};
 ghost use Rattle.umach.specs.Bursts.{exec_until, IsWithin};
 
 use pidalloc::PidTable;
@@ -37,12 +38,11 @@ pub struct Machine<K: Kin> {
 }
 
 impl<K: Kin> Model for Machine<K> {
-    ghost use Rattle.posix.specs.States.{State};
-    ghost use Rattle.life.specs.Machines.{state_of, IsSound};
+    ghost use Rattle.life.specs.Machines.{MachineView, state_of, IsSound};
 
-    ghost Value = { State };
+    ghost Value = { MachineView };
 
-    ghost view = { λ m. state_of m.world (K.contents m.table) m.pids m.order m.births m.ticks m.dropped m.halted };
+    ghost view = { λ m. record { state = state_of m.world (K.contents m.table) m.pids m.order m.births m.ticks m.dropped m.halted; reads = K.reads m.table } };
 
     ghost invariant = { λ m. IsSound (state_of m.world (K.contents m.table) m.pids m.order m.births m.ticks m.dropped m.halted) m.pids m.order m.records };
 }
@@ -50,7 +50,9 @@ impl<K: Kin> Model for Machine<K> {
 impl<K: Kin> Machine<K> {
     /// The machine at its start; an error where the host has no memory for it.
     pub fn boot(alloc: Global, world: &World) -> Result<Self, AllocError>
-        ensures { IfOk result (λ m. m ≡ boot_of world.now) }
+        ensures state { IfOk result (λ m. m.state ≡ boot_of world.now) }
+        ensures reads { IfOk result (λ m. m.reads ≤ 6) }
+        ensures regular { IfOk result (λ m. IsRegular m.state) }
     {
         let world = world.try_clone(alloc)?;
         let mut pids = PidTable::new(alloc, world.pidmax())?;
@@ -77,81 +79,93 @@ impl<K: Kin> Machine<K> {
 
     // ---- what there is
 
+    /// How many slots of the table have been read, up to the greatest u128; 0 over a table that doesn't
+    /// count them.
+    pub fn visits(&self) -> u128
+        ensures { result ≡ self.now.reads }
+    {
+        self.table.visits()
+    }
+
     /// The number of consoles: 0 to 8.
     pub fn consoles(&self) -> u8
-        ensures { result ≡ self.now.world.consoles }
+        ensures { result ≡ self.now.state.world.consoles }
     {
         self.world.consoles()
     }
 
     /// Whether the machine has halted.
     pub fn is_halted(&self) -> bool
-        ensures { result ≡ self.now.halted }
+        ensures value { result ≡ self.now.state.halted }
+        ensures regular { IsRegular self.now.state }
     {
         self.halted
     }
 
     /// How many processes were born, process 1 included.
     pub fn births(&self) -> u64
-        ensures { result ≡ self.now.births }
+        ensures { result ≡ self.now.state.births }
     {
         self.births
     }
 
     /// How many ended children were dropped, since their parent drops its children.
     pub fn dropped(&self) -> u64
-        ensures { result ≡ self.now.dropped }
+        ensures { result ≡ self.now.state.dropped }
     {
         self.dropped
     }
 
     /// The process that acts next.
     pub fn current(&self) -> Option<Pid>
-        ensures { result ≡ current_of self.now }
+        ensures { result ≡ current_of self.now.state }
     {
         self.order.current()
     }
 
     /// Whether a process has a place in the order.
     pub fn has_place(&self, pid: Pid) -> bool
-        ensures { result ≡ has_place_in self.now pid }
+        ensures { result ≡ has_place_in self.now.state pid }
     {
         self.order.has(pid)
     }
 
     /// Whether there are as many places as processes: then each process has one.
     pub fn is_full(&self) -> bool
-        ensures value { result ≡ nat_le (length self.now.processes) (length self.now.order) }
-        ensures regular { IsRegular self.now }
+        ensures value { result ≡ nat_le (length self.now.state.processes) (length self.now.state.order) }
+        ensures regular { IsRegular self.now.state }
     {
         self.records <= self.order.len()
     }
 
     /// The small fields of a process; none where it isn't there.
     pub fn facts(&mut self, pid: Pid) -> Option<Facts>
-        ensures value { result ≡ option_map facts_of (process self.old pid) }
-        ensures same { self.new ≡ self.old }
-        ensures regular { IsRegular self.old }
-        ensures size { length self.old.processes < 2 ^ 63 }
+        ensures value { result ≡ option_map facts_of (process self.old.state pid) }
+        ensures same { self.new.state ≡ self.old.state }
+        ensures reads { self.new.reads ≤ self.old.reads + 1 }
+        ensures regular { IsRegular self.old.state }
+        ensures size { length self.old.state.processes < 2 ^ 63 }
     {
         self.table.get(pid)
     }
 
     /// The process with the least number above `pid`.
     pub fn next_after(&mut self, pid: Pid) -> Option<Pid>
-        ensures value { result ≡ next_above pid self.old.processes }
-        ensures same { self.new ≡ self.old }
-        ensures regular { IsRegular self.old }
+        ensures value { result ≡ next_above pid self.old.state.processes }
+        ensures same { self.new.state ≡ self.old.state }
+        ensures reads { self.new.reads ≤ self.old.reads + 1 }
+        ensures regular { IsRegular self.old.state }
     {
         self.table.next_after(pid)
     }
 
     /// The parent of a process that is there; number 0 for process 1.
     pub fn parent(&mut self, pid: Pid) -> Pid
-        requires { IsSome (process self.old pid) }
-        ensures value { (me : Process) → process self.old pid ≡ Some me → result ≡ me.parent }
-        ensures there { pid ≢ 1 → IsSome (process self.old result) }
-        ensures same { self.new ≡ self.old }
+        requires { IsSome (process self.old.state pid) }
+        ensures value { (me : Process) → process self.old.state pid ≡ Some me → result ≡ me.parent }
+        ensures there { pid ≢ 1 → IsSome (process self.old.state result) }
+        ensures same { self.new.state ≡ self.old.state }
+        ensures reads { self.new.reads ≤ self.old.reads + 1 }
     {
         match self.table.get(pid) {
             Some(facts) => facts.parent,
@@ -161,9 +175,10 @@ impl<K: Kin> Machine<K> {
 
     /// The process group of a process that is there.
     pub fn group(&mut self, pid: Pid) -> Pid
-        requires { IsSome (process self.old pid) }
-        ensures value { (me : Process) → process self.old pid ≡ Some me → result ≡ me.group }
-        ensures same { self.new ≡ self.old }
+        requires { IsSome (process self.old.state pid) }
+        ensures value { (me : Process) → process self.old.state pid ≡ Some me → result ≡ me.group }
+        ensures same { self.new.state ≡ self.old.state }
+        ensures reads { self.new.reads ≤ self.old.reads + 1 }
     {
         match self.table.get(pid) {
             Some(facts) => facts.group,
@@ -175,10 +190,10 @@ impl<K: Kin> Machine<K> {
 
     /// Lends what a process that is there may change of itself. Nothing else changes.
     pub fn own(&mut self, pid: Pid) -> &mut Own
-        requires { IsSome (process self.old pid) }
-        ensures* lends { sem 𝓛 (Lends (machine_row K.row K.Kin) own_row self.entry result (λ o. change self.old pid (give_own o))) }
-        ensures value { IfSome (process self.old pid) (λ me. result.now ≡ own_of me) }
-        ensures regular { IsRegular self.old }
+        requires { IsSome (process self.old.state pid) }
+        ensures* lends { sem 𝓛 (Lends (machine_row K.row K.Kin) own_row self.entry result (lent K.one_more self.old pid)) }
+        ensures value { IfSome (process self.old.state pid) (λ me. result.now ≡ own_of me) }
+        ensures regular { IsRegular self.old.state }
     {
         let body = self.table.update(pid);
         &mut body.own
@@ -187,11 +202,12 @@ impl<K: Kin> Machine<K> {
     /// Runs the instruction at the pc of a process that is there and runs this program. A call and a
     /// machine fault change nothing.
     pub fn run(&mut self, pid: Pid, program: u8) -> Trap
-        requires there { IsSome (process self.old pid) }
-        requires program { (me : Process) → process self.old pid ≡ Some me → me.program ≡ program }
-        ensures trap { (me : Process) → process self.old pid ≡ Some me → result ≡ (exec_one (code_of self.old me) me.cpu).trap }
-        ensures state { (me : Process) → process self.old pid ≡ Some me → self.new ≡ change self.old pid (set_cpu (exec_one (code_of self.old me) me.cpu).cpu) }
-        ensures stays { StaysUnlessRun result self.old self.new }
+        requires there { IsSome (process self.old.state pid) }
+        requires program { (me : Process) → process self.old.state pid ≡ Some me → me.program ≡ program }
+        ensures trap { (me : Process) → process self.old.state pid ≡ Some me → result ≡ (exec_one (code_of self.old.state me) me.cpu).trap }
+        ensures state { (me : Process) → process self.old.state pid ≡ Some me → self.new.state ≡ change self.old.state pid (set_cpu (exec_one (code_of self.old.state me) me.cpu).cpu) }
+        ensures stays { StaysUnlessRun result self.old.state self.new.state }
+        ensures reads { self.new.reads ≤ self.old.reads + 1 }
     {
         match self.world.programs().get(usize::from(program)) {
             Some(program) => self.table.update(pid).own.cpu.exec_one(program),
@@ -204,13 +220,15 @@ impl<K: Kin> Machine<K> {
     /// and a machine fault change nothing.
     #[inline]
     pub fn run_until(&mut self, pid: Pid, program: u8, most: u64) -> (u64, Trap)
-        requires there { IsSome (process self.old pid) }
-        requires program { (me : Process) → process self.old pid ≡ Some me → me.program ≡ program }
+        requires there { IsSome (process self.old.state pid) }
+        requires program { (me : Process) → process self.old.state pid ≡ Some me → me.program ≡ program }
         requires some { 0 < most }
-        ensures count { (me : Process) → process self.old pid ≡ Some me → result.0 ≡ (exec_until (code_of self.old me) most me.cpu).count }
-        ensures trap { (me : Process) → process self.old pid ≡ Some me → result.1 ≡ (exec_until (code_of self.old me) most me.cpu).trap }
-        ensures state { (me : Process) → process self.old pid ≡ Some me → self.new ≡ change self.old pid (set_cpu (exec_until (code_of self.old me) most me.cpu).cpu) }
+        ensures count { (me : Process) → process self.old.state pid ≡ Some me → result.0 ≡ (exec_until (code_of self.old.state me) most me.cpu).count }
+        ensures trap { (me : Process) → process self.old.state pid ≡ Some me → result.1 ≡ (exec_until (code_of self.old.state me) most me.cpu).trap }
+        ensures state { (me : Process) → process self.old.state pid ≡ Some me → self.new.state ≡ change self.old.state pid (set_cpu (exec_until (code_of self.old.state me) most me.cpu).cpu) }
         ensures within { IsWithin most result.0 result.1 }
+        ensures regular { IsRegular self.new.state }
+        ensures reads { self.new.reads ≤ self.old.reads + 1 }
     {
         match self.world.programs().get(usize::from(program)) {
             Some(program) => self.table.update(pid).own.cpu.run_until(program, most),
@@ -220,10 +238,10 @@ impl<K: Kin> Machine<K> {
 
     /// Shows what a process that is there may change of itself. Nothing changes.
     pub fn look(&mut self, pid: Pid) -> &Own
-        requires { IsSome (process self.old pid) }
-        ensures* lends { sem 𝓛 (follows_so (machine_row K.row K.Kin) (machine_row K.row K.Kin) self.entry.ghost_name none (λ _ _. ⊤) (λ n. n ≡ self.old)) }
-        ensures value { IfSome (process self.old pid) (λ me. result.now ≡ own_of me) }
-        ensures regular { IsRegular self.old }
+        requires { IsSome (process self.old.state pid) }
+        ensures* lends { sem 𝓛 (follows_so (machine_row K.row K.Kin) (machine_row K.row K.Kin) self.entry.ghost_name none (λ _ _. ⊤) (λ n. n ≡ looked K.one_more self.old)) }
+        ensures value { IfSome (process self.old.state pid) (λ me. result.now ≡ own_of me) }
+        ensures regular { IsRegular self.old.state }
     {
         let body = self.table.update(pid);
         &body.own
@@ -233,32 +251,36 @@ impl<K: Kin> Machine<K> {
 
     /// A process that has no place, and isn't a zombie, gets the last one.
     pub fn place(&mut self, pid: Pid)
-        requires there { IsPlaced self.old.processes pid }
-        requires none { has_place_in self.old pid ≡ false }
-        ensures { self.new ≡ record self.old { order = self.old.order ++ pid ∷ [] } }
+        requires there { IsPlaced self.old.state.processes pid }
+        requires none { has_place_in self.old.state pid ≡ false }
+        ensures state { self.new.state ≡ record (self.old.state) { order = self.old.state.order ++ pid ∷ [] } }
+        ensures reads { self.new.reads ≡ self.old.reads }
     {
         self.order.place(pid);
     }
 
     /// A process loses its place, if it has one.
     pub fn lose_place(&mut self, pid: Pid)
-        ensures { self.new ≡ losing_place self.old pid }
+        ensures state { self.new.state ≡ losing_place self.old.state pid }
+        ensures reads { self.new.reads ≡ self.old.reads }
     {
         self.order.drop_place(pid);
     }
 
     /// A process that has a place gets the last one.
     pub fn go_last(&mut self, pid: Pid)
-        requires { has_place_in self.old pid ≡ true }
-        ensures { self.new ≡ going_last self.old pid }
+        requires { has_place_in self.old.state pid ≡ true }
+        ensures state { self.new.state ≡ going_last self.old.state pid }
+        ensures reads { self.new.reads ≡ self.old.reads }
     {
         self.order.go_last(pid);
     }
 
     /// The time goes on by one tick.
     pub fn pass_time(&mut self)
-        requires { self.old.ticks + 1 < 2 ^ 64 }
-        ensures { self.new ≡ passing_time self.old }
+        requires { self.old.state.ticks + 1 < 2 ^ 64 }
+        ensures state { self.new.state ≡ passing_time self.old.state }
+        ensures reads { self.new.reads ≡ self.old.reads }
     {
         self.ticks += 1;
     }

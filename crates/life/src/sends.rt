@@ -126,9 +126,9 @@ pub fn send<K: Kin>(table: &mut K, sender: Pid, target: i64, sig: Option<Sig>) -
 impl<K: Kin> Machine<K> {
     /// Sends a signal of a process that is there, by [`send`].
     pub fn send(&mut self, sender: Pid, target: i64, sig: Option<Sig>) -> Sending
-        requires { IsSome (process self.old sender) }
-        ensures sending { (me : Process) → process self.old sender ≡ Some me → result ≡ sending_of me target sig self.old.processes }
-        ensures state { (me : Process) → process self.old sender ≡ Some me → self.new ≡ record self.old { processes = sent_to me target sig self.old.processes } }
+        requires { IsSome (process self.old.state sender) }
+        ensures sending { (me : Process) → process self.old.state sender ≡ Some me → result ≡ sending_of me target sig self.old.state.processes }
+        ensures state { (me : Process) → process self.old.state sender ≡ Some me → self.new.state ≡ record (self.old.state) { processes = sent_to me target sig self.old.state.processes } }
     {
         send(&mut self.table, sender, target, sig)
     }

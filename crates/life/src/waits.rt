@@ -1,8 +1,8 @@
 //! Waits.
 
-ghost use Rattle.std.specs.Prelude.{◌≡◌, ◌≢◌, IsSome, Some, true};
+ghost use Rattle.std.specs.Prelude.{◌≡◌, ◌≢◌, ◌≤◌, ◌+◌, ◌*◌, length, IsSome, Some, true};
 ghost use Rattle.posix.specs.Processes.{Process, is_zombie};
-ghost use Rattle.posix.specs.Tables.{lookup, removed};
+ghost use Rattle.posix.specs.Tables.{lookup, removed, children_in};
 ghost use Rattle.posix.specs.States.{process, change};
 ghost use Rattle.posix.specs.Waits.{is_named as is_named_by, report, report_change as report_change_of, report_life as report_life_of, report_of, news_told};
 ghost use Rattle.posix.specs.Waits.{look as look_of};
@@ -78,6 +78,7 @@ pub fn wait_attempt<K: Kin>(
     ensures value { result ≡ report (K.contents table.old) caller group choice options.0 }
     ensures contents { K.contents table.new ≡ K.contents table.old }
     ensures room { K.room table.new ≡ K.room table.old }
+    ensures reads { K.reads table.new ≤ K.reads table.old + 1 + 2 * length (children_in caller (K.contents table.old)) }
 {
     let mut found = Report::NoChild;
     let mut next = table.first_child(caller);
@@ -104,9 +105,10 @@ impl<K: Kin> Machine<K> {
         choice: i64,
         options: WaitOptions,
     ) -> Report
-        requires { IsSome (process self.old caller) }
-        ensures value { result ≡ report self.old.processes caller group choice options.0 }
-        ensures same { self.new ≡ self.old }
+        requires { IsSome (process self.old.state caller) }
+        ensures value { result ≡ report self.old.state.processes caller group choice options.0 }
+        ensures same { self.new.state ≡ self.old.state }
+        ensures reads { self.new.reads ≤ self.old.reads + 1 + 2 * length (children_in caller self.old.state.processes) }
     {
         wait_attempt(&mut self.table, caller, group, choice, options)
     }
@@ -115,8 +117,9 @@ impl<K: Kin> Machine<K> {
     /// group's and its session's (XSH waitpid).
     pub fn collect(&mut self, pid: Pid)
         requires other { pid ≢ 1 }
-        requires zombie { (child : Process) × (process self.old pid ≡ Some child) × (is_zombie child.life ≡ true) }
-        ensures { self.new ≡ record self.old { processes = removed pid self.old.processes } }
+        requires zombie { (child : Process) × (process self.old.state pid ≡ Some child) × (is_zombie child.life ≡ true) }
+        ensures state { self.new.state ≡ record (self.old.state) { processes = removed pid self.old.state.processes } }
+        ensures reads { self.new.reads ≤ self.old.reads + 5 }
     {
         let Some(facts) = self.table.get(pid) else {
             return;
@@ -128,8 +131,9 @@ impl<K: Kin> Machine<K> {
 
     /// A wait has reported the news of a process that is there: they become none.
     pub fn tell_news(&mut self, pid: Pid)
-        requires { IsSome (process self.old pid) }
-        ensures { self.new ≡ change self.old pid news_told }
+        requires { IsSome (process self.old.state pid) }
+        ensures state { self.new.state ≡ change self.old.state pid news_told }
+        ensures reads { self.new.reads ≤ self.old.reads + 1 }
     {
         self.table.update(pid).tell_news();
     }

@@ -1,6 +1,6 @@
 //! What a table of processes has to do.
 
-ghost use Rattle.std.specs.Prelude.{◌≡◌, ◌+◌, ◌^◌, ◌<◌, ◌≤◌, ◌⊎◌, ℕ, Bool, [], List, None, Some, IsSome, IsTrue, OnOk, option_map, length};
+ghost use Rattle.std.specs.Prelude.{◌≡◌, ◌+◌, ◌^◌, ◌<◌, ◌≤◌, ◌⊎◌, ℕ, [], List, None, Some, IsSome, OnOk, option_map, length};
 ghost use Rattle.std.specs.Borrow.{sem, Lends};
 ghost use Rattle.posix.specs.Processes.{Process};
 ghost use Rattle.posix.specs.Tables.{IsRising, lookup, inserted, removed, children_in, first_pid, next_above, next_sibling, parent_of, adopted};
@@ -24,11 +24,11 @@ pub trait Kin: Drop {
     /// How many more processes can be put in without memory.
     ghost room: { Self → ℕ };
 
-    /// How many slots have been read.
+    /// How many slots have been read, as far as the table counts them.
     ghost reads: { Self → ℕ };
 
-    /// Whether the table counts the slots that it reads. Then the bounds on `reads` hold.
-    ghost counts: { Bool };
+    /// That number after one more slot was read.
+    ghost one_more: { ℕ → ℕ };
 
     /// The table with another body for a process, whose slot was read once.
     ghost put: { Self → ℕ → Body → Self };
@@ -55,7 +55,8 @@ pub trait Kin: Drop {
         requires parent { (parent ≡ 0) ⊎ IsSome (lookup parent (contents self.old)) }
         ensures rising { IsRising (contents self.old) }
         ensures contents { contents self.new ≡ inserted (process_of pid parent body) (contents self.old) }
-        ensures room { room self.old ≤ room self.new + 1 };
+        ensures room { room self.old ≤ room self.new + 1 }
+        ensures reads { reads self.new ≤ reads self.old + 6 + length (children_in parent (contents self.old)) };
 
     /// The small fields of a process; none where it isn't there.
     fn get(&mut self, pid: Pid) -> Option<Facts>
@@ -64,7 +65,7 @@ pub trait Kin: Drop {
         ensures size { length (contents self.old) < 2 ^ 63 }
         ensures contents { contents self.new ≡ contents self.old }
         ensures room { room self.new ≡ room self.old }
-        ensures reads { IsTrue counts → reads self.new ≤ reads self.old + 1 };
+        ensures reads { reads self.new ≤ reads self.old + 1 };
 
     /// All of a process that is there but its number and its parent's, for the caller to change. The
     /// other processes and the room are unchanged.
@@ -79,7 +80,8 @@ pub trait Kin: Drop {
         requires { children_in pid (contents self.old) ≡ [] }
         ensures rising { IsRising (contents self.old) }
         ensures contents { contents self.new ≡ removed pid (contents self.old) }
-        ensures room { room self.old ≤ room self.new };
+        ensures room { room self.old ≤ room self.new }
+        ensures reads { reads self.new ≤ reads self.old + 4 };
 
     /// The child of a process that is there with the least number; none where it has no child.
     fn first_child(&mut self, pid: Pid) -> Option<Pid>
@@ -88,7 +90,7 @@ pub trait Kin: Drop {
         ensures rising { IsRising (contents self.old) }
         ensures contents { contents self.new ≡ contents self.old }
         ensures room { room self.new ≡ room self.old }
-        ensures reads { IsTrue counts → reads self.new ≤ reads self.old + 1 };
+        ensures reads { reads self.new ≤ reads self.old + 1 };
 
     /// Of the children of the same parent, the one with the least number above that of a process that is
     /// there; none where there is no such child.
@@ -98,7 +100,7 @@ pub trait Kin: Drop {
         ensures rising { IsRising (contents self.old) }
         ensures contents { contents self.new ≡ contents self.old }
         ensures room { room self.new ≡ room self.old }
-        ensures reads { IsTrue counts → reads self.new ≤ reads self.old + 1 };
+        ensures reads { reads self.new ≤ reads self.old + 1 };
 
     /// The process with the least number above `pid`, which need not be there; none where there is none.
     fn next_after(&mut self, pid: Pid) -> Option<Pid>
@@ -106,7 +108,7 @@ pub trait Kin: Drop {
         ensures rising { IsRising (contents self.old) }
         ensures contents { contents self.new ≡ contents self.old }
         ensures room { room self.new ≡ room self.old }
-        ensures reads { IsTrue counts → reads self.new ≤ reads self.old + 1 };
+        ensures reads { reads self.new ≤ reads self.old + 1 };
 
     /// Gives the children of one process to another, which is there.
     fn adopt(&mut self, from: Pid, to: Pid)
@@ -115,8 +117,8 @@ pub trait Kin: Drop {
         ensures contents { contents self.new ≡ adopted from to (contents self.old) }
         ensures room { room self.new ≡ room self.old };
 
-    /// How many slots have been read; 0 in a table that doesn't count them.
-    fn visits(&self) -> u64
+    /// How many slots have been read, up to the greatest u128; 0 in a table that doesn't count them.
+    fn visits(&self) -> u128
         ensures { result ≡ reads self.now };
 
     /// Another body is a change of one process.
@@ -126,5 +128,8 @@ pub trait Kin: Drop {
     ghost keeps_room: { (t : Self) (pid : ℕ) (b : Body) → room (put t pid b) ≡ room t };
 
     /// To change one process takes one slot.
-    ghost put_reads: { (t : Self) (pid : ℕ) (b : Body) → IsTrue counts → reads (put t pid b) ≤ reads t + 1 };
+    ghost put_reads: { (t : Self) (pid : ℕ) (b : Body) → reads (put t pid b) ≡ one_more (reads t) };
+
+    /// One more is no more than that: a table may stop at the greatest number, or not count at all.
+    ghost at_most_one: { (n : ℕ) → one_more n ≤ n + 1 };
 }

@@ -1,6 +1,7 @@
 //! A table that scans: the processes stand in a vector, in rising order of their numbers.
 
-ghost use Rattle.std.specs.Prelude.{◌≡◌, ◌+◌, ◌<◌, ◌≤◌, [], length, map, drop, false, IfOk, IfErr, insert, remove, None, refl, option_map, find, vec_len, vec_capacity, IsSome};
+ghost use Rattle.std.specs.Prelude.{◌≡◌, ◌+◌, ◌<◌, ◌≤◌, [], length, map, drop, IfOk, IfErr, insert, remove, None, refl, option_map, find, vec_len, vec_capacity, IsSome};
+ghost use Rattle.std.proofs.Common.{arith};
 ghost use Rattle.posix.specs.Tables.{IsRising, lookup, is_child, above, next_sibling, next_above, reparented};
 ghost use Rattle.posix.proofs.TableLemmas.{IsGap};
 ghost use Rattle.proctable.specs.Slots.{IsAt, put_body};
@@ -39,7 +40,7 @@ impl Kin for ScanTable {
 
     ghost reads = { λ t. 0 };
 
-    ghost counts = { false };
+    ghost one_more = { λ n. n };
 
     ghost put = { put_body };
 
@@ -47,7 +48,9 @@ impl Kin for ScanTable {
 
     ghost keeps_room = { λ t p b. refl };
 
-    ghost put_reads = { λ t p b h. absurd (Prim.cc) };
+    ghost put_reads = { λ t p b. refl };
+
+    ghost at_most_one = { λ n. Prim.omega arith };
 
     fn empty(alloc: Global) -> Self {
         ScanTable {
@@ -99,7 +102,7 @@ impl Kin for ScanTable {
         adopt_all(&mut self.slots, from, to);
     }
 
-    fn visits(&self) -> u64 {
+    fn visits(&self) -> u128 {
         0
     }
 }

@@ -8,8 +8,8 @@ use Rattle.calls.proofs.attempts.getpid.Goals as goal
 pub returns : goal.returns
 unfolding attempt
 returns g c = λ me e.
-    let s = c.args.machine.now in
+    let s = c.args.machine.now.state in
     let named = sym (pid_looked c.args.pid s.processes me e) in
     let kept : to_z w64 (of_z w64 c.from.result) ≡ c.from.result = search rules in
     let value = kept ∙ c.from.ensures ∙ ap pos (c.number.ensures.value ∙ named) in
-    (true, gives_after s s s c.args.pid me.pid Getpid (to_z w64 (of_z w64 c.from.result)) (pos me.pid) c.gives.result c.gives.new.machine refl named value c.gives.ensures)
+    (true, gives_after s s s c.args.pid me.pid Getpid (to_z w64 (of_z w64 c.from.result)) (pos me.pid) c.gives.result c.gives.new.machine.state refl named value c.gives.ensures)

@@ -12,5 +12,5 @@ pub returns-clause-known : goal.returns-clause-known
 unfolding known_from
 returns-clause-known g c = λ me e.
     let kept : to_z w64 (of_z w64 c.register-bits.result) ≡ c.register-bits.result = search rules in
-    let bits : c.cast_unsigned.result ≡ options_in (argument me 2) = c.cast_unsigned.ensures ∙ ap (cast_unsigned w64) (kept ∙ c.register-bits.ensures ∙ ap (λ o. register o.cpu 2) (own_is c.args.machine.now c.args.pid c.look.result.now me c.look.ensures.value e)) in
+    let bits : c.cast_unsigned.result ≡ options_in (argument me 2) = c.cast_unsigned.ensures ∙ ap (cast_unsigned w64) (kept ∙ c.register-bits.ensures ∙ ap (λ o. register o.cpu 2) (own_is c.args.machine.now.state c.args.pid c.look.result.now me c.look.ensures.value e)) in
     some_bits c.from_bits.result c.cast_unsigned.result 11 (c.from_bits.ensures.known tt) ∙ ap are_known bits

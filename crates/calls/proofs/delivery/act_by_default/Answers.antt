@@ -9,7 +9,7 @@ use Rattle.calls.proofs.delivery.act_by_default.Goals as goal
 
 pub returns-then-eq : goal.returns-then-eq
 returns-then-eq g c = λ me e.
-    let s = c.args.machine.now in
+    let s = c.args.machine.now.state in
     let named = pid_looked c.args.pid s.processes me e in
     by_default_if s me c.args.sig true (ap (λ n. n == 1) named ∙ sym c.eq.ensures ∙ c.if-eq.true)
     ∙ ap (λ n. outcome_of s (Discarded n c.args.sig ∷ [])) named
@@ -17,16 +17,16 @@ returns-then-eq g c = λ me e.
 
 pub returns-in-Terminate : goal.returns-in-Terminate
 returns-in-Terminate g c = λ me e.
-    let s = c.args.machine.now in
+    let s = c.args.machine.now.state in
     let named = pid_looked c.args.pid s.processes me e in
-    default_ends s me c.args.sig c.end.new.machine c.end.new.entries.items (ap (λ n. n == 1) named ∙ sym c.eq.ensures ∙ c.if-eq.false)
+    default_ends s me c.args.sig c.end.new.machine.state c.end.new.entries.items (ap (λ n. n == 1) named ∙ sym c.eq.ensures ∙ c.if-eq.false)
     (sym c.default_action.ensures ∙ c.in-Terminate.is)
     (c.end.ensures.state me e ∙ ap (λ w. (end_process s me w).state) c.killed.ensures)
     (c.end.ensures.entries me e ∙ ap (λ (l : List Entry). l ++ (end_process s me c.killed.result).entries) c.requires.none ∙ ap (λ w. (end_process s me w).entries) c.killed.ensures)
 
 pub returns-in-Ignore : goal.returns-in-Ignore
 returns-in-Ignore g c = λ me e.
-    let s = c.args.machine.now in
+    let s = c.args.machine.now.state in
     let named = pid_looked c.args.pid s.processes me e in
     by_default_if s me c.args.sig false (ap (λ n. n == 1) named ∙ sym c.eq.ensures ∙ c.if-eq.false)
     ∙ default_rests s me c.args.sig _ _ c.default_action.ensures c.in-Ignore.is

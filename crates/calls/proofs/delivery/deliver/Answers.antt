@@ -10,15 +10,15 @@ use Rattle.calls.proofs.OwnLemmas.{caller, of_caller, caller_there, there_lent}
 use Rattle.calls.proofs.delivery.deliver.Goals as goal
 
 pub handle-requires-clause-there : goal.handle-requires-clause-there
-handle-requires-clause-there g c = there_lent c.args.machine.now c.args.pid (record (c.own-own.result.now) { signals = c.take-carried.new.self }) c.requires.there
+handle-requires-clause-there g c = there_lent c.args.machine.now.state c.args.pid (record (c.own-own.result.now) { signals = c.take-carried.new.self }) c.requires.there
 
 pub act_by_default-requires-clause-there : goal.act_by_default-requires-clause-there
-act_by_default-requires-clause-there g c = there_lent c.args.machine.now c.args.pid (record (c.own-own.result.now) { signals = c.take-carried.new.self }) c.requires.there
+act_by_default-requires-clause-there g c = there_lent c.args.machine.now.state c.args.pid (record (c.own-own.result.now) { signals = c.take-carried.new.self }) c.requires.there
 
 pub returns-in-At : goal.returns-in-At
 unfolding take_out
 returns-in-At g c = λ me e.
-    let s = c.args.machine.now in
+    let s = c.args.machine.now.state in
     let p = c.args.pid in
     let o = c.own-own.result.now in
     let x = caller p o me in
@@ -28,7 +28,7 @@ returns-in-At g c = λ me e.
     let reads : Reads s x c.args.sig t c.action-action.result = record { action_is = c.action-action.ensures; state_is = changed } in
     let after = there_then s t p (take_out c.args.sig) (keeps_take_out c.args.sig).pid changed x (caller_there s p o me c.own-own.ensures.value e) in
     let kept : to_z w64 (of_z w64 c.in-At.address) ≡ c.in-At.address = search rules in
-    of_caller (λ x. deliver s x c.args.sig ≡ outcome_of c.handle.new.machine c.handle.new.entries.items) s p o me c.own-own.ensures.value e
+    of_caller (λ x. deliver s x c.args.sig ≡ outcome_of c.handle.new.machine.state c.handle.new.entries.items) s p o me c.own-own.ensures.value e
     (deliver_at s x c.args.sig t c.action-action.result c.in-At.address c.take-carried.result reads c.in-At.is c.take-carried.ensures.value
     ∙ ap (handle t (take_out c.args.sig x) (record { sig = c.args.sig; carried = c.take-carried.result })) (sym kept)
     ∙ c.handle.ensures (take_out c.args.sig x) after)
@@ -36,7 +36,7 @@ returns-in-At g c = λ me e.
 pub returns-in-Ignore : goal.returns-in-Ignore
 unfolding take_out
 returns-in-Ignore g c = λ me e.
-    let s = c.args.machine.now in
+    let s = c.args.machine.now.state in
     let p = c.args.pid in
     let o = c.own-own.result.now in
     let x = caller p o me in
@@ -50,7 +50,7 @@ returns-in-Ignore g c = λ me e.
 pub returns-in-Default : goal.returns-in-Default
 unfolding take_out
 returns-in-Default g c = λ me e.
-    let s = c.args.machine.now in
+    let s = c.args.machine.now.state in
     let p = c.args.pid in
     let o = c.own-own.result.now in
     let x = caller p o me in
@@ -59,5 +59,5 @@ returns-in-Default g c = λ me e.
     let changed = was_written s p o w (take_out c.args.sig) c.own-own.ensures.regular c.own-own.ensures.value (λ r. ap (λ h. give_own (record o { signals = h }) r) c.take-carried.ensures.state) in
     let reads : Reads s x c.args.sig t c.action-action.result = record { action_is = c.action-action.ensures; state_is = changed } in
     let after = there_then s t p (take_out c.args.sig) (keeps_take_out c.args.sig).pid changed x (caller_there s p o me c.own-own.ensures.value e) in
-    of_caller (λ x. deliver s x c.args.sig ≡ outcome_of c.act_by_default.new.machine c.act_by_default.new.entries.items) s p o me c.own-own.ensures.value e
+    of_caller (λ x. deliver s x c.args.sig ≡ outcome_of c.act_by_default.new.machine.state c.act_by_default.new.entries.items) s p o me c.own-own.ensures.value e
     (deliver_default s x c.args.sig t c.action-action.result reads c.in-Default.is ∙ c.act_by_default.ensures (take_out c.args.sig x) after)

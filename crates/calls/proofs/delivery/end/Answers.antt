@@ -7,7 +7,7 @@ use Rattle.calls.proofs.delivery.end.Goals as goal
 
 pub returns-then-eq-clause-entries : goal.returns-then-eq-clause-entries
 returns-then-eq-clause-entries g c = λ me e.
-    let s = c.args.machine.now in
+    let s = c.args.machine.now.state in
     let old = c.args.entries.now.items in
     let named = pid_looked c.args.pid s.processes me e in
     c.push-then-eq.ensures.items
@@ -18,7 +18,7 @@ returns-then-eq-clause-entries g c = λ me e.
 
 pub returns-else-eq-clause-entries : goal.returns-else-eq-clause-entries
 returns-else-eq-clause-entries g c = λ me e.
-    let s = c.args.machine.now in
+    let s = c.args.machine.now.state in
     let old = c.args.entries.now.items in
     let named = pid_looked c.args.pid s.processes me e in
     c.push.ensures.items

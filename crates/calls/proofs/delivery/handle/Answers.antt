@@ -16,11 +16,11 @@ use Rattle.calls.proofs.OwnLemmas.{caller, of_caller, caller_there, there_lent}
 use Rattle.calls.proofs.delivery.handle.Goals as goal
 
 pub end-requires-clause-there : goal.end-requires-clause-there
-end-requires-clause-there g c = there_lent c.args.machine.now c.args.pid c.handle.new.self c.requires.there
+end-requires-clause-there g c = there_lent c.args.machine.now.state c.args.pid c.handle.new.self c.requires.there
 
 pub returns-in-Ok : goal.returns-in-Ok
 returns-in-Ok g c = λ me e.
-    let s = c.args.machine.now in
+    let s = c.args.machine.now.state in
     let p = c.args.pid in
     let o = c.own-own.result.now in
     let t = change s p (give_own c.handle.new.self) in
@@ -36,7 +36,7 @@ returns-in-Ok g c = λ me e.
 
 pub returns-in-Err : goal.returns-in-Err
 returns-in-Err g c = λ me e.
-    let s = c.args.machine.now in
+    let s = c.args.machine.now.state in
     let p = c.args.pid in
     let o = c.own-own.result.now in
     let x = caller p o me in
@@ -46,8 +46,8 @@ returns-in-Err g c = λ me e.
     ∙ ap (λ z. change s p (handles c.args.signal z)) kept in
     let here = caller_there s p o me c.own-own.ensures.value e in
     let after = there_then s t p (handles c.args.signal c.args.address) (keeps_handles _ _).pid changed x here in
-    of_caller (λ x. handle s x c.args.signal c.args.address ≡ outcome_of c.end.new.machine c.end.new.entries.items) s p o me c.own-own.ensures.value e
-    (handle_full s x c.args.signal c.args.address t c.end.new.machine c.end.new.entries.items c.in-Err.ensures.full changed
+    of_caller (λ x. handle s x c.args.signal c.args.address ≡ outcome_of c.end.new.machine.state c.end.new.entries.items) s p o me c.own-own.ensures.value e
+    (handle_full s x c.args.signal c.args.address t c.end.new.machine.state c.end.new.entries.items c.in-Err.ensures.full changed
     (c.end.ensures.state (handles c.args.signal c.args.address x) after ∙ ap (λ w. (end_process t (handles c.args.signal c.args.address x) w).state) c.killed.ensures)
     (c.end.ensures.entries (handles c.args.signal c.args.address x) after
     ∙ ap (λ w. c.show_interruption.new.entries.items ++ (end_process t (handles c.args.signal c.args.address x) w).entries) c.killed.ensures

@@ -12,7 +12,7 @@ use Rattle.calls.proofs.delivery.return_from_handler.Goals as goal
 
 pub returns-in-Ok : goal.returns-in-Ok
 returns-in-Ok g c = λ me e.
-    let s = c.args.machine.now in
+    let s = c.args.machine.now.state in
     let p = c.args.pid in
     let o = c.own.result.now in
     let t = change s p (give_own c.return_from_handler.new.self) in
@@ -22,16 +22,16 @@ returns-in-Ok g c = λ me e.
     ∙ ap (outcome_of t) (shown_alone _ _ _ c.requires.none c.push.ensures.items))
 
 pub fault-requires-clause-there : goal.fault-requires-clause-there
-fault-requires-clause-there g c = there_lent c.args.machine.now c.args.pid c.return_from_handler.new.self c.requires.there
+fault-requires-clause-there g c = there_lent c.args.machine.now.state c.args.pid c.return_from_handler.new.self c.requires.there
 
 pub returns-in-Err : goal.returns-in-Err
 unfolding return_from_handler
 returns-in-Err g c = λ me e.
-    let s = c.args.machine.now in
+    let s = c.args.machine.now.state in
     let p = c.args.pid in
     let o = c.own.result.now in
     let same = ap (λ w. change s p (give_own w)) c.in-Err.ensures.same ∙ only_read s p o c.own.ensures.regular c.own.ensures.value in
-    of_caller (λ x. return_from_handler s x ≡ outcome_of c.fault.new.machine c.fault.new.entries.items) s p o me c.own.ensures.value e
+    of_caller (λ x. return_from_handler s x ≡ outcome_of c.fault.new.machine.state c.fault.new.entries.items) s p o me c.own.ensures.value e
     (ap (return_to s (caller p o me)) c.in-Err.ensures.none
-    ∙ subst (λ (u : State). fault u (caller p o me) SEGV ≡ outcome_of c.fault.new.machine c.fault.new.entries.items) same
+    ∙ subst (λ (u : State). fault u (caller p o me) SEGV ≡ outcome_of c.fault.new.machine.state c.fault.new.entries.items) same
     (c.fault.ensures (caller p o me) (ap (λ (u : State). process u p) same ∙ caller_there s p o me c.own.ensures.value e)))

@@ -7,7 +7,7 @@ use Rattle.calls.proofs.id_calls.getuid.Goals as goal
 pub returns : goal.returns
 unfolding attempt
 returns g c = λ me e.
-    let s = c.args.machine.now in
+    let s = c.args.machine.now.state in
     let o = c.own-own.result.now in
     let kept : to_z w64 (of_z w64 c.from.result) ≡ c.from.result = search rules in
     let loan : Loan s _ c.args.pid o c.answer.new.own = record { regular = c.own-own.ensures.regular; value = c.own-own.ensures.value; after = refl } in

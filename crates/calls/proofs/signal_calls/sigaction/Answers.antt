@@ -20,7 +20,7 @@ use Rattle.calls.proofs.signal_calls.sigaction.Goals as goal
 pub returns-in_default : goal.returns-in_default
 unfolding attempt
 returns-in_default g c = λ me e.
-    let s = c.args.machine.now in
+    let s = c.args.machine.now.state in
     let o = c.own-own.result.now in
     let x = caller c.args.pid o me in
     let n = change s c.args.pid (give_own c.refuse.new.own) in
@@ -34,7 +34,7 @@ returns-in_default g c = λ me e.
 pub returns-then-is_question : goal.returns-then-is_question
 unfolding attempt
 returns-then-is_question g c = λ me e.
-    let s = c.args.machine.now in
+    let s = c.args.machine.now.state in
     let o = c.own-own.result.now in
     let x = caller c.args.pid o me in
     let n = change s c.args.pid (give_own c.answer_action.new.own) in
@@ -50,7 +50,7 @@ returns-then-is_question g c = λ me e.
 pub returns-in_default-action_in : goal.returns-in_default-action_in
 unfolding attempt
 returns-in_default-action_in g c = λ me e.
-    let s = c.args.machine.now in
+    let s = c.args.machine.now.state in
     let o = c.own-own.result.now in
     let x = caller c.args.pid o me in
     let n = change s c.args.pid (give_own c.refuse-in_default-action_in.new.own) in
@@ -67,7 +67,7 @@ returns-in_default-action_in g c = λ me e.
 pub returns-in-Ok : goal.returns-in-Ok
 unfolding attempt
 returns-in-Ok g c = λ me e.
-    let s = c.args.machine.now in
+    let s = c.args.machine.now.state in
     let o = c.own-own.result.now in
     let x = caller c.args.pid o me in
     let n = change s c.args.pid (give_own c.answer_action-in-Ok.new.own) in
@@ -85,7 +85,7 @@ returns-in-Ok g c = λ me e.
 pub returns-in-Err : goal.returns-in-Err
 unfolding attempt
 returns-in-Err g c = λ me e.
-    let s = c.args.machine.now in
+    let s = c.args.machine.now.state in
     let o = c.own-own.result.now in
     let x = caller c.args.pid o me in
     let n = change s c.args.pid (give_own c.refuse-in-Err.new.own) in

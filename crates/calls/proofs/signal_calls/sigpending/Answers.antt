@@ -11,7 +11,7 @@ use Rattle.calls.proofs.signal_calls.sigpending.Goals as goal
 pub returns : goal.returns
 unfolding attempt sigpending
 returns g c = λ me e.
-    let s = c.args.machine.now in
+    let s = c.args.machine.now.state in
     let o = c.own-own.result.now in
     let z = word_of (set_of o.signals.standard) in
     let kept : to_z w64 (of_z w64 c.word.result) ≡ c.word.result = search rules in

@@ -16,7 +16,7 @@ use Rattle.calls.proofs.signal_calls.sigprocmask.Goals as goal
 pub returns-in-Ok : goal.returns-in-Ok
 unfolding attempt sigprocmask give_signals
 returns-in-Ok g c = λ me e.
-    let s = c.args.machine.now in
+    let s = c.args.machine.now.state in
     let o = c.own-own.result.now in
     let n = change s c.args.pid (give_own c.answer.new.own) in
     let h = c.set_mask.new.self in
@@ -37,7 +37,7 @@ returns-in-Ok g c = λ me e.
 pub returns-in-Err : goal.returns-in-Err
 unfolding attempt sigprocmask
 returns-in-Err g c = λ me e.
-    let s = c.args.machine.now in
+    let s = c.args.machine.now.state in
     let o = c.own-own.result.now in
     let n = change s c.args.pid (give_own c.refuse.new.own) in
     let kept_how : to_z w64 (of_z w64 c.register-how.result) ≡ c.register-how.result = search rules in

@@ -12,20 +12,20 @@ use Rattle.kernel.proofs.events.act.Goals as goal
 
 pub returns-then-eq : goal.returns-then-eq
 returns-then-eq g c = λ me e.
-    let s = c.args.machine.now in
+    let s = c.args.machine.now.state in
     let told : Some c.args.facts ≡ Some (facts_of me) = c.requires.facts ∙ ap (option_map facts_of) e in
     let is : c.args.facts ≡ facts_of me = cc in
     let takes : chosen me.life me.signals ≡ Some KILL = ap (λ (f : Facts). f.chosen) (sym is) ∙ chosen_is c.args.facts.chosen KILL (sym c.eq.ensures ∙ c.if-eq.true) in (
       true,
       act_killed true s me (kill_chosen me.life me.signals takes)
-          ∙ same_outcome (end_process s me (killed KILL)).state c.end.new.machine (end_process s me (killed KILL)).entries c.end.new.entries.items
+          ∙ same_outcome (end_process s me (killed KILL)).state c.end.new.machine.state (end_process s me (killed KILL)).entries c.end.new.entries.items
           (sym (c.end.ensures.state me e ∙ ap (λ w. (end_process s me w).state) c.killed.ensures))
           (sym (c.end.ensures.entries me e ∙ ap (λ (l : List Entry). l ++ (end_process s me c.killed.result).entries) c.requires.none ∙ ap (λ w. (end_process s me w).entries) c.killed.ensures)),
     )
 
 pub returns-in-Some : goal.returns-in-Some
 returns-in-Some g c = λ me e.
-    let s = c.args.machine.now in
+    let s = c.args.machine.now.state in
     let told : Some c.args.facts ≡ Some (facts_of me) = c.requires.facts ∙ ap (option_map facts_of) e in
     let is : c.args.facts ≡ facts_of me = cc in
     let other : chosen me.life me.signals ≢ Some KILL = λ k. chosen_not c.args.facts.chosen KILL (sym c.eq.ensures ∙ c.if-eq.false) (ap (λ (f : Facts). f.chosen) is ∙ k) in
@@ -34,7 +34,7 @@ returns-in-Some g c = λ me e.
 
 pub returns-in-Some-chosen : goal.returns-in-Some-chosen
 returns-in-Some-chosen g c = λ me e.
-    let s = c.args.machine.now in
+    let s = c.args.machine.now.state in
     let told : Some c.args.facts ≡ Some (facts_of me) = c.requires.facts ∙ ap (option_map facts_of) e in
     let is : c.args.facts ≡ facts_of me = cc in
     let other : chosen me.life me.signals ≢ Some KILL = λ k. chosen_not c.args.facts.chosen KILL (sym c.eq.ensures ∙ c.if-eq.false) (ap (λ (f : Facts). f.chosen) is ∙ k) in
@@ -44,7 +44,7 @@ returns-in-Some-chosen g c = λ me e.
 
 pub returns-in-None : goal.returns-in-None
 returns-in-None g c = λ me e.
-    let s = c.args.machine.now in
+    let s = c.args.machine.now.state in
     let told : Some c.args.facts ≡ Some (facts_of me) = c.requires.facts ∙ ap (option_map facts_of) e in
     let is : c.args.facts ≡ facts_of me = cc in
     let other : chosen me.life me.signals ≢ Some KILL = λ k. chosen_not c.args.facts.chosen KILL (sym c.eq.ensures ∙ c.if-eq.false) (ap (λ (f : Facts). f.chosen) is ∙ k) in

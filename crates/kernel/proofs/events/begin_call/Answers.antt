@@ -9,15 +9,15 @@ use Rattle.kernel.proofs.events.begin_call.Goals as goal
 
 pub returns-in-Block : goal.returns-in-Block
 returns-in-Block g c = λ me e.
-    let s = c.args.machine.now in
+    let s = c.args.machine.now.state in
     let named = pid_looked c.args.pid s.processes me e in
     let came = c.in-Block.ensures me e in
-    let b = block_is s (attempt came.0 s me c.args.call) c.in-Block.blocked c.attempt.new.machine came.1 in (
+    let b = block_is s (attempt came.0 s me c.args.call) c.in-Block.blocked c.attempt.new.machine.state came.1 in (
       came.0,
       ap (begin_call s me) b.0
-          ∙ same_outcome (lose_place (change s me.pid (enter c.in-Block.blocked)) me.pid) c.lose_place.new.self [] c.args.entries.now.items
+          ∙ same_outcome (lose_place (change s me.pid (enter c.in-Block.blocked)) me.pid) c.lose_place.new.self.state [] c.args.entries.now.items
           (ap (λ n. lose_place (change s n (enter c.in-Block.blocked)) n) named
           ∙ ap (λ (t : State). lose_place (change t c.args.pid (enter c.in-Block.blocked)) c.args.pid) (sym b.1)
           ∙ ap (λ (t : State). lose_place t c.args.pid) (sym (was_written _ c.args.pid c.own.result.now c.enter.new.self (enter c.in-Block.blocked) c.own.ensures.regular c.own.ensures.value c.enter.ensures))
-          ∙ sym c.lose_place.ensures) (sym c.requires.none),
+          ∙ sym c.lose_place.ensures.state) (sym c.requires.none),
     )

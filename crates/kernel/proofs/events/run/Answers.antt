@@ -11,20 +11,20 @@ use Rattle.kernel.proofs.events.run.Goals as goal
 pub returns-in-Next : goal.returns-in-Next
 unfolding after_trap
 returns-in-Next g c = λ me e.
-    let s = c.args.machine.now in
+    let s = c.args.machine.now.state in
     let named = pid_looked c.args.pid s.processes me e in
     let done = exec_one (code_of s me) me.cpu in
     let went = sym (c.run.ensures.trap me e) ∙ c.in-Next.is in (
       true,
       ap (after_trap true s me done.cpu) went
-          ∙ same_outcome (change s me.pid (set_cpu done.cpu)) c.run.new.self [] c.args.entries.now.items
+          ∙ same_outcome (change s me.pid (set_cpu done.cpu)) c.run.new.self.state [] c.args.entries.now.items
           (ap (λ n. change s n (set_cpu done.cpu)) named ∙ sym (c.run.ensures.state me e)) (sym c.requires.none),
     )
 
 pub returns-in-Note : goal.returns-in-Note
 unfolding after_trap
 returns-in-Note g c = λ me e.
-    let s = c.args.machine.now in
+    let s = c.args.machine.now.state in
     let named = pid_looked c.args.pid s.processes me e in
     let done = exec_one (code_of s me) me.cpu in
     let went = sym (c.run.ensures.trap me e) ∙ c.in-Note.is in
@@ -33,7 +33,7 @@ returns-in-Note g c = λ me e.
     let pushed = c.push.ensures.items ∙ ap (λ (xs : List Entry). xs ++ Noted c.args.pid (to_z w64 (of_z w64 c.in-Note.value)) ∷ []) c.requires.none in (
       true,
       ap (after_trap true s me done.cpu) went
-          ∙ same_outcome (change s me.pid (set_cpu done.cpu)) c.run.new.self (Noted me.pid c.in-Note.value ∷ []) c.push.new.self.items
+          ∙ same_outcome (change s me.pid (set_cpu done.cpu)) c.run.new.self.state (Noted me.pid c.in-Note.value ∷ []) c.push.new.self.items
           (ap (λ n. change s n (set_cpu done.cpu)) named ∙ sym (c.run.ensures.state me e))
           (one ∙ sym pushed),
     )

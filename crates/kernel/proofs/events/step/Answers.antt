@@ -6,7 +6,7 @@ use Rattle.kernel.proofs.events.step.Goals as goal
 
 pub act-requires-clause-acting : goal.act-requires-clause-acting
 act-requires-clause-acting g c =
-    let s = c.args.machine.now in
+    let s = c.args.machine.now.state in
     let place = first_in c.in-Some.pid s.order (sym c.current.ensures ∙ c.in-Some.is) in
     subst (λ (t : State). IsActing t c.in-Some.pid) (sym c.facts.ensures.same)
     (record { placed = c.facts.ensures.regular.placed c.in-Some.pid place; place = place })

@@ -9,7 +9,7 @@ use Rattle.kernel.proofs.summary.take_census.Goals.{then-is_zombie, else-is_zomb
 
 pub loop-next-init : goal.loop-next-init
 loop-next-init g c =
-    let rs = c.args.machine.now.processes in
+    let rs = c.args.machine.now.state.processes in
     let i = c.next_after-next.ensures.regular in
     let value = c.next_after-next.ensures.value in
     let all = ap (λ (o : Option ℕ). left_of o rs) value ∙ all_left rs i.rising (λ p r e. (i.bounded p r e).least) in
@@ -22,7 +22,7 @@ loop-next-init g c =
 
 pub loop-next-smaller : goal.loop-next-smaller
 loop-next-smaller g c =
-    let rs = c.args.machine.now.processes in
+    let rs = c.args.machine.now.state.processes in
     let up = c.next_after-next.ensures.regular.rising in
     let first = subst (λ (o : Option ℕ). first_pid (left_of o rs) ≡ o) c.in-Some.is c.loop-next.invariant.here in
     let value = c.next_after-next-in-Some.ensures.value ∙ ap (λ (s : State). next_above c.in-Some.pid s.processes) (c.is_zombie.ensures.same ∙ c.loop-next.invariant.same) in
@@ -31,7 +31,7 @@ loop-next-smaller g c =
 
 pub loop-next-preserved : goal.loop-next-preserved
 loop-next-preserved g c =
-    let rs = c.args.machine.now.processes in
+    let rs = c.args.machine.now.state.processes in
     let up = c.next_after-next.ensures.regular.rising in
     let first = subst (λ (o : Option ℕ). first_pid (left_of o rs) ≡ o) c.in-Some.is c.loop-next.invariant.here in
     let a = at_record rs up c.in-Some.pid first in

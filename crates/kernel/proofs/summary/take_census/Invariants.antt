@@ -7,13 +7,13 @@ use Rattle.kernel.proofs.summary.take_census.Given as goal
 -- those that were counted, and those that are left, are all
 abbrev pub invariant-loop-next : goal.invariant-loop-next
 invariant-loop-next g l =
-    let rs = l.fn.machine.processes in
+    let rs = l.fn.machine.state.processes in
     record {
-      same : l.machine ≡ l.fn.machine;
+      same : l.machine.state ≡ l.fn.machine.state;
       here : first_pid (left_of l.next rs) ≡ l.next;
       living : l.living + count_by is_living (left_of l.next rs) ≡ count_by is_living rs;
       zombies : l.zombies + count_by (λ r. is_zombie r.life) (left_of l.next rs) ≡ count_by (λ r. is_zombie r.life) rs;
     }
 
 abbrev pub decreases-loop-next : goal.decreases-loop-next
-decreases-loop-next g l = length (left_of l.next l.fn.machine.processes)
+decreases-loop-next g l = length (left_of l.next l.fn.machine.state.processes)

@@ -5,15 +5,17 @@ pub returns-in-Ok : goal.returns-in-Ok
 returns-in-Ok g c =
     let world_is = answered c.read_world.result _ c.map_err.result c.in_ok-world.world _ c.map_err.ensures.cases c.in_ok-world.was c.read_world.ensures in
     let events_are = answered c.read_events.result _ c.map_err-2.result c.in_ok-events.events _ c.map_err-2.ensures.cases c.in_ok-events.was c.read_events.ensures.answer in
-    let booted = ok_holds c.boot.result c.map_err-3.result c.in_ok-kernel.kernel _ _ c.map_err-3.ensures.cases c.in_ok-kernel.was c.boot.ensures in
+    let booted = ok_holds c.boot.result c.map_err-3.result c.in_ok-kernel.kernel _ _ c.map_err-3.ensures.cases c.in_ok-kernel.was c.boot.ensures.state in
+    let none = ok_holds c.boot.result c.map_err-3.result c.in_ok-kernel.kernel _ _ c.map_err-3.ensures.cases c.in_ok-kernel.was c.boot.ensures.events in
     traces c.args.world.now c.args.events.now c.in_ok-world.world c.consoles.result c.in_ok-events.events c.in_ok-kernel.kernel c.write_trace.new.kernel _ _ c.in-Ok.ends c.summary.result
-    world_is c.consoles.ensures.value events_are booted
+    world_is c.consoles.ensures.value events_are booted none
     c.in-Ok.ensures.ok c.in-Ok.ensures.events c.summary.ensures.value
 
 pub returns : goal.returns
 returns g c =
     let world_is = answered c.read_world.result _ c.map_err.result c.in_ok-world.world _ c.map_err.ensures.cases c.in_ok-world.was c.read_world.ensures in
     let events_are = answered c.read_events.result _ c.map_err-2.result c.in_ok-events.events _ c.map_err-2.ensures.cases c.in_ok-events.was c.read_events.ensures.answer in
-    let booted = ok_holds c.boot.result c.map_err-3.result c.in_ok-kernel.kernel _ _ c.map_err-3.ensures.cases c.in_ok-kernel.was c.boot.ensures in
+    let booted = ok_holds c.boot.result c.map_err-3.result c.in_ok-kernel.kernel _ _ c.map_err-3.ensures.cases c.in_ok-kernel.was c.boot.ensures.state in
+    let none = ok_holds c.boot.result c.map_err-3.result c.in_ok-kernel.kernel _ _ c.map_err-3.ensures.cases c.in_ok-kernel.was c.boot.ensures.events in
     cuts_short c.args.world.now c.args.events.now c.in_ok-world.world c.consoles.result c.in_ok-events.events c.in_ok-kernel.kernel _ _
-    world_is c.consoles.ensures.value events_are booted c.in-Err.ensures.err
+    world_is c.consoles.ensures.value events_are booted none c.in-Err.ensures.err

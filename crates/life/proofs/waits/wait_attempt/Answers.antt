@@ -1,4 +1,4 @@
-use Rattle.std.proofs.Common.{rules, ap, sym, ◌∙◌, to_z, of_z, w64}
+use Rattle.std.proofs.Common.{rules, refl, arith, length, ap, sym, ◌∙◌, to_z, of_z, w64}
 use Rattle.posix.specs.declared.process.Report.TheVariants as found
 use Rattle.posix.specs.Tables.{next_sibling}
 use Rattle.posix.proofs.WaitLemmas.{scan}
@@ -14,6 +14,7 @@ loop-next-init g c =
       room = c.first_child-next.ensures.room;
       here = first_here _ up c.args.caller _ c.first_child-next.ensures.value;
       todo = ap (scan c.args.group (to_z w64 (of_z w64 c.args.choice)) c.args.options.0 found.NoChild) (first_todo _ up c.args.caller _ c.first_child-next.ensures.value);
+      read = let all = ap length (first_todo _ up c.args.caller _ c.first_child-next.ensures.value) in omega (arith, all, c.first_child-next.ensures.reads);
     }
 
 pub returns-in_default-get-clause-value : goal.returns-in_default-get-clause-value
@@ -45,7 +46,18 @@ loop-next-preserved g c =
         | in-Nothing w ↦ nothing_here _ _ c.args.caller c.in-Some.child _ _ c.args.group _ c.args.options.0 _ c.loop-next.found _ walk
             (record { facts = _; read = c.in-Some-get.ensures.value; said = c.look.ensures }) next w.in-Nothing.is w.found-is c.loop-next.invariant.todo
       ];
+      read = let less = child_less _ _ c.args.caller c.in-Some.child _ _ walk next in omega (arith, less, c.loop-next.invariant.read, c.in-Some-get.ensures.reads, c.next_sibling-next.ensures.reads);
     }
 
 pub returns-clause-value : goal.returns-clause-value
 returns-clause-value g c = none_left _ c.args.caller _ c.args.group (to_z w64 (of_z w64 c.args.choice)) c.args.choice c.args.options.0 c.loop-next.found c.in_default.is (search rules) c.loop-next.invariant.todo
+
+pub returns-in_default-get-clause-reads : goal.returns-in_default-get-clause-reads
+returns-in_default-get-clause-reads g c =
+    let less = child_less _ _ c.args.caller c.in-Some.child _ _ (record { rising = c.first_child-next.ensures.rising; comes = c.in-Some.is; here = c.loop-next.invariant.here; same = c.loop-next.invariant.same }) refl in
+    omega (arith, less, c.loop-next.invariant.read, c.get.ensures.reads)
+
+pub returns-in_default-look-clause-reads : goal.returns-in_default-look-clause-reads
+returns-in_default-look-clause-reads g c =
+    let less = child_less _ _ c.args.caller c.in-Some.child _ _ (record { rising = c.first_child-next.ensures.rising; comes = c.in-Some.is; here = c.loop-next.invariant.here; same = c.loop-next.invariant.same }) refl in
+    omega (arith, less, c.loop-next.invariant.read, c.in-Some-get.ensures.reads)

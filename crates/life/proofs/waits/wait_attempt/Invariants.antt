@@ -1,4 +1,4 @@
-use Rattle.std.proofs.Common.{◌≡◌, length}
+use Rattle.std.proofs.Common.{◌≡◌, ◌+◌, ◌*◌, ◌≤◌, length}
 use Rattle.posix.specs.Tables.{children_in, first_pid, left_of}
 use Rattle.posix.specs.declared.process.Report.TheVariants as found
 use Rattle.posix.proofs.WaitLemmas.{scan}
@@ -13,6 +13,7 @@ invariant-loop-next g l =
       room : kin.room l.table ≡ kin.room l.fn.table;
       here : first_pid (left_of l.next kids) ≡ l.next;
       todo : scan l.group l.choice l.options.0 l.found (left_of l.next kids) ≡ scan l.group l.choice l.options.0 found.NoChild kids;
+      read : kin.reads l.table + 2 * length (left_of l.next kids) ≤ kin.reads l.fn.table + 1 + 2 * length kids;
     }
 
 abbrev pub decreases-loop-next : goal.decreases-loop-next

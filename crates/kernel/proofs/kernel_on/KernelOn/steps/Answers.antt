@@ -25,7 +25,7 @@ returns-clause-runs g c =
     let none = nothing c.burst-count.new.entries.items zero in
     let started = ap (λ (k : KernelView). k.state) c.self.view_is in
     let counted = ap (λ (k : KernelView). k.events) c.self.view_is in
-    let m = c.burst-count.new.machine in
+    let m = c.burst-count.new.machine.state in
     let run : RunsFrom (c.args.self.now.events + 1) c.args.self.now.state (replicate n Step) (numbered (c.args.self.now.events + n) c.burst-count.new.entries.items) m =
     subst (λ (s : State). RunsFrom (c.args.self.now.events + 1) s (replicate n Step) (numbered (c.args.self.now.events + n) c.burst-count.new.entries.items) m) started (c.burst-count.ensures.runs.runs c.args.self.now.events) in
     one_after (c.args.self.now.events + 1) c.event_into-2.new.self.events n Step c.args.self.now.state m c.event_into-2.new.self.state _ _ _ run none c.event_into-2.ensures.step

@@ -1,5 +1,5 @@
-use Rattle.std.proofs.Common.{ℕ, List, ap, ◌∙◌, arith, [], ◌∷◌, ◌++◌}
-use Rattle.posix.specs.Tables.{lookup}
+use Rattle.std.proofs.Common.{length, ℕ, List, ap, ◌∙◌, arith, [], ◌∷◌, ◌++◌}
+use Rattle.posix.specs.Tables.{lookup, children_in}
 use Rattle.posix.specs.States.{boot}
 use Rattle.pidalloc.specs.Rows.{Pids, born_in, unborne_table}
 use Rattle.life.proofs.SoundLemmas.{nobody_there, sound_first, first_is_boot}
@@ -19,8 +19,19 @@ invariant_of-result g c =
     rw (c.insert.ensures.contents, c.in_ok-reserve.ensures.contents, c.empty-table.ensures.contents, c.in_ok-first.ensures)
     (sound_first _ _ _ (omega (arith, least, c.pidmax.ensures.value)) bore pidmax c.bear_all.ensures.kept order (omega (arith, room, reserved)))
 
-pub returns : goal.returns
-returns g c =
+pub returns-clause-state : goal.returns-clause-state
+returns-clause-state g c =
     let order = c.place.ensures.pids ∙ ap (λ (ps : List ℕ). ps ++ 1 ∷ []) (c.in_ok-reserve_one.ensures.pids ∙ c.new-order.ensures) in
     rw (c.insert.ensures.contents, c.in_ok-reserve.ensures.contents, c.empty-table.ensures.contents, c.in_ok-first.ensures)
     (first_is_boot _ c.bear_all.new.self c.place.new.self c.bear_all.ensures.last order ∙ ap boot c.in_ok-world.ensures)
+
+pub returns-clause-reads : goal.returns-clause-reads
+unfolding children_in
+returns-clause-reads g c =
+    let none = ap (λ rs. length (children_in 0 rs)) (c.in_ok-reserve.ensures.contents ∙ c.empty-table.ensures.contents) in
+    let all = c.insert.ensures.reads in
+    let reserved = c.in_ok-reserve.ensures.reads ∙ c.empty-table.ensures.reads in
+    omega (arith, none, all, reserved)
+
+pub returns-clause-regular : goal.returns-clause-regular
+returns-clause-regular g c = (invariant_of-result g c).regular

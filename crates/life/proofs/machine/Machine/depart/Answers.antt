@@ -4,6 +4,7 @@ use Rattle.posix.proofs.RegularLemmas.{regular_depart}
 use Rattle.posix.proofs.TableLemmas.{pid_looked}
 use Rattle.proctable.proofs.Bodies.{changed_body}
 use Rattle.life.proofs.SoundLemmas.{there, found_in, parents_departed, kept_departed, first_changed}
+use Rattle.life.proofs.ViewLemmas.{state_is}
 use Rattle.life.proofs.machine.Machine.depart.Goals as goal
 
 pub adopt-requires : goal.adopt-requires
@@ -15,7 +16,7 @@ pub invariant_of-self : goal.invariant_of-self
 invariant_of-self g c =
     let contents = g.met.K.Kin.puts c.self.inside.table c.args.pid c.bury.new.self ∙ changed_body _ c.update.ensures.rising c.args.pid c.update.result.now c.bury.new.self (buried c.args.status) c.update.ensures.value c.bury.ensures in
     let me = there _ c.requires.there in
-    let found = found_in _ _ c.self.view_is c.args.pid me.what me.found in
+    let found = found_in _ _ (state_is c.self.view_is) c.args.pid me.what me.found in
     let named = pid_looked _ _ _ found in
     let least = (c.self.invariant.regular.bounded c.args.pid me.what found).least in
     rw (c.adopt.ensures.contents, contents, c.drop_place.ensures.pids) record {

@@ -2,11 +2,12 @@ use Rattle.std.proofs.Common.{◌≡◌, sym, subst, arith, true}
 use Rattle.posix.specs.States.{State, is_in}
 use Rattle.posix.proofs.OrderLemmas.{regular_last}
 use Rattle.life.proofs.SoundLemmas.{kept_order}
+use Rattle.life.proofs.ViewLemmas.{state_is}
 use Rattle.life.proofs.machine.Machine.go_last.Goals as goal
 
 pub invariant_of-self : goal.invariant_of-self
 invariant_of-self g c =
-    let h = subst (λ (s : State). is_in c.args.pid s.order ≡ true) (sym c.self.view_is) c.requires in
+    let h = subst (λ (s : State). is_in c.args.pid s.order ≡ true) (sym (state_is c.self.view_is)) c.requires in
     rw c.go_last.ensures.pids record {
       regular = regular_last c.args.pid _ c.self.invariant.regular h;
       parents = c.self.invariant.parents;

@@ -18,7 +18,10 @@ invariant_of-self g c =
       kept = kept_halted c.args.status _ _ _ _ _ _ (let r = c.drop_place.ensures.room in omega (arith, r)) c.self.invariant.kept;
     }
 
-pub returns : goal.returns
-returns g c =
+pub returns-clause-state : goal.returns-clause-state
+returns-clause-state g c =
     let contents = g.met.K.Kin.puts c.self.inside.table 1 c.end.new.self ∙ changed_body _ c.update.ensures.rising 1 c.update.result.now c.end.new.self (make_zombie c.args.status) c.update.ensures.value c.end.ensures in
     rw (contents, c.drop_place.ensures.pids, ← c.self.view_is) refl
+
+pub returns-clause-reads : goal.returns-clause-reads
+returns-clause-reads g c = rw (← c.self.view_is, g.met.K.Kin.put_reads _ _ _) (g.met.K.Kin.at_most_one _)

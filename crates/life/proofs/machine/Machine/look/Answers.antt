@@ -1,6 +1,7 @@
 use Rattle.std.proofs.Common.{◌∙◌, refl}
 use Rattle.proctable.proofs.Bodies.{same_body}
 use Rattle.life.proofs.LoanLemmas.{own_if}
+use Rattle.life.proofs.ViewLemmas.{state_is}
 use Rattle.life.proofs.machine.Machine.look.Goals as goal
 
 pub invariant_of-self : goal.invariant_of-self
@@ -11,6 +12,6 @@ invariant_of-self g c =
 pub returns : goal.returns
 returns g c =
     let same = g.met.K.Kin.puts c.self.inside.table c.args.pid c.update-body.result.now ∙ same_body _ c.update-body.ensures.rising c.args.pid c.update-body.result.now c.update-body.ensures.value in (
-      (refl, λ _. tt, rw (← c.self.view_is, same) refl),
-      record { lends = tt; value = own_if _ _ c.self.view_is c.args.pid c.update-body.result.now c.update-body.ensures.value; regular = rw (← c.self.view_is) c.self.invariant.regular },
+      (refl, λ _. tt, rw (← c.self.view_is, same, g.met.K.Kin.put_reads c.self.inside.table c.args.pid c.update-body.result.now) refl),
+      record { lends = tt; value = own_if _ _ (state_is c.self.view_is) c.args.pid c.update-body.result.now c.update-body.ensures.value; regular = rw (← c.self.view_is) c.self.invariant.regular },
     )

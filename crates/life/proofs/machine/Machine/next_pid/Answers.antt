@@ -1,7 +1,8 @@
 use Rattle.std.proofs.Common.{refl, ap, ◌∙◌}
 use Rattle.posix.specs.States.{State, next_pid}
 use Rattle.life.proofs.SoundLemmas.{next_is}
+use Rattle.life.proofs.ViewLemmas.{state_is}
 use Rattle.life.proofs.machine.Machine.next_pid.Goals as goal
 
 pub returns : goal.returns
-returns g c = c.next.ensures ∙ next_is _ _ _ _ refl c.self.invariant ∙ ap (λ (s : State). next_pid s) c.self.view_is
+returns g c = c.next.ensures ∙ next_is _ _ _ _ refl c.self.invariant ∙ ap (λ (s : State). next_pid s) (state_is c.self.view_is)

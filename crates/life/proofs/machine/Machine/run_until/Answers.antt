@@ -7,6 +7,7 @@ use Rattle.umach.specs.Bursts.{Burst, exec_until}
 use Rattle.proctable.proofs.Bodies.{run_body, ran, read_own}
 use Rattle.life.proofs.SoundLemmas.{found_in, sound_change}
 use Rattle.life.proofs.CodeLemmas.{code_is, get_some, get_none, no_burst, same_cpu}
+use Rattle.life.proofs.ViewLemmas.{state_is}
 use Rattle.life.proofs.machine.Machine.run_until.Goals as goal
 
 pub invariant_of-self : goal.invariant_of-self
@@ -15,35 +16,41 @@ invariant_of-self g c =
 
 pub returns-in-Some-clause-count : goal.returns-in-Some-clause-count
 returns-in-Some-clause-count g c = λ me e.
-    let found = found_in _ _ c.self.view_is c.args.pid me e in
-    let code = code_is c.args.self.now me _ _ _ (c.programs.ensures.value ∙ ap (λ (s : State). s.world.programs) c.self.view_is) (c.from.ensures ∙ sym (c.requires.program me e)) (get_some _ _ _ (c.in-Some.ensures.lookup.0, c.in-Some.ensures.lookup.1)) in
+    let found = found_in _ _ (state_is c.self.view_is) c.args.pid me e in
+    let code = code_is c.args.self.now.state me _ _ _ (c.programs.ensures.value ∙ ap (λ (s : State). s.world.programs) (state_is c.self.view_is)) (c.from.ensures ∙ sym (c.requires.program me e)) (get_some _ _ _ (c.in-Some.ensures.lookup.0, c.in-Some.ensures.lookup.1)) in
     c.run_until.ensures.count ∙ ap (λ o. (exec_until c.in-Some.program.now.instructions c.args.most o.cpu).count) (read_own _ c.args.pid c.update.result.now me c.update.ensures.value found) ∙ ap (λ is. (exec_until is c.args.most me.cpu).count) (sym code)
 
 pub returns-in-Some-clause-trap : goal.returns-in-Some-clause-trap
 returns-in-Some-clause-trap g c = λ me e.
-    let found = found_in _ _ c.self.view_is c.args.pid me e in
-    let code = code_is c.args.self.now me _ _ _ (c.programs.ensures.value ∙ ap (λ (s : State). s.world.programs) c.self.view_is) (c.from.ensures ∙ sym (c.requires.program me e)) (get_some _ _ _ (c.in-Some.ensures.lookup.0, c.in-Some.ensures.lookup.1)) in
+    let found = found_in _ _ (state_is c.self.view_is) c.args.pid me e in
+    let code = code_is c.args.self.now.state me _ _ _ (c.programs.ensures.value ∙ ap (λ (s : State). s.world.programs) (state_is c.self.view_is)) (c.from.ensures ∙ sym (c.requires.program me e)) (get_some _ _ _ (c.in-Some.ensures.lookup.0, c.in-Some.ensures.lookup.1)) in
     c.run_until.ensures.trap ∙ ap (λ o. (exec_until c.in-Some.program.now.instructions c.args.most o.cpu).trap) (read_own _ c.args.pid c.update.result.now me c.update.ensures.value found) ∙ ap (λ is. (exec_until is c.args.most me.cpu).trap) (sym code)
 
 pub returns-in-Some-clause-state : goal.returns-in-Some-clause-state
 returns-in-Some-clause-state g c = λ me e.
-    let found = found_in _ _ c.self.view_is c.args.pid me e in
-    let code = code_is c.args.self.now me _ _ _ (c.programs.ensures.value ∙ ap (λ (s : State). s.world.programs) c.self.view_is) (c.from.ensures ∙ sym (c.requires.program me e)) (get_some _ _ _ (c.in-Some.ensures.lookup.0, c.in-Some.ensures.lookup.1)) in
+    let found = found_in _ _ (state_is c.self.view_is) c.args.pid me e in
+    let code = code_is c.args.self.now.state me _ _ _ (c.programs.ensures.value ∙ ap (λ (s : State). s.world.programs) (state_is c.self.view_is)) (c.from.ensures ∙ sym (c.requires.program me e)) (get_some _ _ _ (c.in-Some.ensures.lookup.0, c.in-Some.ensures.lookup.1)) in
     let contents = ran _ c.update.ensures.rising c.args.pid c.update.result.now c.update.ensures.value (λ x. (exec_until c.in-Some.program.now.instructions c.args.most x).cpu) c.run_until.new.self c.run_until.ensures.cpu _ (g.met.K.Kin.puts _ _ _) me found in
     rw (code, ← c.self.view_is, contents) refl
 
 pub returns-in-None-clause-count : goal.returns-in-None-clause-count
 returns-in-None-clause-count g c = λ me e.
-    let code = code_is c.args.self.now me _ _ _ (c.programs.ensures.value ∙ ap (λ (s : State). s.world.programs) c.self.view_is) (c.from.ensures ∙ sym (c.requires.program me e)) (get_none _ _ c.in-None.ensures.lookup.0) in
-    sym (ap (λ (b : Burst). b.count) (no_burst c.args.self.now me c.args.most code c.requires.some))
+    let code = code_is c.args.self.now.state me _ _ _ (c.programs.ensures.value ∙ ap (λ (s : State). s.world.programs) (state_is c.self.view_is)) (c.from.ensures ∙ sym (c.requires.program me e)) (get_none _ _ c.in-None.ensures.lookup.0) in
+    sym (ap (λ (b : Burst). b.count) (no_burst c.args.self.now.state me c.args.most code c.requires.some))
 
 pub returns-in-None-clause-trap : goal.returns-in-None-clause-trap
 returns-in-None-clause-trap g c = λ me e.
-    let code = code_is c.args.self.now me _ _ _ (c.programs.ensures.value ∙ ap (λ (s : State). s.world.programs) c.self.view_is) (c.from.ensures ∙ sym (c.requires.program me e)) (get_none _ _ c.in-None.ensures.lookup.0) in
-    sym (ap (λ (b : Burst). b.trap) (no_burst c.args.self.now me c.args.most code c.requires.some))
+    let code = code_is c.args.self.now.state me _ _ _ (c.programs.ensures.value ∙ ap (λ (s : State). s.world.programs) (state_is c.self.view_is)) (c.from.ensures ∙ sym (c.requires.program me e)) (get_none _ _ c.in-None.ensures.lookup.0) in
+    sym (ap (λ (b : Burst). b.trap) (no_burst c.args.self.now.state me c.args.most code c.requires.some))
 
 pub returns-in-None-clause-state : goal.returns-in-None-clause-state
 returns-in-None-clause-state g c = λ me e.
-    let code = code_is c.args.self.now me _ _ _ (c.programs.ensures.value ∙ ap (λ (s : State). s.world.programs) c.self.view_is) (c.from.ensures ∙ sym (c.requires.program me e)) (get_none _ _ c.in-None.ensures.lookup.0) in
-    let rising = subst (λ (s : State). IsRising s.processes) c.self.view_is c.self.invariant.regular.rising in
-    same_cpu c.args.self.now c.args.pid me rising e ∙ ap (λ (b : Burst). change c.args.self.now c.args.pid (set_cpu b.cpu)) (sym (no_burst c.args.self.now me c.args.most code c.requires.some))
+    let code = code_is c.args.self.now.state me _ _ _ (c.programs.ensures.value ∙ ap (λ (s : State). s.world.programs) (state_is c.self.view_is)) (c.from.ensures ∙ sym (c.requires.program me e)) (get_none _ _ c.in-None.ensures.lookup.0) in
+    let rising = subst (λ (s : State). IsRising s.processes) (state_is c.self.view_is) c.self.invariant.regular.rising in
+    same_cpu c.args.self.now.state c.args.pid me rising e ∙ ap (λ (b : Burst). change c.args.self.now.state c.args.pid (set_cpu b.cpu)) (sym (no_burst c.args.self.now.state me c.args.most code c.requires.some))
+
+pub returns-in-Some-clause-reads : goal.returns-in-Some-clause-reads
+returns-in-Some-clause-reads g c = rw (← c.self.view_is, g.met.K.Kin.put_reads _ _ _) (g.met.K.Kin.at_most_one _)
+
+pub returns-in-Some-clause-regular : goal.returns-in-Some-clause-regular
+returns-in-Some-clause-regular g c = (invariant_of-self g c).regular

@@ -1,0 +1,29 @@
+use Rattle.std.proofs.Common.{◌≡◌, ◌∙◌, ap, ℤ, true, rules, to_z, of_z, w64, List, ◌++◌, sym}
+use Rattle.posix.specs.declared.entry.Entry.{Entry}
+use Rattle.posix.specs.States.{State, process}
+use Rattle.posix.specs.Statuses.{exited}
+use Rattle.posix.specs.Processes.{argument}
+use Rattle.posix.specs.Ends.{end_process}
+use Rattle.posix.specs.Attempts.{attempt}
+use Rattle.posix.specs.Execute.{register}
+use Rattle.life.proofs.LoanLemmas.{own_is}
+use Rattle.life.proofs.ViewLemmas.{state_is}
+use Rattle.calls.proofs.attempts.exit.Goals as goal
+
+pub returns : goal.returns
+unfolding attempt
+returns g c = λ me e.
+    let s = c.args.machine.now.state in
+    let same = state_is c.look.follows.holds-at-none in
+    let last = ap (λ (t : State). process t c.args.pid) same ∙ e in
+    let is = own_is s c.args.pid c.look.result.now me c.look.ensures.value e in
+    let kept : to_z w64 (of_z w64 c.register-code.result) ≡ c.register-code.result = search rules in
+    let code : to_z w64 (of_z w64 c.register-code.result) ≡ argument me 1 = kept ∙ c.register-code.ensures ∙ ap (λ o. register o.cpu 1) is in
+    let status = c.exited.ensures ∙ ap exited code in (
+      true,
+      (
+        c.end.ensures.entries me last ∙ ap (λ (l : List Entry). l ++ (end_process c.look.follows.lender-at-none.state me c.exited.result).entries) c.new-entries.ensures ∙ ap (λ (t : State). (end_process t me c.exited.result).entries) same
+            ∙ ap (λ n. (end_process s me n).entries) status,
+        c.end.ensures.state me last ∙ ap (λ (t : State). (end_process t me c.exited.result).state) same ∙ ap (λ n. (end_process s me n).state) status,
+      ),
+    )

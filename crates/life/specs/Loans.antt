@@ -1,0 +1,14 @@
+-- What a machine lends of a process, and what it is worth afterwards.
+use Rattle.std.specs.Prelude.{ℕ}
+use Rattle.posix.specs.States.{change}
+use Rattle.proctable.specs.declared.own.Own.{Own}
+use Rattle.proctable.specs.Body.{give_own}
+use Rattle.life.specs.Machines.{MachineView}
+
+-- one more slot was read
+abbrev pub looked : (ℕ → ℕ) → MachineView → MachineView
+looked more m = record m { reads = more m.reads }
+
+-- and the process has this in its place
+abbrev pub lent : (ℕ → ℕ) → MachineView → ℕ → Own → MachineView
+lent more m p o = record { state = change m.state p (give_own o); reads = more m.reads }
