@@ -1,6 +1,6 @@
 -- What calls come to.
-use Rattle.std.proofs.Common.{◌≡◌, ◌↔◌, ℕ, Bool, true, false, cond, refl, ap, sym, ◌∙◌, subst, Option, Some, None, is_some, bit_and, List, [], ◌∷◌, ℤ, pos, ◌==◌}
-use Rattle.std.specs.Option.{IsSome}
+use Rattle.std.proofs.Common.{◌≡◌, ◌↔◌, ℕ, Bool, true, false, cond, refl, ap, sym, ◌∙◌, subst, Option, Some, None, is_some, bit_and, List, [], ◌∷◌, ◌++◌, ℤ, pos, ◌==◌}
+use Rattle.std.specs.Option.{IsSome, IfSome}
 use Rattle.std.proofs.lemmas.Bool.{eqb-true, eq-eqb}
 use Rattle.posix.specs.declared.call.Call.{Call}
 use Rattle.posix.specs.declared.call.Call.TheVariants.{Waitpid}
@@ -15,11 +15,11 @@ use Rattle.posix.specs.Processes.{Process, argument}
 use Rattle.posix.specs.States.{State, process}
 use Rattle.posix.specs.Outcomes as outcome
 use Rattle.posix.specs.Ends.{end_process}
+use Rattle.posix.specs.Sends.{kill, sending, targets, permitted, sent, sent_among}
 use Rattle.posix.specs.Waits.{wait, wait_with, gives_report, report, options_in, are_known, has_option, WNOHANG}
-use Rattle.calls.specs.declared.attempts.Attempted.{Attempted}
-use Rattle.calls.specs.declared.attempts.Attempted.TheVariants.{Done, Block}
-use Rattle.calls.specs.Outcomes.{Comes}
-use Rattle.calls.proofs.ReportLemmas.{Finds}
+use Rattle.life.specs.declared.caller.Caller.{Caller}
+use Rattle.life.specs.Callers.{caller_of}
+use Rattle.calls.specs.Outcomes.{Comes, process_like}
 
 -- who is there is a record
 pub some_is : (o : Option Process) → IsSome o → (r : Process) × (o ≡ Some r)
@@ -33,39 +33,50 @@ outcome_of s xs = record { state = s; entries = xs }
 pub same_outcome : (s t : State) (xs ys : List Entry) → s ≡ t → xs ≡ ys → outcome_of s xs ≡ outcome_of t ys
 same_outcome s t xs ys e f = ap (λ (u : State). outcome_of u xs) e ∙ ap (outcome_of t) f
 
--- ---- what is done
-
--- it doesn't look at the state before
-comes_done : (s t : State) (o : outcome.Outcome) (r : Attempted) (n : State) → Comes s (outcome.Done o) r n → Comes t (outcome.Done o) r n
-comes_done s t o (Done entries) n h = h
-comes_done s t o (Block b) n h = h
-
--- the same said of equal things
-pub gives_after : (s t u : State) (p q : ℕ) (call : Call) (v z : ℤ) (r : Attempted) (n : State) → u ≡ t → p ≡ q → v ≡ z
-    → Comes u (outcome.gives u p call v) r n → Comes s (outcome.gives t q call z) r n
-gives_after s t u p q call v z r n ut pq vz h =
-    let a = subst (λ (x : State). Comes x (outcome.gives x p call v) r n) ut h in
-    let b = subst (λ (k : ℕ). Comes t (outcome.gives t k call v) r n) pq a in
-    let d = subst (λ (w : ℤ). Comes t (outcome.gives t q call w) r n) vz b in
-    comes_done t s (record { state = outcome.finish t q ((0, z) ∷ []); entries = Called q call z ∷ [] }) r n d
-
-pub no_memory_after : (s u : State) (p q : ℕ) (call : Call) (r : Attempted) (n : State) → u ≡ s → p ≡ q
-    → Comes u (outcome.no_memory u p call) r n → Comes s (outcome.no_memory s q call) r n
-no_memory_after s u p q call r n us pq h =
-    let a = subst (λ (x : State). Comes x (outcome.no_memory x p call) r n) us h in
-    subst (λ (k : ℕ). Comes s (outcome.no_memory s k call) r n) pq a
-
-pub report_after : (s t u : State) (p q child status : ℕ) (r : Attempted) (n : State) → u ≡ t → p ≡ q
-    → Comes u (gives_report u p child status) r n → Comes s (gives_report t q child status) r n
-report_after s t u p q child status r n ut pq h =
-    let a = subst (λ (x : State). Comes x (gives_report x p child status) r n) ut h in
-    let b = subst (λ (k : ℕ). Comes t (gives_report t k child status) r n) pq a in
-    comes_done t s (record { state = outcome.finish t q ((0, pos child) ∷ (1, pos status) ∷ []); entries = Reported q child status ∷ [] }) r n b
+-- ---- what an attempt comes to
 
 -- where the process has to wait, the definition blocks it in the same call, and nothing has changed
-pub block_is : (s : State) (a : outcome.Attempted) (b : Blocked) (n : State) → Comes s a (Block b) n → (a ≡ outcome.Block b) × (n ≡ s)
-block_is s (outcome.Done o) b n h = absurd h
-block_is s (outcome.Block x) b n h = (ap outcome.Block (sym h.0), h.1)
+pub block_is : (s : State) (a : outcome.Attempted) (b : Blocked) (xs ys : List Entry) (n : State) → Comes s a (Some b) xs ys n → (a ≡ outcome.Block b) × (ys ≡ xs) × (n ≡ s)
+block_is s (outcome.Done o) b xs ys n h = absurd h
+block_is s (outcome.Block x) b xs ys n h = (ap outcome.Block (sym h.0), h.1, h.2)
+
+-- where it is done, it is the definition's outcome
+pub done_is : (s : State) (a : outcome.Attempted) (xs ys : List Entry) (n : State) → xs ≡ [] → Comes s a None xs ys n → a ≡ outcome.Done (outcome_of n ys)
+done_is s (outcome.Done o) xs ys n none h = ap outcome.Done (same_outcome o.state n o.entries ys (sym h.1) (sym (h.0 ∙ ap (λ (l : List Entry). l ++ o.entries) none)))
+done_is s (outcome.Block b) xs ys n none h = absurd h
+
+-- a call that gives a value
+pub gives_is : (s t n : State) (p : ℕ) (call : Call) (v z : ℤ) (xs ys : List Entry) (r : Option Blocked) → r ≡ None → n ≡ outcome.finish t p ((0, v) ∷ []) → ys ≡ xs ++ Called p call v ∷ [] → v ≡ z
+    → Comes s (outcome.gives t p call z) r xs ys n
+gives_is s t n p call v z xs ys r done state shown same =
+    subst (λ q. Comes s (outcome.gives t p call z) q xs ys n) (sym done)
+    (shown ∙ ap (λ w. xs ++ Called p call w ∷ []) same, state ∙ ap (λ w. outcome.finish t p ((0, w) ∷ [])) same)
+
+-- a call that reports a child
+pub reports_is : (s t n : State) (p child status : ℕ) (xs ys : List Entry) (r : Option Blocked) → r ≡ None → n ≡ outcome.finish t p ((0, pos child) ∷ (1, pos status) ∷ []) → ys ≡ xs ++ Reported p child status ∷ []
+    → Comes s (gives_report t p child status) r xs ys n
+reports_is s t n p child status xs ys r done state shown = subst (λ q. Comes s (gives_report t p child status) q xs ys n) (sym done) (shown, state)
+
+-- ---- the caller
+
+-- what was read of it
+pub caller_is : (o : Option Process) (me : Process) (c : Caller) → IfSome o (λ r. c ≡ caller_of r) → o ≡ Some me → c ≡ caller_of me
+caller_is o me c h e = subst (λ x. IfSome x (λ r. c ≡ caller_of r)) e h
+
+-- its wait and its kill
+wait_like : (s : State) (me : Process) → wait s (process_like (caller_of me)) ≡ wait s me
+unfolding wait
+wait_like s me = refl
+
+pub wait_of : (s : State) (o : Option Process) (me : Process) (c : Caller) → IfSome o (λ r. c ≡ caller_of r) → o ≡ Some me → wait s (process_like c) ≡ wait s me
+wait_of s o me c h e = ap (λ d. wait s (process_like d)) (caller_is o me c h e) ∙ wait_like s me
+
+kill_like : (s : State) (me : Process) → kill s (process_like (caller_of me)) ≡ kill s me
+unfolding kill sending targets permitted sent sent_among
+kill_like s me = refl
+
+pub kill_of : (s : State) (o : Option Process) (me : Process) (c : Caller) → IfSome o (λ r. c ≡ caller_of r) → o ≡ Some me → kill s (process_like c) ≡ kill s me
+kill_of s o me c h e = ap (λ d. kill s (process_like d)) (caller_is o me c h e) ∙ kill_like s me
 
 -- ---- an end
 
@@ -83,19 +94,20 @@ unfolding wait
 wait_unknown s me e = ap (λ b. cond b (wait_with s me.pid (options_in (argument me 2)) (report s.processes me.pid me.group (argument me 1) (options_in (argument me 2)))) (outcome.refused s me.pid Waitpid EINVAL)) e
 
 -- a wait that finds o
-pub wait_finds : (s : State) (p : ℕ) (me : Process) (options : ℕ) (o : Report) → process s p ≡ Some me → are_known (options_in (argument me 2)) ≡ true → options ≡ options_in (argument me 2)
-    → Finds s p options o → wait s me ≡ wait_with s me.pid options o
+pub wait_finds : (s : State) (me : Process) (options : ℕ) (o : Report) → are_known (options_in (argument me 2)) ≡ true → options ≡ options_in (argument me 2)
+    → o ≡ report s.processes me.pid me.group (argument me 1) options → wait s me ≡ wait_with s me.pid options o
 unfolding wait
-wait_finds s p me options o there known same finds =
+wait_finds s me options o known same finds =
     ap (λ b. cond b (wait_with s me.pid (options_in (argument me 2)) (report s.processes me.pid me.group (argument me 1) (options_in (argument me 2)))) (outcome.refused s me.pid Waitpid EINVAL)) known
     ∙ ap (λ n. wait_with s me.pid n (report s.processes me.pid me.group (argument me 1) n)) (sym same)
-    ∙ ap (wait_with s me.pid options) (sym (finds me there))
+    ∙ ap (wait_with s me.pid options) (sym finds)
 
--- a wait that finds nothing, and doesn't hang
-pub wait_nothing : (s : State) (p : ℕ) (me : Process) (options : ℕ) → process s p ≡ Some me → are_known (options_in (argument me 2)) ≡ true → options ≡ options_in (argument me 2)
-    → Finds s p options found.Nothing → has_option options WNOHANG ≡ true → wait s me ≡ outcome.gives s me.pid Waitpid (pos 0)
-wait_nothing s p me options there known same finds at_once =
-    wait_finds s p me options found.Nothing there known same finds ∙ ap (λ b. cond b (outcome.gives s me.pid Waitpid (pos 0)) (outcome.Block blocked.Waitpid)) at_once
+-- a wait that finds nothing, by whether it hangs
+pub wait_nothing : (s : State) (me : Process) (options : ℕ) (b : Bool) → are_known (options_in (argument me 2)) ≡ true → options ≡ options_in (argument me 2)
+    → found.Nothing ≡ report s.processes me.pid me.group (argument me 1) options → has_option options WNOHANG ≡ b
+    → wait s me ≡ cond b (outcome.gives s me.pid Waitpid (pos 0)) (outcome.Block blocked.Waitpid)
+wait_nothing s me options b known same finds at_once =
+    wait_finds s me options found.Nothing known same finds ∙ ap (λ b. cond b (outcome.gives s me.pid Waitpid (pos 0)) (outcome.Block blocked.Waitpid)) at_once
 
 -- bits are accepted where all are known
 pub some_bits : {A : Type 0} → (o : Option A) (n all : ℕ) → IsSome o ↔ (bit_and n all ≡ n) → is_some o ≡ (bit_and n all == n)

@@ -3,4 +3,5 @@ pub mod CallLemmas
 pub mod ChosenLemmas
 pub mod DeliveryLemmas
 pub mod OwnLemmas
-pub mod SignalCallLemmas
+pub mod KillLemmas
+pub mod ReplyLemmas

@@ -134,22 +134,6 @@ reported rs up caller group choice options o child e named =
       dead = sym (of_zombie options f.what) ∙ ap is_end f.says;
     }
 
--- what a wait of p finds
-abbrev pub Finds : State → ℕ → ℕ → Report → Type 0
-Finds s p options o = (me : Process) → process s p ≡ Some me → o ≡ report s.processes me.pid me.group (argument me 1) options
-
--- the same said of equal things
-pub finds_same : (p options : ℕ) {s t : State} {o q : Report} → s ≡ t → o ≡ q → Finds s p options o → Finds t p options q
-finds_same p options {t = t} {o = o} st oq h =
-    subst (λ (x : Report). Finds t p options x) oq (subst (λ (x : State). Finds x p options o) st h)
-
--- what is found of a child is found of a child of p
-pub waited : (s : State) → IsRegular s → (p : ℕ) → IsPlaced s.processes p → (options : ℕ) (o : Report) (child : ℕ)
-    → Finds s p options o → child_named o ≡ Some child → IsChild s.processes p child (is_end o)
-waited s i p me options o child finds named =
-    subst (λ n. IsChild s.processes n child (is_end o)) (pid_looked p s.processes me.what me.found)
-    (reported s.processes i.rising me.what.pid me.what.group (argument me.what 1) options o child (sym (finds me.what me.found)) named)
-
 -- ---- the table afterwards
 
 -- process 1 is nobody's child

@@ -1,55 +1,96 @@
 -- What the functions of calls come to.
-use Rattle.std.specs.Prelude.{◌≡◌, ℕ, ◌+◌, Bool, true, List, [], ◌∷◌, Some, ℤ, replicate}
+use Rattle.std.specs.Prelude.{◌≡◌, ℕ, Bool, true, false, List, [], ◌∷◌, ◌++◌, Option, Some, None, ℤ, pos, Result, Ok, Err}
 use Rattle.posix.specs.declared.call.Call.{Call}
-use Rattle.posix.specs.declared.event.Event.{Event}
-use Rattle.posix.specs.declared.event.Event.TheVariants.{Step}
+use Rattle.posix.specs.declared.call.Call.TheVariants.{Exit, Fork, Waitpid, Pause, SchedYield, Getppid, Kill, Sigsuspend, Sigreturn}
 use Rattle.posix.specs.declared.entry.Entry.{Entry}
 use Rattle.posix.specs.declared.entry.Entry.TheVariants.{Called}
-use Rattle.std.specs.Int.{cast_signed, w64}
-use Rattle.posix.specs.declared.process.Action.{Action}
-use Rattle.posix.specs.Processes.{Process}
-use Rattle.posix.specs.SignalSets.{word_of}
-use Rattle.posix.specs.SignalCalls.{handler_word}
-use Rattle.posix.specs.Entries.{numbered}
-use Rattle.posix.specs.States.{State, process, current_process, has_place}
+use Rattle.posix.specs.declared.errno.Errno.{Errno}
+use Rattle.posix.specs.declared.process.Blocked.{Blocked}
+use Rattle.posix.specs.Processes.{Process, first_process, fresh_cpu}
+use Rattle.posix.specs.States.{State, process, has_place}
 use Rattle.posix.specs.Regular.{IsPlaced}
 use Rattle.posix.specs.Outcomes as outcome
 use Rattle.posix.specs.Attempts.{attempt}
-use Rattle.posix.specs.Execute.{exec_one}
-use Rattle.posix.specs.Runs.{RunsFrom}
-use Rattle.posix.specs.Settle.{NoWakeIsLost}
-use Rattle.posix.specs.Step.{code_of, begin_call, after_trap, act, step, happens}
 use Rattle.proctable.specs.declared.own.Own.{Own}
 use Rattle.proctable.specs.Body.{give_own}
-use Rattle.calls.specs.declared.attempts.Attempted.{Attempted}
-use Rattle.calls.specs.declared.attempts.Attempted.TheVariants.{Done, Block}
+use Rattle.life.specs.declared.caller.Caller.{Caller}
+use Rattle.life.specs.Callers.{caller_of}
 
--- The code's attempt came to what the definition says.
-abbrev pub Comes : State → outcome.Attempted → Attempted → State → Type 0
-Comes old (outcome.Done o) (Done entries) new = (entries.items ≡ o.entries) × (new ≡ o.state)
-Comes old (outcome.Block b) (Block c) new = (c ≡ b) × (new ≡ old)
-Comes old (outcome.Done o) (Block c) new = ⊥
-Comes old (outcome.Block b) (Done entries) new = ⊥
+-- ---- attempts
 
--- The code's attempt is done, and shows this.
-abbrev pub Shows : Attempted → List Entry → Type 0
-Shows (Done entries) xs = entries.items ≡ xs
-Shows (Block b) xs = ⊥
-
--- The call of p, which has changed its own part by f, gives z.
-pub record Gives (f : Process → Process) (p : ℕ) (call : Call) (z : ℤ) (old : Own) (result : Attempted) (new : Own) : Type 0 where
-  pub shown : Shows result (Called p call z ∷ [])
-  pub left : (r : Process) → give_own new r ≡ outcome.finished ((0, z) ∷ []) (f (give_own old r))
-
--- with an action in r2, r3 and r4
-abbrev pub holding : Action → Process → Process
-holding a r = outcome.written 4 (cast_signed w64 a.flags.0) (outcome.written 3 (word_of a.mask) (outcome.written 2 (handler_word a.handler) r))
+-- The code's attempt came to what the definition says: it is done, and its entries come after those before;
+-- or the process has to wait, and none do.
+abbrev pub Comes : State → outcome.Attempted → Option Blocked → List Entry → List Entry → State → Type 0
+Comes old (outcome.Done o) None before after new = (after ≡ before ++ o.entries) × (new ≡ o.state)
+Comes old (outcome.Block b) (Some c) before after new = (c ≡ b) × (after ≡ before) × (new ≡ old)
+Comes old (outcome.Done o) (Some c) before after new = ⊥
+Comes old (outcome.Block b) None before after new = ⊥
 
 -- The call of p may come to this.
-abbrev pub Attempts : State → ℕ → Call → Attempted → State → Type 0
-Attempts old p call result new = (me : Process) → process old p ≡ Some me → (granted : Bool) × Comes old (attempt granted old me call) result new
+abbrev pub Attempts : State → ℕ → Call → Option Blocked → List Entry → List Entry → State → Type 0
+Attempts old p call result before after new = (me : Process) → process old p ≡ Some me → (granted : Bool) × Comes old (attempt granted old me call) result before after new
 
 -- p has a place, and is a record that is no zombie.
 pub record IsActing (s : State) (p : ℕ) : Type 0 where
   pub placed : IsPlaced s.processes p
   pub place : has_place s p ≡ true
+
+-- ---- the caller
+
+-- it is a process that is there
+pub record IsCaller (s : State) (c : Caller) : Type 0 where
+  pub what : Process
+  pub found : process s c.pid ≡ Some what
+  pub is : c ≡ caller_of what
+
+-- as a process, of which all else is as at boot
+abbrev pub process_like : Caller → Process
+process_like c = record first_process {
+  pid = c.pid;
+  parent = c.parent;
+  group = c.group;
+  session = c.session;
+  credentials = c.creds;
+  cpu = record fresh_cpu { registers = pos 0 ∷ c.r1 ∷ c.r2 ∷ [] };
+}
+
+-- the process p, whose own part this is
+abbrev pub with_own : ℕ → Own → Process → Process
+with_own p o r = record (give_own o r) { pid = p }
+
+-- ---- calls that change their process alone
+
+abbrev pub is_own : Call → Bool
+is_own Exit = false
+is_own Fork = false
+is_own Waitpid = false
+is_own Pause = false
+is_own SchedYield = false
+is_own Getppid = false
+is_own Kill = false
+is_own Sigsuspend = false
+is_own Sigreturn = false
+is_own call = true
+
+-- what a call gives that is done, or refused
+abbrev pub value_of : Result (Unit {0}) Errno → ℤ
+value_of (Ok done) = pos 0
+value_of (Err why) = outcome.refusal why
+
+-- The reply was given, and its changes were made.
+pub record Replies (reply : outcome.Reply) (value : ℤ) (old new : Own) : Type 0 where
+  pub given : value ≡ reply.value
+  pub changed : (r : Process) → give_own new r ≡ reply.changes (give_own old r)
+
+-- The call of the process me has this reply, and so it was done.
+pub record RepliesTo (me : Process) (call : Call) (value : ℤ) (old new : Own) : Type 0 where
+  pub reply : outcome.Reply
+  pub attempts : (granted : Bool) (s : State) → attempt granted s me call ≡ outcome.answers s me.pid call reply
+  pub replies : Replies reply value old new
+
+-- It was answered, and is shown.
+pub record Answers (me : Process) (call : Call) (old new : Own) (before after : List Entry) : Type 0 where
+  pub reply : outcome.Reply
+  pub attempts : (granted : Bool) (s : State) → attempt granted s me call ≡ outcome.answers s me.pid call reply
+  pub left : (r : Process) → give_own new r ≡ outcome.finished ((0, reply.value) ∷ []) (reply.changes (give_own old r))
+  pub shown : after ≡ before ++ Called me.pid call reply.value ∷ []

@@ -4,8 +4,10 @@
 pub mod attempts;
 pub mod delivery;
 pub mod entries;
-mod id_calls;
-mod signal_calls;
+mod kills;
+mod replies;
+pub mod waits;
 
-pub use attempts::{Attempted, attempt, attempt_again, has_to_wait};
+pub use attempts::{attempt, attempt_again};
 pub use entries::Entries;
+pub use waits::has_to_wait;

@@ -21,8 +21,6 @@ use Rattle.posix.specs.Settle.{NoWakeIsLost}
 use Rattle.posix.specs.Step.{code_of, begin_call, after_trap, act, step, happens}
 use Rattle.proctable.specs.declared.own.Own.{Own}
 use Rattle.proctable.specs.Body.{give_own}
-use Rattle.calls.specs.declared.attempts.Attempted.{Attempted}
-use Rattle.calls.specs.declared.attempts.Attempted.TheVariants.{Done, Block}
 
 -- p may begin the call so.
 abbrev pub Begins : State → ℕ → Call → List Entry → State → Type 0

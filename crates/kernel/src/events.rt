@@ -15,7 +15,7 @@ ghost use Rattle.kernel.specs.Events.{ActsAs, Begins, Bursts, Happens, Runs, Ste
 
 use crate::settle::settle;
 use calls::Entries;
-use calls::attempts::{Attempted, attempt, attempt_again};
+use calls::attempts::{attempt, attempt_again};
 use calls::delivery::{deliver, end, fault};
 use life::Machine;
 use posix::{Blocked, Call, Entry, Event, Pid, Sig, Status, Trap};
@@ -30,13 +30,11 @@ fn begin_call<K: Kin>(machine: &mut Machine<K>, pid: Pid, call: Call, entries: &
     requires none { entries.old.items ≡ [] }
     ensures { Begins machine.old.state pid call entries.new.items machine.new.state }
 {
-    match attempt(machine, pid, call) {
-        Attempted::Done(shown) => *entries = shown,
-        Attempted::Block(blocked) => {
-            machine.own(pid).enter(blocked);
-            machine.lose_place(pid);
-        }
-    }
+    let Some(blocked) = attempt(machine, pid, call, entries) else {
+        return;
+    };
+    machine.own(pid).enter(blocked);
+    machine.lose_place(pid);
 }
 
 /// A process that is blocked in a call, and no zombie, takes it up. Where it still has to wait the signal
@@ -54,12 +52,12 @@ fn go_on<K: Kin>(
     requires none { entries.old.items ≡ [] }
     ensures { (me : Process) → process machine.old.state pid ≡ Some me → going_on machine.old.state me (attempt_again machine.old.state me blocked) ≡ record { state = machine.new.state; entries = entries.new.items } }
 {
-    match attempt_again(machine, pid, blocked) {
-        Attempted::Done(shown) => *entries = shown,
-        Attempted::Block(_) => match signal {
-            Some(sig) => deliver(machine, pid, sig, entries),
-            None => machine.lose_place(pid),
-        },
+    let Some(_) = attempt_again(machine, pid, blocked, entries) else {
+        return;
+    };
+    match signal {
+        Some(sig) => deliver(machine, pid, sig, entries),
+        None => machine.lose_place(pid),
     }
 }
 

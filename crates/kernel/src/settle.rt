@@ -8,7 +8,7 @@ ghost use Rattle.posix.specs.Regular.{IsRegular};
 ghost use Rattle.posix.specs.Settle.{can_act as acting, can_go_on, settle as settling, woken};
 ghost use Rattle.proctable.specs.Body.{facts_of};
 
-use calls::attempts::has_to_wait;
+use calls::has_to_wait;
 use life::Machine;
 use posix::{Blocked, Life, Pid};
 use proctable::{Facts, Kin};

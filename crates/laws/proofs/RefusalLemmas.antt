@@ -33,7 +33,7 @@ use Rattle.posix.specs.Processes.{Process, Signals, Credentials, Cpu, argument}
 use Rattle.posix.specs.Tables.{IsRising, lookup, at, changed, children_in, pids}
 use Rattle.posix.specs.States.{State, is_in, change, current, next_pid, process}
 use Rattle.posix.specs.Execute.{exec_one}
-use Rattle.posix.specs.Outcomes.{Outcome, Attempted, Done, Block, finish, finished, refusal, refused}
+use Rattle.posix.specs.Outcomes.{Outcome, Attempted, Done, Block, finish, finished, refusal, refused, Reply, answers}
 use Rattle.posix.specs.Credentials.{setuid, seteuid, setgid, setegid}
 use Rattle.posix.specs.Generation.{action, is_pending}
 use Rattle.posix.specs.Choice.{chosen, carried_by, from_kernel}
@@ -134,10 +134,19 @@ unfolding fork_as
 explained_fork C granted s me None = explained_refused C s me.pid Fork EAGAIN
 explained_fork C granted s me (Some n) = explained_if C s me.pid granted _ _ (tt, tt) ((refl, refl), tt)
 
--- a change of ids
-explained_ids : (C : ℕ → Type 0) (s : State) (p : ℕ) (call : Call) (c : Result Credentials Errno) → ExplainedIf C s p (set_credentials s p call c)
-explained_ids C s p call (Ok c) = (tt, tt)
-explained_ids C s p call (Err why) = explained_refused C s p call why
+-- a reply that is a refusal changes nothing else
+abbrev IsExplained : Reply → Type 1
+IsExplained reply = (C : ℕ → Type 0) (s : State) (p : ℕ) (call : Call) → ExplainedIf C s p (answers s p call reply)
+
+-- both sides of a test
+explained_replies : (b : Bool) (x y : Reply) → IsExplained x → IsExplained y → IsExplained (cond b x y)
+explained_replies true x y h k = h
+explained_replies false x y h k = k
+
+-- new ids, or a refusal
+explained_ids : (c : Result Credentials Errno) → IsExplained (set_credentials c)
+explained_ids (Ok c) = λ C s p call. (tt, tt)
+explained_ids (Err why) = λ C s p call. explained_refused C s p call why
 
 -- a signal that is sent, by whom it finds
 explained_send : (C : ℕ → Type 0) (s : State) (me : Process) (choice : ℤ) (sig : Option ℕ) (what : Sending) → ExplainedIf C s me.pid (send_with s me choice sig what)
@@ -155,38 +164,38 @@ explained_kill : (C : ℕ → Type 0) (s : State) (me : Process) → ExplainedIf
 unfolding kill
 explained_kill C s me = explained_kill_with C s me (signal_or_none (argument me 2))
 
--- a new action
-explained_action_with : (C : ℕ → Type 0) (s : State) (me : Process) (old : Action) (g : Result Signals Errno) → ExplainedIf C s me.pid (sigaction_with s me old g)
-explained_action_with C s me old (Ok g) = (tt, tt)
-explained_action_with C s me old (Err why) = explained_refused C s me.pid Sigaction why
+-- a new action, or a refusal
+explained_action_with : (old : Action) (g : Result Signals Errno) → IsExplained (sigaction_with old g)
+explained_action_with old (Ok g) = λ C s p call. (tt, tt)
+explained_action_with old (Err why) = λ C s p call. explained_refused C s p call why
 
 -- a question for an action or a new one, by the signal
-explained_action_of : (C : ℕ → Type 0) (s : State) (me : Process) (n : Option ℕ) → ExplainedIf C s me.pid (sigaction_of s me n)
-explained_action_of C s me None = explained_refused C s me.pid Sigaction EINVAL
-explained_action_of C s me (Some n) =
-    explained_if C s me.pid (is_question (argument me 2)) _ _ (tt, tt)
-    (explained_if C s me.pid (are_flags (cast_unsigned w64 (argument me 4))) _ _
-    (explained_action_with C s me (action me.signals n) (set_action n (action_in me) me.signals)) (explained_refused C s me.pid Sigaction EINVAL))
+explained_action_of : (me : Process) (n : Option ℕ) → IsExplained (sigaction_of me n)
+explained_action_of me None = λ C s p call. explained_refused C s p call EINVAL
+explained_action_of me (Some n) =
+    explained_replies (is_question (argument me 2)) _ _ (λ C s p call. (tt, tt))
+    (explained_replies (are_flags (cast_unsigned w64 (argument me 4))) _ _
+    (explained_action_with (action me.signals n) (set_action n (action_in me) me.signals)) (λ C s p call. explained_refused C s p call EINVAL))
 
 -- a question for an action or a new one
-explained_action : (C : ℕ → Type 0) (s : State) (me : Process) → ExplainedIf C s me.pid (sigaction s me)
+explained_action : (me : Process) → IsExplained (sigaction me)
 unfolding sigaction
-explained_action C s me = explained_action_of C s me (signal_in (argument me 1))
+explained_action me = explained_action_of me (signal_in (argument me 1))
 
--- a new mask
-explained_mask_with : (C : ℕ → Type 0) (s : State) (me : Process) (g : Result Signals Errno) → ExplainedIf C s me.pid (sigprocmask_with s me g)
-explained_mask_with C s me (Ok g) = (tt, tt)
-explained_mask_with C s me (Err why) = explained_refused C s me.pid Sigprocmask why
+-- a new mask, or a refusal
+explained_mask_with : (old : ℕ) (g : Result Signals Errno) → IsExplained (sigprocmask_with old g)
+explained_mask_with old (Ok g) = λ C s p call. (tt, tt)
+explained_mask_with old (Err why) = λ C s p call. explained_refused C s p call why
 
 -- a question for the mask or a new one
-explained_mask : (C : ℕ → Type 0) (s : State) (me : Process) → ExplainedIf C s me.pid (sigprocmask s me)
+explained_mask : (me : Process) → IsExplained (sigprocmask me)
 unfolding sigprocmask
-explained_mask C s me = explained_mask_with C s me (set_mask (argument me 1) (set_in (argument me 2)) me.signals)
+explained_mask me = explained_mask_with me.signals.mask (set_mask (argument me 1) (set_in (argument me 2)) me.signals)
 
 -- a question for what is pending
-explained_pending : (C : ℕ → Type 0) (s : State) (me : Process) → ExplainedIf C s me.pid (sigpending s me)
+explained_pending : (me : Process) → IsExplained (sigpending me)
 unfolding sigpending
-explained_pending C s me = (tt, tt)
+explained_pending me = λ C s p call. (tt, tt)
 
 -- each call afresh
 explained_again : (C : ℕ → Type 0) (s : State) (me : Process) (b : Blocked) → ExplainedIf C s me.pid (attempt_again s me b)
@@ -292,14 +301,14 @@ explained_attempt granted s me Getuid = (tt, tt)
 explained_attempt granted s me Geteuid = (tt, tt)
 explained_attempt granted s me Getgid = (tt, tt)
 explained_attempt granted s me Getegid = (tt, tt)
-explained_attempt granted s me Setuid = explained_ids NotInterrupted s me.pid Setuid (setuid me.credentials (argument me 1))
-explained_attempt granted s me Seteuid = explained_ids NotInterrupted s me.pid Seteuid (seteuid me.credentials (argument me 1))
-explained_attempt granted s me Setgid = explained_ids NotInterrupted s me.pid Setgid (setgid me.credentials (argument me 1))
-explained_attempt granted s me Setegid = explained_ids NotInterrupted s me.pid Setegid (setegid me.credentials (argument me 1))
+explained_attempt granted s me Setuid = explained_ids (setuid me.credentials (argument me 1)) NotInterrupted s me.pid Setuid
+explained_attempt granted s me Seteuid = explained_ids (seteuid me.credentials (argument me 1)) NotInterrupted s me.pid Seteuid
+explained_attempt granted s me Setgid = explained_ids (setgid me.credentials (argument me 1)) NotInterrupted s me.pid Setgid
+explained_attempt granted s me Setegid = explained_ids (setegid me.credentials (argument me 1)) NotInterrupted s me.pid Setegid
 explained_attempt granted s me Kill = explained_kill NotInterrupted s me
-explained_attempt granted s me Sigaction = explained_action NotInterrupted s me
-explained_attempt granted s me Sigprocmask = explained_mask NotInterrupted s me
-explained_attempt granted s me Sigpending = explained_pending NotInterrupted s me
+explained_attempt granted s me Sigaction = explained_action me NotInterrupted s me.pid Sigaction
+explained_attempt granted s me Sigprocmask = explained_mask me NotInterrupted s me.pid Sigprocmask
+explained_attempt granted s me Sigpending = explained_pending me NotInterrupted s me.pid Sigpending
 explained_attempt granted s me Sigsuspend = tt
 explained_attempt granted s me Sigreturn = none_return s me s (return_from_handler s me).state me.pid
 

@@ -1,2 +1,3 @@
 pub mod Machines
 pub mod Loans
+pub mod Callers

@@ -5,11 +5,13 @@
 #![tactic(auto)]
 
 mod births;
+pub mod caller;
 mod ends;
 pub mod machine;
 pub mod sends;
 pub mod waits;
 
+pub use caller::Caller;
 pub use machine::Machine;
 pub use sends::send;
 pub use waits::wait_attempt;

@@ -26,7 +26,7 @@ use Rattle.posix.specs.Statuses.{exited, killed}
 use Rattle.posix.specs.Processes.{Process, Signals, Credentials, Cpu, argument}
 use Rattle.posix.specs.States.{State, without, change, next_pid}
 use Rattle.posix.specs.Execute.{exec_one}
-use Rattle.posix.specs.Outcomes.{Outcome, Attempted, Done, Block}
+use Rattle.posix.specs.Outcomes.{Outcome, Attempted, Done, Block, Reply, answers}
 use Rattle.posix.specs.Credentials.{setuid, seteuid, setgid, setegid}
 use Rattle.posix.specs.Generation.{action, is_pending}
 use Rattle.posix.specs.Choice.{chosen, carried_by, from_kernel}
@@ -160,10 +160,9 @@ acted_wait s me =
     (acted_with s me.pid (options_in (argument me 2)) (report s.processes me.pid me.group (argument me 1) (options_in (argument me 2))))
     (stays me.pid s _ refl refl refl)
 
--- a change of ids
-acted_ids : (s : State) (p : ℕ) (call : Call) (c : Result Credentials Errno) → ActedIf p s (set_credentials s p call c)
-acted_ids s p call (Ok c) = stays p s _ refl refl refl
-acted_ids s p call (Err why) = stays p s _ refl refl refl
+-- a call that changes its process alone
+acted_answers : (s : State) (p : ℕ) (call : Call) (reply : Reply) → ActedIf p s (answers s p call reply)
+acted_answers s p call reply = stays p s _ refl refl refl
 
 -- a signal that is sent, by whom it finds
 acted_send : (s : State) (me : Process) (choice : ℤ) (sig : Option ℕ) (what : Sending) → ActedIf me.pid s (send_with s me choice sig what)
@@ -181,38 +180,6 @@ acted_kill : (s : State) (me : Process) → ActedIf me.pid s (kill s me)
 unfolding kill
 acted_kill s me = acted_kill_with s me (signal_or_none (argument me 2))
 
--- a new action, or a refusal
-acted_action_with : (s : State) (me : Process) (old : Action) (g : Result Signals Errno) → ActedIf me.pid s (sigaction_with s me old g)
-acted_action_with s me old (Ok g) = stays me.pid s _ refl refl refl
-acted_action_with s me old (Err why) = stays me.pid s _ refl refl refl
-
--- a question for an action or a new one, by the signal
-acted_action_of : (s : State) (me : Process) (n : Option ℕ) → ActedIf me.pid s (sigaction_of s me n)
-acted_action_of s me None = stays me.pid s _ refl refl refl
-acted_action_of s me (Some n) =
-    acted_if me.pid s (is_question (argument me 2)) _ _ (stays me.pid s _ refl refl refl)
-    (acted_if me.pid s (are_flags (cast_unsigned w64 (argument me 4))) _ _ (acted_action_with s me (action me.signals n) (set_action n (action_in me) me.signals)) (stays me.pid s _ refl refl refl))
-
--- a question for an action or a new one
-acted_action : (s : State) (me : Process) → ActedIf me.pid s (sigaction s me)
-unfolding sigaction
-acted_action s me = acted_action_of s me (signal_in (argument me 1))
-
--- a new mask, or a refusal
-acted_mask_with : (s : State) (me : Process) (g : Result Signals Errno) → ActedIf me.pid s (sigprocmask_with s me g)
-acted_mask_with s me (Ok g) = stays me.pid s _ refl refl refl
-acted_mask_with s me (Err why) = stays me.pid s _ refl refl refl
-
--- a question for the mask or a new one
-acted_mask : (s : State) (me : Process) → ActedIf me.pid s (sigprocmask s me)
-unfolding sigprocmask
-acted_mask s me = acted_mask_with s me (set_mask (argument me 1) (set_in (argument me 2)) me.signals)
-
--- a question for what is pending
-acted_pending : (s : State) (me : Process) → ActedIf me.pid s (sigpending s me)
-unfolding sigpending
-acted_pending s me = stays me.pid s _ refl refl refl
-
 -- each call
 acted_attempt : (granted : Bool) (s : State) (me : Process) (call : Call) → ActedIf me.pid s (attempt granted s me call)
 unfolding attempt
@@ -227,14 +194,14 @@ acted_attempt granted s me Getuid = stays me.pid s _ refl refl refl
 acted_attempt granted s me Geteuid = stays me.pid s _ refl refl refl
 acted_attempt granted s me Getgid = stays me.pid s _ refl refl refl
 acted_attempt granted s me Getegid = stays me.pid s _ refl refl refl
-acted_attempt granted s me Setuid = acted_ids s me.pid Setuid (setuid me.credentials (argument me 1))
-acted_attempt granted s me Seteuid = acted_ids s me.pid Seteuid (seteuid me.credentials (argument me 1))
-acted_attempt granted s me Setgid = acted_ids s me.pid Setgid (setgid me.credentials (argument me 1))
-acted_attempt granted s me Setegid = acted_ids s me.pid Setegid (setegid me.credentials (argument me 1))
+acted_attempt granted s me Setuid = acted_answers s me.pid Setuid (set_credentials (setuid me.credentials (argument me 1)))
+acted_attempt granted s me Seteuid = acted_answers s me.pid Seteuid (set_credentials (seteuid me.credentials (argument me 1)))
+acted_attempt granted s me Setgid = acted_answers s me.pid Setgid (set_credentials (setgid me.credentials (argument me 1)))
+acted_attempt granted s me Setegid = acted_answers s me.pid Setegid (set_credentials (setegid me.credentials (argument me 1)))
 acted_attempt granted s me Kill = acted_kill s me
-acted_attempt granted s me Sigaction = acted_action s me
-acted_attempt granted s me Sigprocmask = acted_mask s me
-acted_attempt granted s me Sigpending = acted_pending s me
+acted_attempt granted s me Sigaction = acted_answers s me.pid Sigaction (sigaction me)
+acted_attempt granted s me Sigprocmask = acted_answers s me.pid Sigprocmask (sigprocmask me)
+acted_attempt granted s me Sigpending = acted_answers s me.pid Sigpending (sigpending me)
 acted_attempt granted s me Sigsuspend = tt
 acted_attempt granted s me Sigreturn = acted_return s me
 

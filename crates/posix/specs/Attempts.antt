@@ -7,7 +7,7 @@ use Rattle.posix.specs.declared.process.Blocked.TheVariants as blocked
 use Rattle.posix.specs.Statuses.{exited}
 use Rattle.posix.specs.Processes.{Process, argument}
 use Rattle.posix.specs.States.{State, go_last, next_pid}
-use Rattle.posix.specs.Outcomes.{Attempted, Done, Block, gives}
+use Rattle.posix.specs.Outcomes.{Attempted, Done, Block, answers, gives}
 use Rattle.posix.specs.Births.{fork_as}
 use Rattle.posix.specs.Ends.{end_process}
 use Rattle.posix.specs.Waits.{wait}
@@ -30,14 +30,14 @@ attempt granted s me Getuid = gives s me.pid Getuid (pos me.credentials.user.rea
 attempt granted s me Geteuid = gives s me.pid Geteuid (pos me.credentials.user.effective)
 attempt granted s me Getgid = gives s me.pid Getgid (pos me.credentials.group.real)
 attempt granted s me Getegid = gives s me.pid Getegid (pos me.credentials.group.effective)
-attempt granted s me Setuid = set_credentials s me.pid Setuid (setuid me.credentials (argument me 1))
-attempt granted s me Seteuid = set_credentials s me.pid Seteuid (seteuid me.credentials (argument me 1))
-attempt granted s me Setgid = set_credentials s me.pid Setgid (setgid me.credentials (argument me 1))
-attempt granted s me Setegid = set_credentials s me.pid Setegid (setegid me.credentials (argument me 1))
+attempt granted s me Setuid = answers s me.pid Setuid (set_credentials (setuid me.credentials (argument me 1)))
+attempt granted s me Seteuid = answers s me.pid Seteuid (set_credentials (seteuid me.credentials (argument me 1)))
+attempt granted s me Setgid = answers s me.pid Setgid (set_credentials (setgid me.credentials (argument me 1)))
+attempt granted s me Setegid = answers s me.pid Setegid (set_credentials (setegid me.credentials (argument me 1)))
 attempt granted s me Kill = kill s me
-attempt granted s me Sigaction = sigaction s me
-attempt granted s me Sigprocmask = sigprocmask s me
-attempt granted s me Sigpending = sigpending s me
+attempt granted s me Sigaction = answers s me.pid Sigaction (sigaction me)
+attempt granted s me Sigprocmask = answers s me.pid Sigprocmask (sigprocmask me)
+attempt granted s me Sigpending = answers s me.pid Sigpending (sigpending me)
 attempt granted s me Sigsuspend = Block (blocked.Sigsuspend me.signals.mask)
 attempt granted s me Sigreturn = Done (return_from_handler s me)
 

@@ -39,16 +39,29 @@ finished results r = record r { cpu = move_on (write_registers results r.cpu); b
 abbrev pub finish : State → ℕ → List (ℕ × ℤ) → State
 finish s p results = change s p (finished results)
 
--- the call of p gives z in r0
-abbrev pub gives : State → ℕ → Call → ℤ → Attempted
-gives s p call z = Done (record { state = finish s p ((0, z) ∷ []); entries = Called p call z ∷ [] })
-
--- registers are written as more results of a call
+-- a register is written as one more result of a call
 unfoldable pub written : ℕ → ℤ → Process → Process
 written i z r = record r { cpu = set_register r.cpu i z }
 
-abbrev pub write : State → ℕ → ℕ → ℤ → State
-write s p i z = change s p (written i z)
+-- what a call comes to that changes its process alone: its value in r0, and what it changes before that
+pub record Reply : Type 0 where
+  pub value : ℤ
+  pub changes : Process → Process
+
+-- it gives a value, and changes nothing else
+abbrev pub plain : ℤ → Reply
+plain z = record { value = z; changes = λ r. r }
+
+-- the call of p comes to this
+abbrev pub answers : State → ℕ → Call → Reply → Attempted
+answers s p call reply = Done (record {
+  state = change s p (λ r. finished ((0, reply.value) ∷ []) (reply.changes r));
+  entries = Called p call reply.value ∷ [];
+})
+
+-- the call of p gives z in r0
+abbrev pub gives : State → ℕ → Call → ℤ → Attempted
+gives s p call z = answers s p call (plain z)
 
 abbrev pub minus : ℕ → ℤ
 minus zero = pos 0
@@ -56,6 +69,10 @@ minus (suc n) = negsuc n
 
 abbrev pub refusal : Errno → ℤ
 refusal errno = minus (errno_number errno)
+
+-- it is refused, and changes nothing else
+abbrev pub refusing : Errno → Reply
+refusing errno = plain (refusal errno)
 
 abbrev pub refused : State → ℕ → Call → Errno → Attempted
 refused s p call errno = gives s p call (refusal errno)

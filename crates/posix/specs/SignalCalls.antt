@@ -13,7 +13,7 @@ use Rattle.posix.specs.declared.process.Handler.TheVariants as handler
 use Rattle.posix.specs.SignalSets.{set_in, word_of}
 use Rattle.posix.specs.Processes.{Process, Credentials, Signals, argument}
 use Rattle.posix.specs.States.{State, change}
-use Rattle.posix.specs.Outcomes.{Attempted, gives, refused, write}
+use Rattle.posix.specs.Outcomes.{Reply, refusing, written}
 use Rattle.posix.specs.Generation.{action}
 use Rattle.posix.specs.Handlers.{set_action, set_mask}
 use Rattle.posix.specs.Sends.{signal_in}
@@ -24,9 +24,9 @@ unfoldable pub give_credentials : Credentials → Process → Process
 give_credentials c r = record r { credentials = c }
 
 -- the ids are set, or the call is refused
-abbrev pub set_credentials : State → ℕ → Call → Result Credentials Errno → Attempted
-set_credentials s p call (Ok c) = gives (change s p (give_credentials c)) p call (pos 0)
-set_credentials s p call (Err why) = refused s p call why
+abbrev pub set_credentials : Result Credentials Errno → Reply
+set_credentials (Ok c) = record { value = pos 0; changes = give_credentials c }
+set_credentials (Err why) = refusing why
 
 -- ---- actions
 
@@ -60,35 +60,38 @@ are_flags n = bit_and n all_flags == n
 abbrev pub action_in : Process → Action
 action_in me = record { handler = handler_in (argument me 2); mask = set_in (argument me 3); flags = record { 0 = cast_unsigned w64 (argument me 4) } }
 
--- the call gives an action in r2, r3 and r4
-abbrev pub gives_action : State → ℕ → Action → Attempted
-gives_action s p a =
-    gives (write (write (write s p 2 (handler_word a.handler)) p 3 (word_of a.mask)) p 4 (cast_signed w64 a.flags.0)) p Sigaction (pos 0)
+-- an action in r2, r3 and r4
+abbrev pub holding : Action → Process → Process
+holding a r = written 4 (cast_signed w64 a.flags.0) (written 3 (word_of a.mask) (written 2 (handler_word a.handler) r))
 
-abbrev pub sigaction_with : State → Process → Action → Result Signals Errno → Attempted
-sigaction_with s me old (Ok g) = gives_action (change s me.pid (give_signals g)) me.pid old
-sigaction_with s me old (Err why) = refused s me.pid Sigaction why
+-- the call gives an action after it changed the signals
+abbrev pub gives_action : Action → Signals → Reply
+gives_action a g = record { value = pos 0; changes = λ r. holding a (give_signals g r) }
 
-abbrev pub sigaction_of : State → Process → Option ℕ → Attempted
-sigaction_of s me None = refused s me.pid Sigaction EINVAL
-sigaction_of s me (Some n) =
-    if is_question (argument me 2) then gives_action s me.pid (action me.signals n)
-    else if are_flags (cast_unsigned w64 (argument me 4)) then sigaction_with s me (action me.signals n) (set_action n (action_in me) me.signals)
-    else refused s me.pid Sigaction EINVAL
+abbrev pub sigaction_with : Action → Result Signals Errno → Reply
+sigaction_with old (Ok g) = gives_action old g
+sigaction_with old (Err why) = refusing why
+
+abbrev pub sigaction_of : Process → Option ℕ → Reply
+sigaction_of me None = refusing EINVAL
+sigaction_of me (Some n) =
+    if is_question (argument me 2) then gives_action (action me.signals n) me.signals
+    else if are_flags (cast_unsigned w64 (argument me 4)) then sigaction_with (action me.signals n) (set_action n (action_in me) me.signals)
+    else refusing EINVAL
 
 -- the signal is in r1
-unfoldable pub sigaction : State → Process → Attempted
-sigaction s me = sigaction_of s me (signal_in (argument me 1))
+unfoldable pub sigaction : Process → Reply
+sigaction me = sigaction_of me (signal_in (argument me 1))
 
 -- ---- the mask
 
-abbrev pub sigprocmask_with : State → Process → Result Signals Errno → Attempted
-sigprocmask_with s me (Ok g) = gives (write (change s me.pid (give_signals g)) me.pid 2 (word_of me.signals.mask)) me.pid Sigprocmask (pos 0)
-sigprocmask_with s me (Err why) = refused s me.pid Sigprocmask why
+abbrev pub sigprocmask_with : ℕ → Result Signals Errno → Reply
+sigprocmask_with old (Ok g) = record { value = pos 0; changes = λ r. written 2 (word_of old) (give_signals g r) }
+sigprocmask_with old (Err why) = refusing why
 
 -- what is done is in r1, the set in r2, and the call gives the old mask in r2
-unfoldable pub sigprocmask : State → Process → Attempted
-sigprocmask s me = sigprocmask_with s me (set_mask (argument me 1) (set_in (argument me 2)) me.signals)
+unfoldable pub sigprocmask : Process → Reply
+sigprocmask me = sigprocmask_with me.signals.mask (set_mask (argument me 1) (set_in (argument me 2)) me.signals)
 
 -- ---- what is pending
 
@@ -101,5 +104,5 @@ set_of [] = 0
 set_of (c ∷ cs) = 2 * set_of cs + bit_of c
 
 -- the set of pending signals, in r1
-unfoldable pub sigpending : State → Process → Attempted
-sigpending s me = gives (write s me.pid 1 (word_of (set_of me.signals.standard))) me.pid Sigpending (pos 0)
+unfoldable pub sigpending : Process → Reply
+sigpending me = record { value = pos 0; changes = written 1 (word_of (set_of me.signals.standard)) }

@@ -1,4 +1,4 @@
-use Rattle.std.proofs.Common.{◌≡◌, ◌∙◌, ap, ℤ, true, rules, to_z, of_z, w64, List, ◌++◌, sym}
+use Rattle.std.proofs.Common.{◌≡◌, ◌∙◌, ap, true, rules, to_z, of_z, w64, List, ◌++◌}
 use Rattle.posix.specs.declared.entry.Entry.{Entry}
 use Rattle.posix.specs.States.{State, process}
 use Rattle.posix.specs.Statuses.{exited}
@@ -22,8 +22,8 @@ returns g c = λ me e.
     let status = c.exited.ensures ∙ ap exited code in (
       true,
       (
-        c.end.ensures.entries me last ∙ ap (λ (l : List Entry). l ++ (end_process c.look.follows.lender-at-none.state me c.exited.result).entries) c.new-entries.ensures ∙ ap (λ (t : State). (end_process t me c.exited.result).entries) same
-            ∙ ap (λ n. (end_process s me n).entries) status,
+        c.end.ensures.entries me last ∙ ap (λ (t : State). c.args.entries.now.items ++ (end_process t me c.exited.result).entries) same
+            ∙ ap (λ n. c.args.entries.now.items ++ (end_process s me n).entries) status,
         c.end.ensures.state me last ∙ ap (λ (t : State). (end_process t me c.exited.result).state) same ∙ ap (λ n. (end_process s me n).state) status,
       ),
     )

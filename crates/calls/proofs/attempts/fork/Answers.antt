@@ -1,15 +1,18 @@
-use Rattle.std.proofs.Common.{◌≡◌, ◌∙◌, ◌+◌, ℕ, ap, sym, refl, subst, true, false, pos, rules, to_z, of_z, w64, Option, Some, None}
+use Rattle.std.proofs.Common.{◌≡◌, ◌∙◌, ◌+◌, ◌++◌, ◌∷◌, [], ℕ, ap, sym, refl, subst, true, false, pos, rules, to_z, of_z, w64, Option, Some, None}
 use Rattle.std.specs.Option.{IsSome}
 use Rattle.posix.specs.declared.call.Call.TheVariants.{Fork}
 use Rattle.posix.specs.declared.errno.Errno.TheVariants.{EAGAIN}
-use Rattle.posix.specs.States.{State, process, next_pid}
-use Rattle.posix.specs.Outcomes.{refusal}
+use Rattle.posix.specs.declared.entry.Entry.TheVariants.{NoMemory}
+use Rattle.posix.specs.States.{State, process, next_pid, change}
+use Rattle.posix.specs.Outcomes.{refusal, finish, finished, gives, no_memory}
 use Rattle.posix.specs.Births.{fork_as, born, child_of}
 use Rattle.posix.specs.Attempts.{attempt}
 use Rattle.posix.proofs.OrderLemmas.{placed_some}
 use Rattle.posix.proofs.TableLemmas.{pid_looked}
+use Rattle.proctable.specs.Body.{give_own}
+use Rattle.life.proofs.LoanLemmas.{was_written}
 use Rattle.calls.specs.Outcomes.{Comes}
-use Rattle.calls.proofs.CallLemmas.{gives_after, no_memory_after}
+use Rattle.calls.proofs.CallLemmas.{gives_is}
 use Rattle.calls.proofs.ReportLemmas.{some_inserted}
 use Rattle.calls.proofs.attempts.fork.Goals as goal
 
@@ -17,15 +20,16 @@ pub returns-in_default : goal.returns-in_default
 unfolding attempt fork_as
 returns-in_default g c = λ me e.
     let s = c.args.machine.now.state in
-    let named = sym (pid_looked c.args.pid s.processes me e) in
+    let named = pid_looked c.args.pid s.processes me e in
     let none : next_pid s ≡ None = sym c.next_pid.ensures ∙ c.in_default.is in (
       true,
-      subst (λ (o : Option ℕ). Comes s (fork_as true s me o) c.refused.result c.refused.new.machine.state) (sym none)
-          (gives_after s s s c.args.pid me.pid Fork (refusal EAGAIN) (refusal EAGAIN) c.refused.result c.refused.new.machine.state refl named refl c.refused.ensures),
+      subst (λ (o : Option ℕ). Comes s (fork_as true s me o) c.refuse.result c.args.entries.now.items c.refuse.new.entries.items c.refuse.new.machine.state) (sym none)
+          (subst (λ q. Comes s (gives s q Fork (refusal EAGAIN)) c.refuse.result c.args.entries.now.items c.refuse.new.entries.items c.refuse.new.machine.state) (sym named)
+          (gives_is s s c.refuse.new.machine.state c.args.pid Fork (refusal EAGAIN) (refusal EAGAIN) c.args.entries.now.items c.refuse.new.entries.items c.refuse.result c.refuse.ensures.done c.refuse.ensures.state c.refuse.ensures.shown refl)),
     )
 
-pub gives-requires : goal.gives-requires
-gives-requires g c =
+pub gives-requires-clause-there : goal.gives-requires-clause-there
+gives-requires-clause-there g c =
     let s = c.args.machine.now.state in
     let me = c.requires.acting.placed in
     subst (λ (t : State). IsSome (process t c.args.pid)) (sym (c.in-Ok.ensures.ok me.what me.found))
@@ -35,24 +39,38 @@ pub returns-in-Ok : goal.returns-in-Ok
 unfolding attempt fork_as
 returns-in-Ok g c = λ me e.
     let s = c.args.machine.now.state in
+    let p = c.args.pid in
     let child = c.in-Some.child in
-    let named = sym (pid_looked c.args.pid s.processes me e) in
+    let named = pid_looked p s.processes me e in
     let some : next_pid s ≡ Some child = sym c.next_pid.ensures ∙ c.in-Some.is in
     let kept : to_z w64 (of_z w64 c.from.result) ≡ c.from.result = search rules in
     let value = kept ∙ c.from.ensures ∙ ap pos c.number.ensures.value in (
       true,
-      subst (λ (o : Option ℕ). Comes s (fork_as true s me o) c.gives.result c.gives.new.machine.state) (sym some)
-          (gives_after s (born s me child) c.fork.new.self.state c.args.pid me.pid Fork (to_z w64 (of_z w64 c.from.result)) (pos child) c.gives.result c.gives.new.machine.state
-          (c.in-Ok.ensures.ok me e) named value c.gives.ensures),
+      subst (λ (o : Option ℕ). Comes s (fork_as true s me o) c.gives.result c.args.entries.now.items c.gives.new.entries.items c.gives.new.machine.state) (sym some)
+          (subst (λ q. Comes s (gives (born s me child) q Fork (pos child)) c.gives.result c.args.entries.now.items c.gives.new.entries.items c.gives.new.machine.state) (sym named)
+          (gives_is s (born s me child) c.gives.new.machine.state p Fork (to_z w64 (of_z w64 c.from.result)) (pos child) c.args.entries.now.items c.gives.new.entries.items c.gives.result c.gives.ensures.done
+          (c.gives.ensures.state ∙ ap (λ (t : State). finish t p ((0, to_z w64 (of_z w64 c.from.result)) ∷ [])) (c.in-Ok.ensures.ok me e)) c.gives.ensures.shown value)),
     )
+
+pub own-requires : goal.own-requires
+own-requires g c =
+    let s = c.args.machine.now.state in
+    subst (λ (t : State). IsSome (process t c.args.pid)) (sym c.in-Err.ensures.err) (placed_some s.processes c.args.pid c.requires.acting.placed)
 
 pub returns-in-Err : goal.returns-in-Err
 unfolding attempt fork_as
 returns-in-Err g c = λ me e.
     let s = c.args.machine.now.state in
-    let named = sym (pid_looked c.args.pid s.processes me e) in
-    let some : next_pid s ≡ Some c.in-Some.child = sym c.next_pid.ensures ∙ c.in-Some.is in (
+    let p = c.args.pid in
+    let t = c.fork.new.self.state in
+    let named = pid_looked p s.processes me e in
+    let some : next_pid s ≡ Some c.in-Some.child = sym c.next_pid.ensures ∙ c.in-Some.is in
+    let kept : to_z w64 (of_z w64 c.refusal.result) ≡ c.refusal.result = search rules in
+    let value = kept ∙ c.refusal.ensures in
+    let state = was_written t p c.own.result.now c.finish.new.self (finished ((0, to_z w64 (of_z w64 c.refusal.result)) ∷ [])) c.own.ensures.regular c.own.ensures.value c.finish.ensures
+    ∙ ap (λ z. finish t p ((0, z) ∷ [])) value ∙ ap (λ (u : State). finish u p ((0, refusal EAGAIN) ∷ [])) c.in-Err.ensures.err in (
       false,
-      subst (λ (o : Option ℕ). Comes s (fork_as false s me o) c.no_memory.result c.no_memory.new.machine.state) (sym some)
-          (no_memory_after s c.fork.new.self.state c.args.pid me.pid Fork c.no_memory.result c.no_memory.new.machine.state c.in-Err.ensures.err named c.no_memory.ensures),
+      subst (λ (o : Option ℕ). Comes s (fork_as false s me o) None c.args.entries.now.items c.push.new.self.items (change t p (give_own c.finish.new.self))) (sym some)
+          (subst (λ q. Comes s (no_memory s q Fork) None c.args.entries.now.items c.push.new.self.items (change t p (give_own c.finish.new.self))) (sym named)
+          (c.push.ensures.items, state)),
     )

@@ -1,9 +1,11 @@
-use Rattle.std.proofs.Common.{rules, ◌≡◌, refl, to_z, of_z, w64}
-use Rattle.calls.proofs.OwnLemmas.{gives_own, gives_same}
+use Rattle.std.proofs.Common.{◌≡◌, ◌∙◌, ap, rules, to_z, of_z, w64, [], ◌∷◌}
+use Rattle.posix.specs.Outcomes.{finish, finished}
+use Rattle.life.proofs.LoanLemmas.{was_written}
 use Rattle.calls.proofs.attempts.gives.Goals as goal
 
-pub returns : goal.returns
-returns g c =
+pub returns-clause-state : goal.returns-clause-state
+returns-clause-state g c =
+    let s = c.args.machine.now.state in
     let kept : to_z w64 (of_z w64 c.args.value) ≡ c.args.value = search rules in
-    gives_own c.args.machine.now.state c.args.machine.now.state _ c.args.pid c.args.call c.args.value c.own.result.now c.answer.new.own c.answer.result (record { regular = c.own.ensures.regular; value = c.own.ensures.value; after = refl })
-    (gives_same _ _ _ _ c.own.result.now c.answer.new.own (λ q. q) c.answer.result kept c.answer.ensures)
+    was_written s c.args.pid c.own.result.now c.answer.new.own (finished ((0, to_z w64 (of_z w64 c.args.value)) ∷ [])) c.own.ensures.regular c.own.ensures.value c.answer.ensures.left
+    ∙ ap (λ z. finish s c.args.pid ((0, z) ∷ [])) kept

@@ -1,17 +1,28 @@
-use Rattle.std.proofs.Common.{◌∙◌, ap, sym, refl, true, pos}
+use Rattle.std.proofs.Common.{◌≡◌, ◌∙◌, ap, sym, subst, refl, true, pos, ◌∷◌, []}
+use Rattle.std.specs.Option.{IsSome}
 use Rattle.posix.specs.declared.call.Call.TheVariants.{SchedYield}
-use Rattle.posix.specs.States.{go_last}
+use Rattle.posix.specs.States.{State, process, go_last}
+use Rattle.posix.specs.Outcomes.{finish, gives}
 use Rattle.posix.specs.Attempts.{attempt}
 use Rattle.posix.proofs.TableLemmas.{pid_looked}
-use Rattle.calls.proofs.CallLemmas.{gives_after}
+use Rattle.posix.proofs.OrderLemmas.{placed_some}
+use Rattle.calls.specs.Outcomes.{Comes}
+use Rattle.calls.proofs.CallLemmas.{gives_is}
 use Rattle.calls.proofs.attempts.sched_yield.Goals as goal
+
+pub gives-requires-clause-there : goal.gives-requires-clause-there
+gives-requires-clause-there g c =
+    let s = c.args.machine.now.state in
+    subst (λ (t : State). IsSome (process t c.args.pid)) (sym c.go_last.ensures.state) (placed_some s.processes c.args.pid c.requires.acting.placed)
 
 pub returns : goal.returns
 unfolding attempt
 returns g c = λ me e.
     let s = c.args.machine.now.state in
-    let named = sym (pid_looked c.args.pid s.processes me e) in (
+    let p = c.args.pid in
+    let named = pid_looked p s.processes me e in (
       true,
-      gives_after s (go_last s me.pid) c.go_last.new.self.state c.args.pid me.pid SchedYield (pos 0) (pos 0) c.gives.result c.gives.new.machine.state
-          (c.go_last.ensures.state ∙ ap (go_last s) named) named refl c.gives.ensures,
+      subst (λ q. Comes s (gives (go_last s q) q SchedYield (pos 0)) c.gives.result c.args.entries.now.items c.gives.new.entries.items c.gives.new.machine.state) (sym named)
+          (gives_is s (go_last s p) c.gives.new.machine.state p SchedYield (pos 0) (pos 0) c.args.entries.now.items c.gives.new.entries.items c.gives.result c.gives.ensures.done
+          (c.gives.ensures.state ∙ ap (λ (t : State). finish t p ((0, pos 0) ∷ [])) c.go_last.ensures.state) c.gives.ensures.shown refl),
     )

@@ -6,7 +6,8 @@ use Rattle.proctable.specs.Body.{give_own}
 use Rattle.life.proofs.LoanLemmas.{was_written}
 use Rattle.calls.proofs.CallLemmas.{outcome_of}
 use Rattle.calls.proofs.DeliveryLemmas.{Reads, deliver_at, deliver_ignored, deliver_default, shown_alone, there_then}
-use Rattle.calls.proofs.OwnLemmas.{caller, of_caller, caller_there, there_lent}
+use Rattle.calls.specs.Outcomes.{with_own}
+use Rattle.calls.proofs.OwnLemmas.{of_own, own_there, there_lent}
 use Rattle.calls.proofs.delivery.deliver.Goals as goal
 
 pub handle-requires-clause-there : goal.handle-requires-clause-there
@@ -21,14 +22,14 @@ returns-in-At g c = λ me e.
     let s = c.args.machine.now.state in
     let p = c.args.pid in
     let o = c.own-own.result.now in
-    let x = caller p o me in
+    let x = with_own p o me in
     let w = record o { signals = c.take-carried.new.self } in
     let t = change s p (give_own w) in
     let changed = was_written s p o w (take_out c.args.sig) c.own-own.ensures.regular c.own-own.ensures.value (λ r. ap (λ h. give_own (record o { signals = h }) r) c.take-carried.ensures.state) in
     let reads : Reads s x c.args.sig t c.action-action.result = record { action_is = c.action-action.ensures; state_is = changed } in
-    let after = there_then s t p (take_out c.args.sig) (keeps_take_out c.args.sig).pid changed x (caller_there s p o me c.own-own.ensures.value e) in
+    let after = there_then s t p (take_out c.args.sig) (keeps_take_out c.args.sig).pid changed x (own_there s p o me c.own-own.ensures.value e) in
     let kept : to_z w64 (of_z w64 c.in-At.address) ≡ c.in-At.address = search rules in
-    of_caller (λ x. deliver s x c.args.sig ≡ outcome_of c.handle.new.machine.state c.handle.new.entries.items) s p o me c.own-own.ensures.value e
+    of_own (λ x. deliver s x c.args.sig ≡ outcome_of c.handle.new.machine.state c.handle.new.entries.items) s p o me c.own-own.ensures.value e
     (deliver_at s x c.args.sig t c.action-action.result c.in-At.address c.take-carried.result reads c.in-At.is c.take-carried.ensures.value
     ∙ ap (handle t (take_out c.args.sig x) (record { sig = c.args.sig; carried = c.take-carried.result })) (sym kept)
     ∙ c.handle.ensures (take_out c.args.sig x) after)
@@ -39,12 +40,12 @@ returns-in-Ignore g c = λ me e.
     let s = c.args.machine.now.state in
     let p = c.args.pid in
     let o = c.own-own.result.now in
-    let x = caller p o me in
+    let x = with_own p o me in
     let w = record o { signals = c.take-carried.new.self } in
     let t = change s p (give_own w) in
     let changed = was_written s p o w (take_out c.args.sig) c.own-own.ensures.regular c.own-own.ensures.value (λ r. ap (λ h. give_own (record o { signals = h }) r) c.take-carried.ensures.state) in
     let reads : Reads s x c.args.sig t c.action-action.result = record { action_is = c.action-action.ensures; state_is = changed } in
-    of_caller (λ x. deliver s x c.args.sig ≡ outcome_of t c.push.new.self.items) s p o me c.own-own.ensures.value e
+    of_own (λ x. deliver s x c.args.sig ≡ outcome_of t c.push.new.self.items) s p o me c.own-own.ensures.value e
     (deliver_ignored s x c.args.sig t c.action-action.result reads c.in-Ignore.is ∙ ap (outcome_of t) (shown_alone _ _ _ c.requires.none c.push.ensures.items))
 
 pub returns-in-Default : goal.returns-in-Default
@@ -53,11 +54,11 @@ returns-in-Default g c = λ me e.
     let s = c.args.machine.now.state in
     let p = c.args.pid in
     let o = c.own-own.result.now in
-    let x = caller p o me in
+    let x = with_own p o me in
     let w = record o { signals = c.take-carried.new.self } in
     let t = change s p (give_own w) in
     let changed = was_written s p o w (take_out c.args.sig) c.own-own.ensures.regular c.own-own.ensures.value (λ r. ap (λ h. give_own (record o { signals = h }) r) c.take-carried.ensures.state) in
     let reads : Reads s x c.args.sig t c.action-action.result = record { action_is = c.action-action.ensures; state_is = changed } in
-    let after = there_then s t p (take_out c.args.sig) (keeps_take_out c.args.sig).pid changed x (caller_there s p o me c.own-own.ensures.value e) in
-    of_caller (λ x. deliver s x c.args.sig ≡ outcome_of c.act_by_default.new.machine.state c.act_by_default.new.entries.items) s p o me c.own-own.ensures.value e
+    let after = there_then s t p (take_out c.args.sig) (keeps_take_out c.args.sig).pid changed x (own_there s p o me c.own-own.ensures.value e) in
+    of_own (λ x. deliver s x c.args.sig ≡ outcome_of c.act_by_default.new.machine.state c.act_by_default.new.entries.items) s p o me c.own-own.ensures.value e
     (deliver_default s x c.args.sig t c.action-action.result reads c.in-Default.is ∙ c.act_by_default.ensures (take_out c.args.sig x) after)

@@ -12,7 +12,8 @@ use Rattle.proctable.specs.Body.{give_own}
 use Rattle.life.proofs.LoanLemmas.{was_written}
 use Rattle.calls.proofs.CallLemmas.{outcome_of}
 use Rattle.calls.proofs.DeliveryLemmas.{handle_room, handle_full, there_then}
-use Rattle.calls.proofs.OwnLemmas.{caller, of_caller, caller_there, there_lent}
+use Rattle.calls.specs.Outcomes.{with_own}
+use Rattle.calls.proofs.OwnLemmas.{of_own, own_there, there_lent}
 use Rattle.calls.proofs.delivery.handle.Goals as goal
 
 pub end-requires-clause-there : goal.end-requires-clause-there
@@ -26,8 +27,8 @@ returns-in-Ok g c = λ me e.
     let t = change s p (give_own c.handle.new.self) in
     let kept : to_z w64 (of_z w64 c.args.address) ≡ c.args.address = search rules in
     let value : to_z w64 (of_z w64 c.args.signal.carried.value) ≡ c.args.signal.carried.value = search rules in
-    of_caller (λ x. handle s x c.args.signal c.args.address ≡ outcome_of t c.push.new.self.items) s p o me c.own-own.ensures.value e
-    (handle_room s (caller p o me) c.args.signal c.args.address t c.push.new.self.items c.in-Ok.ensures.room
+    of_own (λ x. handle s x c.args.signal c.args.address ≡ outcome_of t c.push.new.self.items) s p o me c.own-own.ensures.value e
+    (handle_room s (with_own p o me) c.args.signal c.args.address t c.push.new.self.items c.in-Ok.ensures.room
     (was_written s p o c.handle.new.self (handles c.args.signal (to_z w64 (of_z w64 c.args.address))) c.own-own.ensures.regular c.own-own.ensures.value c.handle.ensures.state
     ∙ ap (λ z. change s p (handles c.args.signal z)) kept)
     (c.push.ensures.items ∙ ap (λ z. c.show_interruption.new.entries.items ++ Handled p c.args.signal.sig z c.args.signal.carried.sender ∷ []) value
@@ -39,14 +40,14 @@ returns-in-Err g c = λ me e.
     let s = c.args.machine.now.state in
     let p = c.args.pid in
     let o = c.own-own.result.now in
-    let x = caller p o me in
+    let x = with_own p o me in
     let t = change s p (give_own c.handle.new.self) in
     let kept : to_z w64 (of_z w64 c.args.address) ≡ c.args.address = search rules in
     let changed = was_written s p o c.handle.new.self (handles c.args.signal (to_z w64 (of_z w64 c.args.address))) c.own-own.ensures.regular c.own-own.ensures.value c.handle.ensures.state
     ∙ ap (λ z. change s p (handles c.args.signal z)) kept in
-    let here = caller_there s p o me c.own-own.ensures.value e in
+    let here = own_there s p o me c.own-own.ensures.value e in
     let after = there_then s t p (handles c.args.signal c.args.address) (keeps_handles _ _).pid changed x here in
-    of_caller (λ x. handle s x c.args.signal c.args.address ≡ outcome_of c.end.new.machine.state c.end.new.entries.items) s p o me c.own-own.ensures.value e
+    of_own (λ x. handle s x c.args.signal c.args.address ≡ outcome_of c.end.new.machine.state c.end.new.entries.items) s p o me c.own-own.ensures.value e
     (handle_full s x c.args.signal c.args.address t c.end.new.machine.state c.end.new.entries.items c.in-Err.ensures.full changed
     (c.end.ensures.state (handles c.args.signal c.args.address x) after ∙ ap (λ w. (end_process t (handles c.args.signal c.args.address x) w).state) c.killed.ensures)
     (c.end.ensures.entries (handles c.args.signal c.args.address x) after

@@ -1,0 +1,15 @@
+use Rattle.std.proofs.Common.{sym, subst, true}
+use Rattle.posix.specs.States.{change}
+use Rattle.posix.specs.Attempts.{attempt}
+use Rattle.proctable.specs.Body.{give_own}
+use Rattle.calls.specs.Outcomes.{Comes}
+use Rattle.calls.proofs.OwnLemmas.{answered}
+use Rattle.calls.proofs.attempts.attempt.Goals as goal
+
+pub returns-in_default : goal.returns-in_default
+returns-in_default g c = λ me e.
+    let s = c.args.machine.now.state in (
+      true,
+      subst (λ q. Comes s (attempt true s me c.args.call) q c.args.entries.now.items c.own_call.new.entries.items (change s c.args.pid (give_own c.own_call.new.own))) (sym c.own_call.ensures.done)
+          (answered s c.args.pid c.own.result.now c.own_call.new.own me c.args.call c.args.entries.now.items c.own_call.new.entries.items c.own.ensures.regular c.own.ensures.value e (c.own_call.ensures.answers me)),
+    )

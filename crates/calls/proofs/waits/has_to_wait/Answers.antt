@@ -1,0 +1,13 @@
+use Rattle.std.proofs.Common.{◌≡◌, ◌∙◌, ap}
+use Rattle.posix.specs.States.{State, process}
+use Rattle.posix.specs.Waits.{wait}
+use Rattle.posix.specs.Settle.{is_block}
+use Rattle.calls.specs.Outcomes.{process_like}
+use Rattle.calls.proofs.CallLemmas.{wait_of}
+use Rattle.calls.proofs.waits.has_to_wait.Goals as goal
+
+pub returns-clause-value : goal.returns-clause-value
+returns-clause-value g c = λ me e.
+    let s = c.args.machine.now.state in
+    let cr = c.caller-me.result in
+    c.would_wait.ensures.value ∙ ap (λ (t : State). is_block (wait t (process_like cr))) c.caller-me.ensures.same ∙ ap is_block (wait_of s (process s c.args.pid) me cr c.caller-me.ensures.value e)

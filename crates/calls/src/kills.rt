@@ -1,0 +1,51 @@
+//! Signals that processes send (XSH kill).
+
+ghost use Rattle.std.specs.Prelude.{◌≡◌, ◌≤◌, length, IsSome};
+ghost use Rattle.posix.specs.Sends.{signal_or_none as signal_number_or_none, kill as killing};
+ghost use Rattle.posix.specs.States.{process};
+ghost use Rattle.calls.specs.Outcomes.{Attempts, Comes, IsCaller, process_like};
+
+use crate::attempts::{gives, refuse};
+use crate::entries::Entries;
+use crate::replies::signal_in;
+use life::{Caller, Machine};
+use posix::{Blocked, Call, Errno, Pid, Sending, Sig};
+use proctable::Kin;
+
+/// The signal that a register names, or `Some(None)` for signal 0; none where it is neither.
+fn signal_or_none(number: i64) -> Option<Option<Sig>>
+    ensures { result ≡ signal_number_or_none number }
+{
+    if number == 0 {
+        return Some(None);
+    }
+    Some(Some(signal_in(number)?))
+}
+
+/// Sends a signal, as a caller that is there.
+#[tactic(auto, unfolding(posix::specs::Sends::kill))]
+fn kill_as<K: Kin>(machine: &mut Machine<K>, me: &Caller, entries: &mut Entries) -> Option<Blocked>
+    requires caller { IsCaller machine.old.state me.now }
+    requires room { length entries.old.items ≤ 1 }
+    ensures { Comes machine.old.state (killing machine.old.state (process_like me.now)) result entries.old.items entries.new.items machine.new.state }
+{
+    let Some(sig) = signal_or_none(me.r2) else {
+        return refuse(machine, me.pid, Call::Kill, Errno::EINVAL, entries);
+    };
+    match machine.send(me.pid, me.r1, sig) {
+        Sending::NobodyFound => refuse(machine, me.pid, Call::Kill, Errno::ESRCH, entries),
+        Sending::NobodyPermitted => refuse(machine, me.pid, Call::Kill, Errno::EPERM, entries),
+        Sending::Permitted => gives(machine, me.pid, Call::Kill, 0, entries),
+    }
+}
+
+/// Sends a signal.
+#[tactic(auto, unfolding(posix::specs::Attempts::attempt, posix::specs::Sends::kill))]
+pub fn kill<K: Kin>(machine: &mut Machine<K>, pid: Pid, entries: &mut Entries) -> Option<Blocked>
+    requires there { IsSome (process machine.old.state pid) }
+    requires room { length entries.old.items ≤ 1 }
+    ensures { Attempts machine.old.state pid Call.Kill result entries.old.items entries.new.items machine.new.state }
+{
+    let me = machine.caller(pid);
+    kill_as(machine, &me, entries)
+}

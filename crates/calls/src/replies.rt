@@ -1,0 +1,204 @@
+//! Calls that change their process alone: its number, ids, actions and signal mask.
+
+ghost use Rattle.std.specs.Prelude.{◌≡◌, ◌≤◌, ◌++◌, ◌∷◌, [], length, pos, true, is_some, IfSome, None};
+ghost use Rattle.std.specs.Int.{cast_unsigned, w64};
+ghost use Rattle.posix.specs.declared.entry.Entry.TheVariants.{Called};
+ghost use Rattle.posix.specs.Processes.{Process, argument};
+ghost use Rattle.posix.specs.Outcomes.{finished, refusal as refusal_of};
+ghost use Rattle.posix.specs.Sends.{signal_in as signal_number_in};
+ghost use Rattle.posix.specs.SignalCalls.{handler_word as handler_word_of, handler_in as handler_held_in, is_question as is_question_in, are_flags, action_in as action_held_in, sigaction as sigaction_of, sigprocmask as sigprocmask_of, sigpending as sigpending_of, holding};
+ghost use Rattle.proctable.specs.Body.{give_own};
+ghost use Rattle.calls.specs.Outcomes.{Replies, RepliesTo, Answers, is_own, value_of, with_own};
+
+use crate::entries::Entries;
+use bitflags::Flags;
+use posix::{Action, Blocked, Call, Entry, Errno, Handler, Pid, Register, SaFlags, Sig, SigSet};
+use proctable::Own;
+
+// ---- results
+
+/// The result of a call that is refused: the negative number of the error.
+pub fn refusal(errno: Errno) -> i64
+    ensures { result ≡ refusal_of errno }
+{
+    -i64::from(errno.number())
+}
+
+/// The result of a call that gives 0 where it is done.
+fn word_of(done: Result<(), Errno>) -> i64
+    ensures { result ≡ value_of done }
+{
+    match done {
+        Ok(()) => 0,
+        Err(errno) => refusal(errno),
+    }
+}
+
+/// The call of a process, with this of its own, gives a value, and the process leaves it.
+pub fn answer(own: &mut Own, pid: Pid, call: Call, value: i64, entries: &mut Entries)
+    requires { length entries.old.items ≤ 3 }
+    ensures left { (r : Process) → give_own own.new r ≡ finished ((0, value) ∷ []) (give_own own.old r) }
+    ensures shown { entries.new.items ≡ entries.old.items ++ Called pid call value ∷ [] }
+{
+    own.finish(value);
+    entries.push(Entry::Called {
+        pid,
+        call,
+        result: value,
+    });
+}
+
+// ---- arguments
+
+/// The signal that a register names: 1 to 31 but 18 to 22, as yet.
+pub fn signal_in(number: i64) -> Option<Sig>
+    ensures { result ≡ signal_number_in number }
+{
+    match number {
+        1..=17 | 23..=31 => Sig::new(number as u8),
+        _ => None,
+    }
+}
+
+/// A handler as a register holds it: 0 is the default, 1 ignores the signal, and all else is an address.
+fn handler_in(word: i64) -> Handler
+    ensures { result ≡ handler_held_in word }
+{
+    match word {
+        0 => Handler::Default,
+        1 => Handler::Ignore,
+        _ => Handler::At(word),
+    }
+}
+
+/// A register that holds a handler.
+fn handler_word(handler: Handler) -> i64
+    ensures { result ≡ handler_word_of handler }
+{
+    match handler {
+        Handler::Default => 0,
+        Handler::Ignore => 1,
+        Handler::At(address) => address,
+    }
+}
+
+/// Whether a sigaction with this in r2 asks for the action.
+fn is_question(word: i64) -> bool
+    ensures { result ≡ is_question_in word }
+{
+    matches!(word, -1)
+}
+
+/// The action in r2, r3 and r4 of a process with this of its own; none where r4 has a bit that is no
+/// flag's.
+fn action_in(own: &Own) -> Option<Action>
+    ensures known { (r : Process) → is_some result ≡ are_flags (cast_unsigned w64 (argument (give_own own.now r) 4)) }
+    ensures value { (r : Process) → IfSome result (λ a. a ≡ action_held_in (give_own own.now r)) }
+{
+    let handler = handler_in(own.cpu.register(Register::SECOND_ARGUMENT));
+    let mask = SigSet::from_word(own.cpu.register(Register::THIRD_ARGUMENT));
+    let bits = own.cpu.register(Register::FOURTH_ARGUMENT);
+    let flags = SaFlags::from_bits(bits.cast_unsigned())?;
+    Some(Action {
+        handler,
+        mask,
+        flags,
+    })
+}
+
+// ---- calls
+
+/// Shows an action in r2, r3 and r4.
+#[tactic(auto, unfolding(posix::specs::Outcomes::written))]
+fn hold(own: &mut Own, action: &Action)
+    ensures { (r : Process) → give_own own.new r ≡ holding action.now (give_own own.old r) }
+{
+    let cpu = &mut own.cpu;
+    cpu.set_register(Register::SECOND_ARGUMENT, handler_word(action.handler));
+    cpu.set_register(Register::THIRD_ARGUMENT, action.mask.word());
+    cpu.set_register(Register::FOURTH_ARGUMENT, action.flags.bits().cast_signed());
+}
+
+/// Asks for the action for a signal, or sets it (XSH sigaction).
+#[tactic(auto, unfolding(posix::specs::SignalCalls::sigaction, posix::specs::SignalCalls::give_signals))]
+fn sigaction(own: &mut Own) -> Result<(), Errno>
+    ensures { (r : Process) → Replies (sigaction_of (give_own own.old r)) (value_of result) own.old own.new }
+{
+    let Some(sig) = signal_in(own.cpu.register(Register::FIRST_ARGUMENT)) else {
+        return Err(Errno::EINVAL);
+    };
+    let old = own.signals.action(sig);
+    if is_question(own.cpu.register(Register::SECOND_ARGUMENT)) {
+        hold(own, &old);
+        return Ok(());
+    }
+    let Some(action) = action_in(own) else {
+        return Err(Errno::EINVAL);
+    };
+    match own.signals.set_action(sig, action) {
+        Ok(()) => {
+            hold(own, &old);
+            Ok(())
+        }
+        Err(errno) => Err(errno),
+    }
+}
+
+/// Changes the signal mask (XSH sigprocmask).
+#[tactic(auto, unfolding(posix::specs::SignalCalls::sigprocmask, posix::specs::SignalCalls::give_signals, posix::specs::Outcomes::written))]
+fn sigprocmask(own: &mut Own) -> Result<(), Errno>
+    ensures { (r : Process) → Replies (sigprocmask_of (give_own own.old r)) (value_of result) own.old own.new }
+{
+    let how = own.cpu.register(Register::FIRST_ARGUMENT);
+    let set = SigSet::from_word(own.cpu.register(Register::SECOND_ARGUMENT));
+    let old = own.signals.mask();
+    own.signals.set_mask(how, set)?;
+    own.cpu.set_register(Register::SECOND_ARGUMENT, old.word());
+    Ok(())
+}
+
+/// The set of pending signals (XSH sigpending).
+#[tactic(auto, unfolding(posix::specs::SignalCalls::sigpending, posix::specs::Outcomes::written))]
+fn sigpending(own: &mut Own) -> Result<(), Errno>
+    ensures { (r : Process) → Replies (sigpending_of (give_own own.old r)) (value_of result) own.old own.new }
+{
+    own.cpu
+        .set_register(Register::FIRST_ARGUMENT, own.signals.pending().word());
+    Ok(())
+}
+
+/// What a call of a process, with this of its own, gives, that changes the process alone.
+#[tactic(auto, unfolding(posix::specs::Attempts::attempt, posix::specs::SignalCalls::give_credentials))]
+fn reply(own: &mut Own, pid: Pid, call: Call) -> i64
+    requires { is_own call ≡ true }
+    ensures { (r : Process) → RepliesTo (with_own pid own.old r) call result own.old own.new }
+{
+    let argument = own.cpu.register(Register::FIRST_ARGUMENT);
+    match call {
+        Call::Getpid => i64::from(pid.number()),
+        Call::Getuid => i64::from(own.creds.user().real.number()),
+        Call::Geteuid => i64::from(own.creds.user().effective.number()),
+        Call::Getgid => i64::from(own.creds.group().real.number()),
+        Call::Getegid => i64::from(own.creds.group().effective.number()),
+        Call::Setuid => word_of(own.creds.setuid(argument)),
+        Call::Seteuid => word_of(own.creds.seteuid(argument)),
+        Call::Setgid => word_of(own.creds.setgid(argument)),
+        Call::Setegid => word_of(own.creds.setegid(argument)),
+        Call::Sigaction => word_of(sigaction(own)),
+        Call::Sigprocmask => word_of(sigprocmask(own)),
+        Call::Sigpending => word_of(sigpending(own)),
+        _ => unreachable!(),
+    }
+}
+
+/// A call of a process, with this of its own, that changes the process alone.
+pub fn own_call(own: &mut Own, pid: Pid, call: Call, entries: &mut Entries) -> Option<Blocked>
+    requires own { is_own call ≡ true }
+    requires room { length entries.old.items ≤ 3 }
+    ensures done { result ≡ None }
+    ensures answers { (r : Process) → Answers (with_own pid own.old r) call own.old own.new entries.old.items entries.new.items }
+{
+    let value = reply(own, pid, call);
+    answer(own, pid, call, value, entries);
+    None
+}

@@ -1,0 +1,114 @@
+//! Waits for children (XSH waitpid).
+
+ghost use Rattle.std.specs.Prelude.{◌≡◌, ◌≤◌, ◌++◌, ◌∷◌, [], length, pos, IsSome, IfSome, Some, None, is_some};
+ghost use Rattle.posix.specs.declared.entry.Entry.TheVariants.{Reported};
+ghost use Rattle.posix.specs.Processes.{Process};
+ghost use Rattle.posix.specs.States.{process};
+ghost use Rattle.posix.specs.Regular.{IsPlaced, IsRegular};
+ghost use Rattle.posix.specs.Outcomes.{finish};
+ghost use Rattle.posix.specs.Waits.{wait as waiting, are_known, options_in};
+ghost use Rattle.posix.specs.Settle.{is_block};
+ghost use Rattle.calls.specs.Outcomes.{Comes, process_like};
+
+use crate::attempts::{gives, refuse};
+use crate::entries::Entries;
+use bitflags::Flags;
+use life::{Caller, Machine};
+use posix::{Blocked, Call, Entry, Errno, Pid, Report, Status, WaitOptions};
+use proctable::Kin;
+
+/// The options of a wait; none where a bit in r2 is unknown.
+fn options_of(me: &Caller) -> Option<WaitOptions>
+    ensures known { is_some result ≡ are_known (options_in me.now.r2) }
+    ensures value { IfSome result (λ options. options.0 ≡ options_in me.now.r2) }
+{
+    let bits = me.r2;
+    WaitOptions::from_bits(bits.cast_unsigned())
+}
+
+/// The wait of a process that is there reports a child.
+fn report<K: Kin>(
+    machine: &mut Machine<K>,
+    pid: Pid,
+    child: Pid,
+    status: Status,
+    entries: &mut Entries,
+) -> Option<Blocked>
+    requires there { IsSome (process machine.old.state pid) }
+    requires room { length entries.old.items ≤ 3 }
+    ensures done { result ≡ None }
+    ensures state { machine.new.state ≡ finish machine.old.state pid ((0, pos child) ∷ (1, pos status) ∷ []) }
+    ensures shown { entries.new.items ≡ entries.old.items ++ Reported pid child status ∷ [] }
+{
+    machine.own(pid).finish_wait(child, status);
+    entries.push(Entry::Reported { pid, child, status });
+    None
+}
+
+/// Waits for a child, as a caller that is there and no zombie.
+#[tactic(auto, unfolding(posix::specs::Waits::wait))]
+fn wait_as<K: Kin>(machine: &mut Machine<K>, me: &Caller, entries: &mut Entries) -> Option<Blocked>
+    requires regular { IsRegular machine.old.state }
+    requires placed { IsPlaced machine.old.state.processes me.now.pid }
+    requires room { length entries.old.items ≤ 1 }
+    ensures { Comes machine.old.state (waiting machine.old.state (process_like me.now)) result entries.old.items entries.new.items machine.new.state }
+{
+    let Some(options) = options_of(me) else {
+        return refuse(machine, me.pid, Call::Waitpid, Errno::EINVAL, entries);
+    };
+    match machine.wait_attempt(me.pid, me.group, me.r1, options) {
+        Report::NoChild => refuse(machine, me.pid, Call::Waitpid, Errno::ECHILD, entries),
+        Report::Nothing => {
+            if options.contains(WaitOptions::WNOHANG) {
+                gives(machine, me.pid, Call::Waitpid, 0, entries)
+            } else {
+                Some(Blocked::Waitpid)
+            }
+        }
+        Report::End(child, status) => {
+            machine.collect(child);
+            report(machine, me.pid, child, status, entries)
+        }
+        Report::Change(child, status) => {
+            machine.tell_news(child);
+            report(machine, me.pid, child, status, entries)
+        }
+    }
+}
+
+/// Waits for a child.
+#[tactic(auto, unfolding(posix::specs::Waits::wait))]
+pub fn wait<K: Kin>(machine: &mut Machine<K>, pid: Pid, entries: &mut Entries) -> Option<Blocked>
+    requires placed { IsPlaced machine.old.state.processes pid }
+    requires room { length entries.old.items ≤ 1 }
+    ensures { (me : Process) → process machine.old.state pid ≡ Some me → Comes machine.old.state (waiting machine.old.state me) result entries.old.items entries.new.items machine.new.state }
+{
+    let me = machine.caller(pid);
+    wait_as(machine, &me, entries)
+}
+
+/// Whether the wait of a caller that is there would have to wait.
+#[tactic(auto, unfolding(posix::specs::Waits::wait))]
+fn would_wait<K: Kin>(machine: &mut Machine<K>, me: &Caller) -> bool
+    requires { IsSome (process machine.old.state me.now.pid) }
+    ensures value { result ≡ is_block (waiting machine.old.state (process_like me.now)) }
+    ensures same { machine.new.state ≡ machine.old.state }
+{
+    let Some(options) = options_of(me) else {
+        return false;
+    };
+    match machine.wait_attempt(me.pid, me.group, me.r1, options) {
+        Report::Nothing => !options.contains(WaitOptions::WNOHANG),
+        _ => false,
+    }
+}
+
+/// Whether the wait of a process that is there would have to wait. Nothing changes.
+pub fn has_to_wait<K: Kin>(machine: &mut Machine<K>, pid: Pid) -> bool
+    requires { IsSome (process machine.old.state pid) }
+    ensures value { (me : Process) → process machine.old.state pid ≡ Some me → result ≡ is_block (waiting machine.old.state me) }
+    ensures same { machine.new.state ≡ machine.old.state }
+{
+    let me = machine.caller(pid);
+    would_wait(machine, &me)
+}
