@@ -6,6 +6,8 @@ use Rattle.posix.specs.declared.call.Call.{Call}
 use Rattle.posix.specs.declared.call.Call.TheVariants.{Sigaction, Sigprocmask, Sigpending}
 use Rattle.posix.specs.declared.errno.Errno.{Errno}
 use Rattle.posix.specs.declared.errno.Errno.TheVariants.{EINVAL}
+use Rattle.posix.specs.declared.how.How.{How}
+use Rattle.posix.specs.declared.how.How.TheVariants as how
 use Rattle.posix.specs.declared.process.Action.{Action}
 use Rattle.posix.specs.declared.process.Carried.{Carried}
 use Rattle.posix.specs.declared.process.Handler.{Handler}
@@ -82,13 +84,24 @@ sigaction s me = sigaction_of s me (signal_in (argument me 1))
 
 -- ---- the mask
 
-abbrev pub sigprocmask_with : State → Process → Result Signals Errno → Attempted
-sigprocmask_with s me (Ok g) = gives (write (change s me.pid (give_signals g)) me.pid 2 (word_of me.signals.mask)) me.pid Sigprocmask (pos 0)
-sigprocmask_with s me (Err why) = refused s me.pid Sigprocmask why
+-- what is done with a set, as a register: SIG_BLOCK 0, SIG_UNBLOCK 1, SIG_SETMASK 2
+abbrev pub how_in : ℤ → Option How
+how_in (pos zero) = Some how.Block
+how_in (pos (suc zero)) = Some how.Unblock
+how_in (pos (suc (suc zero))) = Some how.Set
+how_in (pos (suc (suc (suc n)))) = None
+how_in (negsuc n) = None
 
--- what is done is in r1, the set in r2, and the call gives the old mask in r2
+-- the set is in r2, and the call gives the old mask there
+abbrev pub sigprocmask_with : State → Process → Option How → Attempted
+sigprocmask_with s me None = refused s me.pid Sigprocmask EINVAL
+sigprocmask_with s me (Some what) =
+    let g = set_mask what (set_in (argument me 2)) me.signals in
+    gives (write (change s me.pid (give_signals g)) me.pid 2 (word_of me.signals.mask)) me.pid Sigprocmask (pos 0)
+
+-- what is done is in r1
 unfoldable pub sigprocmask : State → Process → Attempted
-sigprocmask s me = sigprocmask_with s me (set_mask (argument me 1) (set_in (argument me 2)) me.signals)
+sigprocmask s me = sigprocmask_with s me (how_in (argument me 1))
 
 -- ---- what is pending
 
