@@ -14,6 +14,7 @@ use Rattle.posix.specs.declared.process.Report.TheVariants as found
 use Rattle.posix.specs.Processes.{Process, argument}
 use Rattle.posix.specs.States.{State, process}
 use Rattle.posix.specs.Outcomes as outcome
+use Rattle.posix.specs.Targets.{target_in}
 use Rattle.posix.specs.Ends.{end_process}
 use Rattle.posix.specs.Sends.{kill, sending, targets, permitted, sent, sent_among}
 use Rattle.posix.specs.Waits.{wait, wait_with, gives_report, report, options_in, are_known, has_option, WNOHANG}
@@ -91,20 +92,20 @@ end_entries s r status false e = rw e refl
 -- a wait with an unknown option
 pub wait_unknown : (s : State) (me : Process) → are_known (options_in (argument me 2)) ≡ false → wait s me ≡ outcome.refused s me.pid Waitpid EINVAL
 unfolding wait
-wait_unknown s me e = ap (λ b. cond b (wait_with s me.pid (options_in (argument me 2)) (report s.processes me.pid me.group (argument me 1) (options_in (argument me 2)))) (outcome.refused s me.pid Waitpid EINVAL)) e
+wait_unknown s me e = ap (λ b. cond b (wait_with s me.pid (options_in (argument me 2)) (report s.processes me.pid me.group (target_in (argument me 1)) (options_in (argument me 2)))) (outcome.refused s me.pid Waitpid EINVAL)) e
 
 -- a wait that finds o
 pub wait_finds : (s : State) (me : Process) (options : ℕ) (o : Report) → are_known (options_in (argument me 2)) ≡ true → options ≡ options_in (argument me 2)
-    → o ≡ report s.processes me.pid me.group (argument me 1) options → wait s me ≡ wait_with s me.pid options o
+    → o ≡ report s.processes me.pid me.group (target_in (argument me 1)) options → wait s me ≡ wait_with s me.pid options o
 unfolding wait
 wait_finds s me options o known same finds =
-    ap (λ b. cond b (wait_with s me.pid (options_in (argument me 2)) (report s.processes me.pid me.group (argument me 1) (options_in (argument me 2)))) (outcome.refused s me.pid Waitpid EINVAL)) known
-    ∙ ap (λ n. wait_with s me.pid n (report s.processes me.pid me.group (argument me 1) n)) (sym same)
+    ap (λ b. cond b (wait_with s me.pid (options_in (argument me 2)) (report s.processes me.pid me.group (target_in (argument me 1)) (options_in (argument me 2)))) (outcome.refused s me.pid Waitpid EINVAL)) known
+    ∙ ap (λ n. wait_with s me.pid n (report s.processes me.pid me.group (target_in (argument me 1)) n)) (sym same)
     ∙ ap (wait_with s me.pid options) (sym finds)
 
 -- a wait that finds nothing, by whether it hangs
 pub wait_nothing : (s : State) (me : Process) (options : ℕ) (b : Bool) → are_known (options_in (argument me 2)) ≡ true → options ≡ options_in (argument me 2)
-    → found.Nothing ≡ report s.processes me.pid me.group (argument me 1) options → has_option options WNOHANG ≡ b
+    → found.Nothing ≡ report s.processes me.pid me.group (target_in (argument me 1)) options → has_option options WNOHANG ≡ b
     → wait s me ≡ cond b (outcome.gives s me.pid Waitpid (pos 0)) (outcome.Block blocked.Waitpid)
 wait_nothing s me options b known same finds at_once =
     wait_finds s me options found.Nothing known same finds ∙ ap (λ b. cond b (outcome.gives s me.pid Waitpid (pos 0)) (outcome.Block blocked.Waitpid)) at_once

@@ -7,6 +7,7 @@ use Rattle.posix.specs.declared.process.Life.{Life}
 use Rattle.posix.specs.declared.process.Life.TheVariants.{Running, Stopped}
 use Rattle.posix.specs.declared.process.PendingSignal.{PendingSignal}
 use Rattle.posix.specs.declared.process.Sending.{Sending}
+use Rattle.posix.specs.declared.target.Target.{Target}
 use Rattle.posix.specs.declared.process.Sending.TheVariants as found
 use Rattle.posix.specs.Signals.{KILL}
 use Rattle.posix.specs.Processes.{Process, Signals, is_running, is_zombie}
@@ -76,7 +77,7 @@ unfolding permitted
 sent_found me s [] rs w e ne = nobody_permitted me s [] rs refl
 sent_found me s (q ∷ qs) rs w e ne = sent_permitted me s (q ∷ qs) rs w e ne
 
-pub sent_nobody : (me : Process) (choice : ℤ) (s : Option ℕ) (rs : List Process) (w : Sending) → sending me choice s rs ≡ w → w ≢ found.Permitted → sent me choice s rs ≡ rs
+pub sent_nobody : (me : Process) (choice : Target) (s : Option ℕ) (rs : List Process) (w : Sending) → sending me choice s rs ≡ w → w ≢ found.Permitted → sent me choice s rs ≡ rs
 unfolding sending sent
 sent_nobody me choice s rs w e ne = sent_found me s (targets me choice rs) rs w e ne
 

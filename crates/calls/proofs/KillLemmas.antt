@@ -1,5 +1,5 @@
 -- A kill.
-use Rattle.std.proofs.Common.{◌≡◌, ◌≢◌, ℕ, Bool, true, false, cond, refl, ap, sym, ◌∙◌, subst, Option, Some, None, List, [], ◌∷◌, ℤ, Result}
+use Rattle.std.proofs.Common.{◌≡◌, ◌≢◌, ℕ, Bool, true, false, cond, refl, ap, sym, ◌∙◌, subst, Option, Some, None, List, [], ◌∷◌, ℤ, Result, Ok, Err}
 use Rattle.std.specs.Int.{cast_unsigned, w64}
 use Rattle.std.specs.Option.{IsSome}
 use Rattle.posix.specs.declared.call.Call.{Call}
@@ -9,6 +9,8 @@ use Rattle.posix.specs.declared.errno.Errno.TheVariants.{EINVAL}
 use Rattle.posix.specs.declared.process.PendingSignal.{PendingSignal}
 use Rattle.posix.specs.declared.process.Sending.{Sending}
 use Rattle.posix.specs.declared.process.Sending.TheVariants as found
+use Rattle.posix.specs.declared.target.Target.{Target}
+use Rattle.posix.specs.Targets.{target_in}
 use Rattle.posix.specs.Processes.{Process, Signals, argument}
 use Rattle.posix.specs.Tables.{lookup, changed, pids}
 use Rattle.posix.specs.States.{State, process, change}
@@ -42,15 +44,15 @@ some_sent_among me None qs rs q h = h
 some_sent_among me (Some n) qs rs q h = some_signalled (sent_by me.pid n) (pids (permitted me (Some n) qs)) q rs h
 
 -- after a signal is sent
-some_sent : (me : Process) (choice : ℤ) (s : Option ℕ) (rs : List Process) (q : ℕ) → IsSome (lookup q rs) → IsSome (lookup q (sent me choice s rs))
+some_sent : (me : Process) (choice : Target) (s : Option ℕ) (rs : List Process) (q : ℕ) → IsSome (lookup q rs) → IsSome (lookup q (sent me choice s rs))
 unfolding sent
 some_sent me choice s rs q h = some_sent_among me s _ rs q h
 
-abbrev pub sent_in : State → Process → ℤ → Option ℕ → State
+abbrev pub sent_in : State → Process → Target → Option ℕ → State
 sent_in s me choice sig = record s { processes = sent me choice sig s.processes }
 
 -- the sender is there afterwards
-pub there_sent : (s t u : State) (p : ℕ) (choice : ℤ) (sig : Option ℕ) → t ≡ s → IsSome (process s p)
+pub there_sent : (s t u : State) (p : ℕ) (choice : Target) (sig : Option ℕ) → t ≡ s → IsSome (process s p)
     → ((me : Process) → process t p ≡ Some me → u ≡ sent_in t me choice sig) → IsSome (process u p)
 there_sent s t u p choice sig same h send =
     let here = there_same s t p same h in
@@ -60,16 +62,16 @@ there_sent s t u p choice sig same h send =
 -- ---- a kill
 
 -- a kill that names no signal
-pub kill_unknown : (s : State) (me : Process) → signal_or_none (argument me 2) ≡ None → kill s me ≡ outcome.refused s me.pid Kill EINVAL
+pub kill_unknown : (s : State) (me : Process) (why : Errno) → signal_or_none (argument me 2) ≡ Err why → kill s me ≡ outcome.refused s me.pid Kill why
 unfolding kill
-kill_unknown s me none = ap (kill_with s me) none
+kill_unknown s me why none = ap (kill_with s me (target_in (argument me 1))) none
 
 -- a kill that finds w
-pub kill_finds : (s : State) (me : Process) (sig : Option ℕ) (w : Sending) → signal_or_none (argument me 2) ≡ Some sig → sending me (argument me 1) sig s.processes ≡ w
-    → kill s me ≡ send_with s me (argument me 1) sig w
+pub kill_finds : (s : State) (me : Process) (sig : Option ℕ) (w : Sending) → signal_or_none (argument me 2) ≡ Ok sig → sending me (target_in (argument me 1)) sig s.processes ≡ w
+    → kill s me ≡ send_with s me (target_in (argument me 1)) sig w
 unfolding kill
-kill_finds s me sig w some finds = ap (kill_with s me) some ∙ ap (send_with s me (argument me 1) sig) finds
+kill_finds s me sig w some finds = ap (kill_with s me (target_in (argument me 1))) some ∙ ap (send_with s me (target_in (argument me 1)) sig) finds
 
 -- a kill that is refused changes nothing
-pub sent_same : (s u : State) (me : Process) (z : ℤ) (sig : Option ℕ) (w : Sending) → u ≡ sent_in s me z sig → sending me z sig s.processes ≡ w → w ≢ found.Permitted → u ≡ s
+pub sent_same : (s u : State) (me : Process) (z : Target) (sig : Option ℕ) (w : Sending) → u ≡ sent_in s me z sig → sending me z sig s.processes ≡ w → w ≢ found.Permitted → u ≡ s
 sent_same s u me z sig w e finds ne = e ∙ ap (λ (rs : List Process). record s { processes = rs }) (sent_nobody me z sig s.processes w finds ne)

@@ -7,6 +7,7 @@ use Rattle.posix.specs.declared.process.Life.TheVariants.{Running, Stopped, Zomb
 use Rattle.posix.specs.declared.process.News.{News}
 use Rattle.posix.specs.declared.process.News.TheVariants as news
 use Rattle.posix.specs.declared.process.Report.{Report}
+use Rattle.posix.specs.declared.target.Target.{Target}
 use Rattle.posix.specs.declared.process.Report.TheVariants as found
 use Rattle.posix.specs.Statuses.{stopped, continued}
 use Rattle.posix.specs.Processes.{Process, is_zombie, argument}
@@ -117,7 +118,7 @@ pub record IsChild (rs : List Process) (caller child : ℕ) (ended : Bool) : Typ
   pub dead : is_zombie what.life ≡ ended
 
 -- what is reported is reported of a child, and an end of a zombie
-pub reported : (rs : List Process) → IsRising rs → (caller group : ℕ) (choice : ℤ) (options : ℕ) (o : Report) (child : ℕ)
+pub reported : (rs : List Process) → IsRising rs → (caller group : ℕ) (choice : Target) (options : ℕ) (o : Report) (child : ℕ)
     → report rs caller group choice options ≡ o → child_named o ≡ Some child → IsChild rs caller child (is_end o)
 unfolding report children_in
 reported rs up caller group choice options o child e named =

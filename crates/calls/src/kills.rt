@@ -9,17 +9,20 @@ use crate::attempts::{gives, refuse};
 use crate::entries::Entries;
 use crate::replies::signal_in;
 use life::{Caller, Machine};
-use posix::{Blocked, Call, Errno, Pid, Sending, Sig};
+use posix::{Blocked, Call, Errno, Pid, Sending, Sig, Target};
 use proctable::Kin;
 
-/// The signal that a register names, or `Some(None)` for signal 0; none where it is neither.
-fn signal_or_none(number: i64) -> Option<Option<Sig>>
+/// The signal that a register names; none for signal 0. EINVAL where it is neither.
+fn signal_or_none(number: i64) -> Result<Option<Sig>, Errno>
     ensures { result ≡ signal_number_or_none number }
 {
     if number == 0 {
-        return Some(None);
+        return Ok(None);
     }
-    Some(Some(signal_in(number)?))
+    match signal_in(number) {
+        Some(sig) => Ok(Some(sig)),
+        None => Err(Errno::EINVAL),
+    }
 }
 
 /// Sends a signal, as a caller that is there.
@@ -29,10 +32,11 @@ fn kill_as<K: Kin>(machine: &mut Machine<K>, me: &Caller, entries: &mut Entries)
     requires room { length entries.old.items ≤ 1 }
     ensures { Comes machine.old.state (killing machine.old.state (process_like me.now)) result entries.old.items entries.new.items machine.new.state }
 {
-    let Some(sig) = signal_or_none(me.r2) else {
-        return refuse(machine, me.pid, Call::Kill, Errno::EINVAL, entries);
+    let sig = match signal_or_none(me.r2) {
+        Ok(sig) => sig,
+        Err(errno) => return refuse(machine, me.pid, Call::Kill, errno, entries),
     };
-    match machine.send(me.pid, me.r1, sig) {
+    match machine.send(me.pid, Target::from_word(me.r1), sig) {
         Sending::NobodyFound => refuse(machine, me.pid, Call::Kill, Errno::ESRCH, entries),
         Sending::NobodyPermitted => refuse(machine, me.pid, Call::Kill, Errno::EPERM, entries),
         Sending::Permitted => gives(machine, me.pid, Call::Kill, 0, entries),

@@ -12,7 +12,9 @@ ghost use Rattle.calls.specs.Outcomes.{Replies, RepliesTo, Answers, is_own, valu
 
 use crate::entries::Entries;
 use bitflags::Flags;
-use posix::{Action, Blocked, Call, Entry, Errno, Handler, Pid, Register, SaFlags, Sig, SigSet};
+use posix::{
+    Action, Blocked, Call, Entry, Errno, Handler, How, Pid, Register, SaFlags, Sig, SigSet,
+};
 use proctable::Own;
 
 // ---- results
@@ -149,10 +151,12 @@ fn sigaction(own: &mut Own) -> Result<(), Errno>
 fn sigprocmask(own: &mut Own) -> Result<(), Errno>
     ensures { (r : Process) → Replies (sigprocmask_of (give_own own.old r)) (value_of result) own.old own.new }
 {
-    let how = own.cpu.register(Register::FIRST_ARGUMENT);
+    let Some(how) = How::from_word(own.cpu.register(Register::FIRST_ARGUMENT)) else {
+        return Err(Errno::EINVAL);
+    };
     let set = SigSet::from_word(own.cpu.register(Register::SECOND_ARGUMENT));
     let old = own.signals.mask();
-    own.signals.set_mask(how, set)?;
+    own.signals.set_mask(how, set);
     own.cpu.set_register(Register::SECOND_ARGUMENT, old.word());
     Ok(())
 }

@@ -14,7 +14,7 @@ use crate::attempts::{gives, refuse};
 use crate::entries::Entries;
 use bitflags::Flags;
 use life::{Caller, Machine};
-use posix::{Blocked, Call, Entry, Errno, Pid, Report, Status, WaitOptions};
+use posix::{Blocked, Call, Entry, Errno, Pid, Report, Status, Target, WaitOptions};
 use proctable::Kin;
 
 /// The options of a wait; none where a bit in r2 is unknown.
@@ -56,7 +56,7 @@ fn wait_as<K: Kin>(machine: &mut Machine<K>, me: &Caller, entries: &mut Entries)
     let Some(options) = options_of(me) else {
         return refuse(machine, me.pid, Call::Waitpid, Errno::EINVAL, entries);
     };
-    match machine.wait_attempt(me.pid, me.group, me.r1, options) {
+    match machine.wait_attempt(me.pid, me.group, Target::from_word(me.r1), options) {
         Report::NoChild => refuse(machine, me.pid, Call::Waitpid, Errno::ECHILD, entries),
         Report::Nothing => {
             if options.contains(WaitOptions::WNOHANG) {
@@ -97,7 +97,7 @@ fn would_wait<K: Kin>(machine: &mut Machine<K>, me: &Caller) -> bool
     let Some(options) = options_of(me) else {
         return false;
     };
-    match machine.wait_attempt(me.pid, me.group, me.r1, options) {
+    match machine.wait_attempt(me.pid, me.group, Target::from_word(me.r1), options) {
         Report::Nothing => !options.contains(WaitOptions::WNOHANG),
         _ => false,
     }

@@ -6,7 +6,7 @@ ghost use Rattle.posix.specs.Tables.{lookup, children_in};
 use creds::Creds;
 use life::Machine;
 use pidalloc::{PidTable, Role};
-use posix::{Life, News, Pid, Register, Report, Status, WaitOptions};
+use posix::{Life, News, Pid, Register, Report, Status, Target, WaitOptions};
 use proctable::{Body, Facts, Kin, ScanTable};
 use sched::Order;
 use std::alloc::{AllocError, Global};
@@ -150,7 +150,7 @@ fn a_machine_has_births_and_ends(rt: HostRuntime) -> Result<(), Fail> {
     assert!(rt; machine.facts(child).is_some());
     machine.end(child, Status::exited(5));
     assert!(rt; machine.facts(Pid::INIT).is_some());
-    let report = machine.wait_attempt(Pid::INIT, Pid::INIT, -1, WaitOptions::WNOHANG);
+    let report = machine.wait_attempt(Pid::INIT, Pid::INIT, Target::All, WaitOptions::WNOHANG);
     assert_eq!(rt; report, Report::End(child, Status::exited(5)));
     assert_eq!(rt; machine.births(), 2);
     Ok(())

@@ -1,8 +1,7 @@
 -- What a refused call changes.
-use Rattle.std.proofs.Common.{◌≡◌, ◌≢◌, ℕ, zero, suc, ◌+◌, Bool, true, false, cond, not, ◌&&◌, refl, ap, sym, ◌∙◌, arith, subst, List, [], ◌∷◌, ◌++◌, append-nil, map, filter, find, Option, Some, None, option_and_then, option_map, ◌==◌, Contains, pos, negsuc, ℤ, Result, Ok, Err}
+use Rattle.std.proofs.Common.{◌≡◌, ◌≢◌, ℕ, zero, suc, Bool, true, false, cond, refl, ap, sym, ◌∙◌, arith, subst, List, [], ◌∷◌, ◌++◌, Option, Some, None, option_and_then, ◌==◌, Contains, pos, negsuc, ℤ, Result, Ok, Err}
 use Rattle.std.specs.Int.{cast_unsigned, w64}
 use Rattle.std.specs.List.{AllByRecursion}
-use Rattle.std.proofs.lemmas.Bool.{eqb-true}
 use Rattle.posix.specs.declared.call.Call.{Call}
 use Rattle.posix.specs.declared.call.Call.TheVariants.{Exit, Fork, Waitpid, Pause, SchedYield, Getpid, Getppid, Getuid, Geteuid, Getgid, Getegid, Setuid, Seteuid, Setgid, Setegid, Kill, Sigaction, Sigprocmask, Sigpending, Sigsuspend, Sigreturn}
 use Rattle.posix.specs.declared.instr.Trap.{Trap}
@@ -13,6 +12,7 @@ use Rattle.posix.specs.declared.errno.Errno.{Errno}
 use Rattle.posix.specs.declared.errno.Errno.TheVariants.{EPERM, ENOENT, ESRCH, EINTR, EIO, ECHILD, EAGAIN, EACCES, EFAULT, EINVAL, ENOTTY}
 use Rattle.posix.specs.declared.entry.Entry.{Entry}
 use Rattle.posix.specs.declared.entry.Entry.TheVariants.{Noted, Called, Reported, NoMemory, Handled, Discarded, Returned, Ended, Halted}
+use Rattle.posix.specs.declared.how.How.{How}
 use Rattle.posix.specs.declared.sig.DefaultAction.{DefaultAction}
 use Rattle.posix.specs.declared.sig.DefaultAction.TheVariants as default
 use Rattle.posix.specs.declared.process.Action.{Action}
@@ -26,32 +26,32 @@ use Rattle.posix.specs.declared.process.Report.{Report}
 use Rattle.posix.specs.declared.process.Report.TheVariants as found
 use Rattle.posix.specs.declared.process.Sending.{Sending}
 use Rattle.posix.specs.declared.process.Sending.TheVariants as sends
+use Rattle.posix.specs.declared.target.Target.{Target}
 use Rattle.posix.specs.Signals.{KILL, SEGV, default_action}
-use Rattle.posix.specs.SignalSets.{has, set_in}
+use Rattle.posix.specs.SignalSets.{has}
 use Rattle.posix.specs.Statuses.{exited, killed}
 use Rattle.posix.specs.Processes.{Process, Signals, Credentials, Cpu, argument}
-use Rattle.posix.specs.Tables.{IsRising, lookup, at, changed, children_in, pids}
+use Rattle.posix.specs.Tables.{IsRising, lookup}
 use Rattle.posix.specs.States.{State, is_in, change, current, next_pid, process}
 use Rattle.posix.specs.Execute.{exec_one}
 use Rattle.posix.specs.Outcomes.{Outcome, Attempted, Done, Block, finish, finished, refusal, refused, Reply, answers}
 use Rattle.posix.specs.Credentials.{setuid, seteuid, setgid, setegid}
 use Rattle.posix.specs.Generation.{action, is_pending}
 use Rattle.posix.specs.Choice.{chosen, carried_by, from_kernel}
-use Rattle.posix.specs.Handlers.{handles, is_full, is_interrupted, newest_frame, set_action, set_mask}
+use Rattle.posix.specs.Handlers.{handles, is_full, is_interrupted, newest_frame, set_action}
 use Rattle.posix.specs.Births.{fork_as}
 use Rattle.posix.specs.Ends.{end_process}
-use Rattle.posix.specs.Waits.{wait, wait_with, report, is_named, report_of, report_life, report_found, report_among, reports, is_something, options_in, are_known, has_option}
+use Rattle.posix.specs.Targets.{target_in}
+use Rattle.posix.specs.Waits.{wait, wait_with, report, options_in, are_known, has_option}
 use Rattle.posix.specs.Delivery.{call_of, interruption, handle, act_by_default, act_on, take_out, deliver, fault_with, fault, return_to, return_from_handler}
 use Rattle.posix.specs.Sends.{sending, send_with, signal_in, signal_or_none, kill_with, kill}
-use Rattle.posix.specs.SignalCalls.{set_credentials, is_question, are_flags, action_in, sigaction_with, sigaction_of, sigaction, sigprocmask_with, sigprocmask, sigpending}
+use Rattle.posix.specs.SignalCalls.{set_credentials, is_question, are_flags, action_in, sigaction_with, sigaction_of, sigaction, how_in, sigprocmask_with, sigprocmask, sigpending}
 use Rattle.posix.specs.Attempts.{attempt, attempt_again}
-use Rattle.posix.specs.Settle.{settle, wakes, can_act}
+use Rattle.posix.specs.Settle.{settle}
 use Rattle.posix.specs.Step.{IsStep, next, happens, step, act, act_in, after_trap, begin_call, deliver_or, go_on, code_of}
 use Rattle.posix.specs.Settle.{NoWakeIsLost}
 use Rattle.posix.proofs.TableLemmas.{pid_looked}
-use Rattle.posix.proofs.MapLemmas.{children_map}
 use Rattle.posix.proofs.OrderLemmas.{first_in}
-use Rattle.posix.proofs.SettleLemmas.{ReportsSame, can_act_same, all_looked}
 use Rattle.posix.proofs.WakeLemmas.{next_awake, next_entries, next_nothing}
 use Rattle.posix.proofs.UnseenLemmas.{Unseen, settle_unseen}
 
@@ -125,7 +125,7 @@ explained_wait : (C : ℕ → Type 0) (s : State) (me : Process) → ExplainedIf
 unfolding wait
 explained_wait C s me =
     explained_if C s me.pid (are_known (options_in (argument me 2))) _ _
-    (explained_with C s me.pid (options_in (argument me 2)) (report s.processes me.pid me.group (argument me 1) (options_in (argument me 2))))
+    (explained_with C s me.pid (options_in (argument me 2)) (report s.processes me.pid me.group (target_in (argument me 1)) (options_in (argument me 2))))
     (explained_refused C s me.pid Waitpid EINVAL)
 
 -- a fork
@@ -149,20 +149,20 @@ explained_ids (Ok c) = λ C s p call. (tt, tt)
 explained_ids (Err why) = λ C s p call. explained_refused C s p call why
 
 -- a signal that is sent, by whom it finds
-explained_send : (C : ℕ → Type 0) (s : State) (me : Process) (choice : ℤ) (sig : Option ℕ) (what : Sending) → ExplainedIf C s me.pid (send_with s me choice sig what)
-explained_send C s me choice sig sends.NobodyFound = explained_refused C s me.pid Kill ESRCH
-explained_send C s me choice sig sends.NobodyPermitted = explained_refused C s me.pid Kill EPERM
-explained_send C s me choice sig sends.Permitted = (tt, tt)
+explained_send : (C : ℕ → Type 0) (s : State) (me : Process) (target : Target) (sig : Option ℕ) (what : Sending) → ExplainedIf C s me.pid (send_with s me target sig what)
+explained_send C s me target sig sends.NobodyFound = explained_refused C s me.pid Kill ESRCH
+explained_send C s me target sig sends.NobodyPermitted = explained_refused C s me.pid Kill EPERM
+explained_send C s me target sig sends.Permitted = (tt, tt)
 
 -- a signal that is sent, by what it is
-explained_kill_with : (C : ℕ → Type 0) (s : State) (me : Process) (sig : Option (Option ℕ)) → ExplainedIf C s me.pid (kill_with s me sig)
-explained_kill_with C s me None = explained_refused C s me.pid Kill EINVAL
-explained_kill_with C s me (Some sig) = explained_send C s me (argument me 1) sig (sending me (argument me 1) sig s.processes)
+explained_kill_with : (C : ℕ → Type 0) (s : State) (me : Process) (target : Target) (sig : Result (Option ℕ) Errno) → ExplainedIf C s me.pid (kill_with s me target sig)
+explained_kill_with C s me target (Ok sig) = explained_send C s me target sig (sending me target sig s.processes)
+explained_kill_with C s me target (Err why) = explained_refused C s me.pid Kill why
 
 -- a signal that is sent
 explained_kill : (C : ℕ → Type 0) (s : State) (me : Process) → ExplainedIf C s me.pid (kill s me)
 unfolding kill
-explained_kill C s me = explained_kill_with C s me (signal_or_none (argument me 2))
+explained_kill C s me = explained_kill_with C s me (target_in (argument me 1)) (signal_or_none (argument me 2))
 
 -- a new action, or a refusal
 explained_action_with : (old : Action) (g : Result Signals Errno) → IsExplained (sigaction_with old g)
@@ -183,14 +183,14 @@ unfolding sigaction
 explained_action me = explained_action_of me (signal_in (argument me 1))
 
 -- a new mask, or a refusal
-explained_mask_with : (old : ℕ) (g : Result Signals Errno) → IsExplained (sigprocmask_with old g)
-explained_mask_with old (Ok g) = λ C s p call. (tt, tt)
-explained_mask_with old (Err why) = λ C s p call. explained_refused C s p call why
+explained_mask_with : (me : Process) (what : Option How) → IsExplained (sigprocmask_with me what)
+explained_mask_with me None = λ C s p call. explained_refused C s p call EINVAL
+explained_mask_with me (Some what) = λ C s p call. (tt, tt)
 
 -- a question for the mask or a new one
 explained_mask : (me : Process) → IsExplained (sigprocmask me)
 unfolding sigprocmask
-explained_mask me = explained_mask_with me.signals.mask (set_mask (argument me 1) (set_in (argument me 2)) me.signals)
+explained_mask me = explained_mask_with me (how_in (argument me 1))
 
 -- a question for what is pending
 explained_pending : (me : Process) → IsExplained (sigpending me)

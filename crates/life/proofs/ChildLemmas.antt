@@ -1,7 +1,8 @@
 -- The walk of a wait over the children of its caller.
-use Rattle.std.proofs.Common.{◌≡◌, ◌<◌, ℕ, ℤ, refl, ap, sym, ◌∙◌, arith, List, length, Option, Some, None, option_map}
+use Rattle.std.proofs.Common.{◌≡◌, ◌<◌, ℕ, refl, ap, sym, ◌∙◌, arith, List, length, Option, Some, None, option_map}
 use Rattle.posix.specs.declared.process.Report.{Report}
 use Rattle.posix.specs.declared.process.Report.TheVariants as found
+use Rattle.posix.specs.declared.target.Target.{Target}
 use Rattle.posix.specs.Processes.{Process}
 use Rattle.posix.specs.Tables.{IsRising, lookup, children_in, first_pid, left_of, next_sibling}
 use Rattle.posix.specs.Waits.{report}
@@ -28,10 +29,10 @@ pub record IsAtChild (rs now : List Process) (p c : ℕ) (next : Option ℕ) : T
   pub same : now ≡ rs
 
 -- the facts of the child c were read, and o is what a look at them says
-pub record Says (now : List Process) (c group : ℕ) (choice : ℤ) (options : ℕ) (o : Report) : Type 0 where
+pub record Says (now : List Process) (c group : ℕ) (target : Target) (options : ℕ) (o : Report) : Type 0 where
   pub facts : Facts
   pub read : Some facts ≡ option_map facts_of (lookup c now)
-  pub said : (r : Process) → facts ≡ facts_of r → o ≡ look group choice options r
+  pub said : (r : Process) → facts ≡ facts_of r → o ≡ look group target options r
 
 child_here : (rs now : List Process) (p c : ℕ) (next : Option ℕ) → IsAtChild rs now p c next → AtChild rs p c
 child_here rs now p c next w = at_child rs w.rising p c (ap (λ (o : Option ℕ). first_pid (left_of o (children_in p rs))) (sym w.comes) ∙ w.here ∙ w.comes)
@@ -50,10 +51,10 @@ pub next_here : (rs now : List Process) (p c : ℕ) (next after : Option ℕ) �
 next_here rs now p c next after w e = rw e (child_here rs now p c next w).next
 
 -- what is left says what the child says, and then the others
-child_scan : (rs now : List Process) (p c : ℕ) (next after : Option ℕ) (group : ℕ) (choice : ℤ) (options : ℕ) (o so_far : Report) → IsAtChild rs now p c next → Says now c group choice options o → after ≡ next_sibling c rs
-    → scan group choice options so_far (left_of next (children_in p rs)) ≡ after_look o so_far (λ s. scan group choice options s (left_of after (children_in p rs)))
+child_scan : (rs now : List Process) (p c : ℕ) (next after : Option ℕ) (group : ℕ) (target : Target) (options : ℕ) (o so_far : Report) → IsAtChild rs now p c next → Says now c group target options o → after ≡ next_sibling c rs
+    → scan group target options so_far (left_of next (children_in p rs)) ≡ after_look o so_far (λ s. scan group target options s (left_of after (children_in p rs)))
 unfolding scan
-child_scan rs now p c next after group choice options o so_far w a e =
+child_scan rs now p c next after group target options o so_far w a e =
     let k = child_here rs now p c next w in
     let said = a.said k.what (facts_are _ k.what a.facts a.read (ap (lookup c) w.same ∙ k.found)) in
     rw (w.comes, e, k.left, said) refl
@@ -66,36 +67,36 @@ found_here (found.End p w) so_far rest h k = refl
 found_here (found.Change p w) so_far rest h k = refl
 
 -- all children were asked
-all_asked : (rs : List Process) (p group : ℕ) (z choice : ℤ) (options : ℕ) → z ≡ choice → scan group z options found.NoChild (children_in p rs) ≡ report rs p group choice options
+all_asked : (rs : List Process) (p group : ℕ) (target : Target) (options : ℕ) → scan group target options found.NoChild (children_in p rs) ≡ report rs p group target options
 unfolding report
-all_asked rs p group z choice options same = scan_is_report group z options (children_in p rs) ∙ ap (λ z. report rs p group z options) same
+all_asked rs p group target options = scan_is_report group target options (children_in p rs)
 
-pub reported_here : (rs now : List Process) (p c : ℕ) (next : Option ℕ) (group : ℕ) (z choice : ℤ) (options : ℕ) (o so_far : Report) → IsAtChild rs now p c next → Says now c group z options o → z ≡ choice
-    → scan group z options so_far (left_of next (children_in p rs)) ≡ scan group z options found.NoChild (children_in p rs) → (o ≡ found.NoChild → ⊥) → (o ≡ found.Nothing → ⊥) → o ≡ report rs p group choice options
-reported_here rs now p c next group z choice options o so_far w a same todo h k =
-    sym (found_here o so_far (λ s. scan group z options s (left_of (next_sibling c rs) (children_in p rs))) h k) ∙ sym (child_scan rs now p c next (next_sibling c rs) group z options o so_far w a refl) ∙ todo ∙ all_asked rs p group z choice options same
+pub reported_here : (rs now : List Process) (p c : ℕ) (next : Option ℕ) (group : ℕ) (target : Target) (options : ℕ) (o so_far : Report) → IsAtChild rs now p c next → Says now c group target options o
+    → scan group target options so_far (left_of next (children_in p rs)) ≡ scan group target options found.NoChild (children_in p rs) → (o ≡ found.NoChild → ⊥) → (o ≡ found.Nothing → ⊥) → o ≡ report rs p group target options
+reported_here rs now p c next group target options o so_far w a todo h k =
+    sym (found_here o so_far (λ s. scan group target options s (left_of (next_sibling c rs) (children_in p rs))) h k) ∙ sym (child_scan rs now p c next (next_sibling c rs) group target options o so_far w a refl) ∙ todo ∙ all_asked rs p group target options
 
-pub none_left : (rs : List Process) (p : ℕ) (next : Option ℕ) (group : ℕ) (z choice : ℤ) (options : ℕ) (so_far : Report) → next ≡ None → z ≡ choice
-    → scan group z options so_far (left_of next (children_in p rs)) ≡ scan group z options found.NoChild (children_in p rs) → so_far ≡ report rs p group choice options
+pub none_left : (rs : List Process) (p : ℕ) (next : Option ℕ) (group : ℕ) (target : Target) (options : ℕ) (so_far : Report) → next ≡ None
+    → scan group target options so_far (left_of next (children_in p rs)) ≡ scan group target options found.NoChild (children_in p rs) → so_far ≡ report rs p group target options
 unfolding scan
-none_left rs p next group z choice options so_far none same todo =
-    let left : scan group z options so_far (left_of next (children_in p rs)) ≡ so_far = rw none refl in
-    sym left ∙ todo ∙ all_asked rs p group z choice options same
+none_left rs p next group target options so_far none todo =
+    let left : scan group target options so_far (left_of next (children_in p rs)) ≡ so_far = rw none refl in
+    sym left ∙ todo ∙ all_asked rs p group target options
 
 -- the search goes on behind a child that isn't named
-pub unnamed_here : (rs now : List Process) (p c : ℕ) (next after : Option ℕ) (group : ℕ) (choice : ℤ) (options : ℕ) (o so_far later : Report) → IsAtChild rs now p c next → Says now c group choice options o → after ≡ next_sibling c rs
-    → o ≡ found.NoChild → later ≡ so_far → scan group choice options so_far (left_of next (children_in p rs)) ≡ scan group choice options found.NoChild (children_in p rs)
-    → scan group choice options later (left_of after (children_in p rs)) ≡ scan group choice options found.NoChild (children_in p rs)
-unnamed_here rs now p c next after group choice options o so_far later w a e none stays todo =
-    let rest = child_scan rs now p c next after group choice options o so_far w a e in
+pub unnamed_here : (rs now : List Process) (p c : ℕ) (next after : Option ℕ) (group : ℕ) (target : Target) (options : ℕ) (o so_far later : Report) → IsAtChild rs now p c next → Says now c group target options o → after ≡ next_sibling c rs
+    → o ≡ found.NoChild → later ≡ so_far → scan group target options so_far (left_of next (children_in p rs)) ≡ scan group target options found.NoChild (children_in p rs)
+    → scan group target options later (left_of after (children_in p rs)) ≡ scan group target options found.NoChild (children_in p rs)
+unnamed_here rs now p c next after group target options o so_far later w a e none stays todo =
+    let rest = child_scan rs now p c next after group target options o so_far w a e in
     let others = rw none at rest in
     rw stays (sym others ∙ todo)
 
 -- and behind one that has nothing to report
-pub nothing_here : (rs now : List Process) (p c : ℕ) (next after : Option ℕ) (group : ℕ) (choice : ℤ) (options : ℕ) (o so_far later : Report) → IsAtChild rs now p c next → Says now c group choice options o → after ≡ next_sibling c rs
-    → o ≡ found.Nothing → later ≡ found.Nothing → scan group choice options so_far (left_of next (children_in p rs)) ≡ scan group choice options found.NoChild (children_in p rs)
-    → scan group choice options later (left_of after (children_in p rs)) ≡ scan group choice options found.NoChild (children_in p rs)
-nothing_here rs now p c next after group choice options o so_far later w a e nothing is todo =
-    let rest = child_scan rs now p c next after group choice options o so_far w a e in
+pub nothing_here : (rs now : List Process) (p c : ℕ) (next after : Option ℕ) (group : ℕ) (target : Target) (options : ℕ) (o so_far later : Report) → IsAtChild rs now p c next → Says now c group target options o → after ≡ next_sibling c rs
+    → o ≡ found.Nothing → later ≡ found.Nothing → scan group target options so_far (left_of next (children_in p rs)) ≡ scan group target options found.NoChild (children_in p rs)
+    → scan group target options later (left_of after (children_in p rs)) ≡ scan group target options found.NoChild (children_in p rs)
+nothing_here rs now p c next after group target options o so_far later w a e nothing is todo =
+    let rest = child_scan rs now p c next after group target options o so_far w a e in
     let others = rw nothing at rest in
     rw is (sym others ∙ todo)

@@ -1,10 +1,8 @@
 -- To signal the processes one after another, from the least number on, is to send to all that are meant.
-use Rattle.std.proofs.Common.{◌≡◌, ℕ, zero, suc, ◌<◌, ◌≤◌, Bool, true, false, cond, refl, ap, sym, ◌∙◌, arith, subst, List, [], ◌∷◌, ◌++◌, append-nil, map, filter, find, Option, Some, None, option_map, ◌==◌, ◌-◌, ℤ, pos, negsuc, nat_abs, int_lt, Result, Ok, Err, nat_lt, nat_le, inl, inr}
+use Rattle.std.proofs.Common.{◌≡◌, ℕ, ◌<◌, ◌≤◌, Bool, true, false, cond, refl, ap, sym, ◌∙◌, arith, subst, List, [], ◌∷◌, ◌++◌, append-nil, map, filter, find, Option, Some, None, option_map, ◌==◌, ◌-◌, nat_lt, nat_le, inl, inr}
 use Rattle.std.specs.List.{AllByRecursion}
 use Rattle.std.specs.Option.{IfSome}
 use Rattle.std.specs.Ordering.{ord_max}
-use Rattle.std.specs.Result.{OkIff, result_ok}
-use Rattle.std.specs.Int.{FitsUnsignedBits}
 use Rattle.std.proofs.lemmas.List.{map-append}
 use Rattle.std.proofs.lemmas.List.Elements.{filter-append}
 use Rattle.std.proofs.lemmas.Bool.{eqb-true, eq-eqb, ne_eqb, ltb-true, ltb-false, cases_order}
@@ -13,25 +11,26 @@ use Rattle.posix.specs.declared.process.PendingSignal.{PendingSignal}
 use Rattle.posix.specs.declared.process.Sending.{Sending}
 use Rattle.posix.specs.declared.process.Sending.TheVariants as found
 use Rattle.posix.specs.contracts.process.SendingOrd.TheImpl as order
+use Rattle.posix.specs.declared.target.Target.{Target}
+use Rattle.posix.specs.declared.target.Target.TheVariants as whom
 use Rattle.posix.specs.Processes.{Process}
 use Rattle.posix.specs.Tables.{IsRising, has_pid, lookup, pids, at, changed, first_pid, above, next_above, left_of}
 use Rattle.posix.specs.Credentials.{may}
 use Rattle.posix.specs.Generation.{signalled, signalled_all}
-use Rattle.posix.specs.Sends.{is_target, targets, permitted, sending_permitted, sending_found, sending, sent_by, sent_among, sent}
+use Rattle.posix.specs.Sends.{is_target, targets, permitted, sending_permitted, sending_found, sending, sent_by, sent_among}
 use Rattle.posix.proofs.TableLemmas.{Above, above_less}
 use Rattle.posix.proofs.WalkLemmas.{above_all, head_above, left_of_head}
 use Rattle.posix.specs.States.{State}
-use Rattle.posix.proofs.RegularLemmas.{keeps_signalled}
-use Rattle.pidalloc.specs.Rows.{Pids}
-use Rattle.sched.specs.Places.{Places}
-use Rattle.life.specs.Machines.{IsSound}
-use Rattle.life.proofs.SoundLemmas.{sound_change}
 use Rattle.proctable.specs.declared.facts.Facts.{Facts}
 use Rattle.proctable.specs.Body.{facts_of}
 
 -- those with the number p: one, or none
 abbrev pub numbered : ℕ → List Process → List Process
 numbered p rs = filter (has_pid p) rs
+
+-- the state with these processes
+abbrev pub with_processes : State → List Process → State
+with_processes s rs = record s { processes = rs }
 
 -- ---- what is left
 
@@ -123,10 +122,10 @@ all_numbered p (x ∷ xs) = elim (x.pid == p) as (λ b. (x.pid == p) ≡ b → A
 ] refl
 
 -- those above p stay where a signal is sent to p
-above_sent : (me : Process) (choice : ℤ) (s : Option ℕ) (p : ℕ) (rs : List Process) → above p (sent_among me s (targets me choice (numbered p rs)) rs) ≡ above p rs
+above_sent : (me : Process) (target : Target) (s : Option ℕ) (p : ℕ) (rs : List Process) → above p (sent_among me s (targets me target (numbered p rs)) rs) ≡ above p rs
 unfolding sent_among targets permitted
-above_sent me choice None p rs = refl
-above_sent me choice (Some n) p rs = above_signalled_all p (sent_by me.pid n) _ rs (all_filter _ (may me (Some n)) _ (all_filter _ (is_target me choice) _ (all_numbered p rs)))
+above_sent me target None p rs = refl
+above_sent me target (Some n) p rs = above_signalled_all p (sent_by me.pid n) _ rs (all_filter _ (may me (Some n)) _ (all_filter _ (is_target me target) _ (all_numbered p rs)))
 
 -- ---- several, part by part
 
@@ -198,46 +197,46 @@ sending_append me s (x ∷ xs) (y ∷ ys) =
 -- ---- one step of the walk
 
 -- of those left from p on, the targets are p, if it is one, and the targets above
-targets_split : (me : Process) (choice : ℤ) (p : ℕ) (rs : List Process) → IsRising rs → targets me choice (left_of (Some p) rs) ≡ targets me choice (numbered p rs) ++ targets me choice (above p rs)
+targets_split : (me : Process) (target : Target) (p : ℕ) (rs : List Process) → IsRising rs → targets me target (left_of (Some p) rs) ≡ targets me target (numbered p rs) ++ targets me target (above p rs)
 unfolding targets
-targets_split me choice p rs up = ap (filter (is_target me choice)) (left_split p rs up) ∙ filter-append (is_target me choice) (numbered p rs) (above p rs)
+targets_split me target p rs up = ap (filter (is_target me target)) (left_split p rs up) ∙ filter-append (is_target me target) (numbered p rs) (above p rs)
 
 -- now is the table rs after the signal was sent to p, and next comes after p
-pub record IsSent (me : Process) (choice : ℤ) (s : Option ℕ) (p : ℕ) (rs now : List Process) (next : Option ℕ) : Type 0 where
+pub record IsSent (me : Process) (target : Target) (s : Option ℕ) (p : ℕ) (rs now : List Process) (next : Option ℕ) : Type 0 where
   pub rising : IsRising rs
   pub rising_now : IsRising now
-  pub sent : now ≡ sent_among me s (targets me choice (numbered p rs)) rs
+  pub sent : now ≡ sent_among me s (targets me target (numbered p rs)) rs
   pub comes : next ≡ next_above p now
 
 -- where the walk goes on
-pub walked : (me : Process) (choice : ℤ) (s : Option ℕ) (p : ℕ) (rs mid now : List Process) (next : Option ℕ) → IsRising rs → mid ≡ sent_among me s (targets me choice (numbered p rs)) rs
-    → IsRising mid → now ≡ mid → next ≡ next_above p mid → IsSent me choice s p rs now next
-walked me choice s p rs mid now next up e up_mid same comes =
+pub walked : (me : Process) (target : Target) (s : Option ℕ) (p : ℕ) (rs mid now : List Process) (next : Option ℕ) → IsRising rs → mid ≡ sent_among me s (targets me target (numbered p rs)) rs
+    → IsRising mid → now ≡ mid → next ≡ next_above p mid → IsSent me target s p rs now next
+walked me target s p rs mid now next up e up_mid same comes =
     record { rising = up; rising_now = subst IsRising (sym same) up_mid; sent = same ∙ e; comes = comes ∙ ap (next_above p) (sym same) }
 
 -- the same are left as were above p
-left_same : (me : Process) (choice : ℤ) (s : Option ℕ) (p : ℕ) (rs now : List Process) (next : Option ℕ) → IsSent me choice s p rs now next → left_of next now ≡ above p rs
-left_same me choice s p rs now next i = ap (λ (o : Option ℕ). left_of o now) i.comes ∙ left_next p now i.rising_now ∙ ap (above p) i.sent ∙ above_sent me choice s p rs
+left_same : (me : Process) (target : Target) (s : Option ℕ) (p : ℕ) (rs now : List Process) (next : Option ℕ) → IsSent me target s p rs now next → left_of next now ≡ above p rs
+left_same me target s p rs now next i = ap (λ (o : Option ℕ). left_of o now) i.comes ∙ left_next p now i.rising_now ∙ ap (above p) i.sent ∙ above_sent me target s p rs
 
 -- what is left to do gives what it gave before
-pub sent_step : (me : Process) (choice : ℤ) (s : Option ℕ) (p : ℕ) (rs now : List Process) (next : Option ℕ) → IsSent me choice s p rs now next
-    → sent_among me s (targets me choice (left_of next now)) now ≡ sent_among me s (targets me choice (left_of (Some p) rs)) rs
-sent_step me choice s p rs now next i =
-    ap (λ qs. sent_among me s (targets me choice qs) now) (left_same me choice s p rs now next i)
-    ∙ ap (sent_among me s (targets me choice (above p rs))) i.sent
-    ∙ sym (sent_append me s (targets me choice (numbered p rs)) (targets me choice (above p rs)) rs)
-    ∙ ap (λ qs. sent_among me s qs rs) (sym (targets_split me choice p rs i.rising))
+pub sent_step : (me : Process) (target : Target) (s : Option ℕ) (p : ℕ) (rs now : List Process) (next : Option ℕ) → IsSent me target s p rs now next
+    → sent_among me s (targets me target (left_of next now)) now ≡ sent_among me s (targets me target (left_of (Some p) rs)) rs
+sent_step me target s p rs now next i =
+    ap (λ qs. sent_among me s (targets me target qs) now) (left_same me target s p rs now next i)
+    ∙ ap (sent_among me s (targets me target (above p rs))) i.sent
+    ∙ sym (sent_append me s (targets me target (numbered p rs)) (targets me target (above p rs)) rs)
+    ∙ ap (λ qs. sent_among me s qs rs) (sym (targets_split me target p rs i.rising))
 
 -- and finds with those found by now what it found before
-pub sending_step : (me : Process) (choice : ℤ) (s : Option ℕ) (p : ℕ) (rs now : List Process) (next : Option ℕ) → IsSent me choice s p rs now next
-    → (a b : Sending) → b ≡ sending me choice s (numbered p rs) → joined (joined a b) (sending me choice s (left_of next now)) ≡ joined a (sending me choice s (left_of (Some p) rs))
+pub sending_step : (me : Process) (target : Target) (s : Option ℕ) (p : ℕ) (rs now : List Process) (next : Option ℕ) → IsSent me target s p rs now next
+    → (a b : Sending) → b ≡ sending me target s (numbered p rs) → joined (joined a b) (sending me target s (left_of next now)) ≡ joined a (sending me target s (left_of (Some p) rs))
 unfolding sending
-sending_step me choice s p rs now next i a b e =
-    joined_twice a b (sending_found me s (targets me choice (left_of next now)))
-    ∙ ap (joined a) (ap (λ b. joined b (sending_found me s (targets me choice (left_of next now)))) e
-    ∙ ap (λ qs. joined (sending_found me s (targets me choice (numbered p rs))) (sending_found me s (targets me choice qs))) (left_same me choice s p rs now next i)
-    ∙ sending_append me s (targets me choice (numbered p rs)) (targets me choice (above p rs))
-    ∙ ap (sending_found me s) (sym (targets_split me choice p rs i.rising)))
+sending_step me target s p rs now next i a b e =
+    joined_twice a b (sending_found me s (targets me target (left_of next now)))
+    ∙ ap (joined a) (ap (λ b. joined b (sending_found me s (targets me target (left_of next now)))) e
+    ∙ ap (λ qs. joined (sending_found me s (targets me target (numbered p rs))) (sending_found me s (targets me target qs))) (left_same me target s p rs now next i)
+    ∙ sending_append me s (targets me target (numbered p rs)) (targets me target (above p rs))
+    ∙ ap (sending_found me s) (sym (targets_split me target p rs i.rising)))
 
 -- ---- one number
 
@@ -276,33 +275,33 @@ numbered_none p (x ∷ xs) e =
     ] e
 
 -- who is there and is meant is the target with its number
-pub target_one : (me : Process) (choice : ℤ) (p : ℕ) (rs : List Process) → IsRising rs → (q : Process) → lookup p rs ≡ Some q → is_target me choice q ≡ true → targets me choice (numbered p rs) ≡ q ∷ []
+pub target_one : (me : Process) (target : Target) (p : ℕ) (rs : List Process) → IsRising rs → (q : Process) → lookup p rs ≡ Some q → is_target me target q ≡ true → targets me target (numbered p rs) ≡ q ∷ []
 unfolding targets
-target_one me choice p rs up q e t = rw (numbered_one p rs up q e, t) refl
+target_one me target p rs up q e t = rw (numbered_one p rs up q e, t) refl
 
 -- who is there and isn't meant is none
-pub target_other : (me : Process) (choice : ℤ) (p : ℕ) (rs : List Process) → IsRising rs → (q : Process) → lookup p rs ≡ Some q → is_target me choice q ≡ false → targets me choice (numbered p rs) ≡ []
+pub target_other : (me : Process) (target : Target) (p : ℕ) (rs : List Process) → IsRising rs → (q : Process) → lookup p rs ≡ Some q → is_target me target q ≡ false → targets me target (numbered p rs) ≡ []
 unfolding targets
-target_other me choice p rs up q e t = rw (numbered_one p rs up q e, t) refl
+target_other me target p rs up q e t = rw (numbered_one p rs up q e, t) refl
 
 -- where nobody is there, there is none
-pub target_none : (me : Process) (choice : ℤ) (p : ℕ) (rs : List Process) → lookup p rs ≡ None → targets me choice (numbered p rs) ≡ []
+pub target_none : (me : Process) (target : Target) (p : ℕ) (rs : List Process) → lookup p rs ≡ None → targets me target (numbered p rs) ≡ []
 unfolding targets
-target_none me choice p rs e = rw (numbered_none p rs e) refl
+target_none me target p rs e = rw (numbered_none p rs e) refl
 
 -- the targets decide whom a signal finds
-pub sending_targets : (me : Process) (choice : ℤ) (s : Option ℕ) (qs rs : List Process) → targets me choice rs ≡ qs → sending me choice s rs ≡ sending_found me s qs
+pub sending_targets : (me : Process) (target : Target) (s : Option ℕ) (qs rs : List Process) → targets me target rs ≡ qs → sending me target s rs ≡ sending_found me s qs
 unfolding sending
-sending_targets me choice s qs rs e = ap (sending_found me s) e
+sending_targets me target s qs rs e = ap (sending_found me s) e
 
 -- among nobody there are no targets
-pub targets_none : (me : Process) (choice : ℤ) → targets me choice [] ≡ []
+pub targets_none : (me : Process) (target : Target) → targets me target [] ≡ []
 unfolding targets
-targets_none me choice = refl
+targets_none me target = refl
 
 -- and nobody is found
-pub sending_none : (me : Process) (choice : ℤ) (s : Option ℕ) → sending me choice s [] ≡ found.NobodyFound
-sending_none me choice s = sending_targets me choice s [] [] (targets_none me choice)
+pub sending_none : (me : Process) (target : Target) (s : Option ℕ) → sending me target s [] ≡ found.NobodyFound
+sending_none me target s = sending_targets me target s [] [] (targets_none me target)
 
 -- a test that was passed is passed again
 filter_twice : (t : Process → Bool) (rs : List Process) → filter t (filter t rs) ≡ filter t rs
@@ -312,10 +311,16 @@ filter_twice t (x ∷ xs) = elim (t x) as (λ b. t x ≡ b → filter t (cond b 
   | false ↦ λ e. filter_twice t xs
 ] refl
 
--- a number above 0 means those with it
-pub targets_numbered : (me : Process) (choice : ℤ) (p n : ℕ) (rs : List Process) → choice ≡ pos (suc n) → p ≡ suc n → targets me choice (numbered p rs) ≡ targets me choice rs
+-- a number that nobody can have means nobody
+pub targets_nobody : (me : Process) (rs : List Process) → targets me whom.Nobody rs ≡ []
 unfolding targets
-targets_numbered me choice p n rs e f = rw (e, f) (filter_twice (has_pid (suc n)) rs)
+targets_nobody me [] = refl
+targets_nobody me (x ∷ xs) = targets_nobody me xs
+
+-- a process is meant by its number
+pub targets_numbered : (me : Process) (p : ℕ) (rs : List Process) → targets me (whom.Process p) (numbered p rs) ≡ targets me (whom.Process p) rs
+unfolding targets
+targets_numbered me p rs = filter_twice (has_pid p) rs
 
 -- ---- a signal to one process
 
@@ -372,29 +377,3 @@ fewer_left m p rs next l e = of_option next (subst (λ o. IfSome o (λ y. p < y)
     of_option : (o : Option ℕ) → IfSome o (λ y. p < y) → numbers_left m o < m - p
     of_option None h = omega arith
     of_option (Some y) h = omega (arith, h)
-
--- ---- a number that is a target
-
--- what fits a number above 0 is that number
-pub number_of : {E : Type 0} (z : ℤ) (r : Result ℕ E) (n : ℕ) → int_lt z (pos 1) ≡ false → OkIff r (FitsUnsignedBits 32 z) (nat_abs z) → Some n ≡ result_ok r → (o : Option ℕ) → IfSome o (λ p. p ≡ n)
-    → IfSome o (λ p. (x : ℕ) × (z ≡ pos (suc x)) × (p ≡ suc x))
-number_of (negsuc m) r n l f e o h = absurd (cc)
-number_of (pos zero) r n l f e o h = absurd (cc)
-number_of (pos (suc m)) (Err why) n l f e o h = absurd (cc)
-number_of (pos (suc m)) (Ok k) n l f e None h = tt
-number_of (pos (suc m)) (Ok k) n l f e (Some p) h = let same : n ≡ k = cc in (m, refl, h ∙ same ∙ f.1)
-
--- ---- a sound machine
-
--- one signal after another keeps a machine sound
-sound_signalled : (signal : PendingSignal) (ps : List ℕ) (t : State) (p : Pids) (places : Places) (n : ℕ) → IsSound t p places n → IsSound (record t { processes = signalled_all signal ps t.processes }) p places n
-unfolding signalled_all
-sound_signalled signal [] t p places n i = i
-sound_signalled signal (q ∷ qs) t p places n i =
-    sound_signalled signal qs (record t { processes = changed q (signalled signal) t.processes }) p places n (sound_change q (signalled signal) (keeps_signalled signal) t p places n i)
-
--- so does a signal that is sent
-pub sound_sent : (me : Process) (choice : ℤ) (s : Option ℕ) (t : State) (p : Pids) (places : Places) (n : ℕ) → IsSound t p places n → IsSound (record t { processes = sent me choice s t.processes }) p places n
-unfolding sent sent_among
-sound_sent me choice None t p places n i = i
-sound_sent me choice (Some signal) t p places n i = sound_signalled (sent_by me.pid signal) _ t p places n i

@@ -1,4 +1,4 @@
-//! Births, ends and waits, over any table of processes.
+//! Births, ends, waits and signals, over any table of processes.
 //!
 //! A [`Machine`] holds the state of a world: the processes, the numbers that they bear, and the order in
 //! which they act. Its calls change the state as the definitions say.
@@ -9,9 +9,9 @@ pub mod caller;
 mod ends;
 pub mod machine;
 pub mod sends;
+pub mod signals;
 pub mod waits;
 
 pub use caller::Caller;
 pub use machine::Machine;
-pub use sends::send;
 pub use waits::wait_attempt;

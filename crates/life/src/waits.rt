@@ -10,19 +10,19 @@ ghost use Rattle.proctable.specs.Body.{facts_of};
 
 use crate::machine::Machine;
 use bitflags::Flags;
-use posix::{Life, News, Pid, Report, Status, WaitOptions};
+use posix::{Life, News, Pid, Report, Status, Target, WaitOptions};
 use proctable::{Facts, Kin};
 
-/// Whether a wait with this choice, of a caller in process group `group`, names the child `pid` in process
-/// group `child_group`.
-fn is_named(group: Pid, choice: i64, pid: Pid, child_group: Pid) -> bool
-    ensures { (r : Process) → r.pid ≡ pid → r.group ≡ child_group → result ≡ is_named_by group choice r }
+/// Whether a caller in process group `group` names the child `child` in process group `child_group`.
+fn is_named(group: Pid, target: &Target, child: Pid, child_group: Pid) -> bool
+    ensures { (r : Process) → r.pid ≡ child → r.group ≡ child_group → result ≡ is_named_by group target.now r }
 {
-    match choice {
-        0 => child_group == group,
-        -1 => true,
-        1.. => choice.unsigned_abs() == u64::from(pid.number()),
-        _ => choice.unsigned_abs() == u64::from(child_group.number()),
+    match *target {
+        Target::Process(pid) => child == pid,
+        Target::OwnGroup => child_group == group,
+        Target::Group(pid) => child_group == pid,
+        Target::All => true,
+        Target::Nobody => false,
     }
 }
 
@@ -53,29 +53,27 @@ fn report_life(options: WaitOptions, pid: Pid, life: Life, news: News) -> Report
 
 /// What a wait learns from one child: `NoChild` where it isn't named.
 #[tactic(auto, unfolding(posix::specs::Waits::report_of, posix::specs::Waits::look))]
-fn look(group: Pid, choice: i64, options: WaitOptions, child: Facts) -> Report
-    ensures { (r : Process) → child ≡ facts_of r → result ≡ look_of group choice options.0 r }
+fn look(group: Pid, target: &Target, options: WaitOptions, child: Facts) -> Report
+    ensures { (r : Process) → child ≡ facts_of r → result ≡ look_of group target.now options.0 r }
 {
-    if is_named(group, choice, child.pid, child.group) {
+    if is_named(group, target, child.pid, child.group) {
         report_life(options, child.pid, child.life, child.news)
     } else {
         Report::NoChild
     }
 }
 
-/// What a wait has to report: of the children of `caller` that `choice` names, the one with the least
-/// number that has something to report. Above 0 the choice is a child's number, 0 stands for the process
-/// group `group` of the caller, -1 for any child, and a number below -1 for the process group of its
-/// absolute value (XSH waitpid). Nothing changes.
+/// What a wait has to report: of the children of `caller`, a process of group `group`, that the target
+/// means, the one with the least number that has something to report (XSH waitpid). Nothing changes.
 pub fn wait_attempt<K: Kin>(
     table: &mut K,
     caller: Pid,
     group: Pid,
-    choice: i64,
+    target: Target,
     options: WaitOptions,
 ) -> Report
     requires { IsSome (lookup caller (K.contents table.old)) }
-    ensures value { result ≡ report (K.contents table.old) caller group choice options.0 }
+    ensures value { result ≡ report (K.contents table.old) caller group target options.0 }
     ensures contents { K.contents table.new ≡ K.contents table.old }
     ensures room { K.room table.new ≡ K.room table.old }
     ensures reads { K.reads table.new ≤ K.reads table.old + 1 + 2 * length (children_in caller (K.contents table.old)) }
@@ -86,7 +84,7 @@ pub fn wait_attempt<K: Kin>(
         let Some(facts) = table.get(child) else {
             return found;
         };
-        match look(group, choice, options, facts) {
+        match look(group, &target, options, facts) {
             Report::NoChild => {}
             Report::Nothing => found = Report::Nothing,
             report => return report,
@@ -102,15 +100,15 @@ impl<K: Kin> Machine<K> {
         &mut self,
         caller: Pid,
         group: Pid,
-        choice: i64,
+        target: Target,
         options: WaitOptions,
     ) -> Report
         requires { IsSome (process self.old.state caller) }
-        ensures value { result ≡ report self.old.state.processes caller group choice options.0 }
+        ensures value { result ≡ report self.old.state.processes caller group target options.0 }
         ensures same { self.new.state ≡ self.old.state }
         ensures reads { self.new.reads ≤ self.old.reads + 1 + 2 * length (children_in caller self.old.state.processes) }
     {
-        wait_attempt(&mut self.table, caller, group, choice, options)
+        wait_attempt(&mut self.table, caller, group, target, options)
     }
 
     /// The record of a zombie that isn't process 1 goes, and it no longer bears its own number, its

@@ -7,6 +7,7 @@ use Rattle.posix.specs.declared.call.Call.TheVariants.{Exit, Fork, Waitpid, Paus
 use Rattle.posix.specs.declared.instr.Trap.{Trap}
 use Rattle.posix.specs.declared.instr.Trap.TheVariants as trap
 use Rattle.posix.specs.declared.errno.Errno.{Errno}
+use Rattle.posix.specs.declared.how.How.{How}
 use Rattle.posix.specs.declared.sig.DefaultAction.{DefaultAction}
 use Rattle.posix.specs.declared.sig.DefaultAction.TheVariants as default
 use Rattle.posix.specs.declared.process.Action.{Action}
@@ -20,8 +21,9 @@ use Rattle.posix.specs.declared.process.Report.{Report}
 use Rattle.posix.specs.declared.process.Report.TheVariants as found
 use Rattle.posix.specs.declared.process.Sending.{Sending}
 use Rattle.posix.specs.declared.process.Sending.TheVariants as sends
+use Rattle.posix.specs.declared.target.Target.{Target}
 use Rattle.posix.specs.Signals.{KILL, SEGV, default_action}
-use Rattle.posix.specs.SignalSets.{has, set_in}
+use Rattle.posix.specs.SignalSets.{has}
 use Rattle.posix.specs.Statuses.{exited, killed}
 use Rattle.posix.specs.Processes.{Process, Signals, Credentials, Cpu, argument}
 use Rattle.posix.specs.States.{State, without, change, next_pid}
@@ -30,13 +32,14 @@ use Rattle.posix.specs.Outcomes.{Outcome, Attempted, Done, Block, Reply, answers
 use Rattle.posix.specs.Credentials.{setuid, seteuid, setgid, setegid}
 use Rattle.posix.specs.Generation.{action, is_pending}
 use Rattle.posix.specs.Choice.{chosen, carried_by, from_kernel}
-use Rattle.posix.specs.Handlers.{handles, is_full, newest_frame, set_action, set_mask}
+use Rattle.posix.specs.Handlers.{handles, is_full, newest_frame, set_action}
 use Rattle.posix.specs.Births.{fork_as}
 use Rattle.posix.specs.Ends.{end_process}
+use Rattle.posix.specs.Targets.{target_in}
 use Rattle.posix.specs.Waits.{wait, wait_with, report, options_in, are_known, has_option, WNOHANG}
 use Rattle.posix.specs.Delivery.{handle, act_by_default, act_on, take_out, deliver, fault_with, fault, return_to, return_from_handler}
 use Rattle.posix.specs.Sends.{sending, send_with, signal_in, signal_or_none, kill_with, kill}
-use Rattle.posix.specs.SignalCalls.{set_credentials, is_question, are_flags, action_in, sigaction_with, sigaction_of, sigaction, sigprocmask_with, sigprocmask, sigpending}
+use Rattle.posix.specs.SignalCalls.{set_credentials, is_question, are_flags, action_in, sigaction_with, sigaction_of, sigaction, how_in, sigprocmask_with, sigprocmask, sigpending}
 use Rattle.posix.specs.Attempts.{attempt, attempt_again}
 use Rattle.posix.specs.Step.{act, act_in, after_trap, begin_call, deliver_or, go_on, code_of}
 use Rattle.posix.proofs.NoticeLemmas.{end_first, end_other}
@@ -157,7 +160,7 @@ acted_wait : (s : State) (me : Process) → ActedIf me.pid s (wait s me)
 unfolding wait
 acted_wait s me =
     acted_if me.pid s (are_known (options_in (argument me 2))) _ _
-    (acted_with s me.pid (options_in (argument me 2)) (report s.processes me.pid me.group (argument me 1) (options_in (argument me 2))))
+    (acted_with s me.pid (options_in (argument me 2)) (report s.processes me.pid me.group (target_in (argument me 1)) (options_in (argument me 2))))
     (stays me.pid s _ refl refl refl)
 
 -- a call that changes its process alone
@@ -165,20 +168,20 @@ acted_answers : (s : State) (p : ℕ) (call : Call) (reply : Reply) → ActedIf 
 acted_answers s p call reply = stays p s _ refl refl refl
 
 -- a signal that is sent, by whom it finds
-acted_send : (s : State) (me : Process) (choice : ℤ) (sig : Option ℕ) (what : Sending) → ActedIf me.pid s (send_with s me choice sig what)
-acted_send s me choice sig sends.NobodyFound = stays me.pid s _ refl refl refl
-acted_send s me choice sig sends.NobodyPermitted = stays me.pid s _ refl refl refl
-acted_send s me choice sig sends.Permitted = stays me.pid s _ refl refl refl
+acted_send : (s : State) (me : Process) (target : Target) (sig : Option ℕ) (what : Sending) → ActedIf me.pid s (send_with s me target sig what)
+acted_send s me target sig sends.NobodyFound = stays me.pid s _ refl refl refl
+acted_send s me target sig sends.NobodyPermitted = stays me.pid s _ refl refl refl
+acted_send s me target sig sends.Permitted = stays me.pid s _ refl refl refl
 
 -- a signal that is sent, by what it is
-acted_kill_with : (s : State) (me : Process) (sig : Option (Option ℕ)) → ActedIf me.pid s (kill_with s me sig)
-acted_kill_with s me None = stays me.pid s _ refl refl refl
-acted_kill_with s me (Some sig) = acted_send s me (argument me 1) sig (sending me (argument me 1) sig s.processes)
+acted_kill_with : (s : State) (me : Process) (target : Target) (sig : Result (Option ℕ) Errno) → ActedIf me.pid s (kill_with s me target sig)
+acted_kill_with s me target (Ok sig) = acted_send s me target sig (sending me target sig s.processes)
+acted_kill_with s me target (Err why) = stays me.pid s _ refl refl refl
 
 -- a signal that is sent
 acted_kill : (s : State) (me : Process) → ActedIf me.pid s (kill s me)
 unfolding kill
-acted_kill s me = acted_kill_with s me (signal_or_none (argument me 2))
+acted_kill s me = acted_kill_with s me (target_in (argument me 1)) (signal_or_none (argument me 2))
 
 -- each call
 acted_attempt : (granted : Bool) (s : State) (me : Process) (call : Call) → ActedIf me.pid s (attempt granted s me call)

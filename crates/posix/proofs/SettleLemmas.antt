@@ -1,5 +1,5 @@
 -- To ask the records one after another, from the least number on, is to settle; and what settles stays regular.
-use Rattle.std.proofs.Common.{◌≡◌, ℕ, ◌<◌, ◌≤◌, Bool, true, false, cond, not, ◌&&◌, ◌||◌, refl, ap, sym, ◌∙◌, arith, subst, List, [], ◌∷◌, ◌++◌, append-nil, append_assoc, length, filter, find, Option, Some, None, ◌==◌, ℤ, nat_lt, inl, inr, is_some}
+use Rattle.std.proofs.Common.{◌≡◌, ℕ, ◌<◌, ◌≤◌, Bool, true, false, cond, not, ◌&&◌, ◌||◌, refl, ap, sym, ◌∙◌, arith, subst, List, [], ◌∷◌, ◌++◌, append-nil, append_assoc, length, filter, find, Option, Some, None, ◌==◌, nat_lt, inl, inr, is_some}
 use Rattle.std.specs.List.{list_any, AllByRecursion}
 use Rattle.std.specs.Option.{IfSome}
 use Rattle.std.proofs.lemmas.Bool.{eqb-true, eq-eqb, ne_eqb, cases_order, ltb-true}
@@ -12,12 +12,14 @@ use Rattle.posix.specs.declared.process.Blocked.{Blocked}
 use Rattle.posix.specs.declared.process.Blocked.TheVariants as blocked
 use Rattle.posix.specs.declared.process.Report.{Report}
 use Rattle.posix.specs.declared.process.Report.TheVariants as found
+use Rattle.posix.specs.declared.target.Target.{Target}
 use Rattle.posix.specs.Signals.{KILL}
 use Rattle.posix.specs.Processes.{Process, is_running, is_zombie, is_living, argument}
 use Rattle.posix.specs.Tables.{IsRising, has_pid, lookup, pids, first_pid, above, next_above, left_of}
 use Rattle.posix.specs.States.{State, is_in}
 use Rattle.posix.specs.Regular.{IsPlaced}
 use Rattle.posix.specs.Outcomes.{Attempted}
+use Rattle.posix.specs.Targets.{target_in}
 use Rattle.posix.specs.Waits.{wait, wait_with, report, options_in, are_known, has_option}
 use Rattle.posix.specs.Generation.{is_pending}
 use Rattle.posix.specs.Choice.{chosen}
@@ -55,7 +57,7 @@ block_with s t me options (found.Change p status) = refl
 
 -- each wait finds the same in both
 abbrev pub ReportsSame : State → State → Type 0
-ReportsSame s t = (caller group : ℕ) (choice : ℤ) (options : ℕ) → report s.processes caller group choice options ≡ report t.processes caller group choice options
+ReportsSame s t = (caller group : ℕ) (target : Target) (options : ℕ) → report s.processes caller group target options ≡ report t.processes caller group target options
 
 -- the same waits are over
 block_wait : (s t : State) → ReportsSame s t → (me : Process) → is_block (wait s me) ≡ is_block (wait t me)
@@ -63,8 +65,8 @@ unfolding wait
 block_wait s t same me =
     let options = options_in (argument me 2) in
     block_if (are_known options) _ _ _ _
-    (ap (λ w. is_block (wait_with s me.pid options w)) (same me.pid me.group (argument me 1) options)
-    ∙ block_with s t me options (report t.processes me.pid me.group (argument me 1) options)) refl
+    (ap (λ w. is_block (wait_with s me.pid options w)) (same me.pid me.group (target_in (argument me 1)) options)
+    ∙ block_with s t me options (report t.processes me.pid me.group (target_in (argument me 1)) options)) refl
 
 -- the same calls go on
 can_go_on_same : (s t : State) → ReportsSame s t → (r : Process) (b : Option Blocked) → can_go_on s r b ≡ can_go_on t r b
@@ -83,7 +85,7 @@ can_act_same s t same r =
 
 -- the order doesn't count
 pub can_act_order : (s : State) (o : List ℕ) (r : Process) → can_act (record s { order = o }) r ≡ can_act s r
-can_act_order s o r = can_act_same (record s { order = o }) s (λ caller group choice options. refl) r
+can_act_order s o r = can_act_same (record s { order = o }) s (λ caller group target options. refl) r
 
 -- a zombie can't act, whatever else
 zombie_rests : (l : Life) (k g : Bool) → (not (is_zombie l) && k || is_running l && g) ≡ true → is_zombie l ≡ false

@@ -1,11 +1,12 @@
 -- A wait that looks at one child after another.
-use Rattle.std.proofs.Common.{◌≡◌, ℕ, Bool, true, false, cond, refl, sym, List, [], ◌∷◌, filter, find, Some, ℤ}
+use Rattle.std.proofs.Common.{◌≡◌, ℕ, Bool, true, false, cond, refl, sym, List, [], ◌∷◌, filter, find, Some}
 use Rattle.posix.specs.declared.process.Life.{Life}
 use Rattle.posix.specs.declared.process.Life.TheVariants.{Running, Stopped, Zombie}
 use Rattle.posix.specs.declared.process.News.{News}
 use Rattle.posix.specs.declared.process.News.TheVariants as news
 use Rattle.posix.specs.declared.process.Report.{Report}
 use Rattle.posix.specs.declared.process.Report.TheVariants as found
+use Rattle.posix.specs.declared.target.Target.{Target}
 use Rattle.posix.specs.Statuses.{stopped, continued}
 use Rattle.posix.specs.Processes.{Process}
 use Rattle.posix.specs.Waits.{is_named, is_something, has_option, WUNTRACED, WCONTINUED, report_change, report_life, report_of, reports, report_found, report_among, look}
@@ -17,9 +18,9 @@ after_look found.Nothing so_far rest = rest found.Nothing
 after_look (found.End p w) so_far rest = found.End p w
 after_look (found.Change p w) so_far rest = found.Change p w
 
-unfoldable pub scan : ℕ → ℤ → ℕ → Report → List Process → Report
-scan group choice options so_far [] = so_far
-scan group choice options so_far (r ∷ rs) = after_look (look group choice options r) so_far (λ s. scan group choice options s rs)
+unfoldable pub scan : ℕ → Target → ℕ → Report → List Process → Report
+scan group target options so_far [] = so_far
+scan group target options so_far (r ∷ rs) = after_look (look group target options r) so_far (λ s. scan group target options s rs)
 
 abbrev is_no_child : Report → Bool
 is_no_child found.NoChild = true
@@ -56,21 +57,21 @@ one_named (found.End p w) rest options r rs e child h so_far = sym e
 one_named (found.Change p w) rest options r rs e child h so_far = sym e
 
 -- where one is named already
-scan_found : (group : ℕ) (choice : ℤ) (options : ℕ) (rs : List Process) → scan group choice options found.Nothing rs ≡ report_found options (find (reports options) (filter (is_named group choice) rs))
+scan_found : (group : ℕ) (target : Target) (options : ℕ) (rs : List Process) → scan group target options found.Nothing rs ≡ report_found options (find (reports options) (filter (is_named group target) rs))
 unfolding scan look
-scan_found group choice options [] = refl
-scan_found group choice options (r ∷ rs) = elim (is_named group choice r) as (λ b. after_look (cond b (report_of options r) found.NoChild) found.Nothing (λ s. scan group choice options s rs)
-    ≡ report_found options (find (reports options) (cond b (r ∷ filter (is_named group choice) rs) (filter (is_named group choice) rs)))) [
-      | true ↦ one_named (report_of options r) (λ s. scan group choice options s rs) options r (filter (is_named group choice) rs) refl (is_there options r) (scan_found group choice options rs) found.Nothing
-      | false ↦ scan_found group choice options rs
+scan_found group target options [] = refl
+scan_found group target options (r ∷ rs) = elim (is_named group target r) as (λ b. after_look (cond b (report_of options r) found.NoChild) found.Nothing (λ s. scan group target options s rs)
+    ≡ report_found options (find (reports options) (cond b (r ∷ filter (is_named group target) rs) (filter (is_named group target) rs)))) [
+      | true ↦ one_named (report_of options r) (λ s. scan group target options s rs) options r (filter (is_named group target) rs) refl (is_there options r) (scan_found group target options rs) found.Nothing
+      | false ↦ scan_found group target options rs
     ]
 
 -- looking at one after another finds what the definition names
-pub scan_is_report : (group : ℕ) (choice : ℤ) (options : ℕ) (rs : List Process) → scan group choice options found.NoChild rs ≡ report_among options (filter (is_named group choice) rs)
+pub scan_is_report : (group : ℕ) (target : Target) (options : ℕ) (rs : List Process) → scan group target options found.NoChild rs ≡ report_among options (filter (is_named group target) rs)
 unfolding scan look
-scan_is_report group choice options [] = refl
-scan_is_report group choice options (r ∷ rs) = elim (is_named group choice r) as (λ b. after_look (cond b (report_of options r) found.NoChild) found.NoChild (λ s. scan group choice options s rs)
-    ≡ report_among options (cond b (r ∷ filter (is_named group choice) rs) (filter (is_named group choice) rs))) [
-      | true ↦ one_named (report_of options r) (λ s. scan group choice options s rs) options r (filter (is_named group choice) rs) refl (is_there options r) (scan_found group choice options rs) found.NoChild
-      | false ↦ scan_is_report group choice options rs
+scan_is_report group target options [] = refl
+scan_is_report group target options (r ∷ rs) = elim (is_named group target r) as (λ b. after_look (cond b (report_of options r) found.NoChild) found.NoChild (λ s. scan group target options s rs)
+    ≡ report_among options (cond b (r ∷ filter (is_named group target) rs) (filter (is_named group target) rs))) [
+      | true ↦ one_named (report_of options r) (λ s. scan group target options s rs) options r (filter (is_named group target) rs) refl (is_there options r) (scan_found group target options rs) found.NoChild
+      | false ↦ scan_is_report group target options rs
     ]

@@ -4,13 +4,15 @@ use Rattle.posix.specs.declared.sig.DefaultAction.{DefaultAction}
 use Rattle.posix.specs.declared.sig.DefaultAction.TheVariants as default
 use Rattle.posix.specs.declared.process.Action.{Action}
 use Rattle.posix.specs.declared.process.Carried.{Carried}
+use Rattle.posix.specs.declared.process.Effect.{Effect}
+use Rattle.posix.specs.declared.process.Effect.TheVariants as effect
 use Rattle.posix.specs.declared.process.PendingSignal.{PendingSignal}
 use Rattle.posix.specs.declared.process.Handler.{Handler}
 use Rattle.posix.specs.declared.process.Handler.TheVariants as handler
 use Rattle.posix.specs.declared.process.Life.{Life}
-use Rattle.posix.specs.Signals.{default_action}
+use Rattle.posix.specs.Signals.{CONT, default_action}
 use Rattle.posix.specs.SignalSets.{has}
-use Rattle.posix.specs.Processes.{Process, Signals, initial_action, is_zombie}
+use Rattle.posix.specs.Processes.{Process, Signals, initial_action, is_zombie, is_stopped}
 use Rattle.posix.specs.Tables.{changed}
 
 -- ---- actions
@@ -86,6 +88,12 @@ keeps g s = has g.mask s || not (does_nothing (action g s).handler s)
 -- CONT those and continues a stopped process, follows: nothing sends these yet.
 unfoldable pub generated : ℕ → Life → PendingSignal → Signals → Signals
 generated p life signal g = if not (is_deaf p life g signal.sig) && keeps g signal.sig then make_pending signal g else g
+
+-- What a signal that is generated does at once: CONT continues a process that is stopped, also where it is
+-- blocked or ignored, XSH 2.4.1 and 2.4.3.
+unfoldable pub effect_of : ℕ → Life → PendingSignal → Signals → Effect
+effect_of p life signal g =
+    if not (is_deaf p life g signal.sig) && (signal.sig == CONT && is_stopped life) then effect.Continued else effect.Nothing
 
 unfoldable pub signalled : PendingSignal → Process → Process
 signalled signal r = record r { signals = generated r.pid r.life signal r.signals }

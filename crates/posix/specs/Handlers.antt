@@ -1,7 +1,9 @@
 -- Signal handlers: how one is entered, and how it returns, XSH 2.4.3, sigaction(2), sigreturn(2).
-use Rattle.std.specs.Prelude.{ℕ, ◌-◌, Bool, false, ◌||◌, not, if◌then◌else◌, ◌==◌, nat_le, [], ◌∷◌, ◌++◌, length, take, Option, Some, None, ℤ, pos, zero, suc, negsuc, slice_get, slice_set, Result, Ok, Err}
+use Rattle.std.specs.Prelude.{ℕ, ◌-◌, Bool, false, ◌||◌, not, if◌then◌else◌, ◌==◌, nat_le, [], ◌∷◌, ◌++◌, length, take, Option, Some, None, ℤ, pos, slice_get, slice_set, Result, Ok, Err}
 use Rattle.posix.specs.declared.errno.Errno.{Errno}
 use Rattle.posix.specs.declared.errno.Errno.TheVariants.{EINTR, EINVAL}
+use Rattle.posix.specs.declared.how.How.{How}
+use Rattle.posix.specs.declared.how.How.TheVariants as how
 use Rattle.posix.specs.declared.process.Action.{Action}
 use Rattle.posix.specs.declared.process.Blocked.{Blocked}
 use Rattle.posix.specs.declared.process.Blocked.TheVariants as blocked
@@ -121,10 +123,8 @@ set_action s a g = if s == KILL || s == STOP then Err EINVAL else Ok (give_actio
 abbrev pub give_mask : ℕ → Signals → Signals
 give_mask mask g = record g { mask = maskable mask }
 
--- SIG_BLOCK 0, SIG_UNBLOCK 1, SIG_SETMASK 2
-unfoldable pub set_mask : ℤ → ℕ → Signals → Result Signals Errno
-set_mask (pos zero) set g = Ok (give_mask (union g.mask set) g)
-set_mask (pos (suc zero)) set g = Ok (give_mask (except g.mask set) g)
-set_mask (pos (suc (suc zero))) set g = Ok (give_mask set g)
-set_mask (pos (suc (suc (suc n)))) set g = Err EINVAL
-set_mask (negsuc n) set g = Err EINVAL
+-- the mask after a set is added to it, taken from it, or put in its place
+unfoldable pub set_mask : How → ℕ → Signals → Signals
+set_mask how.Block set g = give_mask (union g.mask set) g
+set_mask how.Unblock set g = give_mask (except g.mask set) g
+set_mask how.Set set g = give_mask set g

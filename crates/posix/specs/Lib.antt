@@ -16,6 +16,7 @@ pub mod Choice
 pub mod Handlers
 pub mod Births
 pub mod Ends
+pub mod Targets
 pub mod Waits
 pub mod Delivery
 pub mod Sends

@@ -59,6 +59,11 @@ is_running Running = true
 is_running Stopped = false
 is_running (Zombie status) = false
 
+abbrev pub is_stopped : Life → Bool
+is_stopped Running = false
+is_stopped Stopped = true
+is_stopped (Zombie status) = false
+
 abbrev pub is_living : Process → Bool
 is_living r = not (is_zombie r.life)
 

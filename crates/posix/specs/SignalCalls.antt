@@ -6,6 +6,8 @@ use Rattle.posix.specs.declared.call.Call.{Call}
 use Rattle.posix.specs.declared.call.Call.TheVariants.{Sigaction, Sigprocmask, Sigpending}
 use Rattle.posix.specs.declared.errno.Errno.{Errno}
 use Rattle.posix.specs.declared.errno.Errno.TheVariants.{EINVAL}
+use Rattle.posix.specs.declared.how.How.{How}
+use Rattle.posix.specs.declared.how.How.TheVariants as how
 use Rattle.posix.specs.declared.process.Action.{Action}
 use Rattle.posix.specs.declared.process.Carried.{Carried}
 use Rattle.posix.specs.declared.process.Handler.{Handler}
@@ -85,13 +87,25 @@ sigaction me = sigaction_of me (signal_in (argument me 1))
 
 -- ---- the mask
 
-abbrev pub sigprocmask_with : ℕ → Result Signals Errno → Reply
-sigprocmask_with old (Ok g) = record { value = pos 0; changes = λ r. written 2 (word_of old) (give_signals g r) }
-sigprocmask_with old (Err why) = refusing why
+-- what is done with a set, as a register: SIG_BLOCK 0, SIG_UNBLOCK 1, SIG_SETMASK 2
+abbrev pub how_in : ℤ → Option How
+how_in (pos zero) = Some how.Block
+how_in (pos (suc zero)) = Some how.Unblock
+how_in (pos (suc (suc zero))) = Some how.Set
+how_in (pos (suc (suc (suc n)))) = None
+how_in (negsuc n) = None
 
--- what is done is in r1, the set in r2, and the call gives the old mask in r2
+-- the set is in r2, and the call gives the old mask there
+abbrev pub sigprocmask_with : Process → Option How → Reply
+sigprocmask_with me None = refusing EINVAL
+sigprocmask_with me (Some what) = record {
+  value = pos 0;
+  changes = λ r. written 2 (word_of me.signals.mask) (give_signals (set_mask what (set_in (argument me 2)) me.signals) r);
+}
+
+-- what is done is in r1
 unfoldable pub sigprocmask : Process → Reply
-sigprocmask me = sigprocmask_with me.signals.mask (set_mask (argument me 1) (set_in (argument me 2)) me.signals)
+sigprocmask me = sigprocmask_with me (how_in (argument me 1))
 
 -- ---- what is pending
 

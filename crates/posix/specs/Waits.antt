@@ -1,5 +1,5 @@
 -- Waits, XSH waitpid and waitpid(2).
-use Rattle.std.specs.Prelude.{ℕ, zero, suc, ◌+◌, ◌==◌, Bool, true, false, if◌then◌else◌, List, [], ◌∷◌, filter, find, Option, Some, None, ℤ, pos, negsuc, bit_and}
+use Rattle.std.specs.Prelude.{ℕ, ◌+◌, ◌==◌, Bool, true, false, if◌then◌else◌, List, [], ◌∷◌, filter, find, Option, Some, None, ℤ, pos, bit_and}
 use Rattle.std.specs.Int.{cast_unsigned, w64}
 use Rattle.posix.specs.declared.call.Call.TheVariants.{Waitpid}
 use Rattle.posix.specs.declared.errno.Errno.TheVariants.{EINVAL, ECHILD}
@@ -11,10 +11,13 @@ use Rattle.posix.specs.declared.process.News.TheVariants as news
 use Rattle.posix.specs.declared.process.Blocked.TheVariants as blocked
 use Rattle.posix.specs.declared.process.Report.{Report}
 use Rattle.posix.specs.declared.process.Report.TheVariants as found
+use Rattle.posix.specs.declared.target.Target.{Target}
+use Rattle.posix.specs.declared.target.Target.TheVariants as whom
 use Rattle.posix.specs.Statuses.{stopped, continued}
 use Rattle.posix.specs.Processes.{Process, argument}
 use Rattle.posix.specs.Tables.{removed, children_in}
 use Rattle.posix.specs.States.{State, change}
+use Rattle.posix.specs.Targets.{target_in}
 use Rattle.posix.specs.Outcomes.{Attempted, Done, Block, gives, refused, finish}
 
 -- ---- options
@@ -40,13 +43,13 @@ has_option options option = bit_and options option == option
 
 -- ---- what there is to report
 
--- A child is named by a choice: above 0 by its number, 0 the caller's process group, -1 any, below -1
--- the process group of the absolute value.
-abbrev pub is_named : ℕ → ℤ → Process → Bool
-is_named group (pos zero) r = r.group == group
-is_named group (pos (suc n)) r = r.pid == suc n
-is_named group (negsuc zero) r = true
-is_named group (negsuc (suc n)) r = r.group == n + 2
+-- whether a caller in this process group names a child
+abbrev pub is_named : ℕ → Target → Process → Bool
+is_named group (whom.Process p) r = r.pid == p
+is_named group whom.OwnGroup r = r.group == group
+is_named group (whom.Group p) r = r.group == p
+is_named group whom.All r = true
+is_named group whom.Nobody r = false
 
 abbrev pub report_change : ℕ → ℕ → News → Report
 report_change options p news.Nothing = found.Nothing
@@ -81,12 +84,12 @@ report_among options [] = found.NoChild
 report_among options (r ∷ rs) = report_found options (find (reports options) (r ∷ rs))
 
 -- what a caller of this number and process group finds
-unfoldable pub report : List Process → ℕ → ℕ → ℤ → ℕ → Report
-report rs caller group choice options = report_among options (filter (is_named group choice) (children_in caller rs))
+unfoldable pub report : List Process → ℕ → ℕ → Target → ℕ → Report
+report rs caller group target options = report_among options (filter (is_named group target) (children_in caller rs))
 
 -- what one child says: it isn't named, or this is its report
-unfoldable pub look : ℕ → ℤ → ℕ → Process → Report
-look group choice options r = if is_named group choice r then report_of options r else found.NoChild
+unfoldable pub look : ℕ → Target → ℕ → Process → Report
+look group target options r = if is_named group target r then report_of options r else found.NoChild
 
 -- ---- the call
 
@@ -107,9 +110,9 @@ wait_with s p options found.Nothing = if has_option options WNOHANG then gives s
 wait_with s p options (found.End child status) = gives_report (record s { processes = removed child s.processes }) p child status
 wait_with s p options (found.Change child status) = gives_report (change s child news_told) p child status
 
--- the choice is in r1, the options are in r2
+-- the target is in r1, the options are in r2
 unfoldable pub wait : State → Process → Attempted
 wait s me =
     let options = options_in (argument me 2) in
-    if are_known options then wait_with s me.pid options (report s.processes me.pid me.group (argument me 1) options)
+    if are_known options then wait_with s me.pid options (report s.processes me.pid me.group (target_in (argument me 1)) options)
     else refused s me.pid Waitpid EINVAL

@@ -8,6 +8,7 @@ pub mod call;
 pub mod entry;
 pub mod errno;
 pub mod event;
+pub mod how;
 pub mod ids;
 pub mod instr;
 pub mod pid;
@@ -16,20 +17,23 @@ pub mod sa_flags;
 pub mod sig;
 pub mod sig_set;
 pub mod status;
+pub mod target;
 pub mod wait_options;
 
 pub use call::Call;
 pub use entry::Entry;
 pub use errno::Errno;
 pub use event::Event;
+pub use how::How;
 pub use ids::{Gid, Ids, Uid};
 pub use instr::{Condition, Instr, Operator, Register, Trap};
 pub use pid::Pid;
 pub use process::{
-    Action, Blocked, Carried, Frame, Handler, Life, News, PendingSignal, Report, Sending,
+    Action, Blocked, Carried, Effect, Frame, Handler, Life, News, PendingSignal, Report, Sending,
 };
 pub use sa_flags::SaFlags;
 pub use sig::{DefaultAction, Sig};
 pub use sig_set::SigSet;
 pub use status::Status;
+pub use target::Target;
 pub use wait_options::WaitOptions;

@@ -80,6 +80,15 @@ pub enum Blocked {
     Sigsuspend(SigSet),
 }
 
+/// What a signal that is generated does to its process at once, beside being pending (XSH 2.4.3).
+#[derive(Clone, Copy, Debug, PartialEq, Eq)]
+pub enum Effect {
+    /// Nothing.
+    Nothing,
+    /// The process, which was stopped, is continued.
+    Continued,
+}
+
 /// Whom a signal that is sent finds (XSH kill).
 #[derive(Clone, Copy, Debug, PartialEq, Eq, PartialOrd, Ord)]
 pub enum Sending {

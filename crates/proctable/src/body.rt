@@ -4,12 +4,12 @@ ghost use Rattle.std.specs.Prelude.{◌≡◌, IfOk, ℕ};
 ghost use Rattle.posix.specs.Processes.{first_process};
 ghost use Rattle.posix.specs.Births.{child_of};
 ghost use Rattle.posix.specs.Ends.{buried, make_zombie, noticed};
-ghost use Rattle.posix.specs.Generation.{signalled};
+ghost use Rattle.posix.specs.Generation.{signalled, effect_of};
 ghost use Rattle.posix.specs.Waits.{news_told};
 ghost use Rattle.proctable.specs.Body.{process_of};
 
 use crate::own::Own;
-use posix::{Life, News, PendingSignal, Pid, Status};
+use posix::{Effect, Life, News, PendingSignal, Pid, Status};
 use std::alloc::{AllocError, Global};
 
 /// A process without its number and its parent.
@@ -90,12 +90,14 @@ impl Body {
         self.news = News::Nothing;
     }
 
-    /// A signal is generated for the process, whose number this is (XSH 2.4.1).
+    /// A signal is generated for the process, whose number this is (XSH 2.4.1). The effect is what it does
+    /// at once, which isn't done here.
     #[tactic(auto, unfolding(posix::specs::Generation::signalled))]
-    pub fn signal(&mut self, pid: Pid, signal: PendingSignal)
-        ensures { (q : ℕ) → process_of pid q self.new ≡ signalled signal (process_of pid q self.old) }
+    pub fn signal(&mut self, pid: Pid, signal: PendingSignal) -> Effect
+        ensures state { (q : ℕ) → process_of pid q self.new ≡ signalled signal (process_of pid q self.old) }
+        ensures effect { result ≡ effect_of pid self.old.life signal self.old.own.signals }
     {
-        self.own.signals.generate(pid, self.life, signal);
+        self.own.signals.generate(pid, self.life, signal)
     }
 
     /// The process, whose number this is, gets notice of a child by a signal, unless it ignores CHLD (XSH

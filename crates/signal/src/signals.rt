@@ -3,7 +3,7 @@
 ghost use Rattle.std.specs.Prelude.{◌≡◌, [], true, false, None, Some, Ok, Err, OnOk, OnErr, IfErr, IfSome, IsSome};
 ghost use Rattle.posix.specs.Processes.{initial_signals, nothing_pending};
 ghost use Rattle.posix.specs.Ends.{forgotten, ignores_children as ignores_children_of, drops_children as drops_children_of};
-ghost use Rattle.posix.specs.Generation.{action as action_of, is_deaf as is_deaf_to, keeps as keeps_of, generated};
+ghost use Rattle.posix.specs.Generation.{action as action_of, is_deaf as is_deaf_to, keeps as keeps_of, generated, effect_of};
 ghost use Rattle.posix.specs.Choice.{chosen, least_ready as least_ready_of, carried_by, taken};
 ghost use Rattle.posix.specs.Handlers.{is_full as is_full_of, handler_mask as handler_mask_of, entered, at_handler, after_entry as after_entry_of, handler_arguments, newest_frame, left, restore, set_action as set_action_of, set_mask as set_mask_of, give_mask};
 ghost use Rattle.posix.specs.SignalCalls.{set_of};
@@ -13,7 +13,8 @@ use crate::frames::{Frames, FramesFull, NoFrame};
 use crate::pending::Pending;
 use bitflags::Flags;
 use posix::{
-    Action, Carried, Errno, Handler, Life, PendingSignal, Pid, Register, SaFlags, Sig, SigSet,
+    Action, Carried, Effect, Errno, Handler, How, Life, PendingSignal, Pid, Register, SaFlags, Sig,
+    SigSet,
 };
 use std::marker::Model;
 use umach::Cpu;
@@ -128,14 +129,25 @@ impl Signals {
     /// A signal is generated for the process, which has this number and life. For a zombie, and for process
     /// 1 where it has no handler for the signal, nothing is; nor where the signal isn't blocked and its
     /// action does nothing. Else it is pending; one that was pending already keeps what it came with first
-    /// (XSH 2.4.1).
-    #[tactic(auto, unfolding(posix::specs::Generation::generated))]
-    pub fn generate(&mut self, pid: Pid, life: Life, signal: PendingSignal)
-        ensures { self.new ≡ generated pid life signal self.old }
+    /// (XSH 2.4.1). The effect is what the signal does at once: CONT continues a stopped process, whether or
+    /// not it is blocked or ignored (XSH 2.4.3).
+    #[tactic(auto, unfolding(posix::specs::Generation::generated, posix::specs::Generation::effect_of))]
+    pub fn generate(&mut self, pid: Pid, life: Life, signal: PendingSignal) -> Effect
+        ensures state { self.new ≡ generated pid life signal self.old }
+        ensures effect { result ≡ effect_of pid life signal self.old }
     {
         let sig = signal.sig;
-        if !self.is_deaf(pid, life, sig) && self.keeps(sig) && !self.pending.contains(sig) {
+        let continues = sig == Sig::CONT && matches!(life, Life::Stopped);
+        if self.is_deaf(pid, life, sig) {
+            return Effect::Nothing;
+        }
+        if self.keeps(sig) && !self.pending.contains(sig) {
             self.pending.insert(sig, signal.carried);
+        }
+        if continues {
+            Effect::Continued
+        } else {
+            Effect::Nothing
         }
     }
 
@@ -265,22 +277,18 @@ impl Signals {
         Ok(())
     }
 
-    /// Changes the signal mask: `how` 0 adds the set, 1 takes it away, 2 makes it the mask. KILL and STOP
-    /// stay unblocked. At the error EINVAL, for another `how`, nothing changes (XSH sigprocmask).
+    /// The set is added to the signal mask, taken from it, or put in its place; KILL and STOP stay
+    /// unblocked (XSH sigprocmask).
     #[tactic(auto, unfolding(posix::specs::Handlers::set_mask))]
-    pub fn set_mask(&mut self, how: i64, set: SigSet) -> Result<(), Errno>
-        ensures ok { OnOk result (set_mask_of how set self.old ≡ Ok self.new) }
-        ensures err { IfErr result (λ why. set_mask_of how set self.old ≡ Err why) }
-        ensures same { OnErr result (self.new ≡ self.old) }
+    pub fn set_mask(&mut self, how: How, set: SigSet)
+        ensures { self.new ≡ set_mask_of how set self.old }
     {
         let mask = match how {
-            0 => self.mask.union(set),
-            1 => self.mask.except(set),
-            2 => set,
-            _ => return Err(Errno::EINVAL),
+            How::Block => self.mask.union(set),
+            How::Unblock => self.mask.except(set),
+            How::Set => set,
         };
         self.replace_mask(mask);
-        Ok(())
     }
 
     /// The set is the signal mask from now on; KILL and STOP stay unblocked (XSH sigsuspend).

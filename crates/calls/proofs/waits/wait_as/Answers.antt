@@ -4,6 +4,7 @@ use Rattle.posix.specs.declared.errno.Errno.TheVariants.{ECHILD, EINVAL}
 use Rattle.posix.specs.declared.call.Call.TheVariants.{Waitpid}
 use Rattle.posix.specs.declared.process.Blocked.TheVariants as blocked
 use Rattle.posix.specs.declared.process.Report.TheVariants as found
+use Rattle.posix.specs.Targets.{target_in}
 use Rattle.posix.specs.Tables.{removed}
 use Rattle.posix.specs.States.{State, process, change}
 use Rattle.posix.specs.Outcomes.{refusal, finish}
@@ -30,8 +31,8 @@ collect-requires-clause-other g c =
     let me = c.args.me.now in
     let x = process_like me in
     let kept : to_z w64 (of_z w64 me.r1) ≡ me.r1 = search rules in
-    let finds = c.wait_attempt.ensures.value ∙ ap (λ z. report s.processes me.pid me.group z c.in-Some.options.0) kept in
-    let child = reported s.processes c.requires.regular.rising me.pid me.group me.r1 c.in-Some.options.0 (found.End c.in-End.child c.in-End.status) c.in-End.child (sym finds ∙ c.in-End.is) refl in
+    let finds = c.wait_attempt.ensures.value ∙ ap (λ t. report s.processes me.pid me.group t c.in-Some.options.0) (c.from_word.ensures ∙ ap target_in kept) in
+    let child = reported s.processes c.requires.regular.rising me.pid me.group (target_in me.r1) c.in-Some.options.0 (found.End c.in-End.child c.in-End.status) c.in-End.child (sym finds ∙ c.in-End.is) refl in
     not_first s c.requires.regular me.pid c.in-End.child true c.requires.placed child
 
 pub collect-requires-clause-zombie : goal.collect-requires-clause-zombie
@@ -40,8 +41,8 @@ collect-requires-clause-zombie g c =
     let me = c.args.me.now in
     let x = process_like me in
     let kept : to_z w64 (of_z w64 me.r1) ≡ me.r1 = search rules in
-    let finds = c.wait_attempt.ensures.value ∙ ap (λ z. report s.processes me.pid me.group z c.in-Some.options.0) kept in
-    let child = reported s.processes c.requires.regular.rising me.pid me.group me.r1 c.in-Some.options.0 (found.End c.in-End.child c.in-End.status) c.in-End.child (sym finds ∙ c.in-End.is) refl in
+    let finds = c.wait_attempt.ensures.value ∙ ap (λ t. report s.processes me.pid me.group t c.in-Some.options.0) (c.from_word.ensures ∙ ap target_in kept) in
+    let child = reported s.processes c.requires.regular.rising me.pid me.group (target_in me.r1) c.in-Some.options.0 (found.End c.in-End.child c.in-End.status) c.in-End.child (sym finds ∙ c.in-End.is) refl in
     (child.what, ap (λ (t : State). process t c.in-End.child) c.wait_attempt.ensures.same ∙ child.found, child.dead)
 
 pub report-requires-clause-there : goal.report-requires-clause-there
@@ -50,8 +51,8 @@ report-requires-clause-there g c =
     let me = c.args.me.now in
     let x = process_like me in
     let kept : to_z w64 (of_z w64 me.r1) ≡ me.r1 = search rules in
-    let finds = c.wait_attempt.ensures.value ∙ ap (λ z. report s.processes me.pid me.group z c.in-Some.options.0) kept in
-    let child = reported s.processes c.requires.regular.rising me.pid me.group me.r1 c.in-Some.options.0 (found.End c.in-End.child c.in-End.status) c.in-End.child (sym finds ∙ c.in-End.is) refl in
+    let finds = c.wait_attempt.ensures.value ∙ ap (λ t. report s.processes me.pid me.group t c.in-Some.options.0) (c.from_word.ensures ∙ ap target_in kept) in
+    let child = reported s.processes c.requires.regular.rising me.pid me.group (target_in me.r1) c.in-Some.options.0 (found.End c.in-End.child c.in-End.status) c.in-End.child (sym finds ∙ c.in-End.is) refl in
     let gone = c.collect.ensures.state ∙ ap (λ (t : State). record t { processes = removed c.in-End.child t.processes }) c.wait_attempt.ensures.same in
     subst (λ (t : State). IsSome (process t me.pid)) (sym gone) (caller_stays s.processes me.pid c.in-End.child c.requires.placed child)
 
@@ -61,8 +62,8 @@ tell_news-requires g c =
     let me = c.args.me.now in
     let x = process_like me in
     let kept : to_z w64 (of_z w64 me.r1) ≡ me.r1 = search rules in
-    let finds = c.wait_attempt.ensures.value ∙ ap (λ z. report s.processes me.pid me.group z c.in-Some.options.0) kept in
-    let child = reported s.processes c.requires.regular.rising me.pid me.group me.r1 c.in-Some.options.0 (found.Change c.in-Change.child c.in-Change.status) c.in-Change.child (sym finds ∙ c.in-Change.is) refl in
+    let finds = c.wait_attempt.ensures.value ∙ ap (λ t. report s.processes me.pid me.group t c.in-Some.options.0) (c.from_word.ensures ∙ ap target_in kept) in
+    let child = reported s.processes c.requires.regular.rising me.pid me.group (target_in me.r1) c.in-Some.options.0 (found.Change c.in-Change.child c.in-Change.status) c.in-Change.child (sym finds ∙ c.in-Change.is) refl in
     subst (λ (t : State). IsSome (process t c.in-Change.child)) (sym c.wait_attempt.ensures.same) (subst IsSome (sym child.found) refl)
 
 pub report-requires-in-Change-clause-there : goal.report-requires-in-Change-clause-there
@@ -79,7 +80,7 @@ returns-in-NoChild g c =
     let me = c.args.me.now in
     let x = process_like me in
     let kept : to_z w64 (of_z w64 me.r1) ≡ me.r1 = search rules in
-    let finds = c.wait_attempt.ensures.value ∙ ap (λ z. report s.processes me.pid me.group z c.in-Some.options.0) kept in
+    let finds = c.wait_attempt.ensures.value ∙ ap (λ t. report s.processes me.pid me.group t c.in-Some.options.0) (c.from_word.ensures ∙ ap target_in kept) in
     let known = sym c.options_of.ensures.known ∙ ap is_some c.in-Some.is in
     let is = wait_finds s x c.in-Some.options.0 found.NoChild known c.in-Some.ensures.value (sym c.in-NoChild.is ∙ finds) in
     subst (λ a. Comes s a c.refuse-in-NoChild.result c.args.entries.now.items c.refuse-in-NoChild.new.entries.items c.refuse-in-NoChild.new.machine.state) (sym is)
@@ -92,7 +93,7 @@ returns-then-contains g c =
     let me = c.args.me.now in
     let x = process_like me in
     let kept : to_z w64 (of_z w64 me.r1) ≡ me.r1 = search rules in
-    let finds = c.wait_attempt.ensures.value ∙ ap (λ z. report s.processes me.pid me.group z c.in-Some.options.0) kept in
+    let finds = c.wait_attempt.ensures.value ∙ ap (λ t. report s.processes me.pid me.group t c.in-Some.options.0) (c.from_word.ensures ∙ ap target_in kept) in
     let known = sym c.options_of.ensures.known ∙ ap is_some c.in-Some.is in
     let at_once : has_option c.in-Some.options.0 WNOHANG ≡ true = sym {b = has_option c.in-Some.options.0 WNOHANG} (c.contains.ensures tt) ∙ c.if-contains.true in
     let is = wait_nothing s x c.in-Some.options.0 true known c.in-Some.ensures.value (sym c.in-Nothing.is ∙ finds) at_once in
@@ -106,7 +107,7 @@ returns-else-contains g c =
     let me = c.args.me.now in
     let x = process_like me in
     let kept : to_z w64 (of_z w64 me.r1) ≡ me.r1 = search rules in
-    let finds = c.wait_attempt.ensures.value ∙ ap (λ z. report s.processes me.pid me.group z c.in-Some.options.0) kept in
+    let finds = c.wait_attempt.ensures.value ∙ ap (λ t. report s.processes me.pid me.group t c.in-Some.options.0) (c.from_word.ensures ∙ ap target_in kept) in
     let known = sym c.options_of.ensures.known ∙ ap is_some c.in-Some.is in
     let hangs : has_option c.in-Some.options.0 WNOHANG ≡ false = sym {b = has_option c.in-Some.options.0 WNOHANG} (c.contains.ensures tt) ∙ c.if-contains.false in
     let is = wait_nothing s x c.in-Some.options.0 false known c.in-Some.ensures.value (sym c.in-Nothing.is ∙ finds) hangs in
@@ -118,7 +119,7 @@ returns-in-End g c =
     let me = c.args.me.now in
     let x = process_like me in
     let kept : to_z w64 (of_z w64 me.r1) ≡ me.r1 = search rules in
-    let finds = c.wait_attempt.ensures.value ∙ ap (λ z. report s.processes me.pid me.group z c.in-Some.options.0) kept in
+    let finds = c.wait_attempt.ensures.value ∙ ap (λ t. report s.processes me.pid me.group t c.in-Some.options.0) (c.from_word.ensures ∙ ap target_in kept) in
     let known = sym c.options_of.ensures.known ∙ ap is_some c.in-Some.is in
     let is = wait_finds s x c.in-Some.options.0 (found.End c.in-End.child c.in-End.status) known c.in-Some.ensures.value (sym c.in-End.is ∙ finds) in
     let gone = c.collect.ensures.state ∙ ap (λ (t : State). record t { processes = removed c.in-End.child t.processes }) c.wait_attempt.ensures.same in
@@ -132,7 +133,7 @@ returns-in-Change g c =
     let me = c.args.me.now in
     let x = process_like me in
     let kept : to_z w64 (of_z w64 me.r1) ≡ me.r1 = search rules in
-    let finds = c.wait_attempt.ensures.value ∙ ap (λ z. report s.processes me.pid me.group z c.in-Some.options.0) kept in
+    let finds = c.wait_attempt.ensures.value ∙ ap (λ t. report s.processes me.pid me.group t c.in-Some.options.0) (c.from_word.ensures ∙ ap target_in kept) in
     let known = sym c.options_of.ensures.known ∙ ap is_some c.in-Some.is in
     let is = wait_finds s x c.in-Some.options.0 (found.Change c.in-Change.child c.in-Change.status) known c.in-Some.ensures.value (sym c.in-Change.is ∙ finds) in
     let told = c.tell_news.ensures.state ∙ ap (λ (t : State). change t c.in-Change.child news_told) c.wait_attempt.ensures.same in

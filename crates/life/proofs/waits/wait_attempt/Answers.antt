@@ -1,4 +1,4 @@
-use Rattle.std.proofs.Common.{rules, refl, arith, length, ap, sym, ◌∙◌, to_z, of_z, w64}
+use Rattle.std.proofs.Common.{refl, arith, length, ap, sym, ◌∙◌}
 use Rattle.posix.specs.declared.process.Report.TheVariants as found
 use Rattle.posix.specs.Tables.{next_sibling}
 use Rattle.posix.proofs.WaitLemmas.{scan}
@@ -13,7 +13,7 @@ loop-next-init g c =
       same = c.first_child-next.ensures.contents;
       room = c.first_child-next.ensures.room;
       here = first_here _ up c.args.caller _ c.first_child-next.ensures.value;
-      todo = ap (scan c.args.group (to_z w64 (of_z w64 c.args.choice)) c.args.options.0 found.NoChild) (first_todo _ up c.args.caller _ c.first_child-next.ensures.value);
+      todo = ap (scan c.args.group c.args.target c.args.options.0 found.NoChild) (first_todo _ up c.args.caller _ c.first_child-next.ensures.value);
       read = let all = ap length (first_todo _ up c.args.caller _ c.first_child-next.ensures.value) in omega (arith, all, c.first_child-next.ensures.reads);
     }
 
@@ -23,9 +23,9 @@ returns-in_default-get-clause-value g c = absurd
     (sym c.in_default-get.is ∙ c.get.ensures.value))
 
 pub returns-in_default-look-clause-value : goal.returns-in_default-look-clause-value
-returns-in_default-look-clause-value g c = reported_here _ _ c.args.caller c.in-Some.child _ c.args.group (to_z w64 (of_z w64 c.args.choice)) c.args.choice c.args.options.0 _ c.loop-next.found
+returns-in_default-look-clause-value g c = reported_here _ _ c.args.caller c.in-Some.child _ c.args.group c.args.target c.args.options.0 _ c.loop-next.found
     (record { rising = c.first_child-next.ensures.rising; comes = c.in-Some.is; here = c.loop-next.invariant.here; same = c.loop-next.invariant.same })
-    (record { facts = _; read = c.in-Some-get.ensures.value; said = c.look.ensures }) (search rules) c.loop-next.invariant.todo c.in_default-look.not-NoChild c.in_default-look.not-Nothing
+    (record { facts = _; read = c.in-Some-get.ensures.value; said = c.look.ensures }) c.loop-next.invariant.todo c.in_default-look.not-NoChild c.in_default-look.not-Nothing
 
 pub loop-next-smaller : goal.loop-next-smaller
 loop-next-smaller g c = child_less _ _ c.args.caller c.in-Some.child _ _
@@ -50,7 +50,7 @@ loop-next-preserved g c =
     }
 
 pub returns-clause-value : goal.returns-clause-value
-returns-clause-value g c = none_left _ c.args.caller _ c.args.group (to_z w64 (of_z w64 c.args.choice)) c.args.choice c.args.options.0 c.loop-next.found c.in_default.is (search rules) c.loop-next.invariant.todo
+returns-clause-value g c = none_left _ c.args.caller _ c.args.group c.args.target c.args.options.0 c.loop-next.found c.in_default.is c.loop-next.invariant.todo
 
 pub returns-in_default-get-clause-reads : goal.returns-in_default-get-clause-reads
 returns-in_default-get-clause-reads g c =

@@ -12,7 +12,7 @@ invariant-loop-next g l =
       same : kin.contents l.table ≡ kin.contents l.fn.table;
       room : kin.room l.table ≡ kin.room l.fn.table;
       here : first_pid (left_of l.next kids) ≡ l.next;
-      todo : scan l.group l.choice l.options.0 l.found (left_of l.next kids) ≡ scan l.group l.choice l.options.0 found.NoChild kids;
+      todo : scan l.group l.target l.options.0 l.found (left_of l.next kids) ≡ scan l.group l.target l.options.0 found.NoChild kids;
       read : kin.reads l.table + 2 * length (left_of l.next kids) ≤ kin.reads l.fn.table + 1 + 2 * length kids;
     }
 

@@ -4,16 +4,15 @@ use Rattle.posix.specs.Tables.{left_of}
 use Rattle.posix.specs.Sends.{targets, sending, sent_among, sent}
 use Rattle.proctable.specs.Body.{facts_of}
 use Rattle.life.proofs.SendLemmas.{joined, numbers_left}
-use Rattle.life.proofs.sends.send_to_all.Given as goal
+use Rattle.life.proofs.machine.Machine.send_to_all.Given as goal
 
 -- what is left to do, after what was done so far, is all that there is to do
 abbrev pub invariant-loop-next : goal.invariant-loop-next
 invariant-loop-next g l =
-    let kin = g.K.Kin in
+    let now = l.self.state in let first = l.fn.self.state in
     record {
-      sending : (r : Process) → l.me ≡ facts_of r → joined l.sending (sending r l.target l.sig (left_of l.next (kin.contents l.table))) ≡ sending r l.fn.target l.sig (kin.contents l.fn.table);
-      sent : (r : Process) → l.me ≡ facts_of r → sent_among r l.sig (targets r l.target (left_of l.next (kin.contents l.table))) (kin.contents l.table) ≡ sent r l.fn.target l.sig (kin.contents l.fn.table);
-      room : kin.room l.table ≡ kin.room l.fn.table;
+      sending : (r : Process) → l.me ≡ facts_of r → joined l.sending (sending r l.target l.sig (left_of l.next now.processes)) ≡ sending r l.fn.target l.sig first.processes;
+      sent : (r : Process) → l.me ≡ facts_of r → record now { processes = sent_among r l.sig (targets r l.target (left_of l.next now.processes)) now.processes } ≡ record first { processes = sent r l.fn.target l.sig first.processes };
     }
 
 abbrev pub decreases-loop-next : goal.decreases-loop-next

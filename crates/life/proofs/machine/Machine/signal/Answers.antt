@@ -1,0 +1,19 @@
+use Rattle.std.proofs.Common.{◌∙◌, refl}
+use Rattle.posix.specs.Generation.{signalled}
+use Rattle.posix.proofs.RegularLemmas.{keeps_signalled}
+use Rattle.proctable.proofs.Bodies.{changed_here}
+use Rattle.life.proofs.SoundLemmas.{sound_change}
+use Rattle.life.proofs.machine.Machine.signal.Goals as goal
+
+pub invariant_of-self : goal.invariant_of-self
+invariant_of-self g c =
+    let contents = g.met.K.Kin.puts c.self.inside.table c.args.pid c.signal.new.self ∙ changed_here _ c.update.ensures.rising c.args.pid c.update.result.now c.signal.new.self (signalled c.args.signal) c.update.ensures.value c.signal.ensures.state in
+    rw contents (sound_change c.args.pid _ (keeps_signalled c.args.signal) _ _ _ _ c.self.invariant)
+
+pub returns-clause-state : goal.returns-clause-state
+returns-clause-state g c =
+    let contents = g.met.K.Kin.puts c.self.inside.table c.args.pid c.signal.new.self ∙ changed_here _ c.update.ensures.rising c.args.pid c.update.result.now c.signal.new.self (signalled c.args.signal) c.update.ensures.value c.signal.ensures.state in
+    rw (contents, ← c.self.view_is) refl
+
+pub returns-clause-reads : goal.returns-clause-reads
+returns-clause-reads g c = rw (← c.self.view_is, g.met.K.Kin.put_reads _ _ _) (g.met.K.Kin.at_most_one _)

@@ -1,0 +1,29 @@
+//! How a signal mask changes.
+
+ghost use Rattle.std.specs.Prelude.{◌≡◌};
+ghost use Rattle.posix.specs.SignalCalls.{how_in};
+
+/// What becomes of a signal mask by a set of signals (XSH sigprocmask).
+#[derive(Clone, Copy, Debug, PartialEq, Eq)]
+pub enum How {
+    /// SIG_BLOCK: the set is added to the mask.
+    Block,
+    /// SIG_UNBLOCK: the set is taken from the mask.
+    Unblock,
+    /// SIG_SETMASK: the set is the mask.
+    Set,
+}
+
+impl How {
+    /// The one that a register stands for: 0 for `Block`, 1 for `Unblock`, 2 for `Set`; else none.
+    pub fn from_word(word: i64) -> Option<How>
+        ensures { result ≡ how_in word }
+    {
+        match word {
+            0 => Some(How::Block),
+            1 => Some(How::Unblock),
+            2 => Some(How::Set),
+            _ => None,
+        }
+    }
+}
