@@ -1,56 +1,15 @@
 -- A change of one process that others see nothing of gives nobody a place.
-use Rattle.std.proofs.Common.{◌≡◌, ◌≢◌, ℕ, zero, suc, ◌+◌, Bool, true, false, cond, not, ◌&&◌, refl, ap, sym, ◌∙◌, arith, subst, List, [], ◌∷◌, ◌++◌, append-nil, map, filter, find, Option, Some, None, option_and_then, option_map, ◌==◌, Contains, pos, negsuc, ℤ, Result, Ok, Err}
-use Rattle.std.specs.Int.{cast_unsigned, w64}
+use Rattle.std.proofs.Common.{◌≡◌, ℕ, zero, suc, ◌+◌, Bool, true, false, cond, not, ◌&&◌, refl, ap, ◌∙◌, arith, List, [], ◌∷◌, ◌++◌, append-nil, map, filter, find, Option, Some, None, option_map, ◌==◌, pos, negsuc, ℤ}
 use Rattle.std.specs.List.{AllByRecursion}
 use Rattle.std.proofs.lemmas.Bool.{eqb-true}
-use Rattle.posix.specs.declared.call.Call.{Call}
-use Rattle.posix.specs.declared.call.Call.TheVariants.{Exit, Fork, Waitpid, Pause, SchedYield, Getpid, Getppid, Getuid, Geteuid, Getgid, Getegid, Setuid, Seteuid, Setgid, Setegid, Kill, Sigaction, Sigprocmask, Sigpending, Sigsuspend, Sigreturn}
-use Rattle.posix.specs.declared.instr.Trap.{Trap}
-use Rattle.posix.specs.declared.instr.Trap.TheVariants as trap
-use Rattle.posix.specs.declared.event.Event.{Event}
-use Rattle.posix.specs.declared.event.Event.TheVariants.{Step, Tick}
-use Rattle.posix.specs.declared.errno.Errno.{Errno}
-use Rattle.posix.specs.declared.errno.Errno.TheVariants.{EPERM, ENOENT, ESRCH, EINTR, EIO, ECHILD, EAGAIN, EACCES, EFAULT, EINVAL, ENOTTY}
-use Rattle.posix.specs.declared.entry.Entry.{Entry}
-use Rattle.posix.specs.declared.entry.Entry.TheVariants.{Noted, Called, Reported, NoMemory, Handled, Discarded, Returned, Ended, Halted}
-use Rattle.posix.specs.declared.sig.DefaultAction.{DefaultAction}
-use Rattle.posix.specs.declared.sig.DefaultAction.TheVariants as default
-use Rattle.posix.specs.declared.process.Action.{Action}
-use Rattle.posix.specs.declared.process.Blocked.{Blocked}
-use Rattle.posix.specs.declared.process.Blocked.TheVariants as blocked
-use Rattle.posix.specs.declared.process.Frame.{Frame}
-use Rattle.posix.specs.declared.process.Handler.{Handler}
-use Rattle.posix.specs.declared.process.Handler.TheVariants as handler
-use Rattle.posix.specs.declared.process.PendingSignal.{PendingSignal}
-use Rattle.posix.specs.declared.process.Report.{Report}
-use Rattle.posix.specs.declared.process.Report.TheVariants as found
-use Rattle.posix.specs.declared.process.Sending.{Sending}
-use Rattle.posix.specs.declared.process.Sending.TheVariants as sends
-use Rattle.posix.specs.Signals.{KILL, SEGV, default_action}
-use Rattle.posix.specs.SignalSets.{has, set_in}
-use Rattle.posix.specs.Statuses.{exited, killed}
-use Rattle.posix.specs.Processes.{Process, Signals, Credentials, Cpu, argument}
+use Rattle.posix.specs.Processes.{Process}
 use Rattle.posix.specs.Tables.{IsRising, lookup, at, changed, children_in, pids}
-use Rattle.posix.specs.States.{State, is_in, change, current, next_pid, process}
-use Rattle.posix.specs.Execute.{exec_one}
-use Rattle.posix.specs.Outcomes.{Outcome, Attempted, Done, Block, finish, finished, refusal, refused}
-use Rattle.posix.specs.Credentials.{setuid, seteuid, setgid, setegid}
-use Rattle.posix.specs.Generation.{action, is_pending}
-use Rattle.posix.specs.Choice.{chosen, carried_by, from_kernel}
-use Rattle.posix.specs.Handlers.{handles, is_full, is_interrupted, newest_frame, set_action, set_mask}
-use Rattle.posix.specs.Births.{fork_as}
-use Rattle.posix.specs.Ends.{end_process}
-use Rattle.posix.specs.Waits.{wait, wait_with, report, is_named, report_of, report_life, report_found, report_among, reports, is_something, options_in, are_known, has_option}
-use Rattle.posix.specs.Delivery.{call_of, interruption, handle, act_by_default, act_on, take_out, deliver, fault_with, fault, return_to, return_from_handler}
-use Rattle.posix.specs.Sends.{sending, send_with, signal_in, signal_or_none, kill_with, kill}
-use Rattle.posix.specs.SignalCalls.{set_credentials, is_question, are_flags, action_in, sigaction_with, sigaction_of, sigaction, sigprocmask_with, sigprocmask, sigpending}
-use Rattle.posix.specs.Attempts.{attempt, attempt_again}
+use Rattle.posix.specs.States.{State, is_in, change}
+use Rattle.posix.specs.Waits.{report, is_named, report_of, report_life, report_found, report_among, reports, is_something}
 use Rattle.posix.specs.Settle.{settle, wakes, can_act}
-use Rattle.posix.specs.Step.{IsStep, next, happens, step, act, act_in, after_trap, begin_call, deliver_or, go_on, code_of}
 use Rattle.posix.specs.Settle.{NoWakeIsLost}
 use Rattle.posix.proofs.TableLemmas.{pid_looked}
 use Rattle.posix.proofs.MapLemmas.{children_map}
-use Rattle.posix.proofs.OrderLemmas.{first_in}
 use Rattle.posix.proofs.SettleLemmas.{ReportsSame, can_act_same, all_looked}
 
 -- nothing is changed that others see in a child
