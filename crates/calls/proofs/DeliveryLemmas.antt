@@ -28,7 +28,7 @@ use Rattle.calls.proofs.ChosenLemmas.{handle_taken, end_taken, changed_there}
 end_with : State → ℕ → ℕ → ℕ → Outcome
 end_with s p parent status =
     cond (p == 1) (outcome_of (halt s status) (Ended p status ∷ Halted ∷ []))
-    (outcome_of (notice_of_end (tell_of_all (depart s p status) (zombies_of p s.processes)) parent p status) (Ended p status ∷ []))
+    (outcome_of (notice_of_end (tell_of_all (depart s p 1 status) 1 (zombies_of p s.processes)) parent p status) (Ended p status ∷ []))
 
 pub end_same : (s : State) (r q : Process) (status : ℕ) → r.pid ≡ q.pid → r.parent ≡ q.parent → end_process s r status ≡ end_process s q status
 unfolding end_process end_with

@@ -24,7 +24,7 @@ pub fn end<K: Kin>(machine: &mut Machine<K>, pid: Pid, status: Status, entries: 
     ensures state { (me : Process) → process machine.old.state pid ≡ Some me → machine.new.state ≡ (end_process machine.old.state me status).state }
     ensures entries { (me : Process) → process machine.old.state pid ≡ Some me → entries.new.items ≡ entries.old.items ++ (end_process machine.old.state me status).entries }
 {
-    machine.end(pid, status);
+    machine.end(pid, Pid::INIT, status);
     entries.push(Entry::Ended { pid, status });
     if pid == Pid::INIT {
         entries.push(Entry::Halted);

@@ -148,7 +148,7 @@ fn a_machine_has_births_and_ends(rt: HostRuntime) -> Result<(), Fail> {
     assert!(rt; machine.next_pid() == Some(child));
     machine.fork(Pid::INIT, child)?;
     assert!(rt; machine.facts(child).is_some());
-    machine.end(child, Status::exited(5));
+    machine.end(child, Pid::INIT, Status::exited(5));
     assert!(rt; machine.facts(Pid::INIT).is_some());
     let report = machine.wait_attempt(Pid::INIT, Pid::INIT, Target::All, WaitOptions::WNOHANG);
     assert_eq!(rt; report, Report::End(child, Status::exited(5)));

@@ -47,6 +47,70 @@ sys sigreturn
 end
 ";
 
+const COMPLETED_CALL: &[u8] = b"\
+pidmax 40
+consoles 1
+program init
+set r1, 17
+set r2, @h
+sys sigaction
+sys fork
+jz r0, kid
+set r1, -1
+sys waitpid
+note r1
+kid:
+sys exit
+h:
+sys sigreturn
+end
+";
+
+const INTERRUPTED_WAIT: &[u8] = b"\
+pidmax 40
+consoles 1
+program init
+set r1, 10
+set r2, @h
+sys sigaction
+sys fork
+jz r0, kid
+set r1, -1
+sys waitpid
+sys pause
+kid:
+set r1, 1
+set r2, 10
+sys kill
+sys pause
+h:
+sys sigreturn
+end
+";
+
+const RESTARTED_WAIT: &[u8] = b"\
+pidmax 40
+consoles 1
+program init
+set r4, 268435456
+set r1, 10
+set r2, @h
+sys sigaction
+sys fork
+jz r0, kid
+set r1, -1
+sys waitpid
+sys pause
+kid:
+set r1, 1
+set r2, 10
+sys kill
+sys pause
+h:
+sys sigreturn
+end
+";
+
 #[test]
 fn ignored_children_are_dropped(rt: HostRuntime) {
     let dropped = Summary {
@@ -75,4 +139,60 @@ fn a_suspended_mask_is_restored(rt: HostRuntime) {
 "
         .as_slice();
     expect_run(&rt, SUSPENDED, b"step 17\n", trace, b"", 0);
+}
+
+#[test]
+fn a_completed_call_goes_first(rt: HostRuntime) {
+    let trace = b"\
+3 call 1 sigaction = 0
+4 call 1 fork = 2
+9 end 2 4352
+10 call 1 waitpid = 2 status 4352
+11 handle 1 17 4352 2
+12 return 1
+13 note 1 4352
+"
+        .as_slice();
+    expect_run(&rt, COMPLETED_CALL, b"step 13\n", trace, b"", 0);
+}
+
+#[test]
+fn a_wait_is_interrupted(rt: HostRuntime) {
+    let trace = b"\
+3 call 1 sigaction = 0
+4 call 1 fork = 2
+11 call 2 kill = 0
+13 call 1 waitpid = -4
+13 handle 1 10 0 2
+14 return 1
+"
+        .as_slice();
+    expect_run(&rt, INTERRUPTED_WAIT, b"step 15\n", trace, b"", 0);
+}
+
+#[test]
+fn a_wait_is_begun_again(rt: HostRuntime) {
+    let trace = b"\
+4 call 1 sigaction = 0
+5 call 1 fork = 2
+12 call 2 kill = 0
+14 handle 1 10 0 2
+15 return 1
+"
+        .as_slice();
+    expect_run(&rt, RESTARTED_WAIT, b"step 16\n", trace, b"", 0);
+}
+
+#[test]
+fn ignored_children_are_not_reported(rt: HostRuntime) {
+    let trace = b"\
+3 call 1 sigaction = 0
+4 call 1 fork = 2
+6 call 1 fork = 3
+12 end 2 4352
+14 end 3 4352
+15 call 1 waitpid = -10
+"
+        .as_slice();
+    expect_run(&rt, CHILDREN_IGNORED, b"step 15\n", trace, b"", 0);
 }

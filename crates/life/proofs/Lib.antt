@@ -7,3 +7,4 @@ pub mod ChildLemmas
 pub mod SendLemmas
 pub mod LoanLemmas
 pub mod ViewLemmas
+pub mod PartLemmas

@@ -1,20 +1,30 @@
--- The walk over the children of a process that ends, which tells process 1 of each zombie.
-use Rattle.std.proofs.Common.{◌≡◌, ◌≢◌, ℕ, ◌<◌, ◌≤◌, Bool, true, false, cond, not, refl, ap, sym, ◌∙◌, arith, List, [], ◌∷◌, length, filter, Option, Some, None, ◌==◌, nat_le}
-use Rattle.std.specs.Option.{IfSome}
-use Rattle.std.proofs.lemmas.Bool.{eqb-true, ne_eqb}
+-- The walk over the children of a process that ends, which tells its heir of each zombie.
+use Rattle.std.proofs.Common.{◌≡◌, ◌≢◌, ℕ, ◌<◌, ◌≤◌, true, false, cond, not, refl, ap, sym, ◌∙◌, arith, List, [], ◌∷◌, length, map, filter, Option, Some, None, ◌==◌, nat_le, nat_lt, option_map, subst}
+use Rattle.std.specs.Option.{IfSome, IsSome, option_map_or}
+use Rattle.std.proofs.lemmas.Bool.{eqb-true, eq-eqb, ne_eqb}
+use Rattle.std.proofs.lemmas.List.{length-map}
 use Rattle.std.proofs.lemmas.Bool.Decides.{nat_tests}
 use Rattle.posix.specs.declared.process.Life.{Life}
+use Rattle.posix.specs.declared.process.PendingSignal.{PendingSignal}
 use Rattle.posix.specs.declared.process.Life.TheVariants.{Running, Stopped, Zombie}
 use Rattle.posix.specs.Processes.{Process, is_zombie}
-use Rattle.posix.specs.Tables.{lookup, changed, removed, is_child, children_in, first_pid, left_of, parent_of, next_sibling}
+use Rattle.posix.specs.Tables.{lookup, at, changed, removed, adopted, is_child, children_in, first_pid, above, left_of, parent_of, next_sibling}
 use Rattle.posix.specs.States.{State, process, change}
-use Rattle.posix.specs.Regular.{IsRegular}
-use Rattle.posix.specs.Ends.{child_signal, noticed, is_dropping, drop_child, notice_of_end, zombies_of, tell_of_all}
+use Rattle.posix.specs.Regular.{IsRegular, CanInherit}
+use Rattle.posix.specs.Generation.{signalled}
+use Rattle.posix.specs.Ends.{buried, depart, child_signal, ignores_children, noticed, is_dropping, drop_child, notice_of_end, status_of, zombies_of, tell_of_all}
 use Rattle.posix.proofs.TableLemmas.{pid_looked, lookup_changed}
 use Rattle.posix.proofs.WalkLemmas.{AtChild, at_child, at_first, head_above}
-use Rattle.posix.proofs.MapLemmas.{children_changed}
+use Rattle.posix.proofs.MapLemmas.{at_pid, lookup_map, filter_map, children_map}
 use Rattle.proctable.proofs.SlotLemmas.{filters_commute}
-use Rattle.posix.proofs.RegularLemmas.{keeps_noticed, regular_change, regular_removed, lookup_kept, lookup_other}
+use Rattle.posix.proofs.RegularLemmas.{keeps_at, keeps_noticed, regular_change, regular_removed, lookup_kept, lookup_other, heir_other, heir_there, heir_living, heir_map, heir_removed, regular_depart}
+use Rattle.posix.proofs.NoticeLemmas.{only_notice}
+use Rattle.pidalloc.specs.Rows.{Pids}
+use Rattle.sched.specs.Places.{Places}
+use Rattle.life.specs.Machines.{IsSound, CanGo, IsCounted}
+use Rattle.life.proofs.SoundLemmas.{is_there, found_in, heir_in, kept_order, kept_departed, parents_departed, there_buried}
+use Rattle.life.proofs.EndLemmas.{leave, dropping_left, notice_left, tell_after}
+use Rattle.life.proofs.PartLemmas.{can_go, can_go_map, sound_told}
 
 -- what is left from above c is left without c
 left_without : (o : Option ℕ) (c : ℕ) → IfSome o (λ y. c < y) → (rs : List Process) → left_of o (removed c rs) ≡ left_of o rs
@@ -42,16 +52,55 @@ sibling_above c rs = head_above c (children_in (parent_of c rs) rs)
 abbrev pub zombies : List Process → List Process
 zombies rs = filter (λ r. is_zombie r.life) rs
 
+-- ---- a change that keeps numbers and lives
+
+-- the number and the life of a process that has notice stay
+record Same (g : Process → Process) : Type 0 where
+  pub pid : (r : Process) → (g r).pid ≡ r.pid
+  pub life : (r : Process) → (g r).life ≡ r.life
+
+same_at : (heir : ℕ) (signal : PendingSignal) → Same (at heir (noticed signal))
+unfolding noticed signalled
+same_at heir signal = record {
+  pid = (keeps_at heir (noticed signal) (keeps_noticed signal)).pid;
+  life = λ r. elim (r.pid == heir) as (λ b. (cond b (cond (ignores_children r.signals) r (signalled signal r)) r).life ≡ r.life) [
+    | true ↦ elim (ignores_children r.signals) as (λ b. (cond b r (signalled signal r)).life ≡ r.life) [ true ↦ refl | false ↦ refl ]
+    | false ↦ refl
+  ];
+}
+
+-- the same are left
+left_map : (g : Process → Process) → ((r : Process) → (g r).pid ≡ r.pid) → (o : Option ℕ) (rs : List Process) → left_of o (map g rs) ≡ map g (left_of o rs)
+left_map g k None rs = refl
+left_map g k (Some n) rs = filter_map (λ r. nat_le n r.pid) g (λ r. ap (nat_le n) (k r)) rs
+
+-- with the same number first
+first_map : (g : Process → Process) → ((r : Process) → (g r).pid ≡ r.pid) → (rs : List Process) → first_pid (map g rs) ≡ first_pid rs
+first_map g k [] = refl
+first_map g k (r ∷ rs) = ap Some (k r)
+
+-- and of the zombies among them the same is told
+tell_map : (g : Process → Process) → Same g → (s : State) (heir : ℕ) (rs : List Process) → tell_of_all s heir (zombies (map g rs)) ≡ tell_of_all s heir (zombies rs)
+unfolding tell_of_all
+tell_map g k s heir rs = ap (tell_of_all s heir) (filter_map (λ r. is_zombie r.life) g (λ r. ap is_zombie (k.life r)) rs) ∙ told s (zombies rs)
+  where
+    told : (s : State) (zs : List Process) → tell_of_all s heir (map g zs) ≡ tell_of_all s heir zs
+    told s [] = refl
+    told s (z ∷ zs) = rw (k.pid z, k.life z) (told (notice_of_end s heir z.pid (status_of z.life)) zs)
+
+-- ---- one zombie
+
 -- what the walk over the children of p knows at the zombie c
-record IsToTell (s : State) (p c w : ℕ) : Type 0 where
+pub record IsToTell (s : State) (p heir c w : ℕ) : Type 0 where
   pub child : AtChild s.processes p c
   pub dead : child.what.life ≡ Zombie w
   pub least : 1 ≤ p
   pub other : p ≢ 1
+  pub inherits : CanInherit s.processes p heir
 
 -- the zombie isn't process 1
-not_first : (s : State) (p c w : ℕ) → IsRegular s → IsToTell s p c w → c ≢ 1
-not_first s p c w i h e =
+not_first : (s : State) (p heir c w : ℕ) → IsRegular s → IsToTell s p heir c w → c ≢ 1
+not_first s p heir c w i h e =
     let both = sym i.first.found ∙ ap (λ n. lookup n s.processes) (sym e) ∙ h.child.found in
     let same : i.first.what ≡ h.child.what = cc in
     let zero : p ≡ 0 = sym h.child.parent ∙ ap (λ (r : Process). r.parent) (sym same) ∙ i.first.parent in
@@ -59,17 +108,21 @@ not_first s p c w i h e =
     absurd (omega (arith, l, zero))
 
 -- nor p, since a zombie has no children
-not_self : (s : State) (p c w : ℕ) → IsRegular s → IsToTell s p c w → c ≢ p
-not_self s p c w i h e =
+not_self : (s : State) (p heir c w : ℕ) → IsRegular s → IsToTell s p heir c w → c ≢ p
+not_self s p heir c w i h e =
     let dead : is_zombie h.child.what.life ≡ true = ap is_zombie h.dead in
     let none : children_in p s.processes ≡ [] = i.childless p h.child.what h.other (ap (λ n. lookup n s.processes) (sym e) ∙ h.child.found) dead in
     let left = sym h.child.left ∙ ap (λ kids. left_of (Some c) kids) none in
     absurd (cc)
 
--- the children of p are the same where process 1 has notice
-kids_noticed : (s : State) (p c w : ℕ) → IsRegular s → 1 ≤ p → children_in p (changed 1 (noticed (child_signal c w)) s.processes) ≡ children_in p s.processes
-kids_noticed s p c w i least =
-    children_changed 1 p (noticed (child_signal c w)) (keeps_noticed (child_signal c w)).parent s.processes i.rising i.first.what i.first.found (λ e. let none = i.first.parent in absurd (omega (arith, least, e, none)))
+-- nor the heir
+not_heir : (s : State) (p heir c w : ℕ) → IsRegular s → IsToTell s p heir c w → c ≢ heir
+not_heir s p heir c w i h = heir_living s.processes p heir c h.child.what h.inherits (not_first s p heir c w i h) h.child.found (ap is_zombie h.dead)
+
+-- the children of p are the same where one has notice, but for the signal
+kids_noticed : (signal : PendingSignal) (heir p : ℕ) (rs : List Process) → children_in p (changed heir (noticed signal) rs) ≡ map (at heir (noticed signal)) (children_in p rs)
+unfolding changed
+kids_noticed signal heir p rs = children_map (at heir (noticed signal)) (keeps_at heir (noticed signal) (keeps_noticed signal)).parent p rs
 
 -- the children of p without c
 children_without : (p c : ℕ) (rs : List Process) → children_in p (removed c rs) ≡ removed c (children_in p rs)
@@ -77,165 +130,319 @@ unfolding children_in removed
 children_without p c rs = filters_commute (is_child p) (λ r. not (r.pid == c)) rs
 
 -- behind the zombie the children of p are the same
-left_told : (s : State) (p c w : ℕ) → IsRegular s → IsToTell s p c w → left_of (next_sibling c s.processes) (children_in p (notice_of_end s 1 c w).processes) ≡ left_of (next_sibling c s.processes) (children_in p s.processes)
+left_told : (s : State) (p heir c w : ℕ)
+    → left_of (next_sibling c s.processes) (children_in p (notice_of_end s heir c w).processes) ≡ map (at heir (noticed (child_signal c w))) (left_of (next_sibling c s.processes) (children_in p s.processes))
 unfolding notice_of_end
-left_told s p c w i h =
+left_told s p heir c w =
     let after = next_sibling c s.processes in
-    let told = change s 1 (noticed (child_signal c w)) in
-    let kids = kids_noticed s p c w i h.least in
-    elim (is_dropping 1 s.processes) as (λ b. left_of after (children_in p (cond {A = State} b (drop_child told c) told).processes) ≡ left_of after (children_in p s.processes)) [
-      | true ↦ ap (left_of after) (children_without p c told.processes ∙ ap (removed c) kids) ∙ left_without after c (sibling_above c s.processes) (children_in p s.processes)
-      | false ↦ ap (left_of after) kids
+    let signal = child_signal c w in
+    let told = change s heir (noticed signal) in
+    let kids = kids_noticed signal heir p s.processes in
+    let left = left_map (at heir (noticed signal)) (same_at heir signal).pid after (children_in p s.processes) in
+    elim (is_dropping heir s.processes) as (λ b. left_of after (children_in p (cond {A = State} b (drop_child told c) told).processes) ≡ map (at heir (noticed signal)) (left_of after (children_in p s.processes))) [
+      | true ↦ ap (left_of after) (children_without p c told.processes ∙ ap (removed c) kids) ∙ left_without after c (sibling_above c s.processes) (map (at heir (noticed signal)) (children_in p s.processes)) ∙ left
+      | false ↦ ap (left_of after) kids ∙ left
     ]
 
 -- the state stays regular
-regular_told : (s : State) (p c w : ℕ) → IsRegular s → IsToTell s p c w → IsRegular (notice_of_end s 1 c w)
+regular_told : (s : State) (p heir c w : ℕ) → IsRegular s → IsToTell s p heir c w → IsRegular (notice_of_end s heir c w)
 unfolding notice_of_end
-regular_told s p c w i h =
+regular_told s p heir c w i h =
     let signal = child_signal c w in
-    let told = change s 1 (noticed signal) in
-    let j = regular_change 1 (noticed signal) (keeps_noticed signal) s i in
-    let there = lookup_other 1 c (noticed signal) (keeps_noticed signal).pid (not_first s p c w i h) s.processes h.child.what h.child.found in
-    let gone = regular_removed c h.child.what told j (not_first s p c w i h) there (ap is_zombie h.dead) in
-    elim (is_dropping 1 s.processes) as (λ b. IsRegular (cond {A = State} b (drop_child told c) told)) [
+    let told = change s heir (noticed signal) in
+    let j = regular_change heir (noticed signal) (keeps_noticed signal) s i in
+    let there = lookup_other heir c (noticed signal) (keeps_noticed signal).pid (not_heir s p heir c w i h) s.processes h.child.what h.child.found in
+    let gone = regular_removed c h.child.what told j (not_first s p heir c w i h) there (ap is_zombie h.dead) in
+    elim (is_dropping heir s.processes) as (λ b. IsRegular (cond {A = State} b (drop_child told c) told)) [
       | true ↦ record { rising = gone.rising; bounded = gone.bounded; first = gone.first; placed = gone.placed; distinct = gone.distinct; childless = gone.childless }
       | false ↦ j
     ]
 
--- and p is as it was
-same_told : (s : State) (p c w : ℕ) → IsRegular s → IsToTell s p c w → process (notice_of_end s 1 c w) p ≡ process s p
+-- p is as it was
+same_told : (s : State) (p heir c w : ℕ) → IsRegular s → IsToTell s p heir c w → process (notice_of_end s heir c w) p ≡ process s p
 unfolding notice_of_end
-same_told s p c w i h =
+same_told s p heir c w i h =
     let signal = child_signal c w in
-    let told = change s 1 (noticed signal) in
-    let away : lookup p told.processes ≡ lookup p s.processes = lookup_changed 1 p (noticed signal) (keeps_noticed signal).pid s.processes ∙ rw (ne_eqb p 1 h.other) refl in
-    elim (is_dropping 1 s.processes) as (λ b. lookup p (cond {A = State} b (drop_child told c) told).processes ≡ lookup p s.processes) [
-      | true ↦ lookup_kept c p told.processes (λ e. not_self s p c w i h (sym e)) ∙ away
+    let told = change s heir (noticed signal) in
+    let other : p ≢ heir = (λ x. heir_other s.processes p heir h.other h.inherits (sym x)) in
+    let away : lookup p told.processes ≡ lookup p s.processes = lookup_changed heir p (noticed signal) (keeps_noticed signal).pid s.processes ∙ rw (ne_eqb p heir other) refl in
+    elim (is_dropping heir s.processes) as (λ b. lookup p (cond {A = State} b (drop_child told c) told).processes ≡ lookup p s.processes) [
+      | true ↦ lookup_kept c p told.processes (λ e. not_self s p heir c w i h (sym e)) ∙ away
       | false ↦ away
     ]
 
+-- and the heir may inherit still
+heir_told : (s : State) (p heir c w : ℕ) → IsRegular s → IsToTell s p heir c w → CanInherit (notice_of_end s heir c w).processes p heir
+unfolding notice_of_end changed
+heir_told s p heir c w i h =
+    let signal = child_signal c w in
+    let k = keeps_at heir (noticed signal) (keeps_noticed signal) in
+    let told = change s heir (noticed signal) in
+    let still : CanInherit told.processes p heir = heir_map (at heir (noticed signal)) k.pid k.zombie s.processes p heir h.inherits in
+    elim (is_dropping heir s.processes) as (λ b. CanInherit (cond {A = State} b (drop_child told c) told).processes p heir) [
+      | true ↦ heir_removed c p heir told.processes (not_heir s p heir c w i h) still
+      | false ↦ still
+    ]
+
 -- what is left to tell of after the zombie comes to the same
-todo_told : (s : State) (p c w : ℕ) → IsRegular s → IsToTell s p c w
-    → tell_of_all (notice_of_end s 1 c w) (zombies (left_of (next_sibling c s.processes) (children_in p (notice_of_end s 1 c w).processes))) ≡ tell_of_all s (zombies (left_of (Some c) (children_in p s.processes)))
+todo_told : (s : State) (p heir c w : ℕ) → IsToTell s p heir c w
+    → tell_of_all (notice_of_end s heir c w) heir (zombies (left_of (next_sibling c s.processes) (children_in p (notice_of_end s heir c w).processes))) ≡ tell_of_all s heir (zombies (left_of (Some c) (children_in p s.processes)))
 unfolding tell_of_all
-todo_told s p c w i h =
-    rw (left_told s p c w i h, h.child.left, h.dead, h.child.named) refl
+todo_told s p heir c w h =
+    let left = left_of (next_sibling c s.processes) (children_in p s.processes) in
+    let now : tell_of_all s heir (zombies (left_of (Some c) (children_in p s.processes))) ≡ tell_of_all (notice_of_end s heir c w) heir (zombies left) = rw (h.child.left, h.dead, h.child.named) refl in
+    ap (λ l. tell_of_all (notice_of_end s heir c w) heir (zombies l)) (left_told s p heir c w)
+    ∙ tell_map (at heir (noticed (child_signal c w))) (same_at heir (child_signal c w)) (notice_of_end s heir c w) heir left ∙ sym now
+
+-- ---- the buried process
+
+-- a change that keeps numbers and parents keeps the next sibling
+sibling_map : (g : Process → Process) → ((r : Process) → (g r).pid ≡ r.pid) → ((r : Process) → (g r).parent ≡ r.parent) → (c : ℕ) (rs : List Process) → next_sibling c (map g rs) ≡ next_sibling c rs
+unfolding next_sibling
+sibling_map g kp kq c rs =
+    let up : parent_of c (map g rs) ≡ parent_of c rs = ap (λ (o : Option Process). option_map_or (λ r. r.parent) o 0) (lookup_map g kp c rs) ∙ parent_map (lookup c rs) in
+    ap (λ q. first_pid (above c (children_in q (map g rs)))) up
+    ∙ ap (λ l. first_pid (above c l)) (children_map g kq (parent_of c rs) rs)
+    ∙ ap first_pid (filter_map (λ r. nat_lt c r.pid) g (λ r. ap (nat_lt c) (kp r)) (children_in (parent_of c rs) rs))
+    ∙ first_map g kp (above c (children_in (parent_of c rs) rs))
+  where
+    parent_map : (o : Option Process) → option_map_or (λ r. r.parent) (option_map g o) 0 ≡ option_map_or (λ r. r.parent) o 0
+    parent_map None = refl
+    parent_map (Some r) = kq r
+
+at_buried : (p w : ℕ) (r : Process) → (at p (buried w) r).pid ≡ r.pid
+unfolding buried
+at_buried p w r = at_pid p (buried w) (λ q. refl) r
+
+parent_buried : (p w : ℕ) (r : Process) → (at p (buried w) r).parent ≡ r.parent
+unfolding buried
+parent_buried p w r = grind arith
+
+-- the children of who is buried are the same, as a walk sees them
+kids_buried : (p w : ℕ) (rs : List Process) → children_in p (changed p (buried w) rs) ≡ map (at p (buried w)) (children_in p rs)
+unfolding changed
+kids_buried p w rs = children_map (at p (buried w)) (parent_buried p w) p rs
+
+first_buried : (p w : ℕ) (rs : List Process) → first_pid (children_in p (changed p (buried w) rs)) ≡ first_pid (children_in p rs)
+first_buried p w rs = ap first_pid (kids_buried p w rs) ∙ first_map (at p (buried w)) (at_buried p w) (children_in p rs)
+
+sibling_buried : (p w c : ℕ) (rs : List Process) → next_sibling c (changed p (buried w) rs) ≡ next_sibling c rs
+unfolding changed
+sibling_buried p w c rs = sibling_map (at p (buried w)) (at_buried p w) (parent_buried p w) c rs
+
+-- how many children are left
+abbrev pub to_ask : List Process → ℕ → Option ℕ → ℕ
+to_ask rs p next = length (left_of next (children_in p rs))
+
+asks_buried : (p w : ℕ) (rs : List Process) (next : Option ℕ) → to_ask (changed p (buried w) rs) p next ≡ to_ask rs p next
+asks_buried p w rs next =
+    ap (λ l. length (left_of next l)) (kids_buried p w rs)
+    ∙ ap length (left_map (at p (buried w)) (at_buried p w) next (children_in p rs)) ∙ length-map (left_of next (children_in p rs)) (at p (buried w))
 
 -- ---- the walk
 
--- from the child that comes next, what is left to tell of in the state now comes to all that there was to tell of
-pub record IsTelling (old now : State) (p : ℕ) (next : Option ℕ) : Type 0 where
-  pub regular : IsRegular now
+-- The parts m of a machine have p buried, and but for that they are the sound state now. From the child that
+-- comes next, what is left to tell of comes to all that there was to tell of.
+pub record IsTelling (old m : State) (pids : Pids) (places : Places) (n p heir w : ℕ) (next : Option ℕ) : Type 0 where
+  pub now : State
+  pub left : m ≡ leave p w now
+  pub sound : IsSound now pids places n
+  pub births : now.births ≡ old.births
   pub least : 1 ≤ p
+  pub other : p ≢ 1
+  pub inherits : CanInherit now.processes p heir
   pub mine : process now p ≡ process old p
   pub here : first_pid (left_of next (children_in p now.processes)) ≡ next
-  pub todo : tell_of_all now (zombies (left_of next (children_in p now.processes))) ≡ tell_of_all old (zombies_of p old.processes)
-
--- how many children are left
-abbrev pub to_ask : State → ℕ → Option ℕ → ℕ
-to_ask now p next = length (left_of next (children_in p now.processes))
+  pub todo : tell_of_all now heir (zombies (left_of next (children_in p now.processes))) ≡ tell_of_all old heir (zombies_of p old.processes)
 
 -- the walk begins at the first child
-pub begins : (s : State) (p : ℕ) → IsRegular s → (me : Process) → process s p ≡ Some me → IsTelling s s p (first_pid (children_in p s.processes))
+pub begins : (old s m : State) (pids : Pids) (a b : Places) (n p heir w : ℕ) (next : Option ℕ) (me : Process) → s ≡ old → m ≡ leave p w s → IsSound s pids a n → a.room ≤ b.room → p ≢ 1
+    → CanInherit old.processes p heir → process old p ≡ Some me → next ≡ first_pid (children_in p m.processes) → IsTelling old m pids b n p heir w next
 unfolding zombies_of
-begins s p i me e =
-    let first = at_first s.processes i.rising p in
+begins old s m pids a b n p heir w next me same left i room other h e is =
+    let found = found_in s old same p me e in
+    let named = pid_looked p s.processes me found in
+    let low = (i.regular.bounded p me found).least in
+    let first : next ≡ first_pid (children_in p s.processes) = is ∙ ap (λ (t : State). first_pid (children_in p t.processes)) left ∙ first_buried p w s.processes in
+    let all : left_of next (children_in p s.processes) ≡ children_in p s.processes = ap (λ o. left_of o (children_in p s.processes)) first ∙ at_first s.processes i.regular.rising p in
     record {
-      regular = i;
-      least = let named = pid_looked p s.processes me e in let low = (i.bounded p me e).least in omega (arith, named, low);
-      mine = refl;
-      here = ap first_pid first;
-      todo = ap (λ kids. tell_of_all s (zombies kids)) first;
+      now = s;
+      left = left;
+      sound = record { regular = i.regular; parents = i.parents; counted = i.counted; kept = kept_order s.world.pidmax s.processes pids a b n room i.kept };
+      births = ap (λ (t : State). t.births) same;
+      least = omega (arith, named, low);
+      other = other;
+      inherits = heir_in same h;
+      mine = ap (λ (t : State). process t p) same;
+      here = ap first_pid all ∙ sym first;
+      todo = ap (λ kids. tell_of_all s heir (zombies kids)) all ∙ ap (λ (t : State). tell_of_all t heir (zombies (children_in p t.processes))) same;
     }
 
--- the walk is at the child c, after comes next, and nothing has changed since
-pub record IsAt (old now later : State) (p c : ℕ) (next after : Option ℕ) : Type 0 where
-  pub telling : IsTelling old now p next
-  pub comes : next ≡ Some c
-  pub same : later ≡ now
-  pub sibling : after ≡ next_sibling c now.processes
-  pub other : p ≢ 1
-
 -- what the walk knows at the child c
-pub child_here : (old now later : State) (p c : ℕ) (next after : Option ℕ) → IsAt old now later p c next after → AtChild now.processes p c
-child_here old now later p c next after a =
-    let t = a.telling in
-    at_child now.processes t.regular.rising p c (ap (λ o. first_pid (left_of o (children_in p now.processes))) (sym a.comes) ∙ t.here ∙ a.comes)
+pub child_here : {old m : State} {pids : Pids} {places : Places} {n p heir w : ℕ} {next : Option ℕ} (t : IsTelling old m pids places n p heir w next) (c : ℕ) → next ≡ Some c → AtChild t.now.processes p c
+child_here {p = p} t c comes =
+    at_child t.now.processes t.sound.regular.rising p c (ap (λ o. first_pid (left_of o (children_in p t.now.processes))) (sym comes) ∙ t.here ∙ comes)
 
--- one child less is left
-pub asks_less : (old now later : State) (p c : ℕ) (next after : Option ℕ) → IsAt old now later p c next after → to_ask later p after < to_ask now p next
-asks_less old now later p c next after a = let l = ap length (child_here old now later p c next after a).left in rw (a.same, a.sibling, a.comes) (omega (arith, l))
+-- it is there
+pub child_there : {old m : State} {pids : Pids} {places : Places} {n p heir w : ℕ} {next : Option ℕ} (t : IsTelling old m pids places n p heir w next) (c : ℕ) → next ≡ Some c → IsSome (lookup c m.processes)
+child_there {p = p} {w = w} t c comes = let k = child_here t c comes in rw t.left (there_buried p w c t.now.processes (is_there _ k.what k.found))
 
--- what the life of the child was read as
-abbrev pub Reads : State → ℕ → Life → Type 0
-Reads later c life = (it : Process) → process later c ≡ Some it → life ≡ it.life
-
--- it is its life
-life_read : (old now later : State) (p c : ℕ) (next after : Option ℕ) (a : IsAt old now later p c next after) (life : Life) → Reads later c life → life ≡ (child_here old now later p c next after a).what.life
-life_read old now later p c next after a life reads = let k = child_here old now later p c next after a in reads k.what (ap (λ (s : State). process s c) a.same ∙ k.found)
+-- and is as it was, unless it is p
+pub child_same : {old m : State} {pids : Pids} {places : Places} {n p heir w : ℕ} {next : Option ℕ} (t : IsTelling old m pids places n p heir w next) (c : ℕ) (comes : next ≡ Some c) → c ≢ p → lookup c m.processes ≡ Some (child_here t c comes).what
+unfolding buried
+child_same {p = p} {w = w} t c comes ne = let k = child_here t c comes in ap (λ (s : State). lookup c s.processes) t.left ∙ lookup_other p c (buried w) (λ r. refl) ne t.now.processes k.what k.found
 
 -- a child that lives is passed
-pub passes : (old now later : State) (p c : ℕ) (next after : Option ℕ) (life : Life) → IsAt old now later p c next after → Reads later c life → ((w : ℕ) → life ≡ Zombie w → ⊥) → IsTelling old later p after
-passes old now later p c next after life a reads lives =
-    let t = a.telling in
-    let k = child_here old now later p c next after a in
-    let living : is_zombie k.what.life ≡ false = ap is_zombie (sym (life_read old now later p c next after a life reads)) ∙ living_of life lives in
-    let left : zombies (left_of (Some c) (children_in p now.processes)) ≡ zombies (left_of (next_sibling c now.processes) (children_in p now.processes)) = rw (k.left, living) refl in
-    rw (a.same, a.sibling) (record {
-      regular = t.regular;
+pub passes : {old m : State} {pids : Pids} {places : Places} {n p heir w : ℕ} {next : Option ℕ} (t : IsTelling old m pids places n p heir w next) (c : ℕ) (comes : next ≡ Some c) (after : Option ℕ) → after ≡ next_sibling c m.processes
+    → is_zombie (child_here t c comes).what.life ≡ false → IsTelling old m pids places n p heir w after
+passes {p = p} {heir = heir} {w = w} t c comes after is living =
+    let k = child_here t c comes in
+    let sibling : after ≡ next_sibling c t.now.processes = is ∙ ap (λ (s : State). next_sibling c s.processes) t.left ∙ sibling_buried p w c t.now.processes in
+    let left : zombies (left_of (Some c) (children_in p t.now.processes)) ≡ zombies (left_of (next_sibling c t.now.processes) (children_in p t.now.processes)) = rw (k.left, living) refl in
+    rw sibling (record {
+      now = t.now;
+      left = t.left;
+      sound = t.sound;
+      births = t.births;
       least = t.least;
+      other = t.other;
+      inherits = t.inherits;
       mine = t.mine;
       here = k.next;
-      todo = ap (tell_of_all now) (sym left) ∙ ap (λ o. tell_of_all now (zombies (left_of o (children_in p now.processes)))) (sym a.comes) ∙ t.todo;
+      todo = ap (tell_of_all t.now heir) (sym left) ∙ ap (λ o. tell_of_all t.now heir (zombies (left_of o (children_in p t.now.processes)))) (sym comes) ∙ t.todo;
     })
+
+-- p, if it is its own child, was no zombie, since a zombie has no children
+pub self_lives : {old m : State} {pids : Pids} {places : Places} {n p heir w : ℕ} {next : Option ℕ} (t : IsTelling old m pids places n p heir w next) (c : ℕ) (comes : next ≡ Some c) → c ≡ p → is_zombie (child_here t c comes).what.life ≡ false
+self_lives {p = p} t c comes e =
+    let k = child_here t c comes in
+    elim (is_zombie k.what.life) as (λ b. is_zombie k.what.life ≡ b → b ≡ false) [
+      | true ↦ λ dead.
+          let none : children_in p t.now.processes ≡ [] = t.sound.regular.childless p k.what t.other (ap (λ n. lookup n t.now.processes) (sym e) ∙ k.found) dead in
+          let left = sym k.left ∙ ap (λ kids. left_of (Some c) kids) none in
+          absurd (cc)
+      | false ↦ λ lives. refl
+    ] refl
+
+-- what was read of another child is its life
+pub life_read : {old m : State} {pids : Pids} {places : Places} {n p heir w : ℕ} {next : Option ℕ} (t : IsTelling old m pids places n p heir w next) (c : ℕ) (comes : next ≡ Some c) → c ≢ p
+    → (life : Life) → ((it : Process) → lookup c m.processes ≡ Some it → life ≡ it.life) → life ≡ (child_here t c comes).what.life
+life_read t c comes ne life reads = reads (child_here t c comes).what (child_same t c comes ne)
+
+-- and who isn't read as a zombie lives
+pub lives : (life other : Life) → life ≡ other → ((w : ℕ) → life ≡ Zombie w → ⊥) → is_zombie other ≡ false
+lives life other e h = ap is_zombie (sym e) ∙ living life h
   where
-    living_of : (l : Life) → ((w : ℕ) → l ≡ Zombie w → ⊥) → is_zombie l ≡ false
-    living_of Running h = refl
-    living_of Stopped h = refl
-    living_of (Zombie w) h = absurd (h w refl)
+    living : (l : Life) → ((w : ℕ) → l ≡ Zombie w → ⊥) → is_zombie l ≡ false
+    living Running h = refl
+    living Stopped h = refl
+    living (Zombie w) h = absurd (h w refl)
 
--- what the walk knows where the child has ended
-to_tell : (old now later : State) (p c w : ℕ) (next after : Option ℕ) (life : Life) → IsAt old now later p c next after → Reads later c life → life ≡ Zombie w → IsToTell now p c w
-to_tell old now later p c w next after life a reads dead = record {
-  child = child_here old now later p c next after a;
-  dead = sym (life_read old now later p c next after a life reads) ∙ dead;
-  least = a.telling.least;
-  other = a.other;
-}
+-- what the walk knows of a zombie
+pub to_tell : {old m : State} {pids : Pids} {places : Places} {n p heir w : ℕ} {next : Option ℕ} (t : IsTelling old m pids places n p heir w next) (c v : ℕ) (comes : next ≡ Some c) → (child_here t c comes).what.life ≡ Zombie v → IsToTell t.now p heir c v
+to_tell t c v comes dead = record { child = child_here t c comes; dead = dead; least = t.least; other = t.other; inherits = t.inherits }
 
--- it isn't process 1
-pub tells_other : (old now later : State) (p c w : ℕ) (next after : Option ℕ) (life : Life) → IsAt old now later p c next after → Reads later c life → life ≡ Zombie w → c ≢ 1
-tells_other old now later p c w next after life a reads dead = not_first now p c w a.telling.regular (to_tell old now later p c w next after life a reads dead)
+-- the heir is there
+pub heir_here : {old m : State} {pids : Pids} {places : Places} {n p heir w : ℕ} {next : Option ℕ} (t : IsTelling old m pids places n p heir w next) → IsSome (lookup heir m.processes)
+heir_here {p = p} {heir = heir} {w = w} t = rw t.left (there_buried p w heir t.now.processes (heir_there t.now p heir t.sound.regular t.inherits))
 
--- it is a zombie
-pub tells_zombie : (old now later : State) (p c w : ℕ) (next after : Option ℕ) (life : Life) → IsAt old now later p c next after → Reads later c life → life ≡ Zombie w
-    → (it : Process) × (process later c ≡ Some it) × (is_zombie it.life ≡ true)
-tells_zombie old now later p c w next after life a reads dead =
-    let h = to_tell old now later p c w next after life a reads dead in
-    (h.child.what, ap (λ (s : State). process s c) a.same ∙ h.child.found, ap is_zombie h.dead)
+-- a zombie can go
+pub zombie_goes : {old m : State} {pids : Pids} {places : Places} {n p heir w : ℕ} {next : Option ℕ} (t : IsTelling old m pids places n p heir w next) (c v : ℕ) (comes : next ≡ Some c) → (child_here t c comes).what.life ≡ Zombie v
+    → CanGo t.now.processes pids n c
+zombie_goes {pids = pids} {places = places} {n = n} {p = p} {heir = heir} t c v comes dead =
+    let k = child_here t c comes in
+    can_go t.now pids places n c k.what t.sound k.found (ap is_zombie dead) (not_first t.now p heir c v t.sound.regular (to_tell t c v comes dead))
 
--- process 1 is told of it
-pub tells : (old now later new : State) (p c w : ℕ) (next after : Option ℕ) (life : Life) → IsAt old now later p c next after → Reads later c life → life ≡ Zombie w → new ≡ notice_of_end later 1 c w → IsTelling old new p after
-tells old now later new p c w next after life a reads dead is =
-    let h = to_tell old now later p c w next after life a reads dead in
-    let t = a.telling in
-    rw (is, a.same, a.sibling) (record {
-      regular = regular_told now p c w t.regular h;
+-- from the parts of the machine, too
+pub zombie_goes_there : {old m : State} {pids : Pids} {places : Places} {n p heir w : ℕ} {next : Option ℕ} (t : IsTelling old m pids places n p heir w next) (c v : ℕ) (comes : next ≡ Some c) → (child_here t c comes).what.life ≡ Zombie v
+    → CanGo m.processes pids n c
+unfolding changed buried
+zombie_goes_there {pids = pids} {n = n} {p = p} {w = w} t c v comes dead =
+    rw t.left (can_go_map (at p (buried w)) (at_buried p w) (parent_buried p w) (λ r. grind arith) (λ r. grind arith) t.now.processes pids n c (zombie_goes t c v comes dead))
+
+-- the heir is told of it
+pub tells : {old m : State} {pids : Pids} {places : Places} {n p heir w : ℕ} {next : Option ℕ} (t : IsTelling old m pids places n p heir w next) (c v : ℕ) (comes : next ≡ Some c) (after : Option ℕ) → after ≡ next_sibling c m.processes
+    → c ≢ p → (child_here t c comes).what.life ≡ Zombie v → (q : Pids) (k e : ℕ) (new : State) → IsCounted (is_dropping heir m.processes) pids q n k m.dropped e c (child_here t c comes).what → new ≡ notice_of_end m heir c v
+    → IsTelling old new q places k p heir w after
+tells {pids = pids} {places = places} {n = n} {p = p} {heir = heir} {w = w} t c v comes after is ne dead q k e new counts told =
+    let now = t.now in
+    let h = to_tell t c v comes dead in
+    let kid = child_here t c comes in
+    let i = t.sound.regular in
+    let other = heir_other now.processes p heir t.other t.inherits in
+    let sibling : after ≡ next_sibling c now.processes = is ∙ ap (λ (s : State). next_sibling c s.processes) t.left ∙ sibling_buried p w c now.processes in
+    let counted : IsCounted (is_dropping heir now.processes) pids q n k now.dropped e c kid.what =
+    subst (λ b. IsCounted b pids q n k now.dropped e c kid.what) (dropping_left p heir w other now.processes)
+    (subst (λ (s : State). IsCounted (is_dropping heir s.processes) pids q n k s.dropped e c kid.what) t.left counts) in
+    rw sibling (record {
+      now = notice_of_end now heir c v;
+      left = told ∙ ap (λ (s : State). notice_of_end s heir c v) t.left ∙ notice_left now p heir w c v other;
+      sound = sound_told now pids q places n k e heir c v kid.what t.sound kid.found (ap is_zombie dead) (not_first now p heir c v i h) counted;
+      births = ap (λ (s : State). s.births) (only_notice now heir c v) ∙ t.births;
       least = t.least;
-      mine = same_told now p c w t.regular h ∙ t.mine;
-      here = ap first_pid (left_told now p c w t.regular h) ∙ h.child.next;
-      todo = todo_told now p c w t.regular h ∙ ap (λ o. tell_of_all now (zombies (left_of o (children_in p now.processes)))) (sym a.comes) ∙ t.todo;
+      other = t.other;
+      inherits = heir_told now p heir c v i h;
+      mine = same_told now p heir c v i h ∙ t.mine;
+      here = ap first_pid (left_told now p heir c v) ∙ first_map (at heir (noticed (child_signal c v))) (same_at heir (child_signal c v)).pid _ ∙ kid.next;
+      todo = todo_told now p heir c v h ∙ ap (λ o. tell_of_all now heir (zombies (left_of o (children_in p now.processes)))) (sym comes) ∙ t.todo;
     })
 
--- and one child less is left
-pub tells_less : (old now later new : State) (p c w : ℕ) (next after : Option ℕ) (life : Life) → IsAt old now later p c next after → Reads later c life → life ≡ Zombie w → new ≡ notice_of_end later 1 c w → to_ask new p after < to_ask now p next
-tells_less old now later new p c w next after life a reads dead is =
-    let h = to_tell old now later p c w next after life a reads dead in
-    let same = ap length (left_told now p c w a.telling.regular h) in
-    let l = ap length h.child.left in
-    rw (is, a.same, a.sibling, a.comes) (omega (arith, same, l))
+-- one child less is left where nothing changed
+pub asks_less : {old m : State} {pids : Pids} {places : Places} {n p heir w : ℕ} {next : Option ℕ} (t : IsTelling old m pids places n p heir w next) (c : ℕ) → next ≡ Some c → (after : Option ℕ) → after ≡ next_sibling c m.processes
+    → to_ask m.processes p after < to_ask m.processes p next
+asks_less {p = p} {w = w} t c comes after is =
+    let now = t.now in
+    let k = child_here t c comes in
+    let sibling : after ≡ next_sibling c now.processes = is ∙ ap (λ (s : State). next_sibling c s.processes) t.left ∙ sibling_buried p w c now.processes in
+    let l = ap length k.left in
+    rw (t.left, asks_buried p w now.processes after, asks_buried p w now.processes _, sibling, comes) (omega (arith, l))
 
--- at the end process 1 was told of all
-pub told_of_all : (old now : State) (p : ℕ) (next : Option ℕ) → IsTelling old now p next → next ≡ None → now ≡ tell_of_all old (zombies_of p old.processes)
+-- and where the heir was told
+pub tells_less : {old m : State} {pids : Pids} {places : Places} {n p heir w : ℕ} {next : Option ℕ} (t : IsTelling old m pids places n p heir w next) (c v : ℕ) (comes : next ≡ Some c) (after : Option ℕ) → after ≡ next_sibling c m.processes
+    → (new : State) → new ≡ notice_of_end m heir c v → to_ask new.processes p after < to_ask m.processes p next
+tells_less {p = p} {heir = heir} {w = w} t c v comes after is new told =
+    let now = t.now in
+    let k = child_here t c comes in
+    let other = heir_other now.processes p heir t.other t.inherits in
+    let sibling : after ≡ next_sibling c now.processes = is ∙ ap (λ (s : State). next_sibling c s.processes) t.left ∙ sibling_buried p w c now.processes in
+    let left : new ≡ leave p w (notice_of_end now heir c v) = told ∙ ap (λ (s : State). notice_of_end s heir c v) t.left ∙ notice_left now p heir w c v other in
+    let same = ap length (left_told now p heir c v) ∙ length-map (left_of (next_sibling c now.processes) (children_in p now.processes)) (at heir (noticed (child_signal c v))) in
+    let l = ap length k.left in
+    rw (left, t.left, asks_buried p w (notice_of_end now heir c v).processes after, asks_buried p w now.processes _, sibling, comes) (omega (arith, same, l))
+
+-- at the end the heir was told of all
+pub told_of_all : {old m : State} {pids : Pids} {places : Places} {n p heir w : ℕ} {next : Option ℕ} (t : IsTelling old m pids places n p heir w next) → next ≡ None → t.now ≡ tell_of_all old heir (zombies_of p old.processes)
 unfolding tell_of_all
-told_of_all old now p next t none = ap (λ o. tell_of_all now (zombies (left_of o (children_in p now.processes)))) (sym none) ∙ t.todo
+told_of_all {p = p} {heir = heir} t none = ap (λ o. tell_of_all t.now heir (zombies (left_of o (children_in p t.now.processes)))) (sym none) ∙ t.todo
+
+-- ---- the departure
+
+-- p is another child than c
+pub differs : (a b : ℕ) → not (a == b) ≡ true → a ≢ b
+differs a b e = λ x. let t : (a == b) ≡ true = eq-eqb a b x in let no : false ≡ true = ap not (sym t) ∙ e in absurd (cc)
+
+pub equals : (a b : ℕ) → not (a == b) ≡ false → a ≡ b
+equals a b e = eqb-true a b (elim (a == b) as (λ b. not b ≡ false → b ≡ true) [ true ↦ λ k. refl | false ↦ λ k. sym k ] e)
+
+-- once its children are the heir's, the state is that after the departure
+pub departed : {old m : State} {pids : Pids} {places : Places} {n p heir w : ℕ} {next : Option ℕ} (t : IsTelling old m pids places n p heir w next) (rs : List Process) → rs ≡ adopted p heir m.processes
+    → record m { processes = rs } ≡ depart t.now p heir w
+departed {m = m} {p = p} {heir = heir} t rs is = ap (λ rs. record m { processes = rs }) is ∙ ap (λ (s : State). record s { processes = adopted p heir s.processes }) t.left
+
+-- which is sound
+pub sound_departed : {old m : State} {pids : Pids} {places : Places} {n p heir w : ℕ} {next : Option ℕ} (t : IsTelling old m pids places n p heir w next) → IsSound (depart t.now p heir w) pids places n
+sound_departed {pids = pids} {places = places} {n = n} {p = p} {heir = heir} {w = w} t =
+    let now = t.now in
+    let i = t.sound in
+    record {
+      regular = regular_depart p heir w t.least t.other now i.regular t.inherits;
+      parents = parents_departed p heir w now.processes (heir_there now p heir i.regular t.inherits) i.parents;
+      counted = i.counted;
+      kept = kept_departed p heir w now.world.pidmax now.processes pids places places n (omega arith) i.kept;
+    }
+
+-- and what the definition comes to
+pub departed_told : {old m : State} {pids : Pids} {places : Places} {n p heir w : ℕ} {next : Option ℕ} (t : IsTelling old m pids places n p heir w next) → next ≡ None
+    → depart t.now p heir w ≡ tell_of_all (depart old p heir w) heir (zombies_of p old.processes)
+departed_told {old = old} {p = p} {heir = heir} {w = w} t none =
+    ap (λ (s : State). depart s p heir w) (told_of_all t none) ∙ sym (tell_after old p heir w (heir_other t.now.processes p heir t.other t.inherits) (zombies_of p old.processes))

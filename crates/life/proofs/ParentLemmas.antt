@@ -18,14 +18,14 @@ parents_map g kp kq rs h = λ p r ne e.
     let same : r.parent ≡ b.what.parent = ap (λ (r : Process). r.parent) b.is ∙ kq b.what in
     rw same (some_map g kp b.what.parent rs (h p b.what ne b.found))
 
--- and where the children of one process become those of process 1
-pub parents_adopted : (p : ℕ) (rs : List Process) → IsSome (lookup 1 rs) → HaveParents rs → HaveParents (adopted p 1 rs)
+-- and where the children of one process become those of another that is there
+pub parents_adopted : (p heir : ℕ) (rs : List Process) → IsSome (lookup heir rs) → HaveParents rs → HaveParents (adopted p heir rs)
 unfolding adopted
-parents_adopted p rs first h = λ q r ne e.
-    let b = lookup_back (reparented p 1) (pid_reparented p 1) q rs r e in
-    rw b.is (elim (b.what.parent == p) as (λ t. IsSome (lookup (cond t (record b.what { parent = 1 }) b.what).parent (map (reparented p 1) rs))) [
-      | true ↦ some_map (reparented p 1) (pid_reparented p 1) 1 rs first
-      | false ↦ some_map (reparented p 1) (pid_reparented p 1) b.what.parent rs (h q b.what ne b.found)
+parents_adopted p heir rs there h = λ q r ne e.
+    let b = lookup_back (reparented p heir) (pid_reparented p heir) q rs r e in
+    rw b.is (elim (b.what.parent == p) as (λ t. IsSome (lookup (cond t (record b.what { parent = heir }) b.what).parent (map (reparented p heir) rs))) [
+      | true ↦ some_map (reparented p heir) (pid_reparented p heir) heir rs there
+      | false ↦ some_map (reparented p heir) (pid_reparented p heir) b.what.parent rs (h q b.what ne b.found)
     ])
 
 -- nobody who is there is a child of who has none

@@ -1,29 +1,28 @@
 -- What keeps a machine sound.
-use Rattle.std.proofs.Common.{◌≡◌, ◌≢◌, ◌==◌, ℕ, suc, ◌+◌, ◌-◌, ◌≤◌, Bool, true, false, cond, refl, ap, sym, ◌∙◌, arith, subst, List, [], ◌∷◌, length, map, Option, Some, None, option_map, Result, Ok, Err, OnOk, OnErr}
+use Rattle.std.proofs.Common.{◌≡◌, ◌==◌, ℕ, ◌+◌, ◌≤◌, Bool, true, false, cond, refl, ap, sym, ◌∙◌, arith, subst, List, [], ◌∷◌, length, map, Option, Some, None, option_map, Result, Ok, Err, OnOk, OnErr}
 use Rattle.std.specs.Option.{IsSome}
 use Rattle.std.specs.List.{AllByRecursion}
 use Rattle.std.proofs.lemmas.Bool.{eqb-true, eqb-false, ne_eqb}
 use Rattle.std.proofs.lemmas.List.{length-map, length-replicate}
-use Rattle.posix.specs.declared.process.PendingSignal.{PendingSignal}
 use Rattle.posix.specs.Processes.{Process, is_zombie, first_process}
-use Rattle.posix.specs.Tables.{IsRising, at, lookup, changed, removed, inserted, adopted, reparented, children_in}
+use Rattle.posix.specs.Tables.{IsRising, at, lookup, changed, inserted, adopted, reparented, children_in}
 use Rattle.posix.specs.States.{World, State, boot, process, next_pid, is_in}
 use Rattle.posix.specs.NextPid.{is_free, next_free}
-use Rattle.posix.specs.Regular.{IsRegular, HasFirst, IsBounded, IsPlaced, IsDistinct}
-use Rattle.posix.specs.Ends.{buried, make_zombie, noticed}
-use Rattle.posix.proofs.TableLemmas.{Above, pid_looked, rising_map}
-use Rattle.posix.proofs.RegularLemmas.{Keeps, keeps_at, keeps_noticed, regular_map, regular_inserted, regular_removed}
-use Rattle.posix.proofs.MapLemmas.{at_pid, lookup_on, some_map}
+use Rattle.posix.specs.Regular.{IsRegular, IsBounded, IsPlaced, CanInherit, IsDistinct}
+use Rattle.posix.specs.Ends.{buried, make_zombie}
+use Rattle.posix.proofs.TableLemmas.{Above}
+use Rattle.posix.proofs.RegularLemmas.{Keeps, keeps_at, regular_map, regular_inserted}
+use Rattle.posix.proofs.MapLemmas.{at_pid, some_map}
 use Rattle.posix.proofs.SettleLemmas.{all_looked}
-use Rattle.pidalloc.specs.Rows.{Pids, IsPids, is_free_in, unborne_table, born_in, gone_from}
+use Rattle.pidalloc.specs.Rows.{Pids, IsPids, is_free_in, unborne_table, born_in}
 use Rattle.pidalloc.specs.Tallies.{IsTallied}
 use Rattle.pidalloc.proofs.FreeLemmas.{next_found}
-use Rattle.pidalloc.proofs.TallyLemmas.{CanBear, CanGiveUp, can_bear, can_give_up, next_same, free_none, tallied_unborne, tallied_born, tallied_map, tallied_gone, length_inserted, length_removed}
+use Rattle.pidalloc.proofs.TallyLemmas.{CanBear, can_bear, next_same, free_none, tallied_unborne, tallied_born, tallied_map, length_inserted}
 use Rattle.sched.specs.Places.{Places}
 use Rattle.proctable.specs.declared.facts.Facts.{Facts}
 use Rattle.proctable.specs.Body.{facts_of}
 use Rattle.life.specs.Machines.{IsKept, HaveParents, IsSound, state_of}
-use Rattle.life.proofs.ParentLemmas.{parents_map, parents_adopted, parents_removed, parents_inserted, parents_first}
+use Rattle.life.proofs.ParentLemmas.{parents_map, parents_adopted, parents_inserted, parents_first}
 
 -- who is looked up
 pub record There (o : Option Process) : Type 0 where
@@ -41,6 +40,10 @@ is_there o r e = rw e refl
 -- what the value of a machine says of a process, its parts say
 pub found_in : (s t : State) → s ≡ t → (p : ℕ) (r : Process) → process t p ≡ Some r → lookup p s.processes ≡ Some r
 found_in s t same p r found = ap (λ (s : State). lookup p s.processes) same ∙ found
+
+-- and of an heir
+pub heir_in : {s t : State} {p heir : ℕ} → s ≡ t → CanInherit t.processes p heir → CanInherit s.processes p heir
+heir_in {p = p} {heir = heir} same h = subst (λ (s : State). CanInherit s.processes p heir) (sym same) h
 
 -- the facts that were read of a record
 pub facts_are : (o : Option Process) (r : Process) (f : Facts) → Some f ≡ option_map facts_of o → o ≡ Some r → f ≡ facts_of r
@@ -90,10 +93,10 @@ sound_change p f k s pids places n i = sound_map (at p f) (keeps_at p f k) s pid
 -- ---- ends
 
 -- no number changes at an end
-pub kept_departed : (p w m : ℕ) (rs : List Process) (pids : Pids) (a b : Places) (n : ℕ) → a.room ≤ b.room → IsKept m rs pids a n → IsKept m (adopted p 1 (changed p (buried w) rs)) pids b n
+pub kept_departed : (p heir w m : ℕ) (rs : List Process) (pids : Pids) (a b : Places) (n : ℕ) → a.room ≤ b.room → IsKept m rs pids a n → IsKept m (adopted p heir (changed p (buried w) rs)) pids b n
 unfolding changed adopted buried
-kept_departed p w m rs pids a b n e k =
-    kept_map (reparented p 1) (λ r. grind arith) (λ r. grind arith) (λ r. grind arith) m _ pids a b n e
+kept_departed p heir w m rs pids a b n e k =
+    kept_map (reparented p heir) (λ r. grind arith) (λ r. grind arith) (λ r. grind arith) m _ pids a b n e
     (kept_map (at p (buried w)) (λ r. grind arith) (λ r. grind arith) (λ r. grind arith) m rs pids a a n (omega arith) k)
 
 -- nor at the end of process 1
@@ -101,51 +104,21 @@ pub kept_halted : (w m : ℕ) (rs : List Process) (pids : Pids) (a b : Places) (
 unfolding changed make_zombie
 kept_halted w m rs pids a b n e k = kept_map (at 1 (make_zombie w)) (λ r. grind arith) (λ r. grind arith) (λ r. grind arith) m rs pids a b n e k
 
--- who is there keeps a parent that is there, at an end
-pub parents_departed : (p w : ℕ) (rs : List Process) → HasFirst rs → HaveParents rs → HaveParents (adopted p 1 (changed p (buried w) rs))
+-- who is there is still there where a process is buried
+pub there_buried : (p w q : ℕ) (rs : List Process) → IsSome (lookup q rs) → IsSome (lookup q (changed p (buried w) rs))
 unfolding changed buried
-parents_departed p w rs first h =
-    let k = at_pid p (buried w) (λ r. refl) in
-    parents_adopted p (map (at p (buried w)) rs) (some_map (at p (buried w)) k 1 rs (is_there _ first.what first.found)) (parents_map (at p (buried w)) k (λ r. grind arith) rs h)
+there_buried p w q rs there = some_map (at p (buried w)) (at_pid p (buried w) (λ r. refl)) q rs there
+
+-- who is there keeps a parent that is there, at an end
+pub parents_departed : (p heir w : ℕ) (rs : List Process) → IsSome (lookup heir rs) → HaveParents rs → HaveParents (adopted p heir (changed p (buried w) rs))
+unfolding changed buried
+parents_departed p heir w rs there h =
+    parents_adopted p heir (map (at p (buried w)) rs) (there_buried p w heir rs there) (parents_map (at p (buried w)) (at_pid p (buried w) (λ r. refl)) (λ r. grind arith) rs h)
 
 -- and at the end of process 1
 pub parents_halted : (w : ℕ) (rs : List Process) → HaveParents rs → HaveParents (changed 1 (make_zombie w) rs)
 unfolding changed make_zombie
 parents_halted w rs h = parents_map (at 1 (make_zombie w)) (λ r. grind arith) (λ r. grind arith) rs h
-
--- ---- children that are dropped
-
--- a zombie stays one where a process has notice
-pub zombie_noticed : (signal : PendingSignal) (p c : ℕ) (rs : List Process) (it : Process) → lookup c rs ≡ Some it → is_zombie it.life ≡ true
-    → (x : Process) × (lookup c (changed p (noticed signal) rs) ≡ Some x) × (is_zombie x.life ≡ true)
-unfolding changed
-zombie_noticed signal p c rs it e dead =
-    let k = keeps_at p (noticed signal) (keeps_noticed signal) in
-    (at p (noticed signal) it, lookup_on (at p (noticed signal)) k.pid c rs it e, k.zombie it ∙ dead)
-
--- where a process had notice of the child c, and its record went, it can be counted among those dropped
-pub room_to_drop : (s u t : State) (pids : Pids) (places : Places) (n : ℕ) (signal : PendingSignal) (p c : ℕ) (it : Process) (before told : List Process) → IsSound s pids places n → lookup c s.processes ≡ Some it
-    → before ≡ s.processes → told ≡ changed p (noticed signal) before → u ≡ record s { processes = removed c told } → t ≡ u → t.dropped + 1 + length t.processes ≤ t.births
-unfolding changed
-room_to_drop s u t pids places n signal p c it before told i e was had gone is =
-    let k = keeps_at p (noticed signal) (keeps_noticed signal) in
-    let rs = map (at p (noticed signal)) s.processes in
-    let one = length_removed c (at p (noticed signal) it) rs (rising_map _ k.pid s.processes i.regular.rising) (lookup_on _ k.pid c s.processes it e) in
-    let all = length-map s.processes (at p (noticed signal)) in
-    let count = i.kept.count in
-    let most = i.counted in
-    rw (is, gone, had, was) (omega (arith, one, all, count, most))
-
--- and a machine that counts it is sound
-pub sound_dropped : (s : State) (pids : Pids) (places : Places) (n : ℕ) → IsSound s pids places n → s.dropped + 1 + length s.processes ≤ s.births → IsSound (record s { dropped = s.dropped + 1 }) pids places n
-sound_dropped s pids places n i l =
-    let r = i.regular in
-    record {
-      regular = record { rising = r.rising; bounded = r.bounded; first = r.first; placed = r.placed; distinct = r.distinct; childless = r.childless };
-      parents = i.parents;
-      counted = let c = i.kept.count in omega (arith, c, l);
-      kept = i.kept;
-    }
 
 -- ---- numbers
 
@@ -173,11 +146,6 @@ few s i =
     (above_none s.processes (all_looked _ s.processes i.rising (λ p r e. (i.bounded p r e).least)))
     (all_looked _ s.processes i.rising (λ p r e. (i.bounded p r e).pid)) (omega arith) in
     omega (arith, l)
-
--- process 1 is still there
-pub first_changed : (p w : ℕ) (rs : List Process) → HasFirst rs → IsSome (lookup 1 (changed p (buried w) rs))
-unfolding changed buried
-first_changed p w rs first = some_map (at p (buried w)) (λ r. grind arith) 1 rs (is_there _ first.what first.found)
 
 -- ---- births
 
@@ -247,58 +215,6 @@ sound_born w rs p q a b births ticks dropped h n new me i fresh there up group s
         tallied = subst (λ x. IsTallied x (inserted new rs)) (sym bore) (tallied_born p new rs k.table.size k.tallied);
         count = let c = k.count in let e = length_inserted new rs in omega (arith, c, e);
         room = room;
-      };
-    }
-
--- ---- collections
-
--- the rows hold the three numbers of a record that is there
-pub record IsHeld (p : Pids) (pid : ℕ) (f : Facts) : Type 0 where
-  pub range : pid ≤ p.pidmax
-  pub counts : CanGiveUp p pid f.group f.session
-
-pub rows_hold : (s t : State) (p : Pids) (places : Places) (n pid : ℕ) (r : Process) (f : Facts) → s ≡ t → IsSound s p places n → process t pid ≡ Some r → Some f ≡ option_map facts_of (lookup pid s.processes) → IsHeld p pid f
-rows_hold s t p places n pid r f now i found read =
-    let there = found_in s t now pid r found in
-    let bounds = i.regular.bounded pid r there in
-    let m = i.kept.greatest in
-    let a = bounds.pid in
-    let b = bounds.group in
-    let c = bounds.session in
-    let named = pid_looked pid s.processes r there in
-    let counts : CanGiveUp p pid r.group r.session = can_give_up p s.processes i.kept.tallied pid r there (omega (arith, a, m, named)) (omega (arith, b, m)) (omega (arith, c, m)) in
-    record { range = omega (arith, a, m, named); counts = subst (λ (f : Facts). CanGiveUp p pid f.group f.session) (sym (facts_are _ r f read there)) counts }
-
--- there is a record to take out
-pub one_less : (s t : State) (p : Pids) (places : Places) (n pid : ℕ) (r : Process) → s ≡ t → IsSound s p places n → process t pid ≡ Some r → 1 ≤ n
-one_less s t p places n pid r now i found =
-    let e = length_removed pid r s.processes i.regular.rising (found_in s t now pid r found) in
-    let c = i.kept.count in
-    omega (arith, e, c)
-
--- a zombie goes
-pub sound_collected : (w : World) (rs : List Process) (p q : Pids) (a : Places) (births ticks dropped : ℕ) (h : Bool) (n pid : ℕ) (r : Process) (f : Facts) (t : State)
-    → state_of w rs p a births ticks dropped h ≡ t → IsSound (state_of w rs p a births ticks dropped h) p a n
-    → process t pid ≡ Some r → is_zombie r.life ≡ true → pid ≢ 1 → Some f ≡ option_map facts_of (lookup pid rs)
-    → q ≡ gone_from p pid f.group f.session → q.pidmax ≡ p.pidmax → IsPids q
-    → IsSound (state_of w (removed pid rs) q a births ticks dropped h) q a (n - 1)
-sound_collected w rs p q a births ticks dropped h n pid r f t now i found dead other read gone same table =
-    let s = state_of w rs p a births ticks dropped h in
-    let k = i.kept in
-    let there : lookup pid rs ≡ Some r = found_in s t now pid r found in
-    let x = regular_removed pid r s i.regular other there dead in
-    let e = length_removed pid r rs i.regular.rising there in
-    let left : q ≡ gone_from p pid r.group r.session = gone ∙ ap (λ (f : Facts). gone_from p pid f.group f.session) (facts_are _ r f read there) in
-    record {
-      regular = record { rising = x.rising; bounded = x.bounded; first = x.first; placed = x.placed; distinct = x.distinct; childless = x.childless };
-      parents = parents_removed pid rs (i.regular.childless pid r other there dead) i.parents;
-      counted = let c = i.counted in omega (arith, c);
-      kept = record {
-        greatest = same ∙ k.greatest;
-        table = table;
-        tallied = subst (λ x. IsTallied x (removed pid rs)) (sym left) (tallied_gone p pid r rs k.table.size i.regular.rising k.tallied there);
-        count = let c = k.count in omega (arith, c, e);
-        room = let o = k.room in omega (arith, o);
       };
     }
 

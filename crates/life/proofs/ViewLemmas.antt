@@ -1,6 +1,5 @@
 -- The state that a machine stands for.
 use Rattle.std.proofs.Common.{◌≡◌, ap}
-use Rattle.posix.specs.States.{State}
 use Rattle.life.specs.Machines.{MachineView}
 
 -- equal views, equal states

@@ -1,10 +1,10 @@
 -- The parts of a machine as a state, and what holds of them.
-use Rattle.std.specs.Prelude.{◌≡◌, ◌≢◌, ℕ, ◌+◌, ◌≤◌, Bool, List, length, Some, IsSome}
+use Rattle.std.specs.Prelude.{◌≡◌, ◌≢◌, ℕ, ◌+◌, ◌-◌, ◌≤◌, Bool, true, false, List, [], length, Some, IsSome}
 use Rattle.posix.specs.Processes.{Process}
-use Rattle.posix.specs.Tables.{lookup}
+use Rattle.posix.specs.Tables.{lookup, children_in}
 use Rattle.posix.specs.States.{World, State, boot}
 use Rattle.posix.specs.Regular.{IsRegular}
-use Rattle.pidalloc.specs.Rows.{Pids, IsPids}
+use Rattle.pidalloc.specs.Rows.{Pids, IsPids, row, gone_from}
 use Rattle.pidalloc.specs.Tallies.{IsTallied}
 use Rattle.sched.specs.Places.{Places}
 
@@ -42,3 +42,31 @@ pub record IsSound (s : State) (pids : Pids) (places : Places) (records : ℕ) :
   pub parents : HaveParents s.processes
   pub counted : s.dropped + records ≤ s.births  -- each was born
   pub kept : IsKept s.world.pidmax s.processes pids places records
+
+-- ---- one record that goes
+
+-- a record that is there can go: it has no children, and the rows hold its three numbers
+pub record CanGo (rs : List Process) (pids : Pids) (records pid : ℕ) : Type 0 where
+  pub what : Process
+  pub found : lookup pid rs ≡ Some what
+  pub childless : children_in pid rs ≡ []
+  pub pid_range : pid ≤ pids.pidmax
+  pub group_range : what.group ≤ pids.pidmax
+  pub session_range : what.session ≤ pids.pidmax
+  pub pid_count : 1 ≤ (row pids.rows pid).process
+  pub group_count : 1 ≤ (row pids.rows what.group).group
+  pub session_count : 1 ≤ (row pids.rows what.session).session
+  pub some : 1 ≤ records
+
+-- how the counts are once it has gone
+pub record IsGone (old new : Pids) (before after pid : ℕ) (it : Process) : Type 0 where
+  pub rows : new ≡ gone_from old pid it.group it.session
+  pub greatest : new.pidmax ≡ old.pidmax
+  pub last : new.last ≡ old.last
+  pub table : IsPids new
+  pub records : after ≡ before - 1
+
+-- and where it goes by a notice of its end, or stays
+abbrev pub IsCounted : Bool → Pids → Pids → ℕ → ℕ → ℕ → ℕ → ℕ → Process → Type 0
+IsCounted true old new before after dropped now pid it = IsGone old new before after pid it × (now ≡ dropped + 1)
+IsCounted false old new before after dropped now pid it = (new ≡ old) × (after ≡ before) × (now ≡ dropped)

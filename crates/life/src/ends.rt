@@ -1,26 +1,52 @@
 //! Ends.
 
-ghost use Rattle.std.specs.Prelude.{◌≡◌, ◌≢◌, ◌≤◌, ◌+◌, IsSome, Some, true};
+ghost use Rattle.std.specs.Prelude.{◌≡◌, ◌≢◌, ◌≤◌, ◌<◌, ◌+◌, ◌^◌, IsSome, Some, true, if◌then◌else◌};
 ghost use Rattle.posix.specs.Processes.{Process, is_zombie};
-ghost use Rattle.posix.specs.Tables.{lookup, changed, children_in, first_pid, next_sibling as sibling_after};
-ghost use Rattle.posix.specs.Regular.{IsRegular};
+ghost use Rattle.posix.specs.Tables.{lookup, changed, removed};
+ghost use Rattle.posix.specs.Regular.{CanInherit};
 ghost use Rattle.posix.specs.States.{process};
-ghost use Rattle.posix.specs.Ends.{depart as departing, halt as halting, end_process, child_signal as child_signal_of, notice_of_end as noticing_end, tell_of_all, zombies_of, noticed, drops_children as drops_children_of};
+ghost use Rattle.posix.specs.Ends.{depart as departing, halt as halting, end_with_heir, child_signal as child_signal_of, notice_of_end as noticing_end, tell_of_all, zombies_of, noticed, is_dropping, drops_children as drops_children_of};
+ghost use Rattle.life.specs.Machines.{CanGo, IsGone, IsCounted};
 
 use crate::machine::Machine;
+use crate::waits::take_out;
+use pidalloc::PidTable;
 use posix::{Carried, Life, PendingSignal, Pid, Sig, Status};
 use proctable::Kin;
 
 impl<K: Kin> Machine<K> {
-    /// The process is a zombie and loses its place, and its children become those of process 1.
-    fn depart(&mut self, pid: Pid, status: Status)
+    /// The process is a zombie and loses its place, and its children become those of its heir, which gets
+    /// notice of the ends of the zombies among them, in rising order. No number of a child is to be had once
+    /// they are the heir's, so it gets notice on the way.
+    fn depart(&mut self, pid: Pid, heir: Pid, status: Status)
         requires there { IsSome (process self.old.state pid) }
         requires other { pid ≢ 1 }
-        ensures { self.new.state ≡ departing self.old.state pid status }
+        requires heir { CanInherit self.old.state.processes pid heir }
+        ensures state { self.new.state ≡ tell_of_all (departing self.old.state pid heir status) heir (zombies_of pid self.old.state.processes) }
+        ensures parent { (me : Process) → process self.old.state pid ≡ Some me → IsSome (process self.new.state me.parent) }
+        ensures zombie { (it : Process) × (process self.new.state pid ≡ Some it) × (is_zombie it.life ≡ true) }
     {
         self.table.update(pid).bury(status);
-        self.table.adopt(pid, Pid::INIT);
         self.order.drop_place(pid);
+        let mut next = self.table.first_child(pid);
+        while let Some(child) = next {
+            next = self.table.next_sibling(child);
+            let life = life(&mut self.table, child);
+            if child != pid {
+                if let Life::Zombie(ended) = life {
+                    tell(
+                        &mut self.table,
+                        &mut self.pids,
+                        &mut self.records,
+                        &mut self.dropped,
+                        heir,
+                        child,
+                        ended,
+                    );
+                }
+            }
+        }
+        self.table.adopt(pid, heir);
     }
 
     /// Process 1 is a zombie and loses its place, and the machine halts.
@@ -35,7 +61,6 @@ impl<K: Kin> Machine<K> {
 
     /// The parent gets notice that a child, which is a zombie other than process 1, ended with this
     /// status, and the child is dropped where the parent drops its children (XSH _exit).
-    #[tactic(auto, unfolding(posix::specs::Ends::notice_of_end))]
     fn notice_of_end(&mut self, parent: Pid, child: Pid, status: Status)
         requires parent { IsSome (process self.old.state parent) }
         requires other { child ≢ 1 }
@@ -43,66 +68,88 @@ impl<K: Kin> Machine<K> {
         ensures state { self.new.state ≡ noticing_end self.old.state parent child status }
         ensures reads { self.new.reads ≤ self.old.reads + 6 }
     {
-        let drops = notice_in(&mut self.table, parent, child_signal(child, status));
-        if drops {
-            self.collect(child);
-            self.dropped += 1;
-        }
-    }
-
-    /// The child of a process that is there with the least number.
-    fn first_child(&mut self, pid: Pid) -> Option<Pid>
-        requires { IsSome (process self.old.state pid) }
-        ensures value { result ≡ first_pid (children_in pid self.old.state.processes) }
-        ensures same { self.new.state ≡ self.old.state }
-        ensures reads { self.new.reads ≤ self.old.reads + 1 }
-        ensures regular { IsRegular self.old.state }
-    {
-        self.table.first_child(pid)
-    }
-
-    /// Of the children of the same parent, the one with the least number above that of a process that is
-    /// there.
-    fn next_sibling(&mut self, pid: Pid) -> Option<Pid>
-        requires { IsSome (process self.old.state pid) }
-        ensures value { result ≡ sibling_after pid self.old.state.processes }
-        ensures same { self.new.state ≡ self.old.state }
-        ensures reads { self.new.reads ≤ self.old.reads + 1 }
-        ensures regular { IsRegular self.old.state }
-    {
-        self.table.next_sibling(pid)
-    }
-
-    /// Whether a process that is there runs, is stopped or has ended.
-    fn life(&mut self, pid: Pid) -> Life
-        requires { IsSome (process self.old.state pid) }
-        ensures value { (it : Process) → process self.old.state pid ≡ Some it → result ≡ it.life }
-        ensures same { self.new.state ≡ self.old.state }
-        ensures reads { self.new.reads ≤ self.old.reads + 1 }
-    {
-        match self.table.get(pid) {
-            Some(facts) => facts.life,
-            None => Life::Running,
-        }
+        tell(
+            &mut self.table,
+            &mut self.pids,
+            &mut self.records,
+            &mut self.dropped,
+            parent,
+            child,
+            status,
+        );
     }
 
     /// A process that is there ends with this status. At the end of process 1 the machine halts. Any other
-    /// becomes a zombie without a place; its children become those of process 1, which gets notice of those
+    /// becomes a zombie without a place; its children become those of its heir, which gets notice of those
     /// that have ended; and its parent gets notice of its end, and may drop it (XSH _exit, Consequences of
     /// Process Termination).
-    #[tactic(auto, unfolding(posix::specs::Ends::end_process))]
-    pub fn end(&mut self, pid: Pid, status: Status)
-        requires { IsSome (process self.old.state pid) }
-        ensures { (me : Process) → process self.old.state pid ≡ Some me → self.new.state ≡ (end_process self.old.state me status).state }
+    pub fn end(&mut self, pid: Pid, heir: Pid, status: Status)
+        requires there { IsSome (process self.old.state pid) }
+        requires heir { pid ≢ 1 → CanInherit self.old.state.processes pid heir }
+        ensures { (me : Process) → process self.old.state pid ≡ Some me → self.new.state ≡ (end_with_heir self.old.state me heir status).state }
     {
         if pid == Pid::INIT {
             self.halt(status);
         } else {
-            tell_of_zombies(self, pid);
             let parent = self.parent(pid);
-            self.depart(pid, status);
+            self.depart(pid, heir, status);
             self.notice_of_end(parent, pid, status);
         }
+    }
+}
+
+/// The parent gets notice that a child ended with this status, and the child is dropped where the parent
+/// drops its children (XSH _exit), in the parts of a machine.
+fn tell<K: Kin>(
+    table: &mut K,
+    pids: &mut PidTable,
+    records: &mut usize,
+    dropped: &mut u64,
+    parent: Pid,
+    child: Pid,
+    status: Status,
+)
+    requires parent { IsSome (lookup parent (K.contents table.old)) }
+    requires child { CanGo (K.contents table.old) pids.old records.old child }
+    requires count { dropped.old + 1 < 2 ^ 64 }
+    ensures contents { K.contents table.new ≡ (let told = changed parent (noticed (child_signal_of child status)) (K.contents table.old) in if is_dropping parent (K.contents table.old) then removed child told else told) }
+    ensures counts { (it : Process) → lookup child (K.contents table.old) ≡ Some it → IsCounted (is_dropping parent (K.contents table.old)) pids.old pids.new records.old records.new dropped.old dropped.new child it }
+    ensures reads { K.reads table.new ≤ K.reads table.old + 6 }
+{
+    let drops = notice_in(table, parent, child_signal(child, status));
+    if drops {
+        drop_child(table, pids, records, dropped, child);
+    }
+}
+
+/// A child is dropped: its record goes without a report, and it is counted.
+fn drop_child<K: Kin>(
+    table: &mut K,
+    pids: &mut PidTable,
+    records: &mut usize,
+    dropped: &mut u64,
+    child: Pid,
+)
+    requires child { CanGo (K.contents table.old) pids.old records.old child }
+    requires count { dropped.old + 1 < 2 ^ 64 }
+    ensures contents { K.contents table.new ≡ removed child (K.contents table.old) }
+    ensures counts { (it : Process) → lookup child (K.contents table.old) ≡ Some it → IsGone pids.old pids.new records.old records.new child it }
+    ensures dropped { dropped.new ≡ dropped.old + 1 }
+    ensures reads { K.reads table.new ≤ K.reads table.old + 5 }
+{
+    take_out(table, pids, records, child);
+    *dropped += 1;
+}
+
+/// Whether a process that is there runs, is stopped or has ended.
+fn life<K: Kin>(table: &mut K, pid: Pid) -> Life
+    requires { IsSome (lookup pid (K.contents table.old)) }
+    ensures value { (it : Process) → lookup pid (K.contents table.old) ≡ Some it → result ≡ it.life }
+    ensures contents { K.contents table.new ≡ K.contents table.old }
+{
+    match table.get(pid) {
+        Some(facts) => facts.life,
+        None => Life::Running,
     }
 }
 
@@ -131,22 +178,5 @@ fn child_signal(child: Pid, status: Status) -> PendingSignal
             value: i64::from(status.word()),
             sender: child,
         },
-    }
-}
-
-/// Process 1 gets notice of the ends of the zombies among the children of another process that is there,
-/// in rising order.
-fn tell_of_zombies<K: Kin>(machine: &mut Machine<K>, pid: Pid)
-    requires there { IsSome (process machine.old.state pid) }
-    requires other { pid ≢ 1 }
-    ensures state { machine.new.state ≡ tell_of_all machine.old.state (zombies_of pid machine.old.state.processes) }
-    ensures same { process machine.new.state pid ≡ process machine.old.state pid }
-{
-    let mut next = machine.first_child(pid);
-    while let Some(child) = next {
-        next = machine.next_sibling(child);
-        if let Life::Zombie(status) = machine.life(child) {
-            machine.notice_of_end(Pid::INIT, child, status);
-        }
     }
 }

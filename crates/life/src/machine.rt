@@ -243,8 +243,8 @@ impl<K: Kin> Machine<K> {
         ensures value { IfSome (process self.old.state pid) (λ me. result.now ≡ own_of me) }
         ensures regular { IsRegular self.old.state }
     {
-        let body = self.table.update(pid);
-        &body.own
+        let seen = self.table.update(pid);
+        &seen.own
     }
 
     // ---- places

@@ -7,9 +7,11 @@ ghost use Rattle.posix.specs.States.{process, change};
 ghost use Rattle.posix.specs.Waits.{is_named as is_named_by, report, report_change as report_change_of, report_life as report_life_of, report_of, news_told};
 ghost use Rattle.posix.specs.Waits.{look as look_of};
 ghost use Rattle.proctable.specs.Body.{facts_of};
+ghost use Rattle.life.specs.Machines.{CanGo, IsGone};
 
 use crate::machine::Machine;
 use bitflags::Flags;
+use pidalloc::PidTable;
 use posix::{Life, News, Pid, Report, Status, Target, WaitOptions};
 use proctable::{Facts, Kin};
 
@@ -94,6 +96,22 @@ pub fn wait_attempt<K: Kin>(
     found
 }
 
+/// The record of a process without children goes, and it no longer bears its own number, its group's and its
+/// session's, in the parts of a machine.
+pub(crate) fn take_out<K: Kin>(table: &mut K, pids: &mut PidTable, records: &mut usize, pid: Pid)
+    requires { CanGo (K.contents table.old) pids.old records.old pid }
+    ensures contents { K.contents table.new ≡ removed pid (K.contents table.old) }
+    ensures counts { (it : Process) → lookup pid (K.contents table.old) ≡ Some it → IsGone pids.old pids.new records.old records.new pid it }
+    ensures reads { K.reads table.new ≤ K.reads table.old + 5 }
+{
+    let Some(facts) = table.get(pid) else {
+        return;
+    };
+    table.remove(pid);
+    pids.give_up_all(pid, facts.group, facts.session);
+    *records -= 1;
+}
+
 impl<K: Kin> Machine<K> {
     /// What a wait of a process that is there has to report, by [`wait_attempt`].
     pub fn wait_attempt(
@@ -119,12 +137,7 @@ impl<K: Kin> Machine<K> {
         ensures state { self.new.state ≡ record (self.old.state) { processes = removed pid self.old.state.processes } }
         ensures reads { self.new.reads ≤ self.old.reads + 5 }
     {
-        let Some(facts) = self.table.get(pid) else {
-            return;
-        };
-        self.table.remove(pid);
-        self.pids.give_up_all(pid, facts.group, facts.session);
-        self.records -= 1;
+        take_out(&mut self.table, &mut self.pids, &mut self.records, pid);
     }
 
     /// A wait has reported the news of a process that is there: they become none.

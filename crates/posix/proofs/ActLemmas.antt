@@ -81,12 +81,13 @@ acted_either p s false x y h k = k
 
 -- who ends loses its place
 acted_end : (s : State) (r : Process) (status : ℕ) → Acted r.pid s (end_process s r status).state
+unfolding end_process
 acted_end s r status = elim (r.pid == 1) as (λ b. (r.pid == 1) ≡ b → Acted r.pid s (end_process s r status).state) [
   | true ↦ λ t.
-      let is = end_first s r status t in
+      let is = end_first s r 1 status t in
       leaves r.pid s _ (ap (λ (n : State). n.births) is) (ap (λ (n : State). n.ticks) is) (ap (λ (n : State). n.order) is ∙ ap (λ n. without n s.order) (sym (eqb-true r.pid 1 t)))
   | false ↦ λ t.
-      let is = end_other s r status t in
+      let is = end_other s r 1 status t in
       leaves r.pid s _ (ap (λ (n : State). n.births) is) (ap (λ (n : State). n.ticks) is) (ap (λ (n : State). n.order) is)
 ] refl
 

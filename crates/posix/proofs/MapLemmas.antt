@@ -1,9 +1,9 @@
 -- What is done to each record of a table.
-use Rattle.std.proofs.Common.{◌≡◌, ◌≢◌, ℕ, true, false, cond, refl, ap, sym, ◌∙◌, arith, subst, List, [], ◌∷◌, map, filter, find, Option, Some, None, option_map, ◌==◌}
+use Rattle.std.proofs.Common.{◌≡◌, ◌≢◌, ℕ, Bool, true, false, cond, not, refl, ap, sym, ◌∙◌, arith, subst, List, [], ◌∷◌, map, filter, find, Option, Some, None, option_map, ◌==◌}
 use Rattle.std.specs.Option.{IsSome}
 use Rattle.std.proofs.lemmas.Bool.{eqb-true, ne_eqb}
 use Rattle.posix.specs.Processes.{Process}
-use Rattle.posix.specs.Tables.{IsRising, has_pid, lookup, at, changed, is_child, children_in, reparented, adopted}
+use Rattle.posix.specs.Tables.{IsRising, has_pid, lookup, at, changed, removed, is_child, children_in, reparented, adopted}
 use Rattle.posix.proofs.TableLemmas.{Above, changed_above, pid_reparented}
 
 -- made to one process only, a change that keeps pids keeps them
@@ -43,15 +43,24 @@ lookup_on g keeps q rs r e = lookup_map g keeps q rs ∙ ap (option_map g) e
 pub some_map : (g : Process → Process) → ((r : Process) → (g r).pid ≡ r.pid) → (q : ℕ) (rs : List Process) → IsSome (lookup q rs) → IsSome (lookup q (map g rs))
 some_map g keeps q rs h = rw (lookup_map g keeps q rs) (elim (lookup q rs) as (λ o. IsSome o → IsSome (option_map g o)) [ None ↦ λ k. k | Some r ↦ λ k. refl ] h)
 
+-- who passes a test still does after a change of each record that the test doesn't see
+pub filter_map : (t : Process → Bool) (g : Process → Process) → ((r : Process) → t (g r) ≡ t r) → (rs : List Process) → filter t (map g rs) ≡ map g (filter t rs)
+filter_map t g same [] = refl
+filter_map t g same (r ∷ rs) =
+    rw same (elim (t r) as (λ b. cond b (g r ∷ filter t (map g rs)) (filter t (map g rs)) ≡ map g (cond b (r ∷ filter t rs) (filter t rs))) [
+      | true ↦ ap (λ l. g r ∷ l) (filter_map t g same rs)
+      | false ↦ filter_map t g same rs
+    ])
+
 -- children, where parents stay
 pub children_map : (g : Process → Process) → ((r : Process) → (g r).parent ≡ r.parent) → (p : ℕ) (rs : List Process) → children_in p (map g rs) ≡ map g (children_in p rs)
 unfolding children_in
-children_map g keeps p [] = refl
-children_map g keeps p (r ∷ rs) =
-    elim (r.parent == p) as (λ b. (r.parent == p) ≡ b → filter (is_child p) (g r ∷ map g rs) ≡ map g (cond b (r ∷ filter (is_child p) rs) (filter (is_child p) rs))) [
-      | true ↦ λ t. let u : ((g r).parent == p) ≡ true = ap (λ n. n == p) (keeps r) ∙ t in rw u (ap (λ l. g r ∷ l) (children_map g keeps p rs))
-      | false ↦ λ t. let u : ((g r).parent == p) ≡ false = ap (λ n. n == p) (keeps r) ∙ t in rw u (children_map g keeps p rs)
-    ] refl
+children_map g keeps p rs = filter_map (is_child p) g (λ r. ap (λ n. n == p) (keeps r)) rs
+
+-- a removal and a change of each record may come in either order
+pub removed_map : (c : ℕ) (g : Process → Process) → ((r : Process) → (g r).pid ≡ r.pid) → (rs : List Process) → removed c (map g rs) ≡ map g (removed c rs)
+unfolding removed
+removed_map c g keeps rs = filter_map (λ r. not (r.pid == c)) g (λ r. ap (λ n. not (n == c)) (keeps r)) rs
 
 -- a change of one that is no child changes no children
 pub children_changed : (n p : ℕ) (f : Process → Process) → ((r : Process) → (f r).parent ≡ r.parent) → (rs : List Process) → IsRising rs

@@ -2,7 +2,7 @@
 use Rattle.std.proofs.Common.{◌≡◌, ℕ, true, false, cond, refl, ap, ◌∙◌, List, [], ◌∷◌, ◌==◌}
 use Rattle.posix.specs.Processes.{Process}
 use Rattle.posix.specs.States.{State, change}
-use Rattle.posix.specs.Ends.{noticed, child_signal, is_dropping, drop_child, notice_of_end, status_of, zombies_of, tell_of_all, halt, depart, end_process}
+use Rattle.posix.specs.Ends.{noticed, child_signal, is_dropping, drop_child, notice_of_end, status_of, zombies_of, tell_of_all, halt, depart, end_with_heir}
 
 -- only the records, and the count of those dropped, may have changed
 abbrev pub OnlyRecords : State → State → Type 0
@@ -20,22 +20,20 @@ only_notice s parent child status =
     elim (is_dropping parent s.processes) as (λ b. OnlyRecords s (cond {A = State} b (drop_child told child) told)) [ true ↦ refl | false ↦ refl ]
 
 -- nor do several
-pub only_told : (s : State) (rs : List Process) → OnlyRecords s (tell_of_all s rs)
+pub only_told : (s : State) (heir : ℕ) (rs : List Process) → OnlyRecords s (tell_of_all s heir rs)
 unfolding tell_of_all
-only_told s [] = refl
-only_told s (r ∷ rs) =
-    let one = notice_of_end s 1 r.pid (status_of r.life) in
-    only_after s one (tell_of_all one rs) (only_notice s 1 r.pid (status_of r.life)) (only_told one rs)
+only_told s heir [] = refl
+only_told s heir (r ∷ rs) =
+    let one = notice_of_end s heir r.pid (status_of r.life) in
+    only_after s one (tell_of_all one heir rs) (only_notice s heir r.pid (status_of r.life)) (only_told one heir rs)
 
 -- the end of process 1 halts the machine
-pub end_first : (s : State) (r : Process) (status : ℕ) → (r.pid == 1) ≡ true → (end_process s r status).state ≡ halt s status
-unfolding end_process
-end_first s r status t = rw t refl
+pub end_first : (s : State) (r : Process) (heir status : ℕ) → (r.pid == 1) ≡ true → (end_with_heir s r heir status).state ≡ halt s status
+end_first s r heir status t = rw t refl
 
 -- the end of another is its departure, and then the notices
-pub end_other : (s : State) (r : Process) (status : ℕ) → (r.pid == 1) ≡ false → OnlyRecords (depart s r.pid status) (end_process s r status).state
-unfolding end_process
-end_other s r status t =
-    let gone = depart s r.pid status in
-    let told = tell_of_all gone (zombies_of r.pid s.processes) in
-    rw t (only_after gone told (notice_of_end told r.parent r.pid status) (only_told gone (zombies_of r.pid s.processes)) (only_notice told r.parent r.pid status))
+pub end_other : (s : State) (r : Process) (heir status : ℕ) → (r.pid == 1) ≡ false → OnlyRecords (depart s r.pid heir status) (end_with_heir s r heir status).state
+end_other s r heir status t =
+    let gone = depart s r.pid heir status in
+    let told = tell_of_all gone heir (zombies_of r.pid s.processes) in
+    rw t (only_after gone told (notice_of_end told r.parent r.pid status) (only_told gone heir (zombies_of r.pid s.processes)) (only_notice told r.parent r.pid status))

@@ -1,22 +1,21 @@
 -- What keeps a state regular.
 use Rattle.std.proofs.Common.{◌≡◌, ◌≢◌, ℕ, ◌≤◌, Bool, true, false, cond, not, ◌||◌, refl, ap, sym, ◌∙◌, arith, subst, List, [], ◌∷◌, map, filter, find, Some, None, ◌==◌, nat_lt, inl, inr, ℤ}
 use Rattle.std.specs.List.{list_any}
+use Rattle.std.specs.Option.{IsSome}
 use Rattle.std.proofs.lemmas.Bool.{eqb-true, eqb-false, eq-eqb, ne_eqb, cases_eq}
-use Rattle.posix.specs.declared.process.Blocked.{Blocked}
-use Rattle.posix.specs.declared.process.Frame.{Frame}
 use Rattle.posix.specs.declared.process.PendingSignal.{PendingSignal}
-use Rattle.posix.specs.Processes.{Process, Signals, Credentials, Cpu, is_zombie}
+use Rattle.posix.specs.Processes.{Process, Signals, Cpu, is_zombie}
 use Rattle.posix.specs.Tables.{lookup, has_pid, at, changed, inserted, removed, is_child, children_in, reparented, adopted}
 use Rattle.posix.specs.States.{State, is_in, without, change, lose_place}
-use Rattle.posix.specs.Regular.{IsRegular, IsBounded, IsDistinct}
-use Rattle.posix.specs.Outcomes.{finished, written}
+use Rattle.posix.specs.Regular.{IsRegular, IsBounded, CanInherit, IsDistinct}
+use Rattle.posix.specs.Outcomes.{written}
 use Rattle.posix.specs.Generation.{signalled}
-use Rattle.posix.specs.Handlers.{handles, is_full, returned}
+use Rattle.posix.specs.Handlers.{handles, is_full}
 use Rattle.posix.specs.Ends.{make_zombie, buried, halt, depart, noticed, ignores_children}
 use Rattle.posix.specs.Waits.{news_told}
 use Rattle.posix.specs.Delivery.{take_out}
-use Rattle.posix.specs.SignalCalls.{give_credentials, give_signals}
-use Rattle.posix.specs.Step.{set_cpu, enter}
+use Rattle.posix.specs.SignalCalls.{give_signals}
+use Rattle.posix.specs.Step.{set_cpu}
 use Rattle.posix.proofs.TableLemmas.{rising_map, rising_changed, rising_adopted, rising_inserted, rising_removed, pid_reparented, pid_looked}
 use Rattle.posix.proofs.MapLemmas.{at_pid, lookup_back, lookup_on, adopted_changed, children_map, children_adopted, children_elsewhere}
 
@@ -161,52 +160,76 @@ regular_leave p f kp kq kg ks s i none = record {
     session_at : (r : Process) → (at p f r).session ≡ r.session
     session_at r = grind (arith, ks r)
 
--- the children of p, which is not process 1, go to process 1
-pub regular_adopted : (p : ℕ) → 1 ≤ p → p ≢ 1 → (s : State) → IsRegular s → IsRegular (record s { processes = adopted p 1 s.processes })
+-- an heir of p is another
+pub heir_other : (rs : List Process) (p heir : ℕ) → p ≢ 1 → CanInherit rs p heir → heir ≢ p
+heir_other rs p heir ne (inl first) = λ x. ne (sym x ∙ first)
+heir_other rs p heir ne (inr h) = h.0
+
+-- and there
+pub heir_there : (s : State) (p heir : ℕ) → IsRegular s → CanInherit s.processes p heir → IsSome (lookup heir s.processes)
+heir_there s p heir i (inl first) = rw (first, i.first.found) refl
+heir_there s p heir i (inr h) = rw h.1.found refl
+
+-- a zombie other than process 1 is no heir
+pub heir_living : (rs : List Process) (p heir c : ℕ) (r : Process) → CanInherit rs p heir → c ≢ 1 → lookup c rs ≡ Some r → is_zombie r.life ≡ true → c ≢ heir
+heir_living rs p heir c r (inl first) ne e z = λ x. ne (x ∙ first)
+heir_living rs p heir c r (inr h) ne e z = λ x.
+    let one : h.1.what ≡ r = let both = sym h.1.found ∙ ap (λ n. lookup n rs) (sym x) ∙ e in cc in
+    let both : false ≡ true = sym h.1.living ∙ ap (λ (r : Process). is_zombie r.life) one ∙ z in
+    absurd (cc)
+
+-- who may inherit may still where each record keeps its number and its life
+pub heir_map : (g : Process → Process) → ((r : Process) → (g r).pid ≡ r.pid) → ((r : Process) → is_zombie (g r).life ≡ is_zombie r.life)
+    → (rs : List Process) (p heir : ℕ) → CanInherit rs p heir → CanInherit (map g rs) p heir
+heir_map g kp kz rs p heir (inl first) = inl first
+heir_map g kp kz rs p heir (inr h) = inr (h.0, record { what = g h.1.what; found = lookup_on g kp heir rs h.1.what h.1.found; living = kz h.1.what ∙ h.1.living })
+
+-- the children of p go to its heir
+pub regular_adopted : (p heir : ℕ) → 1 ≤ p → (s : State) → IsRegular s → CanInherit s.processes p heir → IsRegular (record s { processes = adopted p heir s.processes })
 unfolding adopted
-regular_adopted p least ne s i = record {
-  rising = rising_adopted p 1 s.processes i.rising;
+regular_adopted p heir least s i h = record {
+  rising = rising_adopted p heir s.processes i.rising;
   bounded = λ q r e.
-      let b = lookup_back (reparented p 1) (pid_reparented p 1) q s.processes r e in
-      bounded_as s.world.pidmax r b.what (i.bounded q b.what b.found) (ap (λ (r : Process). r.pid) b.is ∙ pid_reparented p 1 b.what)
+      let b = lookup_back (reparented p heir) (pid_reparented p heir) q s.processes r e in
+      bounded_as s.world.pidmax r b.what (i.bounded q b.what b.found) (ap (λ (r : Process). r.pid) b.is ∙ pid_reparented p heir b.what)
       (ap (λ (r : Process). r.group) b.is ∙ group_reparented b.what) (ap (λ (r : Process). r.session) b.is ∙ session_reparented b.what);
   first = record {
-    what = reparented p 1 i.first.what;
-    found = lookup_on (reparented p 1) (pid_reparented p 1) 1 s.processes i.first.what i.first.found;
+    what = reparented p heir i.first.what;
+    found = lookup_on (reparented p heir) (pid_reparented p heir) 1 s.processes i.first.what i.first.found;
     parent = let t : (i.first.what.parent == p) ≡ false = ne_eqb _ _ (λ x. omega (arith, least, i.first.parent, x)) in rw t i.first.parent;
   };
   placed = λ q e.
       let o = i.placed q e in
-      record { what = reparented p 1 o.what; found = lookup_on (reparented p 1) (pid_reparented p 1) q s.processes o.what o.found; living = ap is_zombie (life_reparented o.what) ∙ o.living };
+      record { what = reparented p heir o.what; found = lookup_on (reparented p heir) (pid_reparented p heir) q s.processes o.what o.found; living = ap is_zombie (life_reparented o.what) ∙ o.living };
   distinct = i.distinct;
   childless = λ q r other e z.
-      let b = lookup_back (reparented p 1) (pid_reparented p 1) q s.processes r e in
+      let b = lookup_back (reparented p heir) (pid_reparented p heir) q s.processes r e in
       let old : is_zombie b.what.life ≡ true = sym (ap is_zombie (ap (λ (r : Process). r.life) b.is ∙ life_reparented b.what)) ∙ z in
-      children_elsewhere p 1 q other s.processes (i.childless q b.what other b.found old);
+      children_elsewhere p heir q (heir_living s.processes p heir q b.what h other b.found old) s.processes (i.childless q b.what other b.found old);
 }
   where
-    group_reparented : (r : Process) → (reparented p 1 r).group ≡ r.group
+    group_reparented : (r : Process) → (reparented p heir r).group ≡ r.group
     group_reparented r = grind arith
 
-    session_reparented : (r : Process) → (reparented p 1 r).session ≡ r.session
+    session_reparented : (r : Process) → (reparented p heir r).session ≡ r.session
     session_reparented r = grind arith
 
-    life_reparented : (r : Process) → (reparented p 1 r).life ≡ r.life
-    life_reparented r = elim (r.parent == p) as (λ b. (cond b (record r { parent = 1 }) r).life ≡ r.life) [ true ↦ refl | false ↦ refl ]
+    life_reparented : (r : Process) → (reparented p heir r).life ≡ r.life
+    life_reparented r = elim (r.parent == p) as (λ b. (cond b (record r { parent = heir }) r).life ≡ r.life) [ true ↦ refl | false ↦ refl ]
 
 -- a burial and an adoption of one record may come in either order
-commutes : (p w : ℕ) (r : Process) → buried w (reparented p 1 r) ≡ reparented p 1 (buried w r)
+commutes : (p heir w : ℕ) (r : Process) → buried w (reparented p heir r) ≡ reparented p heir (buried w r)
 unfolding buried
-commutes p w r = elim (r.parent == p) as (λ b. buried w (cond b (record r { parent = 1 }) r) ≡ cond b (record (buried w r) { parent = 1 }) (buried w r)) [ true ↦ refl | false ↦ refl ]
+commutes p heir w r = elim (r.parent == p) as (λ b. buried w (cond b (record r { parent = heir }) r) ≡ cond b (record (buried w r) { parent = heir }) (buried w r)) [ true ↦ refl | false ↦ refl ]
 
 -- a state stays regular where a process other than process 1 departs
-pub regular_depart : (p w : ℕ) → 1 ≤ p → p ≢ 1 → (s : State) → IsRegular s → IsRegular (depart s p w)
+pub regular_depart : (p heir w : ℕ) → 1 ≤ p → p ≢ 1 → (s : State) → IsRegular s → CanInherit s.processes p heir → IsRegular (depart s p heir w)
 unfolding buried
-regular_depart p w least ne s i =
-    let given = record s { processes = adopted p 1 s.processes } in
-    let left = regular_leave p (buried w) (λ r. refl) (λ r. refl) (λ r. refl) (λ r. refl) given (regular_adopted p least ne s i)
-    (λ other. children_adopted p 1 (λ x. ne (sym x)) s.processes) in
-    subst (λ rs. IsRegular (record s { processes = rs; order = without p s.order })) (adopted_changed p 1 p (buried w) (commutes p w) s.processes) left
+regular_depart p heir w least ne s i h =
+    let given = record s { processes = adopted p heir s.processes } in
+    let left = regular_leave p (buried w) (λ r. refl) (λ r. refl) (λ r. refl) (λ r. refl) given (regular_adopted p heir least s i h)
+    (λ other. children_adopted p heir (heir_other s.processes p heir ne h) s.processes) in
+    subst (λ rs. IsRegular (record s { processes = rs; order = without p s.order })) (adopted_changed p heir p (buried w) (commutes p heir w) s.processes) left
 
 -- a state stays regular where the machine halts
 pub regular_halt : (w : ℕ) (s : State) → IsRegular s → IsRegular (halt s w)
@@ -288,6 +311,11 @@ lookup_kept p q (r ∷ rs) ne = elim (r.pid == p) as (λ b. (r.pid == p) ≡ b �
   | true ↦ λ t. let away : (r.pid == q) ≡ false = ne_eqb _ _ (λ x. ne (sym x ∙ eqb-true _ _ t)) in rw away (lookup_kept p q rs ne)
   | false ↦ λ t. elim (r.pid == q) as (λ b. cond b (Some r) (find (has_pid q) (filter (λ r. not (r.pid == p)) rs)) ≡ cond b (Some r) (find (has_pid q) rs)) [ true ↦ refl | false ↦ lookup_kept p q rs ne ]
 ] refl
+
+-- who may inherit may still where another is removed
+pub heir_removed : (c p heir : ℕ) (rs : List Process) → c ≢ heir → CanInherit rs p heir → CanInherit (removed c rs) p heir
+heir_removed c p heir rs other (inl first) = inl first
+heir_removed c p heir rs other (inr h) = inr (h.0, record { what = h.1.what; found = lookup_kept c heir rs (λ x. other (sym x)) ∙ h.1.found; living = h.1.living })
 
 -- the one that is removed is not found
 pub lookup_removed : (p : ℕ) (rs : List Process) → lookup p (removed p rs) ≡ None

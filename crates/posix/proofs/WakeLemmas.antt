@@ -1,25 +1,18 @@
 -- What an event comes to, and that who can act then has a place.
-use Rattle.std.proofs.Common.{◌≡◌, ◌≢◌, ℕ, zero, suc, add-zero, append_assoc, ◌+◌, ◌≤◌, Bool, true, false, cond, not, ◌&&◌, ◌||◌, refl, ap, sym, ◌∙◌, arith, subst, List, [], ◌∷◌, ◌++◌, filter, find, Option, Some, None, option_and_then, ◌==◌, slice_get, inl, inr}
+use Rattle.std.proofs.Common.{◌≡◌, ◌≢◌, ℕ, Bool, true, false, cond, not, ◌&&◌, ◌||◌, refl, ap, sym, ◌∙◌, arith, subst, List, [], ◌∷◌, ◌++◌, filter, find, Some, None, ◌==◌}
 use Rattle.std.specs.List.{list_any}
-use Rattle.std.proofs.lemmas.Bool.{eqb-true, eq-eqb, ne_eqb}
-use Rattle.std.proofs.lemmas.List.Sums.{sum_by-cons}
+use Rattle.std.proofs.lemmas.Bool.{eqb-true, ne_eqb}
 use Rattle.posix.specs.declared.event.Event.{Event}
-use Rattle.posix.specs.declared.event.Event.TheVariants.{Step, Tick}
 use Rattle.posix.specs.declared.entry.Entry.{Entry}
 use Rattle.posix.specs.Processes.{Process, first_process}
 use Rattle.posix.specs.Tables.{lookup, has_pid, pids}
-use Rattle.posix.specs.States.{State, World, boot, is_in, without, current, process}
-use Rattle.posix.specs.Regular.{IsDistinct}
+use Rattle.posix.specs.States.{State, World, boot, is_in, without}
 use Rattle.posix.specs.Outcomes.{Outcome}
 use Rattle.posix.specs.Settle.{settle, wakes, can_act}
-use Rattle.posix.specs.Step.{IsStep, next, happens, step, act, tick, rotate, pass_time}
-use Rattle.posix.specs.Entries.{Line, numbered}
-use Rattle.posix.specs.Runs.{RunsFrom}
+use Rattle.posix.specs.Step.{IsStep, next, happens, act}
 use Rattle.posix.specs.Settle.{NoWakeIsLost}
 use Rattle.posix.proofs.TableLemmas.{pid_looked}
-use Rattle.posix.proofs.OrderLemmas.{without_absent}
 use Rattle.posix.proofs.SettleLemmas.{can_act_order}
-use Rattle.posix.proofs.ActLemmas.{Turned, acted}
 
 -- ---- what an event comes to
 

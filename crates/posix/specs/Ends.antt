@@ -35,9 +35,10 @@ buried status r = record r {
 abbrev pub halt : State → ℕ → State
 halt s status = record (lose_place (change s 1 (make_zombie status)) 1) { halted = true }
 
--- The process is a zombie with its status and loses its place, and its children become those of process 1.
-abbrev pub depart : State → ℕ → ℕ → State
-depart s p status = record s { processes = adopted p 1 (changed p (buried status) s.processes); order = without p s.order }
+-- The process is a zombie with its status and loses its place, and its children, zombies included, become
+-- those of its heir; which process that is, XSH _exit leaves to the system.
+abbrev pub depart : State → ℕ → ℕ → ℕ → State
+depart s p heir status = record s { processes = adopted p heir (changed p (buried status) s.processes); order = without p s.order }
 
 -- ---- notice of an end
 
@@ -78,19 +79,23 @@ status_of Stopped = 0
 unfoldable pub zombies_of : ℕ → List Process → List Process
 zombies_of p rs = filter (λ r. is_zombie r.life) (children_in p rs)
 
--- process 1 gets notice of the end of each, one after another
-unfoldable pub tell_of_all : State → List Process → State
-tell_of_all s [] = s
-tell_of_all s (r ∷ rs) = tell_of_all (notice_of_end s 1 r.pid (status_of r.life)) rs
+-- the heir gets notice of the end of each, one after another
+unfoldable pub tell_of_all : State → ℕ → List Process → State
+tell_of_all s heir [] = s
+tell_of_all s heir (r ∷ rs) = tell_of_all (notice_of_end s heir r.pid (status_of r.life)) heir rs
 
 -- ---- the end of a process
 
 -- In this order: process 1 takes the machine with it. Any other process becomes a zombie; its children
--- go to process 1, which gets notice of those that have ended; and its parent gets notice of its end.
-unfoldable pub end_process : State → Process → ℕ → Outcome
-end_process s r status =
+-- go to its heir, which gets notice of those that have ended; and its parent gets notice of its end.
+abbrev pub end_with_heir : State → Process → ℕ → ℕ → Outcome
+end_with_heir s r heir status =
     if r.pid == 1 then record { state = halt s status; entries = Ended r.pid status ∷ Halted ∷ [] }
     else record {
-      state = notice_of_end (tell_of_all (depart s r.pid status) (zombies_of r.pid s.processes)) r.parent r.pid status;
+      state = notice_of_end (tell_of_all (depart s r.pid heir status) heir (zombies_of r.pid s.processes)) r.parent r.pid status;
       entries = Ended r.pid status ∷ [];
     }
+
+-- The heir is process 1 (own; as init has it in Linux).
+unfoldable pub end_process : State → Process → ℕ → Outcome
+end_process s r status = end_with_heir s r 1 status

@@ -1,5 +1,5 @@
 -- What holds of every state that the machine reaches: the type of a machine keeps it.
-use Rattle.std.specs.Prelude.{◌≡◌, ◌≢◌, ℕ, ◌≤◌, true, false, List, [], ◌∷◌, Some}
+use Rattle.std.specs.Prelude.{◌≡◌, ◌≢◌, ◌⊎◌, ℕ, ◌≤◌, true, false, List, [], ◌∷◌, Some}
 use Rattle.posix.specs.Processes.{Process, is_zombie}
 use Rattle.posix.specs.Tables.{IsRising, lookup, children_in}
 use Rattle.posix.specs.States.{State, is_in}
@@ -22,6 +22,10 @@ pub record IsPlaced (rs : List Process) (p : ℕ) : Type 0 where
   pub what : Process
   pub found : lookup p rs ≡ Some what
   pub living : is_zombie what.life ≡ false
+
+-- Who may be the heir of p: process 1, or another process that is there and no zombie.
+abbrev pub CanInherit : List Process → ℕ → ℕ → Type 0
+CanInherit rs p heir = (heir ≡ 1) ⊎ ((heir ≢ p) × IsPlaced rs heir)
 
 -- each number once
 unfoldable pub IsDistinct : List ℕ → Type 0

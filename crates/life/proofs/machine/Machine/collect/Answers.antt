@@ -1,25 +1,25 @@
-use Rattle.life.proofs.SoundLemmas.{rows_hold, one_less, sound_collected}
-use Rattle.life.proofs.machine.Machine.collect.Goals as goal
-use Rattle.std.proofs.Common.{arith}
+use Rattle.std.proofs.Common.{arith, refl}
+use Rattle.life.proofs.SoundLemmas.{found_in}
+use Rattle.life.proofs.PartLemmas.{can_go, sound_gone}
 use Rattle.life.proofs.ViewLemmas.{state_is}
+use Rattle.life.proofs.machine.Machine.collect.Goals as goal
 
-pub give_up_all-requires-clause-pid_range : goal.give_up_all-requires-clause-pid_range
-give_up_all-requires-clause-pid_range g c = (rows_hold _ _ _ _ _ c.args.pid c.requires.zombie.0 _ (state_is c.self.view_is) c.self.invariant c.requires.zombie.1 c.in-Some.ensures.value).range
+pub take_out-requires : goal.take_out-requires
+take_out-requires g c =
+    let it = c.requires.zombie in
+    can_go _ _ _ _ c.args.pid it.0 c.self.invariant (found_in _ _ (state_is c.self.view_is) c.args.pid it.0 it.1) it.2 c.requires.other
 
-pub give_up_all-requires-clause-pid_count : goal.give_up_all-requires-clause-pid_count
-give_up_all-requires-clause-pid_count g c = (rows_hold _ _ _ _ _ c.args.pid c.requires.zombie.0 _ (state_is c.self.view_is) c.self.invariant c.requires.zombie.1 c.in-Some.ensures.value).counts.pid_count
+pub invariant_of-self : goal.invariant_of-self
+invariant_of-self g c =
+    let it = c.requires.zombie in
+    let found = found_in _ _ (state_is c.self.view_is) c.args.pid it.0 it.1 in
+    let gone = c.take_out.ensures.counts it.0 found in
+    let less = gone.records in
+    let most = c.self.invariant.counted in
+    rw c.take_out.ensures.contents (sound_gone _ _ _ _ _ _ c.args.pid _ _ it.0 c.self.invariant found it.2 c.requires.other gone (omega (arith, less, most)))
 
-pub give_up_all-requires-clause-group_count : goal.give_up_all-requires-clause-group_count
-give_up_all-requires-clause-group_count g c = (rows_hold _ _ _ _ _ c.args.pid c.requires.zombie.0 _ (state_is c.self.view_is) c.self.invariant c.requires.zombie.1 c.in-Some.ensures.value).counts.group_count
-
-pub give_up_all-requires-clause-session_count : goal.give_up_all-requires-clause-session_count
-give_up_all-requires-clause-session_count g c = (rows_hold _ _ _ _ _ c.args.pid c.requires.zombie.0 _ (state_is c.self.view_is) c.self.invariant c.requires.zombie.1 c.in-Some.ensures.value).counts.session_count
-
-pub overflow_sub-self : goal.overflow_sub-self
-overflow_sub-self g c = let l = one_less _ _ _ _ _ c.args.pid c.requires.zombie.0 (state_is c.self.view_is) c.self.invariant c.requires.zombie.1 in omega (arith, l)
-
-pub invariant_of-self-2 : goal.invariant_of-self-2
-invariant_of-self-2 g c =
-    rw (c.remove.ensures.contents, c.in-Some.ensures.contents)
-    (sound_collected _ _ _ _ _ _ _ _ _ _ c.args.pid c.requires.zombie.0 _ _ (state_is c.self.view_is) c.self.invariant c.requires.zombie.1 c.requires.zombie.2 c.requires.other c.in-Some.ensures.value
-    c.give_up_all.ensures.value c.give_up_all.ensures.pidmax c.give_up_all.ensures.kept)
+pub returns-clause-state : goal.returns-clause-state
+returns-clause-state g c =
+    let it = c.requires.zombie in
+    let found = found_in _ _ (state_is c.self.view_is) c.args.pid it.0 it.1 in
+    rw (c.take_out.ensures.contents, (c.take_out.ensures.counts it.0 found).last, ← c.self.view_is) refl

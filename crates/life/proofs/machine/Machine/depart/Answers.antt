@@ -1,32 +1,127 @@
-use Rattle.std.proofs.Common.{arith, ◌∙◌, refl}
-use Rattle.posix.specs.Ends.{buried}
-use Rattle.posix.proofs.RegularLemmas.{regular_depart}
-use Rattle.posix.proofs.TableLemmas.{pid_looked}
+use Rattle.std.proofs.Common.{◌∙◌, ◌≡◌, ◌≢◌, ap, sym, arith, refl, subst, true, Some}
+use Rattle.std.specs.Option.{IsSome}
+use Rattle.posix.specs.Processes.{Process, is_zombie}
+use Rattle.posix.specs.Tables.{lookup, children_in, first_pid}
+use Rattle.posix.specs.States.{State, process}
+use Rattle.posix.specs.Ends.{buried, is_dropping, notice_of_end}
 use Rattle.proctable.proofs.Bodies.{changed_body}
-use Rattle.life.proofs.SoundLemmas.{there, found_in, parents_departed, kept_departed, first_changed}
+use Rattle.life.specs.Machines.{IsSound, IsCounted, state_of}
+use Rattle.life.proofs.EndLemmas.{there_after, zombie_after}
+use Rattle.life.proofs.SoundLemmas.{there, found_in, is_there, there_buried}
+use Rattle.life.proofs.PartLemmas.{room_to_count, told_state}
+use Rattle.life.proofs.NoticeWalkLemmas.{begins, child_here, child_there, child_same, passes, self_lives, life_read, lives, heir_here, zombie_goes, zombie_goes_there, tells, asks_less, tells_less, differs, equals, departed, sound_departed, departed_told}
 use Rattle.life.proofs.ViewLemmas.{state_is}
 use Rattle.life.proofs.machine.Machine.depart.Goals as goal
 
-pub adopt-requires : goal.adopt-requires
-adopt-requires g c =
+pub first_child-next-requires : goal.first_child-next-requires
+first_child-next-requires g c =
     let contents = g.met.K.Kin.puts c.self.inside.table c.args.pid c.bury.new.self ∙ changed_body _ c.update.ensures.rising c.args.pid c.update.result.now c.bury.new.self (buried c.args.status) c.update.ensures.value c.bury.ensures in
-    rw contents (first_changed c.args.pid c.args.status _ c.self.invariant.regular.first)
+    let me = there _ c.requires.there in
+    rw contents (there_buried c.args.pid c.args.status c.args.pid _ (is_there _ me.what (found_in _ _ (state_is c.self.view_is) c.args.pid me.what me.found)))
+
+pub loop-next-init : goal.loop-next-init
+loop-next-init g c =
+    let contents = g.met.K.Kin.puts c.self.inside.table c.args.pid c.bury.new.self ∙ changed_body _ c.update.ensures.rising c.args.pid c.update.result.now c.bury.new.self (buried c.args.status) c.update.ensures.value c.bury.ensures in
+    let me = there _ c.requires.there in
+    let room = c.drop_place.ensures.room in
+    begins c.args.self.now.state _ _ _ c.self.inside.order _ _ c.args.pid c.args.heir c.args.status _ me.what (state_is c.self.view_is) (rw (c.first_child-next.ensures.contents, contents, c.drop_place.ensures.pids) refl) c.self.invariant (omega (arith, room)) c.requires.other
+    c.requires.heir me.found (c.first_child-next.ensures.value ∙ ap (λ rs. first_pid (children_in c.args.pid rs)) (sym c.first_child-next.ensures.contents))
+
+pub next_sibling-next-requires : goal.next_sibling-next-requires
+next_sibling-next-requires g c = child_there c.loop-next.invariant c.in-Some.child c.in-Some.is
+
+pub life-life-requires : goal.life-life-requires
+life-life-requires g c = rw c.next_sibling-next.ensures.contents (child_there c.loop-next.invariant c.in-Some.child c.in-Some.is)
+
+pub tell-requires-clause-parent : goal.tell-requires-clause-parent
+tell-requires-clause-parent g c = rw (c.life-life.ensures.contents, c.next_sibling-next.ensures.contents) (heir_here c.loop-next.invariant)
+
+pub tell-requires-clause-child : goal.tell-requires-clause-child
+tell-requires-clause-child g c =
+    let t = c.loop-next.invariant in
+    let ne : c.in-Some.child ≢ c.args.pid = differs _ _ (sym c.ne.ensures ∙ c.if-ne.true) in
+    let dead = sym (life_read t c.in-Some.child c.in-Some.is ne c.life-life.result (λ it e. c.life-life.ensures.value it (ap (lookup c.in-Some.child) c.next_sibling-next.ensures.contents ∙ e))) ∙ c.in-Zombie.is in
+    rw (c.life-life.ensures.contents, c.next_sibling-next.ensures.contents) (zombie_goes_there t c.in-Some.child c.in-Zombie.ended c.in-Some.is dead)
+
+pub tell-requires-clause-count : goal.tell-requires-clause-count
+tell-requires-clause-count g c =
+    let t = c.loop-next.invariant in
+    let ne : c.in-Some.child ≢ c.args.pid = differs _ _ (sym c.ne.ensures ∙ c.if-ne.true) in
+    let dead = sym (life_read t c.in-Some.child c.in-Some.is ne c.life-life.result (λ it e. c.life-life.ensures.value it (ap (lookup c.in-Some.child) c.next_sibling-next.ensures.contents ∙ e))) ∙ c.in-Zombie.is in
+    let few = c.self.ranges in
+    let births = t.births ∙ ap (λ (s : State). s.births) (sym (state_is c.self.view_is)) in
+    let dropped = ap (λ (s : State). s.dropped) t.left in
+    let l = room_to_count t.now _ _ _ c.in-Some.child 18446744073709551616 t.sound (zombie_goes t c.in-Some.child c.in-Zombie.ended c.in-Some.is dead) (omega (arith, few, births)) in
+    omega (arith, l, dropped)
+
+pub loop-next-smaller-in-Zombie : goal.loop-next-smaller-in-Zombie
+loop-next-smaller-in-Zombie g c =
+    let t = c.loop-next.invariant in
+    let m = c.loop-next.self-inside in
+    let ne : c.in-Some.child ≢ c.args.pid = differs _ _ (sym c.ne.ensures ∙ c.if-ne.true) in
+    let same = c.life-life.ensures.contents ∙ c.next_sibling-next.ensures.contents in
+    let found = ap (lookup c.in-Some.child) same ∙ child_same t c.in-Some.child c.in-Some.is ne in
+    let told = told_state m.world _ _ m.pids c.tell.new.pids m.order m.records c.tell.new.records m.births m.ticks m.dropped c.tell.new.dropped m.halted c.args.heir c.in-Some.child c.in-Zombie.ended _ c.tell.ensures.contents (c.tell.ensures.counts _ found)
+    ∙ ap (λ rs. notice_of_end (state_of m.world rs m.pids m.order m.births m.ticks m.dropped m.halted) c.args.heir c.in-Some.child c.in-Zombie.ended) same in
+    tells_less t c.in-Some.child c.in-Zombie.ended c.in-Some.is c.next_sibling-next.result c.next_sibling-next.ensures.value _ told
+
+pub loop-next-preserved-in-Zombie : goal.loop-next-preserved-in-Zombie
+loop-next-preserved-in-Zombie g c =
+    let t = c.loop-next.invariant in
+    let m = c.loop-next.self-inside in
+    let ne : c.in-Some.child ≢ c.args.pid = differs _ _ (sym c.ne.ensures ∙ c.if-ne.true) in
+    let dead = sym (life_read t c.in-Some.child c.in-Some.is ne c.life-life.result (λ it e. c.life-life.ensures.value it (ap (lookup c.in-Some.child) c.next_sibling-next.ensures.contents ∙ e))) ∙ c.in-Zombie.is in
+    let same = c.life-life.ensures.contents ∙ c.next_sibling-next.ensures.contents in
+    let found = ap (lookup c.in-Some.child) same ∙ child_same t c.in-Some.child c.in-Some.is ne in
+    let counts = c.tell.ensures.counts _ found in
+    let told = told_state m.world _ _ m.pids c.tell.new.pids m.order m.records c.tell.new.records m.births m.ticks m.dropped c.tell.new.dropped m.halted c.args.heir c.in-Some.child c.in-Zombie.ended _ c.tell.ensures.contents counts
+    ∙ ap (λ rs. notice_of_end (state_of m.world rs m.pids m.order m.births m.ticks m.dropped m.halted) c.args.heir c.in-Some.child c.in-Zombie.ended) same in
+    tells t c.in-Some.child c.in-Zombie.ended c.in-Some.is c.next_sibling-next.result c.next_sibling-next.ensures.value ne dead c.tell.new.pids c.tell.new.records c.tell.new.dropped _
+    (subst (λ rs. IsCounted (is_dropping c.args.heir rs) m.pids c.tell.new.pids m.records c.tell.new.records m.dropped c.tell.new.dropped c.in-Some.child (child_here t c.in-Some.child c.in-Some.is).what) same counts) told
+
+pub loop-next-smaller-in_default-life : goal.loop-next-smaller-in_default-life
+loop-next-smaller-in_default-life g c =
+    rw (c.life-life.ensures.contents, c.next_sibling-next.ensures.contents) (asks_less c.loop-next.invariant c.in-Some.child c.in-Some.is c.next_sibling-next.result c.next_sibling-next.ensures.value)
+
+pub loop-next-preserved-in_default-life : goal.loop-next-preserved-in_default-life
+loop-next-preserved-in_default-life g c =
+    let t = c.loop-next.invariant in
+    let ne : c.in-Some.child ≢ c.args.pid = differs _ _ (sym c.ne.ensures ∙ c.if-ne.true) in
+    let read = life_read t c.in-Some.child c.in-Some.is ne c.life-life.result (λ it e. c.life-life.ensures.value it (ap (lookup c.in-Some.child) c.next_sibling-next.ensures.contents ∙ e)) in
+    rw (c.life-life.ensures.contents, c.next_sibling-next.ensures.contents)
+    (passes t c.in-Some.child c.in-Some.is c.next_sibling-next.result c.next_sibling-next.ensures.value (lives _ _ read c.in_default-life.not-Zombie))
+
+pub loop-next-smaller : goal.loop-next-smaller
+loop-next-smaller g c =
+    rw (c.life-life.ensures.contents, c.next_sibling-next.ensures.contents) (asks_less c.loop-next.invariant c.in-Some.child c.in-Some.is c.next_sibling-next.result c.next_sibling-next.ensures.value)
+
+pub loop-next-preserved : goal.loop-next-preserved
+loop-next-preserved g c =
+    let t = c.loop-next.invariant in
+    rw (c.life-life.ensures.contents, c.next_sibling-next.ensures.contents)
+    (passes t c.in-Some.child c.in-Some.is c.next_sibling-next.result c.next_sibling-next.ensures.value (self_lives t c.in-Some.child c.in-Some.is (equals _ _ (sym c.ne.ensures ∙ c.if-ne.false))))
+
+pub adopt-requires : goal.adopt-requires
+adopt-requires g c = heir_here c.loop-next.invariant
 
 pub invariant_of-self : goal.invariant_of-self
 invariant_of-self g c =
-    let contents = g.met.K.Kin.puts c.self.inside.table c.args.pid c.bury.new.self ∙ changed_body _ c.update.ensures.rising c.args.pid c.update.result.now c.bury.new.self (buried c.args.status) c.update.ensures.value c.bury.ensures in
-    let me = there _ c.requires.there in
-    let found = found_in _ _ (state_is c.self.view_is) c.args.pid me.what me.found in
-    let named = pid_looked _ _ _ found in
-    let least = (c.self.invariant.regular.bounded c.args.pid me.what found).least in
-    rw (c.adopt.ensures.contents, contents, c.drop_place.ensures.pids) record {
-      regular = regular_depart c.args.pid c.args.status (omega (arith, least, named)) c.requires.other _ c.self.invariant.regular;
-      parents = parents_departed c.args.pid c.args.status _ c.self.invariant.regular.first c.self.invariant.parents;
-      counted = c.self.invariant.counted;
-      kept = kept_departed c.args.pid c.args.status _ _ _ _ _ _ (let r = c.drop_place.ensures.room in omega (arith, r)) c.self.invariant.kept;
-    }
+    let m = c.loop-next.self-inside in
+    let t = c.loop-next.invariant in
+    subst (λ (s : State). IsSound s m.pids m.order m.records) (sym (departed t _ c.adopt.ensures.contents)) (sound_departed t)
 
-pub returns : goal.returns
-returns g c =
-    let contents = g.met.K.Kin.puts c.self.inside.table c.args.pid c.bury.new.self ∙ changed_body _ c.update.ensures.rising c.args.pid c.update.result.now c.bury.new.self (buried c.args.status) c.update.ensures.value c.bury.ensures in
-    rw (c.adopt.ensures.contents, contents, c.drop_place.ensures.pids, ← c.self.view_is) refl
+pub returns-clause-state : goal.returns-clause-state
+returns-clause-state g c =
+    let t = c.loop-next.invariant in
+    departed t _ c.adopt.ensures.contents ∙ departed_told t c.in_default.is
+
+pub returns-clause-parent : goal.returns-clause-parent
+returns-clause-parent g c = λ me e.
+    let t = c.loop-next.invariant in
+    subst (λ (s : State). IsSome (process s me.parent)) (sym (departed t _ c.adopt.ensures.contents)) (there_after t.now c.args.pid c.args.heir c.args.status me.parent (t.sound.parents c.args.pid me c.requires.other (t.mine ∙ e)))
+
+pub returns-clause-zombie : goal.returns-clause-zombie
+returns-clause-zombie g c =
+    let t = c.loop-next.invariant in
+    let me = there _ c.requires.there in
+    subst (λ (s : State). (x : Process) × (process s c.args.pid ≡ Some x) × (is_zombie x.life ≡ true)) (sym (departed t _ c.adopt.ensures.contents)) (zombie_after t.now c.args.pid c.args.heir c.args.status me.what (t.mine ∙ me.found))

@@ -6,12 +6,12 @@ use Rattle.life.proofs.machine.Machine.look.Goals as goal
 
 pub invariant_of-self : goal.invariant_of-self
 invariant_of-self g c =
-    let same = g.met.K.Kin.puts c.self.inside.table c.args.pid c.update-body.result.now ∙ same_body _ c.update-body.ensures.rising c.args.pid c.update-body.result.now c.update-body.ensures.value in
+    let same = g.met.K.Kin.puts c.self.inside.table c.args.pid c.update-seen.result.now ∙ same_body _ c.update-seen.ensures.rising c.args.pid c.update-seen.result.now c.update-seen.ensures.value in
     rw same c.self.invariant
 
 pub returns : goal.returns
 returns g c =
-    let same = g.met.K.Kin.puts c.self.inside.table c.args.pid c.update-body.result.now ∙ same_body _ c.update-body.ensures.rising c.args.pid c.update-body.result.now c.update-body.ensures.value in (
-      (refl, λ _. tt, rw (← c.self.view_is, same, g.met.K.Kin.put_reads c.self.inside.table c.args.pid c.update-body.result.now) refl),
-      record { lends = tt; value = own_if _ _ (state_is c.self.view_is) c.args.pid c.update-body.result.now c.update-body.ensures.value; regular = rw (← c.self.view_is) c.self.invariant.regular },
+    let same = g.met.K.Kin.puts c.self.inside.table c.args.pid c.update-seen.result.now ∙ same_body _ c.update-seen.ensures.rising c.args.pid c.update-seen.result.now c.update-seen.ensures.value in (
+      (refl, λ _. tt, rw (← c.self.view_is, same, g.met.K.Kin.put_reads c.self.inside.table c.args.pid c.update-seen.result.now) refl),
+      record { lends = tt; value = own_if _ _ (state_is c.self.view_is) c.args.pid c.update-seen.result.now c.update-seen.ensures.value; regular = rw (← c.self.view_is) c.self.invariant.regular },
     )

@@ -1,29 +1,34 @@
-use Rattle.std.proofs.Common.{arith, refl}
-use Rattle.posix.proofs.RegularLemmas.{keeps_noticed}
-use Rattle.life.proofs.SoundLemmas.{found_in, sound_change, zombie_noticed, room_to_drop, sound_dropped}
+use Rattle.std.proofs.Common.{◌∙◌, arith, ap, sym, subst}
+use Rattle.posix.specs.States.{State}
+use Rattle.posix.specs.Ends.{notice_of_end}
+use Rattle.life.specs.Machines.{IsSound}
+use Rattle.life.proofs.SoundLemmas.{found_in}
+use Rattle.life.proofs.PartLemmas.{can_go, room_to_count, told_state, sound_told}
 use Rattle.life.proofs.ViewLemmas.{state_is}
 use Rattle.life.proofs.machine.Machine.notice_of_end.Goals as goal
 
+pub tell-requires-clause-child : goal.tell-requires-clause-child
+tell-requires-clause-child g c =
+    let it = c.requires.zombie in
+    can_go _ _ _ _ c.args.child it.0 c.self.invariant (found_in _ _ (state_is c.self.view_is) c.args.child it.0 it.1) it.2 c.requires.other
+
+pub tell-requires-clause-count : goal.tell-requires-clause-count
+tell-requires-clause-count g c =
+    let it = c.requires.zombie in
+    let few = c.self.ranges in
+    room_to_count _ _ _ _ c.args.child _ c.self.invariant (can_go _ _ _ _ c.args.child it.0 c.self.invariant (found_in _ _ (state_is c.self.view_is) c.args.child it.0 it.1) it.2 c.requires.other) (omega (arith, few))
+
 pub invariant_of-self : goal.invariant_of-self
-invariant_of-self g c = rw c.notice_in-drops.ensures.contents (sound_change c.args.parent _ (keeps_noticed _) _ _ _ _ c.self.invariant)
-
-pub collect-requires-clause-zombie : goal.collect-requires-clause-zombie
-collect-requires-clause-zombie g c =
+invariant_of-self g c =
     let it = c.requires.zombie in
-    rw c.notice_in-drops.ensures.contents (zombie_noticed _ c.args.parent c.args.child _ it.0 (found_in _ _ (state_is c.self.view_is) c.args.child it.0 it.1) it.2)
+    let found = found_in _ _ (state_is c.self.view_is) c.args.child it.0 it.1 in
+    let counts = c.tell.ensures.counts it.0 found in
+    subst (λ (s : State). IsSound s c.tell.new.pids c.self.inside.order c.tell.new.records) (sym (told_state _ _ _ _ _ c.self.inside.order _ _ _ _ _ _ _ c.args.parent c.args.child c.args.status it.0 c.tell.ensures.contents counts))
+    (sound_told _ _ _ _ _ _ _ c.args.parent c.args.child c.args.status it.0 c.self.invariant found it.2 c.requires.other counts)
 
-pub overflow_add-self : goal.overflow_add-self
-overflow_add-self g c =
+pub returns-clause-state : goal.returns-clause-state
+returns-clause-state g c =
     let it = c.requires.zombie in
-    let l = room_to_drop _ _ _ _ _ _ _ c.args.parent c.args.child it.0 _ _ c.self.invariant (found_in _ _ (state_is c.self.view_is) c.args.child it.0 it.1) refl c.notice_in-drops.ensures.contents c.collect.ensures.state (state_is c.self-then-drops.view_is) in
-    let births = c.self-then-drops.ranges in
-    omega (arith, l, births)
-
-pub invariant_of-self-then-drops : goal.invariant_of-self-then-drops
-invariant_of-self-then-drops g c =
-    let it = c.requires.zombie in
-    let l = room_to_drop _ _ _ _ _ _ _ c.args.parent c.args.child it.0 _ _ c.self.invariant (found_in _ _ (state_is c.self.view_is) c.args.child it.0 it.1) refl c.notice_in-drops.ensures.contents c.collect.ensures.state (state_is c.self-then-drops.view_is) in
-    sound_dropped _ _ _ _ c.self-then-drops.invariant l
-
-pub invariant_of-self-else-drops : goal.invariant_of-self-else-drops
-invariant_of-self-else-drops g c = rw c.notice_in-drops.ensures.contents (sound_change c.args.parent _ (keeps_noticed _) _ _ _ _ c.self.invariant)
+    let found = found_in _ _ (state_is c.self.view_is) c.args.child it.0 it.1 in
+    told_state _ _ _ _ _ c.self.inside.order _ _ _ _ _ _ _ c.args.parent c.args.child c.args.status it.0 c.tell.ensures.contents (c.tell.ensures.counts it.0 found)
+    ∙ ap (λ (s : State). notice_of_end s c.args.parent c.args.child c.args.status) (state_is c.self.view_is)
