@@ -12,7 +12,7 @@ use Rattle.posix.specs.declared.process.Blocked.TheVariants as blocked
 use Rattle.posix.specs.declared.process.Report.{Report}
 use Rattle.posix.specs.declared.process.Report.TheVariants as found
 use Rattle.posix.specs.Processes.{Process, argument}
-use Rattle.posix.specs.States.{State, process}
+use Rattle.posix.specs.States.{State}
 use Rattle.posix.specs.Outcomes as outcome
 use Rattle.posix.specs.Targets.{target_in}
 use Rattle.posix.specs.Ends.{end_process}

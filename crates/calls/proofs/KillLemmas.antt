@@ -1,25 +1,20 @@
 -- A kill.
-use Rattle.std.proofs.Common.{◌≡◌, ◌≢◌, ℕ, Bool, true, false, cond, refl, ap, sym, ◌∙◌, subst, Option, Some, None, List, [], ◌∷◌, ℤ, Result, Ok, Err}
-use Rattle.std.specs.Int.{cast_unsigned, w64}
+use Rattle.std.proofs.Common.{◌≡◌, ◌≢◌, ℕ, ap, sym, ◌∙◌, subst, Option, Some, None, List, [], ◌∷◌, Ok, Err}
 use Rattle.std.specs.Option.{IsSome}
-use Rattle.posix.specs.declared.call.Call.{Call}
-use Rattle.posix.specs.declared.call.Call.TheVariants.{Kill, Sigaction}
+use Rattle.posix.specs.declared.call.Call.TheVariants.{Kill}
 use Rattle.posix.specs.declared.errno.Errno.{Errno}
-use Rattle.posix.specs.declared.errno.Errno.TheVariants.{EINVAL}
 use Rattle.posix.specs.declared.process.PendingSignal.{PendingSignal}
 use Rattle.posix.specs.declared.process.Sending.{Sending}
 use Rattle.posix.specs.declared.process.Sending.TheVariants as found
 use Rattle.posix.specs.declared.target.Target.{Target}
 use Rattle.posix.specs.Targets.{target_in}
-use Rattle.posix.specs.Processes.{Process, Signals, argument}
+use Rattle.posix.specs.Processes.{Process, argument}
 use Rattle.posix.specs.Tables.{lookup, changed, pids}
-use Rattle.posix.specs.States.{State, process, change}
+use Rattle.posix.specs.States.{State, process}
 use Rattle.posix.specs.Outcomes as outcome
-use Rattle.posix.specs.Generation.{action, signalled, signalled_all}
-use Rattle.posix.specs.Handlers.{set_action}
-use Rattle.posix.specs.Sends.{permitted, sending, sent, sent_among, sent_by, signal_in, signal_or_none, send_with, kill, kill_with}
-use Rattle.posix.specs.SignalCalls.{is_question, are_flags, action_in, gives_action, sigaction, sigaction_of, sigaction_with}
-use Rattle.posix.proofs.RegularLemmas.{Keeps, keeps_signalled}
+use Rattle.posix.specs.Generation.{signalled, signalled_all}
+use Rattle.posix.specs.Sends.{permitted, sending, sent, sent_among, sent_by, signal_or_none, send_with, kill, kill_with}
+use Rattle.posix.proofs.RegularLemmas.{keeps_signalled}
 use Rattle.calls.proofs.CallLemmas.{some_is}
 use Rattle.calls.proofs.ReportLemmas.{some_changed}
 use Rattle.calls.proofs.ChosenLemmas.{sent_nobody}

@@ -1,5 +1,5 @@
 -- Calls that change the own part of their process alone.
-use Rattle.std.proofs.Common.{◌≡◌, ℕ, ℤ, Bool, true, Some, None, refl, ap, sym, subst, ◌∙◌, List, [], ◌∷◌, ◌++◌}
+use Rattle.std.proofs.Common.{◌≡◌, ℕ, true, Some, None, refl, ap, sym, subst, ◌∙◌, List, [], ◌∷◌}
 use Rattle.std.specs.Option.{IsSome, IfSome}
 use Rattle.posix.specs.declared.call.Call.{Call}
 use Rattle.posix.specs.declared.entry.Entry.{Entry}

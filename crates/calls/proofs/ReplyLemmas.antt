@@ -1,6 +1,5 @@
 -- Calls that change their process alone.
-use Rattle.std.proofs.Common.{◌≡◌, ◌≢◌, ℕ, ℤ, Bool, true, false, cond, Some, refl, ap, sym, subst, ◌∙◌, pos, List, [], ◌∷◌, ◌++◌, Result, Ok, Err, OnOk, OnErr, IfErr}
-use Rattle.std.specs.Option.{IfSome}
+use Rattle.std.proofs.Common.{◌≡◌, ℕ, ℤ, Bool, true, false, cond, Some, refl, ap, sym, subst, ◌∙◌, pos, List, [], ◌∷◌, ◌++◌, Result, Ok, Err, OnOk, OnErr, IfErr}
 use Rattle.posix.specs.declared.call.Call.{Call}
 use Rattle.posix.specs.declared.errno.Errno.{Errno}
 use Rattle.posix.specs.declared.errno.Errno.TheVariants.{EINVAL}
@@ -9,7 +8,7 @@ use Rattle.posix.specs.Generation.{action}
 use Rattle.posix.specs.Handlers.{set_action}
 use Rattle.posix.specs.Sends.{signal_in}
 use Rattle.std.specs.Int.{cast_unsigned, w64}
-use Rattle.posix.specs.States.{State, process}
+use Rattle.posix.specs.States.{State}
 use Rattle.posix.specs.Outcomes as outcome
 use Rattle.posix.specs.SignalCalls.{give_credentials, set_credentials, is_question, are_flags, action_in, gives_action, sigaction_with, sigaction_of, sigaction}
 use Rattle.posix.specs.Attempts.{attempt}

@@ -1,5 +1,5 @@
 -- The child that a wait reports.
-use Rattle.std.proofs.Common.{◌≡◌, ◌≢◌, ℕ, Bool, true, false, cond, refl, ap, sym, ◌∙◌, arith, subst, List, [], ◌∷◌, filter, find, Option, Some, None, ◌==◌, nat_lt, ℤ}
+use Rattle.std.proofs.Common.{◌≡◌, ◌≢◌, ℕ, Bool, true, false, cond, refl, ap, sym, ◌∙◌, arith, subst, List, [], ◌∷◌, filter, find, Option, Some, None, ◌==◌, nat_lt}
 use Rattle.std.specs.Option.{IsSome}
 use Rattle.std.proofs.lemmas.Bool.{eqb-true, eq-eqb, ne_eqb}
 use Rattle.posix.specs.declared.process.Life.{Life}
@@ -10,9 +10,9 @@ use Rattle.posix.specs.declared.process.Report.{Report}
 use Rattle.posix.specs.declared.target.Target.{Target}
 use Rattle.posix.specs.declared.process.Report.TheVariants as found
 use Rattle.posix.specs.Statuses.{stopped, continued}
-use Rattle.posix.specs.Processes.{Process, is_zombie, argument}
+use Rattle.posix.specs.Processes.{Process, is_zombie}
 use Rattle.posix.specs.Tables.{IsRising, has_pid, lookup, changed, inserted, removed, is_child, children_in, at}
-use Rattle.posix.specs.States.{State, process}
+use Rattle.posix.specs.States.{State}
 use Rattle.posix.specs.Regular.{IsRegular, IsPlaced}
 use Rattle.posix.specs.Waits.{is_named, has_option, WUNTRACED, WCONTINUED, report_change, report_life, report_of, reports, report_found, report_among, report}
 use Rattle.posix.proofs.TableLemmas.{Above, lookup_above, rising_filter, pid_looked}

@@ -1,23 +1,16 @@
 -- A plain instruction gives nobody a place.
-use Rattle.std.proofs.Common.{◌≡◌, ◌≢◌, ℕ, zero, suc, ◌+◌, Bool, true, false, cond, not, ◌&&◌, refl, ap, sym, ◌∙◌, arith, List, [], ◌∷◌, ◌++◌, append-nil, map, filter, find, Option, Some, None, option_and_then, option_map, is_some, ◌==◌, pos, negsuc, ℤ}
-use Rattle.std.specs.List.{AllByRecursion}
-use Rattle.std.proofs.lemmas.Bool.{eqb-true}
+use Rattle.std.proofs.Common.{◌≡◌, ◌≢◌, ℕ, true, false, cond, refl, ap, sym, ◌∙◌, List, Option, Some, None, option_and_then, is_some}
 use Rattle.posix.specs.declared.event.Event.TheVariants.{Step}
 use Rattle.posix.specs.declared.entry.Entry.{Entry}
 use Rattle.posix.specs.Signals.{KILL}
 use Rattle.posix.specs.Processes.{Process, Cpu}
-use Rattle.posix.specs.Tables.{IsRising, lookup, at, changed, children_in, pids}
+use Rattle.posix.specs.Tables.{IsRising}
 use Rattle.posix.specs.States.{State, is_in, change, current, process, current_process}
 use Rattle.posix.specs.Execute.{exec_one}
 use Rattle.posix.specs.Outcomes.{Outcome, silent}
 use Rattle.posix.specs.Choice.{chosen}
-use Rattle.posix.specs.Waits.{report, is_named, report_of, report_life, report_found, report_among, reports, is_something}
-use Rattle.posix.specs.Settle.{settle, wakes, can_act}
 use Rattle.posix.specs.Step.{IsStep, next, happens, step, act, after_trap, code_of, set_cpu, settled}
 use Rattle.posix.specs.Settle.{NoWakeIsLost}
-use Rattle.posix.proofs.TableLemmas.{pid_looked}
-use Rattle.posix.proofs.MapLemmas.{children_map}
-use Rattle.posix.proofs.SettleLemmas.{ReportsSame, can_act_same, all_looked}
 use Rattle.calls.proofs.ChosenLemmas.{act_runs, no_kill_chosen}
 use Rattle.posix.proofs.UnseenLemmas.{Unseen, settle_unseen}
 

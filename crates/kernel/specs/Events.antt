@@ -1,26 +1,17 @@
 -- What the functions of one event come to.
-use Rattle.std.specs.Prelude.{◌≡◌, ℕ, ◌+◌, Bool, true, List, [], ◌∷◌, Some, ℤ, replicate}
+use Rattle.std.specs.Prelude.{◌≡◌, ℕ, ◌+◌, Bool, List, Some, replicate}
 use Rattle.posix.specs.declared.call.Call.{Call}
 use Rattle.posix.specs.declared.event.Event.{Event}
 use Rattle.posix.specs.declared.event.Event.TheVariants.{Step}
 use Rattle.posix.specs.declared.entry.Entry.{Entry}
-use Rattle.posix.specs.declared.entry.Entry.TheVariants.{Called}
-use Rattle.std.specs.Int.{cast_signed, w64}
-use Rattle.posix.specs.declared.process.Action.{Action}
 use Rattle.posix.specs.Processes.{Process}
-use Rattle.posix.specs.SignalSets.{word_of}
-use Rattle.posix.specs.SignalCalls.{handler_word}
 use Rattle.posix.specs.Entries.{numbered}
-use Rattle.posix.specs.States.{State, process, current_process, has_place}
-use Rattle.posix.specs.Regular.{IsPlaced}
-use Rattle.posix.specs.Outcomes as outcome
+use Rattle.posix.specs.States.{State, process, current_process}
 use Rattle.posix.specs.Attempts.{attempt}
 use Rattle.posix.specs.Execute.{exec_one}
 use Rattle.posix.specs.Runs.{RunsFrom}
 use Rattle.posix.specs.Settle.{NoWakeIsLost}
 use Rattle.posix.specs.Step.{code_of, begin_call, after_trap, act, step, happens}
-use Rattle.proctable.specs.declared.own.Own.{Own}
-use Rattle.proctable.specs.Body.{give_own}
 
 -- p may begin the call so.
 abbrev pub Begins : State → ℕ → Call → List Entry → State → Type 0

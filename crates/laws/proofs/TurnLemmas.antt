@@ -1,27 +1,25 @@
 -- Who has a place keeps it, and comes nearer to its turn.
-use Rattle.std.proofs.Common.{◌≡◌, ◌≢◌, ℕ, zero, suc, add-zero, append_assoc, ◌+◌, ◌≤◌, Bool, true, false, cond, not, ◌&&◌, ◌||◌, refl, ap, sym, ◌∙◌, arith, subst, List, [], ◌∷◌, ◌++◌, filter, find, Option, Some, None, option_and_then, ◌==◌, slice_get, inl, inr}
+use Rattle.std.proofs.Common.{◌≡◌, ◌≢◌, ℕ, zero, suc, add-zero, append_assoc, ◌+◌, ◌≤◌, Bool, true, false, cond, not, ◌||◌, refl, ap, sym, ◌∙◌, arith, subst, List, [], ◌∷◌, ◌++◌, filter, Option, Some, None, option_and_then, ◌==◌, slice_get, inl, inr}
 use Rattle.std.specs.List.{list_any}
 use Rattle.std.proofs.lemmas.Bool.{eqb-true, eq-eqb, ne_eqb}
 use Rattle.std.proofs.lemmas.List.Sums.{sum_by-cons}
 use Rattle.posix.specs.declared.event.Event.{Event}
 use Rattle.posix.specs.declared.event.Event.TheVariants.{Step, Tick}
 use Rattle.posix.specs.declared.entry.Entry.{Entry}
-use Rattle.posix.specs.Processes.{Process, first_process}
-use Rattle.posix.specs.Tables.{lookup, has_pid, pids}
-use Rattle.posix.specs.States.{State, World, boot, is_in, without, current, process}
+use Rattle.posix.specs.Processes.{Process}
+use Rattle.posix.specs.Tables.{lookup, pids}
+use Rattle.posix.specs.States.{State, is_in, without, current, process}
 use Rattle.posix.specs.Regular.{IsDistinct}
 use Rattle.posix.specs.Outcomes.{Outcome}
-use Rattle.posix.specs.Settle.{settle, wakes, can_act}
-use Rattle.posix.specs.Step.{IsStep, next, happens, step, act, tick, rotate, pass_time}
+use Rattle.posix.specs.Settle.{settle, wakes}
+use Rattle.posix.specs.Step.{IsStep, next, happens, step, tick, rotate, pass_time}
 use Rattle.posix.specs.Entries.{Line, numbered}
 use Rattle.posix.specs.Runs.{RunsFrom}
-use Rattle.posix.specs.Settle.{NoWakeIsLost}
 use Rattle.laws.specs.Turns.{places_before, is_tick, ticks_in, HasTurn}
 use Rattle.posix.proofs.TableLemmas.{pid_looked}
 use Rattle.posix.proofs.OrderLemmas.{without_absent}
-use Rattle.posix.proofs.SettleLemmas.{can_act_order}
 use Rattle.posix.proofs.ActLemmas.{Turned, acted}
-use Rattle.posix.proofs.WakeLemmas.{next_awake, next_halted, next_entries, next_nothing, nothing_after_halt, in_front, others_stay, act_has_place, first_has_place}
+use Rattle.posix.proofs.WakeLemmas.{next_awake, next_halted, nothing_after_halt, in_front, others_stay}
 
 -- ---- the order after an event
 

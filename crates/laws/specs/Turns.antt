@@ -2,10 +2,8 @@
 use Rattle.std.specs.Prelude.{◌≡◌, ℕ, ◌+◌, ◌==◌, Bool, true, false, if◌then◌else◌, List, [], ◌∷◌, ◌++◌, length, count_by, Some}
 use Rattle.posix.specs.declared.event.Event.{Event}
 use Rattle.posix.specs.declared.event.Event.TheVariants.{Step, Tick}
-use Rattle.posix.specs.Processes.{Process}
 use Rattle.posix.specs.Entries.{Line}
-use Rattle.posix.specs.States.{State, process, has_place, current}
-use Rattle.posix.specs.Settle.{can_act}
+use Rattle.posix.specs.States.{State, current}
 use Rattle.posix.specs.Runs.{RunsFrom}
 
 -- how many places come before that of q; all, where it has none

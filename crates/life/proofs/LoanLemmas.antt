@@ -1,8 +1,8 @@
 -- What a process may change of itself.
-use Rattle.std.proofs.Common.{◌≡◌, ◌==◌, true, false, cond, [], ◌∷◌, ℕ, refl, ap, ◌∙◌, sym, subst, Option, Some, None, List}
+use Rattle.std.proofs.Common.{◌≡◌, ℕ, refl, ap, ◌∙◌, sym, subst, Option, Some, None, List}
 use Rattle.std.specs.Option.{IfSome}
 use Rattle.posix.specs.Processes.{Process}
-use Rattle.posix.specs.Tables.{IsRising, at, lookup, changed, parent_of}
+use Rattle.posix.specs.Tables.{IsRising, lookup, changed, parent_of}
 use Rattle.posix.specs.States.{State, process, change}
 use Rattle.posix.specs.Regular.{IsRegular}
 use Rattle.posix.proofs.RegularLemmas.{Keeps}
@@ -46,20 +46,3 @@ written_at rs up p o w f (Some me) e h did = lent rs up p me o w f e h (did me)
 pub was_written : (s : State) (p : ℕ) (o w : Own) (f : Process → Process) → IsRegular s → IfSome (process s p) (λ r. o ≡ own_of r) → ((r : Process) → give_own w r ≡ f (give_own o r))
     → change s p (give_own w) ≡ change s p f
 was_written s p o w f i h did = ap (λ rs. record s { processes = rs }) (written_at s.processes i.rising p o w f (lookup p s.processes) refl h did)
-
--- ---- several writes
-
-fused_one : (p : ℕ) (f g : Process → Process) (r : Process) → (f r).pid ≡ r.pid → at p g (at p f r) ≡ at p (λ x. g (f x)) r
-fused_one p f g r k = elim (r.pid == p) as (λ b. (r.pid == p) ≡ b → (let x = cond b (f r) r in cond (x.pid == p) (g x) x) ≡ cond b (g (f r)) r) [
-  | true ↦ λ t. rw (k, t) refl
-  | false ↦ λ t. rw t refl
-] refl
-
-fused_in : (p : ℕ) (f g : Process → Process) → ((r : Process) → (f r).pid ≡ r.pid) → (rs : List Process) → changed p g (changed p f rs) ≡ changed p (λ r. g (f r)) rs
-unfolding changed
-fused_in p f g k [] = refl
-fused_in p f g k (r ∷ rs) = rw (fused_one p f g r (k r), fused_in p f g k rs) refl
-
--- two changes of p are one
-pub fused : (s : State) (p : ℕ) (f g : Process → Process) → ((r : Process) → (f r).pid ≡ r.pid) → change (change s p f) p g ≡ change s p (λ r. g (f r))
-fused s p f g k = ap (λ rs. record s { processes = rs }) (fused_in p f g k s.processes)

@@ -17,7 +17,7 @@ use Rattle.posix.proofs.TableLemmas.{pid_looked, lookup_changed}
 use Rattle.posix.proofs.WalkLemmas.{AtChild, at_child, at_first, head_above}
 use Rattle.posix.proofs.MapLemmas.{at_pid, lookup_map, filter_map, children_map}
 use Rattle.proctable.proofs.SlotLemmas.{filters_commute}
-use Rattle.posix.proofs.RegularLemmas.{keeps_at, keeps_noticed, regular_change, regular_removed, lookup_kept, lookup_other, heir_other, heir_there, heir_living, heir_map, heir_removed, regular_depart}
+use Rattle.posix.proofs.RegularLemmas.{keeps_at, keeps_noticed, lookup_kept, lookup_other, heir_other, heir_there, heir_living, heir_map, heir_removed, regular_depart}
 use Rattle.posix.proofs.NoticeLemmas.{only_notice}
 use Rattle.pidalloc.specs.Rows.{Pids}
 use Rattle.sched.specs.Places.{Places}
@@ -142,20 +142,6 @@ left_told s p heir c w =
     elim (is_dropping heir s.processes) as (λ b. left_of after (children_in p (cond {A = State} b (drop_child told c) told).processes) ≡ map (at heir (noticed signal)) (left_of after (children_in p s.processes))) [
       | true ↦ ap (left_of after) (children_without p c told.processes ∙ ap (removed c) kids) ∙ left_without after c (sibling_above c s.processes) (map (at heir (noticed signal)) (children_in p s.processes)) ∙ left
       | false ↦ ap (left_of after) kids ∙ left
-    ]
-
--- the state stays regular
-regular_told : (s : State) (p heir c w : ℕ) → IsRegular s → IsToTell s p heir c w → IsRegular (notice_of_end s heir c w)
-unfolding notice_of_end
-regular_told s p heir c w i h =
-    let signal = child_signal c w in
-    let told = change s heir (noticed signal) in
-    let j = regular_change heir (noticed signal) (keeps_noticed signal) s i in
-    let there = lookup_other heir c (noticed signal) (keeps_noticed signal).pid (not_heir s p heir c w i h) s.processes h.child.what h.child.found in
-    let gone = regular_removed c h.child.what told j (not_first s p heir c w i h) there (ap is_zombie h.dead) in
-    elim (is_dropping heir s.processes) as (λ b. IsRegular (cond {A = State} b (drop_child told c) told)) [
-      | true ↦ record { rising = gone.rising; bounded = gone.bounded; first = gone.first; placed = gone.placed; distinct = gone.distinct; childless = gone.childless }
-      | false ↦ j
     ]
 
 -- p is as it was

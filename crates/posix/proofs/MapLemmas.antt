@@ -1,10 +1,10 @@
 -- What is done to each record of a table.
-use Rattle.std.proofs.Common.{◌≡◌, ◌≢◌, ℕ, Bool, true, false, cond, not, refl, ap, sym, ◌∙◌, arith, subst, List, [], ◌∷◌, map, filter, find, Option, Some, None, option_map, ◌==◌}
+use Rattle.std.proofs.Common.{◌≡◌, ◌≢◌, ℕ, Bool, true, false, cond, not, refl, ap, sym, ◌∙◌, arith, List, [], ◌∷◌, map, filter, find, Option, Some, None, option_map, ◌==◌}
 use Rattle.std.specs.Option.{IsSome}
 use Rattle.std.proofs.lemmas.Bool.{eqb-true, ne_eqb}
 use Rattle.posix.specs.Processes.{Process}
-use Rattle.posix.specs.Tables.{IsRising, has_pid, lookup, at, changed, removed, is_child, children_in, reparented, adopted}
-use Rattle.posix.proofs.TableLemmas.{Above, changed_above, pid_reparented}
+use Rattle.posix.specs.Tables.{has_pid, lookup, at, changed, removed, is_child, children_in, reparented, adopted}
+use Rattle.posix.proofs.TableLemmas.{pid_reparented}
 
 -- made to one process only, a change that keeps pids keeps them
 pub at_pid : (p : ℕ) (f : Process → Process) → ((r : Process) → (f r).pid ≡ r.pid) → (r : Process) → (at p f r).pid ≡ r.pid
@@ -61,26 +61,6 @@ children_map g keeps p rs = filter_map (is_child p) g (λ r. ap (λ n. n == p) (
 pub removed_map : (c : ℕ) (g : Process → Process) → ((r : Process) → (g r).pid ≡ r.pid) → (rs : List Process) → removed c (map g rs) ≡ map g (removed c rs)
 unfolding removed
 removed_map c g keeps rs = filter_map (λ r. not (r.pid == c)) g (λ r. ap (λ n. not (n == c)) (keeps r)) rs
-
--- a change of one that is no child changes no children
-pub children_changed : (n p : ℕ) (f : Process → Process) → ((r : Process) → (f r).parent ≡ r.parent) → (rs : List Process) → IsRising rs
-    → (what : Process) → lookup n rs ≡ Some what → what.parent ≢ p → children_in p (changed n f rs) ≡ children_in p rs
-unfolding changed children_in lookup IsRising
-children_changed n p f keeps [] up what e ne = refl
-children_changed n p f keeps (x ∷ xs) up what e ne =
-    elim (x.pid == n) as (λ b. (x.pid == n) ≡ b → cond b (Some x) (find (has_pid n) xs) ≡ Some what → filter (is_child p) (cond b (f x) x ∷ map (at n f) xs) ≡ filter (is_child p) (x ∷ xs)) [
-      | true ↦ λ t k.
-          let here : x ≡ what = cc in
-          let named : x.pid ≡ n = eqb-true _ _ t in
-          let rest : map (at n f) xs ≡ xs = changed_above n f xs (subst (λ m. Above m xs) named up.0) in
-          let a : (x.parent == p) ≡ false = ne_eqb _ _ (λ q. ne (ap (λ (r : Process). r.parent) (sym here) ∙ q)) in
-          let b : ((f x).parent == p) ≡ false = ap (λ q. q == p) (keeps x) ∙ a in
-          rw (a, b, rest) refl
-      | false ↦ λ t k. elim (x.parent == p) as (λ b. cond b (x ∷ filter (is_child p) (map (at n f) xs)) (filter (is_child p) (map (at n f) xs)) ≡ cond b (x ∷ filter (is_child p) xs) (filter (is_child p) xs)) [
-        | true ↦ ap (λ l. x ∷ l) (children_changed n p f keeps xs up.1 what k ne)
-        | false ↦ children_changed n p f keeps xs up.1 what k ne
-      ]
-    ] refl e
 
 -- ---- orders that do not matter
 

@@ -4,17 +4,15 @@ use Rattle.std.specs.List.{list_any}
 use Rattle.std.specs.Option.{IsSome}
 use Rattle.std.proofs.lemmas.Bool.{eqb-true, eqb-false, eq-eqb, ne_eqb, cases_eq}
 use Rattle.posix.specs.declared.process.PendingSignal.{PendingSignal}
-use Rattle.posix.specs.Processes.{Process, Signals, Cpu, is_zombie}
+use Rattle.posix.specs.Processes.{Process, Cpu, is_zombie}
 use Rattle.posix.specs.Tables.{lookup, has_pid, at, changed, inserted, removed, is_child, children_in, reparented, adopted}
 use Rattle.posix.specs.States.{State, is_in, without, change, lose_place}
 use Rattle.posix.specs.Regular.{IsRegular, IsBounded, CanInherit, IsDistinct}
-use Rattle.posix.specs.Outcomes.{written}
 use Rattle.posix.specs.Generation.{signalled}
 use Rattle.posix.specs.Handlers.{handles, is_full}
 use Rattle.posix.specs.Ends.{make_zombie, buried, halt, depart, noticed, ignores_children}
 use Rattle.posix.specs.Waits.{news_told}
 use Rattle.posix.specs.Delivery.{take_out}
-use Rattle.posix.specs.SignalCalls.{give_signals}
 use Rattle.posix.specs.Step.{set_cpu}
 use Rattle.posix.proofs.TableLemmas.{rising_map, rising_changed, rising_adopted, rising_inserted, rising_removed, pid_reparented, pid_looked}
 use Rattle.posix.proofs.MapLemmas.{at_pid, lookup_back, lookup_on, adopted_changed, children_map, children_adopted, children_elsewhere}
@@ -57,11 +55,6 @@ regular_map g k s i = record {
       let old : is_zombie b.what.life ≡ true = sym (k.zombie b.what) ∙ ap (λ (r : Process). is_zombie r.life) (sym b.is) ∙ z in
       children_map g k.parent p s.processes ∙ ap (map g) (i.childless p b.what ne b.found old);
 }
-
--- a state stays regular by such a change of one record
-pub regular_change : (p : ℕ) (f : Process → Process) → Keeps f → (s : State) → IsRegular s → IsRegular (change s p f)
-unfolding changed
-regular_change p f k s i = regular_map (at p f) (keeps_at p f k) s i
 
 -- ---- the order
 
@@ -370,11 +363,6 @@ pub keeps_news_told : Keeps news_told
 unfolding news_told
 keeps_news_told = record { pid = λ r. refl; parent = λ r. refl; group = λ r. refl; session = λ r. refl; zombie = λ r. refl }
 
--- so does a register that is written
-pub keeps_written : (i : ℕ) (z : ℤ) → Keeps (written i z)
-unfolding written
-keeps_written i z = record { pid = λ r. refl; parent = λ r. refl; group = λ r. refl; session = λ r. refl; zombie = λ r. refl }
-
 -- what both sides of a test have
 either : {A : Type 0} (f : Process → A) (b : Bool) (x y : Process) (a : A) → f x ≡ a → f y ≡ a → f (cond b x y) ≡ a
 either f true x y a h k = h
@@ -395,11 +383,6 @@ keeps_handles signal address = record {
 pub keeps_take_out : (n : ℕ) → Keeps (take_out n)
 unfolding take_out
 keeps_take_out n = record { pid = λ r. refl; parent = λ r. refl; group = λ r. refl; session = λ r. refl; zombie = λ r. refl }
-
--- so do new actions and a new mask
-pub keeps_give_signals : (g : Signals) → Keeps (give_signals g)
-unfolding give_signals
-keeps_give_signals g = record { pid = λ r. refl; parent = λ r. refl; group = λ r. refl; session = λ r. refl; zombie = λ r. refl }
 
 -- so does a signal that is generated
 pub keeps_signalled : (signal : PendingSignal) → Keeps (signalled signal)

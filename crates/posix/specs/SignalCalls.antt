@@ -2,8 +2,6 @@
 -- sigprocmask and sigpending.
 use Rattle.std.specs.Prelude.{ℕ, zero, suc, ◌+◌, ◌*◌, ◌==◌, Bool, false, if◌then◌else◌, List, [], ◌∷◌, Option, Some, None, ℤ, pos, negsuc, bit_and, Result, Ok, Err}
 use Rattle.std.specs.Int.{cast_signed, cast_unsigned, w64}
-use Rattle.posix.specs.declared.call.Call.{Call}
-use Rattle.posix.specs.declared.call.Call.TheVariants.{Sigaction, Sigprocmask, Sigpending}
 use Rattle.posix.specs.declared.errno.Errno.{Errno}
 use Rattle.posix.specs.declared.errno.Errno.TheVariants.{EINVAL}
 use Rattle.posix.specs.declared.how.How.{How}
@@ -14,7 +12,6 @@ use Rattle.posix.specs.declared.process.Handler.{Handler}
 use Rattle.posix.specs.declared.process.Handler.TheVariants as handler
 use Rattle.posix.specs.SignalSets.{set_in, word_of}
 use Rattle.posix.specs.Processes.{Process, Credentials, Signals, argument}
-use Rattle.posix.specs.States.{State, change}
 use Rattle.posix.specs.Outcomes.{Reply, refusing, written}
 use Rattle.posix.specs.Generation.{action}
 use Rattle.posix.specs.Handlers.{set_action, set_mask}

@@ -1,5 +1,5 @@
 -- Slots in rising order.
-use Rattle.std.proofs.Common.{◌≡◌, ℕ, zero, suc, ◌+◌, ◌<◌, ◌≤◌, Bool, true, false, cond, refl, ap, sym, ◌∙◌, arith, List, [], ◌∷◌, ◌++◌, map, filter, find, length, take, drop, Some, None, Result, Ok, Err, IfOk, IfErr, subst, nat_lt, ◌==◌, slice_get, slice_set, get_or}
+use Rattle.std.proofs.Common.{◌≡◌, ℕ, zero, suc, ◌+◌, ◌<◌, ◌≤◌, Bool, true, false, cond, refl, ap, sym, ◌∙◌, arith, List, [], ◌∷◌, ◌++◌, filter, find, length, take, drop, Some, None, Result, Ok, Err, IfOk, IfErr, subst, nat_lt, ◌==◌, slice_get, slice_set, get_or}
 use Rattle.std.specs.Option.{IfSome, option_map}
 use Rattle.std.specs.List.Sorted.{IsSearchInRange, IsBinarySearchResult, IsNonDecreasingBy}
 use Rattle.std.specs.Ordering.{nat_cmp, ordering_index}

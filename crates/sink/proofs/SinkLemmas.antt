@@ -1,6 +1,6 @@
 -- Laws of what a sink took.
 use Rattle.std.specs.Prelude.{Result, Err}
-use Rattle.std.proofs.Common.{◌≡◌, ℕ, ◌+◌, ◌-◌, ◌%◌, ◌^◌, ◌<◌, ◌≤◌, true, List, [], ◌++◌, length, take, drop, refl, subst, ap, sym, ◌∙◌, append_assoc, append-nil, length-take, length-drop, arith, Option, Some, None, Ok}
+use Rattle.std.proofs.Common.{◌≡◌, ℕ, ◌+◌, ◌-◌, ◌%◌, ◌^◌, ◌<◌, ◌≤◌, true, List, [], ◌++◌, length, take, drop, subst, ap, sym, ◌∙◌, append_assoc, append-nil, length-take, length-drop, arith, Option, Some, None, Ok}
 use Rattle.std.proofs.lemmas.List.{take_all, take-append-drop, drop-take}
 use Rattle.std.proofs.lemmas.Grind.{common_steps}
 use Rattle.std.proofs.lemmas.Bool.Decides.{nat_tests}

@@ -1,5 +1,4 @@
-use Rattle.std.proofs.Common.{◌≡◌, ◌∙◌, ap, true, rules, to_z, of_z, w64, List, ◌++◌}
-use Rattle.posix.specs.declared.entry.Entry.{Entry}
+use Rattle.std.proofs.Common.{◌≡◌, ◌∙◌, ap, true, rules, to_z, of_z, w64, ◌++◌}
 use Rattle.posix.specs.States.{State, process}
 use Rattle.posix.specs.Statuses.{exited}
 use Rattle.posix.specs.Processes.{argument}

@@ -1,8 +1,7 @@
-use Rattle.std.proofs.Common.{◌≡◌, ◌∙◌, ◌+◌, ◌++◌, ◌∷◌, [], ℕ, ap, sym, refl, subst, true, false, pos, rules, to_z, of_z, w64, Option, Some, None}
+use Rattle.std.proofs.Common.{◌≡◌, ◌∙◌, ◌+◌, ◌∷◌, [], ℕ, ap, sym, refl, subst, true, false, pos, rules, to_z, of_z, w64, Option, Some, None}
 use Rattle.std.specs.Option.{IsSome}
 use Rattle.posix.specs.declared.call.Call.TheVariants.{Fork}
 use Rattle.posix.specs.declared.errno.Errno.TheVariants.{EAGAIN}
-use Rattle.posix.specs.declared.entry.Entry.TheVariants.{NoMemory}
 use Rattle.posix.specs.States.{State, process, next_pid, change}
 use Rattle.posix.specs.Outcomes.{refusal, finish, finished, gives, no_memory}
 use Rattle.posix.specs.Births.{fork_as, born, child_of}

@@ -1,4 +1,4 @@
-use Rattle.std.proofs.Common.{◌≡◌, ◌∙◌, ap, sym, subst, refl, true, pos, ◌∷◌, []}
+use Rattle.std.proofs.Common.{◌∙◌, ap, sym, subst, refl, true, pos, ◌∷◌, []}
 use Rattle.std.specs.Option.{IsSome}
 use Rattle.posix.specs.declared.call.Call.TheVariants.{SchedYield}
 use Rattle.posix.specs.States.{State, process, go_last}

@@ -1,5 +1,4 @@
-use Rattle.std.proofs.Common.{◌≡◌, ◌∙◌, ap, sym, subst, true, Some}
-use Rattle.std.specs.Option.{IfSome}
+use Rattle.std.proofs.Common.{◌∙◌, ap, sym, subst, true}
 use Rattle.posix.specs.States.{State, process}
 use Rattle.posix.specs.Attempts.{attempt}
 use Rattle.posix.specs.Sends.{kill}

@@ -1,15 +1,14 @@
-use Rattle.std.proofs.Common.{◌≡◌, ◌≢◌, ◌∙◌, ap, sym, refl, subst, pos, rules, to_z, of_z, w64, Some, Ok, Err, [], ◌∷◌}
+use Rattle.std.proofs.Common.{◌≡◌, ◌∙◌, ap, sym, refl, subst, pos, rules, to_z, of_z, w64, Some, Ok, Err, [], ◌∷◌}
 use Rattle.std.specs.Option.{IsSome}
 use Rattle.posix.specs.declared.errno.Errno.TheVariants.{EPERM, ESRCH}
 use Rattle.posix.specs.declared.call.Call.TheVariants.{Kill}
 use Rattle.posix.specs.declared.process.Sending.TheVariants as found
 use Rattle.posix.specs.Targets.{target_in}
 use Rattle.posix.specs.Processes.{argument}
-use Rattle.posix.specs.States.{State, process}
+use Rattle.posix.specs.States.{State}
 use Rattle.posix.specs.Outcomes.{refusal, finish, refused, gives}
 use Rattle.posix.specs.Sends.{signal_or_none, sending, kill}
 use Rattle.posix.proofs.TableLemmas.{pid_looked}
-use Rattle.life.specs.Callers.{caller_of}
 use Rattle.calls.specs.Outcomes.{Comes, process_like}
 use Rattle.calls.proofs.CallLemmas.{gives_is, kill_of}
 use Rattle.calls.proofs.KillLemmas.{kill_unknown, kill_finds, sent_in, there_sent, sent_same}

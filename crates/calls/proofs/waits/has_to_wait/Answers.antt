@@ -1,4 +1,4 @@
-use Rattle.std.proofs.Common.{◌≡◌, ◌∙◌, ap}
+use Rattle.std.proofs.Common.{◌∙◌, ap}
 use Rattle.posix.specs.States.{State, process}
 use Rattle.posix.specs.Waits.{wait}
 use Rattle.posix.specs.Settle.{is_block}

@@ -1,4 +1,4 @@
-use Rattle.std.proofs.Common.{◌≡◌, ◌∷◌, [], pos}
+use Rattle.std.proofs.Common.{◌∷◌, [], pos}
 use Rattle.posix.specs.Outcomes.{finished}
 use Rattle.life.proofs.LoanLemmas.{was_written}
 use Rattle.calls.proofs.waits.report.Goals as goal

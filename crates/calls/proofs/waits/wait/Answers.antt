@@ -1,8 +1,6 @@
-use Rattle.std.proofs.Common.{◌≡◌, ◌∙◌, ap, sym, subst}
-use Rattle.std.specs.Option.{IfSome}
+use Rattle.std.proofs.Common.{sym, subst}
 use Rattle.posix.specs.States.{State, process}
 use Rattle.posix.specs.Regular.{IsPlaced, IsRegular}
-use Rattle.life.specs.Callers.{caller_of}
 use Rattle.posix.specs.Waits.{wait}
 use Rattle.calls.specs.Outcomes.{Comes, process_like}
 use Rattle.calls.proofs.CallLemmas.{wait_of}

@@ -1,9 +1,7 @@
-use Rattle.std.proofs.Common.{◌≡◌, ◌∙◌, ap, sym, not, false, is_some, rules, to_z, of_z, w64}
-use Rattle.posix.specs.declared.process.Report.TheVariants as found
-use Rattle.posix.specs.Waits.{WNOHANG, has_option, report}
+use Rattle.std.proofs.Common.{◌∙◌, ap, sym, is_some}
 use Rattle.posix.specs.Settle.{is_block}
 use Rattle.calls.specs.Outcomes.{process_like}
-use Rattle.calls.proofs.CallLemmas.{wait_unknown, wait_finds, wait_nothing}
+use Rattle.calls.proofs.CallLemmas.{wait_unknown}
 use Rattle.calls.proofs.waits.would_wait.Goals as goal
 
 pub returns-in_default-clause-value : goal.returns-in_default-clause-value

@@ -1,4 +1,4 @@
-use Rattle.std.proofs.Common.{◌≡◌, ◌∙◌, ap, sym, subst, []}
+use Rattle.std.proofs.Common.{◌∙◌, ap, sym, subst, []}
 use Rattle.posix.specs.States.{State, change, lose_place}
 use Rattle.posix.specs.Attempts.{attempt}
 use Rattle.posix.specs.Step.{begin_call, enter}

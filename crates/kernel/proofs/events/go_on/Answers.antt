@@ -1,4 +1,4 @@
-use Rattle.std.proofs.Common.{◌≡◌, ◌∙◌, ap, sym, subst, refl, []}
+use Rattle.std.proofs.Common.{◌∙◌, ap, sym, subst, refl, []}
 use Rattle.std.specs.Option.{IsSome}
 use Rattle.posix.specs.States.{State, process, lose_place}
 use Rattle.posix.specs.Outcomes.{silent}

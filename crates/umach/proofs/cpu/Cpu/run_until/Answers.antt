@@ -1,4 +1,4 @@
-use Rattle.std.proofs.Common.{◌≡◌, ◌≢◌, ◌∙◌, ap, sym, arith, rules}
+use Rattle.std.proofs.Common.{◌≡◌, ◌≢◌, ap, sym, arith, rules}
 use Rattle.posix.specs.declared.instr.Trap.TheVariants as trap
 use Rattle.umach.specs.Bursts.{Burst}
 use Rattle.umach.proofs.BurstLemmas.{left_later, left_ends, left_none}
