@@ -20,7 +20,8 @@ use Rattle.posix.specs.Sends.{kill, sending, targets, permitted, sent, sent_amon
 use Rattle.posix.specs.Waits.{wait, wait_with, gives_report, report, options_in, are_known, has_option, WNOHANG}
 use Rattle.life.specs.declared.caller.Caller.{Caller}
 use Rattle.life.specs.Callers.{caller_of}
-use Rattle.calls.specs.Outcomes.{Comes, process_like}
+use Rattle.calls.specs.Outcomes.{Comes}
+use Rattle.life.specs.Callers.{process_like}
 
 -- who is there is a record
 pub some_is : (o : Option Process) → IsSome o → (r : Process) × (o ≡ Some r)

@@ -9,7 +9,7 @@ use Rattle.posix.specs.declared.process.PendingSignal.{PendingSignal}
 use Rattle.posix.specs.declared.process.Sending.{Sending}
 use Rattle.posix.specs.declared.target.Target.{Target}
 use Rattle.posix.specs.declared.process.Sending.TheVariants as found
-use Rattle.posix.specs.Signals.{KILL}
+use Rattle.posix.specs.SignalNumbers.{KILL}
 use Rattle.posix.specs.Processes.{Process, Signals, is_running, is_zombie}
 use Rattle.posix.specs.Tables.{lookup, changed, at, pids}
 use Rattle.posix.specs.States.{State}

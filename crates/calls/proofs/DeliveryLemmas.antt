@@ -9,7 +9,7 @@ use Rattle.posix.specs.declared.process.Carried.{Carried}
 use Rattle.posix.specs.declared.process.Frame.{Frame}
 use Rattle.posix.specs.declared.process.Handler.TheVariants as handler
 use Rattle.posix.specs.declared.process.PendingSignal.{PendingSignal}
-use Rattle.posix.specs.Signals.{SEGV, default_action}
+use Rattle.posix.specs.SignalNumbers.{SEGV, default_action}
 use Rattle.posix.specs.Statuses.{killed}
 use Rattle.posix.specs.Processes.{Process}
 use Rattle.posix.specs.States.{State, process, change}

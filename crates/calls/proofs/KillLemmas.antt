@@ -15,15 +15,10 @@ use Rattle.posix.specs.Outcomes as outcome
 use Rattle.posix.specs.Generation.{signalled, signalled_all}
 use Rattle.posix.specs.Sends.{permitted, sending, sent, sent_among, sent_by, signal_or_none, send_with, kill, kill_with}
 use Rattle.posix.proofs.RegularLemmas.{keeps_signalled}
-use Rattle.calls.proofs.CallLemmas.{some_is}
 use Rattle.calls.proofs.ReportLemmas.{some_changed}
 use Rattle.calls.proofs.ChosenLemmas.{sent_nobody}
 
 -- ---- who is there
-
--- who is there is there in an equal state
-pub there_same : (s t : State) (p : ℕ) → t ≡ s → IsSome (process s p) → IsSome (process t p)
-there_same s t p e h = subst (λ (x : State). IsSome (process x p)) (sym e) h
 
 -- after a signal is generated for several
 some_signalled : (signal : PendingSignal) (ps : List ℕ) (q : ℕ) (rs : List Process) → IsSome (lookup q rs) → IsSome (lookup q (signalled_all signal ps rs))
@@ -46,13 +41,15 @@ some_sent me choice s rs q h = some_sent_among me s _ rs q h
 abbrev pub sent_in : State → Process → Target → Option ℕ → State
 sent_in s me choice sig = record s { processes = sent me choice sig s.processes }
 
--- the sender is there afterwards
-pub there_sent : (s t u : State) (p : ℕ) (choice : Target) (sig : Option ℕ) → t ≡ s → IsSome (process s p)
-    → ((me : Process) → process t p ≡ Some me → u ≡ sent_in t me choice sig) → IsSome (process u p)
-there_sent s t u p choice sig same h send =
-    let here = there_same s t p same h in
-    let me = some_is (process t p) here in
-    there_same (sent_in t me.0 choice sig) u p (send me.0 me.1) (some_sent me.0 choice sig t.processes p here)
+-- what was sent by the call of a process, and whom it found
+pub record IsSent (s : State) (me : Process) (sig : Option ℕ) (now : State) (w : Sending) : Type 0 where
+  pub known : signal_or_none (argument me 2) ≡ Ok sig
+  pub finds : sending me (target_in (argument me 1)) sig s.processes ≡ w
+  pub state : now ≡ sent_in s me (target_in (argument me 1)) sig
+
+-- who is there is there afterwards
+pub there_sent : (s now : State) (me : Process) (sig : Option ℕ) (w : Sending) (p : ℕ) → IsSent s me sig now w → IsSome (process s p) → IsSome (process now p)
+there_sent s now me sig w p i h = subst (λ (t : State). IsSome (process t p)) (sym i.state) (some_sent me (target_in (argument me 1)) sig s.processes p h)
 
 -- ---- a kill
 
@@ -62,11 +59,10 @@ unfolding kill
 kill_unknown s me why none = ap (kill_with s me (target_in (argument me 1))) none
 
 -- a kill that finds w
-pub kill_finds : (s : State) (me : Process) (sig : Option ℕ) (w : Sending) → signal_or_none (argument me 2) ≡ Ok sig → sending me (target_in (argument me 1)) sig s.processes ≡ w
-    → kill s me ≡ send_with s me (target_in (argument me 1)) sig w
+pub kill_finds : (s now : State) (me : Process) (sig : Option ℕ) (w : Sending) → IsSent s me sig now w → kill s me ≡ send_with s me (target_in (argument me 1)) sig w
 unfolding kill
-kill_finds s me sig w some finds = ap (kill_with s me (target_in (argument me 1))) some ∙ ap (send_with s me (target_in (argument me 1)) sig) finds
+kill_finds s now me sig w i = ap (kill_with s me (target_in (argument me 1))) i.known ∙ ap (send_with s me (target_in (argument me 1)) sig) i.finds
 
 -- a kill that is refused changes nothing
-pub sent_same : (s u : State) (me : Process) (z : Target) (sig : Option ℕ) (w : Sending) → u ≡ sent_in s me z sig → sending me z sig s.processes ≡ w → w ≢ found.Permitted → u ≡ s
-sent_same s u me z sig w e finds ne = e ∙ ap (λ (rs : List Process). record s { processes = rs }) (sent_nobody me z sig s.processes w finds ne)
+pub sent_same : (s now : State) (me : Process) (sig : Option ℕ) (w : Sending) → IsSent s me sig now w → w ≢ found.Permitted → now ≡ s
+sent_same s now me sig w i ne = i.state ∙ ap (λ (rs : List Process). record s { processes = rs }) (sent_nobody me (target_in (argument me 1)) sig s.processes w i.finds ne)

@@ -6,15 +6,13 @@ use Rattle.posix.specs.declared.entry.Entry.{Entry}
 use Rattle.posix.specs.declared.entry.Entry.TheVariants.{Called}
 use Rattle.posix.specs.declared.errno.Errno.{Errno}
 use Rattle.posix.specs.declared.process.Blocked.{Blocked}
-use Rattle.posix.specs.Processes.{Process, first_process, fresh_cpu}
+use Rattle.posix.specs.Processes.{Process}
 use Rattle.posix.specs.States.{State, process, has_place}
 use Rattle.posix.specs.Regular.{IsPlaced}
 use Rattle.posix.specs.Outcomes as outcome
 use Rattle.posix.specs.Attempts.{attempt}
 use Rattle.proctable.specs.declared.own.Own.{Own}
 use Rattle.proctable.specs.Body.{give_own}
-use Rattle.life.specs.declared.caller.Caller.{Caller}
-use Rattle.life.specs.Callers.{caller_of}
 
 -- ---- attempts
 
@@ -34,25 +32,6 @@ Attempts old p call result before after new = (me : Process) → process old p �
 pub record IsActing (s : State) (p : ℕ) : Type 0 where
   pub placed : IsPlaced s.processes p
   pub place : has_place s p ≡ true
-
--- ---- the caller
-
--- it is a process that is there
-pub record IsCaller (s : State) (c : Caller) : Type 0 where
-  pub what : Process
-  pub found : process s c.pid ≡ Some what
-  pub is : c ≡ caller_of what
-
--- as a process, of which all else is as at boot
-abbrev pub process_like : Caller → Process
-process_like c = record first_process {
-  pid = c.pid;
-  parent = c.parent;
-  group = c.group;
-  session = c.session;
-  credentials = c.creds;
-  cpu = record fresh_cpu { registers = pos 0 ∷ c.r1 ∷ c.r2 ∷ [] };
-}
 
 -- the process p, whose own part this is
 abbrev pub with_own : ℕ → Own → Process → Process

@@ -5,9 +5,10 @@ ghost use Rattle.posix.specs.Processes.{Process};
 ghost use Rattle.posix.specs.States.{process};
 ghost use Rattle.posix.specs.Ends.{end_process};
 ghost use Rattle.posix.specs.Delivery.{call_of as call_in, interruption as interruption_of, handle as handling, discard as discarding, act_by_default as acting_by_default, deliver as delivering, fault as faulting, return_from_handler as returning};
-ghost use Rattle.posix.specs.Signals.{default_action};
+ghost use Rattle.posix.specs.SignalNumbers.{default_action};
 
 use crate::entries::Entries;
+use crate::replies::refusal;
 use life::Machine;
 use posix::{
     Action, Blocked, Call, Carried, DefaultAction, Entry, Errno, Handler, PendingSignal, Pid, Sig,
@@ -31,13 +32,13 @@ pub fn end<K: Kin>(machine: &mut Machine<K>, pid: Pid, status: Status, entries: 
     }
 }
 
-/// The call in which a process is blocked. No process is blocked in read yet.
+/// The call in which a process is blocked.
 fn call_of(blocked: Blocked) -> Call
     ensures { result ≡ call_in blocked }
 {
     match blocked {
         Blocked::Waitpid => Call::Waitpid,
-        Blocked::Read | Blocked::Pause => Call::Pause,
+        Blocked::Pause => Call::Pause,
         Blocked::Sigsuspend(_) => Call::Sigsuspend,
     }
 }
@@ -56,7 +57,7 @@ fn show_interruption(pid: Pid, blocked: &Option<Blocked>, action: &Action, entri
         entries.push(Entry::Called {
             pid,
             call: call_of(blocked),
-            result: -i64::from(Errno::EINTR.number()),
+            result: refusal(Errno::EINTR),
         });
     }
 }

@@ -3,23 +3,24 @@
 ghost use Rattle.std.specs.Prelude.{◌≡◌, ◌≤◌, length, IsSome};
 ghost use Rattle.posix.specs.Sends.{signal_or_none as signal_number_or_none, kill as killing};
 ghost use Rattle.posix.specs.States.{process};
-ghost use Rattle.calls.specs.Outcomes.{Attempts, Comes, IsCaller, process_like};
+ghost use Rattle.life.specs.Callers.{process_like};
+ghost use Rattle.calls.specs.Outcomes.{Attempts, Comes};
 
 use crate::attempts::{gives, refuse};
 use crate::entries::Entries;
 use crate::replies::signal_in;
 use life::{Caller, Machine};
-use posix::{Blocked, Call, Errno, Pid, Sending, Sig, Target};
+use posix::{Blocked, Call, Errno, Pid, Sending, Sig};
 use proctable::Kin;
 
-/// The signal that a register names; none for signal 0. EINVAL where it is neither.
-fn signal_or_none(number: i64) -> Result<Option<Sig>, Errno>
-    ensures { result ≡ signal_number_or_none number }
+/// The signal that the second argument names; none for signal 0. EINVAL where it is neither.
+fn signal_or_none(me: &Caller) -> Result<Option<Sig>, Errno>
+    ensures { result ≡ signal_number_or_none me.now.r2 }
 {
-    if number == 0 {
+    if me.r2 == 0 {
         return Ok(None);
     }
-    match signal_in(number) {
+    match signal_in(me.r2) {
         Some(sig) => Ok(Some(sig)),
         None => Err(Errno::EINVAL),
     }
@@ -28,15 +29,15 @@ fn signal_or_none(number: i64) -> Result<Option<Sig>, Errno>
 /// Sends a signal, as a caller that is there.
 #[tactic(auto, unfolding(posix::specs::Sends::kill))]
 fn kill_as<K: Kin>(machine: &mut Machine<K>, me: &Caller, entries: &mut Entries) -> Option<Blocked>
-    requires caller { IsCaller machine.old.state me.now }
+    requires there { IsSome (process machine.old.state me.now.pid) }
     requires room { length entries.old.items ≤ 1 }
     ensures { Comes machine.old.state (killing machine.old.state (process_like me.now)) result entries.old.items entries.new.items machine.new.state }
 {
-    let sig = match signal_or_none(me.r2) {
+    let sig = match signal_or_none(me) {
         Ok(sig) => sig,
         Err(errno) => return refuse(machine, me.pid, Call::Kill, errno, entries),
     };
-    match machine.send(me.pid, Target::from_word(me.r1), sig) {
+    match machine.send(me, me.target(), sig) {
         Sending::NobodyFound => refuse(machine, me.pid, Call::Kill, Errno::ESRCH, entries),
         Sending::NobodyPermitted => refuse(machine, me.pid, Call::Kill, Errno::EPERM, entries),
         Sending::Permitted => gives(machine, me.pid, Call::Kill, 0, entries),

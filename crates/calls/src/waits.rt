@@ -8,13 +8,14 @@ ghost use Rattle.posix.specs.Regular.{IsPlaced, IsRegular};
 ghost use Rattle.posix.specs.Outcomes.{finish};
 ghost use Rattle.posix.specs.Waits.{wait as waiting, are_known, options_in};
 ghost use Rattle.posix.specs.Settle.{is_block};
-ghost use Rattle.calls.specs.Outcomes.{Comes, process_like};
+ghost use Rattle.life.specs.Callers.{process_like};
+ghost use Rattle.calls.specs.Outcomes.{Comes};
 
 use crate::attempts::{gives, refuse};
 use crate::entries::Entries;
 use bitflags::Flags;
 use life::{Caller, Machine};
-use posix::{Blocked, Call, Entry, Errno, Pid, Report, Status, Target, WaitOptions};
+use posix::{Blocked, Call, Entry, Errno, Pid, Report, Status, WaitOptions};
 use proctable::Kin;
 
 /// The options of a wait; none where a bit in r2 is unknown.
@@ -56,7 +57,7 @@ fn wait_as<K: Kin>(machine: &mut Machine<K>, me: &Caller, entries: &mut Entries)
     let Some(options) = options_of(me) else {
         return refuse(machine, me.pid, Call::Waitpid, Errno::EINVAL, entries);
     };
-    match machine.wait_attempt(me.pid, me.group, Target::from_word(me.r1), options) {
+    match machine.wait_attempt(me, me.target(), options) {
         Report::NoChild => refuse(machine, me.pid, Call::Waitpid, Errno::ECHILD, entries),
         Report::Nothing => {
             if options.contains(WaitOptions::WNOHANG) {
@@ -66,7 +67,7 @@ fn wait_as<K: Kin>(machine: &mut Machine<K>, me: &Caller, entries: &mut Entries)
             }
         }
         Report::End(child, status) => {
-            machine.collect(child);
+            machine.reap(child);
             report(machine, me.pid, child, status, entries)
         }
         Report::Change(child, status) => {
@@ -97,7 +98,7 @@ fn would_wait<K: Kin>(machine: &mut Machine<K>, me: &Caller) -> bool
     let Some(options) = options_of(me) else {
         return false;
     };
-    match machine.wait_attempt(me.pid, me.group, Target::from_word(me.r1), options) {
+    match machine.wait_attempt(me, me.target(), options) {
         Report::Nothing => !options.contains(WaitOptions::WNOHANG),
         _ => false,
     }

@@ -133,7 +133,7 @@ fn a_family_changes(rt: HostRuntime) -> Result<(), Fail> {
     table.remove(two);
     assert!(rt; table.get(two) == None);
     let mut table = family(rt.alloc())?;
-    table.update(two).bury(Status::exited(7));
+    table.update(two).make_zombie(Status::exited(7));
     let life = Life::Zombie(Status::exited(7));
     assert!(rt; table.get(two) == Some(Facts { life, ..child() }));
     Ok(())
@@ -150,7 +150,8 @@ fn a_machine_has_births_and_ends(rt: HostRuntime) -> Result<(), Fail> {
     assert!(rt; machine.facts(child).is_some());
     machine.end(child, Pid::INIT, Status::exited(5));
     assert!(rt; machine.facts(Pid::INIT).is_some());
-    let report = machine.wait_attempt(Pid::INIT, Pid::INIT, Target::All, WaitOptions::WNOHANG);
+    let parent = machine.caller(Pid::INIT);
+    let report = machine.wait_attempt(&parent, Target::All, WaitOptions::WNOHANG);
     assert_eq!(rt; report, Report::End(child, Status::exited(5)));
     assert_eq!(rt; machine.births(), 2);
     Ok(())

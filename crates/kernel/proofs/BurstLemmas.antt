@@ -1,5 +1,5 @@
 -- Plain instructions, one after another, are steps that show nothing.
-use Rattle.std.proofs.Common.{◌≡◌, ◌⊎◌, ⊎_elim, ◌==◌, ℕ, zero, suc, ◌+◌, ◌<◌, true, false, cond, refl, ap, sym, ◌∙◌, arith, subst, List, [], ◌∷◌, ◌++◌, append-nil, map, length, Some, None, option_map, is_some, ℤ}
+use Rattle.std.proofs.Common.{◌≡◌, ◌⊎◌, ⊎_elim, ◌==◌, ℕ, zero, suc, ◌+◌, true, false, cond, refl, ap, sym, ◌∙◌, arith, subst, List, [], ◌∷◌, ◌++◌, append-nil, map, length, Some, None, option_map, is_some, ℤ}
 use Rattle.std.specs.Prelude.{replicate}
 use Rattle.posix.specs.declared.instr.Trap.{Trap}
 use Rattle.posix.specs.declared.instr.Trap.TheVariants as trap
@@ -23,7 +23,7 @@ use Rattle.posix.proofs.OrderLemmas.{first_in}
 use Rattle.proctable.specs.declared.facts.Facts.{Facts}
 use Rattle.proctable.specs.Body.{facts_of}
 use Rattle.umach.specs.Bursts.{Burst, then_rest, exec_until}
-use Rattle.kernel.specs.Events.{Bursts}
+use Rattle.kernel.specs.Steps.{Bursts}
 use Rattle.calls.proofs.CallLemmas.{same_outcome}
 use Rattle.kernel.proofs.PlainLemmas.{plain_step, none_of}
 
@@ -221,10 +221,6 @@ only_step k j n s u es one run =
     let same : es ≡ shown_there = same_entries j k es shown_there (lines ∙ ap (λ l. numbered k shown_there ++ l) ends.0 ∙ append-nil (numbered k shown_there)) in
     subst (λ (xs : List Entry). IsStep s Step xs u) (sym same) (subst (IsStep s Step shown_there) (sym ends.1) step)
 
--- a burst of no event shows nothing
-none_shows_nothing : (s u : State) (es : List Entry) → Bursts s 0 es u → es ≡ []
-none_shows_nothing s u es b = same_entries (0 + 0) 0 es [] (b.runs 0).0
-
 -- ---- what the code read and did
 
 -- who is current, in no call and with no signal chosen, is about to run an instruction
@@ -278,11 +274,6 @@ pub burst_shows : (s x : State) (p : ℕ) → Readies s p → x ≡ s → (most 
 burst_shows s x p r same most n t new m es count trap_is state number list =
     subst (λ (k : ℕ). Bursts s k es new) (sym number)
     (subst (λ (l : List Entry). Bursts s (given n t) l new) (sym list) (burst_is s x p r.me r.ready same most n t new count trap_is state))
-
--- what shows something is an event
-pub shows_some : (s u : State) (n : ℕ) (es : List Entry) → Bursts s n es u → (es ≡ [] → ⊥) → 0 < n
-shows_some s u zero es b some = absurd (some (none_shows_nothing s u es b))
-shows_some s u (suc n) es b some = omega arith
 
 pub nothing : (es : List Entry) → length es ≡ 0 → es ≡ []
 nothing [] e = refl

@@ -1,6 +1,5 @@
 pub mod RunLemmas
 pub mod EventLemmas
-pub mod CensusLemmas
 pub mod HeadlineLemmas
 pub mod PlainLemmas
 pub mod BurstLemmas

@@ -2,7 +2,7 @@
 use Rattle.std.proofs.Common.{◌≡◌, ◌≢◌, ℕ, true, false, cond, refl, ap, sym, ◌∙◌, List, Option, Some, None, option_and_then, is_some}
 use Rattle.posix.specs.declared.event.Event.TheVariants.{Step}
 use Rattle.posix.specs.declared.entry.Entry.{Entry}
-use Rattle.posix.specs.Signals.{KILL}
+use Rattle.posix.specs.SignalNumbers.{KILL}
 use Rattle.posix.specs.Processes.{Process, Cpu}
 use Rattle.posix.specs.Tables.{IsRising}
 use Rattle.posix.specs.States.{State, is_in, change, current, process, current_process}

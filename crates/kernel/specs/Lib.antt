@@ -1,5 +1,5 @@
 pub mod Views
-pub mod Events
+pub mod Steps
 pub mod Progress
 pub mod Summaries
 pub mod Headline

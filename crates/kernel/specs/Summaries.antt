@@ -3,7 +3,6 @@ use Rattle.std.specs.Prelude.{ℕ, List, count_by}
 use Rattle.posix.specs.Processes.{is_living, is_zombie}
 use Rattle.posix.specs.Entries.{Line, reported}
 use Rattle.posix.specs.States.{State}
-use Rattle.kernel.specs.declared.summary.Census.{Census}
 use Rattle.kernel.specs.declared.summary.Summary.{Summary}
 
 -- counted from the events, the lines of the trace and the last state
@@ -16,14 +15,4 @@ summary_of events lines last = record {
   reported = reported lines;
   dropped = last.dropped;
   halted = last.halted;
-}
-
--- what is counted in a state
-abbrev pub census_of : State → Census
-census_of s = record {
-  births = s.births;
-  living = count_by is_living s.processes;
-  zombies = count_by (λ r. is_zombie r.life) s.processes;
-  dropped = s.dropped;
-  halted = s.halted;
 }

@@ -1,20 +1,20 @@
 //! The kernel of one world.
 
-ghost use Rattle.std.specs.Prelude.{◌≡◌, ◌+◌, ◌<◌, ◌≤◌, [], IfOk, true, replicate};
+ghost use Rattle.std.specs.Prelude.{◌≡◌, ◌+◌, ◌<◌, ◌≤◌, min, [], IfOk, true, replicate};
 ghost use Rattle.posix.specs.States.{boot as boot_of};
 ghost use Rattle.posix.specs.Entries.{numbered};
 ghost use Rattle.posix.specs.Runs.{RunsFrom};
 ghost use Rattle.posix.specs.Step.{IsStep};
 ghost use Rattle.posix.specs.Regular.{IsRegular};
 ghost use Rattle.text.specs.EventTexts.{most_events};
+ghost use Rattle.kernel.specs.Steps.{plain_steps};
 ghost use Rattle.kernel.specs.Views.{KernelView};
-ghost use Rattle.kernel.specs.Summaries.{census_of};
+ghost use Rattle.life.specs.Censuses.{census_of};
 
-use crate::events::{burst, next};
-use crate::summary::{Census, take_census};
+use crate::step::{burst, next};
 use arrayvec::ArrayVec;
 use calls::Entries;
-use life::Machine;
+use life::{Census, Machine};
 use posix::Event;
 use proctable::{Kin, ScanTable};
 use std::alloc::{AllocError, Global};
@@ -109,8 +109,7 @@ impl<K: Kin> KernelOn<K> {
         requires few { self.old.events + most ≤ most_events }
         requires some { 0 < most }
         requires none { entries.old.items ≡ [] }
-        ensures some { 0 < result }
-        ensures within { result ≤ most }
+        ensures count { result ≡ min most (plain_steps self.old.state most + 1) }
         ensures runs { RunsFrom (self.old.events + 1) self.old.state (replicate result Event.Step) (numbered self.new.events entries.new.items) self.new.state }
         ensures events { self.new.events ≡ self.old.events + result }
         ensures regular { IsRegular self.new.state }
@@ -147,6 +146,6 @@ impl<K: Kin> KernelOn<K> {
         ensures value { result ≡ census_of self.old.state }
         ensures same { (self.new.state ≡ self.old.state) × (self.new.events ≡ self.old.events) }
     {
-        take_census(&mut self.machine)
+        self.machine.census()
     }
 }

@@ -1,10 +1,10 @@
 //! The kernel of one world, and runs from two texts to a printed trace.
 #![tactic(auto)]
 
-mod events;
 pub mod kernel_on;
 mod progress;
 mod settle;
+mod step;
 pub mod summary;
 pub mod texts;
 

@@ -17,8 +17,7 @@ use sink::{LineBuffer, Sink, SinkFault};
 use text::{EventList, EventRun};
 use trace::{print_entry, write_note};
 
-/// Whether an entry tells that a wait reported an end, and not a stop (low byte 127) or a continuation
-/// (255), waitpid(2).
+/// Whether an entry tells that a wait reported an end.
 fn reports_end(entry: &Entry) -> bool
     ensures { result ≡ reports_end_of entry.now }
 {
@@ -27,7 +26,7 @@ fn reports_end(entry: &Entry) -> bool
             pid: _,
             child: _,
             status,
-        } => status.word() % 256 < 127,
+        } => status.tells_end(),
         _ => false,
     }
 }

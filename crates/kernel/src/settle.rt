@@ -60,16 +60,16 @@ fn wake<K: Kin>(machine: &mut Machine<K>, pid: Pid)
     }
 }
 
-/// Asks all processes, in the rising order of their numbers.
+/// Asks all processes that have to be asked, in the rising order of their numbers.
 #[inline(never)]
 fn wake_all<K: Kin>(machine: &mut Machine<K>)
     ensures state { machine.new.state ≡ settling machine.old.state }
     ensures regular { IsRegular machine.new.state }
 {
-    let mut next = machine.next_after(Pid::NONE);
+    let mut next = machine.next_to_ask(Pid::NONE);
     while let Some(pid) = next {
         wake(machine, pid);
-        next = machine.next_after(pid);
+        next = machine.next_to_ask(pid);
     }
 }
 
@@ -79,7 +79,7 @@ pub fn settle<K: Kin>(machine: &mut Machine<K>)
     ensures state { machine.new.state ≡ settling machine.old.state }
     ensures regular { IsRegular machine.new.state }
 {
-    if !machine.is_full() {
+    if !machine.all_have_places() {
         wake_all(machine);
     }
 }

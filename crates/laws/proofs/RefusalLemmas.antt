@@ -27,7 +27,7 @@ use Rattle.posix.specs.declared.process.Report.TheVariants as found
 use Rattle.posix.specs.declared.process.Sending.{Sending}
 use Rattle.posix.specs.declared.process.Sending.TheVariants as sends
 use Rattle.posix.specs.declared.target.Target.{Target}
-use Rattle.posix.specs.Signals.{KILL, SEGV, default_action}
+use Rattle.posix.specs.SignalNumbers.{KILL, SEGV, default_action}
 use Rattle.posix.specs.SignalSets.{has}
 use Rattle.posix.specs.Statuses.{exited, killed}
 use Rattle.posix.specs.Processes.{Process, Signals, Credentials, Cpu, argument}
@@ -201,7 +201,6 @@ explained_pending me = λ C s p call. (tt, tt)
 explained_again : (C : ℕ → Type 0) (s : State) (me : Process) (b : Blocked) → ExplainedIf C s me.pid (attempt_again s me b)
 unfolding attempt_again
 explained_again C s me blocked.Waitpid = explained_wait C s me
-explained_again C s me blocked.Read = tt
 explained_again C s me blocked.Pause = tt
 explained_again C s me (blocked.Sigsuspend mask) = tt
 

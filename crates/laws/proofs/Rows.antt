@@ -24,7 +24,7 @@ use Rattle.posix.specs.Delivery.{handle, take_out, deliver, fault, return_from_h
 use Rattle.posix.specs.Sends.{targets, permitted, sending, sent_among, sent, kill}
 use Rattle.posix.specs.SignalCalls.{give_credentials, give_signals, sigaction, sigprocmask, set_of, sigpending}
 use Rattle.posix.specs.Births.{child_of, fork_as}
-use Rattle.posix.specs.Ends.{make_zombie, buried, noticed, notice_of_end, zombies_of, tell_of_all, end_process}
+use Rattle.posix.specs.Ends.{ended, made_zombie, noticed, notice_of_end, zombies_of, tell_of_all, end_process}
 use Rattle.posix.specs.Waits.{report_of, report, news_told, wait}
 use Rattle.posix.specs.Attempts.{attempt, attempt_again}
 use Rattle.posix.specs.Settle.{can_act, settle}
@@ -49,7 +49,7 @@ trace w events = trace_from 1 (boot w) (λ k. true) events
 
 -- opens every definition of an operation
 unfoldable everything : Unit {0}
-unfolding nothing_pending default_actions zero_registers zero_memory exec_one digits lookup changed inserted removed children_in adopted is_free next_free is_in without finished written setuid seteuid setgid setegid generated signalled signalled_all least_ready chosen taken entered at_handler handles returned set_action set_mask child_of fork_as make_zombie buried noticed notice_of_end zombies_of tell_of_all end_process report_of report news_told wait handle take_out deliver fault return_from_handler targets permitted sending sent_among sent kill give_credentials give_signals sigaction sigprocmask set_of sigpending attempt attempt_again can_act settle set_cpu enter after_trap act_in act step tick happens next
+unfolding nothing_pending default_actions zero_registers zero_memory exec_one digits lookup changed inserted removed children_in adopted is_free next_free is_in without finished written setuid seteuid setgid setegid generated signalled signalled_all least_ready chosen taken entered at_handler handles returned set_action set_mask child_of fork_as ended made_zombie noticed notice_of_end zombies_of tell_of_all end_process report_of report news_told wait handle take_out deliver fault return_from_handler targets permitted sending sent_among sent kill give_credentials give_signals sigaction sigprocmask set_of sigpending attempt attempt_again can_act settle set_cpu enter after_trap act_in act step tick happens next
 everything = tt
 
 abbrev note_and_exit : World

@@ -7,7 +7,7 @@ use Rattle.posix.specs.Processes.{Process, is_zombie}
 use Rattle.posix.specs.Tables.{lookup, at, changed, removed, reparented, adopted}
 use Rattle.posix.specs.States.{State, process, change, without}
 use Rattle.posix.specs.Generation.{signalled}
-use Rattle.posix.specs.Ends.{buried, depart, child_signal, ignores_children, noticed, drops_children, is_dropping, drop_child, notice_of_end, status_of, zombies_of, tell_of_all, end_with_heir}
+use Rattle.posix.specs.Ends.{made_zombie, depart, child_signal, ignores_children, noticed, drops_children, is_dropping, drop_child, notice_of_end, status_of, zombies_of, tell_of_all, end_with_heir}
 use Rattle.posix.proofs.TableLemmas.{pid_looked, pid_reparented, lookup_changed}
 use Rattle.posix.proofs.MapLemmas.{at_pid, lookup_map, lookup_on, some_map, removed_map, changed_changed, adopted_changed}
 use Rattle.posix.proofs.RegularLemmas.{keeps_noticed}
@@ -54,28 +54,28 @@ notice_given s p heir c v =
       | false ↦ refl
     ])
 
--- ---- a burial
+-- ---- one becomes a zombie
 
--- p is buried and has lost its place, and has its children still
+-- p was made a zombie and has lost its place, and has its children still
 abbrev pub leave : ℕ → ℕ → State → State
-leave p w s = record s { processes = changed p (buried w) s.processes; order = without p s.order }
+leave p w s = record s { processes = changed p (made_zombie w) s.processes; order = without p s.order }
 
 -- the heir drops its children as before where another leaves
-pub dropping_left : (p heir w : ℕ) → heir ≢ p → (rs : List Process) → is_dropping heir (changed p (buried w) rs) ≡ is_dropping heir rs
-unfolding buried
+pub dropping_left : (p heir w : ℕ) → heir ≢ p → (rs : List Process) → is_dropping heir (changed p (made_zombie w) rs) ≡ is_dropping heir rs
+unfolding made_zombie
 dropping_left p heir w ne rs =
-    let same : lookup heir (changed p (buried w) rs) ≡ lookup heir rs = lookup_changed p heir (buried w) (λ r. refl) rs ∙ rw (ne_eqb heir p ne) refl in
+    let same : lookup heir (changed p (made_zombie w) rs) ≡ lookup heir rs = lookup_changed p heir (made_zombie w) (λ r. refl) rs ∙ rw (ne_eqb heir p ne) refl in
     ap (λ (o : Option Process). option_map_or (λ r. drops_children r.signals) o false) same
 
--- a burial comes in either order with a notice to another
-told_left : (signal : PendingSignal) (p heir w : ℕ) → heir ≢ p → (rs : List Process) → changed heir (noticed signal) (changed p (buried w) rs) ≡ changed p (buried w) (changed heir (noticed signal) rs)
-unfolding buried
-told_left signal p heir w ne rs = changed_changed heir p (noticed signal) (buried w) (keeps_noticed signal).pid (λ r. refl) ne rs
+-- that one becomes a zombie comes in either order with a notice to another
+told_left : (signal : PendingSignal) (p heir w : ℕ) → heir ≢ p → (rs : List Process) → changed heir (noticed signal) (changed p (made_zombie w) rs) ≡ changed p (made_zombie w) (changed heir (noticed signal) rs)
+unfolding made_zombie
+told_left signal p heir w ne rs = changed_changed heir p (noticed signal) (made_zombie w) (keeps_noticed signal).pid (λ r. refl) ne rs
 
 -- and with a removal
-removed_left : (c p w : ℕ) (rs : List Process) → removed c (changed p (buried w) rs) ≡ changed p (buried w) (removed c rs)
-unfolding changed buried
-removed_left c p w rs = removed_map c (at p (buried w)) (at_pid p (buried w) (λ r. refl)) rs
+removed_left : (c p w : ℕ) (rs : List Process) → removed c (changed p (made_zombie w) rs) ≡ changed p (made_zombie w) (removed c rs)
+unfolding changed made_zombie
+removed_left c p w rs = removed_map c (at p (made_zombie w)) (at_pid p (made_zombie w) (λ r. refl)) rs
 
 -- a notice of an end to the heir, and another that leaves, may come in either order
 pub notice_left : (s : State) (p heir w c v : ℕ) → heir ≢ p → notice_of_end (leave p w s) heir c v ≡ leave p w (notice_of_end s heir c v)
@@ -109,16 +109,16 @@ end_is s me p heir w e other =
 
 -- who is there is there after a departure
 pub there_after : (s : State) (p heir w q : ℕ) → IsSome (process s q) → IsSome (process (depart s p heir w) q)
-unfolding adopted changed buried
-there_after s p heir w q h = some_map (reparented p heir) (pid_reparented p heir) q (map (at p (buried w)) s.processes) (some_map (at p (buried w)) (at_pid p (buried w) (λ r. refl)) q s.processes h)
+unfolding adopted changed made_zombie
+there_after s p heir w q h = some_map (reparented p heir) (pid_reparented p heir) q (map (at p (made_zombie w)) s.processes) (some_map (at p (made_zombie w)) (at_pid p (made_zombie w) (λ r. refl)) q s.processes h)
 
 -- who departs is a zombie
 pub zombie_after : (s : State) (p heir w : ℕ) (me : Process) → process s p ≡ Some me → (x : Process) × (process (depart s p heir w) p ≡ Some x) × (is_zombie x.life ≡ true)
-unfolding adopted changed buried
+unfolding adopted changed made_zombie
 zombie_after s p heir w me e =
     let named : (me.pid == p) ≡ true = eq-eqb _ _ (pid_looked p s.processes me e) in
-    let here : lookup p (map (at p (buried w)) s.processes) ≡ Some (buried w me) = lookup_on (at p (buried w)) (at_pid p (buried w) (λ r. refl)) p s.processes me e ∙ rw named refl in (
-      reparented p heir (buried w me),
-      lookup_on (reparented p heir) (pid_reparented p heir) p (map (at p (buried w)) s.processes) (buried w me) here,
-      elim (me.parent == p) as (λ b. is_zombie (cond b (record (buried w me) { parent = heir }) (buried w me)).life ≡ true) [ true ↦ refl | false ↦ refl ],
+    let here : lookup p (map (at p (made_zombie w)) s.processes) ≡ Some (made_zombie w me) = lookup_on (at p (made_zombie w)) (at_pid p (made_zombie w) (λ r. refl)) p s.processes me e ∙ rw named refl in (
+      reparented p heir (made_zombie w me),
+      lookup_on (reparented p heir) (pid_reparented p heir) p (map (at p (made_zombie w)) s.processes) (made_zombie w me) here,
+      elim (me.parent == p) as (λ b. is_zombie (cond b (record (made_zombie w me) { parent = heir }) (made_zombie w me)).life ≡ true) [ true ↦ refl | false ↦ refl ],
     )

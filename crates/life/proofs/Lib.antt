@@ -8,3 +8,4 @@ pub mod SendLemmas
 pub mod LoanLemmas
 pub mod ViewLemmas
 pub mod PartLemmas
+pub mod CensusLemmas

@@ -12,17 +12,16 @@ use Rattle.posix.specs.Tables.{lookup, at, changed, removed, adopted, is_child, 
 use Rattle.posix.specs.States.{State, process, change}
 use Rattle.posix.specs.Regular.{IsRegular, CanInherit}
 use Rattle.posix.specs.Generation.{signalled}
-use Rattle.posix.specs.Ends.{buried, depart, child_signal, ignores_children, noticed, is_dropping, drop_child, notice_of_end, status_of, zombies_of, tell_of_all}
+use Rattle.posix.specs.Ends.{made_zombie, depart, child_signal, ignores_children, noticed, is_dropping, drop_child, notice_of_end, status_of, zombies_of, tell_of_all}
 use Rattle.posix.proofs.TableLemmas.{pid_looked, lookup_changed}
-use Rattle.posix.proofs.WalkLemmas.{AtChild, at_child, at_first, head_above}
+use Rattle.posix.proofs.WalkLemmas.{filters_commute, AtChild, at_child, at_first, head_above}
 use Rattle.posix.proofs.MapLemmas.{at_pid, lookup_map, filter_map, children_map}
-use Rattle.proctable.proofs.SlotLemmas.{filters_commute}
 use Rattle.posix.proofs.RegularLemmas.{keeps_at, keeps_noticed, lookup_kept, lookup_other, heir_other, heir_there, heir_living, heir_map, heir_removed, regular_depart}
 use Rattle.posix.proofs.NoticeLemmas.{only_notice}
 use Rattle.pidalloc.specs.Rows.{Pids}
 use Rattle.sched.specs.Places.{Places}
 use Rattle.life.specs.Machines.{IsSound, CanGo, IsCounted}
-use Rattle.life.proofs.SoundLemmas.{is_there, found_in, heir_in, kept_order, kept_departed, parents_departed, there_buried}
+use Rattle.life.proofs.SoundLemmas.{is_there, found_in, heir_in, kept_order, kept_departed, parents_departed, there_made_zombie}
 use Rattle.life.proofs.EndLemmas.{leave, dropping_left, notice_left, tell_after}
 use Rattle.life.proofs.PartLemmas.{can_go, can_go_map, sound_told}
 
@@ -180,7 +179,7 @@ todo_told s p heir c w h =
     ap (λ l. tell_of_all (notice_of_end s heir c w) heir (zombies l)) (left_told s p heir c w)
     ∙ tell_map (at heir (noticed (child_signal c w))) (same_at heir (child_signal c w)) (notice_of_end s heir c w) heir left ∙ sym now
 
--- ---- the buried process
+-- ---- the process that was made a zombie
 
 -- a change that keeps numbers and parents keeps the next sibling
 sibling_map : (g : Process → Process) → ((r : Process) → (g r).pid ≡ r.pid) → ((r : Process) → (g r).parent ≡ r.parent) → (c : ℕ) (rs : List Process) → next_sibling c (map g rs) ≡ next_sibling c rs
@@ -196,38 +195,38 @@ sibling_map g kp kq c rs =
     parent_map None = refl
     parent_map (Some r) = kq r
 
-at_buried : (p w : ℕ) (r : Process) → (at p (buried w) r).pid ≡ r.pid
-unfolding buried
-at_buried p w r = at_pid p (buried w) (λ q. refl) r
+at_made_zombie : (p w : ℕ) (r : Process) → (at p (made_zombie w) r).pid ≡ r.pid
+unfolding made_zombie
+at_made_zombie p w r = at_pid p (made_zombie w) (λ q. refl) r
 
-parent_buried : (p w : ℕ) (r : Process) → (at p (buried w) r).parent ≡ r.parent
-unfolding buried
-parent_buried p w r = grind arith
+parent_made_zombie : (p w : ℕ) (r : Process) → (at p (made_zombie w) r).parent ≡ r.parent
+unfolding made_zombie
+parent_made_zombie p w r = grind arith
 
--- the children of who is buried are the same, as a walk sees them
-kids_buried : (p w : ℕ) (rs : List Process) → children_in p (changed p (buried w) rs) ≡ map (at p (buried w)) (children_in p rs)
+-- the children of who was made a zombie are the same, as a walk sees them
+kids_made_zombie : (p w : ℕ) (rs : List Process) → children_in p (changed p (made_zombie w) rs) ≡ map (at p (made_zombie w)) (children_in p rs)
 unfolding changed
-kids_buried p w rs = children_map (at p (buried w)) (parent_buried p w) p rs
+kids_made_zombie p w rs = children_map (at p (made_zombie w)) (parent_made_zombie p w) p rs
 
-first_buried : (p w : ℕ) (rs : List Process) → first_pid (children_in p (changed p (buried w) rs)) ≡ first_pid (children_in p rs)
-first_buried p w rs = ap first_pid (kids_buried p w rs) ∙ first_map (at p (buried w)) (at_buried p w) (children_in p rs)
+first_made_zombie : (p w : ℕ) (rs : List Process) → first_pid (children_in p (changed p (made_zombie w) rs)) ≡ first_pid (children_in p rs)
+first_made_zombie p w rs = ap first_pid (kids_made_zombie p w rs) ∙ first_map (at p (made_zombie w)) (at_made_zombie p w) (children_in p rs)
 
-sibling_buried : (p w c : ℕ) (rs : List Process) → next_sibling c (changed p (buried w) rs) ≡ next_sibling c rs
+sibling_made_zombie : (p w c : ℕ) (rs : List Process) → next_sibling c (changed p (made_zombie w) rs) ≡ next_sibling c rs
 unfolding changed
-sibling_buried p w c rs = sibling_map (at p (buried w)) (at_buried p w) (parent_buried p w) c rs
+sibling_made_zombie p w c rs = sibling_map (at p (made_zombie w)) (at_made_zombie p w) (parent_made_zombie p w) c rs
 
 -- how many children are left
 abbrev pub to_ask : List Process → ℕ → Option ℕ → ℕ
 to_ask rs p next = length (left_of next (children_in p rs))
 
-asks_buried : (p w : ℕ) (rs : List Process) (next : Option ℕ) → to_ask (changed p (buried w) rs) p next ≡ to_ask rs p next
-asks_buried p w rs next =
-    ap (λ l. length (left_of next l)) (kids_buried p w rs)
-    ∙ ap length (left_map (at p (buried w)) (at_buried p w) next (children_in p rs)) ∙ length-map (left_of next (children_in p rs)) (at p (buried w))
+asks_made_zombie : (p w : ℕ) (rs : List Process) (next : Option ℕ) → to_ask (changed p (made_zombie w) rs) p next ≡ to_ask rs p next
+asks_made_zombie p w rs next =
+    ap (λ l. length (left_of next l)) (kids_made_zombie p w rs)
+    ∙ ap length (left_map (at p (made_zombie w)) (at_made_zombie p w) next (children_in p rs)) ∙ length-map (left_of next (children_in p rs)) (at p (made_zombie w))
 
 -- ---- the walk
 
--- The parts m of a machine have p buried, and but for that they are the sound state now. From the child that
+-- The parts m of a machine have p made a zombie, and but for that are the sound state now. From the child that
 -- comes next, what is left to tell of comes to all that there was to tell of.
 pub record IsTelling (old m : State) (pids : Pids) (places : Places) (n p heir w : ℕ) (next : Option ℕ) : Type 0 where
   pub now : State
@@ -249,7 +248,7 @@ begins old s m pids a b n p heir w next me same left i room other h e is =
     let found = found_in s old same p me e in
     let named = pid_looked p s.processes me found in
     let low = (i.regular.bounded p me found).least in
-    let first : next ≡ first_pid (children_in p s.processes) = is ∙ ap (λ (t : State). first_pid (children_in p t.processes)) left ∙ first_buried p w s.processes in
+    let first : next ≡ first_pid (children_in p s.processes) = is ∙ ap (λ (t : State). first_pid (children_in p t.processes)) left ∙ first_made_zombie p w s.processes in
     let all : left_of next (children_in p s.processes) ≡ children_in p s.processes = ap (λ o. left_of o (children_in p s.processes)) first ∙ at_first s.processes i.regular.rising p in
     record {
       now = s;
@@ -271,19 +270,19 @@ child_here {p = p} t c comes =
 
 -- it is there
 pub child_there : {old m : State} {pids : Pids} {places : Places} {n p heir w : ℕ} {next : Option ℕ} (t : IsTelling old m pids places n p heir w next) (c : ℕ) → next ≡ Some c → IsSome (lookup c m.processes)
-child_there {p = p} {w = w} t c comes = let k = child_here t c comes in rw t.left (there_buried p w c t.now.processes (is_there _ k.what k.found))
+child_there {p = p} {w = w} t c comes = let k = child_here t c comes in rw t.left (there_made_zombie p w c t.now.processes (is_there _ k.what k.found))
 
 -- and is as it was, unless it is p
 pub child_same : {old m : State} {pids : Pids} {places : Places} {n p heir w : ℕ} {next : Option ℕ} (t : IsTelling old m pids places n p heir w next) (c : ℕ) (comes : next ≡ Some c) → c ≢ p → lookup c m.processes ≡ Some (child_here t c comes).what
-unfolding buried
-child_same {p = p} {w = w} t c comes ne = let k = child_here t c comes in ap (λ (s : State). lookup c s.processes) t.left ∙ lookup_other p c (buried w) (λ r. refl) ne t.now.processes k.what k.found
+unfolding made_zombie
+child_same {p = p} {w = w} t c comes ne = let k = child_here t c comes in ap (λ (s : State). lookup c s.processes) t.left ∙ lookup_other p c (made_zombie w) (λ r. refl) ne t.now.processes k.what k.found
 
 -- a child that lives is passed
 pub passes : {old m : State} {pids : Pids} {places : Places} {n p heir w : ℕ} {next : Option ℕ} (t : IsTelling old m pids places n p heir w next) (c : ℕ) (comes : next ≡ Some c) (after : Option ℕ) → after ≡ next_sibling c m.processes
     → is_zombie (child_here t c comes).what.life ≡ false → IsTelling old m pids places n p heir w after
 passes {p = p} {heir = heir} {w = w} t c comes after is living =
     let k = child_here t c comes in
-    let sibling : after ≡ next_sibling c t.now.processes = is ∙ ap (λ (s : State). next_sibling c s.processes) t.left ∙ sibling_buried p w c t.now.processes in
+    let sibling : after ≡ next_sibling c t.now.processes = is ∙ ap (λ (s : State). next_sibling c s.processes) t.left ∙ sibling_made_zombie p w c t.now.processes in
     let left : zombies (left_of (Some c) (children_in p t.now.processes)) ≡ zombies (left_of (next_sibling c t.now.processes) (children_in p t.now.processes)) = rw (k.left, living) refl in
     rw sibling (record {
       now = t.now;
@@ -330,7 +329,7 @@ to_tell t c v comes dead = record { child = child_here t c comes; dead = dead; l
 
 -- the heir is there
 pub heir_here : {old m : State} {pids : Pids} {places : Places} {n p heir w : ℕ} {next : Option ℕ} (t : IsTelling old m pids places n p heir w next) → IsSome (lookup heir m.processes)
-heir_here {p = p} {heir = heir} {w = w} t = rw t.left (there_buried p w heir t.now.processes (heir_there t.now p heir t.sound.regular t.inherits))
+heir_here {p = p} {heir = heir} {w = w} t = rw t.left (there_made_zombie p w heir t.now.processes (heir_there t.now p heir t.sound.regular t.inherits))
 
 -- a zombie can go
 pub zombie_goes : {old m : State} {pids : Pids} {places : Places} {n p heir w : ℕ} {next : Option ℕ} (t : IsTelling old m pids places n p heir w next) (c v : ℕ) (comes : next ≡ Some c) → (child_here t c comes).what.life ≡ Zombie v
@@ -342,9 +341,9 @@ zombie_goes {pids = pids} {places = places} {n = n} {p = p} {heir = heir} t c v 
 -- from the parts of the machine, too
 pub zombie_goes_there : {old m : State} {pids : Pids} {places : Places} {n p heir w : ℕ} {next : Option ℕ} (t : IsTelling old m pids places n p heir w next) (c v : ℕ) (comes : next ≡ Some c) → (child_here t c comes).what.life ≡ Zombie v
     → CanGo m.processes pids n c
-unfolding changed buried
+unfolding changed made_zombie
 zombie_goes_there {pids = pids} {n = n} {p = p} {w = w} t c v comes dead =
-    rw t.left (can_go_map (at p (buried w)) (at_buried p w) (parent_buried p w) (λ r. grind arith) (λ r. grind arith) t.now.processes pids n c (zombie_goes t c v comes dead))
+    rw t.left (can_go_map (at p (made_zombie w)) (at_made_zombie p w) (parent_made_zombie p w) (λ r. grind arith) (λ r. grind arith) t.now.processes pids n c (zombie_goes t c v comes dead))
 
 -- the heir is told of it
 pub tells : {old m : State} {pids : Pids} {places : Places} {n p heir w : ℕ} {next : Option ℕ} (t : IsTelling old m pids places n p heir w next) (c v : ℕ) (comes : next ≡ Some c) (after : Option ℕ) → after ≡ next_sibling c m.processes
@@ -356,7 +355,7 @@ tells {pids = pids} {places = places} {n = n} {p = p} {heir = heir} {w = w} t c 
     let kid = child_here t c comes in
     let i = t.sound.regular in
     let other = heir_other now.processes p heir t.other t.inherits in
-    let sibling : after ≡ next_sibling c now.processes = is ∙ ap (λ (s : State). next_sibling c s.processes) t.left ∙ sibling_buried p w c now.processes in
+    let sibling : after ≡ next_sibling c now.processes = is ∙ ap (λ (s : State). next_sibling c s.processes) t.left ∙ sibling_made_zombie p w c now.processes in
     let counted : IsCounted (is_dropping heir now.processes) pids q n k now.dropped e c kid.what =
     subst (λ b. IsCounted b pids q n k now.dropped e c kid.what) (dropping_left p heir w other now.processes)
     (subst (λ (s : State). IsCounted (is_dropping heir s.processes) pids q n k s.dropped e c kid.what) t.left counts) in
@@ -379,9 +378,9 @@ pub asks_less : {old m : State} {pids : Pids} {places : Places} {n p heir w : �
 asks_less {p = p} {w = w} t c comes after is =
     let now = t.now in
     let k = child_here t c comes in
-    let sibling : after ≡ next_sibling c now.processes = is ∙ ap (λ (s : State). next_sibling c s.processes) t.left ∙ sibling_buried p w c now.processes in
+    let sibling : after ≡ next_sibling c now.processes = is ∙ ap (λ (s : State). next_sibling c s.processes) t.left ∙ sibling_made_zombie p w c now.processes in
     let l = ap length k.left in
-    rw (t.left, asks_buried p w now.processes after, asks_buried p w now.processes _, sibling, comes) (omega (arith, l))
+    rw (t.left, asks_made_zombie p w now.processes after, asks_made_zombie p w now.processes _, sibling, comes) (omega (arith, l))
 
 -- and where the heir was told
 pub tells_less : {old m : State} {pids : Pids} {places : Places} {n p heir w : ℕ} {next : Option ℕ} (t : IsTelling old m pids places n p heir w next) (c v : ℕ) (comes : next ≡ Some c) (after : Option ℕ) → after ≡ next_sibling c m.processes
@@ -390,11 +389,11 @@ tells_less {p = p} {heir = heir} {w = w} t c v comes after is new told =
     let now = t.now in
     let k = child_here t c comes in
     let other = heir_other now.processes p heir t.other t.inherits in
-    let sibling : after ≡ next_sibling c now.processes = is ∙ ap (λ (s : State). next_sibling c s.processes) t.left ∙ sibling_buried p w c now.processes in
+    let sibling : after ≡ next_sibling c now.processes = is ∙ ap (λ (s : State). next_sibling c s.processes) t.left ∙ sibling_made_zombie p w c now.processes in
     let left : new ≡ leave p w (notice_of_end now heir c v) = told ∙ ap (λ (s : State). notice_of_end s heir c v) t.left ∙ notice_left now p heir w c v other in
     let same = ap length (left_told now p heir c v) ∙ length-map (left_of (next_sibling c now.processes) (children_in p now.processes)) (at heir (noticed (child_signal c v))) in
     let l = ap length k.left in
-    rw (left, t.left, asks_buried p w (notice_of_end now heir c v).processes after, asks_buried p w now.processes _, sibling, comes) (omega (arith, same, l))
+    rw (left, t.left, asks_made_zombie p w (notice_of_end now heir c v).processes after, asks_made_zombie p w now.processes _, sibling, comes) (omega (arith, same, l))
 
 -- at the end the heir was told of all
 pub told_of_all : {old m : State} {pids : Pids} {places : Places} {n p heir w : ℕ} {next : Option ℕ} (t : IsTelling old m pids places n p heir w next) → next ≡ None → t.now ≡ tell_of_all old heir (zombies_of p old.processes)

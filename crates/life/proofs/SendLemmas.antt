@@ -1,11 +1,10 @@
 -- To signal the processes one after another, from the least number on, is to send to all that are meant.
-use Rattle.std.proofs.Common.{◌≡◌, ℕ, ◌<◌, ◌≤◌, Bool, true, false, cond, refl, ap, sym, ◌∙◌, arith, subst, List, [], ◌∷◌, ◌++◌, append-nil, map, filter, find, Option, Some, None, option_map, ◌==◌, ◌-◌, nat_lt, nat_le, inl, inr}
+use Rattle.std.proofs.Common.{◌≡◌, ℕ, Bool, true, false, cond, refl, ap, sym, ◌∙◌, arith, subst, List, [], ◌∷◌, ◌++◌, append-nil, map, filter, Option, Some, None, option_map, ◌==◌, ◌-◌, nat_lt}
 use Rattle.std.specs.List.{AllByRecursion}
-use Rattle.std.specs.Option.{IfSome}
 use Rattle.std.specs.Ordering.{ord_max}
 use Rattle.std.proofs.lemmas.List.{map-append}
 use Rattle.std.proofs.lemmas.List.Elements.{filter-append}
-use Rattle.std.proofs.lemmas.Bool.{eqb-true, eq-eqb, ne_eqb, ltb-true, ltb-false, cases_order}
+use Rattle.std.proofs.lemmas.Bool.{eqb-true}
 use Rattle.std.proofs.lemmas.Bool.Decides.{nat_tests}
 use Rattle.posix.specs.declared.process.PendingSignal.{PendingSignal}
 use Rattle.posix.specs.declared.process.Sending.{Sending}
@@ -14,74 +13,18 @@ use Rattle.posix.specs.contracts.process.SendingOrd.TheImpl as order
 use Rattle.posix.specs.declared.target.Target.{Target}
 use Rattle.posix.specs.declared.target.Target.TheVariants as whom
 use Rattle.posix.specs.Processes.{Process}
-use Rattle.posix.specs.Tables.{IsRising, has_pid, lookup, pids, at, changed, first_pid, above, next_above, left_of}
+use Rattle.posix.specs.Tables.{IsRising, IsNext, has_pid, lookup, pids, at, changed, above, left_of}
 use Rattle.posix.specs.Credentials.{may}
 use Rattle.posix.specs.Generation.{signalled, signalled_all}
 use Rattle.posix.specs.Sends.{is_target, targets, permitted, sending_permitted, sending_found, sending, sent_by, sent_among}
-use Rattle.posix.proofs.TableLemmas.{Above, above_less}
-use Rattle.posix.proofs.WalkLemmas.{above_all, head_above, left_of_head}
+use Rattle.posix.proofs.WalkLemmas.{numbered, numbered_one, numbered_none, rest_of_walk, walk_splits}
 use Rattle.posix.specs.States.{State}
 use Rattle.proctable.specs.declared.facts.Facts.{Facts}
 use Rattle.proctable.specs.Body.{facts_of}
 
--- those with the number p: one, or none
-abbrev pub numbered : ℕ → List Process → List Process
-numbered p rs = filter (has_pid p) rs
-
 -- the state with these processes
 abbrev pub with_processes : State → List Process → State
 with_processes s rs = record s { processes = rs }
-
--- ---- what is left
-
--- from number 0 on, all are left
-pub left_of_none : (rs : List Process) → left_of (Some 0) rs ≡ rs
-left_of_none [] = refl
-left_of_none (x ∷ xs) = let t : nat_le 0 x.pid ≡ true = grind (arith, nat_tests) in rw t (ap (λ ys. x ∷ ys) (left_of_none xs))
-
--- in a list above p nobody has the number p
-none_numbered : (p : ℕ) (rs : List Process) → Above p rs → numbered p rs ≡ []
-none_numbered p [] a = refl
-none_numbered p (x ∷ xs) a = rw (ne_eqb x.pid p (λ e. omega (arith, a.0, e))) (none_numbered p xs a.1)
-
--- from p on, p is left, if it is there, and those above
-left_split : (p : ℕ) (rs : List Process) → IsRising rs → left_of (Some p) rs ≡ numbered p rs ++ above p rs
-unfolding IsRising
-left_split p [] up = refl
-left_split p (x ∷ xs) up =
-    elim (cases_order x.pid p) [
-      | inl eq ↦
-          let t : nat_le p x.pid ≡ true = grind (arith, nat_tests) in
-          let u : nat_lt p x.pid ≡ false = grind (arith, nat_tests) in
-          rw (t, u, eq-eqb x.pid p eq) (ap (λ ys. x ∷ ys) (left_split p xs up.1))
-      | inr (inl lt) ↦
-          let t : nat_le p x.pid ≡ false = grind (arith, nat_tests) in
-          let u : nat_lt p x.pid ≡ false = grind (arith, nat_tests) in
-          rw (t, u, ne_eqb x.pid p (λ k. omega (arith, k))) (left_split p xs up.1)
-      | inr (inr gt) ↦
-          let t : nat_le p x.pid ≡ true = grind (arith, nat_tests) in
-          let u : nat_lt p x.pid ≡ true = grind (arith, nat_tests) in
-          let none : numbered p xs ≡ [] = none_numbered p xs (above_less p x.pid xs gt up.0) in
-          let rest : left_of (Some p) xs ≡ above p xs = left_split p xs up.1 ∙ ap (λ ys. ys ++ above p xs) none in
-          rw (t, u, ne_eqb x.pid p (λ k. omega (arith, k)), none) (ap (λ ys. x ∷ ys) rest)
-    ]
-
--- a head below what comes next is not left
-passed : (o : Option ℕ) (x : Process) (xs : List Process) (n : ℕ) → x.pid ≤ n → IfSome o (λ y. n < y) → left_of o (x ∷ xs) ≡ left_of o xs
-passed None x xs n l h = refl
-passed (Some y) x xs n l h = let t : nat_le y x.pid ≡ false = grind (arith, nat_tests, h) in rw t refl
-
--- from the first above p on, those above p are left
-left_next : (p : ℕ) (rs : List Process) → IsRising rs → left_of (next_above p rs) rs ≡ above p rs
-unfolding next_above IsRising
-left_next p [] up = refl
-left_next p (x ∷ xs) up =
-    elim (nat_lt p x.pid) as (λ b. nat_lt p x.pid ≡ b → left_of (first_pid (cond b (x ∷ above p xs) (above p xs))) (x ∷ xs) ≡ cond b (x ∷ above p xs) (above p xs)) [
-      | true ↦ λ t.
-          let all : above p xs ≡ xs = above_all p xs (above_less p x.pid xs (ltb-true p x.pid t) up.0) in
-          left_of_head (x ∷ xs) up ∙ ap (λ ys. x ∷ ys) (sym all)
-      | false ↦ λ t. passed (first_pid (above p xs)) x xs p (ltb-false p x.pid t) (head_above p xs) ∙ left_next p xs up.1
-    ] refl
 
 -- ---- one process signalled
 
@@ -199,30 +142,31 @@ sending_append me s (x ∷ xs) (y ∷ ys) =
 -- of those left from p on, the targets are p, if it is one, and the targets above
 targets_split : (me : Process) (target : Target) (p : ℕ) (rs : List Process) → IsRising rs → targets me target (left_of (Some p) rs) ≡ targets me target (numbered p rs) ++ targets me target (above p rs)
 unfolding targets
-targets_split me target p rs up = ap (filter (is_target me target)) (left_split p rs up) ∙ filter-append (is_target me target) (numbered p rs) (above p rs)
+targets_split me target p rs up = walk_splits (is_target me target) p rs up
 
 -- now is the table rs after the signal was sent to p, and next comes after p
 pub record IsSent (me : Process) (target : Target) (s : Option ℕ) (p : ℕ) (rs now : List Process) (next : Option ℕ) : Type 0 where
   pub rising : IsRising rs
   pub rising_now : IsRising now
   pub sent : now ≡ sent_among me s (targets me target (numbered p rs)) rs
-  pub comes : next ≡ next_above p now
+  pub comes : IsNext (is_target me target) p now next
 
 -- where the walk goes on
 pub walked : (me : Process) (target : Target) (s : Option ℕ) (p : ℕ) (rs mid now : List Process) (next : Option ℕ) → IsRising rs → mid ≡ sent_among me s (targets me target (numbered p rs)) rs
-    → IsRising mid → now ≡ mid → next ≡ next_above p mid → IsSent me target s p rs now next
+    → IsRising mid → now ≡ mid → IsNext (is_target me target) p mid next → IsSent me target s p rs now next
 walked me target s p rs mid now next up e up_mid same comes =
-    record { rising = up; rising_now = subst IsRising (sym same) up_mid; sent = same ∙ e; comes = comes ∙ ap (next_above p) (sym same) }
+    record { rising = up; rising_now = subst IsRising (sym same) up_mid; sent = same ∙ e; comes = subst (λ rs. IsNext (is_target me target) p rs next) (sym same) comes }
 
--- the same are left as were above p
-left_same : (me : Process) (target : Target) (s : Option ℕ) (p : ℕ) (rs now : List Process) (next : Option ℕ) → IsSent me target s p rs now next → left_of next now ≡ above p rs
-left_same me target s p rs now next i = ap (λ (o : Option ℕ). left_of o now) i.comes ∙ left_next p now i.rising_now ∙ ap (above p) i.sent ∙ above_sent me target s p rs
+-- the same targets are left as were above p
+left_same : (me : Process) (target : Target) (s : Option ℕ) (p : ℕ) (rs now : List Process) (next : Option ℕ) → IsSent me target s p rs now next → targets me target (left_of next now) ≡ targets me target (above p rs)
+unfolding targets
+left_same me target s p rs now next i = rest_of_walk (is_target me target) p now next i.rising_now i.comes ∙ ap (filter (is_target me target)) (ap (above p) i.sent ∙ above_sent me target s p rs)
 
 -- what is left to do gives what it gave before
 pub sent_step : (me : Process) (target : Target) (s : Option ℕ) (p : ℕ) (rs now : List Process) (next : Option ℕ) → IsSent me target s p rs now next
     → sent_among me s (targets me target (left_of next now)) now ≡ sent_among me s (targets me target (left_of (Some p) rs)) rs
 sent_step me target s p rs now next i =
-    ap (λ qs. sent_among me s (targets me target qs) now) (left_same me target s p rs now next i)
+    ap (λ qs. sent_among me s qs now) (left_same me target s p rs now next i)
     ∙ ap (sent_among me s (targets me target (above p rs))) i.sent
     ∙ sym (sent_append me s (targets me target (numbered p rs)) (targets me target (above p rs)) rs)
     ∙ ap (λ qs. sent_among me s qs rs) (sym (targets_split me target p rs i.rising))
@@ -234,7 +178,7 @@ unfolding sending
 sending_step me target s p rs now next i a b e =
     joined_twice a b (sending_found me s (targets me target (left_of next now)))
     ∙ ap (joined a) (ap (λ b. joined b (sending_found me s (targets me target (left_of next now)))) e
-    ∙ ap (λ qs. joined (sending_found me s (targets me target (numbered p rs))) (sending_found me s (targets me target qs))) (left_same me target s p rs now next i)
+    ∙ ap (λ qs. joined (sending_found me s (targets me target (numbered p rs))) (sending_found me s qs)) (left_same me target s p rs now next i)
     ∙ sending_append me s (targets me target (numbered p rs)) (targets me target (above p rs))
     ∙ ap (sending_found me s) (sym (targets_split me target p rs i.rising)))
 
@@ -250,29 +194,6 @@ pub record IsRead (o : Option Process) (f : Facts) : Type 0 where
 pub is_read : (o : Option Process) (f : Facts) → Some f ≡ option_map facts_of o → IsRead o f
 is_read None f e = absurd (cc)
 is_read (Some r) f e = record { what = r; found = refl; facts = cc }
-
--- who is there is the one with its number
-numbered_one : (p : ℕ) (rs : List Process) → IsRising rs → (q : Process) → lookup p rs ≡ Some q → numbered p rs ≡ q ∷ []
-unfolding lookup IsRising
-numbered_one p [] up q e = absurd (cc)
-numbered_one p (x ∷ xs) up q e =
-    elim (x.pid == p) as (λ b. (x.pid == p) ≡ b → cond b (Some x) (find (has_pid p) xs) ≡ Some q → cond b (x ∷ numbered p xs) (numbered p xs) ≡ q ∷ []) [
-      | true ↦ λ t k.
-          let same : x ≡ q = cc in
-          let none : numbered p xs ≡ [] = none_numbered p xs (subst (λ n. Above n xs) (eqb-true _ _ t) up.0) in
-          rw (none, same) refl
-      | false ↦ λ t k. numbered_one p xs up.1 q k
-    ] refl e
-
--- where nobody is there, nobody has the number
-numbered_none : (p : ℕ) (rs : List Process) → lookup p rs ≡ None → numbered p rs ≡ []
-unfolding lookup
-numbered_none p [] e = refl
-numbered_none p (x ∷ xs) e =
-    elim (x.pid == p) as (λ b. cond b (Some x) (find (has_pid p) xs) ≡ None → cond b (x ∷ numbered p xs) (numbered p xs) ≡ []) [
-      | true ↦ λ k. absurd (cc)
-      | false ↦ λ k. numbered_none p xs k
-    ] e
 
 -- who is there and is meant is the target with its number
 pub target_one : (me : Process) (target : Target) (p : ℕ) (rs : List Process) → IsRising rs → (q : Process) → lookup p rs ≡ Some q → is_target me target q ≡ true → targets me target (numbered p rs) ≡ q ∷ []
@@ -346,12 +267,12 @@ sent_one : (me : Process) (n : ℕ) (q : Process) (rs : List Process) → may me
 unfolding sent_among permitted signalled_all
 sent_one me n q rs e = rw e refl
 
--- the same of their facts
-pub signal_one : (me it : Facts) (r q : Process) (s : Option ℕ) (n : ℕ) (signal : PendingSignal) (rs now : List Process) → me ≡ facts_of r → it ≡ facts_of q → s ≡ Some n → signal ≡ sent_by me.pid n → may r s q ≡ true
+-- the same of its facts
+pub signal_one : (it : Facts) (r q : Process) (s : Option ℕ) (n : ℕ) (signal : PendingSignal) (rs now : List Process) → it ≡ facts_of q → s ≡ Some n → signal ≡ sent_by r.pid n → may r s q ≡ true
     → now ≡ changed it.pid (signalled signal) rs → now ≡ sent_among r s (q ∷ []) rs
-signal_one me it r q s n signal rs now e f some is allowed done =
+signal_one it r q s n signal rs now f some is allowed done =
     done
-    ∙ ap (λ x. changed it.pid (signalled x) rs) (is ∙ ap (λ (f : Facts). sent_by f.pid n) e)
+    ∙ ap (λ x. changed it.pid (signalled x) rs) is
     ∙ ap (λ (f : Facts). changed f.pid (signalled (sent_by r.pid n)) rs) f
     ∙ sym (sent_one r n q rs (ap (λ s. may r s q) (sym some) ∙ allowed))
     ∙ ap (λ s. sent_among r s (q ∷ []) rs) (sym some)
@@ -361,19 +282,3 @@ pub sending_one : (me : Process) (s : Option ℕ) (q : Process) (b : Bool) → m
 unfolding permitted
 sending_one me s q true e = rw e refl
 sending_one me s q false e = rw e refl
-
--- ---- the walk
-
--- no more than this many numbers may come next, of those below m
-abbrev pub numbers_left : ℕ → Option ℕ → ℕ
-numbers_left m None = 0
-numbers_left m (Some p) = m - p
-
--- fewer do after p
-pub fewer_left : (m p : ℕ) (rs : List Process) (next : Option ℕ) → p < m → next ≡ next_above p rs → numbers_left m next < m - p
-unfolding next_above
-fewer_left m p rs next l e = of_option next (subst (λ o. IfSome o (λ y. p < y)) (sym e) (head_above p rs))
-  where
-    of_option : (o : Option ℕ) → IfSome o (λ y. p < y) → numbers_left m o < m - p
-    of_option None h = omega arith
-    of_option (Some y) h = omega (arith, h)

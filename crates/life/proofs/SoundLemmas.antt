@@ -9,11 +9,11 @@ use Rattle.posix.specs.Tables.{IsRising, at, lookup, changed, inserted, adopted,
 use Rattle.posix.specs.States.{World, State, boot, process, next_pid, is_in}
 use Rattle.posix.specs.NextPid.{is_free, next_free}
 use Rattle.posix.specs.Regular.{IsRegular, IsBounded, IsPlaced, CanInherit, IsDistinct}
-use Rattle.posix.specs.Ends.{buried, make_zombie}
+use Rattle.posix.specs.Ends.{made_zombie, ended}
 use Rattle.posix.proofs.TableLemmas.{Above}
 use Rattle.posix.proofs.RegularLemmas.{Keeps, keeps_at, regular_map, regular_inserted}
 use Rattle.posix.proofs.MapLemmas.{at_pid, some_map}
-use Rattle.posix.proofs.SettleLemmas.{all_looked}
+use Rattle.posix.proofs.WalkLemmas.{all_looked}
 use Rattle.pidalloc.specs.Rows.{Pids, IsPids, is_free_in, unborne_table, born_in}
 use Rattle.pidalloc.specs.Tallies.{IsTallied}
 use Rattle.pidalloc.proofs.FreeLemmas.{next_found}
@@ -93,32 +93,32 @@ sound_change p f k s pids places n i = sound_map (at p f) (keeps_at p f k) s pid
 -- ---- ends
 
 -- no number changes at an end
-pub kept_departed : (p heir w m : ℕ) (rs : List Process) (pids : Pids) (a b : Places) (n : ℕ) → a.room ≤ b.room → IsKept m rs pids a n → IsKept m (adopted p heir (changed p (buried w) rs)) pids b n
-unfolding changed adopted buried
+pub kept_departed : (p heir w m : ℕ) (rs : List Process) (pids : Pids) (a b : Places) (n : ℕ) → a.room ≤ b.room → IsKept m rs pids a n → IsKept m (adopted p heir (changed p (made_zombie w) rs)) pids b n
+unfolding changed adopted made_zombie
 kept_departed p heir w m rs pids a b n e k =
     kept_map (reparented p heir) (λ r. grind arith) (λ r. grind arith) (λ r. grind arith) m _ pids a b n e
-    (kept_map (at p (buried w)) (λ r. grind arith) (λ r. grind arith) (λ r. grind arith) m rs pids a a n (omega arith) k)
+    (kept_map (at p (made_zombie w)) (λ r. grind arith) (λ r. grind arith) (λ r. grind arith) m rs pids a a n (omega arith) k)
 
 -- nor at the end of process 1
-pub kept_halted : (w m : ℕ) (rs : List Process) (pids : Pids) (a b : Places) (n : ℕ) → a.room ≤ b.room → IsKept m rs pids a n → IsKept m (changed 1 (make_zombie w) rs) pids b n
-unfolding changed make_zombie
-kept_halted w m rs pids a b n e k = kept_map (at 1 (make_zombie w)) (λ r. grind arith) (λ r. grind arith) (λ r. grind arith) m rs pids a b n e k
+pub kept_halted : (w m : ℕ) (rs : List Process) (pids : Pids) (a b : Places) (n : ℕ) → a.room ≤ b.room → IsKept m rs pids a n → IsKept m (changed 1 (ended w) rs) pids b n
+unfolding changed ended
+kept_halted w m rs pids a b n e k = kept_map (at 1 (ended w)) (λ r. grind arith) (λ r. grind arith) (λ r. grind arith) m rs pids a b n e k
 
--- who is there is still there where a process is buried
-pub there_buried : (p w q : ℕ) (rs : List Process) → IsSome (lookup q rs) → IsSome (lookup q (changed p (buried w) rs))
-unfolding changed buried
-there_buried p w q rs there = some_map (at p (buried w)) (at_pid p (buried w) (λ r. refl)) q rs there
+-- who is there is still there where a process was made a zombie
+pub there_made_zombie : (p w q : ℕ) (rs : List Process) → IsSome (lookup q rs) → IsSome (lookup q (changed p (made_zombie w) rs))
+unfolding changed made_zombie
+there_made_zombie p w q rs there = some_map (at p (made_zombie w)) (at_pid p (made_zombie w) (λ r. refl)) q rs there
 
 -- who is there keeps a parent that is there, at an end
-pub parents_departed : (p heir w : ℕ) (rs : List Process) → IsSome (lookup heir rs) → HaveParents rs → HaveParents (adopted p heir (changed p (buried w) rs))
-unfolding changed buried
+pub parents_departed : (p heir w : ℕ) (rs : List Process) → IsSome (lookup heir rs) → HaveParents rs → HaveParents (adopted p heir (changed p (made_zombie w) rs))
+unfolding changed made_zombie
 parents_departed p heir w rs there h =
-    parents_adopted p heir (map (at p (buried w)) rs) (there_buried p w heir rs there) (parents_map (at p (buried w)) (at_pid p (buried w) (λ r. refl)) (λ r. grind arith) rs h)
+    parents_adopted p heir (map (at p (made_zombie w)) rs) (there_made_zombie p w heir rs there) (parents_map (at p (made_zombie w)) (at_pid p (made_zombie w) (λ r. refl)) (λ r. grind arith) rs h)
 
 -- and at the end of process 1
-pub parents_halted : (w : ℕ) (rs : List Process) → HaveParents rs → HaveParents (changed 1 (make_zombie w) rs)
-unfolding changed make_zombie
-parents_halted w rs h = parents_map (at 1 (make_zombie w)) (λ r. grind arith) (λ r. grind arith) rs h
+pub parents_halted : (w : ℕ) (rs : List Process) → HaveParents rs → HaveParents (changed 1 (ended w) rs)
+unfolding changed ended
+parents_halted w rs h = parents_map (at 1 (ended w)) (λ r. grind arith) (λ r. grind arith) rs h
 
 -- ---- numbers
 

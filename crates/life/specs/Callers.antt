@@ -1,5 +1,6 @@
 -- The caller of a system call.
-use Rattle.posix.specs.Processes.{Process, argument}
+use Rattle.std.specs.Prelude.{[], ◌∷◌, pos}
+use Rattle.posix.specs.Processes.{Process, argument, first_process, fresh_cpu}
 use Rattle.life.specs.declared.caller.Caller.{Caller}
 
 abbrev pub caller_of : Process → Caller
@@ -11,4 +12,15 @@ caller_of r = record {
   creds = r.credentials;
   r1 = argument r 1;
   r2 = argument r 2;
+}
+
+-- a caller as a process, of which all else is as at boot
+abbrev pub process_like : Caller → Process
+process_like c = record first_process {
+  pid = c.pid;
+  parent = c.parent;
+  group = c.group;
+  session = c.session;
+  credentials = c.creds;
+  cpu = record fresh_cpu { registers = pos 0 ∷ c.r1 ∷ c.r2 ∷ [] };
 }

@@ -1,3 +1,4 @@
 pub mod Machines
 pub mod Loans
 pub mod Callers
+pub mod Censuses

@@ -3,11 +3,12 @@
 ghost use Rattle.std.specs.Prelude.{◌≡◌, ◌+◌, ◌≤◌, IsSome, IfSome};
 ghost use Rattle.posix.specs.States.{process};
 ghost use Rattle.posix.specs.Regular.{IsRegular};
+ghost use Rattle.posix.specs.Targets.{target_in};
 ghost use Rattle.life.specs.Callers.{caller_of};
 
 use crate::machine::Machine;
 use creds::Creds;
-use posix::{Pid, Register};
+use posix::{Pid, Register, Target};
 use proctable::Kin;
 
 /// What a call that concerns others reads of the process that makes it.
@@ -27,6 +28,15 @@ pub struct Caller {
     pub r1: i64,
     /// The second argument of the call.
     pub r2: i64,
+}
+
+impl Caller {
+    /// Whom its first argument means (XSH kill, waitpid).
+    pub fn target(&self) -> Target
+        ensures { result ≡ target_in self.now.r1 }
+    {
+        Target::from_word(self.r1)
+    }
 }
 
 impl<K: Kin> Machine<K> {

@@ -9,7 +9,7 @@ ghost use Rattle.posix.specs.Ends.{depart as departing, halt as halting, end_wit
 ghost use Rattle.life.specs.Machines.{CanGo, IsGone, IsCounted};
 
 use crate::machine::Machine;
-use crate::waits::take_out;
+use crate::waits::discard;
 use pidalloc::PidTable;
 use posix::{Carried, Life, PendingSignal, Pid, Sig, Status};
 use proctable::Kin;
@@ -26,7 +26,7 @@ impl<K: Kin> Machine<K> {
         ensures parent { (me : Process) → process self.old.state pid ≡ Some me → IsSome (process self.new.state me.parent) }
         ensures zombie { (it : Process) × (process self.new.state pid ≡ Some it) × (is_zombie it.life ≡ true) }
     {
-        self.table.update(pid).bury(status);
+        self.table.update(pid).make_zombie(status);
         self.order.drop_place(pid);
         let mut next = self.table.first_child(pid);
         while let Some(child) = next {
@@ -34,7 +34,7 @@ impl<K: Kin> Machine<K> {
             let life = life(&mut self.table, child);
             if child != pid {
                 if let Life::Zombie(ended) = life {
-                    tell(
+                    notify_of_end(
                         &mut self.table,
                         &mut self.pids,
                         &mut self.records,
@@ -68,7 +68,7 @@ impl<K: Kin> Machine<K> {
         ensures state { self.new.state ≡ noticing_end self.old.state parent child status }
         ensures reads { self.new.reads ≤ self.old.reads + 6 }
     {
-        tell(
+        notify_of_end(
             &mut self.table,
             &mut self.pids,
             &mut self.records,
@@ -100,7 +100,7 @@ impl<K: Kin> Machine<K> {
 
 /// The parent gets notice that a child ended with this status, and the child is dropped where the parent
 /// drops its children (XSH _exit), in the parts of a machine.
-fn tell<K: Kin>(
+fn notify_of_end<K: Kin>(
     table: &mut K,
     pids: &mut PidTable,
     records: &mut usize,
@@ -137,7 +137,7 @@ fn drop_child<K: Kin>(
     ensures dropped { dropped.new ≡ dropped.old + 1 }
     ensures reads { K.reads table.new ≤ K.reads table.old + 5 }
 {
-    take_out(table, pids, records, child);
+    discard(table, pids, records, child);
     *dropped += 1;
 }
 

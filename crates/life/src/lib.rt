@@ -6,12 +6,14 @@
 
 mod births;
 pub mod caller;
+pub mod census;
 mod ends;
 pub mod machine;
 pub mod sends;
 pub mod signals;
 pub mod waits;
+pub mod walks;
 
 pub use caller::Caller;
+pub use census::Census;
 pub use machine::Machine;
-pub use waits::wait_attempt;

@@ -4,10 +4,9 @@ ghost use Rattle.std.specs.Prelude.{◌≡◌, ◌≢◌, ◌+◌, ◌<◌, ◌�
 ghost use mathlib.Core.Option.{none};
 ghost use Rattle.std.specs.Borrow.{sem, Lends, follows_so};
 ghost use Rattle.posix.specs.Processes.{Process};
-ghost use Rattle.posix.specs.Tables.{next_above};
 ghost use Rattle.posix.specs.States.{boot as boot_of, process, change, current as current_of, lose_place as losing_place, go_last as going_last, has_place as has_place_in};
 ghost use Rattle.posix.specs.Regular.{IsRegular, IsPlaced};
-ghost use Rattle.posix.specs.Execute.{exec_one, StaysUnlessRun};
+ghost use Rattle.posix.specs.Execute.{exec_one as executed, StaysUnlessRun};
 ghost use Rattle.posix.specs.Step.{code_of, set_cpu, pass_time as passing_time};
 ghost use Rattle.proctable.specs.Body.{facts_of, own_of, give_own, own_row};
 ghost use Rattle.life.specs.contracts.machine.Machine.{the_row as machine_row};
@@ -131,7 +130,7 @@ impl<K: Kin> Machine<K> {
     }
 
     /// Whether there are as many places as processes: then each process has one.
-    pub fn is_full(&self) -> bool
+    pub fn all_have_places(&self) -> bool
         ensures value { result ≡ nat_le (length self.now.state.processes) (length self.now.state.order) }
         ensures regular { IsRegular self.now.state }
     {
@@ -149,16 +148,6 @@ impl<K: Kin> Machine<K> {
         self.table.get(pid)
     }
 
-    /// The process with the least number above `pid`.
-    pub fn next_after(&mut self, pid: Pid) -> Option<Pid>
-        ensures value { result ≡ next_above pid self.old.state.processes }
-        ensures same { self.new.state ≡ self.old.state }
-        ensures reads { self.new.reads ≤ self.old.reads + 1 }
-        ensures regular { IsRegular self.old.state }
-    {
-        self.table.next_after(pid)
-    }
-
     /// The parent of a process that is there; number 0 for process 1.
     pub fn parent(&mut self, pid: Pid) -> Pid
         requires { IsSome (process self.old.state pid) }
@@ -169,19 +158,6 @@ impl<K: Kin> Machine<K> {
     {
         match self.table.get(pid) {
             Some(facts) => facts.parent,
-            None => Pid::NONE,
-        }
-    }
-
-    /// The process group of a process that is there.
-    pub fn group(&mut self, pid: Pid) -> Pid
-        requires { IsSome (process self.old.state pid) }
-        ensures value { (me : Process) → process self.old.state pid ≡ Some me → result ≡ me.group }
-        ensures same { self.new.state ≡ self.old.state }
-        ensures reads { self.new.reads ≤ self.old.reads + 1 }
-    {
-        match self.table.get(pid) {
-            Some(facts) => facts.group,
             None => Pid::NONE,
         }
     }
@@ -201,11 +177,11 @@ impl<K: Kin> Machine<K> {
 
     /// Runs the instruction at the pc of a process that is there and runs this program. A call and a
     /// machine fault change nothing.
-    pub fn run(&mut self, pid: Pid, program: u8) -> Trap
+    pub fn exec_one(&mut self, pid: Pid, program: u8) -> Trap
         requires there { IsSome (process self.old.state pid) }
         requires program { (me : Process) → process self.old.state pid ≡ Some me → me.program ≡ program }
-        ensures trap { (me : Process) → process self.old.state pid ≡ Some me → result ≡ (exec_one (code_of self.old.state me) me.cpu).trap }
-        ensures state { (me : Process) → process self.old.state pid ≡ Some me → self.new.state ≡ change self.old.state pid (set_cpu (exec_one (code_of self.old.state me) me.cpu).cpu) }
+        ensures trap { (me : Process) → process self.old.state pid ≡ Some me → result ≡ (executed (code_of self.old.state me) me.cpu).trap }
+        ensures state { (me : Process) → process self.old.state pid ≡ Some me → self.new.state ≡ change self.old.state pid (set_cpu (executed (code_of self.old.state me) me.cpu).cpu) }
         ensures stays { StaysUnlessRun result self.old.state self.new.state }
         ensures reads { self.new.reads ≤ self.old.reads + 1 }
     {

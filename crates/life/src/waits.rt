@@ -9,6 +9,7 @@ ghost use Rattle.posix.specs.Waits.{look as look_of};
 ghost use Rattle.proctable.specs.Body.{facts_of};
 ghost use Rattle.life.specs.Machines.{CanGo, IsGone};
 
+use crate::caller::Caller;
 use crate::machine::Machine;
 use bitflags::Flags;
 use pidalloc::PidTable;
@@ -65,40 +66,9 @@ fn look(group: Pid, target: &Target, options: WaitOptions, child: Facts) -> Repo
     }
 }
 
-/// What a wait has to report: of the children of `caller`, a process of group `group`, that the target
-/// means, the one with the least number that has something to report (XSH waitpid). Nothing changes.
-pub fn wait_attempt<K: Kin>(
-    table: &mut K,
-    caller: Pid,
-    group: Pid,
-    target: Target,
-    options: WaitOptions,
-) -> Report
-    requires { IsSome (lookup caller (K.contents table.old)) }
-    ensures value { result ≡ report (K.contents table.old) caller group target options.0 }
-    ensures contents { K.contents table.new ≡ K.contents table.old }
-    ensures room { K.room table.new ≡ K.room table.old }
-    ensures reads { K.reads table.new ≤ K.reads table.old + 1 + 2 * length (children_in caller (K.contents table.old)) }
-{
-    let mut found = Report::NoChild;
-    let mut next = table.first_child(caller);
-    while let Some(child) = next {
-        let Some(facts) = table.get(child) else {
-            return found;
-        };
-        match look(group, &target, options, facts) {
-            Report::NoChild => {}
-            Report::Nothing => found = Report::Nothing,
-            report => return report,
-        }
-        next = table.next_sibling(child);
-    }
-    found
-}
-
 /// The record of a process without children goes, and it no longer bears its own number, its group's and its
 /// session's, in the parts of a machine.
-pub(crate) fn take_out<K: Kin>(table: &mut K, pids: &mut PidTable, records: &mut usize, pid: Pid)
+pub(crate) fn discard<K: Kin>(table: &mut K, pids: &mut PidTable, records: &mut usize, pid: Pid)
     requires { CanGo (K.contents table.old) pids.old records.old pid }
     ensures contents { K.contents table.new ≡ removed pid (K.contents table.old) }
     ensures counts { (it : Process) → lookup pid (K.contents table.old) ≡ Some it → IsGone pids.old pids.new records.old records.new pid it }
@@ -113,31 +83,39 @@ pub(crate) fn take_out<K: Kin>(table: &mut K, pids: &mut PidTable, records: &mut
 }
 
 impl<K: Kin> Machine<K> {
-    /// What a wait of a process that is there has to report, by [`wait_attempt`].
-    pub fn wait_attempt(
-        &mut self,
-        caller: Pid,
-        group: Pid,
-        target: Target,
-        options: WaitOptions,
-    ) -> Report
-        requires { IsSome (process self.old.state caller) }
-        ensures value { result ≡ report self.old.state.processes caller group target options.0 }
+    /// What a wait has to report: of the children of a caller that is there which the target means, the one
+    /// with the least number that has something to report (XSH waitpid). Nothing changes.
+    pub fn wait_attempt(&mut self, me: &Caller, target: Target, options: WaitOptions) -> Report
+        requires { IsSome (process self.old.state me.now.pid) }
+        ensures value { result ≡ report self.old.state.processes me.now.pid me.now.group target options.0 }
         ensures same { self.new.state ≡ self.old.state }
-        ensures reads { self.new.reads ≤ self.old.reads + 1 + 2 * length (children_in caller self.old.state.processes) }
+        ensures reads { self.new.reads ≤ self.old.reads + 1 + 2 * length (children_in me.now.pid self.old.state.processes) }
     {
-        wait_attempt(&mut self.table, caller, group, target, options)
+        let mut found = Report::NoChild;
+        let mut next = self.first_child(me.pid);
+        while let Some(child) = next {
+            let Some(facts) = self.facts(child) else {
+                return found;
+            };
+            match look(me.group, &target, options, facts) {
+                Report::NoChild => {}
+                Report::Nothing => found = Report::Nothing,
+                report => return report,
+            }
+            next = self.next_sibling(child);
+        }
+        found
     }
 
     /// The record of a zombie that isn't process 1 goes, and it no longer bears its own number, its
     /// group's and its session's (XSH waitpid).
-    pub fn collect(&mut self, pid: Pid)
+    pub fn reap(&mut self, pid: Pid)
         requires other { pid ≢ 1 }
         requires zombie { (child : Process) × (process self.old.state pid ≡ Some child) × (is_zombie child.life ≡ true) }
         ensures state { self.new.state ≡ record (self.old.state) { processes = removed pid self.old.state.processes } }
         ensures reads { self.new.reads ≤ self.old.reads + 5 }
     {
-        take_out(&mut self.table, &mut self.pids, &mut self.records, pid);
+        discard(&mut self.table, &mut self.pids, &mut self.records, pid);
     }
 
     /// A wait has reported the news of a process that is there: they become none.

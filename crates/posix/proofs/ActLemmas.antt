@@ -19,7 +19,7 @@ use Rattle.posix.specs.declared.process.Report.TheVariants as found
 use Rattle.posix.specs.declared.process.Sending.{Sending}
 use Rattle.posix.specs.declared.process.Sending.TheVariants as sends
 use Rattle.posix.specs.declared.target.Target.{Target}
-use Rattle.posix.specs.Signals.{KILL, SEGV, default_action}
+use Rattle.posix.specs.SignalNumbers.{KILL, SEGV, default_action}
 use Rattle.posix.specs.SignalSets.{has}
 use Rattle.posix.specs.Statuses.{exited, killed}
 use Rattle.posix.specs.Processes.{Process, Cpu, argument}
@@ -210,7 +210,6 @@ acted_attempt granted s me Sigreturn = acted_return s me
 acted_again : (s : State) (me : Process) (b : Blocked) → ActedIf me.pid s (attempt_again s me b)
 unfolding attempt_again
 acted_again s me blocked.Waitpid = acted_wait s me
-acted_again s me blocked.Read = tt
 acted_again s me blocked.Pause = tt
 acted_again s me (blocked.Sigsuspend mask) = tt
 

@@ -10,7 +10,7 @@ use Rattle.posix.specs.States.{State, is_in, without, change, lose_place}
 use Rattle.posix.specs.Regular.{IsRegular, IsBounded, CanInherit, IsDistinct}
 use Rattle.posix.specs.Generation.{signalled}
 use Rattle.posix.specs.Handlers.{handles, is_full}
-use Rattle.posix.specs.Ends.{make_zombie, buried, halt, depart, noticed, ignores_children}
+use Rattle.posix.specs.Ends.{ended, made_zombie, halt, depart, noticed, ignores_children}
 use Rattle.posix.specs.Waits.{news_told}
 use Rattle.posix.specs.Delivery.{take_out}
 use Rattle.posix.specs.Step.{set_cpu}
@@ -210,25 +210,25 @@ regular_adopted p heir least s i h = record {
     life_reparented : (r : Process) → (reparented p heir r).life ≡ r.life
     life_reparented r = elim (r.parent == p) as (λ b. (cond b (record r { parent = heir }) r).life ≡ r.life) [ true ↦ refl | false ↦ refl ]
 
--- a burial and an adoption of one record may come in either order
-commutes : (p heir w : ℕ) (r : Process) → buried w (reparented p heir r) ≡ reparented p heir (buried w r)
-unfolding buried
-commutes p heir w r = elim (r.parent == p) as (λ b. buried w (cond b (record r { parent = heir }) r) ≡ cond b (record (buried w r) { parent = heir }) (buried w r)) [ true ↦ refl | false ↦ refl ]
+-- a record may be made a zombie and adopted in either order
+commutes : (p heir w : ℕ) (r : Process) → made_zombie w (reparented p heir r) ≡ reparented p heir (made_zombie w r)
+unfolding made_zombie
+commutes p heir w r = elim (r.parent == p) as (λ b. made_zombie w (cond b (record r { parent = heir }) r) ≡ cond b (record (made_zombie w r) { parent = heir }) (made_zombie w r)) [ true ↦ refl | false ↦ refl ]
 
 -- a state stays regular where a process other than process 1 departs
 pub regular_depart : (p heir w : ℕ) → 1 ≤ p → p ≢ 1 → (s : State) → IsRegular s → CanInherit s.processes p heir → IsRegular (depart s p heir w)
-unfolding buried
+unfolding made_zombie
 regular_depart p heir w least ne s i h =
     let given = record s { processes = adopted p heir s.processes } in
-    let left = regular_leave p (buried w) (λ r. refl) (λ r. refl) (λ r. refl) (λ r. refl) given (regular_adopted p heir least s i h)
+    let left = regular_leave p (made_zombie w) (λ r. refl) (λ r. refl) (λ r. refl) (λ r. refl) given (regular_adopted p heir least s i h)
     (λ other. children_adopted p heir (heir_other s.processes p heir ne h) s.processes) in
-    subst (λ rs. IsRegular (record s { processes = rs; order = without p s.order })) (adopted_changed p heir p (buried w) (commutes p heir w) s.processes) left
+    subst (λ rs. IsRegular (record s { processes = rs; order = without p s.order })) (adopted_changed p heir p (made_zombie w) (commutes p heir w) s.processes) left
 
 -- a state stays regular where the machine halts
 pub regular_halt : (w : ℕ) (s : State) → IsRegular s → IsRegular (halt s w)
-unfolding make_zombie
+unfolding ended
 regular_halt w s i =
-    let left = regular_leave 1 (make_zombie w) (λ r. refl) (λ r. refl) (λ r. refl) (λ r. refl) s i (λ ne. absurd (ne refl)) in
+    let left = regular_leave 1 (ended w) (λ r. refl) (λ r. refl) (λ r. refl) (λ r. refl) s i (λ ne. absurd (ne refl)) in
     record { rising = left.rising; bounded = left.bounded; first = left.first; placed = left.placed; distinct = left.distinct; childless = left.childless }
 
 -- ---- births and collections

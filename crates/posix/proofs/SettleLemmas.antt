@@ -1,11 +1,8 @@
 -- To ask the records one after another, from the least number on, is to settle; and what settles stays regular.
-use Rattle.std.proofs.Common.{◌≡◌, ℕ, ◌<◌, ◌≤◌, Bool, true, false, cond, not, ◌&&◌, ◌||◌, refl, ap, sym, ◌∙◌, arith, subst, List, [], ◌∷◌, ◌++◌, append-nil, append_assoc, length, filter, find, Option, Some, None, ◌==◌, nat_lt, inl, inr, is_some}
+use Rattle.std.proofs.Common.{◌≡◌, ℕ, ◌<◌, ◌≤◌, Bool, true, false, cond, not, ◌&&◌, ◌||◌, refl, ap, sym, ◌∙◌, arith, subst, List, [], ◌∷◌, ◌++◌, append-nil, append_assoc, length, filter, find, Option, Some, None, ◌==◌, nat_lt, is_some}
 use Rattle.std.specs.List.{list_any, AllByRecursion}
-use Rattle.std.specs.Option.{IfSome}
-use Rattle.std.proofs.lemmas.Bool.{eqb-true, eq-eqb, ne_eqb, cases_order, ltb-true}
-use Rattle.std.proofs.lemmas.Bool.Decides.{nat_tests}
+use Rattle.std.proofs.lemmas.Bool.{eqb-true, ne_eqb, ltb-true}
 use Rattle.std.proofs.lemmas.List.{map-append}
-use Rattle.std.proofs.lemmas.List.Elements.{filter-append}
 use Rattle.posix.specs.declared.process.Life.{Life}
 use Rattle.posix.specs.declared.process.Life.TheVariants.{Running, Stopped, Zombie}
 use Rattle.posix.specs.declared.process.Blocked.{Blocked}
@@ -13,9 +10,9 @@ use Rattle.posix.specs.declared.process.Blocked.TheVariants as blocked
 use Rattle.posix.specs.declared.process.Report.{Report}
 use Rattle.posix.specs.declared.process.Report.TheVariants as found
 use Rattle.posix.specs.declared.target.Target.{Target}
-use Rattle.posix.specs.Signals.{KILL}
+use Rattle.posix.specs.SignalNumbers.{KILL}
 use Rattle.posix.specs.Processes.{Process, is_running, is_zombie, is_living, argument}
-use Rattle.posix.specs.Tables.{IsRising, has_pid, lookup, pids, first_pid, above, next_above, left_of}
+use Rattle.posix.specs.Tables.{IsRising, IsNext, lookup, pids, above, left_of}
 use Rattle.posix.specs.States.{State, is_in}
 use Rattle.posix.specs.Regular.{IsPlaced}
 use Rattle.posix.specs.Outcomes.{Attempted}
@@ -25,21 +22,10 @@ use Rattle.posix.specs.Generation.{is_pending}
 use Rattle.posix.specs.Choice.{chosen}
 use Rattle.posix.specs.Attempts.{attempt_again}
 use Rattle.posix.specs.Settle.{woken, woken_if, settle, wakes, can_act, can_go_on, is_block}
-use Rattle.posix.proofs.TableLemmas.{Above, above_less, lookup_above, pid_looked}
+use Rattle.posix.proofs.TableLemmas.{pid_looked}
 use Rattle.posix.specs.Regular.{IsRegular, IsPlaced}
 use Rattle.posix.proofs.OrderLemmas.{room_for_one}
-use Rattle.posix.proofs.WalkLemmas.{left_of_head, here, head_left_of, above_all, head_above, head_of, weaker}
-
--- ---- one record asked
-
--- the records before the number that comes next; all where none comes
-abbrev pub before : Option ℕ → List Process → List Process
-before None rs = rs
-before (Some n) rs = filter (λ r. nat_lt r.pid n) rs
-
--- all were asked whose number is before the one that comes next
-unfoldable pub woken_before : State → Option ℕ → State
-woken_before s next = record s { order = s.order ++ pids (filter (wakes s) (before next s.processes)) }
+use Rattle.posix.proofs.WalkLemmas.{all_looked, numbered, numbered_one, numbered_none, rest_of_walk, walk_begins, walk_splits}
 
 -- ---- whether a process can act depends on what is reported, and not on the order
 
@@ -73,7 +59,6 @@ can_go_on_same : (s t : State) → ReportsSame s t → (r : Process) (b : Option
 unfolding attempt_again
 can_go_on_same s t same r None = refl
 can_go_on_same s t same r (Some blocked.Waitpid) = ap not (block_wait s t same r)
-can_go_on_same s t same r (Some blocked.Read) = refl
 can_go_on_same s t same r (Some blocked.Pause) = refl
 can_go_on_same s t same r (Some (blocked.Sigsuspend mask)) = refl
 
@@ -111,90 +96,7 @@ woken_is s p r h a e i c =
     ∙ ap (λ b. cond (not b && can_act s r) (record s { order = s.order ++ p ∷ [] }) s) i
     ∙ ap (λ b. cond (not h && b) (record s { order = s.order ++ p ∷ [] }) s) c
 
--- ---- the walk over the records
-
--- what all that are looked up have, all have
-pub all_looked : (P : Process → Type 0) (rs : List Process) → IsRising rs → ((p : ℕ) (r : Process) → lookup p rs ≡ Some r → P r) → AllByRecursion P rs
-unfolding lookup IsRising
-all_looked P [] up h = tt
-all_looked P (x ∷ xs) up h = (
-  h x.pid x (rw (eq-eqb x.pid x.pid refl) refl),
-  all_looked P xs up.1 (λ p r e. h p r (elim (x.pid == p) as (λ b. (x.pid == p) ≡ b → cond b (Some x) (find (has_pid p) xs) ≡ Some r) [
-    | true ↦ λ t. let none : find (has_pid p) xs ≡ None = lookup_above p xs (subst (λ n. Above n xs) (eqb-true _ _ t) up.0) in let no = sym none ∙ e in absurd (cc)
-    | false ↦ λ t. e
-  ] refl)),
-)
-
--- what a walk over the records knows at p: the record, and what is left after it
-pub record AtRecord (rs : List Process) (p : ℕ) : Type 0 where
-  pub what : Process
-  pub named : what.pid ≡ p
-  pub found : lookup p rs ≡ Some what
-  pub left : left_of (Some p) rs ≡ what ∷ left_of (next_above p rs) rs
-  pub next : first_pid (left_of (next_above p rs) rs) ≡ next_above p rs
-
--- a walk that comes to p finds it
-pub at_record : (rs : List Process) → IsRising rs → (p : ℕ) → first_pid (left_of (Some p) rs) ≡ Some p → AtRecord rs p
-unfolding next_above
-at_record rs up p e =
-    let h = here rs up p e in
-    record { what = h.what; named = h.named; found = h.found; left = h.left; next = head_left_of rs p }
-
--- a number that comes next is the first of what is left
-pub next_is_first : (rs : List Process) (n : ℕ) → first_pid (left_of (next_above n rs) rs) ≡ next_above n rs
-unfolding next_above
-next_is_first rs n = head_left_of rs n
-
--- less is left after p
-pub less_left : (rs : List Process) → IsRising rs → (p : ℕ) → first_pid (left_of (Some p) rs) ≡ Some p
-    → length (left_of (next_above p rs) rs) < length (left_of (Some p) rs)
-less_left rs up p e = let a = at_record rs up p e in let l = ap length a.left in omega (arith, l)
-
--- nobody is before a number that all are above
-none_before : (n k : ℕ) (rs : List Process) → k ≤ n → Above n rs → before (Some k) rs ≡ []
-none_before n k [] l a = refl
-none_before n k (x ∷ xs) l a = let t : nat_lt x.pid k ≡ false = grind (arith, nat_tests, a.0) in rw t (none_before n k xs l a.1)
-
--- nobody is before the least number
-none_before_first : (rs : List Process) → IsRising rs → before (first_pid rs) rs ≡ []
-unfolding IsRising
-none_before_first [] up = refl
-none_before_first (x ∷ xs) up = let t : nat_lt x.pid x.pid ≡ false = grind (arith, nat_tests) in rw t (none_before x.pid x.pid xs (omega arith) up.0)
-
--- a record with a number below is before
-kept_before : (o : Option ℕ) (x : Process) (xs : List Process) → IfSome o (λ y. x.pid < y) → before o (x ∷ xs) ≡ x ∷ before o xs
-kept_before None x xs h = refl
-kept_before (Some y) x xs h = let t : nat_lt x.pid y ≡ true = grind (arith, nat_tests, h) in rw t refl
-
--- a record that may be there, as a list
-one : Option Process → List Process
-one None = []
-one (Some r) = r ∷ []
-
--- after p one more record is before what comes next: that of p, if it is there
-before_step : (rs : List Process) → IsRising rs → (p : ℕ) → before (first_pid (above p rs)) rs ≡ before (Some p) rs ++ one (lookup p rs)
-unfolding one lookup IsRising
-before_step [] up p = refl
-before_step (x ∷ xs) up p =
-    elim (cases_order x.pid p) [
-      | inl eq ↦
-          let t : nat_lt p x.pid ≡ false = grind (arith, nat_tests) in
-          let u : nat_lt x.pid p ≡ false = grind (arith, nat_tests) in
-          let a : Above p xs = subst (λ n. Above n xs) eq up.0 in
-          let next : before (first_pid xs) (x ∷ xs) ≡ x ∷ [] = kept_before (first_pid xs) x xs (head_of x.pid xs up.0) ∙ ap (λ l. x ∷ l) (none_before_first xs up.1) in
-          rw (t, u, eq-eqb x.pid p eq, above_all p xs a, none_before p p xs (omega arith) a) next
-      | inr (inl lt) ↦
-          let t : nat_lt p x.pid ≡ false = grind (arith, nat_tests) in
-          let u : nat_lt x.pid p ≡ true = grind (arith, nat_tests) in
-          let next : before (first_pid (above p xs)) (x ∷ xs) ≡ x ∷ before (first_pid (above p xs)) xs = kept_before _ x xs (weaker _ x.pid p lt (head_above p xs)) in
-          rw (t, u, ne_eqb x.pid p (λ e. omega (arith, e))) (next ∙ ap (λ l. x ∷ l) (before_step xs up.1 p))
-      | inr (inr gt) ↦
-          let t : nat_lt p x.pid ≡ true = grind (arith, nat_tests) in
-          let u : nat_lt x.pid p ≡ false = grind (arith, nat_tests) in
-          let v : nat_lt x.pid x.pid ≡ false = grind (arith, nat_tests) in
-          let absent : find (has_pid p) xs ≡ None = lookup_above p xs (above_less p x.pid xs gt up.0) in
-          rw (t, u, ne_eqb x.pid p (λ e. omega (arith, e)), v, none_before x.pid x.pid xs (omega arith) up.0, none_before x.pid p xs (omega arith) up.0, absent) refl
-    ]
+-- ---- all asked, one after another
 
 -- behind which there is no p
 in_append : (p : ℕ) (xs ys : List ℕ) → is_in p ys ≡ false → is_in p (xs ++ ys) ≡ is_in p xs
@@ -202,83 +104,68 @@ unfolding is_in
 in_append p [] ys e = e
 in_append p (x ∷ xs) ys e = ap (λ b. (x == p) || b) (in_append p xs ys e)
 
--- the one that comes next is not among those before
-not_among : (t : Process → Bool) (k : ℕ) (rs : List Process) → is_in k (pids (filter t (before (Some k) rs))) ≡ false
-unfolding is_in
-not_among t k [] = refl
-not_among t k (x ∷ xs) = elim (nat_lt x.pid k) as (λ b. nat_lt x.pid k ≡ b → list_any (λ q. q == k) (pids (filter t (cond b (x ∷ before (Some k) xs) (before (Some k) xs)))) ≡ false) [
-  | true ↦ λ l. let low : x.pid < k = ltb-true _ _ l in elim (t x) as (λ b. list_any (λ q. q == k) (pids (cond b (x ∷ filter t (before (Some k) xs)) (filter t (before (Some k) xs)))) ≡ false) [
-    | true ↦ rw (ne_eqb x.pid k (λ e. omega (arith, e))) (not_among t k xs)
-    | false ↦ not_among t k xs
-  ]
-  | false ↦ λ l. not_among t k xs
-] refl
-
 -- places of others change nothing
 wakes_later : (s : State) (o : List ℕ) (r : Process) → is_in r.pid o ≡ false → wakes (record s { order = s.order ++ o }) r ≡ wakes s r
 wakes_later s o r e = ap (λ b. not b && can_act (record s { order = s.order ++ o }) r) (in_append r.pid s.order o e) ∙ ap (λ b. not (is_in r.pid s.order) && b) (can_act_order s (s.order ++ o) r)
 
--- one record asked
-step_some : (s : State) (news : List ℕ) (r : Process) → is_in r.pid news ≡ false
-    → woken_if (record s { order = s.order ++ news }) (Some r) ≡ record s { order = s.order ++ (news ++ pids (filter (wakes s) (r ∷ []))) }
-step_some s news r e =
-    let w : wakes (record s { order = s.order ++ news }) r ≡ wakes s r = wakes_later s news r e in
-    ap (λ b. cond b (record s { order = (s.order ++ news) ++ r.pid ∷ [] }) (record s { order = s.order ++ news })) w
-    ∙ elim (wakes s r) as (λ b. cond b (record s { order = (s.order ++ news) ++ r.pid ∷ [] }) (record s { order = s.order ++ news }) ≡ record s { order = s.order ++ (news ++ pids (cond b (r ∷ []) [])) }) [
-      | true ↦ ap (λ o. record s { order = o }) (append_assoc s.order news (r.pid ∷ []))
-      | false ↦ ap (λ o. record s { order = s.order ++ o }) (sym (append-nil _))
-    ]
+-- nobody above p has the number p
+not_numbered : (t : Process → Bool) (p q : ℕ) (rs : List Process) → p < q → is_in q (pids (filter t (numbered p rs))) ≡ false
+unfolding is_in
+not_numbered t p q [] l = refl
+not_numbered t p q (x ∷ xs) l = elim (x.pid == p) as (λ b. (x.pid == p) ≡ b → list_any (λ n. n == q) (pids (filter t (cond b (x ∷ numbered p xs) (numbered p xs)))) ≡ false) [
+  | true ↦ λ e. let named : x.pid ≡ p = eqb-true _ _ e in elim (t x) as (λ b. list_any (λ n. n == q) (pids (cond b (x ∷ filter t (numbered p xs)) (filter t (numbered p xs)))) ≡ false) [
+    | true ↦ rw (ne_eqb x.pid q (λ k. omega (arith, k, named))) (not_numbered t p q xs l)
+    | false ↦ not_numbered t p q xs l
+  ]
+  | false ↦ λ e. not_numbered t p q xs l
+] refl
 
--- a number asked
-step_if : (s : State) (k : ℕ) (o : Option Process) → lookup k s.processes ≡ o
-    → woken_if (woken_before s (Some k)) o ≡ record s { order = s.order ++ (pids (filter (wakes s) (before (Some k) s.processes)) ++ pids (filter (wakes s) (one o))) }
-unfolding woken_before one
-step_if s k None e = ap (λ o. record s { order = s.order ++ o }) (sym (append-nil _))
-step_if s k (Some r) e =
-    let named : r.pid ≡ k = pid_looked k s.processes r e in
-    step_some s _ r (subst (λ n. is_in n (pids (filter (wakes s) (before (Some k) s.processes))) ≡ false) (sym named) (not_among (wakes s) k s.processes))
+-- above p the same pass two tests that agree there
+same_above : (t u : Process → Bool) (p : ℕ) (rs : List Process) → ((r : Process) → p < r.pid → t r ≡ u r) → filter t (above p rs) ≡ filter u (above p rs)
+same_above t u p [] h = refl
+same_above t u p (x ∷ xs) h = elim (nat_lt p x.pid) as (λ b. nat_lt p x.pid ≡ b → filter t (cond b (x ∷ above p xs) (above p xs)) ≡ filter u (cond b (x ∷ above p xs) (above p xs))) [
+  | true ↦ λ e. ap (λ b. cond b (x ∷ filter t (above p xs)) (filter t (above p xs))) (h x (ltb-true _ _ e)) ∙ ap (λ l. cond (u x) (x ∷ l) l) (same_above t u p xs h)
+  | false ↦ λ e. same_above t u p xs h
+] refl
 
--- one more is asked
-pub woken_step : (s : State) → IsRising s.processes → (p : ℕ) → woken (woken_before s (Some p)) p ≡ woken_before s (next_above p s.processes)
-unfolding woken woken_before next_above
-woken_step s up p =
-    step_if s p (lookup p s.processes) refl
-    ∙ ap (λ o. record s { order = s.order ++ o }) (sym (ap (λ rs. pids (filter (wakes s) rs)) (before_step s.processes up p) ∙ ap pids (filter-append (wakes s) (before (Some p) s.processes) (one (lookup p s.processes))) ∙ map-append (λ r. r.pid) (filter (wakes s) (before (Some p) s.processes)) (filter (wakes s) (one (lookup p s.processes)))))
-
--- at the start nobody was asked
-pub woken_first : (s : State) → IsRising s.processes → ((p : ℕ) (r : Process) → lookup p s.processes ≡ Some r → 1 ≤ r.pid)
-    → woken_before s (next_above 0 s.processes) ≡ s
-unfolding woken_before next_above
-woken_first s up least =
-    let all : above 0 s.processes ≡ s.processes = above_all 0 s.processes (all_looked _ s.processes up least) in
-    let none : before (first_pid (above 0 s.processes)) s.processes ≡ [] = ap (λ rs. before (first_pid rs) s.processes) all ∙ none_before_first s.processes up in
-    ap (λ rs. record s { order = s.order ++ pids (filter (wakes s) rs) }) none ∙ ap (λ o. record s { order = o }) (append-nil _)
-
--- the walk begins with all records
-pub all_left : (rs : List Process) → IsRising rs → ((p : ℕ) (r : Process) → lookup p rs ≡ Some r → 1 ≤ r.pid) → left_of (next_above 0 rs) rs ≡ rs
-unfolding next_above
-all_left rs up least =
-    let all : above 0 rs ≡ rs = above_all 0 rs (all_looked _ rs up least) in
-    ap (λ qs. left_of (first_pid qs) rs) all ∙ left_of_head rs up
-
--- at the end all were
-pub woken_all : (s : State) → woken_before s None ≡ settle s
-unfolding woken_before settle
-woken_all s = refl
-
--- the processes stay
-pub woken_before_processes : (s : State) (next : Option ℕ) → (woken_before s next).processes ≡ s.processes
-unfolding woken_before
-woken_before_processes s next = refl
-
--- the processes stay
-pub woken_processes : (s : State) (p : ℕ) → (woken s p).processes ≡ s.processes
+-- one process asked
+woken_one : (s : State) → IsRising s.processes → (p : ℕ) → woken s p ≡ record s { order = s.order ++ pids (filter (wakes s) (numbered p s.processes)) }
 unfolding woken
-woken_processes s p = of_option (lookup p s.processes)
-  where
-    of_option : (o : Option Process) → (woken_if s o).processes ≡ s.processes
-    of_option None = refl
-    of_option (Some r) = elim (wakes s r) as (λ b. (cond b (record s { order = s.order ++ r.pid ∷ [] }) s).processes ≡ s.processes) [ true ↦ refl | false ↦ refl ]
+woken_one s up p = elim (lookup p s.processes) as (λ o. lookup p s.processes ≡ o → woken_if s o ≡ record s { order = s.order ++ pids (filter (wakes s) (numbered p s.processes)) }) [
+  | None ↦ λ e. rw (numbered_none p s.processes e) (ap (λ o. record s { order = o }) (sym (append-nil _)))
+  | Some r ↦ λ e. rw (numbered_one p s.processes up r e) (elim (wakes s r) as (λ b. cond b (record s { order = s.order ++ r.pid ∷ [] }) s ≡ record s { order = s.order ++ pids (cond b (r ∷ []) []) }) [
+    | true ↦ refl
+    | false ↦ ap (λ o. record s { order = o }) (sym (append-nil _))
+  ])
+] refl
+
+-- what settling makes of those that are left
+unfoldable pub settled_from : Option ℕ → State → State
+settled_from next s = record s { order = s.order ++ pids (filter (wakes s) (left_of next s.processes)) }
+
+-- at the start all are left
+pub asking_begins : (s : State) (next : Option ℕ) → IsRegular s → IsNext (wakes s) 0 s.processes next → settled_from next s ≡ settle s
+unfolding settled_from settle
+asking_begins s next i n = ap (λ rs. record s { order = s.order ++ pids rs }) (walk_begins (wakes s) s.processes next i.rising (λ p r e. (i.bounded p r e).least) n)
+
+-- one is asked, and then the others
+pub asking_goes_on : (s : State) → IsRising s.processes → (p : ℕ) (next : Option ℕ) → IsNext (wakes (woken s p)) p (woken s p).processes next → settled_from next (woken s p) ≡ settled_from (Some p) s
+unfolding settled_from
+asking_goes_on s up p next n =
+    let rs = s.processes in
+    let asked = pids (filter (wakes s) (numbered p rs)) in
+    let t = record s { order = s.order ++ asked } in
+    let one = woken_one s up p in
+    let rest = rest_of_walk (wakes t) p rs next up (subst (λ (t : State). IsNext (wakes t) p t.processes next) one n) ∙ same_above (wakes t) (wakes s) p rs (λ r l. wakes_later s asked r (not_numbered (wakes s) p r.pid rs l)) in
+    ap (settled_from next) one
+    ∙ ap (λ l. record s { order = (s.order ++ asked) ++ pids l }) rest
+    ∙ ap (λ o. record s { order = o }) (append_assoc s.order asked (pids (filter (wakes s) (above p rs))))
+    ∙ ap (λ o. record s { order = s.order ++ o }) (sym (ap pids (walk_splits (wakes s) p rs up) ∙ map-append (λ r. r.pid) (filter (wakes s) (numbered p rs)) (filter (wakes s) (above p rs))))
+
+-- at the end nobody is
+pub asking_ends : (s : State) → settled_from None s ≡ s
+unfolding settled_from
+asking_ends s = ap (λ o. record s { order = o }) (append-nil _)
 
 -- who wakes may be given a place
 pub wakes_placed : (s : State) (p : ℕ) (r : Process) → lookup p s.processes ≡ Some r → can_act s r ≡ true → IsPlaced s.processes p

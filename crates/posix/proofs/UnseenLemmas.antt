@@ -11,8 +11,9 @@ use Rattle.posix.specs.Waits.{report, is_named, report_of, report_life, report_f
 use Rattle.posix.specs.Settle.{settle, wakes, can_act}
 use Rattle.posix.specs.Settle.{NoWakeIsLost}
 use Rattle.posix.proofs.TableLemmas.{pid_looked}
-use Rattle.posix.proofs.MapLemmas.{children_map}
-use Rattle.posix.proofs.SettleLemmas.{ReportsSame, can_act_same, all_looked}
+use Rattle.posix.proofs.MapLemmas.{filter_map, children_map}
+use Rattle.posix.proofs.WalkLemmas.{all_looked}
+use Rattle.posix.proofs.SettleLemmas.{ReportsSame, can_act_same}
 
 -- nothing is changed that others see in a child
 pub record Unseen (g : Process → Process) : Type 0 where
@@ -47,16 +48,6 @@ same_report g u options r =
     ap (λ p. report_life options p (g r).life (g r).news) (u.pid r)
     ∙ ap (λ l. report_life options r.pid l (g r).news) (u.life r)
     ∙ ap (λ n. report_life options r.pid r.life n) (u.news r)
-
--- a test that a map doesn't change
-filter_map : (t : Process → Bool) (g : Process → Process) → ((r : Process) → t (g r) ≡ t r) → (rs : List Process) → filter t (map g rs) ≡ map g (filter t rs)
-filter_map t g same [] = refl
-filter_map t g same (r ∷ rs) =
-    ap (λ b. cond b (g r ∷ filter t (map g rs)) (filter t (map g rs))) (same r)
-    ∙ elim (t r) as (λ b. cond b (g r ∷ filter t (map g rs)) (filter t (map g rs)) ≡ map g (cond b (r ∷ filter t rs) (filter t rs))) [
-      | true ↦ ap (λ l. g r ∷ l) (filter_map t g same rs)
-      | false ↦ filter_map t g same rs
-    ]
 
 -- a test that a map doesn't change
 find_map : (t : Process → Bool) (g : Process → Process) → ((r : Process) → t (g r) ≡ t r) → (rs : List Process) → find t (map g rs) ≡ option_map g (find t rs)

@@ -1,11 +1,13 @@
--- Children of a table in rising order, read off one after another.
-use Rattle.std.proofs.Common.{◌≡◌, ℕ, ◌<◌, ◌≤◌, Bool, true, false, cond, refl, ap, sym, ◌∙◌, arith, subst, List, [], ◌∷◌, filter, find, Option, Some, None, ◌==◌, nat_lt, nat_le, inl, inr}
-use Rattle.std.specs.Option.{IfSome}
+-- Processes of a table in rising order, and children, read off one after another.
+use Rattle.std.proofs.Common.{◌≡◌, ℕ, ◌<◌, ◌≤◌, Bool, true, false, ◌&&◌, cond, refl, ap, sym, ◌∙◌, arith, subst, List, [], ◌∷◌, ◌++◌, filter, find, Option, Some, None, ◌==◌, ◌-◌, nat_lt, nat_le, inl, inr}
+use Rattle.std.specs.List.{AllByRecursion}
+use Rattle.std.specs.Option.{IfSome, IsSome}
+use Rattle.std.proofs.lemmas.List.Elements.{filter-append}
 use Rattle.std.proofs.lemmas.Bool.{eqb-true, eq-eqb, ne_eqb, ltb-true, ltb-false, cases_order}
 use Rattle.std.proofs.lemmas.Bool.Decides.{nat_tests}
 use Rattle.posix.specs.Processes.{Process}
-use Rattle.posix.specs.Tables.{IsRising, has_pid, lookup, is_child, children_in, first_pid, above, left_of, parent_of, next_sibling}
-use Rattle.posix.proofs.TableLemmas.{Above, rising_filter}
+use Rattle.posix.specs.Tables.{IsRising, IsNext, has_pid, lookup, is_child, children_in, first_pid, above, next_above, left_of, parent_of, next_sibling}
+use Rattle.posix.proofs.TableLemmas.{Above, above_less, lookup_above, pid_looked, rising_filter}
 
 -- of a list above n, all lie above n
 pub above_all : (n : ℕ) (rs : List Process) → Above n rs → above n rs ≡ rs
@@ -107,11 +109,42 @@ head_left_of rs n =
       | Some y ↦ λ e. head_from rs n y e
     ] refl
 
--- in a list above c nobody has the pid c
-lookup_below : (c : ℕ) (rs : List Process) (r : Process) → Above c rs → lookup c rs ≡ Some r → c < c
+-- what a walk over all of them knows at p: the record, and what is left after it
+pub record AtRecord (rs : List Process) (p : ℕ) : Type 0 where
+  pub what : Process
+  pub named : what.pid ≡ p
+  pub found : lookup p rs ≡ Some what
+  pub left : left_of (Some p) rs ≡ what ∷ left_of (next_above p rs) rs
+  pub next : first_pid (left_of (next_above p rs) rs) ≡ next_above p rs
+
+-- a walk that comes to p finds it
+pub at_record : (rs : List Process) → IsRising rs → (p : ℕ) → first_pid (left_of (Some p) rs) ≡ Some p → AtRecord rs p
+unfolding next_above
+at_record rs up p e =
+    let h = here rs up p e in
+    record { what = h.what; named = h.named; found = h.found; left = h.left; next = head_left_of rs p }
+
+-- a number that comes next is the first of what is left
+pub next_is_first : (rs : List Process) (n : ℕ) → first_pid (left_of (next_above n rs) rs) ≡ next_above n rs
+unfolding next_above
+next_is_first rs n = head_left_of rs n
+
+-- where p passes a test, it is the first that is left to do so
+pub passes_here : (t : Process → Bool) (rs : List Process) (p : ℕ) (next : Option ℕ) (a : AtRecord rs p) → next ≡ Some p → t a.what ≡ true → first_pid (filter t (left_of next rs)) ≡ Some p
+passes_here t rs p next a e h = rw (e, a.left, h) (ap Some a.named)
+
+-- where it fails, those that are left do so after it
+pub fails_here : (t : Process → Bool) (rs : List Process) (p : ℕ) (next : Option ℕ) (a : AtRecord rs p) → next ≡ Some p → t a.what ≡ false → filter t (left_of next rs) ≡ filter t (left_of (next_above p rs) rs)
+fails_here t rs p next a e h = rw (e, a.left, h) refl
+
+-- who is found in a list above n lies above n
+found_above : (n q : ℕ) (xs : List Process) (r : Process) → Above n xs → lookup q xs ≡ Some r → n < q
 unfolding lookup
-lookup_below c [] r a e = absurd (cc)
-lookup_below c (x ∷ xs) r a e = lookup_below c xs r a.1 (rw (ne_eqb x.pid c (λ k. omega (arith, a.0))) at e)
+found_above n q [] r a e = absurd (cc)
+found_above n q (x ∷ xs) r a e = elim (x.pid == q) as (λ b. (x.pid == q) ≡ b → cond b (Some x) (find (has_pid q) xs) ≡ Some r → n < q) [
+  | true ↦ λ t k. let i : x.pid ≡ q = eqb-true _ _ t in omega (arith, a.0, i)
+  | false ↦ λ t k. found_above n q xs r a.1 k
+] refl e
 
 -- who is found among some is found among all
 pub record InFilter (t : Process → Bool) (rs : List Process) (c : ℕ) (r : Process) : Type 0 where
@@ -134,7 +167,7 @@ in_filter t (x ∷ xs) up c r e =
           elim (x.pid == c) as (λ b. (x.pid == c) ≡ b → InFilter t (x ∷ xs) c r) [
             | true ↦ λ u.
                 let named : x.pid ≡ c = eqb-true _ _ u in
-                let low : c < c = lookup_below c xs r (subst (λ n. Above n xs) named up.0) i.found in
+                let low : c < c = found_above c c xs r (subst (λ n. Above n xs) named up.0) i.found in
                 absurd (omega arith)
             | false ↦ λ u. record { found = rw u i.found; passes = i.passes }
           ] refl
@@ -174,3 +207,235 @@ at_child rs up p c e =
 pub at_first : (rs : List Process) → IsRising rs → (p : ℕ) → left_of (first_pid (children_in p rs)) (children_in p rs) ≡ children_in p rs
 unfolding children_in
 at_first rs up p = left_of_head (filter (is_child p) rs) (rising_filter (is_child p) rs up)
+
+-- ---- a walk over those that pass a test: one law for all walks
+
+-- what all that are looked up have, all have
+pub all_looked : (P : Process → Type 0) (rs : List Process) → IsRising rs → ((p : ℕ) (r : Process) → lookup p rs ≡ Some r → P r) → AllByRecursion P rs
+unfolding lookup IsRising
+all_looked P [] up h = tt
+all_looked P (x ∷ xs) up h = (
+  h x.pid x (rw (eq-eqb x.pid x.pid refl) refl),
+  all_looked P xs up.1 (λ p r e. h p r (elim (x.pid == p) as (λ b. (x.pid == p) ≡ b → cond b (Some x) (find (has_pid p) xs) ≡ Some r) [
+    | true ↦ λ t. let none : find (has_pid p) xs ≡ None = lookup_above p xs (subst (λ n. Above n xs) (eqb-true _ _ t) up.0) in let no = sym none ∙ e in absurd (cc)
+    | false ↦ λ t. e
+  ] refl)),
+)
+
+-- a walk over all of them begins with all
+pub all_left : (rs : List Process) → IsRising rs → ((p : ℕ) (r : Process) → lookup p rs ≡ Some r → 1 ≤ r.pid) → left_of (next_above 0 rs) rs ≡ rs
+unfolding next_above
+all_left rs up least =
+    let all : above 0 rs ≡ rs = above_all 0 rs (all_looked _ rs up least) in
+    ap (λ qs. left_of (first_pid qs) rs) all ∙ left_of_head rs up
+
+-- those with the number p: one, or none
+abbrev pub numbered : ℕ → List Process → List Process
+numbered p rs = filter (has_pid p) rs
+
+-- in a list above p nobody has the number p
+none_numbered : (p : ℕ) (rs : List Process) → Above p rs → numbered p rs ≡ []
+none_numbered p [] a = refl
+none_numbered p (x ∷ xs) a = rw (ne_eqb x.pid p (λ e. omega (arith, a.0, e))) (none_numbered p xs a.1)
+
+-- who is there is the one with its number
+pub numbered_one : (p : ℕ) (rs : List Process) → IsRising rs → (q : Process) → lookup p rs ≡ Some q → numbered p rs ≡ q ∷ []
+unfolding lookup IsRising
+numbered_one p [] up q e = absurd (cc)
+numbered_one p (x ∷ xs) up q e =
+    elim (x.pid == p) as (λ b. (x.pid == p) ≡ b → cond b (Some x) (find (has_pid p) xs) ≡ Some q → cond b (x ∷ numbered p xs) (numbered p xs) ≡ q ∷ []) [
+      | true ↦ λ t k.
+          let same : x ≡ q = cc in
+          let none : numbered p xs ≡ [] = none_numbered p xs (subst (λ n. Above n xs) (eqb-true _ _ t) up.0) in
+          rw (none, same) refl
+      | false ↦ λ t k. numbered_one p xs up.1 q k
+    ] refl e
+
+-- where nobody is there, nobody has the number
+pub numbered_none : (p : ℕ) (rs : List Process) → lookup p rs ≡ None → numbered p rs ≡ []
+unfolding lookup
+numbered_none p [] e = refl
+numbered_none p (x ∷ xs) e =
+    elim (x.pid == p) as (λ b. cond b (Some x) (find (has_pid p) xs) ≡ None → cond b (x ∷ numbered p xs) (numbered p xs) ≡ []) [
+      | true ↦ λ k. absurd (cc)
+      | false ↦ λ k. numbered_none p xs k
+    ] e
+
+-- from p on, p is left, if it is there, and those above
+pub left_split : (p : ℕ) (rs : List Process) → IsRising rs → left_of (Some p) rs ≡ numbered p rs ++ above p rs
+unfolding IsRising
+left_split p [] up = refl
+left_split p (x ∷ xs) up =
+    elim (cases_order x.pid p) [
+      | inl eq ↦
+          let t : nat_le p x.pid ≡ true = grind (arith, nat_tests) in
+          let u : nat_lt p x.pid ≡ false = grind (arith, nat_tests) in
+          rw (t, u, eq-eqb x.pid p eq) (ap (λ ys. x ∷ ys) (left_split p xs up.1))
+      | inr (inl lt) ↦
+          let t : nat_le p x.pid ≡ false = grind (arith, nat_tests) in
+          let u : nat_lt p x.pid ≡ false = grind (arith, nat_tests) in
+          rw (t, u, ne_eqb x.pid p (λ k. omega (arith, k))) (left_split p xs up.1)
+      | inr (inr gt) ↦
+          let t : nat_le p x.pid ≡ true = grind (arith, nat_tests) in
+          let u : nat_lt p x.pid ≡ true = grind (arith, nat_tests) in
+          let none : numbered p xs ≡ [] = none_numbered p xs (above_less p x.pid xs gt up.0) in
+          let rest : left_of (Some p) xs ≡ above p xs = left_split p xs up.1 ∙ ap (λ ys. ys ++ above p xs) none in
+          rw (t, u, ne_eqb x.pid p (λ k. omega (arith, k)), none) (ap (λ ys. x ∷ ys) rest)
+    ]
+
+-- tests that agree on those that pass another
+agree : (t u v : Process → Bool) (rs : List Process) → AllByRecursion (λ r. t r ≡ true → u r ≡ v r) rs → filter t (filter u rs) ≡ filter t (filter v rs)
+agree t u v [] h = refl
+agree t u v (r ∷ rs) h =
+    elim (t r) as (λ b. t r ≡ b → filter t (cond (u r) (r ∷ filter u rs) (filter u rs)) ≡ filter t (cond (v r) (r ∷ filter v rs) (filter v rs))) [
+      | true ↦ λ e. ap (λ b. filter t (cond b (r ∷ filter u rs) (filter u rs))) (h.0 e) ∙ elim (v r) as (λ b. filter t (cond b (r ∷ filter u rs) (filter u rs)) ≡ filter t (cond b (r ∷ filter v rs) (filter v rs))) [
+        | true ↦ rw e (ap (λ l. r ∷ l) (agree t u v rs h.1))
+        | false ↦ agree t u v rs h.1
+      ]
+      | false ↦ λ e. out (u r) u e ∙ agree t u v rs h.1 ∙ sym (out (v r) v e)
+    ] refl
+  where
+    out : (b : Bool) (w : Process → Bool) → t r ≡ false → filter t (cond b (r ∷ filter w rs) (filter w rs)) ≡ filter t (filter w rs)
+    out true w e = rw e refl
+    out false w e = refl
+
+-- whether a number is left, from the one that comes next on
+abbrev comes : Option ℕ → ℕ → Bool
+comes None q = false
+comes (Some n) q = nat_le n q
+
+left_is : (o : Option ℕ) (rs : List Process) → left_of o rs ≡ filter (λ r. comes o r.pid) rs
+left_is None [] = refl
+left_is None (x ∷ xs) = left_is None xs
+left_is (Some n) rs = refl
+
+-- who isn't left lies before the one that comes next
+lies_before : (o : Option ℕ) (q : ℕ) → comes o q ≡ false → IfSome o (λ m. q < m)
+lies_before None q e = tt
+lies_before (Some m) q e = grind (arith, nat_tests)
+
+-- and so does who isn't above n
+before_next : (o : Option ℕ) (n q : ℕ) → q ≤ n → IfSome o (λ m. n < m) → comes o q ≡ false
+before_next None n q l h = refl
+before_next (Some m) n q l h = let t : nat_le m q ≡ false = grind (arith, nat_tests, h) in t
+
+-- who passes is left just where it lies above n
+comes_above : (t : Process → Bool) (n : ℕ) (rs : List Process) (next : Option ℕ) → IsNext t n rs next → (r : Process) → lookup r.pid rs ≡ Some r → t r ≡ true → comes next r.pid ≡ nat_lt n r.pid
+comes_above t n rs next i r e k = elim (nat_lt n r.pid) as (λ b. nat_lt n r.pid ≡ b → comes next r.pid ≡ b) [
+  | true ↦ λ u. elim (comes next r.pid) as (λ b. comes next r.pid ≡ b → b ≡ true) [
+    | true ↦ λ v. refl
+    | false ↦ λ v. let no : true ≡ false = sym k ∙ i.between r.pid r e (ltb-true _ _ u) (lies_before next r.pid v) in absurd (cc)
+  ] refl
+  | false ↦ λ u. before_next next n r.pid (ltb-false _ _ u) i.above
+] refl
+
+-- from the one that comes next after n on, those that pass are left that lie above n
+pub rest_of_walk : (t : Process → Bool) (n : ℕ) (rs : List Process) (next : Option ℕ) → IsRising rs → IsNext t n rs next → filter t (left_of next rs) ≡ filter t (above n rs)
+rest_of_walk t n rs next up i =
+    ap (filter t) (left_is next rs)
+    ∙ agree t (λ r. comes next r.pid) (λ r. nat_lt n r.pid) rs (all_looked (λ r. t r ≡ true → comes next r.pid ≡ nat_lt n r.pid) rs up (λ q r e k. comes_above t n rs next i r (ap (λ m. lookup m rs) (pid_looked q rs r e) ∙ e) k))
+
+-- a walk begins with all that pass
+pub walk_begins : (t : Process → Bool) (rs : List Process) (next : Option ℕ) → IsRising rs → ((p : ℕ) (r : Process) → lookup p rs ≡ Some r → 1 ≤ r.pid) → IsNext t 0 rs next → filter t (left_of next rs) ≡ filter t rs
+walk_begins t rs next up least i = rest_of_walk t 0 rs next up i ∙ ap (filter t) (above_all 0 rs (all_looked _ rs up least))
+
+-- at p, that one is left, if it is there and passes, and those that lie above
+pub walk_splits : (t : Process → Bool) (p : ℕ) (rs : List Process) → IsRising rs → filter t (left_of (Some p) rs) ≡ filter t (numbered p rs) ++ filter t (above p rs)
+walk_splits t p rs up = ap (filter t) (left_split p rs up) ∙ filter-append t (numbered p rs) (above p rs)
+
+-- ---- who comes next
+
+-- the record with the number q is there, and passes
+abbrev Passes : (Process → Bool) → List Process → ℕ → Type 0
+Passes w rs q = (r : Process) × (lookup q rs ≡ Some r) × (w r ≡ true)
+
+if_some : (P Q : ℕ → Type 0) (o : Option ℕ) → ((q : ℕ) → P q → Q q) → IfSome o P → IfSome o Q
+if_some P Q None f h = tt
+if_some P Q (Some q) f h = f q h
+
+-- the first that passes is there
+first_passes : (w : Process → Bool) (rs : List Process) → IsRising rs → IfSome (first_pid (filter w rs)) (Passes w rs)
+unfolding lookup IsRising
+first_passes w [] up = tt
+first_passes w (x ∷ xs) up = elim (w x) as (λ b. w x ≡ b → IfSome (first_pid (cond b (x ∷ filter w xs) (filter w xs))) (Passes w (x ∷ xs))) [
+  | true ↦ λ e. (x, rw (eq-eqb x.pid x.pid refl) refl, e)
+  | false ↦ λ e. if_some (Passes w xs) (Passes w (x ∷ xs)) (first_pid (filter w xs)) (λ q i.
+      let low = found_above x.pid q xs i.0 up.0 i.1 in
+      (i.0, rw (ne_eqb x.pid q (λ k. omega (arith, low, k))) i.1, i.2)) (first_passes w xs up.1)
+] refl
+
+-- nobody before it passes
+none_passes_before : (w : Process → Bool) (rs : List Process) → IsRising rs → (q : ℕ) (r : Process) → lookup q rs ≡ Some r → w r ≡ true → IfSome (first_pid (filter w rs)) (λ m. q < m) → ⊥
+unfolding lookup IsRising
+none_passes_before w [] up q r e k h = absurd (cc)
+none_passes_before w (x ∷ xs) up q r e k h =
+    elim (x.pid == q) as (λ b. (x.pid == q) ≡ b → cond b (Some x) (find (has_pid q) xs) ≡ Some r → ⊥) [
+      | true ↦ λ t f.
+          let same : x ≡ r = cc in
+          let passes : w x ≡ true = ap w same ∙ k in
+          let named : x.pid ≡ q = eqb-true _ _ t in
+          let low : q < x.pid = rw passes at h in
+          omega (arith, low, named)
+      | false ↦ λ t f. elim (w x) as (λ b. IfSome (first_pid (cond b (x ∷ filter w xs) (filter w xs))) (λ m. q < m) → ⊥) [
+        | true ↦ λ low. let high = found_above x.pid q xs r up.0 f in omega (arith, low, high)
+        | false ↦ λ g. none_passes_before w xs up.1 q r f k g
+      ] h
+    ] refl e
+
+-- the first of a narrower test comes next, where those above n that pass the wider one pass it
+pub first_is_next : (t w : Process → Bool) (n : ℕ) (rs : List Process) → IsRising rs → ((r : Process) → w r ≡ true → n < r.pid) → ((r : Process) → n < r.pid → t r ≡ true → w r ≡ true) → IsNext t n rs (first_pid (filter w rs))
+first_is_next t w n rs up high wide =
+    let first = first_passes w rs up in
+    record {
+      there = if_some (Passes w rs) (λ q. IsSome (lookup q rs)) _ (λ q i. subst IsSome (sym i.1) refl) first;
+      above = if_some (Passes w rs) (λ q. n < q) _ (λ q i. subst (λ m. n < m) (pid_looked q rs i.0 i.1) (high i.0 i.2)) first;
+      between = λ q r e l h. elim (t r) as (λ b. t r ≡ b → b ≡ false) [
+        | true ↦ λ k. absurd (none_passes_before w rs up q r e (wide r (subst (λ m. n < m) (sym (pid_looked q rs r e)) l) k) h)
+        | false ↦ λ k. refl
+      ] refl;
+    }
+
+-- the least number above n comes next, whatever the test
+pub least_is_next : (t : Process → Bool) (n : ℕ) (rs : List Process) → IsRising rs → IsNext t n rs (next_above n rs)
+unfolding next_above
+least_is_next t n rs up = first_is_next t (λ r. nat_lt n r.pid) n rs up (λ r e. ltb-true _ _ e) (λ r l k. let u : nat_lt n r.pid ≡ true = grind (arith, nat_tests) in u)
+
+-- two tests may come in either order
+pub filters_commute : (s t : Process → Bool) (rs : List Process) → filter s (filter t rs) ≡ filter t (filter s rs)
+filters_commute s t [] = refl
+filters_commute s t (x ∷ xs) =
+    let rest = filters_commute s t xs in
+    elim (t x) as (λ b. t x ≡ b → filter s (cond b (x ∷ filter t xs) (filter t xs)) ≡ filter t (cond (s x) (x ∷ filter s xs) (filter s xs))) [
+      | true ↦ λ e. elim (s x) as (λ d. cond d (x ∷ filter s (filter t xs)) (filter s (filter t xs)) ≡ filter t (cond d (x ∷ filter s xs) (filter s xs))) [ true ↦ rw e (ap (λ ys. x ∷ ys) rest) | false ↦ rest ]
+      | false ↦ λ e. elim (s x) as (λ d. filter s (filter t xs) ≡ filter t (cond d (x ∷ filter s xs) (filter s xs))) [ true ↦ rw e rest | false ↦ rest ]
+    ] refl
+
+-- two tests, one after another
+both_pass : (t u : Process → Bool) (rs : List Process) → filter u (filter t rs) ≡ filter (λ r. t r && u r) rs
+both_pass t u [] = refl
+both_pass t u (x ∷ xs) = elim (t x) as (λ b. filter u (cond b (x ∷ filter t xs) (filter t xs)) ≡ cond (b && u x) (x ∷ filter (λ r. t r && u r) xs) (filter (λ r. t r && u r) xs)) [
+  | true ↦ ap (λ l. cond (u x) (x ∷ l) l) (both_pass t u xs)
+  | false ↦ both_pass t u xs
+]
+
+-- the least of those that pass it comes next too
+pub passing_is_next : (t : Process → Bool) (n : ℕ) (rs : List Process) → IsRising rs → IsNext t n rs (first_pid (above n (filter t rs)))
+passing_is_next t n rs up =
+    subst (λ l. IsNext t n rs (first_pid l)) (sym (both_pass t (λ r. nat_lt n r.pid) rs))
+    (first_is_next t (λ r. t r && nat_lt n r.pid) n rs up (λ r e. ltb-true _ _ (second (t r) _ e)) (λ r l k. let u : nat_lt n r.pid ≡ true = grind (arith, nat_tests) in rw (k, u) refl))
+  where
+    second : (a b : Bool) → (a && b) ≡ true → b ≡ true
+    second true b e = e
+    second false b e = absurd (cc)
+
+-- ---- how long a walk is
+
+-- no more than this many numbers may come next, of those below m
+abbrev pub numbers_left : ℕ → Option ℕ → ℕ
+numbers_left m None = 0
+numbers_left m (Some p) = m - p
+
+-- fewer do after p
+pub fewer_left : (m p : ℕ) (next : Option ℕ) → p < m → IfSome next (λ q. p < q) → numbers_left m next < m - p
+fewer_left m p None l h = omega arith
+fewer_left m p (Some q) l h = omega (arith, h)

@@ -41,9 +41,8 @@ attempt granted s me Sigpending = answers s me.pid Sigpending (sigpending me)
 attempt granted s me Sigsuspend = Block (blocked.Sigsuspend me.signals.mask)
 attempt granted s me Sigreturn = Done (return_from_handler s me)
 
--- The call that a process is blocked in, attempted afresh. No process is blocked in read yet.
+-- the call that a process is blocked in, attempted afresh
 unfoldable pub attempt_again : State → Process → Blocked → Attempted
 attempt_again s me blocked.Waitpid = wait s me
-attempt_again s me blocked.Read = Block blocked.Read
 attempt_again s me blocked.Pause = Block blocked.Pause
 attempt_again s me (blocked.Sigsuspend mask) = Block (blocked.Sigsuspend mask)

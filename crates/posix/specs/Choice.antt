@@ -3,7 +3,7 @@ use Rattle.std.specs.Prelude.{ℕ, ◌-◌, Bool, ◌&&◌, not, if◌then◌els
 use Rattle.std.specs.List.{range_with_len}
 use Rattle.posix.specs.declared.process.Carried.{Carried}
 use Rattle.posix.specs.declared.process.Life.{Life}
-use Rattle.posix.specs.Signals.{KILL}
+use Rattle.posix.specs.SignalNumbers.{KILL}
 use Rattle.posix.specs.SignalSets.{has}
 use Rattle.posix.specs.Processes.{Signals, is_running}
 use Rattle.posix.specs.Generation.{is_pending, with_pending}

@@ -3,7 +3,7 @@ use Rattle.std.specs.Prelude.{ℕ, Bool, false, ◌&&◌, ◌||◌, if◌then◌
 use Rattle.posix.specs.declared.ids.Ids.{Ids}
 use Rattle.posix.specs.declared.errno.Errno.{Errno}
 use Rattle.posix.specs.declared.errno.Errno.TheVariants.{EPERM, EINVAL}
-use Rattle.posix.specs.Signals.{CONT}
+use Rattle.posix.specs.SignalNumbers.{CONT}
 use Rattle.posix.specs.Processes.{Credentials, Process}
 
 -- by effective user id 0

@@ -14,7 +14,7 @@ use Rattle.posix.specs.declared.process.Frame.{Frame}
 use Rattle.posix.specs.declared.process.Handler.{Handler}
 use Rattle.posix.specs.declared.process.Handler.TheVariants as handler
 use Rattle.posix.specs.declared.process.PendingSignal.{PendingSignal}
-use Rattle.posix.specs.Signals.{SEGV, default_action}
+use Rattle.posix.specs.SignalNumbers.{SEGV, default_action}
 use Rattle.posix.specs.SignalSets.{has}
 use Rattle.posix.specs.Statuses.{killed}
 use Rattle.posix.specs.Processes.{Process}
@@ -25,10 +25,9 @@ use Rattle.posix.specs.Choice.{taken, carried_by, from_kernel}
 use Rattle.posix.specs.Handlers.{handles, is_full, is_interrupted, newest_frame, returned}
 use Rattle.posix.specs.Ends.{end_process}
 
--- the call that it is; no process is blocked in read yet
+-- the call that it is
 abbrev pub call_of : Blocked → Call
 call_of blocked.Waitpid = call.Waitpid
-call_of blocked.Read = call.Pause
 call_of blocked.Pause = call.Pause
 call_of (blocked.Sigsuspend earlier) = call.Sigsuspend
 

@@ -6,23 +6,24 @@ use Rattle.posix.specs.declared.process.Life.{Life}
 use Rattle.posix.specs.declared.process.Life.TheVariants.{Running, Stopped, Zombie}
 use Rattle.posix.specs.declared.process.News.TheVariants as news
 use Rattle.posix.specs.declared.process.PendingSignal.{PendingSignal}
-use Rattle.posix.specs.Signals.{CHLD}
+use Rattle.posix.specs.SignalNumbers.{CHLD}
 use Rattle.posix.specs.Processes.{Process, Signals, nothing_pending, is_zombie}
 use Rattle.posix.specs.Tables.{lookup, changed, removed, adopted, children_in}
 use Rattle.posix.specs.States.{State, change, without, lose_place}
 use Rattle.posix.specs.Outcomes.{Outcome}
 use Rattle.posix.specs.Generation.{action, has_flag, is_ignored, signalled, SA_NOCLDWAIT}
 
-unfoldable pub make_zombie : ℕ → Process → Process
-make_zombie status r = record r { life = Zombie status }
+-- it has ended, and keeps all else
+unfoldable pub ended : ℕ → Process → Process
+ended status r = record r { life = Zombie status }
 
 abbrev pub forgotten : Signals → Signals
 forgotten g = record g { standard = nothing_pending; queue = []; frames = [] }
 
 -- A zombie: nothing is pending for it, it has no frames, no news and no alarm, and is in no call. The
 -- rest stays, and nobody sees it.
-unfoldable pub buried : ℕ → Process → Process
-buried status r = record r {
+unfoldable pub made_zombie : ℕ → Process → Process
+made_zombie status r = record r {
   life = Zombie status;
   signals = forgotten r.signals;
   news = news.Nothing;
@@ -33,12 +34,12 @@ buried status r = record r {
 -- The end of process 1: it is a zombie with its status and loses its place, and the machine halts;
 -- nothing else changes (own).
 abbrev pub halt : State → ℕ → State
-halt s status = record (lose_place (change s 1 (make_zombie status)) 1) { halted = true }
+halt s status = record (lose_place (change s 1 (ended status)) 1) { halted = true }
 
 -- The process is a zombie with its status and loses its place, and its children, zombies included, become
 -- those of its heir; which process that is, XSH _exit leaves to the system.
 abbrev pub depart : State → ℕ → ℕ → ℕ → State
-depart s p heir status = record s { processes = adopted p heir (changed p (buried status) s.processes); order = without p s.order }
+depart s p heir status = record s { processes = adopted p heir (changed p (made_zombie status) s.processes); order = without p s.order }
 
 -- ---- notice of an end
 

@@ -1,5 +1,6 @@
 -- What one event shows in the trace, and lines of a trace.
-use Rattle.std.specs.Prelude.{ℕ, Bool, false, ◌%◌, nat_lt, List, map, count_by}
+use Rattle.std.specs.Prelude.{ℕ, Bool, false, List, map, count_by}
+use Rattle.posix.specs.Statuses.{tells_end}
 use Rattle.posix.specs.declared.entry.Entry.{Entry}
 use Rattle.posix.specs.declared.entry.Entry.TheVariants.{Noted, Called, Reported, NoMemory, Handled, Discarded, Returned, Ended, Halted}
 
@@ -14,11 +15,6 @@ line k e = record { event = k; entry = e }
 -- the entries of event k
 abbrev pub numbered : ℕ → List Entry → List Line
 numbered k entries = map (line k) entries
-
--- whether a status word tells that a process ended: its low byte is 127 where it was stopped, and 255
--- where it was continued, waitpid(2)
-abbrev pub tells_end : ℕ → Bool
-tells_end status = nat_lt (status % 256) 127
 
 -- a wait reports that a process ended
 abbrev pub reports_end : Entry → Bool

@@ -9,7 +9,7 @@ use Rattle.posix.specs.declared.instr.Condition.{Condition}
 use Rattle.posix.specs.declared.instr.Condition.TheVariants.{Zero, NotZero, Negative}
 use Rattle.posix.specs.declared.instr.Trap.{Trap}
 use Rattle.posix.specs.declared.instr.Trap.TheVariants as trap
-use Rattle.posix.specs.Signals.{FPE, SEGV}
+use Rattle.posix.specs.SignalNumbers.{FPE, SEGV}
 use Rattle.posix.specs.Processes.{Cpu}
 
 -- how an instruction came out, and the processor after it

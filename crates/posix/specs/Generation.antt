@@ -10,7 +10,7 @@ use Rattle.posix.specs.declared.process.PendingSignal.{PendingSignal}
 use Rattle.posix.specs.declared.process.Handler.{Handler}
 use Rattle.posix.specs.declared.process.Handler.TheVariants as handler
 use Rattle.posix.specs.declared.process.Life.{Life}
-use Rattle.posix.specs.Signals.{CONT, default_action}
+use Rattle.posix.specs.SignalNumbers.{CONT, default_action}
 use Rattle.posix.specs.SignalSets.{has}
 use Rattle.posix.specs.Processes.{Process, Signals, initial_action, is_zombie, is_stopped}
 use Rattle.posix.specs.Tables.{changed}

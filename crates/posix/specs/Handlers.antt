@@ -10,7 +10,7 @@ use Rattle.posix.specs.declared.process.Blocked.TheVariants as blocked
 use Rattle.posix.specs.declared.process.Frame.{Frame}
 use Rattle.posix.specs.declared.process.Handler.TheVariants as handler
 use Rattle.posix.specs.declared.process.PendingSignal.{PendingSignal}
-use Rattle.posix.specs.Signals.{KILL, STOP}
+use Rattle.posix.specs.SignalNumbers.{KILL, STOP}
 use Rattle.posix.specs.SignalSets.{just, union, except, maskable}
 use Rattle.posix.specs.Processes.{Cpu, Process, Signals}
 use Rattle.posix.specs.Execute.{set_register, move_on}
@@ -20,10 +20,9 @@ use Rattle.posix.specs.Choice.{taken}
 
 -- ---- the call that a process is blocked in as a handler is entered
 
--- waitpid and read are begun again after the handler where the action asks for it
+-- waitpid is begun again after the handler where the action asks for it
 abbrev pub is_restarted : Blocked → Action → Bool
 is_restarted blocked.Waitpid a = has_flag a SA_RESTART
-is_restarted blocked.Read a = has_flag a SA_RESTART
 is_restarted blocked.Pause a = false
 is_restarted (blocked.Sigsuspend earlier) a = false
 
@@ -40,7 +39,6 @@ leave_call b a c = if is_interrupted b a then move_on (set_register c 0 (refusal
 abbrev pub mask_before : Option Blocked → ℕ → ℕ
 mask_before None mask = mask
 mask_before (Some blocked.Waitpid) mask = mask
-mask_before (Some blocked.Read) mask = mask
 mask_before (Some blocked.Pause) mask = mask
 mask_before (Some (blocked.Sigsuspend earlier)) mask = earlier
 

@@ -1,4 +1,4 @@
-pub mod Signals
+pub mod SignalNumbers
 pub mod SignalSets
 pub mod Statuses
 pub mod Errnos

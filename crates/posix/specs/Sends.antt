@@ -8,7 +8,7 @@ use Rattle.posix.specs.declared.process.Sending.{Sending}
 use Rattle.posix.specs.declared.process.Sending.TheVariants as found
 use Rattle.posix.specs.declared.target.Target.{Target}
 use Rattle.posix.specs.declared.target.Target.TheVariants as whom
-use Rattle.posix.specs.Signals.{is_served}
+use Rattle.posix.specs.SignalNumbers.{is_served}
 use Rattle.posix.specs.Processes.{Process, argument}
 use Rattle.posix.specs.Tables.{pids}
 use Rattle.posix.specs.Targets.{target_in}

@@ -1,7 +1,7 @@
 -- After each event: a place for each process that can act.
 use Rattle.std.specs.Prelude.{◌≡◌, ℕ, Bool, true, false, ◌&&◌, ◌||◌, not, is_some, if◌then◌else◌, [], ◌∷◌, ◌++◌, filter, Option, Some, None}
 use Rattle.posix.specs.declared.process.Blocked.{Blocked}
-use Rattle.posix.specs.Signals.{KILL}
+use Rattle.posix.specs.SignalNumbers.{KILL}
 use Rattle.posix.specs.Processes.{Process, is_running, is_living}
 use Rattle.posix.specs.Tables.{pids}
 use Rattle.posix.specs.States.{State, process, has_place}

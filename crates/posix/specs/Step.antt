@@ -10,7 +10,7 @@ use Rattle.posix.specs.declared.entry.Entry.TheVariants.{Noted}
 use Rattle.posix.specs.declared.process.Blocked.{Blocked}
 use Rattle.posix.specs.declared.process.Blocked.TheVariants as blocked
 use Rattle.posix.specs.Statuses.{killed}
-use Rattle.posix.specs.Signals.{KILL}
+use Rattle.posix.specs.SignalNumbers.{KILL}
 use Rattle.posix.specs.SignalSets.{set_in}
 use Rattle.posix.specs.Processes.{Process, Signals, Cpu, argument}
 use Rattle.posix.specs.States.{Program, State, change, lose_place, go_last, current, current_process}
@@ -32,7 +32,6 @@ set_cpu c r = record r { cpu = c }
 -- sigsuspend begins with the mask in r1
 abbrev pub waiting_signals : Blocked → ℤ → Signals → Signals
 waiting_signals blocked.Waitpid z g = g
-waiting_signals blocked.Read z g = g
 waiting_signals blocked.Pause z g = g
 waiting_signals (blocked.Sigsuspend earlier) z g = give_mask (set_in z) g
 

@@ -1,5 +1,5 @@
 -- The processes of a machine as a list in rising order of their numbers, and what is done to it.
-use Rattle.std.specs.Prelude.{ℕ, ◌<◌, ◌==◌, Bool, ◌||◌, not, if◌then◌else◌, nat_le, nat_lt, List, [], ◌∷◌, map, filter, find, Option, Some, None}
+use Rattle.std.specs.Prelude.{◌≡◌, ℕ, ◌<◌, ◌==◌, Bool, false, ◌||◌, not, if◌then◌else◌, nat_le, nat_lt, List, [], ◌∷◌, map, filter, find, Option, Some, None, IfSome, IsSome}
 use Rattle.std.specs.Option.{option_map_or}
 use Rattle.std.specs.List.{AllByRecursion}
 use Rattle.posix.specs.Processes.{Process}
@@ -69,10 +69,28 @@ reparented from to r = if r.parent == from then record r { parent = to } else r
 unfoldable pub adopted : ℕ → ℕ → List Process → List Process
 adopted from to rs = map (reparented from to) rs
 
+-- ---- members
+
+abbrev pub is_member : ℕ → Process → Bool
+is_member group r = r.group == group
+
+-- the members of a process group, zombies included, XBD 3 Process Group
+unfoldable pub members_in : ℕ → List Process → List Process
+members_in group rs = filter (is_member group) rs
+
+-- ---- walks from the least number on
+
 -- what is left of a list, from the number that comes next
 abbrev pub left_of : Option ℕ → List Process → List Process
 left_of None rs = []
 left_of (Some n) rs = filter (λ r. nat_le n r.pid) rs
+
+-- Who comes next after n is there, and between them nobody passes the test; where nobody comes, nobody above n
+-- passes it. The one that comes may fail it.
+pub record IsNext (test : Process → Bool) (n : ℕ) (rs : List Process) (next : Option ℕ) : Type 0 where
+  pub there : IfSome next (λ q. IsSome (lookup q rs))
+  pub above : IfSome next (λ q. n < q)
+  pub between : (q : ℕ) (r : Process) → lookup q rs ≡ Some r → n < q → IfSome next (λ m. q < m) → test r ≡ false
 
 -- ---- numbers
 

@@ -75,7 +75,6 @@ pub enum News {
 #[derive(Clone, Copy, Debug, PartialEq, Eq)]
 pub enum Blocked {
     Waitpid,
-    Read,
     Pause,
     Sigsuspend(SigSet),
 }

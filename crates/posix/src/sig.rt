@@ -1,8 +1,7 @@
 //! Signals.
 
 ghost use Rattle.std.specs.Prelude.{◌≡◌, ◌↔◌, IsSome, IfSome, true};
-ghost use Rattle.std.specs.List.{range_with_len};
-ghost use Rattle.posix.specs.Signals.{is_signal, is_realtime as is_realtime_number, default_action as default_action_of};
+ghost use Rattle.posix.specs.SignalNumbers.{is_signal, is_realtime as is_realtime_number, default_action as default_action_of};
 
 use std::marker::Model;
 
@@ -15,7 +14,7 @@ pub struct Sig {
 
 impl Model for Sig {
     ghost use Rattle.std.specs.Prelude.{ℕ, ◌≡◌, true};
-    ghost use Rattle.posix.specs.Signals.{is_signal};
+    ghost use Rattle.posix.specs.SignalNumbers.{is_signal};
 
     ghost Value = { ℕ };
 
@@ -37,37 +36,11 @@ pub enum DefaultAction {
 }
 
 impl Sig {
-    pub const HUP: Sig = Sig { number: 1 };
-
-    pub const INT: Sig = Sig { number: 2 };
-
-    pub const QUIT: Sig = Sig { number: 3 };
-
-    pub const ILL: Sig = Sig { number: 4 };
-
-    pub const TRAP: Sig = Sig { number: 5 };
-
-    pub const ABRT: Sig = Sig { number: 6 };
-
-    pub const BUS: Sig = Sig { number: 7 };
-
     pub const FPE: Sig = Sig { number: 8 };
 
     pub const KILL: Sig = Sig { number: 9 };
 
-    pub const USR1: Sig = Sig { number: 10 };
-
     pub const SEGV: Sig = Sig { number: 11 };
-
-    pub const USR2: Sig = Sig { number: 12 };
-
-    pub const PIPE: Sig = Sig { number: 13 };
-
-    pub const ALRM: Sig = Sig { number: 14 };
-
-    pub const TERM: Sig = Sig { number: 15 };
-
-    pub const STKFLT: Sig = Sig { number: 16 };
 
     pub const CHLD: Sig = Sig { number: 17 };
 
@@ -83,60 +56,7 @@ impl Sig {
 
     pub const URG: Sig = Sig { number: 23 };
 
-    pub const XCPU: Sig = Sig { number: 24 };
-
-    pub const XFSZ: Sig = Sig { number: 25 };
-
-    pub const VTALRM: Sig = Sig { number: 26 };
-
-    pub const PROF: Sig = Sig { number: 27 };
-
     pub const WINCH: Sig = Sig { number: 28 };
-
-    pub const IO: Sig = Sig { number: 29 };
-
-    pub const PWR: Sig = Sig { number: 30 };
-
-    pub const SYS: Sig = Sig { number: 31 };
-
-    /// The standard signals, 1 to 31, in their order (signal(7)).
-    pub fn standard() -> [Sig; 31]
-        ensures { result ≡ range_with_len 1 31 }
-    {
-        [
-            Sig::HUP,
-            Sig::INT,
-            Sig::QUIT,
-            Sig::ILL,
-            Sig::TRAP,
-            Sig::ABRT,
-            Sig::BUS,
-            Sig::FPE,
-            Sig::KILL,
-            Sig::USR1,
-            Sig::SEGV,
-            Sig::USR2,
-            Sig::PIPE,
-            Sig::ALRM,
-            Sig::TERM,
-            Sig::STKFLT,
-            Sig::CHLD,
-            Sig::CONT,
-            Sig::STOP,
-            Sig::TSTP,
-            Sig::TTIN,
-            Sig::TTOU,
-            Sig::URG,
-            Sig::XCPU,
-            Sig::XFSZ,
-            Sig::VTALRM,
-            Sig::PROF,
-            Sig::WINCH,
-            Sig::IO,
-            Sig::PWR,
-            Sig::SYS,
-        ]
-    }
 
     /// The signal `number`; none where no signal has that number.
     pub fn new(number: u8) -> Option<Sig>
@@ -169,10 +89,10 @@ impl Sig {
     pub fn default_action(self) -> DefaultAction
         ensures { result ≡ default_action_of self }
     {
-        match self.number {
-            17 | 23 | 28 => DefaultAction::Ignore,
-            18 => DefaultAction::Continue,
-            19..=22 => DefaultAction::Stop,
+        match self {
+            Sig::CHLD | Sig::URG | Sig::WINCH => DefaultAction::Ignore,
+            Sig::CONT => DefaultAction::Continue,
+            Sig::STOP | Sig::TSTP | Sig::TTIN | Sig::TTOU => DefaultAction::Stop,
             _ => DefaultAction::Terminate,
         }
     }

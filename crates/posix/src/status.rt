@@ -1,7 +1,7 @@
 //! Wait statuses.
 
 ghost use Rattle.std.specs.Prelude.{◌≡◌, ◌<◌, ◌^◌};
-ghost use Rattle.posix.specs.Statuses.{exited as exited_word, killed as killed_word, stopped as stopped_word, continued as continued_word};
+ghost use Rattle.posix.specs.Statuses.{exited as exited_word, killed as killed_word, stopped as stopped_word, continued as continued_word, tells_end as word_tells_end};
 
 use crate::sig::Sig;
 use std::marker::Model;
@@ -57,6 +57,14 @@ impl Status {
         ensures { result ≡ continued_word }
     {
         Status { word: 0xffff }
+    }
+
+    /// Whether it tells of an end, and not of a stop (low byte 127) or a continuation (255): WIFEXITED or
+    /// WIFSIGNALED of waitpid(2).
+    pub fn tells_end(self) -> bool
+        ensures { result ≡ word_tells_end self }
+    {
+        self.word % 256 < 127
     }
 
     /// The status word.

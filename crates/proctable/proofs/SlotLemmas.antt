@@ -1,5 +1,5 @@
 -- Slots in rising order.
-use Rattle.std.proofs.Common.{◌≡◌, ℕ, zero, suc, ◌+◌, ◌<◌, ◌≤◌, Bool, true, false, cond, refl, ap, sym, ◌∙◌, arith, List, [], ◌∷◌, ◌++◌, filter, find, length, take, drop, Some, None, Result, Ok, Err, IfOk, IfErr, subst, nat_lt, ◌==◌, slice_get, slice_set, get_or}
+use Rattle.std.proofs.Common.{◌≡◌, ℕ, zero, suc, ◌+◌, ◌<◌, ◌≤◌, true, false, cond, refl, ap, sym, ◌∙◌, arith, List, [], ◌∷◌, ◌++◌, filter, find, length, take, drop, Some, None, Result, Ok, Err, IfOk, IfErr, subst, nat_lt, ◌==◌, slice_get, slice_set, get_or}
 use Rattle.std.specs.Option.{IfSome, option_map}
 use Rattle.std.specs.List.Sorted.{IsSearchInRange, IsBinarySearchResult, IsNonDecreasingBy}
 use Rattle.std.specs.Ordering.{nat_cmp, ordering_index}
@@ -10,7 +10,7 @@ use Rattle.std.proofs.lemmas.Bool.Decides.{nat_tests}
 use Rattle.posix.specs.Processes.{Process, first_process}
 use Rattle.posix.specs.Tables.{IsRising, lookup, is_child, children_in, first_pid, above, parent_of, next_sibling, next_above}
 use Rattle.posix.proofs.TableLemmas.{Above, above_get, above_less, IsGap, lookup_at, changed_at, rising_changed, later}
-use Rattle.posix.proofs.WalkLemmas.{above_all}
+use Rattle.posix.proofs.WalkLemmas.{above_all, filters_commute}
 use Rattle.proctable.specs.declared.body.Body.{Body}
 use Rattle.proctable.specs.Body.{process_of, give_body, with_body}
 use Rattle.proctable.specs.Slots.{IsAt}
@@ -131,16 +131,6 @@ unfolding children_in
 first_is p [] = refl
 first_is p (x ∷ xs) =
     elim (x.parent == p) as (λ b. option_map (λ (r : Process). r.pid) (cond b (Some x) (find (is_child p) xs)) ≡ first_pid (cond b (x ∷ filter (is_child p) xs) (filter (is_child p) xs))) [ true ↦ refl | false ↦ first_is p xs ]
-
--- two tests may come in either order
-pub filters_commute : (s t : Process → Bool) (rs : List Process) → filter s (filter t rs) ≡ filter t (filter s rs)
-filters_commute s t [] = refl
-filters_commute s t (x ∷ xs) =
-    let rest = filters_commute s t xs in
-    elim (t x) as (λ b. t x ≡ b → filter s (cond b (x ∷ filter t xs) (filter t xs)) ≡ filter t (cond (s x) (x ∷ filter s xs) (filter s xs))) [
-      | true ↦ λ e. elim (s x) as (λ d. cond d (x ∷ filter s (filter t xs)) (filter s (filter t xs)) ≡ filter t (cond d (x ∷ filter s xs) (filter s xs))) [ true ↦ rw e (ap (λ ys. x ∷ ys) rest) | false ↦ rest ]
-      | false ↦ λ e. elim (s x) as (λ d. filter s (filter t xs) ≡ filter t (cond d (x ∷ filter s xs) (filter s xs))) [ true ↦ rw e rest | false ↦ rest ]
-    ] refl
 
 -- the first after a process that has the same parent is its next sibling
 pub sibling_is : (rs : List Process) → IsRising rs → (p i : ℕ) (r : Process) → IsAt rs p i → r ≡ get_or rs i r → first_pid (children_in r.parent (drop (i + 1) rs)) ≡ next_sibling p rs

@@ -3,7 +3,7 @@
 ghost use Rattle.std.specs.Prelude.{◌≡◌, IfOk, ℕ};
 ghost use Rattle.posix.specs.Processes.{first_process};
 ghost use Rattle.posix.specs.Births.{child_of};
-ghost use Rattle.posix.specs.Ends.{buried, make_zombie, noticed};
+ghost use Rattle.posix.specs.Ends.{made_zombie, ended, noticed};
 ghost use Rattle.posix.specs.Generation.{signalled, effect_of};
 ghost use Rattle.posix.specs.Waits.{news_told};
 ghost use Rattle.proctable.specs.Body.{process_of};
@@ -64,9 +64,9 @@ impl Body {
 
     /// The process has ended with this status, and nothing is pending for it, and it is in no call (XSH
     /// _exit).
-    #[tactic(auto, unfolding(posix::specs::Ends::buried))]
-    pub fn bury(&mut self, status: Status)
-        ensures { (p q : ℕ) → process_of p q self.new ≡ buried status (process_of p q self.old) }
+    #[tactic(auto, unfolding(posix::specs::Ends::made_zombie))]
+    pub fn make_zombie(&mut self, status: Status)
+        ensures { (p q : ℕ) → process_of p q self.new ≡ made_zombie status (process_of p q self.old) }
     {
         self.life = Life::Zombie(status);
         self.own.signals.forget();
@@ -75,9 +75,9 @@ impl Body {
     }
 
     /// The process has ended with this status, and keeps all else: the end of process 1.
-    #[tactic(auto, unfolding(posix::specs::Ends::make_zombie))]
+    #[tactic(auto, unfolding(posix::specs::Ends::ended))]
     pub fn end(&mut self, status: Status)
-        ensures { (p q : ℕ) → process_of p q self.new ≡ make_zombie status (process_of p q self.old) }
+        ensures { (p q : ℕ) → process_of p q self.new ≡ ended status (process_of p q self.old) }
     {
         self.life = Life::Zombie(status);
     }

@@ -24,6 +24,6 @@ pub struct Facts {
     pub news: News,
     /// The call that it waits in.
     pub blocked: Option<Blocked>,
-    /// Its place among the programs of the world.
+    /// Its index among the programs of the world.
     pub program: u8,
 }

@@ -26,7 +26,7 @@ pub struct Own {
     pub signals: Signals,
     /// The call that it waits in.
     pub blocked: Option<Blocked>,
-    /// Its place among the programs of the world.
+    /// Its index among the programs of the world.
     pub program: u8,
     /// Its registers and its memory.
     pub cpu: Cpu,

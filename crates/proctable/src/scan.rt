@@ -68,7 +68,7 @@ impl Kin for ScanTable {
     }
 
     fn get(&mut self, pid: Pid) -> Option<Facts> {
-        let Ok(at) = place(&self.slots, pid) else {
+        let Ok(at) = search(&self.slots, pid) else {
             return None;
         };
         Some(self.slots[at].facts())
@@ -81,7 +81,7 @@ impl Kin for ScanTable {
     }
 
     fn remove(&mut self, pid: Pid) {
-        if let Ok(at) = place(&self.slots, pid) {
+        if let Ok(at) = search(&self.slots, pid) {
             remove_slot(&mut self.slots, at);
         }
     }
@@ -107,8 +107,8 @@ impl Kin for ScanTable {
     }
 }
 
-/// The place of a process, or where it would go.
-fn place(slots: &[Slot], pid: Pid) -> Result<usize, usize>
+/// Where a process stands, or where it would go.
+fn search(slots: &[Slot], pid: Pid) -> Result<usize, usize>
     requires { IsRising slots.now }
     ensures found { IfOk result (IsAt slots.now pid) }
     ensures absent { IfErr result (IsGap slots.now pid) }
@@ -116,13 +116,13 @@ fn place(slots: &[Slot], pid: Pid) -> Result<usize, usize>
     slots.binary_search_by_key(&pid, |slot| slot.pid())
 }
 
-/// The place of a process that is there.
+/// Where a process that is there stands.
 fn found(slots: &[Slot], pid: Pid) -> usize
     requires rising { IsRising slots.now }
     requires there { IsSome (lookup pid slots.now) }
     ensures { IsAt slots.now pid result }
 {
-    match place(slots, pid) {
+    match search(slots, pid) {
         Ok(at) => at,
         Err(_) => unreachable!(),
     }
@@ -134,7 +134,7 @@ fn gap(slots: &[Slot], pid: Pid) -> usize
     requires absent { lookup pid slots.now ≡ None }
     ensures { IsGap slots.now pid result }
 {
-    match place(slots, pid) {
+    match search(slots, pid) {
         Ok(_) => unreachable!(),
         Err(at) => at,
     }
@@ -146,7 +146,7 @@ fn start_above(slots: &[Slot], pid: Pid) -> usize
     ensures within { result ≤ length slots.now }
     ensures rest { drop result slots.now ≡ above pid slots.now }
 {
-    match place(slots, pid) {
+    match search(slots, pid) {
         Ok(at) => at + 1,
         Err(at) => at,
     }

@@ -1,4 +1,4 @@
-//! A place of the table that scans.
+//! A slot of the table that scans.
 
 ghost use Rattle.std.specs.Prelude.{◌≡◌};
 ghost use Rattle.std.specs.Borrow.{sem, Lends};

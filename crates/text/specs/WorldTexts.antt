@@ -7,8 +7,8 @@ use Rattle.text.specs.declared.fault.TextFault.{TextFault}
 use Rattle.text.specs.declared.names.Definition.{Definition}
 use Rattle.text.specs.declared.sketch.Sketch.{Sketch}
 use Rattle.text.specs.declared.instructions.Operation.{Operation}
-use Rattle.text.specs.declared.draft.Place.{Place}
-use Rattle.text.specs.declared.draft.Place.TheVariants.{BeforePidmax, BeforeConsoles, BetweenPrograms, InProgram}
+use Rattle.text.specs.declared.draft.Section.{Section}
+use Rattle.text.specs.declared.draft.Section.TheVariants.{BeforePidmax, BeforeConsoles, BetweenPrograms, InProgram}
 use Rattle.text.specs.Lines.{all_lines}
 use Rattle.text.specs.Numbers.{number_in}
 use Rattle.text.specs.Names.{new_name}
@@ -18,12 +18,12 @@ use Rattle.text.specs.Reading.{◌>>=◌, Read, first, no_more, known, words_wit
 
 -- what the lines so far said
 pub record Draft : Type 0 where
-  pub place : Place
+  pub section : Section
   pub pidmax : ℕ
   pub consoles : ℕ
   pub names : List Definition  -- of the programs that began
   pub programs : List Outline  -- that ended
-  pub opened : Outline  -- the one that the place is in
+  pub opened : Outline  -- the one that is open
 
 -- before its first line
 abbrev pub empty_outline : Option ℕ → Option ℕ → Outline
@@ -31,7 +31,7 @@ empty_outline setuid setgid = record { setuid = setuid; setgid = setgid; labels 
 
 -- the least world, until the header has come
 abbrev pub empty_draft : Draft
-empty_draft = record { place = BeforePidmax; pidmax = 2; consoles = 0; names = []; programs = []; opened = empty_outline None None }
+empty_draft = record { section = BeforePidmax; pidmax = 2; consoles = 0; names = []; programs = []; opened = empty_outline None None }
 
 -- ---- the header
 
@@ -41,11 +41,11 @@ header low high ws = first (number_in low high) ws >>= λ n. no_more n.rest n.va
 
 -- its first line
 abbrev pub with_pidmax : Draft → ℕ → Draft
-with_pidmax d n = record d { place = BeforeConsoles; pidmax = n }
+with_pidmax d n = record d { section = BeforeConsoles; pidmax = n }
 
 -- the second
 abbrev pub with_consoles : Draft → ℕ → Draft
-with_consoles d n = record d { place = BetweenPrograms; consoles = n }
+with_consoles d n = record d { section = BetweenPrograms; consoles = n }
 
 -- ---- programs
 
@@ -59,7 +59,7 @@ setting word (w ∷ ws) =
 -- a program begins
 abbrev pub open_program : Draft → List ℕ → Option ℕ → Option ℕ → Draft
 open_program d name setuid setgid = record d {
-  place = InProgram;
+  section = InProgram;
   names = d.names ++ record { name = name; number = length d.programs } ∷ [];
   opened = empty_outline setuid setgid;
 }
@@ -74,7 +74,7 @@ program_line d ws = if nat_le 32 (length d.programs) then Err OutOfRange else (d
 
 -- the program ends
 abbrev pub close_program : Draft → Draft
-close_program d = record d { place = BetweenPrograms; programs = d.programs ++ d.opened ∷ []; opened = empty_outline None None }
+close_program d = record d { section = BetweenPrograms; programs = d.programs ++ d.opened ∷ []; opened = empty_outline None None }
 
 -- ---- lines of a program
 
@@ -124,8 +124,8 @@ consoles_line d w ws = if bytes_eq w (codes "consoles") then (header 0 8 ws >>= 
 unfoldable pub outer_line : Draft → List ℕ → List (List ℕ) → Result Draft Reason
 outer_line d w ws = if bytes_eq w (codes "program") then program_line d ws else Err UnknownWord
 
--- line k, whose first word is w, at a place
-unfoldable pub line_at : Place → ℕ → Draft → List ℕ → List (List ℕ) → Result Draft Reason
+-- line k, whose first word is w, in a section
+unfoldable pub line_at : Section → ℕ → Draft → List ℕ → List (List ℕ) → Result Draft Reason
 line_at BeforePidmax k d w ws = pidmax_line d w ws
 line_at BeforeConsoles k d w ws = consoles_line d w ws
 line_at BetweenPrograms k d w ws = outer_line d w ws
@@ -134,7 +134,7 @@ line_at InProgram k d w ws = inner_line k d w ws
 -- a line without words changes nothing
 abbrev pub world_words : ℕ → Draft → List (List ℕ) → Result Draft Reason
 world_words k d [] = Ok d
-world_words k d (w ∷ ws) = line_at d.place k d w ws
+world_words k d (w ∷ ws) = line_at d.section k d w ws
 
 -- line k
 abbrev pub world_line : ℕ → Draft → List ℕ → Result Draft Reason
@@ -146,7 +146,7 @@ Becomes old new (Ok x) meaning = meaning ≡ Ok new
 Becomes old new (Err reason) meaning = (new ≡ old) × ((reason ≡ Memory) ⊎ (meaning ≡ Err reason))
 
 -- how many programs are open
-abbrev pub opened_at : Place → ℕ
+abbrev pub opened_at : Section → ℕ
 opened_at BeforePidmax = 0
 opened_at BeforeConsoles = 0
 opened_at BetweenPrograms = 0
@@ -155,7 +155,7 @@ opened_at InProgram = 1
 -- ---- texts
 
 -- the programs that began
-abbrev pub outlines_at : Place → List Outline → Outline → List Outline
+abbrev pub outlines_at : Section → List Outline → Outline → List Outline
 outlines_at BeforePidmax programs opened = programs
 outlines_at BeforeConsoles programs opened = programs
 outlines_at BetweenPrograms programs opened = programs
@@ -163,7 +163,7 @@ outlines_at InProgram programs opened = programs ++ opened ∷ []
 
 -- they with their names looked up
 abbrev pub programs_of : Draft → Result (List Program) TextFault
-programs_of d = each (program_of d.names) (outlines_at d.place d.programs d.opened)
+programs_of d = each (program_of d.names) (outlines_at d.section d.programs d.opened)
 
 -- The lines before a fault made d, and they define the names that they may use: the first of them that uses another is the
 -- least faulty line.
@@ -176,8 +176,8 @@ abbrev pub no_programs : List Outline → ℕ → Option TextFault
 no_programs [] k = Some (record { line = k; reason = NoProgram })
 no_programs (p ∷ ps) k = None
 
--- the fault of a text that ends at a place; k is the number of its lines and one more
-abbrev pub fault_at_end : Place → List Outline → ℕ → Option TextFault
+-- the fault of a text that ends in a section; k is the number of its lines and one more
+abbrev pub fault_at_end : Section → List Outline → ℕ → Option TextFault
 fault_at_end BeforePidmax ps k = Some (record { line = k; reason = EndMissing })
 fault_at_end BeforeConsoles ps k = Some (record { line = k; reason = EndMissing })
 fault_at_end BetweenPrograms ps k = no_programs ps k
@@ -185,7 +185,7 @@ fault_at_end InProgram ps k = Some (record { line = k; reason = EndMissing })
 
 -- the text ends
 abbrev pub world_at_end : Draft → ℕ → Result World TextFault
-world_at_end d k = world_of d (fault_at_end d.place d.programs k)
+world_at_end d k = world_of d (fault_at_end d.section d.programs k)
 
 -- line k is refused, or the rest follows
 abbrev pub goes_on : ℕ → Draft → (Draft → Result World TextFault) → Result Draft Reason → Result World TextFault

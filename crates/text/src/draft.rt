@@ -23,7 +23,7 @@ const MAX_PROGRAMS: usize = 32;
 
 /// What may come next in a world text.
 #[derive(Clone, Copy, Debug, PartialEq, Eq)]
-pub enum Place {
+pub enum Section {
     BeforePidmax,
     BeforeConsoles,
     BetweenPrograms,
@@ -34,14 +34,14 @@ pub enum Place {
 #[derive(Drop)]
 pub struct Draft {
     alloc: Global,
-    place: Place,
+    section: Section,
     pidmax: u32,
     consoles: u8,
     /// The names of the programs that began.
     names: Vec<Definition>,
     /// The programs that ended.
     programs: Vec<Outline>,
-    /// The program that the place is in.
+    /// The program that is open.
     opened: Outline,
 }
 
@@ -51,9 +51,9 @@ impl Model for Draft {
 
     ghost Value = { DraftOf };
 
-    ghost view = { λ d. record { place = d.place; pidmax = d.pidmax; consoles = d.consoles; names = d.names.items; programs = d.programs.items; opened = d.opened } };
+    ghost view = { λ d. record { section = d.section; pidmax = d.pidmax; consoles = d.consoles; names = d.names.items; programs = d.programs.items; opened = d.opened } };
 
-    ghost invariant = { λ d. (2 ≤ d.pidmax) × (d.pidmax ≤ 32768) × (d.consoles ≤ 8) × (length d.programs.items + opened_at d.place ≤ 32) };
+    ghost invariant = { λ d. (2 ≤ d.pidmax) × (d.pidmax ≤ 32768) × (d.consoles ≤ 8) × (length d.programs.items + opened_at d.section ≤ 32) };
 }
 
 /// The one number behind a word of the header, from `low` to `high`.
@@ -98,7 +98,7 @@ impl Draft {
     {
         Draft {
             alloc,
-            place: Place::BeforePidmax,
+            section: Section::BeforePidmax,
             pidmax: 2,
             consoles: 0,
             names: Vec::new(alloc),
@@ -121,13 +121,13 @@ impl Draft {
     /// Takes a line of a first word and those of `rest`.
     #[tactic(auto, unfolding(crate::specs::WorldTexts::line_at))]
     fn take_words(&mut self, number: u64, word: &[u8], rest: &[u8]) -> Result<(), Reason>
-        ensures { Becomes self.old self.new result (line_at_of self.old.place number self.old word.now (words rest.now)) }
+        ensures { Becomes self.old self.new result (line_at_of self.old.section number self.old word.now (words rest.now)) }
     {
-        match self.place {
-            Place::BeforePidmax => self.pidmax_line(word, rest),
-            Place::BeforeConsoles => self.consoles_line(word, rest),
-            Place::BetweenPrograms => self.outer_line(word, rest),
-            Place::InProgram => self.inner_line(number, word, rest),
+        match self.section {
+            Section::BeforePidmax => self.pidmax_line(word, rest),
+            Section::BeforeConsoles => self.consoles_line(word, rest),
+            Section::BetweenPrograms => self.outer_line(word, rest),
+            Section::InProgram => self.inner_line(number, word, rest),
         }
     }
 
@@ -140,7 +140,7 @@ impl Draft {
             return Err(Reason::UnknownWord);
         }
         self.pidmax = header(2, 32_768, rest)?;
-        self.place = Place::BeforeConsoles;
+        self.section = Section::BeforeConsoles;
         Ok(())
     }
 
@@ -153,14 +153,14 @@ impl Draft {
             return Err(Reason::UnknownWord);
         }
         self.consoles = header(0, 8, rest)? as u8;
-        self.place = Place::BetweenPrograms;
+        self.section = Section::BetweenPrograms;
         Ok(())
     }
 
     /// A line between programs: `program NAME`, then optionally `setuid U`, then optionally `setgid G`.
     #[tactic(auto, unfolding(crate::specs::WorldTexts::outer_line, crate::specs::WorldTexts::program_line))]
     fn outer_line(&mut self, word: &[u8], rest: &[u8]) -> Result<(), Reason>
-        requires { self.old.place ≡ Place.BetweenPrograms }
+        requires { self.old.section ≡ Section.BetweenPrograms }
         ensures { Becomes self.old self.new result (outer_line_of self.old word.now (words rest.now)) }
     {
         if word != b"program".as_slice() {
@@ -183,14 +183,14 @@ impl Draft {
             user.and_then(Uid::new),
             group.and_then(Gid::new),
         );
-        self.place = Place::InProgram;
+        self.section = Section::InProgram;
         Ok(())
     }
 
     /// A line within a program: an instruction, a label, or `end`.
     #[tactic(auto, unfolding(crate::specs::WorldTexts::inner_line))]
     fn inner_line(&mut self, number: u64, word: &[u8], rest: &[u8]) -> Result<(), Reason>
-        requires { self.old.place ≡ Place.InProgram }
+        requires { self.old.section ≡ Section.InProgram }
         ensures { Becomes self.old self.new result (inner_line_of number self.old word.now (words rest.now)) }
     {
         if word == b"end".as_slice() {
@@ -206,15 +206,15 @@ impl Draft {
         }
     }
 
-    /// Ends the program that the place is in.
+    /// Ends the program that is open.
     fn close_program(&mut self) -> Result<(), Reason>
-        requires { self.old.place ≡ Place.InProgram }
+        requires { self.old.section ≡ Section.InProgram }
         ensures { Becomes self.old self.new result (Ok (closed self.old)) }
     {
         self.programs.reserve(1)?;
         let outline = mem::replace(&mut self.opened, Outline::new(self.alloc, None, None));
         self.programs.push_reserved(outline);
-        self.place = Place::BetweenPrograms;
+        self.section = Section::BetweenPrograms;
         Ok(())
     }
 
@@ -252,11 +252,11 @@ impl Draft {
     #[tactic(auto, using(crate::proofs::EachLemmas::each_rules))]
     fn completed(&self, line: u64) -> Result<Vec<Program>, TextFault>
         ensures answer { AnswersAs result (λ v. v.items) (programs_of self.now) }
-        ensures len { IfOk result (λ v. length v.items ≡ length (outlines_at self.now.place self.now.programs self.now.opened)) }
+        ensures len { IfOk result (λ v. length v.items ≡ length (outlines_at self.now.section self.now.programs self.now.opened)) }
     {
         let names = self.names.as_slice();
         let mut programs = programs(self.alloc, names, self.programs.as_slice(), line)?;
-        if self.place == Place::InProgram {
+        if self.section == Section::InProgram {
             let program = self.opened.program(self.alloc, names, line)?;
             programs.push(program).map_err(|_| TextFault {
                 line,
@@ -284,12 +284,14 @@ impl Draft {
 
     /// The fault of a text that ends here, and has one line fewer than `line`.
     fn fault_at_end(&self, line: u64) -> Option<TextFault>
-        ensures { result ≡ fault_at_end self.now.place self.now.programs line }
+        ensures { result ≡ fault_at_end self.now.section self.now.programs line }
     {
-        let reason = match self.place {
-            Place::BetweenPrograms if self.programs.is_empty() => Reason::NoProgram,
-            Place::BetweenPrograms => return None,
-            Place::BeforePidmax | Place::BeforeConsoles | Place::InProgram => Reason::EndMissing,
+        let reason = match self.section {
+            Section::BetweenPrograms if self.programs.is_empty() => Reason::NoProgram,
+            Section::BetweenPrograms => return None,
+            Section::BeforePidmax | Section::BeforeConsoles | Section::InProgram => {
+                Reason::EndMissing
+            }
         };
         Some(TextFault { line, reason })
     }

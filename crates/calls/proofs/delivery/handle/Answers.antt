@@ -2,7 +2,7 @@ use Rattle.std.proofs.Common.{rules, ◌≡◌, ◌∙◌, ap, of_z, to_z, w64, 
 use Rattle.posix.specs.declared.entry.Entry.{Entry}
 use Rattle.posix.specs.declared.entry.Entry.TheVariants.{Handled}
 use Rattle.posix.specs.States.{change}
-use Rattle.posix.specs.Signals.{SEGV}
+use Rattle.posix.specs.SignalNumbers.{SEGV}
 use Rattle.posix.specs.Statuses.{killed}
 use Rattle.posix.specs.Ends.{end_process}
 use Rattle.posix.specs.Handlers.{handles}

@@ -1,20 +1,17 @@
-use Rattle.std.proofs.Common.{◌∙◌, ap, sym, subst, true}
+use Rattle.std.proofs.Common.{sym, subst, true}
+use Rattle.std.specs.Option.{IsSome}
 use Rattle.posix.specs.States.{State, process}
 use Rattle.posix.specs.Attempts.{attempt}
 use Rattle.posix.specs.Sends.{kill}
-use Rattle.calls.specs.Outcomes.{Comes, IsCaller, process_like}
-use Rattle.calls.proofs.CallLemmas.{some_is, caller_is, kill_of}
+use Rattle.calls.specs.Outcomes.{Comes}
+use Rattle.life.specs.Callers.{process_like}
+use Rattle.calls.proofs.CallLemmas.{kill_of}
 use Rattle.calls.proofs.kills.kill.Goals as goal
 
-pub kill_as-requires-clause-caller : goal.kill_as-requires-clause-caller
-kill_as-requires-clause-caller g c =
-    let s = c.args.machine.now.state in
-    let me = some_is (process s c.args.pid) c.requires.there in
-    subst (λ (t : State). IsCaller t c.caller-me.result) (sym c.caller-me.ensures.same) (record {
-      what = me.0;
-      found = ap (process s) c.caller-me.ensures.pid ∙ me.1;
-      is = caller_is (process s c.args.pid) me.0 c.caller-me.result c.caller-me.ensures.value me.1;
-    })
+pub kill_as-requires-clause-there : goal.kill_as-requires-clause-there
+kill_as-requires-clause-there g c =
+    subst (λ (t : State). IsSome (process t c.caller-me.result.pid)) (sym c.caller-me.ensures.same)
+    (subst (λ p. IsSome (process c.args.machine.now.state p)) (sym c.caller-me.ensures.pid) c.requires.there)
 
 pub returns : goal.returns
 unfolding attempt

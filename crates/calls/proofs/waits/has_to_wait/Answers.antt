@@ -2,7 +2,7 @@ use Rattle.std.proofs.Common.{◌∙◌, ap}
 use Rattle.posix.specs.States.{State, process}
 use Rattle.posix.specs.Waits.{wait}
 use Rattle.posix.specs.Settle.{is_block}
-use Rattle.calls.specs.Outcomes.{process_like}
+use Rattle.life.specs.Callers.{process_like}
 use Rattle.calls.proofs.CallLemmas.{wait_of}
 use Rattle.calls.proofs.waits.has_to_wait.Goals as goal
 

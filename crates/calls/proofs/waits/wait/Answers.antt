@@ -2,7 +2,8 @@ use Rattle.std.proofs.Common.{sym, subst}
 use Rattle.posix.specs.States.{State, process}
 use Rattle.posix.specs.Regular.{IsPlaced, IsRegular}
 use Rattle.posix.specs.Waits.{wait}
-use Rattle.calls.specs.Outcomes.{Comes, process_like}
+use Rattle.calls.specs.Outcomes.{Comes}
+use Rattle.life.specs.Callers.{process_like}
 use Rattle.calls.proofs.CallLemmas.{wait_of}
 use Rattle.calls.proofs.waits.wait.Goals as goal
 

@@ -1,4 +1,4 @@
-use Rattle.std.proofs.Common.{◌≡◌, ◌∙◌, ap, sym, refl, subst, true, false, is_some, pos, rules, to_z, of_z, w64, Some, [], ◌∷◌}
+use Rattle.std.proofs.Common.{◌≡◌, ◌∙◌, ap, sym, refl, subst, true, false, is_some, pos, rules, Some, [], ◌∷◌}
 use Rattle.std.specs.Option.{IsSome}
 use Rattle.posix.specs.declared.errno.Errno.TheVariants.{ECHILD, EINVAL}
 use Rattle.posix.specs.declared.call.Call.TheVariants.{Waitpid}
@@ -11,7 +11,8 @@ use Rattle.posix.specs.Outcomes.{refusal, finish}
 use Rattle.posix.specs.Waits.{WNOHANG, has_option, news_told, report}
 use Rattle.posix.proofs.OrderLemmas.{placed_some}
 use Rattle.posix.proofs.RegularLemmas.{keeps_news_told}
-use Rattle.calls.specs.Outcomes.{Comes, process_like}
+use Rattle.calls.specs.Outcomes.{Comes}
+use Rattle.life.specs.Callers.{process_like}
 use Rattle.calls.proofs.CallLemmas.{gives_is, reports_is, wait_unknown, wait_finds, wait_nothing}
 use Rattle.calls.proofs.ReportLemmas.{reported, not_first, caller_stays, some_changed}
 use Rattle.calls.proofs.waits.wait_as.Goals as goal
@@ -25,23 +26,21 @@ returns-in_default g c =
     subst (λ a. Comes s a c.refuse.result c.args.entries.now.items c.refuse.new.entries.items c.refuse.new.machine.state) (sym (wait_unknown s x unknown))
     (gives_is s s c.refuse.new.machine.state me.pid Waitpid (refusal EINVAL) (refusal EINVAL) c.args.entries.now.items c.refuse.new.entries.items c.refuse.result c.refuse.ensures.done c.refuse.ensures.state c.refuse.ensures.shown refl)
 
-pub collect-requires-clause-other : goal.collect-requires-clause-other
-collect-requires-clause-other g c =
+pub reap-requires-clause-other : goal.reap-requires-clause-other
+reap-requires-clause-other g c =
     let s = c.args.machine.now.state in
     let me = c.args.me.now in
     let x = process_like me in
-    let kept : to_z w64 (of_z w64 me.r1) ≡ me.r1 = search rules in
-    let finds = c.wait_attempt.ensures.value ∙ ap (λ t. report s.processes me.pid me.group t c.in-Some.options.0) (c.from_word.ensures ∙ ap target_in kept) in
+    let finds = c.wait_attempt.ensures.value ∙ ap (λ t. report s.processes me.pid me.group t c.in-Some.options.0) c.target.ensures in
     let child = reported s.processes c.requires.regular.rising me.pid me.group (target_in me.r1) c.in-Some.options.0 (found.End c.in-End.child c.in-End.status) c.in-End.child (sym finds ∙ c.in-End.is) refl in
     not_first s c.requires.regular me.pid c.in-End.child true c.requires.placed child
 
-pub collect-requires-clause-zombie : goal.collect-requires-clause-zombie
-collect-requires-clause-zombie g c =
+pub reap-requires-clause-zombie : goal.reap-requires-clause-zombie
+reap-requires-clause-zombie g c =
     let s = c.args.machine.now.state in
     let me = c.args.me.now in
     let x = process_like me in
-    let kept : to_z w64 (of_z w64 me.r1) ≡ me.r1 = search rules in
-    let finds = c.wait_attempt.ensures.value ∙ ap (λ t. report s.processes me.pid me.group t c.in-Some.options.0) (c.from_word.ensures ∙ ap target_in kept) in
+    let finds = c.wait_attempt.ensures.value ∙ ap (λ t. report s.processes me.pid me.group t c.in-Some.options.0) c.target.ensures in
     let child = reported s.processes c.requires.regular.rising me.pid me.group (target_in me.r1) c.in-Some.options.0 (found.End c.in-End.child c.in-End.status) c.in-End.child (sym finds ∙ c.in-End.is) refl in
     (child.what, ap (λ (t : State). process t c.in-End.child) c.wait_attempt.ensures.same ∙ child.found, child.dead)
 
@@ -50,10 +49,9 @@ report-requires-clause-there g c =
     let s = c.args.machine.now.state in
     let me = c.args.me.now in
     let x = process_like me in
-    let kept : to_z w64 (of_z w64 me.r1) ≡ me.r1 = search rules in
-    let finds = c.wait_attempt.ensures.value ∙ ap (λ t. report s.processes me.pid me.group t c.in-Some.options.0) (c.from_word.ensures ∙ ap target_in kept) in
+    let finds = c.wait_attempt.ensures.value ∙ ap (λ t. report s.processes me.pid me.group t c.in-Some.options.0) c.target.ensures in
     let child = reported s.processes c.requires.regular.rising me.pid me.group (target_in me.r1) c.in-Some.options.0 (found.End c.in-End.child c.in-End.status) c.in-End.child (sym finds ∙ c.in-End.is) refl in
-    let gone = c.collect.ensures.state ∙ ap (λ (t : State). record t { processes = removed c.in-End.child t.processes }) c.wait_attempt.ensures.same in
+    let gone = c.reap.ensures.state ∙ ap (λ (t : State). record t { processes = removed c.in-End.child t.processes }) c.wait_attempt.ensures.same in
     subst (λ (t : State). IsSome (process t me.pid)) (sym gone) (caller_stays s.processes me.pid c.in-End.child c.requires.placed child)
 
 pub tell_news-requires : goal.tell_news-requires
@@ -61,8 +59,7 @@ tell_news-requires g c =
     let s = c.args.machine.now.state in
     let me = c.args.me.now in
     let x = process_like me in
-    let kept : to_z w64 (of_z w64 me.r1) ≡ me.r1 = search rules in
-    let finds = c.wait_attempt.ensures.value ∙ ap (λ t. report s.processes me.pid me.group t c.in-Some.options.0) (c.from_word.ensures ∙ ap target_in kept) in
+    let finds = c.wait_attempt.ensures.value ∙ ap (λ t. report s.processes me.pid me.group t c.in-Some.options.0) c.target.ensures in
     let child = reported s.processes c.requires.regular.rising me.pid me.group (target_in me.r1) c.in-Some.options.0 (found.Change c.in-Change.child c.in-Change.status) c.in-Change.child (sym finds ∙ c.in-Change.is) refl in
     subst (λ (t : State). IsSome (process t c.in-Change.child)) (sym c.wait_attempt.ensures.same) (subst IsSome (sym child.found) refl)
 
@@ -79,8 +76,7 @@ returns-in-NoChild g c =
     let s = c.args.machine.now.state in
     let me = c.args.me.now in
     let x = process_like me in
-    let kept : to_z w64 (of_z w64 me.r1) ≡ me.r1 = search rules in
-    let finds = c.wait_attempt.ensures.value ∙ ap (λ t. report s.processes me.pid me.group t c.in-Some.options.0) (c.from_word.ensures ∙ ap target_in kept) in
+    let finds = c.wait_attempt.ensures.value ∙ ap (λ t. report s.processes me.pid me.group t c.in-Some.options.0) c.target.ensures in
     let known = sym c.options_of.ensures.known ∙ ap is_some c.in-Some.is in
     let is = wait_finds s x c.in-Some.options.0 found.NoChild known c.in-Some.ensures.value (sym c.in-NoChild.is ∙ finds) in
     subst (λ a. Comes s a c.refuse-in-NoChild.result c.args.entries.now.items c.refuse-in-NoChild.new.entries.items c.refuse-in-NoChild.new.machine.state) (sym is)
@@ -92,8 +88,7 @@ returns-then-contains g c =
     let s = c.args.machine.now.state in
     let me = c.args.me.now in
     let x = process_like me in
-    let kept : to_z w64 (of_z w64 me.r1) ≡ me.r1 = search rules in
-    let finds = c.wait_attempt.ensures.value ∙ ap (λ t. report s.processes me.pid me.group t c.in-Some.options.0) (c.from_word.ensures ∙ ap target_in kept) in
+    let finds = c.wait_attempt.ensures.value ∙ ap (λ t. report s.processes me.pid me.group t c.in-Some.options.0) c.target.ensures in
     let known = sym c.options_of.ensures.known ∙ ap is_some c.in-Some.is in
     let at_once : has_option c.in-Some.options.0 WNOHANG ≡ true = sym {b = has_option c.in-Some.options.0 WNOHANG} (c.contains.ensures tt) ∙ c.if-contains.true in
     let is = wait_nothing s x c.in-Some.options.0 true known c.in-Some.ensures.value (sym c.in-Nothing.is ∙ finds) at_once in
@@ -106,8 +101,7 @@ returns-else-contains g c =
     let s = c.args.machine.now.state in
     let me = c.args.me.now in
     let x = process_like me in
-    let kept : to_z w64 (of_z w64 me.r1) ≡ me.r1 = search rules in
-    let finds = c.wait_attempt.ensures.value ∙ ap (λ t. report s.processes me.pid me.group t c.in-Some.options.0) (c.from_word.ensures ∙ ap target_in kept) in
+    let finds = c.wait_attempt.ensures.value ∙ ap (λ t. report s.processes me.pid me.group t c.in-Some.options.0) c.target.ensures in
     let known = sym c.options_of.ensures.known ∙ ap is_some c.in-Some.is in
     let hangs : has_option c.in-Some.options.0 WNOHANG ≡ false = sym {b = has_option c.in-Some.options.0 WNOHANG} (c.contains.ensures tt) ∙ c.if-contains.false in
     let is = wait_nothing s x c.in-Some.options.0 false known c.in-Some.ensures.value (sym c.in-Nothing.is ∙ finds) hangs in
@@ -118,11 +112,10 @@ returns-in-End g c =
     let s = c.args.machine.now.state in
     let me = c.args.me.now in
     let x = process_like me in
-    let kept : to_z w64 (of_z w64 me.r1) ≡ me.r1 = search rules in
-    let finds = c.wait_attempt.ensures.value ∙ ap (λ t. report s.processes me.pid me.group t c.in-Some.options.0) (c.from_word.ensures ∙ ap target_in kept) in
+    let finds = c.wait_attempt.ensures.value ∙ ap (λ t. report s.processes me.pid me.group t c.in-Some.options.0) c.target.ensures in
     let known = sym c.options_of.ensures.known ∙ ap is_some c.in-Some.is in
     let is = wait_finds s x c.in-Some.options.0 (found.End c.in-End.child c.in-End.status) known c.in-Some.ensures.value (sym c.in-End.is ∙ finds) in
-    let gone = c.collect.ensures.state ∙ ap (λ (t : State). record t { processes = removed c.in-End.child t.processes }) c.wait_attempt.ensures.same in
+    let gone = c.reap.ensures.state ∙ ap (λ (t : State). record t { processes = removed c.in-End.child t.processes }) c.wait_attempt.ensures.same in
     subst (λ a. Comes s a c.report.result c.args.entries.now.items c.report.new.entries.items c.report.new.machine.state) (sym is)
     (reports_is s (record s { processes = removed c.in-End.child s.processes }) c.report.new.machine.state me.pid c.in-End.child c.in-End.status c.args.entries.now.items c.report.new.entries.items c.report.result c.report.ensures.done
     (c.report.ensures.state ∙ ap (λ (t : State). finish t me.pid ((0, pos c.in-End.child) ∷ (1, pos c.in-End.status) ∷ [])) gone) c.report.ensures.shown)
@@ -132,8 +125,7 @@ returns-in-Change g c =
     let s = c.args.machine.now.state in
     let me = c.args.me.now in
     let x = process_like me in
-    let kept : to_z w64 (of_z w64 me.r1) ≡ me.r1 = search rules in
-    let finds = c.wait_attempt.ensures.value ∙ ap (λ t. report s.processes me.pid me.group t c.in-Some.options.0) (c.from_word.ensures ∙ ap target_in kept) in
+    let finds = c.wait_attempt.ensures.value ∙ ap (λ t. report s.processes me.pid me.group t c.in-Some.options.0) c.target.ensures in
     let known = sym c.options_of.ensures.known ∙ ap is_some c.in-Some.is in
     let is = wait_finds s x c.in-Some.options.0 (found.Change c.in-Change.child c.in-Change.status) known c.in-Some.ensures.value (sym c.in-Change.is ∙ finds) in
     let told = c.tell_news.ensures.state ∙ ap (λ (t : State). change t c.in-Change.child news_told) c.wait_attempt.ensures.same in

@@ -1,6 +1,6 @@
 use Rattle.std.proofs.Common.{◌∙◌, ap, sym, is_some}
 use Rattle.posix.specs.Settle.{is_block}
-use Rattle.calls.specs.Outcomes.{process_like}
+use Rattle.life.specs.Callers.{process_like}
 use Rattle.calls.proofs.CallLemmas.{wait_unknown}
 use Rattle.calls.proofs.waits.would_wait.Goals as goal
 

@@ -1,62 +1,45 @@
-use Rattle.std.proofs.Common.{◌≡◌, ◌∙◌, ◌<◌, ap, sym, refl, subst, Option, Some, ℕ, List, length}
-use Rattle.std.specs.Option.{IsSome}
-use Rattle.posix.specs.Processes.{Process}
-use Rattle.posix.specs.Tables.{lookup, first_pid, left_of, next_above}
-use Rattle.posix.specs.States.{State}
-use Rattle.posix.specs.Settle.{woken}
+use Rattle.std.proofs.Common.{◌∙◌, ◌<◌, ap, sym, subst, arith, Option, ℕ}
+use Rattle.std.specs.Option.{IfSome, IsSome}
+use Rattle.posix.specs.States.{State, process}
 use Rattle.posix.specs.Regular.{IsRegular}
-use Rattle.posix.proofs.SettleLemmas.{woken_before, woken_first, woken_step, woken_all, woken_before_processes, woken_processes, at_record, next_is_first, less_left}
+use Rattle.posix.specs.Settle.{wakes}
+use Rattle.posix.specs.Tables.{IsNext}
+use Rattle.posix.proofs.SettleLemmas.{settled_from, asking_begins, asking_goes_on, asking_ends}
+use Rattle.posix.proofs.WalkLemmas.{numbers_left, fewer_left}
 use Rattle.kernel.proofs.settle.wake_all.Goals as goal
 
 pub loop-next-init : goal.loop-next-init
 loop-next-init g c =
-    let s = c.args.machine.now.state in
-    let i = c.next_after-next.ensures.regular in
-    let value = c.next_after-next.ensures.value in
+    let first = c.next_to_ask-next.ensures in
     record {
-      asked = c.next_after-next.ensures.same ∙ sym (woken_first s i.rising (λ p r e. (i.bounded p r e).least)) ∙ ap (woken_before s) (sym value);
-      first = subst (λ (o : Option ℕ). first_pid (left_of o s.processes) ≡ o) (sym value) (next_is_first s.processes 0);
-      regular = subst IsRegular (sym c.next_after-next.ensures.same) i;
+      asked = ap (settled_from c.next_to_ask-next.result) first.same ∙ asking_begins c.args.machine.now.state c.next_to_ask-next.result first.regular first.next;
+      there = subst (λ (t : State). IfSome c.next_to_ask-next.result (λ p. IsSome (process t p))) (sym first.same) first.next.there;
+      regular = subst IsRegular (sym first.same) first.regular;
     }
 
 pub wake-requires : goal.wake-requires
-wake-requires g c =
-    let s = c.args.machine.now.state in
-    let i = c.next_after-next.ensures.regular in
-    let walked = c.loop-next.invariant in
-    let first = subst (λ (o : Option ℕ). first_pid (left_of o s.processes) ≡ o) c.in-Some.is walked.first in
-    let same = ap (λ (t : State). t.processes) walked.asked ∙ woken_before_processes s c.loop-next.next in
-    subst (λ (rs : List Process). IsSome (lookup c.in-Some.pid rs)) (sym same) (subst IsSome (sym (at_record s.processes i.rising c.in-Some.pid first).found) refl)
+wake-requires g c = subst (λ (o : Option ℕ). IfSome o (λ p. IsSome (process c.loop-next.machine.state p))) c.in-Some.is c.loop-next.invariant.there
 
 pub loop-next-smaller : goal.loop-next-smaller
 loop-next-smaller g c =
-    let s = c.args.machine.now.state in
-    let i = c.next_after-next.ensures.regular in
-    let walked = c.loop-next.invariant in
-    let first = subst (λ (o : Option ℕ). first_pid (left_of o s.processes) ≡ o) c.in-Some.is walked.first in
-    let same = ap (λ (t : State). t.processes) c.wake.ensures ∙ woken_processes c.loop-next.machine.state c.in-Some.pid ∙ ap (λ (t : State). t.processes) walked.asked ∙ woken_before_processes s c.loop-next.next in
-    let value = c.next_after-next-in-Some.ensures.value ∙ ap (next_above c.in-Some.pid) same in
-    let less = less_left s.processes i.rising c.in-Some.pid first in
-    let later = subst (λ (o : Option ℕ). length (left_of o s.processes) < length (left_of (Some c.in-Some.pid) s.processes)) (sym value) less in
-    subst (λ (o : Option ℕ). length (left_of c.next_after-next-in-Some.result s.processes) < length (left_of o s.processes)) (sym c.in-Some.is) later
+    let less = fewer_left 2147483648 c.in-Some.pid c.next_to_ask-next-in-Some.result (omega arith) c.next_to_ask-next-in-Some.ensures.next.above in
+    subst (λ (o : Option ℕ). numbers_left 2147483648 c.next_to_ask-next-in-Some.result < numbers_left 2147483648 o) (sym c.in-Some.is) less
 
 pub loop-next-preserved : goal.loop-next-preserved
 loop-next-preserved g c =
-    let s = c.args.machine.now.state in
-    let i = c.next_after-next.ensures.regular in
-    let walked = c.loop-next.invariant in
-    let same = ap (λ (t : State). t.processes) c.wake.ensures ∙ woken_processes c.loop-next.machine.state c.in-Some.pid ∙ ap (λ (t : State). t.processes) walked.asked ∙ woken_before_processes s c.loop-next.next in
-    let value = c.next_after-next-in-Some.ensures.value ∙ ap (next_above c.in-Some.pid) same in
+    let s = c.loop-next.machine.state in
+    let pid = c.in-Some.pid in
+    let next = c.next_to_ask-next-in-Some.result in
+    let now = c.next_to_ask-next-in-Some.ensures in
+    let comes = subst (λ (t : State). IsNext (wakes t) pid t.processes next) c.wake.ensures now.next in
     record {
-      asked = c.next_after-next-in-Some.ensures.same ∙ c.wake.ensures
-          ∙ ap (λ (t : State). woken t c.in-Some.pid) (walked.asked ∙ ap (woken_before s) c.in-Some.is)
-          ∙ woken_step s i.rising c.in-Some.pid
-          ∙ ap (woken_before s) (sym value);
-      first = subst (λ (o : Option ℕ). first_pid (left_of o s.processes) ≡ o) (sym value) (next_is_first s.processes c.in-Some.pid);
-      regular = subst IsRegular (sym c.next_after-next-in-Some.ensures.same) c.next_after-next-in-Some.ensures.regular;
+      asked = ap (settled_from next) (now.same ∙ c.wake.ensures)
+          ∙ asking_goes_on s c.loop-next.invariant.regular.rising pid next comes
+          ∙ ap (λ (o : Option ℕ). settled_from o s) (sym c.in-Some.is)
+          ∙ c.loop-next.invariant.asked;
+      there = subst (λ (t : State). IfSome next (λ p. IsSome (process t p))) (sym now.same) now.next.there;
+      regular = subst IsRegular (sym now.same) now.regular;
     }
 
 pub returns-clause-state : goal.returns-clause-state
-returns-clause-state g c =
-    let s = c.args.machine.now.state in
-    c.loop-next.invariant.asked ∙ ap (woken_before s) c.in_default.is ∙ woken_all s
+returns-clause-state g c = sym (ap (λ (o : Option ℕ). settled_from o c.loop-next.machine.state) c.in_default.is ∙ asking_ends c.loop-next.machine.state) ∙ c.loop-next.invariant.asked

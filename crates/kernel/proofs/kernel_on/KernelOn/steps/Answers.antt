@@ -1,4 +1,4 @@
-use Rattle.std.proofs.Common.{◌≡◌, ◌≢◌, ◌+◌, ap, subst, arith, rules, [], length}
+use Rattle.std.proofs.Common.{◌≡◌, ◌+◌, ap, subst, arith, length}
 use Rattle.std.specs.Prelude.{replicate}
 use Rattle.posix.specs.declared.event.Event.TheVariants.{Step}
 use Rattle.posix.specs.States.{State}
@@ -6,17 +6,8 @@ use Rattle.posix.specs.Entries.{numbered}
 use Rattle.posix.specs.Runs.{RunsFrom}
 use Rattle.kernel.specs.Views.{KernelView}
 use Rattle.kernel.proofs.RunLemmas.{one_after}
-use Rattle.kernel.proofs.BurstLemmas.{shows_some, nothing}
-use Rattle.kernel.proofs.kernel_on.KernelOn.steps.Goals.{then-count-most-via-then-count-most, then-count-most-via-else-count-most+then-not-is_empty}
+use Rattle.kernel.proofs.BurstLemmas.{nothing}
 use Rattle.kernel.proofs.kernel_on.KernelOn.steps.Goals as goal
-
-pub returns-then-count-most-clause-some : goal.returns-then-count-most-clause-some
-returns-then-count-most-clause-some g c = elim c.then-count-most.branch [
-  | then-count-most-via-then-count-most w ↦ omega (arith, w.if-count-most.true, c.requires.some)
-  | then-count-most-via-else-count-most+then-not-is_empty w ↦
-      let some : c.burst-count.new.entries.items ≢ [] = search rules in
-      shows_some _ _ _ _ c.burst-count.ensures.runs some
-]
 
 pub returns-clause-runs : goal.returns-clause-runs
 returns-clause-runs g c =

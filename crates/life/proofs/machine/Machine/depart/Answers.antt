@@ -3,11 +3,11 @@ use Rattle.std.specs.Option.{IsSome}
 use Rattle.posix.specs.Processes.{Process, is_zombie}
 use Rattle.posix.specs.Tables.{lookup, children_in, first_pid}
 use Rattle.posix.specs.States.{State, process}
-use Rattle.posix.specs.Ends.{buried, is_dropping, notice_of_end}
+use Rattle.posix.specs.Ends.{made_zombie, is_dropping, notice_of_end}
 use Rattle.proctable.proofs.Bodies.{changed_body}
 use Rattle.life.specs.Machines.{IsSound, IsCounted, state_of}
 use Rattle.life.proofs.EndLemmas.{there_after, zombie_after}
-use Rattle.life.proofs.SoundLemmas.{there, found_in, is_there, there_buried}
+use Rattle.life.proofs.SoundLemmas.{there, found_in, is_there, there_made_zombie}
 use Rattle.life.proofs.PartLemmas.{room_to_count, told_state}
 use Rattle.life.proofs.NoticeWalkLemmas.{begins, child_here, child_there, child_same, passes, self_lives, life_read, lives, heir_here, zombie_goes, zombie_goes_there, tells, asks_less, tells_less, differs, equals, departed, sound_departed, departed_told}
 use Rattle.life.proofs.ViewLemmas.{state_is}
@@ -15,13 +15,13 @@ use Rattle.life.proofs.machine.Machine.depart.Goals as goal
 
 pub first_child-next-requires : goal.first_child-next-requires
 first_child-next-requires g c =
-    let contents = g.met.K.Kin.puts c.self.inside.table c.args.pid c.bury.new.self ∙ changed_body _ c.update.ensures.rising c.args.pid c.update.result.now c.bury.new.self (buried c.args.status) c.update.ensures.value c.bury.ensures in
+    let contents = g.met.K.Kin.puts c.self.inside.table c.args.pid c.make_zombie.new.self ∙ changed_body _ c.update.ensures.rising c.args.pid c.update.result.now c.make_zombie.new.self (made_zombie c.args.status) c.update.ensures.value c.make_zombie.ensures in
     let me = there _ c.requires.there in
-    rw contents (there_buried c.args.pid c.args.status c.args.pid _ (is_there _ me.what (found_in _ _ (state_is c.self.view_is) c.args.pid me.what me.found)))
+    rw contents (there_made_zombie c.args.pid c.args.status c.args.pid _ (is_there _ me.what (found_in _ _ (state_is c.self.view_is) c.args.pid me.what me.found)))
 
 pub loop-next-init : goal.loop-next-init
 loop-next-init g c =
-    let contents = g.met.K.Kin.puts c.self.inside.table c.args.pid c.bury.new.self ∙ changed_body _ c.update.ensures.rising c.args.pid c.update.result.now c.bury.new.self (buried c.args.status) c.update.ensures.value c.bury.ensures in
+    let contents = g.met.K.Kin.puts c.self.inside.table c.args.pid c.make_zombie.new.self ∙ changed_body _ c.update.ensures.rising c.args.pid c.update.result.now c.make_zombie.new.self (made_zombie c.args.status) c.update.ensures.value c.make_zombie.ensures in
     let me = there _ c.requires.there in
     let room = c.drop_place.ensures.room in
     begins c.args.self.now.state _ _ _ c.self.inside.order _ _ c.args.pid c.args.heir c.args.status _ me.what (state_is c.self.view_is) (rw (c.first_child-next.ensures.contents, contents, c.drop_place.ensures.pids) refl) c.self.invariant (omega (arith, room)) c.requires.other
@@ -33,18 +33,18 @@ next_sibling-next-requires g c = child_there c.loop-next.invariant c.in-Some.chi
 pub life-life-requires : goal.life-life-requires
 life-life-requires g c = rw c.next_sibling-next.ensures.contents (child_there c.loop-next.invariant c.in-Some.child c.in-Some.is)
 
-pub tell-requires-clause-parent : goal.tell-requires-clause-parent
-tell-requires-clause-parent g c = rw (c.life-life.ensures.contents, c.next_sibling-next.ensures.contents) (heir_here c.loop-next.invariant)
+pub notify_of_end-requires-clause-parent : goal.notify_of_end-requires-clause-parent
+notify_of_end-requires-clause-parent g c = rw (c.life-life.ensures.contents, c.next_sibling-next.ensures.contents) (heir_here c.loop-next.invariant)
 
-pub tell-requires-clause-child : goal.tell-requires-clause-child
-tell-requires-clause-child g c =
+pub notify_of_end-requires-clause-child : goal.notify_of_end-requires-clause-child
+notify_of_end-requires-clause-child g c =
     let t = c.loop-next.invariant in
     let ne : c.in-Some.child ≢ c.args.pid = differs _ _ (sym c.ne.ensures ∙ c.if-ne.true) in
     let dead = sym (life_read t c.in-Some.child c.in-Some.is ne c.life-life.result (λ it e. c.life-life.ensures.value it (ap (lookup c.in-Some.child) c.next_sibling-next.ensures.contents ∙ e))) ∙ c.in-Zombie.is in
     rw (c.life-life.ensures.contents, c.next_sibling-next.ensures.contents) (zombie_goes_there t c.in-Some.child c.in-Zombie.ended c.in-Some.is dead)
 
-pub tell-requires-clause-count : goal.tell-requires-clause-count
-tell-requires-clause-count g c =
+pub notify_of_end-requires-clause-count : goal.notify_of_end-requires-clause-count
+notify_of_end-requires-clause-count g c =
     let t = c.loop-next.invariant in
     let ne : c.in-Some.child ≢ c.args.pid = differs _ _ (sym c.ne.ensures ∙ c.if-ne.true) in
     let dead = sym (life_read t c.in-Some.child c.in-Some.is ne c.life-life.result (λ it e. c.life-life.ensures.value it (ap (lookup c.in-Some.child) c.next_sibling-next.ensures.contents ∙ e))) ∙ c.in-Zombie.is in
@@ -61,7 +61,7 @@ loop-next-smaller-in-Zombie g c =
     let ne : c.in-Some.child ≢ c.args.pid = differs _ _ (sym c.ne.ensures ∙ c.if-ne.true) in
     let same = c.life-life.ensures.contents ∙ c.next_sibling-next.ensures.contents in
     let found = ap (lookup c.in-Some.child) same ∙ child_same t c.in-Some.child c.in-Some.is ne in
-    let told = told_state m.world _ _ m.pids c.tell.new.pids m.order m.records c.tell.new.records m.births m.ticks m.dropped c.tell.new.dropped m.halted c.args.heir c.in-Some.child c.in-Zombie.ended _ c.tell.ensures.contents (c.tell.ensures.counts _ found)
+    let told = told_state m.world _ _ m.pids c.notify_of_end.new.pids m.order m.records c.notify_of_end.new.records m.births m.ticks m.dropped c.notify_of_end.new.dropped m.halted c.args.heir c.in-Some.child c.in-Zombie.ended _ c.notify_of_end.ensures.contents (c.notify_of_end.ensures.counts _ found)
     ∙ ap (λ rs. notice_of_end (state_of m.world rs m.pids m.order m.births m.ticks m.dropped m.halted) c.args.heir c.in-Some.child c.in-Zombie.ended) same in
     tells_less t c.in-Some.child c.in-Zombie.ended c.in-Some.is c.next_sibling-next.result c.next_sibling-next.ensures.value _ told
 
@@ -73,11 +73,11 @@ loop-next-preserved-in-Zombie g c =
     let dead = sym (life_read t c.in-Some.child c.in-Some.is ne c.life-life.result (λ it e. c.life-life.ensures.value it (ap (lookup c.in-Some.child) c.next_sibling-next.ensures.contents ∙ e))) ∙ c.in-Zombie.is in
     let same = c.life-life.ensures.contents ∙ c.next_sibling-next.ensures.contents in
     let found = ap (lookup c.in-Some.child) same ∙ child_same t c.in-Some.child c.in-Some.is ne in
-    let counts = c.tell.ensures.counts _ found in
-    let told = told_state m.world _ _ m.pids c.tell.new.pids m.order m.records c.tell.new.records m.births m.ticks m.dropped c.tell.new.dropped m.halted c.args.heir c.in-Some.child c.in-Zombie.ended _ c.tell.ensures.contents counts
+    let counts = c.notify_of_end.ensures.counts _ found in
+    let told = told_state m.world _ _ m.pids c.notify_of_end.new.pids m.order m.records c.notify_of_end.new.records m.births m.ticks m.dropped c.notify_of_end.new.dropped m.halted c.args.heir c.in-Some.child c.in-Zombie.ended _ c.notify_of_end.ensures.contents counts
     ∙ ap (λ rs. notice_of_end (state_of m.world rs m.pids m.order m.births m.ticks m.dropped m.halted) c.args.heir c.in-Some.child c.in-Zombie.ended) same in
-    tells t c.in-Some.child c.in-Zombie.ended c.in-Some.is c.next_sibling-next.result c.next_sibling-next.ensures.value ne dead c.tell.new.pids c.tell.new.records c.tell.new.dropped _
-    (subst (λ rs. IsCounted (is_dropping c.args.heir rs) m.pids c.tell.new.pids m.records c.tell.new.records m.dropped c.tell.new.dropped c.in-Some.child (child_here t c.in-Some.child c.in-Some.is).what) same counts) told
+    tells t c.in-Some.child c.in-Zombie.ended c.in-Some.is c.next_sibling-next.result c.next_sibling-next.ensures.value ne dead c.notify_of_end.new.pids c.notify_of_end.new.records c.notify_of_end.new.dropped _
+    (subst (λ rs. IsCounted (is_dropping c.args.heir rs) m.pids c.notify_of_end.new.pids m.records c.notify_of_end.new.records m.dropped c.notify_of_end.new.dropped c.in-Some.child (child_here t c.in-Some.child c.in-Some.is).what) same counts) told
 
 pub loop-next-smaller-in_default-life : goal.loop-next-smaller-in_default-life
 loop-next-smaller-in_default-life g c =

@@ -1,5 +1,5 @@
 use Rattle.std.proofs.Common.{arith, ◌∙◌, refl}
-use Rattle.posix.specs.Ends.{make_zombie}
+use Rattle.posix.specs.Ends.{ended}
 use Rattle.posix.proofs.RegularLemmas.{regular_halt}
 use Rattle.proctable.proofs.Bodies.{changed_body}
 use Rattle.life.proofs.SoundLemmas.{is_there, parents_halted, kept_halted}
@@ -10,7 +10,7 @@ update-requires g c = is_there _ _ c.self.invariant.regular.first.found
 
 pub invariant_of-self : goal.invariant_of-self
 invariant_of-self g c =
-    let contents = g.met.K.Kin.puts c.self.inside.table 1 c.end.new.self ∙ changed_body _ c.update.ensures.rising 1 c.update.result.now c.end.new.self (make_zombie c.args.status) c.update.ensures.value c.end.ensures in
+    let contents = g.met.K.Kin.puts c.self.inside.table 1 c.end.new.self ∙ changed_body _ c.update.ensures.rising 1 c.update.result.now c.end.new.self (ended c.args.status) c.update.ensures.value c.end.ensures in
     rw (contents, c.drop_place.ensures.pids) record {
       regular = regular_halt c.args.status _ c.self.invariant.regular;
       parents = parents_halted c.args.status _ c.self.invariant.parents;
@@ -20,7 +20,7 @@ invariant_of-self g c =
 
 pub returns-clause-state : goal.returns-clause-state
 returns-clause-state g c =
-    let contents = g.met.K.Kin.puts c.self.inside.table 1 c.end.new.self ∙ changed_body _ c.update.ensures.rising 1 c.update.result.now c.end.new.self (make_zombie c.args.status) c.update.ensures.value c.end.ensures in
+    let contents = g.met.K.Kin.puts c.self.inside.table 1 c.end.new.self ∙ changed_body _ c.update.ensures.rising 1 c.update.result.now c.end.new.self (ended c.args.status) c.update.ensures.value c.end.ensures in
     rw (contents, c.drop_place.ensures.pids, ← c.self.view_is) refl
 
 pub returns-clause-reads : goal.returns-clause-reads

@@ -1,18 +1,18 @@
 use Rattle.std.proofs.Common.{◌≡◌}
-use Rattle.posix.specs.Processes.{Process}
 use Rattle.posix.specs.Tables.{left_of}
 use Rattle.posix.specs.Sends.{targets, sending, sent_among, sent}
-use Rattle.proctable.specs.Body.{facts_of}
-use Rattle.life.proofs.SendLemmas.{joined, numbers_left}
+use Rattle.posix.proofs.WalkLemmas.{numbers_left}
+use Rattle.life.specs.Callers.{process_like}
+use Rattle.life.proofs.SendLemmas.{joined}
 use Rattle.life.proofs.machine.Machine.send_to_all.Given as goal
 
 -- what is left to do, after what was done so far, is all that there is to do
 abbrev pub invariant-loop-next : goal.invariant-loop-next
 invariant-loop-next g l =
-    let now = l.self.state in let first = l.fn.self.state in
+    let r = process_like l.me in let now = l.self.state in let first = l.fn.self.state in
     record {
-      sending : (r : Process) → l.me ≡ facts_of r → joined l.sending (sending r l.target l.sig (left_of l.next now.processes)) ≡ sending r l.fn.target l.sig first.processes;
-      sent : (r : Process) → l.me ≡ facts_of r → record now { processes = sent_among r l.sig (targets r l.target (left_of l.next now.processes)) now.processes } ≡ record first { processes = sent r l.fn.target l.sig first.processes };
+      sending : joined l.sending (sending r l.target l.sig (left_of l.next now.processes)) ≡ sending r l.fn.target l.sig first.processes;
+      sent : record now { processes = sent_among r l.sig (targets r l.target (left_of l.next now.processes)) now.processes } ≡ record first { processes = sent r l.fn.target l.sig first.processes };
     }
 
 abbrev pub decreases-loop-next : goal.decreases-loop-next

@@ -5,7 +5,7 @@ use Rattle.std.proofs.lemmas.Bool.{or_left, and_from, le-leb}
 use Rattle.std.proofs.lemmas.Nat.{and_le_l}
 use Rattle.posix.specs.declared.process.Carried.{Carried}
 use Rattle.posix.specs.Choice.{least_ready as least_ready_of}
-use Rattle.posix.specs.Signals.{is_signal}
+use Rattle.posix.specs.SignalNumbers.{is_signal}
 use Rattle.signal.proofs.SetLemmas.{none_ready, least_is, ready_set, is_ready_in}
 use Rattle.signal.proofs.signals.Signals.least_ready.Goals as goal
 

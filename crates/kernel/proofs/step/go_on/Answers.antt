@@ -1,0 +1,33 @@
+use Rattle.std.proofs.Common.{◌∙◌, ap, sym, subst, refl, []}
+use Rattle.std.specs.Option.{IsSome}
+use Rattle.posix.specs.States.{State, process, lose_place}
+use Rattle.posix.specs.Outcomes.{silent}
+use Rattle.posix.specs.Attempts.{attempt_again}
+use Rattle.posix.specs.Step.{go_on, deliver_or}
+use Rattle.posix.proofs.TableLemmas.{pid_looked}
+use Rattle.calls.proofs.CallLemmas.{block_is, same_outcome}
+use Rattle.kernel.proofs.step.go_on.Goals as goal
+
+pub deliver-requires-clause-there : goal.deliver-requires-clause-there
+deliver-requires-clause-there g c =
+    let s = c.args.machine.now.state in
+    let me = c.requires.placed in
+    let b = block_is s (attempt_again s me.what c.args.blocked) c.in-Some.field-0 c.args.entries.now.items c.attempt_again.new.entries.items c.attempt_again.new.machine.state (c.in-Some.ensures me.what me.found) in
+    subst (λ (t : State). IsSome (process t c.args.pid)) (sym b.2) (subst IsSome (sym me.found) refl)
+
+pub deliver-requires-clause-none : goal.deliver-requires-clause-none
+deliver-requires-clause-none g c =
+    let s = c.args.machine.now.state in
+    let me = c.requires.placed in
+    let b = block_is s (attempt_again s me.what c.args.blocked) c.in-Some.field-0 c.args.entries.now.items c.attempt_again.new.entries.items c.attempt_again.new.machine.state (c.in-Some.ensures me.what me.found) in
+    b.1 ∙ c.requires.none
+
+pub returns-in-None : goal.returns-in-None
+returns-in-None g c = λ me e.
+    let s = c.args.machine.now.state in
+    let named = pid_looked c.args.pid s.processes me e in
+    let b = block_is s (attempt_again s me c.args.blocked) c.in-Some.field-0 c.args.entries.now.items c.attempt_again.new.entries.items c.attempt_again.new.machine.state (c.in-Some.ensures me e) in
+    ap (go_on s me) b.0
+    ∙ ap (λ o. deliver_or s me o (silent (lose_place s me.pid))) (sym (c.requires.signal me e) ∙ c.in-None.is)
+    ∙ same_outcome (lose_place s me.pid) c.lose_place.new.self.state [] c.attempt_again.new.entries.items
+    (ap (lose_place s) named ∙ ap (λ (t : State). lose_place t c.args.pid) (sym b.2) ∙ sym c.lose_place.ensures.state) (sym (b.1 ∙ c.requires.none))

@@ -1,0 +1,56 @@
+-- What the functions of one event come to.
+use Rattle.std.specs.Prelude.{◌≡◌, ℕ, ◌+◌, ◌||◌, if◌then◌else◌, Bool, List, Option, Some, None, is_some, replicate}
+use Rattle.posix.specs.declared.call.Call.{Call}
+use Rattle.posix.specs.declared.event.Event.{Event}
+use Rattle.posix.specs.declared.event.Event.TheVariants.{Step}
+use Rattle.posix.specs.declared.entry.Entry.{Entry}
+use Rattle.posix.specs.Processes.{Process}
+use Rattle.posix.specs.Entries.{numbered}
+use Rattle.posix.specs.States.{State, process, current_process}
+use Rattle.posix.specs.Attempts.{attempt}
+use Rattle.posix.specs.Choice.{chosen}
+use Rattle.posix.specs.Execute.{exec_one}
+use Rattle.posix.specs.Runs.{RunsFrom}
+use Rattle.posix.specs.Settle.{NoWakeIsLost}
+use Rattle.posix.specs.Step.{code_of, begin_call, after_trap, act, step, happens}
+use Rattle.umach.specs.Bursts.{exec_until}
+
+-- p may begin the call so.
+abbrev pub Begins : State → ℕ → Call → List Entry → State → Type 0
+Begins old p call entries new = (me : Process) → process old p ≡ Some me
+    → (granted : Bool) × (begin_call old me (attempt granted old me call) ≡ record { state = new; entries = entries })
+
+-- p may run the instruction at its pc so.
+abbrev pub RunsInstruction : State → ℕ → List Entry → State → Type 0
+RunsInstruction old p entries new = (me : Process) → process old p ≡ Some me
+    → (granted : Bool) × (after_trap granted old me (exec_one (code_of old me) me.cpu).cpu (exec_one (code_of old me) me.cpu).trap ≡ record { state = new; entries = entries })
+
+-- p may act so.
+abbrev pub ActsAs : State → ℕ → List Entry → State → Type 0
+ActsAs old p entries new = (me : Process) → process old p ≡ Some me
+    → (granted : Bool) × (act granted old me ≡ record { state = new; entries = entries })
+
+-- The current process may act so.
+abbrev pub Steps : State → List Entry → State → Type 0
+Steps old entries new = (granted : Bool) × (step granted old (current_process old) ≡ record { state = new; entries = entries })
+
+-- An event may come to this, before places are given.
+abbrev pub Happens : State → Event → List Entry → State → Type 0
+Happens old event entries new = (granted : Bool) × (happens granted old event ≡ record { state = new; entries = entries })
+
+-- how many plain instructions, at most so many, a process runs: none in a call, or with a signal chosen
+abbrev pub plain_of : State → ℕ → Option Process → ℕ
+plain_of s most None = 0
+plain_of s most (Some me) = if is_some (chosen me.life me.signals) || is_some me.blocked then 0 else (exec_until (code_of s me) most me.cpu).count
+
+-- how many steps from here, at most so many, are plain instructions: none after a halt
+abbrev pub plain_steps : State → ℕ → ℕ
+plain_steps s most = if s.halted then 0 else plain_of s most (current_process s)
+
+-- So many steps lead from old to new, of which the last alone may show something; nobody is born, no time
+-- goes by, and each process that can act has a place.
+pub record Bursts (old : State) (count : ℕ) (entries : List Entry) (new : State) : Type 0 where
+  pub runs : (k : ℕ) → RunsFrom (k + 1) old (replicate count Step) (numbered (k + count) entries) new
+  pub births : new.births ≡ old.births
+  pub ticks : new.ticks ≡ old.ticks
+  pub awake : NoWakeIsLost new

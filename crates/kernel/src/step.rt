@@ -1,0 +1,200 @@
+//! One event of the machine. What it shows is added to a list of entries that is empty before, so that
+//! an instruction that shows nothing moves none.
+
+ghost use Rattle.std.specs.Prelude.{◌≡◌, ◌+◌, [], length, ◌<◌, ◌≤◌, ◌^◌, Some, option_map, false};
+ghost use Rattle.posix.specs.Processes.{Process};
+ghost use Rattle.posix.specs.Choice.{chosen};
+ghost use Rattle.posix.specs.States.{process};
+ghost use Rattle.posix.specs.Step.{tick as ticking, go_on as going_on, IsStep};
+ghost use Rattle.posix.specs.Attempts.{attempt_again};
+ghost use Rattle.posix.specs.Regular.{IsPlaced, IsRegular};
+ghost use Rattle.posix.specs.Settle.{NoWakeIsLost};
+ghost use Rattle.proctable.specs.Body.{facts_of};
+ghost use Rattle.calls.specs.Outcomes.{IsActing};
+ghost use Rattle.kernel.specs.Steps.{ActsAs, Begins, Bursts, Happens, RunsInstruction, Steps, plain_steps};
+
+use crate::settle::settle;
+use calls::Entries;
+use calls::attempts::{attempt, attempt_again};
+use calls::delivery::{deliver, end, fault};
+use life::Machine;
+use posix::{Blocked, Call, Entry, Event, Pid, Sig, Status, Trap};
+use proctable::{Facts, Kin};
+
+/// A process that has a place asks for a call. Where it has to wait it is blocked in the call and loses
+/// its place.
+#[inline(never)]
+fn begin_call<K: Kin>(machine: &mut Machine<K>, pid: Pid, call: Call, entries: &mut Entries)
+    requires acting { IsActing machine.old.state pid }
+    requires births { machine.old.state.births + 1 < 2 ^ 64 }
+    requires none { entries.old.items ≡ [] }
+    ensures { Begins machine.old.state pid call entries.new.items machine.new.state }
+{
+    let Some(blocked) = attempt(machine, pid, call, entries) else {
+        return;
+    };
+    machine.own(pid).enter(blocked);
+    machine.lose_place(pid);
+}
+
+/// A process that is blocked in a call, and no zombie, takes it up. Where it still has to wait the signal
+/// that is chosen for it is delivered; without one it loses its place.
+#[inline(never)]
+fn go_on<K: Kin>(
+    machine: &mut Machine<K>,
+    pid: Pid,
+    blocked: Blocked,
+    signal: Option<Sig>,
+    entries: &mut Entries,
+)
+    requires placed { IsPlaced machine.old.state.processes pid }
+    requires signal { (me : Process) → process machine.old.state pid ≡ Some me → signal ≡ chosen me.life me.signals }
+    requires none { entries.old.items ≡ [] }
+    ensures { (me : Process) → process machine.old.state pid ≡ Some me → going_on machine.old.state me (attempt_again machine.old.state me blocked) ≡ record { state = machine.new.state; entries = entries.new.items } }
+{
+    let Some(_) = attempt_again(machine, pid, blocked, entries) else {
+        return;
+    };
+    match signal {
+        Some(sig) => deliver(machine, pid, sig, entries),
+        None => machine.lose_place(pid),
+    }
+}
+
+/// A process that has a place, and runs this program, runs the instruction at its pc.
+#[tactic(auto, unfolding(posix::specs::Step::after_trap))]
+fn run_instruction<K: Kin>(machine: &mut Machine<K>, pid: Pid, program: u8, entries: &mut Entries)
+    requires acting { IsActing machine.old.state pid }
+    requires program { (me : Process) → process machine.old.state pid ≡ Some me → me.program ≡ program }
+    requires births { machine.old.state.births + 1 < 2 ^ 64 }
+    requires none { entries.old.items ≡ [] }
+    ensures { RunsInstruction machine.old.state pid entries.new.items machine.new.state }
+{
+    match machine.exec_one(pid, program) {
+        Trap::Next => {}
+        Trap::Note(value) => entries.push(Entry::Noted { pid, value }),
+        Trap::Call(call) => begin_call(machine, pid, call, entries),
+        Trap::Fault(sig) => fault(machine, pid, sig, entries),
+    }
+}
+
+/// A process that has a place, with these facts, acts: KILL ends it; it takes up its call; a signal is
+/// delivered to it; or it runs an instruction.
+#[tactic(auto, unfolding(posix::specs::Step::act, posix::specs::Step::act_in))]
+fn act<K: Kin>(machine: &mut Machine<K>, pid: Pid, facts: Facts, entries: &mut Entries)
+    requires acting { IsActing machine.old.state pid }
+    requires facts { Some facts ≡ option_map facts_of (process machine.old.state pid) }
+    requires births { machine.old.state.births + 1 < 2 ^ 64 }
+    requires none { entries.old.items ≡ [] }
+    ensures { ActsAs machine.old.state pid entries.new.items machine.new.state }
+{
+    let Facts {
+        chosen,
+        blocked,
+        program,
+        ..
+    } = facts;
+    if chosen == Some(Sig::KILL) {
+        return end(machine, pid, Status::killed(Sig::KILL), entries);
+    }
+    if let Some(blocked) = blocked {
+        return go_on(machine, pid, blocked, chosen, entries);
+    }
+    match chosen {
+        Some(sig) => deliver(machine, pid, sig, entries),
+        None => run_instruction(machine, pid, program, entries),
+    }
+}
+
+/// The current process acts. Nothing happens where there is none.
+#[tactic(auto, unfolding(posix::specs::Step::step))]
+fn step<K: Kin>(machine: &mut Machine<K>, entries: &mut Entries)
+    requires births { machine.old.state.births + 1 < 2 ^ 64 }
+    requires none { entries.old.items ≡ [] }
+    ensures { Steps machine.old.state entries.new.items machine.new.state }
+{
+    let Some(pid) = machine.current() else {
+        return;
+    };
+    let Some(facts) = machine.facts(pid) else {
+        return;
+    };
+    act(machine, pid, facts, entries);
+}
+
+/// The time goes on by one, and the current process goes to the end of the order.
+#[tactic(auto, unfolding(posix::specs::Step::tick))]
+#[inline(never)]
+fn tick<K: Kin>(machine: &mut Machine<K>)
+    requires { machine.old.state.ticks + 1 < 2 ^ 64 }
+    ensures { machine.new.state ≡ ticking machine.old.state }
+{
+    machine.pass_time();
+    if let Some(pid) = machine.current() {
+        machine.go_last(pid);
+    }
+}
+
+/// An event, before places are given.
+#[tactic(auto, unfolding(posix::specs::Step::happens))]
+fn happen<K: Kin>(machine: &mut Machine<K>, event: Event, entries: &mut Entries)
+    requires births { machine.old.state.births + 1 < 2 ^ 64 }
+    requires ticks { machine.old.state.ticks + 1 < 2 ^ 64 }
+    requires none { entries.old.items ≡ [] }
+    ensures { Happens machine.old.state event entries.new.items machine.new.state }
+{
+    match event {
+        Event::Step => step(machine, entries),
+        Event::Tick => tick(machine),
+    }
+}
+
+/// The current process runs plain instructions, at most so many, and the one after them where that gives a
+/// note: none where it is in a call, or a signal is chosen for it. The number of instructions that were
+/// run; nobody gets a place by them.
+pub fn burst<K: Kin>(machine: &mut Machine<K>, most: u64, entries: &mut Entries) -> u64
+    requires regular { IsRegular machine.old.state }
+    requires awake { NoWakeIsLost machine.old.state }
+    requires going { machine.old.state.halted ≡ false }
+    requires some { 0 < most }
+    requires none { entries.old.items ≡ [] }
+    ensures runs { Bursts machine.old.state result entries.new.items machine.new.state }
+    ensures count { result ≡ plain_steps machine.old.state most + length entries.new.items }
+    ensures one { length entries.new.items ≤ 1 }
+    ensures within { result ≤ most }
+    ensures regular { IsRegular machine.new.state }
+{
+    let Some(pid) = machine.current() else {
+        return 0;
+    };
+    let Some(facts) = machine.facts(pid) else {
+        return 0;
+    };
+    if facts.chosen.is_some() || facts.blocked.is_some() {
+        return 0;
+    }
+    let (count, trap) = machine.run_until(pid, facts.program, most);
+    match trap {
+        Trap::Note(value) => {
+            entries.push(Entry::Noted { pid, value });
+            count + 1
+        }
+        Trap::Next | Trap::Call(_) | Trap::Fault(_) => count,
+    }
+}
+
+/// One event. After a halt nothing changes, and nothing is shown.
+#[tactic(auto, unfolding(posix::specs::Step::next))]
+pub fn next<K: Kin>(machine: &mut Machine<K>, event: Event, entries: &mut Entries)
+    requires births { machine.old.state.births + 1 < 2 ^ 64 }
+    requires ticks { machine.old.state.ticks + 1 < 2 ^ 64 }
+    requires none { entries.old.items ≡ [] }
+    ensures step { IsStep machine.old.state event entries.new.items machine.new.state }
+    ensures regular { IsRegular machine.new.state }
+{
+    if machine.is_halted() {
+        return;
+    }
+    happen(machine, event, entries);
+    settle(machine);
+}

@@ -1,0 +1,20 @@
+use Rattle.std.proofs.Common.{◌≡◌, ◌+◌}
+use Rattle.std.specs.Prelude.{count_by}
+use Rattle.posix.specs.Processes.{is_living, is_zombie}
+use Rattle.posix.specs.Tables.{first_pid, left_of}
+use Rattle.posix.proofs.WalkLemmas.{numbers_left}
+use Rattle.life.proofs.machine.Machine.census.Given as goal
+
+-- those that were counted, and those that are left, are all
+abbrev pub invariant-loop-next : goal.invariant-loop-next
+invariant-loop-next g l =
+    let rs = l.fn.self.state.processes in
+    record {
+      same : l.self.state ≡ l.fn.self.state;
+      here : first_pid (left_of l.next rs) ≡ l.next;
+      living : l.living + count_by is_living (left_of l.next rs) ≡ count_by is_living rs;
+      zombies : l.zombies + count_by (λ r. is_zombie r.life) (left_of l.next rs) ≡ count_by (λ r. is_zombie r.life) rs;
+    }
+
+abbrev pub decreases-loop-next : goal.decreases-loop-next
+decreases-loop-next g l = numbers_left 2147483648 l.next

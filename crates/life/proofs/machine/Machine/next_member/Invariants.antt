@@ -1,0 +1,17 @@
+use Rattle.std.proofs.Common.{◌≡◌, filter}
+use Rattle.posix.specs.Tables.{is_member, members_in, first_pid, above, left_of}
+use Rattle.posix.proofs.WalkLemmas.{numbers_left}
+use Rattle.life.proofs.machine.Machine.next_member.Given as goal
+
+-- the first member that is left is the one wanted
+abbrev pub invariant-loop-next : goal.invariant-loop-next
+invariant-loop-next g l =
+    let rs = l.fn.self.state.processes in
+    record {
+      same : l.self.state ≡ l.fn.self.state;
+      here : first_pid (left_of l.next rs) ≡ l.next;
+      rest : first_pid (filter (is_member l.group) (left_of l.next rs)) ≡ first_pid (above l.fn.after (members_in l.group rs));
+    }
+
+abbrev pub decreases-loop-next : goal.decreases-loop-next
+decreases-loop-next g l = numbers_left 2147483648 l.next

@@ -1,0 +1,66 @@
+//! How many processes there are.
+
+ghost use Rattle.std.specs.Prelude.{◌≡◌, ◌<◌, ◌^◌, Some, length};
+ghost use Rattle.posix.specs.Processes.{Process, is_zombie as is_zombie_of};
+ghost use Rattle.posix.specs.States.{process};
+ghost use Rattle.posix.specs.Regular.{IsRegular};
+ghost use Rattle.life.specs.Censuses.{census_of};
+
+use crate::machine::Machine;
+use posix::{Life, Pid};
+use proctable::Kin;
+
+/// What is counted in a machine.
+#[derive(Clone, Copy, Debug, PartialEq, Eq)]
+pub struct Census {
+    /// The processes that were born, process 1 included.
+    pub births: u64,
+    /// The processes that live.
+    pub living: u64,
+    /// The ended processes that no wait has reported.
+    pub zombies: u64,
+    /// The ended processes that were dropped, since their parent ignores its children.
+    pub dropped: u64,
+    /// Whether the machine halted.
+    pub halted: bool,
+}
+
+impl<K: Kin> Machine<K> {
+    /// Counts the processes. Nothing changes.
+    pub fn census(&mut self) -> Census
+        ensures value { result ≡ census_of self.old.state }
+        ensures same { self.new.state ≡ self.old.state }
+    {
+        let mut living = 0;
+        let mut zombies = 0;
+        let mut next = self.next_after(Pid::NONE);
+        while let Some(pid) = next {
+            if self.is_zombie(pid) {
+                zombies += 1;
+            } else {
+                living += 1;
+            }
+            next = self.next_after(pid);
+        }
+        Census {
+            births: self.births(),
+            living,
+            zombies,
+            dropped: self.dropped(),
+            halted: self.is_halted(),
+        }
+    }
+
+    /// Whether a process is a zombie.
+    fn is_zombie(&mut self, pid: Pid) -> bool
+        ensures value { (it : Process) → process self.old.state pid ≡ Some it → result ≡ is_zombie_of it.life }
+        ensures same { self.new.state ≡ self.old.state }
+        ensures regular { IsRegular self.old.state }
+        ensures size { length self.old.state.processes < 2 ^ 63 }
+    {
+        let Some(facts) = self.facts(pid) else {
+            return false;
+        };
+        matches!(facts.life, Life::Zombie(_))
+    }
+}

@@ -1,0 +1,84 @@
+//! Walks over processes, from the least number on. Whoever goes over several processes does it by these.
+
+ghost use Rattle.std.specs.Prelude.{◌≡◌, ◌+◌, ◌≤◌, IsSome};
+ghost use Rattle.posix.specs.Processes.{Process};
+ghost use Rattle.posix.specs.Tables.{IsNext, first_pid, above, next_above, children_in, next_sibling as next_sibling_of, is_member as is_member_of, members_in};
+ghost use Rattle.posix.specs.States.{process};
+ghost use Rattle.posix.specs.Regular.{IsRegular};
+ghost use Rattle.posix.specs.Settle.{wakes};
+
+use crate::machine::Machine;
+use posix::Pid;
+use proctable::Kin;
+
+impl<K: Kin> Machine<K> {
+    /// The process with the least number above `pid`.
+    pub(crate) fn next_after(&mut self, pid: Pid) -> Option<Pid>
+        ensures value { result ≡ next_above pid self.old.state.processes }
+        ensures same { self.new.state ≡ self.old.state }
+        ensures reads { self.new.reads ≤ self.old.reads + 1 }
+        ensures regular { IsRegular self.old.state }
+    {
+        self.table.next_after(pid)
+    }
+
+    /// The child with the least number of a process that is there, zombies included.
+    pub(crate) fn first_child(&mut self, pid: Pid) -> Option<Pid>
+        requires { IsSome (process self.old.state pid) }
+        ensures value { result ≡ first_pid (children_in pid self.old.state.processes) }
+        ensures same { self.new.state ≡ self.old.state }
+        ensures reads { self.new.reads ≤ self.old.reads + 1 }
+        ensures regular { IsRegular self.old.state }
+    {
+        self.table.first_child(pid)
+    }
+
+    /// The next of the children of the parent of a process that is there.
+    pub(crate) fn next_sibling(&mut self, pid: Pid) -> Option<Pid>
+        requires { IsSome (process self.old.state pid) }
+        ensures value { result ≡ next_sibling_of pid self.old.state.processes }
+        ensures same { self.new.state ≡ self.old.state }
+        ensures reads { self.new.reads ≤ self.old.reads + 1 }
+    {
+        self.table.next_sibling(pid)
+    }
+
+    /// Whether a process is in this process group.
+    fn is_member(&mut self, pid: Pid, group: Pid) -> bool
+        ensures value { (it : Process) → process self.old.state pid ≡ Some it → result ≡ is_member_of group it }
+        ensures same { self.new.state ≡ self.old.state }
+    {
+        match self.table.get(pid) {
+            Some(facts) => facts.group == group,
+            None => false,
+        }
+    }
+
+    /// The member of a process group with the least number above `after`, zombies included (XBD 3 Process
+    /// Group). Its first is that after number 0.
+    pub(crate) fn next_member(&mut self, group: Pid, after: Pid) -> Option<Pid>
+        ensures value { result ≡ first_pid (above after (members_in group self.old.state.processes)) }
+        ensures same { self.new.state ≡ self.old.state }
+        ensures regular { IsRegular self.old.state }
+    {
+        let mut next = self.next_after(after);
+        while let Some(pid) = next {
+            if self.is_member(pid, group) {
+                return Some(pid);
+            }
+            next = self.next_after(pid);
+        }
+        None
+    }
+
+    /// Who is to be asked next, after the number `after`, whether it can act: nobody between them has to be
+    /// given a place, and where nobody comes next nobody above `after` has.
+    pub fn next_to_ask(&mut self, after: Pid) -> Option<Pid>
+        ensures next { IsNext (wakes self.old.state) after self.old.state.processes result }
+        ensures same { self.new.state ≡ self.old.state }
+        ensures reads { self.new.reads ≤ self.old.reads + 1 }
+        ensures regular { IsRegular self.old.state }
+    {
+        self.next_after(after)
+    }
+}
