@@ -7,9 +7,10 @@ use creds::Creds;
 use life::Machine;
 use pidalloc::{PidTable, Role};
 use posix::{Life, News, Pid, Register, Report, Status, Target, WaitOptions};
-use proctable::{Body, Facts, Kin, ScanTable};
+use proctable::{Body, Facts, Kin, ProcTable, ScanTable};
 use sched::Order;
 use std::alloc::{AllocError, Global};
+use std::process::Abort;
 use std::test::Fail;
 use text::read_world;
 use umach::{Cpu, UserMem};
@@ -80,12 +81,12 @@ fn places_are_given(rt: HostRuntime) -> Result<(), Fail> {
 
 /// A table of process 1 and its child, process 2.
 #[tactic(auto, unfolding(posix::specs::Tables::lookup, posix::specs::Tables::inserted, posix::specs::Tables::children_in))]
-fn family(alloc: Global) -> Result<ScanTable, AllocError>
-    ensures first { IfOk result (λ t. IsSome (lookup 1 t.processes)) }
-    ensures second { IfOk result (λ t. IsSome (lookup 2 t.processes)) }
-    ensures childless { IfOk result (λ t. children_in 2 t.processes ≡ []) }
+fn family<K: Kin>(alloc: Global) -> Result<K, AllocError>
+    ensures first { IfOk result (λ t. IsSome (lookup 1 (K.contents t))) }
+    ensures second { IfOk result (λ t. IsSome (lookup 2 (K.contents t))) }
+    ensures childless { IfOk result (λ t. children_in 2 (K.contents t) ≡ []) }
 {
-    let mut table = ScanTable::empty(alloc);
+    let mut table = K::empty(alloc);
     let first = Body::first(alloc)?;
     let child = first.fork(2)?;
     table.reserve()?;
@@ -111,9 +112,9 @@ fn child() -> Facts {
     }
 }
 
-#[test]
-fn a_family_is_walked(rt: HostRuntime) -> Result<(), Fail> {
-    let mut table = family(rt.alloc())?;
+/// A family is read in a table.
+fn walk_family<K: Kin, R: Abort + AllocGlobal>(rt: &R) -> Result<(), Fail> {
+    let mut table = family::<K>(rt.alloc())?;
     let two = pid(2);
     assert!(rt; table.get(two) == Some(child()));
     assert_eq!(rt; table.first_child(Pid::INIT), Some(two));
@@ -122,17 +123,17 @@ fn a_family_is_walked(rt: HostRuntime) -> Result<(), Fail> {
     Ok(())
 }
 
-#[test]
-fn a_family_changes(rt: HostRuntime) -> Result<(), Fail> {
-    let mut table = family(rt.alloc())?;
+/// A family is changed in a table.
+fn change_family<K: Kin, R: Abort + AllocGlobal>(rt: &R) -> Result<(), Fail> {
+    let mut table = family::<K>(rt.alloc())?;
     let two = pid(2);
     table.adopt(Pid::INIT, two);
     let parent = two;
     assert!(rt; table.get(two) == Some(Facts { parent, ..child() }));
-    let mut table = family(rt.alloc())?;
+    let mut table = family::<K>(rt.alloc())?;
     table.remove(two);
     assert!(rt; table.get(two) == None);
-    let mut table = family(rt.alloc())?;
+    let mut table = family::<K>(rt.alloc())?;
     table.update(two).make_zombie(Status::exited(7));
     let life = Life::Zombie(Status::exited(7));
     assert!(rt; table.get(two) == Some(Facts { life, ..child() }));
@@ -140,10 +141,22 @@ fn a_family_changes(rt: HostRuntime) -> Result<(), Fail> {
 }
 
 #[test]
+fn a_family_is_walked(rt: HostRuntime) -> Result<(), Fail> {
+    walk_family::<ProcTable, _>(&rt)?;
+    walk_family::<ScanTable, _>(&rt)
+}
+
+#[test]
+fn a_family_changes(rt: HostRuntime) -> Result<(), Fail> {
+    change_family::<ProcTable, _>(&rt)?;
+    change_family::<ScanTable, _>(&rt)
+}
+
+#[test]
 #[tactic(auto, unfolding(posix::specs::Tables::lookup))]
 fn a_machine_has_births_and_ends(rt: HostRuntime) -> Result<(), Fail> {
     let world = read_world(rt.alloc(), WORLD)?;
-    let mut machine = Machine::<ScanTable>::boot(rt.alloc(), &world)?;
+    let mut machine = Machine::<ProcTable>::boot(rt.alloc(), &world)?;
     let child = pid(2);
     assert!(rt; machine.next_pid() == Some(child));
     machine.fork(Pid::INIT, child)?;

@@ -2,8 +2,9 @@
 
 use crate::serving::{FileFault, ReadFiles, WordsFault, serve};
 use arrayvec::ArrayVec;
-use kernel::{Kernel, WriteSink, run};
+use kernel::{Kernel, WriteSink, run, run_on};
 use posix::{Entry, Event, Pid, Sig, Status};
+use proctable::ProcTable;
 use std::alloc::Global;
 use std::io;
 use std::process::Abort;
@@ -63,7 +64,15 @@ fn expect_served<R: Abort + AllocGlobal>(
     assert_eq!(rt; err.into_writer().as_slice(), told);
 }
 
-/// The texts are run with this trace, this message and this status.
+/// The texts are run with this trace over the table with linked children, too.
+fn expect_linked<R: Abort + AllocGlobal>(rt: &R, world: &[u8], events: &[u8], trace: &[u8]) {
+    let mut out = WriteSink::new(Vec::<u8>::new(rt.alloc()));
+    let got = run_on::<ProcTable, _>(rt.alloc(), world, events, &mut out);
+    assert!(rt; got.is_ok());
+    assert_eq!(rt; out.into_writer().as_slice(), trace);
+}
+
+/// The texts are run with this trace, this message and this status; where that is 0, over both tables.
 pub fn expect_run<R: Abort + AllocGlobal>(
     rt: &R,
     world: &'static [u8],
@@ -85,6 +94,9 @@ pub fn expect_run<R: Abort + AllocGlobal>(
         told,
         status,
     );
+    if status == 0 {
+        expect_linked(rt, world, events, trace);
+    }
 }
 
 #[test]

@@ -1,2 +1,10 @@
 pub mod Bodies
 pub mod SlotLemmas
+pub mod EntryLemmas
+pub mod CellLemmas
+pub mod KidLemmas
+pub mod JoinLemmas
+pub mod LinkLemmas
+pub mod NeighbourLemmas
+pub mod AdoptLemmas
+pub mod MergeLemmas

@@ -6,8 +6,9 @@ ghost use Rattle.posix.specs.Births.{child_of};
 ghost use Rattle.posix.specs.Ends.{made_zombie, ended, noticed};
 ghost use Rattle.posix.specs.Generation.{signalled, effect_of};
 ghost use Rattle.posix.specs.Waits.{news_told};
-ghost use Rattle.proctable.specs.Body.{process_of};
+ghost use Rattle.proctable.specs.Body.{process_of, facts_of};
 
+use crate::facts::Facts;
 use crate::own::Own;
 use posix::{Effect, Life, News, PendingSignal, Pid, Status};
 use std::alloc::{AllocError, Global};
@@ -60,6 +61,24 @@ impl Body {
             news: News::Nothing,
             own: self.own.fork()?,
         })
+    }
+
+    /// The small fields of the process with this number and this parent.
+    pub fn facts(&self, pid: Pid, parent: Pid) -> Facts
+        ensures { result ≡ facts_of (process_of pid parent self.now) }
+    {
+        Facts {
+            pid,
+            parent,
+            group: self.group,
+            session: self.session,
+            creds: self.own.creds,
+            chosen: self.own.signals.choose(self.life),
+            life: self.life,
+            news: self.news,
+            blocked: self.own.blocked,
+            program: self.own.program,
+        }
     }
 
     /// The process has ended with this status, and nothing is pending for it, and it is in no call (XSH

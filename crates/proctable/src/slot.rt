@@ -55,18 +55,7 @@ impl Slot {
     pub fn facts(&self) -> Facts
         ensures { result ≡ facts_of self.now }
     {
-        Facts {
-            pid: self.pid,
-            parent: self.parent,
-            group: self.body.group,
-            session: self.body.session,
-            creds: self.body.own.creds,
-            chosen: self.body.own.signals.choose(self.body.life),
-            life: self.body.life,
-            news: self.body.news,
-            blocked: self.body.own.blocked,
-            program: self.body.own.program,
-        }
+        self.body.facts(self.pid, self.parent)
     }
 
     /// If it is a child of `from`, it becomes one of `to`.

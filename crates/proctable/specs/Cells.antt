@@ -1,0 +1,50 @@
+-- What an index and slots are worth.
+use Rattle.std.specs.Prelude.{◌≡◌, ℕ, List, filter_map, Option, Some}
+use Rattle.std.specs.List.{AllByRecursion}
+use Rattle.slab.specs.Slab.{Slab, get}
+use Rattle.proctable.specs.declared.body.Body.{Body}
+use Rattle.proctable.specs.declared.entry.Entry.{Entry}
+use Rattle.proctable.specs.declared.node.Node.{Node}
+use Rattle.proctable.specs.Entries.{IsRising}
+use Rattle.proctable.specs.Nodes.{changed_node}
+use Rattle.proctable.specs.NodeSlots.{one_more}
+
+-- the nodes in rising order, how many more there is room for, and how many slots were read
+pub record CellsView : Type 0 where
+  pub nodes : List Node
+  pub room : ℕ
+  pub reads : ℕ
+
+unfoldable pub nodes_of : List Entry → Slab Node → List Node
+nodes_of es slab = filter_map (λ (e : Entry). get slab e.slot) es
+
+-- the slot of an entry has the node of its process
+pub record Stands (slab : Slab Node) (e : Entry) : Type 0 where
+  pub what : Node
+  pub at : get slab e.slot ≡ Some what
+  pub named : what.pid ≡ e.pid
+
+pub record IsIndexed (es : List Entry) (slab : Slab Node) : Type 0 where
+  pub rising : IsRising es
+  pub standing : AllByRecursion (Stands slab) es
+
+abbrev pub give_body : Body → Node → Node
+give_body b n = record n { body = b }
+
+abbrev pub placed : ℕ → Option ℕ → Option ℕ → Node → Node
+placed p a b n = record n { links = record (n.links) { parent = p; prev = a; next = b } }
+
+abbrev pub with_first : Option ℕ → Node → Node
+with_first o n = record n { links = record (n.links) { children = record (n.links.children) { first = o } } }
+
+abbrev pub with_last : Option ℕ → Node → Node
+with_last o n = record n { links = record (n.links) { children = record (n.links.children) { last = o } } }
+
+abbrev pub with_prev : Option ℕ → Node → Node
+with_prev o n = record n { links = record (n.links) { prev = o } }
+
+abbrev pub with_next : Option ℕ → Node → Node
+with_next o n = record n { links = record (n.links) { next = o } }
+
+abbrev pub put_body : CellsView → ℕ → Body → CellsView
+put_body c p b = record c { nodes = changed_node p (give_body b) c.nodes; reads = one_more c.reads }

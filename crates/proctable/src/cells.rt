@@ -1,0 +1,207 @@
+//! Nodes by number: an index in rising order, and a slot for each.
+
+ghost use Rattle.std.specs.Prelude.{◌≡◌, ◌+◌, ◌-◌, ◌<◌, ◌≤◌, ◌^◌, [], min, length, None, Some, IsSome, OnOk, option_map};
+ghost use Rattle.std.specs.Borrow.{sem, Lends};
+ghost use Rattle.posix.specs.Tables.{IsRising, lookup, next_above};
+ghost use Rattle.proctable.specs.Body.{body_row, facts_of};
+ghost use Rattle.proctable.specs.Nodes.{find_node, changed_node, inserted_node, removed_node, records};
+ghost use Rattle.proctable.specs.Cells.{put_body, with_first, with_last, with_prev, with_next, placed};
+ghost use Rattle.proctable.specs.contracts.cells.Cells.{the_row as cells_row};
+
+use crate::body::Body;
+use crate::entry::{
+    Entry, found, gap, insert_entry, next_in, place as place_in, remove_entry, slot_at, slot_of,
+};
+use crate::facts::Facts;
+use crate::node::{Links, Node};
+use crate::slots::Slots;
+use posix::Pid;
+use std::alloc::{AllocError, Global};
+use std::marker::Model;
+
+/// Nodes, seen as a list in rising order of their numbers. Each is found by a binary search of the index.
+///
+/// A call reads at most one slot, and none where the process isn't there.
+#[derive(Drop)]
+pub struct Cells {
+    index: Vec<Entry>,
+    slots: Slots,
+}
+
+impl Model for Cells {
+    ghost use Rattle.std.specs.Prelude.{◌-◌, min, vec_len, vec_capacity};
+    ghost use Rattle.slab.specs.Slab.{slab_len};
+    ghost use Rattle.proctable.specs.Cells.{CellsView, nodes_of, IsIndexed};
+
+    ghost Value = { CellsView };
+
+    ghost view = { λ c. record { nodes = nodes_of c.index.items c.slots.nodes; room = min (vec_capacity c.index - vec_len c.index) (c.slots.nodes.capacity - slab_len c.slots.nodes); reads = c.slots.reads } };
+
+    ghost invariant = { λ c. IsIndexed c.index.items c.slots.nodes };
+}
+
+impl Cells {
+    /// No nodes. It takes no memory.
+    pub fn new(alloc: Global) -> Cells
+        ensures nodes { result.nodes ≡ [] }
+        ensures reads { result.reads ≡ 0 }
+    {
+        Cells {
+            index: Vec::new(alloc),
+            slots: Slots::new(alloc),
+        }
+    }
+
+    /// Makes room for one more node. At an error the host has no memory for it, and the nodes are unchanged.
+    pub fn reserve(&mut self) -> Result<(), AllocError>
+        ensures ok { OnOk result (0 < self.new.room) }
+        ensures room { self.old.room ≤ self.new.room }
+        ensures nodes { self.new.nodes ≡ self.old.nodes }
+        ensures reads { self.new.reads ≡ self.old.reads }
+    {
+        self.index.reserve(1)?;
+        self.slots.reserve()
+    }
+
+    /// The links of a process; none where it isn't there.
+    pub fn links(&mut self, pid: Pid) -> Option<Links>
+        ensures value { result ≡ option_map (λ n. n.links) (find_node pid self.old.nodes) }
+        ensures nodes { self.new.nodes ≡ self.old.nodes }
+        ensures room { self.new.room ≡ self.old.room }
+        ensures reads { self.new.reads ≤ self.old.reads + 1 }
+    {
+        match slot_of(&self.index, pid) {
+            Some(slot) => Some(self.slots.links(slot)),
+            None => None,
+        }
+    }
+
+    /// The small fields of a process; none where it isn't there.
+    pub fn facts(&mut self, pid: Pid) -> Option<Facts>
+        ensures value { result ≡ option_map facts_of (lookup pid (records self.old.nodes)) }
+        ensures size { length self.old.nodes < 2 ^ 63 }
+        ensures nodes { self.new.nodes ≡ self.old.nodes }
+        ensures room { self.new.room ≡ self.old.room }
+        ensures reads { self.new.reads ≤ self.old.reads + 1 }
+    {
+        match slot_of(&self.index, pid) {
+            Some(slot) => Some(self.slots.facts(slot)),
+            None => None,
+        }
+    }
+
+    /// Sets the first child of a process; nothing changes where it isn't there.
+    pub fn set_first(&mut self, pid: Pid, first: Option<Pid>)
+        ensures nodes { self.new.nodes ≡ changed_node pid (with_first first) self.old.nodes }
+        ensures room { self.new.room ≡ self.old.room }
+        ensures reads { self.new.reads ≤ self.old.reads + 1 }
+    {
+        if let Some(slot) = slot_of(&self.index, pid) {
+            let node = self.slots.node(slot);
+            node.links.children.first = first;
+        }
+    }
+
+    /// Sets the last child of a process; nothing changes where it isn't there.
+    pub fn set_last(&mut self, pid: Pid, last: Option<Pid>)
+        ensures nodes { self.new.nodes ≡ changed_node pid (with_last last) self.old.nodes }
+        ensures room { self.new.room ≡ self.old.room }
+        ensures reads { self.new.reads ≤ self.old.reads + 1 }
+    {
+        if let Some(slot) = slot_of(&self.index, pid) {
+            let node = self.slots.node(slot);
+            node.links.children.last = last;
+        }
+    }
+
+    /// Sets the sibling before a process; nothing changes where it isn't there.
+    pub fn set_prev(&mut self, pid: Pid, prev: Option<Pid>)
+        ensures nodes { self.new.nodes ≡ changed_node pid (with_prev prev) self.old.nodes }
+        ensures room { self.new.room ≡ self.old.room }
+        ensures reads { self.new.reads ≤ self.old.reads + 1 }
+    {
+        if let Some(slot) = slot_of(&self.index, pid) {
+            let node = self.slots.node(slot);
+            node.links.prev = prev;
+        }
+    }
+
+    /// Sets the sibling after a process; nothing changes where it isn't there.
+    pub fn set_next(&mut self, pid: Pid, next: Option<Pid>)
+        ensures nodes { self.new.nodes ≡ changed_node pid (with_next next) self.old.nodes }
+        ensures room { self.new.room ≡ self.old.room }
+        ensures reads { self.new.reads ≤ self.old.reads + 1 }
+    {
+        if let Some(slot) = slot_of(&self.index, pid) {
+            let node = self.slots.node(slot);
+            node.links.next = next;
+        }
+    }
+
+    /// Sets where a process stands, all but its children; nothing changes where it isn't there.
+    pub fn place(&mut self, pid: Pid, parent: Pid, prev: Option<Pid>, next: Option<Pid>)
+        ensures nodes { self.new.nodes ≡ changed_node pid (placed parent prev next) self.old.nodes }
+        ensures room { self.new.room ≡ self.old.room }
+        ensures reads { self.new.reads ≤ self.old.reads + 1 }
+    {
+        if let Some(slot) = slot_of(&self.index, pid) {
+            let node = self.slots.node(slot);
+            node.links.parent = parent;
+            node.links.prev = prev;
+            node.links.next = next;
+        }
+    }
+
+    /// The body of a process that is there, for the caller to change.
+    pub fn body_mut(&mut self, pid: Pid) -> &mut Body
+        requires { IsSome (find_node pid self.old.nodes) }
+        ensures* lends { sem 𝓛 (Lends cells_row body_row self.entry result (put_body self.old pid)) }
+        ensures value { option_map (λ n. n.body) (find_node pid self.old.nodes) ≡ Some result.now }
+    {
+        let slot = found(&self.index, pid);
+        let node = self.slots.node(slot);
+        &mut node.body
+    }
+
+    /// Puts in a node of a process that isn't there, where there is room.
+    pub fn insert(&mut self, node: Node)
+        requires room { 0 < self.old.room }
+        requires absent { find_node node.pid self.old.nodes ≡ None }
+        ensures nodes { self.new.nodes ≡ inserted_node node self.old.nodes }
+        ensures room { self.old.room ≤ self.new.room + 1 }
+        ensures reads { self.new.reads ≤ self.old.reads + 1 }
+    {
+        let pid = node.pid;
+        let at = gap(&self.index, pid);
+        let slot = self.slots.insert(node);
+        insert_entry(&mut self.index, at, Entry { pid, slot });
+    }
+
+    /// Takes out a process; nothing changes where it isn't there.
+    pub fn remove(&mut self, pid: Pid)
+        ensures nodes { self.new.nodes ≡ removed_node pid self.old.nodes }
+        ensures room { self.old.room ≤ self.new.room }
+        ensures reads { self.new.reads ≤ self.old.reads + 1 }
+    {
+        if let Ok(at) = place_in(&self.index, pid) {
+            let slot = slot_at(&self.index, pid, at);
+            self.slots.remove(slot);
+            remove_entry(&mut self.index, at);
+        }
+    }
+
+    /// The process with the least number above `pid`, which need not be there. No slot is read.
+    pub fn next_after(&self, pid: Pid) -> Option<Pid>
+        ensures value { result ≡ next_above pid (records self.now.nodes) }
+        ensures rising { IsRising (records self.now.nodes) }
+    {
+        next_in(&self.index, pid)
+    }
+
+    /// How many slots were read, up to the greatest u128. No slot is read.
+    pub fn reads(&self) -> u128
+        ensures { result ≡ self.now.reads }
+    {
+        self.slots.reads()
+    }
+}

@@ -1,0 +1,122 @@
+//! A table of processes with linked children.
+
+ghost use Rattle.std.specs.Prelude.{refl};
+ghost use Rattle.proctable.specs.NodeSlots.{one_more};
+ghost use Rattle.proctable.specs.Joined.{put_body};
+
+use crate::body::Body;
+use crate::cells::Cells;
+use crate::facts::Facts;
+use crate::kin::Kin;
+use crate::links::{adopt_all, ends_of, link, next_of, unlink};
+use crate::node::{Ends, Links, Node};
+use posix::Pid;
+use std::alloc::{AllocError, Global};
+use std::marker::Model;
+
+/// A table with linked children. The records stand in the slots of a slab, and an index in rising order
+/// names the slot of each process, which is found by a binary search. The children of a process are linked
+/// in rising order of their numbers.
+///
+/// The index isn't counted among the slots that are read. `next_after` reads no slot, `get`, `update`,
+/// `first_child` and `next_sibling` read one, and `remove` four at most. `insert` reads five, and one more
+/// for each child of the parent with a greater number than the new one: none at the usual birth. `adopt`
+/// reads eight at most for each child that is given, one for each that the new parent has, and one more.
+/// For a link to a process its slot is looked up in the index.
+#[derive(Drop)]
+pub struct ProcTable {
+    cells: Cells,
+    /// Those with the parent 0.
+    root: Ends,
+}
+
+impl Model for ProcTable {
+    ghost use Rattle.proctable.specs.Nodes.{records};
+    ghost use Rattle.proctable.specs.Joined.{IsTable, TableView};
+
+    ghost Value = { TableView };
+
+    ghost view = { λ t. record { processes = records t.cells.nodes; room = t.cells.room; reads = t.cells.reads } };
+
+    ghost invariant = { λ t. IsTable t.cells.nodes t.root };
+}
+
+impl Kin for ProcTable {
+    ghost contents = { λ t. t.processes };
+
+    ghost room = { λ t. t.room };
+
+    ghost reads = { λ t. t.reads };
+
+    ghost one_more = { one_more };
+
+    ghost put = { put_body };
+
+    ghost puts = { λ t p b. refl };
+
+    ghost keeps_room = { λ t p b. refl };
+
+    ghost use Rattle.std.specs.Prelude.{◌+◌, ◌-◌, ◌^◌};
+    ghost use Rattle.std.proofs.Math.Nat.{min-le_left};
+
+    ghost put_reads = { λ t p b. refl };
+
+    ghost at_most_one = { λ n. min-le_left (n + 1) (2 ^ 128 - 1) };
+
+    fn empty(alloc: Global) -> Self {
+        ProcTable {
+            cells: Cells::new(alloc),
+            root: Ends::none(),
+        }
+    }
+
+    fn reserve(&mut self) -> Result<(), AllocError> {
+        self.cells.reserve()
+    }
+
+    fn insert(&mut self, pid: Pid, parent: Pid, body: Body) {
+        let links = Links {
+            parent,
+            children: Ends::none(),
+            prev: None,
+            next: None,
+        };
+        self.cells.insert(Node { pid, links, body });
+        self.root = link(&mut self.cells, self.root, parent, pid, None);
+    }
+
+    fn get(&mut self, pid: Pid) -> Option<Facts> {
+        self.cells.facts(pid)
+    }
+
+    fn update(&mut self, pid: Pid) -> &mut Body {
+        self.cells.body_mut(pid)
+    }
+
+    fn remove(&mut self, pid: Pid) {
+        self.root = unlink(&mut self.cells, self.root, pid);
+        self.cells.remove(pid);
+    }
+
+    fn first_child(&mut self, pid: Pid) -> Option<Pid> {
+        ends_of(&mut self.cells, self.root, pid).first
+    }
+
+    fn next_sibling(&mut self, pid: Pid) -> Option<Pid> {
+        next_of(&mut self.cells, pid)
+    }
+
+    fn next_after(&mut self, pid: Pid) -> Option<Pid> {
+        self.cells.next_after(pid)
+    }
+
+    fn adopt(&mut self, from: Pid, to: Pid) {
+        if from != to {
+            self.root = adopt_all(&mut self.cells, self.root, from, to);
+        }
+    }
+
+    fn visits(&self) -> u128 {
+        self.cells.reads()
+    }
+}
