@@ -4,7 +4,7 @@ ghost use Rattle.std.specs.Prelude.{◌≡◌, refl};
 ghost use Rattle.std.proofs.Common.{arith};
 ghost use Rattle.proctable.specs.Slots.{put_body};
 
-use crate::tests::expect_run;
+use crate::tests::{expect_run, expect_run_on};
 use kernel::{RunError, Summary, WriteSink, run, run_on};
 use posix::Pid;
 use proctable::{Body, Facts, Kin, ScanTable};
@@ -323,32 +323,22 @@ impl<const REFUSED: usize> Kin for RefusingTable<REFUSED> {
     }
 }
 
-/// The texts are run over a table of this type, with this trace and so many births.
-fn expect_run_on<K: Kin, R: Abort + AllocGlobal>(
-    rt: &R,
-    world: &[u8],
-    events: &[u8],
-    trace: &[u8],
-    births: u64,
-) -> Result<(), Fail> {
-    let mut out = WriteSink::new(Vec::<u8>::new(rt.alloc()));
-    let summary = run_on::<K, _>(rt.alloc(), world, events, &mut out)?;
-    assert_eq!(rt; summary.births, births);
-    assert_eq!(rt; out.into_writer().as_slice(), trace);
-    Ok(())
-}
-
 #[test]
 fn a_fork_without_memory_changes_only_its_result(rt: HostRuntime) -> Result<(), Fail> {
     // Process 1 made the first attempt, at the start.
     let trace = b"1 call 1 fork = -11 memory\n2 call 1 fork = 2\n";
-    expect_run_on::<RefusingTable<2>, _>(&rt, TWO_FORKS, b"step 2\n", trace, 2)?;
+    let run = expect_run_on::<RefusingTable<2>, _>(&rt, TWO_FORKS, b"step 2\n", trace)?;
+    assert_eq!(rt; run.births, 2);
     let trace = b"1 call 1 fork = 2\n2 call 1 fork = -11 memory\n";
-    expect_run_on::<RefusingTable<3>, _>(&rt, TWO_FORKS, b"step 2\n", trace, 2)?;
+    let run = expect_run_on::<RefusingTable<3>, _>(&rt, TWO_FORKS, b"step 2\n", trace)?;
+    assert_eq!(rt; run.births, 2);
     let trace = b"1 call 1 fork = 2\n2 call 1 fork = 3\n";
-    expect_run_on::<RefusingTable<4>, _>(&rt, TWO_FORKS, b"step 2\n", trace, 3)?;
+    let run = expect_run_on::<RefusingTable<4>, _>(&rt, TWO_FORKS, b"step 2\n", trace)?;
+    assert_eq!(rt; run.births, 3);
     let trace = b"3 call 1 fork = -11 memory\n4 note 1 -11\n6 note 1 5\n7 call 1 fork = 2\n";
-    expect_run_on::<RefusingTable<2>, _>(&rt, KEPT_WORD, b"step 7\n", trace, 2)
+    let run = expect_run_on::<RefusingTable<2>, _>(&rt, KEPT_WORD, b"step 7\n", trace)?;
+    assert_eq!(rt; run.births, 2);
+    Ok(())
 }
 
 #[test]

@@ -2,9 +2,9 @@
 
 use crate::serving::{FileFault, ReadFiles, WordsFault, serve};
 use arrayvec::ArrayVec;
-use kernel::{Kernel, WriteSink, run, run_on};
+use kernel::{Kernel, RunError, Summary, WriteSink, run, run_on};
 use posix::{Entry, Event, Pid, Sig, Status};
-use proctable::ProcTable;
+use proctable::{Kin, ProcTable};
 use std::alloc::Global;
 use std::io;
 use std::process::Abort;
@@ -64,12 +64,17 @@ fn expect_served<R: Abort + AllocGlobal>(
     assert_eq!(rt; err.into_writer().as_slice(), told);
 }
 
-/// The texts are run with this trace over the table with linked children, too.
-fn expect_linked<R: Abort + AllocGlobal>(rt: &R, world: &[u8], events: &[u8], trace: &[u8]) {
+/// The texts are run over this table of processes, with this trace; the run in numbers.
+pub fn expect_run_on<K: Kin, R: Abort + AllocGlobal>(
+    rt: &R,
+    world: &[u8],
+    events: &[u8],
+    trace: &[u8],
+) -> Result<Summary, RunError> {
     let mut out = WriteSink::new(Vec::<u8>::new(rt.alloc()));
-    let got = run_on::<ProcTable, _>(rt.alloc(), world, events, &mut out);
-    assert!(rt; got.is_ok());
+    let summary = run_on::<K, _>(rt.alloc(), world, events, &mut out)?;
     assert_eq!(rt; out.into_writer().as_slice(), trace);
+    Ok(summary)
 }
 
 /// The texts are run with this trace, this message and this status; where that is 0, over both tables.
@@ -95,7 +100,7 @@ pub fn expect_run<R: Abort + AllocGlobal>(
         status,
     );
     if status == 0 {
-        expect_linked(rt, world, events, trace);
+        assert!(rt; expect_run_on::<ProcTable, _>(rt, world, events, trace).is_ok());
     }
 }
 

@@ -109,34 +109,6 @@ head_left_of rs n =
       | Some y ↦ λ e. head_from rs n y e
     ] refl
 
--- what a walk over all of them knows at p: the record, and what is left after it
-pub record AtRecord (rs : List Process) (p : ℕ) : Type 0 where
-  pub what : Process
-  pub named : what.pid ≡ p
-  pub found : lookup p rs ≡ Some what
-  pub left : left_of (Some p) rs ≡ what ∷ left_of (next_above p rs) rs
-  pub next : first_pid (left_of (next_above p rs) rs) ≡ next_above p rs
-
--- a walk that comes to p finds it
-pub at_record : (rs : List Process) → IsRising rs → (p : ℕ) → first_pid (left_of (Some p) rs) ≡ Some p → AtRecord rs p
-unfolding next_above
-at_record rs up p e =
-    let h = here rs up p e in
-    record { what = h.what; named = h.named; found = h.found; left = h.left; next = head_left_of rs p }
-
--- a number that comes next is the first of what is left
-pub next_is_first : (rs : List Process) (n : ℕ) → first_pid (left_of (next_above n rs) rs) ≡ next_above n rs
-unfolding next_above
-next_is_first rs n = head_left_of rs n
-
--- where p passes a test, it is the first that is left to do so
-pub passes_here : (t : Process → Bool) (rs : List Process) (p : ℕ) (next : Option ℕ) (a : AtRecord rs p) → next ≡ Some p → t a.what ≡ true → first_pid (filter t (left_of next rs)) ≡ Some p
-passes_here t rs p next a e h = rw (e, a.left, h) (ap Some a.named)
-
--- where it fails, those that are left do so after it
-pub fails_here : (t : Process → Bool) (rs : List Process) (p : ℕ) (next : Option ℕ) (a : AtRecord rs p) → next ≡ Some p → t a.what ≡ false → filter t (left_of next rs) ≡ filter t (left_of (next_above p rs) rs)
-fails_here t rs p next a e h = rw (e, a.left, h) refl
-
 -- who is found in a list above n lies above n
 found_above : (n q : ℕ) (xs : List Process) (r : Process) → Above n xs → lookup q xs ≡ Some r → n < q
 unfolding lookup
@@ -222,13 +194,6 @@ all_looked P (x ∷ xs) up h = (
   ] refl)),
 )
 
--- a walk over all of them begins with all
-pub all_left : (rs : List Process) → IsRising rs → ((p : ℕ) (r : Process) → lookup p rs ≡ Some r → 1 ≤ r.pid) → left_of (next_above 0 rs) rs ≡ rs
-unfolding next_above
-all_left rs up least =
-    let all : above 0 rs ≡ rs = above_all 0 rs (all_looked _ rs up least) in
-    ap (λ qs. left_of (first_pid qs) rs) all ∙ left_of_head rs up
-
 -- those with the number p: one, or none
 abbrev pub numbered : ℕ → List Process → List Process
 numbered p rs = filter (has_pid p) rs
@@ -284,15 +249,15 @@ left_split p (x ∷ xs) up =
     ]
 
 -- tests that agree on those that pass another
-agree : (t u v : Process → Bool) (rs : List Process) → AllByRecursion (λ r. t r ≡ true → u r ≡ v r) rs → filter t (filter u rs) ≡ filter t (filter v rs)
-agree t u v [] h = refl
-agree t u v (r ∷ rs) h =
+filters_agree : (t u v : Process → Bool) (rs : List Process) → AllByRecursion (λ r. t r ≡ true → u r ≡ v r) rs → filter t (filter u rs) ≡ filter t (filter v rs)
+filters_agree t u v [] h = refl
+filters_agree t u v (r ∷ rs) h =
     elim (t r) as (λ b. t r ≡ b → filter t (cond (u r) (r ∷ filter u rs) (filter u rs)) ≡ filter t (cond (v r) (r ∷ filter v rs) (filter v rs))) [
       | true ↦ λ e. ap (λ b. filter t (cond b (r ∷ filter u rs) (filter u rs))) (h.0 e) ∙ elim (v r) as (λ b. filter t (cond b (r ∷ filter u rs) (filter u rs)) ≡ filter t (cond b (r ∷ filter v rs) (filter v rs))) [
-        | true ↦ rw e (ap (λ l. r ∷ l) (agree t u v rs h.1))
-        | false ↦ agree t u v rs h.1
+        | true ↦ rw e (ap (λ l. r ∷ l) (filters_agree t u v rs h.1))
+        | false ↦ filters_agree t u v rs h.1
       ]
-      | false ↦ λ e. out (u r) u e ∙ agree t u v rs h.1 ∙ sym (out (v r) v e)
+      | false ↦ λ e. out (u r) u e ∙ filters_agree t u v rs h.1 ∙ sym (out (v r) v e)
     ] refl
   where
     out : (b : Bool) (w : Process → Bool) → t r ≡ false → filter t (cond b (r ∷ filter w rs) (filter w rs)) ≡ filter t (filter w rs)
@@ -300,29 +265,29 @@ agree t u v (r ∷ rs) h =
     out false w e = refl
 
 -- whether a number is left, from the one that comes next on
-abbrev comes : Option ℕ → ℕ → Bool
-comes None q = false
-comes (Some n) q = nat_le n q
+abbrev is_left : Option ℕ → ℕ → Bool
+is_left None q = false
+is_left (Some n) q = nat_le n q
 
-left_is : (o : Option ℕ) (rs : List Process) → left_of o rs ≡ filter (λ r. comes o r.pid) rs
+left_is : (o : Option ℕ) (rs : List Process) → left_of o rs ≡ filter (λ r. is_left o r.pid) rs
 left_is None [] = refl
 left_is None (x ∷ xs) = left_is None xs
 left_is (Some n) rs = refl
 
 -- who isn't left lies before the one that comes next
-lies_before : (o : Option ℕ) (q : ℕ) → comes o q ≡ false → IfSome o (λ m. q < m)
+lies_before : (o : Option ℕ) (q : ℕ) → is_left o q ≡ false → IfSome o (λ m. q < m)
 lies_before None q e = tt
 lies_before (Some m) q e = grind (arith, nat_tests)
 
 -- and so does who isn't above n
-before_next : (o : Option ℕ) (n q : ℕ) → q ≤ n → IfSome o (λ m. n < m) → comes o q ≡ false
+before_next : (o : Option ℕ) (n q : ℕ) → q ≤ n → IfSome o (λ m. n < m) → is_left o q ≡ false
 before_next None n q l h = refl
 before_next (Some m) n q l h = let t : nat_le m q ≡ false = grind (arith, nat_tests, h) in t
 
 -- who passes is left just where it lies above n
-comes_above : (t : Process → Bool) (n : ℕ) (rs : List Process) (next : Option ℕ) → IsNext t n rs next → (r : Process) → lookup r.pid rs ≡ Some r → t r ≡ true → comes next r.pid ≡ nat_lt n r.pid
-comes_above t n rs next i r e k = elim (nat_lt n r.pid) as (λ b. nat_lt n r.pid ≡ b → comes next r.pid ≡ b) [
-  | true ↦ λ u. elim (comes next r.pid) as (λ b. comes next r.pid ≡ b → b ≡ true) [
+is_left_above : (t : Process → Bool) (n : ℕ) (rs : List Process) (next : Option ℕ) → IsNext t n rs next → (r : Process) → lookup r.pid rs ≡ Some r → t r ≡ true → is_left next r.pid ≡ nat_lt n r.pid
+is_left_above t n rs next i r e k = elim (nat_lt n r.pid) as (λ b. nat_lt n r.pid ≡ b → is_left next r.pid ≡ b) [
+  | true ↦ λ u. elim (is_left next r.pid) as (λ b. is_left next r.pid ≡ b → b ≡ true) [
     | true ↦ λ v. refl
     | false ↦ λ v. let no : true ≡ false = sym k ∙ i.between r.pid r e (ltb-true _ _ u) (lies_before next r.pid v) in absurd (cc)
   ] refl
@@ -333,7 +298,7 @@ comes_above t n rs next i r e k = elim (nat_lt n r.pid) as (λ b. nat_lt n r.pid
 pub rest_of_walk : (t : Process → Bool) (n : ℕ) (rs : List Process) (next : Option ℕ) → IsRising rs → IsNext t n rs next → filter t (left_of next rs) ≡ filter t (above n rs)
 rest_of_walk t n rs next up i =
     ap (filter t) (left_is next rs)
-    ∙ agree t (λ r. comes next r.pid) (λ r. nat_lt n r.pid) rs (all_looked (λ r. t r ≡ true → comes next r.pid ≡ nat_lt n r.pid) rs up (λ q r e k. comes_above t n rs next i r (ap (λ m. lookup m rs) (pid_looked q rs r e) ∙ e) k))
+    ∙ filters_agree t (λ r. is_left next r.pid) (λ r. nat_lt n r.pid) rs (all_looked (λ r. t r ≡ true → is_left next r.pid ≡ nat_lt n r.pid) rs up (λ q r e k. is_left_above t n rs next i r (ap (λ m. lookup m rs) (pid_looked q rs r e) ∙ e) k))
 
 -- a walk begins with all that pass
 pub walk_begins : (t : Process → Bool) (rs : List Process) (next : Option ℕ) → IsRising rs → ((p : ℕ) (r : Process) → lookup p rs ≡ Some r → 1 ≤ r.pid) → IsNext t 0 rs next → filter t (left_of next rs) ≡ filter t rs
@@ -342,6 +307,24 @@ walk_begins t rs next up least i = rest_of_walk t 0 rs next up i ∙ ap (filter 
 -- at p, that one is left, if it is there and passes, and those that lie above
 pub walk_splits : (t : Process → Bool) (p : ℕ) (rs : List Process) → IsRising rs → filter t (left_of (Some p) rs) ≡ filter t (numbered p rs) ++ filter t (above p rs)
 walk_splits t p rs up = ap (filter t) (left_split p rs up) ∙ filter-append t (numbered p rs) (above p rs)
+
+-- at p, which is there, it is left where it passes, and those from the one that comes next on
+pub walk_at : (t : Process → Bool) (p : ℕ) (rs : List Process) → IsRising rs → (r : Process) → lookup p rs ≡ Some r → (next : Option ℕ) → IsNext t p rs next
+    → filter t (left_of (Some p) rs) ≡ filter t (r ∷ []) ++ filter t (left_of next rs)
+walk_at t p rs up r e next i =
+    walk_splits t p rs up
+    ∙ ap (λ l. filter t l ++ filter t (above p rs)) (numbered_one p rs up r e)
+    ∙ ap (λ l. filter t (r ∷ []) ++ l) (sym (rest_of_walk t p rs next up i))
+
+-- where it passes, it is the first of those left that do
+pub passes_here : (t : Process → Bool) (p : ℕ) (rs : List Process) → IsRising rs → (r : Process) → lookup p rs ≡ Some r → (next : Option ℕ) → IsNext t p rs next → t r ≡ true
+    → first_pid (filter t (left_of (Some p) rs)) ≡ Some p
+passes_here t p rs up r e next i h = ap first_pid (walk_at t p rs up r e next i) ∙ rw h (ap Some (pid_looked p rs r e))
+
+-- where it fails, those left that pass are left after it
+pub fails_here : (t : Process → Bool) (p : ℕ) (rs : List Process) → IsRising rs → (r : Process) → lookup p rs ≡ Some r → (next : Option ℕ) → IsNext t p rs next → t r ≡ false
+    → filter t (left_of (Some p) rs) ≡ filter t (left_of next rs)
+fails_here t p rs up r e next i h = walk_at t p rs up r e next i ∙ rw h refl
 
 -- ---- who comes next
 

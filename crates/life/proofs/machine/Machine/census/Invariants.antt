@@ -1,7 +1,8 @@
 use Rattle.std.proofs.Common.{◌≡◌, ◌+◌}
 use Rattle.std.specs.Prelude.{count_by}
+use Rattle.std.specs.Option.{IfSome, IsSome}
 use Rattle.posix.specs.Processes.{is_living, is_zombie}
-use Rattle.posix.specs.Tables.{first_pid, left_of}
+use Rattle.posix.specs.Tables.{left_of, lookup}
 use Rattle.posix.proofs.WalkLemmas.{numbers_left}
 use Rattle.life.proofs.machine.Machine.census.Given as goal
 
@@ -11,7 +12,7 @@ invariant-loop-next g l =
     let rs = l.fn.self.state.processes in
     record {
       same : l.self.state ≡ l.fn.self.state;
-      here : first_pid (left_of l.next rs) ≡ l.next;
+      there : IfSome l.next (λ p. IsSome (lookup p rs));
       living : l.living + count_by is_living (left_of l.next rs) ≡ count_by is_living rs;
       zombies : l.zombies + count_by (λ r. is_zombie r.life) (left_of l.next rs) ≡ count_by (λ r. is_zombie r.life) rs;
     }

@@ -1,8 +1,9 @@
-use Rattle.std.proofs.Common.{◌≡◌, ◌<◌, ap, sym, ◌∙◌, arith, subst, filter, Option, ℕ, true, false, nat_lt}
-use Rattle.std.specs.Option.{IfSome}
-use Rattle.posix.specs.Tables.{is_member, members_in, first_pid, left_of, next_above, lookup}
+use Rattle.std.proofs.Common.{◌<◌, ap, sym, ◌∙◌, arith, subst, filter, Option, ℕ, nat_lt}
+use Rattle.std.specs.Option.{IfSome, IsSome}
+use Rattle.posix.specs.Tables.{IsNext, is_member, members_in, first_pid, left_of, next_above, lookup}
 use Rattle.posix.specs.States.{State}
-use Rattle.posix.proofs.WalkLemmas.{at_record, passes_here, fails_here, next_is_first, rest_of_walk, least_is_next, filters_commute, numbers_left, fewer_left}
+use Rattle.posix.proofs.WalkLemmas.{passes_here, fails_here, rest_of_walk, least_is_next, filters_commute, numbers_left, fewer_left}
+use Rattle.life.proofs.SoundLemmas.{there}
 use Rattle.life.proofs.machine.Machine.next_member.Goals as goal
 
 pub loop-next-init : goal.loop-next-init
@@ -10,12 +11,12 @@ unfolding members_in
 loop-next-init g c =
     let rs = c.args.self.now.state.processes in
     let t = is_member c.args.group in
-    let value = c.next_after-next.ensures.value in
     let up = c.next_after-next.ensures.regular.rising in
+    let first = subst (IsNext t c.args.after rs) (sym c.next_after-next.ensures.value) (least_is_next t c.args.after rs up) in
     record {
       same = c.next_after-next.ensures.same;
-      here = subst (λ (o : Option ℕ). first_pid (left_of o rs) ≡ o) (sym value) (next_is_first rs c.args.after);
-      rest = ap (λ (o : Option ℕ). first_pid (filter t (left_of o rs))) value ∙ ap first_pid (rest_of_walk t c.args.after rs _ up (least_is_next t c.args.after rs up) ∙ filters_commute t (λ r. nat_lt c.args.after r.pid) rs);
+      there = first.there;
+      rest = ap first_pid (rest_of_walk t c.args.after rs _ up first ∙ filters_commute t (λ r. nat_lt c.args.after r.pid) rs);
     }
 
 pub loop-next-smaller : goal.loop-next-smaller
@@ -29,21 +30,24 @@ pub returns-then-is_member-clause-value : goal.returns-then-is_member-clause-val
 returns-then-is_member-clause-value g c =
     let rs = c.args.self.now.state.processes in
     let t = is_member c.args.group in
-    let first = subst (λ (o : Option ℕ). first_pid (left_of o rs) ≡ o) c.in-Some.is c.loop-next.invariant.here in
-    let a = at_record rs c.next_after-next.ensures.regular.rising c.in-Some.pid first in
-    let passes = sym (c.is_member.ensures.value a.what (ap (λ (s : State). lookup c.in-Some.pid s.processes) c.loop-next.invariant.same ∙ a.found)) ∙ c.if-is_member.true in
-    sym (passes_here t rs c.in-Some.pid c.loop-next.next a c.in-Some.is passes) ∙ c.loop-next.invariant.rest
+    let p = c.in-Some.pid in
+    let up = c.next_after-next.ensures.regular.rising in
+    let it = there (lookup p rs) (subst (λ (o : Option ℕ). IfSome o (λ q. IsSome (lookup q rs))) c.in-Some.is c.loop-next.invariant.there) in
+    let passes = sym (c.is_member.ensures.value it.what (ap (λ (s : State). lookup p s.processes) c.loop-next.invariant.same ∙ it.found)) ∙ c.if-is_member.true in
+    sym (ap (λ (o : Option ℕ). first_pid (filter t (left_of o rs))) c.in-Some.is ∙ passes_here t p rs up it.what it.found _ (least_is_next t p rs up) passes) ∙ c.loop-next.invariant.rest
 
 pub loop-next-preserved : goal.loop-next-preserved
 loop-next-preserved g c =
     let rs = c.args.self.now.state.processes in
     let t = is_member c.args.group in
-    let first = subst (λ (o : Option ℕ). first_pid (left_of o rs) ≡ o) c.in-Some.is c.loop-next.invariant.here in
-    let a = at_record rs c.next_after-next.ensures.regular.rising c.in-Some.pid first in
-    let fails = sym (c.is_member.ensures.value a.what (ap (λ (s : State). lookup c.in-Some.pid s.processes) c.loop-next.invariant.same ∙ a.found)) ∙ c.if-is_member.false in
-    let value = c.next_after-next-in-Some.ensures.value ∙ ap (λ (s : State). next_above c.in-Some.pid s.processes) (c.is_member.ensures.same ∙ c.loop-next.invariant.same) in
+    let p = c.in-Some.pid in
+    let up = c.next_after-next.ensures.regular.rising in
+    let it = there (lookup p rs) (subst (λ (o : Option ℕ). IfSome o (λ q. IsSome (lookup q rs))) c.in-Some.is c.loop-next.invariant.there) in
+    let fails = sym (c.is_member.ensures.value it.what (ap (λ (s : State). lookup p s.processes) c.loop-next.invariant.same ∙ it.found)) ∙ c.if-is_member.false in
+    let value = c.next_after-next-in-Some.ensures.value ∙ ap (λ (s : State). next_above p s.processes) (c.is_member.ensures.same ∙ c.loop-next.invariant.same) in
+    let after = subst (IsNext t p rs) (sym value) (least_is_next t p rs up) in
     record {
       same = c.next_after-next-in-Some.ensures.same ∙ c.is_member.ensures.same ∙ c.loop-next.invariant.same;
-      here = subst (λ (o : Option ℕ). first_pid (left_of o rs) ≡ o) (sym value) (next_is_first rs c.in-Some.pid);
-      rest = ap (λ (o : Option ℕ). first_pid (filter t (left_of o rs))) value ∙ ap first_pid (sym (fails_here t rs c.in-Some.pid c.loop-next.next a c.in-Some.is fails)) ∙ c.loop-next.invariant.rest;
+      there = after.there;
+      rest = sym (ap (λ (o : Option ℕ). first_pid (filter t (left_of o rs))) c.in-Some.is ∙ ap first_pid (fails_here t p rs up it.what it.found _ after fails)) ∙ c.loop-next.invariant.rest;
     }

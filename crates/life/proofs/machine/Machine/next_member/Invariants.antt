@@ -1,5 +1,6 @@
 use Rattle.std.proofs.Common.{◌≡◌, filter}
-use Rattle.posix.specs.Tables.{is_member, members_in, first_pid, above, left_of}
+use Rattle.std.specs.Option.{IfSome, IsSome}
+use Rattle.posix.specs.Tables.{is_member, members_in, first_pid, above, left_of, lookup}
 use Rattle.posix.proofs.WalkLemmas.{numbers_left}
 use Rattle.life.proofs.machine.Machine.next_member.Given as goal
 
@@ -9,7 +10,7 @@ invariant-loop-next g l =
     let rs = l.fn.self.state.processes in
     record {
       same : l.self.state ≡ l.fn.self.state;
-      here : first_pid (left_of l.next rs) ≡ l.next;
+      there : IfSome l.next (λ p. IsSome (lookup p rs));
       rest : first_pid (filter (is_member l.group) (left_of l.next rs)) ≡ first_pid (above l.fn.after (members_in l.group rs));
     }
 

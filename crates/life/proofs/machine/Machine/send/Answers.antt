@@ -1,5 +1,4 @@
 use Rattle.std.proofs.Common.{ap, sym, ◌∙◌}
-use Rattle.posix.specs.declared.target.Target.TheVariants as whom
 use Rattle.posix.specs.Sends.{sending, sent, sent_among, sending_found}
 use Rattle.life.specs.Callers.{process_like}
 use Rattle.life.proofs.SendLemmas.{with_processes, targets_numbered, targets_nobody, sent_nobody}
