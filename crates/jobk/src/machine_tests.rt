@@ -66,10 +66,8 @@ fn numbers_are_given(rt: HostRuntime) -> Result<(), Fail> {
 #[tactic(auto, unfolding(posix::specs::States::is_in))]
 fn places_are_given(rt: HostRuntime) -> Result<(), Fail> {
     let two = pid(2);
-    let mut order = Order::new(rt.alloc());
-    order.reserve_one(0)?;
+    let mut order = Order::new(rt.alloc(), 2)?;
     order.place(Pid::INIT);
-    order.reserve_one(1)?;
     order.place(two);
     assert_eq!(rt; order.current(), Some(Pid::INIT));
     order.go_last(Pid::INIT);

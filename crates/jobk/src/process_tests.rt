@@ -2,7 +2,7 @@
 
 ghost use Rattle.std.specs.Prelude.{◌≡◌, refl};
 ghost use Rattle.std.proofs.Common.{arith};
-ghost use Rattle.proctable.specs.Slots.{put_body};
+ghost use Rattle.proctable.specs.ScanTable.{scan_with_body};
 
 use crate::tests::{expect_run, expect_run_on};
 use kernel::{RunError, Summary, WriteSink, run, run_on};
@@ -260,7 +260,7 @@ impl<const REFUSED: usize> Kin for RefusingTable<REFUSED> {
 
     ghost one_more = { λ n. n };
 
-    ghost put = { λ t p b. record t { table = put_body t.table p b } };
+    ghost put = { λ t p b. record t { table = scan_with_body t.table p b } };
 
     ghost puts = { λ t p b. refl };
 

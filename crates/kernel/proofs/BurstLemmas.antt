@@ -1,5 +1,5 @@
 -- Plain instructions, one after another, are steps that show nothing.
-use Rattle.std.proofs.Common.{◌≡◌, ◌⊎◌, ⊎_elim, ◌==◌, ℕ, zero, suc, ◌+◌, true, false, cond, refl, ap, sym, ◌∙◌, arith, subst, List, [], ◌∷◌, ◌++◌, append-nil, map, length, Some, None, option_map, is_some, ℤ}
+use Rattle.std.proofs.Common.{◌≡◌, ◌⊎◌, ⊎_elim, ◌==◌, ℕ, zero, suc, ◌+◌, true, false, cond, refl, ap, sym, ◌∙◌, arith, subst, List, [], ◌∷◌, ◌++◌, append-nil, map, length, Some, None, option_map, option_and_then, is_some, ℤ}
 use Rattle.std.specs.Prelude.{replicate}
 use Rattle.posix.specs.declared.instr.Trap.{Trap}
 use Rattle.posix.specs.declared.instr.Trap.TheVariants as trap
@@ -10,7 +10,7 @@ use Rattle.posix.specs.declared.entry.Entry.TheVariants.{Noted}
 use Rattle.posix.specs.Processes.{Process, Cpu}
 use Rattle.posix.specs.Entries.{Line, numbered}
 use Rattle.posix.specs.Tables.{IsRising, lookup, at, changed}
-use Rattle.posix.specs.States.{State, is_in, change, current, process}
+use Rattle.posix.specs.States.{State, is_in, change, current, process, current_process}
 use Rattle.posix.specs.Execute.{exec_one}
 use Rattle.posix.specs.Choice.{chosen}
 use Rattle.posix.specs.Runs.{RunsFrom}
@@ -23,7 +23,7 @@ use Rattle.posix.proofs.OrderLemmas.{first_in}
 use Rattle.proctable.specs.declared.facts.Facts.{Facts}
 use Rattle.proctable.specs.Body.{facts_of}
 use Rattle.umach.specs.Bursts.{Burst, then_rest, exec_until}
-use Rattle.kernel.specs.Steps.{Bursts}
+use Rattle.kernel.specs.Steps.{Bursts, shown, note_of}
 use Rattle.calls.proofs.CallLemmas.{same_outcome}
 use Rattle.kernel.proofs.PlainLemmas.{plain_step, none_of}
 
@@ -113,13 +113,6 @@ given n trap.Next = n
 given n (trap.Note z) = n + 1
 given n (trap.Call call) = n
 given n (trap.Fault sig) = n
-
--- what the last of them shows
-abbrev pub shown : ℕ → Trap → List Entry
-shown p trap.Next = []
-shown p (trap.Note z) = Noted p z ∷ []
-shown p (trap.Call call) = []
-shown p (trap.Fault sig) = []
 
 -- but for a note nothing is shown
 pub quiet : (t : Trap) → (t ≡ trap.Next) ⊎ (((x : Call) × (t ≡ trap.Call x)) ⊎ ((x : ℕ) × (t ≡ trap.Fault x))) → (n p : ℕ) → (n ≡ given n t) × ([] ≡ shown p t)
@@ -274,6 +267,19 @@ pub burst_shows : (s x : State) (p : ℕ) → Readies s p → x ≡ s → (most 
 burst_shows s x p r same most n t new m es count trap_is state number list =
     subst (λ (k : ℕ). Bursts s k es new) (sym number)
     (subst (λ (l : List Entry). Bursts s (given n t) l new) (sym list) (burst_is s x p r.me r.ready same most n t new count trap_is state))
+
+-- it is the note that the definitions show
+pub note_is : (s x : State) (p : ℕ) → Readies s p → x ≡ s → (most : ℕ) (t : Trap) (es : List Entry) → ((r : Process) → process x p ≡ Some r → t ≡ (exec_until (code_of x r) most r.cpu).trap)
+    → es ≡ shown p t → es ≡ note_of s most (current_process s)
+note_is s x p r same most t es trap_is list =
+    let me = r.me in
+    let ready = r.ready in
+    let here = trap_is me (ap (λ (y : State). process y p) same ∙ ready.here) ∙ ap (λ (y : State). (exec_until (code_of y me) most me.cpu).trap) same in
+    let free : is_some me.blocked ≡ false = ap is_some ready.free in
+    let none : is_some (chosen me.life me.signals) ≡ false = ap is_some ready.none in
+    let found : current_process s ≡ Some me = ap (option_and_then (process s)) ready.now ∙ ready.here in
+    let shows : note_of s most (Some me) ≡ shown p (exec_until (code_of s me) most me.cpu).trap = rw (none, free) (ap (λ n. shown n (exec_until (code_of s me) most me.cpu).trap) (pid_looked p s.processes me ready.here)) in
+    list ∙ ap (shown p) here ∙ sym (ap (note_of s most) found ∙ shows)
 
 pub nothing : (es : List Entry) → length es ≡ 0 → es ≡ []
 nothing [] e = refl

@@ -4,6 +4,9 @@ use Rattle.std.specs.Prelude.{replicate}
 use Rattle.std.proofs.lemmas.List.{length-replicate, replicate-append-replicate, take_more, take-append-drop}
 use Rattle.std.proofs.lemmas.List.Concat.{flat_map-append}
 use Rattle.posix.specs.declared.event.Event.{Event}
+use Rattle.posix.specs.declared.event.Event.TheVariants.{Step, Tick}
+use Rattle.posix.specs.States.{State}
+use Rattle.kernel.specs.Steps.{given}
 use Rattle.text.specs.declared.event_list.EventRun.{EventRun}
 use Rattle.text.specs.EventLists.{expanded, run_events}
 
@@ -45,3 +48,8 @@ events_more rs d i old now new lt at more =
     let len : length (expanded (take i rs) ++ run_events (get_or rs i d)) ≡ length (expanded (take i rs)) + (get_or rs i d).count = simp (length-append, length-replicate) in
     let step = ap length (expanded_more rs i d lt) in
     omega (arith, step, len)
+
+-- at least one event is given at once, and no more than wanted
+pub given_within : (x : Event) (most : ℕ) (s : State) → 0 < most → (0 < given x most s) × (given x most s ≤ most)
+given_within Step most s some = (omega (arith, some), omega arith)
+given_within Tick most s some = (omega arith, omega (arith, some))

@@ -12,12 +12,8 @@ use Rattle.posix.specs.Choice.{chosen}
 use Rattle.posix.specs.Step.{IsStep, next, happens, step, act, after_trap, code_of, set_cpu, settled}
 use Rattle.posix.specs.Settle.{NoWakeIsLost}
 use Rattle.calls.proofs.ChosenLemmas.{act_runs, no_kill_chosen}
-use Rattle.posix.proofs.UnseenLemmas.{Unseen, settle_unseen}
-
--- a plain instruction changes nothing that others see
-unseen_set : (c : Cpu) → Unseen (set_cpu c)
-unfolding set_cpu
-unseen_set c = record { pid = λ r. refl; parent = λ r. refl; group = λ r. refl; life = λ r. refl; news = λ r. refl }
+use Rattle.posix.proofs.TouchLemmas.{unseen_set_cpu}
+use Rattle.posix.proofs.UnseenLemmas.{settle_unseen}
 
 -- what a plain instruction comes to is the event
 pub plain_step : (s : State) (p : ℕ) (me : Process) (c : Cpu) (es : List Entry) → s.halted ≡ false → IsRising s.processes → NoWakeIsLost s → is_in p s.order ≡ true
@@ -32,7 +28,7 @@ plain_step s p me c es awake up placed first now here free none ran =
     let went : happens true s Step ≡ record { state = change s p (set_cpu c); entries = es } = ap (step true s) found ∙ acts in
     record {
       granted = true;
-      comes = ap (λ b. cond {A = Outcome} b (silent s) (settled (happens true s Step))) awake ∙ ap settled went ∙ ap (λ (t : State). record { state = t; entries = es }) (settle_unseen s p (set_cpu c) (unseen_set c) up placed first);
+      comes = ap (λ b. cond {A = Outcome} b (silent s) (settled (happens true s Step))) awake ∙ ap settled went ∙ ap (λ (t : State). record { state = t; entries = es }) (settle_unseen s p (set_cpu c) (unseen_set_cpu c) up placed first);
     }
 
 -- what isn't Some is None

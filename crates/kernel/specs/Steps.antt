@@ -1,9 +1,12 @@
 -- What the functions of one event come to.
-use Rattle.std.specs.Prelude.{◌≡◌, ℕ, ◌+◌, ◌||◌, if◌then◌else◌, Bool, List, Option, Some, None, is_some, replicate}
+use Rattle.std.specs.Prelude.{◌≡◌, ℕ, ◌+◌, ◌||◌, if◌then◌else◌, Bool, List, [], ◌∷◌, Option, Some, None, is_some, replicate, min}
 use Rattle.posix.specs.declared.call.Call.{Call}
 use Rattle.posix.specs.declared.event.Event.{Event}
-use Rattle.posix.specs.declared.event.Event.TheVariants.{Step}
+use Rattle.posix.specs.declared.event.Event.TheVariants.{Step, Tick}
 use Rattle.posix.specs.declared.entry.Entry.{Entry}
+use Rattle.posix.specs.declared.entry.Entry.TheVariants.{Noted}
+use Rattle.posix.specs.declared.instr.Trap.{Trap}
+use Rattle.posix.specs.declared.instr.Trap.TheVariants as trap
 use Rattle.posix.specs.Processes.{Process}
 use Rattle.posix.specs.Entries.{numbered}
 use Rattle.posix.specs.States.{State, process, current_process}
@@ -46,6 +49,23 @@ plain_of s most (Some me) = if is_some (chosen me.life me.signals) || is_some me
 -- how many steps from here, at most so many, are plain instructions: none after a halt
 abbrev pub plain_steps : State → ℕ → ℕ
 plain_steps s most = if s.halted then 0 else plain_of s most (current_process s)
+
+-- what the instruction shows that isn't plain: a note, as a call and a fault are left to a step of their own
+abbrev pub shown : ℕ → Trap → List Entry
+shown p trap.Next = []
+shown p (trap.Note z) = Noted p z ∷ []
+shown p (trap.Call call) = []
+shown p (trap.Fault sig) = []
+
+-- the note after the plain instructions, if one is among so many
+abbrev pub note_of : State → ℕ → Option Process → List Entry
+note_of s most None = []
+note_of s most (Some me) = if is_some (chosen me.life me.signals) || is_some me.blocked then [] else shown me.pid (exec_until (code_of s me) most me.cpu).trap
+
+-- how many events are given at once, at most so many: steps up to the first that isn't a plain instruction
+abbrev pub given : Event → ℕ → State → ℕ
+given Step most s = min most (plain_steps s most + 1)
+given Tick most s = 1
 
 -- So many steps lead from old to new, of which the last alone may show something; nobody is born, no time
 -- goes by, and each process that can act has a place.

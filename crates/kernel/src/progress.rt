@@ -3,10 +3,11 @@
 ghost use Rattle.std.specs.Prelude.{◌≡◌, ◌+◌, ◌-◌, ◌≤◌, ◌<◌, ◌++◌, [], length, IfOk, OnOk, OnErr, replicate};
 ghost use Rattle.posix.specs.Entries.{numbered, reported, reports_end as reports_end_of};
 ghost use Rattle.posix.specs.Runs.{RunsFrom};
-ghost use Rattle.posix.specs.Printing.{print, printed};
+ghost use Rattle.posix.specs.Printing.{print};
 ghost use Rattle.text.specs.EventTexts.{most_events};
 ghost use Rattle.sink.specs.Sinks.{Gathers, BreaksOff};
 ghost use Rattle.kernel.specs.Progress.{Writes, Stops, WritesTrace, BreaksTrace};
+ghost use Rattle.kernel.specs.Steps.{given};
 
 use crate::kernel_on::KernelOn;
 use arrayvec::ArrayVec;
@@ -15,7 +16,6 @@ use posix::{Entry, Event};
 use proctable::Kin;
 use sink::{LineBuffer, Sink, SinkFault};
 use text::{EventList, EventRun};
-use trace::{print_entry, write_note};
 
 /// Whether an entry tells that a wait reported an end.
 fn reports_end(entry: &Entry) -> bool
@@ -28,41 +28,6 @@ fn reports_end(entry: &Entry) -> bool
             status,
         } => status.tells_end(),
         _ => false,
-    }
-}
-
-/// Prints an entry. It isn't inlined, so that a note makes no room for other lines.
-#[inline(never)]
-fn write_other<S: Sink>(
-    event: u64,
-    entry: &Entry,
-    pending: &mut LineBuffer,
-    out: &mut S,
-) -> Result<(), SinkFault>
-    ensures ok { OnOk result (Gathers (S.seen out.old) pending.old (S.seen out.new) pending.new (printed event entry.now)) }
-    ensures err { OnErr result (BreaksOff (S.seen out.old) (S.seen out.new) (pending.old ++ printed event entry.now)) }
-{
-    let line = print_entry(event, entry);
-    pending.add(line.as_slice(), out)
-}
-
-/// Prints an entry: a note, which comes often, from the end of its line on.
-fn write_entry<S: Sink>(
-    event: u64,
-    entry: &Entry,
-    pending: &mut LineBuffer,
-    out: &mut S,
-) -> Result<(), SinkFault>
-    ensures ok { OnOk result (Gathers (S.seen out.old) pending.old (S.seen out.new) pending.new (printed event entry.now)) }
-    ensures err { OnErr result (BreaksOff (S.seen out.old) (S.seen out.new) (pending.old ++ printed event entry.now)) }
-{
-    match entry {
-        Entry::Noted { pid, value } => {
-            let mut line = [0; 72];
-            let start = write_note(&mut line, event, *pid, *value);
-            pending.add(&line[start..], out)
-        }
-        _ => write_other(event, entry, pending, out),
     }
 }
 
@@ -79,21 +44,20 @@ fn write_entries<S: Sink>(
 {
     let mut ends = 0;
     for entry in entries {
-        write_entry(event, entry, pending, out)?;
+        pending.add(event, entry, out)?;
         ends += u64::from(reports_end(entry));
     }
     Ok(ends)
 }
 
-/// Gives the kernel one event at least once and at most so many times: as often as only the last of them may
+/// Gives the kernel one event as often as can be at once, at most so many times: only the last of them may
 /// show something, which is added to a list that is empty.
 #[inline]
 fn give<K: Kin>(kernel: &mut KernelOn<K>, event: Event, most: u64, entries: &mut Entries)
     requires few { kernel.old.events + most ≤ most_events }
     requires some { 0 < most }
     requires none { entries.old.items ≡ [] }
-    ensures some { kernel.old.events < kernel.new.events }
-    ensures within { kernel.new.events ≤ kernel.old.events + most }
+    ensures count { kernel.new.events ≡ kernel.old.events + given event most kernel.old.state }
     ensures runs { RunsFrom (kernel.old.events + 1) kernel.old.state (replicate (kernel.new.events - kernel.old.events) event) (numbered kernel.new.events entries.new.items) kernel.new.state }
 {
     match event {
@@ -104,8 +68,8 @@ fn give<K: Kin>(kernel: &mut KernelOn<K>, event: Event, most: u64, entries: &mut
     }
 }
 
-/// Gives one event at least once and at most so many times, and prints what the last of them shows; the
-/// list is room for it.
+/// Gives one event as often as can be at once, at most so many times, and prints what the last of them
+/// shows; the list is room for it.
 #[inline]
 fn run_some<K: Kin, S: Sink>(
     kernel: &mut KernelOn<K>,
@@ -120,8 +84,7 @@ fn run_some<K: Kin, S: Sink>(
     requires none { entries.old.items ≡ [] }
     ensures ok { IfOk result (Writes (kernel.old.events + 1) kernel.old.state (replicate (kernel.new.events - kernel.old.events) event) kernel.new.state (S.seen out.old) pending.old (S.seen out.new) pending.new) }
     ensures err { OnErr result (Stops (kernel.old.events + 1) kernel.old.state (replicate (kernel.new.events - kernel.old.events) event) (S.seen out.old) pending.old (S.seen out.new)) }
-    ensures some { kernel.old.events < kernel.new.events }
-    ensures within { kernel.new.events ≤ kernel.old.events + most }
+    ensures count { kernel.new.events ≡ kernel.old.events + given event most kernel.old.state }
     ensures none { entries.new.items ≡ [] }
 {
     give(kernel, event, most, entries);

@@ -60,9 +60,9 @@ fn wake<K: Kin>(machine: &mut Machine<K>, pid: Pid)
     }
 }
 
-/// Asks all processes that have to be asked, in the rising order of their numbers.
-#[inline(never)]
-fn wake_all<K: Kin>(machine: &mut Machine<K>)
+/// Each process that can act has a place: those that have none get theirs at the end of the order, in the
+/// rising order of their numbers. Asked are those that may have come to act since the last time.
+pub fn settle<K: Kin>(machine: &mut Machine<K>)
     ensures state { machine.new.state ≡ settling machine.old.state }
     ensures regular { IsRegular machine.new.state }
 {
@@ -71,15 +71,5 @@ fn wake_all<K: Kin>(machine: &mut Machine<K>)
         wake(machine, pid);
         next = machine.next_to_ask(pid);
     }
-}
-
-/// Each process that can act has a place: those that have none get theirs at the end of the order, in
-/// the rising order of their numbers. Where each process has a place none is asked.
-pub fn settle<K: Kin>(machine: &mut Machine<K>)
-    ensures state { machine.new.state ≡ settling machine.old.state }
-    ensures regular { IsRegular machine.new.state }
-{
-    if !machine.all_have_places() {
-        wake_all(machine);
-    }
+    machine.all_asked();
 }

@@ -4,14 +4,14 @@
 ghost use Rattle.std.specs.Prelude.{◌≡◌, ◌+◌, [], length, ◌<◌, ◌≤◌, ◌^◌, Some, option_map, false};
 ghost use Rattle.posix.specs.Processes.{Process};
 ghost use Rattle.posix.specs.Choice.{chosen};
-ghost use Rattle.posix.specs.States.{process};
+ghost use Rattle.posix.specs.States.{process, current_process};
 ghost use Rattle.posix.specs.Step.{tick as ticking, go_on as going_on, IsStep};
 ghost use Rattle.posix.specs.Attempts.{attempt_again};
 ghost use Rattle.posix.specs.Regular.{IsPlaced, IsRegular};
 ghost use Rattle.posix.specs.Settle.{NoWakeIsLost};
 ghost use Rattle.proctable.specs.Body.{facts_of};
 ghost use Rattle.calls.specs.Outcomes.{IsActing};
-ghost use Rattle.kernel.specs.Steps.{ActsAs, Begins, Bursts, Happens, RunsInstruction, Steps, plain_steps};
+ghost use Rattle.kernel.specs.Steps.{ActsAs, Begins, Bursts, Happens, RunsInstruction, Steps, note_of, plain_steps};
 
 use crate::settle::settle;
 use calls::Entries;
@@ -160,6 +160,7 @@ pub fn burst<K: Kin>(machine: &mut Machine<K>, most: u64, entries: &mut Entries)
     requires none { entries.old.items ≡ [] }
     ensures runs { Bursts machine.old.state result entries.new.items machine.new.state }
     ensures count { result ≡ plain_steps machine.old.state most + length entries.new.items }
+    ensures note { entries.new.items ≡ note_of machine.old.state most (current_process machine.old.state) }
     ensures one { length entries.new.items ≤ 1 }
     ensures within { result ≤ most }
     ensures regular { IsRegular machine.new.state }

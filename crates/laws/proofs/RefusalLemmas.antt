@@ -53,7 +53,8 @@ use Rattle.posix.specs.Settle.{NoWakeIsLost}
 use Rattle.posix.proofs.TableLemmas.{pid_looked}
 use Rattle.posix.proofs.OrderLemmas.{first_in}
 use Rattle.posix.proofs.WakeLemmas.{next_awake, next_entries, next_nothing}
-use Rattle.posix.proofs.UnseenLemmas.{Unseen, settle_unseen}
+use Rattle.posix.proofs.TouchLemmas.{Unseen}
+use Rattle.posix.proofs.UnseenLemmas.{settle_unseen}
 
 -- ---- what entries tell of a refusal
 

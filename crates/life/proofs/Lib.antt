@@ -9,3 +9,4 @@ pub mod LoanLemmas
 pub mod ViewLemmas
 pub mod PartLemmas
 pub mod CensusLemmas
+pub mod AskLemmas

@@ -6,6 +6,7 @@ use Rattle.posix.specs.Tables.{IsRising, lookup, changed, parent_of}
 use Rattle.posix.specs.States.{State, process, change}
 use Rattle.posix.specs.Regular.{IsRegular}
 use Rattle.posix.proofs.RegularLemmas.{Keeps}
+use Rattle.posix.proofs.TouchLemmas.{Unseen}
 use Rattle.posix.proofs.TableLemmas.{changed_absent}
 use Rattle.proctable.specs.declared.own.Own.{Own}
 use Rattle.proctable.specs.declared.body.Body.{Body}
@@ -15,6 +16,10 @@ use Rattle.proctable.proofs.Bodies.{lent, unchanged}
 -- it is nothing that the shape of a machine depends on
 pub keeps_give_own : (o : Own) → Keeps (give_own o)
 keeps_give_own o = record { pid = λ r. refl; parent = λ r. refl; group = λ r. refl; session = λ r. refl; zombie = λ r. refl }
+
+-- nor that a parent sees
+pub unseen_give_own : (o : Own) → Unseen (give_own o)
+unseen_give_own o = record { pid = λ r. refl; parent = λ r. refl; group = λ r. refl; life = λ r. refl; news = λ r. refl }
 
 own_at : (p q : ℕ) (b : Body) (rs : List Process) → lookup p rs ≡ Some (process_of p q b) → IfSome (lookup p rs) (λ me. b.own ≡ own_of me)
 own_at p q b rs e = rw e refl

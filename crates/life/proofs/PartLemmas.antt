@@ -1,5 +1,5 @@
 -- What a notice of an end, and a record that goes, change in the parts of a machine.
-use Rattle.std.proofs.Common.{◌≡◌, ◌≢◌, ℕ, ◌+◌, ◌<◌, ◌≤◌, Bool, true, false, cond, refl, ap, sym, ◌∙◌, arith, subst, List, map, Option, Some}
+use Rattle.std.proofs.Common.{◌≡◌, ◌≢◌, ℕ, ◌+◌, ◌<◌, ◌≤◌, Bool, true, false, cond, refl, ap, sym, ◌∙◌, arith, subst, List, map, Option, Some, None}
 use Rattle.std.specs.Option.{IsSome, option_map_or}
 use Rattle.posix.specs.declared.process.PendingSignal.{PendingSignal}
 use Rattle.posix.specs.Processes.{Process, is_zombie}
@@ -89,6 +89,14 @@ counted_drop b signal parent c rs ts p q n m d e drops is gone one it found =
     let x = at parent (noticed signal) it in
     rw drops (gone_as p q n m c x it (k.group it) (k.session it) (gone x (ap (lookup c) is ∙ lookup_on (at parent (noticed signal)) k.pid c rs it found)), one)
 
+-- and its parent was read
+pub parent_of_drop : (b : Bool) (signal : PendingSignal) (parent c : ℕ) (rs ts : List Process) (up : ℕ) → b ≡ true → ts ≡ changed parent (noticed signal) rs
+    → ((x : Process) → lookup c ts ≡ Some x → up ≡ x.parent) → (it : Process) → lookup c rs ≡ Some it → Some up ≡ cond b (Some it.parent) None
+unfolding changed
+parent_of_drop b signal parent c rs ts up drops is read it found =
+    let k = keeps_at parent (noticed signal) (keeps_noticed signal) in
+    rw drops (ap Some (read (at parent (noticed signal) it) (ap (lookup c) is ∙ lookup_on (at parent (noticed signal)) k.pid c rs it found) ∙ k.parent it))
+
 -- ---- a sound machine
 
 -- it can count one more that is dropped
@@ -112,7 +120,7 @@ sound_gone s p q a n m c last dropped r i found dead other g most =
         table = g.table;
         tallied = subst (λ x. IsTallied x (removed c s.processes)) (sym g.rows) (tallied_gone p c r s.processes k.table.size i.regular.rising k.tallied found);
         count = let c = k.count in omega (arith, c, e, less);
-        room = let o = k.room in omega (arith, o, less);
+        room = k.room;
       };
     }
 

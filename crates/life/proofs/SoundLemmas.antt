@@ -1,5 +1,5 @@
 -- What keeps a machine sound.
-use Rattle.std.proofs.Common.{◌≡◌, ◌==◌, ℕ, ◌+◌, ◌≤◌, Bool, true, false, cond, refl, ap, sym, ◌∙◌, arith, subst, List, [], ◌∷◌, length, map, Option, Some, None, option_map, Result, Ok, Err, OnOk, OnErr}
+use Rattle.std.proofs.Common.{◌≡◌, ◌==◌, ℕ, ◌+◌, ◌<◌, ◌≤◌, Bool, true, false, cond, refl, ap, sym, ◌∙◌, arith, subst, List, [], ◌∷◌, length, map, Option, Some, None, option_map, Result, Ok, Err, OnOk, OnErr}
 use Rattle.std.specs.Option.{IsSome}
 use Rattle.std.specs.List.{AllByRecursion}
 use Rattle.std.proofs.lemmas.Bool.{eqb-true, eqb-false, ne_eqb}
@@ -40,6 +40,10 @@ is_there o r e = rw e refl
 -- what the value of a machine says of a process, its parts say
 pub found_in : (s t : State) → s ≡ t → (p : ℕ) (r : Process) → process t p ≡ Some r → lookup p s.processes ≡ Some r
 found_in s t same p r found = ap (λ (s : State). lookup p s.processes) same ∙ found
+
+-- and that it is there
+pub here_in : {s t : State} (p : ℕ) → s ≡ t → IsSome (process t p) → IsSome (process s p)
+here_in p same h = subst (λ (s : State). IsSome (process s p)) (sym same) h
 
 -- and of an heir
 pub heir_in : {s t : State} {p heir : ℕ} → s ≡ t → CanInherit t.processes p heir → CanInherit s.processes p heir
@@ -189,12 +193,12 @@ room_to_bear s t p places n child parent group session now last i next me like =
     can_bear p s.processes i.kept.tallied (omega (arith, l)) child group session fresh.greatest (omega (arith, a, m, same_group)) (omega (arith, b, m, same_session))
 
 -- a birth
-pub sound_born : (w : World) (rs : List Process) (p q : Pids) (a b : Places) (births ticks dropped : ℕ) (h : Bool) (n : ℕ) (new me : Process)
+pub sound_born : (w : World) (rs : List Process) (p q : Pids) (a : Places) (births ticks dropped : ℕ) (h : Bool) (n : ℕ) (new me : Process)
     → IsSound (state_of w rs p a births ticks dropped h) p a n → IsNew rs p.pidmax new.pid → lookup new.parent rs ≡ Some me → is_zombie me.life ≡ false
     → new.group ≡ me.group → new.session ≡ me.session → new.life ≡ me.life
-    → q ≡ born_in p new.pid new.group new.session → q.pidmax ≡ p.pidmax → IsPids q → b.pids ≡ a.pids → n + 1 ≤ b.room
-    → IsSound (state_of w (inserted new rs) q b (births + 1) ticks dropped h) q b (n + 1)
-sound_born w rs p q a b births ticks dropped h n new me i fresh there up group session life bore same table order room =
+    → q ≡ born_in p new.pid new.group new.session → q.pidmax ≡ p.pidmax → IsPids q
+    → IsSound (state_of w (inserted new rs) q a (births + 1) ticks dropped h) q a (n + 1)
+sound_born w rs p q a births ticks dropped h n new me i fresh there up group session life bore same table =
     let s = state_of w rs p a births ticks dropped h in
     let k = i.kept in
     let bounds = i.regular.bounded new.parent me there in
@@ -206,7 +210,7 @@ sound_born w rs p q a b births ticks dropped h n new me i fresh there up group s
     (record { least = fresh.least; pid = omega (arith, high, most); group = omega (arith, g, group); session = omega (arith, l, session) })
     (ap is_zombie life ∙ up) me there up in
     record {
-      regular = rw order (record { rising = r.rising; bounded = r.bounded; first = r.first; placed = r.placed; distinct = r.distinct; childless = r.childless });
+      regular = record { rising = r.rising; bounded = r.bounded; first = r.first; placed = r.placed; distinct = r.distinct; childless = r.childless };
       parents = parents_inserted new rs fresh.fresh (is_there _ me there) i.parents;
       counted = let c = i.counted in omega (arith, c);
       kept = record {
@@ -214,7 +218,7 @@ sound_born w rs p q a b births ticks dropped h n new me i fresh there up group s
         table = table;
         tallied = subst (λ x. IsTallied x (inserted new rs)) (sym bore) (tallied_born p new rs k.table.size k.tallied);
         count = let c = k.count in let e = length_inserted new rs in omega (arith, c, e);
-        room = room;
+        room = k.room;
       };
     }
 
@@ -249,7 +253,7 @@ regular_first w most = record {
     ] e
 
 -- a machine with process 1 alone
-pub sound_first : (w : World) (q : Pids) (b : Places) → 2 ≤ w.pidmax → q ≡ born_in (unborne_table w.pidmax) 1 1 1 → q.pidmax ≡ w.pidmax → IsPids q → b.pids ≡ 1 ∷ [] → 1 ≤ b.room
+pub sound_first : (w : World) (q : Pids) (b : Places) → 2 ≤ w.pidmax → q ≡ born_in (unborne_table w.pidmax) 1 1 1 → q.pidmax ≡ w.pidmax → IsPids q → b.pids ≡ 1 ∷ [] → w.pidmax < b.room
     → IsSound (state_of w (inserted first_process []) q b 1 0 0 false) q b 1
 sound_first w q b most bore same table order room =
     let r = regular_first w most in

@@ -2,3 +2,4 @@ pub mod Machines
 pub mod Loans
 pub mod Callers
 pub mod Censuses
+pub mod Asking

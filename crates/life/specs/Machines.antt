@@ -1,12 +1,14 @@
 -- The parts of a machine as a state, and what holds of them.
-use Rattle.std.specs.Prelude.{◌≡◌, ◌≢◌, ℕ, ◌+◌, ◌-◌, ◌≤◌, Bool, true, false, List, [], length, Some, IsSome}
+use Rattle.std.specs.Prelude.{◌≡◌, ◌≢◌, ℕ, ◌+◌, ◌-◌, ◌<◌, ◌≤◌, Bool, true, false, List, [], length, Some, IsSome}
 use Rattle.posix.specs.Processes.{Process}
 use Rattle.posix.specs.Tables.{lookup, children_in}
-use Rattle.posix.specs.States.{World, State, boot}
+use Rattle.posix.specs.States.{World, State, boot, process, is_in}
 use Rattle.posix.specs.Regular.{IsRegular}
+use Rattle.posix.specs.Settle.{Covers}
 use Rattle.pidalloc.specs.Rows.{Pids, IsPids, row, gone_from}
 use Rattle.pidalloc.specs.Tallies.{IsTallied}
 use Rattle.sched.specs.Places.{Places}
+use Rattle.pidset.specs.Numbers.{PidSetView, Rises}
 
 -- No console changes yet.
 abbrev pub state_of : World → List Process → Pids → Places → ℕ → ℕ → ℕ → Bool → State
@@ -25,13 +27,13 @@ pub record MachineView : Type 0 where
   pub state : State
   pub reads : ℕ
 
--- The rows count which numbers the processes bear, and there is room for a place for each.
+-- The rows count which numbers the processes bear, and each number can be given a place.
 pub record IsKept (pidmax : ℕ) (rs : List Process) (pids : Pids) (places : Places) (records : ℕ) : Type 0 where
   pub greatest : pids.pidmax ≡ pidmax
   pub table : IsPids pids
   pub tallied : IsTallied pids rs
   pub count : records ≡ length rs
-  pub room : records ≤ places.room
+  pub room : pidmax < places.room
 
 -- the parent of each process other than process 1 is there
 abbrev pub HaveParents : List Process → Type 0
@@ -42,6 +44,18 @@ pub record IsSound (s : State) (pids : Pids) (places : Places) (records : ℕ) :
   pub parents : HaveParents s.processes
   pub counted : s.dropped + records ≤ s.births  -- each was born
   pub kept : IsKept s.world.pidmax s.processes pids places records
+
+-- Whoever has to be given a place is to be asked, each of those is there, and there is room for all numbers.
+pub record IsListed (s : State) (asked : PidSetView) : Type 0 where
+  pub covers : Covers s asked.pids
+  pub rising : Rises asked.pids
+  pub there : (p : ℕ) → is_in p asked.pids ≡ true → IsSome (process s p)
+  pub room : s.world.pidmax < asked.room
+
+-- what the type of a machine keeps
+pub record IsMachine (s : State) (pids : Pids) (places : Places) (records : ℕ) (asked : PidSetView) : Type 0 where
+  pub sound : IsSound s pids places records
+  pub listed : IsListed s asked
 
 -- ---- one record that goes
 

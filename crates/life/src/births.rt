@@ -45,9 +45,10 @@ impl<K: Kin> Machine<K> {
     {
         let body = newborn(&mut self.table, parent, self.births + 1)?;
         self.table.reserve()?;
-        self.order.reserve_one(self.records)?;
         self.pids.bear_all(child, body.group, body.session);
         self.table.insert(child, parent, body);
+        self.to_ask.insert(parent);
+        self.to_ask.insert(child);
         self.records += 1;
         self.births += 1;
         Ok(())

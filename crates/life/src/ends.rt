@@ -1,6 +1,6 @@
 //! Ends.
 
-ghost use Rattle.std.specs.Prelude.{◌≡◌, ◌≢◌, ◌≤◌, ◌<◌, ◌+◌, ◌^◌, IsSome, Some, true, if◌then◌else◌};
+ghost use Rattle.std.specs.Prelude.{◌≡◌, ◌≢◌, ◌≤◌, ◌<◌, ◌+◌, ◌^◌, IsSome, Some, None, true, if◌then◌else◌};
 ghost use Rattle.posix.specs.Processes.{Process, is_zombie};
 ghost use Rattle.posix.specs.Tables.{lookup, changed, removed};
 ghost use Rattle.posix.specs.Regular.{CanInherit};
@@ -9,23 +9,26 @@ ghost use Rattle.posix.specs.Ends.{depart as departing, halt as halting, end_wit
 ghost use Rattle.life.specs.Machines.{CanGo, IsGone, IsCounted};
 
 use crate::machine::Machine;
-use crate::waits::discard;
+use crate::waits::{ask_parent, discard};
 use pidalloc::PidTable;
 use posix::{Carried, Life, PendingSignal, Pid, Sig, Status};
 use proctable::Kin;
 
 impl<K: Kin> Machine<K> {
-    /// The process is a zombie and loses its place, and its children become those of its heir, which gets
+    /// The process, whose parent this is, is a zombie and loses its place, and its children become those of its heir, which gets
     /// notice of the ends of the zombies among them, in rising order. No number of a child is to be had once
     /// they are the heir's, so it gets notice on the way.
-    fn depart(&mut self, pid: Pid, heir: Pid, status: Status)
+    fn depart(&mut self, pid: Pid, parent: Pid, heir: Pid, status: Status)
         requires there { IsSome (process self.old.state pid) }
         requires other { pid ≢ 1 }
+        requires parent { (me : Process) → process self.old.state pid ≡ Some me → parent ≡ me.parent }
         requires heir { CanInherit self.old.state.processes pid heir }
         ensures state { self.new.state ≡ tell_of_all (departing self.old.state pid heir status) heir (zombies_of pid self.old.state.processes) }
         ensures parent { (me : Process) → process self.old.state pid ≡ Some me → IsSome (process self.new.state me.parent) }
         ensures zombie { (it : Process) × (process self.new.state pid ≡ Some it) × (is_zombie it.life ≡ true) }
     {
+        self.to_ask.insert(pid);
+        self.to_ask.insert(heir);
         self.table.update(pid).make_zombie(status);
         self.order.drop_place(pid);
         let mut next = self.table.first_child(pid);
@@ -34,7 +37,7 @@ impl<K: Kin> Machine<K> {
             let life = life(&mut self.table, child);
             if child != pid {
                 if let Life::Zombie(ended) = life {
-                    notify_of_end(
+                    let gone = notify_of_end(
                         &mut self.table,
                         &mut self.pids,
                         &mut self.records,
@@ -43,9 +46,11 @@ impl<K: Kin> Machine<K> {
                         child,
                         ended,
                     );
+                    ask_parent(&mut self.to_ask, child, gone);
                 }
             }
         }
+        self.to_ask.insert(parent);
         self.table.adopt(pid, heir);
     }
 
@@ -54,6 +59,7 @@ impl<K: Kin> Machine<K> {
         ensures state { self.new.state ≡ halting self.old.state status }
         ensures reads { self.new.reads ≤ self.old.reads + 1 }
     {
+        self.to_ask.insert(Pid::INIT);
         self.table.update(Pid::INIT).end(status);
         self.order.drop_place(Pid::INIT);
         self.halted = true;
@@ -68,7 +74,8 @@ impl<K: Kin> Machine<K> {
         ensures state { self.new.state ≡ noticing_end self.old.state parent child status }
         ensures reads { self.new.reads ≤ self.old.reads + 6 }
     {
-        notify_of_end(
+        self.to_ask.insert(parent);
+        let gone = notify_of_end(
             &mut self.table,
             &mut self.pids,
             &mut self.records,
@@ -77,6 +84,7 @@ impl<K: Kin> Machine<K> {
             child,
             status,
         );
+        ask_parent(&mut self.to_ask, child, gone);
     }
 
     /// A process that is there ends with this status. At the end of process 1 the machine halts. Any other
@@ -92,14 +100,14 @@ impl<K: Kin> Machine<K> {
             self.halt(status);
         } else {
             let parent = self.parent(pid);
-            self.depart(pid, heir, status);
+            self.depart(pid, parent, heir, status);
             self.notice_of_end(parent, pid, status);
         }
     }
 }
 
 /// The parent gets notice that a child ended with this status, and the child is dropped where the parent
-/// drops its children (XSH _exit), in the parts of a machine.
+/// drops its children (XSH _exit), in the parts of a machine. The parent in the child's record where it went.
 fn notify_of_end<K: Kin>(
     table: &mut K,
     pids: &mut PidTable,
@@ -108,37 +116,42 @@ fn notify_of_end<K: Kin>(
     parent: Pid,
     child: Pid,
     status: Status,
-)
+) -> Option<Pid>
     requires parent { IsSome (lookup parent (K.contents table.old)) }
     requires child { CanGo (K.contents table.old) pids.old records.old child }
     requires count { dropped.old + 1 < 2 ^ 64 }
+    ensures gone { (it : Process) → lookup child (K.contents table.old) ≡ Some it → result ≡ (if is_dropping parent (K.contents table.old) then Some it.parent else None) }
     ensures contents { K.contents table.new ≡ (let told = changed parent (noticed (child_signal_of child status)) (K.contents table.old) in if is_dropping parent (K.contents table.old) then removed child told else told) }
     ensures counts { (it : Process) → lookup child (K.contents table.old) ≡ Some it → IsCounted (is_dropping parent (K.contents table.old)) pids.old pids.new records.old records.new dropped.old dropped.new child it }
     ensures reads { K.reads table.new ≤ K.reads table.old + 6 }
 {
     let drops = notice_in(table, parent, child_signal(child, status));
     if drops {
-        drop_child(table, pids, records, dropped, child);
+        Some(drop_child(table, pids, records, dropped, child))
+    } else {
+        None
     }
 }
 
-/// A child is dropped: its record goes without a report, and it is counted.
+/// A child is dropped: its record goes without a report, and it is counted. Its parent.
 fn drop_child<K: Kin>(
     table: &mut K,
     pids: &mut PidTable,
     records: &mut usize,
     dropped: &mut u64,
     child: Pid,
-)
+) -> Pid
     requires child { CanGo (K.contents table.old) pids.old records.old child }
     requires count { dropped.old + 1 < 2 ^ 64 }
+    ensures parent { (it : Process) → lookup child (K.contents table.old) ≡ Some it → result ≡ it.parent }
     ensures contents { K.contents table.new ≡ removed child (K.contents table.old) }
     ensures counts { (it : Process) → lookup child (K.contents table.old) ≡ Some it → IsGone pids.old pids.new records.old records.new child it }
     ensures dropped { dropped.new ≡ dropped.old + 1 }
     ensures reads { K.reads table.new ≤ K.reads table.old + 5 }
 {
-    discard(table, pids, records, child);
+    let parent = discard(table, pids, records, child);
     *dropped += 1;
+    parent
 }
 
 /// Whether a process that is there runs, is stopped or has ended.

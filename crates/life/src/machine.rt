@@ -1,6 +1,6 @@
 //! The machine: all that the state of a world consists of.
 
-ghost use Rattle.std.specs.Prelude.{◌≡◌, ◌≢◌, ◌+◌, ◌<◌, ◌≤◌, ◌^◌, ◌++◌, ◌∷◌, [], ⊤, IfOk, IfSome, IsSome, Some, length, nat_le, option_map, false, true};
+ghost use Rattle.std.specs.Prelude.{◌≡◌, ◌≢◌, ◌+◌, ◌<◌, ◌≤◌, ◌^◌, ◌++◌, ◌∷◌, [], ⊤, IfOk, IfSome, IsSome, Some, length, option_map, false, true};
 ghost use mathlib.Core.Option.{none};
 ghost use Rattle.std.specs.Borrow.{sem, Lends, follows_so};
 ghost use Rattle.posix.specs.Processes.{Process};
@@ -14,6 +14,7 @@ ghost use Rattle.life.specs.Loans.{lent, looked};
 ghost use Rattle.umach.specs.Bursts.{exec_until, IsWithin};
 
 use pidalloc::PidTable;
+use pidset::PidSet;
 use posix::{Pid, Sig, Trap};
 use proctable::{Body, Facts, Kin, Own};
 use sched::Order;
@@ -28,6 +29,8 @@ pub struct Machine<K: Kin> {
     pub(crate) table: K,
     pub(crate) pids: PidTable,
     pub(crate) order: Order,
+    /// Those who are to be asked whether they can act. Whoever has to be given a place is among them.
+    pub(crate) to_ask: PidSet,
     /// How many processes are in the table.
     pub(crate) records: usize,
     pub(crate) births: u64,
@@ -37,13 +40,13 @@ pub struct Machine<K: Kin> {
 }
 
 impl<K: Kin> Model for Machine<K> {
-    ghost use Rattle.life.specs.Machines.{MachineView, state_of, IsSound};
+    ghost use Rattle.life.specs.Machines.{MachineView, state_of, IsMachine};
 
     ghost Value = { MachineView };
 
     ghost view = { λ m. record { state = state_of m.world (K.contents m.table) m.pids m.order m.births m.ticks m.dropped m.halted; reads = K.reads m.table } };
 
-    ghost invariant = { λ m. IsSound (state_of m.world (K.contents m.table) m.pids m.order m.births m.ticks m.dropped m.halted) m.pids m.order m.records };
+    ghost invariant = { λ m. IsMachine (state_of m.world (K.contents m.table) m.pids m.order m.births m.ticks m.dropped m.halted) m.pids m.order m.records m.to_ask };
 }
 
 impl<K: Kin> Machine<K> {
@@ -57,8 +60,9 @@ impl<K: Kin> Machine<K> {
         let mut pids = PidTable::new(alloc, world.pidmax())?;
         let mut table = K::empty(alloc);
         table.reserve()?;
-        let mut order = Order::new(alloc);
-        order.reserve_one(0)?;
+        let mut order = Order::new(alloc, world.pidmax())?;
+        let mut to_ask = PidSet::new(alloc);
+        to_ask.reserve(world.pidmax() as usize + 1)?;
         let first = Body::first(alloc)?;
         table.insert(Pid::INIT, Pid::NONE, first);
         pids.bear_all(Pid::INIT, Pid::INIT, Pid::INIT);
@@ -68,6 +72,7 @@ impl<K: Kin> Machine<K> {
             table,
             pids,
             order,
+            to_ask,
             records: 1,
             births: 1,
             ticks: 0,
@@ -129,14 +134,6 @@ impl<K: Kin> Machine<K> {
         self.order.has(pid)
     }
 
-    /// Whether there are as many places as processes: then each process has one.
-    pub fn all_have_places(&self) -> bool
-        ensures value { result ≡ nat_le (length self.now.state.processes) (length self.now.state.order) }
-        ensures regular { IsRegular self.now.state }
-    {
-        self.records <= self.order.len()
-    }
-
     /// The small fields of a process; none where it isn't there.
     pub fn facts(&mut self, pid: Pid) -> Option<Facts>
         ensures value { result ≡ option_map facts_of (process self.old.state pid) }
@@ -171,6 +168,7 @@ impl<K: Kin> Machine<K> {
         ensures value { IfSome (process self.old.state pid) (λ me. result.now ≡ own_of me) }
         ensures regular { IsRegular self.old.state }
     {
+        self.to_ask.insert(pid);
         let body = self.table.update(pid);
         &mut body.own
     }
@@ -186,7 +184,10 @@ impl<K: Kin> Machine<K> {
         ensures reads { self.new.reads ≤ self.old.reads + 1 }
     {
         match self.world.programs().get(usize::from(program)) {
-            Some(program) => self.table.update(pid).own.cpu.exec_one(program),
+            Some(program) => {
+                self.to_ask.insert(pid);
+                self.table.update(pid).own.cpu.exec_one(program)
+            }
             None => Trap::Fault(Sig::SEGV),
         }
     }
@@ -207,7 +208,10 @@ impl<K: Kin> Machine<K> {
         ensures reads { self.new.reads ≤ self.old.reads + 1 }
     {
         match self.world.programs().get(usize::from(program)) {
-            Some(program) => self.table.update(pid).own.cpu.run_until(program, most),
+            Some(program) => {
+                self.to_ask.insert(pid);
+                self.table.update(pid).own.cpu.run_until(program, most)
+            }
             None => (0, Trap::Fault(Sig::SEGV)),
         }
     }
@@ -240,7 +244,10 @@ impl<K: Kin> Machine<K> {
         ensures state { self.new.state ≡ losing_place self.old.state pid }
         ensures reads { self.new.reads ≡ self.old.reads }
     {
-        self.order.drop_place(pid);
+        if self.order.has(pid) {
+            self.to_ask.insert(pid);
+            self.order.drop_place(pid);
+        }
     }
 
     /// A process that has a place gets the last one.

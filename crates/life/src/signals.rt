@@ -15,6 +15,7 @@ impl<K: Kin> Machine<K> {
         ensures state { self.new.state ≡ change self.old.state pid (signalled signal) }
         ensures reads { self.new.reads ≤ self.old.reads + 1 }
     {
+        self.to_ask.insert(pid);
         // The effect isn't acted upon yet: as nothing stops a process, none is continued.
         self.table.update(pid).signal(pid, signal);
     }

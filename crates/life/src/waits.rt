@@ -1,6 +1,6 @@
 //! Waits.
 
-ghost use Rattle.std.specs.Prelude.{◌≡◌, ◌≢◌, ◌≤◌, ◌+◌, ◌*◌, length, IsSome, Some, true};
+ghost use Rattle.std.specs.Prelude.{◌≡◌, ◌≢◌, ◌<◌, ◌≤◌, ◌+◌, ◌*◌, length, IsSome, Some, true};
 ghost use Rattle.posix.specs.Processes.{Process, is_zombie};
 ghost use Rattle.posix.specs.Tables.{lookup, removed, children_in};
 ghost use Rattle.posix.specs.States.{process, change};
@@ -8,11 +8,13 @@ ghost use Rattle.posix.specs.Waits.{is_named as is_named_by, report, report_chan
 ghost use Rattle.posix.specs.Waits.{look as look_of};
 ghost use Rattle.proctable.specs.Body.{facts_of};
 ghost use Rattle.life.specs.Machines.{CanGo, IsGone};
+ghost use Rattle.life.specs.Asking.{without_gone};
 
 use crate::caller::Caller;
 use crate::machine::Machine;
 use bitflags::Flags;
 use pidalloc::PidTable;
+use pidset::PidSet;
 use posix::{Life, News, Pid, Report, Status, Target, WaitOptions};
 use proctable::{Facts, Kin};
 
@@ -67,19 +69,39 @@ fn look(group: Pid, target: &Target, options: WaitOptions, child: Facts) -> Repo
 }
 
 /// The record of a process without children goes, and it no longer bears its own number, its group's and its
-/// session's, in the parts of a machine.
-pub(crate) fn discard<K: Kin>(table: &mut K, pids: &mut PidTable, records: &mut usize, pid: Pid)
+/// session's, in the parts of a machine. Its parent.
+pub(crate) fn discard<K: Kin>(
+    table: &mut K,
+    pids: &mut PidTable,
+    records: &mut usize,
+    pid: Pid,
+) -> Pid
     requires { CanGo (K.contents table.old) pids.old records.old pid }
+    ensures parent { (it : Process) → lookup pid (K.contents table.old) ≡ Some it → result ≡ it.parent }
     ensures contents { K.contents table.new ≡ removed pid (K.contents table.old) }
     ensures counts { (it : Process) → lookup pid (K.contents table.old) ≡ Some it → IsGone pids.old pids.new records.old records.new pid it }
     ensures reads { K.reads table.new ≤ K.reads table.old + 5 }
 {
     let Some(facts) = table.get(pid) else {
-        return;
+        return Pid::NONE;
     };
     table.remove(pid);
     pids.give_up_all(pid, facts.group, facts.session);
     *records -= 1;
+    facts.parent
+}
+
+/// A record has gone, if it has, of a process with this parent: the parent is to be asked, and the process no
+/// more.
+pub(crate) fn ask_parent(to_ask: &mut PidSet, pid: Pid, parent: Option<Pid>)
+    requires { length to_ask.old.pids < to_ask.old.room }
+    ensures pids { to_ask.new.pids ≡ without_gone pid parent to_ask.old.pids }
+    ensures room { to_ask.new.room ≡ to_ask.old.room }
+{
+    if let Some(parent) = parent {
+        to_ask.insert(parent);
+        to_ask.remove(pid);
+    }
 }
 
 impl<K: Kin> Machine<K> {
@@ -115,7 +137,8 @@ impl<K: Kin> Machine<K> {
         ensures state { self.new.state ≡ record (self.old.state) { processes = removed pid self.old.state.processes } }
         ensures reads { self.new.reads ≤ self.old.reads + 5 }
     {
-        discard(&mut self.table, &mut self.pids, &mut self.records, pid);
+        let parent = discard(&mut self.table, &mut self.pids, &mut self.records, pid);
+        ask_parent(&mut self.to_ask, pid, Some(parent));
     }
 
     /// A wait has reported the news of a process that is there: they become none.
@@ -124,6 +147,7 @@ impl<K: Kin> Machine<K> {
         ensures state { self.new.state ≡ change self.old.state pid news_told }
         ensures reads { self.new.reads ≤ self.old.reads + 1 }
     {
+        self.to_ask.insert(pid);
         self.table.update(pid).tell_news();
     }
 }

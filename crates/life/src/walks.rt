@@ -5,7 +5,7 @@ ghost use Rattle.posix.specs.Processes.{Process};
 ghost use Rattle.posix.specs.Tables.{IsNext, first_pid, above, next_above, children_in, next_sibling as next_sibling_of, is_member as is_member_of, members_in};
 ghost use Rattle.posix.specs.States.{process};
 ghost use Rattle.posix.specs.Regular.{IsRegular};
-ghost use Rattle.posix.specs.Settle.{wakes};
+ghost use Rattle.posix.specs.Settle.{wakes, NoWakeIsLost};
 
 use crate::machine::Machine;
 use posix::Pid;
@@ -73,12 +73,19 @@ impl<K: Kin> Machine<K> {
 
     /// Who is to be asked next, after the number `after`, whether it can act: nobody between them has to be
     /// given a place, and where nobody comes next nobody above `after` has.
-    pub fn next_to_ask(&mut self, after: Pid) -> Option<Pid>
-        ensures next { IsNext (wakes self.old.state) after self.old.state.processes result }
-        ensures same { self.new.state ≡ self.old.state }
-        ensures reads { self.new.reads ≤ self.old.reads + 1 }
+    pub fn next_to_ask(&self, after: Pid) -> Option<Pid>
+        ensures next { IsNext (wakes self.now.state) after self.now.state.processes result }
+        ensures regular { IsRegular self.now.state }
+    {
+        self.to_ask.next_above(after)
+    }
+
+    /// All who were to be asked have been, and whoever can act has a place: nobody is to be asked any more.
+    pub fn all_asked(&mut self)
+        requires { NoWakeIsLost self.old.state }
+        ensures same { self.new ≡ self.old }
         ensures regular { IsRegular self.old.state }
     {
-        self.next_after(after)
+        self.to_ask.clear();
     }
 }

@@ -4,6 +4,7 @@ pub mod MapLemmas
 pub mod RegularLemmas
 pub mod WaitLemmas
 pub mod OrderLemmas
+pub mod SeeLemmas
 pub mod SettleLemmas
 pub mod NoticeLemmas
 pub mod ActLemmas
@@ -11,3 +12,5 @@ pub mod CountLemmas
 pub mod RangeLemmas
 pub mod WakeLemmas
 pub mod UnseenLemmas
+pub mod TouchLemmas
+pub mod NewsLemmas

@@ -1,5 +1,5 @@
 -- Orders of places: each number once, and no more than there are records.
-use Rattle.std.proofs.Common.{◌≡◌, ℕ, suc, ◌+◌, ◌<◌, ◌≤◌, Bool, true, false, cond, not, ◌||◌, refl, ap, sym, ◌∙◌, arith, subst, List, [], ◌∷◌, ◌++◌, length, filter, find, Some, ◌==◌, slice_get}
+use Rattle.std.proofs.Common.{◌≡◌, ℕ, suc, ◌+◌, ◌≤◌, Bool, true, false, cond, not, ◌||◌, refl, ap, sym, ◌∙◌, arith, subst, List, [], ◌∷◌, ◌++◌, length, filter, find, Some, ◌==◌, slice_get}
 use Rattle.std.specs.List.{list_any}
 use Rattle.std.specs.Option.{IsSome}
 use Rattle.std.proofs.lemmas.Bool.{eqb-true, eqb-false, eq-eqb, ne_eqb}
@@ -114,18 +114,6 @@ regular_placed p s i h e = record {
 -- p, which has a place, goes last
 pub regular_last : (p : ℕ) (s : State) → IsRegular s → is_in p s.order ≡ true → IsRegular (go_last s p)
 regular_last p s i h = regular_placed p (lose_place s p) (regular_lose p s i) (i.placed p h) (out_of p s.order)
-
--- there is room for one more place
-pub room_for_one : (p : ℕ) (s : State) → IsRegular s → IsPlaced s.processes p → is_in p s.order ≡ false → length s.order < length s.processes
-room_for_one p s i h e =
-    let after = regular_placed p s i h e in
-    let l = fits s.processes i.rising (s.order ++ p ∷ []) after.distinct after.placed in
-    let n = length_last p s.order in
-    omega (arith, l, n)
-  where
-    length_last : (p : ℕ) (o : List ℕ) → length (o ++ p ∷ []) ≡ suc (length o)
-    length_last p [] = refl
-    length_last p (x ∷ xs) = ap suc (length_last p xs)
 
 -- the first of an order is in it
 pub first_in : (p : ℕ) (o : List ℕ) → slice_get o 0 ≡ Some p → is_in p o ≡ true

@@ -251,16 +251,13 @@ lookup_new new (r ∷ rs) e = elim (nat_lt new.pid r.pid) as (λ b. find (has_pi
   | false ↦ elim (r.pid == new.pid) as (λ b. cond b (Some r) (find (has_pid new.pid) rs) ≡ None → cond b (Some r) (find (has_pid new.pid) (inserted new rs)) ≡ Some new) [ true ↦ λ k. absurd (cc) | false ↦ λ k. lookup_new new rs k ] e
 ]
 
--- who has no child gets none by the birth of another's
-children_inserted : (new : Process) (q : ℕ) (rs : List Process) → new.parent ≢ q → children_in q rs ≡ [] → children_in q (inserted new rs) ≡ []
+-- the birth of another's child gives nobody one
+pub children_inserted : (new : Process) (q : ℕ) (rs : List Process) → new.parent ≢ q → children_in q (inserted new rs) ≡ children_in q rs
 unfolding children_in inserted
-children_inserted new q [] ne e = rw (ne_eqb new.parent q ne) refl
-children_inserted new q (r ∷ rs) ne e = elim (nat_lt new.pid r.pid) as (λ b. filter (is_child q) (cond b (new ∷ r ∷ rs) (r ∷ inserted new rs)) ≡ []) [
-  | true ↦ rw (ne_eqb new.parent q ne) e
-  | false ↦ elim (r.parent == q) as (λ b. cond b (r ∷ filter (is_child q) rs) (filter (is_child q) rs) ≡ [] → cond b (r ∷ filter (is_child q) (inserted new rs)) (filter (is_child q) (inserted new rs)) ≡ []) [
-    | true ↦ λ k. absurd (cc)
-    | false ↦ λ k. children_inserted new q rs ne k
-  ] e
+children_inserted new q [] ne = rw (ne_eqb new.parent q ne) refl
+children_inserted new q (r ∷ rs) ne = elim (nat_lt new.pid r.pid) as (λ b. filter (is_child q) (cond b (new ∷ r ∷ rs) (r ∷ inserted new rs)) ≡ filter (is_child q) (r ∷ rs)) [
+  | true ↦ rw (ne_eqb new.parent q ne) refl
+  | false ↦ ap (λ l. cond (r.parent == q) (r ∷ l) l) (children_inserted new q rs ne)
 ]
 
 -- A living record that is new goes in, with a parent that is living, and the other counts may change.
@@ -288,7 +285,7 @@ regular_inserted new last births s i fresh bounds living me there up = record {
         children_inserted new q s.processes (λ x.
         let one : me ≡ r = let both = sym there ∙ ap (λ n. lookup n s.processes) x ∙ old in cc in
         let both : false ≡ true = sym up ∙ ap (λ (r : Process). is_zombie r.life) one ∙ z in
-        absurd (cc)) (i.childless q r ne old z)
+        absurd (cc)) ∙ i.childless q r ne old z
   ];
 }
   where

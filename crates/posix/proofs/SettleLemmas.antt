@@ -1,76 +1,24 @@
 -- To ask the records one after another, from the least number on, is to settle; and what settles stays regular.
-use Rattle.std.proofs.Common.{◌≡◌, ℕ, ◌<◌, ◌≤◌, Bool, true, false, cond, not, ◌&&◌, ◌||◌, refl, ap, sym, ◌∙◌, arith, subst, List, [], ◌∷◌, ◌++◌, append-nil, append_assoc, length, filter, Option, Some, None, ◌==◌, nat_lt, is_some}
+use Rattle.std.proofs.Common.{◌≡◌, ℕ, ◌<◌, Bool, true, false, cond, not, ◌&&◌, ◌||◌, refl, ap, sym, ◌∙◌, arith, subst, List, [], ◌∷◌, ◌++◌, append-nil, append_assoc, filter, Option, Some, None, ◌==◌, nat_lt, is_some}
 use Rattle.std.specs.List.{list_any, AllByRecursion}
 use Rattle.std.proofs.lemmas.Bool.{eqb-true, ne_eqb, ltb-true}
 use Rattle.std.proofs.lemmas.List.{map-append}
 use Rattle.posix.specs.declared.process.Life.{Life}
 use Rattle.posix.specs.declared.process.Life.TheVariants.{Running, Stopped, Zombie}
-use Rattle.posix.specs.declared.process.Blocked.{Blocked}
-use Rattle.posix.specs.declared.process.Blocked.TheVariants as blocked
-use Rattle.posix.specs.declared.process.Report.{Report}
-use Rattle.posix.specs.declared.process.Report.TheVariants as found
-use Rattle.posix.specs.declared.target.Target.{Target}
 use Rattle.posix.specs.SignalNumbers.{KILL}
-use Rattle.posix.specs.Processes.{Process, is_running, is_zombie, is_living, argument}
+use Rattle.posix.specs.Processes.{Process, is_running, is_zombie}
 use Rattle.posix.specs.Tables.{IsRising, IsNext, lookup, pids, above, left_of}
 use Rattle.posix.specs.States.{State, is_in}
 use Rattle.posix.specs.Regular.{IsPlaced}
-use Rattle.posix.specs.Outcomes.{Attempted}
-use Rattle.posix.specs.Targets.{target_in}
-use Rattle.posix.specs.Waits.{wait, wait_with, report, options_in, are_known, has_option}
 use Rattle.posix.specs.Generation.{is_pending}
 use Rattle.posix.specs.Choice.{chosen}
-use Rattle.posix.specs.Attempts.{attempt_again}
-use Rattle.posix.specs.Settle.{woken, woken_if, settle, wakes, can_act, can_go_on, is_block}
+use Rattle.posix.specs.Settle.{woken, woken_if, settle, wakes, can_act, can_go_on}
 use Rattle.posix.proofs.TableLemmas.{pid_looked}
+use Rattle.posix.proofs.SeeLemmas.{can_act_order}
 use Rattle.posix.specs.Regular.{IsRegular, IsPlaced}
-use Rattle.posix.proofs.OrderLemmas.{room_for_one}
-use Rattle.posix.proofs.WalkLemmas.{all_looked, numbered, numbered_one, numbered_none, rest_of_walk, walk_begins, walk_splits}
+use Rattle.posix.proofs.WalkLemmas.{numbered, numbered_one, numbered_none, rest_of_walk, walk_begins, walk_splits}
 
--- ---- whether a process can act depends on what is reported, and not on the order
-
--- a test that both make alike
-block_if : (b : Bool) (x y u v : Attempted) → is_block x ≡ is_block u → is_block y ≡ is_block v → is_block (cond b x y) ≡ is_block (cond b u v)
-block_if true x y u v h k = h
-block_if false x y u v h k = k
-
--- what was found decides alone
-block_with : (s t : State) (me : Process) (options : ℕ) (what : Report) → is_block (wait_with s me.pid options what) ≡ is_block (wait_with t me.pid options what)
-block_with s t me options found.NoChild = refl
-block_with s t me options found.Nothing = block_if (has_option options 1) _ _ _ _ refl refl
-block_with s t me options (found.End p status) = refl
-block_with s t me options (found.Change p status) = refl
-
--- each wait finds the same in both
-abbrev pub ReportsSame : State → State → Type 0
-ReportsSame s t = (caller group : ℕ) (target : Target) (options : ℕ) → report s.processes caller group target options ≡ report t.processes caller group target options
-
--- the same waits are over
-block_wait : (s t : State) → ReportsSame s t → (me : Process) → is_block (wait s me) ≡ is_block (wait t me)
-unfolding wait
-block_wait s t same me =
-    let options = options_in (argument me 2) in
-    block_if (are_known options) _ _ _ _
-    (ap (λ w. is_block (wait_with s me.pid options w)) (same me.pid me.group (target_in (argument me 1)) options)
-    ∙ block_with s t me options (report t.processes me.pid me.group (target_in (argument me 1)) options)) refl
-
--- the same calls go on
-can_go_on_same : (s t : State) → ReportsSame s t → (r : Process) (b : Option Blocked) → can_go_on s r b ≡ can_go_on t r b
-unfolding attempt_again
-can_go_on_same s t same r None = refl
-can_go_on_same s t same r (Some blocked.Waitpid) = ap not (block_wait s t same r)
-can_go_on_same s t same r (Some blocked.Pause) = refl
-can_go_on_same s t same r (Some (blocked.Sigsuspend mask)) = refl
-
--- where waits find the same, the same processes can act
-pub can_act_same : (s t : State) → ReportsSame s t → (r : Process) → can_act s r ≡ can_act t r
-unfolding can_act
-can_act_same s t same r =
-    ap (λ b. is_living r && is_pending r.signals KILL || is_running r.life && (b || is_some (chosen r.life r.signals))) (can_go_on_same s t same r r.blocked)
-
--- the order doesn't count
-pub can_act_order : (s : State) (o : List ℕ) (r : Process) → can_act (record s { order = o }) r ≡ can_act s r
-can_act_order s o r = can_act_same (record s { order = o }) s (λ caller group target options. refl) r
+-- ---- who can act lives
 
 -- a zombie can't act, whatever else
 zombie_rests : (l : Life) (k g : Bool) → (not (is_zombie l) && k || is_running l && g) ≡ true → is_zombie l ≡ false
@@ -172,25 +120,6 @@ pub wakes_placed : (s : State) (p : ℕ) (r : Process) → lookup p s.processes 
 wakes_placed s p r e c = record { what = r; found = e; living = can_act_lives s r c }
 
 -- where nobody passes a test the filter is empty
-none_passes : (t : Process → Bool) (rs : List Process) → AllByRecursion (λ r. t r ≡ false) rs → filter t rs ≡ []
+pub none_passes : (t : Process → Bool) (rs : List Process) → AllByRecursion (λ r. t r ≡ false) rs → filter t rs ≡ []
 none_passes t [] h = refl
 none_passes t (r ∷ rs) h = rw h.0 (none_passes t rs h.1)
-
--- where there are as many places as records, nobody is without one
-pub settled_full : (s : State) → IsRegular s → length s.processes ≤ length s.order → settle s ≡ s
-unfolding settle
-settled_full s i full =
-    let none = none_passes (wakes s) s.processes (all_looked _ s.processes i.rising (λ p r e. stays r p e)) in
-    ap (λ rs. record s { order = s.order ++ pids rs }) none ∙ ap (λ o. record s { order = o }) (append-nil _)
-  where
-    stays : (r : Process) (p : ℕ) → lookup p s.processes ≡ Some r → wakes s r ≡ false
-    stays r p e = elim (wakes s r) as (λ b. wakes s r ≡ b → b ≡ false) [
-      | true ↦ λ w.
-          let acts : can_act s r ≡ true = grind arith in
-          let out : is_in r.pid s.order ≡ false = grind arith in
-          let named = pid_looked p s.processes r e in
-          let placed = subst (IsPlaced s.processes) (sym named) (wakes_placed s p r e acts) in
-          let less = room_for_one r.pid s i placed out in
-          absurd (omega (arith, less, full))
-      | false ↦ λ w. refl
-    ] refl

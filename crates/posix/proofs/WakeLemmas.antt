@@ -12,7 +12,7 @@ use Rattle.posix.specs.Settle.{settle, wakes, can_act}
 use Rattle.posix.specs.Step.{IsStep, next, happens, act}
 use Rattle.posix.specs.Settle.{NoWakeIsLost}
 use Rattle.posix.proofs.TableLemmas.{pid_looked}
-use Rattle.posix.proofs.SettleLemmas.{can_act_order}
+use Rattle.posix.proofs.SeeLemmas.{can_act_order}
 
 -- ---- what an event comes to
 
@@ -110,7 +110,7 @@ unfolding settle
 processes_settled s = refl
 
 -- in a settled state who can act has a place
-places_settled : (s : State) (p : ℕ) (r : Process) → lookup p (settle s).processes ≡ Some r → can_act (settle s) r ≡ true → is_in p (settle s).order ≡ true
+pub places_settled : (s : State) (p : ℕ) (r : Process) → lookup p (settle s).processes ≡ Some r → can_act (settle s) r ≡ true → is_in p (settle s).order ≡ true
 places_settled s p r e c = settled_places s p r (sym (ap (lookup p) (processes_settled s)) ∙ e) (sym (act_unsettled s r) ∙ c)
 
 -- after an event who can act has a place

@@ -110,7 +110,7 @@ head_left_of rs n =
     ] refl
 
 -- who is found in a list above n lies above n
-found_above : (n q : ℕ) (xs : List Process) (r : Process) → Above n xs → lookup q xs ≡ Some r → n < q
+pub found_above : (n q : ℕ) (xs : List Process) (r : Process) → Above n xs → lookup q xs ≡ Some r → n < q
 unfolding lookup
 found_above n q [] r a e = absurd (cc)
 found_above n q (x ∷ xs) r a e = elim (x.pid == q) as (λ b. (x.pid == q) ≡ b → cond b (Some x) (find (has_pid q) xs) ≡ Some r → n < q) [

@@ -1,10 +1,10 @@
 -- After each event: a place for each process that can act.
-use Rattle.std.specs.Prelude.{◌≡◌, ℕ, Bool, true, false, ◌&&◌, ◌||◌, not, is_some, if◌then◌else◌, [], ◌∷◌, ◌++◌, filter, Option, Some, None}
+use Rattle.std.specs.Prelude.{◌≡◌, ℕ, Bool, true, false, ◌&&◌, ◌||◌, not, is_some, if◌then◌else◌, List, [], ◌∷◌, ◌++◌, filter, Option, Some, None}
 use Rattle.posix.specs.declared.process.Blocked.{Blocked}
 use Rattle.posix.specs.SignalNumbers.{KILL}
 use Rattle.posix.specs.Processes.{Process, is_running, is_living}
 use Rattle.posix.specs.Tables.{pids}
-use Rattle.posix.specs.States.{State, process, has_place}
+use Rattle.posix.specs.States.{State, process, is_in, has_place}
 use Rattle.posix.specs.Outcomes.{Attempted, Done, Block}
 use Rattle.posix.specs.Generation.{is_pending}
 use Rattle.posix.specs.Choice.{chosen}
@@ -40,6 +40,10 @@ woken_if s (Some r) = if wakes s r then record s { order = s.order ++ r.pid ∷ 
 
 unfoldable pub woken : State → ℕ → State
 woken s p = woken_if s (process s p)
+
+-- each process that has to be given a place is in the list
+abbrev pub Covers : State → List ℕ → Type 0
+Covers s ps = (p : ℕ) (r : Process) → process s p ≡ Some r → wakes s r ≡ true → is_in p ps ≡ true
 
 -- each process that can act has a place
 abbrev pub NoWakeIsLost : State → Type 0

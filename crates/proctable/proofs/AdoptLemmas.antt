@@ -13,12 +13,8 @@ use Rattle.proctable.specs.Nodes.{no_ends, records, find_node}
 use Rattle.proctable.specs.Joined.{IsJoined, IsTable, HaveParents, last_pid, ends_in, moved}
 use Rattle.proctable.proofs.KidLemmas.{is_it}
 use Rattle.proctable.proofs.JoinLemmas.{AreEnds, ends_joined, has_node, no_process}
-use Rattle.proctable.proofs.LinkLemmas.{childless}
+use Rattle.proctable.proofs.LinkLemmas.{childless, moved_pid, moved_parent}
 use Rattle.proctable.proofs.NeighbourLemmas.{end_found}
-
-pub moved_pid : (p : ℕ) (r : Process) → (moved p r).pid ≡ r.pid
-unfolding moved
-moved_pid p r = refl
 
 -- one child moved: what is adopted in the end stays
 adopted_moved : (from to q : ℕ) → from ≢ to → (rs : List Process) → IsRising rs → (r : Process) → lookup q rs ≡ Some r → r.parent ≡ from → adopted from to (changed q (moved to) rs) ≡ adopted from to rs
@@ -88,41 +84,37 @@ unfolding last_pid
 none_last [] e = refl
 none_last (x ∷ xs) e = absurd (cc)
 
-absent : (ns : List Node) (root : Ends) (p : ℕ) → (p == 0) ≡ false → find_node p ns ≡ None → ends_in ns root p ≡ no_ends
+absent : (ns : List Node) (roots : Ends) (p : ℕ) → (p == 0) ≡ false → find_node p ns ≡ None → ends_in ns roots p ≡ no_ends
 unfolding ends_in
-absent ns root p z e = rw (z, e) refl
+absent ns roots p z e = rw (z, e) refl
 
 no_children : (ks : List Process) → ks ≡ [] → AreEnds no_ends ks
 unfolding last_pid
 no_children ks e = rw e (refl, refl)
 
 -- the ends that the links name, of any number
-ends_any : (ns : List Node) (root : Ends) (p : ℕ) → IsRising (records ns) → HaveParents (records ns) → IsJoined (records ns) ns root → AreEnds (ends_in ns root p) (children_in p (records ns))
-ends_any ns root p up parents j =
-    elim (p == 0) as (λ b. (p == 0) ≡ b → AreEnds (ends_in ns root p) (children_in p (records ns))) [
-      | true ↦ λ z. ends_joined (records ns) ns root p j (inl (eqb-true _ _ z))
-      | false ↦ λ z. elim (lookup p (records ns)) as (λ o. lookup p (records ns) ≡ o → AreEnds (ends_in ns root p) (children_in p (records ns))) [
-        | None ↦ λ w. subst (λ e. AreEnds e (children_in p (records ns))) (sym (absent ns root p z (no_process ns p w))) (no_children _ (childless p (records ns) up parents w (eqb-false _ _ z)))
-        | Some r ↦ λ w. ends_joined (records ns) ns root p j (inr (has_node ns p (rw w refl)))
+ends_any : (ns : List Node) (roots : Ends) (p : ℕ) → IsRising (records ns) → HaveParents (records ns) → IsJoined (records ns) ns roots → AreEnds (ends_in ns roots p) (children_in p (records ns))
+ends_any ns roots p up parents j =
+    elim (p == 0) as (λ b. (p == 0) ≡ b → AreEnds (ends_in ns roots p) (children_in p (records ns))) [
+      | true ↦ λ z. ends_joined (records ns) ns roots p j (inl (eqb-true _ _ z))
+      | false ↦ λ z. elim (lookup p (records ns)) as (λ o. lookup p (records ns) ≡ o → AreEnds (ends_in ns roots p) (children_in p (records ns))) [
+        | None ↦ λ w. subst (λ e. AreEnds e (children_in p (records ns))) (sym (absent ns roots p z (no_process ns p w))) (no_children _ (childless p (records ns) up parents w (eqb-false _ _ z)))
+        | Some r ↦ λ w. ends_joined (records ns) ns roots p j (inr (has_node ns p (rw w refl)))
       ] refl
     ] refl
 
 -- ---- the loop
 
-pub record IsAdopting (first : List Node) (from to : ℕ) (ns : List Node) (root : Ends) (next : Option ℕ) : Type 0 where
+pub record IsAdopting (first : List Node) (from to : ℕ) (ns : List Node) (roots : Ends) (next : Option ℕ) : Type 0 where
   pub comes : adopted from to (records ns) ≡ adopted from to (records first)
   pub rising : IsRising (records ns)
   pub parents : HaveParents (records ns)
-  pub joined : IsJoined (records ns) ns root
+  pub joined : IsJoined (records ns) ns roots
   pub target : IsSome (lookup to (records ns))
   pub child : next ≡ last_pid (children_in from (records ns))
 
-pub adopting_start : (ns : List Node) (root : Ends) (next : Option ℕ) (from to : ℕ) → IsRising (records ns) → HaveParents (records ns) → IsJoined (records ns) ns root → IsSome (lookup to (records ns)) → next ≡ (ends_in ns root from).last → IsAdopting ns from to ns root next
-adopting_start ns root next from to up parents j there e = record { comes = refl; rising = up; parents = parents; joined = j; target = there; child = e ∙ (ends_any ns root from up parents j).1 }
-
-pub parent_moved : (p : ℕ) (r : Process) → (moved p r).parent ≡ p
-unfolding moved
-parent_moved p r = refl
+pub adopting_start : (ns : List Node) (roots : Ends) (next : Option ℕ) (from to : ℕ) → IsRising (records ns) → HaveParents (records ns) → IsJoined (records ns) ns roots → IsSome (lookup to (records ns)) → next ≡ (ends_in ns roots from).last → IsAdopting ns from to ns roots next
+adopting_start ns roots next from to up parents j there e = record { comes = refl; rising = up; parents = parents; joined = j; target = there; child = e ∙ (ends_any ns roots from up parents j).1 }
 
 parents_moved : (rs : List Process) (q to : ℕ) → HaveParents rs → IsSome (lookup to rs) → HaveParents (changed q (moved to) rs)
 unfolding changed
@@ -137,16 +129,16 @@ parents_moved rs q to h there p r e =
     ] b.is
   where
     moved_to : (r : Process) → (moved to r).parent ≡ to
-    moved_to r = parent_moved to r
+    moved_to r = moved_parent to r
 
 pub there_moved : (rs : List Process) (q to p : ℕ) → IsSome (lookup p rs) → IsSome (lookup p (changed q (moved to) rs))
 unfolding changed
 there_moved rs q to p h = some_map (at q (moved to)) (at_pid q (moved to) (moved_pid to)) p rs h
 
-pub adopting_step : (first ns new : List Node) (from to q : ℕ) (root top : Ends) (next later : Option ℕ) → from ≢ to → IsAdopting first from to ns root next → next ≡ Some q
+pub adopting_step : (first ns new : List Node) (from to q : ℕ) (roots top : Ends) (next later : Option ℕ) → from ≢ to → IsAdopting first from to ns roots next → next ≡ Some q
     → records new ≡ changed q (moved to) (records ns) → IsJoined (records new) new top → later ≡ (ends_in new top from).last
     → IsAdopting first from to new top later × (length (children_in from (records new)) < length (children_in from (records ns)))
-adopting_step first ns new from to q root top next later ne w i e j f =
+adopting_step first ns new from to q roots top next later ne w i e j f =
     let rs = records ns in
     let k = last_child rs from q w.rising (sym w.child ∙ i) in
     let up : IsRising (records new) = subst IsRising (sym e) (rising_changed q (moved to) (moved_pid to) rs w.rising) in
@@ -163,16 +155,16 @@ adopting_step first ns new from to q root top next later ne w i e j f =
     )
 
 -- what the child that is moved needs
-pub child_there : (first ns mid : List Node) (from to q : ℕ) (root : Ends) (next : Option ℕ) → IsAdopting first from to ns root next → next ≡ Some q → records mid ≡ records ns → IsSome (find_node q mid) × IsSome (find_node to mid)
-child_there first ns mid from to q root next w i e =
+pub child_there : (first ns mid : List Node) (from to q : ℕ) (roots : Ends) (next : Option ℕ) → IsAdopting first from to ns roots next → next ≡ Some q → records mid ≡ records ns → IsSome (find_node q mid) × IsSome (find_node to mid)
+child_there first ns mid from to q roots next w i e =
     let k = last_child (records ns) from q w.rising (sym w.child ∙ i) in
     (has_node mid q (subst (λ rs. IsSome (lookup q rs)) (sym e) (rw k.found refl)), has_node mid to (subst (λ rs. IsSome (lookup to rs)) (sym e) w.target))
 
-pub adopting_end : (first ns : List Node) (from to : ℕ) (root : Ends) (next : Option ℕ) → IsAdopting first from to ns root next → next ≡ None → records ns ≡ adopted from to (records first)
-adopting_end first ns from to root next w i = sym (none_adopted from to (records ns) (none_last (children_in from (records ns)) (sym w.child ∙ i))) ∙ w.comes
+pub adopting_end : (first ns : List Node) (from to : ℕ) (roots : Ends) (next : Option ℕ) → IsAdopting first from to ns roots next → next ≡ None → records ns ≡ adopted from to (records first)
+adopting_end first ns from to roots next w i = sym (none_adopted from to (records ns) (none_last (children_in from (records ns)) (sym w.child ∙ i))) ∙ w.comes
 
-pub table_adopted : (first ns : List Node) (from to : ℕ) (root top : Ends) (next : Option ℕ) → IsAdopting first from to ns top next → next ≡ None → IsTable ns top
-table_adopted first ns from to root top next w i = record { rising = w.rising; parents = w.parents; joined = w.joined }
+pub table_adopted : (first ns : List Node) (from to : ℕ) (roots top : Ends) (next : Option ℕ) → IsAdopting first from to ns top next → next ≡ None → IsTable ns top
+table_adopted first ns from to roots top next w i = record { rising = w.rising; parents = w.parents; joined = w.joined }
 
 pub found_there : (ns : List Node) (p : ℕ) → IsSome (find_node p ns) → IsSome (lookup p (records ns))
 found_there ns p h = elim (lookup p (records ns)) as (λ o. lookup p (records ns) ≡ o → IsSome o) [

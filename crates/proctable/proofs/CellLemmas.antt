@@ -1,5 +1,5 @@
 -- The nodes that an index and slots are worth.
-use Rattle.std.proofs.Common.{◌≡◌, ◌≢◌, ℕ, zero, suc, ◌<◌, true, false, cond, not, refl, ap, sym, ◌∙◌, arith, subst, List, [], ◌∷◌, length, map, filter, filter_map, find, Option, Some, None, option_map, ◌==◌, nat_lt, slice_index_or, slice_set}
+use Rattle.std.proofs.Common.{◌≡◌, ◌≢◌, ℕ, zero, suc, ◌<◌, true, false, cond, not, refl, ap, sym, ◌∙◌, arith, subst, List, [], ◌∷◌, length, map, filter, filter_map, find, Option, Some, None, option_map, ◌==◌, nat_lt, slice_get, slice_index_or, slice_set}
 use Rattle.std.specs.List.{AllByRecursion}
 use Rattle.std.specs.Prelude.{count_by}
 use Rattle.std.specs.Option.{IsSome, is_some, option_and_then}
@@ -10,45 +10,47 @@ use Rattle.posix.specs.Processes.{Process}
 use Rattle.posix.specs.Tables as posix
 use Rattle.proctable.specs.declared.entry.Entry.{Entry}
 use Rattle.proctable.specs.declared.node.Node.{Node}
-use Rattle.proctable.specs.Entries.{IsRising, lookup, has_pid, inserted, removed, next_above, above, first_pid}
+use Rattle.pidset.specs.Numbers.{Rises, numbers_above, inserted_by}
+use Rattle.pidset.proofs.NumberLemmas.{AllAbove}
+use Rattle.pidset.proofs.RowLemmas.{others_all}
 use Rattle.proctable.specs.Nodes.{record_of, records, find_node, at_node, changed_node, inserted_node, removed_node}
-use Rattle.proctable.specs.Cells.{nodes_of, Stands, IsIndexed}
+use Rattle.proctable.specs.Cells.{entry_of, pids_of, nodes_of, Stands, IsIndexed}
 
 abbrev pub AllStand : Slab Node → List Entry → Type 0
 AllStand slab es = AllByRecursion (Stands slab) es
 
 -- ---- what is read
 
-pub node_found : (p : ℕ) (es : List Entry) (slab : Slab Node) → AllStand slab es → find_node p (nodes_of es slab) ≡ option_and_then (λ (e : Entry). get slab e.slot) (lookup p es)
-unfolding find_node nodes_of lookup
+pub node_found : (p : ℕ) (es : List Entry) (slab : Slab Node) → AllStand slab es → find_node p (nodes_of es slab) ≡ option_and_then (λ (e : Entry). get slab e.slot) (entry_of p es)
+unfolding find_node nodes_of
 node_found p [] slab a = refl
 node_found p (e ∷ es) slab a =
     let rest = node_found p es slab a.1 in
     let s = a.0 in
-    elim (e.pid == p) as (λ b. (e.pid == p) ≡ b → find_node p (nodes_of (e ∷ es) slab) ≡ option_and_then (λ (e : Entry). get slab e.slot) (cond b (Some e) (find (has_pid p) es))) [
+    elim (e.pid == p) as (λ b. (e.pid == p) ≡ b → find_node p (nodes_of (e ∷ es) slab) ≡ option_and_then (λ (e : Entry). get slab e.slot) (cond b (Some e) (entry_of p es))) [
       | true ↦ λ t. let u : (s.what.pid == p) ≡ true = ap (λ n. n == p) s.named ∙ t in rw (s.at, u) refl
       | false ↦ λ t. let u : (s.what.pid == p) ≡ false = ap (λ n. n == p) s.named ∙ t in rw (s.at, u) rest
     ] refl
 
 -- who is above a number, as the index says
-pub next_of : (p : ℕ) (es : List Entry) (slab : Slab Node) → AllStand slab es → posix.next_above p (records (nodes_of es slab)) ≡ next_above p es
-unfolding posix.next_above records nodes_of next_above
+pub next_of : (p : ℕ) (es : List Entry) (slab : Slab Node) → AllStand slab es → posix.next_above p (records (nodes_of es slab)) ≡ slice_get (numbers_above p (pids_of es)) 0
+unfolding posix.next_above records nodes_of
 next_of p [] slab a = refl
 next_of p (e ∷ es) slab a =
     let rest = next_of p es slab a.1 in
     let s = a.0 in
-    elim (nat_lt p e.pid) as (λ b. nat_lt p e.pid ≡ b → posix.next_above p (records (nodes_of (e ∷ es) slab)) ≡ first_pid (cond b (e ∷ above p es) (above p es))) [
+    elim (nat_lt p e.pid) as (λ b. nat_lt p e.pid ≡ b → posix.next_above p (records (nodes_of (e ∷ es) slab)) ≡ slice_get (cond b (e.pid ∷ numbers_above p (pids_of es)) (numbers_above p (pids_of es))) 0) [
       | true ↦ λ t. let u : nat_lt p s.what.pid ≡ true = ap (λ n. nat_lt p n) s.named ∙ t in rw (s.at, u) (ap Some s.named)
       | false ↦ λ t. let u : nat_lt p s.what.pid ≡ false = ap (λ n. nat_lt p n) s.named ∙ t in rw (s.at, u) rest
     ] refl
 
-all_above : (n : ℕ) (es : List Entry) (slab : Slab Node) → AllStand slab es → AllByRecursion (λ (q : Entry). n < q.pid) es → AllByRecursion (λ (q : Process). n < q.pid) (records (nodes_of es slab))
+all_above : (n : ℕ) (es : List Entry) (slab : Slab Node) → AllStand slab es → AllAbove n (pids_of es) → AllByRecursion (λ (q : Process). n < q.pid) (records (nodes_of es slab))
 unfolding records nodes_of
 all_above n [] slab a h = tt
 all_above n (e ∷ es) slab a h = let s = a.0 in let rest = all_above n es slab a.1 h.1 in rw s.at (rw s.named h.0, rest)
 
-pub rising_nodes : (es : List Entry) (slab : Slab Node) → AllStand slab es → IsRising es → posix.IsRising (records (nodes_of es slab))
-unfolding posix.IsRising IsRising records nodes_of
+pub rising_nodes : (es : List Entry) (slab : Slab Node) → AllStand slab es → Rises (pids_of es) → posix.IsRising (records (nodes_of es slab))
+unfolding posix.IsRising Rises records nodes_of
 rising_nodes [] slab a up = tt
 rising_nodes (e ∷ es) slab a up = let s = a.0 in let rest = rising_nodes es slab a.1 up.1 in let low = all_above e.pid es slab a.1 up.0 in rw (s.at, s.named) (low, rest)
 
@@ -65,18 +67,17 @@ pub record Slotted (es : List Entry) (slab : Slab Node) (p slot : ℕ) : Type 0 
   pub named : what.pid ≡ p
   pub found : find_node p (nodes_of es slab) ≡ Some what
 
-all_found : (es : List Entry) (slab : Slab Node) (p : ℕ) (e : Entry) → AllStand slab es → lookup p es ≡ Some e → Stands slab e × (e.pid ≡ p)
-unfolding lookup
+all_found : (es : List Entry) (slab : Slab Node) (p : ℕ) (e : Entry) → AllStand slab es → entry_of p es ≡ Some e → Stands slab e × (e.pid ≡ p)
 all_found [] slab p e a h = absurd (cc)
-all_found (x ∷ es) slab p e a h = elim (x.pid == p) as (λ b. (x.pid == p) ≡ b → cond b (Some x) (find (has_pid p) es) ≡ Some e → Stands slab e × (e.pid ≡ p)) [
+all_found (x ∷ es) slab p e a h = elim (x.pid == p) as (λ b. (x.pid == p) ≡ b → cond b (Some x) (entry_of p es) ≡ Some e → Stands slab e × (e.pid ≡ p)) [
   | true ↦ λ t k. let same : x ≡ e = cc in subst (λ (e : Entry). Stands slab e × (e.pid ≡ p)) same (a.0, eqb-true _ _ t)
   | false ↦ λ t k. all_found es slab p e a.1 k
 ] refl h
 
 -- where the index names a slot
-pub slotted : (es : List Entry) (slab : Slab Node) (p slot : ℕ) → AllStand slab es → option_map (λ (e : Entry). e.slot) (lookup p es) ≡ Some slot → Slotted es slab p slot
+pub slotted : (es : List Entry) (slab : Slab Node) (p slot : ℕ) → AllStand slab es → option_map (λ (e : Entry). e.slot) (entry_of p es) ≡ Some slot → Slotted es slab p slot
 slotted es slab p slot a h =
-    elim (lookup p es) as (λ o. lookup p es ≡ o → option_map (λ (e : Entry). e.slot) o ≡ Some slot → Slotted es slab p slot) [
+    elim (entry_of p es) as (λ o. entry_of p es ≡ o → option_map (λ (e : Entry). e.slot) o ≡ Some slot → Slotted es slab p slot) [
       | None ↦ λ w k. absurd (cc)
       | Some e ↦ λ w k.
           let same : e.slot ≡ slot = cc in
@@ -86,21 +87,21 @@ slotted es slab p slot a h =
     ] refl h
 
 -- where it names none
-pub unslotted : (es : List Entry) (slab : Slab Node) (p : ℕ) → AllStand slab es → option_map (λ (e : Entry). e.slot) (lookup p es) ≡ None → find_node p (nodes_of es slab) ≡ None
+pub unslotted : (es : List Entry) (slab : Slab Node) (p : ℕ) → AllStand slab es → option_map (λ (e : Entry). e.slot) (entry_of p es) ≡ None → find_node p (nodes_of es slab) ≡ None
 unslotted es slab p a h =
-    node_found p es slab a ∙ elim (lookup p es) as (λ o. option_map (λ (e : Entry). e.slot) o ≡ None → option_and_then (λ (e : Entry). get slab e.slot) o ≡ None) [ None ↦ λ k. refl | Some e ↦ λ k. absurd (cc) ] h
+    node_found p es slab a ∙ elim (entry_of p es) as (λ o. option_map (λ (e : Entry). e.slot) o ≡ None → option_and_then (λ (e : Entry). get slab e.slot) o ≡ None) [ None ↦ λ k. refl | Some e ↦ λ k. absurd (cc) ] h
 
 -- who is among the nodes is in the index
-pub indexed : (es : List Entry) (slab : Slab Node) (p : ℕ) → AllStand slab es → IsSome (find_node p (nodes_of es slab)) → IsSome (lookup p es)
+pub indexed : (es : List Entry) (slab : Slab Node) (p : ℕ) → AllStand slab es → IsSome (find_node p (nodes_of es slab)) → IsSome (entry_of p es)
 indexed es slab p a h =
-    elim (lookup p es) as (λ o. lookup p es ≡ o → IsSome o) [
+    elim (entry_of p es) as (λ o. entry_of p es ≡ o → IsSome o) [
       | None ↦ λ w. let n : find_node p (nodes_of es slab) ≡ None = node_found p es slab a ∙ ap (option_and_then (λ (e : Entry). get slab e.slot)) w in rw n at h
       | Some e ↦ λ w. refl
     ] refl
 
-pub unindexed : (es : List Entry) (slab : Slab Node) (p : ℕ) → AllStand slab es → find_node p (nodes_of es slab) ≡ None → lookup p es ≡ None
+pub unindexed : (es : List Entry) (slab : Slab Node) (p : ℕ) → AllStand slab es → find_node p (nodes_of es slab) ≡ None → entry_of p es ≡ None
 unindexed es slab p a h =
-    elim (lookup p es) as (λ o. lookup p es ≡ o → o ≡ None) [
+    elim (entry_of p es) as (λ o. entry_of p es ≡ o → o ≡ None) [
       | None ↦ λ w. refl
       | Some e ↦ λ w.
           let s = all_found es slab p e a w in
@@ -120,15 +121,15 @@ elsewhere slab slot other v d = grind (arith, common_steps)
 abbrev pub Only : ℕ → ℕ → List Entry → Type 0
 Only p slot es = AllByRecursion (λ (x : Entry). x.pid ≡ p → x.slot ≡ slot) es
 
-only_above : (p slot : ℕ) (es : List Entry) → AllByRecursion (λ (q : Entry). p < q.pid) es → Only p slot es
+only_above : (p slot : ℕ) (es : List Entry) → AllAbove p (pids_of es) → Only p slot es
 only_above p slot [] h = tt
 only_above p slot (x ∷ es) h = (λ e. absurd (omega (arith, h.0, e)), only_above p slot es h.1)
 
-pub only : (p : ℕ) (es : List Entry) (e : Entry) → IsRising es → lookup p es ≡ Some e → Only p e.slot es
-unfolding IsRising lookup
+pub only : (p : ℕ) (es : List Entry) (e : Entry) → Rises (pids_of es) → entry_of p es ≡ Some e → Only p e.slot es
+unfolding Rises
 only p [] e up h = tt
-only p (x ∷ es) e up h = elim (x.pid == p) as (λ b. (x.pid == p) ≡ b → cond b (Some x) (find (has_pid p) es) ≡ Some e → (x.pid ≡ p → x.slot ≡ e.slot) × Only p e.slot es) [
-  | true ↦ λ t k. let same : x ≡ e = cc in (λ i. ap (λ (e : Entry). e.slot) same, only_above p e.slot es (subst (λ n. AllByRecursion (λ (q : Entry). n < q.pid) es) (eqb-true _ _ t) up.0))
+only p (x ∷ es) e up h = elim (x.pid == p) as (λ b. (x.pid == p) ≡ b → cond b (Some x) (entry_of p es) ≡ Some e → (x.pid ≡ p → x.slot ≡ e.slot) × Only p e.slot es) [
+  | true ↦ λ t k. let same : x ≡ e = cc in (λ i. ap (λ (e : Entry). e.slot) same, only_above p e.slot es (subst (λ n. AllAbove n (pids_of es)) (eqb-true _ _ t) up.0))
   | false ↦ λ t k. (λ i. absurd (eqb-false _ _ t i), only p es e up.1 k)
 ] refl h
 
@@ -184,8 +185,8 @@ stand_same [] old new slot others vacant a = tt
 stand_same (x ∷ es) old new slot others vacant a = let s = a.0 in (record { what = s.what; at = stays old new slot x others vacant s ∙ s.at; named = s.named }, stand_same es old new slot others vacant a.1)
 
 pub nodes_inserted : (es : List Entry) (old new : Slab Node) (e : Entry) (n : Node) → Others old new e.slot → get old e.slot ≡ None → get new e.slot ≡ Some n → n.pid ≡ e.pid → AllStand old es
-    → nodes_of (inserted e es) new ≡ inserted_node n (nodes_of es old)
-unfolding nodes_of inserted inserted_node
+    → nodes_of (inserted_by (λ (e : Entry). e.pid) e es) new ≡ inserted_node n (nodes_of es old)
+unfolding nodes_of inserted_by
 nodes_inserted [] old new e n others vacant g named a = rw g refl
 nodes_inserted (x ∷ es) old new e n others vacant g named a =
     let s = a.0 in
@@ -193,18 +194,18 @@ nodes_inserted (x ∷ es) old new e n others vacant g named a =
     let same : filter_map (λ (e : Entry). get new e.slot) es ≡ filter_map (λ (e : Entry). get old e.slot) es = nodes_same es old new e.slot others vacant a.1 in
     let at : get new x.slot ≡ Some s.what = stays old new e.slot x others vacant s ∙ s.at in
     let u : nat_lt n.pid s.what.pid ≡ nat_lt e.pid x.pid = ap (λ k. nat_lt k s.what.pid) named ∙ ap (nat_lt e.pid) s.named in
-    elim (nat_lt e.pid x.pid) as (λ b. nat_lt e.pid x.pid ≡ b → filter_map (λ (e : Entry). get new e.slot) (cond b (e ∷ x ∷ es) (x ∷ inserted e es)) ≡ inserted_node n (filter_map (λ (e : Entry). get old e.slot) (x ∷ es))) [
+    elim (nat_lt e.pid x.pid) as (λ b. nat_lt e.pid x.pid ≡ b → filter_map (λ (e : Entry). get new e.slot) (cond b (e ∷ x ∷ es) (x ∷ inserted_by (λ (e : Entry). e.pid) e es)) ≡ inserted_node n (filter_map (λ (e : Entry). get old e.slot) (x ∷ es))) [
       | true ↦ λ t. let v : nat_lt n.pid s.what.pid ≡ true = u ∙ t in rw (g, at, same, s.at, v) refl
       | false ↦ λ t. let v : nat_lt n.pid s.what.pid ≡ false = u ∙ t in rw (at, s.at, v) (ap (λ l. s.what ∷ l) rest)
     ] refl
 
 pub stand_inserted : (es : List Entry) (old new : Slab Node) (e : Entry) (n : Node) → Others old new e.slot → get old e.slot ≡ None → get new e.slot ≡ Some n → n.pid ≡ e.pid → AllStand old es
-    → AllStand new (inserted e es)
-unfolding inserted
+    → AllStand new (inserted_by (λ (e : Entry). e.pid) e es)
+unfolding inserted_by
 stand_inserted [] old new e n others vacant g named a = (record { what = n; at = g; named = named }, tt)
 stand_inserted (x ∷ es) old new e n others vacant g named a =
     let all = stand_same (x ∷ es) old new e.slot others vacant a in
-    elim (nat_lt e.pid x.pid) as (λ b. AllStand new (cond b (e ∷ x ∷ es) (x ∷ inserted e es))) [
+    elim (nat_lt e.pid x.pid) as (λ b. AllStand new (cond b (e ∷ x ∷ es) (x ∷ inserted_by (λ (e : Entry). e.pid) e es))) [
       | true ↦ (record { what = n; at = g; named = named }, all)
       | false ↦ (all.0, stand_inserted es old new e n others vacant g named a.1)
     ]
@@ -218,8 +219,8 @@ gone old new p slot n x others g named s t = others x.slot (λ i.
     eqb-false _ _ t (sym s.named ∙ ap (λ (n : Node). n.pid) w ∙ named))
 
 pub nodes_removed : (es : List Entry) (old new : Slab Node) (p slot : ℕ) (n : Node) → Others old new slot → get old slot ≡ Some n → n.pid ≡ p → AllStand old es
-    → nodes_of (removed p es) new ≡ removed_node p (nodes_of es old)
-unfolding nodes_of removed removed_node
+    → nodes_of (filter (λ (r : Entry). not (r.pid == p)) es) new ≡ removed_node p (nodes_of es old)
+unfolding nodes_of removed_node
 nodes_removed [] old new p slot n others g named a = refl
 nodes_removed (x ∷ es) old new p slot n others g named a =
     let s = a.0 in
@@ -229,8 +230,7 @@ nodes_removed (x ∷ es) old new p slot n others g named a =
       | false ↦ λ t. let u : (s.what.pid == p) ≡ false = ap (λ n. n == p) s.named ∙ t in rw (gone old new p slot n x others g named s t, s.at, u) (ap (λ l. s.what ∷ l) rest)
     ] refl
 
-pub stand_removed : (es : List Entry) (old new : Slab Node) (p slot : ℕ) (n : Node) → Others old new slot → get old slot ≡ Some n → n.pid ≡ p → AllStand old es → AllStand new (removed p es)
-unfolding removed
+pub stand_removed : (es : List Entry) (old new : Slab Node) (p slot : ℕ) (n : Node) → Others old new slot → get old slot ≡ Some n → n.pid ≡ p → AllStand old es → AllStand new (filter (λ (r : Entry). not (r.pid == p)) es)
 stand_removed [] old new p slot n others g named a = tt
 stand_removed (x ∷ es) old new p slot n others g named a =
     let s = a.0 in
@@ -245,7 +245,7 @@ unfolding nodes_of
 no_nodes slab es e = rw e refl
 
 pub no_index : (slab : Slab Node) (es : List Entry) → es ≡ [] → IsIndexed es slab
-unfolding IsRising
+unfolding Rises
 no_index slab es e = rw e (record { rising = tt; standing = tt })
 
 pub nodes_slots : (es : List Entry) (old new : Slab Node) → new.slots ≡ old.slots → nodes_of es new ≡ nodes_of es old
@@ -255,11 +255,11 @@ nodes_slots es old new e = rw e refl
 -- ---- as the calls have it
 
 -- the slot that was found is that of the process
-pub at_slot : (es xs : List Entry) (slab : Slab Node) (p slot : ℕ) (o : Option ℕ) → xs ≡ es → AllStand slab es → o ≡ option_map (λ (e : Entry). e.slot) (lookup p xs) → o ≡ Some slot → Slotted es slab p slot
-at_slot es xs slab p slot o same a e is = slotted es slab p slot a (ap (λ l. option_map (λ (e : Entry). e.slot) (lookup p l)) (sym same) ∙ sym e ∙ is)
+pub at_slot : (es xs : List Entry) (slab : Slab Node) (p slot : ℕ) (o : Option ℕ) → xs ≡ es → AllStand slab es → o ≡ option_map (λ (e : Entry). e.slot) (entry_of p xs) → o ≡ Some slot → Slotted es slab p slot
+at_slot es xs slab p slot o same a e is = slotted es slab p slot a (ap (λ l. option_map (λ (e : Entry). e.slot) (entry_of p l)) (sym same) ∙ sym e ∙ is)
 
-pub at_none : (es xs : List Entry) (slab : Slab Node) (p : ℕ) (o : Option ℕ) → xs ≡ es → AllStand slab es → o ≡ option_map (λ (e : Entry). e.slot) (lookup p xs) → o ≡ None → find_node p (nodes_of es slab) ≡ None
-at_none es xs slab p o same a e is = unslotted es slab p a (ap (λ l. option_map (λ (e : Entry). e.slot) (lookup p l)) (sym same) ∙ sym e ∙ is)
+pub at_none : (es xs : List Entry) (slab : Slab Node) (p : ℕ) (o : Option ℕ) → xs ≡ es → AllStand slab es → o ≡ option_map (λ (e : Entry). e.slot) (entry_of p xs) → o ≡ None → find_node p (nodes_of es slab) ≡ None
+at_none es xs slab p o same a e is = unslotted es slab p a (ap (λ l. option_map (λ (e : Entry). e.slot) (entry_of p l)) (sym same) ∙ sym e ∙ is)
 
 -- who is looked up is the node that is found
 pub lookup_records : (p : ℕ) (ns : List Node) → posix.lookup p (records ns) ≡ option_map record_of (find_node p ns)
@@ -277,25 +277,23 @@ pub len_put : (slab : Slab Node) (slot : ℕ) (n v : Node) → get slab slot ≡
 len_put slab slot n v g = count_set slab.slots slot v n g
 
 -- the one entry of a process
-pub only_slot : (es xs : List Entry) (p slot : ℕ) → xs ≡ es → IsRising es → option_map (λ (e : Entry). e.slot) (lookup p xs) ≡ Some slot → Only p slot es
+pub only_slot : (es xs : List Entry) (p slot : ℕ) → xs ≡ es → Rises (pids_of es) → option_map (λ (e : Entry). e.slot) (entry_of p xs) ≡ Some slot → Only p slot es
 only_slot es xs p slot same up h =
-    let k : option_map (λ (e : Entry). e.slot) (lookup p es) ≡ Some slot = ap (λ l. option_map (λ (e : Entry). e.slot) (lookup p l)) (sym same) ∙ h in
-    elim (lookup p es) as (λ o. lookup p es ≡ o → option_map (λ (e : Entry). e.slot) o ≡ Some slot → Only p slot es) [
+    let k : option_map (λ (e : Entry). e.slot) (entry_of p es) ≡ Some slot = ap (λ l. option_map (λ (e : Entry). e.slot) (entry_of p l)) (sym same) ∙ h in
+    elim (entry_of p es) as (λ o. entry_of p es ≡ o → option_map (λ (e : Entry). e.slot) o ≡ Some slot → Only p slot es) [
       | None ↦ λ w k. absurd (cc)
       | Some e ↦ λ w k. let s : e.slot ≡ slot = cc in subst (λ n. Only p n es) s (only p es e up w)
     ] refl k
 
 -- nothing goes where nobody is
-removed_none : (p : ℕ) (ns : List Node) → find_node p ns ≡ None → removed_node p ns ≡ ns
-unfolding removed_node find_node
-removed_none p [] e = refl
-removed_none p (n ∷ ns) e = elim (n.pid == p) as (λ b. cond b (Some n) (find (λ (n : Node). n.pid == p) ns) ≡ None → cond (not b) (n ∷ filter (λ (r : Node). not (r.pid == p)) ns) (filter (λ (r : Node). not (r.pid == p)) ns) ≡ n ∷ ns) [
-  | true ↦ λ k. absurd (cc)
-  | false ↦ λ k. ap (λ l. n ∷ l) (removed_none p ns k)
-] e
+pub no_node : (es : List Entry) (slab : Slab Node) (p : ℕ) → entry_of p es ≡ None → AllStand slab es → nodes_of (filter (λ (e : Entry). not (e.pid == p)) es) slab ≡ removed_node p (nodes_of es slab)
+unfolding find_node removed_node
+no_node es slab p e a =
+    ap (λ l. nodes_of l slab) (others_all (λ (e : Entry). e.pid) es p e)
+    ∙ sym (others_all (λ (n : Node). n.pid) (nodes_of es slab) p (node_found p es slab a ∙ ap (option_and_then (λ (e : Entry). get slab e.slot)) e))
 
-pub no_node : (es : List Entry) (slab : Slab Node) (p : ℕ) → lookup p es ≡ None → IsIndexed es slab → removed_node p (nodes_of es slab) ≡ nodes_of es slab
-no_node es slab p e x = removed_none p _ (node_found p es slab x.standing ∙ ap (option_and_then (λ (e : Entry). get slab e.slot)) e)
+pub stand_rest : (es : List Entry) (slab : Slab Node) (p : ℕ) → entry_of p es ≡ None → IsIndexed es slab → IsIndexed (filter (λ (e : Entry). not (e.pid == p)) es) slab
+stand_rest es slab p e i = subst (λ l. IsIndexed l slab) (sym (others_all (λ (e : Entry). e.pid) es p e)) i
 
 -- nothing changes where nobody is
 pub changed_none : (p : ℕ) (f : Node → Node) (ns : List Node) → find_node p ns ≡ None → changed_node p f ns ≡ ns

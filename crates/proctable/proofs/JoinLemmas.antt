@@ -63,10 +63,10 @@ no_process ns p e =
 -- ---- what is read
 
 -- the links that are read of a process that is there
-pub next_read : (ns : List Node) (root : Ends) (p : ℕ) (l : Option Links) → IsTable ns root → IsSome (lookup p (records ns)) → l ≡ option_map (λ (n : Node). n.links) (find_node p ns)
+pub next_read : (ns : List Node) (roots : Ends) (p : ℕ) (l : Option Links) → IsTable ns roots → IsSome (lookup p (records ns)) → l ≡ option_map (λ (n : Node). n.links) (find_node p ns)
     → option_and_then (λ (l : Links). l.next) l ≡ next_sibling p (records ns)
 unfolding next_sibling
-next_read ns root p l t h e =
+next_read ns roots p l t h e =
     elim (lookup p (records ns)) as (λ o. lookup p (records ns) ≡ o → IsSome o → option_and_then (λ (l : Links). l.next) l ≡ first_pid (above p (children_in (parent_of p (records ns)) (records ns)))) [
       | None ↦ λ w h. absurd (cc)
       | Some r ↦ λ w h.
@@ -79,7 +79,7 @@ next_read ns root p l t h e =
 
 -- ---- changes that keep numbers, parents and links
 
-first_map : (g : Process → Process) → ((r : Process) → (g r).pid ≡ r.pid) → (ks : List Process) → first_pid (map g ks) ≡ first_pid ks
+pub first_map : (g : Process → Process) → ((r : Process) → (g r).pid ≡ r.pid) → (ks : List Process) → first_pid (map g ks) ≡ first_pid ks
 first_map g keeps [] = refl
 first_map g keeps (x ∷ xs) = ap Some (keeps x)
 
@@ -126,8 +126,8 @@ came (Some x) h n e = record { what = x; found = refl; is = cc }
 pub came_from : (h : Node → Node) → ((n : Node) → (h n).pid ≡ n.pid) → (q : ℕ) (ns : List Node) (n : Node) → find_node q (map h ns) ≡ Some n → Came (find_node q ns) h n
 came_from h keeps q ns n e = came (find_node q ns) h n (sym (find_map h keeps q ns) ∙ e)
 
-pub joined_kept : (g : Process → Process) (h : Node → Node) (ks : List Process) (ns : List Node) (root : Ends) → Keeps g → Leaves h → IsJoined ks ns root → IsJoined (map g ks) (map h ns) root
-joined_kept g h ks ns root keeps leaves j = record {
+pub joined_kept : (g : Process → Process) (h : Node → Node) (ks : List Process) (ns : List Node) (roots : Ends) → Keeps g → Leaves h → IsJoined ks ns roots → IsJoined (map g ks) (map h ns) roots
+joined_kept g h ks ns roots keeps leaves j = record {
   firsts = λ q n z e. let c = came_from h leaves.pid q ns n e in
       ap (λ (n : Node). n.links.children.first) c.is ∙ ap (λ (l : Links). l.children.first) (leaves.links c.what) ∙ j.firsts q c.what z c.found ∙ sym (kids q);
   lasts = λ q n z e. let c = came_from h leaves.pid q ns n e in
@@ -174,12 +174,12 @@ left p b = record {
   links = λ n. elim (n.pid == p) as (λ t. (cond t (cells.give_body b n) n).links ≡ n.links) [ true ↦ refl | false ↦ refl ];
 }
 
-pub table_body : (ns : List Node) (root : Ends) (p : ℕ) (b : Body) → IsTable ns root → IsTable (changed_node p (cells.give_body b) ns) root
+pub table_body : (ns : List Node) (roots : Ends) (p : ℕ) (b : Body) → IsTable ns roots → IsTable (changed_node p (cells.give_body b) ns) roots
 unfolding changed_node changed give_body
-table_body ns root p b t = record {
+table_body ns roots p b t = record {
   rising = subst IsRising (sym (records_changed p b ns)) (rising_changed p (give_body b) (λ r. pid_given b r) (records ns) t.rising);
   parents = subst HaveParents (sym (records_changed p b ns)) (parents_kept (at p (give_body b)) (records ns) (given p b) t.parents);
-  joined = subst (λ ks. IsJoined ks (map (at_node p (cells.give_body b)) ns) root) (sym (records_changed p b ns)) (joined_kept (at p (give_body b)) (at_node p (cells.give_body b)) (records ns) ns root (given p b) (left p b) t.joined);
+  joined = subst (λ ks. IsJoined ks (map (at_node p (cells.give_body b)) ns) roots) (sym (records_changed p b ns)) (joined_kept (at p (give_body b)) (at_node p (cells.give_body b)) (records ns) ns roots (given p b) (left p b) t.joined);
 }
   where
     pid_given : (b : Body) (r : Process) → (give_body b r).pid ≡ r.pid
@@ -201,9 +201,9 @@ body_read ns p b h up e =
           ap Some (n.is ∙ ap (λ q. process_of q n.what.links.parent n.what.body) pid ∙ ap (λ q. process_of p q n.what.body) parent ∙ ap (process_of p r.parent) same)
     ] refl h
 
-pub no_table : (ns : List Node) (root : Ends) → ns ≡ [] → root ≡ no_ends → IsTable ns root
+pub no_table : (ns : List Node) (roots : Ends) → ns ≡ [] → roots ≡ no_ends → IsTable ns roots
 unfolding IsRising records find_node lookup children_in last_pid
-no_table ns root e f = rw (e, f) (record {
+no_table ns roots e f = rw (e, f) (record {
   rising = tt;
   parents = λ p r k. absurd (cc);
   joined = record { firsts = λ q n z k. absurd (cc); lasts = λ q n z k. absurd (cc); nexts = λ q r n l k. absurd (cc); prevs = λ q r n l k. absurd (cc); top = refl; bottom = refl };
@@ -213,13 +213,13 @@ no_table ns root e f = rw (e, f) (record {
 abbrev pub children_of : Option Links → Ends
 children_of l = option_map_or (λ (l : Links). l.children) l no_ends
 
-pub ends_are : (ns : List Node) (root : Ends) (p : ℕ) (l : Option Links) → (p == 0) ≡ false → l ≡ option_map (λ (n : Node). n.links) (find_node p ns) → children_of l ≡ ends_in ns root p
+pub ends_are : (ns : List Node) (roots : Ends) (p : ℕ) (l : Option Links) → (p == 0) ≡ false → l ≡ option_map (λ (n : Node). n.links) (find_node p ns) → children_of l ≡ ends_in ns roots p
 unfolding ends_in
-ends_are ns root p l z e = rw z (ap children_of e ∙ elim (find_node p ns) as (λ o. children_of (option_map (λ (n : Node). n.links) o) ≡ option_map_or (λ (n : Node). n.links.children) o no_ends) [ None ↦ refl | Some n ↦ refl ])
+ends_are ns roots p l z e = rw z (ap children_of e ∙ elim (find_node p ns) as (λ o. children_of (option_map (λ (n : Node). n.links) o) ≡ option_map_or (λ (n : Node). n.links.children) o no_ends) [ None ↦ refl | Some n ↦ refl ])
 
-pub ends_root : (ns : List Node) (root : Ends) (p : ℕ) → (p == 0) ≡ true → root ≡ ends_in ns root p
+pub ends_root : (ns : List Node) (roots : Ends) (p : ℕ) → (p == 0) ≡ true → roots ≡ ends_in ns roots p
 unfolding ends_in
-ends_root ns root p z = rw z refl
+ends_root ns roots p z = rw z refl
 
 pub prev_is : (ns : List Node) (p : ℕ) (l : Option Links) → l ≡ option_map (λ (n : Node). n.links) (find_node p ns) → option_and_then (λ (l : Links). l.prev) l ≡ prev_in ns p
 unfolding prev_in
@@ -234,9 +234,9 @@ abbrev pub AreEnds : Ends → List Process → Type 0
 AreEnds e ks = (e.first ≡ first_pid ks) × (e.last ≡ last_pid ks)
 
 -- who has a list of children: number 0, or a process that is there
-pub ends_joined : (ks : List Process) (ns : List Node) (root : Ends) (p : ℕ) → IsJoined ks ns root → (p ≡ 0) ⊎ IsSome (find_node p ns) → AreEnds (ends_in ns root p) (children_in p ks)
+pub ends_joined : (ks : List Process) (ns : List Node) (roots : Ends) (p : ℕ) → IsJoined ks ns roots → (p ≡ 0) ⊎ IsSome (find_node p ns) → AreEnds (ends_in ns roots p) (children_in p ks)
 unfolding ends_in
-ends_joined ks ns root p j h = elim (p == 0) as (λ b. (p == 0) ≡ b → AreEnds (cond b root (option_map_or (λ (n : Node). n.links.children) (find_node p ns) no_ends)) (children_in p ks)) [
+ends_joined ks ns roots p j h = elim (p == 0) as (λ b. (p == 0) ≡ b → AreEnds (cond b roots (option_map_or (λ (n : Node). n.links.children) (find_node p ns) no_ends)) (children_in p ks)) [
   | true ↦ λ z. let i : 0 ≡ p = sym (eqb-true _ _ z) in (j.top ∙ ap (λ q. first_pid (children_in q ks)) i, j.bottom ∙ ap (λ q. last_pid (children_in q ks)) i)
   | false ↦ λ z. elim h [
     | inl e ↦ absurd (eqb-false _ _ z e)
@@ -247,8 +247,8 @@ ends_joined ks ns root p j h = elim (p == 0) as (λ b. (p == 0) ≡ b → AreEnd
   ]
 ] refl
 
-pub next_joined : (ns : List Node) (root : Ends) (p : ℕ) → IsTable ns root → IsSome (lookup p (records ns)) → next_in ns p ≡ next_sibling p (records ns)
-next_joined ns root p t h = sym (next_is ns p _ refl) ∙ next_read ns root p _ t h refl
+pub next_joined : (ns : List Node) (roots : Ends) (p : ℕ) → IsTable ns roots → IsSome (lookup p (records ns)) → next_in ns p ≡ next_sibling p (records ns)
+next_joined ns roots p t h = sym (next_is ns p _ refl) ∙ next_read ns roots p _ t h refl
 
 pub as_many : (ns : List Node) → length (records ns) ≡ length ns
 unfolding records

@@ -6,22 +6,13 @@ use Rattle.std.proofs.lemmas.Bool.Decides.{nat_tests}
 use Rattle.posix.specs.Processes.{Process}
 use Rattle.posix.specs.Tables.{IsRising, has_pid, lookup, inserted, removed, above, first_pid}
 use Rattle.posix.proofs.TableLemmas.{Above, remove_above, pid_looked}
-use Rattle.posix.proofs.WalkLemmas.{above_all, head_above}
+use Rattle.posix.proofs.WalkLemmas.{above_all, head_above, found_above}
 use Rattle.proctable.specs.Joined.{last_below, last_pid}
 
 -- it is this number
 abbrev pub is_it : ℕ → Option ℕ → Bool
 is_it q None = false
 is_it q (Some n) = n == q
-
--- who is found in a list above n is above n
-pub found_above : (n q : ℕ) (xs : List Process) (s : Process) → Above n xs → lookup q xs ≡ Some s → n < q
-unfolding lookup
-found_above n q [] s a e = absurd (cc)
-found_above n q (x ∷ xs) s a e = elim (x.pid == q) as (λ b. (x.pid == q) ≡ b → cond b (Some x) (find (has_pid q) xs) ≡ Some s → n < q) [
-  | true ↦ λ t k. let i : x.pid ≡ q = eqb-true _ _ t in omega (arith, a.0, i)
-  | false ↦ λ t k. found_above n q xs s a.1 k
-] refl e
 
 -- the head, or later
 pub data Where (x : Process) (xs : List Process) (q : ℕ) (s : Process) : Type 0 where

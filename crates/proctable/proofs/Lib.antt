@@ -1,6 +1,5 @@
 pub mod Bodies
-pub mod SlotLemmas
-pub mod EntryLemmas
+pub mod ScanLemmas
 pub mod CellLemmas
 pub mod KidLemmas
 pub mod JoinLemmas

@@ -11,9 +11,10 @@ use Rattle.posix.proofs.RegularLemmas.{lookup_inserted, lookup_removed}
 use Rattle.proctable.specs.declared.node.Ends.{Ends}
 use Rattle.proctable.specs.declared.node.Node.{Node}
 use Rattle.proctable.specs.declared.node.Links.{Links}
+use Rattle.pidset.specs.Numbers.{inserted_by}
 use Rattle.proctable.specs.Nodes.{no_ends, record_of, records, find_node, at_node, changed_node, inserted_node, removed_node}
-use Rattle.proctable.specs.Cells.{with_first, with_last, with_prev, with_next, placed}
-use Rattle.proctable.specs.Joined.{IsJoined, IsTable, HaveParents, last_below, last_pid, set_after, set_before, end_after, root_after, rejoined, moved}
+use Rattle.proctable.specs.Cells.{with_first, with_last, with_prev, with_next, relinked}
+use Rattle.proctable.specs.Joined.{IsJoined, IsTable, HaveParents, last_below, last_pid, set_after, set_before, end_after, roots_after, rejoined, moved}
 use Rattle.proctable.proofs.CellLemmas.{lookup_records}
 use Rattle.proctable.proofs.KidLemmas.{Absent, absent_tail, is_it, first_in as first_more, last_in as last_more, next_in as next_more, prev_in as prev_more, next_new, prev_new, first_out, last_out, next_out, prev_out, put_back}
 use Rattle.proctable.proofs.JoinLemmas.{find_map, has_node, no_process, came_from, kids_in, absent_kids, found_kids}
@@ -199,10 +200,10 @@ end_is : (p : ℕ) (a x end : Option ℕ) → end_after p a x end ≡ cond (not 
 end_is p None x end = ap (λ c. cond c x end) (turned p 0)
 end_is p (Some k) x end = refl
 
-pub joined_in : (ks : List Process) (ns : List Node) (root : Ends) (r : Process) (nc : Node) → IsRising ks → Absent r.pid ks → IsJoined ks ns root
+pub joined_in : (ks : List Process) (ns : List Node) (roots : Ends) (r : Process) (nc : Node) → IsRising ks → Absent r.pid ks → IsJoined ks ns roots
     → find_node r.pid ns ≡ Some nc → nc.links.prev ≡ last_below r.pid (children_in r.parent ks) → nc.links.next ≡ first_pid (above r.pid (children_in r.parent ks))
-    → IsJoined (inserted r ks) (rejoined r.parent (last_below r.pid (children_in r.parent ks)) (first_pid (above r.pid (children_in r.parent ks))) (Some r.pid) (Some r.pid) ns) (root_after r.parent (last_below r.pid (children_in r.parent ks)) (first_pid (above r.pid (children_in r.parent ks))) (Some r.pid) (Some r.pid) root)
-joined_in ks ns root r nc up absent j here prev next =
+    → IsJoined (inserted r ks) (rejoined r.parent (last_below r.pid (children_in r.parent ks)) (first_pid (above r.pid (children_in r.parent ks))) (Some r.pid) (Some r.pid) ns) (roots_after r.parent (last_below r.pid (children_in r.parent ks)) (first_pid (above r.pid (children_in r.parent ks))) (Some r.pid) (Some r.pid) roots)
+joined_in ks ns roots r nc up absent j here prev next =
     let p = r.parent in
     let kids = children_in p ks in
     let a = last_below r.pid kids in
@@ -260,8 +261,8 @@ joined_in ks ns root r nc up absent j here prev next =
                       ∙ sym (ap (last_below q) (kids_in s.parent r ks up absent ∙ ap (λ c. cond c (inserted r (children_in s.parent ks)) (children_in s.parent ks)) (turned p s.parent ∙ u)))
                 ] refl
           ] refl;
-      top = end_is p a (Some r.pid) root.first ∙ end_joined first_pid (is_some a) 0 r ks root.first up absent (first_more r kids out) j.top;
-      bottom = end_is p b (Some r.pid) root.last ∙ end_joined last_pid (is_some b) 0 r ks root.last up absent (last_more r kids out) j.bottom;
+      top = end_is p a (Some r.pid) roots.first ∙ end_joined first_pid (is_some a) 0 r ks roots.first up absent (first_more r kids out) j.top;
+      bottom = end_is p b (Some r.pid) roots.last ∙ end_joined last_pid (is_some b) 0 r ks roots.last up absent (last_more r kids out) j.bottom;
     }
 
 -- ---- taken out
@@ -284,9 +285,9 @@ end_apart end nearer x q r ks o up a more less e =
       | false ↦ λ t h. elim nearer as (λ b. cond (not b && false) x o ≡ end (children_in q ks)) [ true ↦ h | false ↦ h ]
     ] refl o'
 
-pub joined_apart : (ks : List Process) (ns : List Node) (root : Ends) (r : Process) → IsRising ks → Absent r.pid ks → IsJoined (inserted r ks) ns root
-    → IsJoined ks (rejoined r.parent (last_below r.pid (children_in r.parent ks)) (first_pid (above r.pid (children_in r.parent ks))) (first_pid (above r.pid (children_in r.parent ks))) (last_below r.pid (children_in r.parent ks)) ns) (root_after r.parent (last_below r.pid (children_in r.parent ks)) (first_pid (above r.pid (children_in r.parent ks))) (first_pid (above r.pid (children_in r.parent ks))) (last_below r.pid (children_in r.parent ks)) root)
-joined_apart ks ns root r up absent j =
+pub joined_apart : (ks : List Process) (ns : List Node) (roots : Ends) (r : Process) → IsRising ks → Absent r.pid ks → IsJoined (inserted r ks) ns roots
+    → IsJoined ks (rejoined r.parent (last_below r.pid (children_in r.parent ks)) (first_pid (above r.pid (children_in r.parent ks))) (first_pid (above r.pid (children_in r.parent ks))) (last_below r.pid (children_in r.parent ks)) ns) (roots_after r.parent (last_below r.pid (children_in r.parent ks)) (first_pid (above r.pid (children_in r.parent ks))) (first_pid (above r.pid (children_in r.parent ks))) (last_below r.pid (children_in r.parent ks)) roots)
+joined_apart ks ns roots r up absent j =
     let p = r.parent in
     let kids = children_in p ks in
     let a = last_below r.pid kids in
@@ -328,16 +329,16 @@ joined_apart ks ns root r up absent j =
                 ap (λ c. cond c a (last_below q (children_in s.parent (inserted r ks)))) (not_first p r.pid q s ks up l u)
                 ∙ ap (last_below q) (kids_in s.parent r ks up absent ∙ ap (λ c. cond c (inserted r (children_in s.parent ks)) (children_in s.parent ks)) (turned p s.parent ∙ u))
           ] refl;
-      top = end_is p a b root.first ∙ end_apart first_pid (is_some a) b 0 r ks root.first up absent (first_more r kids out) (first_out r.pid kids out) j.top;
-      bottom = end_is p b a root.last ∙ end_apart last_pid (is_some b) a 0 r ks root.last up absent (last_more r kids out) (last_out r.pid kids out) j.bottom;
+      top = end_is p a b roots.first ∙ end_apart first_pid (is_some a) b 0 r ks roots.first up absent (first_more r kids out) (first_out r.pid kids out) j.top;
+      bottom = end_is p b a roots.last ∙ end_apart last_pid (is_some b) a 0 r ks roots.last up absent (last_more r kids out) (last_out r.pid kids out) j.bottom;
     }
 
 -- ---- as the calls have it
 
 -- the links of the node that is taken out
-pub joined_out : (rs : List Process) (ns : List Node) (root : Ends) (r : Process) (nc : Node) → IsRising rs → IsJoined rs ns root → lookup r.pid rs ≡ Some r → find_node r.pid ns ≡ Some nc
-    → IsJoined (removed r.pid rs) (rejoined r.parent nc.links.prev nc.links.next nc.links.next nc.links.prev ns) (root_after r.parent nc.links.prev nc.links.next nc.links.next nc.links.prev root)
-joined_out rs ns root r nc up j l e =
+pub joined_out : (rs : List Process) (ns : List Node) (roots : Ends) (r : Process) (nc : Node) → IsRising rs → IsJoined rs ns roots → lookup r.pid rs ≡ Some r → find_node r.pid ns ≡ Some nc
+    → IsJoined (removed r.pid rs) (rejoined r.parent nc.links.prev nc.links.next nc.links.next nc.links.prev ns) (roots_after r.parent nc.links.prev nc.links.next nc.links.next nc.links.prev roots)
+joined_out rs ns roots r nc up j l e =
     let ks = removed r.pid rs in
     let rise : IsRising ks = rising_removed r.pid rs up in
     let absent : Absent r.pid ks = lookup_removed r.pid rs in
@@ -345,15 +346,15 @@ joined_out rs ns root r nc up j l e =
     let kids : children_in r.parent rs ≡ inserted r (children_in r.parent ks) = ap (children_in r.parent) (sym back) ∙ kids_in r.parent r ks rise absent ∙ ap (λ c. cond c (inserted r (children_in r.parent ks)) (children_in r.parent ks)) (eq-eqb r.parent r.parent refl) in
     let prev : nc.links.prev ≡ last_below r.pid (children_in r.parent ks) = j.prevs r.pid r nc l e ∙ ap (last_below r.pid) kids ∙ prev_new r (children_in r.parent ks) in
     let next : nc.links.next ≡ first_pid (above r.pid (children_in r.parent ks)) = j.nexts r.pid r nc l e ∙ ap (λ l. first_pid (above r.pid l)) kids ∙ ap first_pid (next_new r (children_in r.parent ks)) in
-    rw (prev, next) (joined_apart ks ns root r rise absent (subst (λ rs. IsJoined rs ns root) (sym back) j))
+    rw (prev, next) (joined_apart ks ns roots r rise absent (subst (λ rs. IsJoined rs ns roots) (sym back) j))
 
--- a place written into the node of a process that stands in no list
-records_placed : (c p : ℕ) (a b : Option ℕ) (ns : List Node) → records (changed_node c (placed p a b) ns) ≡ changed c (moved p) (records ns)
+-- links written into the node of a process that stands in no list
+records_relinked : (c p : ℕ) (a b : Option ℕ) (ns : List Node) → records (changed_node c (relinked p a b) ns) ≡ changed c (moved p) (records ns)
 unfolding records changed_node changed moved
-records_placed c p a b [] = refl
-records_placed c p a b (n ∷ ns) =
-    let one : record_of (at_node c (placed p a b) n) ≡ at c (moved p) (record_of n) = elim (n.pid == c) as (λ t. record_of (cond t (placed p a b n) n) ≡ cond t (moved p (record_of n)) (record_of n)) [ true ↦ refl | false ↦ refl ] in
-    rw one (ap (λ l. at c (moved p) (record_of n) ∷ l) (records_placed c p a b ns))
+records_relinked c p a b [] = refl
+records_relinked c p a b (n ∷ ns) =
+    let one : record_of (at_node c (relinked p a b) n) ≡ at c (moved p) (record_of n) = elim (n.pid == c) as (λ t. record_of (cond t (relinked p a b n) n) ≡ cond t (moved p (record_of n)) (record_of n)) [ true ↦ refl | false ↦ refl ] in
+    rw one (ap (λ l. at c (moved p) (record_of n) ∷ l) (records_relinked c p a b ns))
 
 removed_changed : (c : ℕ) (f : Process → Process) → ((r : Process) → (f r).pid ≡ r.pid) → (rs : List Process) → removed c (changed c f rs) ≡ removed c rs
 unfolding removed changed
@@ -363,45 +364,45 @@ removed_changed c f keeps (r ∷ rs) = elim (r.pid == c) as (λ b. (r.pid == c) 
   | false ↦ λ t. rw t (ap (λ l. r ∷ l) (removed_changed c f keeps rs))
 ] refl
 
-joined_placed : (ks : List Process) (ns : List Node) (root : Ends) (c p : ℕ) (a b : Option ℕ) → Absent c ks → IsJoined ks ns root → IsJoined ks (changed_node c (placed p a b) ns) root
+joined_relinked : (ks : List Process) (ns : List Node) (roots : Ends) (c p : ℕ) (a b : Option ℕ) → Absent c ks → IsJoined ks ns roots → IsJoined ks (changed_node c (relinked p a b) ns) roots
 unfolding changed_node
-joined_placed ks ns root c p a b absent j = record {
-  firsts = λ q n z e. let w = came_from (at_node c (placed p a b)) keeps q ns n e in ap (λ (n : Node). n.links.children.first) w.is ∙ ap (λ (e : Ends). e.first) (kept w.what) ∙ j.firsts q w.what z w.found;
-  lasts = λ q n z e. let w = came_from (at_node c (placed p a b)) keeps q ns n e in ap (λ (n : Node). n.links.children.last) w.is ∙ ap (λ (e : Ends). e.last) (kept w.what) ∙ j.lasts q w.what z w.found;
-  nexts = λ q s n l e. let w = came_from (at_node c (placed p a b)) keeps q ns n e in ap (λ (n : Node). n.links.next) w.is ∙ ap (λ t. (cond t (placed p a b w.what) w.what).links.next) (apart q s w.what l w.found) ∙ j.nexts q s w.what l w.found;
-  prevs = λ q s n l e. let w = came_from (at_node c (placed p a b)) keeps q ns n e in ap (λ (n : Node). n.links.prev) w.is ∙ ap (λ t. (cond t (placed p a b w.what) w.what).links.prev) (apart q s w.what l w.found) ∙ j.prevs q s w.what l w.found;
+joined_relinked ks ns roots c p a b absent j = record {
+  firsts = λ q n z e. let w = came_from (at_node c (relinked p a b)) keeps q ns n e in ap (λ (n : Node). n.links.children.first) w.is ∙ ap (λ (e : Ends). e.first) (kept w.what) ∙ j.firsts q w.what z w.found;
+  lasts = λ q n z e. let w = came_from (at_node c (relinked p a b)) keeps q ns n e in ap (λ (n : Node). n.links.children.last) w.is ∙ ap (λ (e : Ends). e.last) (kept w.what) ∙ j.lasts q w.what z w.found;
+  nexts = λ q s n l e. let w = came_from (at_node c (relinked p a b)) keeps q ns n e in ap (λ (n : Node). n.links.next) w.is ∙ ap (λ t. (cond t (relinked p a b w.what) w.what).links.next) (apart q s w.what l w.found) ∙ j.nexts q s w.what l w.found;
+  prevs = λ q s n l e. let w = came_from (at_node c (relinked p a b)) keeps q ns n e in ap (λ (n : Node). n.links.prev) w.is ∙ ap (λ t. (cond t (relinked p a b w.what) w.what).links.prev) (apart q s w.what l w.found) ∙ j.prevs q s w.what l w.found;
   top = j.top;
   bottom = j.bottom;
 }
   where
-    keeps : (n : Node) → (at_node c (placed p a b) n).pid ≡ n.pid
-    keeps n = elim (n.pid == c) as (λ t. (cond t (placed p a b n) n).pid ≡ n.pid) [ true ↦ refl | false ↦ refl ]
+    keeps : (n : Node) → (at_node c (relinked p a b) n).pid ≡ n.pid
+    keeps n = elim (n.pid == c) as (λ t. (cond t (relinked p a b n) n).pid ≡ n.pid) [ true ↦ refl | false ↦ refl ]
 
-    kept : (n : Node) → (at_node c (placed p a b) n).links.children ≡ n.links.children
-    kept n = elim (n.pid == c) as (λ t. (cond t (placed p a b n) n).links.children ≡ n.links.children) [ true ↦ refl | false ↦ refl ]
+    kept : (n : Node) → (at_node c (relinked p a b) n).links.children ≡ n.links.children
+    kept n = elim (n.pid == c) as (λ t. (cond t (relinked p a b n) n).links.children ≡ n.links.children) [ true ↦ refl | false ↦ refl ]
 
     apart : (q : ℕ) (s : Process) (n : Node) → lookup q ks ≡ Some s → find_node q ns ≡ Some n → (n.pid == c) ≡ false
     apart q s n l e = ne_eqb n.pid c (λ i. let same : q ≡ c = sym (found_pid q ns n e) ∙ i in let k : lookup q ks ≡ None = ap (λ n. lookup n ks) same ∙ absent in let no = sym k ∙ l in cc)
 
-moved_pid : (p : ℕ) (r : Process) → (moved p r).pid ≡ r.pid
+pub moved_pid : (p : ℕ) (r : Process) → (moved p r).pid ≡ r.pid
 unfolding moved
 moved_pid p r = refl
 
-moved_parent : (p : ℕ) (r : Process) → (moved p r).parent ≡ p
+pub moved_parent : (p : ℕ) (r : Process) → (moved p r).parent ≡ p
 unfolding moved
 moved_parent p r = refl
 
-place_found : (c p : ℕ) (a b : Option ℕ) (ns : List Node) (nc : Node) → find_node c ns ≡ Some nc → find_node c (changed_node c (placed p a b) ns) ≡ Some (placed p a b nc)
+relinked_found : (c p : ℕ) (a b : Option ℕ) (ns : List Node) (nc : Node) → find_node c ns ≡ Some nc → find_node c (changed_node c (relinked p a b) ns) ≡ Some (relinked p a b nc)
 unfolding changed_node
-place_found c p a b ns nc e =
-    find_map (at_node c (placed p a b)) (λ n. elim (n.pid == c) as (λ t. (cond t (placed p a b n) n).pid ≡ n.pid) [ true ↦ refl | false ↦ refl ]) c ns
-    ∙ ap (option_map (at_node c (placed p a b))) e ∙ ap (λ t. Some (cond t (placed p a b nc) nc)) (eq-eqb nc.pid c (found_pid c ns nc e))
+relinked_found c p a b ns nc e =
+    find_map (at_node c (relinked p a b)) (λ n. elim (n.pid == c) as (λ t. (cond t (relinked p a b n) n).pid ≡ n.pid) [ true ↦ refl | false ↦ refl ]) c ns
+    ∙ ap (option_map (at_node c (relinked p a b))) e ∙ ap (λ t. Some (cond t (relinked p a b nc) nc)) (eq-eqb nc.pid c (found_pid c ns nc e))
 
 -- who stood in no list is linked in
-pub joined_link : (ns : List Node) (root : Ends) (c p : ℕ) (old : Process) (nc : Node) (a b : Option ℕ) → IsRising (records ns) → IsJoined (removed c (records ns)) ns root → lookup c (records ns) ≡ Some old → find_node c ns ≡ Some nc
+pub joined_link : (ns : List Node) (roots : Ends) (c p : ℕ) (old : Process) (nc : Node) (a b : Option ℕ) → IsRising (records ns) → IsJoined (removed c (records ns)) ns roots → lookup c (records ns) ≡ Some old → find_node c ns ≡ Some nc
     → a ≡ last_below c (children_in p (removed c (records ns))) → b ≡ first_pid (above c (children_in p (removed c (records ns))))
-    → IsJoined (changed c (moved p) (records ns)) (rejoined p a b (Some c) (Some c) (changed_node c (placed p a b) ns)) (root_after p a b (Some c) (Some c) root)
-joined_link ns root c p old nc a b up j l e prev next =
+    → IsJoined (changed c (moved p) (records ns)) (rejoined p a b (Some c) (Some c) (changed_node c (relinked p a b) ns)) (roots_after p a b (Some c) (Some c) roots)
+joined_link ns roots c p old nc a b up j l e prev next =
     let rs = records ns in
     let ks = removed c rs in
     let r = moved p old in
@@ -410,22 +411,22 @@ joined_link ns root c p old nc a b up j l e prev next =
     let found : lookup c (changed c (moved p) rs) ≡ Some r = lookup_changed c c (moved p) (moved_pid p) rs ∙ ap (λ b. cond b (option_map (moved p) (lookup c rs)) (lookup c rs)) (eq-eqb c c refl) ∙ ap (option_map (moved p)) l in
     let back : inserted r ks ≡ changed c (moved p) rs = ap (inserted r) (sym (removed_changed c (moved p) (moved_pid p) rs)) ∙ put_back c (changed c (moved p) rs) r (rising_changed c (moved p) (moved_pid p) rs up) found in
     let absent : Absent c ks = lookup_removed c rs in
-    let ns2 = changed_node c (placed p a b) ns in
-    let here : find_node c ns2 ≡ Some (placed p a b nc) = place_found c p a b ns nc e in
-    let whole = joined_in ks ns2 root r (placed p a b nc) (rising_removed c rs up) (subst (λ n. Absent n ks) (sym named) absent) (joined_placed ks ns root c p a b absent j)
+    let ns2 = changed_node c (relinked p a b) ns in
+    let here : find_node c ns2 ≡ Some (relinked p a b nc) = relinked_found c p a b ns nc e in
+    let whole = joined_in ks ns2 roots r (relinked p a b nc) (rising_removed c rs up) (subst (λ n. Absent n ks) (sym named) absent) (joined_relinked ks ns roots c p a b absent j)
     (ap (λ n. find_node n ns2) named ∙ here)
     (prev ∙ ap (λ n. last_below n (children_in p ks)) (sym named) ∙ ap (λ q. last_below r.pid (children_in q ks)) (sym parent))
     (next ∙ ap (λ n. first_pid (above n (children_in p ks))) (sym named) ∙ ap (λ q. first_pid (above r.pid (children_in q ks))) (sym parent)) in
     let a' : last_below r.pid (children_in r.parent ks) ≡ a = ap (λ n. last_below n (children_in r.parent ks)) named ∙ ap (λ q. last_below c (children_in q ks)) parent ∙ sym prev in
     let b' : first_pid (above r.pid (children_in r.parent ks)) ≡ b = ap (λ n. first_pid (above n (children_in r.parent ks))) named ∙ ap (λ q. first_pid (above c (children_in q ks))) parent ∙ sym next in
-    let one = subst (λ a. IsJoined (inserted r ks) (rejoined r.parent a (first_pid (above r.pid (children_in r.parent ks))) (Some r.pid) (Some r.pid) ns2) (root_after r.parent a (first_pid (above r.pid (children_in r.parent ks))) (Some r.pid) (Some r.pid) root)) a' whole in
-    let two = subst (λ b. IsJoined (inserted r ks) (rejoined r.parent a b (Some r.pid) (Some r.pid) ns2) (root_after r.parent a b (Some r.pid) (Some r.pid) root)) b' one in
-    let three = subst (λ n. IsJoined (inserted r ks) (rejoined r.parent a b (Some n) (Some n) ns2) (root_after r.parent a b (Some n) (Some n) root)) named two in
-    let four = subst (λ q. IsJoined (inserted r ks) (rejoined q a b (Some c) (Some c) ns2) (root_after q a b (Some c) (Some c) root)) parent three in
-    subst (λ rs. IsJoined rs (rejoined p a b (Some c) (Some c) ns2) (root_after p a b (Some c) (Some c) root)) back four
+    let one = subst (λ a. IsJoined (inserted r ks) (rejoined r.parent a (first_pid (above r.pid (children_in r.parent ks))) (Some r.pid) (Some r.pid) ns2) (roots_after r.parent a (first_pid (above r.pid (children_in r.parent ks))) (Some r.pid) (Some r.pid) roots)) a' whole in
+    let two = subst (λ b. IsJoined (inserted r ks) (rejoined r.parent a b (Some r.pid) (Some r.pid) ns2) (roots_after r.parent a b (Some r.pid) (Some r.pid) roots)) b' one in
+    let three = subst (λ n. IsJoined (inserted r ks) (rejoined r.parent a b (Some n) (Some n) ns2) (roots_after r.parent a b (Some n) (Some n) roots)) named two in
+    let four = subst (λ q. IsJoined (inserted r ks) (rejoined q a b (Some c) (Some c) ns2) (roots_after q a b (Some c) (Some c) roots)) parent three in
+    subst (λ rs. IsJoined rs (rejoined p a b (Some c) (Some c) ns2) (roots_after p a b (Some c) (Some c) roots)) back four
 
-pub records_linked : (ns : List Node) (c p : ℕ) (a b x y : Option ℕ) → records (rejoined p a b x y (changed_node c (placed p a b) ns)) ≡ changed c (moved p) (records ns)
-records_linked ns c p a b x y = records_rejoined p a b x y (changed_node c (placed p a b) ns) ∙ records_placed c p a b ns
+pub records_linked : (ns : List Node) (c p : ℕ) (a b x y : Option ℕ) → records (rejoined p a b x y (changed_node c (relinked p a b) ns)) ≡ changed c (moved p) (records ns)
+records_linked ns c p a b x y = records_rejoined p a b x y (changed_node c (relinked p a b) ns) ∙ records_relinked c p a b ns
 
 -- ---- writes, as the calls make them
 
@@ -437,7 +438,7 @@ pub followed_none : (p : ℕ) (a x : Option ℕ) (ns new : List Node) → a ≡ 
 unfolding changed_node
 followed_none p a x ns new h e = e ∙ ap (λ a. map (set_after p a x) ns) (sym h)
 
--- what stands before the place
+-- what stands before the gap
 pub preceded_some : (p k : ℕ) (b y : Option ℕ) (ns new : List Node) → b ≡ Some k → new ≡ changed_node k (with_prev y) ns → new ≡ map (set_before p b y) ns
 unfolding changed_node
 preceded_some p k b y ns new h e = e ∙ ap (λ b. map (set_before p b y) ns) (sym h)
@@ -464,48 +465,48 @@ lookup_kept c q (x ∷ rs) r e =
       | false ↦ λ t k. elim (x.pid == q) as (λ b. cond b (Some x) (find (has_pid q) (removed c rs)) ≡ Some r → cond b (Some x) (find (has_pid q) rs) ≡ Some r) [ true ↦ λ k. k | false ↦ λ k. lookup_kept c q rs r k ] k
     ] refl e
 
-pub link_joined : (ns new : List Node) (root : Ends) (c p : ℕ) (a b : Option ℕ) → IsRising (records ns) → IsJoined (removed c (records ns)) ns root → IsSome (find_node c ns)
+pub link_joined : (ns new : List Node) (roots : Ends) (c p : ℕ) (a b : Option ℕ) → IsRising (records ns) → IsJoined (removed c (records ns)) ns roots → IsSome (find_node c ns)
     → a ≡ last_below c (children_in p (removed c (records ns))) → b ≡ first_pid (above c (children_in p (removed c (records ns))))
-    → new ≡ rejoined p a b (Some c) (Some c) (changed_node c (placed p a b) ns) → IsJoined (records new) new (root_after p a b (Some c) (Some c) root)
-link_joined ns new root c p a b up j h prev next e =
-    elim (find_node c ns) as (λ o. find_node c ns ≡ o → IsSome o → IsJoined (records new) new (root_after p a b (Some c) (Some c) root)) [
+    → new ≡ rejoined p a b (Some c) (Some c) (changed_node c (relinked p a b) ns) → IsJoined (records new) new (roots_after p a b (Some c) (Some c) roots)
+link_joined ns new roots c p a b up j h prev next e =
+    elim (find_node c ns) as (λ o. find_node c ns ≡ o → IsSome o → IsJoined (records new) new (roots_after p a b (Some c) (Some c) roots)) [
       | None ↦ λ w h. absurd (cc)
       | Some nc ↦ λ w h.
           let l : lookup c (records ns) ≡ Some (record_of nc) = lookup_records c ns ∙ ap (option_map record_of) w in
-          let whole = joined_link ns root c p (record_of nc) nc a b up j l w prev next in
+          let whole = joined_link ns roots c p (record_of nc) nc a b up j l w prev next in
           let same = records_linked ns c p a b (Some c) (Some c) in
-          rw e (subst (λ rs. IsJoined rs (rejoined p a b (Some c) (Some c) (changed_node c (placed p a b) ns)) (root_after p a b (Some c) (Some c) root)) (sym same) whole)
+          rw e (subst (λ rs. IsJoined rs (rejoined p a b (Some c) (Some c) (changed_node c (relinked p a b) ns)) (roots_after p a b (Some c) (Some c) roots)) (sym same) whole)
     ] refl h
 
-pub link_records : (ns new : List Node) (c p : ℕ) (a b : Option ℕ) → new ≡ rejoined p a b (Some c) (Some c) (changed_node c (placed p a b) ns) → records new ≡ changed c (moved p) (records ns)
+pub link_records : (ns new : List Node) (c p : ℕ) (a b : Option ℕ) → new ≡ rejoined p a b (Some c) (Some c) (changed_node c (relinked p a b) ns) → records new ≡ changed c (moved p) (records ns)
 link_records ns new c p a b e = ap records e ∙ records_linked ns c p a b (Some c) (Some c)
 
-pub unlink_joined : (ns new : List Node) (root : Ends) (c : ℕ) (l : Links) → IsRising (records ns) → IsJoined (records ns) ns root → option_map (λ (n : Node). n.links) (find_node c ns) ≡ Some l
-    → new ≡ rejoined l.parent l.prev l.next l.next l.prev ns → IsJoined (removed c (records new)) new (root_after l.parent l.prev l.next l.next l.prev root)
-unlink_joined ns new root c l up j h e =
-    elim (find_node c ns) as (λ o. find_node c ns ≡ o → option_map (λ (n : Node). n.links) o ≡ Some l → IsJoined (removed c (records new)) new (root_after l.parent l.prev l.next l.next l.prev root)) [
+pub unlink_joined : (ns new : List Node) (roots : Ends) (c : ℕ) (l : Links) → IsRising (records ns) → IsJoined (records ns) ns roots → option_map (λ (n : Node). n.links) (find_node c ns) ≡ Some l
+    → new ≡ rejoined l.parent l.prev l.next l.next l.prev ns → IsJoined (removed c (records new)) new (roots_after l.parent l.prev l.next l.next l.prev roots)
+unlink_joined ns new roots c l up j h e =
+    elim (find_node c ns) as (λ o. find_node c ns ≡ o → option_map (λ (n : Node). n.links) o ≡ Some l → IsJoined (removed c (records new)) new (roots_after l.parent l.prev l.next l.next l.prev roots)) [
       | None ↦ λ w k. absurd (cc)
       | Some nc ↦ λ w k.
           let same : nc.links ≡ l = cc in
           let pid : nc.pid ≡ c = found_pid c ns nc w in
           let found : lookup nc.pid (records ns) ≡ Some (record_of nc) = ap (λ n. lookup n (records ns)) pid ∙ lookup_records c ns ∙ ap (option_map record_of) w in
-          let whole = joined_out (records ns) ns root (record_of nc) nc up j found (ap (λ n. find_node n ns) pid ∙ w) in
-          let one = subst (λ n. IsJoined (removed n (records ns)) (rejoined nc.links.parent nc.links.prev nc.links.next nc.links.next nc.links.prev ns) (root_after nc.links.parent nc.links.prev nc.links.next nc.links.next nc.links.prev root)) pid whole in
-          let two = subst (λ (l : Links). IsJoined (removed c (records ns)) (rejoined l.parent l.prev l.next l.next l.prev ns) (root_after l.parent l.prev l.next l.next l.prev root)) same one in
-          rw e (subst (λ rs. IsJoined (removed c rs) (rejoined l.parent l.prev l.next l.next l.prev ns) (root_after l.parent l.prev l.next l.next l.prev root)) (sym (records_rejoined l.parent l.prev l.next l.next l.prev ns)) two)
+          let whole = joined_out (records ns) ns roots (record_of nc) nc up j found (ap (λ n. find_node n ns) pid ∙ w) in
+          let one = subst (λ n. IsJoined (removed n (records ns)) (rejoined nc.links.parent nc.links.prev nc.links.next nc.links.next nc.links.prev ns) (roots_after nc.links.parent nc.links.prev nc.links.next nc.links.next nc.links.prev roots)) pid whole in
+          let two = subst (λ (l : Links). IsJoined (removed c (records ns)) (rejoined l.parent l.prev l.next l.next l.prev ns) (roots_after l.parent l.prev l.next l.next l.prev roots)) same one in
+          rw e (subst (λ rs. IsJoined (removed c rs) (rejoined l.parent l.prev l.next l.next l.prev ns) (roots_after l.parent l.prev l.next l.next l.prev roots)) (sym (records_rejoined l.parent l.prev l.next l.next l.prev ns)) two)
     ] refl h
 
-pub unlink_none : (ns : List Node) (root : Ends) (c : ℕ) → IsJoined (records ns) ns root → option_map (λ (n : Node). n.links) (find_node c ns) ≡ None → IsJoined (removed c (records ns)) ns root
-unlink_none ns root c j h =
-    elim (find_node c ns) as (λ o. find_node c ns ≡ o → option_map (λ (n : Node). n.links) o ≡ None → IsJoined (removed c (records ns)) ns root) [
-      | None ↦ λ w k. subst (λ rs. IsJoined rs ns root) (sym (remove_none c (records ns) (lookup_records c ns ∙ ap (option_map record_of) w))) j
+pub unlink_none : (ns : List Node) (roots : Ends) (c : ℕ) → IsJoined (records ns) ns roots → option_map (λ (n : Node). n.links) (find_node c ns) ≡ None → IsJoined (removed c (records ns)) ns roots
+unlink_none ns roots c j h =
+    elim (find_node c ns) as (λ o. find_node c ns ≡ o → option_map (λ (n : Node). n.links) o ≡ None → IsJoined (removed c (records ns)) ns roots) [
+      | None ↦ λ w k. subst (λ rs. IsJoined rs ns roots) (sym (remove_none c (records ns) (lookup_records c ns ∙ ap (option_map record_of) w))) j
       | Some nc ↦ λ w k. absurd (cc)
     ] refl h
 
 -- ---- a node put in or taken out
 
 find_inserted : (q : ℕ) (new : Node) (ns : List Node) → q ≢ new.pid → find_node q (inserted_node new ns) ≡ find_node q ns
-unfolding find_node inserted_node
+unfolding find_node inserted_by
 find_inserted q new [] ne = let t : (new.pid == q) ≡ false = ne_eqb _ _ (λ e. ne (sym e)) in rw t refl
 find_inserted q new (n ∷ ns) ne =
     let t : (new.pid == q) ≡ false = ne_eqb _ _ (λ e. ne (sym e)) in
@@ -515,7 +516,7 @@ find_inserted q new (n ∷ ns) ne =
     ]
 
 pub find_new : (new : Node) (ns : List Node) → find_node new.pid ns ≡ None → find_node new.pid (inserted_node new ns) ≡ Some new
-unfolding find_node inserted_node
+unfolding find_node inserted_by
 find_new new [] e = rw (eq-eqb new.pid new.pid refl) refl
 find_new new (n ∷ ns) e =
     elim (n.pid == new.pid) as (λ b. (n.pid == new.pid) ≡ b → cond b (Some n) (find (λ (n : Node). n.pid == new.pid) ns) ≡ None → find (λ (n : Node). n.pid == new.pid) (inserted_node new (n ∷ ns)) ≡ Some new) [
@@ -524,7 +525,7 @@ find_new new (n ∷ ns) e =
     ] refl e
 
 pub records_inserted : (new : Node) (ns : List Node) → records (inserted_node new ns) ≡ inserted (record_of new) (records ns)
-unfolding records inserted_node inserted
+unfolding records inserted_by inserted
 records_inserted new [] = refl
 records_inserted new (n ∷ ns) = elim (nat_lt new.pid n.pid) as (λ b. records (cond b (new ∷ n ∷ ns) (n ∷ inserted_node new ns)) ≡ cond b (record_of new ∷ record_of n ∷ records ns) (record_of n ∷ inserted (record_of new) (records ns))) [ true ↦ refl | false ↦ ap (λ l. record_of n ∷ l) (records_inserted new ns) ]
 
@@ -575,8 +576,8 @@ still_there p q (x ∷ xs) ne h =
       | false ↦ λ t. elim (x.pid == q) as (λ b. IsSome (cond b (Some x) (find (has_pid q) xs)) → IsSome (cond b (Some x) (find (has_pid q) (removed p xs)))) [ true ↦ λ h. h | false ↦ λ h. still_there p q xs ne h ] h
     ] refl
 
-pub table_removed : (ns mid new : List Node) (root top : Ends) (p : ℕ) → IsTable ns root → children_in p (records ns) ≡ [] → records mid ≡ records ns → IsJoined (removed p (records mid)) mid top → new ≡ removed_node p mid → IsTable new top
-table_removed ns mid new root top p t none same j e =
+pub table_removed : (ns mid new : List Node) (roots top : Ends) (p : ℕ) → IsTable ns roots → children_in p (records ns) ≡ [] → records mid ≡ records ns → IsJoined (removed p (records mid)) mid top → new ≡ removed_node p mid → IsTable new top
+table_removed ns mid new roots top p t none same j e =
     let all : records new ≡ removed p (records ns) = ap records e ∙ records_removed p mid ∙ ap (removed p) same in
     record {
       rising = subst IsRising (sym all) (rising_removed p (records ns) t.rising);
@@ -630,15 +631,15 @@ more r rs q absent h = elim (q == r.pid) as (λ b. (q == r.pid) ≡ b → IsSome
 ] refl
 
 -- a node of a process that isn't there and stands in no list, put in
-pub joined_new : (ns : List Node) (root : Ends) (new : Node) → IsTable ns root → lookup new.pid (records ns) ≡ None → new.links.children ≡ no_ends
-    → IsJoined (removed new.pid (records (inserted_node new ns))) (inserted_node new ns) root
+pub joined_new : (ns : List Node) (roots : Ends) (new : Node) → IsTable ns roots → lookup new.pid (records ns) ≡ None → new.links.children ≡ no_ends
+    → IsJoined (removed new.pid (records (inserted_node new ns))) (inserted_node new ns) roots
 unfolding last_pid
-joined_new ns root new t absent none =
+joined_new ns roots new t absent none =
     let rs = records ns in
     let ks = without_new ns new absent in
     let gone : find_node new.pid ns ≡ None = no_process ns new.pid absent in
     let whose = λ (q : ℕ) (n : Node) (z : q ≢ 0) (e : find_node q (inserted_node new ns) ≡ Some n) (u : (q == new.pid) ≡ true). own q n z e (eqb-true _ _ u) gone in
-    subst (λ ks. IsJoined ks (inserted_node new ns) root) (sym ks) (record {
+    subst (λ ks. IsJoined ks (inserted_node new ns) roots) (sym ks) (record {
       firsts = λ q n z e. elim (q == new.pid) as (λ b. (q == new.pid) ≡ b → n.links.children.first ≡ first_pid (children_in q rs)) [
         | true ↦ λ u. let o = whose q n z e u in ap (λ (e : Ends). e.first) o.0 ∙ sym (ap first_pid o.1)
         | false ↦ λ u. t.joined.firsts q n z (sym (find_inserted q new ns (eqb-false _ _ u)) ∙ e)
@@ -663,10 +664,10 @@ joined_new ns root new t absent none =
     apart q r l i = let k : lookup q (records ns) ≡ None = ap (λ n. lookup n (records ns)) i ∙ absent in let no = sym k ∙ l in cc
 
 -- the table with one process more
-pub table_inserted : (ns mid new : List Node) (root top : Ends) (node : Node) → IsTable ns root → lookup node.pid (records ns) ≡ None → (node.links.parent ≡ 0) ⊎ IsSome (lookup node.links.parent (records ns)) → mid ≡ inserted_node node ns
+pub table_inserted : (ns mid new : List Node) (roots top : Ends) (node : Node) → IsTable ns roots → lookup node.pid (records ns) ≡ None → (node.links.parent ≡ 0) ⊎ IsSome (lookup node.links.parent (records ns)) → mid ≡ inserted_node node ns
     → records new ≡ changed node.pid (moved node.links.parent) (records mid) → IsJoined (records new) new top → (records new ≡ inserted (record_of node) (records ns)) × IsTable new top
 unfolding moved
-table_inserted ns mid new root top node t absent parent m e j =
+table_inserted ns mid new roots top node t absent parent m e j =
     let rs = records ns in
     let r = record_of node in
     let rise : IsRising (inserted r rs) = rising_inserted r rs t.rising absent in

@@ -1,4 +1,4 @@
--- The place of a child that is moved is before that of the one moved last.
+-- The gap of a child that is moved is before that of the one moved last.
 use Rattle.std.proofs.Common.{◌≡◌, ◌≢◌, ℕ, ◌+◌, ◌<◌, ◌≤◌, true, false, cond, not, ◌&&◌, refl, ap, sym, ◌∙◌, arith, subst, List, [], ◌∷◌, length, map, filter, Option, Some, None, option_map, ◌==◌, nat_lt, unwrap_or}
 use Rattle.std.specs.Option.{IsSome, IfSome}
 use Rattle.std.proofs.lemmas.Bool.Decides.{nat_tests}
@@ -11,9 +11,9 @@ use Rattle.proctable.specs.declared.node.Node.{Node}
 use Rattle.proctable.specs.Nodes.{records}
 use Rattle.proctable.specs.Joined.{IsBehind, is_before, between, last_pid, moved}
 use Rattle.proctable.proofs.JoinLemmas.{found_kids}
-use Rattle.proctable.proofs.LinkLemmas.{still_there}
+use Rattle.proctable.proofs.LinkLemmas.{still_there, moved_pid, moved_parent}
 use Rattle.proctable.proofs.NeighbourLemmas.{end_above, few_of, split}
-use Rattle.proctable.proofs.AdoptLemmas.{OneChild, moved_pid, parent_moved, none_last}
+use Rattle.proctable.proofs.AdoptLemmas.{OneChild, none_last}
 
 -- the child `above` was moved last, and `next` comes next
 pub record IsBeside (to : ℕ) (rs : List Process) (next above : Option ℕ) : Type 0 where
@@ -22,9 +22,10 @@ pub record IsBeside (to : ℕ) (rs : List Process) (next above : Option ℕ) : T
 
 -- ---- one child moved
 
-swapped : (p q : ℕ) (rs : List Process) → children_in p (removed q rs) ≡ removed q (children_in p rs)
+-- the children without q are those of the others
+pub children_removed : (p q : ℕ) (rs : List Process) → children_in p (removed q rs) ≡ removed q (children_in p rs)
 unfolding children_in removed
-swapped p q rs = filters_commute (is_child p) (λ r. not (r.pid == q)) rs
+children_removed p q rs = filters_commute (is_child p) (λ r. not (r.pid == q)) rs
 
 kids_moved : (from to q : ℕ) → from ≢ to → (rs : List Process) → children_in from (changed q (moved to) rs) ≡ removed q (children_in from rs)
 unfolding children_in changed moved removed
@@ -88,14 +89,14 @@ beside_link to q ns mid next None w e same = tt
 beside_link to q ns mid next (Some n) w e same =
     let l : q < n = subst (λ o. IfSome o (λ q. q < n)) e w.below in
     let ne : n ≢ q = λ i. omega (arith, l, i) in
-    (l, subst (λ rs. IsSome (lookup n (children_in to (removed q rs)))) (sym same) (subst (λ ks. IsSome (lookup n ks)) (sym (swapped to q (records ns))) (still_there q n (children_in to (records ns)) ne w.there)))
+    (l, subst (λ rs. IsSome (lookup n (children_in to (removed q rs)))) (sym same) (subst (λ ks. IsSome (lookup n ks)) (sym (children_removed to q (records ns))) (still_there q n (children_in to (records ns)) ne w.there)))
 
 pub beside_step : (from to q : ℕ) (ns new : List Node) (later : Option ℕ) → from ≢ to → IsRising (children_in from (records ns)) → OneChild (records ns) from q → last_pid (children_in from (records ns)) ≡ Some q
     → records new ≡ changed q (moved to) (records ns) → later ≡ last_pid (children_in from (records new)) → IsBeside to (records new) later (Some q)
 beside_step from to q ns new later ne up k last e f =
     let rs = records ns in
     let found : lookup q (changed q (moved to) rs) ≡ Some (moved to k.what) = lookup_changed q q (moved to) (moved_pid to) rs ∙ ap (λ b. cond b (option_map (moved to) (lookup q rs)) (lookup q rs)) (eq-eqb q q refl) ∙ ap (option_map (moved to)) k.found in
-    let kid : lookup q (children_in to (changed q (moved to) rs)) ≡ Some (moved to k.what) = subst (λ p. lookup q (children_in p (changed q (moved to) rs)) ≡ Some (moved to k.what)) (parent_moved to k.what) (found_kids q (moved to k.what) (changed q (moved to) rs) found) in
+    let kid : lookup q (children_in to (changed q (moved to) rs)) ≡ Some (moved to k.what) = subst (λ p. lookup q (children_in p (changed q (moved to) rs)) ≡ Some (moved to k.what)) (moved_parent to k.what) (found_kids q (moved to k.what) (changed q (moved to) rs) found) in
     let there : IsSome (lookup q (children_in to (changed q (moved to) rs))) = rw kid refl in
     let next : later ≡ last_pid (removed q (children_in from rs)) = f ∙ ap (λ rs. last_pid (children_in from rs)) e ∙ ap last_pid (kids_moved from to q ne rs) in
     record {
@@ -105,7 +106,7 @@ beside_step from to q ns new later ne up k last e f =
 
 -- ---- how many are left
 
--- those before the place
+-- those before the gap
 abbrev pub left_before : Option ℕ → List Process → List Process
 left_before next ks = filter (λ (r : Process). is_before next r.pid) ks
 
@@ -120,7 +121,7 @@ unfolding removed
 merged to q ns mid new next above w e same comes =
     let ks = children_in to (records ns) in
     let fewer = few_of (λ (r : Process). nat_lt q r.pid && is_before above r.pid) (λ r. not (r.pid == q)) ks in
-    let walked : length (between q above (children_in to (removed q (records mid)))) ≡ length (between q above (removed q ks)) = ap (λ rs. length (between q above (children_in to (removed q rs)))) same ∙ ap (λ l. length (between q above l)) (swapped to q (records ns)) in
+    let walked : length (between q above (children_in to (removed q (records mid)))) ≡ length (between q above (removed q ks)) = ap (λ rs. length (between q above (children_in to (removed q rs)))) same ∙ ap (λ l. length (between q above l)) (children_removed to q (records ns)) in
     let rest : length (left_before (Some q) (children_in to (records new))) ≡ length (left_before (Some q) ks) = ap (λ rs. length (left_before (Some q) (children_in to rs))) comes ∙ ap length (below_moved to q (records ns)) in
     let parts = split q above (before_above q next above e w.below) ks in
     omega (arith, fewer, walked, rest, parts)

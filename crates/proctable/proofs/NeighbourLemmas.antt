@@ -1,27 +1,27 @@
 -- The walk back over the children for the neighbours of a number.
-use Rattle.std.proofs.Common.{◌≡◌, ◌≢◌, ℕ, suc, ◌+◌, ◌<◌, ◌≤◌, Bool, true, false, cond, ◌&&◌, refl, ap, sym, ◌∙◌, arith, subst, List, [], ◌∷◌, length, filter, find, Option, Some, None, ◌==◌, nat_lt, unwrap_or, inl, inr, ◌⊎◌}
+use Rattle.std.proofs.Common.{◌≡◌, ◌≢◌, ℕ, ◌+◌, ◌<◌, ◌≤◌, Bool, true, false, cond, ◌&&◌, refl, ap, sym, ◌∙◌, arith, subst, List, [], ◌∷◌, length, filter, find, Option, Some, None, ◌==◌, nat_lt, unwrap_or, inl, inr, ◌⊎◌}
 use Rattle.std.specs.Option.{IsSome, IfSome, option_and_then}
 use Rattle.std.proofs.lemmas.Bool.Decides.{nat_tests}
 use Rattle.std.proofs.lemmas.Bool.{cases_order, eqb-true, eq-eqb}
 use Rattle.posix.specs.Processes.{Process}
 use Rattle.posix.specs.Tables.{IsRising, has_pid, lookup, removed, above, first_pid, is_child, children_in}
 use Rattle.posix.proofs.TableLemmas.{Above, rising_removed}
-use Rattle.posix.proofs.WalkLemmas.{in_filter}
+use Rattle.posix.proofs.WalkLemmas.{in_filter, found_above}
 use Rattle.posix.proofs.RegularLemmas.{lookup_removed}
 use Rattle.proctable.specs.declared.node.Ends.{Ends}
 use Rattle.proctable.specs.declared.node.Node.{Node}
 use Rattle.proctable.specs.Nodes.{records, find_node}
 use Rattle.proctable.specs.Joined.{IsJoined, IsBehind, is_before, between, before_in, last_below, last_pid, prev_in}
-use Rattle.proctable.proofs.KidLemmas.{is_it, found_above, last_above}
+use Rattle.proctable.proofs.KidLemmas.{is_it, last_above}
 use Rattle.proctable.proofs.JoinLemmas.{ends_joined, node_of}
 use Rattle.proctable.proofs.LinkLemmas.{last_found, lookup_kept}
 
--- who stands before a place: before the child n, or behind all
+-- who stands before a gap: before the child n, or behind all
 abbrev pub last_before : Option ℕ → List Process → Option ℕ
 last_before None ks = last_pid ks
 last_before (Some n) ks = last_below n ks
 
--- the place for c is before `next`, and `prev` stands before that
+-- the gap for c is before `next`, and `prev` stands before that
 pub record IsPast (ks : List Process) (c : ℕ) (prev next : Option ℕ) : Type 0 where
   pub before : prev ≡ last_before next ks
   pub above : IfSome next (λ n. c < n)
@@ -102,7 +102,7 @@ pub record IsPassed (ks : List Process) (next : Option ℕ) (q : ℕ) : Type 0 w
   pub there : IsSome (lookup q ks)
   pub before : is_before next q ≡ true
 
--- who stands before the place
+-- who stands before the gap
 pub passed : (ks : List Process) (c q : ℕ) (prev next : Option ℕ) → IsPast ks c prev next → prev ≡ Some q → IsPassed ks next q
 passed ks c q prev next w e =
     elim next as (λ o. prev ≡ last_before o ks → IsPassed ks o q) [
@@ -162,13 +162,6 @@ fewer_between ks c q prev next w e l =
     weaker None m b h = grind (arith, nat_tests, h)
     weaker (Some n) m b h = grind (arith, nat_tests, h, b)
 
--- no more than there are
-pub few : (t : Process → Bool) (ks : List Process) → length (filter t ks) ≤ length ks
-few t [] = omega arith
-few t (x ∷ xs) =
-    let rest = few t xs in
-    elim (t x) as (λ b. length (cond b (x ∷ filter t xs) (filter t xs)) ≤ suc (length xs)) [ true ↦ omega (arith, rest) | false ↦ omega (arith, rest) ]
-
 -- no more of some of them
 pub few_of : (s t : Process → Bool) (ks : List Process) → length (filter s (filter t ks)) ≤ length (filter s ks)
 few_of s t [] = omega arith
@@ -179,7 +172,7 @@ few_of s t (x ∷ xs) =
       | false ↦ elim (s x) as (λ b. length (filter s (filter t xs)) ≤ length (cond b (x ∷ filter s xs) (filter s xs))) [ true ↦ omega (arith, rest) | false ↦ rest ]
     ]
 
--- those before the place of c, and those between it and a place behind it
+-- those before the gap of c, and those between it and a gap behind it
 pub split : (c : ℕ) (next : Option ℕ) → is_before next c ≡ true → (ks : List Process) → length (between c next ks) + length (filter (λ (r : Process). nat_lt r.pid c) ks) ≤ length (filter (λ (r : Process). is_before next r.pid) ks)
 split c next b [] = omega arith
 split c next b (x ∷ xs) =
@@ -206,10 +199,10 @@ split c next b (x ∷ xs) =
 
 -- ---- what the links say on the way
 
-prev_of_child : (ns : List Node) (root : Ends) (c p q : ℕ) → IsRising (records ns) → IsJoined (removed c (records ns)) ns root → IsSome (lookup q (children_in p (removed c (records ns))))
+prev_of_child : (ns : List Node) (roots : Ends) (c p q : ℕ) → IsRising (records ns) → IsJoined (removed c (records ns)) ns roots → IsSome (lookup q (children_in p (removed c (records ns))))
     → (prev_in ns q ≡ last_below q (children_in p (removed c (records ns)))) × (q ≢ c)
 unfolding prev_in children_in
-prev_of_child ns root c p q up j there =
+prev_of_child ns roots c p q up j there =
     let ks = removed c (records ns) in
     elim (lookup q (filter (is_child p) ks)) as (λ o. lookup q (filter (is_child p) ks) ≡ o → IsSome o → (option_and_then (λ (n : Node). n.links.prev) (find_node q ns) ≡ last_below q (filter (is_child p) ks)) × (q ≢ c)) [
       | None ↦ λ f h. absurd (cc)
@@ -223,13 +216,13 @@ prev_of_child ns root c p q up j there =
     ] refl there
 
 -- of the child that the walk comes to
-pub prev_of_passed : (ns : List Node) (root : Ends) (c p q : ℕ) (prev next : Option ℕ) → IsRising (records ns) → IsJoined (removed c (records ns)) ns root → IsPast (children_in p (removed c (records ns))) c prev next → prev ≡ Some q
+pub prev_of_passed : (ns : List Node) (roots : Ends) (c p q : ℕ) (prev next : Option ℕ) → IsRising (records ns) → IsJoined (removed c (records ns)) ns roots → IsPast (children_in p (removed c (records ns))) c prev next → prev ≡ Some q
     → (prev_in ns q ≡ last_below q (children_in p (removed c (records ns)))) × (q ≢ c)
-prev_of_passed ns root c p q prev next up j w e = prev_of_child ns root c p q up j (passed (children_in p (removed c (records ns))) c q prev next w e).there
+prev_of_passed ns roots c p q prev next up j w e = prev_of_child ns roots c p q up j (passed (children_in p (removed c (records ns))) c q prev next w e).there
 
 -- where the walk starts
-pub past_start : (ns : List Node) (root : Ends) (c p : ℕ) (prev next : Option ℕ) → IsRising (records ns) → IsJoined (removed c (records ns)) ns root → (p ≡ 0) ⊎ IsSome (find_node p ns)
-    → IsBehind next c (children_in p (removed c (records ns))) → prev ≡ before_in ns root p next → IsPast (children_in p (removed c (records ns))) c prev next
+pub past_start : (ns : List Node) (roots : Ends) (c p : ℕ) (prev next : Option ℕ) → IsRising (records ns) → IsJoined (removed c (records ns)) ns roots → (p ≡ 0) ⊎ IsSome (find_node p ns)
+    → IsBehind next c (children_in p (removed c (records ns))) → prev ≡ before_in ns roots p next → IsPast (children_in p (removed c (records ns))) c prev next
 unfolding before_in
-past_start ns root c p prev None up j h b e = record { before = e ∙ (ends_joined (removed c (records ns)) ns root p j h).1; above = tt; there = tt }
-past_start ns root c p prev (Some n) up j h b e = record { before = e ∙ (prev_of_child ns root c p n up j b.1).0; above = b.0; there = b.1 }
+past_start ns roots c p prev None up j h b e = record { before = e ∙ (ends_joined (removed c (records ns)) ns roots p j h).1; above = tt; there = tt }
+past_start ns roots c p prev (Some n) up j h b e = record { before = e ∙ (prev_of_child ns roots c p n up j b.1).0; above = b.0; there = b.1 }

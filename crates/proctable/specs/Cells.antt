@@ -1,11 +1,11 @@
 -- What an index and slots are worth.
-use Rattle.std.specs.Prelude.{◌≡◌, ℕ, List, filter_map, Option, Some}
+use Rattle.std.specs.Prelude.{◌≡◌, ℕ, ◌==◌, List, map, find, filter_map, Option, Some}
 use Rattle.std.specs.List.{AllByRecursion}
 use Rattle.slab.specs.Slab.{Slab, get}
 use Rattle.proctable.specs.declared.body.Body.{Body}
 use Rattle.proctable.specs.declared.entry.Entry.{Entry}
 use Rattle.proctable.specs.declared.node.Node.{Node}
-use Rattle.proctable.specs.Entries.{IsRising}
+use Rattle.pidset.specs.Numbers.{Rises}
 use Rattle.proctable.specs.Nodes.{changed_node}
 use Rattle.proctable.specs.NodeSlots.{one_more}
 
@@ -14,6 +14,13 @@ pub record CellsView : Type 0 where
   pub nodes : List Node
   pub room : ℕ
   pub reads : ℕ
+
+-- the entry of a process
+abbrev pub entry_of : ℕ → List Entry → Option Entry
+entry_of p es = find (λ (e : Entry). e.pid == p) es
+
+abbrev pub pids_of : List Entry → List ℕ
+pids_of es = map (λ (e : Entry). e.pid) es
 
 unfoldable pub nodes_of : List Entry → Slab Node → List Node
 nodes_of es slab = filter_map (λ (e : Entry). get slab e.slot) es
@@ -25,14 +32,14 @@ pub record Stands (slab : Slab Node) (e : Entry) : Type 0 where
   pub named : what.pid ≡ e.pid
 
 pub record IsIndexed (es : List Entry) (slab : Slab Node) : Type 0 where
-  pub rising : IsRising es
+  pub rising : Rises (pids_of es)
   pub standing : AllByRecursion (Stands slab) es
 
 abbrev pub give_body : Body → Node → Node
 give_body b n = record n { body = b }
 
-abbrev pub placed : ℕ → Option ℕ → Option ℕ → Node → Node
-placed p a b n = record n { links = record (n.links) { parent = p; prev = a; next = b } }
+abbrev pub relinked : ℕ → Option ℕ → Option ℕ → Node → Node
+relinked p a b n = record n { links = record (n.links) { parent = p; prev = a; next = b } }
 
 abbrev pub with_first : Option ℕ → Node → Node
 with_first o n = record n { links = record (n.links) { children = record (n.links.children) { first = o } } }
@@ -46,5 +53,5 @@ with_prev o n = record n { links = record (n.links) { prev = o } }
 abbrev pub with_next : Option ℕ → Node → Node
 with_next o n = record n { links = record (n.links) { next = o } }
 
-abbrev pub put_body : CellsView → ℕ → Body → CellsView
-put_body c p b = record c { nodes = changed_node p (give_body b) c.nodes; reads = one_more c.reads }
+abbrev pub cells_with_body : CellsView → ℕ → Body → CellsView
+cells_with_body c p b = record c { nodes = changed_node p (give_body b) c.nodes; reads = one_more c.reads }

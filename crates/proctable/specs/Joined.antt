@@ -23,22 +23,22 @@ last_pid (x ∷ xs) = Some (unwrap_or (last_pid xs) x.pid)
 
 -- The links of the nodes are right for these processes: the first and the last child of each, and the siblings
 -- of each that is among them. The ends of those with the parent 0 stand apart.
-pub record IsJoined (ks : List Process) (ns : List Node) (root : Ends) : Type 0 where
+pub record IsJoined (ks : List Process) (ns : List Node) (roots : Ends) : Type 0 where
   pub firsts : (q : ℕ) (n : Node) → q ≢ 0 → find_node q ns ≡ Some n → n.links.children.first ≡ first_pid (children_in q ks)
   pub lasts : (q : ℕ) (n : Node) → q ≢ 0 → find_node q ns ≡ Some n → n.links.children.last ≡ last_pid (children_in q ks)
   pub nexts : (q : ℕ) (r : Process) (n : Node) → lookup q ks ≡ Some r → find_node q ns ≡ Some n → n.links.next ≡ first_pid (above q (children_in r.parent ks))
   pub prevs : (q : ℕ) (r : Process) (n : Node) → lookup q ks ≡ Some r → find_node q ns ≡ Some n → n.links.prev ≡ last_below q (children_in r.parent ks)
-  pub top : root.first ≡ first_pid (children_in 0 ks)
-  pub bottom : root.last ≡ last_pid (children_in 0 ks)
+  pub top : roots.first ≡ first_pid (children_in 0 ks)
+  pub bottom : roots.last ≡ last_pid (children_in 0 ks)
 
 -- each parent is there, or number 0
 abbrev pub HaveParents : List Process → Type 0
 HaveParents rs = (p : ℕ) (r : Process) → lookup p rs ≡ Some r → (r.parent ≡ 0) ⊎ IsSome (lookup r.parent rs)
 
-pub record IsTable (ns : List Node) (root : Ends) : Type 0 where
+pub record IsTable (ns : List Node) (roots : Ends) : Type 0 where
   pub rising : IsRising (records ns)
   pub parents : HaveParents (records ns)
-  pub joined : IsJoined (records ns) ns root
+  pub joined : IsJoined (records ns) ns roots
 
 -- what a table is worth
 pub record TableView : Type 0 where
@@ -46,17 +46,17 @@ pub record TableView : Type 0 where
   pub room : ℕ
   pub reads : ℕ
 
-abbrev pub put_body : TableView → ℕ → Body → TableView
-put_body t p b = record t { processes = with_body t.processes p b; reads = one_more t.reads }
+abbrev pub table_with_body : TableView → ℕ → Body → TableView
+table_with_body t p b = record t { processes = with_body t.processes p b; reads = one_more t.reads }
 
 -- ---- links written
 
--- what comes after a place among the children of p is x: the place is behind the child a, or before all
+-- what comes after a gap among the children of p is x: the gap is behind the child a, or before all
 abbrev pub set_after : ℕ → Option ℕ → Option ℕ → Node → Node
 set_after p (Some a) x n = at_node a (with_next x) n
 set_after p None x n = at_node p (with_first x) n
 
--- what comes before a place among the children of p is y: the place is before the child b, or behind all
+-- what comes before a gap among the children of p is y: the gap is before the child b, or behind all
 abbrev pub set_before : ℕ → Option ℕ → Option ℕ → Node → Node
 set_before p (Some b) y n = at_node b (with_prev y) n
 set_before p None y n = at_node p (with_last y) n
@@ -66,8 +66,8 @@ abbrev pub end_after : ℕ → Option ℕ → Option ℕ → Option ℕ → Opti
 end_after p (Some a) x end = end
 end_after p None x end = if p == 0 then x else end
 
-abbrev pub root_after : ℕ → Option ℕ → Option ℕ → Option ℕ → Option ℕ → Ends → Ends
-root_after p a b x y root = record { first = end_after p a x root.first; last = end_after p b y root.last }
+abbrev pub roots_after : ℕ → Option ℕ → Option ℕ → Option ℕ → Option ℕ → Ends → Ends
+roots_after p a b x y roots = record { first = end_after p a x roots.first; last = end_after p b y roots.last }
 
 unfoldable pub rejoined : ℕ → Option ℕ → Option ℕ → Option ℕ → Option ℕ → List Node → List Node
 rejoined p a b x y ns = map (set_before p b y) (map (set_after p a x) ns)
@@ -76,7 +76,7 @@ rejoined p a b x y ns = map (set_before p b y) (map (set_after p a x) ns)
 
 -- the ends of the list of children that the links name
 unfoldable pub ends_in : List Node → Ends → ℕ → Ends
-ends_in ns root p = if p == 0 then root else option_map_or (λ (n : Node). n.links.children) (find_node p ns) no_ends
+ends_in ns roots p = if p == 0 then roots else option_map_or (λ (n : Node). n.links.children) (find_node p ns) no_ends
 
 -- the next sibling that the links name
 unfoldable pub next_in : List Node → ℕ → Option ℕ
@@ -86,23 +86,23 @@ next_in ns p = option_and_then (λ (n : Node). n.links.next) (find_node p ns)
 unfoldable pub prev_in : List Node → ℕ → Option ℕ
 prev_in ns p = option_and_then (λ (n : Node). n.links.prev) (find_node p ns)
 
--- the child before a place that the links name: before the child n, or behind all
+-- the child before a gap that the links name: before the child n, or behind all
 unfoldable pub before_in : List Node → Ends → ℕ → Option ℕ → Option ℕ
-before_in ns root p None = (ends_in ns root p).last
-before_in ns root p (Some n) = prev_in ns n
+before_in ns roots p None = (ends_in ns roots p).last
+before_in ns roots p (Some n) = prev_in ns n
 
--- ---- places in a list of children
+-- ---- gaps in a list of children
 
--- whether a number is before the place, which is before n, or behind all
+-- whether a number is before the gap, which is before n, or behind all
 abbrev pub is_before : Option ℕ → ℕ → Bool
 is_before None q = true
 is_before (Some n) q = nat_lt q n
 
--- a place behind that of c, which isn't in the list
+-- a gap behind that of c, which isn't in the list
 abbrev pub IsBehind : Option ℕ → ℕ → List Process → Type 0
 IsBehind next c ks = IfSome next (λ n. (c < n) × IsSome (lookup n ks))
 
--- those that stand before the place, and behind that of c
+-- those that stand before the gap, and behind that of c
 abbrev pub between : ℕ → Option ℕ → List Process → List Process
 between c next ks = filter (λ (r : Process). nat_lt c r.pid && is_before next r.pid) ks
 

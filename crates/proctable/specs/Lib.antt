@@ -1,8 +1,6 @@
 pub mod Body
-pub mod Slots
-pub mod SlotsView
+pub mod ScanTable
 pub mod NodeSlots
-pub mod Entries
 pub mod Nodes
 pub mod Cells
 pub mod Joined

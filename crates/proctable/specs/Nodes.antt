@@ -1,6 +1,7 @@
 -- Nodes in rising order of their numbers, and the processes that they stand for.
-use Rattle.std.specs.Prelude.{ℕ, ◌==◌, not, if◌then◌else◌, nat_lt, List, [], ◌∷◌, map, filter, find, Option, None}
+use Rattle.std.specs.Prelude.{ℕ, ◌==◌, not, if◌then◌else◌, List, map, filter, find, Option, None}
 use Rattle.posix.specs.Processes.{Process}
+use Rattle.pidset.specs.Numbers.{inserted_by}
 use Rattle.proctable.specs.declared.facts.Facts.{Facts}
 use Rattle.proctable.specs.Body.{process_of, facts_of}
 use Rattle.proctable.specs.declared.node.Ends.{Ends}
@@ -28,9 +29,8 @@ at_node p f n = if n.pid == p then f n else n
 unfoldable pub changed_node : ℕ → (Node → Node) → List Node → List Node
 changed_node p f ns = map (at_node p f) ns
 
-unfoldable pub inserted_node : Node → List Node → List Node
-inserted_node new [] = new ∷ []
-inserted_node new (r ∷ rs) = if nat_lt new.pid r.pid then new ∷ r ∷ rs else r ∷ inserted_node new rs
+abbrev pub inserted_node : Node → List Node → List Node
+inserted_node new ns = inserted_by (λ (n : Node). n.pid) new ns
 
 unfoldable pub removed_node : ℕ → List Node → List Node
 removed_node p ns = filter (λ (r : Node). not (r.pid == p)) ns

@@ -5,16 +5,15 @@ ghost use Rattle.std.specs.Borrow.{sem, Lends};
 ghost use Rattle.posix.specs.Tables.{IsRising, lookup, next_above};
 ghost use Rattle.proctable.specs.Body.{body_row, facts_of};
 ghost use Rattle.proctable.specs.Nodes.{find_node, changed_node, inserted_node, removed_node, records};
-ghost use Rattle.proctable.specs.Cells.{put_body, with_first, with_last, with_prev, with_next, placed};
+ghost use Rattle.proctable.specs.Cells.{cells_with_body, with_first, with_last, with_prev, with_next, relinked};
 ghost use Rattle.proctable.specs.contracts.cells.Cells.{the_row as cells_row};
 
 use crate::body::Body;
-use crate::entry::{
-    Entry, found, gap, insert_entry, next_in, place as place_in, remove_entry, slot_at, slot_of,
-};
+use crate::entry::{Entry, found, slot_of};
 use crate::facts::Facts;
 use crate::node::{Links, Node};
-use crate::slots::Slots;
+use crate::node_slots::NodeSlots;
+use pidset::numbered::{next_above, put_in, take_out};
 use posix::Pid;
 use std::alloc::{AllocError, Global};
 use std::marker::Model;
@@ -25,7 +24,7 @@ use std::marker::Model;
 #[derive(Drop)]
 pub struct Cells {
     index: Vec<Entry>,
-    slots: Slots,
+    slots: NodeSlots,
 }
 
 impl Model for Cells {
@@ -48,7 +47,7 @@ impl Cells {
     {
         Cells {
             index: Vec::new(alloc),
-            slots: Slots::new(alloc),
+            slots: NodeSlots::new(alloc),
         }
     }
 
@@ -139,8 +138,8 @@ impl Cells {
     }
 
     /// Sets where a process stands, all but its children; nothing changes where it isn't there.
-    pub fn place(&mut self, pid: Pid, parent: Pid, prev: Option<Pid>, next: Option<Pid>)
-        ensures nodes { self.new.nodes ≡ changed_node pid (placed parent prev next) self.old.nodes }
+    pub fn relink(&mut self, pid: Pid, parent: Pid, prev: Option<Pid>, next: Option<Pid>)
+        ensures nodes { self.new.nodes ≡ changed_node pid (relinked parent prev next) self.old.nodes }
         ensures room { self.new.room ≡ self.old.room }
         ensures reads { self.new.reads ≤ self.old.reads + 1 }
     {
@@ -155,7 +154,7 @@ impl Cells {
     /// The body of a process that is there, for the caller to change.
     pub fn body_mut(&mut self, pid: Pid) -> &mut Body
         requires { IsSome (find_node pid self.old.nodes) }
-        ensures* lends { sem 𝓛 (Lends cells_row body_row self.entry result (put_body self.old pid)) }
+        ensures* lends { sem 𝓛 (Lends cells_row body_row self.entry result (cells_with_body self.old pid)) }
         ensures value { option_map (λ n. n.body) (find_node pid self.old.nodes) ≡ Some result.now }
     {
         let slot = found(&self.index, pid);
@@ -172,9 +171,8 @@ impl Cells {
         ensures reads { self.new.reads ≤ self.old.reads + 1 }
     {
         let pid = node.pid;
-        let at = gap(&self.index, pid);
         let slot = self.slots.insert(node);
-        insert_entry(&mut self.index, at, Entry { pid, slot });
+        put_in(&mut self.index, Entry { pid, slot });
     }
 
     /// Takes out a process; nothing changes where it isn't there.
@@ -183,10 +181,8 @@ impl Cells {
         ensures room { self.old.room ≤ self.new.room }
         ensures reads { self.new.reads ≤ self.old.reads + 1 }
     {
-        if let Ok(at) = place_in(&self.index, pid) {
-            let slot = slot_at(&self.index, pid, at);
-            self.slots.remove(slot);
-            remove_entry(&mut self.index, at);
+        if let Some(entry) = take_out(&mut self.index, pid) {
+            self.slots.remove(entry.slot);
         }
     }
 
@@ -195,7 +191,7 @@ impl Cells {
         ensures value { result ≡ next_above pid (records self.now.nodes) }
         ensures rising { IsRising (records self.now.nodes) }
     {
-        next_in(&self.index, pid)
+        next_above(&self.index, pid)
     }
 
     /// How many slots were read, up to the greatest u128. No slot is read.

@@ -1,8 +1,11 @@
 //! The index of a table: which slot a process stands in. No function here reads a slot.
 
-ghost use Rattle.std.specs.Prelude.{◌≡◌, ◌+◌, ◌<◌, ◌≤◌, length, insert, remove, None, IsSome, IfOk, IfErr, Some, drop, option_map, vec_len, vec_capacity};
-ghost use Rattle.proctable.specs.Entries.{IsAt, IsGap, IsRising, lookup, next_above, above};
+ghost use Rattle.std.specs.Prelude.{◌≡◌, Some, IsSome, option_map, map};
+ghost use Rattle.pidset.specs.Numbers.{Rises};
+ghost use Rattle.proctable.specs.Cells.{entry_of, pids_of};
 
+use pidset::Numbered;
+use pidset::numbered::row_of;
 use posix::Pid;
 
 /// A process and its slot.
@@ -14,97 +17,33 @@ pub struct Entry {
     pub slot: usize,
 }
 
-/// The place of a process in the index, or where it would go.
-pub fn place(entries: &[Entry], pid: Pid) -> Result<usize, usize>
-    requires { IsRising entries.now }
-    ensures found { IfOk result (IsAt entries.now pid) }
-    ensures absent { IfErr result (IsGap entries.now pid) }
-{
-    entries.binary_search_by_key(&pid, |entry| entry.pid)
-}
+impl Numbered for Entry {
+    ghost number = { λ e. e.pid };
 
-/// The slot of a process at its place.
-pub fn slot_at(entries: &[Entry], pid: Pid, at: usize) -> usize
-    requires rising { IsRising entries.now }
-    requires at { IsAt entries.now pid at }
-    ensures { option_map (λ e. e.slot) (lookup pid entries.now) ≡ Some result }
-{
-    entries[at].slot
+    fn pid(&self) -> Pid {
+        self.pid
+    }
 }
 
 /// The slot of a process, if it is there.
 pub fn slot_of(entries: &[Entry], pid: Pid) -> Option<usize>
-    requires { IsRising entries.now }
-    ensures { result ≡ option_map (λ e. e.slot) (lookup pid entries.now) }
+    requires { Rises (pids_of entries.now) }
+    ensures { result ≡ option_map (λ e. e.slot) (entry_of pid entries.now) }
 {
-    match place(entries, pid) {
-        Ok(at) => Some(slot_at(entries, pid, at)),
-        Err(_) => None,
+    match row_of(entries, pid) {
+        Some(entry) => Some(entry.slot),
+        None => None,
     }
 }
 
 /// The slot of a process that is there.
 pub fn found(entries: &[Entry], pid: Pid) -> usize
-    requires rising { IsRising entries.now }
-    requires there { IsSome (lookup pid entries.now) }
-    ensures { option_map (λ e. e.slot) (lookup pid entries.now) ≡ Some result }
+    requires rising { Rises (pids_of entries.now) }
+    requires there { IsSome (entry_of pid entries.now) }
+    ensures { option_map (λ e. e.slot) (entry_of pid entries.now) ≡ Some result }
 {
     match slot_of(entries, pid) {
         Some(slot) => slot,
         None => unreachable!(),
     }
-}
-
-/// Where the entry of a process that isn't there would go.
-pub fn gap(entries: &[Entry], pid: Pid) -> usize
-    requires rising { IsRising entries.now }
-    requires absent { lookup pid entries.now ≡ None }
-    ensures { IsGap entries.now pid result }
-{
-    match place(entries, pid) {
-        Ok(_) => unreachable!(),
-        Err(at) => at,
-    }
-}
-
-/// Where the entries of the processes above a number begin.
-fn start_above(entries: &[Entry], pid: Pid) -> usize
-    requires { IsRising entries.now }
-    ensures within { result ≤ length entries.now }
-    ensures rest { drop result entries.now ≡ above pid entries.now }
-{
-    match place(entries, pid) {
-        Ok(at) => at + 1,
-        Err(at) => at,
-    }
-}
-
-/// The process with the least number above `pid`.
-pub fn next_in(entries: &[Entry], pid: Pid) -> Option<Pid>
-    requires { IsRising entries.now }
-    ensures { result ≡ next_above pid entries.now }
-{
-    let entry = entries.get(start_above(entries, pid))?;
-    Some(entry.pid)
-}
-
-/// Puts an entry in, where there is room.
-pub fn insert_entry(entries: &mut Vec<Entry>, at: usize, entry: Entry)
-    requires at { at ≤ vec_len entries.old }
-    requires room { vec_len entries.old < vec_capacity entries.old }
-    ensures items { entries.new.items ≡ insert entries.old.items at entry }
-    ensures len { vec_len entries.new ≡ vec_len entries.old + 1 }
-    ensures capacity { vec_capacity entries.old ≤ vec_capacity entries.new }
-{
-    let _ = entries.insert(at, entry);
-}
-
-/// Takes an entry out.
-pub fn remove_entry(entries: &mut Vec<Entry>, at: usize)
-    requires { at < vec_len entries.old }
-    ensures items { entries.new.items ≡ remove entries.old.items at }
-    ensures len { vec_len entries.new + 1 ≡ vec_len entries.old }
-    ensures capacity { vec_capacity entries.new ≡ vec_capacity entries.old }
-{
-    let _entry = entries.remove(at);
 }

@@ -9,11 +9,11 @@ pub mod facts;
 pub mod kin;
 mod links;
 mod node;
+mod node_slots;
 pub mod own;
 pub mod proc_table;
 pub mod scan;
 mod slot;
-mod slots;
 
 pub use body::Body;
 pub use facts::Facts;

@@ -4,7 +4,7 @@ ghost use Rattle.std.specs.Prelude.{◌≡◌, ◌≢◌, ◌≤◌, ◌+◌, �
 ghost use Rattle.posix.specs.Tables.{IsRising, children_in, first_pid, removed, changed, adopted};
 ghost use Rattle.posix.specs.Tables as spec;
 ghost use Rattle.proctable.specs.Nodes.{find_node, records};
-ghost use Rattle.proctable.specs.Joined.{IsJoined, IsTable, HaveParents, IsBehind, between, last_below, rejoined, root_after, end_after, set_after, set_before, ends_in, next_in, prev_in, before_in, moved};
+ghost use Rattle.proctable.specs.Joined.{IsJoined, IsTable, HaveParents, IsBehind, between, last_below, rejoined, roots_after, end_after, set_after, set_before, ends_in, next_in, prev_in, before_in, moved};
 
 use crate::cells::Cells;
 use crate::node::Ends;
@@ -12,14 +12,14 @@ use posix::Pid;
 
 /// The ends of the list of children of a process, or of those with the parent 0; none where it isn't
 /// there.
-pub fn ends_of(cells: &mut Cells, root: Ends, pid: Pid) -> Ends
-    ensures value { result ≡ ends_in cells.old.nodes root pid }
+pub fn ends_of(cells: &mut Cells, roots: Ends, pid: Pid) -> Ends
+    ensures value { result ≡ ends_in cells.old.nodes roots pid }
     ensures nodes { cells.new.nodes ≡ cells.old.nodes }
     ensures room { cells.new.room ≡ cells.old.room }
     ensures reads { cells.new.reads ≤ cells.old.reads + 1 }
 {
     if pid == Pid::NONE {
-        return root;
+        return roots;
     }
     match cells.links(pid) {
         Some(links) => links.children,
@@ -54,25 +54,25 @@ fn prev_of(cells: &mut Cells, pid: Pid) -> Option<Pid>
 }
 
 /// The child of `parent` before its child `next`, or its last child where there is none.
-fn before_place(cells: &mut Cells, root: Ends, parent: Pid, next: Option<Pid>) -> Option<Pid>
-    ensures value { result ≡ before_in cells.old.nodes root parent next }
+fn child_before(cells: &mut Cells, roots: Ends, parent: Pid, next: Option<Pid>) -> Option<Pid>
+    ensures value { result ≡ before_in cells.old.nodes roots parent next }
     ensures nodes { cells.new.nodes ≡ cells.old.nodes }
     ensures room { cells.new.room ≡ cells.old.room }
     ensures reads { cells.new.reads ≤ cells.old.reads + 1 }
 {
     match next {
         Some(sibling) => prev_of(cells, sibling),
-        None => ends_of(cells, root, parent).last,
+        None => ends_of(cells, roots, parent).last,
     }
 }
 
-/// Ties what comes before and after a place among the children of `parent`. What follows the child `prev`,
+/// Ties what comes before and after a gap among the children of `parent`. What follows the child `prev`,
 /// or the first child where there is none, becomes `after`; what stands before the child `next`, or the
 /// last child where there is none, becomes `before`. Returns the ends of the list of those with the parent
 /// 0.
 fn rejoin(
     cells: &mut Cells,
-    root: Ends,
+    roots: Ends,
     parent: Pid,
     prev: Option<Pid>,
     next: Option<Pid>,
@@ -80,12 +80,12 @@ fn rejoin(
     before: Option<Pid>,
 ) -> Ends
     ensures nodes { cells.new.nodes ≡ rejoined parent prev next after before cells.old.nodes }
-    ensures root { result ≡ root_after parent prev next after before root }
+    ensures roots { result ≡ roots_after parent prev next after before roots }
     ensures room { cells.new.room ≡ cells.old.room }
     ensures reads { cells.new.reads ≤ cells.old.reads + 2 }
 {
-    let first = follow(cells, root.first, parent, prev, after);
-    let last = precede(cells, root.last, parent, next, before);
+    let first = follow(cells, roots.first, parent, prev, after);
+    let last = precede(cells, roots.last, parent, next, before);
     Ends { first, last }
 }
 
@@ -147,12 +147,12 @@ fn precede(
 /// child `above`, or from the last one where there is none.
 fn neighbours(
     cells: &mut Cells,
-    root: Ends,
+    roots: Ends,
     parent: Pid,
     pid: Pid,
     above: Option<Pid>,
 ) -> (Option<Pid>, Option<Pid>)
-    requires joined { IsJoined (removed pid (records cells.old.nodes)) cells.old.nodes root }
+    requires joined { IsJoined (removed pid (records cells.old.nodes)) cells.old.nodes roots }
     requires rising { IsRising (records cells.old.nodes) }
     requires parent { (parent ≡ 0) ⊎ IsSome (find_node parent cells.old.nodes) }
     requires above { IsBehind above pid (children_in parent (removed pid (records cells.old.nodes))) }
@@ -163,7 +163,7 @@ fn neighbours(
     ensures reads { cells.new.reads ≤ cells.old.reads + 1 + length (between pid above (children_in parent (removed pid (records cells.old.nodes)))) }
 {
     let mut next = above;
-    let mut prev = before_place(cells, root, parent, above);
+    let mut prev = child_before(cells, roots, parent, above);
     while let Some(sibling) = prev {
         if sibling.number() < pid.number() {
             return (prev, next);
@@ -174,10 +174,10 @@ fn neighbours(
     (prev, next)
 }
 
-/// A process that stands in no list becomes a child of `parent`. Its place is looked for backwards from the
+/// A process that stands in no list becomes a child of `parent`. The gap for it is looked for backwards from the
 /// child `above`, or from the last one where there is none.
-pub fn link(cells: &mut Cells, root: Ends, parent: Pid, pid: Pid, above: Option<Pid>) -> Ends
-    requires joined { IsJoined (removed pid (records cells.old.nodes)) cells.old.nodes root }
+pub fn link(cells: &mut Cells, roots: Ends, parent: Pid, pid: Pid, above: Option<Pid>) -> Ends
+    requires joined { IsJoined (removed pid (records cells.old.nodes)) cells.old.nodes roots }
     requires rising { IsRising (records cells.old.nodes) }
     requires parent { (parent ≡ 0) ⊎ IsSome (find_node parent cells.old.nodes) }
     requires above { IsBehind above pid (children_in parent (removed pid (records cells.old.nodes))) }
@@ -187,17 +187,17 @@ pub fn link(cells: &mut Cells, root: Ends, parent: Pid, pid: Pid, above: Option<
     ensures room { cells.new.room ≡ cells.old.room }
     ensures reads { cells.new.reads ≤ cells.old.reads + 4 + length (between pid above (children_in parent (removed pid (records cells.old.nodes)))) }
 {
-    let top = root;
-    let (before, after) = neighbours(cells, root, parent, pid, above);
+    let top = roots;
+    let (before, after) = neighbours(cells, roots, parent, pid, above);
     let prev = before;
     let next = after;
-    cells.place(pid, parent, before, after);
+    cells.relink(pid, parent, before, after);
     rejoin(cells, top, parent, prev, next, Some(pid), Some(pid))
 }
 
 /// A process stands in no list any more; nothing changes where it isn't there.
-pub fn unlink(cells: &mut Cells, root: Ends, pid: Pid) -> Ends
-    requires joined { IsJoined (records cells.old.nodes) cells.old.nodes root }
+pub fn unlink(cells: &mut Cells, roots: Ends, pid: Pid) -> Ends
+    requires joined { IsJoined (records cells.old.nodes) cells.old.nodes roots }
     requires rising { IsRising (records cells.old.nodes) }
     ensures processes { records cells.new.nodes ≡ records cells.old.nodes }
     ensures joined { IsJoined (removed pid (records cells.new.nodes)) cells.new.nodes result }
@@ -210,7 +210,7 @@ pub fn unlink(cells: &mut Cells, root: Ends, pid: Pid) -> Ends
             let before = links.prev;
             rejoin(
                 cells,
-                root,
+                roots,
                 links.parent,
                 links.prev,
                 links.next,
@@ -218,14 +218,14 @@ pub fn unlink(cells: &mut Cells, root: Ends, pid: Pid) -> Ends
                 before,
             )
         }
-        None => root,
+        None => roots,
     }
 }
 
-/// Gives the children of one process to another, which is there, from the last one on. The place of each is
+/// Gives the children of one process to another, which is there, from the last one on. The gap for each is
 /// looked for from that of the one before it, so both lists are walked once.
-pub fn adopt_all(cells: &mut Cells, root: Ends, from: Pid, to: Pid) -> Ends
-    requires joined { IsJoined (records cells.old.nodes) cells.old.nodes root }
+pub fn adopt_all(cells: &mut Cells, roots: Ends, from: Pid, to: Pid) -> Ends
+    requires joined { IsJoined (records cells.old.nodes) cells.old.nodes roots }
     requires rising { IsRising (records cells.old.nodes) }
     requires parents { HaveParents (records cells.old.nodes) }
     requires to { IsSome (find_node to cells.old.nodes) }
@@ -235,9 +235,9 @@ pub fn adopt_all(cells: &mut Cells, root: Ends, from: Pid, to: Pid) -> Ends
     ensures room { cells.new.room ≡ cells.old.room }
     ensures reads { cells.new.reads ≤ cells.old.reads + 1 + 8 * length (children_in from (records cells.old.nodes)) + length (children_in to (records cells.old.nodes)) }
 {
-    let mut top = root;
+    let mut top = roots;
     let mut above = None;
-    let mut next = ends_of(cells, root, from).last;
+    let mut next = ends_of(cells, roots, from).last;
     while let Some(child) = next {
         let apart = unlink(cells, top, child);
         let joined = link(cells, apart, to, child, above);

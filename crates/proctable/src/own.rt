@@ -39,7 +39,7 @@ impl Own {
     {
         Ok(Own {
             creds: Creds::root(),
-            signals: Signals::initial(),
+            signals: Signals::initial(alloc)?,
             blocked: None,
             program: 0,
             cpu: Cpu::new(alloc)?,
@@ -56,7 +56,7 @@ impl Own {
         cpu.move_on();
         Ok(Own {
             creds: self.creds,
-            signals: self.signals.fork(),
+            signals: self.signals.fork()?,
             blocked: None,
             program: self.program,
             cpu,

@@ -2,7 +2,7 @@
 
 ghost use Rattle.std.specs.Prelude.{refl};
 ghost use Rattle.proctable.specs.NodeSlots.{one_more};
-ghost use Rattle.proctable.specs.Joined.{put_body};
+ghost use Rattle.proctable.specs.Joined.{table_with_body};
 
 use crate::body::Body;
 use crate::cells::Cells;
@@ -27,7 +27,7 @@ use std::marker::Model;
 pub struct ProcTable {
     cells: Cells,
     /// Those with the parent 0.
-    root: Ends,
+    roots: Ends,
 }
 
 impl Model for ProcTable {
@@ -38,7 +38,7 @@ impl Model for ProcTable {
 
     ghost view = { λ t. record { processes = records t.cells.nodes; room = t.cells.room; reads = t.cells.reads } };
 
-    ghost invariant = { λ t. IsTable t.cells.nodes t.root };
+    ghost invariant = { λ t. IsTable t.cells.nodes t.roots };
 }
 
 impl Kin for ProcTable {
@@ -50,7 +50,7 @@ impl Kin for ProcTable {
 
     ghost one_more = { one_more };
 
-    ghost put = { put_body };
+    ghost put = { table_with_body };
 
     ghost puts = { λ t p b. refl };
 
@@ -66,7 +66,7 @@ impl Kin for ProcTable {
     fn empty(alloc: Global) -> Self {
         ProcTable {
             cells: Cells::new(alloc),
-            root: Ends::none(),
+            roots: Ends::none(),
         }
     }
 
@@ -82,7 +82,7 @@ impl Kin for ProcTable {
             next: None,
         };
         self.cells.insert(Node { pid, links, body });
-        self.root = link(&mut self.cells, self.root, parent, pid, None);
+        self.roots = link(&mut self.cells, self.roots, parent, pid, None);
     }
 
     fn get(&mut self, pid: Pid) -> Option<Facts> {
@@ -94,12 +94,12 @@ impl Kin for ProcTable {
     }
 
     fn remove(&mut self, pid: Pid) {
-        self.root = unlink(&mut self.cells, self.root, pid);
+        self.roots = unlink(&mut self.cells, self.roots, pid);
         self.cells.remove(pid);
     }
 
     fn first_child(&mut self, pid: Pid) -> Option<Pid> {
-        ends_of(&mut self.cells, self.root, pid).first
+        ends_of(&mut self.cells, self.roots, pid).first
     }
 
     fn next_sibling(&mut self, pid: Pid) -> Option<Pid> {
@@ -112,7 +112,7 @@ impl Kin for ProcTable {
 
     fn adopt(&mut self, from: Pid, to: Pid) {
         if from != to {
-            self.root = adopt_all(&mut self.cells, self.root, from, to);
+            self.roots = adopt_all(&mut self.cells, self.roots, from, to);
         }
     }
 

@@ -1,15 +1,16 @@
 //! A table that scans: the processes stand in a vector, in rising order of their numbers.
 
-ghost use Rattle.std.specs.Prelude.{◌≡◌, ◌+◌, ◌<◌, ◌≤◌, [], length, map, drop, IfOk, IfErr, insert, remove, None, refl, option_map, find, vec_len, vec_capacity, IsSome};
+ghost use Rattle.std.specs.Prelude.{◌≡◌, map, refl, option_map, find, IsSome};
 ghost use Rattle.std.proofs.Common.{arith};
-ghost use Rattle.posix.specs.Tables.{IsRising, lookup, is_child, above, next_sibling, next_above, reparented};
-ghost use Rattle.posix.proofs.TableLemmas.{IsGap};
-ghost use Rattle.proctable.specs.Slots.{IsAt, put_body};
+ghost use Rattle.posix.specs.Tables.{IsRising, lookup, is_child, next_sibling, reparented};
+ghost use Rattle.proctable.specs.ScanTable.{scan_with_body};
 
 use crate::body::Body;
 use crate::facts::Facts;
 use crate::kin::Kin;
 use crate::slot::Slot;
+use pidset::Numbered;
+use pidset::numbered::{found, next_above, put_in, row_of, take_out};
 use posix::Pid;
 use std::alloc::{AllocError, Global};
 use std::marker::Model;
@@ -24,9 +25,9 @@ pub struct ScanTable {
 impl Model for ScanTable {
     ghost use Rattle.std.specs.Prelude.{◌-◌, vec_len, vec_capacity};
     ghost use Rattle.posix.specs.Tables.{IsRising};
-    ghost use Rattle.proctable.specs.Slots.{Table};
+    ghost use Rattle.proctable.specs.ScanTable.{ScanView};
 
-    ghost Value = { Table };
+    ghost Value = { ScanView };
 
     ghost view = { λ t. record { processes = t.slots.items; room = vec_capacity t.slots - vec_len t.slots } };
 
@@ -42,7 +43,7 @@ impl Kin for ScanTable {
 
     ghost one_more = { λ n. n };
 
-    ghost put = { put_body };
+    ghost put = { scan_with_body };
 
     ghost puts = { λ t p b. refl };
 
@@ -63,15 +64,14 @@ impl Kin for ScanTable {
     }
 
     fn insert(&mut self, pid: Pid, parent: Pid, body: Body) {
-        let at = gap(&self.slots, pid);
-        insert_slot(&mut self.slots, at, Slot::new(pid, parent, body));
+        put_in(&mut self.slots, Slot::new(pid, parent, body));
     }
 
     fn get(&mut self, pid: Pid) -> Option<Facts> {
-        let Ok(at) = search(&self.slots, pid) else {
+        let Some(slot) = row_of(&self.slots, pid) else {
             return None;
         };
-        Some(self.slots[at].facts())
+        Some(slot.facts())
     }
 
     fn update(&mut self, pid: Pid) -> &mut Body {
@@ -81,9 +81,7 @@ impl Kin for ScanTable {
     }
 
     fn remove(&mut self, pid: Pid) {
-        if let Ok(at) = search(&self.slots, pid) {
-            remove_slot(&mut self.slots, at);
-        }
+        let _slot = take_out(&mut self.slots, pid);
     }
 
     fn first_child(&mut self, pid: Pid) -> Option<Pid> {
@@ -95,7 +93,7 @@ impl Kin for ScanTable {
     }
 
     fn next_after(&mut self, pid: Pid) -> Option<Pid> {
-        next_in(&self.slots, pid)
+        next_above(&self.slots, pid)
     }
 
     fn adopt(&mut self, from: Pid, to: Pid) {
@@ -105,60 +103,6 @@ impl Kin for ScanTable {
     fn visits(&self) -> u128 {
         0
     }
-}
-
-/// Where a process stands, or where it would go.
-fn search(slots: &[Slot], pid: Pid) -> Result<usize, usize>
-    requires { IsRising slots.now }
-    ensures found { IfOk result (IsAt slots.now pid) }
-    ensures absent { IfErr result (IsGap slots.now pid) }
-{
-    slots.binary_search_by_key(&pid, |slot| slot.pid())
-}
-
-/// Where a process that is there stands.
-fn found(slots: &[Slot], pid: Pid) -> usize
-    requires rising { IsRising slots.now }
-    requires there { IsSome (lookup pid slots.now) }
-    ensures { IsAt slots.now pid result }
-{
-    match search(slots, pid) {
-        Ok(at) => at,
-        Err(_) => unreachable!(),
-    }
-}
-
-/// Where a process that isn't there would go.
-fn gap(slots: &[Slot], pid: Pid) -> usize
-    requires rising { IsRising slots.now }
-    requires absent { lookup pid slots.now ≡ None }
-    ensures { IsGap slots.now pid result }
-{
-    match search(slots, pid) {
-        Ok(_) => unreachable!(),
-        Err(at) => at,
-    }
-}
-
-/// Where the processes above a number begin.
-fn start_above(slots: &[Slot], pid: Pid) -> usize
-    requires { IsRising slots.now }
-    ensures within { result ≤ length slots.now }
-    ensures rest { drop result slots.now ≡ above pid slots.now }
-{
-    match search(slots, pid) {
-        Ok(at) => at + 1,
-        Err(at) => at,
-    }
-}
-
-/// The first process above a number.
-fn next_in(slots: &[Slot], pid: Pid) -> Option<Pid>
-    requires { IsRising slots.now }
-    ensures { result ≡ next_above pid slots.now }
-{
-    let slot = slots.get(start_above(slots, pid))?;
-    Some(slot.pid())
 }
 
 /// The first child of a process.
@@ -188,29 +132,4 @@ fn adopt_all(slots: &mut [Slot], from: Pid, to: Pid)
     for slot in slots.iter_mut() {
         slot.reparent(from, to);
     }
-}
-
-/// Puts a slot in, where there is room.
-fn insert_slot(slots: &mut Vec<Slot>, at: usize, slot: Slot)
-    requires at { at ≤ vec_len slots.old }
-    requires room { vec_len slots.old < vec_capacity slots.old }
-    ensures items { slots.new.items ≡ insert slots.old.items at slot }
-    ensures len { vec_len slots.new ≡ vec_len slots.old + 1 }
-    ensures capacity { vec_capacity slots.old ≤ vec_capacity slots.new }
-{
-    let _ = slots.insert(at, slot);
-}
-
-/// Takes a slot out.
-fn remove_slot(slots: &mut Vec<Slot>, at: usize)
-    requires { at < vec_len slots.old }
-    ensures items { slots.new.items ≡ remove slots.old.items at }
-    ensures len { vec_len slots.new + 1 ≡ vec_len slots.old }
-    ensures capacity { vec_capacity slots.new ≡ vec_capacity slots.old }
-{
-    // The last one isn't moved.
-    if at + 1 == slots.len() {
-        return slots.truncate(at);
-    }
-    let _slot = slots.remove(at);
 }

@@ -8,6 +8,7 @@ ghost use Rattle.proctable.specs.contracts.slot.Slot.{the_row as slot_row};
 
 use crate::body::Body;
 use crate::facts::Facts;
+use pidset::Numbered;
 use posix::Pid;
 use std::marker::Model;
 
@@ -29,19 +30,20 @@ impl Model for Slot {
     ghost view = { λ s. process_of s.pid s.parent s.body };
 }
 
+impl Numbered for Slot {
+    ghost number = { λ s. s.pid };
+
+    fn pid(&self) -> Pid {
+        self.pid
+    }
+}
+
 impl Slot {
     /// A process of these parts.
     pub fn new(pid: Pid, parent: Pid, body: Body) -> Slot
         ensures { result ≡ process_of pid parent body }
     {
         Slot { pid, parent, body }
-    }
-
-    /// Its number.
-    pub fn pid(&self) -> Pid
-        ensures { result ≡ self.now.pid }
-    {
-        self.pid
     }
 
     /// Its parent's number.

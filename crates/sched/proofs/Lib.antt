@@ -1,1 +1,4 @@
-pub mod PlaceLemmas
+pub mod MemberLemmas
+pub mod LinkLemmas
+pub mod RingLemmas
+pub mod ListLemmas

@@ -1,1 +1,2 @@
+pub mod BlockLemmas
 pub mod SetLemmas

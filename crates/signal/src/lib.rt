@@ -2,15 +2,13 @@
 //! that haven't returned.
 #![tactic(auto)]
 
-pub mod actions;
-pub mod frames;
+mod actions;
+mod block;
 pub mod interrupts;
-pub mod pending;
 pub mod signals;
+pub mod store;
 
-pub use actions::Actions;
-pub use frames::{Frames, FramesFull, NoFrame};
 pub use interrupts::{is_interrupted, leave_call, mask_before};
-pub use pending::Pending;
 pub use posix::{Action, Carried, Frame, Handler, PendingSignal, SaFlags, Sig, SigSet};
 pub use signals::Signals;
+pub use store::{FramesFull, NoFrame, Store};

@@ -1,6 +1,6 @@
 //! The signals of one process.
 
-ghost use Rattle.std.specs.Prelude.{◌≡◌, [], true, false, None, Some, Ok, Err, OnOk, OnErr, IfErr, IfSome, IsSome};
+ghost use Rattle.std.specs.Prelude.{◌≡◌, [], true, false, None, Some, Ok, Err, OnOk, OnErr, IfOk, IfErr, IfSome, IsSome};
 ghost use Rattle.posix.specs.Processes.{initial_signals, nothing_pending};
 ghost use Rattle.posix.specs.Ends.{forgotten, ignores_children as ignores_children_of, drops_children as drops_children_of};
 ghost use Rattle.posix.specs.Generation.{action as action_of, is_deaf as is_deaf_to, keeps as keeps_of, generated, effect_of};
@@ -8,14 +8,14 @@ ghost use Rattle.posix.specs.Choice.{chosen, least_ready as least_ready_of, carr
 ghost use Rattle.posix.specs.Handlers.{is_full as is_full_of, handler_mask as handler_mask_of, entered, at_handler, after_entry as after_entry_of, handler_arguments, newest_frame, left, restore, set_action as set_action_of, set_mask as set_mask_of, give_mask};
 ghost use Rattle.posix.specs.SignalCalls.{set_of};
 
-use crate::actions::{Actions, does_nothing, is_caught};
-use crate::frames::{Frames, FramesFull, NoFrame};
-use crate::pending::Pending;
+use crate::actions::{does_nothing, is_caught};
+use crate::store::{FramesFull, NoFrame, Store};
 use bitflags::Flags;
 use posix::{
     Action, Carried, Effect, Errno, Handler, How, Life, PendingSignal, Pid, Register, SaFlags, Sig,
     SigSet,
 };
+use std::alloc::{AllocError, Global};
 use std::marker::Model;
 use umach::Cpu;
 
@@ -24,9 +24,8 @@ use umach::Cpu;
 pub struct Signals {
     /// The signals that it blocks.
     mask: SigSet,
-    pending: Pending,
-    actions: Actions,
-    frames: Frames,
+    /// All else.
+    store: Store,
 }
 
 impl Model for Signals {
@@ -35,40 +34,37 @@ impl Model for Signals {
 
     ghost Value = { SignalsOf };
 
-    ghost view = { λ s. record { mask = s.mask; standard = s.pending; queue = []; actions = s.actions; frames = s.frames } };
+    ghost view = { λ s. record { mask = s.mask; standard = s.store.carried; queue = []; actions = s.store.actions; frames = s.store.frames } };
 }
 
 impl Signals {
-    /// Those of process 1 at boot: none is blocked or pending, the actions are the defaults.
-    pub fn initial() -> Signals
-        ensures { result ≡ initial_signals }
+    /// Those of process 1 at boot: none is blocked or pending, the actions are the defaults. An error where
+    /// the host has no memory for them.
+    pub fn initial(alloc: Global) -> Result<Signals, AllocError>
+        ensures { IfOk result (λ s. s ≡ initial_signals) }
     {
-        Signals {
+        Ok(Signals {
             mask: SigSet::EMPTY,
-            pending: Pending::new(),
-            actions: Actions::new(),
-            frames: Frames::new(),
-        }
+            store: Store::new(alloc)?,
+        })
     }
 
-    /// Those of a child that is born now: the same, but nothing is pending (XSH fork).
-    pub fn fork(&self) -> Signals
-        ensures { result ≡ record self.now { standard = nothing_pending; queue = [] } }
+    /// Those of a child that is born now: the same, but nothing is pending (XSH fork). An error where the
+    /// host has no memory for them.
+    pub fn fork(&self) -> Result<Signals, AllocError>
+        ensures { IfOk result (λ s. s ≡ record self.now { standard = nothing_pending; queue = [] }) }
     {
-        Signals {
+        Ok(Signals {
             mask: self.mask,
-            pending: Pending::new(),
-            actions: self.actions,
-            frames: self.frames.copy(),
-        }
+            store: self.store.fork()?,
+        })
     }
 
     /// Those of a process that has ended: nothing is pending, and there is no frame; the rest stays.
     pub fn forget(&mut self)
         ensures { self.new ≡ forgotten self.old }
     {
-        self.pending = Pending::new();
-        self.frames.clear();
+        self.store.forget();
     }
 
     // ---- what there is
@@ -84,14 +80,14 @@ impl Signals {
     pub fn pending(&self) -> SigSet
         ensures { result ≡ set_of self.now.standard }
     {
-        self.pending.set()
+        self.store.pending()
     }
 
     /// The action for a signal.
     pub fn action(&self, sig: Sig) -> Action
         ensures { result ≡ action_of self.now sig }
     {
-        self.actions.get(sig)
+        self.store.action(sig)
     }
 
     /// Whether the process ignores CHLD, and so gets no notice of its children.
@@ -141,8 +137,8 @@ impl Signals {
         if self.is_deaf(pid, life, sig) {
             return Effect::Nothing;
         }
-        if self.keeps(sig) && !self.pending.contains(sig) {
-            self.pending.insert(sig, signal.carried);
+        if self.keeps(sig) && !self.store.is_pending(sig) {
+            self.store.insert(sig, signal.carried);
         }
         if continues {
             Effect::Continued
@@ -156,7 +152,7 @@ impl Signals {
     fn least_ready(&self) -> Option<Sig>
         ensures { result ≡ least_ready_of self.now }
     {
-        let ready = self.pending.set().bits() & !self.mask.bits();
+        let ready = self.store.pending().bits() & !self.mask.bits();
         if ready == 0 {
             return None;
         }
@@ -169,7 +165,7 @@ impl Signals {
     pub fn choose(&self, life: Life) -> Option<Sig>
         ensures { result ≡ chosen life self.now }
     {
-        if self.pending.contains(Sig::KILL) {
+        if self.store.is_pending(Sig::KILL) {
             return Some(Sig::KILL);
         }
         match life {
@@ -184,7 +180,7 @@ impl Signals {
         ensures value { result ≡ carried_by sig self.old }
         ensures state { self.new ≡ taken sig self.old }
     {
-        match self.pending.remove(sig) {
+        match self.store.remove(sig) {
             Some(carried) => carried,
             None => Carried {
                 value: 0,
@@ -229,9 +225,9 @@ impl Signals {
         ensures cpu_stays { OnErr result (cpu.new ≡ cpu.old) }
     {
         let action = self.action(signal.sig);
-        self.frames.push(cpu.frame(saved))?;
+        self.store.push(cpu.frame(saved))?;
         self.mask = self.handler_mask(signal.sig, &action);
-        self.actions.set(signal.sig, after_entry(action));
+        self.store.set_action(signal.sig, after_entry(action));
         give_arguments(cpu, signal, &action);
         cpu.go_to(address);
         Ok(())
@@ -247,7 +243,7 @@ impl Signals {
         ensures signals_stay { OnErr result (self.new ≡ self.old) }
         ensures cpu_stays { OnErr result (cpu.new ≡ cpu.old) }
     {
-        let Some(frame) = self.frames.pop() else {
+        let Some(frame) = self.store.pop() else {
             return Err(NoFrame);
         };
         self.mask = frame.mask;
@@ -270,9 +266,9 @@ impl Signals {
             return Err(Errno::EINVAL);
         }
         let mask = action.mask.maskable();
-        self.actions.set(sig, Action { mask, ..action });
+        self.store.set_action(sig, Action { mask, ..action });
         if does_nothing(action.handler, sig) {
-            self.pending.remove(sig);
+            self.store.remove(sig);
         }
         Ok(())
     }

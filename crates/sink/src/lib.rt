@@ -1,4 +1,4 @@
-//! Where a trace goes: sinks, and printed lines that wait to be put.
+//! Where a trace goes: sinks, and lines that wait to be put.
 #![tactic(auto)]
 
 pub mod line_buffer;

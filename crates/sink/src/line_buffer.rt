@@ -1,30 +1,33 @@
-//! Printed lines that wait to be put.
+//! Lines of a trace that wait to be put.
 
-ghost use Rattle.std.specs.Prelude.{◌≡◌, ◌≤◌, ◌<◌, ◌++◌, [], length, OnOk, OnErr};
+ghost use Rattle.std.specs.Prelude.{◌≡◌, ◌<◌, ◌++◌, [], OnOk, OnErr};
+ghost use Rattle.posix.specs.Printing.{printed};
 ghost use Rattle.sink.specs.Sinks.{TakesAll, BreaksOff, Gathers};
 
 use crate::sinks::{Sink, SinkFault, put_all};
-use arrayvec::ArrayVec;
+use posix::Entry;
 use std::marker::Model;
+use trace::write_entry;
 
 /// At least so many bytes are put at once, but for the last put: a put may be a system call, which
 /// costs more than a line.
 const PIECE: usize = 8192;
 
-/// Less than 8 KiB of printed lines that wait to be put.
+/// Less than 8 KiB of printed lines that wait to be put, and room for a line behind them.
 #[derive(Drop)]
 pub struct LineBuffer {
-    bytes: ArrayVec<u8, 8320>,
+    bytes: [u8; 8320],
+    len: usize,
 }
 
 impl Model for LineBuffer {
-    ghost use Rattle.std.specs.Prelude.{List, ℕ, ◌<◌, length};
+    ghost use Rattle.std.specs.Prelude.{List, ℕ, ◌<◌, take};
 
     ghost Value = { List ℕ };
 
-    ghost view = { λ p. p.bytes.items };
+    ghost view = { λ p. take p.len p.bytes };
 
-    ghost invariant = { λ p. length p.bytes.items < 8192 };
+    ghost invariant = { λ p. p.len < 8192 };
 }
 
 impl LineBuffer {
@@ -33,24 +36,24 @@ impl LineBuffer {
         ensures { result ≡ [] }
     {
         LineBuffer {
-            bytes: ArrayVec::new(),
+            bytes: [0; 8320],
+            len: 0,
         }
     }
 
-    /// Adds a line of at most 128 bytes. All that waits is put once it is 8 KiB or more.
+    /// Adds the line of what an event shows, which is written where it waits. All that waits is put once
+    /// it is 8 KiB or more.
     #[inline(never)]
-    pub fn add<S: Sink>(&mut self, line: &[u8], out: &mut S) -> Result<(), SinkFault>
-        requires { length line.now ≤ 128 }
-        ensures ok { OnOk result (Gathers (S.seen out.old) self.old (S.seen out.new) self.new line.now) }
-        ensures err { OnErr result (BreaksOff (S.seen out.old) (S.seen out.new) (self.old ++ line.now)) }
+    pub fn add<S: Sink>(&mut self, event: u64, entry: &Entry, out: &mut S) -> Result<(), SinkFault>
+        ensures ok { OnOk result (Gathers (S.seen out.old) self.old (S.seen out.new) self.new (printed event entry.now)) }
+        ensures err { OnErr result (BreaksOff (S.seen out.old) (S.seen out.new) (self.old ++ printed event entry.now)) }
     {
-        // There is room for a line of 128 bytes, so it isn't refused.
-        let _ = self.bytes.try_extend_from_slice(line);
-        if self.bytes.len() < PIECE {
+        self.len = write_entry(&mut self.bytes, self.len, event, entry);
+        if self.len < PIECE {
             return Ok(());
         }
-        let put = put_all(out, self.bytes.as_slice());
-        self.bytes.clear();
+        let put = put_all(out, &self.bytes[..self.len]);
+        self.len = 0;
         put
     }
 
@@ -60,8 +63,8 @@ impl LineBuffer {
         ensures err { OnErr result (BreaksOff (S.seen out.old) (S.seen out.new) self.old) }
         ensures empty { self.new ≡ [] }
     {
-        let put = put_all(out, self.bytes.as_slice());
-        self.bytes.clear();
+        let put = put_all(out, &self.bytes[..self.len]);
+        self.len = 0;
         put
     }
 }

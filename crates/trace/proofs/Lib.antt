@@ -1,1 +1,1 @@
-pub mod NoteLemmas
+pub mod DigitLemmas

@@ -4,8 +4,6 @@
 //! one space between two and a line feed at the end. World texts name system calls by the same names.
 #![tactic(auto)]
 
-pub mod note;
 pub mod print;
 
-pub use note::write_note;
-pub use print::print_entry;
+pub use print::{print_entry, write_entry};

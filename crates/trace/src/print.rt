@@ -1,199 +1,225 @@
 //! Lines of a trace, printed.
+//!
+//! A line is written into room that has enough of it, from a place on; each function returns the place
+//! behind what it wrote, so that no line is moved.
 
-ghost use Rattle.std.specs.Prelude.{◌≡◌, ◌+◌, ◌≤◌, ◌++◌, length, ◌∷◌, [], codes, decimal};
+ghost use Rattle.std.specs.Prelude.{◌≡◌, ◌+◌, ◌≤◌, ◌++◌, length, ◌∷◌, take, codes, decimal};
 ghost use Rattle.std.specs.List.{join_with_byte};
 ghost use Rattle.std.specs.Fmt.{signed_decimal};
 ghost use Rattle.posix.specs.Calls.{call_text};
 ghost use Rattle.posix.specs.Printing.{printed, words_of};
 
 use arrayvec::ArrayVec;
-use itoa::Buffer;
+use itoa::write_digits;
 use posix::{Call, Entry, Pid, Sig, Status};
 
-/// A line that is printed.
-type Line = ArrayVec<u8, 128>;
-
-/// Adds bytes, for which there is room, so that none is refused.
-fn put(line: &mut Line, bytes: &[u8])
-    requires { length line.old.items + length bytes.now ≤ 128 }
-    ensures { line.new.items ≡ line.old.items ++ bytes.now }
+/// Writes bytes.
+#[inline(always)]
+fn put(room: &mut [u8], at: usize, bytes: &[u8]) -> usize
+    requires { at + length bytes.now ≤ length room.old }
+    ensures text { take result room.new ≡ take at room.old ++ bytes.now }
+    ensures end { result ≡ at + length bytes.now }
 {
-    let _ = line.try_extend_from_slice(bytes);
+    let end = at + bytes.len();
+    room[at..end].copy_from_slice(bytes);
+    end
 }
 
-/// Adds a number.
-fn put_number(line: &mut Line, number: u64)
-    requires { length line.old.items + 20 ≤ 128 }
-    ensures text { line.new.items ≡ line.old.items ++ decimal number }
-    ensures len { length line.new.items ≤ length line.old.items + 20 }
+/// Writes a number. Its digits stand in the middle of an array, so that the bytes that are moved are
+/// always as many; those behind the digits are written over by what follows.
+#[inline]
+fn put_number(room: &mut [u8], at: usize, number: u64) -> usize
+    requires { at + 20 ≤ length room.old }
+    ensures text { take result room.new ≡ take at room.old ++ decimal number }
+    ensures end { result ≤ at + 20 }
 {
-    let mut buffer = Buffer::new();
-    put(line, buffer.format(number).as_bytes());
+    let mut digits = [0; 40];
+    let start = write_digits(number, &mut digits, 20);
+    room[at..at + 20].copy_from_slice(&digits[start..start + 20]);
+    at + (20 - start)
 }
 
-/// Adds a signed number.
-fn put_signed(line: &mut Line, number: i64)
-    requires { length line.old.items + 20 ≤ 128 }
-    ensures text { line.new.items ≡ line.old.items ++ signed_decimal number }
-    ensures len { length line.new.items ≤ length line.old.items + 20 }
+/// Writes a signed number.
+#[inline]
+fn put_signed(room: &mut [u8], at: usize, number: i64) -> usize
+    requires { at + 21 ≤ length room.old }
+    ensures text { take result room.new ≡ take at room.old ++ signed_decimal number }
+    ensures end { result ≤ at + 21 }
 {
-    let mut buffer = Buffer::new();
-    put(line, buffer.format(number).as_bytes());
+    if number >= 0 {
+        return put_number(room, at, number.unsigned_abs());
+    }
+    let at = put(room, at, b"-");
+    put_number(room, at, number.unsigned_abs())
 }
 
-/// Adds a space and a number.
-fn put_next(line: &mut Line, number: u64)
-    requires { length line.old.items + 21 ≤ 128 }
-    ensures text { line.new.items ≡ line.old.items ++ 32 ∷ decimal number }
-    ensures len { length line.new.items ≤ length line.old.items + 21 }
+/// Writes a space and a number.
+#[inline]
+fn put_next(room: &mut [u8], at: usize, number: u64) -> usize
+    requires { at + 21 ≤ length room.old }
+    ensures text { take result room.new ≡ take at room.old ++ 32 ∷ decimal number }
+    ensures end { result ≤ at + 21 }
 {
-    put(line, b" ");
-    put_number(line, number);
+    let at = put(room, at, b" ");
+    put_number(room, at, number)
 }
 
-/// Adds a space and a signed number.
-fn put_next_signed(line: &mut Line, number: i64)
-    requires { length line.old.items + 21 ≤ 128 }
-    ensures text { line.new.items ≡ line.old.items ++ 32 ∷ signed_decimal number }
-    ensures len { length line.new.items ≤ length line.old.items + 21 }
+/// Writes a space and a signed number.
+#[inline]
+fn put_next_signed(room: &mut [u8], at: usize, number: i64) -> usize
+    requires { at + 22 ≤ length room.old }
+    ensures text { take result room.new ≡ take at room.old ++ 32 ∷ signed_decimal number }
+    ensures end { result ≤ at + 22 }
 {
-    put(line, b" ");
-    put_signed(line, number);
+    let at = put(room, at, b" ");
+    put_signed(room, at, number)
 }
 
-/// Adds the words of a call of a process, up to its result.
-fn put_call(line: &mut Line, pid: Pid, call: Call)
-    requires { length line.old.items ≤ 20 }
-    ensures text { line.new.items ≡ line.old.items ++ codes " call " ++ decimal pid ++ codes " " ++ call_text call ++ codes " =" }
-    ensures len { length line.new.items ≤ length line.old.items + 45 }
+/// Writes the words of a call of a process, up to its result.
+fn put_call(room: &mut [u8], at: usize, pid: Pid, call: Call) -> usize
+    requires { at + 45 ≤ length room.old }
+    ensures text { take result room.new ≡ take at room.old ++ codes " call " ++ decimal pid ++ codes " " ++ call_text call ++ codes " =" }
+    ensures end { result ≤ at + 45 }
 {
-    put(line, b" call");
-    put_next(line, u64::from(pid.number()));
-    put(line, b" ");
-    put(line, call.name());
-    put(line, b" =");
+    let at = put(room, at, b" call");
+    let at = put_next(room, at, u64::from(pid.number()));
+    let at = put(room, at, b" ");
+    let at = put(room, at, call.name());
+    put(room, at, b" =")
 }
 
-/// Adds the words of a note.
-fn put_note(line: &mut Line, pid: Pid, value: i64)
-    requires { length line.old.items ≤ 20 }
-    ensures text { line.new.items ≡ line.old.items ++ 32 ∷ join_with_byte 32 (words_of (Entry.Noted pid value)) }
-    ensures len { length line.new.items ≤ 127 }
+/// Writes the words of a note.
+fn put_note(room: &mut [u8], at: usize, pid: Pid, value: i64) -> usize
+    requires { at + 106 ≤ length room.old }
+    ensures text { take result room.new ≡ take at room.old ++ 32 ∷ join_with_byte 32 (words_of (Entry.Noted pid value)) }
+    ensures end { result ≤ at + 106 }
 {
-    put(line, b" note");
-    put_next(line, u64::from(pid.number()));
-    put_next_signed(line, value);
+    let at = put(room, at, b" note");
+    let at = put_next(room, at, u64::from(pid.number()));
+    put_next_signed(room, at, value)
 }
 
-/// Adds the words of a call that completed.
-fn put_result(line: &mut Line, pid: Pid, call: Call, value: i64)
-    requires { length line.old.items ≤ 20 }
-    ensures text { line.new.items ≡ line.old.items ++ 32 ∷ join_with_byte 32 (words_of (Entry.Called pid call value)) }
-    ensures len { length line.new.items ≤ 127 }
+/// Writes the words of a call that completed.
+fn put_result(room: &mut [u8], at: usize, pid: Pid, call: Call, value: i64) -> usize
+    requires { at + 106 ≤ length room.old }
+    ensures text { take result room.new ≡ take at room.old ++ 32 ∷ join_with_byte 32 (words_of (Entry.Called pid call value)) }
+    ensures end { result ≤ at + 106 }
 {
-    put_call(line, pid, call);
-    put_next_signed(line, value);
+    let at = put_call(room, at, pid, call);
+    put_next_signed(room, at, value)
 }
 
-/// Adds the words of a wait that reported the status of a child.
-fn put_report(line: &mut Line, pid: Pid, child: Pid, status: Status)
-    requires { length line.old.items ≤ 20 }
-    ensures text { line.new.items ≡ line.old.items ++ 32 ∷ join_with_byte 32 (words_of (Entry.Reported pid child status)) }
-    ensures len { length line.new.items ≤ 127 }
+/// Writes the words of a wait that reported the status of a child.
+fn put_report(room: &mut [u8], at: usize, pid: Pid, child: Pid, status: Status) -> usize
+    requires { at + 106 ≤ length room.old }
+    ensures text { take result room.new ≡ take at room.old ++ 32 ∷ join_with_byte 32 (words_of (Entry.Reported pid child status)) }
+    ensures end { result ≤ at + 106 }
 {
-    put_call(line, pid, Call::Waitpid);
-    put_next(line, u64::from(child.number()));
-    put(line, b" status");
-    put_next(line, u64::from(status.word()));
+    let at = put_call(room, at, pid, Call::Waitpid);
+    let at = put_next(room, at, u64::from(child.number()));
+    let at = put(room, at, b" status");
+    put_next(room, at, u64::from(status.word()))
 }
 
-/// Adds the words of a call that was refused for memory.
-fn put_no_memory(line: &mut Line, pid: Pid, call: Call)
-    requires { length line.old.items ≤ 20 }
-    ensures text { line.new.items ≡ line.old.items ++ 32 ∷ join_with_byte 32 (words_of (Entry.NoMemory pid call)) }
-    ensures len { length line.new.items ≤ 127 }
+/// Writes the words of a call that was refused for memory.
+fn put_no_memory(room: &mut [u8], at: usize, pid: Pid, call: Call) -> usize
+    requires { at + 106 ≤ length room.old }
+    ensures text { take result room.new ≡ take at room.old ++ 32 ∷ join_with_byte 32 (words_of (Entry.NoMemory pid call)) }
+    ensures end { result ≤ at + 106 }
 {
-    put_call(line, pid, call);
-    put(line, b" -11 memory");
+    let at = put_call(room, at, pid, call);
+    put(room, at, b" -11 memory")
 }
 
-/// Adds the words of an entry of a handler.
-fn put_handler(line: &mut Line, pid: Pid, sig: Sig, carried: i64, sender: Pid)
-    requires { length line.old.items ≤ 20 }
-    ensures text { line.new.items ≡ line.old.items ++ 32 ∷ join_with_byte 32 (words_of (Entry.Handled pid sig carried sender)) }
-    ensures len { length line.new.items ≤ 127 }
+/// Writes the words of an entry of a handler.
+fn put_handler(room: &mut [u8], at: usize, pid: Pid, sig: Sig, carried: i64, sender: Pid) -> usize
+    requires { at + 106 ≤ length room.old }
+    ensures text { take result room.new ≡ take at room.old ++ 32 ∷ join_with_byte 32 (words_of (Entry.Handled pid sig carried sender)) }
+    ensures end { result ≤ at + 106 }
 {
-    put(line, b" handle");
-    put_next(line, u64::from(pid.number()));
-    put_next(line, u64::from(sig.number()));
-    put_next_signed(line, carried);
-    put_next(line, u64::from(sender.number()));
+    let at = put(room, at, b" handle");
+    let at = put_next(room, at, u64::from(pid.number()));
+    let at = put_next(room, at, u64::from(sig.number()));
+    let at = put_next_signed(room, at, carried);
+    put_next(room, at, u64::from(sender.number()))
 }
 
-/// Adds the words of a signal without effect.
-fn put_discard(line: &mut Line, pid: Pid, sig: Sig)
-    requires { length line.old.items ≤ 20 }
-    ensures text { line.new.items ≡ line.old.items ++ 32 ∷ join_with_byte 32 (words_of (Entry.Discarded pid sig)) }
-    ensures len { length line.new.items ≤ 127 }
+/// Writes the words of a signal without effect.
+fn put_discard(room: &mut [u8], at: usize, pid: Pid, sig: Sig) -> usize
+    requires { at + 106 ≤ length room.old }
+    ensures text { take result room.new ≡ take at room.old ++ 32 ∷ join_with_byte 32 (words_of (Entry.Discarded pid sig)) }
+    ensures end { result ≤ at + 106 }
 {
-    put(line, b" discard");
-    put_next(line, u64::from(pid.number()));
-    put_next(line, u64::from(sig.number()));
+    let at = put(room, at, b" discard");
+    let at = put_next(room, at, u64::from(pid.number()));
+    put_next(room, at, u64::from(sig.number()))
 }
 
-/// Adds the words of a return from a handler.
-fn put_return(line: &mut Line, pid: Pid)
-    requires { length line.old.items ≤ 20 }
-    ensures text { line.new.items ≡ line.old.items ++ 32 ∷ join_with_byte 32 (words_of (Entry.Returned pid)) }
-    ensures len { length line.new.items ≤ 127 }
+/// Writes the words of a return from a handler.
+fn put_return(room: &mut [u8], at: usize, pid: Pid) -> usize
+    requires { at + 106 ≤ length room.old }
+    ensures text { take result room.new ≡ take at room.old ++ 32 ∷ join_with_byte 32 (words_of (Entry.Returned pid)) }
+    ensures end { result ≤ at + 106 }
 {
-    put(line, b" return");
-    put_next(line, u64::from(pid.number()));
+    let at = put(room, at, b" return");
+    put_next(room, at, u64::from(pid.number()))
 }
 
-/// Adds the words of an end.
-fn put_end(line: &mut Line, pid: Pid, status: Status)
-    requires { length line.old.items ≤ 20 }
-    ensures text { line.new.items ≡ line.old.items ++ 32 ∷ join_with_byte 32 (words_of (Entry.Ended pid status)) }
-    ensures len { length line.new.items ≤ 127 }
+/// Writes the words of an end.
+fn put_end(room: &mut [u8], at: usize, pid: Pid, status: Status) -> usize
+    requires { at + 106 ≤ length room.old }
+    ensures text { take result room.new ≡ take at room.old ++ 32 ∷ join_with_byte 32 (words_of (Entry.Ended pid status)) }
+    ensures end { result ≤ at + 106 }
 {
-    put(line, b" end");
-    put_next(line, u64::from(pid.number()));
-    put_next(line, u64::from(status.word()));
+    let at = put(room, at, b" end");
+    let at = put_next(room, at, u64::from(pid.number()));
+    put_next(room, at, u64::from(status.word()))
 }
 
-/// Adds the words of what an event shows.
-fn put_entry(line: &mut Line, entry: &Entry)
-    requires { length line.old.items ≤ 20 }
-    ensures text { line.new.items ≡ line.old.items ++ 32 ∷ join_with_byte 32 (words_of entry.now) }
-    ensures len { length line.new.items ≤ 127 }
+/// Writes the words of what an event shows.
+fn put_entry(room: &mut [u8], at: usize, entry: &Entry) -> usize
+    requires { at + 106 ≤ length room.old }
+    ensures text { take result room.new ≡ take at room.old ++ 32 ∷ join_with_byte 32 (words_of entry.now) }
+    ensures end { result ≤ at + 106 }
 {
     match entry {
-        Entry::Noted { pid, value } => put_note(line, *pid, *value),
-        Entry::Called { pid, call, result } => put_result(line, *pid, *call, *result),
-        Entry::Reported { pid, child, status } => put_report(line, *pid, *child, *status),
-        Entry::NoMemory { pid, call } => put_no_memory(line, *pid, *call),
+        Entry::Noted { pid, value } => put_note(room, at, *pid, *value),
+        Entry::Called { pid, call, result } => put_result(room, at, *pid, *call, *result),
+        Entry::Reported { pid, child, status } => put_report(room, at, *pid, *child, *status),
+        Entry::NoMemory { pid, call } => put_no_memory(room, at, *pid, *call),
         Entry::Handled {
             pid,
             sig,
             value,
             sender,
-        } => put_handler(line, *pid, *sig, *value, *sender),
-        Entry::Discarded { pid, sig } => put_discard(line, *pid, *sig),
-        Entry::Returned { pid } => put_return(line, *pid),
-        Entry::Ended { pid, status } => put_end(line, *pid, *status),
-        Entry::Halted => put(line, b" halt"),
+        } => put_handler(room, at, *pid, *sig, *value, *sender),
+        Entry::Discarded { pid, sig } => put_discard(room, at, *pid, *sig),
+        Entry::Returned { pid } => put_return(room, at, *pid),
+        Entry::Ended { pid, status } => put_end(room, at, *pid, *status),
+        Entry::Halted => put(room, at, b" halt"),
     }
 }
 
-/// One line of a trace, with its line feed: the number of the event and the words of what it shows,
-/// separated by one space.
+/// Writes one line of a trace, with its line feed, from a place on: the number of the event and the words
+/// of what it shows, separated by one space. There has to be room for 128 bytes. Returns where it ends.
+#[inline]
+pub fn write_entry(room: &mut [u8], at: usize, event: u64, entry: &Entry) -> usize
+    requires { at + 128 ≤ length room.old }
+    ensures text { take result room.new ≡ take at room.old ++ printed event entry.now }
+    ensures end { result ≤ at + 128 }
+{
+    let at = put_number(room, at, event);
+    let at = put_entry(room, at, entry);
+    put(room, at, b"\n")
+}
+
+/// One line of a trace, as [`write_entry`] writes it.
 pub fn print_entry(event: u64, entry: &Entry) -> ArrayVec<u8, 128>
     ensures { result.items ≡ printed event entry.now }
 {
+    let mut room = [0; 128];
+    let end = write_entry(&mut room, 0, event, entry);
     let mut line = ArrayVec::new();
-    put_number(&mut line, event);
-    put_entry(&mut line, entry);
-    put(&mut line, b"\n");
+    let _ = line.try_extend_from_slice(&room[..end]);
     line
 }

@@ -1,1 +1,2 @@
 pub mod BurstLemmas
+pub mod MemoryLemmas

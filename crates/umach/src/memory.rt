@@ -1,23 +1,29 @@
 //! The memory of a process.
 
-ghost use Rattle.std.specs.Prelude.{◌≡◌, ◌<◌, IfOk, pos, slice_index_or, slice_set};
+ghost use Rattle.std.specs.Prelude.{◌≡◌, ◌-◌, ◌<◌, ◌≤◌, ◌++◌, IfOk, pos, length, replicate, vec_capacity, slice_index_or, slice_set};
 ghost use Rattle.posix.specs.Processes.{zero_memory};
+ghost use Rattle.umach.specs.Memories.{words_of};
 
 use std::alloc::{AllocError, Global};
 use std::marker::Model;
 
 /// The 256 words of a process, at the addresses 0 to 255.
+///
+/// Its room is taken at once. Behind the greatest address that was written all words are 0, and aren't kept.
 #[derive(Drop)]
 pub struct UserMem {
-    words: Box<[i64; 256]>,
+    words: Vec<i64>,
 }
 
 impl Model for UserMem {
-    ghost use Rattle.std.specs.Prelude.{List, ℤ};
+    ghost use Rattle.std.specs.Prelude.{◌≤◌, List, ℤ, length, vec_capacity};
+    ghost use Rattle.umach.specs.Memories.{words_of};
 
     ghost Value = { List ℤ };
 
-    ghost view = { λ m. m.words.value };
+    ghost view = { λ m. words_of m.words.items };
+
+    ghost invariant = { λ m. (length m.words.items ≤ 256) × (256 ≤ vec_capacity m.words) };
 }
 
 impl UserMem {
@@ -27,23 +33,31 @@ impl UserMem {
         ensures { IfOk result (λ m. m ≡ zero_memory) }
     {
         Ok(UserMem {
-            words: Box::new(alloc, [0; 256])?,
+            words: Vec::with_capacity(alloc, 256)?,
         })
     }
 
     /// The word at an address below 256.
+    #[inline]
     pub fn get(&self, address: usize) -> i64
         requires { address < 256 }
         ensures { result ≡ slice_index_or self.now address (pos 0) }
     {
-        self.words[address]
+        if address < self.words.len() {
+            self.words[address]
+        } else {
+            0
+        }
     }
 
     /// Writes the word at an address below 256; the others stay.
+    #[tactic(auto, using(crate::proofs::MemoryLemmas::set_words))]
+    #[inline]
     pub fn set(&mut self, address: usize, value: i64)
         requires { address < 256 }
         ensures { self.new ≡ slice_set self.old address value }
     {
+        cover(&mut self.words, address);
         self.words[address] = value;
     }
 
@@ -51,8 +65,36 @@ impl UserMem {
     pub fn try_clone(&self) -> Result<UserMem, AllocError>
         ensures { IfOk result (λ m. m ≡ self.now) }
     {
-        Ok(UserMem {
-            words: self.words.clone()?,
-        })
+        let mut words = Vec::with_capacity(*self.words.allocator(), 256)?;
+        words.extend_from_slice(self.words.as_slice())?;
+        Ok(UserMem { words })
     }
+}
+
+/// Keeps the word at an address below 256 from now on.
+#[tactic(auto, using(crate::proofs::MemoryLemmas::more_words))]
+#[inline]
+fn cover(words: &mut Vec<i64>, address: usize)
+    requires address { address < 256 }
+    requires few { length words.old.items ≤ 256 }
+    requires room { 256 ≤ vec_capacity words.old }
+    ensures there { address < length words.new.items }
+    ensures few { length words.new.items ≤ 256 }
+    ensures same { words_of words.new.items ≡ words_of words.old.items }
+    ensures room { 256 ≤ vec_capacity words.new }
+{
+    if address >= words.len() {
+        keep(words, address + 1);
+    }
+}
+
+/// Keeps so many words, more than before.
+#[cold]
+fn keep(words: &mut Vec<i64>, count: usize)
+    requires more { length words.old.items ≤ count }
+    requires room { count ≤ vec_capacity words.old }
+    ensures words { words.new.items ≡ words.old.items ++ replicate (count - length words.old.items) (pos 0) }
+    ensures room { vec_capacity words.old ≤ vec_capacity words.new }
+{
+    let _ = words.resize(count, 0);
 }

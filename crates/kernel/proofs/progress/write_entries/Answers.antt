@@ -13,13 +13,13 @@ loop-entry-preserved g c =
     let one = c.from-ends.ensures ∙ ap from_bool c.reports_end.ensures ∙ ap (λ (e : Entry). from_bool (reports_end e)) c.entry-item.is in
     record {
       gathered = entry_gathered c.args.event c.args.entries.now c.loop-entry.entry-index c.entry-item.result _ (g.S.Sink.seen c.loop-entry.out) _ _ c.loop-entry.pending _ _
-          c.loop-entry-test.true text c.loop-entry.invariant.gathered c.in_ok-write_entry.ensures.ok;
+          c.loop-entry-test.true text c.loop-entry.invariant.gathered c.in_ok-add.ensures.ok;
       ends = ends_more c.args.event c.args.entries.now c.loop-entry.entry-index c.entry-item.result c.loop-entry-test.true ∙ omega (arith, c.loop-entry.invariant.ends, one);
     }
 
-pub returns-in_err-write_entry-clause-err : goal.returns-in_err-write_entry-clause-err
-returns-in_err-write_entry-clause-err g c =
+pub returns-in_err-add-clause-err : goal.returns-in_err-add-clause-err
+returns-in_err-add-clause-err g c =
     let text = ap (printed c.args.event) c.entry-item.is in
     on_err c.from_residual.result
     (entry_broken c.args.event c.args.entries.now c.loop-entry.entry-index c.entry-item.result _ (g.S.Sink.seen c.loop-entry.out) _ _ c.loop-entry.pending _
-    c.loop-entry-test.true text c.loop-entry.invariant.gathered c.in_err-write_entry.ensures.err)
+    c.loop-entry-test.true text c.loop-entry.invariant.gathered c.in_err-add.ensures.err)

@@ -1,7 +1,8 @@
 use Rattle.std.proofs.Common.{◌≡◌, ◌∙◌, ap, sym, List, ◌∷◌, ◌++◌, [], rules, to_z, of_z, w64}
 use Rattle.posix.specs.declared.entry.Entry.{Entry}
 use Rattle.posix.specs.declared.entry.Entry.TheVariants.{Noted}
-use Rattle.kernel.proofs.BurstLemmas.{readies, burst_shows, quiet, given, shown}
+use Rattle.kernel.proofs.BurstLemmas.{readies, burst_shows, note_is, quiet, given}
+use Rattle.kernel.specs.Steps.{shown}
 use Rattle.kernel.proofs.step.burst.Goals as goal
 
 pub returns-in-Note-clause-runs : goal.returns-in-Note-clause-runs
@@ -25,3 +26,25 @@ returns-in-Next-clause-runs g c =
     let r = c.run_until-count in
     burst_shows s c.facts.new.self.state p ready c.facts.ensures.same _ r.result.0 r.result.1 r.new.self.state _ _ r.ensures.count r.ensures.trap r.ensures.state
     (quiet r.result.1 c.in-Next.is r.result.0 p).0 (c.requires.none ∙ (quiet r.result.1 c.in-Next.is r.result.0 p).1)
+
+pub returns-in-Note-clause-note : goal.returns-in-Note-clause-note
+returns-in-Note-clause-note g c =
+    let s = c.args.machine.now.state in
+    let p = c.in-Some.pid in
+    let ready = readies s p c.in-Some-facts.facts c.requires.going c.requires.awake c.facts.ensures.regular (sym c.current.ensures ∙ c.in-Some.is) (sym c.in-Some-facts.is ∙ c.facts.ensures.value)
+    (sym c.is_some.ensures ∙ c.if-is_some.false) (sym c.is_some-else-is_some.ensures ∙ c.if-is_some-2.false) in
+    let kept : to_z w64 (of_z w64 c.in-Note.value) ≡ c.in-Note.value = search rules in
+    let pushed = c.push.ensures.items ∙ ap (λ (xs : List Entry). xs ++ Noted p (to_z w64 (of_z w64 c.in-Note.value)) ∷ []) c.requires.none ∙ ap (λ z. Noted p z ∷ []) kept in
+    let r = c.run_until-count in
+    note_is s c.facts.new.self.state p ready c.facts.ensures.same _ r.result.1 _ r.ensures.trap
+    (pushed ∙ sym (ap (shown p) c.in-Note.is))
+
+pub returns-in-Next-clause-note : goal.returns-in-Next-clause-note
+returns-in-Next-clause-note g c =
+    let s = c.args.machine.now.state in
+    let p = c.in-Some.pid in
+    let ready = readies s p c.in-Some-facts.facts c.requires.going c.requires.awake c.facts.ensures.regular (sym c.current.ensures ∙ c.in-Some.is) (sym c.in-Some-facts.is ∙ c.facts.ensures.value)
+    (sym c.is_some.ensures ∙ c.if-is_some.false) (sym c.is_some-else-is_some.ensures ∙ c.if-is_some-2.false) in
+    let r = c.run_until-count in
+    note_is s c.facts.new.self.state p ready c.facts.ensures.same _ r.result.1 _ r.ensures.trap
+    (c.requires.none ∙ (quiet r.result.1 c.in-Next.is r.result.0 p).1)

@@ -1,5 +1,5 @@
 use Rattle.std.proofs.Common.{◌∙◌, sym}
-use Rattle.life.proofs.PartLemmas.{can_go_noticed, drops_is, counted_drop}
+use Rattle.life.proofs.PartLemmas.{can_go_noticed, drops_is, counted_drop, parent_of_drop}
 use Rattle.life.proofs.ends.notify_of_end.Goals as goal
 
 pub drop_child-requires-clause-child : goal.drop_child-requires-clause-child
@@ -9,3 +9,8 @@ pub returns-then-drops-clause-counts : goal.returns-then-drops-clause-counts
 returns-then-drops-clause-counts g c =
     counted_drop _ _ c.args.parent c.args.child _ _ _ _ _ _ _ _ (sym (drops_is c.args.parent _ _ c.requires.parent c.notice_in-drops.ensures.value) ∙ c.if-drops.true)
     c.notice_in-drops.ensures.contents c.drop_child.ensures.counts c.drop_child.ensures.dropped
+
+pub returns-then-drops-clause-gone : goal.returns-then-drops-clause-gone
+returns-then-drops-clause-gone g c =
+    parent_of_drop _ _ c.args.parent c.args.child _ _ _ (sym (drops_is c.args.parent _ _ c.requires.parent c.notice_in-drops.ensures.value) ∙ c.if-drops.true)
+    c.notice_in-drops.ensures.contents c.drop_child.ensures.parent

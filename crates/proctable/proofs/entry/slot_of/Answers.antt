@@ -1,8 +1,10 @@
-use Rattle.std.proofs.Common.{sym, ap}
-use Rattle.std.specs.Option.{option_map}
+use Rattle.std.proofs.Common.{sym, ap, ◌∙◌}
+use Rattle.std.specs.Option.{option_map, option_copied}
 use Rattle.proctable.specs.declared.entry.Entry.{Entry}
-use Rattle.proctable.proofs.EntryLemmas.{lookup_gap}
 use Rattle.proctable.proofs.entry.slot_of.Goals as goal
 
-pub returns-in-Err : goal.returns-in-Err
-returns-in-Err c = sym (ap (option_map (λ (e : Entry). e.slot)) (lookup_gap _ c.requires c.args.pid _ c.in-Err.ensures.absent))
+pub returns-in-Some : goal.returns-in-Some
+returns-in-Some c = ap (option_map (λ (e : Entry). e.slot)) (sym (ap option_copied c.in-Some.is) ∙ c.row_of.ensures)
+
+pub returns-in-None : goal.returns-in-None
+returns-in-None c = ap (option_map (λ (e : Entry). e.slot)) (sym (ap option_copied c.in-None.is) ∙ c.row_of.ensures)

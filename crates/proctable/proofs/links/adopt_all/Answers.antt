@@ -6,7 +6,7 @@ use Rattle.proctable.specs.declared.node.Node.{Node}
 use Rattle.proctable.specs.Joined.{moved, last_pid}
 use Rattle.proctable.proofs.AdoptLemmas.{IsAdopting, adopting_start, adopting_step, adopting_end, table_adopted, child_there, found_there, last_child}
 use Rattle.proctable.proofs.LinkLemmas.{rising_kids}
-use Rattle.proctable.proofs.NeighbourLemmas.{few}
+use Rattle.std.proofs.lemmas.List.Sums.{length-filter, count_by-le-length}
 use Rattle.proctable.proofs.MergeLemmas.{IsBeside, left_before, beside_start, beside_link, beside_step, merged}
 use Rattle.proctable.specs.Nodes.{records}
 use Rattle.proctable.proofs.links.adopt_all.Goals as goal
@@ -14,18 +14,19 @@ use Rattle.proctable.proofs.links.adopt_all.Goals as goal
 pub loop-next-init : goal.loop-next-init
 loop-next-init c =
     let ns = c.args.cells.now.nodes in
-    let start = adopting_start ns c.args.root c.ends_of.result.last c.args.from c.args.to c.requires.rising c.requires.parents c.requires.joined (found_there ns c.args.to c.requires.to) (ap (λ (e : Ends). e.last) c.ends_of.ensures.value) in
+    let start = adopting_start ns c.args.roots c.ends_of.result.last c.args.from c.args.to c.requires.rising c.requires.parents c.requires.joined (found_there ns c.args.to c.requires.to) (ap (λ (e : Ends). e.last) c.ends_of.ensures.value) in
     let same = ap records c.ends_of.ensures.nodes in
     let from = ap (λ rs. length (children_in c.args.from rs)) same in
     let to = ap (λ rs. length (left_before None (children_in c.args.to rs))) same in
-    let most = few (λ (r : Process). true) (children_in c.args.to (records ns)) in
+    let all = λ (r : Process). true in
+    let kids = children_in c.args.to (records ns) in
     record {
       from = refl;
       to = refl;
       room = c.ends_of.ensures.room;
-      reads = omega (arith, from, to, most, c.ends_of.ensures.reads);
+      reads = omega (arith, from, to, length-filter all kids, count_by-le-length all kids, c.ends_of.ensures.reads);
       beside = beside_start c.args.to (records c.ends_of.new.cells.nodes) c.ends_of.result.last;
-      adopting = subst (λ (l : List Node). IsAdopting ns c.args.from c.args.to l c.args.root c.ends_of.result.last) (sym c.ends_of.ensures.nodes) start;
+      adopting = subst (λ (l : List Node). IsAdopting ns c.args.from c.args.to l c.args.roots c.ends_of.result.last) (sym c.ends_of.ensures.nodes) start;
     }
 
 pub unlink-apart-requires-clause-joined : goal.unlink-apart-requires-clause-joined

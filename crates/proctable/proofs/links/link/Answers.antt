@@ -1,6 +1,6 @@
 use Rattle.std.proofs.Common.{◌∙◌, ap, Some}
 use Rattle.proctable.specs.Nodes.{changed_node}
-use Rattle.proctable.specs.Cells.{placed}
+use Rattle.proctable.specs.Cells.{relinked}
 use Rattle.proctable.specs.Joined.{rejoined}
 use Rattle.proctable.proofs.LinkLemmas.{link_joined, link_records}
 use Rattle.proctable.proofs.links.link.Goals as goal
@@ -8,10 +8,10 @@ use Rattle.proctable.proofs.links.link.Goals as goal
 pub returns-clause-processes : goal.returns-clause-processes
 returns-clause-processes c =
     let p = c.args.parent in let a = c.neighbours.result.0 in let b = c.neighbours.result.1 in
-    link_records c.args.cells.now.nodes _ c.args.pid p a b (c.rejoin.ensures.nodes ∙ ap (rejoined p a b (Some c.args.pid) (Some c.args.pid)) (c.place.ensures.nodes ∙ ap (changed_node c.args.pid (placed p a b)) c.neighbours.ensures.nodes))
+    link_records c.args.cells.now.nodes _ c.args.pid p a b (c.rejoin.ensures.nodes ∙ ap (rejoined p a b (Some c.args.pid) (Some c.args.pid)) (c.relink.ensures.nodes ∙ ap (changed_node c.args.pid (relinked p a b)) c.neighbours.ensures.nodes))
 
 pub returns-clause-joined : goal.returns-clause-joined
 returns-clause-joined c =
     let p = c.args.parent in let a = c.neighbours.result.0 in let b = c.neighbours.result.1 in
-    rw c.rejoin.ensures.root (link_joined c.args.cells.now.nodes _ c.args.root c.args.pid p a b c.requires.rising c.requires.joined c.requires.there c.neighbours.ensures.prev c.neighbours.ensures.next
-    (c.rejoin.ensures.nodes ∙ ap (rejoined p a b (Some c.args.pid) (Some c.args.pid)) (c.place.ensures.nodes ∙ ap (changed_node c.args.pid (placed p a b)) c.neighbours.ensures.nodes)))
+    rw c.rejoin.ensures.roots (link_joined c.args.cells.now.nodes _ c.args.roots c.args.pid p a b c.requires.rising c.requires.joined c.requires.there c.neighbours.ensures.prev c.neighbours.ensures.next
+    (c.rejoin.ensures.nodes ∙ ap (rejoined p a b (Some c.args.pid) (Some c.args.pid)) (c.relink.ensures.nodes ∙ ap (changed_node c.args.pid (relinked p a b)) c.neighbours.ensures.nodes)))

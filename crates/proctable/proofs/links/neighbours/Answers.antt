@@ -10,11 +10,11 @@ use Rattle.proctable.proofs.links.neighbours.Goals as goal
 
 pub loop-prev-init : goal.loop-prev-init
 loop-prev-init c = record {
-  nodes = c.before_place-prev.ensures.nodes;
-  room = c.before_place-prev.ensures.room;
+  nodes = c.child_before-prev.ensures.nodes;
+  room = c.child_before-prev.ensures.room;
   pid = refl;
-  reads = omega (arith, c.before_place-prev.ensures.reads);
-  past = past_start c.args.cells.now.nodes c.args.root c.args.pid c.args.parent c.before_place-prev.result c.args.above c.requires.rising c.requires.joined c.requires.parent c.requires.above c.before_place-prev.ensures.value;
+  reads = omega (arith, c.child_before-prev.ensures.reads);
+  past = past_start c.args.cells.now.nodes c.args.roots c.args.pid c.args.parent c.child_before-prev.result c.args.above c.requires.rising c.requires.joined c.requires.parent c.requires.above c.child_before-prev.ensures.value;
 }
 
 pub returns-then-number-clause-prev : goal.returns-then-number-clause-prev
@@ -35,7 +35,7 @@ pub loop-prev-smaller : goal.loop-prev-smaller
 loop-prev-smaller c =
     let ns = c.args.cells.now.nodes in
     let ks = children_in c.args.parent (removed c.args.pid (records ns)) in
-    let child = prev_of_passed ns c.args.root c.args.pid c.args.parent c.in-Some.sibling c.loop-prev.prev c.loop-prev.next c.requires.rising c.requires.joined c.loop-prev.invariant.past c.in-Some.is in
+    let child = prev_of_passed ns c.args.roots c.args.pid c.args.parent c.in-Some.sibling c.loop-prev.prev c.loop-prev.next c.requires.rising c.requires.joined c.loop-prev.invariant.past c.in-Some.is in
     let ne : c.in-Some.sibling ≢ c.args.pid = child.1 in
     let high : c.args.pid < c.in-Some.sibling = omega (arith, ne, c.if-number.false, c.number.ensures.value, c.number-in-Some.ensures.value) in
     fewer_between ks c.args.pid c.in-Some.sibling c.loop-prev.prev c.loop-prev.next c.loop-prev.invariant.past c.in-Some.is high
@@ -44,7 +44,7 @@ pub loop-prev-preserved : goal.loop-prev-preserved
 loop-prev-preserved c =
     let ns = c.args.cells.now.nodes in
     let ks = children_in c.args.parent (removed c.args.pid (records ns)) in
-    let child = prev_of_passed ns c.args.root c.args.pid c.args.parent c.in-Some.sibling c.loop-prev.prev c.loop-prev.next c.requires.rising c.requires.joined c.loop-prev.invariant.past c.in-Some.is in
+    let child = prev_of_passed ns c.args.roots c.args.pid c.args.parent c.in-Some.sibling c.loop-prev.prev c.loop-prev.next c.requires.rising c.requires.joined c.loop-prev.invariant.past c.in-Some.is in
     let ne : c.in-Some.sibling ≢ c.args.pid = child.1 in
     let high : c.args.pid < c.in-Some.sibling = omega (arith, ne, c.if-number.false, c.number.ensures.value, c.number-in-Some.ensures.value) in
     let less = fewer_between ks c.args.pid c.in-Some.sibling c.loop-prev.prev c.loop-prev.next c.loop-prev.invariant.past c.in-Some.is high in

@@ -12,8 +12,8 @@ returns-in-Some-clause-processes c =
 pub returns-in-Some-clause-joined : goal.returns-in-Some-clause-joined
 returns-in-Some-clause-joined c =
     let l = c.in-Some.links in
-    rw c.rejoin.ensures.root (unlink_joined c.args.cells.now.nodes _ c.args.root c.args.pid l c.requires.rising c.requires.joined (sym c.links.ensures.value ∙ c.in-Some.is)
+    rw c.rejoin.ensures.roots (unlink_joined c.args.cells.now.nodes _ c.args.roots c.args.pid l c.requires.rising c.requires.joined (sym c.links.ensures.value ∙ c.in-Some.is)
     (c.rejoin.ensures.nodes ∙ ap (rejoined l.parent l.prev l.next l.next l.prev) c.links.ensures.nodes))
 
 pub returns-in-None-clause-joined : goal.returns-in-None-clause-joined
-returns-in-None-clause-joined c = rw c.links.ensures.nodes (unlink_none c.args.cells.now.nodes c.args.root c.args.pid c.requires.joined (sym c.links.ensures.value ∙ c.in-None.is))
+returns-in-None-clause-joined c = rw c.links.ensures.nodes (unlink_none c.args.cells.now.nodes c.args.roots c.args.pid c.requires.joined (sym c.links.ensures.value ∙ c.in-None.is))

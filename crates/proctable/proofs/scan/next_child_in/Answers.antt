@@ -1,7 +1,15 @@
 use Rattle.std.proofs.Common.{◌∙◌, ◌+◌}
 use Rattle.std.proofs.lemmas.List.{take_rest}
-use Rattle.proctable.proofs.SlotLemmas.{first_is, sibling_is}
+use Rattle.posix.specs.Tables.{lookup}
+use Rattle.proctable.proofs.ScanLemmas.{rises_pids, first_is, sibling_is}
 use Rattle.proctable.proofs.scan.next_child_in.Goals as goal
+
+pub found-at-requires-clause-rising : goal.found-at-requires-clause-rising
+found-at-requires-clause-rising c = rises_pids c.args.slots.now c.requires.rising
+
+pub found-at-requires-clause-there : goal.found-at-requires-clause-there
+unfolding lookup
+found-at-requires-clause-there c = c.requires.there
 
 pub returns : goal.returns
 returns c =

@@ -3,5 +3,5 @@ use Rattle.trace.proofs.print.put_report.Goals as goal
 
 pub returns-clause-text : goal.returns-clause-text
 returns-clause-text c =
-    rw (c.put_next-2.ensures.text, c.put.ensures, c.put_next.ensures.text, c.put_call.ensures.text)
+    rw (c.put_next.ensures.text, c.put-at.ensures.text, c.put_next-at.ensures.text, c.put_call-at.ensures.text)
     (simp (append_assoc, c.from.ensures, c.number.ensures.value, c.from-2.ensures, c.word.ensures.value))

@@ -1,17 +1,27 @@
-use Rattle.std.proofs.Common.{◌∙◌, ◌≡◌, ◌≢◌, ap, sym, arith, refl, subst, true, Some}
+use Rattle.std.proofs.Common.{◌∙◌, ◌≡◌, ◌≢◌, ap, sym, arith, refl, subst, cond, true, Some, None, [], ◌∷◌}
 use Rattle.std.specs.Option.{IsSome}
 use Rattle.posix.specs.Processes.{Process, is_zombie}
 use Rattle.posix.specs.Tables.{lookup, children_in, first_pid}
 use Rattle.posix.specs.States.{State, process}
 use Rattle.posix.specs.Ends.{made_zombie, is_dropping, notice_of_end}
 use Rattle.proctable.proofs.Bodies.{changed_body}
-use Rattle.life.specs.Machines.{IsSound, IsCounted, state_of}
+use Rattle.pidset.specs.Numbers.{with_number}
+use Rattle.life.specs.Machines.{IsMachine, IsCounted, state_of}
+use Rattle.life.specs.Asking.{with_numbers, without_gone}
 use Rattle.life.proofs.EndLemmas.{there_after, zombie_after}
-use Rattle.life.proofs.SoundLemmas.{there, found_in, is_there, there_made_zombie}
+use Rattle.life.proofs.AskLemmas.{has_room, room_after}
+use Rattle.life.proofs.SoundLemmas.{there, here_in, found_in, is_there, there_made_zombie}
 use Rattle.life.proofs.PartLemmas.{room_to_count, told_state}
-use Rattle.life.proofs.NoticeWalkLemmas.{begins, child_here, child_there, child_same, passes, self_lives, life_read, lives, heir_here, zombie_goes, zombie_goes_there, tells, asks_less, tells_less, differs, equals, departed, sound_departed, departed_told}
+use Rattle.life.proofs.NoticeWalkLemmas.{begins, child_here, child_there, child_same, passes, self_lives, life_read, lives, heir_here, zombie_goes, zombie_goes_there, tells, asks_less, tells_less, differs, equals, departed, machine_departed, room_for_parent, departed_told}
 use Rattle.life.proofs.ViewLemmas.{state_is}
 use Rattle.life.proofs.machine.Machine.depart.Goals as goal
+
+pub insert-requires : goal.insert-requires
+insert-requires g c = record { room = λ out. has_room _ _ c.self.invariant.sound.regular c.self.invariant.listed }
+
+pub insert-requires-2 : goal.insert-requires-2
+unfolding with_numbers
+insert-requires-2 g c = record { room = λ out. room_after _ _ c.insert.new.self (c.args.pid ∷ []) c.self.invariant.sound.regular c.self.invariant.listed (here_in c.args.pid (state_is c.self.view_is) c.requires.there, tt) c.insert.ensures.pids c.insert.ensures.room }
 
 pub first_child-next-requires : goal.first_child-next-requires
 first_child-next-requires g c =
@@ -24,8 +34,9 @@ loop-next-init g c =
     let contents = g.met.K.Kin.puts c.self.inside.table c.args.pid c.make_zombie.new.self ∙ changed_body _ c.update.ensures.rising c.args.pid c.update.result.now c.make_zombie.new.self (made_zombie c.args.status) c.update.ensures.value c.make_zombie.ensures in
     let me = there _ c.requires.there in
     let room = c.drop_place.ensures.room in
-    begins c.args.self.now.state _ _ _ c.self.inside.order _ _ c.args.pid c.args.heir c.args.status _ me.what (state_is c.self.view_is) (rw (c.first_child-next.ensures.contents, contents, c.drop_place.ensures.pids) refl) c.self.invariant (omega (arith, room)) c.requires.other
+    begins c.args.self.now.state _ _ _ c.self.inside.order _ _ c.args.pid c.args.heir c.args.status _ me.what (state_is c.self.view_is) (rw (c.first_child-next.ensures.contents, contents, c.drop_place.ensures.pids) refl) c.self.invariant.sound (omega (arith, room)) c.requires.other
     c.requires.heir me.found (c.first_child-next.ensures.value ∙ ap (λ rs. first_pid (children_in c.args.pid rs)) (sym c.first_child-next.ensures.contents))
+    _ _ c.self.invariant.listed (c.insert-2.ensures.pids ∙ ap (with_number c.args.heir) c.insert.ensures.pids) (c.insert-2.ensures.room ∙ c.insert.ensures.room)
 
 pub next_sibling-next-requires : goal.next_sibling-next-requires
 next_sibling-next-requires g c = child_there c.loop-next.invariant c.in-Some.child c.in-Some.is
@@ -33,18 +44,18 @@ next_sibling-next-requires g c = child_there c.loop-next.invariant c.in-Some.chi
 pub life-life-requires : goal.life-life-requires
 life-life-requires g c = rw c.next_sibling-next.ensures.contents (child_there c.loop-next.invariant c.in-Some.child c.in-Some.is)
 
-pub notify_of_end-requires-clause-parent : goal.notify_of_end-requires-clause-parent
-notify_of_end-requires-clause-parent g c = rw (c.life-life.ensures.contents, c.next_sibling-next.ensures.contents) (heir_here c.loop-next.invariant)
+pub notify_of_end-gone-requires-clause-parent : goal.notify_of_end-gone-requires-clause-parent
+notify_of_end-gone-requires-clause-parent g c = rw (c.life-life.ensures.contents, c.next_sibling-next.ensures.contents) (heir_here c.loop-next.invariant)
 
-pub notify_of_end-requires-clause-child : goal.notify_of_end-requires-clause-child
-notify_of_end-requires-clause-child g c =
+pub notify_of_end-gone-requires-clause-child : goal.notify_of_end-gone-requires-clause-child
+notify_of_end-gone-requires-clause-child g c =
     let t = c.loop-next.invariant in
     let ne : c.in-Some.child ≢ c.args.pid = differs _ _ (sym c.ne.ensures ∙ c.if-ne.true) in
     let dead = sym (life_read t c.in-Some.child c.in-Some.is ne c.life-life.result (λ it e. c.life-life.ensures.value it (ap (lookup c.in-Some.child) c.next_sibling-next.ensures.contents ∙ e))) ∙ c.in-Zombie.is in
     rw (c.life-life.ensures.contents, c.next_sibling-next.ensures.contents) (zombie_goes_there t c.in-Some.child c.in-Zombie.ended c.in-Some.is dead)
 
-pub notify_of_end-requires-clause-count : goal.notify_of_end-requires-clause-count
-notify_of_end-requires-clause-count g c =
+pub notify_of_end-gone-requires-clause-count : goal.notify_of_end-gone-requires-clause-count
+notify_of_end-gone-requires-clause-count g c =
     let t = c.loop-next.invariant in
     let ne : c.in-Some.child ≢ c.args.pid = differs _ _ (sym c.ne.ensures ∙ c.if-ne.true) in
     let dead = sym (life_read t c.in-Some.child c.in-Some.is ne c.life-life.result (λ it e. c.life-life.ensures.value it (ap (lookup c.in-Some.child) c.next_sibling-next.ensures.contents ∙ e))) ∙ c.in-Zombie.is in
@@ -61,7 +72,7 @@ loop-next-smaller-in-Zombie g c =
     let ne : c.in-Some.child ≢ c.args.pid = differs _ _ (sym c.ne.ensures ∙ c.if-ne.true) in
     let same = c.life-life.ensures.contents ∙ c.next_sibling-next.ensures.contents in
     let found = ap (lookup c.in-Some.child) same ∙ child_same t c.in-Some.child c.in-Some.is ne in
-    let told = told_state m.world _ _ m.pids c.notify_of_end.new.pids m.order m.records c.notify_of_end.new.records m.births m.ticks m.dropped c.notify_of_end.new.dropped m.halted c.args.heir c.in-Some.child c.in-Zombie.ended _ c.notify_of_end.ensures.contents (c.notify_of_end.ensures.counts _ found)
+    let told = told_state m.world _ _ m.pids c.notify_of_end-gone.new.pids m.order m.records c.notify_of_end-gone.new.records m.births m.ticks m.dropped c.notify_of_end-gone.new.dropped m.halted c.args.heir c.in-Some.child c.in-Zombie.ended _ c.notify_of_end-gone.ensures.contents (c.notify_of_end-gone.ensures.counts _ found)
     ∙ ap (λ rs. notice_of_end (state_of m.world rs m.pids m.order m.births m.ticks m.dropped m.halted) c.args.heir c.in-Some.child c.in-Zombie.ended) same in
     tells_less t c.in-Some.child c.in-Zombie.ended c.in-Some.is c.next_sibling-next.result c.next_sibling-next.ensures.value _ told
 
@@ -73,11 +84,12 @@ loop-next-preserved-in-Zombie g c =
     let dead = sym (life_read t c.in-Some.child c.in-Some.is ne c.life-life.result (λ it e. c.life-life.ensures.value it (ap (lookup c.in-Some.child) c.next_sibling-next.ensures.contents ∙ e))) ∙ c.in-Zombie.is in
     let same = c.life-life.ensures.contents ∙ c.next_sibling-next.ensures.contents in
     let found = ap (lookup c.in-Some.child) same ∙ child_same t c.in-Some.child c.in-Some.is ne in
-    let counts = c.notify_of_end.ensures.counts _ found in
-    let told = told_state m.world _ _ m.pids c.notify_of_end.new.pids m.order m.records c.notify_of_end.new.records m.births m.ticks m.dropped c.notify_of_end.new.dropped m.halted c.args.heir c.in-Some.child c.in-Zombie.ended _ c.notify_of_end.ensures.contents counts
+    let counts = c.notify_of_end-gone.ensures.counts _ found in
+    let told = told_state m.world _ _ m.pids c.notify_of_end-gone.new.pids m.order m.records c.notify_of_end-gone.new.records m.births m.ticks m.dropped c.notify_of_end-gone.new.dropped m.halted c.args.heir c.in-Some.child c.in-Zombie.ended _ c.notify_of_end-gone.ensures.contents counts
     ∙ ap (λ rs. notice_of_end (state_of m.world rs m.pids m.order m.births m.ticks m.dropped m.halted) c.args.heir c.in-Some.child c.in-Zombie.ended) same in
-    tells t c.in-Some.child c.in-Zombie.ended c.in-Some.is c.next_sibling-next.result c.next_sibling-next.ensures.value ne dead c.notify_of_end.new.pids c.notify_of_end.new.records c.notify_of_end.new.dropped _
-    (subst (λ rs. IsCounted (is_dropping c.args.heir rs) m.pids c.notify_of_end.new.pids m.records c.notify_of_end.new.records m.dropped c.notify_of_end.new.dropped c.in-Some.child (child_here t c.in-Some.child c.in-Some.is).what) same counts) told
+    tells t c.in-Some.child c.in-Zombie.ended c.in-Some.is c.next_sibling-next.result c.next_sibling-next.ensures.value ne dead c.notify_of_end-gone.new.pids c.notify_of_end-gone.new.records c.notify_of_end-gone.new.dropped _
+    (subst (λ rs. IsCounted (is_dropping c.args.heir rs) m.pids c.notify_of_end-gone.new.pids m.records c.notify_of_end-gone.new.records m.dropped c.notify_of_end-gone.new.dropped c.in-Some.child (child_here t c.in-Some.child c.in-Some.is).what) same counts) told
+    c.ask_parent.new.to_ask (c.ask_parent.ensures.pids ∙ ap (λ o. without_gone c.in-Some.child o m.to_ask.pids) (c.notify_of_end-gone.ensures.gone _ found ∙ ap (λ rs. cond (is_dropping c.args.heir rs) (Some (child_here t c.in-Some.child c.in-Some.is).what.parent) None) same)) c.ask_parent.ensures.room
 
 pub loop-next-smaller-in_default-life : goal.loop-next-smaller-in_default-life
 loop-next-smaller-in_default-life g c =
@@ -104,11 +116,20 @@ loop-next-preserved g c =
 pub adopt-requires : goal.adopt-requires
 adopt-requires g c = heir_here c.loop-next.invariant
 
+pub ask_parent-requires : goal.ask_parent-requires
+ask_parent-requires g c = room_for_parent c.loop-next.invariant
+
+pub insert-requires-3 : goal.insert-requires-3
+insert-requires-3 g c = record { room = λ out. room_for_parent c.loop-next.invariant }
+
 pub invariant_of-self : goal.invariant_of-self
 invariant_of-self g c =
     let m = c.loop-next.self-inside in
     let t = c.loop-next.invariant in
-    subst (λ (s : State). IsSound s m.pids m.order m.records) (sym (departed t _ c.adopt.ensures.contents)) (sound_departed t)
+    let me = there _ c.requires.there in
+    let parent = c.requires.parent me.what me.found in
+    subst (λ (s : State). IsMachine s m.pids m.order m.records c.insert-3.new.self) (sym (departed t _ c.adopt.ensures.contents))
+    (machine_departed t me.what me.found c.insert-3.new.self (c.insert-3.ensures.pids ∙ ap (λ n. with_number n m.to_ask.pids) parent) c.insert-3.ensures.room)
 
 pub returns-clause-state : goal.returns-clause-state
 returns-clause-state g c =

@@ -5,15 +5,23 @@ use Rattle.posix.specs.Execute.{Executed, exec_one}
 use Rattle.posix.specs.Step.{set_cpu}
 use Rattle.posix.proofs.RegularLemmas.{keeps_set_cpu}
 use Rattle.proctable.proofs.Bodies.{run_body, ran, read_own, stays_body}
-use Rattle.life.proofs.SoundLemmas.{found_in, sound_change}
+use Rattle.posix.proofs.TouchLemmas.{touches_unseen, unseen_set_cpu}
+use Rattle.life.proofs.SoundLemmas.{found_in, sound_change, here_in}
+use Rattle.life.proofs.AskLemmas.{has_room, listed_change}
 use Rattle.life.proofs.CodeLemmas.{code_is, get_some, get_none, no_code, same_cpu, stays_by}
 use Rattle.life.specs.Machines.{state_of}
 use Rattle.life.proofs.ViewLemmas.{state_is}
 use Rattle.life.proofs.machine.Machine.exec_one.Goals as goal
 
+pub insert-requires : goal.insert-requires
+insert-requires g c = record { room = λ out. has_room _ _ c.self.invariant.sound.regular c.self.invariant.listed }
+
 pub invariant_of-self : goal.invariant_of-self
 invariant_of-self g c =
-    rw (g.met.K.Kin.puts _ _ _, run_body _ c.update.ensures.rising c.args.pid c.update.result.now c.exec_one.new.self c.update.ensures.value) (sound_change c.args.pid _ (keeps_set_cpu _) _ _ _ _ c.self.invariant)
+    rw (g.met.K.Kin.puts _ _ _, run_body _ c.update.ensures.rising c.args.pid c.update.result.now c.exec_one.new.self c.update.ensures.value) (record {
+      sound = sound_change c.args.pid _ (keeps_set_cpu _) _ _ _ _ c.self.invariant.sound;
+      listed = listed_change _ c.args.pid _ _ _ c.self.invariant.listed (keeps_set_cpu _).pid (touches_unseen _ c.args.pid _ (unseen_set_cpu _)) (here_in c.args.pid (state_is c.self.view_is) c.requires.there) c.insert.ensures.pids c.insert.ensures.room;
+    })
 
 pub returns-in-Some-clause-trap : goal.returns-in-Some-clause-trap
 returns-in-Some-clause-trap g c = λ me e.
@@ -42,7 +50,7 @@ returns-in-None-clause-trap g c = λ me e.
 pub returns-in-None-clause-state : goal.returns-in-None-clause-state
 returns-in-None-clause-state g c = λ me e.
     let code = code_is c.args.self.now.state me _ _ _ (c.programs.ensures.value ∙ ap (λ (s : State). s.world.programs) (state_is c.self.view_is)) (c.from.ensures ∙ sym (c.requires.program me e)) (get_none _ _ c.in-None.ensures.lookup.0) in
-    let rising = subst (λ (s : State). IsRising s.processes) (state_is c.self.view_is) c.self.invariant.regular.rising in
+    let rising = subst (λ (s : State). IsRising s.processes) (state_is c.self.view_is) c.self.invariant.sound.regular.rising in
     same_cpu c.args.self.now.state c.args.pid me rising e ∙ ap (λ (x : Executed). change c.args.self.now.state c.args.pid (set_cpu x.cpu)) (sym (no_code c.args.self.now.state me code))
 
 pub returns-in-Some-clause-reads : goal.returns-in-Some-clause-reads

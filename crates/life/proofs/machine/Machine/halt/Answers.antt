@@ -3,19 +3,26 @@ use Rattle.posix.specs.Ends.{ended}
 use Rattle.posix.proofs.RegularLemmas.{regular_halt}
 use Rattle.proctable.proofs.Bodies.{changed_body}
 use Rattle.life.proofs.SoundLemmas.{is_there, parents_halted, kept_halted}
+use Rattle.life.proofs.AskLemmas.{has_room, listed_halted}
 use Rattle.life.proofs.machine.Machine.halt.Goals as goal
 
+pub insert-requires : goal.insert-requires
+insert-requires g c = record { room = λ out. has_room _ _ c.self.invariant.sound.regular c.self.invariant.listed }
+
 pub update-requires : goal.update-requires
-update-requires g c = is_there _ _ c.self.invariant.regular.first.found
+update-requires g c = is_there _ _ c.self.invariant.sound.regular.first.found
 
 pub invariant_of-self : goal.invariant_of-self
 invariant_of-self g c =
     let contents = g.met.K.Kin.puts c.self.inside.table 1 c.end.new.self ∙ changed_body _ c.update.ensures.rising 1 c.update.result.now c.end.new.self (ended c.args.status) c.update.ensures.value c.end.ensures in
     rw (contents, c.drop_place.ensures.pids) record {
-      regular = regular_halt c.args.status _ c.self.invariant.regular;
-      parents = parents_halted c.args.status _ c.self.invariant.parents;
-      counted = c.self.invariant.counted;
-      kept = kept_halted c.args.status _ _ _ _ _ _ (let r = c.drop_place.ensures.room in omega (arith, r)) c.self.invariant.kept;
+      sound = record {
+        regular = regular_halt c.args.status _ c.self.invariant.sound.regular;
+        parents = parents_halted c.args.status _ c.self.invariant.sound.parents;
+        counted = c.self.invariant.sound.counted;
+        kept = kept_halted c.args.status _ _ _ _ _ _ (let r = c.drop_place.ensures.room in omega (arith, r)) c.self.invariant.sound.kept;
+      };
+      listed = listed_halted _ c.args.status _ _ c.self.invariant.sound.regular c.self.invariant.listed c.insert.ensures.pids c.insert.ensures.room;
     }
 
 pub returns-clause-state : goal.returns-clause-state

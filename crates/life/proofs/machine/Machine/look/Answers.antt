@@ -13,5 +13,5 @@ pub returns : goal.returns
 returns g c =
     let same = g.met.K.Kin.puts c.self.inside.table c.args.pid c.update-seen.result.now ∙ same_body _ c.update-seen.ensures.rising c.args.pid c.update-seen.result.now c.update-seen.ensures.value in (
       (refl, λ _. tt, rw (← c.self.view_is, same, g.met.K.Kin.put_reads c.self.inside.table c.args.pid c.update-seen.result.now) refl),
-      record { lends = tt; value = own_if _ _ (state_is c.self.view_is) c.args.pid c.update-seen.result.now c.update-seen.ensures.value; regular = rw (← c.self.view_is) c.self.invariant.regular },
+      record { lends = tt; value = own_if _ _ (state_is c.self.view_is) c.args.pid c.update-seen.result.now c.update-seen.ensures.value; regular = rw (← c.self.view_is) c.self.invariant.sound.regular },
     )

@@ -1,13 +1,28 @@
-use Rattle.std.proofs.Common.{arith}
+use Rattle.std.proofs.Common.{◌∙◌, refl, sym, arith, [], ◌∷◌}
 use Rattle.posix.proofs.RegularLemmas.{regular_lose}
+use Rattle.posix.proofs.OrderLemmas.{placed_some}
+use Rattle.life.specs.Asking.{with_numbers}
+use Rattle.posix.proofs.TouchLemmas.{touches_lost}
 use Rattle.life.proofs.SoundLemmas.{kept_order}
+use Rattle.life.proofs.AskLemmas.{has_room, listed_with, loses_none}
 use Rattle.life.proofs.machine.Machine.lose_place.Goals as goal
 
+pub insert-requires : goal.insert-requires
+insert-requires g c = record { room = λ out. has_room _ _ c.self.invariant.sound.regular c.self.invariant.listed }
+
 pub invariant_of-self : goal.invariant_of-self
+unfolding with_numbers
 invariant_of-self g c =
+    let here = placed_some _ c.args.pid (c.self.invariant.sound.regular.placed c.args.pid (sym c.has.ensures ∙ c.if-has.true)) in
     rw c.drop_place.ensures.pids record {
-      regular = regular_lose c.args.pid _ c.self.invariant.regular;
-      parents = c.self.invariant.parents;
-      counted = c.self.invariant.counted;
-      kept = kept_order _ _ _ _ _ _ (let r = c.drop_place.ensures.room in omega (arith, r)) c.self.invariant.kept;
+      sound = record {
+        regular = regular_lose c.args.pid _ c.self.invariant.sound.regular;
+        parents = c.self.invariant.sound.parents;
+        counted = c.self.invariant.sound.counted;
+        kept = kept_order _ _ _ _ _ _ (let r = c.drop_place.ensures.room in omega (arith, r)) c.self.invariant.sound.kept;
+      };
+      listed = listed_with _ _ _ _ (c.args.pid ∷ []) (c.args.pid ∷ []) c.self.invariant.listed (touches_lost _ c.args.pid) refl (λ q e. e) (here, tt) (λ q there e. e) c.insert.ensures.pids c.insert.ensures.room;
     }
+
+pub returns-else-has-clause-state : goal.returns-else-has-clause-state
+returns-else-has-clause-state g c = rw (← c.self.view_is) (loses_none _ c.args.pid (sym c.has.ensures ∙ c.if-has.false))

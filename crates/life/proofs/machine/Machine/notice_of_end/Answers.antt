@@ -1,34 +1,55 @@
-use Rattle.std.proofs.Common.{◌∙◌, arith, ap, sym, subst}
-use Rattle.posix.specs.States.{State}
+use Rattle.std.proofs.Common.{◌∙◌, ◌∷◌, [], refl, arith, ap, sym, subst}
+use Rattle.std.proofs.lemmas.Bool.{eq-eqb}
+use Rattle.posix.specs.States.{State, is_in}
 use Rattle.posix.specs.Ends.{notice_of_end}
-use Rattle.life.specs.Machines.{IsSound}
-use Rattle.life.proofs.SoundLemmas.{found_in}
+use Rattle.pidset.proofs.NumberLemmas.{in_with}
+use Rattle.life.specs.Machines.{IsMachine}
+use Rattle.life.specs.Asking.{with_numbers, without_gone}
+use Rattle.life.proofs.SoundLemmas.{found_in, here_in}
+use Rattle.life.proofs.AskLemmas.{has_room, room_after, listed_more, listed_told}
 use Rattle.life.proofs.PartLemmas.{can_go, room_to_count, told_state, sound_told}
 use Rattle.life.proofs.ViewLemmas.{state_is}
 use Rattle.life.proofs.machine.Machine.notice_of_end.Goals as goal
 
-pub notify_of_end-requires-clause-child : goal.notify_of_end-requires-clause-child
-notify_of_end-requires-clause-child g c =
-    let it = c.requires.zombie in
-    can_go _ _ _ _ c.args.child it.0 c.self.invariant (found_in _ _ (state_is c.self.view_is) c.args.child it.0 it.1) it.2 c.requires.other
+pub insert-requires : goal.insert-requires
+insert-requires g c = record { room = λ out. has_room _ _ c.self.invariant.sound.regular c.self.invariant.listed }
 
-pub notify_of_end-requires-clause-count : goal.notify_of_end-requires-clause-count
-notify_of_end-requires-clause-count g c =
+pub notify_of_end-gone-requires-clause-child : goal.notify_of_end-gone-requires-clause-child
+notify_of_end-gone-requires-clause-child g c =
+    let it = c.requires.zombie in
+    can_go _ _ _ _ c.args.child it.0 c.self.invariant.sound (found_in _ _ (state_is c.self.view_is) c.args.child it.0 it.1) it.2 c.requires.other
+
+pub notify_of_end-gone-requires-clause-count : goal.notify_of_end-gone-requires-clause-count
+notify_of_end-gone-requires-clause-count g c =
     let it = c.requires.zombie in
     let few = c.self.ranges in
-    room_to_count _ _ _ _ c.args.child _ c.self.invariant (can_go _ _ _ _ c.args.child it.0 c.self.invariant (found_in _ _ (state_is c.self.view_is) c.args.child it.0 it.1) it.2 c.requires.other) (omega (arith, few))
+    room_to_count _ _ _ _ c.args.child _ c.self.invariant.sound (can_go _ _ _ _ c.args.child it.0 c.self.invariant.sound (found_in _ _ (state_is c.self.view_is) c.args.child it.0 it.1) it.2 c.requires.other) (omega (arith, few))
+
+pub ask_parent-requires : goal.ask_parent-requires
+unfolding with_numbers
+ask_parent-requires g c =
+    let first = here_in c.args.parent (state_is c.self.view_is) c.requires.parent in
+    room_after _ _ c.insert.new.self (c.args.parent ∷ []) c.self.invariant.sound.regular c.self.invariant.listed (first, tt) c.insert.ensures.pids c.insert.ensures.room
 
 pub invariant_of-self : goal.invariant_of-self
+unfolding with_numbers
 invariant_of-self g c =
     let it = c.requires.zombie in
     let found = found_in _ _ (state_is c.self.view_is) c.args.child it.0 it.1 in
-    let counts = c.notify_of_end.ensures.counts it.0 found in
-    subst (λ (s : State). IsSound s c.notify_of_end.new.pids c.self.inside.order c.notify_of_end.new.records) (sym (told_state _ _ _ _ _ c.self.inside.order _ _ _ _ _ _ _ c.args.parent c.args.child c.args.status it.0 c.notify_of_end.ensures.contents counts))
-    (sound_told _ _ _ _ _ _ _ c.args.parent c.args.child c.args.status it.0 c.self.invariant found it.2 c.requires.other counts)
+    let counts = c.notify_of_end-gone.ensures.counts it.0 found in
+    let up = c.self.invariant.sound.parents c.args.child it.0 c.requires.other found in
+    let asked = c.insert.new.self in
+    let first = here_in c.args.parent (state_is c.self.view_is) c.requires.parent in
+    let now = listed_more _ _ asked (c.args.parent ∷ []) c.self.invariant.listed (first, tt) c.insert.ensures.pids c.insert.ensures.room in
+    subst (λ (s : State). IsMachine s c.notify_of_end-gone.new.pids c.self.inside.order c.notify_of_end-gone.new.records c.ask_parent.new.to_ask) (sym (told_state _ _ _ _ _ c.self.inside.order _ _ _ _ _ _ _ c.args.parent c.args.child c.args.status it.0 c.notify_of_end-gone.ensures.contents counts))
+    (record {
+      sound = sound_told _ _ _ _ _ _ _ c.args.parent c.args.child c.args.status it.0 c.self.invariant.sound found it.2 c.requires.other counts;
+      listed = listed_told _ c.args.parent c.args.child c.args.status it.0 asked _ c.self.invariant.sound.regular now (ap (is_in c.args.parent) c.insert.ensures.pids ∙ in_with c.args.parent c.args.parent _ ∙ rw (eq-eqb c.args.parent c.args.parent refl) refl) found up (c.ask_parent.ensures.pids ∙ ap (λ o. without_gone c.args.child o asked.pids) (c.notify_of_end-gone.ensures.gone it.0 found)) c.ask_parent.ensures.room;
+    })
 
 pub returns-clause-state : goal.returns-clause-state
 returns-clause-state g c =
     let it = c.requires.zombie in
     let found = found_in _ _ (state_is c.self.view_is) c.args.child it.0 it.1 in
-    told_state _ _ _ _ _ c.self.inside.order _ _ _ _ _ _ _ c.args.parent c.args.child c.args.status it.0 c.notify_of_end.ensures.contents (c.notify_of_end.ensures.counts it.0 found)
+    told_state _ _ _ _ _ c.self.inside.order _ _ _ _ _ _ _ c.args.parent c.args.child c.args.status it.0 c.notify_of_end-gone.ensures.contents (c.notify_of_end-gone.ensures.counts it.0 found)
     ∙ ap (λ (s : State). notice_of_end s c.args.parent c.args.child c.args.status) (state_is c.self.view_is)

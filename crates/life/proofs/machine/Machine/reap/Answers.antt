@@ -1,25 +1,35 @@
-use Rattle.std.proofs.Common.{arith, refl}
+use Rattle.std.proofs.Common.{◌∙◌, ap, arith, refl, Some}
+use Rattle.life.specs.Asking.{without_gone}
 use Rattle.life.proofs.SoundLemmas.{found_in}
 use Rattle.life.proofs.PartLemmas.{can_go, sound_gone}
+use Rattle.life.proofs.AskLemmas.{has_room, listed_removed}
 use Rattle.life.proofs.ViewLemmas.{state_is}
 use Rattle.life.proofs.machine.Machine.reap.Goals as goal
 
-pub discard-requires : goal.discard-requires
-discard-requires g c =
+pub discard-parent-requires : goal.discard-parent-requires
+discard-parent-requires g c =
     let it = c.requires.zombie in
-    can_go _ _ _ _ c.args.pid it.0 c.self.invariant (found_in _ _ (state_is c.self.view_is) c.args.pid it.0 it.1) it.2 c.requires.other
+    can_go _ _ _ _ c.args.pid it.0 c.self.invariant.sound (found_in _ _ (state_is c.self.view_is) c.args.pid it.0 it.1) it.2 c.requires.other
+
+pub ask_parent-requires : goal.ask_parent-requires
+ask_parent-requires g c = has_room _ _ c.self.invariant.sound.regular c.self.invariant.listed
 
 pub invariant_of-self : goal.invariant_of-self
 invariant_of-self g c =
     let it = c.requires.zombie in
     let found = found_in _ _ (state_is c.self.view_is) c.args.pid it.0 it.1 in
-    let gone = c.discard.ensures.counts it.0 found in
+    let gone = c.discard-parent.ensures.counts it.0 found in
     let less = gone.records in
-    let most = c.self.invariant.counted in
-    rw c.discard.ensures.contents (sound_gone _ _ _ _ _ _ c.args.pid _ _ it.0 c.self.invariant found it.2 c.requires.other gone (omega (arith, less, most)))
+    let most = c.self.invariant.sound.counted in
+    let up = c.self.invariant.sound.parents c.args.pid it.0 c.requires.other found in
+    let parent = c.discard-parent.ensures.parent it.0 found in
+    rw c.discard-parent.ensures.contents (record {
+      sound = sound_gone _ _ _ _ _ _ c.args.pid _ _ it.0 c.self.invariant.sound found it.2 c.requires.other gone (omega (arith, less, most));
+      listed = listed_removed _ c.args.pid _ _ it.0 _ _ c.self.invariant.sound.regular c.self.invariant.listed found up (c.ask_parent.ensures.pids ∙ ap (λ n. without_gone c.args.pid (Some n) c.self.inside.to_ask.pids) parent) c.ask_parent.ensures.room;
+    })
 
 pub returns-clause-state : goal.returns-clause-state
 returns-clause-state g c =
     let it = c.requires.zombie in
     let found = found_in _ _ (state_is c.self.view_is) c.args.pid it.0 it.1 in
-    rw (c.discard.ensures.contents, (c.discard.ensures.counts it.0 found).last, ← c.self.view_is) refl
+    rw (c.discard-parent.ensures.contents, (c.discard-parent.ensures.counts it.0 found).last, ← c.self.view_is) refl

@@ -5,14 +5,22 @@ use Rattle.posix.specs.Step.{set_cpu}
 use Rattle.posix.proofs.RegularLemmas.{keeps_set_cpu}
 use Rattle.umach.specs.Bursts.{Burst, exec_until}
 use Rattle.proctable.proofs.Bodies.{run_body, ran, read_own}
-use Rattle.life.proofs.SoundLemmas.{found_in, sound_change}
+use Rattle.posix.proofs.TouchLemmas.{touches_unseen, unseen_set_cpu}
+use Rattle.life.proofs.SoundLemmas.{found_in, sound_change, here_in}
+use Rattle.life.proofs.AskLemmas.{has_room, listed_change}
 use Rattle.life.proofs.CodeLemmas.{code_is, get_some, get_none, no_burst, same_cpu}
 use Rattle.life.proofs.ViewLemmas.{state_is}
 use Rattle.life.proofs.machine.Machine.run_until.Goals as goal
 
+pub insert-requires : goal.insert-requires
+insert-requires g c = record { room = λ out. has_room _ _ c.self.invariant.sound.regular c.self.invariant.listed }
+
 pub invariant_of-self : goal.invariant_of-self
 invariant_of-self g c =
-    rw (g.met.K.Kin.puts _ _ _, run_body _ c.update.ensures.rising c.args.pid c.update.result.now c.run_until.new.self c.update.ensures.value) (sound_change c.args.pid _ (keeps_set_cpu _) _ _ _ _ c.self.invariant)
+    rw (g.met.K.Kin.puts _ _ _, run_body _ c.update.ensures.rising c.args.pid c.update.result.now c.run_until.new.self c.update.ensures.value) (record {
+      sound = sound_change c.args.pid _ (keeps_set_cpu _) _ _ _ _ c.self.invariant.sound;
+      listed = listed_change _ c.args.pid _ _ _ c.self.invariant.listed (keeps_set_cpu _).pid (touches_unseen _ c.args.pid _ (unseen_set_cpu _)) (here_in c.args.pid (state_is c.self.view_is) c.requires.there) c.insert.ensures.pids c.insert.ensures.room;
+    })
 
 pub returns-in-Some-clause-count : goal.returns-in-Some-clause-count
 returns-in-Some-clause-count g c = λ me e.
@@ -46,11 +54,11 @@ returns-in-None-clause-trap g c = λ me e.
 pub returns-in-None-clause-state : goal.returns-in-None-clause-state
 returns-in-None-clause-state g c = λ me e.
     let code = code_is c.args.self.now.state me _ _ _ (c.programs.ensures.value ∙ ap (λ (s : State). s.world.programs) (state_is c.self.view_is)) (c.from.ensures ∙ sym (c.requires.program me e)) (get_none _ _ c.in-None.ensures.lookup.0) in
-    let rising = subst (λ (s : State). IsRising s.processes) (state_is c.self.view_is) c.self.invariant.regular.rising in
+    let rising = subst (λ (s : State). IsRising s.processes) (state_is c.self.view_is) c.self.invariant.sound.regular.rising in
     same_cpu c.args.self.now.state c.args.pid me rising e ∙ ap (λ (b : Burst). change c.args.self.now.state c.args.pid (set_cpu b.cpu)) (sym (no_burst c.args.self.now.state me c.args.most code c.requires.some))
 
 pub returns-in-Some-clause-reads : goal.returns-in-Some-clause-reads
 returns-in-Some-clause-reads g c = rw (← c.self.view_is, g.met.K.Kin.put_reads _ _ _) (g.met.K.Kin.at_most_one _)
 
 pub returns-in-Some-clause-regular : goal.returns-in-Some-clause-regular
-returns-in-Some-clause-regular g c = (invariant_of-self g c).regular
+returns-in-Some-clause-regular g c = (invariant_of-self g c).sound.regular

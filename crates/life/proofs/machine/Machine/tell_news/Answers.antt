@@ -2,13 +2,22 @@ use Rattle.std.proofs.Common.{◌∙◌, refl}
 use Rattle.posix.specs.Waits.{news_told}
 use Rattle.posix.proofs.RegularLemmas.{keeps_news_told}
 use Rattle.proctable.proofs.Bodies.{changed_body}
-use Rattle.life.proofs.SoundLemmas.{sound_change}
+use Rattle.posix.proofs.NewsLemmas.{touches_told}
+use Rattle.life.proofs.SoundLemmas.{sound_change, here_in}
+use Rattle.life.proofs.AskLemmas.{has_room, listed_change}
+use Rattle.life.proofs.ViewLemmas.{state_is}
 use Rattle.life.proofs.machine.Machine.tell_news.Goals as goal
+
+pub insert-requires : goal.insert-requires
+insert-requires g c = record { room = λ out. has_room _ _ c.self.invariant.sound.regular c.self.invariant.listed }
 
 pub invariant_of-self : goal.invariant_of-self
 invariant_of-self g c =
     let contents = g.met.K.Kin.puts c.self.inside.table c.args.pid c.tell_news.new.self ∙ changed_body _ c.update.ensures.rising c.args.pid c.update.result.now c.tell_news.new.self news_told c.update.ensures.value c.tell_news.ensures in
-    rw contents (sound_change c.args.pid _ keeps_news_told _ _ _ _ c.self.invariant)
+    rw contents (record {
+      sound = sound_change c.args.pid _ keeps_news_told _ _ _ _ c.self.invariant.sound;
+      listed = listed_change _ c.args.pid news_told _ _ c.self.invariant.listed keeps_news_told.pid (touches_told _ c.args.pid) (here_in c.args.pid (state_is c.self.view_is) c.requires) c.insert.ensures.pids c.insert.ensures.room;
+    })
 
 pub returns-clause-state : goal.returns-clause-state
 returns-clause-state g c =

@@ -1,42 +1,41 @@
-use Rattle.std.proofs.Common.{sym, refl, subst}
-use Rattle.proctable.specs.Entries.{IsAt, IsGap}
-use Rattle.proctable.proofs.EntryLemmas.{at_below, remove_at, lookup_gap, rising_removed}
-use Rattle.proctable.proofs.CellLemmas.{no_node, nodes_removed, stand_removed, at_slot}
+use Rattle.std.proofs.Common.{sym, ap, ◌∙◌, ◌==◌, not, refl}
+use Rattle.std.specs.Option.{option_map}
+use Rattle.pidset.proofs.RowLemmas.{rises_passing}
+use Rattle.proctable.specs.declared.entry.Entry.{Entry}
+use Rattle.proctable.proofs.CellLemmas.{no_node, stand_rest, nodes_removed, stand_removed, slotted}
 use Rattle.proctable.proofs.cells.Cells.remove.Goals as goal
 
 pub remove-requires : goal.remove-requires
 remove-requires c =
-    let s = at_slot c.self.inside.index.items _ c.self.inside.slots.nodes c.args.pid c.slot_at-slot.result _ c.deref-in-Ok.ensures.value c.self.invariant.standing refl c.slot_at-slot.ensures in
+    let found = sym c.take_out.ensures.value ∙ c.in-Some.is in
+    let s = slotted c.self.inside.index.items c.self.inside.slots.nodes c.args.pid c.in-Some.entry.slot c.self.invariant.standing (ap (option_map (λ (e : Entry). e.slot)) found) in
     rw s.at refl
-
-pub remove_entry-requires : goal.remove_entry-requires
-remove_entry-requires c =
-    let a = subst (λ xs. IsAt xs c.args.pid c.in-Ok.at) c.deref.ensures.value c.in-Ok.ensures.found in
-    rw c.self.inside.index.ok.0 (at_below c.self.inside.index.items c.args.pid c.in-Ok.at a)
 
 pub invariant_of-self : goal.invariant_of-self
 invariant_of-self c =
     let es = c.self.inside.index.items in
     let slab = c.self.inside.slots.nodes in
-    let a = subst (λ xs. IsAt xs c.args.pid c.in-Ok.at) c.deref.ensures.value c.in-Ok.ensures.found in
-    let s = at_slot es _ slab c.args.pid c.slot_at-slot.result _ c.deref-in-Ok.ensures.value c.self.invariant.standing refl c.slot_at-slot.ensures in
-    let u = c.remove.ensures.updates in
-    rw (c.remove_entry.ensures.items, ← remove_at es c.self.invariant.rising c.args.pid c.in-Ok.at a.what a.at a.here) (record {
-      rising = rising_removed c.args.pid es c.self.invariant.rising;
-      standing = stand_removed es slab c.remove.new.self.nodes c.args.pid c.slot_at-slot.result s.what u.others s.at s.named c.self.invariant.standing;
+    let found = sym c.take_out.ensures.value ∙ c.in-Some.is in
+    let s = slotted es slab c.args.pid c.in-Some.entry.slot c.self.invariant.standing (ap (option_map (λ (e : Entry). e.slot)) found) in
+    rw c.take_out.ensures.items (record {
+      rising = rises_passing (λ (e : Entry). e.pid) (λ n. not (n == c.args.pid)) es c.self.invariant.rising;
+      standing = stand_removed es slab c.remove.new.self.nodes c.args.pid c.in-Some.entry.slot s.what c.remove.ensures.updates.others s.at s.named c.self.invariant.standing;
     })
 
-pub returns-in-Ok-clause-nodes : goal.returns-in-Ok-clause-nodes
-returns-in-Ok-clause-nodes c =
+pub returns-in-Some-clause-nodes : goal.returns-in-Some-clause-nodes
+returns-in-Some-clause-nodes c =
     let es = c.self.inside.index.items in
     let slab = c.self.inside.slots.nodes in
-    let a = subst (λ xs. IsAt xs c.args.pid c.in-Ok.at) c.deref.ensures.value c.in-Ok.ensures.found in
-    let s = at_slot es _ slab c.args.pid c.slot_at-slot.result _ c.deref-in-Ok.ensures.value c.self.invariant.standing refl c.slot_at-slot.ensures in
-    let u = c.remove.ensures.updates in
-    rw (c.remove_entry.ensures.items, ← remove_at es c.self.invariant.rising c.args.pid c.in-Ok.at a.what a.at a.here, ← c.self.view_is) (nodes_removed es slab c.remove.new.self.nodes c.args.pid c.slot_at-slot.result s.what u.others s.at s.named c.self.invariant.standing)
+    let found = sym c.take_out.ensures.value ∙ c.in-Some.is in
+    let s = slotted es slab c.args.pid c.in-Some.entry.slot c.self.invariant.standing (ap (option_map (λ (e : Entry). e.slot)) found) in
+    rw (c.take_out.ensures.items, ← c.self.view_is) (nodes_removed es slab c.remove.new.self.nodes c.args.pid c.in-Some.entry.slot s.what c.remove.ensures.updates.others s.at s.named c.self.invariant.standing)
+
+pub invariant_of-self-in_default : goal.invariant_of-self-in_default
+invariant_of-self-in_default c =
+    let none = sym c.take_out.ensures.value ∙ c.in_default.is in
+    rw c.take_out.ensures.items (stand_rest c.self.inside.index.items c.self.inside.slots.nodes c.args.pid none c.self.invariant)
 
 pub returns-in_default-clause-nodes : goal.returns-in_default-clause-nodes
 returns-in_default-clause-nodes c =
-    let es = c.self.inside.index.items in
-    let g = subst (λ xs. IsGap xs c.args.pid c.in_default.field-0) c.deref.ensures.value c.in_default.ensures.absent in
-    rw (← c.self.view_is) (sym (no_node es c.self.inside.slots.nodes c.args.pid (lookup_gap es c.self.invariant.rising c.args.pid c.in_default.field-0 g) c.self.invariant))
+    let none = sym c.take_out.ensures.value ∙ c.in_default.is in
+    rw (c.take_out.ensures.items, ← c.self.view_is) (no_node c.self.inside.index.items c.self.inside.slots.nodes c.args.pid none c.self.invariant.standing)

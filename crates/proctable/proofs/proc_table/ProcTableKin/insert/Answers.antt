@@ -8,7 +8,7 @@ use Rattle.proctable.specs.Nodes.{records, find_node}
 use Rattle.proctable.specs.Joined.{IsJoined, between}
 use Rattle.proctable.proofs.JoinLemmas.{no_process}
 use Rattle.proctable.proofs.LinkLemmas.{joined_new, table_inserted, records_inserted, without_new, new_there, node_there}
-use Rattle.proctable.proofs.NeighbourLemmas.{few}
+use Rattle.std.proofs.lemmas.List.Sums.{length-filter, count_by-le-length}
 use Rattle.proctable.proofs.proc_table.ProcTableKin.insert.Goals as goal
 
 pub insert-requires-clause-absent : goal.insert-requires-clause-absent
@@ -17,7 +17,7 @@ insert-requires-clause-absent c = no_process c.self.inside.cells.nodes c.args.pi
 pub link-self-inside-requires-clause-joined : goal.link-self-inside-requires-clause-joined
 link-self-inside-requires-clause-joined c =
     let ns = c.self.inside.cells.nodes in
-    subst (λ (l : List Node). IsJoined (removed c.args.pid (records l)) l c.self.inside.root) (sym c.insert.ensures.nodes) (joined_new ns c.self.inside.root _ c.self.invariant (rw (← c.self.view_is) at c.requires.fresh) c.none.ensures)
+    subst (λ (l : List Node). IsJoined (removed c.args.pid (records l)) l c.self.inside.roots) (sym c.insert.ensures.nodes) (joined_new ns c.self.inside.roots _ c.self.invariant (rw (← c.self.view_is) at c.requires.fresh) c.none.ensures)
 
 pub link-self-inside-requires-clause-rising : goal.link-self-inside-requires-clause-rising
 link-self-inside-requires-clause-rising c =
@@ -37,17 +37,18 @@ link-self-inside-requires-clause-there c =
 pub invariant_of-self : goal.invariant_of-self
 invariant_of-self c =
     let ns = c.self.inside.cells.nodes in
-    (table_inserted ns _ _ c.self.inside.root _ _ c.self.invariant (rw (← c.self.view_is) at c.requires.fresh) (rw (← c.self.view_is) at c.requires.parent) c.insert.ensures.nodes c.link-self-inside.ensures.processes c.link-self-inside.ensures.joined).1
+    (table_inserted ns _ _ c.self.inside.roots _ _ c.self.invariant (rw (← c.self.view_is) at c.requires.fresh) (rw (← c.self.view_is) at c.requires.parent) c.insert.ensures.nodes c.link-self-inside.ensures.processes c.link-self-inside.ensures.joined).1
 
 pub returns-clause-contents : goal.returns-clause-contents
 returns-clause-contents c =
     let ns = c.self.inside.cells.nodes in
-    rw (← c.self.view_is) (table_inserted ns _ _ c.self.inside.root _ _ c.self.invariant (rw (← c.self.view_is) at c.requires.fresh) (rw (← c.self.view_is) at c.requires.parent) c.insert.ensures.nodes c.link-self-inside.ensures.processes c.link-self-inside.ensures.joined).0
+    rw (← c.self.view_is) (table_inserted ns _ _ c.self.inside.roots _ _ c.self.invariant (rw (← c.self.view_is) at c.requires.fresh) (rw (← c.self.view_is) at c.requires.parent) c.insert.ensures.nodes c.link-self-inside.ensures.processes c.link-self-inside.ensures.joined).0
 
 pub returns-clause-reads : goal.returns-clause-reads
 returns-clause-reads c =
     let ns = c.self.inside.cells.nodes in
     let others = ap (λ (l : List Node). removed c.args.pid (records l)) c.insert.ensures.nodes ∙ without_new ns _ (rw (← c.self.view_is) at c.requires.fresh) in
     let many = ap (λ rs. length (between c.args.pid None (children_in c.args.parent rs))) others in
-    let less = few (λ (r : Process). nat_lt c.args.pid r.pid && true) (children_in c.args.parent (records ns)) in
-    rw (← c.self.view_is) (omega (arith, many, less, c.link-self-inside.ensures.reads, c.insert.ensures.reads))
+    let greater = λ (r : Process). nat_lt c.args.pid r.pid && true in
+    let kids = children_in c.args.parent (records ns) in
+    rw (← c.self.view_is) (omega (arith, many, length-filter greater kids, count_by-le-length greater kids, c.link-self-inside.ensures.reads, c.insert.ensures.reads))

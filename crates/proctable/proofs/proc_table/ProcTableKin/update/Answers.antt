@@ -6,7 +6,7 @@ pub body_mut-requires : goal.body_mut-requires
 body_mut-requires c = has_node c.self.inside.cells.nodes c.args.pid (rw (← c.self.view_is) at c.requires)
 
 pub invariant_of-self-lent : goal.invariant_of-self-lent
-invariant_of-self-lent c = λ w. table_body c.self.inside.cells.nodes c.self.inside.root c.args.pid w c.self.invariant
+invariant_of-self-lent c = λ w. table_body c.self.inside.cells.nodes c.self.inside.roots c.args.pid w c.self.invariant
 
 pub returns : goal.returns
 returns c =

@@ -2,7 +2,7 @@ use Rattle.std.proofs.Common.{◌≡◌, ◌++◌, length, map, take, drop, ap, 
 use Rattle.std.proofs.lemmas.List.{length-map}
 use Rattle.posix.specs.Tables.{reparented, adopted}
 use Rattle.posix.proofs.TableLemmas.{rising_adopted}
-use Rattle.proctable.proofs.SlotLemmas.{in_place}
+use Rattle.proctable.proofs.ScanLemmas.{in_place}
 use Rattle.proctable.proofs.scan.ScanTableKin.adopt.Goals as goal
 
 pub invariant_of-self : goal.invariant_of-self

@@ -1,4 +1,4 @@
-use Rattle.proctable.proofs.SlotLemmas.{first_is}
+use Rattle.proctable.proofs.ScanLemmas.{first_is}
 use Rattle.proctable.proofs.scan.ScanTableKin.first_child.Goals as goal
 
 pub returns-clause-value : goal.returns-clause-value

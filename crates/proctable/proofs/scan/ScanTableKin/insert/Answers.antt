@@ -1,20 +1,27 @@
-use Rattle.std.proofs.Common.{sym, subst}
-use Rattle.posix.proofs.TableLemmas.{IsGap, lookup_gap, insert_gap, rising_inserted}
+use Rattle.std.proofs.Common.{sym, ap, ◌∙◌, subst}
+use Rattle.posix.specs.Tables.{IsRising, lookup, inserted}
+use Rattle.posix.proofs.TableLemmas.{rising_inserted}
 use Rattle.proctable.specs.Body.{process_of}
+use Rattle.proctable.proofs.ScanLemmas.{rises_pids, inserted_row}
 use Rattle.proctable.proofs.scan.ScanTableKin.insert.Goals as goal
+
+pub put_in-requires-clause-rising : goal.put_in-requires-clause-rising
+put_in-requires-clause-rising c = rises_pids c.self.inside.slots.items c.self.invariant
+
+pub put_in-requires-clause-absent : goal.put_in-requires-clause-absent
+unfolding lookup
+put_in-requires-clause-absent c =
+    let named = ap (λ r. lookup r.pid c.self.inside.slots.items) c.new.ensures in
+    named ∙ ap (λ v. lookup c.args.pid v.processes) c.self.view_is ∙ c.requires.fresh
 
 pub invariant_of-self : goal.invariant_of-self
 invariant_of-self c =
     let rs = c.self.inside.slots.items in
-    let i = c.gap-at.result in
     let new = process_of c.args.pid c.args.parent c.args.body in
-    let g = subst (λ xs. IsGap xs c.args.pid i) c.deref.ensures.value c.gap-at.ensures in
-    rw (c.insert_slot.ensures.items, c.new.ensures, ← insert_gap rs i new g) (rising_inserted new rs c.self.invariant (lookup_gap rs c.self.invariant c.args.pid i g))
+    let absent = ap (λ v. lookup c.args.pid v.processes) c.self.view_is ∙ c.requires.fresh in
+    subst IsRising (sym (c.put_in.ensures.items ∙ inserted_row c.new.result rs ∙ ap (λ r. inserted r rs) c.new.ensures)) (rising_inserted new rs c.self.invariant absent)
 
 pub returns-clause-contents : goal.returns-clause-contents
 returns-clause-contents c =
     let rs = c.self.inside.slots.items in
-    let i = c.gap-at.result in
-    let new = process_of c.args.pid c.args.parent c.args.body in
-    let g = subst (λ xs. IsGap xs c.args.pid i) c.deref.ensures.value c.gap-at.ensures in
-    rw (c.insert_slot.ensures.items, c.new.ensures, ← c.self.view_is) (sym (insert_gap rs i new g))
+    c.put_in.ensures.items ∙ inserted_row c.new.result rs ∙ ap (λ r. inserted r rs) c.new.ensures ∙ ap (λ v. inserted (process_of c.args.pid c.args.parent c.args.body) v.processes) c.self.view_is

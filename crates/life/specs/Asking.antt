@@ -1,0 +1,14 @@
+-- Who is to be asked whether it can act.
+use Rattle.std.specs.Prelude.{ℕ, List, [], ◌∷◌, Option, Some, None}
+use Rattle.posix.specs.States.{without}
+use Rattle.pidset.specs.Numbers.{with_number}
+
+-- these numbers put in
+unfoldable pub with_numbers : List ℕ → List ℕ → List ℕ
+with_numbers [] ns = ns
+with_numbers (p ∷ ps) ns = with_number p (with_numbers ps ns)
+
+-- where the record of p has gone, whose parent this was, the parent is asked, and p no more
+abbrev pub without_gone : ℕ → Option ℕ → List ℕ → List ℕ
+without_gone p None ns = ns
+without_gone p (Some parent) ns = without p (with_number parent ns)

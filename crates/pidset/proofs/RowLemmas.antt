@@ -1,0 +1,187 @@
+-- Facts on rows in rising order of their numbers.
+use Rattle.std.proofs.Common.{◌≡◌, ℕ, zero, suc, ◌+◌, ◌-◌, ◌<◌, ◌≤◌, Bool, true, false, cond, not, refl, ap, sym, ◌∙◌, arith, subst, List, [], ◌∷◌, length, map, filter, find, drop, insert, remove, slice_get, get_or, Some, None, Result, Ok, Err, IfOk, IfErr, ◌==◌, nat_lt}
+use Rattle.std.specs.List.Sorted.{IsSearchInRange, IsBinarySearchResult, IsNonDecreasingBy}
+use Rattle.std.specs.Option.{IfSome, option_map}
+use Rattle.std.specs.Ordering.{nat_cmp, ordering_index}
+use Rattle.std.proofs.lemmas.Cmp.{ranked}
+use Rattle.std.proofs.lemmas.List.{length-map, get_or-map}
+use Rattle.std.proofs.lemmas.Option.{slice_get-map, slice_get_within, slice_get_read}
+use Rattle.std.proofs.lemmas.Bool.{eqb-false, eq-eqb, ne_eqb}
+use Rattle.std.proofs.lemmas.Bool.Decides.{nat_tests}
+use Rattle.posix.specs.States.{is_in}
+use Rattle.pidset.specs.Numbers.{Rises, with_number, IsNumberAt, IsNumberGap, inserted_by}
+use Rattle.pidset.proofs.NumberLemmas.{AllAbove, above_get, above_less, not_in_above, out_gap, later, rising_or, gap_last, rises_filter, rises_with}
+
+-- ---- at the index of a number
+
+-- a number stands within the list
+pub at_below : {X : Type 0} (f : X → ℕ) (xs : List X) (n i : ℕ) → IsNumberAt (map f xs) n i → i < length xs
+at_below f xs n i e = subst (λ k. i < k) (length-map xs f) (slice_get_within (map f xs) i n e)
+
+-- the row that is read there
+pub read_at : {X : Type 0} (f : X → ℕ) (xs : List X) (n i : ℕ) (x : X) → IsNumberAt (map f xs) n i → x ≡ get_or xs i x → slice_get xs i ≡ Some x
+read_at f xs n i x e is = slice_get_read xs (length xs) i x refl (at_below f xs n i e) is
+
+-- it is the one that is found by the number
+pub find_at : {X : Type 0} (f : X → ℕ) (xs : List X) → Rises (map f xs) → (n i : ℕ) → IsNumberAt (map f xs) n i → find (λ x. f x == n) xs ≡ slice_get xs i
+unfolding Rises
+find_at f [] up n i e = absurd (cc)
+find_at f (x ∷ xs) up n zero e = let same : f x ≡ n = cc in rw (eq-eqb (f x) n same) refl
+find_at f (x ∷ xs) up n (suc i) e =
+    let low : f x < n = above_get (f x) (map f xs) up.0 i n e in
+    rw (ne_eqb (f x) n (λ k. omega (arith, k, low))) (find_at f xs up.1 n i e)
+
+-- so one is
+pub at_there : {X : Type 0} (f : X → ℕ) (xs : List X) → Rises (map f xs) → (n i : ℕ) → IsNumberAt (map f xs) n i → find (λ x. f x == n) xs ≡ None → ⊥
+at_there f xs up n i e none =
+    let gone : slice_get xs i ≡ None = sym (find_at f xs up n i e) ∙ none in
+    let no : Some n ≡ None = sym e ∙ slice_get-map f xs i ∙ ap (option_map f) gone in
+    cc
+
+-- who isn't there isn't found
+pub find_none : {X : Type 0} (f : X → ℕ) (xs : List X) (n : ℕ) → is_in n (map f xs) ≡ false → find (λ x. f x == n) xs ≡ None
+unfolding is_in
+find_none f [] n e = refl
+find_none f (x ∷ xs) n e = grind (arith, find_none f xs n)
+
+-- where no row has the number, all others are all
+pub others_all : {X : Type 0} (f : X → ℕ) (xs : List X) (n : ℕ) → find (λ x. f x == n) xs ≡ None → filter (λ x. not (f x == n)) xs ≡ xs
+others_all f [] n e = refl
+others_all f (x ∷ xs) n e = grind (arith, others_all f xs n)
+
+-- the others are those at all other indexes
+pub others_at : {X : Type 0} (f : X → ℕ) (xs : List X) → Rises (map f xs) → (n i : ℕ) → IsNumberAt (map f xs) n i → filter (λ x. not (f x == n)) xs ≡ remove xs i
+unfolding Rises
+others_at f [] up n i e = absurd (cc)
+others_at f (x ∷ xs) up n zero e =
+    let same : f x ≡ n = cc in
+    rw (eq-eqb (f x) n same) (others_all f xs n (find_none f xs n (not_in_above (f x) n (map f xs) (omega (arith, same)) up.0)))
+others_at f (x ∷ xs) up n (suc i) e =
+    let low : f x < n = above_get (f x) (map f xs) up.0 i n e in
+    rw (ne_eqb (f x) n (λ k. omega (arith, k, low))) (ap (λ ys. x ∷ ys) (others_at f xs up.1 n i e))
+
+-- ---- at the index where a number would go
+
+pub find_gap : {X : Type 0} (f : X → ℕ) (xs : List X) → Rises (map f xs) → (n i : ℕ) → IsNumberGap (map f xs) n i → find (λ x. f x == n) xs ≡ None
+find_gap f xs up n i g = find_none f xs n (out_gap (map f xs) up n i g)
+
+-- a row goes in at the gap for its number
+pub insert_gap : {X : Type 0} (f : X → ℕ) (xs : List X) (i : ℕ) (new : X) → IsNumberGap (map f xs) (f new) i → inserted_by f new xs ≡ insert xs i new
+unfolding inserted_by
+insert_gap f [] zero new g = refl
+insert_gap f [] (suc i) new g = let l = g.in_range in absurd (omega arith)
+insert_gap f (x ∷ xs) zero new g = let l : nat_lt (f new) (f x) ≡ true = grind (arith, nat_tests, g.after) in rw l refl
+insert_gap f (x ∷ xs) (suc i) new g =
+    let low : f x < f new = g.before 0 (omega arith) in
+    let l : nat_lt (f new) (f x) ≡ false = grind (arith, nat_tests) in
+    rw l (ap (λ ys. x ∷ ys) (insert_gap f xs i new (later (f x) (map f xs) (f new) i g)))
+
+-- ---- the rows above a number
+
+-- where all lie above n, they are those above n
+all_above : {X : Type 0} (f : X → ℕ) (xs : List X) (n : ℕ) → AllAbove n (map f xs) → filter (λ x. nat_lt n (f x)) xs ≡ xs
+all_above f [] n a = refl
+all_above f (x ∷ xs) n a = let t : nat_lt n (f x) ≡ true = grind (arith, nat_tests, a.0) in rw t (ap (λ ys. x ∷ ys) (all_above f xs n a.1))
+
+-- those after the index of a number are those above it
+after_index : {X : Type 0} (f : X → ℕ) (xs : List X) → Rises (map f xs) → (n i : ℕ) → IsNumberAt (map f xs) n i → drop (suc i) xs ≡ filter (λ x. nat_lt n (f x)) xs
+unfolding Rises
+after_index f [] up n i e = absurd (cc)
+after_index f (x ∷ xs) up n zero e =
+    let same : f x ≡ n = cc in
+    let t : nat_lt n (f x) ≡ false = grind (arith, nat_tests) in
+    rw t (sym (all_above f xs n (subst (λ k. AllAbove k (map f xs)) same up.0)))
+after_index f (x ∷ xs) up n (suc i) e =
+    let low : f x < n = above_get (f x) (map f xs) up.0 i n e in
+    let t : nat_lt n (f x) ≡ false = grind (arith, nat_tests) in
+    rw t (after_index f xs up.1 n i e)
+
+pub above_at : {X : Type 0} (f : X → ℕ) (xs : List X) → Rises (map f xs) → (n i : ℕ) → IsNumberAt (map f xs) n i → drop (i + 1) xs ≡ filter (λ x. nat_lt n (f x)) xs
+above_at f xs up n i e = let next : i + 1 ≡ suc i = omega arith in ap (λ k. drop k xs) next ∙ after_index f xs up n i e
+
+-- those from the gap for a number on are those above it
+pub above_gap : {X : Type 0} (f : X → ℕ) (xs : List X) → Rises (map f xs) → (n i : ℕ) → IsNumberGap (map f xs) n i → drop i xs ≡ filter (λ x. nat_lt n (f x)) xs
+unfolding Rises
+above_gap f [] up n zero g = refl
+above_gap f [] up n (suc i) g = refl
+above_gap f (x ∷ xs) up n zero g =
+    let high : n < f x = g.after in
+    let t : nat_lt n (f x) ≡ true = grind (arith, nat_tests) in
+    rw t (ap (λ ys. x ∷ ys) (sym (all_above f xs n (above_less n (f x) (map f xs) high up.0))))
+above_gap f (x ∷ xs) up n (suc i) g =
+    let low : f x < n = g.before 0 (omega arith) in
+    let t : nat_lt n (f x) ≡ false = grind (arith, nat_tests) in
+    rw t (above_gap f xs up.1 n i (later (f x) (map f xs) n i g))
+
+-- ---- the numbers of rows
+
+-- of the rows whose numbers pass a test, the numbers pass it
+pub numbers_passing : {X : Type 0} (f : X → ℕ) (t : ℕ → Bool) (xs : List X) → filter t (map f xs) ≡ map f (filter (λ x. t (f x)) xs)
+numbers_passing f t [] = refl
+numbers_passing f t (x ∷ xs) = elim (t (f x)) as (λ b. cond b (f x ∷ filter t (map f xs)) (filter t (map f xs)) ≡ map f (cond b (x ∷ filter (λ x. t (f x)) xs) (filter (λ x. t (f x)) xs))) [ true ↦ ap (λ ns. f x ∷ ns) (numbers_passing f t xs) | false ↦ numbers_passing f t xs ]
+
+-- their order stays
+pub rises_passing : {X : Type 0} (f : X → ℕ) (t : ℕ → Bool) (xs : List X) → Rises (map f xs) → Rises (map f (filter (λ x. t (f x)) xs))
+rises_passing f t xs up = subst Rises (numbers_passing f t xs) (rises_filter t (map f xs) up)
+
+-- where no row with its number was there, the number of a row that goes in is put in
+numbers_inserted : {X : Type 0} (f : X → ℕ) (xs : List X) (new : X) → find (λ x. f x == f new) xs ≡ None → with_number (f new) (map f xs) ≡ map f (inserted_by f new xs)
+unfolding inserted_by with_number
+numbers_inserted f [] new e = refl
+numbers_inserted f (x ∷ xs) new e = elim (nat_lt (f new) (f x)) as (λ b. cond b (f new ∷ f x ∷ map f xs) (cond (f new == f x) (f x ∷ map f xs) (f x ∷ with_number (f new) (map f xs))) ≡ map f (cond b (new ∷ x ∷ xs) (x ∷ inserted_by f new xs))) [
+  | true ↦ refl
+  | false ↦ elim (f x == f new) as (λ b. (f x == f new) ≡ b → cond b (Some x) (find (λ x. f x == f new) xs) ≡ None → cond (f new == f x) (f x ∷ map f xs) (f x ∷ with_number (f new) (map f xs)) ≡ f x ∷ map f (inserted_by f new xs)) [
+    | true ↦ λ t k. absurd (cc)
+    | false ↦ λ t k. rw (ne_eqb (f new) (f x) (λ same. eqb-false _ _ t (sym same))) (ap (λ ns. f x ∷ ns) (numbers_inserted f xs new k))
+  ] refl e
+]
+
+-- the order stays
+pub rises_inserted : {X : Type 0} (f : X → ℕ) (xs : List X) (new : X) → Rises (map f xs) → find (λ x. f x == f new) xs ≡ None → Rises (map f (inserted_by f new xs))
+rises_inserted f xs new up e = subst Rises (numbers_inserted f xs new e) (rises_with (f new) (map f xs) up)
+
+-- ---- a search
+
+-- what a binary search asks
+comparisons_rise : {X : Type 0} (f : X → ℕ) (xs : List X) → Rises (map f xs) → (n : ℕ) → IsNonDecreasingBy (λ x. ordering_index (nat_cmp (f x) n)) xs
+comparisons_rise f xs up n i j d le lt =
+    let long = length-map xs f in
+    let one : get_or (map f xs) i (f d) ≡ f (get_or xs i d) = get_or-map f xs i d (f d) (omega (arith, le, lt)) in
+    let two : get_or (map f xs) j (f d) ≡ f (get_or xs j d) = get_or-map f xs j d (f d) lt in
+    let rise : i < j → get_or (map f xs) i (f d) < get_or (map f xs) j (f d) = λ k. rising_or (map f xs) up i j (f d) k (omega (arith, long, lt)) in
+    let numbers : f (get_or xs i d) ≤ f (get_or xs j d) = grind (arith, one, two, rise, λ (same : i ≡ j). ap (λ k. f (get_or xs k d)) same) in
+    grind (arith, nat_tests)
+
+-- what holds at an index within the list holds of the number there, if there is one
+some_at : {X : Type 0} (f : X → ℕ) (xs : List X) (j : ℕ) (P : ℕ → Type 0) → ((d : X) → j < length xs → P (f (get_or xs j d))) → IfSome (slice_get (map f xs) j) P
+some_at f [] j P h = tt
+some_at f (x ∷ xs) zero P h = h x (omega arith)
+some_at f (x ∷ xs) (suc j) P h = some_at f xs j P (λ d lt. h d (omega arith))
+
+-- what is equal at an index within the list is there
+is_at : {X : Type 0} (f : X → ℕ) (xs : List X) (i n : ℕ) → i < length xs → ((d : X) → f (get_or xs i d) ≡ n) → IsNumberAt (map f xs) n i
+is_at f [] i n lt h = absurd (omega arith)
+is_at f (x ∷ xs) zero n lt h = ap Some (h x)
+is_at f (x ∷ xs) (suc i) n lt h = is_at f xs i n (omega arith) h
+
+-- a binary search ends at the number, or at the gap for it
+pub found_at : {X : Type 0} (f : X → ℕ) (xs : List X) (n : ℕ) (r : Result ℕ ℕ) → IsSearchInRange r (length xs) → IsBinarySearchResult (λ x. nat_cmp (f x) n) xs r → IfOk r (IsNumberAt (map f xs) n)
+found_at f xs n (Ok i) range equal = is_at f xs i n range (λ d. ranked _ n _ (sym (equal d)))
+found_at f xs n (Err i) range parted = tt
+
+pub gap_at : {X : Type 0} (f : X → ℕ) (xs : List X) → Rises (map f xs) → (n : ℕ) (r : Result ℕ ℕ) → IsSearchInRange r (length xs) → IsBinarySearchResult (λ x. nat_cmp (f x) n) xs r → IfErr r (IsNumberGap (map f xs) n)
+gap_at f xs up n (Ok i) range equal = tt
+gap_at f xs up n (Err i) range parted =
+    let p = parted (comparisons_rise f xs up n) in
+    record {
+      in_range = let long = length-map xs f in omega (arith, range, long);
+      before = λ j lt. some_at f xs j (λ m. m < n) (λ d h. ranked _ n _ (sym (p.0 j d (omega arith) lt)));
+      after = some_at f xs i (λ m. n < m) (λ d h. ranked _ n _ (sym (p.1 i d (omega arith) h)));
+    }
+
+-- a number above the last row's goes to the end
+pub gap_end : {X : Type 0} (f : X → ℕ) (xs : List X) → Rises (map f xs) → (n : ℕ) (x : X) → slice_get xs (length xs - 1) ≡ Some x → f x < n → IsNumberGap (map f xs) n (length xs)
+gap_end f xs up n x e lt =
+    let long = length-map xs f in
+    let last : slice_get (map f xs) (length (map f xs) - 1) ≡ Some (f x) = ap (λ k. slice_get (map f xs) (k - 1)) long ∙ slice_get-map f xs (length xs - 1) ∙ ap (option_map f) e in
+    subst (IsNumberGap (map f xs) n) long (gap_last (map f xs) up n (f x) last lt)

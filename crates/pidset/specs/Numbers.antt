@@ -1,0 +1,36 @@
+-- Numbers of processes in rising order, each once.
+use Rattle.std.specs.Prelude.{◌≡◌, ℕ, ◌<◌, ◌≤◌, ◌==◌, if◌then◌else◌, nat_lt, List, [], ◌∷◌, filter, length, slice_get, Some, IfSome}
+use Rattle.std.specs.List.{AllByRecursion}
+
+unfoldable pub Rises : List ℕ → Type 0
+Rises [] = Unit {0}
+Rises (n ∷ ns) = AllByRecursion (λ m. n < m) ns × Rises ns
+
+-- n put in where it belongs, unless it is there
+unfoldable pub with_number : ℕ → List ℕ → List ℕ
+with_number n [] = n ∷ []
+with_number n (m ∷ ms) = if nat_lt n m then n ∷ m ∷ ms else if n == m then m ∷ ms else m ∷ with_number n ms
+
+-- those above n
+abbrev pub numbers_above : ℕ → List ℕ → List ℕ
+numbers_above n ns = filter (λ m. nat_lt n m) ns
+
+-- n stands at the index i
+abbrev pub IsNumberAt : List ℕ → ℕ → ℕ → Type 0
+IsNumberAt ns n i = slice_get ns i ≡ Some n
+
+-- n would go to the index i: smaller numbers before, and a greater one there
+pub record IsNumberGap (ns : List ℕ) (n i : ℕ) : Type 0 where
+  pub in_range : i ≤ length ns
+  pub before : (j : ℕ) → j < i → IfSome (slice_get ns j) (λ m. m < n)
+  pub after : IfSome (slice_get ns i) (λ m. n < m)
+
+-- a row put in, in rising order of the numbers
+unfoldable pub inserted_by : {X : Type 0} → (X → ℕ) → X → List X → List X
+inserted_by number new [] = new ∷ []
+inserted_by number new (x ∷ xs) = if nat_lt (number new) (number x) then new ∷ x ∷ xs else x ∷ inserted_by number new xs
+
+-- the numbers, and how many there is memory for, with those that are there
+pub record PidSetView : Type 0 where
+  pub pids : List ℕ
+  pub room : ℕ

@@ -1,0 +1,44 @@
+//! A set that is filled, walked and emptied.
+
+use crate::{Pid, PidSet};
+use std::process::Abort;
+
+fn pid(rt: &impl Abort, number: u32) -> Pid {
+    Pid::new(number).expect(rt, "a number of a process")
+}
+
+/// Puts a number into a set of fewer than four.
+fn put(rt: &impl Abort, set: &mut PidSet, number: u32) {
+    assert!(rt; set.len() < 4);
+    set.reserve(4).expect(rt, "memory");
+    set.insert(pid(rt, number));
+}
+
+/// The numbers of a set, one after another.
+fn walk(rt: &(impl Abort + AllocGlobal), set: &PidSet) -> Vec<u32> {
+    let mut numbers = Vec::new(rt.alloc());
+    let mut at = Pid::NONE;
+    for _ in 0..set.len() {
+        at = set.next_above(at).expect(rt, "one more");
+        numbers.push(at.number()).expect(rt, "memory");
+    }
+    assert!(rt; set.next_above(at).is_none());
+    numbers
+}
+
+#[test]
+fn numbers_go_in_and_out(rt: HostRuntime) {
+    let mut set = PidSet::new(rt.alloc());
+    for number in [7, 3, 9, 7, 5] {
+        put(&rt, &mut set, number);
+    }
+    assert_eq!(rt; walk(&rt, &set).as_slice(), [3, 5, 7, 9].as_slice());
+    assert!(rt; set.has(pid(&rt, 9)) && !set.has(pid(&rt, 4)));
+
+    for number in [9, 4, 3] {
+        set.remove(pid(&rt, number));
+    }
+    assert_eq!(rt; walk(&rt, &set).as_slice(), [5, 7].as_slice());
+    set.clear();
+    assert!(rt; set.is_empty());
+}

@@ -1,0 +1,141 @@
+-- News that are told let nobody act: a wait that found nothing finds nothing after it.
+use Rattle.std.proofs.Common.{◌≡◌, ℕ, Bool, true, false, cond, not, ◌&&◌, ◌||◌, refl, ap, sym, ◌∙◌, List, [], ◌∷◌, map, filter, find, Option, Some, None, ◌==◌, is_some, pos}
+use Rattle.posix.specs.declared.call.Call.TheVariants.{Waitpid}
+use Rattle.posix.specs.declared.errno.Errno.TheVariants.{EINVAL}
+use Rattle.posix.specs.declared.process.Life.{Life}
+use Rattle.posix.specs.declared.process.Life.TheVariants.{Running, Stopped, Zombie}
+use Rattle.posix.specs.declared.process.News.TheVariants as news
+use Rattle.posix.specs.declared.process.Blocked.{Blocked}
+use Rattle.posix.specs.declared.process.Blocked.TheVariants as blocked
+use Rattle.posix.specs.declared.process.Report.{Report}
+use Rattle.posix.specs.declared.process.Report.TheVariants as found
+use Rattle.posix.specs.declared.target.Target.{Target}
+use Rattle.posix.specs.declared.target.Target.TheVariants as whom
+use Rattle.posix.specs.SignalNumbers.{KILL}
+use Rattle.posix.specs.Processes.{Process, argument, is_running, is_living}
+use Rattle.posix.specs.Tables.{at, changed, children_in}
+use Rattle.posix.specs.States.{State, change}
+use Rattle.posix.specs.Outcomes.{Block, gives, refused}
+use Rattle.posix.specs.Targets.{target_in}
+use Rattle.posix.specs.Waits.{wait, wait_with, news_told, is_named, is_something, report, report_of, report_life, report_found, report_among, reports, options_in, are_known, has_option}
+use Rattle.posix.specs.Generation.{is_pending}
+use Rattle.posix.specs.Choice.{chosen}
+use Rattle.posix.specs.Attempts.{attempt_again}
+use Rattle.posix.specs.Settle.{can_act, can_go_on, is_block}
+use Rattle.posix.proofs.MapLemmas.{children_map, filter_map}
+use Rattle.posix.proofs.RegularLemmas.{other_back}
+use Rattle.posix.proofs.TouchLemmas.{Touches, apart_first}
+
+-- where nothing was found to report, nobody had anything
+none_reports : (options : ℕ) (ks : List Process) → report_found options (find (reports options) ks) ≡ found.Nothing → find (reports options) ks ≡ None
+none_reports options [] e = refl
+none_reports options (k ∷ ks) e = elim (reports options k) as (λ b. reports options k ≡ b → report_found options (cond b (Some k) (find (reports options) ks)) ≡ found.Nothing → cond b (Some k) (find (reports options) ks) ≡ None) [
+  | true ↦ λ t h. let no : true ≡ false = sym t ∙ ap is_something h in absurd (cc)
+  | false ↦ λ t h. none_reports options ks h
+] refl e
+
+-- nobody passes after a change by which nobody comes to pass
+none_passes : (t : Process → Bool) (g : Process → Process) → ((r : Process) → t (g r) ≡ true → t r ≡ true) → (ks : List Process) → find t ks ≡ None → find t (map g ks) ≡ None
+none_passes t g less [] e = refl
+none_passes t g less (k ∷ ks) e = elim (t k) as (λ b. t k ≡ b → cond b (Some k) (find t ks) ≡ None → cond (t (g k)) (Some (g k)) (find t (map g ks)) ≡ None) [
+  | true ↦ λ u h. absurd (cc)
+  | false ↦ λ u h. elim (t (g k)) as (λ b. t (g k) ≡ b → cond b (Some (g k)) (find t (map g ks)) ≡ None) [
+    | true ↦ λ v. let no : false ≡ true = sym u ∙ less k v in absurd (cc)
+    | false ↦ λ v. none_passes t g less ks h
+  ] refl
+] refl e
+
+-- then nothing is found
+nothing_found : (options : ℕ) (g : Process → Process) → ((r : Process) → reports options (g r) ≡ true → reports options r ≡ true) → (ks : List Process) → report_among options ks ≡ found.Nothing → report_among options (map g ks) ≡ found.Nothing
+nothing_found options g less [] e = absurd (cc)
+nothing_found options g less (k ∷ ks) e = ap (report_found options) (none_passes (reports options) g less (k ∷ ks) (none_reports options (k ∷ ks) e))
+
+-- whose news are told has no more to report
+reports_less : (p options : ℕ) (r : Process) → reports options (at p news_told r) ≡ true → reports options r ≡ true
+unfolding report_of news_told
+reports_less p options r = elim (r.pid == p) as (λ b. is_something (report_life options (cond b (record r { news = news.Nothing }) r).pid (cond b (record r { news = news.Nothing }) r).life (cond b (record r { news = news.Nothing }) r).news) ≡ true → is_something (report_life options r.pid r.life r.news) ≡ true) [
+  | true ↦ ended r.life
+  | false ↦ λ h. h
+]
+  where
+    ended : (l : Life) → is_something (report_life options r.pid l news.Nothing) ≡ true → is_something (report_life options r.pid l r.news) ≡ true
+    ended Running h = absurd (cc)
+    ended Stopped h = absurd (cc)
+    ended (Zombie status) h = refl
+
+-- and is named as before
+named_told : (p group : ℕ) (target : Target) (r : Process) → is_named group target (at p news_told r) ≡ is_named group target r
+unfolding news_told
+named_told p group (whom.Process n) r = elim (r.pid == p) as (λ b. ((cond b (record r { news = news.Nothing }) r).pid == n) ≡ (r.pid == n)) [ true ↦ refl | false ↦ refl ]
+named_told p group whom.OwnGroup r = elim (r.pid == p) as (λ b. ((cond b (record r { news = news.Nothing }) r).group == group) ≡ (r.group == group)) [ true ↦ refl | false ↦ refl ]
+named_told p group (whom.Group n) r = elim (r.pid == p) as (λ b. ((cond b (record r { news = news.Nothing }) r).group == n) ≡ (r.group == n)) [ true ↦ refl | false ↦ refl ]
+named_told p group whom.All r = refl
+named_told p group whom.Nobody r = refl
+
+parent_told : (p : ℕ) (r : Process) → (at p news_told r).parent ≡ r.parent
+unfolding news_told
+parent_told p r = elim (r.pid == p) as (λ b. (cond b (record r { news = news.Nothing }) r).parent ≡ r.parent) [ true ↦ refl | false ↦ refl ]
+
+-- a wait that found nothing finds nothing
+nothing_told : (p : ℕ) (rs : List Process) (caller group : ℕ) (target : Target) (options : ℕ) → report rs caller group target options ≡ found.Nothing → report (map (at p news_told) rs) caller group target options ≡ found.Nothing
+unfolding report
+nothing_told p rs caller group target options e =
+    ap (λ ks. report_among options (filter (is_named group target) ks)) (children_map (at p news_told) (parent_told p) caller rs)
+    ∙ ap (report_among options) (filter_map (is_named group target) (at p news_told) (named_told p group target) (children_in caller rs))
+    ∙ nothing_found options (at p news_told) (reports_less p options) (filter (is_named group target) (children_in caller rs)) e
+
+-- a wait that has to wait found nothing
+record IsWaiting (is_known : Bool) (options : ℕ) (what : Report) : Type 0 where
+  pub known : is_known ≡ true
+  pub stays : has_option options 1 ≡ false
+  pub nothing : what ≡ found.Nothing
+
+waiting : (s : State) (p options : ℕ) (what : Report) (known : Bool) → is_block (cond known (wait_with s p options what) (refused s p Waitpid EINVAL)) ≡ true → IsWaiting known options what
+waiting s p options what false e = absurd (cc)
+waiting s p options found.NoChild true e = absurd (cc)
+waiting s p options found.Nothing true e = elim (has_option options 1) as (λ b. has_option options 1 ≡ b → is_block (cond b (gives s p Waitpid (pos 0)) (Block blocked.Waitpid)) ≡ true → IsWaiting true options found.Nothing) [
+  | true ↦ λ t k. absurd (cc)
+  | false ↦ λ t k. record { known = refl; stays = t; nothing = refl }
+] refl e
+waiting s p options (found.End c status) true e = absurd (cc)
+waiting s p options (found.Change c status) true e = absurd (cc)
+
+-- and has to wait still
+waits_still : (s : State) (p : ℕ) (me : Process) → is_block (wait s me) ≡ true → is_block (wait (change s p news_told) me) ≡ true
+unfolding wait changed
+waits_still s p me e =
+    let options = options_in (argument me 2) in
+    let target = target_in (argument me 1) in
+    let w = waiting s me.pid options (report s.processes me.pid me.group target options) (are_known options) e in
+    rw (w.known, nothing_told p s.processes me.pid me.group target options w.nothing, w.stays) refl
+
+goes_on_before : (s : State) (p : ℕ) (me : Process) (b : Option Blocked) → can_go_on (change s p news_told) me b ≡ true → can_go_on s me b ≡ true
+unfolding attempt_again
+goes_on_before s p me None e = refl
+goes_on_before s p me (Some blocked.Waitpid) e = elim (is_block (wait s me)) as (λ b. is_block (wait s me) ≡ b → not b ≡ true) [
+  | true ↦ λ t. let no : false ≡ true = sym (ap not (waits_still s p me t)) ∙ e in absurd (cc)
+  | false ↦ λ t. refl
+] refl
+goes_on_before s p me (Some blocked.Pause) e = e
+goes_on_before s p me (Some (blocked.Sigsuspend mask)) e = e
+
+acts_before : (s : State) (p : ℕ) (r : Process) → can_act (change s p news_told) r ≡ true → can_act s r ≡ true
+unfolding can_act
+acts_before s p r e = less (is_living r && is_pending r.signals KILL) (is_running r.life) (can_go_on (change s p news_told) r r.blocked) (can_go_on s r r.blocked) (is_some (chosen r.life r.signals)) (goes_on_before s p r r.blocked) e
+  where
+    less : (k l a b c : Bool) → (a ≡ true → b ≡ true) → (k || l && (a || c)) ≡ true → (k || l && (b || c)) ≡ true
+    less true l a b c h e = refl
+    less false false a b c h e = e
+    less false true true b c h e = rw (h refl) refl
+    less false true false true c h e = refl
+    less false true false false c h e = e
+
+-- news that are told touch nobody else
+pub touches_told : (s : State) (p : ℕ) → Touches s (change s p news_told) (p ∷ [])
+unfolding news_told
+touches_told s p q r e out = record {
+  placed = λ h. h;
+  old = r;
+  found = other_back p q news_told (λ r. refl) (apart_first q p [] out) s.processes r e;
+  acts = acts_before s p r;
+}

@@ -1,0 +1,126 @@
+-- What decides whether a process can act: its record but for its parent, and what it sees of its children.
+use Rattle.std.proofs.Common.{◌≡◌, ℕ, Bool, true, false, cond, not, ◌&&◌, ◌||◌, refl, ap, sym, ◌∙◌, subst, List, [], ◌∷◌, map, filter, find, Option, Some, None, is_some}
+use Rattle.posix.specs.declared.process.Life.{Life}
+use Rattle.posix.specs.declared.process.News.{News}
+use Rattle.posix.specs.declared.process.Blocked.{Blocked}
+use Rattle.posix.specs.declared.process.Blocked.TheVariants as blocked
+use Rattle.posix.specs.declared.process.Report.{Report}
+use Rattle.posix.specs.declared.process.Report.TheVariants as found
+use Rattle.posix.specs.declared.target.Target.{Target}
+use Rattle.posix.specs.declared.target.Target.TheVariants as whom
+use Rattle.posix.specs.SignalNumbers.{KILL}
+use Rattle.posix.specs.Processes.{Process, first_process, is_running, is_living, argument}
+use Rattle.posix.specs.Tables.{children_in}
+use Rattle.posix.specs.States.{State}
+use Rattle.posix.specs.Outcomes.{Attempted}
+use Rattle.posix.specs.Targets.{target_in}
+use Rattle.posix.specs.Waits.{wait, wait_with, is_named, is_something, report, report_of, report_found, report_among, reports, options_in, are_known, has_option}
+use Rattle.posix.specs.Generation.{is_pending}
+use Rattle.posix.specs.Choice.{chosen}
+use Rattle.posix.specs.Attempts.{attempt_again}
+use Rattle.posix.specs.Settle.{can_act, can_go_on, is_block}
+
+-- what a parent that waits sees of a child
+pub record Seen : Type 0 where
+  pub pid : ℕ
+  pub group : ℕ
+  pub life : Life
+  pub news : News
+
+abbrev pub seen : Process → Seen
+seen r = record { pid = r.pid; group = r.group; life = r.life; news = r.news }
+
+-- what p sees of its children
+unfoldable pub sees : ℕ → List Process → List Seen
+sees p rs = map seen (children_in p rs)
+
+-- the same process, but for its parent
+pub record Alike (old new : Process) : Type 0 where
+  pub parent : ℕ
+  pub is : new ≡ record old { parent = parent }
+
+-- ---- what a wait finds
+
+-- a process of which only this is seen
+unsee : Seen → Process
+unsee e = record first_process { pid = e.pid; group = e.group; life = e.life; news = e.news }
+
+named_seen : (group : ℕ) (target : Target) (r : Process) → is_named group target (unsee (seen r)) ≡ is_named group target r
+unfolding unsee
+named_seen group (whom.Process p) r = refl
+named_seen group whom.OwnGroup r = refl
+named_seen group (whom.Group p) r = refl
+named_seen group whom.All r = refl
+named_seen group whom.Nobody r = refl
+
+report_seen : (options : ℕ) (r : Process) → report_of options (unsee (seen r)) ≡ report_of options r
+unfolding unsee report_of
+report_seen options r = refl
+
+found_seen : (options : ℕ) (rs : List Process) → report_found options (find (reports options) (map unsee (map seen rs))) ≡ report_found options (find (reports options) rs)
+found_seen options [] = refl
+found_seen options (r ∷ rs) =
+    let same : reports options (unsee (seen r)) ≡ reports options r = ap is_something (report_seen options r) in
+    elim (reports options r) as (λ b. reports options r ≡ b → report_found options (find (reports options) (unsee (seen r) ∷ map unsee (map seen rs))) ≡ report_found options (cond b (Some r) (find (reports options) rs))) [
+      | true ↦ λ e. let u : reports options (unsee (seen r)) ≡ true = same ∙ e in rw u (report_seen options r)
+      | false ↦ λ e. let u : reports options (unsee (seen r)) ≡ false = same ∙ e in rw u (found_seen options rs)
+    ] refl
+
+among_seen : (options : ℕ) (rs : List Process) → report_among options (map unsee (map seen rs)) ≡ report_among options rs
+among_seen options [] = refl
+among_seen options (r ∷ rs) = found_seen options (r ∷ rs)
+
+named_all : (group : ℕ) (target : Target) (rs : List Process) → filter (is_named group target) (map unsee (map seen rs)) ≡ map unsee (map seen (filter (is_named group target) rs))
+named_all group target [] = refl
+named_all group target (r ∷ rs) =
+    let same = named_seen group target r in
+    elim (is_named group target r) as (λ b. is_named group target r ≡ b → filter (is_named group target) (unsee (seen r) ∷ map unsee (map seen rs)) ≡ map unsee (map seen (cond b (r ∷ filter (is_named group target) rs) (filter (is_named group target) rs)))) [
+      | true ↦ λ e. let u : is_named group target (unsee (seen r)) ≡ true = same ∙ e in rw u (ap (λ l. unsee (seen r) ∷ l) (named_all group target rs))
+      | false ↦ λ e. let u : is_named group target (unsee (seen r)) ≡ false = same ∙ e in rw u (named_all group target rs)
+    ] refl
+
+-- a report is one of what is seen of the children
+report_sees : (rs ts : List Process) (p group : ℕ) (target : Target) (options : ℕ) → sees p rs ≡ sees p ts → report rs p group target options ≡ report ts p group target options
+unfolding report sees
+report_sees rs ts p group target options e =
+    let at = λ (ks : List Process). sym (among_seen options (filter (is_named group target) ks)) ∙ ap (report_among options) (sym (named_all group target ks)) in
+    at (children_in p rs) ∙ ap (λ l. report_among options (filter (is_named group target) (map unsee l))) e ∙ sym (at (children_in p ts))
+
+-- ---- whether a call needn't wait
+
+-- a test that both make alike
+block_if : (b : Bool) (x y u v : Attempted) → is_block x ≡ is_block u → is_block y ≡ is_block v → is_block (cond b x y) ≡ is_block (cond b u v)
+block_if true x y u v h k = h
+block_if false x y u v h k = k
+
+-- what was found decides alone
+block_with : (s t : State) (p options : ℕ) (what : Report) → is_block (wait_with s p options what) ≡ is_block (wait_with t p options what)
+block_with s t p options found.NoChild = refl
+block_with s t p options found.Nothing = block_if (has_option options 1) _ _ _ _ refl refl
+block_with s t p options (found.End c status) = refl
+block_with s t p options (found.Change c status) = refl
+
+block_wait : (s t : State) (me : Process) (n : ℕ) → sees me.pid t.processes ≡ sees me.pid s.processes → is_block (wait t (record me { parent = n })) ≡ is_block (wait s me)
+unfolding wait
+block_wait s t me n e =
+    let options = options_in (argument me 2) in
+    block_if (are_known options) _ _ _ _
+    (ap (λ w. is_block (wait_with t me.pid options w)) (report_sees t.processes s.processes me.pid me.group (target_in (argument me 1)) options e)
+    ∙ block_with t s me.pid options (report s.processes me.pid me.group (target_in (argument me 1)) options)) refl
+
+go_on_alike : (s t : State) (me : Process) (n : ℕ) (b : Option Blocked) → sees me.pid t.processes ≡ sees me.pid s.processes → can_go_on t (record me { parent = n }) b ≡ can_go_on s me b
+unfolding attempt_again
+go_on_alike s t me n None e = refl
+go_on_alike s t me n (Some blocked.Waitpid) e = ap not (block_wait s t me n e)
+go_on_alike s t me n (Some blocked.Pause) e = refl
+go_on_alike s t me n (Some (blocked.Sigsuspend mask)) e = refl
+
+pub can_act_alike : (s t : State) (old new : Process) → Alike old new → sees old.pid t.processes ≡ sees old.pid s.processes → can_act t new ≡ can_act s old
+unfolding can_act
+can_act_alike s t old new a e =
+    subst (λ new. can_act t new ≡ can_act s old) (sym a.is)
+    (ap (λ b. is_living old && is_pending old.signals KILL || is_running old.life && (b || is_some (chosen old.life old.signals))) (go_on_alike s t old a.parent old.blocked e))
+
+-- the order doesn't count
+pub can_act_order : (s : State) (o : List ℕ) (r : Process) → can_act (record s { order = o }) r ≡ can_act s r
+can_act_order s o r = can_act_alike s (record s { order = o }) r r (record { parent = r.parent; is = refl }) refl

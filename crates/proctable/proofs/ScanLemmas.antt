@@ -1,0 +1,100 @@
+-- Slots in rising order.
+use Rattle.std.proofs.Common.{◌≡◌, ℕ, ◌+◌, true, false, cond, refl, ap, sym, ◌∙◌, subst, List, [], ◌∷◌, ◌++◌, filter, find, length, take, drop, Some, nat_lt, ◌==◌, slice_get, slice_set, get_or}
+use Rattle.std.specs.Option.{option_map}
+use Rattle.std.proofs.lemmas.Option.{slice_get-map}
+use Rattle.posix.specs.Processes.{Process}
+use Rattle.posix.specs.Tables.{IsRising, lookup, is_child, children_in, first_pid, above, parent_of, next_sibling, next_above, inserted, pids}
+use Rattle.posix.proofs.TableLemmas.{Above, lookup_at, changed_at, rising_changed}
+use Rattle.posix.proofs.WalkLemmas.{filters_commute}
+use Rattle.pidset.specs.Numbers.{Rises, numbers_above, IsNumberAt, inserted_by}
+use Rattle.pidset.proofs.NumberLemmas.{AllAbove}
+use Rattle.pidset.proofs.RowLemmas.{above_at, read_at as row_read}
+use Rattle.proctable.specs.declared.body.Body.{Body}
+use Rattle.proctable.specs.Body.{process_of, give_body, with_body}
+
+-- ---- records as rows
+
+above_numbers : (n : ℕ) (rs : List Process) → Above n rs → AllAbove n (pids rs)
+above_numbers n [] a = tt
+above_numbers n (r ∷ rs) a = (a.0, above_numbers n rs a.1)
+
+-- the numbers of records in rising order rise
+pub rises_pids : (rs : List Process) → IsRising rs → Rises (pids rs)
+unfolding IsRising Rises
+rises_pids [] u = tt
+rises_pids (r ∷ rs) u = (above_numbers r.pid rs u.0, rises_pids rs u.1)
+
+-- a record goes in as a row does
+pub inserted_row : (new : Process) (rs : List Process) → inserted_by (λ (r : Process). r.pid) new rs ≡ inserted new rs
+unfolding inserted inserted_by
+inserted_row new [] = refl
+inserted_row new (r ∷ rs) = ap (λ l. cond (nat_lt new.pid r.pid) (new ∷ r ∷ rs) (r ∷ l)) (inserted_row new rs)
+
+-- the least number above another is that of the next record
+pub next_row : (n : ℕ) (rs : List Process) → slice_get (numbers_above n (pids rs)) 0 ≡ next_above n rs
+unfolding next_above
+next_row n [] = refl
+next_row n (r ∷ rs) = elim (nat_lt n r.pid) as (λ b. slice_get (cond b (r.pid ∷ numbers_above n (pids rs)) (numbers_above n (pids rs))) 0 ≡ first_pid (cond b (r ∷ above n rs) (above n rs))) [ true ↦ refl | false ↦ next_row n rs ]
+
+-- ---- a record that was read
+
+-- a record that was read where a process stands
+pub record Read (rs : List Process) (p i : ℕ) (r : Process) : Type 0 where
+  pub at : slice_get rs i ≡ Some r
+  pub here : r.pid ≡ p
+  pub looked : lookup p rs ≡ Some r
+
+-- the record at the index of a process is such a record
+pub read_at : (rs : List Process) → IsRising rs → (p i : ℕ) (r : Process) → IsNumberAt (pids rs) p i → r ≡ get_or rs i r → Read rs p i r
+read_at rs up p i r a e =
+    let at : slice_get rs i ≡ Some r = row_read (λ (r : Process). r.pid) rs p i r a e in
+    let named : Some r.pid ≡ Some p = sym (slice_get-map (λ (r : Process). r.pid) rs i ∙ ap (option_map (λ (r : Process). r.pid)) at) ∙ a in
+    let here : r.pid ≡ p = cc in
+    record { at = at; here = here; looked = lookup_at rs up p i r at here }
+
+-- ---- children
+
+-- the first process that is found to be a child is the first child
+pub first_is : (p : ℕ) (rs : List Process) → option_map (λ (r : Process). r.pid) (find (is_child p) rs) ≡ first_pid (children_in p rs)
+unfolding children_in
+first_is p [] = refl
+first_is p (x ∷ xs) =
+    elim (x.parent == p) as (λ b. option_map (λ (r : Process). r.pid) (cond b (Some x) (find (is_child p) xs)) ≡ first_pid (cond b (x ∷ filter (is_child p) xs) (filter (is_child p) xs))) [ true ↦ refl | false ↦ first_is p xs ]
+
+-- the first after a process that has the same parent is its next sibling
+pub sibling_is : (rs : List Process) → IsRising rs → (p i : ℕ) (r : Process) → IsNumberAt (pids rs) p i → r ≡ get_or rs i r → first_pid (children_in r.parent (drop (i + 1) rs)) ≡ next_sibling p rs
+unfolding next_sibling children_in
+sibling_is rs up p i r a is =
+    let q : parent_of p rs ≡ r.parent = rw (read_at rs up p i r a is).looked refl in
+    rw (above_at (λ (r : Process). r.pid) rs (rises_pids rs up) p i a) (ap first_pid (filters_commute (is_child r.parent) (λ r. nat_lt p r.pid) rs) ∙ ap (λ n. first_pid (above p (filter (is_child n) rs))) (sym q))
+
+-- ---- another body at an index
+
+-- a process that gets another body keeps its pid
+pub pid_given : (b : Body) (r : Process) → (give_body b r).pid ≡ r.pid
+unfolding give_body
+pid_given b r = refl
+
+-- another body put at the index is another body of the process
+pub set_is : (rs : List Process) → IsRising rs → (p i : ℕ) (r : Process) (b : Body) → Read rs p i r → slice_set rs i (give_body b r) ≡ with_body rs p b
+set_is rs up p i r b a = sym (changed_at rs up p i r (give_body b) a.at a.here)
+
+-- another body put at the index keeps the order
+pub set_rises : (rs : List Process) → IsRising rs → (p i : ℕ) (r : Process) (b : Body) → Read rs p i r → IsRising (slice_set rs i (give_body b r))
+set_rises rs up p i r b a = subst IsRising (changed_at rs up p i r (give_body b) a.at a.here) (rising_changed p (give_body b) (pid_given b) rs up)
+
+-- a process is its pid, its parent and the body that was read
+pub value_is : (rs : List Process) (p i : ℕ) (r : Process) (b : Body) → Read rs p i r → r ≡ process_of r.pid r.parent b → lookup p rs ≡ Some (process_of p (parent_of p rs) b)
+value_is rs p i r b a e =
+    let q : parent_of p rs ≡ r.parent = rw a.looked refl in
+    a.looked ∙ ap Some (e ∙ ap (λ n. process_of n r.parent b) a.here ∙ ap (λ q. process_of p q b) (sym q))
+
+-- ---- what a slice of a vector leaves in it
+
+-- as many records as there were take the place of all
+pub in_place : (xs ys : List Process) (n : ℕ) → n ≡ length xs → length ys ≡ length xs → take n (ys ++ drop (length ys) xs) ≡ ys
+in_place xs ys n e l = subst (λ m. take m (ys ++ drop (length ys) xs) ≡ ys) (l ∙ sym e) (taken ys _)
+  where
+    taken : (ys zs : List Process) → take (length ys) (ys ++ zs) ≡ ys
+    taken [] zs = refl
+    taken (y ∷ ys) zs = ap (λ l. y ∷ l) (taken ys zs)

@@ -1,8 +1,0 @@
-use Rattle.proctable.proofs.SlotLemmas.{above_at, above_gap}
-use Rattle.proctable.proofs.scan.start_above.Goals as goal
-
-pub returns-in-Ok-clause-rest : goal.returns-in-Ok-clause-rest
-returns-in-Ok-clause-rest c = above_at c.args.slots.now c.requires c.args.pid _ c.in-Ok.ensures.found
-
-pub returns-in-Err-clause-rest : goal.returns-in-Err-clause-rest
-returns-in-Err-clause-rest c = above_gap c.args.slots.now c.requires c.args.pid _ c.in-Err.ensures.absent
