@@ -30,10 +30,7 @@ use Rattle.posix.proofs.MapLemmas.{at_pid, lookup_on}
 -- what a search finds passes its test
 find_passes : (t : ℕ → Bool) (ns : List ℕ) (n : ℕ) → find t ns ≡ Some n → t n ≡ true
 find_passes t [] n e = absurd (cc)
-find_passes t (m ∷ ms) n e = elim (t m) as (λ b. t m ≡ b → cond b (Some m) (find t ms) ≡ Some n → t n ≡ true) [
-  | true ↦ λ k h. let same : m ≡ n = cc in ap t (sym same) ∙ k
-  | false ↦ λ k h. find_passes t ms n h
-] refl e
+find_passes t (m ∷ ms) n e = grind (arith, find_passes t ms n)
 
 -- a signal that is ready is pending
 ready_pending : (g : Signals) (n : ℕ) → least_ready g ≡ Some n → is_pending g n ≡ true

@@ -1,7 +1,7 @@
 -- The child that a wait reports.
-use Rattle.std.proofs.Common.{◌≡◌, ◌≢◌, ℕ, Bool, true, false, cond, refl, ap, sym, ◌∙◌, arith, subst, List, [], ◌∷◌, filter, find, Option, Some, None, ◌==◌, nat_lt}
+use Rattle.std.proofs.Common.{◌≡◌, ◌≢◌, ℕ, Bool, true, false, cond, refl, ap, sym, ◌∙◌, arith, subst, List, [], ◌∷◌, filter, find, Option, Some, None}
 use Rattle.std.specs.Option.{IsSome}
-use Rattle.std.proofs.lemmas.Bool.{eqb-true, eq-eqb, ne_eqb}
+use Rattle.std.proofs.lemmas.Bool.{eqb-true, eq-eqb}
 use Rattle.posix.specs.declared.process.Life.{Life}
 use Rattle.posix.specs.declared.process.Life.TheVariants.{Running, Stopped, Zombie}
 use Rattle.posix.specs.declared.process.News.{News}
@@ -11,12 +11,12 @@ use Rattle.posix.specs.declared.target.Target.{Target}
 use Rattle.posix.specs.declared.process.Report.TheVariants as found
 use Rattle.posix.specs.Statuses.{stopped, continued}
 use Rattle.posix.specs.Processes.{Process, is_zombie}
-use Rattle.posix.specs.Tables.{IsRising, has_pid, lookup, changed, inserted, removed, is_child, children_in, at}
+use Rattle.posix.specs.Tables.{IsRising, lookup, changed, removed, is_child, children_in, at}
 use Rattle.posix.specs.States.{State}
 use Rattle.posix.specs.Regular.{IsRegular, IsPlaced}
 use Rattle.posix.specs.Waits.{is_named, has_option, WUNTRACED, WCONTINUED, report_change, report_life, report_of, reports, report_found, report_among, report}
-use Rattle.posix.proofs.TableLemmas.{Above, lookup_above, rising_filter, pid_looked}
-use Rattle.posix.proofs.WalkLemmas.{in_filter}
+use Rattle.posix.proofs.TableLemmas.{rising_filter, pid_looked}
+use Rattle.posix.proofs.WalkLemmas.{in_filter, found_above}
 use Rattle.posix.proofs.MapLemmas.{at_pid, some_map}
 use Rattle.posix.proofs.RegularLemmas.{lookup_kept}
 
@@ -86,14 +86,7 @@ of_named options r q e = life_named options r.pid r.life r.news q e
 find_looked : (t : Process → Bool) (rs : List Process) → IsRising rs → (r : Process) → find t rs ≡ Some r → lookup r.pid rs ≡ Some r
 unfolding lookup IsRising
 find_looked t [] up r e = absurd (cc)
-find_looked t (x ∷ xs) up r e =
-    elim (t x) as (λ b. cond b (Some x) (find t xs) ≡ Some r → find (has_pid r.pid) (x ∷ xs) ≡ Some r) [
-      | true ↦ λ k. let same : x ≡ r = cc in rw (eq-eqb x.pid r.pid (ap (λ (q : Process). q.pid) same)) (ap Some same)
-      | false ↦ λ k.
-          let later = find_looked t xs up.1 r k in
-          let other : x.pid ≢ r.pid = (λ same. let no = sym (lookup_above r.pid xs (subst (λ n. Above n xs) same up.0)) ∙ later in absurd (cc)) in
-          rw (ne_eqb x.pid r.pid other) later
-    ] e
+find_looked t (x ∷ xs) up r e = grind (arith, found_above x.pid r.pid xs r up.0, find_looked t xs up.1 r, eqb-true, eq-eqb)
 
 -- who is found there and reports this
 record InFound (options : ℕ) (rs : List Process) (o : Report) : Type 0 where
@@ -159,12 +152,3 @@ caller_stays rs caller child me h =
 pub some_changed : (p q : ℕ) (f : Process → Process) → ((r : Process) → (f r).pid ≡ r.pid) → (rs : List Process) → IsSome (lookup q rs) → IsSome (lookup q (changed p f rs))
 unfolding changed
 some_changed p q f keeps rs h = some_map (at p f) (at_pid p f keeps) q rs h
-
--- who is there is there after a birth
-pub some_inserted : (new : Process) (q : ℕ) (rs : List Process) → IsSome (lookup q rs) → IsSome (lookup q (inserted new rs))
-unfolding lookup inserted
-some_inserted new q [] h = absurd (cc)
-some_inserted new q (r ∷ rs) h = elim (nat_lt new.pid r.pid) as (λ b. IsSome (find (has_pid q) (cond b (new ∷ r ∷ rs) (r ∷ inserted new rs)))) [
-  | true ↦ elim (new.pid == q) as (λ b. IsSome (cond b (Some new) (find (has_pid q) (r ∷ rs)))) [ true ↦ refl | false ↦ h ]
-  | false ↦ elim (r.pid == q) as (λ b. IsSome (cond b (Some r) (find (has_pid q) rs)) → IsSome (cond b (Some r) (find (has_pid q) (inserted new rs)))) [ true ↦ λ k. refl | false ↦ λ k. some_inserted new q rs k ] h
-]

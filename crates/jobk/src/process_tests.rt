@@ -5,12 +5,13 @@ ghost use Rattle.std.proofs.Common.{arith};
 ghost use Rattle.proctable.specs.ScanTable.{scan_with_body};
 
 use crate::tests::{expect_run, expect_run_on};
-use kernel::{RunError, Summary, WriteSink, run, run_on};
-use posix::Pid;
-use proctable::{Body, Facts, Kin, ScanTable};
+use kernel::{KernelOn, RunError, Summary, WriteSink, run, run_on};
+use posix::{Event, Pid};
+use proctable::{Body, Facts, Kin, ProcTable, ScanTable};
 use std::alloc::{AllocError, Global};
 use std::process::Abort;
 use std::test::Fail;
+use text::read_world;
 
 const NUMBERS_WRAP: &[u8] = b"\
 pidmax 4
@@ -116,6 +117,41 @@ note r0
 ld r2, r1
 note r2
 sys fork
+end
+";
+
+/// Process 1, which ignores CHLD, has 900 children that pause. Then it goes in rounds of nine steps, with
+/// the two of a child that is born, ends and is dropped: a note, a getpid, CHLD to the last sleeper, the
+/// birth, a yield.
+const SLEEPERS: &[u8] = b"\
+pidmax 1000
+consoles 1
+program init
+set r1, 17
+set r2, 1
+sys sigaction
+set r2, 17
+set r5, 900
+set r6, 1
+again:
+sys fork
+jz r0, sleeper
+sub r5, r6
+jnz r5, again
+mov r1, r0
+sys sched_yield
+loop:
+note r1
+sys getpid
+sys kill
+sys fork
+jz r0, child
+sys sched_yield
+jmp loop
+child:
+sys exit
+sleeper:
+sys pause
 end
 ";
 
@@ -347,4 +383,44 @@ fn a_start_without_memory_is_an_error(rt: HostRuntime) {
     let got = run_on::<RefusingTable<1>, _>(rt.alloc(), TWO_FORKS, b"step 2\n", &mut out);
     assert!(rt; got == Err(RunError::Memory));
     assert_eq!(rt; out.into_writer().len(), 0);
+}
+
+/// An event reads at least so many slots of the table, and at most 16. How many entries it shows.
+fn expect_slots<R: Abort + AllocGlobal>(
+    rt: &R,
+    kernel: &mut KernelOn<ProcTable>,
+    event: Event,
+    least: u128,
+) -> usize {
+    assert!(rt; kernel.events() < 10_000);
+    let before = kernel.visits();
+    let shown = kernel.event(event).len();
+    let slots = kernel.visits().wrapping_sub(before);
+    assert!(rt; least <= slots && slots <= 16);
+    shown
+}
+
+#[test]
+fn sleepers_are_not_asked(rt: HostRuntime) -> Result<(), Fail> {
+    let world = read_world(rt.alloc(), SLEEPERS)?;
+    let mut kernel = KernelOn::<ProcTable>::boot(rt.alloc(), &world)?;
+    for _ in 0..5408 {
+        assert!(rt; kernel.events() < 10_000);
+        kernel.event(Event::Step);
+    }
+    assert_eq!(rt; kernel.census().living, 901);
+    let mut shown: usize = 0;
+    for i in 0..100 {
+        let (event, least) = if i % 10 == 9 {
+            (Event::Tick, 0)
+        } else {
+            (Event::Step, 1)
+        };
+        shown = shown.wrapping_add(expect_slots(&rt, &mut kernel, event, least));
+    }
+    // Ten rounds, each of which shows a line for each of its calls, the note and the end.
+    assert_eq!(rt; shown, 60);
+    assert_eq!(rt; kernel.census().births, 911);
+    assert_eq!(rt; kernel.census().dropped, 10);
+    Ok(())
 }

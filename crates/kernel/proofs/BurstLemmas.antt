@@ -17,7 +17,7 @@ use Rattle.posix.specs.Runs.{RunsFrom}
 use Rattle.posix.specs.Step.{IsStep, after_trap, code_of, set_cpu}
 use Rattle.posix.specs.Settle.{NoWakeIsLost}
 use Rattle.posix.specs.Regular.{IsRegular}
-use Rattle.posix.proofs.TableLemmas.{pid_looked, lookup_changed, rising_changed, changed_id}
+use Rattle.posix.proofs.TableLemmas.{pid_looked, rising_changed, changed_id}
 use Rattle.posix.proofs.WakeLemmas.{act_has_place}
 use Rattle.posix.proofs.OrderLemmas.{first_in}
 use Rattle.proctable.specs.declared.facts.Facts.{Facts}
@@ -25,6 +25,7 @@ use Rattle.proctable.specs.Body.{facts_of}
 use Rattle.umach.specs.Bursts.{Burst, then_rest, exec_until}
 use Rattle.kernel.specs.Steps.{Bursts, shown, note_of}
 use Rattle.calls.proofs.CallLemmas.{same_outcome}
+use Rattle.calls.proofs.ChosenLemmas.{changed_there}
 use Rattle.kernel.proofs.PlainLemmas.{plain_step, none_of}
 
 -- p is current, and about to run an instruction
@@ -45,10 +46,7 @@ keeps c r = refl
 
 -- the process with another processor is found
 found : (s : State) (p : ℕ) (me : Process) (c : Cpu) → process s p ≡ Some me → process (change s p (set_cpu c)) p ≡ Some (set_cpu c me)
-found s p me c here =
-    let same : (p == p) ≡ true = grind arith in
-    lookup_changed p p (set_cpu c) (keeps c) s.processes
-    ∙ ap (λ b. cond b (option_map (set_cpu c) (lookup p s.processes)) (lookup p s.processes)) same ∙ ap (option_map (set_cpu c)) here
+found s p me c here = changed_there p (set_cpu c) (keeps c) s.processes me here
 
 -- after a step that only changed its processor it is ready again
 stays_ready : (s : State) (p : ℕ) (me : Process) (c : Cpu) → IsReady s p me → IsStep s Step [] (change s p (set_cpu c)) → IsReady (change s p (set_cpu c)) p (set_cpu c me)
@@ -280,7 +278,3 @@ note_is s x p r same most t es trap_is list =
     let found : current_process s ≡ Some me = ap (option_and_then (process s)) ready.now ∙ ready.here in
     let shows : note_of s most (Some me) ≡ shown p (exec_until (code_of s me) most me.cpu).trap = rw (none, free) (ap (λ n. shown n (exec_until (code_of s me) most me.cpu).trap) (pid_looked p s.processes me ready.here)) in
     list ∙ ap (shown p) here ∙ sym (ap (note_of s most) found ∙ shows)
-
-pub nothing : (es : List Entry) → length es ≡ 0 → es ≡ []
-nothing [] e = refl
-nothing (x ∷ es) e = absurd (omega (arith, e))

@@ -52,7 +52,8 @@ use Rattle.posix.specs.Step.{IsStep, next, happens, step, act, act_in, after_tra
 use Rattle.posix.specs.Settle.{NoWakeIsLost}
 use Rattle.posix.proofs.TableLemmas.{pid_looked}
 use Rattle.posix.proofs.OrderLemmas.{first_in}
-use Rattle.posix.proofs.WakeLemmas.{next_awake, next_entries, next_nothing}
+use Rattle.posix.proofs.CountLemmas.{next_halted}
+use Rattle.posix.proofs.WakeLemmas.{next_awake}
 use Rattle.posix.proofs.TouchLemmas.{Unseen}
 use Rattle.posix.proofs.UnseenLemmas.{settle_unseen}
 
@@ -452,12 +453,12 @@ record Unsettled (s new : State) (e : Entry) : Type 0 where
 unsettled : (granted : Bool) (s : State) (event : Event) (e : Entry) → Contains (next granted s event).entries e → Unsettled s (next granted s event).state e
 unsettled granted s event e c =
     elim s.halted as (λ b. s.halted ≡ b → Unsettled s (next granted s event).state e) [
-      | true ↦ λ h. let l = (subst (λ es. Contains es e) (next_nothing granted s event h) c).1 in absurd (omega arith)
+      | true ↦ λ h. let l = (subst (λ (o : Outcome). Contains o.entries e) (next_halted granted s event h) c).1 in absurd (omega arith)
       | false ↦ λ h.
-          let there : Contains (happens granted s event).entries e = subst (λ es. Contains es e) (next_entries granted s event h) c in
+          let there : Contains (happens granted s event).entries e = subst (λ (o : Outcome). Contains o.entries e) (next_awake granted s event h) c in
           record {
             mid = (happens granted s event).state;
-            is = next_awake granted s event h;
+            is = ap (λ (o : Outcome). o.state) (next_awake granted s event h);
             tells = all_contains (Told s (happens granted s event).state) _ (told_happens granted s event) e there;
           }
     ] refl

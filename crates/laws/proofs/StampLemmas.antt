@@ -2,7 +2,7 @@
 use Rattle.std.proofs.Common.{ℕ, suc, ◌<◌, ◌≤◌, Bool, true, false, cond, not, ◌||◌, ◌==◌, List, [], ◌∷◌, ◌++◌, get_or, slice_get, Option, Some, None, is_some, IsSome, All, AllPairs, Contains, ◌≡◌, ⊎_elim, refl, sym, ap, subst, ◌∙◌, arith}
 use Rattle.std.specs.List.{list_any}
 use Rattle.std.specs.Bool.{one_answer}
-use Rattle.std.proofs.lemmas.Bool.{eqb-true, eqb-false, eq-eqb, ne_eqb, cases_eq, cases_Bool}
+use Rattle.std.proofs.lemmas.Bool.{eqb-true, eqb-false, eq-eqb, ne_eqb, not-true, cases_eq, cases_Bool}
 use Rattle.std.proofs.lemmas.List.Elements.{All-weaker, All-filter, filter_passes, Contains-get_or}
 use Rattle.std.proofs.lemmas.List.Folds.{Any-from_list_any, list_any_at, list_any-append}
 use Rattle.std.proofs.lemmas.List.Kept.{AllPairs-filter}
@@ -63,15 +63,11 @@ agree : (order : List ℕ) (old new : Stamps) → All (λ x. new x ≡ old x) or
     → Rises old order → Rises new order
 agree order old new same rising i j d lt within = rw (same i d (omega arith), same j d within) (rising i j d lt within)
 
--- what the filter keeps is not p
-is_other : (p x : ℕ) → not (x == p) ≡ true → (x == p) ≡ false
-is_other p x e = grind arith
-
 -- no element is p
 all_others : (p : ℕ) (order : List ℕ) → All (λ x. (x == p) ≡ false) (without p order)
 unfolding without
 all_others p order =
-    All-weaker (λ x. not (x == p) ≡ true) (λ x. (x == p) ≡ false) (is_other p) (without p order) (filter_passes (λ x. not (x == p)) order)
+    All-weaker (λ x. not (x == p) ≡ true) (λ x. (x == p) ≡ false) (λ x e. not-true _ e) (without p order) (filter_passes (λ x. not (x == p)) order)
 
 -- a list without p rises as before
 rising_without : (p : ℕ) (order : List ℕ) (stamps : Stamps) → Rises stamps order → Rises stamps (without p order)

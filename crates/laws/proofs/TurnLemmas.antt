@@ -1,7 +1,6 @@
 -- Who has a place keeps it, and comes nearer to its turn.
-use Rattle.std.proofs.Common.{◌≡◌, ◌≢◌, ℕ, zero, suc, add-zero, append_assoc, ◌+◌, ◌≤◌, Bool, true, false, cond, not, ◌||◌, refl, ap, sym, ◌∙◌, arith, subst, List, [], ◌∷◌, ◌++◌, filter, Option, Some, None, option_and_then, ◌==◌, slice_get, inl, inr}
-use Rattle.std.specs.List.{list_any}
-use Rattle.std.proofs.lemmas.Bool.{eqb-true, eq-eqb, ne_eqb}
+use Rattle.std.proofs.Common.{◌≡◌, ◌≢◌, ℕ, zero, suc, add-zero, append_assoc, ◌+◌, ◌≤◌, Bool, true, false, cond, not, refl, ap, sym, ◌∙◌, arith, subst, List, [], ◌∷◌, ◌++◌, filter, Option, Some, None, option_and_then, ◌==◌, slice_get, inl, inr}
+use Rattle.std.proofs.lemmas.Bool.{eqb-true, eq-eqb, ne_eqb, or_left}
 use Rattle.std.proofs.lemmas.List.Sums.{sum_by-cons}
 use Rattle.posix.specs.declared.event.Event.{Event}
 use Rattle.posix.specs.declared.event.Event.TheVariants.{Step, Tick}
@@ -19,7 +18,9 @@ use Rattle.laws.specs.Turns.{places_before, is_tick, ticks_in, HasTurn}
 use Rattle.posix.proofs.TableLemmas.{pid_looked}
 use Rattle.posix.proofs.OrderLemmas.{without_absent}
 use Rattle.posix.proofs.ActLemmas.{Turned, acted}
-use Rattle.posix.proofs.WakeLemmas.{next_awake, next_halted, nothing_after_halt, in_front, others_stay}
+use Rattle.posix.proofs.CountLemmas.{next_halted}
+use Rattle.posix.proofs.MemberLemmas.{in_append, others_stay}
+use Rattle.posix.proofs.WakeLemmas.{next_awake, nothing_after_halt}
 
 -- ---- the order after an event
 
@@ -69,26 +70,13 @@ first_other q x xs e = rw e refl
 before_front : (q : ℕ) (xs ys : List ℕ) → is_in q xs ≡ true → places_before q (xs ++ ys) ≡ places_before q xs
 unfolding places_before is_in
 before_front q [] ys e = absurd (cc)
-before_front q (x ∷ xs) ys e =
-    elim (x == q) as (λ b. (b || list_any (λ y. y == q) xs) ≡ true → cond b 0 (places_before q (xs ++ ys) + 1) ≡ cond b 0 (places_before q xs + 1)) [
-      | true ↦ λ k. refl
-      | false ↦ λ k. ap (λ n. n + 1) (before_front q xs ys k)
-    ] e
+before_front q (x ∷ xs) ys e = grind (arith, before_front q xs ys)
 
 -- with p gone, no more are before another
 before_without : (p q : ℕ) (o : List ℕ) → p ≢ q → places_before q (without p o) ≤ places_before q o
 unfolding places_before without
 before_without p q [] ne = omega arith
-before_without p q (x ∷ xs) ne =
-    elim (x == p) as (λ b. (x == p) ≡ b → places_before q (cond (not b) (x ∷ filter (λ y. not (y == p)) xs) (filter (λ y. not (y == p)) xs)) ≤ cond (x == q) 0 (places_before q xs + 1)) [
-      | true ↦ λ t.
-          let away : (x == q) ≡ false = ne_eqb _ _ (λ k. ne (sym (eqb-true x p t) ∙ k)) in
-          let l : places_before q (filter (λ y. not (y == p)) xs) ≤ places_before q xs = before_without p q xs ne in
-          rw away (omega (arith, l))
-      | false ↦ λ t.
-          let l : places_before q (filter (λ y. not (y == p)) xs) ≤ places_before q xs = before_without p q xs ne in
-          elim (x == q) as (λ b. cond b 0 (places_before q (filter (λ y. not (y == p)) xs) + 1) ≤ cond b 0 (places_before q xs + 1)) [ true ↦ omega arith | false ↦ omega (arith, l) ]
-    ] refl
+before_without p q (x ∷ xs) ne = grind (arith, ne, before_without p q xs ne, eqb-true)
 
 -- a place, and no more before it than there were
 abbrev Nearer : ℕ → List ℕ → List ℕ → Type 0
@@ -97,17 +85,17 @@ Nearer q old new = (is_in q new ≡ true) × (places_before q new ≤ places_bef
 -- another's turn brings q nearer
 nearer_turned : (p q : ℕ) (old new : List ℕ) → p ≢ q → is_in q old ≡ true → Turned p old new → Nearer q old new
 nearer_turned p q old new ne e (inl same) = (ap (is_in q) same ∙ e, rw same (omega arith))
-nearer_turned p q old new ne e (inr (inl less)) = (ap (is_in q) less ∙ others_stay p q old ne e, rw less (before_without p q old ne))
+nearer_turned p q old new ne e (inr (inl less)) = (ap (is_in q) less ∙ others_stay p q old (λ k. ne (sym k)) ∙ e, rw less (before_without p q old ne))
 nearer_turned p q old new ne e (inr (inr last)) =
-    let stays = others_stay p q old ne e in (
-      ap (is_in q) last ∙ in_front q (without p old) (p ∷ []) stays,
+    let stays = others_stay p q old (λ k. ne (sym k)) ∙ e in (
+      ap (is_in q) last ∙ in_append q (without p old) (p ∷ []) ∙ or_left _ _ stays,
       rw (last, before_front q (without p old) (p ∷ []) stays) (before_without p q old ne),
     )
 
 -- to settle leaves who is before q
 nearer_settled : (s : State) (q : ℕ) (old : List ℕ) → Nearer q old s.order → Nearer q old (settle s).order
 unfolding settle
-nearer_settled s q old h = (in_front q s.order _ h.0, rw (before_front q s.order (pids (filter (wakes s) s.processes)) h.0) h.1)
+nearer_settled s q old h = (in_append q s.order _ ∙ or_left _ _ h.0, rw (before_front q s.order (pids (filter (wakes s) s.processes)) h.0) h.1)
 
 -- an event before a halt brings q nearer
 nearer_awake : (granted : Bool) (s : State) (event : Event) (q : ℕ) → is_in q s.order ≡ true → current s ≢ Some q → Nearer q s.order (settle (happens granted s event).state).order
@@ -119,8 +107,8 @@ nearer_awake granted s event q e ne =
 nearer_next : (granted : Bool) (s : State) (event : Event) (q : ℕ) → is_in q s.order ≡ true → current s ≢ Some q → Nearer q s.order (next granted s event).state.order
 nearer_next granted s event q e ne =
     elim s.halted as (λ b. s.halted ≡ b → Nearer q s.order (next granted s event).state.order) [
-      | true ↦ λ h. subst (λ (n : State). Nearer q s.order n.order) (sym (next_halted granted s event h)) (e, omega arith)
-      | false ↦ λ h. subst (λ (n : State). Nearer q s.order n.order) (sym (next_awake granted s event h)) (nearer_awake granted s event q e ne)
+      | true ↦ λ h. subst (λ (o : Outcome). Nearer q s.order o.state.order) (sym (next_halted granted s event h)) (e, omega arith)
+      | false ↦ λ h. subst (λ (o : Outcome). Nearer q s.order o.state.order) (sym (next_awake granted s event h)) (nearer_awake granted s event q e ne)
     ] refl
 
 -- a step of the relation brings q nearer
@@ -163,7 +151,7 @@ tick_rotates : (s : State) (q : ℕ) (c : Option ℕ) → current s ≡ c → Is
 tick_rotates s q None k d e ne = absurd (no_first q s.order k e)
 tick_rotates s q (Some p) k d e ne =
     let away : p ≢ q = λ x. ne (ap Some x) in
-    one_before p q s.order d k away ∙ ap (λ n. n + 1) (sym (before_front q (without p s.order) (p ∷ []) (others_stay p q s.order away e)))
+    one_before p q s.order d k away ∙ ap (λ n. n + 1) (sym (before_front q (without p s.order) (p ∷ []) (others_stay p q s.order (λ x. away (sym x)) ∙ e)))
 
 -- to settle leaves how many are before q
 settle_counts : (s : State) (q : ℕ) → is_in q s.order ≡ true → places_before q (settle s).order ≡ places_before q s.order
@@ -186,7 +174,7 @@ tick_next : (granted : Bool) (s : State) (q : ℕ) → s.halted ≡ false → Is
 tick_next granted s q h d e ne =
     tick_counts granted s q d e ne
     ∙ ap (λ n. n + 1) (sym (settle_counts _ q (tick_stays granted s q e ne)))
-    ∙ ap (λ (n : State). places_before q n.order + 1) (sym (next_awake granted s Tick h))
+    ∙ ap (λ (o : Outcome). places_before q o.state.order + 1) (sym (next_awake granted s Tick h))
 
 -- at a tick one place less comes before q
 pub tick_nears : (old new : State) (entries : List Entry) → IsStep old Tick entries new → old.halted ≡ false → IsDistinct old.order
@@ -200,21 +188,13 @@ tick_nears old new entries h awake d q e ne =
 pub turn_is_here : (q : ℕ) (o : List ℕ) → is_in q o ≡ true → places_before q o ≡ 0 → slice_get o 0 ≡ Some q
 unfolding is_in places_before
 turn_is_here q [] e k = absurd (cc)
-turn_is_here q (x ∷ xs) e k =
-    elim (x == q) as (λ b. (x == q) ≡ b → cond b 0 (places_before q xs + 1) ≡ 0 → Some x ≡ Some q) [
-      | true ↦ λ t h. ap Some (eqb-true x q t)
-      | false ↦ λ t h. absurd (omega arith)
-    ] refl k
+turn_is_here q (x ∷ xs) e k = grind (arith, k, eqb-true x q)
 
 -- with places before it the process isn't current
 not_current : (q n : ℕ) (o : List ℕ) → places_before q o ≡ suc n → slice_get o 0 ≢ Some q
 unfolding places_before
 not_current q n [] k e = absurd (cc)
-not_current q n (x ∷ xs) k e =
-    let same : x ≡ q = cc in
-    let none : (x == q) ≡ true = eq-eqb x q same in
-    let no : 0 ≡ suc n = rw none at k in
-    absurd (omega arith)
+not_current q n (x ∷ xs) k e = grind (arith, k, e, eq-eqb x q)
 
 -- ---- a run
 
@@ -236,7 +216,7 @@ tick_lowers : (s : State) (q : ℕ) (c : Option ℕ) → current s ≡ c → is_
 tick_lowers s q None k e ne = absurd (no_first q s.order k e)
 tick_lowers s q (Some p) k e ne =
     let away : p ≢ q = λ x. ne (ap Some x) in
-    rw (before_front q (without p s.order) (p ∷ []) (others_stay p q s.order away e)) (fewer_before p q s.order k away)
+    rw (before_front q (without p s.order) (p ∷ []) (others_stay p q s.order (λ x. away (sym x)) ∙ e)) (fewer_before p q s.order k away)
 
 -- a tick takes at least one from before q
 tick_happens : (granted : Bool) (s : State) (q : ℕ) → is_in q s.order ≡ true → current s ≢ Some q
@@ -250,7 +230,7 @@ tick_lessens : (granted : Bool) (s : State) (q : ℕ) → s.halted ≡ false →
 tick_lessens granted s q h e ne =
     let l = tick_happens granted s q e ne in
     let k = settle_counts (happens granted s Tick).state q (tick_stays granted s q e ne) in
-    let n = ap (λ (n : State). places_before q n.order) (next_awake granted s Tick h) in
+    let n = ap (λ (o : Outcome). places_before q o.state.order) (next_awake granted s Tick h) in
     omega (arith, l, k, n)
 
 -- what is left of the ticks is enough

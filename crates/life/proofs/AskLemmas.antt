@@ -1,51 +1,40 @@
 -- The list of those who are to be asked whether they can act.
-use Rattle.std.proofs.Common.{◌≡◌, ◌≢◌, ℕ, ◌+◌, ◌<◌, ◌≤◌, Bool, true, false, cond, not, ◌||◌, ◌&&◌, refl, ap, sym, ◌∙◌, arith, subst, List, [], ◌∷◌, ◌++◌, length, Option, Some, None, ◌==◌, slice_get}
+use Rattle.std.proofs.Common.{◌≡◌, ◌≢◌, ℕ, ◌+◌, ◌<◌, ◌≤◌, true, false, cond, ◌||◌, refl, ap, sym, ◌∙◌, arith, subst, List, [], ◌∷◌, ◌++◌, length, Option, Some, None, ◌==◌, slice_get, ⊎_elim}
 use Rattle.std.specs.List.{AllByRecursion}
 use Rattle.std.specs.Option.{IfSome, IsSome}
-use Rattle.std.proofs.lemmas.Bool.{eqb-true, eqb-false, eq-eqb, ne_eqb}
+use Rattle.std.proofs.lemmas.Bool.{eqb-true, eq-eqb, or_left, or_right, or_cases}
+use Rattle.std.proofs.lemmas.Option.{IfSome_then}
 use Rattle.posix.specs.Processes.{Process}
 use Rattle.posix.specs.Tables.{IsNext, lookup, at, changed, inserted, removed, reparented, adopted}
-use Rattle.posix.specs.States.{World, State, boot, process, is_in, without, change, lose_place}
+use Rattle.posix.specs.States.{World, State, boot, process, is_in, change, lose_place}
 use Rattle.posix.specs.Regular.{IsRegular}
 use Rattle.posix.specs.Settle.{NoWakeIsLost, wakes}
 use Rattle.posix.specs.Ends.{made_zombie, ended, halt, depart, noticed, child_signal, is_dropping, drop_child, notice_of_end}
 use Rattle.posix.proofs.TableLemmas.{pid_looked, pid_reparented}
 use Rattle.posix.proofs.MapLemmas.{at_pid, lookup_on, lookup_back, some_map}
-use Rattle.posix.proofs.RegularLemmas.{lookup_new, lookup_inserted, lookup_kept, lookup_removed, keeps_at, keeps_noticed, regular_map}
-use Rattle.posix.proofs.TouchLemmas.{Touches, goes_on, touches_born, touches_both, touches_none, touches_shown, touches_lost, touches_adopted, touches_unseen, touches_removed, unseen_noticed, each, in_none, in_one}
+use Rattle.posix.proofs.RegularLemmas.{lookup_new, some_inserted, lookup_kept, lookup_removed, keeps_at, keeps_noticed, regular_map}
+use Rattle.posix.proofs.TouchLemmas.{Touches, goes_on, touches_born, touches_both, touches_none, touches_shown, touches_lost, touches_adopted, touches_unseen, touches_removed, unseen_noticed}
+use Rattle.posix.proofs.MemberLemmas.{each, in_none, in_one, is_other, others_stay}
 use Rattle.posix.proofs.OrderLemmas.{without_absent}
 use Rattle.posix.proofs.UnseenLemmas.{covers_none}
 use Rattle.posix.proofs.WakeLemmas.{first_has_place}
 use Rattle.pidset.specs.Numbers.{PidSetView, Rises, with_number, numbers_above}
-use Rattle.pidset.proofs.NumberLemmas.{IsLeastAbove, in_with, in_rest, rises_with, rises_without, next_is, next_some, few}
+use Rattle.pidset.proofs.NumberLemmas.{IsLeastAbove, in_with, rises_with, rises_without, next_is, next_some, few}
 use Rattle.life.specs.Machines.{IsListed}
 use Rattle.life.specs.Asking.{with_numbers, without_gone}
 use Rattle.life.proofs.SoundLemmas.{there}
 
 -- ---- numbers put in
 
-pub or_true : (b : Bool) → (b || true) ≡ true
-or_true true = refl
-or_true false = refl
-
-or_either : (a b c : Bool) → (a || (b || c)) ≡ ((a || b) || c)
-or_either true b c = refl
-or_either false b c = refl
-
 pub in_numbers : (q : ℕ) (ps ns : List ℕ) → is_in q (with_numbers ps ns) ≡ (is_in q ps || is_in q ns)
 unfolding with_numbers is_in
 in_numbers q [] ns = refl
-in_numbers q (p ∷ ps) ns = in_with q p (with_numbers ps ns) ∙ ap (λ b. p == q || b) (in_numbers q ps ns) ∙ or_either (p == q) (is_in q ps) (is_in q ns)
+in_numbers q (p ∷ ps) ns = grind (arith, in_with q p (with_numbers ps ns), in_numbers q ps ns)
 
 rises_numbers : (ps ns : List ℕ) → Rises ns → Rises (with_numbers ps ns)
 unfolding with_numbers
 rises_numbers [] ns h = h
 rises_numbers (p ∷ ps) ns h = rises_with p (with_numbers ps ns) (rises_numbers ps ns h)
-
--- who is in one of two lists
-either_in : (a b : Bool) (P : Type 0) → (a || b) ≡ true → (a ≡ true → P) → (b ≡ true → P) → P
-either_in true b P e f g = f refl
-either_in false b P e f g = g e
 
 -- ---- there is room for whoever is there
 
@@ -64,9 +53,9 @@ has_room s l i h =
 -- a list with more of those who are there is one too
 pub listed_more : (s : State) (l m : PidSetView) (ps : List ℕ) → IsListed s l → AllByRecursion (λ q. IsSome (process s q)) ps → m.pids ≡ with_numbers ps l.pids → m.room ≡ l.room → IsListed s m
 listed_more s l m ps h theirs is same = record {
-  covers = λ q r e w. ap (is_in q) is ∙ in_numbers q ps l.pids ∙ ap (λ b. is_in q ps || b) (h.covers q r e w) ∙ or_true (is_in q ps);
+  covers = λ q r e w. ap (is_in q) is ∙ in_numbers q ps l.pids ∙ or_right _ _ (h.covers q r e w);
   rising = subst Rises (sym is) (rises_numbers ps l.pids h.rising);
-  there = λ q e. either_in (is_in q ps) (is_in q l.pids) (IsSome (process s q)) (sym (ap (is_in q) is ∙ in_numbers q ps l.pids) ∙ e) (each (λ q. IsSome (process s q)) ps theirs q) (h.there q);
+  there = λ q e. ⊎_elim (each (λ q. IsSome (process s q)) ps theirs q) (h.there q) (or_cases _ _ (sym (ap (is_in q) is ∙ in_numbers q ps l.pids) ∙ e));
   room = let room = h.room in omega (arith, room, same);
 }
 
@@ -98,9 +87,9 @@ pub listed_with : (s t : State) (before after : PidSetView) (ps touched : List �
     → AllByRecursion (λ q. IsSome (process t q)) ps → ((q : ℕ) → IsSome (process t q) → is_in q touched ≡ true → is_in q ps ≡ true) → after.pids ≡ with_numbers ps before.pids → after.room ≡ before.room → IsListed t after
 listed_with s t before after ps touched h touches most stay theirs among is same =
     listed_on s t before after touched h touches most (subst Rises (sym is) (rises_numbers ps before.pids h.rising)) same
-    (λ q e. either_in (is_in q ps) (is_in q before.pids) (IsSome (process t q)) (sym (inside q) ∙ e) (each (λ q. IsSome (process t q)) ps theirs q) (λ k. stay q (h.there q k)))
-    (λ q there e. inside q ∙ ap (λ b. b || is_in q before.pids) (among q there e))
-    (λ q there e. inside q ∙ ap (λ b. is_in q ps || b) e ∙ or_true (is_in q ps))
+    (λ q e. ⊎_elim (each (λ q. IsSome (process t q)) ps theirs q) (λ k. stay q (h.there q k)) (or_cases _ _ (sym (inside q) ∙ e)))
+    (λ q there e. inside q ∙ or_left _ _ (among q there e))
+    (λ q there e. inside q ∙ or_right _ _ e)
   where
     inside : (q : ℕ) → is_in q after.pids ≡ (is_in q ps || is_in q before.pids)
     inside q = ap (is_in q) is ∙ in_numbers q ps before.pids
@@ -119,18 +108,14 @@ pub next_asked : (s : State) (l : PidSetView) (n : ℕ) (next : Option ℕ) → 
 next_asked s l n next h is =
     let least : IfSome next (IsLeastAbove n l.pids) = subst (λ (o : Option ℕ). IfSome o (IsLeastAbove n l.pids)) (sym is) (next_is n l.pids h.rising) in
     record {
-      there = weaker next (λ m k. h.there m k.there) least;
-      above = weaker next (λ m k. k.above) least;
+      there = IfSome_then next least (λ m k. h.there m k.there);
+      above = IfSome_then next least (λ m k. k.above);
       between = λ q r e low before. elim (wakes s r) as (λ b. wakes s r ≡ b → b ≡ false) [
         | true ↦ λ w. absurd (passed next least (subst IsSome (sym is) (next_some n q l.pids h.rising (h.covers q r e w) low)) (h.covers q r e w) low before)
         | false ↦ λ w. refl
       ] refl;
     }
   where
-    weaker : {P Q : ℕ → Type 0} (o : Option ℕ) → ((m : ℕ) → P m → Q m) → IfSome o P → IfSome o Q
-    weaker None f k = tt
-    weaker (Some m) f k = f m k
-
     passed : {q : ℕ} (o : Option ℕ) → IfSome o (IsLeastAbove n l.pids) → IsSome o → is_in q l.pids ≡ true → n < q → IfSome o (λ m. q < m) → ⊥
     passed None k some e low before = absurd (cc)
     passed {q = q} (Some m) k some e low before = let l = k.least q e low in omega (arith, l, before)
@@ -147,10 +132,6 @@ listed_none s before after h awake is same = record {
 
 -- ---- a record that goes
 
--- who is left is another, and was there
-other_is_left : (p q : ℕ) (ns : List ℕ) → q ≢ p → is_in q ns ≡ true → is_in q (without p ns) ≡ true
-other_is_left p q ns ne e = in_rest q p ns ∙ ap (λ b. not b && is_in q ns) (ne_eqb q p ne) ∙ e
-
 pub listed_removed : (s : State) (c last dropped : ℕ) (it : Process) (before after : PidSetView) → IsRegular s → IsListed s before → lookup c s.processes ≡ Some it → IsSome (process s it.parent)
     → after.pids ≡ without_gone c (Some it.parent) before.pids → after.room ≡ before.room → IsListed (record s { processes = removed c s.processes; last_pid = last; dropped = dropped }) after
 listed_removed s c last dropped it before after i h found parent is same =
@@ -158,19 +139,13 @@ listed_removed s c last dropped it before after i h found parent is same =
     listed_on s t before after (it.parent ∷ []) h (touches_removed s c it.parent last dropped i.rising (rw found refl)) refl
     (subst Rises (sym is) (rises_without c (with_number it.parent before.pids) (rises_with it.parent before.pids h.rising))) same
     (λ q e.
-    let k = left_in q (sym (ap (is_in q) is ∙ in_rest q c (with_number it.parent before.pids)) ∙ e) in
-    rw (lookup_kept c q s.processes k.0) (either_in (it.parent == q) (is_in q before.pids) (IsSome (process s q)) (sym (in_with q it.parent before.pids) ∙ k.1) (λ t. subst (λ n. IsSome (process s n)) (eqb-true it.parent q t) parent) (h.there q)))
-    (λ q theirs e. ap (is_in q) is ∙ other_is_left c q (with_number it.parent before.pids) (apart q theirs) (in_with q it.parent before.pids ∙ rw (eq-eqb it.parent q (sym (in_one q it.parent e))) refl))
-    (λ q theirs e. ap (is_in q) is ∙ other_is_left c q (with_number it.parent before.pids) (apart q theirs) (in_with q it.parent before.pids ∙ rw e (or_true (it.parent == q))))
+    let k = is_other c q _ (sym (ap (is_in q) is) ∙ e) in
+    rw (lookup_kept c q s.processes k.apart) (⊎_elim (λ t. subst (λ n. IsSome (process s n)) (eqb-true it.parent q t) parent) (h.there q) (or_cases _ _ (sym (in_with q it.parent before.pids) ∙ k.among))))
+    (λ q theirs e. ap (is_in q) is ∙ others_stay c q _ (apart q theirs) ∙ in_with q it.parent before.pids ∙ or_left _ _ (eq-eqb it.parent q (sym (in_one q it.parent e))))
+    (λ q theirs e. ap (is_in q) is ∙ others_stay c q _ (apart q theirs) ∙ in_with q it.parent before.pids ∙ or_right (it.parent == q) _ e)
   where
     apart : (q : ℕ) → IsSome (lookup q (removed c s.processes)) → q ≢ c
     apart q theirs e = let no : IsSome (lookup c (removed c s.processes)) = subst (λ n. IsSome (lookup n (removed c s.processes))) e theirs in let none = rw (lookup_removed c s.processes) at no in absurd (cc)
-
-    left_in : (q : ℕ) → (not (q == c) && is_in q (with_number it.parent before.pids)) ≡ true → (q ≢ c) × (is_in q (with_number it.parent before.pids) ≡ true)
-    left_in q e = elim (q == c) as (λ b. (q == c) ≡ b → (not b && is_in q (with_number it.parent before.pids)) ≡ true → (q ≢ c) × (is_in q (with_number it.parent before.pids) ≡ true)) [
-      | true ↦ λ t k. absurd (cc)
-      | false ↦ λ t k. (eqb-false q c t, k)
-    ] refl e
 
 -- ---- ends
 
@@ -195,7 +170,7 @@ listed_told s parent c v it before after i h mine found up is same =
 -- who is on the list is, unless its own record goes
 pub stays_asked : (q c : ℕ) (gone : Option ℕ) (ns : List ℕ) → q ≢ c → is_in q ns ≡ true → is_in q (without_gone c gone ns) ≡ true
 stays_asked q c None ns ne e = e
-stays_asked q c (Some parent) ns ne e = other_is_left c q (with_number parent ns) ne (in_with q parent ns ∙ rw e (or_true (parent == q)))
+stays_asked q c (Some parent) ns ne e = others_stay c q _ ne ∙ in_with q parent ns ∙ or_right (parent == q) _ e
 
 -- a departure touches the process, its heir and its parent
 pub listed_departed : (s : State) (p heir w : ℕ) (me : Process) (before after : PidSetView) → IsRegular s → IsListed s before → lookup p s.processes ≡ Some me → IsSome (process s me.parent)
@@ -208,8 +183,8 @@ listed_departed s p heir w me before after i h found up mine its put room =
     touches_both s left (depart s p heir w) ((p ∷ []) ++ (p ∷ me.parent ∷ [])) (p ∷ heir ∷ [])
     (touches_both s zombie left (p ∷ me.parent ∷ []) (p ∷ []) (touches_shown s p (made_zombie w) (λ r. refl) (λ r. refl) i.rising me found) (touches_lost zombie p))
     (touches_adopted left p heir) in
-    let on : (q : ℕ) → is_in q before.pids ≡ true → is_in q after.pids ≡ true = λ q e. ap (is_in q) put ∙ in_with q me.parent before.pids ∙ rw e (or_true (me.parent == q)) in
-    let its_parent : is_in me.parent after.pids ≡ true = ap (is_in me.parent) put ∙ in_with me.parent me.parent before.pids ∙ rw (eq-eqb me.parent me.parent refl) refl in
+    let on : (q : ℕ) → is_in q before.pids ≡ true → is_in q after.pids ≡ true = λ q e. ap (is_in q) put ∙ in_with q me.parent before.pids ∙ or_right (me.parent == q) _ e in
+    let its_parent : is_in me.parent after.pids ≡ true = ap (is_in me.parent) put ∙ in_with me.parent me.parent before.pids ∙ or_left _ _ (eq-eqb me.parent me.parent refl) in
     listed_same s (depart s p heir w) after ((p ∷ heir ∷ []) ++ (p ∷ []) ++ (p ∷ me.parent ∷ [])) (listed_more s before after (me.parent ∷ []) h (up, tt) put room) touches refl
     (λ q e. some_map (reparented p heir) (pid_reparented p heir) q _ (some_map (at p (made_zombie w)) (at_pid p (made_zombie w) (λ r. refl)) q s.processes e))
     (λ q theirs e. each (λ q. is_in q after.pids ≡ true) (p ∷ heir ∷ p ∷ p ∷ me.parent ∷ []) (on p mine, (on heir its, (on p mine, (on p mine, (its_parent, tt))))) q e)
@@ -244,11 +219,8 @@ pub listed_born : (s : State) (new : Process) (last births : ℕ) (before after 
 unfolding with_numbers
 listed_born s new last births before after h fresh up put room =
     let t = record s { processes = inserted new s.processes; last_pid = last; births = births } in
-    listed_with s t before after (new.pid ∷ new.parent ∷ []) (new.pid ∷ new.parent ∷ []) h (touches_born s new last births) refl still
-    (rw (lookup_new new s.processes fresh) refl, (still new.parent up, tt)) (λ q theirs e. e) put room
-  where
-    still : (q : ℕ) → IsSome (lookup q s.processes) → IsSome (lookup q (inserted new s.processes))
-    still q e = rw (lookup_inserted new q s.processes (λ x. let none : lookup q s.processes ≡ None = ap (λ n. lookup n s.processes) x ∙ fresh in let both = rw none at e in absurd (cc))) e
+    listed_with s t before after (new.pid ∷ new.parent ∷ []) (new.pid ∷ new.parent ∷ []) h (touches_born s new last births) refl (λ q e. some_inserted new q s.processes e)
+    (rw (lookup_new new s.processes fresh) refl, (some_inserted new new.parent s.processes up, tt)) (λ q theirs e. e) put room
 
 -- at the start nobody is to be asked
 pub listed_first : (s : State) (w : World) (l : PidSetView) (n : ℕ) → s ≡ boot w → l.pids ≡ [] → n ≡ w.pidmax → n + 1 ≤ l.room → IsListed s l

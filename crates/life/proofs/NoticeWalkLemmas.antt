@@ -1,21 +1,21 @@
 -- The walk over the children of a process that ends, which tells its heir of each zombie.
 use Rattle.std.proofs.Common.{◌≡◌, ◌≢◌, ℕ, ◌<◌, ◌≤◌, true, false, cond, not, ◌||◌, refl, ap, sym, ◌∙◌, arith, List, [], ◌∷◌, length, map, filter, Option, Some, None, ◌==◌, nat_le, nat_lt, option_map, subst}
 use Rattle.std.specs.Option.{IfSome, IsSome, option_map_or}
-use Rattle.std.proofs.lemmas.Bool.{eqb-true, eq-eqb, ne_eqb}
+use Rattle.std.proofs.lemmas.Bool.{eqb-true, eq-eqb, ne_eqb, or_right}
 use Rattle.std.proofs.lemmas.List.{length-map}
 use Rattle.std.proofs.lemmas.Bool.Decides.{nat_tests}
 use Rattle.posix.specs.declared.process.Life.{Life}
 use Rattle.posix.specs.declared.process.PendingSignal.{PendingSignal}
 use Rattle.posix.specs.declared.process.Life.TheVariants.{Running, Stopped, Zombie}
 use Rattle.posix.specs.Processes.{Process, is_zombie}
-use Rattle.posix.specs.Tables.{lookup, at, changed, removed, adopted, is_child, children_in, first_pid, above, left_of, parent_of, next_sibling}
+use Rattle.posix.specs.Tables.{lookup, at, changed, removed, adopted, children_in, first_pid, above, left_of, parent_of, next_sibling}
 use Rattle.posix.specs.States.{State, process, is_in, change}
 use Rattle.posix.specs.Regular.{IsRegular, CanInherit}
 use Rattle.posix.specs.Generation.{signalled}
 use Rattle.posix.specs.Ends.{made_zombie, depart, child_signal, ignores_children, noticed, is_dropping, drop_child, notice_of_end, status_of, zombies_of, tell_of_all}
 use Rattle.posix.proofs.TableLemmas.{pid_looked, lookup_changed}
-use Rattle.posix.proofs.WalkLemmas.{filters_commute, AtChild, at_child, at_first, head_above}
-use Rattle.posix.proofs.MapLemmas.{at_pid, lookup_map, filter_map, children_map}
+use Rattle.posix.proofs.WalkLemmas.{children_removed, AtChild, at_child, at_first, head_above}
+use Rattle.posix.proofs.MapLemmas.{at_pid, lookup_map, filter_map, first_map, children_map}
 use Rattle.posix.proofs.RegularLemmas.{keeps_at, keeps_noticed, lookup_kept, lookup_other, heir_other, heir_there, heir_living, heir_map, heir_removed, regular_depart}
 use Rattle.posix.proofs.NoticeLemmas.{only_notice}
 use Rattle.pidalloc.specs.Rows.{Pids}
@@ -23,10 +23,10 @@ use Rattle.sched.specs.Places.{Places}
 use Rattle.pidset.specs.Numbers.{PidSetView, with_number}
 use Rattle.life.specs.Machines.{IsSound, IsListed, IsMachine, CanGo, IsCounted}
 use Rattle.life.specs.Asking.{with_numbers, without_gone}
-use Rattle.life.proofs.SoundLemmas.{is_there, found_in, heir_in, kept_order, kept_departed, parents_departed, there_made_zombie}
+use Rattle.life.proofs.SoundLemmas.{is_there, found_in, heir_in, kept_order, length_departed, kept_departed, parents_departed, there_made_zombie}
 use Rattle.life.proofs.EndLemmas.{leave, dropping_left, notice_left, tell_after}
 use Rattle.life.proofs.PartLemmas.{can_go, can_go_map, sound_told}
-use Rattle.life.proofs.AskLemmas.{in_numbers, or_true, stays_asked, has_room, listed_more, listed_told, listed_departed}
+use Rattle.life.proofs.AskLemmas.{in_numbers, stays_asked, has_room, listed_more, listed_told, listed_departed}
 
 -- what is left from above c is left without c
 left_without : (o : Option ℕ) (c : ℕ) → IfSome o (λ y. c < y) → (rs : List Process) → left_of o (removed c rs) ≡ left_of o rs
@@ -76,11 +76,6 @@ left_map : (g : Process → Process) → ((r : Process) → (g r).pid ≡ r.pid)
 left_map g k None rs = refl
 left_map g k (Some n) rs = filter_map (λ r. nat_le n r.pid) g (λ r. ap (nat_le n) (k r)) rs
 
--- with the same number first
-first_map : (g : Process → Process) → ((r : Process) → (g r).pid ≡ r.pid) → (rs : List Process) → first_pid (map g rs) ≡ first_pid rs
-first_map g k [] = refl
-first_map g k (r ∷ rs) = ap Some (k r)
-
 -- and of the zombies among them the same is told
 tell_map : (g : Process → Process) → Same g → (s : State) (heir : ℕ) (rs : List Process) → tell_of_all s heir (zombies (map g rs)) ≡ tell_of_all s heir (zombies rs)
 unfolding tell_of_all
@@ -126,11 +121,6 @@ kids_noticed : (signal : PendingSignal) (heir p : ℕ) (rs : List Process) → c
 unfolding changed
 kids_noticed signal heir p rs = children_map (at heir (noticed signal)) (keeps_at heir (noticed signal) (keeps_noticed signal)).parent p rs
 
--- the children of p without c
-children_without : (p c : ℕ) (rs : List Process) → children_in p (removed c rs) ≡ removed c (children_in p rs)
-unfolding children_in removed
-children_without p c rs = filters_commute (is_child p) (λ r. not (r.pid == c)) rs
-
 -- behind the zombie the children of p are the same
 left_told : (s : State) (p heir c w : ℕ)
     → left_of (next_sibling c s.processes) (children_in p (notice_of_end s heir c w).processes) ≡ map (at heir (noticed (child_signal c w))) (left_of (next_sibling c s.processes) (children_in p s.processes))
@@ -142,7 +132,7 @@ left_told s p heir c w =
     let kids = kids_noticed signal heir p s.processes in
     let left = left_map (at heir (noticed signal)) (same_at heir signal).pid after (children_in p s.processes) in
     elim (is_dropping heir s.processes) as (λ b. left_of after (children_in p (cond {A = State} b (drop_child told c) told).processes) ≡ map (at heir (noticed signal)) (left_of after (children_in p s.processes))) [
-      | true ↦ ap (left_of after) (children_without p c told.processes ∙ ap (removed c) kids) ∙ left_without after c (sibling_above c s.processes) (map (at heir (noticed signal)) (children_in p s.processes)) ∙ left
+      | true ↦ ap (left_of after) (children_removed p c told.processes ∙ ap (removed c) kids) ∙ left_without after c (sibling_above c s.processes) (map (at heir (noticed signal)) (children_in p s.processes)) ∙ left
       | false ↦ ap (left_of after) kids ∙ left
     ]
 
@@ -231,10 +221,10 @@ asks_made_zombie p w rs next =
 
 -- The parts m of a machine have p made a zombie, and but for that are the sound state now. From the child that
 -- comes next, what is left to tell of comes to all that there was to tell of.
-pub record IsTelling (old m : State) (pids : Pids) (places : Places) (n : ℕ) (asked : PidSetView) (p heir w : ℕ) (next : Option ℕ) : Type 0 where
+pub record IsTelling (old m : State) (pids : Pids) (places : Places) (asked : PidSetView) (p heir w : ℕ) (next : Option ℕ) : Type 0 where
   pub now : State
   pub left : m ≡ leave p w now
-  pub sound : IsSound now pids places n
+  pub sound : IsSound now pids places
   pub listed : IsListed now asked
   pub mine_asked : is_in p asked.pids ≡ true
   pub heir_asked : is_in heir asked.pids ≡ true
@@ -247,11 +237,11 @@ pub record IsTelling (old m : State) (pids : Pids) (places : Places) (n : ℕ) (
   pub todo : tell_of_all now heir (zombies (left_of next (children_in p now.processes))) ≡ tell_of_all old heir (zombies_of p old.processes)
 
 -- the walk begins at the first child
-pub begins : (old s m : State) (pids : Pids) (a b : Places) (n p heir w : ℕ) (next : Option ℕ) (me : Process) → s ≡ old → m ≡ leave p w s → IsSound s pids a n → a.room ≤ b.room → p ≢ 1
+pub begins : (old s m : State) (pids : Pids) (a b : Places) (p heir w : ℕ) (next : Option ℕ) (me : Process) → s ≡ old → m ≡ leave p w s → IsSound s pids a → a.room ≤ b.room → p ≢ 1
     → CanInherit old.processes p heir → process old p ≡ Some me → next ≡ first_pid (children_in p m.processes)
-    → (l asked : PidSetView) → IsListed s l → asked.pids ≡ with_number heir (with_number p l.pids) → asked.room ≡ l.room → IsTelling old m pids b n asked p heir w next
+    → (l asked : PidSetView) → IsListed s l → asked.pids ≡ with_number heir (with_number p l.pids) → asked.room ≡ l.room → IsTelling old m pids b asked p heir w next
 unfolding zombies_of with_numbers is_in
-begins old s m pids a b n p heir w next me same left i room other h e is l asked list put kept =
+begins old s m pids a b p heir w next me same left i room other h e is l asked list put kept =
     let found = found_in s old same p me e in
     let named = pid_looked p s.processes me found in
     let low = (i.regular.bounded p me found).least in
@@ -260,9 +250,9 @@ begins old s m pids a b n p heir w next me same left i room other h e is l asked
     record {
       now = s;
       left = left;
-      sound = record { regular = i.regular; parents = i.parents; counted = i.counted; kept = kept_order s.world.pidmax s.processes pids a b n room i.kept };
+      sound = record { regular = i.regular; parents = i.parents; counted = i.counted; kept = kept_order s.world.pidmax s.processes pids a b room i.kept };
       listed = listed_more s l asked (heir ∷ p ∷ []) list (heir_there s p heir i.regular (heir_in same h), (is_there _ me found, tt)) put kept;
-      mine_asked = ap (is_in p) put ∙ in_numbers p (heir ∷ p ∷ []) l.pids ∙ rw (eq-eqb p p refl) (ap (λ b. b || is_in p l.pids) (or_true (heir == p)));
+      mine_asked = ap (is_in p) put ∙ in_numbers p (heir ∷ p ∷ []) l.pids ∙ rw (eq-eqb p p refl) (ap (λ b. b || is_in p l.pids) (or_right (heir == p) true refl));
       heir_asked = ap (is_in heir) put ∙ in_numbers heir (heir ∷ p ∷ []) l.pids ∙ rw (eq-eqb heir heir refl) refl;
       births = ap (λ (t : State). t.births) same;
       least = omega (arith, named, low);
@@ -274,22 +264,22 @@ begins old s m pids a b n p heir w next me same left i room other h e is l asked
     }
 
 -- what the walk knows at the child c
-pub child_here : {old m : State} {pids : Pids} {places : Places} {n : ℕ} {asked : PidSetView} {p heir w : ℕ} {next : Option ℕ} (t : IsTelling old m pids places n asked p heir w next) (c : ℕ) → next ≡ Some c → AtChild t.now.processes p c
+pub child_here : {old m : State} {pids : Pids} {places : Places} {asked : PidSetView} {p heir w : ℕ} {next : Option ℕ} (t : IsTelling old m pids places asked p heir w next) (c : ℕ) → next ≡ Some c → AtChild t.now.processes p c
 child_here {p = p} t c comes =
     at_child t.now.processes t.sound.regular.rising p c (ap (λ o. first_pid (left_of o (children_in p t.now.processes))) (sym comes) ∙ t.here ∙ comes)
 
 -- it is there
-pub child_there : {old m : State} {pids : Pids} {places : Places} {n : ℕ} {asked : PidSetView} {p heir w : ℕ} {next : Option ℕ} (t : IsTelling old m pids places n asked p heir w next) (c : ℕ) → next ≡ Some c → IsSome (lookup c m.processes)
+pub child_there : {old m : State} {pids : Pids} {places : Places} {asked : PidSetView} {p heir w : ℕ} {next : Option ℕ} (t : IsTelling old m pids places asked p heir w next) (c : ℕ) → next ≡ Some c → IsSome (lookup c m.processes)
 child_there {p = p} {w = w} t c comes = let k = child_here t c comes in rw t.left (there_made_zombie p w c t.now.processes (is_there _ k.what k.found))
 
 -- and is as it was, unless it is p
-pub child_same : {old m : State} {pids : Pids} {places : Places} {n : ℕ} {asked : PidSetView} {p heir w : ℕ} {next : Option ℕ} (t : IsTelling old m pids places n asked p heir w next) (c : ℕ) (comes : next ≡ Some c) → c ≢ p → lookup c m.processes ≡ Some (child_here t c comes).what
+pub child_same : {old m : State} {pids : Pids} {places : Places} {asked : PidSetView} {p heir w : ℕ} {next : Option ℕ} (t : IsTelling old m pids places asked p heir w next) (c : ℕ) (comes : next ≡ Some c) → c ≢ p → lookup c m.processes ≡ Some (child_here t c comes).what
 unfolding made_zombie
 child_same {p = p} {w = w} t c comes ne = let k = child_here t c comes in ap (λ (s : State). lookup c s.processes) t.left ∙ lookup_other p c (made_zombie w) (λ r. refl) ne t.now.processes k.what k.found
 
 -- a child that lives is passed
-pub passes : {old m : State} {pids : Pids} {places : Places} {n : ℕ} {asked : PidSetView} {p heir w : ℕ} {next : Option ℕ} (t : IsTelling old m pids places n asked p heir w next) (c : ℕ) (comes : next ≡ Some c) (after : Option ℕ) → after ≡ next_sibling c m.processes
-    → is_zombie (child_here t c comes).what.life ≡ false → IsTelling old m pids places n asked p heir w after
+pub passes : {old m : State} {pids : Pids} {places : Places} {asked : PidSetView} {p heir w : ℕ} {next : Option ℕ} (t : IsTelling old m pids places asked p heir w next) (c : ℕ) (comes : next ≡ Some c) (after : Option ℕ) → after ≡ next_sibling c m.processes
+    → is_zombie (child_here t c comes).what.life ≡ false → IsTelling old m pids places asked p heir w after
 passes {p = p} {heir = heir} {w = w} t c comes after is living =
     let k = child_here t c comes in
     let sibling : after ≡ next_sibling c t.now.processes = is ∙ ap (λ (s : State). next_sibling c s.processes) t.left ∙ sibling_made_zombie p w c t.now.processes in
@@ -311,7 +301,7 @@ passes {p = p} {heir = heir} {w = w} t c comes after is living =
     })
 
 -- p, if it is its own child, was no zombie, since a zombie has no children
-pub self_lives : {old m : State} {pids : Pids} {places : Places} {n : ℕ} {asked : PidSetView} {p heir w : ℕ} {next : Option ℕ} (t : IsTelling old m pids places n asked p heir w next) (c : ℕ) (comes : next ≡ Some c) → c ≡ p → is_zombie (child_here t c comes).what.life ≡ false
+pub self_lives : {old m : State} {pids : Pids} {places : Places} {asked : PidSetView} {p heir w : ℕ} {next : Option ℕ} (t : IsTelling old m pids places asked p heir w next) (c : ℕ) (comes : next ≡ Some c) → c ≡ p → is_zombie (child_here t c comes).what.life ≡ false
 self_lives {p = p} t c comes e =
     let k = child_here t c comes in
     elim (is_zombie k.what.life) as (λ b. is_zombie k.what.life ≡ b → b ≡ false) [
@@ -323,7 +313,7 @@ self_lives {p = p} t c comes e =
     ] refl
 
 -- what was read of another child is its life
-pub life_read : {old m : State} {pids : Pids} {places : Places} {n : ℕ} {asked : PidSetView} {p heir w : ℕ} {next : Option ℕ} (t : IsTelling old m pids places n asked p heir w next) (c : ℕ) (comes : next ≡ Some c) → c ≢ p
+pub life_read : {old m : State} {pids : Pids} {places : Places} {asked : PidSetView} {p heir w : ℕ} {next : Option ℕ} (t : IsTelling old m pids places asked p heir w next) (c : ℕ) (comes : next ≡ Some c) → c ≢ p
     → (life : Life) → ((it : Process) → lookup c m.processes ≡ Some it → life ≡ it.life) → life ≡ (child_here t c comes).what.life
 life_read t c comes ne life reads = reads (child_here t c comes).what (child_same t c comes ne)
 
@@ -337,47 +327,47 @@ lives life other e h = ap is_zombie (sym e) ∙ living life h
     living (Zombie w) h = absurd (h w refl)
 
 -- what the walk knows of a zombie
-pub to_tell : {old m : State} {pids : Pids} {places : Places} {n : ℕ} {asked : PidSetView} {p heir w : ℕ} {next : Option ℕ} (t : IsTelling old m pids places n asked p heir w next) (c v : ℕ) (comes : next ≡ Some c) → (child_here t c comes).what.life ≡ Zombie v → IsToTell t.now p heir c v
+pub to_tell : {old m : State} {pids : Pids} {places : Places} {asked : PidSetView} {p heir w : ℕ} {next : Option ℕ} (t : IsTelling old m pids places asked p heir w next) (c v : ℕ) (comes : next ≡ Some c) → (child_here t c comes).what.life ≡ Zombie v → IsToTell t.now p heir c v
 to_tell t c v comes dead = record { child = child_here t c comes; dead = dead; least = t.least; other = t.other; inherits = t.inherits }
 
 -- the heir is there
-pub heir_here : {old m : State} {pids : Pids} {places : Places} {n : ℕ} {asked : PidSetView} {p heir w : ℕ} {next : Option ℕ} (t : IsTelling old m pids places n asked p heir w next) → IsSome (lookup heir m.processes)
+pub heir_here : {old m : State} {pids : Pids} {places : Places} {asked : PidSetView} {p heir w : ℕ} {next : Option ℕ} (t : IsTelling old m pids places asked p heir w next) → IsSome (lookup heir m.processes)
 heir_here {p = p} {heir = heir} {w = w} t = rw t.left (there_made_zombie p w heir t.now.processes (heir_there t.now p heir t.sound.regular t.inherits))
 
 -- a zombie can go
-pub zombie_goes : {old m : State} {pids : Pids} {places : Places} {n : ℕ} {asked : PidSetView} {p heir w : ℕ} {next : Option ℕ} (t : IsTelling old m pids places n asked p heir w next) (c v : ℕ) (comes : next ≡ Some c) → (child_here t c comes).what.life ≡ Zombie v
-    → CanGo t.now.processes pids n c
-zombie_goes {pids = pids} {places = places} {n = n} {p = p} {heir = heir} t c v comes dead =
+pub zombie_goes : {old m : State} {pids : Pids} {places : Places} {asked : PidSetView} {p heir w : ℕ} {next : Option ℕ} (t : IsTelling old m pids places asked p heir w next) (c v : ℕ) (comes : next ≡ Some c) → (child_here t c comes).what.life ≡ Zombie v
+    → CanGo t.now.processes pids c
+zombie_goes {pids = pids} {places = places} {p = p} {heir = heir} t c v comes dead =
     let k = child_here t c comes in
-    can_go t.now pids places n c k.what t.sound k.found (ap is_zombie dead) (not_first t.now p heir c v t.sound.regular (to_tell t c v comes dead))
+    can_go t.now pids places c k.what t.sound k.found (ap is_zombie dead) (not_first t.now p heir c v t.sound.regular (to_tell t c v comes dead))
 
 -- from the parts of the machine, too
-pub zombie_goes_there : {old m : State} {pids : Pids} {places : Places} {n : ℕ} {asked : PidSetView} {p heir w : ℕ} {next : Option ℕ} (t : IsTelling old m pids places n asked p heir w next) (c v : ℕ) (comes : next ≡ Some c) → (child_here t c comes).what.life ≡ Zombie v
-    → CanGo m.processes pids n c
+pub zombie_goes_there : {old m : State} {pids : Pids} {places : Places} {asked : PidSetView} {p heir w : ℕ} {next : Option ℕ} (t : IsTelling old m pids places asked p heir w next) (c v : ℕ) (comes : next ≡ Some c) → (child_here t c comes).what.life ≡ Zombie v
+    → CanGo m.processes pids c
 unfolding changed made_zombie
-zombie_goes_there {pids = pids} {n = n} {p = p} {w = w} t c v comes dead =
-    rw t.left (can_go_map (at p (made_zombie w)) (at_made_zombie p w) (parent_made_zombie p w) (λ r. grind arith) (λ r. grind arith) t.now.processes pids n c (zombie_goes t c v comes dead))
+zombie_goes_there {pids = pids} {p = p} {w = w} t c v comes dead =
+    rw t.left (can_go_map (at p (made_zombie w)) (at_made_zombie p w) (parent_made_zombie p w) (λ r. grind arith) (λ r. grind arith) t.now.processes pids c (zombie_goes t c v comes dead))
 
 -- the heir is told of it
-pub tells : {old m : State} {pids : Pids} {places : Places} {n : ℕ} {asked : PidSetView} {p heir w : ℕ} {next : Option ℕ} (t : IsTelling old m pids places n asked p heir w next) (c v : ℕ) (comes : next ≡ Some c) (after : Option ℕ) → after ≡ next_sibling c m.processes
-    → c ≢ p → (child_here t c comes).what.life ≡ Zombie v → (q : Pids) (k e : ℕ) (new : State) → IsCounted (is_dropping heir m.processes) pids q n k m.dropped e c (child_here t c comes).what → new ≡ notice_of_end m heir c v
-    → (l : PidSetView) → l.pids ≡ without_gone c (cond (is_dropping heir m.processes) (Some (child_here t c comes).what.parent) None) asked.pids → l.room ≡ asked.room → IsTelling old new q places k l p heir w after
-tells {m = m} {pids = pids} {places = places} {n = n} {asked = asked} {p = p} {heir = heir} {w = w} t c v comes after is ne dead q k e new counts told l list room =
+pub tells : {old m : State} {pids : Pids} {places : Places} {asked : PidSetView} {p heir w : ℕ} {next : Option ℕ} (t : IsTelling old m pids places asked p heir w next) (c v : ℕ) (comes : next ≡ Some c) (after : Option ℕ) → after ≡ next_sibling c m.processes
+    → c ≢ p → (child_here t c comes).what.life ≡ Zombie v → (q : Pids) (e : ℕ) (new : State) → IsCounted (is_dropping heir m.processes) pids q m.dropped e c (child_here t c comes).what → new ≡ notice_of_end m heir c v
+    → (l : PidSetView) → l.pids ≡ without_gone c (cond (is_dropping heir m.processes) (Some (child_here t c comes).what.parent) None) asked.pids → l.room ≡ asked.room → IsTelling old new q places l p heir w after
+tells {m = m} {pids = pids} {places = places} {asked = asked} {p = p} {heir = heir} {w = w} t c v comes after is ne dead q e new counts told l list room =
     let now = t.now in
     let h = to_tell t c v comes dead in
     let kid = child_here t c comes in
     let i = t.sound.regular in
     let other = heir_other now.processes p heir t.other t.inherits in
     let sibling : after ≡ next_sibling c now.processes = is ∙ ap (λ (s : State). next_sibling c s.processes) t.left ∙ sibling_made_zombie p w c now.processes in
-    let counted : IsCounted (is_dropping heir now.processes) pids q n k now.dropped e c kid.what =
-    subst (λ b. IsCounted b pids q n k now.dropped e c kid.what) (dropping_left p heir w other now.processes)
-    (subst (λ (s : State). IsCounted (is_dropping heir s.processes) pids q n k s.dropped e c kid.what) t.left counts) in
+    let counted : IsCounted (is_dropping heir now.processes) pids q now.dropped e c kid.what =
+    subst (λ b. IsCounted b pids q now.dropped e c kid.what) (dropping_left p heir w other now.processes)
+    (subst (λ (s : State). IsCounted (is_dropping heir s.processes) pids q s.dropped e c kid.what) t.left counts) in
     let drops : is_dropping heir m.processes ≡ is_dropping heir now.processes = ap (λ (s : State). is_dropping heir s.processes) t.left ∙ dropping_left p heir w other now.processes in
     let put : l.pids ≡ without_gone c (cond (is_dropping heir now.processes) (Some kid.what.parent) None) asked.pids = list ∙ ap (λ b. without_gone c (cond b (Some kid.what.parent) None) asked.pids) drops in
     rw sibling (record {
       now = notice_of_end now heir c v;
       left = told ∙ ap (λ (s : State). notice_of_end s heir c v) t.left ∙ notice_left now p heir w c v other;
-      sound = sound_told now pids q places n k e heir c v kid.what t.sound kid.found (ap is_zombie dead) (not_first now p heir c v i h) counted;
+      sound = sound_told now pids q places e heir c v kid.what t.sound kid.found (ap is_zombie dead) (not_first now p heir c v i h) counted;
       listed = listed_told now heir c v kid.what asked l i t.listed t.heir_asked kid.found (t.sound.parents c kid.what (not_first now p heir c v i h) kid.found) put room;
       mine_asked = ap (is_in p) put ∙ stays_asked p c _ asked.pids (λ same. ne (sym same)) t.mine_asked;
       heir_asked = ap (is_in heir) put ∙ stays_asked heir c _ asked.pids (λ same. not_heir now p heir c v i h (sym same)) t.heir_asked;
@@ -391,7 +381,7 @@ tells {m = m} {pids = pids} {places = places} {n = n} {asked = asked} {p = p} {h
     })
 
 -- one child less is left where nothing changed
-pub asks_less : {old m : State} {pids : Pids} {places : Places} {n : ℕ} {asked : PidSetView} {p heir w : ℕ} {next : Option ℕ} (t : IsTelling old m pids places n asked p heir w next) (c : ℕ) → next ≡ Some c → (after : Option ℕ) → after ≡ next_sibling c m.processes
+pub asks_less : {old m : State} {pids : Pids} {places : Places} {asked : PidSetView} {p heir w : ℕ} {next : Option ℕ} (t : IsTelling old m pids places asked p heir w next) (c : ℕ) → next ≡ Some c → (after : Option ℕ) → after ≡ next_sibling c m.processes
     → kids_left m.processes p after < kids_left m.processes p next
 asks_less {p = p} {w = w} t c comes after is =
     let now = t.now in
@@ -401,7 +391,7 @@ asks_less {p = p} {w = w} t c comes after is =
     rw (t.left, asks_made_zombie p w now.processes after, asks_made_zombie p w now.processes _, sibling, comes) (omega (arith, l))
 
 -- and where the heir was told
-pub tells_less : {old m : State} {pids : Pids} {places : Places} {n : ℕ} {asked : PidSetView} {p heir w : ℕ} {next : Option ℕ} (t : IsTelling old m pids places n asked p heir w next) (c v : ℕ) (comes : next ≡ Some c) (after : Option ℕ) → after ≡ next_sibling c m.processes
+pub tells_less : {old m : State} {pids : Pids} {places : Places} {asked : PidSetView} {p heir w : ℕ} {next : Option ℕ} (t : IsTelling old m pids places asked p heir w next) (c v : ℕ) (comes : next ≡ Some c) (after : Option ℕ) → after ≡ next_sibling c m.processes
     → (new : State) → new ≡ notice_of_end m heir c v → kids_left new.processes p after < kids_left m.processes p next
 tells_less {p = p} {heir = heir} {w = w} t c v comes after is new told =
     let now = t.now in
@@ -414,7 +404,7 @@ tells_less {p = p} {heir = heir} {w = w} t c v comes after is new told =
     rw (left, t.left, asks_made_zombie p w (notice_of_end now heir c v).processes after, asks_made_zombie p w now.processes _, sibling, comes) (omega (arith, same, l))
 
 -- at the end the heir was told of all
-pub told_of_all : {old m : State} {pids : Pids} {places : Places} {n : ℕ} {asked : PidSetView} {p heir w : ℕ} {next : Option ℕ} (t : IsTelling old m pids places n asked p heir w next) → next ≡ None → t.now ≡ tell_of_all old heir (zombies_of p old.processes)
+pub told_of_all : {old m : State} {pids : Pids} {places : Places} {asked : PidSetView} {p heir w : ℕ} {next : Option ℕ} (t : IsTelling old m pids places asked p heir w next) → next ≡ None → t.now ≡ tell_of_all old heir (zombies_of p old.processes)
 unfolding tell_of_all
 told_of_all {p = p} {heir = heir} t none = ap (λ o. tell_of_all t.now heir (zombies (left_of o (children_in p t.now.processes)))) (sym none) ∙ t.todo
 
@@ -428,14 +418,14 @@ pub equals : (a b : ℕ) → not (a == b) ≡ false → a ≡ b
 equals a b e = eqb-true a b (elim (a == b) as (λ b. not b ≡ false → b ≡ true) [ true ↦ λ k. refl | false ↦ λ k. sym k ] e)
 
 -- once its children are the heir's, the state is that after the departure
-pub departed : {old m : State} {pids : Pids} {places : Places} {n : ℕ} {asked : PidSetView} {p heir w : ℕ} {next : Option ℕ} (t : IsTelling old m pids places n asked p heir w next) (rs : List Process) → rs ≡ adopted p heir m.processes
+pub departed : {old m : State} {pids : Pids} {places : Places} {asked : PidSetView} {p heir w : ℕ} {next : Option ℕ} (t : IsTelling old m pids places asked p heir w next) (rs : List Process) → rs ≡ adopted p heir m.processes
     → record m { processes = rs } ≡ depart t.now p heir w
 departed {m = m} {p = p} {heir = heir} t rs is = ap (λ rs. record m { processes = rs }) is ∙ ap (λ (s : State). record s { processes = adopted p heir s.processes }) t.left
 
 -- which is a machine's, where the parent is asked too
-pub machine_departed : {old m : State} {pids : Pids} {places : Places} {n : ℕ} {asked : PidSetView} {p heir w : ℕ} {next : Option ℕ} (t : IsTelling old m pids places n asked p heir w next) (me : Process) → process old p ≡ Some me
-    → (l : PidSetView) → l.pids ≡ with_number me.parent asked.pids → l.room ≡ asked.room → IsMachine (depart t.now p heir w) pids places n l
-machine_departed {pids = pids} {places = places} {n = n} {asked = asked} {p = p} {heir = heir} {w = w} t me e l put room =
+pub machine_departed : {old m : State} {pids : Pids} {places : Places} {asked : PidSetView} {p heir w : ℕ} {next : Option ℕ} (t : IsTelling old m pids places asked p heir w next) (me : Process) → process old p ≡ Some me
+    → (l : PidSetView) → l.pids ≡ with_number me.parent asked.pids → l.room ≡ asked.room → IsMachine (depart t.now p heir w) pids places l
+machine_departed {pids = pids} {places = places} {asked = asked} {p = p} {heir = heir} {w = w} t me e l put room =
     let now = t.now in
     let i = t.sound in
     let found : process now p ≡ Some me = t.mine ∙ e in
@@ -443,18 +433,18 @@ machine_departed {pids = pids} {places = places} {n = n} {asked = asked} {p = p}
       sound = record {
         regular = regular_depart p heir w t.least t.other now i.regular t.inherits;
         parents = parents_departed p heir w now.processes (heir_there now p heir i.regular t.inherits) i.parents;
-        counted = i.counted;
-        kept = kept_departed p heir w now.world.pidmax now.processes pids places places n (omega arith) i.kept;
+        counted = let c = i.counted in let same = length_departed p heir w now.processes in omega (arith, c, same);
+        kept = kept_departed p heir w now.world.pidmax now.processes pids places places (omega arith) i.kept;
       };
       listed = listed_departed now p heir w me asked l i.regular t.listed found (i.parents p me t.other found) t.mine_asked t.heir_asked put room;
     }
 
 -- there is room to ask the parent
-pub room_for_parent : {old m : State} {pids : Pids} {places : Places} {n : ℕ} {asked : PidSetView} {p heir w : ℕ} {next : Option ℕ} (t : IsTelling old m pids places n asked p heir w next) → length asked.pids < asked.room
+pub room_for_parent : {old m : State} {pids : Pids} {places : Places} {asked : PidSetView} {p heir w : ℕ} {next : Option ℕ} (t : IsTelling old m pids places asked p heir w next) → length asked.pids < asked.room
 room_for_parent t = has_room t.now _ t.sound.regular t.listed
 
 -- and what the definition comes to
-pub departed_told : {old m : State} {pids : Pids} {places : Places} {n : ℕ} {asked : PidSetView} {p heir w : ℕ} {next : Option ℕ} (t : IsTelling old m pids places n asked p heir w next) → next ≡ None
+pub departed_told : {old m : State} {pids : Pids} {places : Places} {asked : PidSetView} {p heir w : ℕ} {next : Option ℕ} (t : IsTelling old m pids places asked p heir w next) → next ≡ None
     → depart t.now p heir w ≡ tell_of_all (depart old p heir w) heir (zombies_of p old.processes)
 departed_told {old = old} {p = p} {heir = heir} {w = w} t none =
     ap (λ (s : State). depart s p heir w) (told_of_all t none) ∙ sym (tell_after old p heir w (heir_other t.now.processes p heir t.other t.inherits) (zombies_of p old.processes))

@@ -1,12 +1,13 @@
 -- What keeps the parent of each process there.
-use Rattle.std.proofs.Common.{◌≡◌, ◌≢◌, ℕ, true, false, cond, refl, ap, sym, ◌∙◌, subst, List, [], ◌∷◌, map, filter, find, Some, None, ◌==◌, inl, inr}
+use Rattle.std.proofs.Common.{◌≡◌, ◌≢◌, ℕ, true, false, cond, refl, ap, sym, ◌∙◌, subst, List, [], ◌∷◌, map, Some, None, ◌==◌, inl, inr, arith, filter, find}
 use Rattle.std.specs.Option.{IsSome}
-use Rattle.std.proofs.lemmas.Bool.{eqb-true, eqb-false, cases_eq}
+use Rattle.std.proofs.lemmas.Bool.{eqb-true, cases_eq}
 use Rattle.posix.specs.Processes.{Process, first_process}
-use Rattle.posix.specs.Tables.{has_pid, lookup, is_child, children_in, inserted, removed, reparented, adopted}
+use Rattle.posix.specs.Tables.{lookup, children_in, inserted, removed, reparented, adopted}
 use Rattle.posix.proofs.TableLemmas.{pid_reparented}
 use Rattle.posix.proofs.MapLemmas.{lookup_back, some_map}
-use Rattle.posix.proofs.RegularLemmas.{lookup_inserted, lookup_new, lookup_kept, lookup_removed}
+use Rattle.posix.proofs.RegularLemmas.{lookup_inserted, lookup_new, lookup_kept, lookup_removed, lookup_left, some_inserted}
+use Rattle.proctable.proofs.LinkLemmas.{no_child}
 
 abbrev pub HaveParents : List Process → Type 0
 HaveParents rs = (p : ℕ) (r : Process) → p ≢ 1 → lookup p rs ≡ Some r → IsSome (lookup r.parent rs)
@@ -28,38 +29,20 @@ parents_adopted p heir rs there h = λ q r ne e.
       | false ↦ some_map (reparented p heir) (pid_reparented p heir) b.what.parent rs (h q b.what ne b.found)
     ])
 
--- nobody who is there is a child of who has none
-no_child : (c q : ℕ) (r : Process) (rs : List Process) → lookup q rs ≡ Some r → children_in c rs ≡ [] → r.parent ≢ c
-unfolding lookup children_in
-no_child c q r [] e none = absurd (cc)
-no_child c q r (x ∷ xs) e none =
-    elim (x.parent == c) as (λ b. (x.parent == c) ≡ b → cond b (x ∷ filter (is_child c) xs) (filter (is_child c) xs) ≡ [] → r.parent ≢ c) [
-      | true ↦ λ t k. absurd (cc)
-      | false ↦ λ t k. elim (x.pid == q) as (λ b. cond b (Some x) (find (has_pid q) xs) ≡ Some r → r.parent ≢ c) [
-        | true ↦ λ u same. let here : x ≡ r = cc in eqb-false _ _ t (ap (λ (r : Process). r.parent) here ∙ same)
-        | false ↦ λ u. no_child c q r xs u k
-      ] e
-    ] refl none
-
 -- and where one goes that has no child
 pub parents_removed : (c : ℕ) (rs : List Process) → children_in c rs ≡ [] → HaveParents rs → HaveParents (removed c rs)
 parents_removed c rs none h = λ q r ne e.
-    let apart : q ≢ c = (λ x. let both = sym (lookup_removed c rs) ∙ ap (λ n. lookup n (removed c rs)) (sym x) ∙ e in absurd (cc)) in
-    let was : lookup q rs ≡ Some r = sym (lookup_kept c q rs apart) ∙ e in
-    rw (lookup_kept c r.parent rs (no_child c q r rs was none)) (h q r ne was)
+    let was = lookup_left c q rs r e in
+    rw (lookup_kept c r.parent rs (no_child c rs none q r was)) (h q r ne was)
 
 -- and where a child of one of them goes in
 pub parents_inserted : (new : Process) (rs : List Process) → lookup new.pid rs ≡ None → IsSome (lookup new.parent rs) → HaveParents rs → HaveParents (inserted new rs)
 parents_inserted new rs fresh there h = λ q r ne e. elim (cases_eq q new.pid) [
   | inl same ↦
       let one : new ≡ r = let both = sym (lookup_new new rs fresh) ∙ ap (λ n. lookup n (inserted new rs)) (sym same) ∙ e in cc in
-      still r.parent (subst (λ (q : Process). IsSome (lookup q.parent rs)) one there)
-  | inr away ↦ still r.parent (h q r ne (sym (lookup_inserted new q rs away) ∙ e))
+      some_inserted new r.parent rs (subst (λ (q : Process). IsSome (lookup q.parent rs)) one there)
+  | inr away ↦ some_inserted new r.parent rs (h q r ne (sym (lookup_inserted new q rs away) ∙ e))
 ]
-  where
-    -- who was there is there
-    still : (n : ℕ) → IsSome (lookup n rs) → IsSome (lookup n (inserted new rs))
-    still n some = rw (lookup_inserted new n rs (λ x. let none : lookup n rs ≡ None = ap (λ n. lookup n rs) x ∙ fresh in let both = rw none at some in absurd (cc))) some
 
 -- process 1 alone has none
 pub parents_first : HaveParents (first_process ∷ [])

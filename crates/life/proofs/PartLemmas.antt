@@ -18,8 +18,8 @@ use Rattle.life.proofs.SoundLemmas.{there, sound_change}
 use Rattle.life.proofs.ParentLemmas.{parents_removed}
 
 -- a zombie other than process 1 can go
-pub can_go : (s : State) (p : Pids) (places : Places) (n c : ℕ) (r : Process) → IsSound s p places n → lookup c s.processes ≡ Some r → is_zombie r.life ≡ true → c ≢ 1 → CanGo s.processes p n c
-can_go s p places n c r i found dead other =
+pub can_go : (s : State) (p : Pids) (places : Places) (c : ℕ) (r : Process) → IsSound s p places → lookup c s.processes ≡ Some r → is_zombie r.life ≡ true → c ≢ 1 → CanGo s.processes p c
+can_go s p places c r i found dead other =
     let bounds = i.regular.bounded c r found in
     let named = pid_looked c s.processes r found in
     let m = i.kept.greatest in
@@ -40,13 +40,12 @@ can_go s p places n c r i found dead other =
       pid_count = counts.pid_count;
       group_count = counts.group_count;
       session_count = counts.session_count;
-      some = let e = length_removed c r s.processes i.regular.rising found in let k = i.kept.count in omega (arith, e, k);
     }
 
 -- and still can after a change of each record that keeps its numbers
 pub can_go_map : (g : Process → Process) → ((r : Process) → (g r).pid ≡ r.pid) → ((r : Process) → (g r).parent ≡ r.parent) → ((r : Process) → (g r).group ≡ r.group) → ((r : Process) → (g r).session ≡ r.session)
-    → (rs : List Process) (p : Pids) (n c : ℕ) → CanGo rs p n c → CanGo (map g rs) p n c
-can_go_map g kp kq kg ks rs p n c h = record {
+    → (rs : List Process) (p : Pids) (c : ℕ) → CanGo rs p c → CanGo (map g rs) p c
+can_go_map g kp kq kg ks rs p c h = record {
   what = g h.what;
   found = lookup_on g kp c rs h.what h.found;
   childless = children_map g kq c rs ∙ ap (map g) h.childless;
@@ -56,24 +55,22 @@ can_go_map g kp kq kg ks rs p n c h = record {
   pid_count = h.pid_count;
   group_count = rw (kg h.what) h.group_count;
   session_count = rw (ks h.what) h.session_count;
-  some = h.some;
 }
 
 -- so it can where a process had notice
-pub can_go_noticed : (signal : PendingSignal) (q : ℕ) (rs : List Process) (p : Pids) (n c : ℕ) → CanGo rs p n c → CanGo (changed q (noticed signal) rs) p n c
+pub can_go_noticed : (signal : PendingSignal) (q : ℕ) (rs : List Process) (p : Pids) (c : ℕ) → CanGo rs p c → CanGo (changed q (noticed signal) rs) p c
 unfolding changed
-can_go_noticed signal q rs p n c h =
+can_go_noticed signal q rs p c h =
     let k = keeps_at q (noticed signal) (keeps_noticed signal) in
-    can_go_map (at q (noticed signal)) k.pid k.parent k.group k.session rs p n c h
+    can_go_map (at q (noticed signal)) k.pid k.parent k.group k.session rs p c h
 
 -- only the numbers of the record count
-gone_as : (p q : Pids) (n m c : ℕ) (x y : Process) → x.group ≡ y.group → x.session ≡ y.session → IsGone p q n m c x → IsGone p q n m c y
-gone_as p q n m c x y e f g = record {
+gone_as : (p q : Pids) (c : ℕ) (x y : Process) → x.group ≡ y.group → x.session ≡ y.session → IsGone p q c x → IsGone p q c y
+gone_as p q c x y e f g = record {
   rows = g.rows ∙ ap (λ k. gone_from p c k x.session) e ∙ ap (λ k. gone_from p c y.group k) f;
   greatest = g.greatest;
   last = g.last;
   table = g.table;
-  records = g.records;
 }
 
 -- what was read of the parent says whether it drops the child
@@ -81,13 +78,13 @@ pub drops_is : (parent : ℕ) (rs : List Process) (drops : Bool) → IsSome (loo
 drops_is parent rs drops some value = let me = there _ some in value me.what me.found ∙ ap (λ (o : Option Process). option_map_or (λ r. drops_children r.signals) o false) (sym me.found)
 
 -- a child that was dropped has gone, and is counted
-pub counted_drop : (b : Bool) (signal : PendingSignal) (parent c : ℕ) (rs ts : List Process) (p q : Pids) (n m d e : ℕ) → b ≡ true → ts ≡ changed parent (noticed signal) rs
-    → ((x : Process) → lookup c ts ≡ Some x → IsGone p q n m c x) → e ≡ d + 1 → (it : Process) → lookup c rs ≡ Some it → IsCounted b p q n m d e c it
+pub counted_drop : (b : Bool) (signal : PendingSignal) (parent c : ℕ) (rs ts : List Process) (p q : Pids) (d e : ℕ) → b ≡ true → ts ≡ changed parent (noticed signal) rs
+    → ((x : Process) → lookup c ts ≡ Some x → IsGone p q c x) → e ≡ d + 1 → (it : Process) → lookup c rs ≡ Some it → IsCounted b p q d e c it
 unfolding changed
-counted_drop b signal parent c rs ts p q n m d e drops is gone one it found =
+counted_drop b signal parent c rs ts p q d e drops is gone one it found =
     let k = keeps_at parent (noticed signal) (keeps_noticed signal) in
     let x = at parent (noticed signal) it in
-    rw drops (gone_as p q n m c x it (k.group it) (k.session it) (gone x (ap (lookup c) is ∙ lookup_on (at parent (noticed signal)) k.pid c rs it found)), one)
+    rw drops (gone_as p q c x it (k.group it) (k.session it) (gone x (ap (lookup c) is ∙ lookup_on (at parent (noticed signal)) k.pid c rs it found)), one)
 
 -- and its parent was read
 pub parent_of_drop : (b : Bool) (signal : PendingSignal) (parent c : ℕ) (rs ts : List Process) (up : ℕ) → b ≡ true → ts ≡ changed parent (noticed signal) rs
@@ -100,26 +97,25 @@ parent_of_drop b signal parent c rs ts up drops is read it found =
 -- ---- a sound machine
 
 -- it can count one more that is dropped
-pub room_to_count : (s : State) (p : Pids) (places : Places) (n c limit : ℕ) → IsSound s p places n → CanGo s.processes p n c → s.births < limit → s.dropped + 1 < limit
-room_to_count s p places n c limit i h few = let one = h.some in let all = i.counted in omega (arith, one, all, few)
+pub room_to_count : (s : State) (p : Pids) (places : Places) (c limit : ℕ) → IsSound s p places → CanGo s.processes p c → s.births < limit → s.dropped + 1 < limit
+room_to_count s p places c limit i h few = let one = length_removed c h.what s.processes i.regular.rising h.found in let all = i.counted in omega (arith, one, all, few)
 
 -- a zombie goes, and the machine stays sound
-pub sound_gone : (s : State) (p q : Pids) (a : Places) (n m c last dropped : ℕ) (r : Process) → IsSound s p a n → lookup c s.processes ≡ Some r → is_zombie r.life ≡ true → c ≢ 1
-    → IsGone p q n m c r → dropped + m ≤ s.births → IsSound (record s { processes = removed c s.processes; last_pid = last; dropped = dropped }) q a m
-sound_gone s p q a n m c last dropped r i found dead other g most =
+pub sound_gone : (s : State) (p q : Pids) (a : Places) (c last dropped : ℕ) (r : Process) → IsSound s p a → lookup c s.processes ≡ Some r → is_zombie r.life ≡ true → c ≢ 1
+    → IsGone p q c r → dropped ≤ s.dropped + 1 → IsSound (record s { processes = removed c s.processes; last_pid = last; dropped = dropped }) q a
+sound_gone s p q a c last dropped r i found dead other g most =
     let k = i.kept in
     let x = regular_removed c r s i.regular other found dead in
     let e = length_removed c r s.processes i.regular.rising found in
-    let less = g.records in
+    let all = i.counted in
     record {
       regular = record { rising = x.rising; bounded = x.bounded; first = x.first; placed = x.placed; distinct = x.distinct; childless = x.childless };
       parents = parents_removed c s.processes (i.regular.childless c r other found dead) i.parents;
-      counted = most;
+      counted = omega (arith, e, all, most);
       kept = record {
         greatest = g.greatest ∙ k.greatest;
         table = g.table;
         tallied = subst (λ x. IsTallied x (removed c s.processes)) (sym g.rows) (tallied_gone p c r s.processes k.table.size i.regular.rising k.tallied found);
-        count = let c = k.count in omega (arith, c, e, less);
         room = k.room;
       };
     }
@@ -127,34 +123,31 @@ sound_gone s p q a n m c last dropped r i found dead other g most =
 -- ---- a notice of an end
 
 -- the state of the parts after it
-pub told_state : (w : World) (rs ts : List Process) (p q : Pids) (a : Places) (n m births ticks d e : ℕ) (h : Bool) (parent c v : ℕ) (it : Process)
+pub told_state : (w : World) (rs ts : List Process) (p q : Pids) (a : Places) (births ticks d e : ℕ) (h : Bool) (parent c v : ℕ) (it : Process)
     → ts ≡ cond (is_dropping parent rs) (removed c (changed parent (noticed (child_signal c v)) rs)) (changed parent (noticed (child_signal c v)) rs)
-    → IsCounted (is_dropping parent rs) p q n m d e c it → state_of w ts q a births ticks e h ≡ notice_of_end (state_of w rs p a births ticks d h) parent c v
+    → IsCounted (is_dropping parent rs) p q d e c it → state_of w ts q a births ticks e h ≡ notice_of_end (state_of w rs p a births ticks d h) parent c v
 unfolding notice_of_end
-told_state w rs ts p q a n m births ticks d e h parent c v it is counts =
+told_state w rs ts p q a births ticks d e h parent c v it is counts =
     let told = changed parent (noticed (child_signal c v)) rs in
     let old = change (state_of w rs p a births ticks d h) parent (noticed (child_signal c v)) in
-    rw is (elim (is_dropping parent rs) as (λ b. IsCounted b p q n m d e c it → state_of w (cond b (removed c told) told) q a births ticks e h ≡ cond {A = State} b (drop_child old c) old) [
+    rw is (elim (is_dropping parent rs) as (λ b. IsCounted b p q d e c it → state_of w (cond b (removed c told) told) q a births ticks e h ≡ cond {A = State} b (drop_child old c) old) [
       | true ↦ λ k. rw (k.0.last, k.1) refl
-      | false ↦ λ k. rw (k.0, k.2) refl
+      | false ↦ λ k. rw (k.0, k.1) refl
     ] counts)
 
 -- and a sound machine stays sound
-pub sound_told : (s : State) (p q : Pids) (a : Places) (n m e parent c v : ℕ) (it : Process) → IsSound s p a n → lookup c s.processes ≡ Some it → is_zombie it.life ≡ true → c ≢ 1
-    → IsCounted (is_dropping parent s.processes) p q n m s.dropped e c it → IsSound (notice_of_end s parent c v) q a m
+pub sound_told : (s : State) (p q : Pids) (a : Places) (e parent c v : ℕ) (it : Process) → IsSound s p a → lookup c s.processes ≡ Some it → is_zombie it.life ≡ true → c ≢ 1
+    → IsCounted (is_dropping parent s.processes) p q s.dropped e c it → IsSound (notice_of_end s parent c v) q a
 unfolding notice_of_end changed
-sound_told s p q a n m e parent c v it i found dead other counts =
+sound_told s p q a e parent c v it i found dead other counts =
     let signal = child_signal c v in
     let k = keeps_at parent (noticed signal) (keeps_noticed signal) in
     let old = change s parent (noticed signal) in
-    let sound : IsSound old p a n = sound_change parent (noticed signal) (keeps_noticed signal) s p a n i in
+    let sound : IsSound old p a = sound_change parent (noticed signal) (keeps_noticed signal) s p a i in
     let x = at parent (noticed signal) it in
-    let some = (can_go s p a n c it i found dead other).some in
-    let most = i.counted in
-    elim (is_dropping parent s.processes) as (λ b. IsCounted b p q n m s.dropped e c it → IsSound (cond {A = State} b (drop_child old c) old) q a m) [
+    elim (is_dropping parent s.processes) as (λ b. IsCounted b p q s.dropped e c it → IsSound (cond {A = State} b (drop_child old c) old) q a) [
       | true ↦ λ g.
-          let less = g.0.records in
-          sound_gone old p q a n m c s.last_pid (s.dropped + 1) x sound (lookup_on (at parent (noticed signal)) k.pid c s.processes it found) (k.zombie it ∙ dead) other
-          (gone_as p q n m c it x (sym (k.group it)) (sym (k.session it)) g.0) (omega (arith, some, most, less))
-      | false ↦ λ g. rw (g.0, g.1) sound
+          sound_gone old p q a c s.last_pid (s.dropped + 1) x sound (lookup_on (at parent (noticed signal)) k.pid c s.processes it found) (k.zombie it ∙ dead) other
+          (gone_as p q c it x (sym (k.group it)) (sym (k.session it)) g.0) (omega arith)
+      | false ↦ λ g. rw g.0 sound
     ] counts

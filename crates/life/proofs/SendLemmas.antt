@@ -1,5 +1,5 @@
 -- To signal the processes one after another, from the least number on, is to send to all that are meant.
-use Rattle.std.proofs.Common.{◌≡◌, ℕ, Bool, true, false, cond, refl, ap, sym, ◌∙◌, arith, subst, List, [], ◌∷◌, ◌++◌, append-nil, map, filter, Option, Some, None, option_map, ◌==◌, nat_lt}
+use Rattle.std.proofs.Common.{◌≡◌, ℕ, Bool, true, false, cond, refl, ap, sym, ◌∙◌, arith, subst, List, [], ◌∷◌, ◌++◌, append-nil, filter, Option, Some, None, option_map, ◌==◌}
 use Rattle.std.specs.List.{AllByRecursion}
 use Rattle.std.specs.Ordering.{ord_max}
 use Rattle.std.proofs.lemmas.List.{map-append}
@@ -13,7 +13,7 @@ use Rattle.posix.specs.contracts.process.SendingOrd.TheImpl as order
 use Rattle.posix.specs.declared.target.Target.{Target}
 use Rattle.posix.specs.declared.target.Target.TheVariants as whom
 use Rattle.posix.specs.Processes.{Process}
-use Rattle.posix.specs.Tables.{IsRising, IsNext, has_pid, lookup, pids, at, changed, above, left_of}
+use Rattle.posix.specs.Tables.{IsRising, IsNext, has_pid, lookup, pids, changed, above, left_of}
 use Rattle.posix.specs.Credentials.{may}
 use Rattle.posix.specs.Generation.{signalled, signalled_all}
 use Rattle.posix.specs.Sends.{is_target, targets, permitted, sending_permitted, sending_found, sending, sent_by, sent_among}
@@ -32,17 +32,7 @@ with_processes s rs = record s { processes = rs }
 above_signalled : (p : ℕ) (signal : PendingSignal) (rs : List Process) → above p (changed p (signalled signal) rs) ≡ above p rs
 unfolding changed signalled
 above_signalled p signal [] = refl
-above_signalled p signal (x ∷ xs) =
-    elim (x.pid == p) as (λ b. (x.pid == p) ≡ b → above p (cond b (signalled signal x) x ∷ map (at p (signalled signal)) xs) ≡ above p (x ∷ xs)) [
-      | true ↦ λ t.
-          let named : x.pid ≡ p = eqb-true _ _ t in
-          let u : nat_lt p x.pid ≡ false = grind (arith, nat_tests) in
-          rw u (above_signalled p signal xs)
-      | false ↦ λ t. elim (nat_lt p x.pid) as (λ b. cond b (x ∷ above p (map (at p (signalled signal)) xs)) (above p (map (at p (signalled signal)) xs)) ≡ cond b (x ∷ above p xs) (above p xs)) [
-        | true ↦ ap (λ ys. x ∷ ys) (above_signalled p signal xs)
-        | false ↦ above_signalled p signal xs
-      ]
-    ] refl
+above_signalled p signal (x ∷ xs) = grind (arith, nat_tests, above_signalled p signal xs, eqb-true x.pid p)
 
 -- nor do they change where p is signalled several times
 above_signalled_all : (p : ℕ) (signal : PendingSignal) (qs rs : List Process) → AllByRecursion (λ (q : Process). q.pid ≡ p) qs → above p (signalled_all signal (pids qs) rs) ≡ above p rs
@@ -227,10 +217,7 @@ sending_none me target s = sending_targets me target s [] [] (targets_none me ta
 -- a test that was passed is passed again
 filter_twice : (t : Process → Bool) (rs : List Process) → filter t (filter t rs) ≡ filter t rs
 filter_twice t [] = refl
-filter_twice t (x ∷ xs) = elim (t x) as (λ b. t x ≡ b → filter t (cond b (x ∷ filter t xs) (filter t xs)) ≡ cond b (x ∷ filter t xs) (filter t xs)) [
-  | true ↦ λ e. rw e (ap (λ ys. x ∷ ys) (filter_twice t xs))
-  | false ↦ λ e. filter_twice t xs
-] refl
+filter_twice t (x ∷ xs) = grind (arith, filter_twice t xs)
 
 -- a number that nobody can have means nobody
 pub targets_nobody : (me : Process) (rs : List Process) → targets me whom.Nobody rs ≡ []

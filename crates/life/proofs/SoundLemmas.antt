@@ -58,55 +58,58 @@ pub none_read : (o : Option Process) → None ≡ option_map facts_of o → o �
 none_read None e = refl
 none_read (Some r) e = absurd (cc)
 
--- what holds at success and at an error holds
-pub either : {T E P Q S : Type 0} (r : Result T E) → OnOk r P → OnErr r Q → (P → S) → (Q → S) → S
-either (Ok x) p q f g = f p
-either (Err e) p q f g = g q
-
 -- ---- changes of records
 
 -- the numbers and the room stay kept where each record keeps its numbers
 pub kept_map : (g : Process → Process) → ((r : Process) → (g r).pid ≡ r.pid) → ((r : Process) → (g r).group ≡ r.group) → ((r : Process) → (g r).session ≡ r.session)
-    → (m : ℕ) (rs : List Process) (p : Pids) (a b : Places) (n : ℕ) → a.room ≤ b.room → IsKept m rs p a n → IsKept m (map g rs) p b n
-kept_map g kp kg ks m rs p a b n e k = record {
+    → (m : ℕ) (rs : List Process) (p : Pids) (a b : Places) → a.room ≤ b.room → IsKept m rs p a → IsKept m (map g rs) p b
+kept_map g kp kg ks m rs p a b e k = record {
   greatest = k.greatest;
   table = k.table;
   tallied = tallied_map p g kp kg ks rs k.tallied;
-  count = k.count ∙ sym (length-map rs g);
   room = let r = k.room in omega (arith, r, e);
 }
 
 -- and where the places change but keep their room
-pub kept_order : (m : ℕ) (rs : List Process) (p : Pids) (a b : Places) (n : ℕ) → a.room ≤ b.room → IsKept m rs p a n → IsKept m rs p b n
-kept_order m rs p a b n e k = record { greatest = k.greatest; table = k.table; tallied = k.tallied; count = k.count; room = let r = k.room in omega (arith, r, e) }
+pub kept_order : (m : ℕ) (rs : List Process) (p : Pids) (a b : Places) → a.room ≤ b.room → IsKept m rs p a → IsKept m rs p b
+kept_order m rs p a b e k = record { greatest = k.greatest; table = k.table; tallied = k.tallied; room = let r = k.room in omega (arith, r, e) }
 
 -- a change of each record that keeps its numbers, its life and its parent
-pub sound_map : (g : Process → Process) → Keeps g → (s : State) (pids : Pids) (places : Places) (n : ℕ) → IsSound s pids places n → IsSound (record s { processes = map g s.processes }) pids places n
-sound_map g k s pids places n i = record {
+pub sound_map : (g : Process → Process) → Keeps g → (s : State) (pids : Pids) (places : Places) → IsSound s pids places → IsSound (record s { processes = map g s.processes }) pids places
+sound_map g k s pids places i = record {
   regular = regular_map g k s i.regular;
   parents = parents_map g k.pid k.parent s.processes i.parents;
-  counted = i.counted;
-  kept = kept_map g k.pid k.group k.session s.world.pidmax s.processes pids places places n (omega arith) i.kept;
+  counted = let c = i.counted in let same = length-map s.processes g in omega (arith, c, same);
+  kept = kept_map g k.pid k.group k.session s.world.pidmax s.processes pids places places (omega arith) i.kept;
 }
 
 -- and of one record
-pub sound_change : (p : ℕ) (f : Process → Process) → Keeps f → (s : State) (pids : Pids) (places : Places) (n : ℕ) → IsSound s pids places n → IsSound (record s { processes = changed p f s.processes }) pids places n
+pub sound_change : (p : ℕ) (f : Process → Process) → Keeps f → (s : State) (pids : Pids) (places : Places) → IsSound s pids places → IsSound (record s { processes = changed p f s.processes }) pids places
 unfolding changed
-sound_change p f k s pids places n i = sound_map (at p f) (keeps_at p f k) s pids places n i
+sound_change p f k s pids places i = sound_map (at p f) (keeps_at p f k) s pids places i
 
 -- ---- ends
 
+-- as many processes are there
+pub length_departed : (p heir w : ℕ) (rs : List Process) → length (adopted p heir (changed p (made_zombie w) rs)) ≡ length rs
+unfolding changed adopted
+length_departed p heir w rs = length-map (map (at p (made_zombie w)) rs) (reparented p heir) ∙ length-map rs (at p (made_zombie w))
+
+pub length_halted : (w : ℕ) (rs : List Process) → length (changed 1 (ended w) rs) ≡ length rs
+unfolding changed
+length_halted w rs = length-map rs (at 1 (ended w))
+
 -- no number changes at an end
-pub kept_departed : (p heir w m : ℕ) (rs : List Process) (pids : Pids) (a b : Places) (n : ℕ) → a.room ≤ b.room → IsKept m rs pids a n → IsKept m (adopted p heir (changed p (made_zombie w) rs)) pids b n
+pub kept_departed : (p heir w m : ℕ) (rs : List Process) (pids : Pids) (a b : Places) → a.room ≤ b.room → IsKept m rs pids a → IsKept m (adopted p heir (changed p (made_zombie w) rs)) pids b
 unfolding changed adopted made_zombie
-kept_departed p heir w m rs pids a b n e k =
-    kept_map (reparented p heir) (λ r. grind arith) (λ r. grind arith) (λ r. grind arith) m _ pids a b n e
-    (kept_map (at p (made_zombie w)) (λ r. grind arith) (λ r. grind arith) (λ r. grind arith) m rs pids a a n (omega arith) k)
+kept_departed p heir w m rs pids a b e k =
+    kept_map (reparented p heir) (λ r. grind arith) (λ r. grind arith) (λ r. grind arith) m _ pids a b e
+    (kept_map (at p (made_zombie w)) (λ r. grind arith) (λ r. grind arith) (λ r. grind arith) m rs pids a a (omega arith) k)
 
 -- nor at the end of process 1
-pub kept_halted : (w m : ℕ) (rs : List Process) (pids : Pids) (a b : Places) (n : ℕ) → a.room ≤ b.room → IsKept m rs pids a n → IsKept m (changed 1 (ended w) rs) pids b n
+pub kept_halted : (w m : ℕ) (rs : List Process) (pids : Pids) (a b : Places) → a.room ≤ b.room → IsKept m rs pids a → IsKept m (changed 1 (ended w) rs) pids b
 unfolding changed ended
-kept_halted w m rs pids a b n e k = kept_map (at 1 (ended w)) (λ r. grind arith) (λ r. grind arith) (λ r. grind arith) m rs pids a b n e k
+kept_halted w m rs pids a b e k = kept_map (at 1 (ended w)) (λ r. grind arith) (λ r. grind arith) (λ r. grind arith) m rs pids a b e k
 
 -- who is there is still there where a process was made a zombie
 pub there_made_zombie : (p w q : ℕ) (rs : List Process) → IsSome (lookup q rs) → IsSome (lookup q (changed p (made_zombie w) rs))
@@ -127,8 +130,8 @@ parents_halted w rs h = parents_map (at 1 (ended w)) (λ r. grind arith) (λ r. 
 -- ---- numbers
 
 -- the number that the rows give next is that of the state
-pub next_is : (s : State) (p : Pids) (places : Places) (n : ℕ) → s.last_pid ≡ p.last → IsSound s p places n → next_free (is_free_in p.rows) p.last p.pidmax ≡ next_pid s
-next_is s p places n last i =
+pub next_is : (s : State) (p : Pids) (places : Places) → s.last_pid ≡ p.last → IsSound s p places → next_free (is_free_in p.rows) p.last p.pidmax ≡ next_pid s
+next_is s p places last i =
     next_same p s.processes i.kept.tallied ∙ ap (λ m. next_free (is_free s.processes) p.last m) i.kept.greatest ∙ ap (λ l. next_free (is_free s.processes) l s.world.pidmax) (sym last)
 
 -- in a rising list of numbers up to m there are no more than m
@@ -159,8 +162,8 @@ pub record IsNew (rs : List Process) (m child : ℕ) : Type 0 where
   pub greatest : child ≤ m
   pub fresh : lookup child rs ≡ None
 
-pub next_is_new : (s t : State) (p : Pids) (places : Places) (n child : ℕ) → s ≡ t → s.last_pid ≡ p.last → IsSound s p places n → next_pid t ≡ Some child → IsNew s.processes p.pidmax child
-next_is_new s t p places n child now last i next =
+pub next_is_new : (s t : State) (p : Pids) (places : Places) (child : ℕ) → s ≡ t → s.last_pid ≡ p.last → IsSound s p places → next_pid t ≡ Some child → IsNew s.processes p.pidmax child
+next_is_new s t p places child now last i next =
     let same = i.kept.greatest in
     let given = i.kept.table.given in
     let here : next_pid s ≡ Some child = ap (λ (s : State). next_pid s) now ∙ next in
@@ -169,19 +172,19 @@ next_is_new s t p places n child now last i next =
     record { least = f.least; greatest = omega (arith, high, same); fresh = free_none child s.processes f.free }
 
 -- and no more than 32,768
-pub not_many : (s : State) (p : Pids) (places : Places) (n : ℕ) → IsSound s p places n → length s.processes ≤ 32768
-not_many s p places n i =
+pub not_many : (s : State) (p : Pids) (places : Places) → IsSound s p places → length s.processes ≤ 32768
+not_many s p places i =
     let l = few s i.regular in
     let same = i.kept.greatest in
     let limit = i.kept.table.limit in
     omega (arith, l, same, limit)
 
 -- the rows have room for one more process in the group and session of its parent
-pub room_to_bear : (s t : State) (p : Pids) (places : Places) (n child parent group session : ℕ) → s ≡ t → s.last_pid ≡ p.last → IsSound s p places n → next_pid t ≡ Some child → IsPlaced t.processes parent
+pub room_to_bear : (s t : State) (p : Pids) (places : Places) (child parent group session : ℕ) → s ≡ t → s.last_pid ≡ p.last → IsSound s p places → next_pid t ≡ Some child → IsPlaced t.processes parent
     → ((me : Process) → lookup parent s.processes ≡ Some me → (group ≡ me.group) × (session ≡ me.session)) → CanBear p child group session
-room_to_bear s t p places n child parent group session now last i next me like =
-    let l = not_many s p places n i in
-    let fresh = next_is_new s t p places n child now last i next in
+room_to_bear s t p places child parent group session now last i next me like =
+    let l = not_many s p places i in
+    let fresh = next_is_new s t p places child now last i next in
     let found = found_in s t now parent me.what me.found in
     let bounds = i.regular.bounded parent me.what found in
     let m = i.kept.greatest in
@@ -193,12 +196,12 @@ room_to_bear s t p places n child parent group session now last i next me like =
     can_bear p s.processes i.kept.tallied (omega (arith, l)) child group session fresh.greatest (omega (arith, a, m, same_group)) (omega (arith, b, m, same_session))
 
 -- a birth
-pub sound_born : (w : World) (rs : List Process) (p q : Pids) (a : Places) (births ticks dropped : ℕ) (h : Bool) (n : ℕ) (new me : Process)
-    → IsSound (state_of w rs p a births ticks dropped h) p a n → IsNew rs p.pidmax new.pid → lookup new.parent rs ≡ Some me → is_zombie me.life ≡ false
+pub sound_born : (w : World) (rs : List Process) (p q : Pids) (a : Places) (births ticks dropped : ℕ) (h : Bool) (new me : Process)
+    → IsSound (state_of w rs p a births ticks dropped h) p a → IsNew rs p.pidmax new.pid → lookup new.parent rs ≡ Some me → is_zombie me.life ≡ false
     → new.group ≡ me.group → new.session ≡ me.session → new.life ≡ me.life
     → q ≡ born_in p new.pid new.group new.session → q.pidmax ≡ p.pidmax → IsPids q
-    → IsSound (state_of w (inserted new rs) q a (births + 1) ticks dropped h) q a (n + 1)
-sound_born w rs p q a births ticks dropped h n new me i fresh there up group session life bore same table =
+    → IsSound (state_of w (inserted new rs) q a (births + 1) ticks dropped h) q a
+sound_born w rs p q a births ticks dropped h new me i fresh there up group session life bore same table =
     let s = state_of w rs p a births ticks dropped h in
     let k = i.kept in
     let bounds = i.regular.bounded new.parent me there in
@@ -212,12 +215,11 @@ sound_born w rs p q a births ticks dropped h n new me i fresh there up group ses
     record {
       regular = record { rising = r.rising; bounded = r.bounded; first = r.first; placed = r.placed; distinct = r.distinct; childless = r.childless };
       parents = parents_inserted new rs fresh.fresh (is_there _ me there) i.parents;
-      counted = let c = i.counted in omega (arith, c);
+      counted = let c = i.counted in let e = length_inserted new rs in omega (arith, c, e);
       kept = record {
         greatest = same ∙ k.greatest;
         table = table;
         tallied = subst (λ x. IsTallied x (inserted new rs)) (sym bore) (tallied_born p new rs k.table.size k.tallied);
-        count = let c = k.count in let e = length_inserted new rs in omega (arith, c, e);
         room = k.room;
       };
     }
@@ -254,18 +256,17 @@ regular_first w most = record {
 
 -- a machine with process 1 alone
 pub sound_first : (w : World) (q : Pids) (b : Places) → 2 ≤ w.pidmax → q ≡ born_in (unborne_table w.pidmax) 1 1 1 → q.pidmax ≡ w.pidmax → IsPids q → b.pids ≡ 1 ∷ [] → w.pidmax < b.room
-    → IsSound (state_of w (inserted first_process []) q b 1 0 0 false) q b 1
+    → IsSound (state_of w (inserted first_process []) q b 1 0 0 false) q b
 sound_first w q b most bore same table order room =
     let r = regular_first w most in
     record {
       regular = rw (order, first_alone) (record { rising = r.rising; bounded = r.bounded; first = r.first; placed = r.placed; distinct = r.distinct; childless = r.childless });
       parents = rw first_alone parents_first;
-      counted = omega arith;
+      counted = rw first_alone (omega arith);
       kept = record {
         greatest = same;
         table = table;
         tallied = subst (λ x. IsTallied x (inserted first_process [])) (sym bore) (tallied_born (unborne_table w.pidmax) first_process [] (length-replicate _ _) (tallied_unborne w.pidmax));
-        count = ap length (sym first_alone);
         room = room;
       };
     }

@@ -28,22 +28,21 @@ pub record MachineView : Type 0 where
   pub reads : ℕ
 
 -- The rows count which numbers the processes bear, and each number can be given a place.
-pub record IsKept (pidmax : ℕ) (rs : List Process) (pids : Pids) (places : Places) (records : ℕ) : Type 0 where
+pub record IsKept (pidmax : ℕ) (rs : List Process) (pids : Pids) (places : Places) : Type 0 where
   pub greatest : pids.pidmax ≡ pidmax
   pub table : IsPids pids
   pub tallied : IsTallied pids rs
-  pub count : records ≡ length rs
   pub room : pidmax < places.room
 
 -- the parent of each process other than process 1 is there
 abbrev pub HaveParents : List Process → Type 0
 HaveParents rs = (p : ℕ) (r : Process) → p ≢ 1 → lookup p rs ≡ Some r → IsSome (lookup r.parent rs)
 
-pub record IsSound (s : State) (pids : Pids) (places : Places) (records : ℕ) : Type 0 where
+pub record IsSound (s : State) (pids : Pids) (places : Places) : Type 0 where
   pub regular : IsRegular s
   pub parents : HaveParents s.processes
-  pub counted : s.dropped + records ≤ s.births  -- each was born
-  pub kept : IsKept s.world.pidmax s.processes pids places records
+  pub counted : s.dropped + length s.processes ≤ s.births  -- each was born
+  pub kept : IsKept s.world.pidmax s.processes pids places
 
 -- Whoever has to be given a place is to be asked, each of those is there, and there is room for all numbers.
 pub record IsListed (s : State) (asked : PidSetView) : Type 0 where
@@ -53,14 +52,14 @@ pub record IsListed (s : State) (asked : PidSetView) : Type 0 where
   pub room : s.world.pidmax < asked.room
 
 -- what the type of a machine keeps
-pub record IsMachine (s : State) (pids : Pids) (places : Places) (records : ℕ) (asked : PidSetView) : Type 0 where
-  pub sound : IsSound s pids places records
+pub record IsMachine (s : State) (pids : Pids) (places : Places) (asked : PidSetView) : Type 0 where
+  pub sound : IsSound s pids places
   pub listed : IsListed s asked
 
 -- ---- one record that goes
 
 -- a record that is there can go: it has no children, and the rows hold its three numbers
-pub record CanGo (rs : List Process) (pids : Pids) (records pid : ℕ) : Type 0 where
+pub record CanGo (rs : List Process) (pids : Pids) (pid : ℕ) : Type 0 where
   pub what : Process
   pub found : lookup pid rs ≡ Some what
   pub childless : children_in pid rs ≡ []
@@ -70,17 +69,15 @@ pub record CanGo (rs : List Process) (pids : Pids) (records pid : ℕ) : Type 0 
   pub pid_count : 1 ≤ (row pids.rows pid).process
   pub group_count : 1 ≤ (row pids.rows what.group).group
   pub session_count : 1 ≤ (row pids.rows what.session).session
-  pub some : 1 ≤ records
 
 -- how the counts are once it has gone
-pub record IsGone (old new : Pids) (before after pid : ℕ) (it : Process) : Type 0 where
+pub record IsGone (old new : Pids) (pid : ℕ) (it : Process) : Type 0 where
   pub rows : new ≡ gone_from old pid it.group it.session
   pub greatest : new.pidmax ≡ old.pidmax
   pub last : new.last ≡ old.last
   pub table : IsPids new
-  pub records : after ≡ before - 1
 
 -- and where it goes by a notice of its end, or stays
-abbrev pub IsCounted : Bool → Pids → Pids → ℕ → ℕ → ℕ → ℕ → ℕ → Process → Type 0
-IsCounted true old new before after dropped now pid it = IsGone old new before after pid it × (now ≡ dropped + 1)
-IsCounted false old new before after dropped now pid it = (new ≡ old) × (after ≡ before) × (now ≡ dropped)
+abbrev pub IsCounted : Bool → Pids → Pids → ℕ → ℕ → ℕ → Process → Type 0
+IsCounted true old new dropped now pid it = IsGone old new pid it × (now ≡ dropped + 1)
+IsCounted false old new dropped now pid it = (new ≡ old) × (now ≡ dropped)

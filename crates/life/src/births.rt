@@ -49,7 +49,6 @@ impl<K: Kin> Machine<K> {
         self.table.insert(child, parent, body);
         self.to_ask.insert(parent);
         self.to_ask.insert(child);
-        self.records += 1;
         self.births += 1;
         Ok(())
     }

@@ -15,9 +15,9 @@ use posix::{Carried, Life, PendingSignal, Pid, Sig, Status};
 use proctable::Kin;
 
 impl<K: Kin> Machine<K> {
-    /// The process, whose parent this is, is a zombie and loses its place, and its children become those of its heir, which gets
-    /// notice of the ends of the zombies among them, in rising order. No number of a child is to be had once
-    /// they are the heir's, so it gets notice on the way.
+    /// The process, whose parent this is, is a zombie and loses its place, and its children become those of
+    /// its heir, which gets notice of the ends of the zombies among them, in rising order. No number of a
+    /// child is to be had once they are the heir's, so it gets notice on the way.
     fn depart(&mut self, pid: Pid, parent: Pid, heir: Pid, status: Status)
         requires there { IsSome (process self.old.state pid) }
         requires other { pid ≢ 1 }
@@ -40,7 +40,6 @@ impl<K: Kin> Machine<K> {
                     let gone = notify_of_end(
                         &mut self.table,
                         &mut self.pids,
-                        &mut self.records,
                         &mut self.dropped,
                         heir,
                         child,
@@ -78,7 +77,6 @@ impl<K: Kin> Machine<K> {
         let gone = notify_of_end(
             &mut self.table,
             &mut self.pids,
-            &mut self.records,
             &mut self.dropped,
             parent,
             child,
@@ -111,45 +109,38 @@ impl<K: Kin> Machine<K> {
 fn notify_of_end<K: Kin>(
     table: &mut K,
     pids: &mut PidTable,
-    records: &mut usize,
     dropped: &mut u64,
     parent: Pid,
     child: Pid,
     status: Status,
 ) -> Option<Pid>
     requires parent { IsSome (lookup parent (K.contents table.old)) }
-    requires child { CanGo (K.contents table.old) pids.old records.old child }
+    requires child { CanGo (K.contents table.old) pids.old child }
     requires count { dropped.old + 1 < 2 ^ 64 }
     ensures gone { (it : Process) → lookup child (K.contents table.old) ≡ Some it → result ≡ (if is_dropping parent (K.contents table.old) then Some it.parent else None) }
     ensures contents { K.contents table.new ≡ (let told = changed parent (noticed (child_signal_of child status)) (K.contents table.old) in if is_dropping parent (K.contents table.old) then removed child told else told) }
-    ensures counts { (it : Process) → lookup child (K.contents table.old) ≡ Some it → IsCounted (is_dropping parent (K.contents table.old)) pids.old pids.new records.old records.new dropped.old dropped.new child it }
+    ensures counts { (it : Process) → lookup child (K.contents table.old) ≡ Some it → IsCounted (is_dropping parent (K.contents table.old)) pids.old pids.new dropped.old dropped.new child it }
     ensures reads { K.reads table.new ≤ K.reads table.old + 6 }
 {
     let drops = notice_in(table, parent, child_signal(child, status));
     if drops {
-        Some(drop_child(table, pids, records, dropped, child))
+        Some(drop_child(table, pids, dropped, child))
     } else {
         None
     }
 }
 
 /// A child is dropped: its record goes without a report, and it is counted. Its parent.
-fn drop_child<K: Kin>(
-    table: &mut K,
-    pids: &mut PidTable,
-    records: &mut usize,
-    dropped: &mut u64,
-    child: Pid,
-) -> Pid
-    requires child { CanGo (K.contents table.old) pids.old records.old child }
+fn drop_child<K: Kin>(table: &mut K, pids: &mut PidTable, dropped: &mut u64, child: Pid) -> Pid
+    requires child { CanGo (K.contents table.old) pids.old child }
     requires count { dropped.old + 1 < 2 ^ 64 }
     ensures parent { (it : Process) → lookup child (K.contents table.old) ≡ Some it → result ≡ it.parent }
     ensures contents { K.contents table.new ≡ removed child (K.contents table.old) }
-    ensures counts { (it : Process) → lookup child (K.contents table.old) ≡ Some it → IsGone pids.old pids.new records.old records.new child it }
+    ensures counts { (it : Process) → lookup child (K.contents table.old) ≡ Some it → IsGone pids.old pids.new child it }
     ensures dropped { dropped.new ≡ dropped.old + 1 }
     ensures reads { K.reads table.new ≤ K.reads table.old + 5 }
 {
-    let parent = discard(table, pids, records, child);
+    let parent = discard(table, pids, child);
     *dropped += 1;
     parent
 }

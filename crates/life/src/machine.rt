@@ -31,8 +31,6 @@ pub struct Machine<K: Kin> {
     pub(crate) order: Order,
     /// Those who are to be asked whether they can act. Whoever has to be given a place is among them.
     pub(crate) to_ask: PidSet,
-    /// How many processes are in the table.
-    pub(crate) records: usize,
     pub(crate) births: u64,
     pub(crate) ticks: u64,
     pub(crate) dropped: u64,
@@ -46,7 +44,7 @@ impl<K: Kin> Model for Machine<K> {
 
     ghost view = { λ m. record { state = state_of m.world (K.contents m.table) m.pids m.order m.births m.ticks m.dropped m.halted; reads = K.reads m.table } };
 
-    ghost invariant = { λ m. IsMachine (state_of m.world (K.contents m.table) m.pids m.order m.births m.ticks m.dropped m.halted) m.pids m.order m.records m.to_ask };
+    ghost invariant = { λ m. IsMachine (state_of m.world (K.contents m.table) m.pids m.order m.births m.ticks m.dropped m.halted) m.pids m.order m.to_ask };
 }
 
 impl<K: Kin> Machine<K> {
@@ -73,7 +71,6 @@ impl<K: Kin> Machine<K> {
             pids,
             order,
             to_ask,
-            records: 1,
             births: 1,
             ticks: 0,
             dropped: 0,

@@ -70,16 +70,11 @@ fn look(group: Pid, target: &Target, options: WaitOptions, child: Facts) -> Repo
 
 /// The record of a process without children goes, and it no longer bears its own number, its group's and its
 /// session's, in the parts of a machine. Its parent.
-pub(crate) fn discard<K: Kin>(
-    table: &mut K,
-    pids: &mut PidTable,
-    records: &mut usize,
-    pid: Pid,
-) -> Pid
-    requires { CanGo (K.contents table.old) pids.old records.old pid }
+pub(crate) fn discard<K: Kin>(table: &mut K, pids: &mut PidTable, pid: Pid) -> Pid
+    requires { CanGo (K.contents table.old) pids.old pid }
     ensures parent { (it : Process) → lookup pid (K.contents table.old) ≡ Some it → result ≡ it.parent }
     ensures contents { K.contents table.new ≡ removed pid (K.contents table.old) }
-    ensures counts { (it : Process) → lookup pid (K.contents table.old) ≡ Some it → IsGone pids.old pids.new records.old records.new pid it }
+    ensures counts { (it : Process) → lookup pid (K.contents table.old) ≡ Some it → IsGone pids.old pids.new pid it }
     ensures reads { K.reads table.new ≤ K.reads table.old + 5 }
 {
     let Some(facts) = table.get(pid) else {
@@ -87,12 +82,11 @@ pub(crate) fn discard<K: Kin>(
     };
     table.remove(pid);
     pids.give_up_all(pid, facts.group, facts.session);
-    *records -= 1;
     facts.parent
 }
 
-/// A record has gone, if it has, of a process with this parent: the parent is to be asked, and the process no
-/// more.
+/// Where the record of a process has gone, of which this is the parent: the parent is to be asked, and the
+/// process no more.
 pub(crate) fn ask_parent(to_ask: &mut PidSet, pid: Pid, parent: Option<Pid>)
     requires { length to_ask.old.pids < to_ask.old.room }
     ensures pids { to_ask.new.pids ≡ without_gone pid parent to_ask.old.pids }
@@ -137,7 +131,7 @@ impl<K: Kin> Machine<K> {
         ensures state { self.new.state ≡ record (self.old.state) { processes = removed pid self.old.state.processes } }
         ensures reads { self.new.reads ≤ self.old.reads + 5 }
     {
-        let parent = discard(&mut self.table, &mut self.pids, &mut self.records, pid);
+        let parent = discard(&mut self.table, &mut self.pids, pid);
         ask_parent(&mut self.to_ask, pid, Some(parent));
     }
 

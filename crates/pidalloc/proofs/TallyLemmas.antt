@@ -1,10 +1,13 @@
 -- The rows of a table of numbers and the records of the processes that bear them.
-use Rattle.std.proofs.Common.{◌≡◌, ℕ, suc, ◌+◌, ◌<◌, ◌≤◌, ◌^◌, Bool, true, false, cond, not, ◌&&◌, ◌||◌, refl, ap, sym, ◌∙◌, arith, subst, List, [], ◌∷◌, length, map, filter, find, Some, None, ◌==◌, nat_lt}
+use Rattle.std.proofs.Common.{◌≡◌, ℕ, suc, ◌+◌, ◌<◌, ◌≤◌, ◌^◌, Bool, true, false, cond, not, ◌&&◌, ◌||◌, refl, ap, sym, ◌∙◌, arith, subst, List, [], ◌∷◌, length, map, filter, find, Some, None, ◌==◌}
 use Rattle.std.specs.List.{list_any}
 use Rattle.std.proofs.lemmas.Bool.{eqb-true, eq-eqb, ne_eqb}
+use Rattle.std.proofs.lemmas.List.Sums.{length-filter, count_by-le-length}
 use Rattle.posix.specs.Processes.{Process}
 use Rattle.posix.specs.Tables.{IsRising, lookup, has_pid, inserted, removed, bears}
 use Rattle.posix.specs.NextPid.{is_free, next_free}
+use Rattle.std.proofs.lemmas.List.{length-map}
+use Rattle.posix.proofs.MapLemmas.{filter_map}
 use Rattle.posix.proofs.TableLemmas.{Above, remove_above, pid_looked}
 use Rattle.pidalloc.specs.Rows.{Row, Pids, unborne_table, row, is_free_row, is_free_in, with_row, one_more, one_less, borne, given_up, born_in, gone_from}
 use Rattle.pidalloc.specs.Rows as roles
@@ -17,19 +20,12 @@ use Rattle.pidalloc.proofs.RowLemmas.{no_row, row_with_three, same_row, more, le
 -- no records are counted where none passes the test
 none_counted : (t : Process → Bool) (rs : List Process) → (length (filter t rs) == 0) ≡ not (list_any t rs)
 none_counted t [] = refl
-none_counted t (r ∷ rs) = elim (t r) as (λ b. (length (cond b (r ∷ filter t rs) (filter t rs)) == 0) ≡ not (b || list_any t rs)) [ true ↦ ne_eqb _ _ (λ e. omega (arith, e)) | false ↦ none_counted t rs ]
+none_counted t (r ∷ rs) = grind (arith, none_counted t rs, ne_eqb)
 
 -- a record passes one of two tests where one passes the first or one the second
 any_or : (t u : Process → Bool) (rs : List Process) → list_any (λ r. t r || u r) rs ≡ (list_any t rs || list_any u rs)
 any_or t u [] = refl
-any_or t u (r ∷ rs) = elim (t r) as (λ b. ((b || u r) || list_any (λ r. t r || u r) rs) ≡ ((b || list_any t rs) || (u r || list_any u rs))) [
-  | true ↦ refl
-  | false ↦ elim (u r) as (λ b. (b || list_any (λ r. t r || u r) rs) ≡ (list_any t rs || (b || list_any u rs))) [ true ↦ or_true (list_any t rs) | false ↦ any_or t u rs ]
-]
-  where
-    or_true : (b : Bool) → true ≡ (b || true)
-    or_true true = refl
-    or_true false = refl
+any_or t u (r ∷ rs) = grind (arith, any_or t u rs)
 
 -- not one or the other is neither
 not_or : (a b : Bool) → not (a || b) ≡ (not a && not b)
@@ -56,14 +52,7 @@ next_same p rs t = next_free_same _ _ p.last p.pidmax (λ k l. ap is_free_row (t
 pub free_none : (n : ℕ) (rs : List Process) → is_free rs n ≡ true → lookup n rs ≡ None
 unfolding is_free lookup
 free_none n [] e = refl
-free_none n (r ∷ rs) e = elim (r.pid == n) as (λ b. not (((b || r.group == n) || r.session == n) || list_any (bears n) rs) ≡ true → cond b (Some r) (find (has_pid n) rs) ≡ None) [
-  | true ↦ λ h. absurd (cc)
-  | false ↦ λ h. free_none n rs (rest ((false || r.group == n) || r.session == n) (list_any (bears n) rs) h)
-] e
-  where
-    rest : (a b : Bool) → not (a || b) ≡ true → not b ≡ true
-    rest true b h = absurd (cc)
-    rest false b h = h
+free_none n (r ∷ rs) e = grind (arith, free_none n rs)
 
 -- ---- counts of records
 
@@ -82,10 +71,7 @@ swap_counted t x y xs ys h = over (t x) (t y) h
 pub counted_inserted : (t : Process → Bool) (new : Process) (rs : List Process) → length (filter t (inserted new rs)) ≡ length (filter t (new ∷ rs))
 unfolding inserted
 counted_inserted t new [] = refl
-counted_inserted t new (r ∷ rs) = elim (nat_lt new.pid r.pid) as (λ b. length (filter t (cond b (new ∷ r ∷ rs) (r ∷ inserted new rs))) ≡ length (filter t (new ∷ r ∷ rs))) [
-  | true ↦ refl
-  | false ↦ swap_counted t r new (inserted new rs) rs (counted_inserted t new rs)
-]
+counted_inserted t new (r ∷ rs) = grind (arith, counted_inserted t new rs)
 
 -- a record that goes counted as if it went from the front
 pub counted_removed : (t : Process → Bool) (p : ℕ) (r : Process) (rs : List Process) → IsRising rs → lookup p rs ≡ Some r → length (filter t rs) ≡ length (filter t (r ∷ removed p rs))
@@ -103,26 +89,17 @@ counted_removed t p r (x ∷ xs) up e =
 
 -- changes that leave the test leave the count
 counted_map : (t : Process → Bool) (g : Process → Process) → ((r : Process) → t (g r) ≡ t r) → (rs : List Process) → length (filter t (map g rs)) ≡ length (filter t rs)
-counted_map t g keeps [] = refl
-counted_map t g keeps (r ∷ rs) = rw (keeps r) (elim (t r) as (λ b. length (cond b (g r ∷ filter t (map g rs)) (filter t (map g rs))) ≡ length (cond b (r ∷ filter t rs) (filter t rs))) [
-  | true ↦ ap suc (counted_map t g keeps rs)
-  | false ↦ counted_map t g keeps rs
-])
+counted_map t g keeps rs = ap length (filter_map t g keeps rs) ∙ length-map (filter t rs) g
 
 -- a record that is found and passes the test is counted
 counted_found : (t : Process → Bool) (p : ℕ) (r : Process) (rs : List Process) → t r ≡ true → lookup p rs ≡ Some r → 1 ≤ length (filter t rs)
 unfolding lookup
 counted_found t p r [] h e = absurd (cc)
-counted_found t p r (x ∷ xs) h e =
-    elim (x.pid == p) as (λ b. cond b (Some x) (find (has_pid p) xs) ≡ Some r → 1 ≤ length (filter t (x ∷ xs))) [
-      | true ↦ λ k. let same : x ≡ r = cc in let u : t x ≡ true = ap t same ∙ h in rw u (omega arith)
-      | false ↦ λ k. let i = counted_found t p r xs h k in elim (t x) as (λ b. 1 ≤ length (cond b (x ∷ filter t xs) (filter t xs))) [ true ↦ omega arith | false ↦ i ]
-    ] e
+counted_found t p r (x ∷ xs) h e = grind (arith, h, counted_found t p r xs h)
 
 -- no more are counted than there are
 fewer : (t : Process → Bool) (rs : List Process) → length (filter t rs) ≤ length rs
-fewer t [] = omega arith
-fewer t (r ∷ rs) = elim (t r) as (λ b. length (cond b (r ∷ filter t rs) (filter t rs)) ≤ length (r ∷ rs)) [ true ↦ omega (arith, fewer t rs) | false ↦ omega (arith, fewer t rs) ]
+fewer t rs = rw (length-filter t rs) (count_by-le-length t rs)
 
 -- a test that all pass counts them all
 all_counted : (rs : List Process) → length (filter (λ r. true) rs) ≡ length rs

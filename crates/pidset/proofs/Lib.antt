@@ -1,2 +1,2 @@
 pub mod NumberLemmas
-pub mod RowLemmas
+pub mod ItemLemmas

@@ -1,12 +1,13 @@
 -- Facts on numbers in rising order.
-use Rattle.std.proofs.Common.{◌≡◌, ◌≢◌, ℕ, zero, suc, ◌+◌, ◌-◌, ◌<◌, ◌≤◌, Bool, true, false, cond, not, ◌&&◌, ◌||◌, refl, ap, sym, ◌∙◌, arith, subst, List, [], ◌∷◌, length, filter, insert, slice_get, get_or, Option, Some, None, Result, Ok, Err, is_ok, IfOk, IfErr, ◌==◌, nat_lt, inl, inr}
-use Rattle.std.specs.List.{AllByRecursion, list_any}
+use Rattle.std.proofs.Common.{◌≡◌, ℕ, zero, suc, ◌+◌, ◌-◌, ◌<◌, ◌≤◌, Bool, true, false, cond, ◌||◌, refl, ap, sym, ◌∙◌, arith, subst, List, [], ◌∷◌, length, filter, insert, slice_get, get_or, Some, Result, Ok, Err, is_ok, IfOk, IfErr, ◌==◌, nat_lt}
+use Rattle.std.specs.List.{AllByRecursion}
 use Rattle.std.specs.Option.{IfSome, IsSome}
-use Rattle.std.proofs.lemmas.Option.{slice_get_past, get_or_from_slice_get}
-use Rattle.std.proofs.lemmas.Bool.{eqb-true, eqb-false, eq-eqb, ne_eqb, ltb-true, ltb-false, cases_order}
+use Rattle.std.proofs.lemmas.Option.{IfSome_then, slice_get_past, get_or_from_slice_get}
+use Rattle.std.proofs.lemmas.Bool.{eqb-true, eqb-false, eq-eqb, ne_eqb, ltb-true, ltb-false, or_right}
 use Rattle.std.proofs.lemmas.Bool.Decides.{nat_tests}
 use Rattle.posix.specs.States.{is_in, without}
-use Rattle.pidset.specs.Numbers.{Rises, with_number, numbers_above, IsNumberAt, IsNumberGap}
+use Rattle.pidset.specs.Numbers.{Rises, with_number, numbers_above, IsNumberAt, IsInsertionPoint}
+use Rattle.posix.proofs.MemberLemmas.{in_first, in_rest, in_none, each}
 
 abbrev pub AllAbove : ℕ → List ℕ → Type 0
 AllAbove n ns = AllByRecursion (λ m. n < m) ns
@@ -24,16 +25,6 @@ above_get n [] a i m e = absurd (cc)
 above_get n (x ∷ xs) a zero m e = let same : x ≡ m = cc in subst (λ k. n < k) same a.0
 above_get n (x ∷ xs) a (suc i) m e = above_get n xs a.1 i m e
 
--- a number is in a list that begins with it
-pub head_in : (x : ℕ) (xs : List ℕ) → is_in x (x ∷ xs) ≡ true
-unfolding is_in
-head_in x xs = rw (eq-eqb x x refl) refl
-
--- another is where it is in the rest
-pub tail_in : (x n : ℕ) (xs : List ℕ) → x ≢ n → is_in n (x ∷ xs) ≡ is_in n xs
-unfolding is_in
-tail_in x n xs ne = rw (ne_eqb x n ne) refl
-
 -- no number up to n is in a list above n
 pub not_in_above : (n k : ℕ) (ns : List ℕ) → k ≤ n → AllAbove n ns → is_in k ns ≡ false
 unfolding is_in
@@ -42,21 +33,13 @@ not_in_above n k (x ∷ ns) l a = rw (ne_eqb x k (λ e. omega (arith, e, a.0))) 
 
 -- who is in a list above n is above n
 pub in_above : (n k : ℕ) (ns : List ℕ) → AllAbove n ns → is_in k ns ≡ true → n < k
-unfolding is_in
-in_above n k [] a e = absurd (cc)
-in_above n k (x ∷ ns) a e = elim (x == k) as (λ b. (x == k) ≡ b → (b || list_any (λ q. q == k) ns) ≡ true → n < k) [
-  | true ↦ λ t h. let same : x ≡ k = eqb-true _ _ t in omega (arith, a.0, same)
-  | false ↦ λ t h. in_above n k ns a.1 h
-] refl e
+in_above n k ns a e = each (λ m. n < m) ns a k e
 
 -- what all that are in a list have, all have
 pub all_in : (P : ℕ → Type 0) (ns : List ℕ) → ((q : ℕ) → is_in q ns ≡ true → P q) → AllByRecursion P ns
 unfolding is_in
 all_in P [] h = tt
-all_in P (x ∷ xs) h = (
-  h x (rw (eq-eqb x x refl) refl),
-  all_in P xs (λ q e. h q (elim (x == q) as (λ b. (b || list_any (λ y. y == q) xs) ≡ true) [ true ↦ refl | false ↦ e ])),
-)
+all_in P (x ∷ xs) h = (h x (in_first x xs), all_in P xs (λ q e. h q (or_right (x == q) _ e)))
 
 -- ---- at the index of a number
 
@@ -65,49 +48,34 @@ pub in_at : (ns : List ℕ) (n i : ℕ) → IsNumberAt ns n i → is_in n ns ≡
 unfolding is_in
 in_at [] n i e = absurd (cc)
 in_at (x ∷ xs) n zero e = let same : x ≡ n = cc in rw (eq-eqb x n same) refl
-in_at (x ∷ xs) n (suc i) e = elim (x == n) as (λ b. (b || list_any (λ q. q == n) xs) ≡ true) [ true ↦ refl | false ↦ in_at xs n i e ]
+in_at (x ∷ xs) n (suc i) e = or_right (x == n) _ (in_at xs n i e)
 
 -- what is there isn't put in again
 pub with_there : (ns : List ℕ) → Rises ns → (n : ℕ) → is_in n ns ≡ true → with_number n ns ≡ ns
 unfolding Rises with_number is_in
 with_there [] up n e = absurd (cc)
-with_there (x ∷ xs) up n e = elim (cases_order n x) [
-  | inl same ↦
-      let t : nat_lt n x ≡ false = grind (arith, nat_tests) in
-      rw (t, eq-eqb n x same) refl
-  | inr (inl lt) ↦
-      let none : is_in n xs ≡ false = not_in_above x n xs (omega (arith, lt)) up.0 in
-      let no : false ≡ true = sym (tail_in x n xs (λ k. omega (arith, k, lt)) ∙ none) ∙ e in absurd (cc)
-  | inr (inr gt) ↦
-      let t : nat_lt n x ≡ false = grind (arith, nat_tests) in
-      rw (t, ne_eqb n x (λ k. omega (arith, k, gt))) (ap (λ ys. x ∷ ys) (with_there xs up.1 n (rw (ne_eqb x n (λ k. omega (arith, k, gt))) at e)))
-]
+with_there (x ∷ xs) up n e = grind (arith, nat_tests, e, λ (l : n ≤ x). not_in_above x n xs l up.0, with_there xs up.1 n, eqb-true)
 
 -- ---- at the index where a number would go
 
--- a gap past the head is a gap of the rest
-pub later : (x : ℕ) (xs : List ℕ) (n i : ℕ) → IsNumberGap (x ∷ xs) n (suc i) → IsNumberGap xs n i
+-- an insertion point past the head is one of the rest
+pub later : (x : ℕ) (xs : List ℕ) (n i : ℕ) → IsInsertionPoint (x ∷ xs) n (suc i) → IsInsertionPoint xs n i
 later x xs n i g = record { in_range = let l = g.in_range in omega arith; before = λ j h. g.before (suc j) (omega arith); after = g.after }
 
--- where there is a gap for a number, it isn't there
-pub out_gap : (ns : List ℕ) → Rises ns → (n i : ℕ) → IsNumberGap ns n i → is_in n ns ≡ false
+-- where a number has an insertion point, it isn't there
+pub out_point : (ns : List ℕ) → Rises ns → (n i : ℕ) → IsInsertionPoint ns n i → is_in n ns ≡ false
 unfolding is_in Rises
-out_gap [] up n i g = refl
-out_gap (x ∷ xs) up n zero g = not_in_above n n (x ∷ xs) (omega arith) (g.after, above_less n x xs g.after up.0)
-out_gap (x ∷ xs) up n (suc i) g =
-    let low : x < n = g.before 0 (omega arith) in
-    rw (ne_eqb x n (λ k. omega (arith, k, low))) (out_gap xs up.1 n i (later x xs n i g))
+out_point [] up n i g = refl
+out_point (x ∷ xs) up n zero g = not_in_above n n (x ∷ xs) (omega arith) (g.after, above_less n x xs g.after up.0)
+out_point (x ∷ xs) up n (suc i) g = grind (arith, g.before 0 (omega arith), out_point xs up.1 n i (later x xs n i g), eqb-true x n)
 
--- a number goes in at the gap for it
-pub with_gap : (ns : List ℕ) (n i : ℕ) → IsNumberGap ns n i → with_number n ns ≡ insert ns i n
+-- a number goes in at its insertion point
+pub with_point : (ns : List ℕ) (n i : ℕ) → IsInsertionPoint ns n i → with_number n ns ≡ insert ns i n
 unfolding with_number
-with_gap [] n zero g = refl
-with_gap [] n (suc i) g = let l = g.in_range in absurd (omega arith)
-with_gap (x ∷ xs) n zero g = let l : nat_lt n x ≡ true = grind (arith, nat_tests, g.after) in rw l refl
-with_gap (x ∷ xs) n (suc i) g =
-    let low : x < n = g.before 0 (omega arith) in
-    let l : nat_lt n x ≡ false = grind (arith, nat_tests) in
-    rw (l, ne_eqb n x (λ k. omega (arith, k, low))) (ap (λ ys. x ∷ ys) (with_gap xs n i (later x xs n i g)))
+with_point [] n zero g = refl
+with_point [] n (suc i) g = let l = g.in_range in absurd (omega arith)
+with_point (x ∷ xs) n zero g = let l : nat_lt n x ≡ true = grind (arith, nat_tests, g.after) in rw l refl
+with_point (x ∷ xs) n (suc i) g = grind (arith, nat_tests, g.before 0 (omega arith), with_point xs n i (later x xs n i g), eqb-true n x)
 
 -- ---- a search
 
@@ -132,13 +100,13 @@ some_at (x ∷ xs) zero d P h = h (omega arith)
 some_at (x ∷ xs) (suc j) d P h = some_at xs j d P (λ lt. h (omega arith))
 
 -- a search that ends so decides whether the number is there
-pub decides : (ns : List ℕ) → Rises ns → (n : ℕ) (r : Result ℕ ℕ) → IfOk r (IsNumberAt ns n) → IfErr r (IsNumberGap ns n) → is_ok r ≡ is_in n ns
+pub decides : (ns : List ℕ) → Rises ns → (n : ℕ) (r : Result ℕ ℕ) → IfOk r (IsNumberAt ns n) → IfErr r (IsInsertionPoint ns n) → is_ok r ≡ is_in n ns
 decides ns up n (Ok i) e g = sym (in_at ns n i e)
-decides ns up n (Err i) e g = sym (out_gap ns up n i g)
+decides ns up n (Err i) e g = sym (out_point ns up n i g)
 
 -- a number above the last goes to the end
-pub gap_last : (ns : List ℕ) → Rises ns → (n m : ℕ) → slice_get ns (length ns - 1) ≡ Some m → m < n → IsNumberGap ns n (length ns)
-gap_last ns up n m last lt = record {
+pub point_last : (ns : List ℕ) → Rises ns → (n m : ℕ) → slice_get ns (length ns - 1) ≡ Some m → m < n → IsInsertionPoint ns n (length ns)
+point_last ns up n m last lt = record {
   in_range = omega arith;
   before = λ j low. some_at ns j 0 (λ k. k < n) (λ h. below j h);
   after = rw (slice_get_past ns (length ns) (omega arith)) tt;
@@ -172,26 +140,13 @@ rises_without n ns u = rises_filter _ ns u
 above_with : (n m : ℕ) (ns : List ℕ) → n < m → AllAbove n ns → AllAbove n (with_number m ns)
 unfolding with_number
 above_with n m [] l a = (l, tt)
-above_with n m (x ∷ xs) l a = elim (nat_lt m x) as (λ b. AllAbove n (cond b (m ∷ x ∷ xs) (cond (m == x) (x ∷ xs) (x ∷ with_number m xs)))) [
-  | true ↦ (l, a)
-  | false ↦ elim (m == x) as (λ b. AllAbove n (cond b (x ∷ xs) (x ∷ with_number m xs))) [ true ↦ a | false ↦ (a.0, above_with n m xs l a.1) ]
-]
+above_with n m (x ∷ xs) l a = grind (arith, l, a.0, a.1, above_with n m xs l a.1)
 
 -- the order stays where a number is put in
 pub rises_with : (n : ℕ) (ns : List ℕ) → Rises ns → Rises (with_number n ns)
 unfolding Rises with_number
 rises_with n [] u = (tt, tt)
-rises_with n (x ∷ xs) u = elim (nat_lt n x) as (λ b. nat_lt n x ≡ b → Rises (cond b (n ∷ x ∷ xs) (cond (n == x) (x ∷ xs) (x ∷ with_number n xs)))) [
-  | true ↦ λ t. let l : n < x = ltb-true _ _ t in ((l, above_less n x xs l u.0), u)
-  | false ↦ λ t. elim (n == x) as (λ b. (n == x) ≡ b → Rises (cond b (x ∷ xs) (x ∷ with_number n xs))) [
-    | true ↦ λ same. u
-    | false ↦ λ other.
-        let ne : n ≢ x = eqb-false _ _ other in
-        let le : x ≤ n = ltb-false _ _ t in
-        let l : x < n = grind (arith, ne) in
-        (above_with x n xs l u.0, rises_with n xs u.1)
-  ] refl
-] refl
+rises_with n (x ∷ xs) u = grind (arith, nat_tests, u.0, u.1, above_less n x xs, above_with x n xs, rises_with n xs u.1, eqb-false)
 
 -- ---- who is there
 
@@ -199,70 +154,7 @@ rises_with n (x ∷ xs) u = elim (nat_lt n x) as (λ b. nat_lt n x ≡ b → Ris
 pub in_with : (q n : ℕ) (ns : List ℕ) → is_in q (with_number n ns) ≡ (n == q || is_in q ns)
 unfolding with_number is_in
 in_with q n [] = refl
-in_with q n (x ∷ xs) = elim (nat_lt n x) as (λ b. list_any (λ y. y == q) (cond b (n ∷ x ∷ xs) (cond (n == x) (x ∷ xs) (x ∷ with_number n xs))) ≡ (n == q || (x == q || list_any (λ y. y == q) xs))) [
-  | true ↦ refl
-  | false ↦ elim (n == x) as (λ b. (n == x) ≡ b → list_any (λ y. y == q) (cond b (x ∷ xs) (x ∷ with_number n xs)) ≡ (n == q || (x == q || list_any (λ y. y == q) xs))) [
-    | true ↦ λ t. rw (eqb-true _ _ t) (twice (x == q) (list_any (λ y. y == q) xs))
-    | false ↦ λ t. ap (λ b. x == q || b) (in_with q n xs) ∙ swapped (x == q) (n == q) (list_any (λ y. y == q) xs)
-  ] refl
-]
-  where
-    twice : (a b : Bool) → (a || b) ≡ (a || (a || b))
-    twice true b = refl
-    twice false b = refl
-
-    swapped : (a b c : Bool) → (a || (b || c)) ≡ (b || (a || c))
-    swapped true true c = refl
-    swapped true false c = refl
-    swapped false b c = refl
-
--- who is among some is among all, and passes the test
-pub in_filter : (t : ℕ → Bool) (n : ℕ) (ns : List ℕ) → is_in n (filter t ns) ≡ (t n && is_in n ns)
-unfolding is_in
-in_filter t n [] = elim (t n) as (λ b. false ≡ (b && false)) [ true ↦ refl | false ↦ refl ]
-in_filter t n (x ∷ ns) =
-    let rest = in_filter t n ns in
-    elim (x == n) as (λ b. (x == n) ≡ b → list_any (λ q. q == n) (cond (t x) (x ∷ filter t ns) (filter t ns)) ≡ (t n && (b || list_any (λ q. q == n) ns))) [
-      | true ↦ λ e.
-          let i : x ≡ n = eqb-true _ _ e in
-          elim (t n) as (λ b. t n ≡ b → list_any (λ q. q == n) (cond (t x) (x ∷ filter t ns) (filter t ns)) ≡ (b && true)) [
-            | true ↦ λ w. let k : t x ≡ true = ap t i ∙ w in rw (k, e) refl
-            | false ↦ λ w. let k : t x ≡ false = ap t i ∙ w in rw k (rest ∙ ap (λ b. b && list_any (λ q. q == n) ns) w)
-          ] refl
-      | false ↦ λ e. elim (t x) as (λ b. list_any (λ q. q == n) (cond b (x ∷ filter t ns) (filter t ns)) ≡ (t n && list_any (λ q. q == n) ns)) [
-        | true ↦ rw e rest
-        | false ↦ rest
-      ]
-    ] refl
-
--- a number that is taken out is gone, and no other
-pub in_rest : (q n : ℕ) (ns : List ℕ) → is_in q (without n ns) ≡ (not (q == n) && is_in q ns)
-unfolding without
-in_rest q n ns = in_filter (λ m. not (m == n)) q ns
-
--- two rising lists of the same numbers are one
-pub same_rising : (xs ys : List ℕ) → Rises xs → Rises ys → ((n : ℕ) → is_in n xs ≡ is_in n ys) → xs ≡ ys
-unfolding Rises
-same_rising [] [] u v h = refl
-same_rising [] (y ∷ ys) u v h = let e : false ≡ true = sym (not_in_above y y [] (omega arith) tt) ∙ h y ∙ head_in y ys in absurd (cc)
-same_rising (x ∷ xs) [] u v h =
-    let e : false ≡ true = sym (not_in_above x x [] (omega arith) tt) ∙ sym (h x) ∙ head_in x xs in absurd (cc)
-same_rising (x ∷ xs) (y ∷ ys) u v h =
-    elim (cases_order x y) [
-      | inl e ↦
-          let rest = same_rising xs ys u.1 v.1 (λ n.
-          elim (n == x) as (λ b. (n == x) ≡ b → is_in n xs ≡ is_in n ys) [
-            | true ↦ λ t.
-                let i : n ≡ x = eqb-true _ _ t in
-                not_in_above x n xs (omega (arith, i)) u.0 ∙ sym (not_in_above y n ys (omega (arith, i, e)) v.0)
-            | false ↦ λ t.
-                let ne = eqb-false _ _ t in
-                sym (tail_in x n xs (λ i. ne (sym i))) ∙ h n ∙ tail_in y n ys (λ i. ne (sym i ∙ sym e))
-          ] refl) in
-          ap (λ l. x ∷ l) rest ∙ ap (λ k. k ∷ ys) e
-      | inr (inl lt) ↦ let k : false ≡ true = sym (tail_in y x ys (λ i. omega (arith, i, lt)) ∙ not_in_above y x ys (omega (arith, lt)) v.0) ∙ sym (h x) ∙ head_in x xs in absurd (cc)
-      | inr (inr gt) ↦ let k : false ≡ true = sym (tail_in x y xs (λ i. omega (arith, i, gt)) ∙ not_in_above x y xs (omega (arith, gt)) u.0) ∙ h y ∙ head_in y ys in absurd (cc)
-    ]
+in_with q n (x ∷ xs) = grind (arith, in_with q n xs, eqb-true)
 
 -- ---- the next above a number
 
@@ -277,43 +169,30 @@ unfolding Rises
 next_is n [] up = tt
 next_is n (x ∷ xs) up = elim (nat_lt n x) as (λ b. nat_lt n x ≡ b → IfSome (slice_get (cond b (x ∷ numbers_above n xs) (numbers_above n xs)) 0) (IsLeastAbove n (x ∷ xs))) [
   | true ↦ λ t. record {
-    there = head_in x xs;
+    there = in_first x xs;
     above = ltb-true _ _ t;
     least = λ q e l. elim (x == q) as (λ b. (x == q) ≡ b → x ≤ q) [
       | true ↦ λ same. let k : x ≡ q = eqb-true _ _ same in omega (arith, k)
-      | false ↦ λ other. let k : x < q = in_above x q xs up.0 (sym (tail_in x q xs (eqb-false _ _ other)) ∙ e) in omega (arith, k)
+      | false ↦ λ other. let k : x < q = in_above x q xs up.0 (sym (in_rest q x xs (eqb-false _ _ other)) ∙ e) in omega (arith, k)
     ] refl;
   }
-  | false ↦ λ t. wider (slice_get (numbers_above n xs) 0) (next_is n xs up.1) (ltb-false _ _ t)
+  | false ↦ λ t. let low : x ≤ n = ltb-false _ _ t in IfSome_then _ {P = IsLeastAbove n xs} (next_is n xs up.1) (λ m h. record {
+    there = in_rest m x xs (λ e. let l = h.above in omega (arith, e, l, low)) ∙ h.there;
+    above = h.above;
+    least = λ q e l. h.least q (sym (in_rest q x xs (λ k. omega (arith, k, l, low))) ∙ e) l;
+  })
 ] refl
-  where
-    wider : (o : Option ℕ) → IfSome o (IsLeastAbove n xs) → x ≤ n → IfSome o (IsLeastAbove n (x ∷ xs))
-    wider None h le = tt
-    wider (Some m) h le = record {
-      there = tail_in x m xs (λ e. let l = h.above in omega (arith, e, l, le)) ∙ h.there;
-      above = h.above;
-      least = λ q e l. h.least q (sym (tail_in x q xs (λ k. omega (arith, k, l, le))) ∙ e) l;
-    }
 
 -- where one is above n, there is a first, and it is no greater
 pub next_some : (n q : ℕ) (ns : List ℕ) → Rises ns → is_in q ns ≡ true → n < q → IsSome (slice_get (numbers_above n ns) 0)
 unfolding Rises
-next_some n q [] up e l = let no : false ≡ true = sym (not_in_above q q [] (omega arith) tt) ∙ e in absurd (cc)
+next_some n q [] up e l = absurd (in_none q e)
 next_some n q (x ∷ xs) up e l = elim (nat_lt n x) as (λ b. nat_lt n x ≡ b → IsSome (slice_get (cond b (x ∷ numbers_above n xs) (numbers_above n xs)) 0)) [
   | true ↦ λ t. refl
-  | false ↦ λ t. let low : x ≤ n = ltb-false _ _ t in next_some n q xs up.1 (sym (tail_in x q xs (λ k. omega (arith, k, l, low))) ∙ e) l
+  | false ↦ λ t. let low : x ≤ n = ltb-false _ _ t in next_some n q xs up.1 (sym (in_rest q x xs (λ k. omega (arith, k, l, low))) ∙ e) l
 ] refl
 
 -- ---- how many there are
-
--- one more at most
-pub length_with : (n : ℕ) (ns : List ℕ) → length (with_number n ns) ≤ length ns + 1
-unfolding with_number
-length_with n [] = omega arith
-length_with n (x ∷ xs) = elim (nat_lt n x) as (λ b. length (cond b (n ∷ x ∷ xs) (cond (n == x) (x ∷ xs) (x ∷ with_number n xs))) ≤ length (x ∷ xs) + 1) [
-  | true ↦ omega arith
-  | false ↦ elim (n == x) as (λ b. length (cond b (x ∷ xs) (x ∷ with_number n xs)) ≤ length (x ∷ xs) + 1) [ true ↦ omega arith | false ↦ let l = length_with n xs in omega (arith, l) ]
-]
 
 -- rising numbers above n and up to m are no more than m - n
 few_above : (n m : ℕ) (ns : List ℕ) → n ≤ m → Rises ns → AllAbove n ns → AllByRecursion (λ q. q ≤ m) ns → n + length ns ≤ m

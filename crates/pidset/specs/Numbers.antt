@@ -20,15 +20,15 @@ abbrev pub IsNumberAt : List ℕ → ℕ → ℕ → Type 0
 IsNumberAt ns n i = slice_get ns i ≡ Some n
 
 -- n would go to the index i: smaller numbers before, and a greater one there
-pub record IsNumberGap (ns : List ℕ) (n i : ℕ) : Type 0 where
+pub record IsInsertionPoint (ns : List ℕ) (n i : ℕ) : Type 0 where
   pub in_range : i ≤ length ns
   pub before : (j : ℕ) → j < i → IfSome (slice_get ns j) (λ m. m < n)
   pub after : IfSome (slice_get ns i) (λ m. n < m)
 
--- a row put in, in rising order of the numbers
-unfoldable pub inserted_by : {X : Type 0} → (X → ℕ) → X → List X → List X
-inserted_by number new [] = new ∷ []
-inserted_by number new (x ∷ xs) = if nat_lt (number new) (number x) then new ∷ x ∷ xs else x ∷ inserted_by number new xs
+-- an item put in, in rising order of the numbers
+unfoldable pub inserted_in_order : {X : Type 0} → (X → ℕ) → X → List X → List X
+inserted_in_order number new [] = new ∷ []
+inserted_in_order number new (x ∷ xs) = if nat_lt (number new) (number x) then new ∷ x ∷ xs else x ∷ inserted_in_order number new xs
 
 -- the numbers, and how many there is memory for, with those that are there
 pub record PidSetView : Type 0 where

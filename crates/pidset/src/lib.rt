@@ -1,4 +1,4 @@
-//! Sets of process numbers, and rows that have such numbers.
+//! Sets of process numbers, and items that have such numbers.
 #![tactic(auto)]
 
 pub mod numbered;

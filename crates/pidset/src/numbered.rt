@@ -1,8 +1,8 @@
-//! Rows of a vector that have a number each, in rising order of their numbers.
+//! Items of a vector that have a number each, in rising order of their numbers.
 
-ghost use Rattle.std.specs.Prelude.{◌≡◌, ◌+◌, ◌<◌, ◌≤◌, ◌==◌, ℕ, None, IsSome, not, nat_lt, map, filter, find, drop, insert, length, slice_get, vec_len, vec_capacity, IfOk, IfErr};
+ghost use Rattle.std.specs.Prelude.{◌≡◌, ◌+◌, ◌<◌, ◌≤◌, ◌==◌, ℕ, None, IsSome, not, nat_lt, map, filter, find, drop, insert, length, slice_get, vec_len, vec_capacity, IfOk, IfErr, OnSome};
 ghost use Rattle.std.specs.Option.{option_copied};
-ghost use Rattle.pidset.specs.Numbers.{Rises, numbers_above, IsNumberAt, IsNumberGap, inserted_by};
+ghost use Rattle.pidset.specs.Numbers.{Rises, numbers_above, IsNumberAt, IsInsertionPoint, inserted_in_order};
 
 use posix::Pid;
 
@@ -24,105 +24,106 @@ impl Numbered for Pid {
     }
 }
 
-/// Where the row with a number stands, or where it would go.
-pub fn search<T: Numbered>(rows: &[T], pid: Pid) -> Result<usize, usize>
-    requires { Rises (map T.number rows.now) }
-    ensures found { IfOk result (IsNumberAt (map T.number rows.now) pid) }
-    ensures absent { IfErr result (IsNumberGap (map T.number rows.now) pid) }
+/// Where the item with a number stands, or where it would go.
+pub fn search<T: Numbered>(items: &[T], pid: Pid) -> Result<usize, usize>
+    requires { Rises (map T.number items.now) }
+    ensures found { IfOk result (IsNumberAt (map T.number items.now) pid) }
+    ensures absent { IfErr result (IsInsertionPoint (map T.number items.now) pid) }
 {
-    let Some(last) = rows.last() else {
+    let Some(last) = items.last() else {
         return Err(0);
     };
     // Most numbers that go in are above all others.
     if last.pid() < pid {
-        return Err(rows.len());
+        return Err(items.len());
     }
-    rows.binary_search_by_key(&pid, |row| row.pid())
+    items.binary_search_by_key(&pid, |item| item.pid())
 }
 
-/// Where the row with a number stands that is there.
-pub fn found<T: Numbered>(rows: &[T], pid: Pid) -> usize
-    requires rising { Rises (map T.number rows.now) }
-    requires there { IsSome (find (λ row. T.number row == pid) rows.now) }
-    ensures { IsNumberAt (map T.number rows.now) pid result }
+/// Where the item with a number stands that is there.
+pub fn found<T: Numbered>(items: &[T], pid: Pid) -> usize
+    requires rising { Rises (map T.number items.now) }
+    requires there { IsSome (find (λ item. T.number item == pid) items.now) }
+    ensures { IsNumberAt (map T.number items.now) pid result }
 {
-    match search(rows, pid) {
+    match search(items, pid) {
         Ok(at) => at,
         Err(_) => unreachable!(),
     }
 }
 
-/// The row with a number, if it is there.
-pub fn row_of<T: Numbered>(rows: &[T], pid: Pid) -> Option<&T>
-    requires { Rises (map T.number rows.now) }
-    ensures { option_copied result ≡ find (λ row. T.number row == pid) rows.now }
+/// The item with a number, if it is there.
+pub fn item_of<T: Numbered>(items: &[T], pid: Pid) -> Option<&T>
+    requires { Rises (map T.number items.now) }
+    ensures { option_copied result ≡ find (λ item. T.number item == pid) items.now }
 {
-    match search(rows, pid) {
-        Ok(at) => Some(&rows[at]),
+    match search(items, pid) {
+        Ok(at) => Some(&items[at]),
         Err(_) => None,
     }
 }
 
-/// Where the rows above a number begin.
-fn start_above<T: Numbered>(rows: &[T], pid: Pid) -> usize
-    requires { Rises (map T.number rows.now) }
-    ensures within { result ≤ length rows.now }
-    ensures rest { drop result rows.now ≡ filter (λ row. nat_lt pid (T.number row)) rows.now }
+/// Where the items above a number begin.
+fn start_above<T: Numbered>(items: &[T], pid: Pid) -> usize
+    requires { Rises (map T.number items.now) }
+    ensures within { result ≤ length items.now }
+    ensures rest { drop result items.now ≡ filter (λ item. nat_lt pid (T.number item)) items.now }
 {
-    match search(rows, pid) {
+    match search(items, pid) {
         Ok(at) => at + 1,
         Err(at) => at,
     }
 }
 
 /// The least number above another.
-pub fn next_above<T: Numbered>(rows: &[T], pid: Pid) -> Option<Pid>
-    requires { Rises (map T.number rows.now) }
-    ensures { result ≡ slice_get (numbers_above pid (map T.number rows.now)) 0 }
+pub fn next_above<T: Numbered>(items: &[T], pid: Pid) -> Option<Pid>
+    requires { Rises (map T.number items.now) }
+    ensures { result ≡ slice_get (numbers_above pid (map T.number items.now)) 0 }
 {
-    let start = start_above(rows, pid);
-    match rows[start..].first() {
-        Some(row) => Some(row.pid()),
+    let start = start_above(items, pid);
+    match items[start..].first() {
+        Some(item) => Some(item.pid()),
         None => None,
     }
 }
 
-/// Puts in a row whose number isn't there, where there is room.
-pub fn put_in<T: Numbered>(rows: &mut Vec<T>, row: T)
-    requires rising { Rises (map T.number rows.old.items) }
-    requires absent { find (λ other. T.number other == T.number row) rows.old.items ≡ None }
-    requires room { vec_len rows.old < vec_capacity rows.old }
-    ensures items { rows.new.items ≡ inserted_by T.number row rows.old.items }
-    ensures len { vec_len rows.new ≡ vec_len rows.old + 1 }
-    ensures capacity { vec_capacity rows.new ≡ vec_capacity rows.old }
+/// Puts in an item whose number isn't there, where there is room.
+pub fn put_in<T: Numbered>(items: &mut Vec<T>, item: T)
+    requires rising { Rises (map T.number items.old.items) }
+    requires absent { find (λ other. T.number other == T.number item) items.old.items ≡ None }
+    requires room { vec_len items.old < vec_capacity items.old }
+    ensures items { items.new.items ≡ inserted_in_order T.number item items.old.items }
+    ensures len { vec_len items.new ≡ vec_len items.old + 1 }
+    ensures capacity { vec_capacity items.new ≡ vec_capacity items.old }
 {
-    match search(rows, row.pid()) {
+    match search(items, item.pid()) {
         Ok(_) => unreachable!(),
-        Err(at) => insert_at(rows, at, row),
+        Err(at) => insert_at(items, at, item),
     }
 }
 
-/// Puts a row in at an index, where there is room.
-pub fn insert_at<T: Drop>(rows: &mut Vec<T>, at: usize, row: T)
-    requires at { at ≤ vec_len rows.old }
-    requires room { vec_len rows.old < vec_capacity rows.old }
-    ensures items { rows.new.items ≡ insert rows.old.items at row }
-    ensures len { vec_len rows.new ≡ vec_len rows.old + 1 }
-    ensures capacity { vec_capacity rows.new ≡ vec_capacity rows.old }
+/// Puts an item in at an index, where there is room.
+pub fn insert_at<T: Drop>(items: &mut Vec<T>, at: usize, item: T)
+    requires at { at ≤ vec_len items.old }
+    requires room { vec_len items.old < vec_capacity items.old }
+    ensures items { items.new.items ≡ insert items.old.items at item }
+    ensures len { vec_len items.new ≡ vec_len items.old + 1 }
+    ensures capacity { vec_capacity items.new ≡ vec_capacity items.old }
 {
-    let _ = rows.insert(at, row);
+    let _ = items.insert(at, item);
 }
 
-/// Takes out the row with a number, if it is there.
-pub fn take_out<T: Numbered>(rows: &mut Vec<T>, pid: Pid) -> Option<T>
-    requires { Rises (map T.number rows.old.items) }
-    ensures value { result ≡ find (λ row. T.number row == pid) rows.old.items }
-    ensures items { rows.new.items ≡ filter (λ row. not (T.number row == pid)) rows.old.items }
-    ensures len { vec_len rows.new ≤ vec_len rows.old }
-    ensures capacity { vec_capacity rows.new ≡ vec_capacity rows.old }
+/// Takes out the item with a number, if it is there.
+pub fn take_out<T: Numbered>(items: &mut Vec<T>, pid: Pid) -> Option<T>
+    requires { Rises (map T.number items.old.items) }
+    ensures value { result ≡ find (λ item. T.number item == pid) items.old.items }
+    ensures items { items.new.items ≡ filter (λ item. not (T.number item == pid)) items.old.items }
+    ensures len { vec_len items.new ≤ vec_len items.old }
+    ensures one_less { OnSome result (vec_len items.new + 1 ≡ vec_len items.old) }
+    ensures capacity { vec_capacity items.new ≡ vec_capacity items.old }
 {
-    match search(rows, pid) {
-        Ok(at) => Some(rows.remove(at)),
+    match search(items, pid) {
+        Ok(at) => Some(items.remove(at)),
         Err(_) => None,
     }
 }

@@ -2,7 +2,7 @@
 
 ghost use Rattle.std.specs.Prelude.{◌≡◌, ◌+◌, ◌<◌, ◌≤◌, ◌^◌, ◌==◌, false, [], length, slice_get, OnOk, IfOk, IfErr};
 ghost use Rattle.posix.specs.States.{is_in, without};
-ghost use Rattle.pidset.specs.Numbers.{Rises, with_number, numbers_above, IsNumberAt, IsNumberGap};
+ghost use Rattle.pidset.specs.Numbers.{Rises, with_number, numbers_above, IsNumberAt, IsInsertionPoint};
 
 use crate::numbered::{insert_at, next_above, search, take_out};
 use posix::Pid;
@@ -36,16 +36,16 @@ impl PidSet {
         }
     }
 
-    /// Makes room for so many numbers in all. The numbers stay, and the room never falls, also at the
-    /// error that there is no memory.
-    pub fn reserve(&mut self, records: usize) -> Result<(), AllocError>
-        requires { records < 2 ^ 63 }
-        ensures room { OnOk result (records ≤ self.new.room) }
+    /// Makes room for `capacity` numbers, counting those that are there. They stay, and the room never
+    /// falls, also at the error that there is no memory.
+    pub fn reserve(&mut self, capacity: usize) -> Result<(), AllocError>
+        requires { capacity < 2 ^ 63 }
+        ensures room { OnOk result (capacity ≤ self.new.room) }
         ensures pids { self.new.pids ≡ self.old.pids }
         ensures grows { self.old.room ≤ self.new.room }
     {
-        let more = records.saturating_sub(self.pids.len());
-        self.pids.reserve(more)
+        let additional = capacity.saturating_sub(self.pids.len());
+        self.pids.reserve(additional)
     }
 
     /// How many numbers there are.
@@ -66,7 +66,7 @@ impl PidSet {
     /// Where a number stands, or where it would go.
     pub fn search(&self, pid: Pid) -> Result<usize, usize>
         ensures found { IfOk result (IsNumberAt self.now.pids pid) }
-        ensures absent { IfErr result (IsNumberGap self.now.pids pid) }
+        ensures absent { IfErr result (IsInsertionPoint self.now.pids pid) }
         ensures rising { Rises self.now.pids }
     {
         search(&self.pids, pid)

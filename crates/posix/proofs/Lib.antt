@@ -1,3 +1,4 @@
+pub mod MemberLemmas
 pub mod TableLemmas
 pub mod WalkLemmas
 pub mod MapLemmas

@@ -1,24 +1,23 @@
 -- What is done to each record of a table.
-use Rattle.std.proofs.Common.{◌≡◌, ◌≢◌, ℕ, Bool, true, false, cond, not, refl, ap, sym, ◌∙◌, arith, List, [], ◌∷◌, map, filter, find, Option, Some, None, option_map, ◌==◌}
+use Rattle.std.proofs.Common.{◌≡◌, ◌≢◌, ℕ, Bool, not, refl, ap, sym, ◌∙◌, arith, List, [], ◌∷◌, map, filter, Option, Some, None, option_map, ◌==◌, inl, inr}
 use Rattle.std.specs.Option.{IsSome}
-use Rattle.std.proofs.lemmas.Bool.{eqb-true, ne_eqb}
+use Rattle.std.proofs.lemmas.Bool.{eqb-true, eqb-false, cases_eq, cond_both}
 use Rattle.posix.specs.Processes.{Process}
-use Rattle.posix.specs.Tables.{has_pid, lookup, at, changed, removed, is_child, children_in, reparented, adopted}
-use Rattle.posix.proofs.TableLemmas.{pid_reparented}
+use Rattle.posix.specs.Tables.{lookup, at, changed, removed, is_child, children_in, first_pid, reparented, adopted}
 
--- made to one process only, a change that keeps pids keeps them
+-- made to one process only, a change keeps what it keeps
+pub at_keeps : {A : Type 0} (field : Process → A) (p : ℕ) (f : Process → Process) → ((r : Process) → field (f r) ≡ field r) → (r : Process) → field (at p f r) ≡ field r
+at_keeps field p f keeps r = cond_both (r.pid == p) (f r) r (λ q. field q ≡ field r) (λ t. keeps r) (λ t. refl)
+
+-- pids, say
 pub at_pid : (p : ℕ) (f : Process → Process) → ((r : Process) → (f r).pid ≡ r.pid) → (r : Process) → (at p f r).pid ≡ r.pid
-at_pid p f keeps r = grind (arith, keeps r)
+at_pid p f keeps r = at_keeps (λ q. q.pid) p f keeps r
 
 -- after a change of each record, who is looked up is found changed
 pub lookup_map : (g : Process → Process) → ((r : Process) → (g r).pid ≡ r.pid) → (q : ℕ) (rs : List Process) → lookup q (map g rs) ≡ option_map g (lookup q rs)
 unfolding lookup
 lookup_map g keeps q [] = refl
-lookup_map g keeps q (r ∷ rs) =
-    elim (r.pid == q) as (λ b. (r.pid == q) ≡ b → find (has_pid q) (g r ∷ map g rs) ≡ option_map g (cond b (Some r) (find (has_pid q) rs))) [
-      | true ↦ λ t. let u : ((g r).pid == q) ≡ true = ap (λ n. n == q) (keeps r) ∙ t in rw u refl
-      | false ↦ λ t. let u : ((g r).pid == q) ≡ false = ap (λ n. n == q) (keeps r) ∙ t in rw u (lookup_map g keeps q rs)
-    ] refl
+lookup_map g keeps q (r ∷ rs) = grind (arith, keeps r, lookup_map g keeps q rs)
 
 -- what was there before
 pub record Back (o : Option Process) (g : Process → Process) (r : Process) : Type 0 where
@@ -46,11 +45,7 @@ some_map g keeps q rs h = rw (lookup_map g keeps q rs) (elim (lookup q rs) as (�
 -- who passes a test still does after a change of each record that the test doesn't see
 pub filter_map : (t : Process → Bool) (g : Process → Process) → ((r : Process) → t (g r) ≡ t r) → (rs : List Process) → filter t (map g rs) ≡ map g (filter t rs)
 filter_map t g same [] = refl
-filter_map t g same (r ∷ rs) =
-    rw same (elim (t r) as (λ b. cond b (g r ∷ filter t (map g rs)) (filter t (map g rs)) ≡ map g (cond b (r ∷ filter t rs) (filter t rs))) [
-      | true ↦ ap (λ l. g r ∷ l) (filter_map t g same rs)
-      | false ↦ filter_map t g same rs
-    ])
+filter_map t g same (r ∷ rs) = grind (arith, same r, filter_map t g same rs)
 
 -- children, where parents stay
 pub children_map : (g : Process → Process) → ((r : Process) → (g r).parent ≡ r.parent) → (p : ℕ) (rs : List Process) → children_in p (map g rs) ≡ map g (children_in p rs)
@@ -69,48 +64,35 @@ pub changed_changed : (n m : ℕ) (f g : Process → Process) → ((r : Process)
     → (rs : List Process) → changed n f (changed m g rs) ≡ changed m g (changed n f rs)
 unfolding changed
 changed_changed n m f g kf kg ne [] = refl
-changed_changed n m f g kf kg ne (r ∷ rs) =
-    let one : at n f (at m g r) ≡ at m g (at n f r) =
-    elim (r.pid == n) as (λ b. (r.pid == n) ≡ b → at n f (at m g r) ≡ at m g (cond b (f r) r)) [
-      | true ↦ λ t.
-          let u : (r.pid == m) ≡ false = ne_eqb _ _ (λ e. ne (sym (eqb-true _ _ t) ∙ e)) in
-          rw (u, kf r, u, t) refl
-      | false ↦ λ t. elim (r.pid == m) as (λ b. (r.pid == m) ≡ b → at n f (cond b (g r) r) ≡ cond b (g r) r) [
-        | true ↦ λ u. rw (kg r, t) refl
-        | false ↦ λ u. rw t refl
-      ] refl
-    ] refl in
-    rw one (ap (λ l. at m g (at n f r) ∷ l) (changed_changed n m f g kf kg ne rs))
+changed_changed n m f g kf kg ne (r ∷ rs) = grind (arith, ne, kf r, kg r, changed_changed n m f g kf kg ne rs, eqb-true, eqb-false)
 
 -- an adoption and a change may come in either order, where they may for each record
 pub adopted_changed : (p q n : ℕ) (f : Process → Process) → ((r : Process) → f (reparented p q r) ≡ reparented p q (f r))
     → (rs : List Process) → changed n f (adopted p q rs) ≡ adopted p q (changed n f rs)
 unfolding changed adopted
 adopted_changed p q n f c [] = refl
-adopted_changed p q n f c (r ∷ rs) =
-    let one : at n f (reparented p q r) ≡ reparented p q (at n f r) =
-    rw (pid_reparented p q r) (elim (r.pid == n) as (λ b. cond b (f (reparented p q r)) (reparented p q r) ≡ reparented p q (cond b (f r) r)) [ true ↦ c r | false ↦ refl ]) in
-    rw one (ap (λ l. reparented p q (at n f r) ∷ l) (adopted_changed p q n f c rs))
+adopted_changed p q n f c (r ∷ rs) = grind (arith, c r, adopted_changed p q n f c rs)
 
 -- nobody is left
 pub children_adopted : (p q : ℕ) → q ≢ p → (rs : List Process) → children_in p (adopted p q rs) ≡ []
 unfolding children_in adopted
 children_adopted p q ne [] = refl
-children_adopted p q ne (r ∷ rs) =
-    elim (r.parent == p) as (λ b. (r.parent == p) ≡ b → filter (is_child p) (cond b (record r { parent = q }) r ∷ map (reparented p q) rs) ≡ []) [
-      | true ↦ λ t. let u : (q == p) ≡ false = ne_eqb _ _ ne in rw u (children_adopted p q ne rs)
-      | false ↦ λ t. rw t (children_adopted p q ne rs)
-    ] refl
+children_adopted p q ne (r ∷ rs) = grind (arith, ne, children_adopted p q ne rs, eqb-true, eqb-false)
 
--- other than the two, children stay none
-pub children_elsewhere : (p q n : ℕ) → n ≢ q → (rs : List Process) → children_in n rs ≡ [] → children_in n (adopted p q rs) ≡ []
+-- the others keep theirs
+pub children_others : (p t q : ℕ) → q ≢ p → q ≢ t → (rs : List Process) → children_in q (adopted p t rs) ≡ children_in q rs
 unfolding children_in adopted
-children_elsewhere p q n ne [] e = refl
-children_elsewhere p q n ne (r ∷ rs) e =
-    elim (r.parent == n) as (λ b. (r.parent == n) ≡ b → cond b (r ∷ filter (is_child n) rs) (filter (is_child n) rs) ≡ [] → filter (is_child n) (reparented p q r ∷ map (reparented p q) rs) ≡ []) [
-      | true ↦ λ t k. absurd (cc)
-      | false ↦ λ t k.
-          let u : ((reparented p q r).parent == n) ≡ false =
-          elim (r.parent == p) as (λ b. ((cond b (record r { parent = q }) r).parent == n) ≡ false) [ true ↦ ne_eqb _ _ (λ x. ne (sym x)) | false ↦ t ] in
-          rw u (children_elsewhere p q n ne rs k)
-    ] refl e
+children_others p t q a b [] = refl
+children_others p t q a b (r ∷ rs) = grind (arith, a, b, children_others p t q a b rs, eqb-true, eqb-false)
+
+-- other than the new parent, who has none gets none
+pub children_elsewhere : (p q n : ℕ) → n ≢ q → (rs : List Process) → children_in n rs ≡ [] → children_in n (adopted p q rs) ≡ []
+children_elsewhere p q n ne rs e = elim (cases_eq n p) [
+  | inl same ↦ rw same (children_adopted p q (λ x. ne (same ∙ sym x)) rs)
+  | inr other ↦ children_others p q n other ne rs ∙ e
+]
+
+-- the first keeps its number
+pub first_map : (g : Process → Process) → ((r : Process) → (g r).pid ≡ r.pid) → (rs : List Process) → first_pid (map g rs) ≡ first_pid rs
+first_map g keeps [] = refl
+first_map g keeps (r ∷ rs) = ap Some (keeps r)

@@ -1,5 +1,5 @@
 -- News that are told let nobody act: a wait that found nothing finds nothing after it.
-use Rattle.std.proofs.Common.{◌≡◌, ℕ, Bool, true, false, cond, not, ◌&&◌, ◌||◌, refl, ap, sym, ◌∙◌, List, [], ◌∷◌, map, filter, find, Option, Some, None, ◌==◌, is_some, pos}
+use Rattle.std.proofs.Common.{◌≡◌, ℕ, Bool, true, false, cond, not, ◌&&◌, ◌||◌, refl, ap, sym, ◌∙◌, arith, List, [], ◌∷◌, map, filter, find, Option, Some, None, ◌==◌, is_some, pos}
 use Rattle.posix.specs.declared.call.Call.TheVariants.{Waitpid}
 use Rattle.posix.specs.declared.errno.Errno.TheVariants.{EINVAL}
 use Rattle.posix.specs.declared.process.Life.{Life}
@@ -22,33 +22,25 @@ use Rattle.posix.specs.Generation.{is_pending}
 use Rattle.posix.specs.Choice.{chosen}
 use Rattle.posix.specs.Attempts.{attempt_again}
 use Rattle.posix.specs.Settle.{can_act, can_go_on, is_block}
-use Rattle.posix.proofs.MapLemmas.{children_map, filter_map}
+use Rattle.posix.proofs.MemberLemmas.{apart_first}
+use Rattle.posix.proofs.MapLemmas.{at_keeps, children_map, filter_map}
 use Rattle.posix.proofs.RegularLemmas.{other_back}
-use Rattle.posix.proofs.TouchLemmas.{Touches, apart_first}
+use Rattle.posix.proofs.TouchLemmas.{Touches}
 
 -- where nothing was found to report, nobody had anything
 none_reports : (options : ℕ) (ks : List Process) → report_found options (find (reports options) ks) ≡ found.Nothing → find (reports options) ks ≡ None
 none_reports options [] e = refl
-none_reports options (k ∷ ks) e = elim (reports options k) as (λ b. reports options k ≡ b → report_found options (cond b (Some k) (find (reports options) ks)) ≡ found.Nothing → cond b (Some k) (find (reports options) ks) ≡ None) [
-  | true ↦ λ t h. let no : true ≡ false = sym t ∙ ap is_something h in absurd (cc)
-  | false ↦ λ t h. none_reports options ks h
-] refl e
+none_reports options (k ∷ ks) e = grind (arith, none_reports options ks)
 
 -- nobody passes after a change by which nobody comes to pass
-none_passes : (t : Process → Bool) (g : Process → Process) → ((r : Process) → t (g r) ≡ true → t r ≡ true) → (ks : List Process) → find t ks ≡ None → find t (map g ks) ≡ None
-none_passes t g less [] e = refl
-none_passes t g less (k ∷ ks) e = elim (t k) as (λ b. t k ≡ b → cond b (Some k) (find t ks) ≡ None → cond (t (g k)) (Some (g k)) (find t (map g ks)) ≡ None) [
-  | true ↦ λ u h. absurd (cc)
-  | false ↦ λ u h. elim (t (g k)) as (λ b. t (g k) ≡ b → cond b (Some (g k)) (find t (map g ks)) ≡ None) [
-    | true ↦ λ v. let no : false ≡ true = sym u ∙ less k v in absurd (cc)
-    | false ↦ λ v. none_passes t g less ks h
-  ] refl
-] refl e
+still_none : (t : Process → Bool) (g : Process → Process) → ((r : Process) → t (g r) ≡ true → t r ≡ true) → (ks : List Process) → find t ks ≡ None → find t (map g ks) ≡ None
+still_none t g less [] e = refl
+still_none t g less (k ∷ ks) e = grind (arith, less k, still_none t g less ks)
 
 -- then nothing is found
 nothing_found : (options : ℕ) (g : Process → Process) → ((r : Process) → reports options (g r) ≡ true → reports options r ≡ true) → (ks : List Process) → report_among options ks ≡ found.Nothing → report_among options (map g ks) ≡ found.Nothing
 nothing_found options g less [] e = absurd (cc)
-nothing_found options g less (k ∷ ks) e = ap (report_found options) (none_passes (reports options) g less (k ∷ ks) (none_reports options (k ∷ ks) e))
+nothing_found options g less (k ∷ ks) e = ap (report_found options) (still_none (reports options) g less (k ∷ ks) (none_reports options (k ∷ ks) e))
 
 -- whose news are told has no more to report
 reports_less : (p options : ℕ) (r : Process) → reports options (at p news_told r) ≡ true → reports options r ≡ true
@@ -72,15 +64,11 @@ named_told p group (whom.Group n) r = elim (r.pid == p) as (λ b. ((cond b (reco
 named_told p group whom.All r = refl
 named_told p group whom.Nobody r = refl
 
-parent_told : (p : ℕ) (r : Process) → (at p news_told r).parent ≡ r.parent
-unfolding news_told
-parent_told p r = elim (r.pid == p) as (λ b. (cond b (record r { news = news.Nothing }) r).parent ≡ r.parent) [ true ↦ refl | false ↦ refl ]
-
 -- a wait that found nothing finds nothing
 nothing_told : (p : ℕ) (rs : List Process) (caller group : ℕ) (target : Target) (options : ℕ) → report rs caller group target options ≡ found.Nothing → report (map (at p news_told) rs) caller group target options ≡ found.Nothing
-unfolding report
+unfolding report news_told
 nothing_told p rs caller group target options e =
-    ap (λ ks. report_among options (filter (is_named group target) ks)) (children_map (at p news_told) (parent_told p) caller rs)
+    ap (λ ks. report_among options (filter (is_named group target) ks)) (children_map (at p news_told) (at_keeps (λ q. q.parent) p news_told (λ r. refl)) caller rs)
     ∙ ap (report_among options) (filter_map (is_named group target) (at p news_told) (named_told p group target) (children_in caller rs))
     ∙ nothing_found options (at p news_told) (reports_less p options) (filter (is_named group target) (children_in caller rs)) e
 

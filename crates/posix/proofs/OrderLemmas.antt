@@ -1,66 +1,45 @@
 -- Orders of places: each number once, and no more than there are records.
-use Rattle.std.proofs.Common.{◌≡◌, ℕ, suc, ◌+◌, ◌≤◌, Bool, true, false, cond, not, ◌||◌, refl, ap, sym, ◌∙◌, arith, subst, List, [], ◌∷◌, ◌++◌, length, filter, find, Some, ◌==◌, slice_get}
-use Rattle.std.specs.List.{list_any}
+use Rattle.std.proofs.Common.{◌≡◌, ℕ, ◌+◌, ◌≤◌, true, false, cond, refl, ap, sym, ◌∙◌, arith, subst, List, [], ◌∷◌, ◌++◌, length, find, Some, ◌==◌, slice_get, inl, inr}
 use Rattle.std.specs.Option.{IsSome}
-use Rattle.std.proofs.lemmas.Bool.{eqb-true, eqb-false, eq-eqb, ne_eqb}
+use Rattle.std.proofs.lemmas.Bool.{eqb-true, eq-eqb, ne_eqb, or_from, or_cases, cases_Bool}
 use Rattle.posix.specs.Processes.{Process}
 use Rattle.posix.specs.Tables.{IsRising, has_pid, lookup}
 use Rattle.posix.specs.States.{State, is_in, without, lose_place, go_last}
 use Rattle.posix.specs.Regular.{IsRegular, IsPlaced, IsDistinct}
-use Rattle.posix.proofs.RegularLemmas.{in_without, distinct_without, regular_lose}
+use Rattle.posix.proofs.MemberLemmas.{in_first, in_last, is_other, apart_first, apart_rest, out_of}
+use Rattle.posix.proofs.RegularLemmas.{distinct_without, regular_lose}
 
 -- ---- there are no more places than records
 
--- the first is in a list
-in_head : (x : ℕ) (xs : List ℕ) → is_in x (x ∷ xs) ≡ true
-unfolding is_in
-in_head x xs = rw (eq-eqb x x refl) refl
-
--- p itself is gone
-pub out_of : (p : ℕ) (o : List ℕ) → is_in p (without p o) ≡ false
-unfolding is_in without
-out_of p [] = refl
-out_of p (x ∷ xs) = elim (x == p) as (λ b. (x == p) ≡ b → list_any (λ q. q == p) (cond (not b) (x ∷ filter (λ q. not (q == p)) xs) (filter (λ q. not (q == p)) xs)) ≡ false) [
-  | true ↦ λ t. out_of p xs
-  | false ↦ λ t. rw t (out_of p xs)
-] refl
-
--- who is not in a list is not lost from it
-nothing_lost : (p : ℕ) (xs : List ℕ) → is_in p xs ≡ false → filter (λ q. not (q == p)) xs ≡ xs
-unfolding is_in
-nothing_lost p [] e = refl
-nothing_lost p (x ∷ xs) e = grind (arith, nothing_lost p xs)
-
 -- who has no place loses none
 pub without_absent : (p : ℕ) (o : List ℕ) → is_in p o ≡ false → without p o ≡ o
-unfolding without
-without_absent p o e = nothing_lost p o e
+unfolding is_in without
+without_absent p [] e = refl
+without_absent p (x ∷ xs) e = grind (arith, without_absent p xs)
 
--- of distinct numbers no more than one is lost
-shrinks : (p : ℕ) (o : List ℕ) → IsDistinct o → length o ≤ length (without p o) + 1
-unfolding without IsDistinct
-shrinks p [] d = omega arith
-shrinks p (x ∷ xs) d = elim (x == p) as (λ b. (x == p) ≡ b → suc (length xs) ≤ length (cond (not b) (x ∷ filter (λ q. not (q == p)) xs) (filter (λ q. not (q == p)) xs)) + 1) [
-  | true ↦ λ t.
-      let same : x ≡ p = eqb-true _ _ t in
-      let all : filter (λ q. not (q == p)) xs ≡ xs = nothing_lost p xs (subst (λ n. is_in n xs ≡ false) same d.0) in
-      let l = ap length all in omega (arith, l)
-  | false ↦ λ t. let l = shrinks p xs d.1 in omega (arith, l)
-] refl
+-- of distinct numbers just one is lost
+pub one_less : (p : ℕ) (o : List ℕ) → IsDistinct o → is_in p o ≡ true → length (without p o) + 1 ≡ length o
+unfolding is_in without IsDistinct
+one_less p [] d e = absurd (cc)
+one_less p (x ∷ xs) d e = grind (arith, λ (i : x ≡ p). without_absent p xs (subst (λ n. is_in n xs ≡ false) i d.0), one_less p xs d.1, eqb-true x p)
+
+-- and no more in any case
+pub one_less_at_most : (p : ℕ) (o : List ℕ) → IsDistinct o → length o ≤ length (without p o) + 1
+one_less_at_most p o d = elim (cases_Bool (is_in p o)) [
+  | inl there ↦ let l = one_less p o d there in omega (arith, l)
+  | inr out ↦ let l = ap length (without_absent p o out) in omega (arith, l)
+]
 
 -- numbers that are each found are no more than the records
 some_fit : (rs : List Process) → IsRising rs → (o : List ℕ) → IsDistinct o → ((p : ℕ) → is_in p o ≡ true → IsSome (lookup p rs)) → length o ≤ length rs
 unfolding lookup IsRising
 some_fit [] up [] d h = omega arith
-some_fit [] up (x ∷ xs) d h = absurd (nobody x xs (h x))
-  where
-    nobody : (x : ℕ) (xs : List ℕ) → (is_in x (x ∷ xs) ≡ true → IsSome (lookup x [])) → ⊥
-    nobody x xs h = let t : is_in x (x ∷ xs) ≡ true = in_head x xs in let n = h t in absurd (cc)
+some_fit [] up (x ∷ xs) d h = let nobody = h x (in_first x xs) in absurd (cc)
 some_fit (r ∷ rs) up o d h =
     let rest = some_fit rs up.1 (without r.pid o) (distinct_without r.pid o d) (λ p e.
-    let away : (r.pid == p) ≡ false = ne_eqb _ _ (λ x. (in_without r.pid p o e).apart (sym x)) in
-    subst IsSome (ap (λ b. cond b (Some r) (find (has_pid p) rs)) away) (h p (in_without r.pid p o e).among)) in
-    let l = shrinks r.pid o d in
+    let away : (r.pid == p) ≡ false = ne_eqb _ _ (λ x. (is_other r.pid p o e).apart (sym x)) in
+    subst IsSome (ap (λ b. cond b (Some r) (find (has_pid p) rs)) away) (h p (is_other r.pid p o e).among)) in
+    let l = one_less_at_most r.pid o d in
     omega (arith, rest, l)
 
 -- who is placed is found
@@ -71,29 +50,12 @@ placed_some rs p h = rw h.found refl
 pub fits : (rs : List Process) → IsRising rs → (o : List ℕ) → IsDistinct o → ((p : ℕ) → is_in p o ≡ true → IsPlaced rs p) → length o ≤ length rs
 fits rs up o d h = some_fit rs up o d (λ p e. placed_some rs p (h p e))
 
--- who has a place after p went last
-pub last_in : (q p : ℕ) (o : List ℕ) → is_in q (o ++ p ∷ []) ≡ (is_in q o || (p == q))
-unfolding is_in
-last_in q p [] = elim (p == q) as (λ b. (b || false) ≡ b) [ true ↦ refl | false ↦ refl ]
-last_in q p (x ∷ xs) = elim (x == q) as (λ b. (b || list_any (λ y. y == q) (xs ++ p ∷ [])) ≡ ((b || list_any (λ y. y == q) xs) || (p == q))) [ true ↦ refl | false ↦ last_in q p xs ]
-
 -- a new last one leaves each number once
 pub distinct_last : (p : ℕ) (o : List ℕ) → IsDistinct o → is_in p o ≡ false → IsDistinct (o ++ p ∷ [])
 unfolding IsDistinct is_in
 distinct_last p [] d e = (refl, tt)
 distinct_last p (x ∷ xs) d e =
-    let away : (x == p) ≡ false = first_false (x == p) _ e in
-    let later : is_in p xs ≡ false = second_false (x == p) _ e in
-    let turned : (p == x) ≡ false = ne_eqb _ _ (λ k. eqb-false _ _ away (sym k)) in
-    (last_in x p xs ∙ ap (λ b. b || (p == x)) d.0 ∙ turned, distinct_last p xs d.1 later)
-  where
-    first_false : (a b : Bool) → (a || b) ≡ false → a ≡ false
-    first_false true b e = e
-    first_false false b e = refl
-
-    second_false : (a b : Bool) → (a || b) ≡ false → b ≡ false
-    second_false true b e = absurd (cc)
-    second_false false b e = e
+    (in_last x p xs ∙ or_from _ _ d.0 (ne_eqb p x (apart_first p x xs e)), distinct_last p xs d.1 (apart_rest p x xs e))
 
 -- ---- a regular state stays so
 
@@ -103,10 +65,7 @@ regular_placed p s i h e = record {
   rising = i.rising;
   bounded = i.bounded;
   first = i.first;
-  placed = λ q t. elim (is_in q s.order) as (λ b. is_in q s.order ≡ b → (b || (p == q)) ≡ true → IsPlaced s.processes q) [
-    | true ↦ λ k u. i.placed q k
-    | false ↦ λ k u. subst (IsPlaced s.processes) (eqb-true p q u) h
-  ] refl (sym (last_in q p s.order) ∙ t);
+  placed = λ q t. elim (or_cases _ (p == q) (sym (in_last q p s.order) ∙ t)) [ inl there ↦ i.placed q there | inr same ↦ subst (IsPlaced s.processes) (eqb-true p q same) h ];
   distinct = distinct_last p s.order i.distinct e;
   childless = i.childless;
 }

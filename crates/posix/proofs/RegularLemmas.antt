@@ -1,12 +1,11 @@
 -- What keeps a state regular.
-use Rattle.std.proofs.Common.{◌≡◌, ◌≢◌, ℕ, ◌≤◌, Bool, true, false, cond, not, ◌||◌, refl, ap, sym, ◌∙◌, arith, subst, List, [], ◌∷◌, map, filter, find, Some, None, ◌==◌, nat_lt, inl, inr, ℤ}
-use Rattle.std.specs.List.{list_any}
+use Rattle.std.proofs.Common.{◌≡◌, ◌≢◌, ℕ, ◌≤◌, Bool, true, false, cond, refl, ap, sym, ◌∙◌, arith, subst, List, [], ◌∷◌, map, Some, None, ◌==◌, inl, inr, ℤ}
 use Rattle.std.specs.Option.{IsSome}
-use Rattle.std.proofs.lemmas.Bool.{eqb-true, eqb-false, eq-eqb, ne_eqb, cases_eq}
+use Rattle.std.proofs.lemmas.Bool.{eqb-true, eqb-false, eq-eqb, ne_eqb, cases_eq, cond_both}
 use Rattle.posix.specs.declared.process.PendingSignal.{PendingSignal}
 use Rattle.posix.specs.Processes.{Process, Cpu, is_zombie}
-use Rattle.posix.specs.Tables.{lookup, has_pid, at, changed, inserted, removed, is_child, children_in, reparented, adopted}
-use Rattle.posix.specs.States.{State, is_in, without, change, lose_place}
+use Rattle.posix.specs.Tables.{lookup, at, changed, inserted, removed, children_in, reparented, adopted}
+use Rattle.posix.specs.States.{State, without, change, lose_place}
 use Rattle.posix.specs.Regular.{IsRegular, IsBounded, CanInherit, IsDistinct}
 use Rattle.posix.specs.Generation.{signalled}
 use Rattle.posix.specs.Handlers.{handles, is_full}
@@ -14,8 +13,10 @@ use Rattle.posix.specs.Ends.{ended, made_zombie, halt, depart, noticed, ignores_
 use Rattle.posix.specs.Waits.{news_told}
 use Rattle.posix.specs.Delivery.{take_out}
 use Rattle.posix.specs.Step.{set_cpu}
+use Rattle.posix.proofs.MemberLemmas.{in_without, is_other}
 use Rattle.posix.proofs.TableLemmas.{rising_map, rising_changed, rising_adopted, rising_inserted, rising_removed, pid_reparented, pid_looked}
-use Rattle.posix.proofs.MapLemmas.{at_pid, lookup_back, lookup_on, adopted_changed, children_map, children_adopted, children_elsewhere}
+use Rattle.posix.proofs.WalkLemmas.{children_removed}
+use Rattle.posix.proofs.MapLemmas.{at_pid, at_keeps, lookup_back, lookup_on, adopted_changed, children_map, children_adopted, children_elsewhere}
 
 -- a change that keeps all that a regular state asks of a record
 pub record Keeps (g : Process → Process) : Type 0 where
@@ -25,15 +26,23 @@ pub record Keeps (g : Process → Process) : Type 0 where
   pub session : (r : Process) → (g r).session ≡ r.session
   pub zombie : (r : Process) → is_zombie (g r).life ≡ is_zombie r.life
 
+-- no change is one
+keeps_none : Keeps (λ r. r)
+keeps_none = record { pid = λ r. refl; parent = λ r. refl; group = λ r. refl; session = λ r. refl; zombie = λ r. refl }
+
+-- one of two such changes, as a test says, is one too
+keeps_cond : (t : Process → Bool) (f g : Process → Process) → Keeps f → Keeps g → Keeps (λ r. cond (t r) (f r) (g r))
+keeps_cond t f g h k = record {
+  pid = λ r. cond_both (t r) (f r) (g r) (λ q. q.pid ≡ r.pid) (λ e. h.pid r) (λ e. k.pid r);
+  parent = λ r. cond_both (t r) (f r) (g r) (λ q. q.parent ≡ r.parent) (λ e. h.parent r) (λ e. k.parent r);
+  group = λ r. cond_both (t r) (f r) (g r) (λ q. q.group ≡ r.group) (λ e. h.group r) (λ e. k.group r);
+  session = λ r. cond_both (t r) (f r) (g r) (λ q. q.session ≡ r.session) (λ e. h.session r) (λ e. k.session r);
+  zombie = λ r. cond_both (t r) (f r) (g r) (λ q. is_zombie q.life ≡ is_zombie r.life) (λ e. h.zombie r) (λ e. k.zombie r);
+}
+
 -- made to one process only, such a change is one too
 pub keeps_at : (p : ℕ) (f : Process → Process) → Keeps f → Keeps (at p f)
-keeps_at p f k = record {
-  pid = λ r. grind (arith, k.pid r);
-  parent = λ r. grind (arith, k.parent r);
-  group = λ r. grind (arith, k.group r);
-  session = λ r. grind (arith, k.session r);
-  zombie = λ r. elim (r.pid == p) as (λ b. is_zombie (cond b (f r) r).life ≡ is_zombie r.life) [ true ↦ k.zombie r | false ↦ refl ];
-}
+keeps_at p f k = keeps_cond (λ r. r.pid == p) f (λ r. r) k keeps_none
 
 -- numbers within their range stay so
 bounded_as : (m : ℕ) (r q : Process) → IsBounded m q → r.pid ≡ q.pid → r.group ≡ q.group → r.session ≡ q.session → IsBounded m r
@@ -58,37 +67,11 @@ regular_map g k s i = record {
 
 -- ---- the order
 
--- who is in what is left is another, and was there
-pub record IsOther (p q : ℕ) (o : List ℕ) : Type 0 where
-  pub apart : q ≢ p
-  pub among : is_in q o ≡ true
-
--- who is in the order without p is not p, and was in the order
-pub in_without : (p q : ℕ) (o : List ℕ) → is_in q (without p o) ≡ true → IsOther p q o
-unfolding is_in without
-in_without p q [] e = absurd (cc)
-in_without p q (x ∷ xs) e = elim (x == p) as (λ b. (x == p) ≡ b → list_any (λ y. y == q) (cond (not b) (x ∷ filter (λ y. not (y == p)) xs) (filter (λ y. not (y == p)) xs)) ≡ true → IsOther p q (x ∷ xs)) [
-  | true ↦ λ t h. let i = in_without p q xs h in record { apart = i.apart; among = grind (arith, i.among) }
-  | false ↦ λ t h. elim (x == q) as (λ b. (x == q) ≡ b → (b || list_any (λ y. y == q) (filter (λ y. not (y == p)) xs)) ≡ true → IsOther p q (x ∷ xs)) [
-    | true ↦ λ u k. record { apart = λ same. eqb-false _ _ t (eqb-true _ _ u ∙ same); among = rw u refl }
-    | false ↦ λ u k. let i = in_without p q xs k in record { apart = i.apart; among = rw u i.among }
-  ] refl h
-] refl e
-
--- who is not in the order is not in what is left of it
-not_in_without : (p q : ℕ) (o : List ℕ) → is_in q o ≡ false → is_in q (without p o) ≡ false
-unfolding is_in without
-not_in_without p q [] e = e
-not_in_without p q (x ∷ xs) e = grind (arith, not_in_without p q xs)
-
 -- what is left of an order names nobody twice
 pub distinct_without : (p : ℕ) (o : List ℕ) → IsDistinct o → IsDistinct (without p o)
 unfolding IsDistinct without
 distinct_without p [] d = tt
-distinct_without p (x ∷ xs) d = elim (x == p) as (λ b. IsDistinct (cond (not b) (x ∷ filter (λ q. not (q == p)) xs) (filter (λ q. not (q == p)) xs))) [
-  | true ↦ distinct_without p xs d.1
-  | false ↦ (not_in_without p x xs d.0, distinct_without p xs d.1)
-]
+distinct_without p (x ∷ xs) d = grind (arith, d.0, in_without x p xs, distinct_without p xs d.1)
 
 -- a state stays regular where a process loses its place in the order
 pub regular_lose : (p : ℕ) (s : State) → IsRegular s → IsRegular (lose_place s p)
@@ -96,7 +79,7 @@ regular_lose p s i = record {
   rising = i.rising;
   bounded = i.bounded;
   first = i.first;
-  placed = λ q e. i.placed q (in_without p q s.order e).among;
+  placed = λ q e. i.placed q (is_other p q s.order e).among;
   distinct = distinct_without p s.order i.distinct;
   childless = i.childless;
 }
@@ -131,27 +114,18 @@ regular_leave p f kp kq kg ks s i none = record {
   bounded = λ q r e.
       let b = lookup_back (at p f) (at_pid p f kp) q s.processes r e in
       bounded_as s.world.pidmax r b.what (i.bounded q b.what b.found) (ap (λ (r : Process). r.pid) b.is ∙ at_pid p f kp b.what)
-      (ap (λ (r : Process). r.group) b.is ∙ group_at b.what) (ap (λ (r : Process). r.session) b.is ∙ session_at b.what);
-  first = record { what = at p f i.first.what; found = lookup_on (at p f) (at_pid p f kp) 1 s.processes i.first.what i.first.found; parent = parent_at i.first.what ∙ i.first.parent };
+      (ap (λ (r : Process). r.group) b.is ∙ at_keeps (λ q. q.group) p f kg b.what) (ap (λ (r : Process). r.session) b.is ∙ at_keeps (λ q. q.session) p f ks b.what);
+  first = record { what = at p f i.first.what; found = lookup_on (at p f) (at_pid p f kp) 1 s.processes i.first.what i.first.found; parent = at_keeps (λ q. q.parent) p f kq i.first.what ∙ i.first.parent };
   placed = λ q e.
-      let other = in_without p q s.order e in
+      let other = is_other p q s.order e in
       let o = i.placed q other.among in
       record { what = o.what; found = lookup_other p q f kp other.apart s.processes o.what o.found; living = o.living };
   distinct = distinct_without p s.order i.distinct;
-  childless = λ q r ne e z. children_map (at p f) parent_at q s.processes ∙ ap (map (at p f)) (elim (cases_eq q p) [
+  childless = λ q r ne e z. children_map (at p f) (at_keeps (λ q. q.parent) p f kq) q s.processes ∙ ap (map (at p f)) (elim (cases_eq q p) [
     | inl same ↦ subst (λ n. children_in n s.processes ≡ []) (sym same) (none (λ x. ne (same ∙ x)))
     | inr away ↦ i.childless q r ne (other_back p q f kp away s.processes r e) z
   ]);
 }
-  where
-    parent_at : (r : Process) → (at p f r).parent ≡ r.parent
-    parent_at r = grind (arith, kq r)
-
-    group_at : (r : Process) → (at p f r).group ≡ r.group
-    group_at r = grind (arith, kg r)
-
-    session_at : (r : Process) → (at p f r).session ≡ r.session
-    session_at r = grind (arith, ks r)
 
 -- an heir of p is another
 pub heir_other : (rs : List Process) (p heir : ℕ) → p ≢ 1 → CanInherit rs p heir → heir ≢ p
@@ -237,28 +211,25 @@ regular_halt w s i =
 pub lookup_inserted : (new : Process) (q : ℕ) (rs : List Process) → q ≢ new.pid → lookup q (inserted new rs) ≡ lookup q rs
 unfolding lookup inserted
 lookup_inserted new q [] ne = rw (ne_eqb new.pid q (λ e. ne (sym e))) refl
-lookup_inserted new q (r ∷ rs) ne = elim (nat_lt new.pid r.pid) as (λ b. find (has_pid q) (cond b (new ∷ r ∷ rs) (r ∷ inserted new rs)) ≡ find (has_pid q) (r ∷ rs)) [
-  | true ↦ rw (ne_eqb new.pid q (λ e. ne (sym e))) refl
-  | false ↦ elim (r.pid == q) as (λ b. cond b (Some r) (find (has_pid q) (inserted new rs)) ≡ cond b (Some r) (find (has_pid q) rs)) [ true ↦ refl | false ↦ lookup_inserted new q rs ne ]
-]
+lookup_inserted new q (r ∷ rs) ne = grind (arith, ne, lookup_inserted new q rs ne, eqb-true, eqb-false)
+
+-- who is there is there when a new one goes in
+pub some_inserted : (new : Process) (q : ℕ) (rs : List Process) → IsSome (lookup q rs) → IsSome (lookup q (inserted new rs))
+unfolding lookup inserted
+some_inserted new q [] h = absurd (cc)
+some_inserted new q (r ∷ rs) h = grind (arith, h, some_inserted new q rs)
 
 -- the new one is found by its pid
 pub lookup_new : (new : Process) (rs : List Process) → lookup new.pid rs ≡ None → lookup new.pid (inserted new rs) ≡ Some new
 unfolding lookup inserted
 lookup_new new [] e = rw (eq-eqb new.pid new.pid refl) refl
-lookup_new new (r ∷ rs) e = elim (nat_lt new.pid r.pid) as (λ b. find (has_pid new.pid) (cond b (new ∷ r ∷ rs) (r ∷ inserted new rs)) ≡ Some new) [
-  | true ↦ rw (eq-eqb new.pid new.pid refl) refl
-  | false ↦ elim (r.pid == new.pid) as (λ b. cond b (Some r) (find (has_pid new.pid) rs) ≡ None → cond b (Some r) (find (has_pid new.pid) (inserted new rs)) ≡ Some new) [ true ↦ λ k. absurd (cc) | false ↦ λ k. lookup_new new rs k ] e
-]
+lookup_new new (r ∷ rs) e = grind (arith, lookup_new new rs, eqb-true, eqb-false, eq-eqb new.pid new.pid refl)
 
 -- the birth of another's child gives nobody one
 pub children_inserted : (new : Process) (q : ℕ) (rs : List Process) → new.parent ≢ q → children_in q (inserted new rs) ≡ children_in q rs
 unfolding children_in inserted
 children_inserted new q [] ne = rw (ne_eqb new.parent q ne) refl
-children_inserted new q (r ∷ rs) ne = elim (nat_lt new.pid r.pid) as (λ b. filter (is_child q) (cond b (new ∷ r ∷ rs) (r ∷ inserted new rs)) ≡ filter (is_child q) (r ∷ rs)) [
-  | true ↦ rw (ne_eqb new.parent q ne) refl
-  | false ↦ ap (λ l. cond (r.parent == q) (r ∷ l) l) (children_inserted new q rs ne)
-]
+children_inserted new q (r ∷ rs) ne = grind (arith, ne, children_inserted new q rs ne, eqb-true, eqb-false)
 
 -- A living record that is new goes in, with a parent that is living, and the other counts may change.
 pub regular_inserted : (new : Process) (last births : ℕ) (s : State) → IsRegular s → lookup new.pid s.processes ≡ None → IsBounded s.world.pidmax new → is_zombie new.life ≡ false
@@ -297,10 +268,7 @@ regular_inserted new last births s i fresh bounds living me there up = record {
 pub lookup_kept : (p q : ℕ) (rs : List Process) → q ≢ p → lookup q (removed p rs) ≡ lookup q rs
 unfolding lookup removed
 lookup_kept p q [] ne = refl
-lookup_kept p q (r ∷ rs) ne = elim (r.pid == p) as (λ b. (r.pid == p) ≡ b → find (has_pid q) (cond (not b) (r ∷ filter (λ r. not (r.pid == p)) rs) (filter (λ r. not (r.pid == p)) rs)) ≡ find (has_pid q) (r ∷ rs)) [
-  | true ↦ λ t. let away : (r.pid == q) ≡ false = ne_eqb _ _ (λ x. ne (sym x ∙ eqb-true _ _ t)) in rw away (lookup_kept p q rs ne)
-  | false ↦ λ t. elim (r.pid == q) as (λ b. cond b (Some r) (find (has_pid q) (filter (λ r. not (r.pid == p)) rs)) ≡ cond b (Some r) (find (has_pid q) rs)) [ true ↦ refl | false ↦ lookup_kept p q rs ne ]
-] refl
+lookup_kept p q (r ∷ rs) ne = grind (arith, ne, lookup_kept p q rs ne, eqb-true, eqb-false)
 
 -- who may inherit may still where another is removed
 pub heir_removed : (c p heir : ℕ) (rs : List Process) → c ≢ heir → CanInherit rs p heir → CanInherit (removed c rs) p heir
@@ -311,28 +279,18 @@ heir_removed c p heir rs other (inr h) = inr (h.0, record { what = h.1.what; fou
 pub lookup_removed : (p : ℕ) (rs : List Process) → lookup p (removed p rs) ≡ None
 unfolding lookup removed
 lookup_removed p [] = refl
-lookup_removed p (r ∷ rs) = elim (r.pid == p) as (λ b. (r.pid == p) ≡ b → find (has_pid p) (cond (not b) (r ∷ filter (λ r. not (r.pid == p)) rs) (filter (λ r. not (r.pid == p)) rs)) ≡ None) [
-  | true ↦ λ t. lookup_removed p rs
-  | false ↦ λ t. rw t (lookup_removed p rs)
-] refl
+lookup_removed p (r ∷ rs) = grind (arith, lookup_removed p rs)
 
--- who has no child gets none
-children_removed : (p q : ℕ) (rs : List Process) → children_in q rs ≡ [] → children_in q (removed p rs) ≡ []
-unfolding children_in removed
-children_removed p q [] e = refl
-children_removed p q (r ∷ rs) e = elim (r.parent == q) as (λ b. (r.parent == q) ≡ b → cond b (r ∷ filter (is_child q) rs) (filter (is_child q) rs) ≡ [] → filter (is_child q) (cond (not (r.pid == p)) (r ∷ filter (λ r. not (r.pid == p)) rs) (filter (λ r. not (r.pid == p)) rs)) ≡ []) [
-  | true ↦ λ t k. absurd (cc)
-  | false ↦ λ t k. elim (r.pid == p) as (λ b. filter (is_child q) (cond (not b) (r ∷ filter (λ r. not (r.pid == p)) rs) (filter (λ r. not (r.pid == p)) rs)) ≡ []) [
-    | true ↦ children_removed p q rs k
-    | false ↦ rw t (children_removed p q rs k)
-  ]
-] refl e
+-- who is left was there
+pub lookup_left : (p q : ℕ) (rs : List Process) (r : Process) → lookup q (removed p rs) ≡ Some r → lookup q rs ≡ Some r
+lookup_left p q rs r e = sym (lookup_kept p q rs (λ x. let both = sym (lookup_removed p rs) ∙ ap (λ n. lookup n (removed p rs)) (sym x) ∙ e in absurd (cc))) ∙ e
 
 -- the record of a zombie other than process 1 goes
 pub regular_removed : (p : ℕ) (zombie : Process) (s : State) → IsRegular s → p ≢ 1 → lookup p s.processes ≡ Some zombie → is_zombie zombie.life ≡ true → IsRegular (record s { processes = removed p s.processes })
+unfolding removed
 regular_removed p zombie s i other there dead = record {
   rising = rising_removed p s.processes i.rising;
-  bounded = λ q r e. i.bounded q r (was q r e);
+  bounded = λ q r e. i.bounded q r (lookup_left p q s.processes r e);
   first = record { what = i.first.what; found = lookup_kept p 1 s.processes (λ x. other (sym x)) ∙ i.first.found; parent = i.first.parent };
   placed = λ q e.
       let o = i.placed q e in
@@ -342,11 +300,8 @@ regular_removed p zombie s i other there dead = record {
       absurd (cc)) in
       record { what = o.what; found = lookup_kept p q s.processes apart ∙ o.found; living = o.living };
   distinct = i.distinct;
-  childless = λ q r ne e z. children_removed p q s.processes (i.childless q r ne (was q r e) z);
+  childless = λ q r ne e z. children_removed q p s.processes ∙ ap (removed p) (i.childless q r ne (lookup_left p q s.processes r e) z);
 }
-  where
-    was : (q : ℕ) (r : Process) → lookup q (removed p s.processes) ≡ Some r → lookup q s.processes ≡ Some r
-    was q r e = sym (lookup_kept p q s.processes (λ x. let both = sym (lookup_removed p s.processes) ∙ ap (λ n. lookup n (removed p s.processes)) (sym x) ∙ e in absurd (cc))) ∙ e
 
 -- ---- changes that keep
 
@@ -360,21 +315,11 @@ pub keeps_news_told : Keeps news_told
 unfolding news_told
 keeps_news_told = record { pid = λ r. refl; parent = λ r. refl; group = λ r. refl; session = λ r. refl; zombie = λ r. refl }
 
--- what both sides of a test have
-either : {A : Type 0} (f : Process → A) (b : Bool) (x y : Process) (a : A) → f x ≡ a → f y ≡ a → f (cond b x y) ≡ a
-either f true x y a h k = h
-either f false x y a h k = k
-
 -- so does a handler that is entered, or that there is no room for
 pub keeps_handles : (signal : PendingSignal) (address : ℤ) → Keeps (handles signal address)
 unfolding handles
-keeps_handles signal address = record {
-  pid = λ r. either (λ (q : Process). q.pid) (is_full r.signals) _ _ r.pid refl refl;
-  parent = λ r. either (λ (q : Process). q.parent) (is_full r.signals) _ _ r.parent refl refl;
-  group = λ r. either (λ (q : Process). q.group) (is_full r.signals) _ _ r.group refl refl;
-  session = λ r. either (λ (q : Process). q.session) (is_full r.signals) _ _ r.session refl refl;
-  zombie = λ r. either (λ (q : Process). is_zombie q.life) (is_full r.signals) _ _ (is_zombie r.life) refl refl;
-}
+keeps_handles signal address = keeps_cond (λ r. is_full r.signals) _ _ (record { pid = λ r. refl; parent = λ r. refl; group = λ r. refl; session = λ r. refl; zombie = λ r. refl })
+    (record { pid = λ r. refl; parent = λ r. refl; group = λ r. refl; session = λ r. refl; zombie = λ r. refl })
 
 -- so does a signal that is taken out
 pub keeps_take_out : (n : ℕ) → Keeps (take_out n)
@@ -389,10 +334,4 @@ keeps_signalled signal = record { pid = λ r. refl; parent = λ r. refl; group =
 -- so does a notice of an end
 pub keeps_noticed : (signal : PendingSignal) → Keeps (noticed signal)
 unfolding noticed
-keeps_noticed signal = let k = keeps_signalled signal in record {
-  pid = λ r. either (λ (q : Process). q.pid) (ignores_children r.signals) _ _ r.pid refl (k.pid r);
-  parent = λ r. either (λ (q : Process). q.parent) (ignores_children r.signals) _ _ r.parent refl (k.parent r);
-  group = λ r. either (λ (q : Process). q.group) (ignores_children r.signals) _ _ r.group refl (k.group r);
-  session = λ r. either (λ (q : Process). q.session) (ignores_children r.signals) _ _ r.session refl (k.session r);
-  zombie = λ r. either (λ (q : Process). is_zombie q.life) (ignores_children r.signals) _ _ (is_zombie r.life) refl (k.zombie r);
-}
+keeps_noticed signal = keeps_cond (λ r. ignores_children r.signals) (λ r. r) (signalled signal) keeps_none (keeps_signalled signal)

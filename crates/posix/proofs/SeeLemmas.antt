@@ -1,5 +1,5 @@
 -- What decides whether a process can act: its record but for its parent, and what it sees of its children.
-use Rattle.std.proofs.Common.{◌≡◌, ℕ, Bool, true, false, cond, not, ◌&&◌, ◌||◌, refl, ap, sym, ◌∙◌, subst, List, [], ◌∷◌, map, filter, find, Option, Some, None, is_some}
+use Rattle.std.proofs.Common.{◌≡◌, ℕ, Bool, true, false, cond, not, ◌&&◌, ◌||◌, refl, ap, sym, ◌∙◌, subst, List, [], ◌∷◌, map, filter, find, Option, Some, None, is_some, arith}
 use Rattle.posix.specs.declared.process.Life.{Life}
 use Rattle.posix.specs.declared.process.News.{News}
 use Rattle.posix.specs.declared.process.Blocked.{Blocked}
@@ -14,7 +14,7 @@ use Rattle.posix.specs.Tables.{children_in}
 use Rattle.posix.specs.States.{State}
 use Rattle.posix.specs.Outcomes.{Attempted}
 use Rattle.posix.specs.Targets.{target_in}
-use Rattle.posix.specs.Waits.{wait, wait_with, is_named, is_something, report, report_of, report_found, report_among, reports, options_in, are_known, has_option}
+use Rattle.posix.specs.Waits.{wait, wait_with, is_named, report, report_of, report_found, report_among, reports, options_in, are_known, has_option}
 use Rattle.posix.specs.Generation.{is_pending}
 use Rattle.posix.specs.Choice.{chosen}
 use Rattle.posix.specs.Attempts.{attempt_again}
@@ -59,12 +59,7 @@ report_seen options r = refl
 
 found_seen : (options : ℕ) (rs : List Process) → report_found options (find (reports options) (map unsee (map seen rs))) ≡ report_found options (find (reports options) rs)
 found_seen options [] = refl
-found_seen options (r ∷ rs) =
-    let same : reports options (unsee (seen r)) ≡ reports options r = ap is_something (report_seen options r) in
-    elim (reports options r) as (λ b. reports options r ≡ b → report_found options (find (reports options) (unsee (seen r) ∷ map unsee (map seen rs))) ≡ report_found options (cond b (Some r) (find (reports options) rs))) [
-      | true ↦ λ e. let u : reports options (unsee (seen r)) ≡ true = same ∙ e in rw u (report_seen options r)
-      | false ↦ λ e. let u : reports options (unsee (seen r)) ≡ false = same ∙ e in rw u (found_seen options rs)
-    ] refl
+found_seen options (r ∷ rs) = grind (arith, report_seen options r, found_seen options rs)
 
 among_seen : (options : ℕ) (rs : List Process) → report_among options (map unsee (map seen rs)) ≡ report_among options rs
 among_seen options [] = refl
@@ -72,12 +67,7 @@ among_seen options (r ∷ rs) = found_seen options (r ∷ rs)
 
 named_all : (group : ℕ) (target : Target) (rs : List Process) → filter (is_named group target) (map unsee (map seen rs)) ≡ map unsee (map seen (filter (is_named group target) rs))
 named_all group target [] = refl
-named_all group target (r ∷ rs) =
-    let same = named_seen group target r in
-    elim (is_named group target r) as (λ b. is_named group target r ≡ b → filter (is_named group target) (unsee (seen r) ∷ map unsee (map seen rs)) ≡ map unsee (map seen (cond b (r ∷ filter (is_named group target) rs) (filter (is_named group target) rs)))) [
-      | true ↦ λ e. let u : is_named group target (unsee (seen r)) ≡ true = same ∙ e in rw u (ap (λ l. unsee (seen r) ∷ l) (named_all group target rs))
-      | false ↦ λ e. let u : is_named group target (unsee (seen r)) ≡ false = same ∙ e in rw u (named_all group target rs)
-    ] refl
+named_all group target (r ∷ rs) = grind (arith, named_seen group target r, named_all group target rs)
 
 -- a report is one of what is seen of the children
 report_sees : (rs ts : List Process) (p group : ℕ) (target : Target) (options : ℕ) → sees p rs ≡ sees p ts → report rs p group target options ≡ report ts p group target options

@@ -1,7 +1,8 @@
 -- To ask the records one after another, from the least number on, is to settle; and what settles stays regular.
-use Rattle.std.proofs.Common.{◌≡◌, ℕ, ◌<◌, Bool, true, false, cond, not, ◌&&◌, ◌||◌, refl, ap, sym, ◌∙◌, arith, subst, List, [], ◌∷◌, ◌++◌, append-nil, append_assoc, filter, Option, Some, None, ◌==◌, nat_lt, is_some}
-use Rattle.std.specs.List.{list_any, AllByRecursion}
-use Rattle.std.proofs.lemmas.Bool.{eqb-true, ne_eqb, ltb-true}
+use Rattle.std.proofs.Common.{◌≡◌, ℕ, ◌<◌, Bool, true, false, cond, not, ◌&&◌, ◌||◌, refl, ap, sym, ◌∙◌, arith, subst, List, [], ◌∷◌, ◌++◌, append-nil, append_assoc, filter, Option, Some, None, is_some}
+use Rattle.std.specs.List.{AllByRecursion}
+use Rattle.std.proofs.lemmas.Bool.{eqb-true}
+use Rattle.std.proofs.lemmas.Bool.Decides.{nat_tests}
 use Rattle.std.proofs.lemmas.List.{map-append}
 use Rattle.posix.specs.declared.process.Life.{Life}
 use Rattle.posix.specs.declared.process.Life.TheVariants.{Running, Stopped, Zombie}
@@ -13,6 +14,7 @@ use Rattle.posix.specs.Regular.{IsPlaced}
 use Rattle.posix.specs.Generation.{is_pending}
 use Rattle.posix.specs.Choice.{chosen}
 use Rattle.posix.specs.Settle.{woken, woken_if, settle, wakes, can_act, can_go_on}
+use Rattle.posix.proofs.MemberLemmas.{in_append, or_none}
 use Rattle.posix.proofs.TableLemmas.{pid_looked}
 use Rattle.posix.proofs.SeeLemmas.{can_act_order}
 use Rattle.posix.specs.Regular.{IsRegular, IsPlaced}
@@ -46,35 +48,20 @@ woken_is s p r h a e i c =
 
 -- ---- all asked, one after another
 
--- behind which there is no p
-in_append : (p : ℕ) (xs ys : List ℕ) → is_in p ys ≡ false → is_in p (xs ++ ys) ≡ is_in p xs
-unfolding is_in
-in_append p [] ys e = e
-in_append p (x ∷ xs) ys e = ap (λ b. (x == p) || b) (in_append p xs ys e)
-
 -- places of others change nothing
 wakes_later : (s : State) (o : List ℕ) (r : Process) → is_in r.pid o ≡ false → wakes (record s { order = s.order ++ o }) r ≡ wakes s r
-wakes_later s o r e = ap (λ b. not b && can_act (record s { order = s.order ++ o }) r) (in_append r.pid s.order o e) ∙ ap (λ b. not (is_in r.pid s.order) && b) (can_act_order s (s.order ++ o) r)
+wakes_later s o r e = ap (λ b. not b && can_act (record s { order = s.order ++ o }) r) (in_append r.pid s.order o ∙ ap (λ b. is_in r.pid s.order || b) e ∙ or_none _) ∙ ap (λ b. not (is_in r.pid s.order) && b) (can_act_order s (s.order ++ o) r)
 
 -- nobody above p has the number p
 not_numbered : (t : Process → Bool) (p q : ℕ) (rs : List Process) → p < q → is_in q (pids (filter t (numbered p rs))) ≡ false
 unfolding is_in
 not_numbered t p q [] l = refl
-not_numbered t p q (x ∷ xs) l = elim (x.pid == p) as (λ b. (x.pid == p) ≡ b → list_any (λ n. n == q) (pids (filter t (cond b (x ∷ numbered p xs) (numbered p xs)))) ≡ false) [
-  | true ↦ λ e. let named : x.pid ≡ p = eqb-true _ _ e in elim (t x) as (λ b. list_any (λ n. n == q) (pids (cond b (x ∷ filter t (numbered p xs)) (filter t (numbered p xs)))) ≡ false) [
-    | true ↦ rw (ne_eqb x.pid q (λ k. omega (arith, k, named))) (not_numbered t p q xs l)
-    | false ↦ not_numbered t p q xs l
-  ]
-  | false ↦ λ e. not_numbered t p q xs l
-] refl
+not_numbered t p q (x ∷ xs) l = grind (arith, not_numbered t p q xs l, eqb-true)
 
 -- above p the same pass two tests that agree there
 same_above : (t u : Process → Bool) (p : ℕ) (rs : List Process) → ((r : Process) → p < r.pid → t r ≡ u r) → filter t (above p rs) ≡ filter u (above p rs)
 same_above t u p [] h = refl
-same_above t u p (x ∷ xs) h = elim (nat_lt p x.pid) as (λ b. nat_lt p x.pid ≡ b → filter t (cond b (x ∷ above p xs) (above p xs)) ≡ filter u (cond b (x ∷ above p xs) (above p xs))) [
-  | true ↦ λ e. ap (λ b. cond b (x ∷ filter t (above p xs)) (filter t (above p xs))) (h x (ltb-true _ _ e)) ∙ ap (λ l. cond (u x) (x ∷ l) l) (same_above t u p xs h)
-  | false ↦ λ e. same_above t u p xs h
-] refl
+same_above t u p (x ∷ xs) h = grind (arith, nat_tests, h x, same_above t u p xs h)
 
 -- one process asked
 woken_one : (s : State) → IsRising s.processes → (p : ℕ) → woken s p ≡ record s { order = s.order ++ pids (filter (wakes s) (numbered p s.processes)) }

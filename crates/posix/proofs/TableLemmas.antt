@@ -1,11 +1,10 @@
 -- Facts on the table of processes as a list in rising pid order.
-use Rattle.std.proofs.Common.{◌≡◌, ◌≢◌, ℕ, zero, suc, ◌<◌, ◌≤◌, Bool, true, false, cond, refl, ap, sym, ◌∙◌, arith, subst, List, [], ◌∷◌, length, map, filter, find, slice_get, slice_set, insert, remove, Some, None, option_map, ◌==◌, nat_lt}
+use Rattle.std.proofs.Common.{◌≡◌, ℕ, zero, suc, ◌<◌, Bool, true, false, cond, refl, arith, subst, List, [], ◌∷◌, map, filter, slice_get, slice_set, Some, None, option_map, ◌==◌, nat_lt}
 use Rattle.std.specs.List.{AllByRecursion}
-use Rattle.std.specs.Option.{IfSome}
-use Rattle.std.proofs.lemmas.Bool.{eqb-true, eqb-false, eq-eqb, ne_eqb, ltb-true, ltb-false}
+use Rattle.std.proofs.lemmas.Bool.{eqb-true, eqb-false, eq-eqb, ne_eqb}
 use Rattle.std.proofs.lemmas.Bool.Decides.{nat_tests}
 use Rattle.posix.specs.Processes.{Process}
-use Rattle.posix.specs.Tables.{IsRising, has_pid, lookup, at, changed, inserted, removed, reparented, adopted}
+use Rattle.posix.specs.Tables.{IsRising, lookup, at, changed, inserted, removed, reparented, adopted}
 
 -- each pid is above n
 abbrev pub Above : ℕ → List Process → Type 0
@@ -28,17 +27,25 @@ unfolding lookup
 lookup_above p [] h = refl
 lookup_above p (x ∷ xs) h = rw (ne_eqb x.pid p (λ e. omega (arith, h.0))) (lookup_above p xs h.1)
 
--- where all lie above p, a change of p does nothing
-pub changed_above : (p : ℕ) (f : Process → Process) (rs : List Process) → Above p rs → changed p f rs ≡ rs
-unfolding changed
-changed_above p f [] h = refl
-changed_above p f (x ∷ xs) h = rw (ne_eqb x.pid p (λ e. omega (arith, h.0))) (ap (λ ys. x ∷ ys) (changed_above p f xs h.1))
+-- a change of a process that isn't there does nothing
+pub changed_absent : (p : ℕ) (f : Process → Process) (rs : List Process) → lookup p rs ≡ None → changed p f rs ≡ rs
+unfolding changed lookup
+changed_absent p f [] e = refl
+changed_absent p f (r ∷ rs) e = grind (arith, changed_absent p f rs)
 
--- where all lie above p, a removal of p does nothing
+-- where all lie above p, it does nothing
+pub changed_above : (p : ℕ) (f : Process → Process) (rs : List Process) → Above p rs → changed p f rs ≡ rs
+changed_above p f rs h = changed_absent p f rs (lookup_above p rs h)
+
+-- a removal of a process that isn't there does nothing
+pub remove_none : (p : ℕ) (rs : List Process) → lookup p rs ≡ None → removed p rs ≡ rs
+unfolding removed lookup
+remove_none p [] e = refl
+remove_none p (r ∷ rs) e = grind (arith, remove_none p rs)
+
+-- where all lie above p, it does nothing
 pub remove_above : (p : ℕ) (rs : List Process) → Above p rs → removed p rs ≡ rs
-unfolding removed
-remove_above p [] h = refl
-remove_above p (x ∷ xs) h = rw (ne_eqb x.pid p (λ e. omega (arith, h.0))) (ap (λ ys. x ∷ ys) (remove_above p xs h.1))
+remove_above p rs h = remove_none p rs (lookup_above p rs h)
 
 -- ---- at the place of a process
 
@@ -46,69 +53,15 @@ remove_above p (x ∷ xs) h = rw (ne_eqb x.pid p (λ e. omega (arith, h.0))) (ap
 pub lookup_at : (rs : List Process) → IsRising rs → (p i : ℕ) (r : Process) → slice_get rs i ≡ Some r → r.pid ≡ p → lookup p rs ≡ Some r
 unfolding lookup IsRising
 lookup_at [] up p i r e here = absurd (cc)
-lookup_at (x ∷ xs) up p zero r e here =
-    let same : x ≡ r = cc in
-    rw (eq-eqb x.pid p (ap (λ (r : Process). r.pid) same ∙ here)) (ap Some same)
-lookup_at (x ∷ xs) up p (suc i) r e here =
-    let above : x.pid < r.pid = above_get x.pid xs up.0 i r e in
-    rw (ne_eqb x.pid p (λ k. omega (arith, above, here))) (lookup_at xs up.1 p i r e here)
+lookup_at (x ∷ xs) up p zero r e here = grind (arith, here)
+lookup_at (x ∷ xs) up p (suc i) r e here = grind (arith, here, eqb-true x.pid p, above_get x.pid xs up.0 i r e, lookup_at xs up.1 p i r e here)
 
 -- a change of a process is a change at its place
 pub changed_at : (rs : List Process) → IsRising rs → (p i : ℕ) (r : Process) (f : Process → Process) → slice_get rs i ≡ Some r → r.pid ≡ p → changed p f rs ≡ slice_set rs i (f r)
 unfolding changed IsRising
 changed_at [] up p i r f e here = absurd (cc)
-changed_at (x ∷ xs) up p zero r f e here =
-    let same : x ≡ r = cc in
-    let named : x.pid ≡ p = ap (λ (r : Process). r.pid) same ∙ here in
-    let rest : map (at p f) xs ≡ xs = changed_above p f xs (subst (λ n. Above n xs) named up.0) in
-    rw (eq-eqb x.pid p named, rest) (ap (λ (r : Process). f r ∷ xs) same)
-changed_at (x ∷ xs) up p (suc i) r f e here =
-    let above : x.pid < r.pid = above_get x.pid xs up.0 i r e in
-    rw (ne_eqb x.pid p (λ k. omega (arith, above, here))) (ap (λ ys. x ∷ ys) (changed_at xs up.1 p i r f e here))
-
--- a removal of a process is a removal at its place
-pub remove_at : (rs : List Process) → IsRising rs → (p i : ℕ) (r : Process) → slice_get rs i ≡ Some r → r.pid ≡ p → removed p rs ≡ remove rs i
-unfolding removed IsRising
-remove_at [] up p i r e here = absurd (cc)
-remove_at (x ∷ xs) up p zero r e here =
-    let same : x ≡ r = cc in
-    let named : x.pid ≡ p = ap (λ (r : Process). r.pid) same ∙ here in
-    rw (eq-eqb x.pid p named) (remove_above p xs (subst (λ n. Above n xs) named up.0))
-remove_at (x ∷ xs) up p (suc i) r e here =
-    let above : x.pid < r.pid = above_get x.pid xs up.0 i r e in
-    rw (ne_eqb x.pid p (λ k. omega (arith, above, here))) (ap (λ ys. x ∷ ys) (remove_at xs up.1 p i r e here))
-
--- ---- at the place where a process would go
-
--- smaller pids before, and a greater one there
-pub record IsGap (rs : List Process) (p i : ℕ) : Type 0 where
-  pub in_range : i ≤ length rs
-  pub before : (j : ℕ) → j < i → IfSome (slice_get rs j) (λ r. r.pid < p)
-  pub after : IfSome (slice_get rs i) (λ r. p < r.pid)
-
--- a gap past the head is a gap of the rest
-pub later : (x : Process) (xs : List Process) (p i : ℕ) → IsGap (x ∷ xs) p (suc i) → IsGap xs p i
-later x xs p i g = record { in_range = let l = g.in_range in omega arith; before = λ j h. g.before (suc j) (omega arith); after = g.after }
-
--- where there is a gap for a pid, nobody has it
-pub lookup_gap : (rs : List Process) → IsRising rs → (p i : ℕ) → IsGap rs p i → lookup p rs ≡ None
-unfolding lookup IsRising
-lookup_gap [] up p i g = refl
-lookup_gap (x ∷ xs) up p zero g = lookup_above p (x ∷ xs) (g.after, above_less p x.pid xs g.after up.0)
-lookup_gap (x ∷ xs) up p (suc i) g =
-    let low : x.pid < p = g.before 0 (omega arith) in
-    rw (ne_eqb x.pid p (λ k. omega (arith, low))) (lookup_gap xs up.1 p i (later x xs p i g))
-
--- a new process goes in at the gap for its pid
-pub insert_gap : (rs : List Process) → (i : ℕ) (new : Process) → IsGap rs new.pid i → inserted new rs ≡ insert rs i new
-unfolding inserted
-insert_gap [] zero new g = refl
-insert_gap [] (suc i) new g = let l = g.in_range in absurd (omega arith)
-insert_gap (x ∷ xs) zero new g = let l : nat_lt new.pid x.pid ≡ true = grind (arith, nat_tests, g.after) in rw l refl
-insert_gap (x ∷ xs) (suc i) new g =
-    let low : x.pid < new.pid = g.before 0 (omega arith) in
-    let l : nat_lt new.pid x.pid ≡ false = grind (arith, nat_tests) in
-    rw l (ap (λ ys. x ∷ ys) (insert_gap xs i new (later x xs new.pid i g)))
+changed_at (x ∷ xs) up p zero r f e here = grind (arith, here, λ (i : x.pid ≡ p). changed_above p f xs (subst (λ n. Above n xs) i up.0), eq-eqb x.pid p)
+changed_at (x ∷ xs) up p (suc i) r f e here = grind (arith, here, above_get x.pid xs up.0 i r e, changed_at xs up.1 p i r f e here, eqb-true x.pid p)
 
 -- ---- what stays in rising order
 
@@ -116,8 +69,7 @@ insert_gap (x ∷ xs) (suc i) new g =
 pub above_changed : (n p : ℕ) (f : Process → Process) → ((r : Process) → (f r).pid ≡ r.pid) → (rs : List Process) → Above n rs → Above n (changed p f rs)
 unfolding changed
 above_changed n p f keeps [] h = tt
-above_changed n p f keeps (r ∷ rs) h =
-    (elim (r.pid == p) as (λ b. n < (cond b (f r) r).pid) [ true ↦ omega (arith, keeps r, h.0) | false ↦ h.0 ], above_changed n p f keeps rs h.1)
+above_changed n p f keeps (r ∷ rs) h = grind (arith, keeps r, h.0, above_changed n p f keeps rs h.1)
 
 -- the order stays where one record changes and keeps its pid
 pub rising_changed : (p : ℕ) (f : Process → Process) → ((r : Process) → (f r).pid ≡ r.pid) → (rs : List Process) → IsRising rs → IsRising (changed p f rs)
@@ -173,19 +125,7 @@ above_inserted n new (r ∷ rs) l h = elim (nat_lt new.pid r.pid) as (λ b. Abov
 pub rising_inserted : (new : Process) (rs : List Process) → IsRising rs → lookup new.pid rs ≡ None → IsRising (inserted new rs)
 unfolding IsRising inserted lookup
 rising_inserted new [] h e = (tt, tt)
-rising_inserted new (r ∷ rs) h e =
-    elim (nat_lt new.pid r.pid) as (λ b. nat_lt new.pid r.pid ≡ b → IsRising (cond b (new ∷ r ∷ rs) (r ∷ inserted new rs))) [
-      | true ↦ λ t. let l : new.pid < r.pid = ltb-true _ _ t in ((l, above_less new.pid r.pid rs l h.0), h)
-      | false ↦ λ t.
-          elim (r.pid == new.pid) as (λ b. (r.pid == new.pid) ≡ b → cond b (Some r) (find (has_pid new.pid) rs) ≡ None → IsRising (r ∷ inserted new rs)) [
-            | true ↦ λ u k. absurd (cc)
-            | false ↦ λ u k.
-                let ne : r.pid ≢ new.pid = eqb-false _ _ u in
-                let le : r.pid ≤ new.pid = ltb-false _ _ t in
-                let l : r.pid < new.pid = grind (arith, ne) in
-                (above_inserted r.pid new rs l h.0, rising_inserted new rs h.1 k)
-          ] refl e
-    ] refl
+rising_inserted new (r ∷ rs) h e = grind (arith, nat_tests, h.0, h.1, above_less new.pid r.pid rs, above_inserted r.pid new rs, rising_inserted new rs h.1)
 
 -- ---- changes of one record
 
@@ -193,36 +133,13 @@ rising_inserted new (r ∷ rs) h e =
 pub changed_same : (p : ℕ) (f g : Process → Process) (rs : List Process) → IsRising rs → (r : Process) → lookup p rs ≡ Some r → f r ≡ g r → changed p f rs ≡ changed p g rs
 unfolding changed lookup IsRising
 changed_same p f g [] up r e same = refl
-changed_same p f g (x ∷ xs) up r e same =
-    elim (x.pid == p) as (λ b. (x.pid == p) ≡ b → cond b (Some x) (find (has_pid p) xs) ≡ Some r → (cond b (f x) x ∷ map (at p f) xs) ≡ (cond b (g x) x ∷ map (at p g) xs)) [
-      | true ↦ λ t k.
-          let here : x ≡ r = cc in
-          let named : x.pid ≡ p = eqb-true _ _ t in
-          let above = subst (λ n. Above n xs) named up.0 in
-          let one : f x ≡ g x = ap f here ∙ same ∙ ap g (sym here) in
-          rw (one, changed_above p f xs above, changed_above p g xs above) refl
-      | false ↦ λ t k. ap (λ ys. x ∷ ys) (changed_same p f g xs up.1 r k same)
-    ] refl e
+changed_same p f g (x ∷ xs) up r e same = grind (arith, same, λ (i : x.pid ≡ p). changed_above p f xs (subst (λ n. Above n xs) i up.0), λ (i : x.pid ≡ p). changed_above p g xs (subst (λ n. Above n xs) i up.0), changed_same p f g xs up.1 r, eqb-true x.pid p)
 
 -- a change that leaves the record that is there does nothing
 pub changed_id : (p : ℕ) (f : Process → Process) (rs : List Process) → IsRising rs → (r : Process) → lookup p rs ≡ Some r → f r ≡ r → changed p f rs ≡ rs
 unfolding changed lookup IsRising
 changed_id p f [] up r e same = refl
-changed_id p f (x ∷ xs) up r e same =
-    elim (x.pid == p) as (λ b. (x.pid == p) ≡ b → cond b (Some x) (find (has_pid p) xs) ≡ Some r → (cond b (f x) x ∷ map (at p f) xs) ≡ x ∷ xs) [
-      | true ↦ λ t k.
-          let here : x ≡ r = cc in
-          let named : x.pid ≡ p = eqb-true _ _ t in
-          let one : f x ≡ x = ap f here ∙ same ∙ sym here in
-          rw (one, changed_above p f xs (subst (λ n. Above n xs) named up.0)) refl
-      | false ↦ λ t k. ap (λ ys. x ∷ ys) (changed_id p f xs up.1 r k same)
-    ] refl e
-
--- a change of a process that isn't there does nothing
-pub changed_absent : (p : ℕ) (f : Process → Process) (rs : List Process) → lookup p rs ≡ None → changed p f rs ≡ rs
-unfolding changed lookup
-changed_absent p f [] e = refl
-changed_absent p f (r ∷ rs) e = grind (arith, changed_absent p f rs)
+changed_id p f (x ∷ xs) up r e same = grind (arith, same, λ (i : x.pid ≡ p). changed_above p f xs (subst (λ n. Above n xs) i up.0), changed_id p f xs up.1 r, eqb-true x.pid p)
 
 -- after a change of p, p is found changed, and any other as it was
 pub lookup_changed : (p q : ℕ) (f : Process → Process) → ((r : Process) → (f r).pid ≡ r.pid) → (rs : List Process)
@@ -236,9 +153,3 @@ pub pid_looked : (p : ℕ) (rs : List Process) (r : Process) → lookup p rs ≡
 unfolding lookup
 pid_looked p [] r e = absurd (cc)
 pid_looked p (x ∷ rs) r e = grind (arith, pid_looked p rs r, eqb-true x.pid p)
-
--- a removal of a process that isn't there does nothing
-pub remove_none : (p : ℕ) (rs : List Process) → lookup p rs ≡ None → removed p rs ≡ rs
-unfolding removed lookup
-remove_none p [] e = refl
-remove_none p (r ∷ rs) e = grind (arith, remove_none p rs)

@@ -1,23 +1,22 @@
 -- A change of one process that others see nothing of gives nobody a place.
-use Rattle.std.proofs.Common.{◌≡◌, ℕ, Bool, true, false, not, ◌&&◌, refl, ap, sym, ◌∙◌, [], ◌∷◌, ◌++◌, append-nil, Some}
+use Rattle.std.proofs.Common.{◌≡◌, ℕ, true, false, not, ◌&&◌, refl, ap, sym, ◌∙◌, [], ◌∷◌, ◌++◌, append-nil, Some}
+use Rattle.std.proofs.lemmas.Bool.{not-true, and_parts}
 use Rattle.posix.specs.Processes.{Process}
 use Rattle.posix.specs.Tables.{IsRising, pids}
 use Rattle.posix.specs.States.{State, process, is_in, change}
 use Rattle.posix.specs.Settle.{settle, NoWakeIsLost, Covers, wakes, can_act}
+use Rattle.posix.proofs.MemberLemmas.{in_none, in_one}
 use Rattle.posix.proofs.SettleLemmas.{none_passes}
 use Rattle.posix.proofs.TableLemmas.{pid_looked, rising_changed}
 use Rattle.posix.proofs.WalkLemmas.{all_looked}
-use Rattle.posix.proofs.TouchLemmas.{Unseen, touches_unseen, goes_on, in_none, in_one}
+use Rattle.posix.proofs.TouchLemmas.{Unseen, touches_unseen, goes_on}
 
 -- where who can act has a place, nobody has to be given one
 pub covers_none : (s : State) → NoWakeIsLost s → Covers s []
 covers_none s placed p r e w =
     let named : r.pid ≡ p = pid_looked p s.processes r e in
-    absurd (none (is_in r.pid s.order) (can_act s r) w (λ acts. ap (λ n. is_in n s.order) named ∙ placed p r e acts))
-  where
-    none : (h a : Bool) → (not h && a) ≡ true → (a ≡ true → h ≡ true) → ⊥
-    none true a e k = absurd (cc)
-    none false a e k = let no : false ≡ true = k e in absurd (cc)
+    let awake = and_parts (not (is_in r.pid s.order)) _ w in
+    let no = sym (not-true _ awake.0) ∙ ap (λ n. is_in n s.order) named ∙ placed p r e awake.1 in absurd (cc)
 
 -- where nobody has to be given a place, to settle gives none
 pub settle_none : (s : State) → IsRising s.processes → Covers s [] → settle s ≡ s

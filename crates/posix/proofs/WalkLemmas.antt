@@ -1,12 +1,13 @@
 -- Processes of a table in rising order, and children, read off one after another.
-use Rattle.std.proofs.Common.{◌≡◌, ℕ, ◌<◌, ◌≤◌, Bool, true, false, ◌&&◌, cond, refl, ap, sym, ◌∙◌, arith, subst, List, [], ◌∷◌, ◌++◌, filter, find, Option, Some, None, ◌==◌, ◌-◌, nat_lt, nat_le, inl, inr}
+use Rattle.std.proofs.Common.{◌≡◌, ℕ, ◌<◌, ◌≤◌, Bool, true, false, not, ◌&&◌, cond, refl, ap, sym, ◌∙◌, arith, subst, List, [], ◌∷◌, ◌++◌, filter, find, Option, Some, None, ◌==◌, ◌-◌, nat_lt, nat_le, inl, inr}
 use Rattle.std.specs.List.{AllByRecursion}
 use Rattle.std.specs.Option.{IfSome, IsSome}
 use Rattle.std.proofs.lemmas.List.Elements.{filter-append}
-use Rattle.std.proofs.lemmas.Bool.{eqb-true, eq-eqb, ne_eqb, ltb-true, ltb-false, cases_order}
+use Rattle.std.proofs.lemmas.Bool.{eqb-true, eq-eqb, ne_eqb, ltb-true, ltb-false, cases_order, and_parts}
 use Rattle.std.proofs.lemmas.Bool.Decides.{nat_tests}
+use Rattle.std.proofs.lemmas.Option.{IfSome_then}
 use Rattle.posix.specs.Processes.{Process}
-use Rattle.posix.specs.Tables.{IsRising, IsNext, has_pid, lookup, is_child, children_in, first_pid, above, next_above, left_of, parent_of, next_sibling}
+use Rattle.posix.specs.Tables.{IsRising, IsNext, has_pid, lookup, removed, is_child, children_in, first_pid, above, next_above, left_of, parent_of, next_sibling}
 use Rattle.posix.proofs.TableLemmas.{Above, above_less, lookup_above, pid_looked, rising_filter}
 
 -- of a list above n, all lie above n
@@ -28,11 +29,7 @@ left_of_head (x ∷ xs) up = let t : nat_le x.pid x.pid ≡ true = grind (arith,
 -- what comes next lies above
 pub head_above : (n : ℕ) (rs : List Process) → IfSome (first_pid (above n rs)) (λ y. n < y)
 head_above n [] = tt
-head_above n (x ∷ xs) =
-    elim (nat_lt n x.pid) as (λ b. nat_lt n x.pid ≡ b → IfSome (first_pid (cond b (x ∷ above n xs) (above n xs))) (λ y. n < y)) [
-      | true ↦ λ e. ltb-true n x.pid e
-      | false ↦ λ e. head_above n xs
-    ] refl
+head_above n (x ∷ xs) = grind (arith, nat_tests, head_above n xs)
 
 -- a head below what comes next is not left
 skip : (o : Option ℕ) (x : Process) (xs : List Process) → IfSome o (λ y. x.pid < y) → left_of o (x ∷ xs) ≡ left_of o xs
@@ -92,14 +89,7 @@ here (x ∷ xs) up c e =
 -- where y is the first above n, what is left from y begins with y
 head_from : (rs : List Process) (n y : ℕ) → first_pid (above n rs) ≡ Some y → first_pid (left_of (Some y) rs) ≡ Some y
 head_from [] n y e = e
-head_from (x ∷ xs) n y e =
-    elim (nat_lt n x.pid) as (λ b. nat_lt n x.pid ≡ b → first_pid (cond b (x ∷ above n xs) (above n xs)) ≡ Some y → first_pid (left_of (Some y) (x ∷ xs)) ≡ Some y) [
-      | true ↦ λ t h. let same : x.pid ≡ y = cc in let t' : nat_le y x.pid ≡ true = grind (arith, nat_tests) in rw t' (ap Some same)
-      | false ↦ λ t h.
-          let le : x.pid ≤ n = ltb-false n x.pid t in
-          let up : n < y = subst (λ o. IfSome o (λ v. n < v)) h (head_above n xs) in
-          let t' : nat_le y x.pid ≡ false = grind (arith, nat_tests) in rw t' (head_from xs n y h)
-    ] refl e
+head_from (x ∷ xs) n y e = grind (arith, nat_tests, head_above n xs, head_from xs n y)
 
 -- what is left from the first above n, if there is one, begins with it
 pub head_left_of : (rs : List Process) (n : ℕ) → first_pid (left_of (first_pid (above n rs)) rs) ≡ first_pid (above n rs)
@@ -113,10 +103,7 @@ head_left_of rs n =
 pub found_above : (n q : ℕ) (xs : List Process) (r : Process) → Above n xs → lookup q xs ≡ Some r → n < q
 unfolding lookup
 found_above n q [] r a e = absurd (cc)
-found_above n q (x ∷ xs) r a e = elim (x.pid == q) as (λ b. (x.pid == q) ≡ b → cond b (Some x) (find (has_pid q) xs) ≡ Some r → n < q) [
-  | true ↦ λ t k. let i : x.pid ≡ q = eqb-true _ _ t in omega (arith, a.0, i)
-  | false ↦ λ t k. found_above n q xs r a.1 k
-] refl e
+found_above n q (x ∷ xs) r a e = grind (arith, a.0, found_above n q xs r a.1, eqb-true x.pid q)
 
 -- who is found among some is found among all
 pub record InFilter (t : Process → Bool) (rs : List Process) (c : ℕ) (r : Process) : Type 0 where
@@ -127,23 +114,10 @@ pub record InFilter (t : Process → Bool) (rs : List Process) (c : ℕ) (r : Pr
 pub in_filter : (t : Process → Bool) (rs : List Process) → IsRising rs → (c : ℕ) (r : Process) → lookup c (filter t rs) ≡ Some r → InFilter t rs c r
 unfolding lookup IsRising
 in_filter t [] up c r e = absurd (cc)
-in_filter t (x ∷ xs) up c r e =
-    elim (t x) as (λ b. t x ≡ b → find (has_pid c) (cond b (x ∷ filter t xs) (filter t xs)) ≡ Some r → InFilter t (x ∷ xs) c r) [
-      | true ↦ λ v h.
-          elim (x.pid == c) as (λ b. (x.pid == c) ≡ b → cond b (Some x) (find (has_pid c) (filter t xs)) ≡ Some r → InFilter t (x ∷ xs) c r) [
-            | true ↦ λ u k. let same : x ≡ r = cc in record { found = rw u (ap Some same); passes = ap t (sym same) ∙ v }
-            | false ↦ λ u k. let i = in_filter t xs up.1 c r k in record { found = rw u i.found; passes = i.passes }
-          ] refl h
-      | false ↦ λ v h.
-          let i = in_filter t xs up.1 c r h in
-          elim (x.pid == c) as (λ b. (x.pid == c) ≡ b → InFilter t (x ∷ xs) c r) [
-            | true ↦ λ u.
-                let named : x.pid ≡ c = eqb-true _ _ u in
-                let low : c < c = found_above c c xs r (subst (λ n. Above n xs) named up.0) i.found in
-                absurd (omega arith)
-            | false ↦ λ u. record { found = rw u i.found; passes = i.passes }
-          ] refl
-    ] refl e
+in_filter t (x ∷ xs) up c r e = record {
+  found = grind (arith, e, λ (k : lookup c (filter t xs) ≡ Some r). (in_filter t xs up.1 c r k).found, found_above x.pid c xs r up.0, eqb-true x.pid c);
+  passes = grind (arith, e, λ (k : lookup c (filter t xs) ≡ Some r). (in_filter t xs up.1 c r k).passes);
+}
 
 -- what a walk over the children of p knows at the child c
 pub record AtChild (rs : List Process) (p c : ℕ) : Type 0 where
@@ -198,71 +172,32 @@ all_looked P (x ∷ xs) up h = (
 abbrev pub numbered : ℕ → List Process → List Process
 numbered p rs = filter (has_pid p) rs
 
+-- where nobody is there, nobody has the number
+pub numbered_none : (p : ℕ) (rs : List Process) → lookup p rs ≡ None → numbered p rs ≡ []
+unfolding lookup
+numbered_none p [] e = refl
+numbered_none p (x ∷ xs) e = grind (arith, numbered_none p xs)
+
 -- in a list above p nobody has the number p
 none_numbered : (p : ℕ) (rs : List Process) → Above p rs → numbered p rs ≡ []
-none_numbered p [] a = refl
-none_numbered p (x ∷ xs) a = rw (ne_eqb x.pid p (λ e. omega (arith, a.0, e))) (none_numbered p xs a.1)
+none_numbered p rs a = numbered_none p rs (lookup_above p rs a)
 
 -- who is there is the one with its number
 pub numbered_one : (p : ℕ) (rs : List Process) → IsRising rs → (q : Process) → lookup p rs ≡ Some q → numbered p rs ≡ q ∷ []
 unfolding lookup IsRising
 numbered_one p [] up q e = absurd (cc)
-numbered_one p (x ∷ xs) up q e =
-    elim (x.pid == p) as (λ b. (x.pid == p) ≡ b → cond b (Some x) (find (has_pid p) xs) ≡ Some q → cond b (x ∷ numbered p xs) (numbered p xs) ≡ q ∷ []) [
-      | true ↦ λ t k.
-          let same : x ≡ q = cc in
-          let none : numbered p xs ≡ [] = none_numbered p xs (subst (λ n. Above n xs) (eqb-true _ _ t) up.0) in
-          rw (none, same) refl
-      | false ↦ λ t k. numbered_one p xs up.1 q k
-    ] refl e
-
--- where nobody is there, nobody has the number
-pub numbered_none : (p : ℕ) (rs : List Process) → lookup p rs ≡ None → numbered p rs ≡ []
-unfolding lookup
-numbered_none p [] e = refl
-numbered_none p (x ∷ xs) e =
-    elim (x.pid == p) as (λ b. cond b (Some x) (find (has_pid p) xs) ≡ None → cond b (x ∷ numbered p xs) (numbered p xs) ≡ []) [
-      | true ↦ λ k. absurd (cc)
-      | false ↦ λ k. numbered_none p xs k
-    ] e
+numbered_one p (x ∷ xs) up q e = grind (arith, λ (i : x.pid ≡ p). none_numbered p xs (subst (λ n. Above n xs) i up.0), numbered_one p xs up.1 q, eqb-true x.pid p)
 
 -- from p on, p is left, if it is there, and those above
 pub left_split : (p : ℕ) (rs : List Process) → IsRising rs → left_of (Some p) rs ≡ numbered p rs ++ above p rs
 unfolding IsRising
 left_split p [] up = refl
-left_split p (x ∷ xs) up =
-    elim (cases_order x.pid p) [
-      | inl eq ↦
-          let t : nat_le p x.pid ≡ true = grind (arith, nat_tests) in
-          let u : nat_lt p x.pid ≡ false = grind (arith, nat_tests) in
-          rw (t, u, eq-eqb x.pid p eq) (ap (λ ys. x ∷ ys) (left_split p xs up.1))
-      | inr (inl lt) ↦
-          let t : nat_le p x.pid ≡ false = grind (arith, nat_tests) in
-          let u : nat_lt p x.pid ≡ false = grind (arith, nat_tests) in
-          rw (t, u, ne_eqb x.pid p (λ k. omega (arith, k))) (left_split p xs up.1)
-      | inr (inr gt) ↦
-          let t : nat_le p x.pid ≡ true = grind (arith, nat_tests) in
-          let u : nat_lt p x.pid ≡ true = grind (arith, nat_tests) in
-          let none : numbered p xs ≡ [] = none_numbered p xs (above_less p x.pid xs gt up.0) in
-          let rest : left_of (Some p) xs ≡ above p xs = left_split p xs up.1 ∙ ap (λ ys. ys ++ above p xs) none in
-          rw (t, u, ne_eqb x.pid p (λ k. omega (arith, k)), none) (ap (λ ys. x ∷ ys) rest)
-    ]
+left_split p (x ∷ xs) up = grind (arith, nat_tests, left_split p xs up.1, λ (l : p < x.pid). none_numbered p xs (above_less p x.pid xs l up.0))
 
 -- tests that agree on those that pass another
 filters_agree : (t u v : Process → Bool) (rs : List Process) → AllByRecursion (λ r. t r ≡ true → u r ≡ v r) rs → filter t (filter u rs) ≡ filter t (filter v rs)
 filters_agree t u v [] h = refl
-filters_agree t u v (r ∷ rs) h =
-    elim (t r) as (λ b. t r ≡ b → filter t (cond (u r) (r ∷ filter u rs) (filter u rs)) ≡ filter t (cond (v r) (r ∷ filter v rs) (filter v rs))) [
-      | true ↦ λ e. ap (λ b. filter t (cond b (r ∷ filter u rs) (filter u rs))) (h.0 e) ∙ elim (v r) as (λ b. filter t (cond b (r ∷ filter u rs) (filter u rs)) ≡ filter t (cond b (r ∷ filter v rs) (filter v rs))) [
-        | true ↦ rw e (ap (λ l. r ∷ l) (filters_agree t u v rs h.1))
-        | false ↦ filters_agree t u v rs h.1
-      ]
-      | false ↦ λ e. out (u r) u e ∙ filters_agree t u v rs h.1 ∙ sym (out (v r) v e)
-    ] refl
-  where
-    out : (b : Bool) (w : Process → Bool) → t r ≡ false → filter t (cond b (r ∷ filter w rs) (filter w rs)) ≡ filter t (filter w rs)
-    out true w e = rw e refl
-    out false w e = refl
+filters_agree t u v (r ∷ rs) h = grind (arith, h.0, filters_agree t u v rs h.1)
 
 -- whether a number is left, from the one that comes next on
 abbrev is_left : Option ℕ → ℕ → Bool
@@ -332,46 +267,30 @@ fails_here t p rs up r e next i h = walk_at t p rs up r e next i ∙ rw h refl
 abbrev Passes : (Process → Bool) → List Process → ℕ → Type 0
 Passes w rs q = (r : Process) × (lookup q rs ≡ Some r) × (w r ≡ true)
 
-if_some : (P Q : ℕ → Type 0) (o : Option ℕ) → ((q : ℕ) → P q → Q q) → IfSome o P → IfSome o Q
-if_some P Q None f h = tt
-if_some P Q (Some q) f h = f q h
-
 -- the first that passes is there
 first_passes : (w : Process → Bool) (rs : List Process) → IsRising rs → IfSome (first_pid (filter w rs)) (Passes w rs)
 unfolding lookup IsRising
 first_passes w [] up = tt
 first_passes w (x ∷ xs) up = elim (w x) as (λ b. w x ≡ b → IfSome (first_pid (cond b (x ∷ filter w xs) (filter w xs))) (Passes w (x ∷ xs))) [
   | true ↦ λ e. (x, rw (eq-eqb x.pid x.pid refl) refl, e)
-  | false ↦ λ e. if_some (Passes w xs) (Passes w (x ∷ xs)) (first_pid (filter w xs)) (λ q i.
+  | false ↦ λ e. IfSome_then _ {P = Passes w xs} (first_passes w xs up.1) (λ q i.
       let low = found_above x.pid q xs i.0 up.0 i.1 in
-      (i.0, rw (ne_eqb x.pid q (λ k. omega (arith, low, k))) i.1, i.2)) (first_passes w xs up.1)
+      (i.0, rw (ne_eqb x.pid q (λ k. omega (arith, low, k))) i.1, i.2))
 ] refl
 
 -- nobody before it passes
 none_passes_before : (w : Process → Bool) (rs : List Process) → IsRising rs → (q : ℕ) (r : Process) → lookup q rs ≡ Some r → w r ≡ true → IfSome (first_pid (filter w rs)) (λ m. q < m) → ⊥
 unfolding lookup IsRising
 none_passes_before w [] up q r e k h = absurd (cc)
-none_passes_before w (x ∷ xs) up q r e k h =
-    elim (x.pid == q) as (λ b. (x.pid == q) ≡ b → cond b (Some x) (find (has_pid q) xs) ≡ Some r → ⊥) [
-      | true ↦ λ t f.
-          let same : x ≡ r = cc in
-          let passes : w x ≡ true = ap w same ∙ k in
-          let named : x.pid ≡ q = eqb-true _ _ t in
-          let low : q < x.pid = rw passes at h in
-          omega (arith, low, named)
-      | false ↦ λ t f. elim (w x) as (λ b. IfSome (first_pid (cond b (x ∷ filter w xs) (filter w xs))) (λ m. q < m) → ⊥) [
-        | true ↦ λ low. let high = found_above x.pid q xs r up.0 f in omega (arith, low, high)
-        | false ↦ λ g. none_passes_before w xs up.1 q r f k g
-      ] h
-    ] refl e
+none_passes_before w (x ∷ xs) up q r e k h = grind (arith, k, h, found_above x.pid q xs r up.0, none_passes_before w xs up.1 q r, eqb-true x.pid q)
 
 -- the first of a narrower test comes next, where those above n that pass the wider one pass it
 pub first_is_next : (t w : Process → Bool) (n : ℕ) (rs : List Process) → IsRising rs → ((r : Process) → w r ≡ true → n < r.pid) → ((r : Process) → n < r.pid → t r ≡ true → w r ≡ true) → IsNext t n rs (first_pid (filter w rs))
 first_is_next t w n rs up high wide =
     let first = first_passes w rs up in
     record {
-      there = if_some (Passes w rs) (λ q. IsSome (lookup q rs)) _ (λ q i. subst IsSome (sym i.1) refl) first;
-      above = if_some (Passes w rs) (λ q. n < q) _ (λ q i. subst (λ m. n < m) (pid_looked q rs i.0 i.1) (high i.0 i.2)) first;
+      there = IfSome_then _ {P = Passes w rs} first (λ q i. subst IsSome (sym i.1) refl);
+      above = IfSome_then _ {P = Passes w rs} first (λ q i. subst (λ m. n < m) (pid_looked q rs i.0 i.1) (high i.0 i.2));
       between = λ q r e l h. elim (t r) as (λ b. t r ≡ b → b ≡ false) [
         | true ↦ λ k. absurd (none_passes_before w rs up q r e (wide r (subst (λ m. n < m) (sym (pid_looked q rs r e)) l) k) h)
         | false ↦ λ k. refl
@@ -386,30 +305,23 @@ least_is_next t n rs up = first_is_next t (λ r. nat_lt n r.pid) n rs up (λ r e
 -- two tests may come in either order
 pub filters_commute : (s t : Process → Bool) (rs : List Process) → filter s (filter t rs) ≡ filter t (filter s rs)
 filters_commute s t [] = refl
-filters_commute s t (x ∷ xs) =
-    let rest = filters_commute s t xs in
-    elim (t x) as (λ b. t x ≡ b → filter s (cond b (x ∷ filter t xs) (filter t xs)) ≡ filter t (cond (s x) (x ∷ filter s xs) (filter s xs))) [
-      | true ↦ λ e. elim (s x) as (λ d. cond d (x ∷ filter s (filter t xs)) (filter s (filter t xs)) ≡ filter t (cond d (x ∷ filter s xs) (filter s xs))) [ true ↦ rw e (ap (λ ys. x ∷ ys) rest) | false ↦ rest ]
-      | false ↦ λ e. elim (s x) as (λ d. filter s (filter t xs) ≡ filter t (cond d (x ∷ filter s xs) (filter s xs))) [ true ↦ rw e rest | false ↦ rest ]
-    ] refl
+filters_commute s t (x ∷ xs) = grind (arith, filters_commute s t xs)
+
+-- children, where one goes
+pub children_removed : (p c : ℕ) (rs : List Process) → children_in p (removed c rs) ≡ removed c (children_in p rs)
+unfolding children_in removed
+children_removed p c rs = filters_commute (is_child p) (λ r. not (r.pid == c)) rs
 
 -- two tests, one after another
 both_pass : (t u : Process → Bool) (rs : List Process) → filter u (filter t rs) ≡ filter (λ r. t r && u r) rs
 both_pass t u [] = refl
-both_pass t u (x ∷ xs) = elim (t x) as (λ b. filter u (cond b (x ∷ filter t xs) (filter t xs)) ≡ cond (b && u x) (x ∷ filter (λ r. t r && u r) xs) (filter (λ r. t r && u r) xs)) [
-  | true ↦ ap (λ l. cond (u x) (x ∷ l) l) (both_pass t u xs)
-  | false ↦ both_pass t u xs
-]
+both_pass t u (x ∷ xs) = grind (arith, both_pass t u xs)
 
 -- the least of those that pass it comes next too
 pub passing_is_next : (t : Process → Bool) (n : ℕ) (rs : List Process) → IsRising rs → IsNext t n rs (first_pid (above n (filter t rs)))
 passing_is_next t n rs up =
     subst (λ l. IsNext t n rs (first_pid l)) (sym (both_pass t (λ r. nat_lt n r.pid) rs))
-    (first_is_next t (λ r. t r && nat_lt n r.pid) n rs up (λ r e. ltb-true _ _ (second (t r) _ e)) (λ r l k. let u : nat_lt n r.pid ≡ true = grind (arith, nat_tests) in rw (k, u) refl))
-  where
-    second : (a b : Bool) → (a && b) ≡ true → b ≡ true
-    second true b e = e
-    second false b e = absurd (cc)
+    (first_is_next t (λ r. t r && nat_lt n r.pid) n rs up (λ r e. ltb-true _ _ (and_parts (t r) _ e).1) (λ r l k. let u : nat_lt n r.pid ≡ true = grind (arith, nat_tests) in rw (k, u) refl))
 
 -- ---- how long a walk is
 

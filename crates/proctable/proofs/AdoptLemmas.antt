@@ -1,9 +1,9 @@
 -- Children that are moved one after another.
-use Rattle.std.proofs.Common.{◌≡◌, ◌≢◌, ℕ, ◌<◌, true, false, cond, refl, ap, sym, ◌∙◌, arith, subst, List, [], ◌∷◌, length, map, filter, find, Option, Some, None, ◌==◌, inl, inr, ◌⊎◌}
+use Rattle.std.proofs.Common.{◌≡◌, ◌≢◌, ℕ, ◌<◌, true, false, cond, refl, ap, sym, ◌∙◌, arith, subst, List, [], ◌∷◌, length, map, filter, Option, Some, None, ◌==◌, inl, inr, ◌⊎◌}
 use Rattle.std.specs.Option.{IsSome}
-use Rattle.std.proofs.lemmas.Bool.{eqb-true, eqb-false, eq-eqb, ne_eqb}
+use Rattle.std.proofs.lemmas.Bool.{eqb-true, eqb-false, eq-eqb}
 use Rattle.posix.specs.Processes.{Process}
-use Rattle.posix.specs.Tables.{IsRising, has_pid, lookup, at, changed, is_child, children_in, reparented, adopted}
+use Rattle.posix.specs.Tables.{IsRising, lookup, at, changed, is_child, children_in, adopted}
 use Rattle.posix.proofs.TableLemmas.{Above, changed_above, rising_changed}
 use Rattle.posix.proofs.MapLemmas.{lookup_back, some_map, at_pid}
 use Rattle.posix.proofs.WalkLemmas.{in_filter}
@@ -20,47 +20,22 @@ use Rattle.proctable.proofs.NeighbourLemmas.{end_found}
 adopted_moved : (from to q : ℕ) → from ≢ to → (rs : List Process) → IsRising rs → (r : Process) → lookup q rs ≡ Some r → r.parent ≡ from → adopted from to (changed q (moved to) rs) ≡ adopted from to rs
 unfolding adopted changed moved lookup IsRising
 adopted_moved from to q ne [] up r e p = refl
-adopted_moved from to q ne (x ∷ xs) up r e p =
-    elim (x.pid == q) as (λ b. (x.pid == q) ≡ b → cond b (Some x) (find (has_pid q) xs) ≡ Some r → map (reparented from to) (changed q (moved to) (x ∷ xs)) ≡ reparented from to x ∷ map (reparented from to) xs) [
-      | true ↦ λ t k.
-          let same : x ≡ r = cc in
-          let mine : (x.parent == from) ≡ true = eq-eqb _ _ (ap (λ (r : Process). r.parent) same ∙ p) in
-          let other : (to == from) ≡ false = ne_eqb _ _ (λ i. ne (sym i)) in
-          let rest : map (at q (moved to)) xs ≡ xs = changed_above q (moved to) xs (subst (λ n. Above n xs) (eqb-true _ _ t) up.0) in
-          rw (t, rest, other, mine) refl
-      | false ↦ λ t k. rw t (ap (λ l. reparented from to x ∷ l) (adopted_moved from to q ne xs up.1 r k p))
-    ] refl e
+adopted_moved from to q ne (x ∷ xs) up r e p = grind (arith, ne, p, λ (i : x.pid ≡ q). changed_above q (moved to) xs (subst (λ n. Above n xs) i up.0), adopted_moved from to q ne xs up.1 r, eqb-true, eqb-false)
 
 fewer : (from to q : ℕ) → from ≢ to → (rs : List Process) → IsRising rs → (r : Process) → lookup q rs ≡ Some r → r.parent ≡ from → length (children_in from (changed q (moved to) rs)) < length (children_in from rs)
 unfolding children_in changed moved lookup IsRising
 fewer from to q ne [] up r e p = absurd (cc)
-fewer from to q ne (x ∷ xs) up r e p =
-    elim (x.pid == q) as (λ b. (x.pid == q) ≡ b → cond b (Some x) (find (has_pid q) xs) ≡ Some r → length (filter (is_child from) (changed q (moved to) (x ∷ xs))) < length (filter (is_child from) (x ∷ xs))) [
-      | true ↦ λ t k.
-          let same : x ≡ r = cc in
-          let mine : (x.parent == from) ≡ true = eq-eqb _ _ (ap (λ (r : Process). r.parent) same ∙ p) in
-          let other : (to == from) ≡ false = ne_eqb _ _ (λ i. ne (sym i)) in
-          let rest : map (at q (moved to)) xs ≡ xs = changed_above q (moved to) xs (subst (λ n. Above n xs) (eqb-true _ _ t) up.0) in
-          rw (t, rest, other, mine) (omega arith)
-      | false ↦ λ t k.
-          let less = fewer from to q ne xs up.1 r k p in
-          rw t (elim (x.parent == from) as (λ b. length (cond b (x ∷ filter (is_child from) (changed q (moved to) xs)) (filter (is_child from) (changed q (moved to) xs))) < length (cond b (x ∷ filter (is_child from) xs) (filter (is_child from) xs))) [ true ↦ omega (arith, less) | false ↦ less ])
-    ] refl e
+fewer from to q ne (x ∷ xs) up r e p = grind (arith, ne, p, λ (i : x.pid ≡ q). changed_above q (moved to) xs (subst (λ n. Above n xs) i up.0), fewer from to q ne xs up.1 r, eqb-true, eqb-false)
 
 pub none_adopted : (from to : ℕ) (rs : List Process) → children_in from rs ≡ [] → adopted from to rs ≡ rs
 unfolding children_in adopted
 none_adopted from to [] e = refl
-none_adopted from to (x ∷ xs) e = elim (x.parent == from) as (λ b. cond b (x ∷ filter (is_child from) xs) (filter (is_child from) xs) ≡ [] → cond b (record x { parent = to }) x ∷ map (reparented from to) xs ≡ x ∷ xs) [
-  | true ↦ λ k. absurd (cc)
-  | false ↦ λ k. ap (λ l. x ∷ l) (none_adopted from to xs k)
-] e
+none_adopted from to (x ∷ xs) e = grind (arith, none_adopted from to xs)
 
 pub same_adopted : (p : ℕ) (rs : List Process) → adopted p p rs ≡ rs
 unfolding adopted
 same_adopted p [] = refl
-same_adopted p (x ∷ xs) =
-    let one : reparented p p x ≡ x = elim (x.parent == p) as (λ b. (x.parent == p) ≡ b → cond b (record x { parent = p }) x ≡ x) [ true ↦ λ t. ap (λ n. record x { parent = n }) (sym (eqb-true _ _ t)) | false ↦ λ t. refl ] refl in
-    rw one (ap (λ l. x ∷ l) (same_adopted p xs))
+same_adopted p (x ∷ xs) = grind (arith, same_adopted p xs, eqb-true)
 
 -- a child that is there
 pub record OneChild (rs : List Process) (p q : ℕ) : Type 0 where

@@ -10,9 +10,9 @@ use Rattle.posix.specs.Processes.{Process}
 use Rattle.posix.specs.Tables as posix
 use Rattle.proctable.specs.declared.entry.Entry.{Entry}
 use Rattle.proctable.specs.declared.node.Node.{Node}
-use Rattle.pidset.specs.Numbers.{Rises, numbers_above, inserted_by}
+use Rattle.pidset.specs.Numbers.{Rises, numbers_above, inserted_in_order}
 use Rattle.pidset.proofs.NumberLemmas.{AllAbove}
-use Rattle.pidset.proofs.RowLemmas.{others_all}
+use Rattle.pidset.proofs.ItemLemmas.{others_all}
 use Rattle.proctable.specs.Nodes.{record_of, records, find_node, at_node, changed_node, inserted_node, removed_node}
 use Rattle.proctable.specs.Cells.{entry_of, pids_of, nodes_of, Stands, IsIndexed}
 
@@ -149,7 +149,7 @@ point slab p slot f n x s one g named =
           rw (elsewhere slab slot x.slot (f n) d, s.at, s.named, t) refl
     ] refl
 
-pub nodes_put : (es : List Entry) (slab : Slab Node) (p slot : ℕ) (f : Node → Node) (n : Node) → AllStand slab es → Only p slot es → get slab slot ≡ Some n → n.pid ≡ p
+nodes_put : (es : List Entry) (slab : Slab Node) (p slot : ℕ) (f : Node → Node) (n : Node) → AllStand slab es → Only p slot es → get slab slot ≡ Some n → n.pid ≡ p
     → nodes_of es (with_value slab slot (f n)) ≡ changed_node p f (nodes_of es slab)
 unfolding nodes_of changed_node
 nodes_put [] slab p slot f n a o g named = refl
@@ -158,7 +158,7 @@ nodes_put (x ∷ es) slab p slot f n a o g named =
     let s = a.0 in
     rw (point slab p slot f n x s o.0 g named, s.at) (ap (λ l. at_node p f s.what ∷ l) rest)
 
-pub stand_put : (es : List Entry) (slab : Slab Node) (p slot : ℕ) (f : Node → Node) (n : Node) → ((n : Node) → (f n).pid ≡ n.pid) → AllStand slab es → Only p slot es → get slab slot ≡ Some n → n.pid ≡ p
+stand_put : (es : List Entry) (slab : Slab Node) (p slot : ℕ) (f : Node → Node) (n : Node) → ((n : Node) → (f n).pid ≡ n.pid) → AllStand slab es → Only p slot es → get slab slot ≡ Some n → n.pid ≡ p
     → AllStand (with_value slab slot (f n)) es
 stand_put [] slab p slot f n keeps a o g named = tt
 stand_put (x ∷ es) slab p slot f n keeps a o g named =
@@ -185,8 +185,8 @@ stand_same [] old new slot others vacant a = tt
 stand_same (x ∷ es) old new slot others vacant a = let s = a.0 in (record { what = s.what; at = stays old new slot x others vacant s ∙ s.at; named = s.named }, stand_same es old new slot others vacant a.1)
 
 pub nodes_inserted : (es : List Entry) (old new : Slab Node) (e : Entry) (n : Node) → Others old new e.slot → get old e.slot ≡ None → get new e.slot ≡ Some n → n.pid ≡ e.pid → AllStand old es
-    → nodes_of (inserted_by (λ (e : Entry). e.pid) e es) new ≡ inserted_node n (nodes_of es old)
-unfolding nodes_of inserted_by
+    → nodes_of (inserted_in_order (λ (e : Entry). e.pid) e es) new ≡ inserted_node n (nodes_of es old)
+unfolding nodes_of inserted_in_order
 nodes_inserted [] old new e n others vacant g named a = rw g refl
 nodes_inserted (x ∷ es) old new e n others vacant g named a =
     let s = a.0 in
@@ -194,18 +194,18 @@ nodes_inserted (x ∷ es) old new e n others vacant g named a =
     let same : filter_map (λ (e : Entry). get new e.slot) es ≡ filter_map (λ (e : Entry). get old e.slot) es = nodes_same es old new e.slot others vacant a.1 in
     let at : get new x.slot ≡ Some s.what = stays old new e.slot x others vacant s ∙ s.at in
     let u : nat_lt n.pid s.what.pid ≡ nat_lt e.pid x.pid = ap (λ k. nat_lt k s.what.pid) named ∙ ap (nat_lt e.pid) s.named in
-    elim (nat_lt e.pid x.pid) as (λ b. nat_lt e.pid x.pid ≡ b → filter_map (λ (e : Entry). get new e.slot) (cond b (e ∷ x ∷ es) (x ∷ inserted_by (λ (e : Entry). e.pid) e es)) ≡ inserted_node n (filter_map (λ (e : Entry). get old e.slot) (x ∷ es))) [
+    elim (nat_lt e.pid x.pid) as (λ b. nat_lt e.pid x.pid ≡ b → filter_map (λ (e : Entry). get new e.slot) (cond b (e ∷ x ∷ es) (x ∷ inserted_in_order (λ (e : Entry). e.pid) e es)) ≡ inserted_node n (filter_map (λ (e : Entry). get old e.slot) (x ∷ es))) [
       | true ↦ λ t. let v : nat_lt n.pid s.what.pid ≡ true = u ∙ t in rw (g, at, same, s.at, v) refl
       | false ↦ λ t. let v : nat_lt n.pid s.what.pid ≡ false = u ∙ t in rw (at, s.at, v) (ap (λ l. s.what ∷ l) rest)
     ] refl
 
 pub stand_inserted : (es : List Entry) (old new : Slab Node) (e : Entry) (n : Node) → Others old new e.slot → get old e.slot ≡ None → get new e.slot ≡ Some n → n.pid ≡ e.pid → AllStand old es
-    → AllStand new (inserted_by (λ (e : Entry). e.pid) e es)
-unfolding inserted_by
+    → AllStand new (inserted_in_order (λ (e : Entry). e.pid) e es)
+unfolding inserted_in_order
 stand_inserted [] old new e n others vacant g named a = (record { what = n; at = g; named = named }, tt)
 stand_inserted (x ∷ es) old new e n others vacant g named a =
     let all = stand_same (x ∷ es) old new e.slot others vacant a in
-    elim (nat_lt e.pid x.pid) as (λ b. AllStand new (cond b (e ∷ x ∷ es) (x ∷ inserted_by (λ (e : Entry). e.pid) e es))) [
+    elim (nat_lt e.pid x.pid) as (λ b. AllStand new (cond b (e ∷ x ∷ es) (x ∷ inserted_in_order (λ (e : Entry). e.pid) e es))) [
       | true ↦ (record { what = n; at = g; named = named }, all)
       | false ↦ (all.0, stand_inserted es old new e n others vacant g named a.1)
     ]
@@ -244,9 +244,9 @@ pub no_nodes : (slab : Slab Node) (es : List Entry) → es ≡ [] → nodes_of e
 unfolding nodes_of
 no_nodes slab es e = rw e refl
 
-pub no_index : (slab : Slab Node) (es : List Entry) → es ≡ [] → IsIndexed es slab
+pub no_index : (slab : Slab Node) (es : List Entry) → es ≡ [] → slab.slots ≡ [] → IsIndexed es slab
 unfolding Rises
-no_index slab es e = rw e (record { rising = tt; standing = tt })
+no_index slab es e k = rw e (record { rising = tt; standing = tt; counted = ap (count_by is_some) k })
 
 pub nodes_slots : (es : List Entry) (old new : Slab Node) → new.slots ≡ old.slots → nodes_of es new ≡ nodes_of es old
 unfolding nodes_of
@@ -277,13 +277,29 @@ pub len_put : (slab : Slab Node) (slot : ℕ) (n v : Node) → get slab slot ≡
 len_put slab slot n v g = count_set slab.slots slot v n g
 
 -- the one entry of a process
-pub only_slot : (es xs : List Entry) (p slot : ℕ) → xs ≡ es → Rises (pids_of es) → option_map (λ (e : Entry). e.slot) (entry_of p xs) ≡ Some slot → Only p slot es
+only_slot : (es xs : List Entry) (p slot : ℕ) → xs ≡ es → Rises (pids_of es) → option_map (λ (e : Entry). e.slot) (entry_of p xs) ≡ Some slot → Only p slot es
 only_slot es xs p slot same up h =
     let k : option_map (λ (e : Entry). e.slot) (entry_of p es) ≡ Some slot = ap (λ l. option_map (λ (e : Entry). e.slot) (entry_of p l)) (sym same) ∙ h in
     elim (entry_of p es) as (λ o. entry_of p es ≡ o → option_map (λ (e : Entry). e.slot) o ≡ Some slot → Only p slot es) [
       | None ↦ λ w k. absurd (cc)
       | Some e ↦ λ w k. let s : e.slot ≡ slot = cc in subst (λ n. Only p n es) s (only p es e up w)
     ] refl k
+
+-- f changes the node of p, which is n in its slot
+pub record IsWritten (es : List Entry) (slab : Slab Node) (p slot : ℕ) (f : Node → Node) (n : Node) : Type 0 where
+  pub index : IsIndexed es (with_value slab slot (f n))
+  pub nodes : nodes_of es (with_value slab slot (f n)) ≡ changed_node p f (nodes_of es slab)
+
+pub written : (es xs : List Entry) (slab : Slab Node) (p slot : ℕ) (o : Option ℕ) (f : Node → Node) (n : Node) → ((n : Node) → (f n).pid ≡ n.pid) → xs ≡ es → IsIndexed es slab
+    → o ≡ option_map (λ (e : Entry). e.slot) (entry_of p xs) → o ≡ Some slot → get slab slot ≡ Some n → IsWritten es slab p slot f n
+written es xs slab p slot o f n keeps same i e is g =
+    let s = at_slot es xs slab p slot o same i.standing e is in
+    let one = only_slot es xs p slot same i.rising (sym e ∙ is) in
+    let named : n.pid ≡ p = let k = sym g ∙ s.at in let it : n ≡ s.what = cc in ap (λ (n : Node). n.pid) it ∙ s.named in
+    record {
+      index = record { rising = i.rising; standing = stand_put es slab p slot f n keeps i.standing one g named; counted = len_put slab slot n (f n) g ∙ i.counted };
+      nodes = nodes_put es slab p slot f n i.standing one g named;
+    }
 
 -- nothing goes where nobody is
 pub no_node : (es : List Entry) (slab : Slab Node) (p : ℕ) → entry_of p es ≡ None → AllStand slab es → nodes_of (filter (λ (e : Entry). not (e.pid == p)) es) slab ≡ removed_node p (nodes_of es slab)

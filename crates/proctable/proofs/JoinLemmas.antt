@@ -1,12 +1,12 @@
 -- What links that are right say, and what keeps them so.
-use Rattle.std.proofs.Common.{◌≡◌, ℕ, suc, length, ◌<◌, true, false, cond, refl, ap, sym, ◌∙◌, arith, subst, List, [], ◌∷◌, map, filter, find, Option, Some, None, option_map, ◌==◌, nat_lt, unwrap_or, inl, inr, ◌⊎◌}
+use Rattle.std.proofs.Common.{◌≡◌, ℕ, suc, length, true, false, cond, refl, ap, sym, ◌∙◌, arith, subst, List, [], ◌∷◌, map, Option, Some, None, option_map, ◌==◌, nat_lt, inl, inr, ◌⊎◌}
 use Rattle.std.specs.Option.{IsSome, option_and_then, option_map_or}
-use Rattle.std.proofs.lemmas.Bool.{eqb-true, eqb-false, eq-eqb, ltb-true}
+use Rattle.std.proofs.lemmas.Bool.{eqb-true, eqb-false}
 use Rattle.std.proofs.lemmas.Bool.Decides.{nat_tests}
 use Rattle.posix.specs.Processes.{Process}
-use Rattle.posix.specs.Tables.{IsRising, has_pid, lookup, at, changed, inserted, above, first_pid, is_child, children_in, parent_of, next_sibling}
-use Rattle.posix.proofs.TableLemmas.{Above, above_less, above_filter, rising_changed, pid_looked}
-use Rattle.posix.proofs.MapLemmas.{children_map, lookup_back, some_map}
+use Rattle.posix.specs.Tables.{IsRising, lookup, at, changed, inserted, above, first_pid, is_child, children_in, parent_of, next_sibling}
+use Rattle.posix.proofs.TableLemmas.{above_less, above_filter, rising_changed, pid_looked}
+use Rattle.posix.proofs.MapLemmas.{children_map, filter_map, first_map, lookup_back, some_map}
 use Rattle.proctable.specs.declared.body.Body.{Body}
 use Rattle.proctable.specs.Body.{process_of, with_body, give_body}
 use Rattle.proctable.specs.declared.node.Node.{Node}
@@ -16,7 +16,7 @@ use Rattle.proctable.specs.Nodes.{no_ends, record_of, records, find_node, at_nod
 use Rattle.proctable.specs.Cells as cells
 use Rattle.proctable.specs.Joined.{IsJoined, HaveParents, IsTable, last_below, last_pid, ends_in, next_in, prev_in}
 use Rattle.proctable.proofs.CellLemmas.{lookup_records}
-use Rattle.proctable.proofs.KidLemmas.{Absent, absent_tail}
+use Rattle.proctable.proofs.KidLemmas.{Absent, absent_tail, at_front}
 
 -- ---- nodes and processes
 
@@ -30,11 +30,7 @@ records_changed p b (n ∷ ns) =
 pub find_map : (g : Node → Node) → ((n : Node) → (g n).pid ≡ n.pid) → (q : ℕ) (ns : List Node) → find_node q (map g ns) ≡ option_map g (find_node q ns)
 unfolding find_node
 find_map g keeps q [] = refl
-find_map g keeps q (n ∷ ns) =
-    elim (n.pid == q) as (λ b. (n.pid == q) ≡ b → find (λ (n : Node). n.pid == q) (g n ∷ map g ns) ≡ option_map g (cond b (Some n) (find (λ (n : Node). n.pid == q) ns))) [
-      | true ↦ λ t. let u : ((g n).pid == q) ≡ true = ap (λ k. k == q) (keeps n) ∙ t in rw u refl
-      | false ↦ λ t. let u : ((g n).pid == q) ≡ false = ap (λ k. k == q) (keeps n) ∙ t in rw u (find_map g keeps q ns)
-    ] refl
+find_map g keeps q (n ∷ ns) = grind (arith, keeps n, find_map g keeps q ns)
 
 -- the node of a process
 pub record NodeOf (ns : List Node) (p : ℕ) (r : Process) : Type 0 where
@@ -79,29 +75,18 @@ next_read ns roots p l t h e =
 
 -- ---- changes that keep numbers, parents and links
 
-pub first_map : (g : Process → Process) → ((r : Process) → (g r).pid ≡ r.pid) → (ks : List Process) → first_pid (map g ks) ≡ first_pid ks
-first_map g keeps [] = refl
-first_map g keeps (x ∷ xs) = ap Some (keeps x)
-
 above_map : (g : Process → Process) → ((r : Process) → (g r).pid ≡ r.pid) → (q : ℕ) (ks : List Process) → above q (map g ks) ≡ map g (above q ks)
-above_map g keeps q [] = refl
-above_map g keeps q (x ∷ xs) =
-    elim (nat_lt q x.pid) as (λ b. nat_lt q x.pid ≡ b → above q (g x ∷ map g xs) ≡ map g (cond b (x ∷ above q xs) (above q xs))) [
-      | true ↦ λ t. let u : nat_lt q (g x).pid ≡ true = ap (nat_lt q) (keeps x) ∙ t in rw u (ap (λ l. g x ∷ l) (above_map g keeps q xs))
-      | false ↦ λ t. let u : nat_lt q (g x).pid ≡ false = ap (nat_lt q) (keeps x) ∙ t in rw u (above_map g keeps q xs)
-    ] refl
+above_map g keeps q ks = filter_map (λ r. nat_lt q r.pid) g (λ r. ap (nat_lt q) (keeps r)) ks
 
 last_map : (g : Process → Process) → ((r : Process) → (g r).pid ≡ r.pid) → (q : ℕ) (ks : List Process) → last_below q (map g ks) ≡ last_below q ks
 unfolding last_below
 last_map g keeps q [] = refl
-last_map g keeps q (x ∷ xs) =
-    let rest = last_map g keeps q xs in
-    rw rest (ap (λ k. cond (nat_lt k q) (Some (unwrap_or (last_below q xs) k)) None) (keeps x))
+last_map g keeps q (x ∷ xs) = grind (arith, keeps x, last_map g keeps q xs)
 
 end_map : (g : Process → Process) → ((r : Process) → (g r).pid ≡ r.pid) → (ks : List Process) → last_pid (map g ks) ≡ last_pid ks
 unfolding last_pid
 end_map g keeps [] = refl
-end_map g keeps (x ∷ xs) = rw (end_map g keeps xs) (ap (λ k. Some (unwrap_or (last_pid xs) k)) (keeps x))
+end_map g keeps (x ∷ xs) = grind (arith, keeps x, end_map g keeps xs)
 
 -- a change of the processes that keeps numbers and parents
 pub record Keeps (g : Process → Process) : Type 0 where
@@ -263,40 +248,14 @@ Kids p ks = children_in p ks
 pub kids_in : (p : ℕ) (r : Process) (ks : List Process) → IsRising ks → Absent r.pid ks → Kids p (inserted r ks) ≡ cond (r.parent == p) (inserted r (Kids p ks)) (Kids p ks)
 unfolding children_in inserted IsRising
 kids_in p r [] up a = elim (r.parent == p) as (λ b. cond b (r ∷ []) [] ≡ cond b (r ∷ []) []) [ true ↦ refl | false ↦ refl ]
-kids_in p r (x ∷ xs) up a =
-    let rest = kids_in p r xs up.1 ((absent_tail r.pid x xs a).1) in
-    elim (nat_lt r.pid x.pid) as (λ b. nat_lt r.pid x.pid ≡ b → filter (is_child p) (cond b (r ∷ x ∷ xs) (x ∷ inserted r xs)) ≡ cond (r.parent == p) (inserted r (filter (is_child p) (x ∷ xs))) (filter (is_child p) (x ∷ xs))) [
-      | true ↦ λ t.
-          let low : r.pid < x.pid = ltb-true _ _ t in
-          elim (r.parent == p) as (λ b. cond b (r ∷ filter (is_child p) (x ∷ xs)) (filter (is_child p) (x ∷ xs)) ≡ cond b (inserted r (filter (is_child p) (x ∷ xs))) (filter (is_child p) (x ∷ xs))) [
-            | true ↦ sym (in_front r (filter (is_child p) (x ∷ xs)) (above_filter r.pid (is_child p) (x ∷ xs) (low, above_less r.pid x.pid xs low up.0)))
-            | false ↦ refl
-          ]
-      | false ↦ λ t.
-          elim (x.parent == p) as (λ b. cond b (x ∷ filter (is_child p) (inserted r xs)) (filter (is_child p) (inserted r xs)) ≡ cond (r.parent == p) (inserted r (cond b (x ∷ filter (is_child p) xs) (filter (is_child p) xs))) (cond b (x ∷ filter (is_child p) xs) (filter (is_child p) xs))) [
-            | true ↦ ap (λ l. x ∷ l) rest ∙ elim (r.parent == p) as (λ b. x ∷ cond b (inserted r (filter (is_child p) xs)) (filter (is_child p) xs) ≡ cond b (inserted r (x ∷ filter (is_child p) xs)) (x ∷ filter (is_child p) xs)) [ true ↦ rw t refl | false ↦ refl ]
-            | false ↦ rest
-          ]
-    ] refl
-  where
-    in_front : (r : Process) (ks : List Process) → Above r.pid ks → inserted r ks ≡ r ∷ ks
-    in_front r [] a = refl
-    in_front r (y ∷ ys) a = let t : nat_lt r.pid y.pid ≡ true = grind (arith, nat_tests, a.0) in rw t refl
+kids_in p r (x ∷ xs) up a = grind (arith, nat_tests, at_front r, above_filter r.pid (is_child p) xs, above_less r.pid x.pid xs, up.0, kids_in p r xs up.1 ((absent_tail r.pid x xs a).1))
 
 pub absent_kids : (p c : ℕ) (ks : List Process) → Absent c ks → Absent c (Kids p ks)
 unfolding lookup children_in
 absent_kids p c [] a = refl
-absent_kids p c (x ∷ xs) a =
-    elim (x.pid == c) as (λ b. (x.pid == c) ≡ b → cond b (Some x) (find (has_pid c) xs) ≡ None → find (has_pid c) (filter (is_child p) (x ∷ xs)) ≡ None) [
-      | true ↦ λ t k. absurd (cc)
-      | false ↦ λ t k. elim (x.parent == p) as (λ b. find (has_pid c) (cond b (x ∷ filter (is_child p) xs) (filter (is_child p) xs)) ≡ None) [ true ↦ rw t (absent_kids p c xs k) | false ↦ absent_kids p c xs k ]
-    ] refl a
+absent_kids p c (x ∷ xs) a = grind (arith, absent_kids p c xs)
 
 pub found_kids : (q : ℕ) (r : Process) (ks : List Process) → lookup q ks ≡ Some r → lookup q (Kids r.parent ks) ≡ Some r
 unfolding lookup children_in
 found_kids q r [] e = absurd (cc)
-found_kids q r (x ∷ xs) e =
-    elim (x.pid == q) as (λ b. (x.pid == q) ≡ b → cond b (Some x) (find (has_pid q) xs) ≡ Some r → find (has_pid q) (filter (is_child r.parent) (x ∷ xs)) ≡ Some r) [
-      | true ↦ λ t k. let same : x ≡ r = cc in let u : (x.parent == r.parent) ≡ true = eq-eqb _ _ (ap (λ (r : Process). r.parent) same) in rw (u, t) (ap Some same)
-      | false ↦ λ t k. elim (x.parent == r.parent) as (λ b. find (has_pid q) (cond b (x ∷ filter (is_child r.parent) xs) (filter (is_child r.parent) xs)) ≡ Some r) [ true ↦ rw t (found_kids q r xs k) | false ↦ found_kids q r xs k ]
-    ] refl e
+found_kids q r (x ∷ xs) e = grind (arith, found_kids q r xs)

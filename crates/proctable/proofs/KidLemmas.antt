@@ -1,7 +1,7 @@
 -- One number more in a rising list, and what comes before and after each.
 use Rattle.std.proofs.Common.{◌≡◌, ◌≢◌, ℕ, ◌<◌, Bool, true, false, cond, refl, ap, ◌∙◌, arith, subst, List, [], ◌∷◌, find, Option, Some, None, ◌==◌, nat_lt, is_some, unwrap_or, inl, inr}
 use Rattle.std.specs.Option.{IfSome}
-use Rattle.std.proofs.lemmas.Bool.{eqb-true, eqb-false, eq-eqb, ne_eqb, ltb-false, cases_order}
+use Rattle.std.proofs.lemmas.Bool.{eqb-true, eq-eqb, ne_eqb, cases_order}
 use Rattle.std.proofs.lemmas.Bool.Decides.{nat_tests}
 use Rattle.posix.specs.Processes.{Process}
 use Rattle.posix.specs.Tables.{IsRising, has_pid, lookup, inserted, removed, above, first_pid}
@@ -32,54 +32,31 @@ Absent c ks = lookup c ks ≡ None
 
 pub absent_tail : (c : ℕ) (x : Process) (xs : List Process) → Absent c (x ∷ xs) → (x.pid ≢ c) × Absent c xs
 unfolding lookup
-absent_tail c x xs e = elim (x.pid == c) as (λ b. (x.pid == c) ≡ b → cond b (Some x) (find (has_pid c) xs) ≡ None → (x.pid ≢ c) × Absent c xs) [
-  | true ↦ λ t k. absurd (cc)
-  | false ↦ λ t k. (eqb-false _ _ t, k)
-] refl e
+absent_tail c x xs e = grind (arith, e, eqb-true, eq-eqb)
 
 -- the greatest below c is above n where all are
 pub last_above : (n c : ℕ) (xs : List Process) → Above n xs → IfSome (last_below c xs) (λ k. n < k)
 unfolding last_below
 last_above n c [] a = tt
-last_above n c (x ∷ xs) a = elim (nat_lt x.pid c) as (λ b. IfSome (cond b (Some (unwrap_or (last_below c xs) x.pid)) None) (λ k. n < k)) [
-  | true ↦ elim (last_below c xs) as (λ o. IfSome o (λ k. n < k) → n < unwrap_or o x.pid) [ None ↦ λ h. a.0 | Some k ↦ λ h. h ] (last_above n c xs a.1)
-  | false ↦ tt
-]
+last_above n c (x ∷ xs) a = grind (arith, a.0, last_above n c xs a.1)
 
 -- ---- one more
 
 pub first_in : (r : Process) (ks : List Process) → Absent r.pid ks → first_pid (inserted r ks) ≡ cond (is_some (last_below r.pid ks)) (first_pid ks) (Some r.pid)
 unfolding inserted last_below
 first_in r [] a = refl
-first_in r (x ∷ xs) a =
-    let ne = (absent_tail r.pid x xs a).0 in
-    elim (cases_order x.pid r.pid) [
-      | inl eq ↦ absurd (ne eq)
-      | inr (inl lt) ↦ let t : nat_lt r.pid x.pid ≡ false = grind (arith, nat_tests) in let u : nat_lt x.pid r.pid ≡ true = grind (arith, nat_tests) in rw (t, u) refl
-      | inr (inr gt) ↦ let t : nat_lt r.pid x.pid ≡ true = grind (arith, nat_tests) in let u : nat_lt x.pid r.pid ≡ false = grind (arith, nat_tests) in rw (t, u) refl
-    ]
+first_in r (x ∷ xs) a = grind (arith, nat_tests, (absent_tail r.pid x xs a).0)
 
 pub last_in : (r : Process) (ks : List Process) → Absent r.pid ks → last_pid (inserted r ks) ≡ cond (is_some (first_pid (above r.pid ks))) (last_pid ks) (Some r.pid)
 unfolding inserted last_pid
 last_in r [] a = refl
-last_in r (x ∷ xs) a =
-    let out = absent_tail r.pid x xs a in
-    elim (cases_order x.pid r.pid) [
-      | inl eq ↦ absurd (out.0 eq)
-      | inr (inl lt) ↦
-          let t : nat_lt r.pid x.pid ≡ false = grind (arith, nat_tests) in
-          rw (t, last_in r xs out.1) (elim (is_some (first_pid (above r.pid xs))) as (λ b. Some (unwrap_or (cond b (last_pid xs) (Some r.pid)) x.pid) ≡ cond b (Some (unwrap_or (last_pid xs) x.pid)) (Some r.pid)) [ true ↦ refl | false ↦ refl ])
-      | inr (inr gt) ↦ let t : nat_lt r.pid x.pid ≡ true = grind (arith, nat_tests) in rw t refl
-    ]
+last_in r (x ∷ xs) a = grind (arith, nat_tests, (absent_tail r.pid x xs a).0, last_in r xs (absent_tail r.pid x xs a).1)
 
 -- what comes after q
 pub next_in : (r : Process) (ks : List Process) → IsRising ks → Absent r.pid ks → (q : ℕ) (s : Process) → lookup q ks ≡ Some s
     → first_pid (above q (inserted r ks)) ≡ cond (is_it q (last_below r.pid ks)) (Some r.pid) (first_pid (above q ks))
 unfolding inserted last_below IsRising lookup
-next_in r [] up a q s e = absurd (none q s e)
-  where
-    none : (q : ℕ) (s : Process) → lookup q [] ≡ Some s → ⊥
-    none q s e = cc
+next_in r [] up a q s e = absurd (cc)
 next_in r (x ∷ xs) up a q s e =
     let out = absent_tail r.pid x xs a in
     elim (cases_order x.pid r.pid) [
@@ -127,10 +104,7 @@ next_in r (x ∷ xs) up a q s e =
 pub prev_in : (r : Process) (ks : List Process) → IsRising ks → Absent r.pid ks → (q : ℕ) (s : Process) → lookup q ks ≡ Some s
     → last_below q (inserted r ks) ≡ cond (is_it q (first_pid (above r.pid ks))) (Some r.pid) (last_below q ks)
 unfolding inserted last_below IsRising lookup
-prev_in r [] up a q s e = absurd (none q s e)
-  where
-    none : (q : ℕ) (s : Process) → lookup q [] ≡ Some s → ⊥
-    none q s e = cc
+prev_in r [] up a q s e = absurd (cc)
 prev_in r (x ∷ xs) up a q s e =
     let out = absent_tail r.pid x xs a in
     elim (cases_order x.pid r.pid) [
@@ -167,22 +141,12 @@ prev_in r (x ∷ xs) up a q s e =
 pub next_new : (r : Process) (ks : List Process) → above r.pid (inserted r ks) ≡ above r.pid ks
 unfolding inserted
 next_new r [] = let t : nat_lt r.pid r.pid ≡ false = grind (arith, nat_tests) in rw t refl
-next_new r (x ∷ xs) =
-    let t : nat_lt r.pid r.pid ≡ false = grind (arith, nat_tests) in
-    elim (nat_lt r.pid x.pid) as (λ b. nat_lt r.pid x.pid ≡ b → above r.pid (cond b (r ∷ x ∷ xs) (x ∷ inserted r xs)) ≡ cond b (x ∷ above r.pid xs) (above r.pid xs)) [
-      | true ↦ λ u. rw (t, u) refl
-      | false ↦ λ u. rw u (next_new r xs)
-    ] refl
+next_new r (x ∷ xs) = grind (arith, nat_tests, next_new r xs)
 
 pub prev_new : (r : Process) (ks : List Process) → last_below r.pid (inserted r ks) ≡ last_below r.pid ks
 unfolding inserted last_below
 prev_new r [] = let t : nat_lt r.pid r.pid ≡ false = grind (arith, nat_tests) in rw t refl
-prev_new r (x ∷ xs) =
-    let t : nat_lt r.pid r.pid ≡ false = grind (arith, nat_tests) in
-    elim (nat_lt r.pid x.pid) as (λ b. nat_lt r.pid x.pid ≡ b → last_below r.pid (cond b (r ∷ x ∷ xs) (x ∷ inserted r xs)) ≡ cond (nat_lt x.pid r.pid) (Some (unwrap_or (last_below r.pid xs) x.pid)) None) [
-      | true ↦ λ u. let v : nat_lt x.pid r.pid ≡ false = grind (arith, nat_tests) in rw (t, v) refl
-      | false ↦ λ u. rw (prev_new r xs) refl
-    ] refl
+prev_new r (x ∷ xs) = grind (arith, nat_tests, prev_new r xs)
 
 -- ---- one less: what is left comes together
 
@@ -190,90 +154,35 @@ prev_new r (x ∷ xs) =
 pub first_out : (c : ℕ) (ks : List Process) → Absent c ks → is_some (last_below c ks) ≡ false → first_pid ks ≡ first_pid (above c ks)
 unfolding last_below
 first_out c [] a e = refl
-first_out c (x ∷ xs) a e =
-    let ne = (absent_tail c x xs a).0 in
-    elim (nat_lt x.pid c) as (λ b. nat_lt x.pid c ≡ b → is_some (cond b (Some (unwrap_or (last_below c xs) x.pid)) None) ≡ false → Some x.pid ≡ first_pid (above c (x ∷ xs))) [
-      | true ↦ λ t k. absurd (cc)
-      | false ↦ λ t k. let u : nat_lt c x.pid ≡ true = grind (arith, nat_tests, ne) in rw u refl
-    ] refl e
+first_out c (x ∷ xs) a e = grind (arith, nat_tests, (absent_tail c x xs a).0)
 
 -- where nothing is after c, the last is what comes before it
 pub last_out : (c : ℕ) (ks : List Process) → Absent c ks → is_some (first_pid (above c ks)) ≡ false → last_pid ks ≡ last_below c ks
 unfolding last_below last_pid
 last_out c [] a e = refl
-last_out c (x ∷ xs) a e =
-    let out = absent_tail c x xs a in
-    elim (cases_order x.pid c) [
-      | inl eq ↦ absurd (out.0 eq)
-      | inr (inl lt) ↦
-          let t : nat_lt c x.pid ≡ false = grind (arith, nat_tests) in
-          let u : nat_lt x.pid c ≡ true = grind (arith, nat_tests) in
-          rw (u, last_out c xs out.1 (rw t at e)) refl
-      | inr (inr gt) ↦ let t : nat_lt c x.pid ≡ true = grind (arith, nat_tests) in let k = rw t at e in absurd (cc)
-    ]
+last_out c (x ∷ xs) a e = grind (arith, nat_tests, (absent_tail c x xs a).0, last_out c xs (absent_tail c x xs a).1)
 
 -- after what is before c comes what is after c
 pub next_out : (c : ℕ) (ks : List Process) → IsRising ks → Absent c ks → (q : ℕ) → is_it q (last_below c ks) ≡ true → first_pid (above q ks) ≡ first_pid (above c ks)
 unfolding last_below IsRising
 next_out c [] up a q e = absurd (cc)
-next_out c (x ∷ xs) up a q e =
-    let out = absent_tail c x xs a in
-    elim (nat_lt x.pid c) as (λ b. nat_lt x.pid c ≡ b → is_it q (cond b (Some (unwrap_or (last_below c xs) x.pid)) None) ≡ true → first_pid (above q (x ∷ xs)) ≡ first_pid (above c (x ∷ xs))) [
-      | true ↦ λ t k.
-          let u : nat_lt c x.pid ≡ false = grind (arith, nat_tests) in
-          elim (last_below c xs) as (λ o. last_below c xs ≡ o → (unwrap_or o x.pid == q) ≡ true → first_pid (above q (x ∷ xs)) ≡ first_pid (above c (x ∷ xs))) [
-            | None ↦ λ w k.
-                let i : x.pid ≡ q = eqb-true _ _ k in
-                let v : nat_lt q x.pid ≡ false = grind (arith, nat_tests) in
-                rw (u, v, above_all q xs (subst (λ n. Above n xs) i up.0)) (first_out c xs out.1 (ap is_some w))
-            | Some n ↦ λ w k.
-                let i : n ≡ q = eqb-true _ _ k in
-                let l : x.pid < n = subst (λ o. IfSome o (λ k. x.pid < k)) w (last_above x.pid c xs up.0) in
-                let v : nat_lt q x.pid ≡ false = grind (arith, nat_tests) in
-                rw (u, v) (next_out c xs up.1 out.1 q (ap (is_it q) w ∙ k))
-          ] refl k
-      | false ↦ λ t k. absurd (cc)
-    ] refl e
+next_out c (x ∷ xs) up a q e = grind (arith, nat_tests, (absent_tail c x xs a).0, λ (i : x.pid ≡ q). above_all q xs (subst (λ n. Above n xs) i up.0), last_above x.pid c xs up.0, first_out c xs (absent_tail c x xs a).1, next_out c xs up.1 (absent_tail c x xs a).1 q, eqb-true)
 
 -- before what is after c comes what is before c
 pub prev_out : (c : ℕ) (ks : List Process) → IsRising ks → Absent c ks → (q : ℕ) → is_it q (first_pid (above c ks)) ≡ true → last_below q ks ≡ last_below c ks
 unfolding last_below IsRising
 prev_out c [] up a q e = absurd (cc)
-prev_out c (x ∷ xs) up a q e =
-    let out = absent_tail c x xs a in
-    elim (nat_lt c x.pid) as (λ b. nat_lt c x.pid ≡ b → is_it q (first_pid (cond b (x ∷ above c xs) (above c xs))) ≡ true → last_below q (x ∷ xs) ≡ last_below c (x ∷ xs)) [
-      | true ↦ λ t k.
-          let i : x.pid ≡ q = eqb-true _ _ k in
-          let u : nat_lt x.pid q ≡ false = grind (arith, nat_tests) in
-          let v : nat_lt x.pid c ≡ false = grind (arith, nat_tests) in
-          rw (u, v) refl
-      | false ↦ λ t k.
-          let ne = out.0 in
-          let low : x.pid < c = let g = ltb-false _ _ t in grind (arith, ne, g) in
-          let w : c < q = elim (first_pid (above c xs)) as (λ o. IfSome o (λ y. c < y) → is_it q o ≡ true → c < q) [ None ↦ λ h k. absurd (cc) | Some n ↦ λ h k. let i : n ≡ q = eqb-true _ _ k in omega (arith, h, i) ] (head_above c xs) k in
-          let u : nat_lt x.pid q ≡ true = grind (arith, nat_tests) in
-          let v : nat_lt x.pid c ≡ true = grind (arith, nat_tests) in
-          rw (u, v, prev_out c xs up.1 out.1 q k) refl
-    ] refl e
+prev_out c (x ∷ xs) up a q e = grind (arith, nat_tests, (absent_tail c x xs a).0, head_above c xs, prev_out c xs up.1 (absent_tail c x xs a).1 q, eqb-true)
 
 -- ---- taken out and put back
+
+-- below all others it goes to the front
+pub at_front : (r : Process) (ks : List Process) → Above r.pid ks → inserted r ks ≡ r ∷ ks
+unfolding inserted
+at_front r [] a = refl
+at_front r (x ∷ xs) a = let t : nat_lt r.pid x.pid ≡ true = grind (arith, nat_tests, a.0) in rw t refl
 
 pub put_back : (c : ℕ) (ks : List Process) (r : Process) → IsRising ks → lookup c ks ≡ Some r → inserted r (removed c ks) ≡ ks
 unfolding inserted removed lookup IsRising
 put_back c [] r up e = absurd (cc)
-put_back c (x ∷ xs) r up e = elim (x.pid == c) as (λ b. (x.pid == c) ≡ b → cond b (Some x) (find (has_pid c) xs) ≡ Some r → inserted r (removed c (x ∷ xs)) ≡ x ∷ xs) [
-  | true ↦ λ t k.
-      let same : x ≡ r = cc in
-      let named : x.pid ≡ c = eqb-true _ _ t in
-      let rest : removed c xs ≡ xs = remove_above c xs (subst (λ n. Above n xs) named up.0) in
-      rw (t, rest) (subst (λ r. inserted r xs ≡ x ∷ xs) same (at_front x xs up.0))
-  | false ↦ λ t k.
-      let low : x.pid < c = found_above x.pid c xs r up.0 k in
-      let named : r.pid ≡ c = pid_looked c xs r k in
-      let u : nat_lt r.pid x.pid ≡ false = grind (arith, nat_tests) in
-      rw (t, u) (ap (λ l. x ∷ l) (put_back c xs r up.1 k))
-] refl e
-  where
-    at_front : (x : Process) (xs : List Process) → Above x.pid xs → inserted x xs ≡ x ∷ xs
-    at_front x [] a = refl
-    at_front x (y ∷ ys) a = let t : nat_lt x.pid y.pid ≡ true = grind (arith, nat_tests, a.0) in rw t refl
+put_back c (x ∷ xs) r up e = grind (arith, nat_tests, at_front x xs up.0, λ (i : x.pid ≡ c). remove_above c xs (subst (λ n. Above n xs) i up.0), found_above x.pid c xs r up.0, pid_looked c xs r, put_back c xs r up.1, eqb-true x.pid c)

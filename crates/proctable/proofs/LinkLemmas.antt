@@ -1,22 +1,24 @@
 -- A process linked in, and a process taken out.
-use Rattle.std.proofs.Common.{◌≡◌, ◌≢◌, ℕ, ◌<◌, Bool, true, false, cond, not, ◌&&◌, refl, ap, sym, ◌∙◌, arith, subst, List, [], ◌∷◌, map, filter, find, Option, Some, None, option_map, ◌==◌, nat_lt, is_some, unwrap_or, inl, inr, ◌⊎◌}
-use Rattle.std.specs.List.{AllByRecursion}
+use Rattle.std.proofs.Common.{◌≡◌, ◌≢◌, ℕ, ◌<◌, Bool, true, false, cond, not, ◌&&◌, refl, ap, sym, ◌∙◌, arith, subst, List, [], ◌∷◌, map, filter, find, Option, Some, None, option_map, ◌==◌, nat_lt, is_some, inl, inr, ◌⊎◌}
+use Rattle.std.proofs.lemmas.Bool.Decides.{nat_tests}
 use Rattle.std.specs.Option.{IsSome}
-use Rattle.std.proofs.lemmas.Bool.{eqb-true, eqb-false, eq-eqb, ne_eqb, ltb-true}
+use Rattle.std.proofs.lemmas.Bool.{eqb-true, eqb-false, eq-eqb, ne_eqb}
 use Rattle.posix.specs.Processes.{Process}
-use Rattle.posix.specs.Tables.{IsRising, has_pid, lookup, at, changed, inserted, removed, above, first_pid, is_child, children_in}
+use Rattle.posix.specs.Tables.{IsRising, lookup, at, changed, inserted, removed, above, first_pid, is_child, children_in}
 use Rattle.posix.proofs.TableLemmas.{changed_id, rising_inserted, rising_changed, rising_filter, rising_removed, pid_looked, lookup_changed, remove_none}
 use Rattle.posix.proofs.WalkLemmas.{all_looked, in_filter}
-use Rattle.posix.proofs.RegularLemmas.{lookup_inserted, lookup_removed}
+use Rattle.posix.proofs.RegularLemmas.{lookup_inserted, lookup_new, lookup_kept, lookup_removed, lookup_left, some_inserted}
+use Rattle.posix.proofs.SettleLemmas.{none_passes}
 use Rattle.proctable.specs.declared.node.Ends.{Ends}
 use Rattle.proctable.specs.declared.node.Node.{Node}
 use Rattle.proctable.specs.declared.node.Links.{Links}
-use Rattle.pidset.specs.Numbers.{inserted_by}
+use Rattle.pidset.specs.Numbers.{inserted_in_order}
+use Rattle.pidset.proofs.ItemLemmas.{find_left}
 use Rattle.proctable.specs.Nodes.{no_ends, record_of, records, find_node, at_node, changed_node, inserted_node, removed_node}
 use Rattle.proctable.specs.Cells.{with_first, with_last, with_prev, with_next, relinked}
 use Rattle.proctable.specs.Joined.{IsJoined, IsTable, HaveParents, last_below, last_pid, set_after, set_before, end_after, roots_after, rejoined, moved}
 use Rattle.proctable.proofs.CellLemmas.{lookup_records}
-use Rattle.proctable.proofs.KidLemmas.{Absent, absent_tail, is_it, first_in as first_more, last_in as last_more, next_in as next_more, prev_in as prev_more, next_new, prev_new, first_out, last_out, next_out, prev_out, put_back}
+use Rattle.proctable.proofs.KidLemmas.{Absent, is_it, first_in as first_more, last_in as last_more, next_in as next_more, prev_in as prev_more, next_new, prev_new, first_out, last_out, next_out, prev_out, put_back}
 use Rattle.proctable.proofs.JoinLemmas.{find_map, has_node, no_process, came_from, kids_in, absent_kids, found_kids}
 
 -- ---- what a rejoining does to one node
@@ -38,7 +40,7 @@ before_record p None y n = elim (n.pid == p) as (λ b. record_of (cond b (with_l
 before_record p (Some k) y n = elim (n.pid == k) as (λ b. record_of (cond b (with_prev y n) n) ≡ record_of n) [ true ↦ refl | false ↦ refl ]
 
 turned : (k q : ℕ) → (k == q) ≡ (q == k)
-turned k q = elim (q == k) as (λ b. (q == k) ≡ b → (k == q) ≡ b) [ true ↦ λ t. eq-eqb k q (sym (eqb-true _ _ t)) | false ↦ λ t. ne_eqb k q (λ e. eqb-false _ _ t (sym e)) ] refl
+turned k q = grind (arith, eqb-true, eqb-false, eq-eqb)
 
 after_next : (p : ℕ) (a x : Option ℕ) (n : Node) → (set_after p a x n).links.next ≡ cond (is_it n.pid a) x n.links.next
 after_next p None x n = elim (n.pid == p) as (λ b. (cond b (with_first x n) n).links.next ≡ n.links.next) [ true ↦ refl | false ↦ refl ]
@@ -75,10 +77,7 @@ before_last p (Some k) y n = elim (n.pid == k) as (λ b. (cond b (with_prev y n)
 pub found_pid : (q : ℕ) (ns : List Node) (n : Node) → find_node q ns ≡ Some n → n.pid ≡ q
 unfolding find_node
 found_pid q [] n e = absurd (cc)
-found_pid q (x ∷ ns) n e = elim (x.pid == q) as (λ b. (x.pid == q) ≡ b → cond b (Some x) (find (λ (n : Node). n.pid == q) ns) ≡ Some n → n.pid ≡ q) [
-  | true ↦ λ t k. let same : x ≡ n = cc in ap (λ (n : Node). n.pid) (sym same) ∙ eqb-true _ _ t
-  | false ↦ λ t k. found_pid q ns n k
-] refl e
+found_pid q (x ∷ ns) n e = grind (arith, found_pid q ns n, eqb-true x.pid q)
 
 -- a node found after a rejoining
 pub record Rejoined (ns : List Node) (p : ℕ) (a b x y : Option ℕ) (q : ℕ) (n : Node) : Type 0 where
@@ -119,23 +118,12 @@ records_rejoined p a b x y ns = records_same (set_before p b y) (before_record p
 pub last_found : (c q : ℕ) (ks : List Process) → is_it q (last_below c ks) ≡ true → IsSome (lookup q ks) × (q < c)
 unfolding last_below lookup
 last_found c q [] e = absurd (cc)
-last_found c q (x ∷ xs) e = elim (nat_lt x.pid c) as (λ b. nat_lt x.pid c ≡ b → is_it q (cond b (Some (unwrap_or (last_below c xs) x.pid)) None) ≡ true → IsSome (find (has_pid q) (x ∷ xs)) × (q < c)) [
-  | true ↦ λ t k. elim (last_below c xs) as (λ o. last_below c xs ≡ o → (unwrap_or o x.pid == q) ≡ true → IsSome (find (has_pid q) (x ∷ xs)) × (q < c)) [
-    | None ↦ λ w k. (rw k refl, let i : x.pid ≡ q = eqb-true _ _ k in let l : x.pid < c = ltb-true _ _ t in omega (arith, i, l))
-    | Some n ↦ λ w k.
-        let rest = last_found c q xs (ap (is_it q) w ∙ k) in
-        (elim (x.pid == q) as (λ b. IsSome (cond b (Some x) (find (has_pid q) xs))) [ true ↦ refl | false ↦ rest.0 ], rest.1)
-  ] refl k
-  | false ↦ λ t k. absurd (cc)
-] refl e
+last_found c q (x ∷ xs) e = grind (arith, nat_tests, last_found c q xs, eqb-true x.pid q)
 
 first_found : (c q : ℕ) (ks : List Process) → is_it q (first_pid (above c ks)) ≡ true → IsSome (lookup q ks) × (c < q)
 unfolding lookup
 first_found c q [] e = absurd (cc)
-first_found c q (x ∷ xs) e = elim (nat_lt c x.pid) as (λ b. nat_lt c x.pid ≡ b → is_it q (first_pid (cond b (x ∷ above c xs) (above c xs))) ≡ true → IsSome (find (has_pid q) (x ∷ xs)) × (c < q)) [
-  | true ↦ λ t k. (rw k refl, let i : x.pid ≡ q = eqb-true _ _ k in let l : c < x.pid = ltb-true _ _ t in omega (arith, i, l))
-  | false ↦ λ t k. let rest = first_found c q xs k in (elim (x.pid == q) as (λ b. IsSome (cond b (Some x) (find (has_pid q) xs))) [ true ↦ refl | false ↦ rest.0 ], rest.1)
-] refl e
+first_found c q (x ∷ xs) e = grind (arith, nat_tests, first_found c q xs, eqb-true x.pid q)
 
 -- who is found among the children of p has the parent p
 of_parent : (p q : ℕ) (r : Process) (ks : List Process) → IsRising ks → lookup q ks ≡ Some r → IsSome (lookup q (children_in p ks)) → r.parent ≡ p
@@ -167,13 +155,6 @@ not_self_last c ks = elim (is_it c (last_below c ks)) as (λ b. is_it c (last_be
 
 not_self_first : (c : ℕ) (ks : List Process) → is_it c (first_pid (above c ks)) ≡ false
 not_self_first c ks = elim (is_it c (first_pid (above c ks))) as (λ b. is_it c (first_pid (above c ks)) ≡ b → b ≡ false) [ true ↦ λ t. let l = (first_found c c ks t).1 in absurd (omega (arith, l)) | false ↦ λ t. refl ] refl
-
-lookup_new : (r : Process) (ks : List Process) → Absent r.pid ks → lookup r.pid (inserted r ks) ≡ Some r
-unfolding lookup inserted
-lookup_new r [] a = rw (eq-eqb r.pid r.pid refl) refl
-lookup_new r (x ∷ xs) a =
-    let out = absent_tail r.pid x xs a in
-    elim (nat_lt r.pid x.pid) as (λ b. find (has_pid r.pid) (cond b (r ∷ x ∷ xs) (x ∷ inserted r xs)) ≡ Some r) [ true ↦ rw (eq-eqb r.pid r.pid refl) refl | false ↦ rw (ne_eqb x.pid r.pid out.0) (lookup_new r xs out.1) ]
 
 -- ---- linked in
 
@@ -359,10 +340,7 @@ records_relinked c p a b (n ∷ ns) =
 removed_changed : (c : ℕ) (f : Process → Process) → ((r : Process) → (f r).pid ≡ r.pid) → (rs : List Process) → removed c (changed c f rs) ≡ removed c rs
 unfolding removed changed
 removed_changed c f keeps [] = refl
-removed_changed c f keeps (r ∷ rs) = elim (r.pid == c) as (λ b. (r.pid == c) ≡ b → removed c (cond b (f r) r ∷ map (at c f) rs) ≡ cond (not b) (r ∷ removed c rs) (removed c rs)) [
-  | true ↦ λ t. let u : ((f r).pid == c) ≡ true = ap (λ n. n == c) (keeps r) ∙ t in rw u (removed_changed c f keeps rs)
-  | false ↦ λ t. rw t (ap (λ l. r ∷ l) (removed_changed c f keeps rs))
-] refl
+removed_changed c f keeps (r ∷ rs) = grind (arith, keeps r, removed_changed c f keeps rs)
 
 joined_relinked : (ks : List Process) (ns : List Node) (roots : Ends) (c p : ℕ) (a b : Option ℕ) → Absent c ks → IsJoined ks ns roots → IsJoined ks (changed_node c (relinked p a b) ns) roots
 unfolding changed_node
@@ -428,42 +406,7 @@ joined_link ns roots c p old nc a b up j l e prev next =
 pub records_linked : (ns : List Node) (c p : ℕ) (a b x y : Option ℕ) → records (rejoined p a b x y (changed_node c (relinked p a b) ns)) ≡ changed c (moved p) (records ns)
 records_linked ns c p a b x y = records_rejoined p a b x y (changed_node c (relinked p a b) ns) ∙ records_relinked c p a b ns
 
--- ---- writes, as the calls make them
-
-pub followed_some : (p k : ℕ) (a x : Option ℕ) (ns new : List Node) → a ≡ Some k → new ≡ changed_node k (with_next x) ns → new ≡ map (set_after p a x) ns
-unfolding changed_node
-followed_some p k a x ns new h e = e ∙ ap (λ a. map (set_after p a x) ns) (sym h)
-
-pub followed_none : (p : ℕ) (a x : Option ℕ) (ns new : List Node) → a ≡ None → new ≡ changed_node p (with_first x) ns → new ≡ map (set_after p a x) ns
-unfolding changed_node
-followed_none p a x ns new h e = e ∙ ap (λ a. map (set_after p a x) ns) (sym h)
-
--- what stands before the gap
-pub preceded_some : (p k : ℕ) (b y : Option ℕ) (ns new : List Node) → b ≡ Some k → new ≡ changed_node k (with_prev y) ns → new ≡ map (set_before p b y) ns
-unfolding changed_node
-preceded_some p k b y ns new h e = e ∙ ap (λ b. map (set_before p b y) ns) (sym h)
-
-pub preceded_none : (p : ℕ) (b y : Option ℕ) (ns new : List Node) → b ≡ None → new ≡ changed_node p (with_last y) ns → new ≡ map (set_before p b y) ns
-unfolding changed_node
-preceded_none p b y ns new h e = e ∙ ap (λ b. map (set_before p b y) ns) (sym h)
-
 -- ---- the calls as wholes
-
--- who is there without c is there with it
-pub lookup_kept : (c q : ℕ) (rs : List Process) (r : Process) → lookup q (removed c rs) ≡ Some r → lookup q rs ≡ Some r
-unfolding lookup removed
-lookup_kept c q [] r e = e
-lookup_kept c q (x ∷ rs) r e =
-    elim (x.pid == c) as (λ b. (x.pid == c) ≡ b → find (has_pid q) (cond (not b) (x ∷ removed c rs) (removed c rs)) ≡ Some r → find (has_pid q) (x ∷ rs) ≡ Some r) [
-      | true ↦ λ t k. elim (x.pid == q) as (λ b. (x.pid == q) ≡ b → cond b (Some x) (find (has_pid q) rs) ≡ Some r) [
-        | true ↦ λ u.
-            let same : c ≡ q = sym (eqb-true x.pid c t) ∙ eqb-true x.pid q u in
-            let none : lookup q (removed c rs) ≡ None = ap (λ n. lookup q (removed n rs)) same ∙ lookup_removed q rs in
-            let no : None ≡ Some r = sym none ∙ k in absurd (cc)
-        | false ↦ λ u. lookup_kept c q rs r k
-      ] refl
-      | false ↦ λ t k. elim (x.pid == q) as (λ b. cond b (Some x) (find (has_pid q) (removed c rs)) ≡ Some r → cond b (Some x) (find (has_pid q) rs) ≡ Some r) [ true ↦ λ k. k | false ↦ λ k. lookup_kept c q rs r k ] k
-    ] refl e
 
 pub link_joined : (ns new : List Node) (roots : Ends) (c p : ℕ) (a b : Option ℕ) → IsRising (records ns) → IsJoined (removed c (records ns)) ns roots → IsSome (find_node c ns)
     → a ≡ last_below c (children_in p (removed c (records ns))) → b ≡ first_pid (above c (children_in p (removed c (records ns))))
@@ -506,75 +449,37 @@ unlink_none ns roots c j h =
 -- ---- a node put in or taken out
 
 find_inserted : (q : ℕ) (new : Node) (ns : List Node) → q ≢ new.pid → find_node q (inserted_node new ns) ≡ find_node q ns
-unfolding find_node inserted_by
+unfolding find_node inserted_in_order
 find_inserted q new [] ne = let t : (new.pid == q) ≡ false = ne_eqb _ _ (λ e. ne (sym e)) in rw t refl
-find_inserted q new (n ∷ ns) ne =
-    let t : (new.pid == q) ≡ false = ne_eqb _ _ (λ e. ne (sym e)) in
-    elim (nat_lt new.pid n.pid) as (λ b. find (λ (n : Node). n.pid == q) (cond b (new ∷ n ∷ ns) (n ∷ inserted_node new ns)) ≡ cond (n.pid == q) (Some n) (find (λ (n : Node). n.pid == q) ns)) [
-      | true ↦ rw t refl
-      | false ↦ ap (cond (n.pid == q) (Some n)) (find_inserted q new ns ne)
-    ]
+find_inserted q new (n ∷ ns) ne = grind (arith, ne, find_inserted q new ns ne, eqb-true)
 
 pub find_new : (new : Node) (ns : List Node) → find_node new.pid ns ≡ None → find_node new.pid (inserted_node new ns) ≡ Some new
-unfolding find_node inserted_by
+unfolding find_node inserted_in_order
 find_new new [] e = rw (eq-eqb new.pid new.pid refl) refl
-find_new new (n ∷ ns) e =
-    elim (n.pid == new.pid) as (λ b. (n.pid == new.pid) ≡ b → cond b (Some n) (find (λ (n : Node). n.pid == new.pid) ns) ≡ None → find (λ (n : Node). n.pid == new.pid) (inserted_node new (n ∷ ns)) ≡ Some new) [
-      | true ↦ λ t k. absurd (cc)
-      | false ↦ λ t k. elim (nat_lt new.pid n.pid) as (λ b. find (λ (n : Node). n.pid == new.pid) (cond b (new ∷ n ∷ ns) (n ∷ inserted_node new ns)) ≡ Some new) [ true ↦ rw (eq-eqb new.pid new.pid refl) refl | false ↦ rw t (find_new new ns k) ]
-    ] refl e
+find_new new (n ∷ ns) e = grind (arith, find_new new ns, eq-eqb new.pid new.pid refl)
 
 pub records_inserted : (new : Node) (ns : List Node) → records (inserted_node new ns) ≡ inserted (record_of new) (records ns)
-unfolding records inserted_by inserted
+unfolding records inserted_in_order inserted
 records_inserted new [] = refl
 records_inserted new (n ∷ ns) = elim (nat_lt new.pid n.pid) as (λ b. records (cond b (new ∷ n ∷ ns) (n ∷ inserted_node new ns)) ≡ cond b (record_of new ∷ record_of n ∷ records ns) (record_of n ∷ inserted (record_of new) (records ns))) [ true ↦ refl | false ↦ ap (λ l. record_of n ∷ l) (records_inserted new ns) ]
 
 pub records_removed : (p : ℕ) (ns : List Node) → records (removed_node p ns) ≡ removed p (records ns)
 unfolding records removed_node removed
 records_removed p [] = refl
-records_removed p (n ∷ ns) = elim (n.pid == p) as (λ b. records (cond (not b) (n ∷ filter (λ (r : Node). not (r.pid == p)) ns) (filter (λ (r : Node). not (r.pid == p)) ns)) ≡ cond (not b) (record_of n ∷ removed p (records ns)) (removed p (records ns))) [ true ↦ records_removed p ns | false ↦ ap (λ l. record_of n ∷ l) (records_removed p ns) ]
+records_removed p (n ∷ ns) = grind (arith, records_removed p ns)
 
-nothing_left : (q : ℕ) (ns : List Node) → find_node q (removed_node q ns) ≡ None
+node_left : (p q : ℕ) (ns : List Node) (n : Node) → find_node q (removed_node p ns) ≡ Some n → find_node q ns ≡ Some n
 unfolding find_node removed_node
-nothing_left q [] = refl
-nothing_left q (n ∷ ns) = elim (n.pid == q) as (λ b. (n.pid == q) ≡ b → find (λ (n : Node). n.pid == q) (cond (not b) (n ∷ removed_node q ns) (removed_node q ns)) ≡ None) [ true ↦ λ t. nothing_left q ns | false ↦ λ t. rw t (nothing_left q ns) ] refl
+node_left p q ns n e = find_left (λ (n : Node). n.pid) ns p q n e
 
-find_left : (p q : ℕ) (ns : List Node) (n : Node) → find_node q (removed_node p ns) ≡ Some n → find_node q ns ≡ Some n
-unfolding find_node removed_node
-find_left p q [] n e = e
-find_left p q (x ∷ ns) n e =
-    elim (x.pid == p) as (λ b. (x.pid == p) ≡ b → find (λ (n : Node). n.pid == q) (cond (not b) (x ∷ removed_node p ns) (removed_node p ns)) ≡ Some n → find (λ (n : Node). n.pid == q) (x ∷ ns) ≡ Some n) [
-      | true ↦ λ t k. elim (x.pid == q) as (λ b. (x.pid == q) ≡ b → cond b (Some x) (find (λ (n : Node). n.pid == q) ns) ≡ Some n) [
-        | true ↦ λ u.
-            let same : p ≡ q = sym (eqb-true x.pid p t) ∙ eqb-true x.pid q u in
-            let none : find_node q (removed_node p ns) ≡ None = ap (λ n. find_node q (removed_node n ns)) same ∙ nothing_left q ns in
-            let no : None ≡ Some n = sym none ∙ k in absurd (cc)
-        | false ↦ λ u. find_left p q ns n k
-      ] refl
-      | false ↦ λ t k. elim (x.pid == q) as (λ b. cond b (Some x) (find (λ (n : Node). n.pid == q) (removed_node p ns)) ≡ Some n → cond b (Some x) (find (λ (n : Node). n.pid == q) ns) ≡ Some n) [ true ↦ λ k. k | false ↦ λ k. find_left p q ns n k ] k
-    ] refl e
-
--- the table without a process that has no children
-no_child : (p : ℕ) (rs : List Process) → children_in p rs ≡ [] → (q : ℕ) (r : Process) → lookup q rs ≡ Some r → r.parent ≢ p
+-- nobody who is there is a child of who has none
+pub no_child : (p : ℕ) (rs : List Process) → children_in p rs ≡ [] → (q : ℕ) (r : Process) → lookup q rs ≡ Some r → r.parent ≢ p
 unfolding children_in lookup
 no_child p [] e q r l = absurd (cc)
-no_child p (x ∷ xs) e q r l =
-    elim (x.parent == p) as (λ b. (x.parent == p) ≡ b → cond b (x ∷ filter (is_child p) xs) (filter (is_child p) xs) ≡ [] → r.parent ≢ p) [
-      | true ↦ λ t k. absurd (cc)
-      | false ↦ λ t k. elim (x.pid == q) as (λ b. cond b (Some x) (find (has_pid q) xs) ≡ Some r → r.parent ≢ p) [
-        | true ↦ λ l. let same : x ≡ r = cc in λ i. eqb-false _ _ t (ap (λ (r : Process). r.parent) same ∙ i)
-        | false ↦ λ l. no_child p xs k q r l
-      ] l
-    ] refl e
+no_child p (x ∷ xs) e q r l = grind (arith, no_child p xs, eqb-false)
 
 pub still_there : (p q : ℕ) (rs : List Process) → q ≢ p → IsSome (lookup q rs) → IsSome (lookup q (removed p rs))
-unfolding lookup removed
-still_there p q [] ne h = h
-still_there p q (x ∷ xs) ne h =
-    elim (x.pid == p) as (λ b. (x.pid == p) ≡ b → IsSome (find (has_pid q) (cond (not b) (x ∷ removed p xs) (removed p xs)))) [
-      | true ↦ λ t. let u : (x.pid == q) ≡ false = ne_eqb _ _ (λ e. ne (sym e ∙ eqb-true _ _ t)) in still_there p q xs ne (rw u at h)
-      | false ↦ λ t. elim (x.pid == q) as (λ b. IsSome (cond b (Some x) (find (has_pid q) xs)) → IsSome (cond b (Some x) (find (has_pid q) (removed p xs)))) [ true ↦ λ h. h | false ↦ λ h. still_there p q xs ne h ] h
-    ] refl
+still_there p q rs ne h = rw (lookup_kept p q rs ne) h
 
 pub table_removed : (ns mid new : List Node) (roots top : Ends) (p : ℕ) → IsTable ns roots → children_in p (records ns) ≡ [] → records mid ≡ records ns → IsJoined (removed p (records mid)) mid top → new ≡ removed_node p mid → IsTable new top
 table_removed ns mid new roots top p t none same j e =
@@ -582,13 +487,13 @@ table_removed ns mid new roots top p t none same j e =
     record {
       rising = subst IsRising (sym all) (rising_removed p (records ns) t.rising);
       parents = subst HaveParents (sym all) (λ q r l.
-          let old = lookup_kept p q (records ns) r l in
+          let old = lookup_left p q (records ns) r l in
           elim (t.parents q r old) [ inl z ↦ inl z | inr s ↦ inr (still_there p r.parent (records ns) (no_child p (records ns) none q r old) s) ]);
       joined = subst (λ ks. IsJoined ks new top) (ap (removed p) same ∙ sym all) (record {
-        firsts = λ q n z k. j.firsts q n z (find_left p q mid n (ap (find_node q) (sym e) ∙ k));
-        lasts = λ q n z k. j.lasts q n z (find_left p q mid n (ap (find_node q) (sym e) ∙ k));
-        nexts = λ q r n l k. j.nexts q r n l (find_left p q mid n (ap (find_node q) (sym e) ∙ k));
-        prevs = λ q r n l k. j.prevs q r n l (find_left p q mid n (ap (find_node q) (sym e) ∙ k));
+        firsts = λ q n z k. j.firsts q n z (node_left p q mid n (ap (find_node q) (sym e) ∙ k));
+        lasts = λ q n z k. j.lasts q n z (node_left p q mid n (ap (find_node q) (sym e) ∙ k));
+        nexts = λ q r n l k. j.nexts q r n l (node_left p q mid n (ap (find_node q) (sym e) ∙ k));
+        prevs = λ q r n l k. j.prevs q r n l (node_left p q mid n (ap (find_node q) (sym e) ∙ k));
         top = j.top;
         bottom = j.bottom;
       });
@@ -601,34 +506,15 @@ childless p rs up h none z = none_passes (is_child p) rs (all_looked _ rs up (λ
   | inl e ↦ ne_eqb r.parent p (λ i. z (sym i ∙ e))
   | inr s ↦ ne_eqb r.parent p (λ i. let k : IsSome (lookup p rs) = subst (λ n. IsSome (lookup n rs)) i s in let no : IsSome {T = Process} None = subst IsSome none k in cc)
 ]))
-  where
-    none_passes : (t : Process → Bool) (rs : List Process) → AllByRecursion (λ r. t r ≡ false) rs → filter t rs ≡ []
-    none_passes t [] h = refl
-    none_passes t (r ∷ rs) h = rw h.0 (none_passes t rs h.1)
 
 removed_new : (r : Process) (rs : List Process) → lookup r.pid rs ≡ None → removed r.pid (inserted r rs) ≡ rs
 unfolding removed inserted lookup
 removed_new r [] e = rw (eq-eqb r.pid r.pid refl) refl
-removed_new r (x ∷ xs) e =
-    let a = absent_tail r.pid x xs (absent_is r.pid x xs e) in
-    let t : (x.pid == r.pid) ≡ false = ne_eqb _ _ a.0 in
-    elim (nat_lt r.pid x.pid) as (λ b. filter (λ q. not (q.pid == r.pid)) (cond b (r ∷ x ∷ xs) (x ∷ inserted r xs)) ≡ x ∷ xs) [
-      | true ↦ rw (eq-eqb r.pid r.pid refl, t) (ap (λ l. x ∷ l) (remove_none r.pid xs a.1))
-      | false ↦ rw t (ap (λ l. x ∷ l) (removed_new r xs a.1))
-    ]
-  where
-    absent_is : (c : ℕ) (x : Process) (xs : List Process) → find (has_pid c) (x ∷ xs) ≡ None → Absent c (x ∷ xs)
-    absent_is c x xs e = e
+removed_new r (x ∷ xs) e = grind (arith, removed_new r xs, remove_none r.pid xs, eq-eqb r.pid r.pid refl)
 
 -- the others are those that were there before
 pub without_new : (ns : List Node) (new : Node) → lookup new.pid (records ns) ≡ None → removed new.pid (records (inserted_node new ns)) ≡ records ns
 without_new ns new absent = ap (removed new.pid) (records_inserted new ns) ∙ removed_new (record_of new) (records ns) absent
-
-more : (r : Process) (rs : List Process) (q : ℕ) → lookup r.pid rs ≡ None → IsSome (lookup q rs) → IsSome (lookup q (inserted r rs))
-more r rs q absent h = elim (q == r.pid) as (λ b. (q == r.pid) ≡ b → IsSome (lookup q (inserted r rs))) [
-  | true ↦ λ u. let k : lookup q rs ≡ None = ap (λ n. lookup n rs) (eqb-true _ _ u) ∙ absent in let no : IsSome {T = Process} None = subst IsSome k h in absurd (cc)
-  | false ↦ λ u. rw (lookup_inserted r q rs (eqb-false _ _ u)) h
-] refl
 
 -- a node of a process that isn't there and stands in no list, put in
 pub joined_new : (ns : List Node) (roots : Ends) (new : Node) → IsTable ns roots → lookup new.pid (records ns) ≡ None → new.links.children ≡ no_ends
@@ -680,8 +566,8 @@ table_inserted ns mid new roots top node t absent parent m e j =
           | true ↦ λ u.
               let k : Some s ≡ Some r = sym l ∙ ap (λ n. lookup n (inserted r rs)) (eqb-true _ _ u) ∙ lookup_new r rs absent in
               let same : s ≡ r = cc in
-              subst (λ (s : Process). (s.parent ≡ 0) ⊎ IsSome (lookup s.parent (inserted r rs))) (sym same) (elim parent [ inl z ↦ inl z | inr h ↦ inr (more r rs node.links.parent absent h) ])
-          | false ↦ λ u. elim (t.parents q s (sym (lookup_inserted r q rs (eqb-false _ _ u)) ∙ l)) [ inl z ↦ inl z | inr h ↦ inr (more r rs s.parent absent h) ]
+              subst (λ (s : Process). (s.parent ≡ 0) ⊎ IsSome (lookup s.parent (inserted r rs))) (sym same) (elim parent [ inl z ↦ inl z | inr h ↦ inr (some_inserted r node.links.parent rs h) ])
+          | false ↦ λ u. elim (t.parents q s (sym (lookup_inserted r q rs (eqb-false _ _ u)) ∙ l)) [ inl z ↦ inl z | inr h ↦ inr (some_inserted r s.parent rs h) ]
         ] refl);
         joined = j;
       },
@@ -690,7 +576,7 @@ table_inserted ns mid new roots top node t absent parent m e j =
 pub node_there : (ns : List Node) (new : Node) (q : ℕ) → lookup new.pid (records ns) ≡ None → (q ≡ 0) ⊎ IsSome (lookup q (records ns)) → (q ≡ 0) ⊎ IsSome (find_node q (inserted_node new ns))
 node_there ns new q absent h = elim h [
   | inl z ↦ inl z
-  | inr s ↦ inr (has_node (inserted_node new ns) q (subst (λ rs. IsSome (lookup q rs)) (sym (records_inserted new ns)) (more (record_of new) (records ns) q absent s)))
+  | inr s ↦ inr (has_node (inserted_node new ns) q (subst (λ rs. IsSome (lookup q rs)) (sym (records_inserted new ns)) (some_inserted (record_of new) q (records ns) s)))
 ]
 
 pub new_there : (ns new : List Node) (node : Node) → lookup node.pid (records ns) ≡ None → new ≡ inserted_node node ns → IsSome (find_node node.pid new)

@@ -1,12 +1,12 @@
 -- The gap of a child that is moved is before that of the one moved last.
-use Rattle.std.proofs.Common.{◌≡◌, ◌≢◌, ℕ, ◌+◌, ◌<◌, ◌≤◌, true, false, cond, not, ◌&&◌, refl, ap, sym, ◌∙◌, arith, subst, List, [], ◌∷◌, length, map, filter, Option, Some, None, option_map, ◌==◌, nat_lt, unwrap_or}
+use Rattle.std.proofs.Common.{◌≡◌, ◌≢◌, ℕ, ◌+◌, ◌<◌, ◌≤◌, true, cond, not, ◌&&◌, refl, ap, sym, ◌∙◌, arith, subst, List, [], ◌∷◌, length, filter, Option, Some, None, option_map, ◌==◌, nat_lt}
 use Rattle.std.specs.Option.{IsSome, IfSome}
 use Rattle.std.proofs.lemmas.Bool.Decides.{nat_tests}
-use Rattle.std.proofs.lemmas.Bool.{eqb-true, eq-eqb, ne_eqb}
+use Rattle.std.proofs.lemmas.Bool.{eqb-true, eq-eqb}
 use Rattle.posix.specs.Processes.{Process}
-use Rattle.posix.specs.Tables.{IsRising, lookup, at, changed, removed, is_child, children_in}
+use Rattle.posix.specs.Tables.{IsRising, lookup, changed, removed, children_in}
 use Rattle.posix.proofs.TableLemmas.{lookup_changed}
-use Rattle.posix.proofs.WalkLemmas.{filters_commute}
+use Rattle.posix.proofs.WalkLemmas.{children_removed}
 use Rattle.proctable.specs.declared.node.Node.{Node}
 use Rattle.proctable.specs.Nodes.{records}
 use Rattle.proctable.specs.Joined.{IsBehind, is_before, between, last_pid, moved}
@@ -22,61 +22,22 @@ pub record IsBeside (to : ℕ) (rs : List Process) (next above : Option ℕ) : T
 
 -- ---- one child moved
 
--- the children without q are those of the others
-pub children_removed : (p q : ℕ) (rs : List Process) → children_in p (removed q rs) ≡ removed q (children_in p rs)
-unfolding children_in removed
-children_removed p q rs = filters_commute (is_child p) (λ r. not (r.pid == q)) rs
-
 kids_moved : (from to q : ℕ) → from ≢ to → (rs : List Process) → children_in from (changed q (moved to) rs) ≡ removed q (children_in from rs)
 unfolding children_in changed moved removed
 kids_moved from to q ne [] = refl
-kids_moved from to q ne (x ∷ xs) =
-    let rest = kids_moved from to q ne xs in
-    let other : (to == from) ≡ false = ne_eqb _ _ (λ i. ne (sym i)) in
-    elim (x.pid == q) as (λ b. (x.pid == q) ≡ b → filter (is_child from) (cond b (moved to x) x ∷ map (at q (moved to)) xs) ≡ filter (λ r. not (r.pid == q)) (filter (is_child from) (x ∷ xs))) [
-      | true ↦ λ t. rw other (elim (x.parent == from) as (λ b. filter (is_child from) (map (at q (moved to)) xs) ≡ filter (λ r. not (r.pid == q)) (cond b (x ∷ filter (is_child from) xs) (filter (is_child from) xs))) [ true ↦ rw t rest | false ↦ rest ])
-      | false ↦ λ t. elim (x.parent == from) as (λ b. cond b (x ∷ filter (is_child from) (map (at q (moved to)) xs)) (filter (is_child from) (map (at q (moved to)) xs)) ≡ filter (λ r. not (r.pid == q)) (cond b (x ∷ filter (is_child from) xs) (filter (is_child from) xs))) [ true ↦ rw t (ap (λ l. x ∷ l) rest) | false ↦ rest ]
-    ] refl
+kids_moved from to q ne (x ∷ xs) = grind (arith, ne, kids_moved from to q ne xs, eqb-true)
 
 -- those before it are the same after it
 below_moved : (to q : ℕ) (rs : List Process) → filter (λ (r : Process). nat_lt r.pid q) (children_in to (changed q (moved to) rs)) ≡ filter (λ (r : Process). nat_lt r.pid q) (children_in to rs)
 unfolding children_in changed moved
 below_moved to q [] = refl
-below_moved to q (x ∷ xs) =
-    let rest = below_moved to q xs in
-    elim (x.pid == q) as (λ b. (x.pid == q) ≡ b → filter (λ (r : Process). nat_lt r.pid q) (filter (is_child to) (cond b (moved to x) x ∷ map (at q (moved to)) xs)) ≡ filter (λ (r : Process). nat_lt r.pid q) (filter (is_child to) (x ∷ xs))) [
-      | true ↦ λ t.
-          let i : x.pid ≡ q = eqb-true _ _ t in
-          let u : nat_lt x.pid q ≡ false = grind (arith, nat_tests) in
-          let self : (to == to) ≡ true = eq-eqb to to refl in
-          rw (self, u) (elim (x.parent == to) as (λ b. filter (λ (r : Process). nat_lt r.pid q) (filter (is_child to) (map (at q (moved to)) xs)) ≡ filter (λ (r : Process). nat_lt r.pid q) (cond b (x ∷ filter (is_child to) xs) (filter (is_child to) xs))) [ true ↦ rw u rest | false ↦ rest ])
-      | false ↦ λ t. elim (x.parent == to) as (λ b. filter (λ (r : Process). nat_lt r.pid q) (cond b (x ∷ filter (is_child to) (map (at q (moved to)) xs)) (filter (is_child to) (map (at q (moved to)) xs))) ≡ filter (λ (r : Process). nat_lt r.pid q) (cond b (x ∷ filter (is_child to) xs) (filter (is_child to) xs))) [
-        | true ↦ elim (nat_lt x.pid q) as (λ b. cond b (x ∷ filter (λ (r : Process). nat_lt r.pid q) (filter (is_child to) (map (at q (moved to)) xs))) (filter (λ (r : Process). nat_lt r.pid q) (filter (is_child to) (map (at q (moved to)) xs))) ≡ cond b (x ∷ filter (λ (r : Process). nat_lt r.pid q) (filter (is_child to) xs)) (filter (λ (r : Process). nat_lt r.pid q) (filter (is_child to) xs))) [ true ↦ ap (λ l. x ∷ l) rest | false ↦ rest ]
-        | false ↦ rest
-      ]
-    ] refl
-
-head_under : (x q : ℕ) (o : Option ℕ) → x < q → IfSome o (λ k. k < q) → unwrap_or o x < q
-head_under x q None l h = l
-head_under x q (Some k) l h = h
+below_moved to q (x ∷ xs) = grind (arith, nat_tests, below_moved to q xs, eqb-true x.pid q)
 
 -- without the last, the last is below it
 below_last : (q : ℕ) (ks : List Process) → IsRising ks → last_pid ks ≡ Some q → IfSome (last_pid (removed q ks)) (λ k. k < q)
 unfolding last_pid removed IsRising
 below_last q [] up e = absurd (cc)
-below_last q (x ∷ xs) up e =
-    elim (last_pid xs) as (λ o. last_pid xs ≡ o → Some (unwrap_or o x.pid) ≡ Some q → IfSome (last_pid (filter (λ r. not (r.pid == q)) (x ∷ xs))) (λ k. k < q)) [
-      | None ↦ λ w k.
-          let i : x.pid ≡ q = cc in
-          rw (eq-eqb x.pid q i, none_last xs w) tt
-      | Some n ↦ λ w k.
-          let i : n ≡ q = cc in
-          let low : x.pid < n = subst (λ o. IfSome o (λ k. x.pid < k)) w (end_above x.pid xs up.0) in
-          let l : x.pid < q = omega (arith, low, i) in
-          let t : (x.pid == q) ≡ false = ne_eqb _ _ (λ e. omega (arith, l, e)) in
-          let rest = below_last q xs up.1 (w ∙ ap Some i) in
-          rw t (head_under x.pid q (last_pid (filter (λ r. not (r.pid == q)) xs)) l rest)
-    ] refl e
+below_last q (x ∷ xs) up e = grind (arith, none_last xs, end_above x.pid xs up.0, below_last q xs up.1, eqb-true, eq-eqb)
 
 -- ---- the loop
 

@@ -1,20 +1,21 @@
 -- The walk back over the children for the neighbours of a number.
-use Rattle.std.proofs.Common.{◌≡◌, ◌≢◌, ℕ, ◌+◌, ◌<◌, ◌≤◌, Bool, true, false, cond, ◌&&◌, refl, ap, sym, ◌∙◌, arith, subst, List, [], ◌∷◌, length, filter, find, Option, Some, None, ◌==◌, nat_lt, unwrap_or, inl, inr, ◌⊎◌}
+use Rattle.std.proofs.Common.{◌≡◌, ◌≢◌, ℕ, ◌+◌, ◌<◌, ◌≤◌, Bool, true, false, ◌&&◌, refl, ap, sym, ◌∙◌, arith, subst, List, [], ◌∷◌, length, filter, Option, Some, None, nat_lt, unwrap_or, ◌⊎◌}
 use Rattle.std.specs.Option.{IsSome, IfSome, option_and_then}
 use Rattle.std.proofs.lemmas.Bool.Decides.{nat_tests}
-use Rattle.std.proofs.lemmas.Bool.{cases_order, eqb-true, eq-eqb}
+use Rattle.std.proofs.lemmas.Bool.{eqb-true, eq-eqb}
 use Rattle.posix.specs.Processes.{Process}
-use Rattle.posix.specs.Tables.{IsRising, has_pid, lookup, removed, above, first_pid, is_child, children_in}
+use Rattle.posix.specs.Tables.{IsRising, lookup, removed, above, first_pid, is_child, children_in}
 use Rattle.posix.proofs.TableLemmas.{Above, rising_removed}
-use Rattle.posix.proofs.WalkLemmas.{in_filter, found_above}
-use Rattle.posix.proofs.RegularLemmas.{lookup_removed}
+use Rattle.std.proofs.lemmas.List.Sums.{length-filter, count_by-le-length}
+use Rattle.posix.proofs.WalkLemmas.{in_filter, found_above, filters_commute}
+use Rattle.posix.proofs.RegularLemmas.{lookup_removed, lookup_left}
 use Rattle.proctable.specs.declared.node.Ends.{Ends}
 use Rattle.proctable.specs.declared.node.Node.{Node}
 use Rattle.proctable.specs.Nodes.{records, find_node}
 use Rattle.proctable.specs.Joined.{IsJoined, IsBehind, is_before, between, before_in, last_below, last_pid, prev_in}
 use Rattle.proctable.proofs.KidLemmas.{is_it, last_above}
 use Rattle.proctable.proofs.JoinLemmas.{ends_joined, node_of}
-use Rattle.proctable.proofs.LinkLemmas.{last_found, lookup_kept}
+use Rattle.proctable.proofs.LinkLemmas.{last_found}
 
 -- who stands before a gap: before the child n, or behind all
 abbrev pub last_before : Option ℕ → List Process → Option ℕ
@@ -33,7 +34,7 @@ pub record IsPast (ks : List Process) (c : ℕ) (prev next : Option ℕ) : Type 
 pub end_above : (n : ℕ) (xs : List Process) → Above n xs → IfSome (last_pid xs) (λ k. n < k)
 unfolding last_pid
 end_above n [] a = tt
-end_above n (x ∷ xs) a = elim (last_pid xs) as (λ o. IfSome o (λ k. n < k) → n < unwrap_or o x.pid) [ None ↦ λ h. a.0 | Some k ↦ λ h. h ] (end_above n xs a.1)
+end_above n (x ∷ xs) a = grind (arith, a.0, end_above n xs a.1)
 
 -- the head is no greater than the last
 head_low : (x c : ℕ) (o : Option ℕ) → IfSome o (λ k. x < k) → unwrap_or o x < c → (x < c) × IfSome o (λ k. k < c)
@@ -44,39 +45,13 @@ head_low x c (Some k) a l = (omega (arith, a, l), l)
 past_all : (c : ℕ) (ks : List Process) → IsRising ks → IfSome (last_pid ks) (λ s. s < c) → (last_pid ks ≡ last_below c ks) × (None ≡ first_pid (above c ks))
 unfolding last_pid last_below IsRising
 past_all c [] up h = (refl, refl)
-past_all c (x ∷ xs) up h =
-    let low = head_low x.pid c (last_pid xs) (end_above x.pid xs up.0) h in
-    let l = low.0 in
-    let rest = past_all c xs up.1 low.1 in
-    let t : nat_lt x.pid c ≡ true = grind (arith, nat_tests) in
-    let u : nat_lt c x.pid ≡ false = grind (arith, nat_tests) in
-    (rw t (ap (λ o. Some (unwrap_or o x.pid)) rest.0), rw u rest.1)
+past_all c (x ∷ xs) up h = grind (arith, nat_tests, head_low x.pid c (last_pid xs) (end_above x.pid xs up.0), past_all c xs up.1)
 
 -- where the one before n is below c, and n is above c, nothing is between them
 past_some : (c n : ℕ) (ks : List Process) → IsRising ks → c < n → IsSome (lookup n ks) → IfSome (last_below n ks) (λ s. s < c) → (last_below n ks ≡ last_below c ks) × (Some n ≡ first_pid (above c ks))
 unfolding last_below IsRising lookup
-past_some c n [] up l s h = absurd (none n s)
-  where
-    none : (n : ℕ) → IsSome (lookup n []) → ⊥
-    none n s = cc
-past_some c n (x ∷ xs) up l s h =
-    elim (x.pid == n) as (λ b. (x.pid == n) ≡ b → IsSome (cond b (Some x) (find (has_pid n) xs)) → (last_below n (x ∷ xs) ≡ last_below c (x ∷ xs)) × (Some n ≡ first_pid (above c (x ∷ xs)))) [
-      | true ↦ λ e s.
-          let i : x.pid ≡ n = eqb-true _ _ e in
-          let t : nat_lt x.pid n ≡ false = grind (arith, nat_tests) in
-          let u : nat_lt x.pid c ≡ false = grind (arith, nat_tests) in
-          let v : nat_lt c x.pid ≡ true = grind (arith, nat_tests) in
-          (rw (t, u) refl, rw v (ap Some (sym i)))
-      | false ↦ λ e s.
-          let m : x.pid < n = found n xs x.pid up.0 s in
-          let t : nat_lt x.pid n ≡ true = grind (arith, nat_tests) in
-          let low = head_low x.pid c (last_below n xs) (last_above x.pid n xs up.0) (rw t at h) in
-          let k = low.0 in
-          let u : nat_lt x.pid c ≡ true = grind (arith, nat_tests) in
-          let v : nat_lt c x.pid ≡ false = grind (arith, nat_tests) in
-          let rest = past_some c n xs up.1 l s low.1 in
-          (rw (t, u) (ap (λ o. Some (unwrap_or o x.pid)) rest.0), rw v rest.1)
-    ] refl s
+past_some c n [] up l s h = absurd (cc)
+past_some c n (x ∷ xs) up l s h = grind (arith, nat_tests, l, h, found n xs x.pid up.0, head_low x.pid c (last_below n xs) (last_above x.pid n xs up.0), past_some c n xs up.1 l, eqb-true x.pid n)
   where
     found : (n : ℕ) (xs : List Process) (m : ℕ) → Above m xs → IsSome (lookup n xs) → m < n
     found n xs m a s = elim (lookup n xs) as (λ o. lookup n xs ≡ o → IsSome o → m < n) [ None ↦ λ w h. absurd (cc) | Some r ↦ λ w h. found_above m n xs r a w ] refl s
@@ -93,10 +68,7 @@ past_end ks c prev next up w h =
 pub end_found : (q : ℕ) (ks : List Process) → is_it q (last_pid ks) ≡ true → IsSome (lookup q ks)
 unfolding last_pid lookup
 end_found q [] e = absurd (cc)
-end_found q (x ∷ xs) e = elim (last_pid xs) as (λ o. last_pid xs ≡ o → (unwrap_or o x.pid == q) ≡ true → IsSome (find (has_pid q) (x ∷ xs))) [
-  | None ↦ λ w k. rw k refl
-  | Some n ↦ λ w k. let rest = end_found q xs (ap (is_it q) w ∙ k) in elim (x.pid == q) as (λ b. IsSome (cond b (Some x) (find (has_pid q) xs))) [ true ↦ refl | false ↦ rest ]
-] refl e
+end_found q (x ∷ xs) e = grind (arith, end_found q xs)
 
 pub record IsPassed (ks : List Process) (next : Option ℕ) (q : ℕ) : Type 0 where
   pub there : IsSome (lookup q ks)
@@ -121,35 +93,13 @@ past_step ks c q prev next later w e l f = record { before = f; above = l; there
 
 no_more : (s t : ℕ → Bool) → ((m : ℕ) → s m ≡ true → t m ≡ true) → (ks : List Process) → length (filter (λ (r : Process). s r.pid) ks) ≤ length (filter (λ (r : Process). t r.pid) ks)
 no_more s t h [] = omega arith
-no_more s t h (x ∷ xs) =
-    let rest = no_more s t h xs in
-    elim (s x.pid) as (λ b. s x.pid ≡ b → length (cond b (x ∷ filter (λ (r : Process). s r.pid) xs) (filter (λ (r : Process). s r.pid) xs)) ≤ length (filter (λ (r : Process). t r.pid) (x ∷ xs))) [
-      | true ↦ λ e. rw (h x.pid e) (omega (arith, rest))
-      | false ↦ λ e. elim (t x.pid) as (λ b. length (filter (λ (r : Process). s r.pid) xs) ≤ length (cond b (x ∷ filter (λ (r : Process). t r.pid) xs) (filter (λ (r : Process). t r.pid) xs))) [ true ↦ omega (arith, rest) | false ↦ rest ]
-    ] refl
+no_more s t h (x ∷ xs) = grind (arith, h x.pid, no_more s t h xs)
 
 one_less : (s t : ℕ → Bool) → ((m : ℕ) → s m ≡ true → t m ≡ true) → (q : ℕ) → s q ≡ false → t q ≡ true → (ks : List Process) → IsSome (lookup q ks)
     → length (filter (λ (r : Process). s r.pid) ks) < length (filter (λ (r : Process). t r.pid) ks)
 unfolding lookup
-one_less s t h q out in_t [] there = absurd (none q there)
-  where
-    none : (q : ℕ) → IsSome (lookup q []) → ⊥
-    none q there = cc
-one_less s t h q out in_t (x ∷ xs) there =
-    elim (x.pid == q) as (λ b. (x.pid == q) ≡ b → IsSome (cond b (Some x) (find (has_pid q) xs)) → length (filter (λ (r : Process). s r.pid) (x ∷ xs)) < length (filter (λ (r : Process). t r.pid) (x ∷ xs))) [
-      | true ↦ λ e k.
-          let i : x.pid ≡ q = eqb-true _ _ e in
-          let u : s x.pid ≡ false = ap s i ∙ out in
-          let v : t x.pid ≡ true = ap t i ∙ in_t in
-          let rest = no_more s t h xs in
-          rw (u, v) (omega (arith, rest))
-      | false ↦ λ e k.
-          let rest = one_less s t h q out in_t xs k in
-          elim (s x.pid) as (λ b. s x.pid ≡ b → length (cond b (x ∷ filter (λ (r : Process). s r.pid) xs) (filter (λ (r : Process). s r.pid) xs)) < length (filter (λ (r : Process). t r.pid) (x ∷ xs))) [
-            | true ↦ λ e. rw (h x.pid e) (omega (arith, rest))
-            | false ↦ λ e. elim (t x.pid) as (λ b. length (filter (λ (r : Process). s r.pid) xs) < length (cond b (x ∷ filter (λ (r : Process). t r.pid) xs) (filter (λ (r : Process). t r.pid) xs))) [ true ↦ omega (arith, rest) | false ↦ rest ]
-          ] refl
-    ] refl there
+one_less s t h q out in_t [] there = absurd (cc)
+one_less s t h q out in_t (x ∷ xs) there = grind (arith, h x.pid, out, in_t, no_more s t h xs, one_less s t h q out in_t xs, eqb-true x.pid q)
 
 pub fewer_between : (ks : List Process) (c q : ℕ) (prev next : Option ℕ) → IsPast ks c prev next → prev ≡ Some q → c < q → length (between c (Some q) ks) < length (between c next ks)
 fewer_between ks c q prev next w e l =
@@ -164,34 +114,12 @@ fewer_between ks c q prev next w e l =
 
 -- no more of some of them
 pub few_of : (s t : Process → Bool) (ks : List Process) → length (filter s (filter t ks)) ≤ length (filter s ks)
-few_of s t [] = omega arith
-few_of s t (x ∷ xs) =
-    let rest = few_of s t xs in
-    elim (t x) as (λ b. length (filter s (cond b (x ∷ filter t xs) (filter t xs))) ≤ length (filter s (x ∷ xs))) [
-      | true ↦ elim (s x) as (λ b. length (cond b (x ∷ filter s (filter t xs)) (filter s (filter t xs))) ≤ length (cond b (x ∷ filter s xs) (filter s xs))) [ true ↦ omega (arith, rest) | false ↦ rest ]
-      | false ↦ elim (s x) as (λ b. length (filter s (filter t xs)) ≤ length (cond b (x ∷ filter s xs) (filter s xs))) [ true ↦ omega (arith, rest) | false ↦ rest ]
-    ]
+few_of s t ks = rw (filters_commute s t ks, length-filter t (filter s ks)) (count_by-le-length t (filter s ks))
 
 -- those before the gap of c, and those between it and a gap behind it
 pub split : (c : ℕ) (next : Option ℕ) → is_before next c ≡ true → (ks : List Process) → length (between c next ks) + length (filter (λ (r : Process). nat_lt r.pid c) ks) ≤ length (filter (λ (r : Process). is_before next r.pid) ks)
 split c next b [] = omega arith
-split c next b (x ∷ xs) =
-    let rest = split c next b xs in
-    elim (cases_order x.pid c) [
-      | inl eq ↦
-          let t : nat_lt c x.pid ≡ false = grind (arith, nat_tests) in
-          let u : nat_lt x.pid c ≡ false = grind (arith, nat_tests) in
-          rw (t, u) (elim (is_before next x.pid) as (λ b. length (between c next xs) + length (filter (λ (r : Process). nat_lt r.pid c) xs) ≤ length (cond b (x ∷ filter (λ (r : Process). is_before next r.pid) xs) (filter (λ (r : Process). is_before next r.pid) xs))) [ true ↦ omega (arith, rest) | false ↦ rest ])
-      | inr (inl lt) ↦
-          let t : nat_lt c x.pid ≡ false = grind (arith, nat_tests) in
-          let u : nat_lt x.pid c ≡ true = grind (arith, nat_tests) in
-          let v : is_before next x.pid ≡ true = earlier next x.pid lt b in
-          rw (t, u, v) (omega (arith, rest))
-      | inr (inr gt) ↦
-          let t : nat_lt c x.pid ≡ true = grind (arith, nat_tests) in
-          let u : nat_lt x.pid c ≡ false = grind (arith, nat_tests) in
-          rw (t, u) (elim (is_before next x.pid) as (λ b. length (cond b (x ∷ between c next xs) (between c next xs)) + length (filter (λ (r : Process). nat_lt r.pid c) xs) ≤ length (cond b (x ∷ filter (λ (r : Process). is_before next r.pid) xs) (filter (λ (r : Process). is_before next r.pid) xs))) [ true ↦ omega (arith, rest) | false ↦ rest ])
-    ]
+split c next b (x ∷ xs) = grind (arith, nat_tests, b, earlier next x.pid, split c next b xs)
   where
     earlier : (next : Option ℕ) (m : ℕ) → m < c → is_before next c ≡ true → is_before next m ≡ true
     earlier None m l b = refl
@@ -209,7 +137,7 @@ prev_of_child ns roots c p q up j there =
       | Some r ↦ λ f h.
           let i = in_filter (is_child p) ks (rising_removed c (records ns) up) q r f in
           let parent : r.parent ≡ p = eqb-true _ _ i.passes in
-          let n = node_of ns q r (lookup_kept c q (records ns) r i.found) in (
+          let n = node_of ns q r (lookup_left c q (records ns) r i.found) in (
             ap (option_and_then (λ (n : Node). n.links.prev)) n.found ∙ j.prevs q r n.what i.found n.found ∙ ap (λ k. last_below q (filter (is_child k) ks)) parent,
             λ k. let none : lookup q ks ≡ None = ap (λ n. lookup n ks) k ∙ lookup_removed c (records ns) in let no = sym none ∙ i.found in cc,
           )

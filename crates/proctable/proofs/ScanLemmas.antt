@@ -6,9 +6,9 @@ use Rattle.posix.specs.Processes.{Process}
 use Rattle.posix.specs.Tables.{IsRising, lookup, is_child, children_in, first_pid, above, parent_of, next_sibling, next_above, inserted, pids}
 use Rattle.posix.proofs.TableLemmas.{Above, lookup_at, changed_at, rising_changed}
 use Rattle.posix.proofs.WalkLemmas.{filters_commute}
-use Rattle.pidset.specs.Numbers.{Rises, numbers_above, IsNumberAt, inserted_by}
+use Rattle.pidset.specs.Numbers.{Rises, numbers_above, IsNumberAt, inserted_in_order}
 use Rattle.pidset.proofs.NumberLemmas.{AllAbove}
-use Rattle.pidset.proofs.RowLemmas.{above_at, read_at as row_read}
+use Rattle.pidset.proofs.ItemLemmas.{above_at, read_at as item_read}
 use Rattle.proctable.specs.declared.body.Body.{Body}
 use Rattle.proctable.specs.Body.{process_of, give_body, with_body}
 
@@ -25,16 +25,16 @@ rises_pids [] u = tt
 rises_pids (r ∷ rs) u = (above_numbers r.pid rs u.0, rises_pids rs u.1)
 
 -- a record goes in as a row does
-pub inserted_row : (new : Process) (rs : List Process) → inserted_by (λ (r : Process). r.pid) new rs ≡ inserted new rs
-unfolding inserted inserted_by
-inserted_row new [] = refl
-inserted_row new (r ∷ rs) = ap (λ l. cond (nat_lt new.pid r.pid) (new ∷ r ∷ rs) (r ∷ l)) (inserted_row new rs)
+pub inserted_same : (new : Process) (rs : List Process) → inserted_in_order (λ (r : Process). r.pid) new rs ≡ inserted new rs
+unfolding inserted inserted_in_order
+inserted_same new [] = refl
+inserted_same new (r ∷ rs) = ap (λ l. cond (nat_lt new.pid r.pid) (new ∷ r ∷ rs) (r ∷ l)) (inserted_same new rs)
 
 -- the least number above another is that of the next record
-pub next_row : (n : ℕ) (rs : List Process) → slice_get (numbers_above n (pids rs)) 0 ≡ next_above n rs
+pub next_same : (n : ℕ) (rs : List Process) → slice_get (numbers_above n (pids rs)) 0 ≡ next_above n rs
 unfolding next_above
-next_row n [] = refl
-next_row n (r ∷ rs) = elim (nat_lt n r.pid) as (λ b. slice_get (cond b (r.pid ∷ numbers_above n (pids rs)) (numbers_above n (pids rs))) 0 ≡ first_pid (cond b (r ∷ above n rs) (above n rs))) [ true ↦ refl | false ↦ next_row n rs ]
+next_same n [] = refl
+next_same n (r ∷ rs) = elim (nat_lt n r.pid) as (λ b. slice_get (cond b (r.pid ∷ numbers_above n (pids rs)) (numbers_above n (pids rs))) 0 ≡ first_pid (cond b (r ∷ above n rs) (above n rs))) [ true ↦ refl | false ↦ next_same n rs ]
 
 -- ---- a record that was read
 
@@ -47,7 +47,7 @@ pub record Read (rs : List Process) (p i : ℕ) (r : Process) : Type 0 where
 -- the record at the index of a process is such a record
 pub read_at : (rs : List Process) → IsRising rs → (p i : ℕ) (r : Process) → IsNumberAt (pids rs) p i → r ≡ get_or rs i r → Read rs p i r
 read_at rs up p i r a e =
-    let at : slice_get rs i ≡ Some r = row_read (λ (r : Process). r.pid) rs p i r a e in
+    let at : slice_get rs i ≡ Some r = item_read (λ (r : Process). r.pid) rs p i r a e in
     let named : Some r.pid ≡ Some p = sym (slice_get-map (λ (r : Process). r.pid) rs i ∙ ap (option_map (λ (r : Process). r.pid)) at) ∙ a in
     let here : r.pid ≡ p = cc in
     record { at = at; here = here; looked = lookup_at rs up p i r at here }

@@ -1,9 +1,12 @@
 -- What an index and slots are worth.
-use Rattle.std.specs.Prelude.{◌≡◌, ℕ, ◌==◌, List, map, find, filter_map, Option, Some}
+use Rattle.std.specs.Prelude.{◌≡◌, ℕ, ◌==◌, List, length, map, find, filter_map, Option, Some}
 use Rattle.std.specs.List.{AllByRecursion}
-use Rattle.slab.specs.Slab.{Slab, get}
+use Rattle.std.specs.Borrow.{MutBor}
+use Rattle.std.specs.Fn.{Once, FnOnceReturnsAtMut}
+use Rattle.slab.specs.Slab.{Slab, get, slab_len}
 use Rattle.proctable.specs.declared.body.Body.{Body}
 use Rattle.proctable.specs.declared.entry.Entry.{Entry}
+use Rattle.proctable.specs.declared.node.Links.{Links}
 use Rattle.proctable.specs.declared.node.Node.{Node}
 use Rattle.pidset.specs.Numbers.{Rises}
 use Rattle.proctable.specs.Nodes.{changed_node}
@@ -31,27 +34,37 @@ pub record Stands (slab : Slab Node) (e : Entry) : Type 0 where
   pub at : get slab e.slot ≡ Some what
   pub named : what.pid ≡ e.pid
 
+-- the entries rise, and name all slots that have a node
 pub record IsIndexed (es : List Entry) (slab : Slab Node) : Type 0 where
   pub rising : Rises (pids_of es)
   pub standing : AllByRecursion (Stands slab) es
+  pub counted : slab_len slab ≡ length es
 
 abbrev pub give_body : Body → Node → Node
 give_body b n = record n { body = b }
 
+-- the links changed as f does
+abbrev pub with_links : (Links → Links) → Node → Node
+with_links f n = record n { links = f n.links }
+
+-- the closure changes links as f does
+abbrev pub Changes : {F : Type 0} → Once F (MutBor Links × Unit {0}) (Unit {0} × (MutBor Links × Unit {0})) → F → (Links → Links) → Type 0
+Changes g change f = (l l' : Links) → FnOnceReturnsAtMut g change l tt l' → l' ≡ f l
+
 abbrev pub relinked : ℕ → Option ℕ → Option ℕ → Node → Node
-relinked p a b n = record n { links = record (n.links) { parent = p; prev = a; next = b } }
+relinked p a b n = with_links (λ l. record l { parent = p; prev = a; next = b }) n
 
 abbrev pub with_first : Option ℕ → Node → Node
-with_first o n = record n { links = record (n.links) { children = record (n.links.children) { first = o } } }
+with_first o n = with_links (λ l. record l { children = record (l.children) { first = o } }) n
 
 abbrev pub with_last : Option ℕ → Node → Node
-with_last o n = record n { links = record (n.links) { children = record (n.links.children) { last = o } } }
+with_last o n = with_links (λ l. record l { children = record (l.children) { last = o } }) n
 
 abbrev pub with_prev : Option ℕ → Node → Node
-with_prev o n = record n { links = record (n.links) { prev = o } }
+with_prev o n = with_links (λ l. record l { prev = o }) n
 
 abbrev pub with_next : Option ℕ → Node → Node
-with_next o n = record n { links = record (n.links) { next = o } }
+with_next o n = with_links (λ l. record l { next = o }) n
 
 abbrev pub cells_with_body : CellsView → ℕ → Body → CellsView
 cells_with_body c p b = record c { nodes = changed_node p (give_body b) c.nodes; reads = one_more c.reads }

@@ -1,7 +1,7 @@
 -- Nodes in rising order of their numbers, and the processes that they stand for.
 use Rattle.std.specs.Prelude.{ℕ, ◌==◌, not, if◌then◌else◌, List, map, filter, find, Option, None}
 use Rattle.posix.specs.Processes.{Process}
-use Rattle.pidset.specs.Numbers.{inserted_by}
+use Rattle.pidset.specs.Numbers.{inserted_in_order}
 use Rattle.proctable.specs.declared.facts.Facts.{Facts}
 use Rattle.proctable.specs.Body.{process_of, facts_of}
 use Rattle.proctable.specs.declared.node.Ends.{Ends}
@@ -30,7 +30,7 @@ unfoldable pub changed_node : ℕ → (Node → Node) → List Node → List Nod
 changed_node p f ns = map (at_node p f) ns
 
 abbrev pub inserted_node : Node → List Node → List Node
-inserted_node new ns = inserted_by (λ (n : Node). n.pid) new ns
+inserted_node new ns = inserted_in_order (λ (n : Node). n.pid) new ns
 
 unfoldable pub removed_node : ℕ → List Node → List Node
 removed_node p ns = filter (λ (r : Node). not (r.pid == p)) ns

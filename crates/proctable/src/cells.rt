@@ -5,7 +5,7 @@ ghost use Rattle.std.specs.Borrow.{sem, Lends};
 ghost use Rattle.posix.specs.Tables.{IsRising, lookup, next_above};
 ghost use Rattle.proctable.specs.Body.{body_row, facts_of};
 ghost use Rattle.proctable.specs.Nodes.{find_node, changed_node, inserted_node, removed_node, records};
-ghost use Rattle.proctable.specs.Cells.{cells_with_body, with_first, with_last, with_prev, with_next, relinked};
+ghost use Rattle.proctable.specs.Cells.{cells_with_body, with_links, Changes};
 ghost use Rattle.proctable.specs.contracts.cells.Cells.{the_row as cells_row};
 
 use crate::body::Body;
@@ -20,7 +20,7 @@ use std::marker::Model;
 
 /// Nodes, seen as a list in rising order of their numbers. Each is found by a binary search of the index.
 ///
-/// A call reads at most one slot, and none where the process isn't there.
+/// A call reads at most one slot.
 #[derive(Drop)]
 pub struct Cells {
     index: Vec<Entry>,
@@ -89,65 +89,16 @@ impl Cells {
         }
     }
 
-    /// Sets the first child of a process; nothing changes where it isn't there.
-    pub fn set_first(&mut self, pid: Pid, first: Option<Pid>)
-        ensures nodes { self.new.nodes ≡ changed_node pid (with_first first) self.old.nodes }
+    /// Changes the links of a process; nothing changes where it isn't there.
+    pub fn relink<F: FnOnce(&mut Links)>(&mut self, pid: Pid, change: F)
+        requires { F.IsAlwaysCallable change }
+        ensures nodes { (f : _) → Changes F.FnOnce change f → self.new.nodes ≡ changed_node pid (with_links f) self.old.nodes }
         ensures room { self.new.room ≡ self.old.room }
         ensures reads { self.new.reads ≤ self.old.reads + 1 }
     {
         if let Some(slot) = slot_of(&self.index, pid) {
             let node = self.slots.node(slot);
-            node.links.children.first = first;
-        }
-    }
-
-    /// Sets the last child of a process; nothing changes where it isn't there.
-    pub fn set_last(&mut self, pid: Pid, last: Option<Pid>)
-        ensures nodes { self.new.nodes ≡ changed_node pid (with_last last) self.old.nodes }
-        ensures room { self.new.room ≡ self.old.room }
-        ensures reads { self.new.reads ≤ self.old.reads + 1 }
-    {
-        if let Some(slot) = slot_of(&self.index, pid) {
-            let node = self.slots.node(slot);
-            node.links.children.last = last;
-        }
-    }
-
-    /// Sets the sibling before a process; nothing changes where it isn't there.
-    pub fn set_prev(&mut self, pid: Pid, prev: Option<Pid>)
-        ensures nodes { self.new.nodes ≡ changed_node pid (with_prev prev) self.old.nodes }
-        ensures room { self.new.room ≡ self.old.room }
-        ensures reads { self.new.reads ≤ self.old.reads + 1 }
-    {
-        if let Some(slot) = slot_of(&self.index, pid) {
-            let node = self.slots.node(slot);
-            node.links.prev = prev;
-        }
-    }
-
-    /// Sets the sibling after a process; nothing changes where it isn't there.
-    pub fn set_next(&mut self, pid: Pid, next: Option<Pid>)
-        ensures nodes { self.new.nodes ≡ changed_node pid (with_next next) self.old.nodes }
-        ensures room { self.new.room ≡ self.old.room }
-        ensures reads { self.new.reads ≤ self.old.reads + 1 }
-    {
-        if let Some(slot) = slot_of(&self.index, pid) {
-            let node = self.slots.node(slot);
-            node.links.next = next;
-        }
-    }
-
-    /// Sets where a process stands, all but its children; nothing changes where it isn't there.
-    pub fn relink(&mut self, pid: Pid, parent: Pid, prev: Option<Pid>, next: Option<Pid>)
-        ensures nodes { self.new.nodes ≡ changed_node pid (relinked parent prev next) self.old.nodes }
-        ensures room { self.new.room ≡ self.old.room }
-        ensures reads { self.new.reads ≤ self.old.reads + 1 }
-    {
-        if let Some(slot) = slot_of(&self.index, pid) {
-            let node = self.slots.node(slot);
-            node.links.parent = parent;
-            node.links.prev = prev;
-            node.links.next = next;
+            change(&mut node.links);
         }
     }
 

@@ -5,7 +5,7 @@ ghost use Rattle.pidset.specs.Numbers.{Rises};
 ghost use Rattle.proctable.specs.Cells.{entry_of, pids_of};
 
 use pidset::Numbered;
-use pidset::numbered::row_of;
+use pidset::numbered::item_of;
 use posix::Pid;
 
 /// A process and its slot.
@@ -30,7 +30,7 @@ pub fn slot_of(entries: &[Entry], pid: Pid) -> Option<usize>
     requires { Rises (pids_of entries.now) }
     ensures { result ≡ option_map (λ e. e.slot) (entry_of pid entries.now) }
 {
-    match row_of(entries, pid) {
+    match item_of(entries, pid) {
         Some(entry) => Some(entry.slot),
         None => None,
     }

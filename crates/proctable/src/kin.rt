@@ -1,6 +1,6 @@
 //! What a table of processes has to do.
 
-ghost use Rattle.std.specs.Prelude.{◌≡◌, ◌+◌, ◌^◌, ◌<◌, ◌≤◌, ◌⊎◌, ℕ, [], List, None, Some, IsSome, OnOk, option_map, length};
+ghost use Rattle.std.specs.Prelude.{◌≡◌, ◌+◌, ◌*◌, ◌^◌, ◌<◌, ◌≤◌, ◌⊎◌, ℕ, [], List, None, Some, IsSome, OnOk, option_map, length};
 ghost use Rattle.std.specs.Borrow.{sem, Lends};
 ghost use Rattle.posix.specs.Processes.{Process};
 ghost use Rattle.posix.specs.Tables.{IsRising, lookup, inserted, removed, children_in, first_pid, next_above, next_sibling, parent_of, adopted};
@@ -56,7 +56,7 @@ pub trait Kin: Drop {
         ensures rising { IsRising (contents self.old) }
         ensures contents { contents self.new ≡ inserted (process_of pid parent body) (contents self.old) }
         ensures room { room self.old ≤ room self.new + 1 }
-        ensures reads { reads self.new ≤ reads self.old + 6 + length (children_in parent (contents self.old)) };
+        ensures reads { reads self.new ≤ reads self.old + 5 + length (children_in parent (contents self.old)) };
 
     /// The small fields of a process; none where it isn't there.
     fn get(&mut self, pid: Pid) -> Option<Facts>
@@ -115,7 +115,8 @@ pub trait Kin: Drop {
         requires { IsSome (lookup to (contents self.old)) }
         ensures rising { IsRising (contents self.old) }
         ensures contents { contents self.new ≡ adopted from to (contents self.old) }
-        ensures room { room self.new ≡ room self.old };
+        ensures room { room self.new ≡ room self.old }
+        ensures reads { reads self.new ≤ reads self.old + 1 + 8 * length (children_in from (contents self.old)) + length (children_in to (contents self.old)) };
 
     /// How many slots have been read, up to the greatest u128; 0 in a table that doesn't count them.
     fn visits(&self) -> u128

@@ -103,13 +103,12 @@ fn follow(
     ensures room { cells.new.room ≡ cells.old.room }
     ensures reads { cells.new.reads ≤ cells.old.reads + 1 }
 {
-    let top = after;
     match prev {
-        Some(sibling) => cells.set_next(sibling, after),
+        Some(sibling) => cells.relink(sibling, |links| links.next = after),
         None => {
-            cells.set_first(parent, after);
+            cells.relink(parent, |links| links.children.first = after);
             if parent == Pid::NONE {
-                return top;
+                return after;
             }
         }
     }
@@ -130,13 +129,12 @@ fn precede(
     ensures room { cells.new.room ≡ cells.old.room }
     ensures reads { cells.new.reads ≤ cells.old.reads + 1 }
 {
-    let bottom = before;
     match next {
-        Some(sibling) => cells.set_prev(sibling, before),
+        Some(sibling) => cells.relink(sibling, |links| links.prev = before),
         None => {
-            cells.set_last(parent, before);
+            cells.relink(parent, |links| links.children.last = before);
             if parent == Pid::NONE {
-                return bottom;
+                return before;
             }
         }
     }
@@ -191,7 +189,11 @@ pub fn link(cells: &mut Cells, roots: Ends, parent: Pid, pid: Pid, above: Option
     let (before, after) = neighbours(cells, roots, parent, pid, above);
     let prev = before;
     let next = after;
-    cells.relink(pid, parent, before, after);
+    cells.relink(pid, |links| {
+        links.parent = parent;
+        links.prev = before;
+        links.next = after;
+    });
     rejoin(cells, top, parent, prev, next, Some(pid), Some(pid))
 }
 

@@ -10,7 +10,7 @@ use crate::facts::Facts;
 use crate::kin::Kin;
 use crate::slot::Slot;
 use pidset::Numbered;
-use pidset::numbered::{found, next_above, put_in, row_of, take_out};
+use pidset::numbered::{found, item_of, next_above, put_in, take_out};
 use posix::Pid;
 use std::alloc::{AllocError, Global};
 use std::marker::Model;
@@ -68,7 +68,7 @@ impl Kin for ScanTable {
     }
 
     fn get(&mut self, pid: Pid) -> Option<Facts> {
-        let Some(slot) = row_of(&self.slots, pid) else {
+        let Some(slot) = item_of(&self.slots, pid) else {
             return None;
         };
         Some(slot.facts())

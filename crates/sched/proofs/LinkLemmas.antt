@@ -4,9 +4,10 @@ use Rattle.std.proofs.lemmas.Bool.{eqb-true, eqb-false, eq-eqb, ne_eqb}
 use Rattle.std.proofs.lemmas.List.{get_or_read}
 use Rattle.posix.specs.States.{is_in, without}
 use Rattle.posix.specs.Regular.{IsDistinct}
+use Rattle.posix.proofs.MemberLemmas.{in_first, in_rest, in_none, apart_first, apart_rest}
 use Rattle.sched.specs.declared.links.Node.{Node}
 use Rattle.sched.specs.Links.{node_of, next_of, prev_of, read_off, IsLinked, IsJoined}
-use Rattle.sched.proofs.MemberLemmas.{differ, in_first, in_rest, in_either, nobody, wider, narrower, out, out_of_both, without_first, without_later}
+use Rattle.sched.proofs.MemberLemmas.{differ, in_longer, wider, narrower, without_first, without_later}
 
 -- ---- two that are joined, and the others
 
@@ -83,11 +84,11 @@ pub next_in : (ns : List Node) (b : ℕ) (ps : List ℕ) (a : ℕ) → IsLinked 
 unfolding IsLinked
 next_in ns b [] a l p e = elim (b == p) as (λ c. (b == p) ≡ c → is_in (next_of ns p) (a ∷ []) ≡ true) [
   | true ↦ λ t. rw (ap (next_of ns) (sym (eqb-true b p t)) ∙ l.0) (in_first a [])
-  | false ↦ λ t. absurd (nobody p (in_either p b [] e (eqb-false b p t)))
+  | false ↦ λ t. absurd (in_none p (sym (in_rest p b [] (eqb-false b p t)) ∙ e))
 ] refl
 next_in ns b (x ∷ xs) a l p e = elim (b == p) as (λ c. (b == p) ≡ c → is_in (next_of ns p) (a ∷ x ∷ xs) ≡ true) [
-  | true ↦ λ t. rw (ap (next_of ns) (sym (eqb-true b p t)) ∙ l.0) (in_rest x a (x ∷ xs) (in_first x xs))
-  | false ↦ λ t. wider (next_of ns p) a x xs (next_in ns x xs a l.2 p (in_either p b (x ∷ xs) e (eqb-false b p t)))
+  | true ↦ λ t. rw (ap (next_of ns) (sym (eqb-true b p t)) ∙ l.0) (in_longer x a (x ∷ xs) (in_first x xs))
+  | false ↦ λ t. wider (next_of ns p) a x xs (next_in ns x xs a l.2 p (sym (in_rest p b (x ∷ xs) (eqb-false b p t)) ∙ e))
 ] refl
 
 -- what comes before one of them or the end is one of them or the one before them
@@ -95,11 +96,11 @@ pub prev_in : (ns : List Node) (b : ℕ) (ps : List ℕ) (a : ℕ) → IsLinked 
 unfolding IsLinked
 prev_in ns b [] a l p e = elim (a == p) as (λ c. (a == p) ≡ c → is_in (prev_of ns p) (b ∷ []) ≡ true) [
   | true ↦ λ t. rw (ap (prev_of ns) (sym (eqb-true a p t)) ∙ l.1) (in_first b [])
-  | false ↦ λ t. absurd (nobody p (in_either p a [] e (eqb-false a p t)))
+  | false ↦ λ t. absurd (in_none p (sym (in_rest p a [] (eqb-false a p t)) ∙ e))
 ] refl
 prev_in ns b (x ∷ xs) a l p e = elim (x == p) as (λ c. (x == p) ≡ c → is_in (prev_of ns p) (b ∷ x ∷ xs) ≡ true) [
   | true ↦ λ t. rw (ap (prev_of ns) (sym (eqb-true x p t)) ∙ l.1) (in_first b (x ∷ xs))
-  | false ↦ λ t. in_rest (prev_of ns p) b (x ∷ xs) (prev_in ns x xs a l.2 p (narrower p a x xs e (eqb-false x p t)))
+  | false ↦ λ t. in_longer (prev_of ns p) b (x ∷ xs) (prev_in ns x xs a l.2 p (narrower p a x xs e (eqb-false x p t)))
 ] refl
 
 -- links stay where the nodes of those that are linked do
@@ -109,8 +110,8 @@ unfolding IsLinked
 stay old new b [] a n p l = (n b (in_first b []) ∙ l.0, p a (in_first a []) ∙ l.1)
 stay old new b (x ∷ xs) a n p l = (
   n b (in_first b (x ∷ xs)) ∙ l.0,
-  p x (in_rest x a (x ∷ xs) (in_first x xs)) ∙ l.1,
-  stay old new x xs a (λ i e. n i (in_rest i b (x ∷ xs) e)) (λ i e. p i (wider i a x xs e)) l.2,
+  p x (in_longer x a (x ∷ xs) (in_first x xs)) ∙ l.1,
+  stay old new x xs a (λ i e. n i (in_longer i b (x ∷ xs) e)) (λ i e. p i (wider i a x xs e)) l.2,
 )
 
 -- links that lead to y, and on from it
@@ -124,48 +125,45 @@ pub turned : (old new : List Node) (c b : ℕ) (ps : List ℕ) (a : ℕ) → IsL
 unfolding IsLinked IsDistinct
 turned old new c b [] a l j ob d oc = (subst (λ n. next_of new n ≡ c) l.1 (joined_next j), joined_prev j ∙ l.1)
 turned old new c b (x ∷ xs) a l j ob d oc =
-    let o = out c x xs oc in
     let among : is_in (prev_of old a) (x ∷ xs) ≡ true = prev_in old x xs a l.2 a (in_first a xs) in (
       other_next j b (λ e. differ _ b (x ∷ xs) among ob (sym e)) ∙ l.0,
-      other_prev j x o.first ∙ l.1,
-      turned old new c x xs a l.2 j d.0 d.1 o.rest,
+      other_prev j x (λ e. apart_first c x xs oc (sym e)) ∙ l.1,
+      turned old new c x xs a l.2 j d.0 d.1 (apart_rest c x xs oc),
     )
 
 -- the one before p and those after it are joined
 bridged : (old new : List Node) (b p : ℕ) (ps : List ℕ) (a : ℕ) → IsLinked old p ps a → IsJoined old new b (next_of old p) → is_in b ps ≡ false → is_in a ps ≡ false → IsDistinct ps → IsLinked new b ps a
 unfolding IsLinked IsDistinct
 bridged old new b p [] a l j ob oa d = (joined_next j ∙ l.0, subst (λ n. prev_of new n ≡ b) l.0 (joined_prev j))
-bridged old new b p (y ∷ ys) a l j ob oa d =
-    let o = out a y ys oa in (
-      joined_next j ∙ l.0,
-      subst (λ n. prev_of new n ≡ b) l.0 (joined_prev j),
-      stay old new y ys a
-          (λ i e. other_next j i (differ i b (y ∷ ys) e ob))
-          (λ i e. other_prev j i (λ same. differ i y (a ∷ ys) e (out_of_both y a ys (λ t. o.first (sym t)) d.0) (same ∙ l.0)))
-          l.2,
-    )
+bridged old new b p (y ∷ ys) a l j ob oa d = (
+  joined_next j ∙ l.0,
+  subst (λ n. prev_of new n ≡ b) l.0 (joined_prev j),
+  stay old new y ys a
+      (λ i e. other_next j i (differ i b (y ∷ ys) e ob))
+      (λ i e. other_prev j i (λ same. differ i y (a ∷ ys) e (in_rest y a ys (apart_first a y ys oa) ∙ d.0) (same ∙ l.0)))
+      l.2,
+)
 
 -- p is taken out
 pub taken_out : (old new : List Node) (p b : ℕ) (ps : List ℕ) (a : ℕ) → IsLinked old b ps a → IsJoined old new (prev_of old p) (next_of old p) → is_in b ps ≡ false → is_in a ps ≡ false → IsDistinct ps → is_in p ps ≡ true
     → IsLinked new b (without p ps) a
 unfolding IsLinked IsDistinct
-taken_out old new p b [] a l j ob oa d e = absurd (nobody p e)
+taken_out old new p b [] a l j ob oa d e = absurd (in_none p e)
 taken_out old new p b (x ∷ xs) a l j ob oa d e = elim (x == p) as (λ c. (x == p) ≡ c → IsLinked new b (without p (x ∷ xs)) a) [
   | true ↦ λ t.
       let same : p ≡ x = sym (eqb-true x p t) in
       let k : IsJoined old new b (next_of old x) = subst (λ n. IsJoined old new n (next_of old x)) l.1 (subst (λ n. IsJoined old new (prev_of old n) (next_of old n)) same j) in
-      let r : IsLinked new b xs a = bridged old new b x xs a l.2 k (out b x xs ob).rest (out a x xs oa).rest d.1 in
+      let r : IsLinked new b xs a = bridged old new b x xs a l.2 k (apart_rest b x xs ob) (apart_rest a x xs oa) d.1 in
       subst (λ qs. IsLinked new b qs a) (sym (ap (λ n. without n (x ∷ xs)) same ∙ without_first x xs d.0)) r
   | false ↦ λ t.
       let ne : x ≢ p = eqb-false x p t in
-      let later : is_in p xs ≡ true = in_either p x xs e ne in
-      let o = out a x xs oa in
-      let before : is_in (prev_of old p) (x ∷ xs) ≡ true = prev_in old x xs a l.2 p (in_rest p a xs later) in
-      let after : is_in (next_of old p) (a ∷ xs) ≡ true = next_in old x xs a l.2 p (in_rest p x xs later) in
+      let later : is_in p xs ≡ true = sym (in_rest p x xs ne) ∙ e in
+      let before : is_in (prev_of old p) (x ∷ xs) ≡ true = prev_in old x xs a l.2 p (in_longer p a xs later) in
+      let after : is_in (next_of old p) (a ∷ xs) ≡ true = next_in old x xs a l.2 p (in_longer p x xs later) in
       let r : IsLinked new b (x ∷ without p xs) a = (
         other_next j b (λ same. differ _ b (x ∷ xs) before ob (sym same)) ∙ l.0,
-        other_prev j x (λ same. differ _ x (a ∷ xs) after (out_of_both x a xs (λ t. o.first (sym t)) d.0) (sym same)) ∙ l.1,
-        taken_out old new p x xs a l.2 j d.0 o.rest d.1 later,
+        other_prev j x (λ same. differ _ x (a ∷ xs) after (in_rest x a xs (apart_first a x xs oa) ∙ d.0) (sym same)) ∙ l.1,
+        taken_out old new p x xs a l.2 j d.0 (apart_rest a x xs oa) d.1 later,
       ) in
       subst (λ qs. IsLinked new b qs a) (sym (without_later p x xs ne)) r
 ] refl

@@ -1,10 +1,11 @@
 -- A list read off from its nodes, as its calls change it.
 use Rattle.std.proofs.Common.{◌≡◌, ℕ, ◌+◌, ◌-◌, ◌<◌, ◌≤◌, true, false, ap, sym, ◌∙◌, arith, subst, List, [], ◌∷◌, ◌++◌, length, slice_set, length-append}
 use Rattle.posix.specs.States.{is_in, without}
-use Rattle.posix.proofs.OrderLemmas.{without_absent}
+use Rattle.posix.proofs.MemberLemmas.{in_first}
+use Rattle.posix.proofs.OrderLemmas.{without_absent, one_less}
 use Rattle.sched.specs.declared.links.Node.{Node}
 use Rattle.sched.specs.Links.{Linked, next_of, prev_of, read_off, IsJoined, IsJoinedLast, IsKept, unlinked}
-use Rattle.sched.proofs.MemberLemmas.{in_first, in_rest, one_less}
+use Rattle.sched.proofs.MemberLemmas.{in_longer}
 use Rattle.sched.proofs.LinkLemmas.{read_length}
 use Rattle.sched.proofs.RingLemmas.{next_inside, prev_inside, read, ring_removed, kept_added, kept_removed, kept_moved}
 
@@ -37,8 +38,8 @@ known ns room n p v k view e =
     let there : is_in p (read_off n ns room) ≡ true = ap (λ (l : Linked). is_in p l.numbers) view ∙ e in
     let less = r.below p there in
     let size = r.size in
-    let before = prev_inside r p (in_rest p room _ there) in
-    let after = next_inside r p (in_rest p room _ there) in
+    let before = prev_inside r p (in_longer p room _ there) in
+    let after = next_inside r p (in_longer p room _ there) in
     let l = one_less p _ r.distinct there in
     let count = read_length n ns room in
     record {

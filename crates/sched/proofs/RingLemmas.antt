@@ -1,23 +1,16 @@
 -- A ring of nodes, as a number is added to it or taken out.
-use Rattle.std.proofs.Common.{◌≡◌, ◌≢◌, ℕ, ◌+◌, ◌<◌, ◌≤◌, Bool, true, false, cond, not, ◌||◌, refl, ap, sym, ◌∙◌, arith, subst, List, [], ◌∷◌, ◌++◌, length, Some, None, slice_get, slice_set, ◌==◌, replicate, length-set, length-set}
+use Rattle.std.proofs.Common.{◌≡◌, ◌≢◌, ℕ, ◌+◌, ◌<◌, ◌≤◌, Bool, true, false, cond, not, ◌||◌, refl, ap, sym, ◌∙◌, arith, subst, List, [], ◌∷◌, ◌++◌, length, Some, None, slice_get, slice_set, ◌==◌, replicate, length-set, inl, inr}
 use Rattle.std.proofs.lemmas.List.{get_or-replicate, length-replicate}
-use Rattle.std.proofs.lemmas.Bool.{eqb-true, eqb-false, ne_eqb}
+use Rattle.std.proofs.lemmas.Bool.{eqb-true, eqb-false, ne_eqb, or_right, or_cases}
 use Rattle.posix.specs.States.{is_in, without}
 use Rattle.posix.specs.Regular.{IsDistinct}
-use Rattle.posix.proofs.OrderLemmas.{out_of, last_in, distinct_last}
-use Rattle.posix.proofs.RegularLemmas.{in_without, distinct_without}
+use Rattle.posix.proofs.MemberLemmas.{in_first, in_rest, in_none, in_last, or_none, is_other, others_stay, out_of}
+use Rattle.posix.proofs.OrderLemmas.{distinct_last}
+use Rattle.posix.proofs.RegularLemmas.{distinct_without}
 use Rattle.sched.specs.declared.links.Node.{Node}
 use Rattle.sched.specs.Links.{next_of, prev_of, read_off, IsLinked, IsJoined, IsJoinedLast, IsRing, IsKept, Tells, nowhere, unlinked}
-use Rattle.sched.proofs.MemberLemmas.{differ, in_first, in_rest, in_either, nobody, out_of_both, still_in, at_most}
+use Rattle.sched.proofs.MemberLemmas.{differ, in_longer, at_most}
 use Rattle.sched.proofs.LinkLemmas.{joined_next, joined_prev, other_next, other_prev, next_set, prev_set, read_back, next_in, prev_in, stay, appended, turned, taken_out}
-
-or_true : (b : Bool) → (b || true) ≡ true
-or_true true = refl
-or_true false = refl
-
-or_none : (b : Bool) → (b || false) ≡ b
-or_none true = refl
-or_none false = refl
 
 -- ---- what a ring says of its nodes
 
@@ -29,7 +22,7 @@ room_out {room = room} {ps = ps} r = elim (is_in room ps) as (λ b. is_in room p
 inside : {ns : List Node} {room : ℕ} {ps : List ℕ} → IsRing ns room ps → (i : ℕ) → is_in i (room ∷ ps) ≡ true → i ≤ room
 inside {room = room} {ps = ps} r i e = elim (room == i) as (λ b. (room == i) ≡ b → i ≤ room) [
   | true ↦ λ t. let same : room ≡ i = eqb-true room i t in omega (arith, same)
-  | false ↦ λ t. let l = r.below i (in_either i room ps e (eqb-false room i t)) in omega (arith, l)
+  | false ↦ λ t. let l = r.below i (sym (in_rest i room ps (eqb-false room i t)) ∙ e) in omega (arith, l)
 ] refl
 
 -- so are the neighbours of the room and of each number
@@ -68,7 +61,7 @@ ring_new ns new room less size j = record {
   limit = less;
   linked = (joined_next j, joined_prev j);
   distinct = tt;
-  below = λ i t. absurd (nobody i t);
+  below = λ i t. absurd (in_none i t);
 }
 
 -- a number comes last
@@ -79,17 +72,14 @@ ring_added old new room p ps r less o j =
     let apart : p ≢ room = λ e. omega (arith, e, less) in
     let led : IsLinked j.between room ps p = turned old j.between p room ps room r.linked j.before away r.distinct o in
     let still : IsLinked new room ps p = stay j.between new room ps p
-    (λ i e. other_next j.after i (differ i p (room ∷ ps) e (out_of_both p room ps (λ t. apart (sym t)) o)))
-    (λ i e. other_prev j.after i (differ i room (p ∷ ps) e (out_of_both room p ps apart away))) led in
+    (λ i e. other_next j.after i (differ i p (room ∷ ps) e (in_rest p room ps (λ t. apart (sym t)) ∙ o)))
+    (λ i e. other_prev j.after i (differ i room (p ∷ ps) e (in_rest room p ps apart ∙ away))) led in
     record {
       size = j.after.size ∙ j.before.size ∙ r.size;
       limit = r.limit;
       linked = appended new room ps p [] room still (joined_next j.after, joined_prev j.after);
       distinct = distinct_last p ps r.distinct o;
-      below = λ i e. elim (p == i) as (λ b. (p == i) ≡ b → i < room) [
-        | true ↦ λ t. let same : p ≡ i = eqb-true p i t in omega (arith, same, less)
-        | false ↦ λ t. r.below i (sym (or_none (is_in i ps)) ∙ ap (λ b. is_in i ps || b) (sym t) ∙ sym (last_in i p ps) ∙ e)
-      ] refl;
+      below = λ i e. elim (or_cases _ (p == i) (sym (in_last i p ps) ∙ e)) [ inl t ↦ r.below i t | inr t ↦ subst (λ n. n < room) (eqb-true p i t) less ];
     }
 
 -- a number is taken out
@@ -101,14 +91,14 @@ ring_removed old new room p ps r e j =
       limit = r.limit;
       linked = taken_out old new p room ps room r.linked j away away r.distinct e;
       distinct = distinct_without p ps r.distinct;
-      below = λ i t. r.below i (in_without p i ps t).among;
+      below = λ i t. r.below i (is_other p i ps t).among;
     }
 
 -- the node of a number that isn't in it is set
 ring_set : (ns : List Node) (n : Node) (room p : ℕ) (ps : List ℕ) → IsRing ns room ps → p < room → is_in p ps ≡ false → IsRing (slice_set ns p n) room ps
 ring_set ns n room p ps r less o =
     let within : p < length ns = (let s = r.size in omega (arith, s, less)) in
-    let absent : is_in p (room ∷ ps) ≡ false = out_of_both p room ps (λ t. omega (arith, t, less)) o in
+    let absent : is_in p (room ∷ ps) ≡ false = in_rest p room ps (λ t. omega (arith, t, less)) ∙ o in
     record {
       size = length-set ns p n ∙ r.size;
       limit = r.limit;
@@ -129,14 +119,14 @@ tells_still : {old new : List Node} {room l q : ℕ} {ps : List ℕ} → IsRing 
 tells_still {new = new} {room = room} {l = l} {ps = ps} r j e less i h t = elim (l == i) as (λ b. (l == i) ≡ b → Tells new ps i) [
   | true ↦ λ u.
       let same : l ≡ i = eqb-true l i u in
-      by_next (is_in i ps) (next_of new i) (in_either i room ps (subst (λ n. is_in n (room ∷ ps) ≡ true) same e) (λ k. omega (arith, k, h))) (subst (λ n. n < nowhere) (sym (ap (next_of new) (sym same) ∙ joined_next j)) less)
+      by_next (is_in i ps) (next_of new i) (sym (in_rest i room ps (λ k. omega (arith, k, h))) ∙ subst (λ n. is_in n (room ∷ ps) ≡ true) same e) (subst (λ n. n < nowhere) (sym (ap (next_of new) (sym same) ∙ joined_next j)) less)
   | false ↦ λ u. t ∙ ap (λ n. not (n == nowhere)) (sym (other_next j i (λ k. eqb-false l i u (sym k))))
 ] refl
 
 -- a number that comes last tells so, and each other as before
 tells_added : {old new : List Node} {room p : ℕ} {ps : List ℕ} → IsRing old room ps → p < room → IsJoinedLast old new room p → (i : ℕ) → i < room → (i ≢ p → Tells old ps i) → Tells new (ps ++ p ∷ []) i
-tells_added {old = old} {new = new} {room = room} {p = p} {ps = ps} r less j i h t = last_in i p ps ∙ elim (p == i) as (λ b. (p == i) ≡ b → (is_in i ps || b) ≡ not (next_of new i == nowhere)) [
-  | true ↦ λ u. by_next (is_in i ps || true) (next_of new i) (or_true (is_in i ps)) (subst (λ n. n < nowhere) (sym (ap (next_of new) (sym (eqb-true p i u)) ∙ joined_next j.after)) r.limit)
+tells_added {old = old} {new = new} {room = room} {p = p} {ps = ps} r less j i h t = in_last i p ps ∙ elim (p == i) as (λ b. (p == i) ≡ b → (is_in i ps || b) ≡ not (next_of new i == nowhere)) [
+  | true ↦ λ u. by_next (is_in i ps || true) (next_of new i) (or_right (is_in i ps) true refl) (subst (λ n. n < nowhere) (sym (ap (next_of new) (sym (eqb-true p i u)) ∙ joined_next j.after)) r.limit)
   | false ↦ λ u.
       let ne : i ≢ p = λ k. eqb-false p i u (sym k) in
       let last = prev_in old room ps room r.linked room (in_first room ps) in
@@ -148,8 +138,8 @@ tells_added {old = old} {new = new} {room = room} {p = p} {ps = ps} r less j i h
 tells_removed : {old new : List Node} {room p : ℕ} {ps : List ℕ} → IsKept old room ps → is_in p ps ≡ true → IsJoined old new (prev_of old p) (next_of old p) → (i : ℕ) → i < room → i ≢ p → Tells new (without p ps) i
 tells_removed {old = old} {room = room} {p = p} {ps = ps} k e j i h ne =
     let r = k.ring in
-    let limit : next_of old p < nowhere = (let n = next_inside r p (in_rest p room ps e) in let l = r.limit in omega (arith, n, l)) in
-    still_in p i ps ne ∙ tells_still r j (prev_in old room ps room r.linked p (in_rest p room ps e)) limit i h (k.told i h)
+    let limit : next_of old p < nowhere = (let n = next_inside r p (in_longer p room ps e) in let l = r.limit in omega (arith, n, l)) in
+    others_stay p i ps ne ∙ tells_still r j (prev_in old room ps room r.linked p (in_longer p room ps e)) limit i h (k.told i h)
 
 -- ---- a list changes
 

@@ -1,5 +1,6 @@
 -- The set of the signals that are pending, bit by bit.
-use Rattle.std.proofs.Common.{◌≡◌, ℕ, zero, suc, ◌+◌, ◌-◌, ◌*◌, ◌/◌, ◌%◌, ◌^◌, ◌<◌, ◌≤◌, min, max, Bool, false, not, ◌&&◌, ◌==◌, List, [], ◌∷◌, length, refl, sym, ap, ◌∙◌, arith, get_or, set, Option, Some, None, is_some, find, bit_and, bit_or, inl, inr}
+use Rattle.std.proofs.Common.{◌≡◌, ℕ, zero, suc, ◌+◌, ◌-◌, ◌*◌, ◌/◌, ◌^◌, ◌<◌, ◌≤◌, min, max, Bool, false, not, ◌&&◌, ◌==◌, List, [], ◌∷◌, length, refl, sym, ap, ◌∙◌, arith, get_or, set, Option, Some, None, is_some, find, subst, bit_and, bit_or, inl, inr}
+use Rattle.std.specs.Prelude.{replicate}
 use Rattle.std.specs.Int.{bit_at, trailing_zeros, w64}
 use Rattle.std.specs.List.{range_with_len}
 use Rattle.std.proofs.lemmas.Bool.{cases_eq, cases_lt}
@@ -8,45 +9,30 @@ use Rattle.std.proofs.lemmas.Nat.Bits.{bit_at_lowest, bit_at-suc, bit_at-zero, b
 use Rattle.std.proofs.lemmas.Nat.{pow_below}
 use Rattle.posix.proofs.RangeLemmas.{find_range_none, find_range_first}
 use Rattle.posix.specs.declared.process.Carried.{Carried}
+use Rattle.posix.specs.Processes.{nothing_pending}
 use Rattle.posix.specs.SignalCalls.{set_of, bit_of}
+use Rattle.signal.specs.SignalTables.{IsPendingSet}
 
 bit_below : (o : Option Carried) → bit_of o < 2
 bit_below None = omega arith
 bit_below (Some c) = omega arith
 
-lowest : (s : ℕ) (o : Option Carried) → (2 * s + bit_of o) % 2 ≡ bit_of o
-lowest s o = let l = bit_below o in omega arith
-
-others : (s : ℕ) (o : Option Carried) → (2 * s + bit_of o) / 2 ≡ s
-others s o = let l = bit_below o in omega arith
-
 -- bit i says whether signal i + 1 is pending
 pub bit_of_set : (xs : List (Option Carried)) (i : ℕ) → bit_at (set_of xs) i ≡ bit_of (get_or xs i None)
 unfolding set_of
 bit_of_set [] i = bit_at-zero i
-bit_of_set (x ∷ xs) zero = bit_at_lowest (2 * set_of xs + bit_of x) ∙ lowest (set_of xs) x
-bit_of_set (x ∷ xs) (suc i) = bit_at-suc (2 * set_of xs + bit_of x) i ∙ ap (λ n. bit_at n i) (others (set_of xs) x) ∙ bit_of_set xs i
-
-max_low : (o : Option Carried) → max (bit_of o) 0 ≡ bit_of o
-max_low None = refl
-max_low (Some c) = refl
-
-max_high : (o : Option Carried) → max (bit_of o) 1 ≡ 1
-max_high None = refl
-max_high (Some c) = refl
-
-min_low : (o : Option Carried) → min (bit_of o) 0 ≡ 0
-min_low None = refl
-min_low (Some c) = refl
-
-min_high : (o : Option Carried) → min (bit_of o) 1 ≡ bit_of o
-min_high None = refl
-min_high (Some c) = refl
+bit_of_set (x ∷ xs) zero =
+    let l = bit_below x in
+    bit_at_lowest (2 * set_of xs + bit_of x) ∙ omega arith
+bit_of_set (x ∷ xs) (suc i) =
+    let l = bit_below x in
+    let others : (2 * set_of xs + bit_of x) / 2 ≡ set_of xs = omega arith in
+    bit_at-suc (2 * set_of xs + bit_of x) i ∙ ap (λ n. bit_at n i) others ∙ bit_of_set xs i
 
 bit_with : (xs : List (Option Carried)) (i j : ℕ) (c : Carried) → i < length xs → max (bit_of (get_or xs j None)) (bit_at (2 ^ i) j) ≡ bit_of (get_or (set xs i (Some c)) j None)
 bit_with xs i j c l = elim (cases_eq j i) [
-  | inl e ↦ rw (e, bit_at-pow_same i, get_or-set_same xs i (Some c) None l) (max_high (get_or xs i None))
-  | inr ne ↦ rw (bit_at-pow_other i j ne, get_or-set_other xs i j (Some c) None ne) (max_low (get_or xs j None))
+  | inl e ↦ rw (e, bit_at-pow_same i, get_or-set_same xs i (Some c) None l) (omega (arith, bit_below (get_or xs i None)))
+  | inr ne ↦ rw (bit_at-pow_other i j ne, get_or-set_other xs i j (Some c) None ne) (omega arith)
 ]
 
 -- one signal more is the union with its set
@@ -59,16 +45,13 @@ set_with xs i c l = same_from_bits (set_of (set xs i (Some c))) (bit_or (set_of 
 not_in : (b j : ℕ) → b < 2 ^ 64 → j < 64 → bit_at (2 ^ 64 - 1 - b) j ≡ 1 - bit_at b j
 not_in b j h l = bit_at_not w64 b j h l
 
-none_of : (n : ℕ) → min 0 n ≡ 0
-none_of n = omega arith
-
 bit_without : (xs : List (Option Carried)) (i j : ℕ) → i < length xs → length xs ≤ 64 → min (bit_of (get_or xs j None)) (bit_at (2 ^ 64 - 1 - 2 ^ i) j) ≡ bit_of (get_or (set xs i None) j None)
 bit_without xs i j l n = elim (cases_lt j 64) [
   | inl small ↦ rw (not_in (2 ^ i) j (pow_below i 64 (omega (arith, l, n))) small) (elim (cases_eq j i) [
-    | inl e ↦ rw (e, bit_at-pow_same i, get_or-set_same xs i None None l) (min_low (get_or xs i None))
-    | inr ne ↦ rw (bit_at-pow_other i j ne, get_or-set_other xs i j None None ne) (min_high (get_or xs j None))
+    | inl e ↦ rw (e, bit_at-pow_same i, get_or-set_same xs i None None l) (omega arith)
+    | inr ne ↦ rw (bit_at-pow_other i j ne, get_or-set_other xs i j None None ne) (omega (arith, bit_below (get_or xs j None)))
   ])
-  | inr large ↦ rw (get_or_past xs j None (omega (arith, n, large)), get_or_past (set xs i None) j None (omega (arith, n, large, length-set xs i None))) (none_of (bit_at (2 ^ 64 - 1 - 2 ^ i) j))
+  | inr large ↦ rw (get_or_past xs j None (omega (arith, n, large)), get_or_past (set xs i None) j None (omega (arith, n, large, length-set xs i None))) (omega arith)
 ]
 
 -- one signal less
@@ -76,6 +59,34 @@ pub set_without : (xs : List (Option Carried)) (i : ℕ) → i < length xs → l
 set_without xs i l n = same_from_bits (set_of (set xs i None)) (bit_and (set_of xs) (2 ^ 64 - 1 - 2 ^ i)) (λ j.
     bit_of_set (set xs i None) j
     ∙ sym (bit_at_and (set_of xs) (2 ^ 64 - 1 - 2 ^ i) j ∙ ap (λ b. min b (bit_at (2 ^ 64 - 1 - 2 ^ i) j)) (bit_of_set xs j) ∙ bit_without xs i j l n))
+
+-- ---- the set beside what the signals came with
+
+all_none : (xs : List (Option Carried)) → 0 ≡ set_of xs → xs ≡ replicate (length xs) None
+unfolding set_of
+all_none [] e = refl
+all_none (None ∷ xs) e = ap (λ os. None ∷ os) (all_none xs (omega (arith, e)))
+all_none (Some c ∷ xs) e = absurd (omega (arith, e))
+
+-- where the set is empty nothing is pending
+pub none_pending : (xs : List (Option Carried)) (p : ℕ) → IsPendingSet p xs → 0 ≡ p → xs ≡ nothing_pending
+unfolding nothing_pending
+none_pending xs p k e = all_none xs (e ∙ k.0) ∙ ap (λ n. replicate n None) k.1
+
+-- one signal more is pending
+pub inserted : (xs ys : List (Option Carried)) (i p q : ℕ) (c : Carried) → IsPendingSet p xs → i < 31 → ys ≡ set xs i (Some c) → q ≡ bit_or p (2 ^ i) → IsPendingSet q ys
+inserted xs ys i p q c k l e more =
+    let within : i < length xs = omega (arith, k.1, l) in
+    subst (IsPendingSet q) (sym e) (more ∙ ap (λ n. bit_or n (2 ^ i)) k.0 ∙ sym (set_with xs i c within), length-set xs i (Some c) ∙ k.1)
+
+-- one signal less is pending
+pub removed : (xs ys : List (Option Carried)) (i p q : ℕ) → IsPendingSet p xs → i < 31 → ys ≡ set xs i None → q ≡ bit_and p (2 ^ 64 - 1 - 2 ^ i) → IsPendingSet q ys
+removed xs ys i p q k l e less =
+    let within : i < length xs = omega (arith, k.1, l) in
+    let few : length xs ≤ 64 = omega (arith, k.1) in
+    subst (IsPendingSet q) (sym e) (less ∙ ap (λ n. bit_and n (2 ^ 64 - 1 - 2 ^ i)) k.0 ∙ sym (set_without xs i within few), length-set xs i None ∙ k.1)
+
+-- ---- one signal
 
 is_there : (o : Option Carried) → (bit_of o == 1) ≡ is_some o
 is_there None = refl

@@ -3,12 +3,11 @@
 #![tactic(auto)]
 
 mod actions;
-mod block;
 pub mod interrupts;
 pub mod signals;
-pub mod store;
+mod tables;
 
 pub use interrupts::{is_interrupted, leave_call, mask_before};
 pub use posix::{Action, Carried, Frame, Handler, PendingSignal, SaFlags, Sig, SigSet};
 pub use signals::Signals;
-pub use store::{FramesFull, NoFrame, Store};
+pub use tables::{FramesFull, NoFrame};

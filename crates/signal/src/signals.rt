@@ -3,13 +3,14 @@
 ghost use Rattle.std.specs.Prelude.{◌≡◌, [], true, false, None, Some, Ok, Err, OnOk, OnErr, IfOk, IfErr, IfSome, IsSome};
 ghost use Rattle.posix.specs.Processes.{initial_signals, nothing_pending};
 ghost use Rattle.posix.specs.Ends.{forgotten, ignores_children as ignores_children_of, drops_children as drops_children_of};
-ghost use Rattle.posix.specs.Generation.{action as action_of, is_deaf as is_deaf_to, keeps as keeps_of, generated, effect_of};
+ghost use Rattle.posix.specs.Generation.{action as action_of, is_pending as is_pending_of, with_pending, is_deaf as is_deaf_to, keeps as keeps_of, generated, effect_of};
 ghost use Rattle.posix.specs.Choice.{chosen, least_ready as least_ready_of, carried_by, taken};
 ghost use Rattle.posix.specs.Handlers.{is_full as is_full_of, handler_mask as handler_mask_of, entered, at_handler, after_entry as after_entry_of, handler_arguments, newest_frame, left, restore, set_action as set_action_of, set_mask as set_mask_of, give_mask};
 ghost use Rattle.posix.specs.SignalCalls.{set_of};
+ghost use Rattle.signal.specs.SignalTables.{IsPendingSet};
 
 use crate::actions::{does_nothing, is_caught};
-use crate::store::{FramesFull, NoFrame, Store};
+use crate::tables::{FramesFull, LazyTables, NoFrame};
 use bitflags::Flags;
 use posix::{
     Action, Carried, Effect, Errno, Handler, How, Life, PendingSignal, Pid, Register, SaFlags, Sig,
@@ -24,47 +25,61 @@ use umach::Cpu;
 pub struct Signals {
     /// The signals that it blocks.
     mask: SigSet,
-    /// All else.
-    store: Store,
+    /// Which signals are pending.
+    pending: SigSet,
+    /// The actions, what the pending signals came with, and the frames of handlers.
+    tables: LazyTables,
 }
 
 impl Model for Signals {
     ghost use Rattle.std.specs.Prelude.{[]};
     ghost use Rattle.posix.specs.Processes.{Signals as SignalsOf};
+    ghost use Rattle.signal.specs.SignalTables.{IsPendingSet};
 
     ghost Value = { SignalsOf };
 
-    ghost view = { λ s. record { mask = s.mask; standard = s.store.carried; queue = []; actions = s.store.actions; frames = s.store.frames } };
+    ghost view = { λ s. record { mask = s.mask; standard = s.tables.carried; queue = []; actions = s.tables.actions; frames = s.tables.frames } };
+
+    ghost invariant = { λ s. IsPendingSet s.pending s.tables.carried };
 }
 
 impl Signals {
     /// Those of process 1 at boot: none is blocked or pending, the actions are the defaults. An error where
     /// the host has no memory for them.
+    #[tactic(auto, unfolding(posix::specs::Processes::nothing_pending, posix::specs::SignalCalls::set_of))]
     pub fn initial(alloc: Global) -> Result<Signals, AllocError>
         ensures { IfOk result (λ s. s ≡ initial_signals) }
     {
         Ok(Signals {
             mask: SigSet::EMPTY,
-            store: Store::new(alloc)?,
+            pending: SigSet::EMPTY,
+            tables: LazyTables::new(alloc)?,
         })
     }
 
     /// Those of a child that is born now: the same, but nothing is pending (XSH fork). An error where the
     /// host has no memory for them.
+    #[tactic(auto, unfolding(posix::specs::Processes::nothing_pending, posix::specs::SignalCalls::set_of))]
     pub fn fork(&self) -> Result<Signals, AllocError>
         ensures { IfOk result (λ s. s ≡ record self.now { standard = nothing_pending; queue = [] }) }
     {
+        let mut tables = self.tables.try_clone()?;
+        discard(&mut tables, self.pending);
         Ok(Signals {
             mask: self.mask,
-            store: self.store.fork()?,
+            pending: SigSet::EMPTY,
+            tables,
         })
     }
 
     /// Those of a process that has ended: nothing is pending, and there is no frame; the rest stays.
+    #[tactic(auto, unfolding(posix::specs::Processes::nothing_pending, posix::specs::SignalCalls::set_of))]
     pub fn forget(&mut self)
         ensures { self.new ≡ forgotten self.old }
     {
-        self.store.forget();
+        discard(&mut self.tables, self.pending);
+        self.pending = SigSet::EMPTY;
+        self.tables.clear_frames();
     }
 
     // ---- what there is
@@ -80,14 +95,14 @@ impl Signals {
     pub fn pending(&self) -> SigSet
         ensures { result ≡ set_of self.now.standard }
     {
-        self.store.pending()
+        self.pending
     }
 
     /// The action for a signal.
     pub fn action(&self, sig: Sig) -> Action
         ensures { result ≡ action_of self.now sig }
     {
-        self.store.action(sig)
+        self.tables.action(sig)
     }
 
     /// Whether the process ignores CHLD, and so gets no notice of its children.
@@ -103,6 +118,35 @@ impl Signals {
         ensures { result ≡ drops_children_of self.now }
     {
         self.ignores_children() || self.action(Sig::CHLD).flags.contains(SaFlags::SA_NOCLDWAIT)
+    }
+
+    // ---- pending signals
+
+    /// Whether a signal is pending.
+    fn is_pending(&self, sig: Sig) -> bool
+        ensures { result ≡ is_pending_of self.now sig }
+    {
+        self.pending.contains(sig)
+    }
+
+    /// A signal becomes pending, with this; one that isn't a standard signal doesn't.
+    fn insert(&mut self, sig: Sig, carried: Carried)
+        ensures { self.new ≡ with_pending sig (Some carried) self.old }
+    {
+        if sig.number() <= 31 {
+            self.tables.set_carried(sig, Some(carried));
+            self.pending = self.pending.union(SigSet::just(sig));
+        }
+    }
+
+    /// A signal is no longer pending.
+    fn remove(&mut self, sig: Sig)
+        ensures { self.new ≡ with_pending sig None self.old }
+    {
+        if sig.number() <= 31 {
+            self.tables.set_carried(sig, None);
+            self.pending = self.pending.except(SigSet::just(sig));
+        }
     }
 
     // ---- generation and choice
@@ -137,8 +181,8 @@ impl Signals {
         if self.is_deaf(pid, life, sig) {
             return Effect::Nothing;
         }
-        if self.keeps(sig) && !self.store.is_pending(sig) {
-            self.store.insert(sig, signal.carried);
+        if self.keeps(sig) && !self.is_pending(sig) {
+            self.insert(sig, signal.carried);
         }
         if continues {
             Effect::Continued
@@ -152,7 +196,7 @@ impl Signals {
     fn least_ready(&self) -> Option<Sig>
         ensures { result ≡ least_ready_of self.now }
     {
-        let ready = self.store.pending().bits() & !self.mask.bits();
+        let ready = self.pending.bits() & !self.mask.bits();
         if ready == 0 {
             return None;
         }
@@ -165,7 +209,7 @@ impl Signals {
     pub fn choose(&self, life: Life) -> Option<Sig>
         ensures { result ≡ chosen life self.now }
     {
-        if self.store.is_pending(Sig::KILL) {
+        if self.is_pending(Sig::KILL) {
             return Some(Sig::KILL);
         }
         match life {
@@ -180,13 +224,12 @@ impl Signals {
         ensures value { result ≡ carried_by sig self.old }
         ensures state { self.new ≡ taken sig self.old }
     {
-        match self.store.remove(sig) {
-            Some(carried) => carried,
-            None => Carried {
-                value: 0,
-                sender: Pid::NONE,
-            },
-        }
+        let carried = self.tables.carried(sig);
+        self.remove(sig);
+        carried.unwrap_or(Carried {
+            value: 0,
+            sender: Pid::NONE,
+        })
     }
 
     // ---- handlers
@@ -225,9 +268,9 @@ impl Signals {
         ensures cpu_stays { OnErr result (cpu.new ≡ cpu.old) }
     {
         let action = self.action(signal.sig);
-        self.store.push(cpu.frame(saved))?;
+        self.tables.push_frame(cpu.frame(saved))?;
         self.mask = self.handler_mask(signal.sig, &action);
-        self.store.set_action(signal.sig, after_entry(action));
+        self.tables.set_action(signal.sig, after_entry(action));
         give_arguments(cpu, signal, &action);
         cpu.go_to(address);
         Ok(())
@@ -243,7 +286,7 @@ impl Signals {
         ensures signals_stay { OnErr result (self.new ≡ self.old) }
         ensures cpu_stays { OnErr result (cpu.new ≡ cpu.old) }
     {
-        let Some(frame) = self.store.pop() else {
+        let Some(frame) = self.tables.pop_frame() else {
             return Err(NoFrame);
         };
         self.mask = frame.mask;
@@ -266,9 +309,9 @@ impl Signals {
             return Err(Errno::EINVAL);
         }
         let mask = action.mask.maskable();
-        self.store.set_action(sig, Action { mask, ..action });
+        self.tables.set_action(sig, Action { mask, ..action });
         if does_nothing(action.handler, sig) {
-            self.store.remove(sig);
+            self.remove(sig);
         }
         Ok(())
     }
@@ -292,6 +335,16 @@ impl Signals {
         ensures { self.new ≡ give_mask set self.old }
     {
         self.mask = set.maskable();
+    }
+}
+
+/// No signal is pending any more, where these were.
+fn discard(tables: &mut LazyTables, pending: SigSet)
+    requires { IsPendingSet pending tables.old.carried }
+    ensures { tables.new ≡ record tables.old { carried = nothing_pending } }
+{
+    if !pending.is_empty() {
+        tables.clear_carried();
     }
 }
 

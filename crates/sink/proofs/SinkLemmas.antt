@@ -1,10 +1,11 @@
 -- Laws of what a sink took.
 use Rattle.std.specs.Prelude.{Result, Err}
-use Rattle.std.proofs.Common.{◌≡◌, ℕ, ◌+◌, ◌-◌, ◌%◌, ◌^◌, ◌<◌, ◌≤◌, true, List, [], ◌++◌, length, take, drop, subst, ap, sym, ◌∙◌, append_assoc, append-nil, length-take, length-drop, arith, Option, Some, None, Ok}
+use Rattle.std.proofs.Common.{◌≡◌, ℕ, ◌+◌, ◌-◌, ◌%◌, ◌^◌, ◌<◌, ◌≤◌, true, List, [], ◌++◌, length, take, drop, subst, ap, sym, ◌∙◌, append_assoc, append-nil, length-take, length-drop, arith, Ok}
 use Rattle.std.proofs.lemmas.List.{take_all, take-append-drop, drop-take}
 use Rattle.std.proofs.lemmas.Grind.{common_steps}
 use Rattle.std.proofs.lemmas.Bool.Decides.{nat_tests}
-use Rattle.std.specs.Io.KnownBytes.{Appends, Keeps}
+use Rattle.std.specs.Io.KnownBytes.{Appends}
+use Rattle.std.proofs.KnownBytes.{Appends-trans}
 use Rattle.std.specs.Result.{IfOk, OnErr}
 use Rattle.sink.specs.Sinks.{Seen, TakesAll, BreaksOff, Gathers, failures_after, is_failure}
 
@@ -17,20 +18,6 @@ on_err (Err e) p = p
 pub if_ok_both : {T E : Type 0} {P Q R : T → Type 0} (r : Result T E) → ((x : T) → P x → Q x → R x) → IfOk r P → IfOk r Q → IfOk r R
 if_ok_both (Ok x) f p q = f x p q
 if_ok_both (Err e) f p q = tt
-
--- bytes put, and then more, are put one after the other
-pub appends_then : (a b c : Option (List ℕ)) (xs ys : List ℕ) → Appends a b xs → Appends b c ys → Appends a c (xs ++ ys)
-appends_then None b c xs ys p q = tt
-appends_then (Some u) None c xs ys p q = absurd p
-appends_then (Some u) (Some v) None xs ys p q = absurd q
-appends_then (Some u) (Some v) (Some w) xs ys p q = q ∙ ap (λ (l : List ℕ). l ++ ys) p ∙ append_assoc u xs ys
-
--- bytes that were put stay where nothing more is put
-pub appends_kept : (a b c : Option (List ℕ)) (xs : List ℕ) → Appends a b xs → Keeps b c → Appends a c xs
-appends_kept None b c xs p q = tt
-appends_kept (Some u) None c xs p q = absurd p
-appends_kept (Some u) (Some v) None xs p q = absurd q
-appends_kept (Some u) (Some v) (Some w) xs p q = q ∙ p
 
 -- ---- puts of the rest of a slice
 
@@ -81,7 +68,7 @@ gathers_then a b c p q r xs ys g h = record {
   front = g.front ++ h.front;
   split = sym (append_assoc p xs ys) ∙ ap (λ (l : List ℕ). l ++ ys) g.split ∙ append_assoc g.front q ys
       ∙ ap (λ (l : List ℕ). g.front ++ l) h.split ∙ sym (append_assoc g.front h.front r);
-  taken = appends_then a.taken b.taken c.taken g.front h.front g.taken h.taken;
+  taken = Appends-trans a.taken b.taken c.taken g.front h.front g.taken h.taken;
   no_failure = h.no_failure ∙ g.no_failure;
 }
 
@@ -92,7 +79,7 @@ gathers_break a b c p q xs ys g h = record {
   rest = h.rest;
   split = sym (append_assoc p xs ys) ∙ ap (λ (l : List ℕ). l ++ ys) g.split ∙ append_assoc g.front q ys
       ∙ ap (λ (l : List ℕ). g.front ++ l) h.split ∙ sym (append_assoc g.front h.front h.rest);
-  taken = appends_then a.taken b.taken c.taken g.front h.front g.taken h.taken;
+  taken = Appends-trans a.taken b.taken c.taken g.front h.front g.taken h.taken;
   counted = h.counted ∙ ap (λ (n : ℕ). (n + 1) % 2 ^ 64) g.no_failure;
   last = h.last;
 }
@@ -111,7 +98,7 @@ break_on a b xs ys g = record {
 -- all that waited is put
 pub flush_takes : (a b c : Seen) (q xs : List ℕ) → Gathers a [] b q xs → TakesAll b c q → TakesAll a c xs
 flush_takes a b c q xs g h = record {
-  taken = subst (Appends a.taken c.taken) (sym g.split) (appends_then a.taken b.taken c.taken g.front q g.taken h.taken);
+  taken = subst (Appends a.taken c.taken) (sym g.split) (Appends-trans a.taken b.taken c.taken g.front q g.taken h.taken);
   no_failure = h.no_failure ∙ g.no_failure;
 }
 

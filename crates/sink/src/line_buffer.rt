@@ -42,11 +42,12 @@ impl LineBuffer {
     }
 
     /// Adds the line of what an event shows, which is written where it waits. All that waits is put once
-    /// it is 8 KiB or more.
+    /// it is 8 KiB or more; after a failure nothing waits.
     #[inline(never)]
     pub fn add<S: Sink>(&mut self, event: u64, entry: &Entry, out: &mut S) -> Result<(), SinkFault>
         ensures ok { OnOk result (Gathers (S.seen out.old) self.old (S.seen out.new) self.new (printed event entry.now)) }
         ensures err { OnErr result (BreaksOff (S.seen out.old) (S.seen out.new) (self.old ++ printed event entry.now)) }
+        ensures empty { OnErr result (self.new ≡ []) }
     {
         self.len = write_entry(&mut self.bytes, self.len, event, entry);
         if self.len < PIECE {

@@ -1,7 +1,7 @@
-//! Lines of a trace, and the names of system calls.
+//! Lines of a trace.
 //!
 //! A trace has one line for each thing that an event shows: the number of the event and some words, with
-//! one space between two and a line feed at the end. World texts name system calls by the same names.
+//! one space between two and a line feed at the end.
 #![tactic(auto)]
 
 pub mod print;

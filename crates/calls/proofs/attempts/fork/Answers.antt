@@ -12,7 +12,7 @@ use Rattle.proctable.specs.Body.{give_own}
 use Rattle.life.proofs.LoanLemmas.{was_written}
 use Rattle.calls.specs.Outcomes.{Comes}
 use Rattle.calls.proofs.CallLemmas.{gives_is}
-use Rattle.calls.proofs.ReportLemmas.{some_inserted}
+use Rattle.posix.proofs.RegularLemmas.{some_inserted}
 use Rattle.calls.proofs.attempts.fork.Goals as goal
 
 pub returns-in_default : goal.returns-in_default

@@ -2,19 +2,19 @@ use Rattle.std.proofs.Common.{sym, ap, ◌∙◌, arith, rules}
 use Rattle.std.specs.Option.{option_copied}
 use Rattle.std.proofs.lemmas.List.Sorted.{answers_always}
 use Rattle.std.proofs.lemmas.Bool.Decides.{nat_tests}
-use Rattle.pidset.proofs.RowLemmas.{gap_end, found_at, gap_at}
+use Rattle.pidset.proofs.ItemLemmas.{point_end, found_at, point_at}
 use Rattle.pidset.proofs.numbered.search.Goals as goal
 
 pub returns-then-lt-clause-absent : goal.returns-then-lt-clause-absent
 returns-then-lt-clause-absent g c =
-    gap_end g.T.Numbered.number c.args.rows.now c.requires c.args.pid c.in-Some.last.now (sym c.last.ensures.value ∙ ap option_copied c.in-Some.is) (grind (arith, nat_tests, c.pid.ensures, c.lt.ensures, c.if-lt.true))
+    point_end g.T.Numbered.number c.args.items.now c.requires c.args.pid c.in-Some.last.now (sym c.last.ensures.value ∙ ap option_copied c.in-Some.is) (grind (arith, nat_tests, c.pid.ensures, c.lt.ensures, c.if-lt.true))
 
 pub returns-clause-found : goal.returns-clause-found
 returns-clause-found g c =
     let facts = c.binary_search_by_key.ensures in
-    found_at g.T.Numbered.number c.args.rows.now c.args.pid _ facts.bound (facts.position g.T.Numbered.number (answers_always _ _ _ (λ f a r h called. search rules)))
+    found_at g.T.Numbered.number c.args.items.now c.args.pid _ facts.bound (facts.position g.T.Numbered.number (answers_always _ _ _ (λ f a r h called. search rules)))
 
 pub returns-clause-absent : goal.returns-clause-absent
 returns-clause-absent g c =
     let facts = c.binary_search_by_key.ensures in
-    gap_at g.T.Numbered.number c.args.rows.now c.requires c.args.pid _ facts.bound (facts.position g.T.Numbered.number (answers_always _ _ _ (λ f a r h called. search rules)))
+    point_at g.T.Numbered.number c.args.items.now c.requires c.args.pid _ facts.bound (facts.position g.T.Numbered.number (answers_always _ _ _ (λ f a r h called. search rules)))

@@ -1,6 +1,7 @@
 use Rattle.std.proofs.Common.{◌+◌, ◌≤◌, length, arith, subst, ◌∙◌}
 use Rattle.std.specs.Io.KnownBytes.{Appends}
-use Rattle.sink.proofs.SinkLemmas.{on_err, appends_then, appends_kept, slice_more, put_fits, none_counted, some_taken, none_fails, failed_at}
+use Rattle.std.proofs.KnownBytes.{Appends-trans, Appends-kept}
+use Rattle.sink.proofs.SinkLemmas.{on_err, slice_more, put_fits, none_counted, some_taken, none_fails, failed_at}
 use Rattle.sink.proofs.sinks.put_all.Goals as goal
 
 pub loop-done-preserved : goal.loop-done-preserved
@@ -9,7 +10,7 @@ loop-done-preserved g c =
     record {
       within = le;
       taken = subst (Appends (g.S.Sink.seen c.args.out.now).taken (g.S.Sink.seen c.put.new.self).taken) (slice_more c.args.bytes.now c.loop-done.done c.in_ok-taken.taken le)
-          (appends_then _ (g.S.Sink.seen c.loop-done.out).taken _ _ _ c.loop-done.invariant.taken c.in_ok-taken.ensures.taken);
+          (Appends-trans _ (g.S.Sink.seen c.loop-done.out).taken _ _ _ c.loop-done.invariant.taken c.in_ok-taken.ensures.taken);
       no_failure = c.in_ok-taken.ensures.counted ∙ some_taken _ c.in_ok-taken.taken _ c.if-taken-eq0.false ∙ c.loop-done.invariant.no_failure;
     }
 
@@ -18,7 +19,7 @@ returns-in_err-taken-clause-err g c =
     on_err c.from_residual.result
     (failed_at (g.S.Sink.seen c.args.out.now) (g.S.Sink.seen c.loop-done.out) (g.S.Sink.seen c.put.new.self) c.args.bytes.now c.loop-done.done
     c.loop-done.invariant.no_failure c.in_err-taken.ensures.counted c.in_err-taken.ensures.last
-    (appends_kept _ _ _ _ c.loop-done.invariant.taken c.in_err-taken.ensures.taken))
+    (Appends-kept _ _ _ _ c.loop-done.invariant.taken c.in_err-taken.ensures.taken))
 
 pub returns-then-taken-eq0-clause-err : goal.returns-then-taken-eq0-clause-err
 returns-then-taken-eq0-clause-err g c =
@@ -28,4 +29,4 @@ returns-then-taken-eq0-clause-err g c =
     (c.in_ok-taken.ensures.counted ∙ none_counted _ c.in_ok-taken.taken c.args.bytes.now c.loop-done.done c.if-taken-eq0.true (omega arith))
     (c.in_ok-taken.ensures.last ∙ none_fails c.in_ok-taken.taken c.args.bytes.now c.loop-done.done c.if-taken-eq0.true (omega arith))
     (subst (Appends (g.S.Sink.seen c.args.out.now).taken (g.S.Sink.seen c.put.new.self).taken) (slice_more c.args.bytes.now c.loop-done.done c.in_ok-taken.taken le)
-    (appends_then _ (g.S.Sink.seen c.loop-done.out).taken _ _ _ c.loop-done.invariant.taken c.in_ok-taken.ensures.taken))
+    (Appends-trans _ (g.S.Sink.seen c.loop-done.out).taken _ _ _ c.loop-done.invariant.taken c.in_ok-taken.ensures.taken))

@@ -1,19 +1,19 @@
 use Rattle.std.proofs.Common.{◌≡◌, ◌+◌, ap, subst, arith, length}
 use Rattle.std.specs.Prelude.{replicate}
+use Rattle.std.proofs.lemmas.List.{nil_from_length}
 use Rattle.posix.specs.declared.event.Event.TheVariants.{Step}
 use Rattle.posix.specs.States.{State}
 use Rattle.posix.specs.Entries.{numbered}
 use Rattle.posix.specs.Runs.{RunsFrom}
 use Rattle.kernel.specs.Views.{KernelView}
 use Rattle.kernel.proofs.RunLemmas.{one_after}
-use Rattle.kernel.proofs.BurstLemmas.{nothing}
 use Rattle.kernel.proofs.kernel_on.KernelOn.steps.Goals as goal
 
 pub returns-clause-runs : goal.returns-clause-runs
 returns-clause-runs g c =
     let n = c.burst-count.result in
     let zero : length c.burst-count.new.entries.items ≡ 0 = grind arith in
-    let none = nothing c.burst-count.new.entries.items zero in
+    let none = nil_from_length c.burst-count.new.entries.items zero in
     let started = ap (λ (k : KernelView). k.state) c.self.view_is in
     let counted = ap (λ (k : KernelView). k.events) c.self.view_is in
     let m = c.burst-count.new.machine.state in

@@ -34,7 +34,7 @@ loop-next-init g c =
     let contents = g.met.K.Kin.puts c.self.inside.table c.args.pid c.make_zombie.new.self ∙ changed_body _ c.update.ensures.rising c.args.pid c.update.result.now c.make_zombie.new.self (made_zombie c.args.status) c.update.ensures.value c.make_zombie.ensures in
     let me = there _ c.requires.there in
     let room = c.drop_place.ensures.room in
-    begins c.args.self.now.state _ _ _ c.self.inside.order _ _ c.args.pid c.args.heir c.args.status _ me.what (state_is c.self.view_is) (rw (c.first_child-next.ensures.contents, contents, c.drop_place.ensures.pids) refl) c.self.invariant.sound (omega (arith, room)) c.requires.other
+    begins c.args.self.now.state _ _ _ c.self.inside.order _ c.args.pid c.args.heir c.args.status _ me.what (state_is c.self.view_is) (rw (c.first_child-next.ensures.contents, contents, c.drop_place.ensures.pids) refl) c.self.invariant.sound (omega (arith, room)) c.requires.other
     c.requires.heir me.found (c.first_child-next.ensures.value ∙ ap (λ rs. first_pid (children_in c.args.pid rs)) (sym c.first_child-next.ensures.contents))
     _ _ c.self.invariant.listed (c.insert-2.ensures.pids ∙ ap (with_number c.args.heir) c.insert.ensures.pids) (c.insert-2.ensures.room ∙ c.insert.ensures.room)
 
@@ -62,7 +62,7 @@ notify_of_end-gone-requires-clause-count g c =
     let few = c.self.ranges in
     let births = t.births ∙ ap (λ (s : State). s.births) (sym (state_is c.self.view_is)) in
     let dropped = ap (λ (s : State). s.dropped) t.left in
-    let l = room_to_count t.now _ _ _ c.in-Some.child 18446744073709551616 t.sound (zombie_goes t c.in-Some.child c.in-Zombie.ended c.in-Some.is dead) (omega (arith, few, births)) in
+    let l = room_to_count t.now _ _ c.in-Some.child 18446744073709551616 t.sound (zombie_goes t c.in-Some.child c.in-Zombie.ended c.in-Some.is dead) (omega (arith, few, births)) in
     omega (arith, l, dropped)
 
 pub loop-next-smaller-in-Zombie : goal.loop-next-smaller-in-Zombie
@@ -72,7 +72,7 @@ loop-next-smaller-in-Zombie g c =
     let ne : c.in-Some.child ≢ c.args.pid = differs _ _ (sym c.ne.ensures ∙ c.if-ne.true) in
     let same = c.life-life.ensures.contents ∙ c.next_sibling-next.ensures.contents in
     let found = ap (lookup c.in-Some.child) same ∙ child_same t c.in-Some.child c.in-Some.is ne in
-    let told = told_state m.world _ _ m.pids c.notify_of_end-gone.new.pids m.order m.records c.notify_of_end-gone.new.records m.births m.ticks m.dropped c.notify_of_end-gone.new.dropped m.halted c.args.heir c.in-Some.child c.in-Zombie.ended _ c.notify_of_end-gone.ensures.contents (c.notify_of_end-gone.ensures.counts _ found)
+    let told = told_state m.world _ _ m.pids c.notify_of_end-gone.new.pids m.order m.births m.ticks m.dropped c.notify_of_end-gone.new.dropped m.halted c.args.heir c.in-Some.child c.in-Zombie.ended _ c.notify_of_end-gone.ensures.contents (c.notify_of_end-gone.ensures.counts _ found)
     ∙ ap (λ rs. notice_of_end (state_of m.world rs m.pids m.order m.births m.ticks m.dropped m.halted) c.args.heir c.in-Some.child c.in-Zombie.ended) same in
     tells_less t c.in-Some.child c.in-Zombie.ended c.in-Some.is c.next_sibling-next.result c.next_sibling-next.ensures.value _ told
 
@@ -85,10 +85,10 @@ loop-next-preserved-in-Zombie g c =
     let same = c.life-life.ensures.contents ∙ c.next_sibling-next.ensures.contents in
     let found = ap (lookup c.in-Some.child) same ∙ child_same t c.in-Some.child c.in-Some.is ne in
     let counts = c.notify_of_end-gone.ensures.counts _ found in
-    let told = told_state m.world _ _ m.pids c.notify_of_end-gone.new.pids m.order m.records c.notify_of_end-gone.new.records m.births m.ticks m.dropped c.notify_of_end-gone.new.dropped m.halted c.args.heir c.in-Some.child c.in-Zombie.ended _ c.notify_of_end-gone.ensures.contents counts
+    let told = told_state m.world _ _ m.pids c.notify_of_end-gone.new.pids m.order m.births m.ticks m.dropped c.notify_of_end-gone.new.dropped m.halted c.args.heir c.in-Some.child c.in-Zombie.ended _ c.notify_of_end-gone.ensures.contents counts
     ∙ ap (λ rs. notice_of_end (state_of m.world rs m.pids m.order m.births m.ticks m.dropped m.halted) c.args.heir c.in-Some.child c.in-Zombie.ended) same in
-    tells t c.in-Some.child c.in-Zombie.ended c.in-Some.is c.next_sibling-next.result c.next_sibling-next.ensures.value ne dead c.notify_of_end-gone.new.pids c.notify_of_end-gone.new.records c.notify_of_end-gone.new.dropped _
-    (subst (λ rs. IsCounted (is_dropping c.args.heir rs) m.pids c.notify_of_end-gone.new.pids m.records c.notify_of_end-gone.new.records m.dropped c.notify_of_end-gone.new.dropped c.in-Some.child (child_here t c.in-Some.child c.in-Some.is).what) same counts) told
+    tells t c.in-Some.child c.in-Zombie.ended c.in-Some.is c.next_sibling-next.result c.next_sibling-next.ensures.value ne dead c.notify_of_end-gone.new.pids c.notify_of_end-gone.new.dropped _
+    (subst (λ rs. IsCounted (is_dropping c.args.heir rs) m.pids c.notify_of_end-gone.new.pids m.dropped c.notify_of_end-gone.new.dropped c.in-Some.child (child_here t c.in-Some.child c.in-Some.is).what) same counts) told
     c.ask_parent.new.to_ask (c.ask_parent.ensures.pids ∙ ap (λ o. without_gone c.in-Some.child o m.to_ask.pids) (c.notify_of_end-gone.ensures.gone _ found ∙ ap (λ rs. cond (is_dropping c.args.heir rs) (Some (child_here t c.in-Some.child c.in-Some.is).what.parent) None) same)) c.ask_parent.ensures.room
 
 pub loop-next-smaller-in_default-life : goal.loop-next-smaller-in_default-life
@@ -128,7 +128,7 @@ invariant_of-self g c =
     let t = c.loop-next.invariant in
     let me = there _ c.requires.there in
     let parent = c.requires.parent me.what me.found in
-    subst (λ (s : State). IsMachine s m.pids m.order m.records c.insert-3.new.self) (sym (departed t _ c.adopt.ensures.contents))
+    subst (λ (s : State). IsMachine s m.pids m.order c.insert-3.new.self) (sym (departed t _ c.adopt.ensures.contents))
     (machine_departed t me.what me.found c.insert-3.new.self (c.insert-3.ensures.pids ∙ ap (λ n. with_number n m.to_ask.pids) parent) c.insert-3.ensures.room)
 
 pub returns-clause-state : goal.returns-clause-state

@@ -1,4 +1,4 @@
-use Rattle.std.proofs.Common.{ap, ◌∙◌, arith, refl, [], ◌∷◌}
+use Rattle.std.proofs.Common.{ap, ◌∙◌, refl, [], ◌∷◌}
 use Rattle.posix.specs.Processes.{Process}
 use Rattle.posix.specs.Tables.{lookup}
 use Rattle.posix.specs.Outcomes.{finished}
@@ -6,27 +6,24 @@ use Rattle.posix.specs.Births.{child_of}
 use Rattle.pidset.specs.Numbers.{with_number}
 use Rattle.life.specs.Asking.{with_numbers}
 use Rattle.life.proofs.AskLemmas.{has_room, room_after, listed_born}
-use Rattle.life.proofs.SoundLemmas.{is_there, found_in, next_is_new, not_many, room_to_bear, sound_born}
+use Rattle.life.proofs.SoundLemmas.{is_there, found_in, next_is_new, room_to_bear, sound_born}
 use Rattle.life.proofs.ViewLemmas.{state_is}
 use Rattle.life.proofs.machine.Machine.fork.Goals as goal
 
 pub bear_all-requires-clause-pid_range : goal.bear_all-requires-clause-pid_range
-bear_all-requires-clause-pid_range g c = (next_is_new _ _ _ _ _ c.args.child (state_is c.self.view_is) refl c.self.invariant.sound c.requires.child).greatest
+bear_all-requires-clause-pid_range g c = (next_is_new _ _ _ _ c.args.child (state_is c.self.view_is) refl c.self.invariant.sound c.requires.child).greatest
 
 pub bear_all-requires-clause-pid_count : goal.bear_all-requires-clause-pid_count
-bear_all-requires-clause-pid_count g c = (room_to_bear _ _ _ _ _ c.args.child c.args.parent _ _ (state_is c.self.view_is) refl c.self.invariant.sound c.requires.child c.requires.parent c.in_ok-body.ensures.groups).pid_count
+bear_all-requires-clause-pid_count g c = (room_to_bear _ _ _ _ c.args.child c.args.parent _ _ (state_is c.self.view_is) refl c.self.invariant.sound c.requires.child c.requires.parent c.in_ok-body.ensures.groups).pid_count
 
 pub bear_all-requires-clause-group_count : goal.bear_all-requires-clause-group_count
-bear_all-requires-clause-group_count g c = (room_to_bear _ _ _ _ _ c.args.child c.args.parent _ _ (state_is c.self.view_is) refl c.self.invariant.sound c.requires.child c.requires.parent c.in_ok-body.ensures.groups).group_count
+bear_all-requires-clause-group_count g c = (room_to_bear _ _ _ _ c.args.child c.args.parent _ _ (state_is c.self.view_is) refl c.self.invariant.sound c.requires.child c.requires.parent c.in_ok-body.ensures.groups).group_count
 
 pub bear_all-requires-clause-session_count : goal.bear_all-requires-clause-session_count
-bear_all-requires-clause-session_count g c = (room_to_bear _ _ _ _ _ c.args.child c.args.parent _ _ (state_is c.self.view_is) refl c.self.invariant.sound c.requires.child c.requires.parent c.in_ok-body.ensures.groups).session_count
+bear_all-requires-clause-session_count g c = (room_to_bear _ _ _ _ c.args.child c.args.parent _ _ (state_is c.self.view_is) refl c.self.invariant.sound c.requires.child c.requires.parent c.in_ok-body.ensures.groups).session_count
 
 pub insert-requires-clause-fresh : goal.insert-requires-clause-fresh
-insert-requires-clause-fresh g c = ap (lookup c.args.child) (c.in_ok-reserve.ensures.contents ∙ c.in_ok-body.ensures.contents) ∙ (next_is_new _ _ _ _ _ c.args.child (state_is c.self.view_is) refl c.self.invariant.sound c.requires.child).fresh
-
-pub overflow_add-self : goal.overflow_add-self
-overflow_add-self g c = let l = not_many _ _ _ _ c.self.invariant.sound in let n = c.self.invariant.sound.kept.count in omega (arith, l, n)
+insert-requires-clause-fresh g c = ap (lookup c.args.child) (c.in_ok-reserve.ensures.contents ∙ c.in_ok-body.ensures.contents) ∙ (next_is_new _ _ _ _ c.args.child (state_is c.self.view_is) refl c.self.invariant.sound c.requires.child).fresh
 
 pub insert-requires-2 : goal.insert-requires-2
 insert-requires-2 g c = record { room = λ out. has_room _ _ c.self.invariant.sound.regular c.self.invariant.listed }
@@ -46,6 +43,6 @@ invariant_of-self-2 g c =
     let groups = c.in_ok-body.ensures.groups me.what found in
     rw (c.insert.ensures.contents, c.in_ok-reserve.ensures.contents, c.in_ok-body.ensures.contents)
     (record {
-      sound = sound_born _ _ _ _ _ _ _ _ _ _ _ me.what c.self.invariant.sound (next_is_new _ _ _ _ _ c.args.child (state_is c.self.view_is) refl c.self.invariant.sound c.requires.child) found me.living groups.0 groups.1 (ap (λ (r : Process). r.life) child) c.bear_all.ensures.value c.bear_all.ensures.pidmax c.bear_all.ensures.kept;
-      listed = listed_born _ _ _ _ _ _ c.self.invariant.listed (next_is_new _ _ _ _ _ c.args.child (state_is c.self.view_is) refl c.self.invariant.sound c.requires.child).fresh (is_there _ me.what found) (c.insert-3.ensures.pids ∙ ap (with_number c.args.child) c.insert-2.ensures.pids) (c.insert-3.ensures.room ∙ c.insert-2.ensures.room);
+      sound = sound_born _ _ _ _ _ _ _ _ _ _ me.what c.self.invariant.sound (next_is_new _ _ _ _ c.args.child (state_is c.self.view_is) refl c.self.invariant.sound c.requires.child) found me.living groups.0 groups.1 (ap (λ (r : Process). r.life) child) c.bear_all.ensures.value c.bear_all.ensures.pidmax c.bear_all.ensures.kept;
+      listed = listed_born _ _ _ _ _ _ c.self.invariant.listed (next_is_new _ _ _ _ c.args.child (state_is c.self.view_is) refl c.self.invariant.sound c.requires.child).fresh (is_there _ me.what found) (c.insert-3.ensures.pids ∙ ap (with_number c.args.child) c.insert-2.ensures.pids) (c.insert-3.ensures.room ∙ c.insert-2.ensures.room);
     })

@@ -1,7 +1,8 @@
 use Rattle.std.proofs.Common.{◌≡◌, refl, sym, subst, arith, true, []}
 use Rattle.posix.specs.States.{State, is_in}
 use Rattle.posix.proofs.OrderLemmas.{regular_last}
-use Rattle.posix.proofs.TouchLemmas.{touches_last, in_none}
+use Rattle.posix.proofs.MemberLemmas.{in_none}
+use Rattle.posix.proofs.TouchLemmas.{touches_last}
 use Rattle.life.proofs.SoundLemmas.{kept_order}
 use Rattle.life.proofs.AskLemmas.{listed_same}
 use Rattle.life.proofs.ViewLemmas.{state_is}
@@ -15,7 +16,7 @@ invariant_of-self g c =
         regular = regular_last c.args.pid _ c.self.invariant.sound.regular h;
         parents = c.self.invariant.sound.parents;
         counted = c.self.invariant.sound.counted;
-        kept = kept_order _ _ _ _ _ _ (let r = c.go_last.ensures.room in omega (arith, r)) c.self.invariant.sound.kept;
+        kept = kept_order _ _ _ _ _ (let r = c.go_last.ensures.room in omega (arith, r)) c.self.invariant.sound.kept;
       };
       listed = listed_same _ _ _ [] c.self.invariant.listed (touches_last _ c.args.pid) refl (λ q e. e) (λ q there e. absurd (in_none q e));
     }

@@ -2,7 +2,7 @@ use Rattle.std.proofs.Common.{arith, ◌∙◌, refl}
 use Rattle.posix.specs.Ends.{ended}
 use Rattle.posix.proofs.RegularLemmas.{regular_halt}
 use Rattle.proctable.proofs.Bodies.{changed_body}
-use Rattle.life.proofs.SoundLemmas.{is_there, parents_halted, kept_halted}
+use Rattle.life.proofs.SoundLemmas.{is_there, length_halted, parents_halted, kept_halted}
 use Rattle.life.proofs.AskLemmas.{has_room, listed_halted}
 use Rattle.life.proofs.machine.Machine.halt.Goals as goal
 
@@ -19,8 +19,8 @@ invariant_of-self g c =
       sound = record {
         regular = regular_halt c.args.status _ c.self.invariant.sound.regular;
         parents = parents_halted c.args.status _ c.self.invariant.sound.parents;
-        counted = c.self.invariant.sound.counted;
-        kept = kept_halted c.args.status _ _ _ _ _ _ (let r = c.drop_place.ensures.room in omega (arith, r)) c.self.invariant.sound.kept;
+        counted = let n = c.self.invariant.sound.counted in let same = length_halted c.args.status (g.K.Kin.contents c.self.inside.table) in omega (arith, n, same);
+        kept = kept_halted c.args.status _ _ _ _ _ (let r = c.drop_place.ensures.room in omega (arith, r)) c.self.invariant.sound.kept;
       };
       listed = listed_halted _ c.args.status _ _ c.self.invariant.sound.regular c.self.invariant.listed c.insert.ensures.pids c.insert.ensures.room;
     }

@@ -17,13 +17,13 @@ insert-requires g c = record { room = λ out. has_room _ _ c.self.invariant.soun
 pub notify_of_end-gone-requires-clause-child : goal.notify_of_end-gone-requires-clause-child
 notify_of_end-gone-requires-clause-child g c =
     let it = c.requires.zombie in
-    can_go _ _ _ _ c.args.child it.0 c.self.invariant.sound (found_in _ _ (state_is c.self.view_is) c.args.child it.0 it.1) it.2 c.requires.other
+    can_go _ _ _ c.args.child it.0 c.self.invariant.sound (found_in _ _ (state_is c.self.view_is) c.args.child it.0 it.1) it.2 c.requires.other
 
 pub notify_of_end-gone-requires-clause-count : goal.notify_of_end-gone-requires-clause-count
 notify_of_end-gone-requires-clause-count g c =
     let it = c.requires.zombie in
     let few = c.self.ranges in
-    room_to_count _ _ _ _ c.args.child _ c.self.invariant.sound (can_go _ _ _ _ c.args.child it.0 c.self.invariant.sound (found_in _ _ (state_is c.self.view_is) c.args.child it.0 it.1) it.2 c.requires.other) (omega (arith, few))
+    room_to_count _ _ _ c.args.child _ c.self.invariant.sound (can_go _ _ _ c.args.child it.0 c.self.invariant.sound (found_in _ _ (state_is c.self.view_is) c.args.child it.0 it.1) it.2 c.requires.other) (omega (arith, few))
 
 pub ask_parent-requires : goal.ask_parent-requires
 unfolding with_numbers
@@ -41,9 +41,9 @@ invariant_of-self g c =
     let asked = c.insert.new.self in
     let first = here_in c.args.parent (state_is c.self.view_is) c.requires.parent in
     let now = listed_more _ _ asked (c.args.parent ∷ []) c.self.invariant.listed (first, tt) c.insert.ensures.pids c.insert.ensures.room in
-    subst (λ (s : State). IsMachine s c.notify_of_end-gone.new.pids c.self.inside.order c.notify_of_end-gone.new.records c.ask_parent.new.to_ask) (sym (told_state _ _ _ _ _ c.self.inside.order _ _ _ _ _ _ _ c.args.parent c.args.child c.args.status it.0 c.notify_of_end-gone.ensures.contents counts))
+    subst (λ (s : State). IsMachine s c.notify_of_end-gone.new.pids c.self.inside.order c.ask_parent.new.to_ask) (sym (told_state _ _ _ _ _ c.self.inside.order _ _ _ _ _ c.args.parent c.args.child c.args.status it.0 c.notify_of_end-gone.ensures.contents counts))
     (record {
-      sound = sound_told _ _ _ _ _ _ _ c.args.parent c.args.child c.args.status it.0 c.self.invariant.sound found it.2 c.requires.other counts;
+      sound = sound_told _ _ _ _ _ c.args.parent c.args.child c.args.status it.0 c.self.invariant.sound found it.2 c.requires.other counts;
       listed = listed_told _ c.args.parent c.args.child c.args.status it.0 asked _ c.self.invariant.sound.regular now (ap (is_in c.args.parent) c.insert.ensures.pids ∙ in_with c.args.parent c.args.parent _ ∙ rw (eq-eqb c.args.parent c.args.parent refl) refl) found up (c.ask_parent.ensures.pids ∙ ap (λ o. without_gone c.args.child o asked.pids) (c.notify_of_end-gone.ensures.gone it.0 found)) c.ask_parent.ensures.room;
     })
 
@@ -51,5 +51,5 @@ pub returns-clause-state : goal.returns-clause-state
 returns-clause-state g c =
     let it = c.requires.zombie in
     let found = found_in _ _ (state_is c.self.view_is) c.args.child it.0 it.1 in
-    told_state _ _ _ _ _ c.self.inside.order _ _ _ _ _ _ _ c.args.parent c.args.child c.args.status it.0 c.notify_of_end-gone.ensures.contents (c.notify_of_end-gone.ensures.counts it.0 found)
+    told_state _ _ _ _ _ c.self.inside.order _ _ _ _ _ c.args.parent c.args.child c.args.status it.0 c.notify_of_end-gone.ensures.contents (c.notify_of_end-gone.ensures.counts it.0 found)
     ∙ ap (λ (s : State). notice_of_end s c.args.parent c.args.child c.args.status) (state_is c.self.view_is)

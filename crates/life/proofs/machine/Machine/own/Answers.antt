@@ -14,7 +14,7 @@ pub invariant_of-self-lent : goal.invariant_of-self-lent
 invariant_of-self-lent g c = λ w.
     rw (g.met.K.Kin.puts c.self.inside.table c.args.pid (record (c.update-body.result.now) { own = w }), own_body _ c.update-body.ensures.rising c.args.pid c.update-body.result.now w c.update-body.ensures.value)
     (record {
-      sound = sound_change c.args.pid _ (keeps_give_own w) _ _ _ _ c.self.invariant.sound;
+      sound = sound_change c.args.pid _ (keeps_give_own w) _ _ _ c.self.invariant.sound;
       listed = listed_change _ c.args.pid _ _ _ c.self.invariant.listed (keeps_give_own w).pid (touches_unseen _ c.args.pid _ (unseen_give_own w)) (here_in c.args.pid (state_is c.self.view_is) c.requires) c.insert.ensures.pids c.insert.ensures.room;
     })
 

@@ -1,5 +1,6 @@
 use Rattle.std.proofs.Common.{refl, []}
-use Rattle.posix.proofs.TouchLemmas.{touches_none, in_none}
+use Rattle.posix.proofs.MemberLemmas.{in_none}
+use Rattle.posix.proofs.TouchLemmas.{touches_none}
 use Rattle.life.proofs.AskLemmas.{listed_same}
 use Rattle.life.proofs.machine.Machine.pass_time.Goals as goal
 

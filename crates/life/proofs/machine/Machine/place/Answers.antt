@@ -3,7 +3,8 @@ use Rattle.posix.specs.States.{State, is_in}
 use Rattle.posix.specs.Regular.{IsPlaced}
 use Rattle.posix.proofs.OrderLemmas.{regular_placed}
 use Rattle.posix.proofs.TableLemmas.{pid_looked}
-use Rattle.posix.proofs.TouchLemmas.{touches_placed, in_none}
+use Rattle.posix.proofs.MemberLemmas.{in_none}
+use Rattle.posix.proofs.TouchLemmas.{touches_placed}
 use Rattle.life.proofs.SoundLemmas.{kept_order}
 use Rattle.life.proofs.AskLemmas.{listed_same}
 use Rattle.life.proofs.ViewLemmas.{state_is}
@@ -29,7 +30,7 @@ invariant_of-self g c =
         regular = regular_placed c.args.pid _ c.self.invariant.sound.regular there none;
         parents = c.self.invariant.sound.parents;
         counted = c.self.invariant.sound.counted;
-        kept = kept_order _ _ _ _ _ _ (let r = c.place.ensures.room in omega (arith, r)) c.self.invariant.sound.kept;
+        kept = kept_order _ _ _ _ _ (let r = c.place.ensures.room in omega (arith, r)) c.self.invariant.sound.kept;
       };
       listed = listed_same _ _ _ [] c.self.invariant.listed (touches_placed _ c.args.pid) refl (λ q e. e) (λ q there e. absurd (in_none q e));
     }

@@ -9,7 +9,7 @@ use Rattle.life.proofs.machine.Machine.reap.Goals as goal
 pub discard-parent-requires : goal.discard-parent-requires
 discard-parent-requires g c =
     let it = c.requires.zombie in
-    can_go _ _ _ _ c.args.pid it.0 c.self.invariant.sound (found_in _ _ (state_is c.self.view_is) c.args.pid it.0 it.1) it.2 c.requires.other
+    can_go _ _ _ c.args.pid it.0 c.self.invariant.sound (found_in _ _ (state_is c.self.view_is) c.args.pid it.0 it.1) it.2 c.requires.other
 
 pub ask_parent-requires : goal.ask_parent-requires
 ask_parent-requires g c = has_room _ _ c.self.invariant.sound.regular c.self.invariant.listed
@@ -19,12 +19,10 @@ invariant_of-self g c =
     let it = c.requires.zombie in
     let found = found_in _ _ (state_is c.self.view_is) c.args.pid it.0 it.1 in
     let gone = c.discard-parent.ensures.counts it.0 found in
-    let less = gone.records in
-    let most = c.self.invariant.sound.counted in
     let up = c.self.invariant.sound.parents c.args.pid it.0 c.requires.other found in
     let parent = c.discard-parent.ensures.parent it.0 found in
     rw c.discard-parent.ensures.contents (record {
-      sound = sound_gone _ _ _ _ _ _ c.args.pid _ _ it.0 c.self.invariant.sound found it.2 c.requires.other gone (omega (arith, less, most));
+      sound = sound_gone _ _ _ _ c.args.pid _ _ it.0 c.self.invariant.sound found it.2 c.requires.other gone (omega arith);
       listed = listed_removed _ c.args.pid _ _ it.0 _ _ c.self.invariant.sound.regular c.self.invariant.listed found up (c.ask_parent.ensures.pids ∙ ap (λ n. without_gone c.args.pid (Some n) c.self.inside.to_ask.pids) parent) c.ask_parent.ensures.room;
     })
 

@@ -18,7 +18,7 @@ insert-requires g c = record { room = λ out. has_room _ _ c.self.invariant.soun
 pub invariant_of-self : goal.invariant_of-self
 invariant_of-self g c =
     rw (g.met.K.Kin.puts _ _ _, run_body _ c.update.ensures.rising c.args.pid c.update.result.now c.run_until.new.self c.update.ensures.value) (record {
-      sound = sound_change c.args.pid _ (keeps_set_cpu _) _ _ _ _ c.self.invariant.sound;
+      sound = sound_change c.args.pid _ (keeps_set_cpu _) _ _ _ c.self.invariant.sound;
       listed = listed_change _ c.args.pid _ _ _ c.self.invariant.listed (keeps_set_cpu _).pid (touches_unseen _ c.args.pid _ (unseen_set_cpu _)) (here_in c.args.pid (state_is c.self.view_is) c.requires.there) c.insert.ensures.pids c.insert.ensures.room;
     })
 

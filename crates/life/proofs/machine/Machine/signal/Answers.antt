@@ -15,7 +15,7 @@ pub invariant_of-self : goal.invariant_of-self
 invariant_of-self g c =
     let contents = g.met.K.Kin.puts c.self.inside.table c.args.pid c.signal.new.self ∙ changed_here _ c.update.ensures.rising c.args.pid c.update.result.now c.signal.new.self (signalled c.args.signal) c.update.ensures.value c.signal.ensures.state in
     rw contents (record {
-      sound = sound_change c.args.pid _ (keeps_signalled c.args.signal) _ _ _ _ c.self.invariant.sound;
+      sound = sound_change c.args.pid _ (keeps_signalled c.args.signal) _ _ _ c.self.invariant.sound;
       listed = listed_change _ c.args.pid (signalled c.args.signal) _ _ c.self.invariant.listed (keeps_signalled c.args.signal).pid (touches_unseen _ c.args.pid (signalled c.args.signal) (unseen_signalled c.args.signal)) (here_in c.args.pid (state_is c.self.view_is) c.requires) c.insert.ensures.pids c.insert.ensures.room;
     })
 

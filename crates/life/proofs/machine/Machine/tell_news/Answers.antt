@@ -15,7 +15,7 @@ pub invariant_of-self : goal.invariant_of-self
 invariant_of-self g c =
     let contents = g.met.K.Kin.puts c.self.inside.table c.args.pid c.tell_news.new.self ∙ changed_body _ c.update.ensures.rising c.args.pid c.update.result.now c.tell_news.new.self news_told c.update.ensures.value c.tell_news.ensures in
     rw contents (record {
-      sound = sound_change c.args.pid _ keeps_news_told _ _ _ _ c.self.invariant.sound;
+      sound = sound_change c.args.pid _ keeps_news_told _ _ _ c.self.invariant.sound;
       listed = listed_change _ c.args.pid news_told _ _ c.self.invariant.listed keeps_news_told.pid (touches_told _ c.args.pid) (here_in c.args.pid (state_is c.self.view_is) c.requires) c.insert.ensures.pids c.insert.ensures.room;
     })
 

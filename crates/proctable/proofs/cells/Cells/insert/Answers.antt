@@ -1,5 +1,5 @@
-use Rattle.std.proofs.Common.{refl}
-use Rattle.pidset.proofs.RowLemmas.{rises_inserted}
+use Rattle.std.proofs.Common.{refl, ap, arith, length}
+use Rattle.pidset.proofs.ItemLemmas.{rises_inserted}
 use Rattle.proctable.specs.declared.entry.Entry.{Entry}
 use Rattle.proctable.proofs.CellLemmas.{unindexed, nodes_inserted, stand_inserted}
 use Rattle.proctable.proofs.cells.Cells.insert.Goals as goal
@@ -18,6 +18,7 @@ invariant_of-self c =
     rw c.put_in.ensures.items (record {
       rising = rises_inserted (λ (e : Entry). e.pid) es e c.self.invariant.rising absent;
       standing = stand_inserted es old new e c.args.node u.others c.insert-slot.ensures.was_vacant u.changed refl c.self.invariant.standing;
+      counted = omega (arith, ap length c.put_in.ensures.items, c.put_in.new.items.ok.0, c.put_in.ensures.len, c.insert-slot.ensures.len, c.self.invariant.counted, c.self.inside.index.ok.0);
     })
 
 pub returns-clause-nodes : goal.returns-clause-nodes

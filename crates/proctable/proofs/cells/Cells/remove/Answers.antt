@@ -1,6 +1,6 @@
-use Rattle.std.proofs.Common.{sym, ap, ◌∙◌, ◌==◌, not, refl}
+use Rattle.std.proofs.Common.{sym, ap, ◌∙◌, ◌==◌, not, refl, arith, length}
 use Rattle.std.specs.Option.{option_map}
-use Rattle.pidset.proofs.RowLemmas.{rises_passing}
+use Rattle.pidset.proofs.ItemLemmas.{rises_passing}
 use Rattle.proctable.specs.declared.entry.Entry.{Entry}
 use Rattle.proctable.proofs.CellLemmas.{no_node, stand_rest, nodes_removed, stand_removed, slotted}
 use Rattle.proctable.proofs.cells.Cells.remove.Goals as goal
@@ -20,6 +20,7 @@ invariant_of-self c =
     rw c.take_out.ensures.items (record {
       rising = rises_passing (λ (e : Entry). e.pid) (λ n. not (n == c.args.pid)) es c.self.invariant.rising;
       standing = stand_removed es slab c.remove.new.self.nodes c.args.pid c.in-Some.entry.slot s.what c.remove.ensures.updates.others s.at s.named c.self.invariant.standing;
+      counted = omega (arith, ap length c.take_out.ensures.items, c.take_out.new.items.ok.0, c.in-Some.ensures.one_less, c.remove.ensures.len, c.self.invariant.counted, c.self.inside.index.ok.0);
     })
 
 pub returns-in-Some-clause-nodes : goal.returns-in-Some-clause-nodes

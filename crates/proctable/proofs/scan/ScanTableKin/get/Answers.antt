@@ -5,17 +5,17 @@ use Rattle.proctable.specs.Body.{facts_of}
 use Rattle.proctable.proofs.ScanLemmas.{rises_pids}
 use Rattle.proctable.proofs.scan.ScanTableKin.get.Goals as goal
 
-pub row_of-requires : goal.row_of-requires
-row_of-requires c = rw c.deref.ensures.value (rises_pids c.self.inside.slots.items c.self.invariant)
+pub item_of-requires : goal.item_of-requires
+item_of-requires c = rw c.deref.ensures.value (rises_pids c.self.inside.slots.items c.self.invariant)
 
 pub returns-in_default-clause-value : goal.returns-in_default-clause-value
 unfolding lookup
 returns-in_default-clause-value c =
     let kept = c.deref.ensures.value ∙ ap (λ v. v.processes) c.self.view_is in
-    ap (option_map facts_of) (sym (ap option_copied c.in_default.is) ∙ c.row_of.ensures ∙ ap (lookup c.args.pid) kept)
+    ap (option_map facts_of) (sym (ap option_copied c.in_default.is) ∙ c.item_of.ensures ∙ ap (lookup c.args.pid) kept)
 
 pub returns-clause-value : goal.returns-clause-value
 unfolding lookup
 returns-clause-value c =
     let kept = c.deref.ensures.value ∙ ap (λ v. v.processes) c.self.view_is in
-    rw c.facts.ensures (ap (option_map facts_of) (sym (ap option_copied c.in-Some.is) ∙ c.row_of.ensures ∙ ap (lookup c.args.pid) kept))
+    rw c.facts.ensures (ap (option_map facts_of) (sym (ap option_copied c.in-Some.is) ∙ c.item_of.ensures ∙ ap (lookup c.args.pid) kept))

@@ -1,5 +1,5 @@
 use Rattle.std.proofs.Common.{arith}
-use Rattle.sched.proofs.MemberLemmas.{in_first}
+use Rattle.posix.proofs.MemberLemmas.{in_first}
 use Rattle.sched.proofs.LinkLemmas.{read_length}
 use Rattle.sched.proofs.RingLemmas.{prev_inside, no_more}
 use Rattle.sched.proofs.ListLemmas.{list_added}

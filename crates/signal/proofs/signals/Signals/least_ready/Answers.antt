@@ -29,18 +29,18 @@ least_from xs mask r o n small e some fits there is =
 pub returns-then-ready-eq0 : goal.returns-then-ready-eq0
 unfolding least_ready_of
 returns-then-ready-eq0 c =
-    let xs = c.self.inside.store.carried in
+    let xs = c.self.inside.tables.carried in
     let mask = c.self.inside.mask in
     let small : mask < 2 ^ 64 = omega (arith, c.bits-2.type_inv, c.bits-2.ensures) in
-    let e = ap (λ n. bit_and n (2 ^ 64 - 1 - c.bits-2.result)) (c.bits.ensures ∙ c.pending.ensures.set) ∙ ap (λ n. ready_set xs n) c.bits-2.ensures in
+    let e = ap (λ n. bit_and n (2 ^ 64 - 1 - c.bits-2.result)) (c.bits.ensures ∙ c.self.invariant.0) ∙ ap (λ n. ready_set xs n) c.bits-2.ensures in
     sym (none_ready xs mask small (sym e ∙ c.if-ready-eq0.true)) ∙ ap least_ready_of c.self.view_is
 
 pub returns : goal.returns
 unfolding least_ready_of
 returns c =
-    let xs = c.self.inside.store.carried in
+    let xs = c.self.inside.tables.carried in
     let mask = c.self.inside.mask in
     let small : mask < 2 ^ 64 = omega (arith, c.bits-2.type_inv, c.bits-2.ensures) in
-    let e = ap (λ n. bit_and n (2 ^ 64 - 1 - c.bits-2.result)) (c.bits.ensures ∙ c.pending.ensures.set) ∙ ap (λ n. ready_set xs n) c.bits-2.ensures in
+    let e = ap (λ n. bit_and n (2 ^ 64 - 1 - c.bits-2.result)) (c.bits.ensures ∙ c.self.invariant.0) ∙ ap (λ n. ready_set xs n) c.bits-2.ensures in
     let fits : bit_and c.bits.result (2 ^ 64 - 1 - c.bits-2.result) < 2 ^ 64 = omega (arith, c.bits.type_inv, and_le_l c.bits.result (2 ^ 64 - 1 - c.bits-2.result)) in
-    least_from xs mask _ c.new.result c.pending.ensures.places small e c.if-ready-eq0.false fits c.new.ensures.some.1 c.new.ensures.value ∙ ap least_ready_of c.self.view_is
+    least_from xs mask _ c.new.result c.self.invariant.1 small e c.if-ready-eq0.false fits c.new.ensures.some.1 c.new.ensures.value ∙ ap least_ready_of c.self.view_is

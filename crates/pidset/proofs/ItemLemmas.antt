@@ -1,16 +1,16 @@
--- Facts on rows in rising order of their numbers.
-use Rattle.std.proofs.Common.{◌≡◌, ℕ, zero, suc, ◌+◌, ◌-◌, ◌<◌, ◌≤◌, Bool, true, false, cond, not, refl, ap, sym, ◌∙◌, arith, subst, List, [], ◌∷◌, length, map, filter, find, drop, insert, remove, slice_get, get_or, Some, None, Result, Ok, Err, IfOk, IfErr, ◌==◌, nat_lt}
+-- Facts on items in rising order of their numbers.
+use Rattle.std.proofs.Common.{◌≡◌, ◌≢◌, ℕ, zero, suc, ◌+◌, ◌-◌, ◌<◌, ◌≤◌, Bool, true, false, cond, not, refl, ap, sym, ◌∙◌, arith, subst, List, [], ◌∷◌, length, map, filter, find, drop, insert, remove, slice_get, get_or, Some, None, Result, Ok, Err, IfOk, IfErr, ◌==◌, nat_lt}
 use Rattle.std.specs.List.Sorted.{IsSearchInRange, IsBinarySearchResult, IsNonDecreasingBy}
 use Rattle.std.specs.Option.{IfSome, option_map}
 use Rattle.std.specs.Ordering.{nat_cmp, ordering_index}
 use Rattle.std.proofs.lemmas.Cmp.{ranked}
 use Rattle.std.proofs.lemmas.List.{length-map, get_or-map}
 use Rattle.std.proofs.lemmas.Option.{slice_get-map, slice_get_within, slice_get_read}
-use Rattle.std.proofs.lemmas.Bool.{eqb-false, eq-eqb, ne_eqb}
+use Rattle.std.proofs.lemmas.Bool.{eqb-true, eqb-false, eq-eqb, ne_eqb}
 use Rattle.std.proofs.lemmas.Bool.Decides.{nat_tests}
 use Rattle.posix.specs.States.{is_in}
-use Rattle.pidset.specs.Numbers.{Rises, with_number, IsNumberAt, IsNumberGap, inserted_by}
-use Rattle.pidset.proofs.NumberLemmas.{AllAbove, above_get, above_less, not_in_above, out_gap, later, rising_or, gap_last, rises_filter, rises_with}
+use Rattle.pidset.specs.Numbers.{Rises, with_number, IsNumberAt, IsInsertionPoint, inserted_in_order}
+use Rattle.pidset.proofs.NumberLemmas.{AllAbove, above_get, above_less, not_in_above, out_point, later, rising_or, point_last, rises_filter, rises_with}
 
 -- ---- at the index of a number
 
@@ -18,7 +18,7 @@ use Rattle.pidset.proofs.NumberLemmas.{AllAbove, above_get, above_less, not_in_a
 pub at_below : {X : Type 0} (f : X → ℕ) (xs : List X) (n i : ℕ) → IsNumberAt (map f xs) n i → i < length xs
 at_below f xs n i e = subst (λ k. i < k) (length-map xs f) (slice_get_within (map f xs) i n e)
 
--- the row that is read there
+-- the item that is read there
 pub read_at : {X : Type 0} (f : X → ℕ) (xs : List X) (n i : ℕ) (x : X) → IsNumberAt (map f xs) n i → x ≡ get_or xs i x → slice_get xs i ≡ Some x
 read_at f xs n i x e is = slice_get_read xs (length xs) i x refl (at_below f xs n i e) is
 
@@ -27,9 +27,7 @@ pub find_at : {X : Type 0} (f : X → ℕ) (xs : List X) → Rises (map f xs) �
 unfolding Rises
 find_at f [] up n i e = absurd (cc)
 find_at f (x ∷ xs) up n zero e = let same : f x ≡ n = cc in rw (eq-eqb (f x) n same) refl
-find_at f (x ∷ xs) up n (suc i) e =
-    let low : f x < n = above_get (f x) (map f xs) up.0 i n e in
-    rw (ne_eqb (f x) n (λ k. omega (arith, k, low))) (find_at f xs up.1 n i e)
+find_at f (x ∷ xs) up n (suc i) e = grind (arith, above_get (f x) (map f xs) up.0 i n e, find_at f xs up.1 n i e, eqb-true (f x) n)
 
 -- so one is
 pub at_there : {X : Type 0} (f : X → ℕ) (xs : List X) → Rises (map f xs) → (n i : ℕ) → IsNumberAt (map f xs) n i → find (λ x. f x == n) xs ≡ None → ⊥
@@ -44,10 +42,33 @@ unfolding is_in
 find_none f [] n e = refl
 find_none f (x ∷ xs) n e = grind (arith, find_none f xs n)
 
--- where no row has the number, all others are all
+-- where no item has the number, all others are all
 pub others_all : {X : Type 0} (f : X → ℕ) (xs : List X) (n : ℕ) → find (λ x. f x == n) xs ≡ None → filter (λ x. not (f x == n)) xs ≡ xs
 others_all f [] n e = refl
 others_all f (x ∷ xs) n e = grind (arith, others_all f xs n)
+
+-- who has another number is found among the others as among all
+find_other : {X : Type 0} (f : X → ℕ) (xs : List X) (p q : ℕ) → q ≢ p → find (λ x. f x == q) (filter (λ x. not (f x == p)) xs) ≡ find (λ x. f x == q) xs
+find_other f [] p q ne = refl
+find_other f (x ∷ xs) p q ne = elim (f x == p) as (λ b. (f x == p) ≡ b → find (λ x. f x == q) (cond (not b) (x ∷ filter (λ x. not (f x == p)) xs) (filter (λ x. not (f x == p)) xs)) ≡ find (λ x. f x == q) (x ∷ xs)) [
+  | true ↦ λ t. rw (ne_eqb (f x) q (λ e. ne (sym e ∙ eqb-true _ _ t))) (find_other f xs p q ne)
+  | false ↦ λ t. ap (cond (f x == q) (Some x)) (find_other f xs p q ne)
+] refl
+
+-- and who has the number is not
+find_gone : {X : Type 0} (f : X → ℕ) (xs : List X) (p : ℕ) → find (λ x. f x == p) (filter (λ x. not (f x == p)) xs) ≡ None
+find_gone f [] p = refl
+find_gone f (x ∷ xs) p = elim (f x == p) as (λ b. (f x == p) ≡ b → find (λ x. f x == p) (cond (not b) (x ∷ filter (λ x. not (f x == p)) xs) (filter (λ x. not (f x == p)) xs)) ≡ None) [
+  | true ↦ λ t. find_gone f xs p
+  | false ↦ λ t. rw t (find_gone f xs p)
+] refl
+
+-- so who is found among the others is found among all
+pub find_left : {X : Type 0} (f : X → ℕ) (xs : List X) (p q : ℕ) (x : X) → find (λ x. f x == q) (filter (λ x. not (f x == p)) xs) ≡ Some x → find (λ x. f x == q) xs ≡ Some x
+find_left f xs p q x e = elim (q == p) as (λ b. (q == p) ≡ b → find (λ x. f x == q) xs ≡ Some x) [
+  | true ↦ λ t. let no = sym (subst (λ n. find (λ x. f x == q) (filter (λ x. not (f x == n)) xs) ≡ None) (eqb-true _ _ t) (find_gone f xs q)) ∙ e in absurd (cc)
+  | false ↦ λ t. sym (find_other f xs p q (eqb-false _ _ t)) ∙ e
+] refl
 
 -- the others are those at all other indexes
 pub others_at : {X : Type 0} (f : X → ℕ) (xs : List X) → Rises (map f xs) → (n i : ℕ) → IsNumberAt (map f xs) n i → filter (λ x. not (f x == n)) xs ≡ remove xs i
@@ -56,27 +77,22 @@ others_at f [] up n i e = absurd (cc)
 others_at f (x ∷ xs) up n zero e =
     let same : f x ≡ n = cc in
     rw (eq-eqb (f x) n same) (others_all f xs n (find_none f xs n (not_in_above (f x) n (map f xs) (omega (arith, same)) up.0)))
-others_at f (x ∷ xs) up n (suc i) e =
-    let low : f x < n = above_get (f x) (map f xs) up.0 i n e in
-    rw (ne_eqb (f x) n (λ k. omega (arith, k, low))) (ap (λ ys. x ∷ ys) (others_at f xs up.1 n i e))
+others_at f (x ∷ xs) up n (suc i) e = grind (arith, above_get (f x) (map f xs) up.0 i n e, others_at f xs up.1 n i e, eqb-true (f x) n)
 
 -- ---- at the index where a number would go
 
-pub find_gap : {X : Type 0} (f : X → ℕ) (xs : List X) → Rises (map f xs) → (n i : ℕ) → IsNumberGap (map f xs) n i → find (λ x. f x == n) xs ≡ None
-find_gap f xs up n i g = find_none f xs n (out_gap (map f xs) up n i g)
+pub find_point : {X : Type 0} (f : X → ℕ) (xs : List X) → Rises (map f xs) → (n i : ℕ) → IsInsertionPoint (map f xs) n i → find (λ x. f x == n) xs ≡ None
+find_point f xs up n i g = find_none f xs n (out_point (map f xs) up n i g)
 
--- a row goes in at the gap for its number
-pub insert_gap : {X : Type 0} (f : X → ℕ) (xs : List X) (i : ℕ) (new : X) → IsNumberGap (map f xs) (f new) i → inserted_by f new xs ≡ insert xs i new
-unfolding inserted_by
-insert_gap f [] zero new g = refl
-insert_gap f [] (suc i) new g = let l = g.in_range in absurd (omega arith)
-insert_gap f (x ∷ xs) zero new g = let l : nat_lt (f new) (f x) ≡ true = grind (arith, nat_tests, g.after) in rw l refl
-insert_gap f (x ∷ xs) (suc i) new g =
-    let low : f x < f new = g.before 0 (omega arith) in
-    let l : nat_lt (f new) (f x) ≡ false = grind (arith, nat_tests) in
-    rw l (ap (λ ys. x ∷ ys) (insert_gap f xs i new (later (f x) (map f xs) (f new) i g)))
+-- an item goes in at the insertion point of its number
+pub insert_point : {X : Type 0} (f : X → ℕ) (xs : List X) (i : ℕ) (new : X) → IsInsertionPoint (map f xs) (f new) i → inserted_in_order f new xs ≡ insert xs i new
+unfolding inserted_in_order
+insert_point f [] zero new g = refl
+insert_point f [] (suc i) new g = let l = g.in_range in absurd (omega arith)
+insert_point f (x ∷ xs) zero new g = let l : nat_lt (f new) (f x) ≡ true = grind (arith, nat_tests, g.after) in rw l refl
+insert_point f (x ∷ xs) (suc i) new g = grind (arith, nat_tests, g.before 0 (omega arith), insert_point f xs i new (later (f x) (map f xs) (f new) i g))
 
--- ---- the rows above a number
+-- ---- the items above a number
 
 -- where all lie above n, they are those above n
 all_above : {X : Type 0} (f : X → ℕ) (xs : List X) (n : ℕ) → AllAbove n (map f xs) → filter (λ x. nat_lt n (f x)) xs ≡ xs
@@ -91,53 +107,41 @@ after_index f (x ∷ xs) up n zero e =
     let same : f x ≡ n = cc in
     let t : nat_lt n (f x) ≡ false = grind (arith, nat_tests) in
     rw t (sym (all_above f xs n (subst (λ k. AllAbove k (map f xs)) same up.0)))
-after_index f (x ∷ xs) up n (suc i) e =
-    let low : f x < n = above_get (f x) (map f xs) up.0 i n e in
-    let t : nat_lt n (f x) ≡ false = grind (arith, nat_tests) in
-    rw t (after_index f xs up.1 n i e)
+after_index f (x ∷ xs) up n (suc i) e = grind (arith, nat_tests, above_get (f x) (map f xs) up.0 i n e, after_index f xs up.1 n i e)
 
 pub above_at : {X : Type 0} (f : X → ℕ) (xs : List X) → Rises (map f xs) → (n i : ℕ) → IsNumberAt (map f xs) n i → drop (i + 1) xs ≡ filter (λ x. nat_lt n (f x)) xs
 above_at f xs up n i e = let next : i + 1 ≡ suc i = omega arith in ap (λ k. drop k xs) next ∙ after_index f xs up n i e
 
--- those from the gap for a number on are those above it
-pub above_gap : {X : Type 0} (f : X → ℕ) (xs : List X) → Rises (map f xs) → (n i : ℕ) → IsNumberGap (map f xs) n i → drop i xs ≡ filter (λ x. nat_lt n (f x)) xs
+-- those from the insertion point of a number on are those above it
+pub above_point : {X : Type 0} (f : X → ℕ) (xs : List X) → Rises (map f xs) → (n i : ℕ) → IsInsertionPoint (map f xs) n i → drop i xs ≡ filter (λ x. nat_lt n (f x)) xs
 unfolding Rises
-above_gap f [] up n zero g = refl
-above_gap f [] up n (suc i) g = refl
-above_gap f (x ∷ xs) up n zero g =
+above_point f [] up n zero g = refl
+above_point f [] up n (suc i) g = refl
+above_point f (x ∷ xs) up n zero g =
     let high : n < f x = g.after in
     let t : nat_lt n (f x) ≡ true = grind (arith, nat_tests) in
     rw t (ap (λ ys. x ∷ ys) (sym (all_above f xs n (above_less n (f x) (map f xs) high up.0))))
-above_gap f (x ∷ xs) up n (suc i) g =
-    let low : f x < n = g.before 0 (omega arith) in
-    let t : nat_lt n (f x) ≡ false = grind (arith, nat_tests) in
-    rw t (above_gap f xs up.1 n i (later (f x) (map f xs) n i g))
+above_point f (x ∷ xs) up n (suc i) g = grind (arith, nat_tests, g.before 0 (omega arith), above_point f xs up.1 n i (later (f x) (map f xs) n i g))
 
--- ---- the numbers of rows
+-- ---- the numbers of items
 
--- of the rows whose numbers pass a test, the numbers pass it
+-- of the items whose numbers pass a test, the numbers pass it
 pub numbers_passing : {X : Type 0} (f : X → ℕ) (t : ℕ → Bool) (xs : List X) → filter t (map f xs) ≡ map f (filter (λ x. t (f x)) xs)
 numbers_passing f t [] = refl
-numbers_passing f t (x ∷ xs) = elim (t (f x)) as (λ b. cond b (f x ∷ filter t (map f xs)) (filter t (map f xs)) ≡ map f (cond b (x ∷ filter (λ x. t (f x)) xs) (filter (λ x. t (f x)) xs))) [ true ↦ ap (λ ns. f x ∷ ns) (numbers_passing f t xs) | false ↦ numbers_passing f t xs ]
+numbers_passing f t (x ∷ xs) = grind (arith, numbers_passing f t xs)
 
 -- their order stays
 pub rises_passing : {X : Type 0} (f : X → ℕ) (t : ℕ → Bool) (xs : List X) → Rises (map f xs) → Rises (map f (filter (λ x. t (f x)) xs))
 rises_passing f t xs up = subst Rises (numbers_passing f t xs) (rises_filter t (map f xs) up)
 
--- where no row with its number was there, the number of a row that goes in is put in
-numbers_inserted : {X : Type 0} (f : X → ℕ) (xs : List X) (new : X) → find (λ x. f x == f new) xs ≡ None → with_number (f new) (map f xs) ≡ map f (inserted_by f new xs)
-unfolding inserted_by with_number
+-- where no item with its number was there, the number of an item that goes in is put in
+numbers_inserted : {X : Type 0} (f : X → ℕ) (xs : List X) (new : X) → find (λ x. f x == f new) xs ≡ None → with_number (f new) (map f xs) ≡ map f (inserted_in_order f new xs)
+unfolding inserted_in_order with_number
 numbers_inserted f [] new e = refl
-numbers_inserted f (x ∷ xs) new e = elim (nat_lt (f new) (f x)) as (λ b. cond b (f new ∷ f x ∷ map f xs) (cond (f new == f x) (f x ∷ map f xs) (f x ∷ with_number (f new) (map f xs))) ≡ map f (cond b (new ∷ x ∷ xs) (x ∷ inserted_by f new xs))) [
-  | true ↦ refl
-  | false ↦ elim (f x == f new) as (λ b. (f x == f new) ≡ b → cond b (Some x) (find (λ x. f x == f new) xs) ≡ None → cond (f new == f x) (f x ∷ map f xs) (f x ∷ with_number (f new) (map f xs)) ≡ f x ∷ map f (inserted_by f new xs)) [
-    | true ↦ λ t k. absurd (cc)
-    | false ↦ λ t k. rw (ne_eqb (f new) (f x) (λ same. eqb-false _ _ t (sym same))) (ap (λ ns. f x ∷ ns) (numbers_inserted f xs new k))
-  ] refl e
-]
+numbers_inserted f (x ∷ xs) new e = grind (arith, numbers_inserted f xs new, eqb-true, eq-eqb)
 
 -- the order stays
-pub rises_inserted : {X : Type 0} (f : X → ℕ) (xs : List X) (new : X) → Rises (map f xs) → find (λ x. f x == f new) xs ≡ None → Rises (map f (inserted_by f new xs))
+pub rises_inserted : {X : Type 0} (f : X → ℕ) (xs : List X) (new : X) → Rises (map f xs) → find (λ x. f x == f new) xs ≡ None → Rises (map f (inserted_in_order f new xs))
 rises_inserted f xs new up e = subst Rises (numbers_inserted f xs new e) (rises_with (f new) (map f xs) up)
 
 -- ---- a search
@@ -164,14 +168,14 @@ is_at f [] i n lt h = absurd (omega arith)
 is_at f (x ∷ xs) zero n lt h = ap Some (h x)
 is_at f (x ∷ xs) (suc i) n lt h = is_at f xs i n (omega arith) h
 
--- a binary search ends at the number, or at the gap for it
+-- a binary search ends at the number, or at its insertion point
 pub found_at : {X : Type 0} (f : X → ℕ) (xs : List X) (n : ℕ) (r : Result ℕ ℕ) → IsSearchInRange r (length xs) → IsBinarySearchResult (λ x. nat_cmp (f x) n) xs r → IfOk r (IsNumberAt (map f xs) n)
 found_at f xs n (Ok i) range equal = is_at f xs i n range (λ d. ranked _ n _ (sym (equal d)))
 found_at f xs n (Err i) range parted = tt
 
-pub gap_at : {X : Type 0} (f : X → ℕ) (xs : List X) → Rises (map f xs) → (n : ℕ) (r : Result ℕ ℕ) → IsSearchInRange r (length xs) → IsBinarySearchResult (λ x. nat_cmp (f x) n) xs r → IfErr r (IsNumberGap (map f xs) n)
-gap_at f xs up n (Ok i) range equal = tt
-gap_at f xs up n (Err i) range parted =
+pub point_at : {X : Type 0} (f : X → ℕ) (xs : List X) → Rises (map f xs) → (n : ℕ) (r : Result ℕ ℕ) → IsSearchInRange r (length xs) → IsBinarySearchResult (λ x. nat_cmp (f x) n) xs r → IfErr r (IsInsertionPoint (map f xs) n)
+point_at f xs up n (Ok i) range equal = tt
+point_at f xs up n (Err i) range parted =
     let p = parted (comparisons_rise f xs up n) in
     record {
       in_range = let long = length-map xs f in omega (arith, range, long);
@@ -179,9 +183,9 @@ gap_at f xs up n (Err i) range parted =
       after = some_at f xs i (λ m. n < m) (λ d h. ranked _ n _ (sym (p.1 i d (omega arith) h)));
     }
 
--- a number above the last row's goes to the end
-pub gap_end : {X : Type 0} (f : X → ℕ) (xs : List X) → Rises (map f xs) → (n : ℕ) (x : X) → slice_get xs (length xs - 1) ≡ Some x → f x < n → IsNumberGap (map f xs) n (length xs)
-gap_end f xs up n x e lt =
+-- a number above the last item's goes to the end
+pub point_end : {X : Type 0} (f : X → ℕ) (xs : List X) → Rises (map f xs) → (n : ℕ) (x : X) → slice_get xs (length xs - 1) ≡ Some x → f x < n → IsInsertionPoint (map f xs) n (length xs)
+point_end f xs up n x e lt =
     let long = length-map xs f in
     let last : slice_get (map f xs) (length (map f xs) - 1) ≡ Some (f x) = ap (λ k. slice_get (map f xs) (k - 1)) long ∙ slice_get-map f xs (length xs - 1) ∙ ap (option_map f) e in
-    subst (IsNumberGap (map f xs) n) long (gap_last (map f xs) up n (f x) last lt)
+    subst (IsInsertionPoint (map f xs) n) long (point_last (map f xs) up n (f x) last lt)
