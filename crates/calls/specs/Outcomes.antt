@@ -1,5 +1,5 @@
 -- What the functions of calls come to.
-use Rattle.std.specs.Prelude.{◌≡◌, ℕ, Bool, true, false, List, [], ◌∷◌, ◌++◌, Option, Some, None, ℤ, pos, Result, Ok, Err}
+use Rattle.std.specs.Prelude.{◌≡◌, ℕ, ◌+◌, ◌≤◌, Bool, true, false, List, [], ◌∷◌, ◌++◌, Option, Some, None, ℤ, pos, Result, Ok, Err}
 use Rattle.posix.specs.declared.call.Call.{Call}
 use Rattle.posix.specs.declared.call.Call.TheVariants.{Exit, Fork, Waitpid, Pause, SchedYield, Getppid, Kill, Sigsuspend, Sigreturn}
 use Rattle.posix.specs.declared.entry.Entry.{Entry}
@@ -13,6 +13,12 @@ use Rattle.posix.specs.Outcomes as outcome
 use Rattle.posix.specs.Attempts.{attempt}
 use Rattle.proctable.specs.declared.own.Own.{Own}
 use Rattle.proctable.specs.Body.{give_own}
+use Rattle.life.specs.Machines.{MachineView}
+
+-- At most so many slots were read, and nobody was put on the list of those to ask.
+pub record IsBrief (most : ℕ) (old new : MachineView) : Type 0 where
+  pub reads : new.reads ≤ old.reads + most
+  pub asked : new.asked ≡ old.asked
 
 -- ---- attempts
 

@@ -1,13 +1,13 @@
 //! Attempts of system calls: each is done, and adds what it shows, or the process has to wait.
 
-ghost use Rattle.std.specs.Prelude.{◌≡◌, ◌+◌, ◌<◌, ◌≤◌, ◌^◌, ◌++◌, ◌∷◌, [], length, IsSome, None};
+ghost use Rattle.std.specs.Prelude.{◌≡◌, ◌+◌, ◌<◌, ◌≤◌, ◌^◌, ◌++◌, ◌∷◌, [], length, IsSome, None, true};
 ghost use Rattle.posix.specs.declared.entry.Entry.TheVariants.{Called};
 ghost use Rattle.posix.specs.Processes.{Process};
 ghost use Rattle.posix.specs.States.{process};
 ghost use Rattle.posix.specs.Regular.{IsPlaced};
 ghost use Rattle.posix.specs.Outcomes.{finish, refusal as refusal_of};
 ghost use Rattle.posix.specs.Attempts.{attempt_again as attempting_again};
-ghost use Rattle.calls.specs.Outcomes.{Comes, Attempts, IsActing};
+ghost use Rattle.calls.specs.Outcomes.{Comes, Attempts, IsActing, IsBrief, is_own};
 
 use crate::delivery::{end, return_from_handler};
 use crate::entries::Entries;
@@ -140,7 +140,8 @@ pub fn attempt<K: Kin>(
     requires acting { IsActing machine.old.state pid }
     requires births { machine.old.state.births + 1 < 2 ^ 64 }
     requires none { entries.old.items ≡ [] }
-    ensures { Attempts machine.old.state pid call result entries.old.items entries.new.items machine.new.state }
+    ensures attempts { Attempts machine.old.state pid call result entries.old.items entries.new.items machine.new.state }
+    ensures own { is_own call ≡ true → (result ≡ None) × IsBrief 1 machine.old machine.new }
 {
     match call {
         Call::Exit => exit(machine, pid, entries),

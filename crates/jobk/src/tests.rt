@@ -4,7 +4,7 @@ use crate::serving::{FileFault, ReadFiles, WordsFault, serve};
 use arrayvec::ArrayVec;
 use kernel::{Kernel, RunError, Summary, WriteSink, run, run_on};
 use posix::{Entry, Event, Pid, Sig, Status};
-use proctable::{Kin, ProcTable};
+use proctable::{Kin, ScanTable};
 use std::alloc::Global;
 use std::io;
 use std::process::Abort;
@@ -100,7 +100,7 @@ pub fn expect_run<R: Abort + AllocGlobal>(
         status,
     );
     if status == 0 {
-        assert!(rt; expect_run_on::<ProcTable, _>(rt, world, events, trace).is_ok());
+        assert!(rt; expect_run_on::<ScanTable, _>(rt, world, events, trace).is_ok());
     }
 }
 

@@ -1,5 +1,5 @@
 -- Plain instructions, one after another, are steps that show nothing.
-use Rattle.std.proofs.Common.{◌≡◌, ◌⊎◌, ⊎_elim, ◌==◌, ℕ, zero, suc, ◌+◌, true, false, cond, refl, ap, sym, ◌∙◌, arith, subst, List, [], ◌∷◌, ◌++◌, append-nil, map, length, Some, None, option_map, option_and_then, is_some, ℤ}
+use Rattle.std.proofs.Common.{◌≡◌, ◌⊎◌, ⊎_elim, ◌==◌, ℕ, zero, suc, ◌+◌, true, false, cond, refl, ap, sym, ◌∙◌, arith, subst, List, [], ◌∷◌, append-nil, Some, None, option_map, option_and_then, is_some, ℤ}
 use Rattle.std.specs.Prelude.{replicate}
 use Rattle.posix.specs.declared.instr.Trap.{Trap}
 use Rattle.posix.specs.declared.instr.Trap.TheVariants as trap
@@ -8,8 +8,8 @@ use Rattle.posix.specs.declared.event.Event.TheVariants.{Step}
 use Rattle.posix.specs.declared.entry.Entry.{Entry}
 use Rattle.posix.specs.declared.entry.Entry.TheVariants.{Noted}
 use Rattle.posix.specs.Processes.{Process, Cpu}
-use Rattle.posix.specs.Entries.{Line, numbered}
-use Rattle.posix.specs.Tables.{IsRising, lookup, at, changed}
+use Rattle.posix.specs.Entries.{numbered}
+use Rattle.posix.specs.Tables.{IsRising, at, changed}
 use Rattle.posix.specs.States.{State, is_in, change, current, process, current_process}
 use Rattle.posix.specs.Execute.{exec_one}
 use Rattle.posix.specs.Choice.{chosen}
@@ -195,22 +195,6 @@ burst_runs (suc most) s p me r b e =
     by_trap s p me r (exec_one (code_of s me) me.cpu).trap refl (exec_until (code_of s me) most c)
     (λ ready. burst_runs most (change s p (set_cpu c)) p (set_cpu c me) ready (exec_until (code_of s me) most c) (sym (rest_of s p me c most)))
     b e
-
--- ---- one event, and the lines of a burst
-
-entries_of : (k : ℕ) (es : List Entry) → map (λ (l : Line). l.entry) (numbered k es) ≡ es
-entries_of k [] = refl
-entries_of k (e ∷ es) = ap (λ l. e ∷ l) (entries_of k es)
-
-same_entries : (j k : ℕ) (es fs : List Entry) → numbered j es ≡ numbered k fs → es ≡ fs
-same_entries j k es fs e = sym (entries_of j es) ∙ ap (map (λ (l : Line). l.entry)) e ∙ entries_of k fs
-
--- a run of one event is that event
-pub only_step : (k j n : ℕ) (s u : State) (es : List Entry) → n ≡ 1 → RunsFrom k s (replicate n Step) (numbered j es) u → IsStep s Step es u
-only_step k j n s u es one run =
-    let (mid, shown_there, rest, step, lines, ends) = subst (λ (m : ℕ). RunsFrom k s (replicate m Step) (numbered j es) u) one run in
-    let same : es ≡ shown_there = same_entries j k es shown_there (lines ∙ ap (λ l. numbered k shown_there ++ l) ends.0 ∙ append-nil (numbered k shown_there)) in
-    subst (λ (xs : List Entry). IsStep s Step xs u) (sym same) (subst (IsStep s Step shown_there) (sym ends.1) step)
 
 -- ---- what the code read and did
 

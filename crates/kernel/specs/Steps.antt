@@ -1,5 +1,5 @@
 -- What the functions of one event come to.
-use Rattle.std.specs.Prelude.{◌≡◌, ℕ, ◌+◌, ◌||◌, if◌then◌else◌, Bool, List, [], ◌∷◌, Option, Some, None, is_some, replicate, min}
+use Rattle.std.specs.Prelude.{◌≡◌, ℕ, ◌+◌, ◌||◌, if◌then◌else◌, Bool, true, false, List, [], ◌∷◌, Option, Some, None, is_some, replicate, min}
 use Rattle.posix.specs.declared.call.Call.{Call}
 use Rattle.posix.specs.declared.event.Event.{Event}
 use Rattle.posix.specs.declared.event.Event.TheVariants.{Step, Tick}
@@ -17,6 +17,7 @@ use Rattle.posix.specs.Runs.{RunsFrom}
 use Rattle.posix.specs.Settle.{NoWakeIsLost}
 use Rattle.posix.specs.Step.{code_of, begin_call, after_trap, act, step, happens}
 use Rattle.umach.specs.Bursts.{exec_until}
+use Rattle.calls.specs.Outcomes.{is_own}
 
 -- p may begin the call so.
 abbrev pub Begins : State → ℕ → Call → List Entry → State → Type 0
@@ -40,6 +41,24 @@ Steps old entries new = (granted : Bool) × (step granted old (current_process o
 -- An event may come to this, before places are given.
 abbrev pub Happens : State → Event → List Entry → State → Type 0
 Happens old event entries new = (granted : Bool) × (happens granted old event ≡ record { state = new; entries = entries })
+
+-- an instruction that concerns the process alone that runs it: no machine fault, and no call but one that
+-- changes its caller alone
+abbrev pub concerns_one : Trap → Bool
+concerns_one trap.Next = true
+concerns_one (trap.Note z) = true
+concerns_one (trap.Call call) = is_own call
+concerns_one (trap.Fault sig) = false
+
+-- the process comes to such an instruction: it is in no call, and no signal is chosen for it
+abbrev pub acts_alone : State → Option Process → Bool
+acts_alone s None = true
+acts_alone s (Some me) = if is_some (chosen me.life me.signals) || is_some me.blocked then false else concerns_one (exec_one (code_of s me) me.cpu).trap
+
+-- what an event does concerns one process: a tick does
+abbrev pub is_narrow : Event → State → Bool
+is_narrow Step s = acts_alone s (current_process s)
+is_narrow Tick s = true
 
 -- how many plain instructions, at most so many, a process runs: none in a call, or with a signal chosen
 abbrev pub plain_of : State → ℕ → Option Process → ℕ

@@ -7,7 +7,7 @@ ghost use Rattle.posix.specs.Runs.{RunsFrom};
 ghost use Rattle.posix.specs.Step.{IsStep};
 ghost use Rattle.posix.specs.Regular.{IsRegular};
 ghost use Rattle.text.specs.EventTexts.{most_events};
-ghost use Rattle.kernel.specs.Steps.{plain_steps};
+ghost use Rattle.kernel.specs.Steps.{is_narrow, plain_steps};
 ghost use Rattle.kernel.specs.Views.{KernelView};
 ghost use Rattle.life.specs.Censuses.{census_of};
 
@@ -16,13 +16,13 @@ use arrayvec::ArrayVec;
 use calls::Entries;
 use life::{Census, Machine};
 use posix::Event;
-use proctable::{Kin, ScanTable};
+use proctable::{Kin, ProcTable};
 use std::alloc::{AllocError, Global};
 use std::marker::Model;
 use umach::World;
 
 /// The kernel of one world.
-pub type Kernel = KernelOn<ScanTable>;
+pub type Kernel = KernelOn<ProcTable>;
 
 /// The kernel of one world over a table of processes: the machine, and the count of events.
 #[derive(Drop)]
@@ -32,7 +32,7 @@ pub struct KernelOn<K: Kin> {
 }
 
 impl<K: Kin> Model for KernelOn<K> {
-    ghost use Rattle.std.specs.Prelude.{◌≤◌, ◌+◌, ◌≡◌, false};
+    ghost use Rattle.std.specs.Prelude.{◌≤◌, ◌+◌, ◌≡◌, [], false};
     ghost use Rattle.posix.specs.Settle.{NoWakeIsLost};
     ghost use Rattle.posix.specs.Regular.{IsRegular};
     ghost use Rattle.kernel.specs.Views.{KernelView};
@@ -41,7 +41,7 @@ impl<K: Kin> Model for KernelOn<K> {
 
     ghost view = { λ k. record { state = k.machine.state; events = k.events; reads = k.machine.reads } };
 
-    ghost invariant = { λ k. (k.machine.state.births ≤ k.events + 1) × (k.machine.state.ticks ≤ k.events) × (k.machine.state.halted ≡ false → NoWakeIsLost k.machine.state) × IsRegular k.machine.state };
+    ghost invariant = { λ k. (k.machine.state.births ≤ k.events + 1) × (k.machine.state.ticks ≤ k.events) × (k.machine.state.halted ≡ false → NoWakeIsLost k.machine.state) × IsRegular k.machine.state × (k.machine.asked ≡ []) };
 }
 
 impl<K: Kin> KernelOn<K> {
@@ -90,14 +90,10 @@ impl<K: Kin> KernelOn<K> {
         ensures events { self.new.events ≡ self.old.events + 1 }
         ensures halted { self.old.state.halted ≡ true → (result.items ≡ []) × (self.new.state ≡ self.old.state) }
         ensures regular { IsRegular self.new.state }
+        ensures reads { is_narrow event self.old.state ≡ true → self.new.reads ≤ self.old.reads + 3 }
     {
         let mut entries = ArrayVec::new();
-        match event {
-            Event::Step => {
-                self.steps(1, &mut entries);
-            }
-            Event::Tick => self.event_into(event, &mut entries),
-        }
+        self.event_into(event, &mut entries);
         entries
     }
 
@@ -136,6 +132,7 @@ impl<K: Kin> KernelOn<K> {
         ensures events { self.new.events ≡ self.old.events + 1 }
         ensures halted { self.old.state.halted ≡ true → (entries.new.items ≡ []) × (self.new.state ≡ self.old.state) }
         ensures regular { IsRegular self.new.state }
+        ensures reads { is_narrow event self.old.state ≡ true → self.new.reads ≤ self.old.reads + 3 }
     {
         self.events += 1;
         next(&mut self.machine, event, entries);

@@ -1,6 +1,6 @@
 //! Places for all processes that can act.
 
-ghost use Rattle.std.specs.Prelude.{◌≡◌, ◌||◌, IsSome, Some, is_some, option_map};
+ghost use Rattle.std.specs.Prelude.{◌≡◌, ◌||◌, [], IsSome, Some, is_some, option_map};
 ghost use Rattle.posix.specs.Processes.{Process};
 ghost use Rattle.posix.specs.States.{process};
 ghost use Rattle.posix.specs.Choice.{chosen};
@@ -65,6 +65,8 @@ fn wake<K: Kin>(machine: &mut Machine<K>, pid: Pid)
 pub fn settle<K: Kin>(machine: &mut Machine<K>)
     ensures state { machine.new.state ≡ settling machine.old.state }
     ensures regular { IsRegular machine.new.state }
+    ensures asked { machine.new.asked ≡ [] }
+    ensures none { machine.old.asked ≡ [] → machine.new.reads ≡ machine.old.reads }
 {
     let mut next = machine.next_to_ask(Pid::NONE);
     while let Some(pid) = next {

@@ -1,17 +1,18 @@
 //! One event of the machine. What it shows is added to a list of entries that is empty before, so that
 //! an instruction that shows nothing moves none.
 
-ghost use Rattle.std.specs.Prelude.{◌≡◌, ◌+◌, [], length, ◌<◌, ◌≤◌, ◌^◌, Some, option_map, false};
+ghost use Rattle.std.specs.Prelude.{◌≡◌, ◌+◌, [], length, ◌<◌, ◌≤◌, ◌^◌, Some, option_map, false, true};
 ghost use Rattle.posix.specs.Processes.{Process};
 ghost use Rattle.posix.specs.Choice.{chosen};
 ghost use Rattle.posix.specs.States.{process, current_process};
-ghost use Rattle.posix.specs.Step.{tick as ticking, go_on as going_on, IsStep};
+ghost use Rattle.posix.specs.Execute.{exec_one};
+ghost use Rattle.posix.specs.Step.{code_of, tick as ticking, go_on as going_on, IsStep};
 ghost use Rattle.posix.specs.Attempts.{attempt_again};
 ghost use Rattle.posix.specs.Regular.{IsPlaced, IsRegular};
 ghost use Rattle.posix.specs.Settle.{NoWakeIsLost};
 ghost use Rattle.proctable.specs.Body.{facts_of};
-ghost use Rattle.calls.specs.Outcomes.{IsActing};
-ghost use Rattle.kernel.specs.Steps.{ActsAs, Begins, Bursts, Happens, RunsInstruction, Steps, note_of, plain_steps};
+ghost use Rattle.calls.specs.Outcomes.{IsActing, IsBrief, is_own};
+ghost use Rattle.kernel.specs.Steps.{ActsAs, Begins, Bursts, Happens, RunsInstruction, Steps, acts_alone, concerns_one, is_narrow, note_of, plain_steps};
 
 use crate::settle::settle;
 use calls::Entries;
@@ -28,7 +29,8 @@ fn begin_call<K: Kin>(machine: &mut Machine<K>, pid: Pid, call: Call, entries: &
     requires acting { IsActing machine.old.state pid }
     requires births { machine.old.state.births + 1 < 2 ^ 64 }
     requires none { entries.old.items ≡ [] }
-    ensures { Begins machine.old.state pid call entries.new.items machine.new.state }
+    ensures begins { Begins machine.old.state pid call entries.new.items machine.new.state }
+    ensures own { is_own call ≡ true → IsBrief 1 machine.old machine.new }
 {
     let Some(blocked) = attempt(machine, pid, call, entries) else {
         return;
@@ -68,7 +70,8 @@ fn run_instruction<K: Kin>(machine: &mut Machine<K>, pid: Pid, program: u8, entr
     requires program { (me : Process) → process machine.old.state pid ≡ Some me → me.program ≡ program }
     requires births { machine.old.state.births + 1 < 2 ^ 64 }
     requires none { entries.old.items ≡ [] }
-    ensures { RunsInstruction machine.old.state pid entries.new.items machine.new.state }
+    ensures runs { RunsInstruction machine.old.state pid entries.new.items machine.new.state }
+    ensures brief { (me : Process) → process machine.old.state pid ≡ Some me → concerns_one (exec_one (code_of machine.old.state me) me.cpu).trap ≡ true → IsBrief 2 machine.old machine.new }
 {
     match machine.exec_one(pid, program) {
         Trap::Next => {}
@@ -86,7 +89,8 @@ fn act<K: Kin>(machine: &mut Machine<K>, pid: Pid, facts: Facts, entries: &mut E
     requires facts { Some facts ≡ option_map facts_of (process machine.old.state pid) }
     requires births { machine.old.state.births + 1 < 2 ^ 64 }
     requires none { entries.old.items ≡ [] }
-    ensures { ActsAs machine.old.state pid entries.new.items machine.new.state }
+    ensures acts { ActsAs machine.old.state pid entries.new.items machine.new.state }
+    ensures brief { acts_alone machine.old.state (process machine.old.state pid) ≡ true → IsBrief 2 machine.old machine.new }
 {
     let Facts {
         chosen,
@@ -111,7 +115,8 @@ fn act<K: Kin>(machine: &mut Machine<K>, pid: Pid, facts: Facts, entries: &mut E
 fn step<K: Kin>(machine: &mut Machine<K>, entries: &mut Entries)
     requires births { machine.old.state.births + 1 < 2 ^ 64 }
     requires none { entries.old.items ≡ [] }
-    ensures { Steps machine.old.state entries.new.items machine.new.state }
+    ensures steps { Steps machine.old.state entries.new.items machine.new.state }
+    ensures brief { acts_alone machine.old.state (current_process machine.old.state) ≡ true → IsBrief 3 machine.old machine.new }
 {
     let Some(pid) = machine.current() else {
         return;
@@ -127,7 +132,8 @@ fn step<K: Kin>(machine: &mut Machine<K>, entries: &mut Entries)
 #[inline(never)]
 fn tick<K: Kin>(machine: &mut Machine<K>)
     requires { machine.old.state.ticks + 1 < 2 ^ 64 }
-    ensures { machine.new.state ≡ ticking machine.old.state }
+    ensures state { machine.new.state ≡ ticking machine.old.state }
+    ensures brief { IsBrief 0 machine.old machine.new }
 {
     machine.pass_time();
     if let Some(pid) = machine.current() {
@@ -141,7 +147,8 @@ fn happen<K: Kin>(machine: &mut Machine<K>, event: Event, entries: &mut Entries)
     requires births { machine.old.state.births + 1 < 2 ^ 64 }
     requires ticks { machine.old.state.ticks + 1 < 2 ^ 64 }
     requires none { entries.old.items ≡ [] }
-    ensures { Happens machine.old.state event entries.new.items machine.new.state }
+    ensures happens { Happens machine.old.state event entries.new.items machine.new.state }
+    ensures brief { is_narrow event machine.old.state ≡ true → IsBrief 3 machine.old machine.new }
 {
     match event {
         Event::Step => step(machine, entries),
@@ -163,6 +170,7 @@ pub fn burst<K: Kin>(machine: &mut Machine<K>, most: u64, entries: &mut Entries)
     ensures note { entries.new.items ≡ note_of machine.old.state most (current_process machine.old.state) }
     ensures one { length entries.new.items ≤ 1 }
     ensures within { result ≤ most }
+    ensures asked { machine.new.asked ≡ machine.old.asked }
     ensures regular { IsRegular machine.new.state }
 {
     let Some(pid) = machine.current() else {
@@ -192,6 +200,8 @@ pub fn next<K: Kin>(machine: &mut Machine<K>, event: Event, entries: &mut Entrie
     requires none { entries.old.items ≡ [] }
     ensures step { IsStep machine.old.state event entries.new.items machine.new.state }
     ensures regular { IsRegular machine.new.state }
+    ensures asked { machine.old.asked ≡ [] → machine.new.asked ≡ [] }
+    ensures reads { machine.old.asked ≡ [] → is_narrow event machine.old.state ≡ true → machine.new.reads ≤ machine.old.reads + 3 }
 {
     if machine.is_halted() {
         return;

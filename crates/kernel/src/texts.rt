@@ -5,7 +5,7 @@ ghost use Rattle.kernel.specs.Headline.{Headline};
 use crate::kernel_on::KernelOn;
 use crate::progress::write_trace;
 use crate::summary::Summary;
-use proctable::{Kin, ScanTable};
+use proctable::{Kin, ProcTable};
 use sink::Sink;
 use std::alloc::Global;
 use text::{Reason, TextFault, read_events, read_world};
@@ -67,5 +67,5 @@ pub fn run<S: Sink>(
 ) -> Result<Summary, RunError>
     ensures { Headline world.now events.now out.old out.new (S.seen out.old) (S.seen out.new) result }
 {
-    run_on::<ScanTable, S>(alloc, world, events, out)
+    run_on::<ProcTable, S>(alloc, world, events, out)
 }

@@ -1,5 +1,5 @@
 -- The list of those who are to be asked whether they can act.
-use Rattle.std.proofs.Common.{◌≡◌, ◌≢◌, ℕ, ◌+◌, ◌<◌, ◌≤◌, true, false, cond, ◌||◌, refl, ap, sym, ◌∙◌, arith, subst, List, [], ◌∷◌, ◌++◌, length, Option, Some, None, ◌==◌, slice_get, ⊎_elim}
+use Rattle.std.proofs.Common.{◌≡◌, ◌≢◌, ℕ, ◌+◌, ◌<◌, ◌≤◌, true, false, cond, not, ◌||◌, ◌&&◌, refl, ap, sym, ◌∙◌, arith, subst, List, [], ◌∷◌, ◌++◌, length, Option, Some, None, ◌==◌, slice_get, ⊎_elim}
 use Rattle.std.specs.List.{AllByRecursion}
 use Rattle.std.specs.Option.{IfSome, IsSome}
 use Rattle.std.proofs.lemmas.Bool.{eqb-true, eq-eqb, or_left, or_right, or_cases}
@@ -8,7 +8,7 @@ use Rattle.posix.specs.Processes.{Process}
 use Rattle.posix.specs.Tables.{IsNext, lookup, at, changed, inserted, removed, reparented, adopted}
 use Rattle.posix.specs.States.{World, State, boot, process, is_in, change, lose_place}
 use Rattle.posix.specs.Regular.{IsRegular}
-use Rattle.posix.specs.Settle.{NoWakeIsLost, wakes}
+use Rattle.posix.specs.Settle.{NoWakeIsLost, can_act, wakes}
 use Rattle.posix.specs.Ends.{made_zombie, ended, halt, depart, noticed, child_signal, is_dropping, drop_child, notice_of_end}
 use Rattle.posix.proofs.TableLemmas.{pid_looked, pid_reparented}
 use Rattle.posix.proofs.MapLemmas.{at_pid, lookup_on, lookup_back, some_map}
@@ -21,7 +21,7 @@ use Rattle.posix.proofs.WakeLemmas.{first_has_place}
 use Rattle.pidset.specs.Numbers.{PidSetView, Rises, with_number, numbers_above}
 use Rattle.pidset.proofs.NumberLemmas.{IsLeastAbove, in_with, rises_with, rises_without, next_is, next_some, few}
 use Rattle.life.specs.Machines.{IsListed}
-use Rattle.life.specs.Asking.{with_numbers, without_gone}
+use Rattle.life.specs.Asking.{with_numbers, asking, without_gone}
 use Rattle.life.proofs.SoundLemmas.{there}
 
 -- ---- numbers put in
@@ -94,13 +94,36 @@ listed_with s t before after ps touched h touches most stay theirs among is same
     inside : (q : ℕ) → is_in q after.pids ≡ (is_in q ps || is_in q before.pids)
     inside q = ap (is_in q) is ∙ in_numbers q ps before.pids
 
--- one record that changed and keeps its number, put in
+-- where who is touched has a place, and so needn't be asked
+listed_placed : (s t : State) (l : PidSetView) (p : ℕ) → IsListed s l → Touches s t (p ∷ []) → t.world.pidmax ≡ s.world.pidmax → ((q : ℕ) → IsSome (process s q) → IsSome (process t q)) → is_in p t.order ≡ true → IsListed t l
+listed_placed s t l p h touches most stay placed = record {
+  covers = λ q r e w. ⊎_elim (λ same. absurd (waits q r e w (eqb-true p q same))) (λ k. k) (or_cases _ _ (sym (in_with q p l.pids) ∙ on_longer q r e w));
+  rising = h.rising;
+  there = λ q e. stay q (h.there q e);
+  room = let room = h.room in omega (arith, room, most);
+}
+  where
+    on_longer : (q : ℕ) (r : Process) → process t q ≡ Some r → wakes t r ≡ true → is_in q (with_number p l.pids) ≡ true
+    on_longer = goes_on s t l.pids (with_number p l.pids) (p ∷ []) h.covers touches
+        (λ q theirs e. in_with q p l.pids ∙ or_left _ _ (eq-eqb p q (sym (in_one q p e))))
+        (λ q theirs e. in_with q p l.pids ∙ or_right (p == q) _ e)
+
+    waits : (q : ℕ) (r : Process) → process t q ≡ Some r → wakes t r ≡ true → p ≡ q → ⊥
+    waits q r e w same =
+        let has : is_in r.pid t.order ≡ true = ap (λ n. is_in n t.order) (pid_looked q t.processes r e ∙ sym same) ∙ placed in
+        let none : false ≡ true = sym (ap (λ b. not b && can_act t r) has) ∙ w in
+        absurd (cc)
+
+-- one record that changed and keeps its number
 pub listed_change : (s : State) (p : ℕ) (f : Process → Process) (before after : PidSetView) → IsListed s before → ((r : Process) → (f r).pid ≡ r.pid) → Touches s (change s p f) (p ∷ []) → IsSome (process s p)
-    → after.pids ≡ with_number p before.pids → after.room ≡ before.room → IsListed (change s p f) after
+    → after.pids ≡ asking p s.order before.pids → after.room ≡ before.room → IsListed (change s p f) after
 unfolding with_numbers changed
 listed_change s p f before after h keeps touches here is same =
     let stay = some_map (at p f) (at_pid p f keeps) in
-    listed_with s (change s p f) before after (p ∷ []) (p ∷ []) h touches refl (λ q e. stay q s.processes e) (stay p s.processes here, tt) (λ q theirs e. e) is same
+    elim (is_in p s.order) as (λ b. is_in p s.order ≡ b → after.pids ≡ cond b before.pids (with_number p before.pids) → IsListed (change s p f) after) [
+      | true ↦ λ placed e. listed_more (change s p f) before after [] (listed_placed s (change s p f) before p h touches refl (λ q k. stay q s.processes k) placed) tt e same
+      | false ↦ λ out e. listed_with s (change s p f) before after (p ∷ []) (p ∷ []) h touches refl (λ q k. stay q s.processes k) (stay p s.processes here, tt) (λ q theirs k. k) e same
+    ] refl is
 
 -- ---- who is asked next
 

@@ -1,12 +1,12 @@
 -- What keeps the parent of each process there.
-use Rattle.std.proofs.Common.{◌≡◌, ◌≢◌, ℕ, true, false, cond, refl, ap, sym, ◌∙◌, subst, List, [], ◌∷◌, map, Some, None, ◌==◌, inl, inr, arith, filter, find}
+use Rattle.std.proofs.Common.{◌≡◌, ◌≢◌, ℕ, true, false, cond, refl, ap, sym, ◌∙◌, subst, List, [], ◌∷◌, map, Some, None, ◌==◌, inl, inr}
 use Rattle.std.specs.Option.{IsSome}
 use Rattle.std.proofs.lemmas.Bool.{eqb-true, cases_eq}
 use Rattle.posix.specs.Processes.{Process, first_process}
 use Rattle.posix.specs.Tables.{lookup, children_in, inserted, removed, reparented, adopted}
 use Rattle.posix.proofs.TableLemmas.{pid_reparented}
 use Rattle.posix.proofs.MapLemmas.{lookup_back, some_map}
-use Rattle.posix.proofs.RegularLemmas.{lookup_inserted, lookup_new, lookup_kept, lookup_removed, lookup_left, some_inserted}
+use Rattle.posix.proofs.RegularLemmas.{lookup_inserted, lookup_new, lookup_kept, lookup_left, some_inserted}
 use Rattle.proctable.proofs.LinkLemmas.{no_child}
 
 abbrev pub HaveParents : List Process → Type 0

@@ -1,12 +1,16 @@
 -- Who is to be asked whether it can act.
-use Rattle.std.specs.Prelude.{ℕ, List, [], ◌∷◌, Option, Some, None}
-use Rattle.posix.specs.States.{without}
+use Rattle.std.specs.Prelude.{ℕ, if◌then◌else◌, List, [], ◌∷◌, Option, Some, None}
+use Rattle.posix.specs.States.{is_in, without}
 use Rattle.pidset.specs.Numbers.{with_number}
 
 -- these numbers put in
 unfoldable pub with_numbers : List ℕ → List ℕ → List ℕ
 with_numbers [] ns = ns
 with_numbers (p ∷ ps) ns = with_number p (with_numbers ps ns)
+
+-- p has changed, but not its place: it is asked where it has none
+abbrev pub asking : ℕ → List ℕ → List ℕ → List ℕ
+asking p order ns = if is_in p order then ns else with_number p ns
 
 -- where the record of p has gone, whose parent this was, the parent is asked, and p no more
 abbrev pub without_gone : ℕ → Option ℕ → List ℕ → List ℕ

@@ -1,5 +1,5 @@
 -- The parts of a machine as a state, and what holds of them.
-use Rattle.std.specs.Prelude.{◌≡◌, ◌≢◌, ℕ, ◌+◌, ◌-◌, ◌<◌, ◌≤◌, Bool, true, false, List, [], length, Some, IsSome}
+use Rattle.std.specs.Prelude.{◌≡◌, ◌≢◌, ℕ, ◌+◌, ◌<◌, ◌≤◌, Bool, true, false, List, [], length, Some, IsSome}
 use Rattle.posix.specs.Processes.{Process}
 use Rattle.posix.specs.Tables.{lookup, children_in}
 use Rattle.posix.specs.States.{World, State, boot, process, is_in}
@@ -22,10 +22,11 @@ state_of world processes pids places births ticks dropped halted = record (boot 
   halted = halted;
 }
 
--- the state of a machine, and how many slots of its table have been read
+-- the state of a machine, how many slots of its table have been read, and who is on the list of those to ask
 pub record MachineView : Type 0 where
   pub state : State
   pub reads : ℕ
+  pub asked : List ℕ
 
 -- The rows count which numbers the processes bear, and each number can be given a place.
 pub record IsKept (pidmax : ℕ) (rs : List Process) (pids : Pids) (places : Places) : Type 0 where

@@ -30,6 +30,7 @@ impl<K: Kin> Machine<K> {
     pub fn census(&mut self) -> Census
         ensures value { result ≡ census_of self.old.state }
         ensures same { self.new.state ≡ self.old.state }
+        ensures asked { self.new.asked ≡ self.old.asked }
     {
         let mut living = 0;
         let mut zombies = 0;
@@ -55,6 +56,7 @@ impl<K: Kin> Machine<K> {
     fn is_zombie(&mut self, pid: Pid) -> bool
         ensures value { (it : Process) → process self.old.state pid ≡ Some it → result ≡ is_zombie_of it.life }
         ensures same { self.new.state ≡ self.old.state }
+        ensures asked { self.new.asked ≡ self.old.asked }
         ensures regular { IsRegular self.old.state }
         ensures size { length self.old.state.processes < 2 ^ 63 }
     {

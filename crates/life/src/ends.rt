@@ -8,8 +8,9 @@ ghost use Rattle.posix.specs.States.{process};
 ghost use Rattle.posix.specs.Ends.{depart as departing, halt as halting, end_with_heir, child_signal as child_signal_of, notice_of_end as noticing_end, tell_of_all, zombies_of, noticed, is_dropping, drops_children as drops_children_of};
 ghost use Rattle.life.specs.Machines.{CanGo, IsGone, IsCounted};
 
+use crate::asking::ask_parent;
 use crate::machine::Machine;
-use crate::waits::{ask_parent, discard};
+use crate::waits::discard;
 use pidalloc::PidTable;
 use posix::{Carried, Life, PendingSignal, Pid, Sig, Status};
 use proctable::Kin;

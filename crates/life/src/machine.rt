@@ -13,6 +13,7 @@ ghost use Rattle.life.specs.contracts.machine.Machine.{the_row as machine_row};
 ghost use Rattle.life.specs.Loans.{lent, looked};
 ghost use Rattle.umach.specs.Bursts.{exec_until, IsWithin};
 
+use crate::asking::ask;
 use pidalloc::PidTable;
 use pidset::PidSet;
 use posix::{Pid, Sig, Trap};
@@ -42,7 +43,7 @@ impl<K: Kin> Model for Machine<K> {
 
     ghost Value = { MachineView };
 
-    ghost view = { λ m. record { state = state_of m.world (K.contents m.table) m.pids m.order m.births m.ticks m.dropped m.halted; reads = K.reads m.table } };
+    ghost view = { λ m. record { state = state_of m.world (K.contents m.table) m.pids m.order m.births m.ticks m.dropped m.halted; reads = K.reads m.table; asked = m.to_ask.pids } };
 
     ghost invariant = { λ m. IsMachine (state_of m.world (K.contents m.table) m.pids m.order m.births m.ticks m.dropped m.halted) m.pids m.order m.to_ask };
 }
@@ -52,6 +53,7 @@ impl<K: Kin> Machine<K> {
     pub fn boot(alloc: Global, world: &World) -> Result<Self, AllocError>
         ensures state { IfOk result (λ m. m.state ≡ boot_of world.now) }
         ensures reads { IfOk result (λ m. m.reads ≤ 6) }
+        ensures asked { IfOk result (λ m. m.asked ≡ []) }
         ensures regular { IfOk result (λ m. IsRegular m.state) }
     {
         let world = world.try_clone(alloc)?;
@@ -132,10 +134,12 @@ impl<K: Kin> Machine<K> {
     }
 
     /// The small fields of a process; none where it isn't there.
+    #[inline(always)]
     pub fn facts(&mut self, pid: Pid) -> Option<Facts>
         ensures value { result ≡ option_map facts_of (process self.old.state pid) }
         ensures same { self.new.state ≡ self.old.state }
         ensures reads { self.new.reads ≤ self.old.reads + 1 }
+        ensures asked { self.new.asked ≡ self.old.asked }
         ensures regular { IsRegular self.old.state }
         ensures size { length self.old.state.processes < 2 ^ 63 }
     {
@@ -165,7 +169,7 @@ impl<K: Kin> Machine<K> {
         ensures value { IfSome (process self.old.state pid) (λ me. result.now ≡ own_of me) }
         ensures regular { IsRegular self.old.state }
     {
-        self.to_ask.insert(pid);
+        ask(&mut self.to_ask, &self.order, pid);
         let body = self.table.update(pid);
         &mut body.own
     }
@@ -179,10 +183,11 @@ impl<K: Kin> Machine<K> {
         ensures state { (me : Process) → process self.old.state pid ≡ Some me → self.new.state ≡ change self.old.state pid (set_cpu (executed (code_of self.old.state me) me.cpu).cpu) }
         ensures stays { StaysUnlessRun result self.old.state self.new.state }
         ensures reads { self.new.reads ≤ self.old.reads + 1 }
+        ensures asked { has_place_in self.old.state pid ≡ true → self.new.asked ≡ self.old.asked }
     {
         match self.world.programs().get(usize::from(program)) {
             Some(program) => {
-                self.to_ask.insert(pid);
+                ask(&mut self.to_ask, &self.order, pid);
                 self.table.update(pid).own.cpu.exec_one(program)
             }
             None => Trap::Fault(Sig::SEGV),
@@ -203,10 +208,11 @@ impl<K: Kin> Machine<K> {
         ensures within { IsWithin most result.0 result.1 }
         ensures regular { IsRegular self.new.state }
         ensures reads { self.new.reads ≤ self.old.reads + 1 }
+        ensures asked { has_place_in self.old.state pid ≡ true → self.new.asked ≡ self.old.asked }
     {
         match self.world.programs().get(usize::from(program)) {
             Some(program) => {
-                self.to_ask.insert(pid);
+                ask(&mut self.to_ask, &self.order, pid);
                 self.table.update(pid).own.cpu.run_until(program, most)
             }
             None => (0, Trap::Fault(Sig::SEGV)),
@@ -252,6 +258,7 @@ impl<K: Kin> Machine<K> {
         requires { has_place_in self.old.state pid ≡ true }
         ensures state { self.new.state ≡ going_last self.old.state pid }
         ensures reads { self.new.reads ≡ self.old.reads }
+        ensures asked { self.new.asked ≡ self.old.asked }
     {
         self.order.go_last(pid);
     }
@@ -261,6 +268,7 @@ impl<K: Kin> Machine<K> {
         requires { self.old.state.ticks + 1 < 2 ^ 64 }
         ensures state { self.new.state ≡ passing_time self.old.state }
         ensures reads { self.new.reads ≡ self.old.reads }
+        ensures asked { self.new.asked ≡ self.old.asked }
     {
         self.ticks += 1;
     }

@@ -4,6 +4,7 @@ ghost use Rattle.std.specs.Prelude.{◌≡◌, ◌+◌, ◌≤◌, IsSome};
 ghost use Rattle.posix.specs.States.{process, change};
 ghost use Rattle.posix.specs.Generation.{signalled};
 
+use crate::asking::ask;
 use crate::machine::Machine;
 use posix::{PendingSignal, Pid};
 use proctable::Kin;
@@ -15,7 +16,7 @@ impl<K: Kin> Machine<K> {
         ensures state { self.new.state ≡ change self.old.state pid (signalled signal) }
         ensures reads { self.new.reads ≤ self.old.reads + 1 }
     {
-        self.to_ask.insert(pid);
+        ask(&mut self.to_ask, &self.order, pid);
         // The effect isn't acted upon yet: as nothing stops a process, none is continued.
         self.table.update(pid).signal(pid, signal);
     }

@@ -8,13 +8,12 @@ ghost use Rattle.posix.specs.Waits.{is_named as is_named_by, report, report_chan
 ghost use Rattle.posix.specs.Waits.{look as look_of};
 ghost use Rattle.proctable.specs.Body.{facts_of};
 ghost use Rattle.life.specs.Machines.{CanGo, IsGone};
-ghost use Rattle.life.specs.Asking.{without_gone};
 
+use crate::asking::{ask, ask_parent};
 use crate::caller::Caller;
 use crate::machine::Machine;
 use bitflags::Flags;
 use pidalloc::PidTable;
-use pidset::PidSet;
 use posix::{Life, News, Pid, Report, Status, Target, WaitOptions};
 use proctable::{Facts, Kin};
 
@@ -85,19 +84,6 @@ pub(crate) fn discard<K: Kin>(table: &mut K, pids: &mut PidTable, pid: Pid) -> P
     facts.parent
 }
 
-/// Where the record of a process has gone, of which this is the parent: the parent is to be asked, and the
-/// process no more.
-pub(crate) fn ask_parent(to_ask: &mut PidSet, pid: Pid, parent: Option<Pid>)
-    requires { length to_ask.old.pids < to_ask.old.room }
-    ensures pids { to_ask.new.pids ≡ without_gone pid parent to_ask.old.pids }
-    ensures room { to_ask.new.room ≡ to_ask.old.room }
-{
-    if let Some(parent) = parent {
-        to_ask.insert(parent);
-        to_ask.remove(pid);
-    }
-}
-
 impl<K: Kin> Machine<K> {
     /// What a wait has to report: of the children of a caller that is there which the target means, the one
     /// with the least number that has something to report (XSH waitpid). Nothing changes.
@@ -141,7 +127,7 @@ impl<K: Kin> Machine<K> {
         ensures state { self.new.state ≡ change self.old.state pid news_told }
         ensures reads { self.new.reads ≤ self.old.reads + 1 }
     {
-        self.to_ask.insert(pid);
+        ask(&mut self.to_ask, &self.order, pid);
         self.table.update(pid).tell_news();
     }
 }

@@ -1,6 +1,6 @@
 //! Walks over processes, from the least number on. Whoever goes over several processes does it by these.
 
-ghost use Rattle.std.specs.Prelude.{◌≡◌, ◌+◌, ◌≤◌, IsSome};
+ghost use Rattle.std.specs.Prelude.{◌≡◌, ◌+◌, ◌≤◌, [], None, IsSome};
 ghost use Rattle.posix.specs.Processes.{Process};
 ghost use Rattle.posix.specs.Tables.{IsNext, first_pid, above, next_above, children_in, next_sibling as next_sibling_of, is_member as is_member_of, members_in};
 ghost use Rattle.posix.specs.States.{process};
@@ -16,6 +16,7 @@ impl<K: Kin> Machine<K> {
     pub(crate) fn next_after(&mut self, pid: Pid) -> Option<Pid>
         ensures value { result ≡ next_above pid self.old.state.processes }
         ensures same { self.new.state ≡ self.old.state }
+        ensures asked { self.new.asked ≡ self.old.asked }
         ensures reads { self.new.reads ≤ self.old.reads + 1 }
         ensures regular { IsRegular self.old.state }
     {
@@ -75,6 +76,7 @@ impl<K: Kin> Machine<K> {
     /// given a place, and where nobody comes next nobody above `after` has.
     pub fn next_to_ask(&self, after: Pid) -> Option<Pid>
         ensures next { IsNext (wakes self.now.state) after self.now.state.processes result }
+        ensures none { self.now.asked ≡ [] → result ≡ None }
         ensures regular { IsRegular self.now.state }
     {
         self.to_ask.next_above(after)
@@ -83,7 +85,7 @@ impl<K: Kin> Machine<K> {
     /// All who were to be asked have been, and whoever can act has a place: nobody is to be asked any more.
     pub fn all_asked(&mut self)
         requires { NoWakeIsLost self.old.state }
-        ensures same { self.new ≡ self.old }
+        ensures value { self.new ≡ record self.old { asked = [] } }
         ensures regular { IsRegular self.old.state }
     {
         self.to_ask.clear();

@@ -1,5 +1,5 @@
 -- A process linked in, and a process taken out.
-use Rattle.std.proofs.Common.{◌≡◌, ◌≢◌, ℕ, ◌<◌, Bool, true, false, cond, not, ◌&&◌, refl, ap, sym, ◌∙◌, arith, subst, List, [], ◌∷◌, map, filter, find, Option, Some, None, option_map, ◌==◌, nat_lt, is_some, inl, inr, ◌⊎◌}
+use Rattle.std.proofs.Common.{◌≡◌, ◌≢◌, ℕ, ◌<◌, Bool, true, false, cond, not, ◌&&◌, refl, ap, sym, ◌∙◌, arith, subst, List, [], ◌∷◌, map, filter, Option, Some, None, option_map, ◌==◌, nat_lt, is_some, inl, inr, ◌⊎◌}
 use Rattle.std.proofs.lemmas.Bool.Decides.{nat_tests}
 use Rattle.std.specs.Option.{IsSome}
 use Rattle.std.proofs.lemmas.Bool.{eqb-true, eqb-false, eq-eqb, ne_eqb}

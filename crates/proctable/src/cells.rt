@@ -76,6 +76,7 @@ impl Cells {
     }
 
     /// The small fields of a process; none where it isn't there.
+    #[inline(always)]
     pub fn facts(&mut self, pid: Pid) -> Option<Facts>
         ensures value { result ≡ option_map facts_of (lookup pid (records self.old.nodes)) }
         ensures size { length self.old.nodes < 2 ^ 63 }
@@ -103,6 +104,7 @@ impl Cells {
     }
 
     /// The body of a process that is there, for the caller to change.
+    #[inline]
     pub fn body_mut(&mut self, pid: Pid) -> &mut Body
         requires { IsSome (find_node pid self.old.nodes) }
         ensures* lends { sem 𝓛 (Lends cells_row body_row self.entry result (cells_with_body self.old pid)) }

@@ -26,6 +26,7 @@ impl Numbered for Entry {
 }
 
 /// The slot of a process, if it is there.
+#[inline]
 pub fn slot_of(entries: &[Entry], pid: Pid) -> Option<usize>
     requires { Rises (pids_of entries.now) }
     ensures { result ≡ option_map (λ e. e.slot) (entry_of pid entries.now) }

@@ -72,6 +72,7 @@ impl NodeSlots {
     }
 
     /// The small fields of the process in a slot.
+    #[inline(always)]
     pub fn facts(&mut self, slot: usize) -> Facts
         requires { ContainsKey self.old.nodes slot }
         ensures value { option_map facts_at (get self.old.nodes slot) ≡ Some result }

@@ -85,10 +85,12 @@ impl Kin for ProcTable {
         self.roots = link(&mut self.cells, self.roots, parent, pid, None);
     }
 
+    #[inline(always)]
     fn get(&mut self, pid: Pid) -> Option<Facts> {
         self.cells.facts(pid)
     }
 
+    #[inline]
     fn update(&mut self, pid: Pid) -> &mut Body {
         self.cells.body_mut(pid)
     }

@@ -6,8 +6,8 @@ use Rattle.calls.specs.Outcomes.{Comes}
 use Rattle.calls.proofs.OwnLemmas.{answered}
 use Rattle.calls.proofs.attempts.attempt.Goals as goal
 
-pub returns-in_default : goal.returns-in_default
-returns-in_default g c = λ me e.
+pub returns-in_default-clause-attempts : goal.returns-in_default-clause-attempts
+returns-in_default-clause-attempts g c = λ me e.
     let s = c.args.machine.now.state in (
       true,
       subst (λ q. Comes s (attempt true s me c.args.call) q c.args.entries.now.items c.own_call.new.entries.items (change s c.args.pid (give_own c.own_call.new.own))) (sym c.own_call.ensures.done)

@@ -1,4 +1,4 @@
-use Rattle.std.proofs.Common.{◌≡◌, ◌∙◌, ap, sym, refl, subst, pos, Ok, Err, [], ◌∷◌}
+use Rattle.std.proofs.Common.{◌≡◌, ◌∙◌, ap, sym, refl, subst, pos, Err, [], ◌∷◌}
 use Rattle.posix.specs.declared.errno.Errno.TheVariants.{EPERM, ESRCH}
 use Rattle.posix.specs.declared.call.Call.TheVariants.{Kill}
 use Rattle.posix.specs.declared.process.Sending.TheVariants as found

@@ -1,4 +1,4 @@
-use Rattle.std.proofs.Common.{◌≡◌, ◌∙◌, ap, sym, refl, subst, true, false, is_some, pos, rules, Some, [], ◌∷◌}
+use Rattle.std.proofs.Common.{◌≡◌, ◌∙◌, ap, sym, refl, subst, true, false, is_some, pos, Some, [], ◌∷◌}
 use Rattle.std.specs.Option.{IsSome}
 use Rattle.posix.specs.declared.errno.Errno.TheVariants.{ECHILD, EINVAL}
 use Rattle.posix.specs.declared.call.Call.TheVariants.{Waitpid}

@@ -1,4 +1,4 @@
-use Rattle.std.proofs.Common.{◌∙◌, ◌<◌, ap, sym, subst, arith, Option, ℕ}
+use Rattle.std.proofs.Common.{◌∙◌, ◌<◌, refl, ap, sym, subst, arith, Option, ℕ}
 use Rattle.std.specs.Option.{IfSome, IsSome}
 use Rattle.posix.specs.States.{State, process}
 use Rattle.posix.specs.Settle.{NoWakeIsLost, wakes}
@@ -16,6 +16,7 @@ loop-next-init g c =
       asked = asking_begins c.args.machine.now.state c.next_to_ask-next.result first.regular first.next;
       there = first.next.there;
       regular = first.regular;
+      none = λ e. (first.none e, refl);
     }
 
 pub wake-requires : goal.wake-requires
@@ -39,6 +40,7 @@ loop-next-preserved g c =
           ∙ c.loop-next.invariant.asked;
       there = now.next.there;
       regular = now.regular;
+      none = λ e. let both = sym (c.loop-next.invariant.none e).0 ∙ c.in-Some.is in absurd (cc);
     }
 
 pub all_asked-requires : goal.all_asked-requires
@@ -49,4 +51,7 @@ all_asked-requires g c =
 pub returns-clause-state : goal.returns-clause-state
 returns-clause-state g c =
     let all = sym (ap (λ (o : Option ℕ). settled_from o c.loop-next.machine.state) c.in_default.is ∙ asking_ends c.loop-next.machine.state) ∙ c.loop-next.invariant.asked in
-    ap (λ (m : MachineView). m.state) c.all_asked.ensures.same ∙ all
+    ap (λ (m : MachineView). m.state) c.all_asked.ensures.value ∙ all
+
+pub returns-clause-none : goal.returns-clause-none
+returns-clause-none g c = λ e. ap (λ (m : MachineView). m.reads) c.all_asked.ensures.value ∙ (c.loop-next.invariant.none e).1

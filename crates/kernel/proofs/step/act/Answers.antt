@@ -10,8 +10,8 @@ use Rattle.calls.proofs.CallLemmas.{same_outcome}
 use Rattle.calls.proofs.ChosenLemmas.{act_killed, act_blocked, act_delivers, act_runs, kill_chosen, no_kill_chosen, chosen_is, chosen_not}
 use Rattle.kernel.proofs.step.act.Goals as goal
 
-pub returns-then-eq : goal.returns-then-eq
-returns-then-eq g c = λ me e.
+pub returns-then-eq-clause-acts : goal.returns-then-eq-clause-acts
+returns-then-eq-clause-acts g c = λ me e.
     let s = c.args.machine.now.state in
     let told : Some c.args.facts ≡ Some (facts_of me) = c.requires.facts ∙ ap (option_map facts_of) e in
     let is : c.args.facts ≡ facts_of me = cc in
@@ -23,8 +23,8 @@ returns-then-eq g c = λ me e.
           (sym (c.end.ensures.entries me e ∙ ap (λ (l : List Entry). l ++ (end_process s me c.killed.result).entries) c.requires.none ∙ ap (λ w. (end_process s me w).entries) c.killed.ensures)),
     )
 
-pub returns-in-Some : goal.returns-in-Some
-returns-in-Some g c = λ me e.
+pub returns-in-Some-clause-acts : goal.returns-in-Some-clause-acts
+returns-in-Some-clause-acts g c = λ me e.
     let s = c.args.machine.now.state in
     let told : Some c.args.facts ≡ Some (facts_of me) = c.requires.facts ∙ ap (option_map facts_of) e in
     let is : c.args.facts ≡ facts_of me = cc in
@@ -32,8 +32,8 @@ returns-in-Some g c = λ me e.
     let in_call : me.blocked ≡ Some c.in-Some.blocked = ap (λ (f : Facts). f.blocked) (sym is) ∙ c.in-Some.is in
     (true, act_blocked true s me c.in-Some.blocked (no_kill_chosen me.life me.signals other) in_call ∙ c.go_on.ensures me e)
 
-pub returns-in-Some-chosen : goal.returns-in-Some-chosen
-returns-in-Some-chosen g c = λ me e.
+pub returns-in-Some-chosen-clause-acts : goal.returns-in-Some-chosen-clause-acts
+returns-in-Some-chosen-clause-acts g c = λ me e.
     let s = c.args.machine.now.state in
     let told : Some c.args.facts ≡ Some (facts_of me) = c.requires.facts ∙ ap (option_map facts_of) e in
     let is : c.args.facts ≡ facts_of me = cc in
@@ -42,13 +42,13 @@ returns-in-Some-chosen g c = λ me e.
     let takes : chosen me.life me.signals ≡ Some c.in-Some-chosen.sig = ap (λ (f : Facts). f.chosen) (sym is) ∙ c.in-Some-chosen.is in
     (true, act_delivers true s me c.in-Some-chosen.sig (no_kill_chosen me.life me.signals other) free takes ∙ c.deliver.ensures me e)
 
-pub returns-in-None : goal.returns-in-None
-returns-in-None g c = λ me e.
+pub returns-in-None-clause-acts : goal.returns-in-None-clause-acts
+returns-in-None-clause-acts g c = λ me e.
     let s = c.args.machine.now.state in
     let told : Some c.args.facts ≡ Some (facts_of me) = c.requires.facts ∙ ap (option_map facts_of) e in
     let is : c.args.facts ≡ facts_of me = cc in
     let other : chosen me.life me.signals ≢ Some KILL = λ k. chosen_not c.args.facts.chosen KILL (sym c.eq.ensures ∙ c.if-eq.false) (ap (λ (f : Facts). f.chosen) is ∙ k) in
     let free : me.blocked ≡ None = ap (λ (f : Facts). f.blocked) (sym is) ∙ c.in_default.is in
     let none : chosen me.life me.signals ≡ None = ap (λ (f : Facts). f.chosen) (sym is) ∙ c.in-None.is in
-    let ran = c.run_instruction.ensures me e in
+    let ran = c.run_instruction.ensures.runs me e in
     (ran.0, act_runs ran.0 s me (no_kill_chosen me.life me.signals other) free none ∙ ran.1)

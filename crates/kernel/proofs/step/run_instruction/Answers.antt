@@ -8,9 +8,9 @@ use Rattle.posix.proofs.TableLemmas.{pid_looked}
 use Rattle.calls.proofs.CallLemmas.{same_outcome}
 use Rattle.kernel.proofs.step.run_instruction.Goals as goal
 
-pub returns-in-Next : goal.returns-in-Next
+pub returns-in-Next-clause-runs : goal.returns-in-Next-clause-runs
 unfolding after_trap
-returns-in-Next g c = λ me e.
+returns-in-Next-clause-runs g c = λ me e.
     let s = c.args.machine.now.state in
     let named = pid_looked c.args.pid s.processes me e in
     let done = exec_one (code_of s me) me.cpu in
@@ -21,9 +21,9 @@ returns-in-Next g c = λ me e.
           (ap (λ n. change s n (set_cpu done.cpu)) named ∙ sym (c.exec_one.ensures.state me e)) (sym c.requires.none),
     )
 
-pub returns-in-Note : goal.returns-in-Note
+pub returns-in-Note-clause-runs : goal.returns-in-Note-clause-runs
 unfolding after_trap
-returns-in-Note g c = λ me e.
+returns-in-Note-clause-runs g c = λ me e.
     let s = c.args.machine.now.state in
     let named = pid_looked c.args.pid s.processes me e in
     let done = exec_one (code_of s me) me.cpu in

@@ -7,4 +7,4 @@ use Rattle.kernel.proofs.kernel_on.KernelOn.boot.Goals as goal
 pub invariant_of-result : goal.invariant_of-result
 invariant_of-result g c =
     let is = c.in_ok-boot.ensures.state in
-    (subst (λ (s : State). s.births ≤ 1) (sym is) (omega arith), subst (λ (s : State). s.ticks ≤ 0) (sym is) (omega arith), λ _. subst NoWakeIsLost (sym is) (first_has_place c.args.world.now), c.in_ok-boot.ensures.regular)
+    (subst (λ (s : State). s.births ≤ 1) (sym is) (omega arith), subst (λ (s : State). s.ticks ≤ 0) (sym is) (omega arith), λ _. subst NoWakeIsLost (sym is) (first_has_place c.args.world.now), c.in_ok-boot.ensures.regular, c.in_ok-boot.ensures.asked)

@@ -25,6 +25,7 @@ invariant_of-self g c =
         | false ↦ λ h. act_has_place m out c.args.event _ c.next.ensures.step h
       ] refl,
       c.next.ensures.regular,
+      c.next.ensures.asked old.4,
     )
 
 pub returns-clause-halted : goal.returns-clause-halted

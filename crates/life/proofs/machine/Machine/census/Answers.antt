@@ -16,6 +16,7 @@ loop-next-init g c =
     let first : (t : Process → Bool) → IsNext t 0 rs c.next_after-next.result = λ t. subst (IsNext t 0 rs) (sym c.next_after-next.ensures.value) (least_is_next t 0 rs i.rising) in
     record {
       same = c.next_after-next.ensures.same;
+      asked = c.next_after-next.ensures.asked;
       there = (first is_living).there;
       living = none_counted is_living rs _ i.rising (λ p r e. (i.bounded p r e).least) (first is_living);
       zombies = none_counted (λ r. is_zombie r.life) rs _ i.rising (λ p r e. (i.bounded p r e).least) (first (λ r. is_zombie r.life));
@@ -41,6 +42,7 @@ loop-next-preserved g c =
     let zombies = counted (λ r. is_zombie r.life) p rs up it.what it.found c.loop-next.next c.next_after-next-in-Some.result c.in-Some.is (after (λ r. is_zombie r.life)) c.loop-next.zombies in
     record {
       same = c.next_after-next-in-Some.ensures.same ∙ c.is_zombie.ensures.same ∙ c.loop-next.invariant.same;
+      asked = c.next_after-next-in-Some.ensures.asked ∙ c.is_zombie.ensures.asked ∙ c.loop-next.invariant.asked;
       there = (after is_living).there;
       living = elim c.if-is_zombie.branch [
         | then-is_zombie w ↦ rw w.living-is (living _ false (living_is it.what true (dead ∙ w.if-is_zombie.true)) c.loop-next.invariant.living)

@@ -12,6 +12,7 @@ invariant-loop-next g l =
     let rs = l.fn.self.state.processes in
     record {
       same : l.self.state ≡ l.fn.self.state;
+      asked : l.self.asked ≡ l.fn.self.asked;
       there : IfSome l.next (λ p. IsSome (lookup p rs));
       living : l.living + count_by is_living (left_of l.next rs) ≡ count_by is_living rs;
       zombies : l.zombies + count_by (λ r. is_zombie r.life) (left_of l.next rs) ≡ count_by (λ r. is_zombie r.life) rs;

@@ -13,14 +13,14 @@ use Rattle.life.specs.Machines.{state_of}
 use Rattle.life.proofs.ViewLemmas.{state_is}
 use Rattle.life.proofs.machine.Machine.exec_one.Goals as goal
 
-pub insert-requires : goal.insert-requires
-insert-requires g c = record { room = λ out. has_room _ _ c.self.invariant.sound.regular c.self.invariant.listed }
+pub ask-requires : goal.ask-requires
+ask-requires g c = has_room _ _ c.self.invariant.sound.regular c.self.invariant.listed
 
 pub invariant_of-self : goal.invariant_of-self
 invariant_of-self g c =
     rw (g.met.K.Kin.puts _ _ _, run_body _ c.update.ensures.rising c.args.pid c.update.result.now c.exec_one.new.self c.update.ensures.value) (record {
       sound = sound_change c.args.pid _ (keeps_set_cpu _) _ _ _ c.self.invariant.sound;
-      listed = listed_change _ c.args.pid _ _ _ c.self.invariant.listed (keeps_set_cpu _).pid (touches_unseen _ c.args.pid _ (unseen_set_cpu _)) (here_in c.args.pid (state_is c.self.view_is) c.requires.there) c.insert.ensures.pids c.insert.ensures.room;
+      listed = listed_change _ c.args.pid _ _ _ c.self.invariant.listed (keeps_set_cpu _).pid (touches_unseen _ c.args.pid _ (unseen_set_cpu _)) (here_in c.args.pid (state_is c.self.view_is) c.requires.there) c.ask.ensures.pids c.ask.ensures.room;
     })
 
 pub returns-in-Some-clause-trap : goal.returns-in-Some-clause-trap

@@ -8,15 +8,15 @@ use Rattle.life.proofs.AskLemmas.{has_room, listed_change}
 use Rattle.life.proofs.ViewLemmas.{state_is}
 use Rattle.life.proofs.machine.Machine.signal.Goals as goal
 
-pub insert-requires : goal.insert-requires
-insert-requires g c = record { room = λ out. has_room _ _ c.self.invariant.sound.regular c.self.invariant.listed }
+pub ask-requires : goal.ask-requires
+ask-requires g c = has_room _ _ c.self.invariant.sound.regular c.self.invariant.listed
 
 pub invariant_of-self : goal.invariant_of-self
 invariant_of-self g c =
     let contents = g.met.K.Kin.puts c.self.inside.table c.args.pid c.signal.new.self ∙ changed_here _ c.update.ensures.rising c.args.pid c.update.result.now c.signal.new.self (signalled c.args.signal) c.update.ensures.value c.signal.ensures.state in
     rw contents (record {
       sound = sound_change c.args.pid _ (keeps_signalled c.args.signal) _ _ _ c.self.invariant.sound;
-      listed = listed_change _ c.args.pid (signalled c.args.signal) _ _ c.self.invariant.listed (keeps_signalled c.args.signal).pid (touches_unseen _ c.args.pid (signalled c.args.signal) (unseen_signalled c.args.signal)) (here_in c.args.pid (state_is c.self.view_is) c.requires) c.insert.ensures.pids c.insert.ensures.room;
+      listed = listed_change _ c.args.pid (signalled c.args.signal) _ _ c.self.invariant.listed (keeps_signalled c.args.signal).pid (touches_unseen _ c.args.pid (signalled c.args.signal) (unseen_signalled c.args.signal)) (here_in c.args.pid (state_is c.self.view_is) c.requires) c.ask.ensures.pids c.ask.ensures.room;
     })
 
 pub returns-clause-state : goal.returns-clause-state
