@@ -8,25 +8,20 @@ use Rattle.posix.specs.declared.errno.Errno.TheVariants.{EINVAL}
 use Rattle.posix.specs.declared.entry.Entry.{Entry}
 use Rattle.posix.specs.declared.entry.Entry.TheVariants.{Called, Reported, Ended, Halted}
 use Rattle.posix.specs.declared.process.Blocked.{Blocked}
-use Rattle.posix.specs.declared.process.Blocked.TheVariants as blocked
 use Rattle.posix.specs.declared.process.Report.{Report}
-use Rattle.posix.specs.declared.process.Report.TheVariants as found
+use Rattle.posix.specs.declared.target.Target.{Target}
+use Rattle.posix.specs.declared.wait_options.WaitOptions.{WaitOptions}
 use Rattle.posix.specs.Processes.{Process, argument}
 use Rattle.posix.specs.States.{State}
 use Rattle.posix.specs.Outcomes as outcome
 use Rattle.posix.specs.Targets.{target_in}
 use Rattle.posix.specs.Ends.{end_process}
 use Rattle.posix.specs.Sends.{kill, sending, targets, permitted, sent, sent_among}
-use Rattle.posix.specs.Waits.{wait, wait_with, gives_report, report, options_in, are_known, has_option, WNOHANG}
+use Rattle.posix.specs.Waits.{wait, wait_with, gives_report, report, options_in, are_known}
 use Rattle.life.specs.declared.caller.Caller.{Caller}
 use Rattle.life.specs.Callers.{caller_of}
 use Rattle.calls.specs.Outcomes.{Comes}
 use Rattle.life.specs.Callers.{process_like}
-
--- who is there is a record
-pub some_is : (o : Option Process) → IsSome o → (r : Process) × (o ≡ Some r)
-some_is None h = absurd (cc)
-some_is (Some r) h = (r, refl)
 
 abbrev pub outcome_of : State → List Entry → outcome.Outcome
 outcome_of s xs = record { state = s; entries = xs }
@@ -47,17 +42,21 @@ pub done_is : (s : State) (a : outcome.Attempted) (xs ys : List Entry) (n : Stat
 done_is s (outcome.Done o) xs ys n none h = ap outcome.Done (same_outcome o.state n o.entries ys (sym h.1) (sym (h.0 ∙ ap (λ (l : List Entry). l ++ o.entries) none)))
 done_is s (outcome.Block b) xs ys n none h = absurd h
 
--- a call that gives a value
-pub gives_is : (s t n : State) (p : ℕ) (call : Call) (v z : ℤ) (xs ys : List Entry) (r : Option Blocked) → r ≡ None → n ≡ outcome.finish t p ((0, v) ∷ []) → ys ≡ xs ++ Called p call v ∷ [] → v ≡ z
-    → Comes s (outcome.gives t p call z) r xs ys n
-gives_is s t n p call v z xs ys r done state shown same =
-    subst (λ q. Comes s (outcome.gives t p call z) q xs ys n) (sym done)
-    (shown ∙ ap (λ w. xs ++ Called p call w ∷ []) same, state ∙ ap (λ w. outcome.finish t p ((0, w) ∷ [])) same)
+-- a call that gives z in t: the code gave v in b, and these are the same
+pub gives_is : (s t b n : State) (a : outcome.Attempted) (p : ℕ) (call : Call) (v z : ℤ) (xs ys : List Entry) (r : Option Blocked) → a ≡ outcome.gives t p call z
+    → r ≡ None → n ≡ outcome.finish b p ((0, v) ∷ []) → b ≡ t → ys ≡ xs ++ Called p call v ∷ [] → v ≡ z → Comes s a r xs ys n
+gives_is s t b n a p call v z xs ys r is done state before shown same =
+    subst (λ x. Comes s x r xs ys n) (sym is)
+    (subst (λ q. Comes s (outcome.gives t p call z) q xs ys n) (sym done)
+    (shown ∙ ap (λ w. xs ++ Called p call w ∷ []) same, state ∙ ap (λ (u : State). outcome.finish u p ((0, v) ∷ [])) before ∙ ap (λ w. outcome.finish t p ((0, w) ∷ [])) same))
 
--- a call that reports a child
-pub reports_is : (s t n : State) (p child status : ℕ) (xs ys : List Entry) (r : Option Blocked) → r ≡ None → n ≡ outcome.finish t p ((0, pos child) ∷ (1, pos status) ∷ []) → ys ≡ xs ++ Reported p child status ∷ []
-    → Comes s (gives_report t p child status) r xs ys n
-reports_is s t n p child status xs ys r done state shown = subst (λ q. Comes s (gives_report t p child status) q xs ys n) (sym done) (shown, state)
+-- a call that reports a child in t: the code did so in b, which is the same
+pub reports_is : (s t b n : State) (a : outcome.Attempted) (p child status : ℕ) (xs ys : List Entry) (r : Option Blocked) → a ≡ gives_report t p child status
+    → r ≡ None → n ≡ outcome.finish b p ((0, pos child) ∷ (1, pos status) ∷ []) → b ≡ t → ys ≡ xs ++ Reported p child status ∷ [] → Comes s a r xs ys n
+reports_is s t b n a p child status xs ys r is done state before shown =
+    subst (λ x. Comes s x r xs ys n) (sym is)
+    (subst (λ q. Comes s (gives_report t p child status) q xs ys n) (sym done)
+    (shown, state ∙ ap (λ (u : State). outcome.finish u p ((0, pos child) ∷ (1, pos status) ∷ [])) before))
 
 -- ---- the caller
 
@@ -91,25 +90,20 @@ end_entries s r status false e = rw e refl
 -- ---- a wait
 
 -- a wait with an unknown option
-pub wait_unknown : (s : State) (me : Process) → are_known (options_in (argument me 2)) ≡ false → wait s me ≡ outcome.refused s me.pid Waitpid EINVAL
+pub wait_unknown : (s : State) (me : Process) (read : Option WaitOptions) → is_some read ≡ are_known (options_in (argument me 2)) → read ≡ None → wait s me ≡ outcome.refused s me.pid Waitpid EINVAL
 unfolding wait
-wait_unknown s me e = ap (λ b. cond b (wait_with s me.pid (options_in (argument me 2)) (report s.processes me.pid me.group (target_in (argument me 1)) (options_in (argument me 2)))) (outcome.refused s me.pid Waitpid EINVAL)) e
+wait_unknown s me read known none =
+    ap (λ b. cond b (wait_with s me.pid (options_in (argument me 2)) (report s.processes me.pid me.group (target_in (argument me 1)) (options_in (argument me 2)))) (outcome.refused s me.pid Waitpid EINVAL)) (sym known ∙ ap is_some none)
 
--- a wait that finds o
-pub wait_finds : (s : State) (me : Process) (options : ℕ) (o : Report) → are_known (options_in (argument me 2)) ≡ true → options ≡ options_in (argument me 2)
-    → o ≡ report s.processes me.pid me.group (target_in (argument me 1)) options → wait s me ≡ wait_with s me.pid options o
+-- a wait for this target, with these options, that finds o
+pub wait_finds : (s : State) (me : Process) (to : Target) (read : Option WaitOptions) (options : WaitOptions) (finds o : Report) → is_some read ≡ are_known (options_in (argument me 2)) → read ≡ Some options
+    → options.0 ≡ options_in (argument me 2) → to ≡ target_in (argument me 1) → finds ≡ report s.processes me.pid me.group to options.0 → finds ≡ o → wait s me ≡ wait_with s me.pid options.0 o
 unfolding wait
-wait_finds s me options o known same finds =
-    ap (λ b. cond b (wait_with s me.pid (options_in (argument me 2)) (report s.processes me.pid me.group (target_in (argument me 1)) (options_in (argument me 2)))) (outcome.refused s me.pid Waitpid EINVAL)) known
+wait_finds s me to read options finds o known some same target is that =
+    ap (λ b. cond b (wait_with s me.pid (options_in (argument me 2)) (report s.processes me.pid me.group (target_in (argument me 1)) (options_in (argument me 2)))) (outcome.refused s me.pid Waitpid EINVAL)) (sym known ∙ ap is_some some)
     ∙ ap (λ n. wait_with s me.pid n (report s.processes me.pid me.group (target_in (argument me 1)) n)) (sym same)
-    ∙ ap (wait_with s me.pid options) (sym finds)
-
--- a wait that finds nothing, by whether it hangs
-pub wait_nothing : (s : State) (me : Process) (options : ℕ) (b : Bool) → are_known (options_in (argument me 2)) ≡ true → options ≡ options_in (argument me 2)
-    → found.Nothing ≡ report s.processes me.pid me.group (target_in (argument me 1)) options → has_option options WNOHANG ≡ b
-    → wait s me ≡ cond b (outcome.gives s me.pid Waitpid (pos 0)) (outcome.Block blocked.Waitpid)
-wait_nothing s me options b known same finds at_once =
-    wait_finds s me options found.Nothing known same finds ∙ ap (λ b. cond b (outcome.gives s me.pid Waitpid (pos 0)) (outcome.Block blocked.Waitpid)) at_once
+    ∙ ap (λ t. wait_with s me.pid options.0 (report s.processes me.pid me.group t options.0)) (sym target)
+    ∙ ap (wait_with s me.pid options.0) (sym is ∙ that)
 
 -- bits are accepted where all are known
 pub some_bits : {A : Type 0} → (o : Option A) (n all : ℕ) → IsSome o ↔ (bit_and n all ≡ n) → is_some o ≡ (bit_and n all == n)

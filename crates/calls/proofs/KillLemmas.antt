@@ -1,5 +1,5 @@
 -- A kill.
-use Rattle.std.proofs.Common.{◌≡◌, ◌≢◌, ℕ, ap, sym, ◌∙◌, subst, Option, Some, None, List, [], ◌∷◌, Ok, Err}
+use Rattle.std.proofs.Common.{◌≡◌, ◌≢◌, ℕ, ap, sym, ◌∙◌, subst, Option, Some, None, List, [], ◌∷◌, Result, Ok, Err}
 use Rattle.std.specs.Option.{IsSome}
 use Rattle.posix.specs.declared.call.Call.TheVariants.{Kill}
 use Rattle.posix.specs.declared.errno.Errno.{Errno}
@@ -41,28 +41,24 @@ some_sent me choice s rs q h = some_sent_among me s _ rs q h
 abbrev pub sent_in : State → Process → Target → Option ℕ → State
 sent_in s me choice sig = record s { processes = sent me choice sig s.processes }
 
--- what was sent by the call of a process, and whom it found
-pub record IsSent (s : State) (me : Process) (sig : Option ℕ) (now : State) (w : Sending) : Type 0 where
-  pub known : signal_or_none (argument me 2) ≡ Ok sig
-  pub finds : sending me (target_in (argument me 1)) sig s.processes ≡ w
-  pub state : now ≡ sent_in s me (target_in (argument me 1)) sig
-
 -- who is there is there afterwards
-pub there_sent : (s now : State) (me : Process) (sig : Option ℕ) (w : Sending) (p : ℕ) → IsSent s me sig now w → IsSome (process s p) → IsSome (process now p)
-there_sent s now me sig w p i h = subst (λ (t : State). IsSome (process t p)) (sym i.state) (some_sent me (target_in (argument me 1)) sig s.processes p h)
+pub there_sent : (s now : State) (me : Process) (to : Target) (sig : Option ℕ) (p : ℕ) → now ≡ sent_in s me to sig → IsSome (process s p) → IsSome (process now p)
+there_sent s now me to sig p state h = subst (λ (t : State). IsSome (process t p)) (sym state) (some_sent me to sig s.processes p h)
 
 -- ---- a kill
 
 -- a kill that names no signal
-pub kill_unknown : (s : State) (me : Process) (why : Errno) → signal_or_none (argument me 2) ≡ Err why → kill s me ≡ outcome.refused s me.pid Kill why
+pub kill_unknown : (s : State) (me : Process) (named : Result (Option ℕ) Errno) (why : Errno) → named ≡ signal_or_none (argument me 2) → named ≡ Err why → kill s me ≡ outcome.refused s me.pid Kill why
 unfolding kill
-kill_unknown s me why none = ap (kill_with s me (target_in (argument me 1))) none
+kill_unknown s me named why known none = ap (kill_with s me (target_in (argument me 1))) (sym known ∙ none)
 
--- a kill that finds w
-pub kill_finds : (s now : State) (me : Process) (sig : Option ℕ) (w : Sending) → IsSent s me sig now w → kill s me ≡ send_with s me (target_in (argument me 1)) sig w
+-- a kill of this target, with this signal, that finds w
+pub kill_finds : (s : State) (me : Process) (to : Target) (named : Result (Option ℕ) Errno) (sig : Option ℕ) (finds w : Sending) → named ≡ signal_or_none (argument me 2) → named ≡ Ok sig
+    → to ≡ target_in (argument me 1) → finds ≡ sending me to sig s.processes → finds ≡ w → kill s me ≡ send_with s me to sig w
 unfolding kill
-kill_finds s now me sig w i = ap (kill_with s me (target_in (argument me 1))) i.known ∙ ap (send_with s me (target_in (argument me 1)) sig) i.finds
+kill_finds s me to named sig finds w known ok target is that =
+    ap (λ t. kill_with s me t (signal_or_none (argument me 2))) (sym target) ∙ ap (kill_with s me to) (sym known ∙ ok) ∙ ap (send_with s me to sig) (sym is ∙ that)
 
 -- a kill that is refused changes nothing
-pub sent_same : (s now : State) (me : Process) (sig : Option ℕ) (w : Sending) → IsSent s me sig now w → w ≢ found.Permitted → now ≡ s
-sent_same s now me sig w i ne = i.state ∙ ap (λ (rs : List Process). record s { processes = rs }) (sent_nobody me (target_in (argument me 1)) sig s.processes w i.finds ne)
+pub sent_same : (s now : State) (me : Process) (to : Target) (sig : Option ℕ) (finds w : Sending) → now ≡ sent_in s me to sig → finds ≡ sending me to sig s.processes → finds ≡ w → w ≢ found.Permitted → now ≡ s
+sent_same s now me to sig finds w state is that ne = state ∙ ap (λ (rs : List Process). record s { processes = rs }) (sent_nobody me to sig s.processes w (sym is ∙ that) ne)

@@ -1,21 +1,17 @@
 -- The child that a wait reports.
-use Rattle.std.proofs.Common.{◌≡◌, ◌≢◌, ℕ, Bool, true, false, cond, refl, ap, sym, ◌∙◌, arith, subst, List, [], ◌∷◌, filter, find, Option, Some, None}
+use Rattle.std.proofs.Common.{◌≡◌, ◌≢◌, ℕ, Bool, true, false, refl, ap, sym, ◌∙◌, arith, subst, List, [], ◌∷◌, filter, find, Option, Some, None}
 use Rattle.std.specs.Option.{IsSome}
 use Rattle.std.proofs.lemmas.Bool.{eqb-true, eq-eqb}
-use Rattle.posix.specs.declared.process.Life.{Life}
-use Rattle.posix.specs.declared.process.Life.TheVariants.{Running, Stopped, Zombie}
-use Rattle.posix.specs.declared.process.News.{News}
-use Rattle.posix.specs.declared.process.News.TheVariants as news
 use Rattle.posix.specs.declared.process.Report.{Report}
 use Rattle.posix.specs.declared.target.Target.{Target}
 use Rattle.posix.specs.declared.process.Report.TheVariants as found
-use Rattle.posix.specs.Statuses.{stopped, continued}
 use Rattle.posix.specs.Processes.{Process, is_zombie}
 use Rattle.posix.specs.Tables.{IsRising, lookup, changed, removed, is_child, children_in, at}
 use Rattle.posix.specs.States.{State}
 use Rattle.posix.specs.Regular.{IsRegular, IsPlaced}
-use Rattle.posix.specs.Waits.{is_named, has_option, WUNTRACED, WCONTINUED, report_change, report_life, report_of, reports, report_found, report_among, report}
+use Rattle.posix.specs.Waits.{is_named, report_of, reports, report_found, report_among, report}
 use Rattle.posix.proofs.TableLemmas.{rising_filter, pid_looked}
+use Rattle.posix.proofs.WaitLemmas.{by_report}
 use Rattle.posix.proofs.WalkLemmas.{in_filter, found_above}
 use Rattle.posix.proofs.MapLemmas.{at_pid, some_map}
 use Rattle.posix.proofs.RegularLemmas.{lookup_kept}
@@ -36,49 +32,13 @@ is_end (found.Change p status) = false
 
 -- ---- what one child has to report
 
--- a change, reported or not, is no end
-change_if : (b : Bool) (p status : ℕ) → is_end (cond b (found.Change p status) found.Nothing) ≡ false
-change_if true p status = refl
-change_if false p status = refl
-
--- news are no end
-change_no_end : (options p : ℕ) (n : News) → is_end (report_change options p n) ≡ false
-change_no_end options p news.Nothing = refl
-change_no_end options p (news.StoppedBy s) = change_if (has_option options WUNTRACED) p (stopped s)
-change_no_end options p news.Continued = change_if (has_option options WCONTINUED) p continued
-
--- what a life has to report is an end just where it is that of a zombie
-life_end : (options p : ℕ) (l : Life) (n : News) → is_end (report_life options p l n) ≡ is_zombie l
-life_end options p Running n = change_no_end options p n
-life_end options p Stopped n = change_no_end options p n
-life_end options p (Zombie status) n = refl
-
 -- an end is that of a zombie
 of_zombie : (options : ℕ) (r : Process) → is_end (report_of options r) ≡ is_zombie r.life
-unfolding report_of
-of_zombie options r = life_end options r.pid r.life r.news
-
--- a change that is reported names the child that is given
-named_if : (b : Bool) (p status q : ℕ) → child_named (cond b (found.Change p status) found.Nothing) ≡ Some q → p ≡ q
-named_if true p status q e = cc
-named_if false p status q e = absurd (cc)
-
--- news name the child that has them
-change_named : (options p : ℕ) (n : News) (q : ℕ) → child_named (report_change options p n) ≡ Some q → p ≡ q
-change_named options p news.Nothing q e = absurd (cc)
-change_named options p (news.StoppedBy s) q e = named_if (has_option options WUNTRACED) p (stopped s) q e
-change_named options p news.Continued q e = named_if (has_option options WCONTINUED) p continued q e
-
--- what a life has to report names the child that has it
-life_named : (options p : ℕ) (l : Life) (n : News) (q : ℕ) → child_named (report_life options p l n) ≡ Some q → p ≡ q
-life_named options p Running n q e = change_named options p n q e
-life_named options p Stopped n q e = change_named options p n q e
-life_named options p (Zombie status) n q e = cc
+of_zombie options r = by_report (λ z o. is_end o ≡ z) options r refl (λ w. refl) (λ w. refl)
 
 -- the child that is named is the one that reports
 of_named : (options : ℕ) (r : Process) (q : ℕ) → child_named (report_of options r) ≡ Some q → r.pid ≡ q
-unfolding report_of
-of_named options r q e = life_named options r.pid r.life r.news q e
+of_named options r q = by_report (λ z o. child_named o ≡ Some q → r.pid ≡ q) options r (λ e. absurd (cc)) (λ w e. cc) (λ w e. cc)
 
 -- ---- what a wait finds
 

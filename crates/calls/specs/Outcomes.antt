@@ -16,7 +16,7 @@ use Rattle.proctable.specs.Body.{give_own}
 use Rattle.life.specs.Machines.{MachineView}
 
 -- At most so many slots were read, and nobody was put on the list of those to ask.
-pub record IsBrief (most : ℕ) (old new : MachineView) : Type 0 where
+pub record CostsAtMost (most : ℕ) (old new : MachineView) : Type 0 where
   pub reads : new.reads ≤ old.reads + most
   pub asked : new.asked ≡ old.asked
 

@@ -7,7 +7,7 @@ ghost use Rattle.posix.specs.States.{process};
 ghost use Rattle.posix.specs.Regular.{IsPlaced};
 ghost use Rattle.posix.specs.Outcomes.{finish, refusal as refusal_of};
 ghost use Rattle.posix.specs.Attempts.{attempt_again as attempting_again};
-ghost use Rattle.calls.specs.Outcomes.{Comes, Attempts, IsActing, IsBrief, is_own};
+ghost use Rattle.calls.specs.Outcomes.{Comes, Attempts, IsActing, CostsAtMost, is_own};
 
 use crate::delivery::{end, return_from_handler};
 use crate::entries::Entries;
@@ -141,7 +141,7 @@ pub fn attempt<K: Kin>(
     requires births { machine.old.state.births + 1 < 2 ^ 64 }
     requires none { entries.old.items ≡ [] }
     ensures attempts { Attempts machine.old.state pid call result entries.old.items entries.new.items machine.new.state }
-    ensures own { is_own call ≡ true → (result ≡ None) × IsBrief 1 machine.old machine.new }
+    ensures own { is_own call ≡ true → (result ≡ None) × CostsAtMost 1 machine.old machine.new }
 {
     match call {
         Call::Exit => exit(machine, pid, entries),

@@ -148,10 +148,7 @@ pub fn fault<K: Kin>(machine: &mut Machine<K>, pid: Pid, sig: Sig, entries: &mut
     let mask = own.signals.mask();
     match action.handler {
         Handler::At(address) if !mask.contains(sig) => {
-            let carried = Carried {
-                value: 0,
-                sender: Pid::NONE,
-            };
+            let carried = Carried::FROM_KERNEL;
             handle(
                 machine,
                 pid,

@@ -29,17 +29,27 @@ fn pid(number: u32) -> Pid
 }
 
 #[test]
-fn memories_and_worlds_are_copied(rt: HostRuntime) -> Result<(), Fail> {
+fn memories_are_copied(rt: HostRuntime) -> Result<(), Fail> {
     let mut memory = UserMem::zeroed(rt.alloc())?;
     memory.set(255, 7);
     let copy = memory.try_clone()?;
     memory.set(255, 8);
     assert_eq!(rt; (copy.get(0), copy.get(255)), (0, 7));
+    Ok(())
+}
+
+#[test]
+fn processors_are_copied(rt: HostRuntime) -> Result<(), Fail> {
     let mut cpu = Cpu::new(rt.alloc())?;
     cpu.set_register(Register::RESULT, 7);
     let copy = cpu.try_clone()?;
     cpu.set_register(Register::RESULT, 8);
     assert_eq!(rt; copy.register(Register::RESULT), 7);
+    Ok(())
+}
+
+#[test]
+fn worlds_are_copied(rt: HostRuntime) -> Result<(), Fail> {
     let world = read_world(rt.alloc(), WORLD)?;
     let copy = world.try_clone(rt.alloc())?;
     assert_eq!(rt; (copy.pidmax(), copy.consoles()), (8, 1));

@@ -26,6 +26,10 @@ struct HostFiles<'a, R: Files + AllocGlobal> {
 }
 
 impl<R: Files + AllocGlobal> ReadFiles for HostFiles<'_, R> {
+    ghost use Rattle.std.specs.Prelude.{None};
+
+    ghost contents = { λ files name. None };
+
     fn read_file(&self, name: &str) -> Result<Vec<u8>, FileFault> {
         fs::read(self.rt, name).map_err(|e| {
             if e.kind() == io::ErrorKind::OutOfMemory {

@@ -1,6 +1,7 @@
 //! What the program does: its texts and its statuses.
 
-ghost use Rattle.std.specs.Prelude.{◌≤◌};
+ghost use Rattle.std.specs.Prelude.{◌≡◌, ◌≤◌, IfOk, IfSome, map};
+ghost use Rattle.jobk.specs.Serving.{AreInFiles, AreOther, AskFor, Contents, Ends, Means, failure_of, status_of};
 
 use crate::words::{Request, requested};
 use arrayvec::ArrayString;
@@ -28,8 +29,13 @@ pub enum WordsFault {
 
 /// Reads named files.
 pub trait ReadFiles {
+    // The bytes of each name, where they are known.
+    ghost contents: { Self → Contents };
+
     /// The bytes of a file.
-    fn read_file(&self, name: &str) -> Result<Vec<u8>, FileFault>;
+    fn read_file(&self, name: &str) -> Result<Vec<u8>, FileFault>
+        ensures { IfOk result (λ read.
+            IfSome (contents self.now name.now) (λ known. read.items ≡ known)) };
 }
 
 /// Why the program doesn't end with status 0.
@@ -50,16 +56,18 @@ const STORED_EVENTS: &[u8] = b"step 3\n";
 
 impl<'a> Failure<'a> {
     /// Why a file of this name isn't read.
-    fn of_file(fault: FileFault, name: &'a str) -> Self {
+    fn of_file(fault: FileFault, name: &'a str) -> Self
+        ensures { result ≡ failure_of fault name.entry }
+    {
         match fault {
             FileFault::Device => Failure::CannotRead(name),
             FileFault::Memory => Failure::Run(RunError::Memory),
         }
     }
 
-    /// The status of the program, which isn't 0.
+    /// The status of the program.
     fn status(self) -> u8
-        ensures { (1 ≤ result) × (result ≤ 3) }
+        ensures { result ≡ status_of self.entry }
     {
         match self {
             Failure::Run(RunError::World(_) | RunError::Events(_)) => 1,
@@ -75,7 +83,10 @@ fn run_texts<'a, O: Sink>(
     world: &[u8],
     events: &[u8],
     out: &mut O,
-) -> Result<(), Failure<'a>> {
+) -> Result<(), Failure<'a>>
+    ensures { Ends (λ w e. (w ≡ world.now) × (e ≡ events.now)) ⊥
+        out.old out.new (O.seen out.old) (O.seen out.new) result }
+{
     match run(alloc, world, events, out) {
         Ok(_) => Ok(()),
         Err(why) => Err(Failure::Run(why)),
@@ -89,7 +100,10 @@ fn run_files<'a, F: ReadFiles, O: Sink>(
     world: &'a str,
     events: &'a str,
     out: &mut O,
-) -> Result<(), Failure<'a>> {
+) -> Result<(), Failure<'a>>
+    ensures { Ends (AreInFiles (F.contents files.now) (world.entry.now, events.entry.now)) ⊥
+        out.old out.new (O.seen out.old) (O.seen out.new) result }
+{
     let world_bytes = files
         .read_file(world)
         .map_err(|fault| Failure::of_file(fault, world))?;
@@ -105,7 +119,11 @@ fn serve_words<'a, F: ReadFiles, O: Sink>(
     words: &'a [&'a str],
     files: &F,
     out: &mut O,
-) -> Result<(), Failure<'a>> {
+) -> Result<(), Failure<'a>>
+    ensures { let texts = map (λ w. w.now) words.entry.now in
+        Ends (AskFor (F.contents files.now) texts) (AreOther texts)
+        out.old out.new (O.seen out.old) (O.seen out.new) result }
+{
     if words.is_empty() {
         return run_texts(alloc, STORED_WORLD, STORED_EVENTS, out);
     }
@@ -147,7 +165,10 @@ pub fn serve<'a, F: ReadFiles, O: Sink, E: Sink>(
     out: &mut O,
     err: &mut E,
 ) -> u8
-    ensures { result ≤ 3 }
+    ensures status { result ≤ 3 }
+    ensures meaning { Means (F.contents files.now) words.entry
+        out.old out.new (O.seen out.old) (O.seen out.new) result }
+    ensures not_text { words.entry ≡ Err WordsFault.NotText → result ≡ 2 }
 {
     let done = match words {
         Ok(words) => serve_words(alloc, words, files, out),

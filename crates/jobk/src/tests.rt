@@ -21,6 +21,12 @@ struct MemoryFiles {
 }
 
 impl ReadFiles for MemoryFiles {
+    ghost use Rattle.std.specs.Prelude.{Some, None, codes, if◌then◌else◌};
+    ghost use Rattle.std.specs.Str.{bytes_eq};
+
+    ghost contents = { λ files name. if bytes_eq name (codes "world") then Some files.world.now
+        else (if bytes_eq name (codes "events") then Some files.events.now else None) };
+
     fn read_file(&self, name: &str) -> Result<Vec<u8>, FileFault> {
         let bytes = match name {
             "world" => self.world,

@@ -1,7 +1,12 @@
 //! The words of the command line.
 
+ghost use Rattle.std.specs.Prelude.{◌≡◌, ◌⊎◌, IfOk, IfErr, None, false, map, option_and_then, option_map};
+ghost use Rattle.clap.specs.Words.{app_of, kind_of, rule_of, subcommand_rows_of};
+ghost use Rattle.jobk.specs.Words.{IsAskedBy, command_line, names_in, names_of, required_rule};
+ghost use Rattle.jobk.specs.Words.{run_names};
+
 use clap::error::ErrorKind;
-use clap::{Arg, ArgAction, Command, Error};
+use clap::{Arg, ArgAction, ArgMatches, Command, Error};
 use std::alloc::Global;
 
 /// What the words ask for.
@@ -16,12 +21,18 @@ pub enum Request<'a> {
 }
 
 /// A required argument.
-fn required<'a>(alloc: Global, name: &'a str) -> Arg<'a> {
+fn required<'a>(alloc: Global, name: &'a str) -> Arg<'a>
+    ensures rule { rule_of result ≡ required_rule name.entry.now }
+    ensures local { result.global ≡ false }
+{
     Arg::new(alloc, name).required(true).action(ArgAction::Set)
 }
 
 /// The program's command line.
-fn command<'a>(alloc: Global) -> Result<Command<'a>, Error> {
+fn command<'a>(alloc: Global) -> Result<Command<'a>, Error>
+    ensures ok { IfOk result (λ c. app_of c ≡ command_line) }
+    ensures err { IfErr result (λ e. kind_of e ≡ ErrorKind.OutOfMemory) }
+{
     let run = Command::new(alloc, "run")
         .arg(required(alloc, "world"))?
         .arg(required(alloc, "events"))?;
@@ -33,20 +44,41 @@ fn command<'a>(alloc: Global) -> Result<Command<'a>, Error> {
     )
 }
 
-/// Parses the words.
-fn parsed<'a>(alloc: Global, words: &'a [&'a str]) -> Result<Request<'a>, Error> {
-    let matches = command(alloc)?.try_get_matches_from(words)?;
-    match matches.subcommand() {
-        Some(("run", run)) => match (run.get_str("world"), run.get_str("events")) {
-            (Some(world), Some(events)) => Ok(Request::Run { world, events }),
-            _ => Ok(Request::Usage),
-        },
-        _ => Ok(Request::Usage),
+/// What the two names ask for, where both are there.
+fn request_with<'a>(world: Option<&'a str>, events: Option<&'a str>) -> Request<'a>
+    ensures { names_of result
+        ≡ option_and_then (λ w. option_map (λ e. (w.now, e.now)) events.entry) world.entry }
+{
+    match (world, events) {
+        (Some(world), Some(events)) => Request::Run { world, events },
+        _ => Request::Usage,
     }
 }
 
+/// What the matches of the words ask for.
+fn request_of<'a>(matches: &ArgMatches<'a>) -> Request<'a>
+    ensures { names_of result ≡ option_and_then names_in (subcommand_rows_of matches.now) }
+{
+    match matches.subcommand() {
+        Some(("run", run)) => request_with(run.get_str("world"), run.get_str("events")),
+        _ => Request::Usage,
+    }
+}
+
+/// Parses the words.
+fn parsed<'a>(alloc: Global, words: &'a [&'a str]) -> Result<Request<'a>, Error>
+    ensures ok { IfOk result (λ r. names_of r ≡ run_names (map (λ w. w.now) words.entry.now)) }
+    ensures err { IfErr result (λ e. (kind_of e ≡ ErrorKind.OutOfMemory)
+        ⊎ (run_names (map (λ w. w.now) words.entry.now) ≡ None)) }
+{
+    let matches = command(alloc)?.try_get_matches_from(words)?;
+    Ok(request_of(&matches))
+}
+
 /// What the words ask for; the program's name isn't one of them.
-pub fn requested<'a>(alloc: Global, words: &'a [&'a str]) -> Request<'a> {
+pub fn requested<'a>(alloc: Global, words: &'a [&'a str]) -> Request<'a>
+    ensures { IsAskedBy (map (λ w. w.now) words.entry.now) result }
+{
     match parsed(alloc, words) {
         Ok(request) => request,
         Err(e) => {

@@ -10,7 +10,7 @@ use Rattle.posix.specs.declared.entry.Entry.TheVariants.{Noted}
 use Rattle.posix.specs.Processes.{Process, Cpu}
 use Rattle.posix.specs.Entries.{numbered}
 use Rattle.posix.specs.Tables.{IsRising, at, changed}
-use Rattle.posix.specs.States.{State, is_in, change, current, process, current_process}
+use Rattle.posix.specs.States.{State, is_in, has_place, change, current, process, current_process}
 use Rattle.posix.specs.Execute.{exec_one}
 use Rattle.posix.specs.Choice.{chosen}
 use Rattle.posix.specs.Runs.{RunsFrom}
@@ -38,6 +38,10 @@ pub record IsReady (s : State) (p : ℕ) (me : Process) : Type 0 where
   pub here : process s p ≡ Some me
   pub free : me.blocked ≡ None
   pub none : chosen me.life me.signals ≡ None
+
+-- the current process has a place, whichever of two equal states is asked
+pub placed_now : (s t : State) (p : ℕ) → t ≡ s → current s ≡ Some p → has_place t p ≡ true
+placed_now s t p same now = ap (λ (u : State). is_in p u.order) same ∙ first_in p s.order now
 
 -- another processor leaves the number
 keeps : (c : Cpu) (r : Process) → (set_cpu c r).pid ≡ r.pid

@@ -42,23 +42,23 @@ Steps old entries new = (granted : Bool) × (step granted old (current_process o
 abbrev pub Happens : State → Event → List Entry → State → Type 0
 Happens old event entries new = (granted : Bool) × (happens granted old event ≡ record { state = new; entries = entries })
 
--- an instruction that concerns the process alone that runs it: no machine fault, and no call but one that
+-- an instruction that changes the process alone that runs it: no machine fault, and no call but one that
 -- changes its caller alone
-abbrev pub concerns_one : Trap → Bool
-concerns_one trap.Next = true
-concerns_one (trap.Note z) = true
-concerns_one (trap.Call call) = is_own call
-concerns_one (trap.Fault sig) = false
+abbrev pub changes_one : Trap → Bool
+changes_one trap.Next = true
+changes_one (trap.Note z) = true
+changes_one (trap.Call call) = is_own call
+changes_one (trap.Fault sig) = false
 
 -- the process comes to such an instruction: it is in no call, and no signal is chosen for it
-abbrev pub acts_alone : State → Option Process → Bool
-acts_alone s None = true
-acts_alone s (Some me) = if is_some (chosen me.life me.signals) || is_some me.blocked then false else concerns_one (exec_one (code_of s me) me.cpu).trap
+abbrev pub next_changes_one : State → Option Process → Bool
+next_changes_one s None = true
+next_changes_one s (Some me) = if is_some (chosen me.life me.signals) || is_some me.blocked then false else changes_one (exec_one (code_of s me) me.cpu).trap
 
--- what an event does concerns one process: a tick does
-abbrev pub is_narrow : Event → State → Bool
-is_narrow Step s = acts_alone s (current_process s)
-is_narrow Tick s = true
+-- an event changes one process at most: a tick changes none
+abbrev pub event_changes_one : Event → State → Bool
+event_changes_one Step s = next_changes_one s (current_process s)
+event_changes_one Tick s = true
 
 -- how many plain instructions, at most so many, a process runs: none in a call, or with a signal chosen
 abbrev pub plain_of : State → ℕ → Option Process → ℕ

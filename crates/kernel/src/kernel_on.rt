@@ -7,7 +7,7 @@ ghost use Rattle.posix.specs.Runs.{RunsFrom};
 ghost use Rattle.posix.specs.Step.{IsStep};
 ghost use Rattle.posix.specs.Regular.{IsRegular};
 ghost use Rattle.text.specs.EventTexts.{most_events};
-ghost use Rattle.kernel.specs.Steps.{is_narrow, plain_steps};
+ghost use Rattle.kernel.specs.Steps.{event_changes_one, plain_steps};
 ghost use Rattle.kernel.specs.Views.{KernelView};
 ghost use Rattle.life.specs.Censuses.{census_of};
 
@@ -90,7 +90,7 @@ impl<K: Kin> KernelOn<K> {
         ensures events { self.new.events ≡ self.old.events + 1 }
         ensures halted { self.old.state.halted ≡ true → (result.items ≡ []) × (self.new.state ≡ self.old.state) }
         ensures regular { IsRegular self.new.state }
-        ensures reads { is_narrow event self.old.state ≡ true → self.new.reads ≤ self.old.reads + 3 }
+        ensures reads { event_changes_one event self.old.state ≡ true → self.new.reads ≤ self.old.reads + 3 }
     {
         let mut entries = ArrayVec::new();
         self.event_into(event, &mut entries);
@@ -132,7 +132,7 @@ impl<K: Kin> KernelOn<K> {
         ensures events { self.new.events ≡ self.old.events + 1 }
         ensures halted { self.old.state.halted ≡ true → (entries.new.items ≡ []) × (self.new.state ≡ self.old.state) }
         ensures regular { IsRegular self.new.state }
-        ensures reads { is_narrow event self.old.state ≡ true → self.new.reads ≤ self.old.reads + 3 }
+        ensures reads { event_changes_one event self.old.state ≡ true → self.new.reads ≤ self.old.reads + 3 }
     {
         self.events += 1;
         next(&mut self.machine, event, entries);

@@ -11,8 +11,8 @@ ghost use Rattle.posix.specs.Attempts.{attempt_again};
 ghost use Rattle.posix.specs.Regular.{IsPlaced, IsRegular};
 ghost use Rattle.posix.specs.Settle.{NoWakeIsLost};
 ghost use Rattle.proctable.specs.Body.{facts_of};
-ghost use Rattle.calls.specs.Outcomes.{IsActing, IsBrief, is_own};
-ghost use Rattle.kernel.specs.Steps.{ActsAs, Begins, Bursts, Happens, RunsInstruction, Steps, acts_alone, concerns_one, is_narrow, note_of, plain_steps};
+ghost use Rattle.calls.specs.Outcomes.{IsActing, CostsAtMost, is_own};
+ghost use Rattle.kernel.specs.Steps.{ActsAs, Begins, Bursts, Happens, RunsInstruction, Steps, next_changes_one, changes_one, event_changes_one, note_of, plain_steps};
 
 use crate::settle::settle;
 use calls::Entries;
@@ -30,7 +30,7 @@ fn begin_call<K: Kin>(machine: &mut Machine<K>, pid: Pid, call: Call, entries: &
     requires births { machine.old.state.births + 1 < 2 ^ 64 }
     requires none { entries.old.items ≡ [] }
     ensures begins { Begins machine.old.state pid call entries.new.items machine.new.state }
-    ensures own { is_own call ≡ true → IsBrief 1 machine.old machine.new }
+    ensures own { is_own call ≡ true → CostsAtMost 1 machine.old machine.new }
 {
     let Some(blocked) = attempt(machine, pid, call, entries) else {
         return;
@@ -71,7 +71,7 @@ fn run_instruction<K: Kin>(machine: &mut Machine<K>, pid: Pid, program: u8, entr
     requires births { machine.old.state.births + 1 < 2 ^ 64 }
     requires none { entries.old.items ≡ [] }
     ensures runs { RunsInstruction machine.old.state pid entries.new.items machine.new.state }
-    ensures brief { (me : Process) → process machine.old.state pid ≡ Some me → concerns_one (exec_one (code_of machine.old.state me) me.cpu).trap ≡ true → IsBrief 2 machine.old machine.new }
+    ensures cost { (me : Process) → process machine.old.state pid ≡ Some me → changes_one (exec_one (code_of machine.old.state me) me.cpu).trap ≡ true → CostsAtMost 2 machine.old machine.new }
 {
     match machine.exec_one(pid, program) {
         Trap::Next => {}
@@ -90,7 +90,7 @@ fn act<K: Kin>(machine: &mut Machine<K>, pid: Pid, facts: Facts, entries: &mut E
     requires births { machine.old.state.births + 1 < 2 ^ 64 }
     requires none { entries.old.items ≡ [] }
     ensures acts { ActsAs machine.old.state pid entries.new.items machine.new.state }
-    ensures brief { acts_alone machine.old.state (process machine.old.state pid) ≡ true → IsBrief 2 machine.old machine.new }
+    ensures cost { next_changes_one machine.old.state (process machine.old.state pid) ≡ true → CostsAtMost 2 machine.old machine.new }
 {
     let Facts {
         chosen,
@@ -116,7 +116,7 @@ fn step<K: Kin>(machine: &mut Machine<K>, entries: &mut Entries)
     requires births { machine.old.state.births + 1 < 2 ^ 64 }
     requires none { entries.old.items ≡ [] }
     ensures steps { Steps machine.old.state entries.new.items machine.new.state }
-    ensures brief { acts_alone machine.old.state (current_process machine.old.state) ≡ true → IsBrief 3 machine.old machine.new }
+    ensures cost { next_changes_one machine.old.state (current_process machine.old.state) ≡ true → CostsAtMost 3 machine.old machine.new }
 {
     let Some(pid) = machine.current() else {
         return;
@@ -133,7 +133,7 @@ fn step<K: Kin>(machine: &mut Machine<K>, entries: &mut Entries)
 fn tick<K: Kin>(machine: &mut Machine<K>)
     requires { machine.old.state.ticks + 1 < 2 ^ 64 }
     ensures state { machine.new.state ≡ ticking machine.old.state }
-    ensures brief { IsBrief 0 machine.old machine.new }
+    ensures cost { CostsAtMost 0 machine.old machine.new }
 {
     machine.pass_time();
     if let Some(pid) = machine.current() {
@@ -148,7 +148,7 @@ fn happen<K: Kin>(machine: &mut Machine<K>, event: Event, entries: &mut Entries)
     requires ticks { machine.old.state.ticks + 1 < 2 ^ 64 }
     requires none { entries.old.items ≡ [] }
     ensures happens { Happens machine.old.state event entries.new.items machine.new.state }
-    ensures brief { is_narrow event machine.old.state ≡ true → IsBrief 3 machine.old machine.new }
+    ensures cost { event_changes_one event machine.old.state ≡ true → CostsAtMost 3 machine.old machine.new }
 {
     match event {
         Event::Step => step(machine, entries),
@@ -201,7 +201,7 @@ pub fn next<K: Kin>(machine: &mut Machine<K>, event: Event, entries: &mut Entrie
     ensures step { IsStep machine.old.state event entries.new.items machine.new.state }
     ensures regular { IsRegular machine.new.state }
     ensures asked { machine.old.asked ≡ [] → machine.new.asked ≡ [] }
-    ensures reads { machine.old.asked ≡ [] → is_narrow event machine.old.state ≡ true → machine.new.reads ≤ machine.old.reads + 3 }
+    ensures reads { machine.old.asked ≡ [] → event_changes_one event machine.old.state ≡ true → machine.new.reads ≤ machine.old.reads + 3 }
 {
     if machine.is_halted() {
         return;

@@ -1,13 +1,13 @@
 -- Lists of processes in the rising order of their stamps.
-use Rattle.std.proofs.Common.{ℕ, suc, ◌<◌, ◌≤◌, Bool, true, false, cond, not, ◌||◌, ◌==◌, List, [], ◌∷◌, ◌++◌, get_or, slice_get, Option, Some, None, is_some, IsSome, All, AllPairs, Contains, ◌≡◌, ⊎_elim, refl, sym, ap, subst, ◌∙◌, arith}
-use Rattle.std.specs.List.{list_any}
+use Rattle.std.proofs.Common.{ℕ, suc, ◌<◌, ◌≤◌, true, false, cond, not, ◌&&◌, ◌||◌, ◌==◌, List, [], ◌∷◌, ◌++◌, get_or, slice_get, Option, Some, None, is_some, IsSome, All, AllPairs, Contains, ◌≡◌, ⊎_elim, refl, sym, ap, subst, ◌∙◌, arith}
 use Rattle.std.specs.Bool.{one_answer}
-use Rattle.std.proofs.lemmas.Bool.{eqb-true, eqb-false, eq-eqb, ne_eqb, not-true, cases_eq, cases_Bool}
+use Rattle.std.proofs.lemmas.Bool.{eqb-true, eqb-false, eq-eqb, not-true, cases_eq, cases_Bool}
 use Rattle.std.proofs.lemmas.List.Elements.{All-weaker, All-filter, filter_passes, Contains-get_or}
-use Rattle.std.proofs.lemmas.List.Folds.{Any-from_list_any, list_any_at, list_any-append}
+use Rattle.std.proofs.lemmas.List.Folds.{Any-from_list_any, list_any_at}
 use Rattle.std.proofs.lemmas.List.Kept.{AllPairs-filter}
 use Rattle.std.proofs.lemmas.List.Quantifiers.{all_pairs_push}
-use Rattle.posix.specs.States.{without}
+use Rattle.posix.specs.States.{is_in, without}
+use Rattle.posix.proofs.MemberLemmas.{in_without, in_last, in_first, in_rest}
 use Rattle.laws.specs.Stamps.{Stamps, without_stamp, with_stamp, AllBelow, IsBelow, IsRisingOrder, HasLeastStamp}
 
 -- the field `rising`
@@ -16,30 +16,21 @@ Rises stamps order = AllPairs (λ q r. IsBelow (stamps q) (stamps r)) order
 
 -- ---- who is in a list
 
--- whether q is in the list
-abbrev is_in : ℕ → List ℕ → Bool
-is_in q order = list_any (λ x. x == q) order
-
 -- an element passes the test
 is_in_from_Contains : (q : ℕ) (order : List ℕ) → Contains order q → is_in q order ≡ true
+unfolding is_in
 is_in_from_Contains q order c = list_any_at (λ x. x == q) order c.0 q c.1 (eq-eqb _ q c.2)
 
 -- what passes the test is an element
 Contains_from_is_in : (q : ℕ) (order : List ℕ) → is_in q order ≡ true → Contains order q
+unfolding is_in
 Contains_from_is_in q order e =
     let a = Any-from_list_any (λ x. x == q) order e in
     subst (Contains order) (eqb-true a.1 q a.4) (a.0, a.2, a.3)
 
--- p is in the list no more, and the others stay
-is_in_without : (p q : ℕ) (order : List ℕ) → is_in q (without p order) ≡ cond (q == p) false (is_in q order)
-unfolding without
-is_in_without p q [] = grind arith
-is_in_without p q (x ∷ xs) = grind (arith, is_in_without p q xs, eqb-true, eqb-false)
-
 -- p is in the list, and the others stay
 is_in_last : (p q : ℕ) (order : List ℕ) → is_in q (without p order ++ p ∷ []) ≡ cond (q == p) true (is_in q order)
-unfolding without
-is_in_last p q order = rw (list_any-append (λ x. x == q) (without p order) (p ∷ []), is_in_without p q order) (grind (arith, eqb-true, eqb-false, eq-eqb))
+is_in_last p q order = in_last q p (without p order) ∙ rw (in_without q p order) (grind (arith, eqb-true, eqb-false, eq-eqb))
 
 -- the field `placed`, as an equation of tests
 is_in_is_some : (order : List ℕ) (stamps : Stamps) → IsRisingOrder order stamps → (q : ℕ) → is_in q order ≡ is_some (stamps q)
@@ -75,9 +66,9 @@ unfolding without
 rising_without p order stamps rising = AllPairs-filter (λ q r. IsBelow (stamps q) (stamps r)) (λ x. not (x == p)) order rising
 
 -- p has no stamp, and the others have one where they had
-is_some_without : (p q : ℕ) (stamps : Stamps) → is_some (without_stamp p stamps q) ≡ cond (q == p) false (is_some (stamps q))
+is_some_without : (p q : ℕ) (stamps : Stamps) → is_some (without_stamp p stamps q) ≡ (not (q == p) && is_some (stamps q))
 is_some_without p q stamps =
-    elim (q == p) as (λ b. is_some (cond b None (stamps q)) ≡ cond b false (is_some (stamps q))) [ true ↦ refl | false ↦ refl ]
+    elim (q == p) as (λ b. is_some (cond b None (stamps q)) ≡ (not b && is_some (stamps q))) [ true ↦ refl | false ↦ refl ]
 
 -- p has a stamp, and the others have one where they had
 is_some_with : (p n q : ℕ) (stamps : Stamps) → is_some (with_stamp p n stamps q) ≡ cond (q == p) true (is_some (stamps q))
@@ -89,7 +80,7 @@ pub losing_keeps_order : (p : ℕ) (order : List ℕ) (stamps : Stamps) → IsRi
     → IsRisingOrder (without p order) (without_stamp p stamps)
 losing_keeps_order p order stamps h =
     rising_order (without p order) (without_stamp p stamps)
-    (λ q. is_in_without p q order ∙ ap (cond (q == p) false) (is_in_is_some order stamps h q) ∙ sym (is_some_without p q stamps))
+    (λ q. in_without q p order ∙ ap (λ b. not (q == p) && b) (is_in_is_some order stamps h q) ∙ sym (is_some_without p q stamps))
     (agree (without p order) stamps (without_stamp p stamps)
     (λ k d lt. rw (all_others p order k d lt) refl)
     (rising_without p order stamps h.rising))
@@ -141,13 +132,13 @@ lt_of_below n m (Some k) (Some l) e f below = let same : k ≡ n = cc in let oth
 least_of_all : (x : ℕ) (xs : List ℕ) (stamps : Stamps) → IsRisingOrder (x ∷ xs) stamps
     → (n : ℕ) → stamps x ≡ Some n → (q m : ℕ) → stamps q ≡ Some m → n ≤ m
 least_of_all x xs stamps h n e q m f =
-    let test : (x == q) || is_in q xs ≡ true = is_in_is_some (x ∷ xs) stamps h q ∙ ap is_some f in
+    let test : is_in q (x ∷ xs) ≡ true = is_in_is_some (x ∷ xs) stamps h q ∙ ap is_some f in
     ⊎_elim
-    (λ here. let number : Some n ≡ Some m = sym e ∙ ap stamps (eqb-true x q here) ∙ f in let same : n ≡ m = cc in omega arith)
-    (λ away. let later : is_in q xs ≡ true = sym (ap (λ b. b || is_in q xs) away) ∙ test in
+    (λ here. let number : Some n ≡ Some m = sym e ∙ ap stamps here ∙ f in let same : n ≡ m = cc in omega arith)
+    (λ away. let later : is_in q xs ≡ true = sym (in_rest q x xs away) ∙ test in
     let lt = lt_of_below n m (stamps x) (stamps q) e f (below_later x xs stamps h.rising q later) in
     omega arith)
-    (cases_Bool (x == q))
+    (cases_eq x q)
 
 -- the first has the least stamp
 pub first_is_least : (p : ℕ) (order : List ℕ) (stamps : Stamps) → IsRisingOrder order stamps → slice_get order 0 ≡ Some p
@@ -180,22 +171,20 @@ not_again x xs stamps rising =
 
 -- a first that differs is later in the other list
 later_elsewhere : (x y : ℕ) (xs ys : List ℕ) → (x ≡ y → ⊥) → is_in x (x ∷ xs) ≡ is_in x (y ∷ ys) → is_in x ys ≡ true
-later_elsewhere x y xs ys apart same =
-    let here : (x == x) ≡ true = eq-eqb x x refl in
-    let away : (y == x) ≡ false = ne_eqb y x (λ e. apart (sym e)) in
-    sym (ap (λ b. b || is_in x ys) away) ∙ sym same ∙ ap (λ b. b || is_in x xs) here
+later_elsewhere x y xs ys apart same = sym (in_rest x y ys (λ e. apart (sym e))) ∙ sym same ∙ in_first x xs
 
 -- under one first, the rest have the same members
 same_rest : (x q : ℕ) (xs ys : List ℕ) → is_in x xs ≡ false → is_in x ys ≡ false → is_in q (x ∷ xs) ≡ is_in q (x ∷ ys) → is_in q xs ≡ is_in q ys
 same_rest x q xs ys out away same =
     ⊎_elim
-    (λ here. let one : x ≡ q = eqb-true x q here in subst (λ r. is_in r xs ≡ is_in r ys) one (out ∙ sym away))
-    (λ other. sym (ap (λ b. b || is_in q xs) other) ∙ same ∙ ap (λ b. b || is_in q ys) other)
-    (cases_Bool (x == q))
+    (λ here. subst (λ r. is_in r xs ≡ is_in r ys) here (out ∙ sym away))
+    (λ other. sym (in_rest q x xs other) ∙ same ∙ in_rest q x ys other)
+    (cases_eq x q)
 
 -- two rising lists with the same members are one
 same_members : (xs ys : List ℕ) (stamps : Stamps) → Rises stamps xs → Rises stamps ys
     → ((q : ℕ) → is_in q xs ≡ is_in q ys) → xs ≡ ys
+unfolding is_in
 same_members [] [] stamps up also same = refl
 same_members [] (y ∷ ys) stamps up also same = let e : false ≡ (y == y) || is_in y ys = same y in grind (arith, e, eq-eqb)
 same_members (x ∷ xs) [] stamps up also same = let e : (x == x) || is_in x xs ≡ false = same x in grind (arith, e, eq-eqb)

@@ -9,4 +9,5 @@ pub mod LoanLemmas
 pub mod ViewLemmas
 pub mod PartLemmas
 pub mod CensusLemmas
+pub mod ReadLemmas
 pub mod AskLemmas

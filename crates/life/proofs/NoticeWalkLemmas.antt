@@ -25,6 +25,7 @@ use Rattle.life.specs.Machines.{IsSound, IsListed, IsMachine, CanGo, IsCounted}
 use Rattle.life.specs.Asking.{with_numbers, without_gone}
 use Rattle.life.proofs.SoundLemmas.{is_there, found_in, heir_in, kept_order, length_departed, kept_departed, parents_departed, there_made_zombie}
 use Rattle.life.proofs.EndLemmas.{leave, dropping_left, notice_left, tell_after}
+use Rattle.life.proofs.ReadLemmas.{filter_at_most}
 use Rattle.life.proofs.PartLemmas.{can_go, can_go_map, sound_told}
 use Rattle.life.proofs.AskLemmas.{in_numbers, stays_asked, has_room, listed_more, listed_told, listed_departed}
 
@@ -216,6 +217,35 @@ asks_made_zombie : (p w : ℕ) (rs : List Process) (next : Option ℕ) → kids_
 asks_made_zombie p w rs next =
     ap (λ l. length (left_of next l)) (kids_made_zombie p w rs)
     ∙ ap length (left_map (at p (made_zombie w)) (at_made_zombie p w) next (children_in p rs)) ∙ length-map (left_of next (children_in p rs)) (at p (made_zombie w))
+
+-- ---- how many children there are
+
+-- nobody has more children than before
+abbrev pub HasFewer : List Process → List Process → Type 0
+HasFewer old new = (q : ℕ) → length (children_in q new) ≤ length (children_in q old)
+
+-- where one is made a zombie
+pub fewer_left : (p w : ℕ) (rs old : List Process) → rs ≡ old → HasFewer old (changed p (made_zombie w) rs)
+unfolding changed
+fewer_left p w rs old e = λ q.
+    let same = ap length (children_map (at p (made_zombie w)) (parent_made_zombie p w) q rs) ∙ length-map (children_in q rs) (at p (made_zombie w)) ∙ ap (λ l. length (children_in q l)) e in
+    omega (arith, same)
+
+-- and where one is told of an end
+pub fewer_told : (s : State) (old new : List Process) (heir c v : ℕ) → HasFewer old s.processes → new ≡ (notice_of_end s heir c v).processes → HasFewer old new
+unfolding notice_of_end removed
+fewer_told s old new heir c v h e = λ q.
+    let signal = child_signal c v in
+    let told = change s heir (noticed signal) in
+    let before = h q in
+    let now = ap (λ l. length (children_in q l)) e in
+    let same = ap length (kids_noticed signal heir q s.processes) ∙ length-map (children_in q s.processes) (at heir (noticed signal)) in
+    let most : length (children_in q (notice_of_end s heir c v).processes) ≤ length (children_in q told.processes) =
+    elim (is_dropping heir s.processes) as (λ b. length (children_in q (cond {A = State} b (drop_child told c) told).processes) ≤ length (children_in q told.processes)) [
+      | true ↦ let less = filter_at_most (λ r. not (r.pid == c)) (children_in q told.processes) in let gone = ap length (children_removed q c told.processes) in omega (arith, less, gone)
+      | false ↦ omega arith
+    ] in
+    omega (arith, before, now, same, most)
 
 -- ---- the walk
 

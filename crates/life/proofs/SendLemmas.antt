@@ -21,6 +21,7 @@ use Rattle.posix.proofs.WalkLemmas.{numbered, numbered_one, numbered_none, rest_
 use Rattle.posix.specs.States.{State}
 use Rattle.proctable.specs.declared.facts.Facts.{Facts}
 use Rattle.proctable.specs.Body.{facts_of}
+use Rattle.life.specs.Asking.{asking, asking_all, asking_signalled}
 
 -- the state with these processes
 abbrev pub with_processes : State → List Process → State
@@ -55,7 +56,7 @@ all_numbered p (x ∷ xs) = elim (x.pid == p) as (λ b. (x.pid == p) ≡ b → A
 ] refl
 
 -- those above p stay where a signal is sent to p
-above_sent : (me : Process) (target : Target) (s : Option ℕ) (p : ℕ) (rs : List Process) → above p (sent_among me s (targets me target (numbered p rs)) rs) ≡ above p rs
+pub above_sent : (me : Process) (target : Target) (s : Option ℕ) (p : ℕ) (rs : List Process) → above p (sent_among me s (targets me target (numbered p rs)) rs) ≡ above p rs
 unfolding sent_among targets permitted
 above_sent me target None p rs = refl
 above_sent me target (Some n) p rs = above_signalled_all p (sent_by me.pid n) _ rs (all_filter _ (may me (Some n)) _ (all_filter _ (is_target me target) _ (all_numbered p rs)))
@@ -76,6 +77,21 @@ sent_append me (Some n) xs ys rs =
     ap (λ qs. signalled_all (sent_by me.pid n) (pids qs) rs) (filter-append (may me (Some n)) xs ys)
     ∙ ap (λ ps. signalled_all (sent_by me.pid n) ps rs) (map-append (λ r. r.pid) (filter (may me (Some n)) xs) (filter (may me (Some n)) ys))
     ∙ signalled_append (sent_by me.pid n) (pids (filter (may me (Some n)) xs)) (pids (filter (may me (Some n)) ys)) rs
+
+-- some are asked and then others
+asking_append : (ps qs order ns : List ℕ) → asking_all (ps ++ qs) order ns ≡ asking_all qs order (asking_all ps order ns)
+unfolding asking_all
+asking_append [] qs order ns = refl
+asking_append (p ∷ ps) qs order ns = asking_append ps qs order (asking p order ns)
+
+-- so are those who get a signal
+asked_append : (me : Process) (s : Option ℕ) (xs ys : List Process) (order ns : List ℕ) → asking_signalled me s (xs ++ ys) order ns ≡ asking_signalled me s ys order (asking_signalled me s xs order ns)
+unfolding asking_signalled permitted
+asked_append me None xs ys order ns = refl
+asked_append me (Some n) xs ys order ns =
+    ap (λ qs. asking_all (pids qs) order ns) (filter-append (may me (Some n)) xs ys)
+    ∙ ap (λ ps. asking_all ps order ns) (map-append (λ r. r.pid) (filter (may me (Some n)) xs) (filter (may me (Some n)) ys))
+    ∙ asking_append (pids (filter (may me (Some n)) xs)) (pids (filter (may me (Some n)) ys)) order ns
 
 -- whom a signal to some and then to others finds
 abbrev pub joined : Sending → Sending → Sending
@@ -160,6 +176,14 @@ sent_step me target s p rs now next i =
     ∙ ap (sent_among me s (targets me target (above p rs))) i.sent
     ∙ sym (sent_append me s (targets me target (numbered p rs)) (targets me target (above p rs)) rs)
     ∙ ap (λ qs. sent_among me s qs rs) (sym (targets_split me target p rs i.rising))
+
+-- asked are the same as before
+pub asked_step : (me : Process) (target : Target) (s : Option ℕ) (p : ℕ) (rs now : List Process) (next : Option ℕ) → IsSent me target s p rs now next → (order ns : List ℕ)
+    → asking_signalled me s (targets me target (left_of next now)) order (asking_signalled me s (targets me target (numbered p rs)) order ns) ≡ asking_signalled me s (targets me target (left_of (Some p) rs)) order ns
+asked_step me target s p rs now next i order ns =
+    ap (λ qs. asking_signalled me s qs order (asking_signalled me s (targets me target (numbered p rs)) order ns)) (left_same me target s p rs now next i)
+    ∙ sym (asked_append me s (targets me target (numbered p rs)) (targets me target (above p rs)) order ns)
+    ∙ ap (λ qs. asking_signalled me s qs order ns) (sym (targets_split me target p rs i.rising))
 
 -- and finds with those found by now what it found before
 pub sending_step : (me : Process) (target : Target) (s : Option ℕ) (p : ℕ) (rs now : List Process) (next : Option ℕ) → IsSent me target s p rs now next
@@ -263,6 +287,30 @@ signal_one it r q s n signal rs now f some is allowed done =
     ∙ ap (λ (f : Facts). changed f.pid (signalled (sent_by r.pid n)) rs) f
     ∙ sym (sent_one r n q rs (ap (λ s. may r s q) (sym some) ∙ allowed))
     ∙ ap (λ s. sent_among r s (q ∷ []) rs) (sym some)
+
+-- nobody is asked where nobody is meant
+pub asked_nobody : (me : Process) (s : Option ℕ) (order ns : List ℕ) → asking_signalled me s [] order ns ≡ ns
+unfolding asking_signalled permitted asking_all
+asked_nobody me None order ns = refl
+asked_nobody me (Some n) order ns = refl
+
+-- nor for signal 0
+pub asked_none : (me : Process) (qs : List Process) (order ns : List ℕ) → asking_signalled me None qs order ns ≡ ns
+unfolding asking_signalled
+asked_none me qs order ns = refl
+
+-- nor who may not be signalled
+pub asked_refused : (me : Process) (s : Option ℕ) (q : Process) (order ns : List ℕ) → may me s q ≡ false → asking_signalled me s (q ∷ []) order ns ≡ ns
+unfolding asking_signalled permitted asking_all
+asked_refused me None q order ns e = refl
+asked_refused me (Some n) q order ns e = rw e refl
+
+-- who may be is
+pub asked_one : (it : Facts) (me q : Process) (s : Option ℕ) (n : ℕ) (order ns : List ℕ) → it ≡ facts_of q → s ≡ Some n → may me s q ≡ true → asking it.pid order ns ≡ asking_signalled me s (q ∷ []) order ns
+unfolding asking_signalled permitted asking_all
+asked_one it me q s n order ns f some allowed =
+    let yes : may me (Some n) q ≡ true = ap (λ s. may me s q) (sym some) ∙ allowed in
+    rw some (ap (λ (f : Facts). asking f.pid order ns) f ∙ rw yes refl)
 
 -- whether it may be decides what is found
 pub sending_one : (me : Process) (s : Option ℕ) (q : Process) (b : Bool) → may me s q ≡ b → sending_permitted (permitted me s (q ∷ [])) ≡ cond b found.Permitted found.NobodyPermitted

@@ -1,12 +1,13 @@
 //! Births.
 
-ghost use Rattle.std.specs.Prelude.{◌≡◌, ◌+◌, ◌<◌, ◌^◌, ℕ, Some, IsSome, IfOk, OnOk, OnErr};
+ghost use Rattle.std.specs.Prelude.{◌≡◌, ◌+◌, ◌≤◌, ◌<◌, ◌^◌, length, ℕ, Some, IsSome, IfOk, OnOk, OnErr};
 ghost use Rattle.posix.specs.Processes.{Process};
 ghost use Rattle.posix.specs.States.{process, next_pid as next_pid_of};
 ghost use Rattle.posix.specs.Births.{born, child_of};
-ghost use Rattle.posix.specs.Tables.{lookup};
+ghost use Rattle.posix.specs.Tables.{lookup, children_in};
 ghost use Rattle.proctable.specs.Body.{process_of};
 ghost use Rattle.posix.specs.Regular.{IsPlaced};
+ghost use Rattle.pidset.specs.Numbers.{with_number};
 
 use crate::machine::Machine;
 use posix::Pid;
@@ -21,6 +22,7 @@ fn newborn<K: Kin>(table: &mut K, pid: Pid, birth: u64) -> Result<Body, AllocErr
     ensures groups { IfOk result (λ b. (me : Process) → lookup pid (K.contents table.old) ≡ Some me → (b.group ≡ me.group) × (b.session ≡ me.session)) }
     ensures contents { K.contents table.new ≡ K.contents table.old }
     ensures room { K.room table.new ≡ K.room table.old }
+    ensures reads { K.reads table.new ≤ K.reads table.old + 1 }
 {
     table.update(pid).fork(birth)
 }
@@ -42,6 +44,9 @@ impl<K: Kin> Machine<K> {
         requires births { self.old.state.births + 1 < 2 ^ 64 }
         ensures ok { OnOk result ((me : Process) → process self.old.state parent ≡ Some me → self.new.state ≡ born self.old.state me child) }
         ensures err { OnErr result (self.new.state ≡ self.old.state) }
+        ensures asked { OnOk result (self.new.asked ≡ with_number child (with_number parent self.old.asked)) }
+        ensures asked_at_error { OnErr result (self.new.asked ≡ self.old.asked) }
+        ensures reads { self.new.reads ≤ self.old.reads + 6 + length (children_in parent self.old.state.processes) }
     {
         let body = newborn(&mut self.table, parent, self.births + 1)?;
         self.table.reserve()?;

@@ -47,6 +47,7 @@ impl<K: Kin> Machine<K> {
         ensures value { IfSome (process self.old.state pid) (λ me. result ≡ caller_of me) }
         ensures same { self.new.state ≡ self.old.state }
         ensures reads { self.new.reads ≤ self.old.reads + 2 }
+        ensures asked { self.new.asked ≡ self.old.asked }
         ensures regular { IsRegular self.old.state }
     {
         let Some(facts) = self.table.get(pid) else {

@@ -1,6 +1,6 @@
 //! How many processes there are.
 
-ghost use Rattle.std.specs.Prelude.{◌≡◌, ◌<◌, ◌^◌, Some, length};
+ghost use Rattle.std.specs.Prelude.{◌≡◌, ◌+◌, ◌*◌, ◌≤◌, ◌<◌, ◌^◌, Some, length};
 ghost use Rattle.posix.specs.Processes.{Process, is_zombie as is_zombie_of};
 ghost use Rattle.posix.specs.States.{process};
 ghost use Rattle.posix.specs.Regular.{IsRegular};
@@ -31,6 +31,7 @@ impl<K: Kin> Machine<K> {
         ensures value { result ≡ census_of self.old.state }
         ensures same { self.new.state ≡ self.old.state }
         ensures asked { self.new.asked ≡ self.old.asked }
+        ensures reads { self.new.reads ≤ self.old.reads + 1 + 2 * length self.old.state.processes }
     {
         let mut living = 0;
         let mut zombies = 0;
@@ -57,6 +58,7 @@ impl<K: Kin> Machine<K> {
         ensures value { (it : Process) → process self.old.state pid ≡ Some it → result ≡ is_zombie_of it.life }
         ensures same { self.new.state ≡ self.old.state }
         ensures asked { self.new.asked ≡ self.old.asked }
+        ensures reads { self.new.reads ≤ self.old.reads + 1 }
         ensures regular { IsRegular self.old.state }
         ensures size { length self.old.state.processes < 2 ^ 63 }
     {

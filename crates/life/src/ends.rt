@@ -1,12 +1,14 @@
 //! Ends.
 
-ghost use Rattle.std.specs.Prelude.{◌≡◌, ◌≢◌, ◌≤◌, ◌<◌, ◌+◌, ◌^◌, IsSome, Some, None, true, if◌then◌else◌};
+ghost use Rattle.std.specs.Prelude.{◌≡◌, ◌≢◌, ◌≤◌, ◌<◌, ◌+◌, ◌*◌, ◌^◌, length, IsSome, Some, None, true, if◌then◌else◌};
 ghost use Rattle.posix.specs.Processes.{Process, is_zombie};
-ghost use Rattle.posix.specs.Tables.{lookup, changed, removed};
+ghost use Rattle.posix.specs.Tables.{lookup, changed, removed, children_in};
 ghost use Rattle.posix.specs.Regular.{CanInherit};
 ghost use Rattle.posix.specs.States.{process};
 ghost use Rattle.posix.specs.Ends.{depart as departing, halt as halting, end_with_heir, child_signal as child_signal_of, notice_of_end as noticing_end, tell_of_all, zombies_of, noticed, is_dropping, drops_children as drops_children_of};
 ghost use Rattle.life.specs.Machines.{CanGo, IsGone, IsCounted};
+ghost use Rattle.life.specs.Asking.{without_gone};
+ghost use Rattle.pidset.specs.Numbers.{with_number};
 
 use crate::asking::ask_parent;
 use crate::machine::Machine;
@@ -27,6 +29,7 @@ impl<K: Kin> Machine<K> {
         ensures state { self.new.state ≡ tell_of_all (departing self.old.state pid heir status) heir (zombies_of pid self.old.state.processes) }
         ensures parent { (me : Process) → process self.old.state pid ≡ Some me → IsSome (process self.new.state me.parent) }
         ensures zombie { (it : Process) × (process self.new.state pid ≡ Some it) × (is_zombie it.life ≡ true) }
+        ensures reads { self.new.reads ≤ self.old.reads + 3 + 16 * length (children_in pid self.old.state.processes) + length (children_in heir self.old.state.processes) }
     {
         self.to_ask.insert(pid);
         self.to_ask.insert(heir);
@@ -58,6 +61,7 @@ impl<K: Kin> Machine<K> {
     fn halt(&mut self, status: Status)
         ensures state { self.new.state ≡ halting self.old.state status }
         ensures reads { self.new.reads ≤ self.old.reads + 1 }
+        ensures asked { self.new.asked ≡ with_number 1 self.old.asked }
     {
         self.to_ask.insert(Pid::INIT);
         self.table.update(Pid::INIT).end(status);
@@ -73,6 +77,7 @@ impl<K: Kin> Machine<K> {
         requires zombie { (it : Process) × (process self.old.state child ≡ Some it) × (is_zombie it.life ≡ true) }
         ensures state { self.new.state ≡ noticing_end self.old.state parent child status }
         ensures reads { self.new.reads ≤ self.old.reads + 6 }
+        ensures asked { (it : Process) → process self.old.state child ≡ Some it → self.new.asked ≡ without_gone child (if is_dropping parent self.old.state.processes then Some it.parent else None) (with_number parent self.old.asked) }
     {
         self.to_ask.insert(parent);
         let gone = notify_of_end(
@@ -93,7 +98,9 @@ impl<K: Kin> Machine<K> {
     pub fn end(&mut self, pid: Pid, heir: Pid, status: Status)
         requires there { IsSome (process self.old.state pid) }
         requires heir { pid ≢ 1 → CanInherit self.old.state.processes pid heir }
-        ensures { (me : Process) → process self.old.state pid ≡ Some me → self.new.state ≡ (end_with_heir self.old.state me heir status).state }
+        ensures state { (me : Process) → process self.old.state pid ≡ Some me → self.new.state ≡ (end_with_heir self.old.state me heir status).state }
+        ensures asked { pid ≡ 1 → self.new.asked ≡ with_number 1 self.old.asked }
+        ensures reads { self.new.reads ≤ self.old.reads + 10 + 16 * length (children_in pid self.old.state.processes) + length (children_in heir self.old.state.processes) }
     {
         if pid == Pid::INIT {
             self.halt(status);
@@ -151,6 +158,7 @@ fn life<K: Kin>(table: &mut K, pid: Pid) -> Life
     requires { IsSome (lookup pid (K.contents table.old)) }
     ensures value { (it : Process) → lookup pid (K.contents table.old) ≡ Some it → result ≡ it.life }
     ensures contents { K.contents table.new ≡ K.contents table.old }
+    ensures reads { K.reads table.new ≤ K.reads table.old + 1 }
 {
     match table.get(pid) {
         Some(facts) => facts.life,

@@ -1,6 +1,6 @@
 //! The machine: all that the state of a world consists of.
 
-ghost use Rattle.std.specs.Prelude.{◌≡◌, ◌≢◌, ◌+◌, ◌<◌, ◌≤◌, ◌^◌, ◌++◌, ◌∷◌, [], ⊤, IfOk, IfSome, IsSome, Some, length, option_map, false, true};
+ghost use Rattle.std.specs.Prelude.{◌≡◌, ◌≢◌, ◌+◌, ◌<◌, ◌≤◌, ◌^◌, ◌++◌, ◌∷◌, [], ⊤, IfOk, IfSome, IsSome, Some, length, option_map, false, true, if◌then◌else◌};
 ghost use mathlib.Core.Option.{none};
 ghost use Rattle.std.specs.Borrow.{sem, Lends, follows_so};
 ghost use Rattle.posix.specs.Processes.{Process};
@@ -12,6 +12,7 @@ ghost use Rattle.proctable.specs.Body.{facts_of, own_of, give_own, own_row};
 ghost use Rattle.life.specs.contracts.machine.Machine.{the_row as machine_row};
 ghost use Rattle.life.specs.Loans.{lent, looked};
 ghost use Rattle.umach.specs.Bursts.{exec_until, IsWithin};
+ghost use Rattle.pidset.specs.Numbers.{with_number};
 
 use crate::asking::ask;
 use pidalloc::PidTable;
@@ -153,6 +154,7 @@ impl<K: Kin> Machine<K> {
         ensures there { pid ≢ 1 → IsSome (process self.old.state result) }
         ensures same { self.new.state ≡ self.old.state }
         ensures reads { self.new.reads ≤ self.old.reads + 1 }
+        ensures asked { self.new.asked ≡ self.old.asked }
     {
         match self.table.get(pid) {
             Some(facts) => facts.parent,
@@ -238,6 +240,7 @@ impl<K: Kin> Machine<K> {
         requires none { has_place_in self.old.state pid ≡ false }
         ensures state { self.new.state ≡ record (self.old.state) { order = self.old.state.order ++ pid ∷ [] } }
         ensures reads { self.new.reads ≡ self.old.reads }
+        ensures asked { self.new.asked ≡ self.old.asked }
     {
         self.order.place(pid);
     }
@@ -246,6 +249,7 @@ impl<K: Kin> Machine<K> {
     pub fn lose_place(&mut self, pid: Pid)
         ensures state { self.new.state ≡ losing_place self.old.state pid }
         ensures reads { self.new.reads ≡ self.old.reads }
+        ensures asked { self.new.asked ≡ (if has_place_in self.old.state pid then with_number pid self.old.asked else self.old.asked) }
     {
         if self.order.has(pid) {
             self.to_ask.insert(pid);

@@ -3,6 +3,7 @@
 ghost use Rattle.std.specs.Prelude.{◌≡◌, ◌+◌, ◌≤◌, IsSome};
 ghost use Rattle.posix.specs.States.{process, change};
 ghost use Rattle.posix.specs.Generation.{signalled};
+ghost use Rattle.life.specs.Asking.{asking};
 
 use crate::asking::ask;
 use crate::machine::Machine;
@@ -15,6 +16,7 @@ impl<K: Kin> Machine<K> {
         requires { IsSome (process self.old.state pid) }
         ensures state { self.new.state ≡ change self.old.state pid (signalled signal) }
         ensures reads { self.new.reads ≤ self.old.reads + 1 }
+        ensures asked { self.new.asked ≡ asking pid self.old.state.order self.old.asked }
     {
         ask(&mut self.to_ask, &self.order, pid);
         // The effect isn't acted upon yet: as nothing stops a process, none is continued.

@@ -8,6 +8,7 @@ ghost use Rattle.posix.specs.Waits.{is_named as is_named_by, report, report_chan
 ghost use Rattle.posix.specs.Waits.{look as look_of};
 ghost use Rattle.proctable.specs.Body.{facts_of};
 ghost use Rattle.life.specs.Machines.{CanGo, IsGone};
+ghost use Rattle.life.specs.Asking.{asking, without_gone};
 
 use crate::asking::{ask, ask_parent};
 use crate::caller::Caller;
@@ -91,6 +92,7 @@ impl<K: Kin> Machine<K> {
         requires { IsSome (process self.old.state me.now.pid) }
         ensures value { result ≡ report self.old.state.processes me.now.pid me.now.group target options.0 }
         ensures same { self.new.state ≡ self.old.state }
+        ensures asked { self.new.asked ≡ self.old.asked }
         ensures reads { self.new.reads ≤ self.old.reads + 1 + 2 * length (children_in me.now.pid self.old.state.processes) }
     {
         let mut found = Report::NoChild;
@@ -116,6 +118,7 @@ impl<K: Kin> Machine<K> {
         requires zombie { (child : Process) × (process self.old.state pid ≡ Some child) × (is_zombie child.life ≡ true) }
         ensures state { self.new.state ≡ record (self.old.state) { processes = removed pid self.old.state.processes } }
         ensures reads { self.new.reads ≤ self.old.reads + 5 }
+        ensures asked { (child : Process) → process self.old.state pid ≡ Some child → self.new.asked ≡ without_gone pid (Some child.parent) self.old.asked }
     {
         let parent = discard(&mut self.table, &mut self.pids, pid);
         ask_parent(&mut self.to_ask, pid, Some(parent));
@@ -126,6 +129,7 @@ impl<K: Kin> Machine<K> {
         requires { IsSome (process self.old.state pid) }
         ensures state { self.new.state ≡ change self.old.state pid news_told }
         ensures reads { self.new.reads ≤ self.old.reads + 1 }
+        ensures asked { self.new.asked ≡ asking pid self.old.state.order self.old.asked }
     {
         ask(&mut self.to_ask, &self.order, pid);
         self.table.update(pid).tell_news();

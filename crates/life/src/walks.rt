@@ -1,11 +1,12 @@
 //! Walks over processes, from the least number on. Whoever goes over several processes does it by these.
 
-ghost use Rattle.std.specs.Prelude.{◌≡◌, ◌+◌, ◌≤◌, [], None, IsSome};
+ghost use Rattle.std.specs.Prelude.{◌≡◌, ◌+◌, ◌≤◌, ◌*◌, [], IsSome, length, slice_get};
 ghost use Rattle.posix.specs.Processes.{Process};
-ghost use Rattle.posix.specs.Tables.{IsNext, first_pid, above, next_above, children_in, next_sibling as next_sibling_of, is_member as is_member_of, members_in};
+ghost use Rattle.posix.specs.Tables.{IsNext, first_pid, above, next_above, left_of, children_in, next_sibling as next_sibling_of, is_member as is_member_of, members_in};
 ghost use Rattle.posix.specs.States.{process};
 ghost use Rattle.posix.specs.Regular.{IsRegular};
 ghost use Rattle.posix.specs.Settle.{wakes, NoWakeIsLost};
+ghost use Rattle.pidset.specs.Numbers.{numbers_above};
 
 use crate::machine::Machine;
 use posix::Pid;
@@ -28,6 +29,7 @@ impl<K: Kin> Machine<K> {
         requires { IsSome (process self.old.state pid) }
         ensures value { result ≡ first_pid (children_in pid self.old.state.processes) }
         ensures same { self.new.state ≡ self.old.state }
+        ensures asked { self.new.asked ≡ self.old.asked }
         ensures reads { self.new.reads ≤ self.old.reads + 1 }
         ensures regular { IsRegular self.old.state }
     {
@@ -39,6 +41,7 @@ impl<K: Kin> Machine<K> {
         requires { IsSome (process self.old.state pid) }
         ensures value { result ≡ next_sibling_of pid self.old.state.processes }
         ensures same { self.new.state ≡ self.old.state }
+        ensures asked { self.new.asked ≡ self.old.asked }
         ensures reads { self.new.reads ≤ self.old.reads + 1 }
     {
         self.table.next_sibling(pid)
@@ -48,6 +51,8 @@ impl<K: Kin> Machine<K> {
     fn is_member(&mut self, pid: Pid, group: Pid) -> bool
         ensures value { (it : Process) → process self.old.state pid ≡ Some it → result ≡ is_member_of group it }
         ensures same { self.new.state ≡ self.old.state }
+        ensures asked { self.new.asked ≡ self.old.asked }
+        ensures reads { self.new.reads ≤ self.old.reads + 1 }
     {
         match self.table.get(pid) {
             Some(facts) => facts.group == group,
@@ -56,10 +61,12 @@ impl<K: Kin> Machine<K> {
     }
 
     /// The member of a process group with the least number above `after`, zombies included (XBD 3 Process
-    /// Group). Its first is that after number 0.
+    /// Group). Its first is that after number 0. At most two slots are read of each process up to it, and two more.
     pub(crate) fn next_member(&mut self, group: Pid, after: Pid) -> Option<Pid>
         ensures value { result ≡ first_pid (above after (members_in group self.old.state.processes)) }
         ensures same { self.new.state ≡ self.old.state }
+        ensures asked { self.new.asked ≡ self.old.asked }
+        ensures reads { self.new.reads + 2 * length (left_of result self.old.state.processes) ≤ self.old.reads + 2 + 2 * length (above after self.old.state.processes) }
         ensures regular { IsRegular self.old.state }
     {
         let mut next = self.next_after(after);
@@ -76,7 +83,7 @@ impl<K: Kin> Machine<K> {
     /// given a place, and where nobody comes next nobody above `after` has.
     pub fn next_to_ask(&self, after: Pid) -> Option<Pid>
         ensures next { IsNext (wakes self.now.state) after self.now.state.processes result }
-        ensures none { self.now.asked ≡ [] → result ≡ None }
+        ensures value { result ≡ slice_get (numbers_above after self.now.asked) 0 }
         ensures regular { IsRegular self.now.state }
     {
         self.to_ask.next_above(after)

@@ -1,5 +1,5 @@
 -- Searches through ranges of numbers.
-use Rattle.std.proofs.Common.{◌≡◌, ℕ, zero, suc, ◌+◌, ◌<◌, ◌≤◌, Bool, true, false, refl, arith, find, Some, None, inl, inr}
+use Rattle.std.proofs.Common.{◌≡◌, ℕ, zero, suc, ◌+◌, ◌<◌, ◌≤◌, Bool, true, false, refl, ap, arith, find, Option, Some, None, IsSome, IfSome, inl, inr}
 use Rattle.std.specs.List.{range_with_len}
 use Rattle.std.proofs.lemmas.Bool.{cases_eq}
 
@@ -15,3 +15,8 @@ find_range_first f a (suc n) s lo hi h e = elim (cases_eq a s) [
   | inl same ↦ rw (same, e) refl
   | inr ne ↦ rw (h a (omega arith) (omega arith)) (find_range_first f (a + 1) n s (omega arith) (omega arith) (λ k l u. h k (omega arith) u) e)
 ]
+
+-- a number that there is, and that can be n alone
+pub is_that : (o : Option ℕ) (n : ℕ) → IsSome o → IfSome o (λ p. p ≡ n) → o ≡ Some n
+is_that None n some e = absurd (cc)
+is_that (Some p) n some e = ap Some e

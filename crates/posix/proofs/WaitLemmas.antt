@@ -8,7 +8,7 @@ use Rattle.posix.specs.declared.process.Report.{Report}
 use Rattle.posix.specs.declared.process.Report.TheVariants as found
 use Rattle.posix.specs.declared.target.Target.{Target}
 use Rattle.posix.specs.Statuses.{stopped, continued}
-use Rattle.posix.specs.Processes.{Process}
+use Rattle.posix.specs.Processes.{Process, is_zombie}
 use Rattle.posix.specs.Waits.{is_named, is_something, has_option, WUNTRACED, WCONTINUED, report_change, report_life, report_of, reports, report_found, report_among, look}
 
 -- what a look makes of what was found so far: it ends the search, or the rest follows
@@ -28,24 +28,26 @@ is_no_child found.Nothing = false
 is_no_child (found.End p w) = false
 is_no_child (found.Change p w) = false
 
--- a child is a child, whatever it reports
-either : (b : Bool) (p w : ℕ) → is_no_child (cond b (found.Change p w) found.Nothing) ≡ false
-either true p w = refl
-either false p w = refl
+-- what holds of nothing and of each change holds of what news report
+by_news : (P : Report → Type 0) (options p : ℕ) → P found.Nothing → ((w : ℕ) → P (found.Change p w)) → (n : News) → P (report_change options p n)
+by_news P options p nothing change news.Nothing = nothing
+by_news P options p nothing change (news.StoppedBy s) = elim (has_option options WUNTRACED) as (λ b. P (cond b (found.Change p (stopped s)) found.Nothing)) [ true ↦ change (stopped s) | false ↦ nothing ]
+by_news P options p nothing change news.Continued = elim (has_option options WCONTINUED) as (λ b. P (cond b (found.Change p continued) found.Nothing)) [ true ↦ change continued | false ↦ nothing ]
 
-change_is_there : (options p : ℕ) (n : News) → is_no_child (report_change options p n) ≡ false
-change_is_there options p news.Nothing = refl
-change_is_there options p (news.StoppedBy s) = either (has_option options WUNTRACED) p (stopped s)
-change_is_there options p news.Continued = either (has_option options WCONTINUED) p continued
+-- with each end, of what a life reports, by whether it is a zombie's
+by_life : (P : Bool → Report → Type 0) (options p : ℕ) → P false found.Nothing → ((w : ℕ) → P false (found.Change p w)) → ((w : ℕ) → P true (found.End p w)) → (l : Life) (n : News) → P (is_zombie l) (report_life options p l n)
+by_life P options p nothing change ended Running n = by_news (P false) options p nothing change n
+by_life P options p nothing change ended Stopped n = by_news (P false) options p nothing change n
+by_life P options p nothing change ended (Zombie w) n = ended w
 
-life_is_there : (options p : ℕ) (l : Life) (n : News) → is_no_child (report_life options p l n) ≡ false
-life_is_there options p Running n = change_is_there options p n
-life_is_there options p Stopped n = change_is_there options p n
-life_is_there options p (Zombie w) n = refl
-
-is_there : (options : ℕ) (r : Process) → is_no_child (report_of options r) ≡ false
+-- and so of what a child has to report
+pub by_report : (P : Bool → Report → Type 0) (options : ℕ) (r : Process) → P false found.Nothing → ((w : ℕ) → P false (found.Change r.pid w)) → ((w : ℕ) → P true (found.End r.pid w)) → P (is_zombie r.life) (report_of options r)
 unfolding report_of
-is_there options r = life_is_there options r.pid r.life r.news
+by_report P options r nothing change ended = by_life P options r.pid nothing change ended r.life r.news
+
+-- a child is a child, whatever it reports
+is_there : (options : ℕ) (r : Process) → is_no_child (report_of options r) ≡ false
+is_there options r = by_report (λ z o. is_no_child o ≡ false) options r refl (λ w. refl) (λ w. refl)
 
 -- one child that is named, and then the others
 one_named : (o : Report) (rest : Report → Report) (options : ℕ) (r : Process) (rs : List Process) → report_of options r ≡ o → is_no_child o ≡ false

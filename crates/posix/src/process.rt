@@ -13,6 +13,14 @@ pub struct Carried {
     pub sender: Pid,
 }
 
+impl Carried {
+    /// What comes with a signal of the kernel.
+    pub const FROM_KERNEL: Carried = Carried {
+        value: 0,
+        sender: Pid::NONE,
+    };
+}
+
 /// A pending signal with what comes with it.
 #[derive(Clone, Copy, Debug, PartialEq, Eq)]
 pub struct PendingSignal {

@@ -8,7 +8,7 @@ use Rattle.posix.specs.Step.{set_cpu}
 use Rattle.posix.specs.Births.{child_of}
 use Rattle.posix.specs.Outcomes.{finished}
 use Rattle.posix.specs.Tables.{IsRising, lookup, changed, parent_of}
-use Rattle.posix.proofs.TableLemmas.{changed_same, changed_id}
+use Rattle.posix.proofs.TableLemmas.{changed_same, changed_id, rising_changed}
 use Rattle.proctable.specs.declared.own.Own.{Own}
 use Rattle.proctable.specs.declared.body.Body.{Body}
 use Rattle.proctable.specs.Body.{process_of, with_body, give_body, give_own, own_of}
@@ -28,6 +28,11 @@ changed_body rs up p b b' f e same = changed_here rs up p b b' f e (same p)
 pub same_body : (rs : List Process) → IsRising rs → (p : ℕ) (b : Body) → lookup p rs ≡ Some (process_of p (parent_of p rs) b) → with_body rs p b ≡ rs
 unfolding give_body
 same_body rs up p b e = changed_id p (give_body b) rs up (process_of p (parent_of p rs) b) e refl
+
+-- another body keeps the order
+pub body_rises : (rs : List Process) → IsRising rs → (p : ℕ) (b : Body) → IsRising (with_body rs p b)
+unfolding give_body
+body_rises rs up p b = rising_changed p (give_body b) (λ r. refl) rs up
 
 -- the process that was read is the one that is there
 pub read_body : (rs : List Process) (p : ℕ) (b : Body) (me : Process) → lookup p rs ≡ Some (process_of p (parent_of p rs) b) → lookup p rs ≡ Some me → process_of p (parent_of p rs) b ≡ me

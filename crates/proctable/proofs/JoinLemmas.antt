@@ -5,7 +5,7 @@ use Rattle.std.proofs.lemmas.Bool.{eqb-true, eqb-false}
 use Rattle.std.proofs.lemmas.Bool.Decides.{nat_tests}
 use Rattle.posix.specs.Processes.{Process}
 use Rattle.posix.specs.Tables.{IsRising, lookup, at, changed, inserted, above, first_pid, is_child, children_in, parent_of, next_sibling}
-use Rattle.posix.proofs.TableLemmas.{above_less, above_filter, rising_changed, pid_looked}
+use Rattle.posix.proofs.TableLemmas.{above_less, above_filter, pid_looked}
 use Rattle.posix.proofs.MapLemmas.{children_map, filter_map, first_map, lookup_back, some_map}
 use Rattle.proctable.specs.declared.body.Body.{Body}
 use Rattle.proctable.specs.Body.{process_of, with_body, give_body}
@@ -15,6 +15,7 @@ use Rattle.proctable.specs.declared.node.Links.{Links}
 use Rattle.proctable.specs.Nodes.{no_ends, record_of, records, find_node, at_node, changed_node}
 use Rattle.proctable.specs.Cells as cells
 use Rattle.proctable.specs.Joined.{IsJoined, HaveParents, IsTable, last_below, last_pid, ends_in, next_in, prev_in}
+use Rattle.proctable.proofs.Bodies.{body_rises}
 use Rattle.proctable.proofs.CellLemmas.{lookup_records}
 use Rattle.proctable.proofs.KidLemmas.{Absent, absent_tail, at_front}
 
@@ -162,13 +163,10 @@ left p b = record {
 pub table_body : (ns : List Node) (roots : Ends) (p : ℕ) (b : Body) → IsTable ns roots → IsTable (changed_node p (cells.give_body b) ns) roots
 unfolding changed_node changed give_body
 table_body ns roots p b t = record {
-  rising = subst IsRising (sym (records_changed p b ns)) (rising_changed p (give_body b) (λ r. pid_given b r) (records ns) t.rising);
+  rising = subst IsRising (sym (records_changed p b ns)) (body_rises (records ns) t.rising p b);
   parents = subst HaveParents (sym (records_changed p b ns)) (parents_kept (at p (give_body b)) (records ns) (given p b) t.parents);
   joined = subst (λ ks. IsJoined ks (map (at_node p (cells.give_body b)) ns) roots) (sym (records_changed p b ns)) (joined_kept (at p (give_body b)) (at_node p (cells.give_body b)) (records ns) ns roots (given p b) (left p b) t.joined);
 }
-  where
-    pid_given : (b : Body) (r : Process) → (give_body b r).pid ≡ r.pid
-    pid_given b r = refl
 
 -- the process that was read
 pub body_read : (ns : List Node) (p : ℕ) (b : Body) → IsSome (lookup p (records ns)) → (IsRising (records ns)) → option_map (λ (n : Node). n.body) (find_node p ns) ≡ Some b

@@ -4,13 +4,14 @@ use Rattle.std.specs.Option.{option_map}
 use Rattle.std.proofs.lemmas.Option.{slice_get-map}
 use Rattle.posix.specs.Processes.{Process}
 use Rattle.posix.specs.Tables.{IsRising, lookup, is_child, children_in, first_pid, above, parent_of, next_sibling, next_above, inserted, pids}
-use Rattle.posix.proofs.TableLemmas.{Above, lookup_at, changed_at, rising_changed}
+use Rattle.posix.proofs.TableLemmas.{Above, lookup_at, changed_at}
 use Rattle.posix.proofs.WalkLemmas.{filters_commute}
 use Rattle.pidset.specs.Numbers.{Rises, numbers_above, IsNumberAt, inserted_in_order}
 use Rattle.pidset.proofs.NumberLemmas.{AllAbove}
 use Rattle.pidset.proofs.ItemLemmas.{above_at, read_at as item_read}
 use Rattle.proctable.specs.declared.body.Body.{Body}
 use Rattle.proctable.specs.Body.{process_of, give_body, with_body}
+use Rattle.proctable.proofs.Bodies.{body_rises}
 
 -- ---- records as rows
 
@@ -70,18 +71,13 @@ sibling_is rs up p i r a is =
 
 -- ---- another body at an index
 
--- a process that gets another body keeps its pid
-pub pid_given : (b : Body) (r : Process) → (give_body b r).pid ≡ r.pid
-unfolding give_body
-pid_given b r = refl
-
 -- another body put at the index is another body of the process
 pub set_is : (rs : List Process) → IsRising rs → (p i : ℕ) (r : Process) (b : Body) → Read rs p i r → slice_set rs i (give_body b r) ≡ with_body rs p b
 set_is rs up p i r b a = sym (changed_at rs up p i r (give_body b) a.at a.here)
 
 -- another body put at the index keeps the order
 pub set_rises : (rs : List Process) → IsRising rs → (p i : ℕ) (r : Process) (b : Body) → Read rs p i r → IsRising (slice_set rs i (give_body b r))
-set_rises rs up p i r b a = subst IsRising (changed_at rs up p i r (give_body b) a.at a.here) (rising_changed p (give_body b) (pid_given b) rs up)
+set_rises rs up p i r b a = subst IsRising (changed_at rs up p i r (give_body b) a.at a.here) (body_rises rs up p b)
 
 -- a process is its pid, its parent and the body that was read
 pub value_is : (rs : List Process) (p i : ℕ) (r : Process) (b : Body) → Read rs p i r → r ≡ process_of r.pid r.parent b → lookup p rs ≡ Some (process_of p (parent_of p rs) b)

@@ -48,8 +48,8 @@ abbrev pub with_links : (Links → Links) → Node → Node
 with_links f n = record n { links = f n.links }
 
 -- the closure changes links as f does
-abbrev pub Changes : {F : Type 0} → Once F (MutBor Links × Unit {0}) (Unit {0} × (MutBor Links × Unit {0})) → F → (Links → Links) → Type 0
-Changes g change f = (l l' : Links) → FnOnceReturnsAtMut g change l tt l' → l' ≡ f l
+abbrev pub ChangesLinksAs : {F : Type 0} → Once F (MutBor Links × Unit {0}) (Unit {0} × (MutBor Links × Unit {0})) → F → (Links → Links) → Type 0
+ChangesLinksAs g change f = (l l' : Links) → FnOnceReturnsAtMut g change l tt l' → l' ≡ f l
 
 abbrev pub relinked : ℕ → Option ℕ → Option ℕ → Node → Node
 relinked p a b n = with_links (λ l. record l { parent = p; prev = a; next = b }) n

@@ -5,7 +5,7 @@ ghost use Rattle.std.specs.Borrow.{sem, Lends};
 ghost use Rattle.posix.specs.Tables.{IsRising, lookup, next_above};
 ghost use Rattle.proctable.specs.Body.{body_row, facts_of};
 ghost use Rattle.proctable.specs.Nodes.{find_node, changed_node, inserted_node, removed_node, records};
-ghost use Rattle.proctable.specs.Cells.{cells_with_body, with_links, Changes};
+ghost use Rattle.proctable.specs.Cells.{cells_with_body, with_links, ChangesLinksAs};
 ghost use Rattle.proctable.specs.contracts.cells.Cells.{the_row as cells_row};
 
 use crate::body::Body;
@@ -93,7 +93,7 @@ impl Cells {
     /// Changes the links of a process; nothing changes where it isn't there.
     pub fn relink<F: FnOnce(&mut Links)>(&mut self, pid: Pid, change: F)
         requires { F.IsAlwaysCallable change }
-        ensures nodes { (f : _) → Changes F.FnOnce change f → self.new.nodes ≡ changed_node pid (with_links f) self.old.nodes }
+        ensures nodes { (f : _) → ChangesLinksAs F.FnOnce change f → self.new.nodes ≡ changed_node pid (with_links f) self.old.nodes }
         ensures room { self.new.room ≡ self.old.room }
         ensures reads { self.new.reads ≤ self.old.reads + 1 }
     {

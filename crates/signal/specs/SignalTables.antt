@@ -29,11 +29,13 @@ abbrev pub blank_tables : SignalTables
 blank_tables = record { actions = default_actions; carried = nothing_pending; frames = blank_frames; frame_count = 0 }
 
 -- those that are there, or blank ones
-abbrev pub tables_in : List SignalTables → SignalTables
-tables_in ts = slice_index_or ts 0 blank_tables
+abbrev pub tables_or_blank : List SignalTables → SignalTables
+tables_or_blank ts = slice_index_or ts 0 blank_tables
 
-abbrev pub shown : SignalTables → TablesView
-shown t = record { actions = t.actions; carried = t.carried; frames = take t.frame_count t.frames }
+-- what they are worth: of the frames those that are in use
+abbrev pub view_of : SignalTables → TablesView
+view_of t = record { actions = t.actions; carried = t.carried; frames = take t.frame_count t.frames }
 
-abbrev pub AreWhole : SignalTables → Type 0
-AreWhole t = (length t.actions ≡ 64) × (length t.carried ≡ 31) × (length t.frames ≡ 16) × (t.frame_count ≤ 16)
+-- each has its length, and no more frames are in use than there are
+abbrev pub AreWellFormed : SignalTables → Type 0
+AreWellFormed t = (length t.actions ≡ 64) × (length t.carried ≡ 31) × (length t.frames ≡ 16) × (t.frame_count ≤ 16)

@@ -226,10 +226,7 @@ impl Signals {
     {
         let carried = self.tables.carried(sig);
         self.remove(sig);
-        carried.unwrap_or(Carried {
-            value: 0,
-            sender: Pid::NONE,
-        })
+        carried.unwrap_or(Carried::FROM_KERNEL)
     }
 
     // ---- handlers

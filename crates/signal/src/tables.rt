@@ -3,7 +3,7 @@
 ghost use Rattle.std.specs.Prelude.{◌≡◌, ◌-◌, ◌<◌, ◌≤◌, ◌++◌, ◌∷◌, [], false, true, None, IfOk, OnOk, OnErr, length, take, nat_le, slice_get, slice_index_or, slice_set, vec_capacity};
 ghost use Rattle.posix.specs.Processes.{initial_action, nothing_pending};
 ghost use Rattle.posix.specs.Handlers.{most_frames};
-ghost use Rattle.signal.specs.SignalTables.{initial_tables, tables_in};
+ghost use Rattle.signal.specs.SignalTables.{initial_tables, tables_or_blank};
 
 use bitflags::Flags;
 use posix::{Action, Carried, Frame, Handler, SaFlags, Sig, SigSet};
@@ -35,13 +35,13 @@ pub struct LazyTables {
 
 impl Model for LazyTables {
     ghost use Rattle.std.specs.Prelude.{◌≤◌, vec_capacity};
-    ghost use Rattle.signal.specs.SignalTables.{TablesView, shown, tables_in, AreWhole};
+    ghost use Rattle.signal.specs.SignalTables.{TablesView, view_of, tables_or_blank, AreWellFormed};
 
     ghost Value = { TablesView };
 
-    ghost view = { λ t. shown (tables_in t.written.items) };
+    ghost view = { λ t. view_of (tables_or_blank t.written.items) };
 
-    ghost invariant = { λ t. (1 ≤ vec_capacity t.written) × AreWhole (tables_in t.written.items) };
+    ghost invariant = { λ t. (1 ≤ vec_capacity t.written) × AreWellFormed (tables_or_blank t.written.items) };
 }
 
 /// There are 16 frames already.
@@ -196,7 +196,7 @@ fn place(sig: Sig) -> usize
 fn ensure_written(tables: &mut Vec<SignalTables>)
     requires { 1 ≤ vec_capacity tables.old }
     ensures there { 0 < length tables.new.items }
-    ensures same { tables_in tables.new.items ≡ tables_in tables.old.items }
+    ensures same { tables_or_blank tables.new.items ≡ tables_or_blank tables.old.items }
     ensures room { vec_capacity tables.new ≡ vec_capacity tables.old }
 {
     if tables.is_empty() {

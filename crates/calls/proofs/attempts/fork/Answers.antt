@@ -22,9 +22,8 @@ returns-in_default g c = λ me e.
     let named = pid_looked c.args.pid s.processes me e in
     let none : next_pid s ≡ None = sym c.next_pid.ensures ∙ c.in_default.is in (
       true,
-      subst (λ (o : Option ℕ). Comes s (fork_as true s me o) c.refuse.result c.args.entries.now.items c.refuse.new.entries.items c.refuse.new.machine.state) (sym none)
-          (subst (λ q. Comes s (gives s q Fork (refusal EAGAIN)) c.refuse.result c.args.entries.now.items c.refuse.new.entries.items c.refuse.new.machine.state) (sym named)
-          (gives_is s s c.refuse.new.machine.state c.args.pid Fork (refusal EAGAIN) (refusal EAGAIN) c.args.entries.now.items c.refuse.new.entries.items c.refuse.result c.refuse.ensures.done c.refuse.ensures.state c.refuse.ensures.shown refl)),
+      gives_is s s _ _ _ c.args.pid Fork (refusal EAGAIN) (refusal EAGAIN) _ _ _ (ap (fork_as true s me) none ∙ ap (λ q. gives s q Fork (refusal EAGAIN)) named)
+          c.refuse.ensures.done c.refuse.ensures.state refl c.refuse.ensures.shown refl,
     )
 
 pub gives-requires-clause-there : goal.gives-requires-clause-there
@@ -45,10 +44,8 @@ returns-in-Ok g c = λ me e.
     let kept : to_z w64 (of_z w64 c.from.result) ≡ c.from.result = search rules in
     let value = kept ∙ c.from.ensures ∙ ap pos c.number.ensures.value in (
       true,
-      subst (λ (o : Option ℕ). Comes s (fork_as true s me o) c.gives.result c.args.entries.now.items c.gives.new.entries.items c.gives.new.machine.state) (sym some)
-          (subst (λ q. Comes s (gives (born s me child) q Fork (pos child)) c.gives.result c.args.entries.now.items c.gives.new.entries.items c.gives.new.machine.state) (sym named)
-          (gives_is s (born s me child) c.gives.new.machine.state p Fork (to_z w64 (of_z w64 c.from.result)) (pos child) c.args.entries.now.items c.gives.new.entries.items c.gives.result c.gives.ensures.done
-          (c.gives.ensures.state ∙ ap (λ (t : State). finish t p ((0, to_z w64 (of_z w64 c.from.result)) ∷ [])) (c.in-Ok.ensures.ok me e)) c.gives.ensures.shown value)),
+      gives_is s (born s me child) _ _ _ p Fork (to_z w64 (of_z w64 c.from.result)) (pos child) _ _ _ (ap (fork_as true s me) some ∙ ap (λ q. gives (born s me child) q Fork (pos child)) named)
+          c.gives.ensures.done c.gives.ensures.state (c.in-Ok.ensures.ok me e) c.gives.ensures.shown value,
     )
 
 pub own-requires : goal.own-requires

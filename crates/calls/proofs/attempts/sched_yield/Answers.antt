@@ -1,12 +1,11 @@
-use Rattle.std.proofs.Common.{◌∙◌, ap, sym, subst, refl, true, pos, ◌∷◌, []}
+use Rattle.std.proofs.Common.{ap, sym, subst, refl, true, pos}
 use Rattle.std.specs.Option.{IsSome}
 use Rattle.posix.specs.declared.call.Call.TheVariants.{SchedYield}
 use Rattle.posix.specs.States.{State, process, go_last}
-use Rattle.posix.specs.Outcomes.{finish, gives}
+use Rattle.posix.specs.Outcomes.{gives}
 use Rattle.posix.specs.Attempts.{attempt}
 use Rattle.posix.proofs.TableLemmas.{pid_looked}
 use Rattle.posix.proofs.OrderLemmas.{placed_some}
-use Rattle.calls.specs.Outcomes.{Comes}
 use Rattle.calls.proofs.CallLemmas.{gives_is}
 use Rattle.calls.proofs.attempts.sched_yield.Goals as goal
 
@@ -22,7 +21,6 @@ returns g c = λ me e.
     let p = c.args.pid in
     let named = pid_looked p s.processes me e in (
       true,
-      subst (λ q. Comes s (gives (go_last s q) q SchedYield (pos 0)) c.gives.result c.args.entries.now.items c.gives.new.entries.items c.gives.new.machine.state) (sym named)
-          (gives_is s (go_last s p) c.gives.new.machine.state p SchedYield (pos 0) (pos 0) c.args.entries.now.items c.gives.new.entries.items c.gives.result c.gives.ensures.done
-          (c.gives.ensures.state ∙ ap (λ (t : State). finish t p ((0, pos 0) ∷ [])) c.go_last.ensures.state) c.gives.ensures.shown refl),
+      gives_is s (go_last s p) _ _ _ p SchedYield (pos 0) (pos 0) _ _ _ (ap (λ q. gives (go_last s q) q SchedYield (pos 0)) named)
+          c.gives.ensures.done c.gives.ensures.state c.go_last.ensures.state c.gives.ensures.shown refl,
     )

@@ -1,4 +1,4 @@
-use Rattle.std.proofs.Common.{◌∙◌, ◌<◌, refl, ap, sym, subst, arith, Option, ℕ}
+use Rattle.std.proofs.Common.{◌∙◌, ◌<◌, refl, ap, sym, subst, arith, filter, nat_lt, slice_get, Option, ℕ}
 use Rattle.std.specs.Option.{IfSome, IsSome}
 use Rattle.posix.specs.States.{State, process}
 use Rattle.posix.specs.Settle.{NoWakeIsLost, wakes}
@@ -16,7 +16,7 @@ loop-next-init g c =
       asked = asking_begins c.args.machine.now.state c.next_to_ask-next.result first.regular first.next;
       there = first.next.there;
       regular = first.regular;
-      none = λ e. (first.none e, refl);
+      none = λ e. (first.value ∙ ap (λ ns. slice_get (filter (λ m. nat_lt 0 m) ns) 0) e, refl);
     }
 
 pub wake-requires : goal.wake-requires

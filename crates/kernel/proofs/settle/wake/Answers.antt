@@ -3,7 +3,7 @@ use Rattle.posix.specs.States.{State, process}
 use Rattle.posix.specs.Regular.{IsPlaced}
 use Rattle.posix.specs.Settle.{can_act}
 use Rattle.posix.proofs.SettleLemmas.{woken_is, wakes_placed}
-use Rattle.calls.proofs.CallLemmas.{some_is}
+use Rattle.life.proofs.SoundLemmas.{there}
 use Rattle.life.proofs.ViewLemmas.{state_is}
 use Rattle.kernel.proofs.settle.wake.Goals.{else-not-has_place-via-then-not-has_place+else-can_act, else-not-has_place-via-else-not-has_place}
 use Rattle.kernel.proofs.settle.wake.Goals as goal
@@ -11,28 +11,28 @@ use Rattle.kernel.proofs.settle.wake.Goals as goal
 pub place-requires-clause-there : goal.place-requires-clause-there
 place-requires-clause-there g c =
     let s = c.args.machine.now.state in
-    let me = some_is (process s c.args.pid) c.requires in
-    let acts = sym (c.can_act.ensures.value me.0 me.1) ∙ c.if-can_act.true in
-    subst (λ (t : State). IsPlaced t.processes c.args.pid) (sym c.can_act.ensures.same) (wakes_placed s c.args.pid me.0 me.1 acts)
+    let me = there (process s c.args.pid) c.requires in
+    let acts = sym (c.can_act.ensures.value me.what me.found) ∙ c.if-can_act.true in
+    subst (λ (t : State). IsPlaced t.processes c.args.pid) (sym c.can_act.ensures.same) (wakes_placed s c.args.pid me.what me.found acts)
 
 pub returns-then-can_act : goal.returns-then-can_act
 returns-then-can_act g c =
     let s = c.args.machine.now.state in
-    let me = some_is (process s c.args.pid) c.requires in
-    let acts = sym (c.can_act.ensures.value me.0 me.1) ∙ c.if-can_act.true in
+    let me = there (process s c.args.pid) c.requires in
+    let acts = sym (c.can_act.ensures.value me.what me.found) ∙ c.if-can_act.true in
     let none = sym c.has_place.ensures ∙ c.if-not-has_place.true in
     subst (λ (t : State). c.place.new.self.state ≡ record t { order = t.order ++ c.args.pid ∷ [] }) c.can_act.ensures.same c.place.ensures.state
-    ∙ sym (woken_is s c.args.pid me.0 false true me.1 none acts)
+    ∙ sym (woken_is s c.args.pid me.what false true me.found none acts)
 
 pub returns-else-not-has_place : goal.returns-else-not-has_place
 returns-else-not-has_place g c =
     let s = c.args.machine.now.state in
-    let me = some_is (process s c.args.pid) c.requires in
+    let me = there (process s c.args.pid) c.requires in
     elim c.else-not-has_place.branch [
       | else-not-has_place-via-then-not-has_place+else-can_act w ↦
-          let waits = sym (w.can_act.ensures.value me.0 me.1) ∙ w.if-can_act.false in
+          let waits = sym (w.can_act.ensures.value me.what me.found) ∙ w.if-can_act.false in
           let none = sym c.has_place.ensures ∙ w.if-not-has_place.true in
-          (state_is w.machine-is) ∙ w.can_act.ensures.same ∙ sym (woken_is s c.args.pid me.0 false false me.1 none waits)
+          (state_is w.machine-is) ∙ w.can_act.ensures.same ∙ sym (woken_is s c.args.pid me.what false false me.found none waits)
       | else-not-has_place-via-else-not-has_place w ↦
-          (state_is w.machine-is) ∙ sym (woken_is s c.args.pid me.0 true (can_act s me.0) me.1 (sym c.has_place.ensures ∙ w.if-not-has_place.false) refl)
+          (state_is w.machine-is) ∙ sym (woken_is s c.args.pid me.what true (can_act s me.what) me.found (sym c.has_place.ensures ∙ w.if-not-has_place.false) refl)
     ]

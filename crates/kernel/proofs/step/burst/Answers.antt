@@ -1,9 +1,7 @@
 use Rattle.std.proofs.Common.{◌≡◌, ◌∙◌, ap, sym, List, ◌∷◌, ◌++◌, [], rules, to_z, of_z, w64}
 use Rattle.posix.specs.declared.entry.Entry.{Entry}
 use Rattle.posix.specs.declared.entry.Entry.TheVariants.{Noted}
-use Rattle.posix.specs.States.{State, is_in}
-use Rattle.posix.proofs.OrderLemmas.{first_in}
-use Rattle.kernel.proofs.BurstLemmas.{readies, burst_shows, note_is, quiet, given}
+use Rattle.kernel.proofs.BurstLemmas.{placed_now, readies, burst_shows, note_is, quiet, given}
 use Rattle.kernel.specs.Steps.{shown}
 use Rattle.kernel.proofs.step.burst.Goals as goal
 
@@ -52,11 +50,7 @@ returns-in-Next-clause-note g c =
     (c.requires.none ∙ (quiet r.result.1 c.in-Next.is r.result.0 p).1)
 
 pub returns-in-Note-clause-asked : goal.returns-in-Note-clause-asked
-returns-in-Note-clause-asked g c =
-    let here = first_in c.in-Some.pid c.args.machine.now.state.order (sym c.current.ensures ∙ c.in-Some.is) in
-    c.run_until-count.ensures.asked (ap (λ (s : State). is_in c.in-Some.pid s.order) c.facts.ensures.same ∙ here) ∙ c.facts.ensures.asked
+returns-in-Note-clause-asked g c = c.run_until-count.ensures.asked (placed_now c.args.machine.now.state _ c.in-Some.pid c.facts.ensures.same (sym c.current.ensures ∙ c.in-Some.is)) ∙ c.facts.ensures.asked
 
 pub returns-in-Next-clause-asked : goal.returns-in-Next-clause-asked
-returns-in-Next-clause-asked g c =
-    let here = first_in c.in-Some.pid c.args.machine.now.state.order (sym c.current.ensures ∙ c.in-Some.is) in
-    c.run_until-count.ensures.asked (ap (λ (s : State). is_in c.in-Some.pid s.order) c.facts.ensures.same ∙ here) ∙ c.facts.ensures.asked
+returns-in-Next-clause-asked g c = c.run_until-count.ensures.asked (placed_now c.args.machine.now.state _ c.in-Some.pid c.facts.ensures.same (sym c.current.ensures ∙ c.in-Some.is)) ∙ c.facts.ensures.asked

@@ -1,10 +1,11 @@
-use Rattle.std.proofs.Common.{◌<◌, ap, sym, ◌∙◌, arith, subst, Option, ℕ, Bool, true, false}
+use Rattle.std.proofs.Common.{◌<◌, ap, sym, ◌∙◌, arith, subst, length, Option, ℕ, Bool, true, false}
 use Rattle.std.specs.Option.{IfSome, IsSome}
 use Rattle.posix.specs.Processes.{Process, is_living, is_zombie}
 use Rattle.posix.specs.States.{State}
-use Rattle.posix.specs.Tables.{IsNext, next_above, lookup}
+use Rattle.posix.specs.Tables.{IsNext, left_of, next_above, lookup}
 use Rattle.posix.proofs.WalkLemmas.{least_is_next, numbers_left, fewer_left}
 use Rattle.life.proofs.SoundLemmas.{there}
+use Rattle.life.proofs.ReadLemmas.{left_at_most, left_less}
 use Rattle.life.proofs.CensusLemmas.{none_counted, counted, living_is}
 use Rattle.life.proofs.machine.Machine.census.Goals as goal
 use Rattle.life.proofs.machine.Machine.census.Goals.{then-is_zombie, else-is_zombie}
@@ -17,6 +18,7 @@ loop-next-init g c =
     record {
       same = c.next_after-next.ensures.same;
       asked = c.next_after-next.ensures.asked;
+      read = let less = left_at_most c.next_after-next.result rs in omega (arith, less, c.next_after-next.ensures.reads);
       there = (first is_living).there;
       living = none_counted is_living rs _ i.rising (λ p r e. (i.bounded p r e).least) (first is_living);
       zombies = none_counted (λ r. is_zombie r.life) rs _ i.rising (λ p r e. (i.bounded p r e).least) (first (λ r. is_zombie r.life));
@@ -43,6 +45,10 @@ loop-next-preserved g c =
     record {
       same = c.next_after-next-in-Some.ensures.same ∙ c.is_zombie.ensures.same ∙ c.loop-next.invariant.same;
       asked = c.next_after-next-in-Some.ensures.asked ∙ c.is_zombie.ensures.asked ∙ c.loop-next.invariant.asked;
+      read =
+          let less = left_less p rs it.what c.next_after-next-in-Some.result it.found (after is_living).above in
+          let now = ap (λ (o : Option ℕ). length (left_of o rs)) c.in-Some.is in
+          omega (arith, less, now, c.loop-next.invariant.read, c.is_zombie.ensures.reads, c.next_after-next-in-Some.ensures.reads);
       there = (after is_living).there;
       living = elim c.if-is_zombie.branch [
         | then-is_zombie w ↦ rw w.living-is (living _ false (living_is it.what true (dead ∙ w.if-is_zombie.true)) c.loop-next.invariant.living)

@@ -1,4 +1,4 @@
-use Rattle.std.proofs.Common.{◌≡◌, ◌+◌}
+use Rattle.std.proofs.Common.{◌≡◌, ◌+◌, ◌*◌, ◌≤◌, length}
 use Rattle.std.specs.Prelude.{count_by}
 use Rattle.std.specs.Option.{IfSome, IsSome}
 use Rattle.posix.specs.Processes.{is_living, is_zombie}
@@ -13,6 +13,7 @@ invariant-loop-next g l =
     record {
       same : l.self.state ≡ l.fn.self.state;
       asked : l.self.asked ≡ l.fn.self.asked;
+      read : l.self.reads + 2 * length (left_of l.next rs) ≤ l.fn.self.reads + 1 + 2 * length rs;
       there : IfSome l.next (λ p. IsSome (lookup p rs));
       living : l.living + count_by is_living (left_of l.next rs) ≡ count_by is_living rs;
       zombies : l.zombies + count_by (λ r. is_zombie r.life) (left_of l.next rs) ≡ count_by (λ r. is_zombie r.life) rs;

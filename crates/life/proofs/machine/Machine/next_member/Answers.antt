@@ -1,9 +1,10 @@
-use Rattle.std.proofs.Common.{◌<◌, ap, sym, ◌∙◌, arith, subst, filter, Option, ℕ, nat_lt}
+use Rattle.std.proofs.Common.{◌<◌, ap, sym, ◌∙◌, arith, subst, filter, length, Option, ℕ, nat_lt}
 use Rattle.std.specs.Option.{IfSome, IsSome}
 use Rattle.posix.specs.Tables.{IsNext, is_member, members_in, first_pid, left_of, next_above, lookup}
 use Rattle.posix.specs.States.{State}
 use Rattle.posix.proofs.WalkLemmas.{passes_here, fails_here, rest_of_walk, least_is_next, filters_commute, numbers_left, fewer_left}
 use Rattle.life.proofs.SoundLemmas.{there}
+use Rattle.life.proofs.ReadLemmas.{left_above, left_less}
 use Rattle.life.proofs.machine.Machine.next_member.Goals as goal
 
 pub loop-next-init : goal.loop-next-init
@@ -15,6 +16,8 @@ loop-next-init g c =
     let first = subst (IsNext t c.args.after rs) (sym c.next_after-next.ensures.value) (least_is_next t c.args.after rs up) in
     record {
       same = c.next_after-next.ensures.same;
+      asked = c.next_after-next.ensures.asked;
+      read = let less = left_above c.next_after-next.result c.args.after rs first.above in omega (arith, less, c.next_after-next.ensures.reads);
       there = first.there;
       rest = ap first_pid (rest_of_walk t c.args.after rs _ up first ∙ filters_commute t (λ r. nat_lt c.args.after r.pid) rs);
     }
@@ -48,6 +51,11 @@ loop-next-preserved g c =
     let after = subst (IsNext t p rs) (sym value) (least_is_next t p rs up) in
     record {
       same = c.next_after-next-in-Some.ensures.same ∙ c.is_member.ensures.same ∙ c.loop-next.invariant.same;
+      asked = c.next_after-next-in-Some.ensures.asked ∙ c.is_member.ensures.asked ∙ c.loop-next.invariant.asked;
+      read =
+          let less = left_less p rs it.what c.next_after-next-in-Some.result it.found after.above in
+          let now = ap (λ (o : Option ℕ). length (left_of o rs)) c.in-Some.is in
+          omega (arith, less, now, c.loop-next.invariant.read, c.is_member.ensures.reads, c.next_after-next-in-Some.ensures.reads);
       there = after.there;
       rest = sym (ap (λ (o : Option ℕ). first_pid (filter t (left_of o rs))) c.in-Some.is ∙ ap first_pid (fails_here t p rs up it.what it.found _ after fails)) ∙ c.loop-next.invariant.rest;
     }

@@ -1,4 +1,4 @@
-use Rattle.std.proofs.Common.{◌≡◌, filter}
+use Rattle.std.proofs.Common.{◌≡◌, ◌+◌, ◌*◌, ◌≤◌, filter, length}
 use Rattle.std.specs.Option.{IfSome, IsSome}
 use Rattle.posix.specs.Tables.{is_member, members_in, first_pid, above, left_of, lookup}
 use Rattle.posix.proofs.WalkLemmas.{numbers_left}
@@ -10,6 +10,8 @@ invariant-loop-next g l =
     let rs = l.fn.self.state.processes in
     record {
       same : l.self.state ≡ l.fn.self.state;
+      asked : l.self.asked ≡ l.fn.self.asked;
+      read : l.self.reads + 2 * length (left_of l.next rs) ≤ l.fn.self.reads + 1 + 2 * length (above l.fn.after rs);
       there : IfSome l.next (λ p. IsSome (lookup p rs));
       rest : first_pid (filter (is_member l.group) (left_of l.next rs)) ≡ first_pid (above l.fn.after (members_in l.group rs));
     }

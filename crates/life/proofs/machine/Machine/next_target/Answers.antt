@@ -1,8 +1,9 @@
-use Rattle.std.proofs.Common.{sym, subst}
+use Rattle.std.proofs.Common.{sym, subst, arith}
 use Rattle.posix.specs.Tables.{IsNext, is_member, members_in}
 use Rattle.posix.specs.Sends.{is_target}
 use Rattle.posix.proofs.WalkLemmas.{passing_is_next, least_is_next}
 use Rattle.life.specs.Callers.{process_like}
+use Rattle.life.proofs.ReadLemmas.{left_above}
 use Rattle.life.proofs.machine.Machine.next_target.Goals as goal
 
 pub returns-in-OwnGroup-clause-next : goal.returns-in-OwnGroup-clause-next
@@ -26,8 +27,11 @@ pub returns-in-Process : goal.returns-in-Process
 returns-in-Process g c =
     let r = process_like c.args.me.now in
     let rs = c.args.self.now.state.processes in
+    let next = subst (IsNext (is_target r c.args.target.now) c.args.after rs) (sym c.next_after.ensures.value) (least_is_next (is_target r c.args.target.now) c.args.after rs c.next_after.ensures.regular.rising) in
     record {
-      next = subst (IsNext (is_target r c.args.target.now) c.args.after rs) (sym c.next_after.ensures.value) (least_is_next (is_target r c.args.target.now) c.args.after rs c.next_after.ensures.regular.rising);
+      next = next;
       same = c.next_after.ensures.same;
+      asked = c.next_after.ensures.asked;
+      reads = let less = left_above c.next_after.result c.args.after rs next.above in omega (arith, less, c.next_after.ensures.reads);
       regular = c.next_after.ensures.regular;
     }

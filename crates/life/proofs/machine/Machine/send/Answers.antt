@@ -1,7 +1,8 @@
 use Rattle.std.proofs.Common.{ap, sym, ◌∙◌}
-use Rattle.posix.specs.Sends.{sending, sent, sent_among, sending_found}
+use Rattle.posix.specs.Sends.{targets, sending, sent, sent_among, sending_found}
+use Rattle.life.specs.Asking.{asking_signalled}
 use Rattle.life.specs.Callers.{process_like}
-use Rattle.life.proofs.SendLemmas.{with_processes, targets_numbered, targets_nobody, sent_nobody}
+use Rattle.life.proofs.SendLemmas.{with_processes, targets_numbered, targets_nobody, sent_nobody, asked_nobody}
 use Rattle.life.proofs.machine.Machine.send.Goals as goal
 
 pub returns-in-Process-clause-sending : goal.returns-in-Process-clause-sending
@@ -37,3 +38,19 @@ returns-in-Nobody-clause-state g c =
     sym (ap (λ x. with_processes s (sent me x c.args.sig s.processes)) c.in-Nobody.is
     ∙ ap (λ qs. with_processes s (sent_among me c.args.sig qs s.processes)) (targets_nobody me s.processes)
     ∙ ap (with_processes s) (sent_nobody me c.args.sig s.processes))
+
+pub returns-in-Process-clause-asked : goal.returns-in-Process-clause-asked
+returns-in-Process-clause-asked g c =
+    let m = c.args.self.now in
+    let me = process_like c.args.me.now in
+    c.send_to_one.ensures.asked
+    ∙ ap (λ qs. asking_signalled me c.args.sig qs m.state.order m.asked) (targets_numbered me c.in-Process.pid m.state.processes)
+    ∙ ap (λ x. asking_signalled me c.args.sig (targets me x m.state.processes) m.state.order m.asked) (sym c.in-Process.is)
+
+pub returns-in-Nobody-clause-asked : goal.returns-in-Nobody-clause-asked
+returns-in-Nobody-clause-asked g c =
+    let m = c.args.self.now in
+    let me = process_like c.args.me.now in
+    sym (ap (λ x. asking_signalled me c.args.sig (targets me x m.state.processes) m.state.order m.asked) c.in-Nobody.is
+    ∙ ap (λ qs. asking_signalled me c.args.sig qs m.state.order m.asked) (targets_nobody me m.state.processes)
+    ∙ asked_nobody me c.args.sig m.state.order m.asked)

@@ -12,6 +12,7 @@ loop-next-init g c =
     let up = c.first_child-next.ensures.regular.rising in
     record {
       same = c.first_child-next.ensures.same;
+      asked = c.first_child-next.ensures.asked;
       here = first_here _ up c.args.me.now.pid _ c.first_child-next.ensures.value;
       todo = ap (scan c.args.me.now.group c.args.target c.args.options.0 found.NoChild) (first_todo _ up c.args.me.now.pid _ c.first_child-next.ensures.value);
       read = let all = ap length (first_todo _ up c.args.me.now.pid _ c.first_child-next.ensures.value) in omega (arith, all, c.first_child-next.ensures.reads);
@@ -38,6 +39,7 @@ loop-next-preserved g c =
     let next = c.next_sibling-next.ensures.value ∙ ap (λ (t : State). next_sibling c.in-Some.child t.processes) (c.in-Some-facts.ensures.same ∙ c.loop-next.invariant.same) in
     record {
       same = c.next_sibling-next.ensures.same ∙ c.in-Some-facts.ensures.same ∙ c.loop-next.invariant.same;
+      asked = c.next_sibling-next.ensures.asked ∙ c.in-Some-facts.ensures.asked ∙ c.loop-next.invariant.asked;
       here = next_here _ _ c.args.me.now.pid c.in-Some.child _ _ walk next;
       todo = elim c.match-look.branch [
         | in-NoChild w ↦ unnamed_here _ _ c.args.me.now.pid c.in-Some.child _ _ c.args.me.now.group _ c.args.options.0 _ c.loop-next.found _ walk

@@ -10,6 +10,7 @@ invariant-loop-next g l =
     let kids = children_in l.me.pid l.fn.self.state.processes in
     record {
       same : l.self.state ≡ l.fn.self.state;
+      asked : l.self.asked ≡ l.fn.self.asked;
       here : first_pid (left_of l.next kids) ≡ l.next;
       todo : scan l.me.group l.target l.options.0 l.found (left_of l.next kids) ≡ scan l.me.group l.target l.options.0 found.NoChild kids;
       read : l.self.reads + 2 * length (left_of l.next kids) ≤ l.fn.self.reads + 1 + 2 * length kids;

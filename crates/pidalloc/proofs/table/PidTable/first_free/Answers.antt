@@ -1,11 +1,7 @@
-use Rattle.std.proofs.Common.{◌≡◌, ℕ, Option, Some, None, IsSome, IfSome, sym, ap, ◌∙◌, arith}
+use Rattle.std.proofs.Common.{sym, ap, ◌∙◌, arith}
 use Rattle.pidalloc.specs.Rows.{is_free_in}
-use Rattle.posix.proofs.RangeLemmas.{find_range_first, find_range_none}
+use Rattle.posix.proofs.RangeLemmas.{find_range_first, find_range_none, is_that}
 use Rattle.pidalloc.proofs.table.PidTable.first_free.Goals as goal
-
-is_that : (o : Option ℕ) (n : ℕ) → IsSome o → IfSome o (λ p. p ≡ n) → o ≡ Some n
-is_that None n some e = absurd (cc)
-is_that (Some p) n some e = ap Some e
 
 pub returns-then-is_free : goal.returns-then-is_free
 returns-then-is_free c =

@@ -1,4 +1,4 @@
-use Rattle.std.proofs.Common.{◌≡◌, ◌-◌, ◌+◌, ◌<◌, ◌^◌, ◌∙◌, ap, sym, bit_and, arith, length, List, Option, Some, None, IsSome, IfSome, ℕ, true, find}
+use Rattle.std.proofs.Common.{◌≡◌, ◌-◌, ◌+◌, ◌<◌, ◌^◌, ◌∙◌, ap, sym, bit_and, arith, length, List, Option, Some, IsSome, IfSome, ℕ, true, find}
 use Rattle.std.specs.Int.{trailing_zeros, w64}
 use Rattle.std.specs.List.{range_with_len}
 use Rattle.std.proofs.lemmas.Bool.{or_left, and_from, le-leb}
@@ -6,15 +6,12 @@ use Rattle.std.proofs.lemmas.Nat.{and_le_l}
 use Rattle.posix.specs.declared.process.Carried.{Carried}
 use Rattle.posix.specs.Choice.{least_ready as least_ready_of}
 use Rattle.posix.specs.SignalNumbers.{is_signal}
+use Rattle.posix.proofs.RangeLemmas.{is_that}
 use Rattle.signal.proofs.SetLemmas.{none_ready, least_is, ready_set, is_ready_in}
 use Rattle.signal.proofs.signals.Signals.least_ready.Goals as goal
 
 is_standard_number : (t : ℕ) → t < 31 → is_signal (t + 1) ≡ true
 is_standard_number t l = or_left _ _ (and_from _ _ (le-leb 1 (t + 1) (omega arith)) (le-leb (t + 1) 31 (omega (arith, l))))
-
-is_that : (o : Option ℕ) (n : ℕ) → IsSome o → IfSome o (λ p. p ≡ n) → o ≡ Some n
-is_that None n some e = absurd (cc)
-is_that (Some p) n some e = ap Some e
 
 -- the signal with that number is the least one
 least_from : (xs : List (Option Carried)) (mask r : ℕ) (o : Option ℕ) → length xs ≡ 31 → mask < 2 ^ 64 → r ≡ ready_set xs mask → (r ≡ 0 → ⊥) → r < 2 ^ 64

@@ -2,10 +2,10 @@ use Rattle.std.proofs.Common.{◌≡◌, ◌-◌, ◌<◌, ◌∙◌, ℕ, List,
 use Rattle.std.proofs.lemmas.List.{get_or-replicate}
 use Rattle.posix.specs.Processes.{initial_action, default_actions}
 use Rattle.signal.specs.declared.tables.SignalTables.{SignalTables}
-use Rattle.signal.specs.SignalTables.{TablesView, tables_in}
+use Rattle.signal.specs.SignalTables.{TablesView, tables_or_blank}
 use Rattle.signal.proofs.tables.LazyTables.action.Goals as goal
 
-initial : (ts : List SignalTables) (i : ℕ) → length ts ≡ 0 → i < 64 → initial_action ≡ get_or (tables_in ts).actions i initial_action
+initial : (ts : List SignalTables) (i : ℕ) → length ts ≡ 0 → i < 64 → initial_action ≡ get_or (tables_or_blank ts).actions i initial_action
 unfolding default_actions
 initial [] i e l = sym (get_or-replicate 64 i initial_action initial_action l)
 initial (t ∷ ts) i e l = absurd (omega (arith, e))

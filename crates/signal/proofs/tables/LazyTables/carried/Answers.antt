@@ -3,14 +3,14 @@ use Rattle.std.proofs.lemmas.Bool.{cases_lt}
 use Rattle.std.proofs.lemmas.List.{get_or-replicate, get_or_past}
 use Rattle.posix.specs.Processes.{nothing_pending}
 use Rattle.signal.specs.declared.tables.SignalTables.{SignalTables}
-use Rattle.signal.specs.SignalTables.{TablesView, tables_in}
+use Rattle.signal.specs.SignalTables.{TablesView, tables_or_blank}
 use Rattle.signal.proofs.tables.LazyTables.carried.Goals as goal
 
-none : (ts : List SignalTables) (i : ℕ) → length ts ≡ 0 → None ≡ get_or (tables_in ts).carried i None
+none : (ts : List SignalTables) (i : ℕ) → length ts ≡ 0 → None ≡ get_or (tables_or_blank ts).carried i None
 unfolding nothing_pending
 none [] i e = elim (cases_lt i 31) [
   | inl l ↦ sym (get_or-replicate 31 i None None l)
-  | inr past ↦ sym (get_or_past (tables_in []).carried i None past)
+  | inr past ↦ sym (get_or_past (tables_or_blank []).carried i None past)
 ]
 none (t ∷ ts) i e = absurd (omega (arith, e))
 

@@ -1,0 +1,2 @@
+pub mod ServingLemmas
+pub mod WordLemmas

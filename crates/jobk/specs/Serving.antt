@@ -1,0 +1,97 @@
+-- What the program does with its words, and what its status means.
+use Rattle.std.specs.Prelude.{◌≡◌, ◌≢◌, ◌⊎◌, ℕ, List, [], ◌∷◌, map, Option, None, Some, Result, Ok, Err, IfSome}
+use Rattle.std.specs.Borrow.{Bor}
+use Rattle.clap.specs.Words.{Text}
+use Rattle.kernel.specs.declared.summary.Summary.{Summary}
+use Rattle.posix.specs.States.{World}
+use Rattle.text.specs.EventTexts.{event_text}
+use Rattle.text.specs.WorldTexts.{world_text}
+use Rattle.text.specs.declared.fault.Reason.TheVariants.{Memory}
+use Rattle.text.specs.declared.fault.TextFault.{TextFault}
+use Rattle.kernel.specs.declared.texts.RunError.TheVariants as error
+use Rattle.kernel.specs.Headline.{CutsShort, Traces}
+use Rattle.sink.specs.Sinks.{Seen}
+use Rattle.jobk.specs.Words.{run_names}
+use Rattle.jobk.specs.declared.serving.Failure.{Failure}
+use Rattle.jobk.specs.declared.serving.Failure.TheVariants as failure
+use Rattle.jobk.specs.declared.serving.FileFault.{FileFault}
+use Rattle.jobk.specs.declared.serving.FileFault.TheVariants as file
+use Rattle.jobk.specs.declared.serving.WordsFault.{WordsFault}
+use Rattle.jobk.specs.declared.serving.WordsFault.TheVariants as word
+use Rattle.jobk.specs.declared.serving.TheConstants.{STORED_EVENTS, STORED_WORLD}
+
+-- Of some files, the bytes of each name, where they are known.
+abbrev pub Contents : Type 0
+Contents = Text → Option (List ℕ)
+
+-- The words of the command line, where they could be read.
+abbrev pub Words : Type 0
+Words = Result (Bor (List (Bor Text))) WordsFault
+
+abbrev pub failure_of : FileFault → Bor Text → Failure
+failure_of file.Device name = failure.CannotRead name
+failure_of file.Memory name = failure.Run error.Memory
+
+abbrev pub status_of : Failure → ℕ
+status_of (failure.Run (error.World fault)) = 1
+status_of (failure.Run (error.Events fault)) = 1
+status_of failure.Usage = 2
+status_of (failure.CannotRead name) = 3
+status_of (failure.Run error.Memory) = 3
+status_of (failure.Run error.Write) = 3
+
+-- These texts can be those of two files, as far as it is known what they hold.
+abbrev pub AreInFiles : Contents → Text × Text → List ℕ → List ℕ → Type 0
+AreInFiles contents names world events =
+    IfSome (contents names.0) (λ known. world ≡ known) × IfSome (contents names.1) (λ known. events ≡ known)
+
+-- The words ask for a run of these texts: without any words of the stored ones, else of those in two files.
+abbrev pub AskFor : Contents → List Text → List ℕ → List ℕ → Type 0
+AskFor contents [] world events = (world ≡ STORED_WORLD.now) × (events ≡ STORED_EVENTS.now)
+AskFor contents (word ∷ more) world events =
+    (names : Text × Text) × (run_names (word ∷ more) ≡ Some names) × AreInFiles contents names world events
+
+-- There are words, and they aren't those of a run.
+abbrev pub AreOther : List Text → Type 0
+AreOther words = (words ≢ []) × (run_names words ≡ None)
+
+-- What `AskFor` and `AreOther` say of words that may not have been read.
+abbrev pub Asked : Contents → Words → List ℕ → List ℕ → Type 0
+Asked contents (Ok words) = AskFor contents (map (λ w. w.now) words.now)
+Asked contents (Err fault) = λ world events. ⊥
+
+abbrev pub Other : Words → Type 0
+Other (Ok words) = AreOther (map (λ w. w.now) words.now)
+Other (Err word.NotText) = Unit {0}
+Other (Err word.Memory) = ⊥
+
+-- P holds of some two texts that are asked for.
+abbrev pub OfTexts : (List ℕ → List ℕ → Type 0) → (List ℕ → List ℕ → Type 0) → Type 0
+OfTexts Asks P = (world : List ℕ) × (events : List ℕ) × Asks world events × P world events
+
+-- The whole printed trace of a run of the two texts was taken.
+abbrev pub IsTraced : Seen → Seen → List ℕ → List ℕ → Type 0
+IsTraced before after world events = (summary : Summary) × Traces world events before after summary
+
+-- One of the two texts is refused.
+abbrev pub IsRefused : List ℕ → List ℕ → Type 0
+IsRefused world_bytes event_bytes = (fault : TextFault) × (fault.reason ≢ Memory) × ((world_text world_bytes ≡ Err fault)
+    ⊎ ((world : World) × (world_text world_bytes ≡ Ok world) × (event_text world.consoles event_bytes ≡ Err fault)))
+
+-- How it ends where these texts are asked for, or the words are `Others`.
+abbrev pub Ends : {S : Type 0} → (List ℕ → List ℕ → Type 0) → Type 0 → S → S → Seen → Seen → Result (Unit {0}) Failure → Type 0
+Ends Asks Others old new before after (Ok done) = OfTexts Asks (IsTraced before after)
+Ends Asks Others old new before after (Err failure.Usage) = Others × (new ≡ old)
+Ends Asks Others old new before after (Err (failure.CannotRead name)) = new ≡ old
+Ends Asks Others old new before after (Err (failure.Run (error.World fault))) = OfTexts Asks IsRefused × (new ≡ old)
+Ends Asks Others old new before after (Err (failure.Run (error.Events fault))) = OfTexts Asks IsRefused × (new ≡ old)
+Ends Asks Others old new before after (Err (failure.Run error.Memory)) = new ≡ old
+Ends Asks Others old new before after (Err (failure.Run error.Write)) = OfTexts Asks (λ world events. CutsShort world events before after)
+
+-- What a status means, with the words, the files and the output from the call to the return.
+pub record Means {S : Type 0} (contents : Contents) (words : Words) (old new : S) (before after : Seen) (status : ℕ) : Type 0 where
+  pub done : status ≡ 0 → OfTexts (Asked contents words) (IsTraced before after)
+  pub refused : status ≡ 1 → OfTexts (Asked contents words) IsRefused × (new ≡ old)
+  pub other_words : status ≡ 2 → Other words × (new ≡ old)
+  -- nothing was put, or a beginning of the printed trace of a run
+  pub cut_short : status ≡ 3 → (new ≡ old) ⊎ OfTexts (Asked contents words) (λ world events. CutsShort world events before after)

@@ -1,0 +1,36 @@
+-- How many processes a walk has still to read.
+use Rattle.std.proofs.Common.{◌≡◌, ℕ, ◌<◌, ◌≤◌, arith, List, [], ◌∷◌, length, filter, Option, Some, None, Bool, nat_le}
+use Rattle.std.specs.Option.{IfSome}
+use Rattle.std.proofs.lemmas.Bool.{eqb-true}
+use Rattle.std.proofs.lemmas.Bool.Decides.{nat_tests}
+use Rattle.posix.specs.Processes.{Process}
+use Rattle.posix.specs.Tables.{above, left_of, lookup}
+
+-- those that pass a test are no more than all
+pub filter_at_most : (t : Process → Bool) (rs : List Process) → length (filter t rs) ≤ length rs
+filter_at_most t [] = omega arith
+filter_at_most t (x ∷ xs) = grind (arith, filter_at_most t xs)
+
+-- nor are those that are left
+pub left_at_most : (o : Option ℕ) (rs : List Process) → length (left_of o rs) ≤ length rs
+left_at_most None rs = omega arith
+left_at_most (Some n) rs = filter_at_most (λ r. nat_le n r.pid) rs
+
+-- of those above n, no more are left from one of them on
+pub left_above : (next : Option ℕ) (n : ℕ) (rs : List Process) → IfSome next (λ q. n < q) → length (left_of next rs) ≤ length (above n rs)
+left_above None n rs h = omega arith
+left_above (Some q) n [] h = omega arith
+left_above (Some q) n (x ∷ xs) h = grind (arith, nat_tests, h, left_above (Some q) n xs h)
+
+above_left : (n : ℕ) (rs : List Process) → length (above n rs) ≤ length (left_of (Some n) rs)
+above_left n [] = omega arith
+above_left n (x ∷ xs) = grind (arith, nat_tests, above_left n xs)
+
+-- behind p, which is there, fewer are left
+pub above_less : (p : ℕ) (rs : List Process) (r : Process) → lookup p rs ≡ Some r → length (above p rs) < length (left_of (Some p) rs)
+unfolding lookup
+above_less p [] r e = absurd (cc)
+above_less p (x ∷ xs) r e = grind (arith, nat_tests, above_left p xs, above_less p xs r, eqb-true x.pid p)
+
+pub left_less : (p : ℕ) (rs : List Process) (r : Process) (next : Option ℕ) → lookup p rs ≡ Some r → IfSome next (λ q. p < q) → length (left_of next rs) < length (left_of (Some p) rs)
+left_less p rs r next e h = let a = left_above next p rs h in let b = above_less p rs r e in omega (arith, a, b)
