@@ -120,9 +120,9 @@ sys fork
 end
 ";
 
-/// Process 1, which ignores CHLD, has 900 children that pause. Then it goes in rounds of nine steps, with
+/// Process 1, which ignores CHLD, has 900 children that pause. Then it goes in rounds of fourteen steps, with
 /// the two of a child that is born, ends and is dropped: a note, a getpid, CHLD to the last sleeper, the
-/// birth, a yield.
+/// birth, a yield, a wait for any child that doesn't block.
 const SLEEPERS: &[u8] = b"\
 pidmax 1000
 consoles 1
@@ -138,7 +138,8 @@ sys fork
 jz r0, sleeper
 sub r5, r6
 jnz r5, again
-mov r1, r0
+mov r7, r0
+mov r1, r7
 sys sched_yield
 loop:
 note r1
@@ -147,6 +148,11 @@ sys kill
 sys fork
 jz r0, child
 sys sched_yield
+set r1, -1
+set r2, 1
+sys waitpid
+mov r1, r7
+set r2, 17
 jmp loop
 child:
 sys exit
@@ -404,14 +410,14 @@ fn expect_slots<R: Abort + AllocGlobal>(
 fn sleepers_are_not_asked(rt: HostRuntime) -> Result<(), Fail> {
     let world = read_world(rt.alloc(), SLEEPERS)?;
     let mut kernel = KernelOn::<ProcTable>::boot(rt.alloc(), &world)?;
-    for _ in 0..5408 {
+    for _ in 0..5409 {
         assert!(rt; kernel.events() < 10_000);
         kernel.event(Event::Step);
     }
     assert_eq!(rt; kernel.census().living, 901);
     let mut shown: usize = 0;
-    for i in 0..100 {
-        let (event, least) = if i % 10 == 9 {
+    for i in 0..150 {
+        let (event, least) = if i % 15 == 14 {
             (Event::Tick, 0)
         } else {
             (Event::Step, 1)
@@ -419,7 +425,7 @@ fn sleepers_are_not_asked(rt: HostRuntime) -> Result<(), Fail> {
         shown = shown.wrapping_add(expect_slots(&rt, &mut kernel, event, least));
     }
     // Ten rounds, each of which shows a line for each of its calls, the note and the end.
-    assert_eq!(rt; shown, 60);
+    assert_eq!(rt; shown, 70);
     assert_eq!(rt; kernel.census().births, 911);
     assert_eq!(rt; kernel.census().dropped, 10);
     Ok(())

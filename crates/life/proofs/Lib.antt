@@ -1,4 +1,5 @@
 pub mod SoundLemmas
+pub mod ReportedLemmas
 pub mod EndLemmas
 pub mod NoticeWalkLemmas
 pub mod ParentLemmas

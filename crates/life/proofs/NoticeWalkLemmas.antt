@@ -1,5 +1,5 @@
 -- The walk over the children of a process that ends, which tells its heir of each zombie.
-use Rattle.std.proofs.Common.{◌≡◌, ◌≢◌, ℕ, ◌<◌, ◌≤◌, true, false, cond, not, ◌||◌, refl, ap, sym, ◌∙◌, arith, List, [], ◌∷◌, length, map, filter, Option, Some, None, ◌==◌, nat_le, nat_lt, option_map, subst}
+use Rattle.std.proofs.Common.{◌≡◌, ◌≢◌, ℕ, ◌<◌, ◌≤◌, true, false, cond, not, ◌||◌, ◌&&◌, refl, ap, sym, ◌∙◌, arith, List, [], ◌∷◌, length, map, filter, Option, Some, None, ◌==◌, nat_le, nat_lt, option_map, subst}
 use Rattle.std.specs.Option.{IfSome, IsSome, option_map_or}
 use Rattle.std.proofs.lemmas.Bool.{eqb-true, eq-eqb, ne_eqb, or_right}
 use Rattle.std.proofs.lemmas.List.{length-map}
@@ -21,12 +21,14 @@ use Rattle.posix.proofs.NoticeLemmas.{only_notice}
 use Rattle.pidalloc.specs.Rows.{Pids}
 use Rattle.sched.specs.Places.{Places}
 use Rattle.pidset.specs.Numbers.{PidSetView, with_number}
-use Rattle.life.specs.Machines.{IsSound, IsListed, IsMachine, CanGo, IsCounted}
-use Rattle.life.specs.Asking.{with_numbers, without_gone}
+use Rattle.pidset.specs.Children.{ArePairs, ChildSetView, is_child_in}
+use Rattle.life.specs.Machines.{IsSound, IsListed, IsReported, IsMachine, CanGo, IsCounted}
+use Rattle.life.specs.Asking.{IsForgotten, with_numbers, without_gone}
 use Rattle.life.proofs.SoundLemmas.{is_there, found_in, heir_in, kept_order, length_departed, kept_departed, parents_departed, there_made_zombie}
 use Rattle.life.proofs.EndLemmas.{leave, dropping_left, notice_left, tell_after}
 use Rattle.life.proofs.ReadLemmas.{filter_at_most}
 use Rattle.life.proofs.PartLemmas.{can_go, can_go_map, sound_told}
+use Rattle.life.proofs.ReportedLemmas.{reported_told, reported_departed, reported_room}
 use Rattle.life.proofs.AskLemmas.{in_numbers, stays_asked, has_room, listed_more, listed_told, listed_departed}
 
 -- what is left from above c is left without c
@@ -251,11 +253,12 @@ fewer_told s old new heir c v h e = λ q.
 
 -- The parts m of a machine have p made a zombie, and but for that are the sound state now. From the child that
 -- comes next, what is left to tell of comes to all that there was to tell of.
-pub record IsTelling (old m : State) (pids : Pids) (places : Places) (asked : PidSetView) (p heir w : ℕ) (next : Option ℕ) : Type 0 where
+pub record IsTelling (old m : State) (pids : Pids) (places : Places) (asked : PidSetView) (set : ChildSetView) (p heir w : ℕ) (next : Option ℕ) : Type 0 where
   pub now : State
   pub left : m ≡ leave p w now
   pub sound : IsSound now pids places
   pub listed : IsListed now asked
+  pub reported : IsReported now.world.pidmax now.processes set
   pub mine_asked : is_in p asked.pids ≡ true
   pub heir_asked : is_in heir asked.pids ≡ true
   pub births : now.births ≡ old.births
@@ -269,9 +272,9 @@ pub record IsTelling (old m : State) (pids : Pids) (places : Places) (asked : Pi
 -- the walk begins at the first child
 pub begins : (old s m : State) (pids : Pids) (a b : Places) (p heir w : ℕ) (next : Option ℕ) (me : Process) → s ≡ old → m ≡ leave p w s → IsSound s pids a → a.room ≤ b.room → p ≢ 1
     → CanInherit old.processes p heir → process old p ≡ Some me → next ≡ first_pid (children_in p m.processes)
-    → (l asked : PidSetView) → IsListed s l → asked.pids ≡ with_number heir (with_number p l.pids) → asked.room ≡ l.room → IsTelling old m pids b asked p heir w next
+    → (l asked : PidSetView) → IsListed s l → asked.pids ≡ with_number heir (with_number p l.pids) → asked.room ≡ l.room → (set : ChildSetView) → IsReported s.world.pidmax s.processes set → IsTelling old m pids b asked set p heir w next
 unfolding zombies_of with_numbers is_in
-begins old s m pids a b p heir w next me same left i room other h e is l asked list put kept =
+begins old s m pids a b p heir w next me same left i room other h e is l asked list put kept set reports =
     let found = found_in s old same p me e in
     let named = pid_looked p s.processes me found in
     let low = (i.regular.bounded p me found).least in
@@ -282,6 +285,7 @@ begins old s m pids a b p heir w next me same left i room other h e is l asked l
       left = left;
       sound = record { regular = i.regular; parents = i.parents; counted = i.counted; kept = kept_order s.world.pidmax s.processes pids a b room i.kept };
       listed = listed_more s l asked (heir ∷ p ∷ []) list (heir_there s p heir i.regular (heir_in same h), (is_there _ me found, tt)) put kept;
+      reported = reports;
       mine_asked = ap (is_in p) put ∙ in_numbers p (heir ∷ p ∷ []) l.pids ∙ rw (eq-eqb p p refl) (ap (λ b. b || is_in p l.pids) (or_right (heir == p) true refl));
       heir_asked = ap (is_in heir) put ∙ in_numbers heir (heir ∷ p ∷ []) l.pids ∙ rw (eq-eqb heir heir refl) refl;
       births = ap (λ (t : State). t.births) same;
@@ -294,22 +298,22 @@ begins old s m pids a b p heir w next me same left i room other h e is l asked l
     }
 
 -- what the walk knows at the child c
-pub child_here : {old m : State} {pids : Pids} {places : Places} {asked : PidSetView} {p heir w : ℕ} {next : Option ℕ} (t : IsTelling old m pids places asked p heir w next) (c : ℕ) → next ≡ Some c → AtChild t.now.processes p c
+pub child_here : {old m : State} {pids : Pids} {places : Places} {asked : PidSetView} {set : ChildSetView} {p heir w : ℕ} {next : Option ℕ} (t : IsTelling old m pids places asked set p heir w next) (c : ℕ) → next ≡ Some c → AtChild t.now.processes p c
 child_here {p = p} t c comes =
     at_child t.now.processes t.sound.regular.rising p c (ap (λ o. first_pid (left_of o (children_in p t.now.processes))) (sym comes) ∙ t.here ∙ comes)
 
 -- it is there
-pub child_there : {old m : State} {pids : Pids} {places : Places} {asked : PidSetView} {p heir w : ℕ} {next : Option ℕ} (t : IsTelling old m pids places asked p heir w next) (c : ℕ) → next ≡ Some c → IsSome (lookup c m.processes)
+pub child_there : {old m : State} {pids : Pids} {places : Places} {asked : PidSetView} {set : ChildSetView} {p heir w : ℕ} {next : Option ℕ} (t : IsTelling old m pids places asked set p heir w next) (c : ℕ) → next ≡ Some c → IsSome (lookup c m.processes)
 child_there {p = p} {w = w} t c comes = let k = child_here t c comes in rw t.left (there_made_zombie p w c t.now.processes (is_there _ k.what k.found))
 
 -- and is as it was, unless it is p
-pub child_same : {old m : State} {pids : Pids} {places : Places} {asked : PidSetView} {p heir w : ℕ} {next : Option ℕ} (t : IsTelling old m pids places asked p heir w next) (c : ℕ) (comes : next ≡ Some c) → c ≢ p → lookup c m.processes ≡ Some (child_here t c comes).what
+pub child_same : {old m : State} {pids : Pids} {places : Places} {asked : PidSetView} {set : ChildSetView} {p heir w : ℕ} {next : Option ℕ} (t : IsTelling old m pids places asked set p heir w next) (c : ℕ) (comes : next ≡ Some c) → c ≢ p → lookup c m.processes ≡ Some (child_here t c comes).what
 unfolding made_zombie
 child_same {p = p} {w = w} t c comes ne = let k = child_here t c comes in ap (λ (s : State). lookup c s.processes) t.left ∙ lookup_other p c (made_zombie w) (λ r. refl) ne t.now.processes k.what k.found
 
 -- a child that lives is passed
-pub passes : {old m : State} {pids : Pids} {places : Places} {asked : PidSetView} {p heir w : ℕ} {next : Option ℕ} (t : IsTelling old m pids places asked p heir w next) (c : ℕ) (comes : next ≡ Some c) (after : Option ℕ) → after ≡ next_sibling c m.processes
-    → is_zombie (child_here t c comes).what.life ≡ false → IsTelling old m pids places asked p heir w after
+pub passes : {old m : State} {pids : Pids} {places : Places} {asked : PidSetView} {set : ChildSetView} {p heir w : ℕ} {next : Option ℕ} (t : IsTelling old m pids places asked set p heir w next) (c : ℕ) (comes : next ≡ Some c) (after : Option ℕ) → after ≡ next_sibling c m.processes
+    → is_zombie (child_here t c comes).what.life ≡ false → IsTelling old m pids places asked set p heir w after
 passes {p = p} {heir = heir} {w = w} t c comes after is living =
     let k = child_here t c comes in
     let sibling : after ≡ next_sibling c t.now.processes = is ∙ ap (λ (s : State). next_sibling c s.processes) t.left ∙ sibling_made_zombie p w c t.now.processes in
@@ -319,6 +323,7 @@ passes {p = p} {heir = heir} {w = w} t c comes after is living =
       left = t.left;
       sound = t.sound;
       listed = t.listed;
+      reported = t.reported;
       mine_asked = t.mine_asked;
       heir_asked = t.heir_asked;
       births = t.births;
@@ -331,7 +336,7 @@ passes {p = p} {heir = heir} {w = w} t c comes after is living =
     })
 
 -- p, if it is its own child, was no zombie, since a zombie has no children
-pub self_lives : {old m : State} {pids : Pids} {places : Places} {asked : PidSetView} {p heir w : ℕ} {next : Option ℕ} (t : IsTelling old m pids places asked p heir w next) (c : ℕ) (comes : next ≡ Some c) → c ≡ p → is_zombie (child_here t c comes).what.life ≡ false
+pub self_lives : {old m : State} {pids : Pids} {places : Places} {asked : PidSetView} {set : ChildSetView} {p heir w : ℕ} {next : Option ℕ} (t : IsTelling old m pids places asked set p heir w next) (c : ℕ) (comes : next ≡ Some c) → c ≡ p → is_zombie (child_here t c comes).what.life ≡ false
 self_lives {p = p} t c comes e =
     let k = child_here t c comes in
     elim (is_zombie k.what.life) as (λ b. is_zombie k.what.life ≡ b → b ≡ false) [
@@ -343,7 +348,7 @@ self_lives {p = p} t c comes e =
     ] refl
 
 -- what was read of another child is its life
-pub life_read : {old m : State} {pids : Pids} {places : Places} {asked : PidSetView} {p heir w : ℕ} {next : Option ℕ} (t : IsTelling old m pids places asked p heir w next) (c : ℕ) (comes : next ≡ Some c) → c ≢ p
+pub life_read : {old m : State} {pids : Pids} {places : Places} {asked : PidSetView} {set : ChildSetView} {p heir w : ℕ} {next : Option ℕ} (t : IsTelling old m pids places asked set p heir w next) (c : ℕ) (comes : next ≡ Some c) → c ≢ p
     → (life : Life) → ((it : Process) → lookup c m.processes ≡ Some it → life ≡ it.life) → life ≡ (child_here t c comes).what.life
 life_read t c comes ne life reads = reads (child_here t c comes).what (child_same t c comes ne)
 
@@ -357,32 +362,33 @@ lives life other e h = ap is_zombie (sym e) ∙ living life h
     living (Zombie w) h = absurd (h w refl)
 
 -- what the walk knows of a zombie
-pub to_tell : {old m : State} {pids : Pids} {places : Places} {asked : PidSetView} {p heir w : ℕ} {next : Option ℕ} (t : IsTelling old m pids places asked p heir w next) (c v : ℕ) (comes : next ≡ Some c) → (child_here t c comes).what.life ≡ Zombie v → IsToTell t.now p heir c v
+pub to_tell : {old m : State} {pids : Pids} {places : Places} {asked : PidSetView} {set : ChildSetView} {p heir w : ℕ} {next : Option ℕ} (t : IsTelling old m pids places asked set p heir w next) (c v : ℕ) (comes : next ≡ Some c) → (child_here t c comes).what.life ≡ Zombie v → IsToTell t.now p heir c v
 to_tell t c v comes dead = record { child = child_here t c comes; dead = dead; least = t.least; other = t.other; inherits = t.inherits }
 
 -- the heir is there
-pub heir_here : {old m : State} {pids : Pids} {places : Places} {asked : PidSetView} {p heir w : ℕ} {next : Option ℕ} (t : IsTelling old m pids places asked p heir w next) → IsSome (lookup heir m.processes)
+pub heir_here : {old m : State} {pids : Pids} {places : Places} {asked : PidSetView} {set : ChildSetView} {p heir w : ℕ} {next : Option ℕ} (t : IsTelling old m pids places asked set p heir w next) → IsSome (lookup heir m.processes)
 heir_here {p = p} {heir = heir} {w = w} t = rw t.left (there_made_zombie p w heir t.now.processes (heir_there t.now p heir t.sound.regular t.inherits))
 
 -- a zombie can go
-pub zombie_goes : {old m : State} {pids : Pids} {places : Places} {asked : PidSetView} {p heir w : ℕ} {next : Option ℕ} (t : IsTelling old m pids places asked p heir w next) (c v : ℕ) (comes : next ≡ Some c) → (child_here t c comes).what.life ≡ Zombie v
+pub zombie_goes : {old m : State} {pids : Pids} {places : Places} {asked : PidSetView} {set : ChildSetView} {p heir w : ℕ} {next : Option ℕ} (t : IsTelling old m pids places asked set p heir w next) (c v : ℕ) (comes : next ≡ Some c) → (child_here t c comes).what.life ≡ Zombie v
     → CanGo t.now.processes pids c
 zombie_goes {pids = pids} {places = places} {p = p} {heir = heir} t c v comes dead =
     let k = child_here t c comes in
     can_go t.now pids places c k.what t.sound k.found (ap is_zombie dead) (not_first t.now p heir c v t.sound.regular (to_tell t c v comes dead))
 
 -- from the parts of the machine, too
-pub zombie_goes_there : {old m : State} {pids : Pids} {places : Places} {asked : PidSetView} {p heir w : ℕ} {next : Option ℕ} (t : IsTelling old m pids places asked p heir w next) (c v : ℕ) (comes : next ≡ Some c) → (child_here t c comes).what.life ≡ Zombie v
+pub zombie_goes_there : {old m : State} {pids : Pids} {places : Places} {asked : PidSetView} {set : ChildSetView} {p heir w : ℕ} {next : Option ℕ} (t : IsTelling old m pids places asked set p heir w next) (c v : ℕ) (comes : next ≡ Some c) → (child_here t c comes).what.life ≡ Zombie v
     → CanGo m.processes pids c
 unfolding changed made_zombie
 zombie_goes_there {pids = pids} {p = p} {w = w} t c v comes dead =
     rw t.left (can_go_map (at p (made_zombie w)) (at_made_zombie p w) (parent_made_zombie p w) (λ r. grind arith) (λ r. grind arith) t.now.processes pids c (zombie_goes t c v comes dead))
 
 -- the heir is told of it
-pub tells : {old m : State} {pids : Pids} {places : Places} {asked : PidSetView} {p heir w : ℕ} {next : Option ℕ} (t : IsTelling old m pids places asked p heir w next) (c v : ℕ) (comes : next ≡ Some c) (after : Option ℕ) → after ≡ next_sibling c m.processes
+pub tells : {old m : State} {pids : Pids} {places : Places} {asked : PidSetView} {set : ChildSetView} {p heir w : ℕ} {next : Option ℕ} (t : IsTelling old m pids places asked set p heir w next) (c v : ℕ) (comes : next ≡ Some c) (after : Option ℕ) → after ≡ next_sibling c m.processes
     → c ≢ p → (child_here t c comes).what.life ≡ Zombie v → (q : Pids) (e : ℕ) (new : State) → IsCounted (is_dropping heir m.processes) pids q m.dropped e c (child_here t c comes).what → new ≡ notice_of_end m heir c v
-    → (l : PidSetView) → l.pids ≡ without_gone c (cond (is_dropping heir m.processes) (Some (child_here t c comes).what.parent) None) asked.pids → l.room ≡ asked.room → IsTelling old new q places l p heir w after
-tells {m = m} {pids = pids} {places = places} {asked = asked} {p = p} {heir = heir} {w = w} t c v comes after is ne dead q e new counts told l list room =
+    → (l : PidSetView) → l.pids ≡ without_gone c (cond (is_dropping heir m.processes) (Some (child_here t c comes).what.parent) None) asked.pids → l.room ≡ asked.room
+    → (kept : ChildSetView) → IsForgotten c (cond (is_dropping heir m.processes) (Some (child_here t c comes).what.parent) None) set kept → kept.room ≡ set.room → IsTelling old new q places l kept p heir w after
+tells {m = m} {pids = pids} {places = places} {asked = asked} {set = set} {p = p} {heir = heir} {w = w} t c v comes after is ne dead q e new counts told l list room kept gone fits =
     let now = t.now in
     let h = to_tell t c v comes dead in
     let kid = child_here t c comes in
@@ -399,6 +405,7 @@ tells {m = m} {pids = pids} {places = places} {asked = asked} {p = p} {heir = he
       left = told ∙ ap (λ (s : State). notice_of_end s heir c v) t.left ∙ notice_left now p heir w c v other;
       sound = sound_told now pids q places e heir c v kid.what t.sound kid.found (ap is_zombie dead) (not_first now p heir c v i h) counted;
       listed = listed_told now heir c v kid.what asked l i t.listed t.heir_asked kid.found (t.sound.parents c kid.what (not_first now p heir c v i h) kid.found) put room;
+      reported = subst (λ (n : ℕ). IsReported n (notice_of_end now heir c v).processes kept) (sym (ap (λ (s : State). s.world.pidmax) (only_notice now heir c v))) (reported_told now.world.pidmax now heir c v kid.what set kept (heir_there now p heir i t.inherits) kid.found t.reported (subst (λ b. IsForgotten c (cond b (Some kid.what.parent) None) set kept) drops gone) fits);
       mine_asked = ap (is_in p) put ∙ stays_asked p c _ asked.pids (λ same. ne (sym same)) t.mine_asked;
       heir_asked = ap (is_in heir) put ∙ stays_asked heir c _ asked.pids (λ same. not_heir now p heir c v i h (sym same)) t.heir_asked;
       births = ap (λ (s : State). s.births) (only_notice now heir c v) ∙ t.births;
@@ -411,7 +418,7 @@ tells {m = m} {pids = pids} {places = places} {asked = asked} {p = p} {heir = he
     })
 
 -- one child less is left where nothing changed
-pub asks_less : {old m : State} {pids : Pids} {places : Places} {asked : PidSetView} {p heir w : ℕ} {next : Option ℕ} (t : IsTelling old m pids places asked p heir w next) (c : ℕ) → next ≡ Some c → (after : Option ℕ) → after ≡ next_sibling c m.processes
+pub asks_less : {old m : State} {pids : Pids} {places : Places} {asked : PidSetView} {set : ChildSetView} {p heir w : ℕ} {next : Option ℕ} (t : IsTelling old m pids places asked set p heir w next) (c : ℕ) → next ≡ Some c → (after : Option ℕ) → after ≡ next_sibling c m.processes
     → kids_left m.processes p after < kids_left m.processes p next
 asks_less {p = p} {w = w} t c comes after is =
     let now = t.now in
@@ -421,7 +428,7 @@ asks_less {p = p} {w = w} t c comes after is =
     rw (t.left, asks_made_zombie p w now.processes after, asks_made_zombie p w now.processes _, sibling, comes) (omega (arith, l))
 
 -- and where the heir was told
-pub tells_less : {old m : State} {pids : Pids} {places : Places} {asked : PidSetView} {p heir w : ℕ} {next : Option ℕ} (t : IsTelling old m pids places asked p heir w next) (c v : ℕ) (comes : next ≡ Some c) (after : Option ℕ) → after ≡ next_sibling c m.processes
+pub tells_less : {old m : State} {pids : Pids} {places : Places} {asked : PidSetView} {set : ChildSetView} {p heir w : ℕ} {next : Option ℕ} (t : IsTelling old m pids places asked set p heir w next) (c v : ℕ) (comes : next ≡ Some c) (after : Option ℕ) → after ≡ next_sibling c m.processes
     → (new : State) → new ≡ notice_of_end m heir c v → kids_left new.processes p after < kids_left m.processes p next
 tells_less {p = p} {heir = heir} {w = w} t c v comes after is new told =
     let now = t.now in
@@ -434,7 +441,7 @@ tells_less {p = p} {heir = heir} {w = w} t c v comes after is new told =
     rw (left, t.left, asks_made_zombie p w (notice_of_end now heir c v).processes after, asks_made_zombie p w now.processes _, sibling, comes) (omega (arith, same, l))
 
 -- at the end the heir was told of all
-pub told_of_all : {old m : State} {pids : Pids} {places : Places} {asked : PidSetView} {p heir w : ℕ} {next : Option ℕ} (t : IsTelling old m pids places asked p heir w next) → next ≡ None → t.now ≡ tell_of_all old heir (zombies_of p old.processes)
+pub told_of_all : {old m : State} {pids : Pids} {places : Places} {asked : PidSetView} {set : ChildSetView} {p heir w : ℕ} {next : Option ℕ} (t : IsTelling old m pids places asked set p heir w next) → next ≡ None → t.now ≡ tell_of_all old heir (zombies_of p old.processes)
 unfolding tell_of_all
 told_of_all {p = p} {heir = heir} t none = ap (λ o. tell_of_all t.now heir (zombies (left_of o (children_in p t.now.processes)))) (sym none) ∙ t.todo
 
@@ -448,14 +455,16 @@ pub equals : (a b : ℕ) → not (a == b) ≡ false → a ≡ b
 equals a b e = eqb-true a b (elim (a == b) as (λ b. not b ≡ false → b ≡ true) [ true ↦ λ k. refl | false ↦ λ k. sym k ] e)
 
 -- once its children are the heir's, the state is that after the departure
-pub departed : {old m : State} {pids : Pids} {places : Places} {asked : PidSetView} {p heir w : ℕ} {next : Option ℕ} (t : IsTelling old m pids places asked p heir w next) (rs : List Process) → rs ≡ adopted p heir m.processes
+pub departed : {old m : State} {pids : Pids} {places : Places} {asked : PidSetView} {set : ChildSetView} {p heir w : ℕ} {next : Option ℕ} (t : IsTelling old m pids places asked set p heir w next) (rs : List Process) → rs ≡ adopted p heir m.processes
     → record m { processes = rs } ≡ depart t.now p heir w
 departed {m = m} {p = p} {heir = heir} t rs is = ap (λ rs. record m { processes = rs }) is ∙ ap (λ (s : State). record s { processes = adopted p heir s.processes }) t.left
 
 -- which is a machine's, where the parent is asked too
-pub machine_departed : {old m : State} {pids : Pids} {places : Places} {asked : PidSetView} {p heir w : ℕ} {next : Option ℕ} (t : IsTelling old m pids places asked p heir w next) (me : Process) → process old p ≡ Some me
-    → (l : PidSetView) → l.pids ≡ with_number me.parent asked.pids → l.room ≡ asked.room → IsMachine (depart t.now p heir w) pids places l
-machine_departed {pids = pids} {places = places} {asked = asked} {p = p} {heir = heir} {w = w} t me e l put room =
+pub machine_departed : {old m : State} {pids : Pids} {places : Places} {asked : PidSetView} {set : ChildSetView} {p heir w : ℕ} {next : Option ℕ} (t : IsTelling old m pids places asked set p heir w next) (me : Process) → process old p ≡ Some me
+    → (l : PidSetView) → l.pids ≡ with_number me.parent asked.pids → l.room ≡ asked.room
+    → (put after : ChildSetView) → ((q c : ℕ) → is_child_in q c put.pairs ≡ (q == me.parent && c == p || is_child_in q c set.pairs)) → ArePairs put.pairs → put.room ≡ set.room
+    → ((q c : ℕ) → is_child_in q c after.pairs ≡ (not (q == p) && (is_child_in q c put.pairs || q == heir && is_child_in p c put.pairs))) → ArePairs after.pairs → after.room ≡ put.room → IsMachine (depart t.now p heir w) pids places l after
+machine_departed {pids = pids} {places = places} {asked = asked} {set = set} {p = p} {heir = heir} {w = w} t me e l list room put after puts first fits moves once holds =
     let now = t.now in
     let i = t.sound in
     let found : process now p ≡ Some me = t.mine ∙ e in
@@ -466,15 +475,20 @@ machine_departed {pids = pids} {places = places} {asked = asked} {p = p} {heir =
         counted = let c = i.counted in let same = length_departed p heir w now.processes in omega (arith, c, same);
         kept = kept_departed p heir w now.world.pidmax now.processes pids places places (omega arith) i.kept;
       };
-      listed = listed_departed now p heir w me asked l i.regular t.listed found (i.parents p me t.other found) t.mine_asked t.heir_asked put room;
+      listed = listed_departed now p heir w me asked l i.regular t.listed found (i.parents p me t.other found) t.mine_asked t.heir_asked list room;
+      reported = reported_departed now.world.pidmax p heir w now.processes set put after me found (λ x. heir_other now.processes p heir t.other t.inherits (sym x)) t.reported puts first fits moves once holds;
     }
 
 -- there is room to ask the parent
-pub room_for_parent : {old m : State} {pids : Pids} {places : Places} {asked : PidSetView} {p heir w : ℕ} {next : Option ℕ} (t : IsTelling old m pids places asked p heir w next) → length asked.pids < asked.room
+pub room_for_parent : {old m : State} {pids : Pids} {places : Places} {asked : PidSetView} {set : ChildSetView} {p heir w : ℕ} {next : Option ℕ} (t : IsTelling old m pids places asked set p heir w next) → length asked.pids < asked.room
 room_for_parent t = has_room t.now _ t.sound.regular t.listed
 
+-- and to put it among those that have something to report, who has had nothing yet
+pub room_to_report : {old m : State} {pids : Pids} {places : Places} {asked : PidSetView} {set : ChildSetView} {p heir w : ℕ} {next : Option ℕ} (t : IsTelling old m pids places asked set p heir w next) → length set.pairs < set.room
+room_to_report t = reported_room t.now _ t.sound.regular t.reported
+
 -- and what the definition comes to
-pub departed_told : {old m : State} {pids : Pids} {places : Places} {asked : PidSetView} {p heir w : ℕ} {next : Option ℕ} (t : IsTelling old m pids places asked p heir w next) → next ≡ None
+pub departed_told : {old m : State} {pids : Pids} {places : Places} {asked : PidSetView} {set : ChildSetView} {p heir w : ℕ} {next : Option ℕ} (t : IsTelling old m pids places asked set p heir w next) → next ≡ None
     → depart t.now p heir w ≡ tell_of_all (depart old p heir w) heir (zombies_of p old.processes)
 departed_told {old = old} {p = p} {heir = heir} {w = w} t none =
     ap (λ (s : State). depart s p heir w) (told_of_all t none) ∙ sym (tell_after old p heir w (heir_other t.now.processes p heir t.other t.inherits) (zombies_of p old.processes))

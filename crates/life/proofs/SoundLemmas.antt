@@ -53,6 +53,11 @@ heir_in {p = p} {heir = heir} same h = subst (λ (s : State). CanInherit s.proce
 pub facts_are : (o : Option Process) (r : Process) (f : Facts) → Some f ≡ option_map facts_of o → o ≡ Some r → f ≡ facts_of r
 facts_are o r f e there = let both : Some f ≡ Some (facts_of r) = e ∙ ap (option_map facts_of) there in cc
 
+-- something was read where somebody is there
+pub some_read : (o : Option Process) (f : Facts) → Some f ≡ option_map facts_of o → There o
+some_read None f e = absurd (cc)
+some_read (Some r) f e = record { what = r; found = refl }
+
 -- nothing was read where nobody is there
 pub none_read : (o : Option Process) → None ≡ option_map facts_of o → o ≡ None
 none_read None e = refl

@@ -3,3 +3,4 @@ pub mod Loans
 pub mod Callers
 pub mod Censuses
 pub mod Asking
+pub mod Waits

@@ -5,10 +5,12 @@ use Rattle.posix.specs.Tables.{lookup, children_in}
 use Rattle.posix.specs.States.{World, State, boot, process, is_in}
 use Rattle.posix.specs.Regular.{IsRegular}
 use Rattle.posix.specs.Settle.{Covers}
+use Rattle.posix.specs.Waits.{has_report}
 use Rattle.pidalloc.specs.Rows.{Pids, IsPids, row, gone_from}
 use Rattle.pidalloc.specs.Tallies.{IsTallied}
 use Rattle.sched.specs.Places.{Places}
 use Rattle.pidset.specs.Numbers.{PidSetView, Rises}
+use Rattle.pidset.specs.Children.{ArePairs, ChildSetView, is_child_in}
 
 -- No console changes yet.
 abbrev pub state_of : World → List Process → Pids → Places → ℕ → ℕ → ℕ → Bool → State
@@ -52,10 +54,18 @@ pub record IsListed (s : State) (asked : PidSetView) : Type 0 where
   pub there : (p : ℕ) → is_in p asked.pids ≡ true → IsSome (process s p)
   pub room : s.world.pidmax < asked.room
 
+-- The children that have something to report are known by their parents, and there is room for all numbers.
+pub record IsReported (pidmax : ℕ) (rs : List Process) (set : ChildSetView) : Type 0 where
+  pub each : (p : ℕ) (r : Process) → lookup p rs ≡ Some r → is_child_in r.parent p set.pairs ≡ has_report r
+  pub only : (q p : ℕ) → is_child_in q p set.pairs ≡ true → (r : Process) × (lookup p rs ≡ Some r) × (r.parent ≡ q)
+  pub once : ArePairs set.pairs
+  pub room : pidmax < set.room
+
 -- what the type of a machine keeps
-pub record IsMachine (s : State) (pids : Pids) (places : Places) (asked : PidSetView) : Type 0 where
+pub record IsMachine (s : State) (pids : Pids) (places : Places) (asked : PidSetView) (reporting : ChildSetView) : Type 0 where
   pub sound : IsSound s pids places
   pub listed : IsListed s asked
+  pub reported : IsReported s.world.pidmax s.processes reporting
 
 -- ---- one record that goes
 

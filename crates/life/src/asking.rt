@@ -1,9 +1,9 @@
-//! Who is to be asked whether it can act.
+//! Who is to be asked whether it can act, and who has something to report.
 
 ghost use Rattle.std.specs.Prelude.{◌≡◌, ◌<◌, length};
-ghost use Rattle.life.specs.Asking.{asking, without_gone};
+ghost use Rattle.life.specs.Asking.{IsForgotten, asking, without_gone};
 
-use pidset::PidSet;
+use pidset::{ChildSet, PidSet};
 use posix::Pid;
 use sched::Order;
 
@@ -19,14 +19,17 @@ pub(crate) fn ask(to_ask: &mut PidSet, order: &Order, pid: Pid)
 }
 
 /// Where the record of a process has gone, of which this is the parent: the parent is to be asked, and the
-/// process no more.
-pub(crate) fn ask_parent(to_ask: &mut PidSet, pid: Pid, parent: Option<Pid>)
+/// process no more, which has nothing to report any more.
+pub(crate) fn forget(to_ask: &mut PidSet, reporting: &mut ChildSet, pid: Pid, parent: Option<Pid>)
     requires { length to_ask.old.pids < to_ask.old.room }
     ensures pids { to_ask.new.pids ≡ without_gone pid parent to_ask.old.pids }
     ensures room { to_ask.new.room ≡ to_ask.old.room }
+    ensures reporting { IsForgotten pid parent reporting.old reporting.new }
+    ensures fits { reporting.new.room ≡ reporting.old.room }
 {
     if let Some(parent) = parent {
         to_ask.insert(parent);
         to_ask.remove(pid);
+        reporting.remove(parent, pid);
     }
 }

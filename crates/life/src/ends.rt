@@ -10,7 +10,7 @@ ghost use Rattle.life.specs.Machines.{CanGo, IsGone, IsCounted};
 ghost use Rattle.life.specs.Asking.{without_gone};
 ghost use Rattle.pidset.specs.Numbers.{with_number};
 
-use crate::asking::ask_parent;
+use crate::asking::forget;
 use crate::machine::Machine;
 use crate::waits::discard;
 use pidalloc::PidTable;
@@ -49,11 +49,13 @@ impl<K: Kin> Machine<K> {
                         child,
                         ended,
                     );
-                    ask_parent(&mut self.to_ask, child, gone);
+                    forget(&mut self.to_ask, &mut self.reporting, child, gone);
                 }
             }
         }
         self.to_ask.insert(parent);
+        self.reporting.insert(parent, pid);
+        self.reporting.move_children(pid, heir);
         self.table.adopt(pid, heir);
     }
 
@@ -64,6 +66,7 @@ impl<K: Kin> Machine<K> {
         ensures asked { self.new.asked ≡ with_number 1 self.old.asked }
     {
         self.to_ask.insert(Pid::INIT);
+        self.reporting.insert(Pid::NONE, Pid::INIT);
         self.table.update(Pid::INIT).end(status);
         self.order.drop_place(Pid::INIT);
         self.halted = true;
@@ -88,7 +91,7 @@ impl<K: Kin> Machine<K> {
             child,
             status,
         );
-        ask_parent(&mut self.to_ask, child, gone);
+        forget(&mut self.to_ask, &mut self.reporting, child, gone);
     }
 
     /// A process that is there ends with this status. At the end of process 1 the machine halts. Any other

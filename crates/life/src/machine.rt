@@ -16,7 +16,7 @@ ghost use Rattle.pidset.specs.Numbers.{with_number};
 
 use crate::asking::ask;
 use pidalloc::PidTable;
-use pidset::PidSet;
+use pidset::{ChildSet, PidSet};
 use posix::{Pid, Sig, Trap};
 use proctable::{Body, Facts, Kin, Own};
 use sched::Order;
@@ -33,6 +33,8 @@ pub struct Machine<K: Kin> {
     pub(crate) order: Order,
     /// Those who are to be asked whether they can act. Whoever has to be given a place is among them.
     pub(crate) to_ask: PidSet,
+    /// The children that have something to report, by their parents.
+    pub(crate) reporting: ChildSet,
     pub(crate) births: u64,
     pub(crate) ticks: u64,
     pub(crate) dropped: u64,
@@ -46,7 +48,7 @@ impl<K: Kin> Model for Machine<K> {
 
     ghost view = { λ m. record { state = state_of m.world (K.contents m.table) m.pids m.order m.births m.ticks m.dropped m.halted; reads = K.reads m.table; asked = m.to_ask.pids } };
 
-    ghost invariant = { λ m. IsMachine (state_of m.world (K.contents m.table) m.pids m.order m.births m.ticks m.dropped m.halted) m.pids m.order m.to_ask };
+    ghost invariant = { λ m. IsMachine (state_of m.world (K.contents m.table) m.pids m.order m.births m.ticks m.dropped m.halted) m.pids m.order m.to_ask m.reporting };
 }
 
 impl<K: Kin> Machine<K> {
@@ -64,6 +66,8 @@ impl<K: Kin> Machine<K> {
         let mut order = Order::new(alloc, world.pidmax())?;
         let mut to_ask = PidSet::new(alloc);
         to_ask.reserve(world.pidmax() as usize + 1)?;
+        let mut reporting = ChildSet::new(alloc);
+        reporting.reserve(world.pidmax() as usize + 1)?;
         let first = Body::first(alloc)?;
         table.insert(Pid::INIT, Pid::NONE, first);
         pids.bear_all(Pid::INIT, Pid::INIT, Pid::INIT);
@@ -74,6 +78,7 @@ impl<K: Kin> Machine<K> {
             pids,
             order,
             to_ask,
+            reporting,
             births: 1,
             ticks: 0,
             dropped: 0,

@@ -1,35 +1,23 @@
 //! Waits.
 
-ghost use Rattle.std.specs.Prelude.{◌≡◌, ◌≢◌, ◌<◌, ◌≤◌, ◌+◌, ◌*◌, length, IsSome, Some, true};
+ghost use Rattle.std.specs.Prelude.{◌≡◌, ◌≢◌, ◌<◌, ◌≤◌, ◌+◌, ◌*◌, ℕ, length, IsSome, Some, true};
 ghost use Rattle.posix.specs.Processes.{Process, is_zombie};
 ghost use Rattle.posix.specs.Tables.{lookup, removed, children_in};
 ghost use Rattle.posix.specs.States.{process, change};
-ghost use Rattle.posix.specs.Waits.{is_named as is_named_by, report, report_change as report_change_of, report_life as report_life_of, report_of, news_told};
-ghost use Rattle.posix.specs.Waits.{look as look_of};
+ghost use Rattle.posix.specs.declared.target.Target.TheVariants as whom;
+ghost use Rattle.posix.specs.Waits.{look as look_of, report, report_change as report_change_of, report_life as report_life_of, report_of as report_of_child, reporting_in, news_told};
+ghost use Rattle.life.specs.Waits.{slots_of_wait};
 ghost use Rattle.proctable.specs.Body.{facts_of};
 ghost use Rattle.life.specs.Machines.{CanGo, IsGone};
 ghost use Rattle.life.specs.Asking.{asking, without_gone};
 
-use crate::asking::{ask, ask_parent};
+use crate::asking::{ask, forget};
 use crate::caller::Caller;
 use crate::machine::Machine;
 use bitflags::Flags;
 use pidalloc::PidTable;
 use posix::{Life, News, Pid, Report, Status, Target, WaitOptions};
 use proctable::{Facts, Kin};
-
-/// Whether a caller in process group `group` names the child `child` in process group `child_group`.
-fn is_named(group: Pid, target: &Target, child: Pid, child_group: Pid) -> bool
-    ensures { (r : Process) → r.pid ≡ child → r.group ≡ child_group → result ≡ is_named_by group target.now r }
-{
-    match *target {
-        Target::Process(pid) => child == pid,
-        Target::OwnGroup => child_group == group,
-        Target::Group(pid) => child_group == pid,
-        Target::All => true,
-        Target::Nobody => false,
-    }
-}
 
 /// What the news of a process are for a wait.
 fn report_change(options: WaitOptions, pid: Pid, news: News) -> Report
@@ -56,12 +44,13 @@ fn report_life(options: WaitOptions, pid: Pid, life: Life, news: News) -> Report
     }
 }
 
-/// What a wait learns from one child: `NoChild` where it isn't named.
+/// What a wait for the children in a process group learns from one child: `NoChild` where it isn't in the
+/// group.
 #[tactic(auto, unfolding(posix::specs::Waits::report_of, posix::specs::Waits::look))]
-fn look(group: Pid, target: &Target, options: WaitOptions, child: Facts) -> Report
-    ensures { (r : Process) → child ≡ facts_of r → result ≡ look_of group target.now options.0 r }
+fn look(group: Pid, options: WaitOptions, child: Facts) -> Report
+    ensures { (own : ℕ) (r : Process) → child ≡ facts_of r → result ≡ look_of own (whom.Group group) options.0 r }
 {
-    if is_named(group, target, child.pid, child.group) {
+    if child.group == group {
         report_life(options, child.pid, child.life, child.news)
     } else {
         Report::NoChild
@@ -86,22 +75,73 @@ pub(crate) fn discard<K: Kin>(table: &mut K, pids: &mut PidTable, pid: Pid) -> P
 }
 
 impl<K: Kin> Machine<K> {
-    /// What a wait has to report: of the children of a caller that is there which the target means, the one
-    /// with the least number that has something to report (XSH waitpid). Nothing changes.
-    pub fn wait_attempt(&mut self, me: &Caller, target: Target, options: WaitOptions) -> Report
-        requires { IsSome (process self.old.state me.now.pid) }
-        ensures value { result ≡ report self.old.state.processes me.now.pid me.now.group target options.0 }
+    /// What a wait for one process has to report: `NoChild` where that isn't a child of the caller.
+    fn report_of_one(&mut self, parent: Pid, child: Pid, options: WaitOptions) -> Report
+        ensures value { (own : ℕ) → result ≡ report self.old.state.processes parent own (whom.Process child) options.0 }
         ensures same { self.new.state ≡ self.old.state }
         ensures asked { self.new.asked ≡ self.old.asked }
-        ensures reads { self.new.reads ≤ self.old.reads + 1 + 2 * length (children_in me.now.pid self.old.state.processes) }
+        ensures reads { self.new.reads ≤ self.old.reads + 1 }
+    {
+        if let Some(facts) = self.facts(child) {
+            if facts.parent == parent {
+                return report_life(options, child, facts.life, facts.news);
+            }
+        }
+        Report::NoChild
+    }
+
+    /// What a child that is there has to report.
+    fn report_of(&mut self, child: Pid, options: WaitOptions) -> Report
+        requires { IsSome (process self.old.state child) }
+        ensures value { (it : Process) → process self.old.state child ≡ Some it → result ≡ report_of_child options.0 it }
+        ensures same { self.new.state ≡ self.old.state }
+        ensures asked { self.new.asked ≡ self.old.asked }
+        ensures reads { self.new.reads ≤ self.old.reads + 1 }
+    {
+        match self.facts(child) {
+            Some(facts) => report_life(options, child, facts.life, facts.news),
+            None => Report::Nothing,
+        }
+    }
+
+    /// What a wait for any child has to report. It asks only those that have something to report, and of the
+    /// others whether there is one.
+    fn report_of_any(&mut self, parent: Pid, options: WaitOptions) -> Report
+        requires { IsSome (process self.old.state parent) }
+        ensures value { (own : ℕ) → result ≡ report self.old.state.processes parent own whom.All options.0 }
+        ensures same { self.new.state ≡ self.old.state }
+        ensures asked { self.new.asked ≡ self.old.asked }
+        ensures reads { self.new.reads ≤ self.old.reads + 1 + length (reporting_in parent self.old.state.processes) }
+    {
+        let mut next = self.next_reporting(parent, Pid::NONE);
+        while let Some(child) = next {
+            match self.report_of(child, options) {
+                Report::Nothing => {}
+                report => return report,
+            }
+            next = self.next_reporting(parent, child);
+        }
+        match self.first_child(parent) {
+            Some(_) => Report::Nothing,
+            None => Report::NoChild,
+        }
+    }
+
+    /// What a wait for the children in a process group has to report. It looks at each child.
+    fn report_of_members(&mut self, parent: Pid, group: Pid, options: WaitOptions) -> Report
+        requires { IsSome (process self.old.state parent) }
+        ensures value { (own : ℕ) → result ≡ report self.old.state.processes parent own (whom.Group group) options.0 }
+        ensures same { self.new.state ≡ self.old.state }
+        ensures asked { self.new.asked ≡ self.old.asked }
+        ensures reads { self.new.reads ≤ self.old.reads + 1 + 2 * length (children_in parent self.old.state.processes) }
     {
         let mut found = Report::NoChild;
-        let mut next = self.first_child(me.pid);
+        let mut next = self.first_child(parent);
         while let Some(child) = next {
             let Some(facts) = self.facts(child) else {
                 return found;
             };
-            match look(me.group, &target, options, facts) {
+            match look(group, options, facts) {
                 Report::NoChild => {}
                 Report::Nothing => found = Report::Nothing,
                 report => return report,
@@ -109,6 +149,24 @@ impl<K: Kin> Machine<K> {
             next = self.next_sibling(child);
         }
         found
+    }
+
+    /// What a wait has to report: of the children of a caller that is there which the target means, the one
+    /// with the least number that has something to report (XSH waitpid). Nothing changes.
+    pub fn wait_attempt(&mut self, me: &Caller, target: Target, options: WaitOptions) -> Report
+        requires { IsSome (process self.old.state me.now.pid) }
+        ensures value { result ≡ report self.old.state.processes me.now.pid me.now.group target options.0 }
+        ensures same { self.new.state ≡ self.old.state }
+        ensures asked { self.new.asked ≡ self.old.asked }
+        ensures reads { self.new.reads ≤ self.old.reads + 1 + slots_of_wait target me.now.pid self.old.state.processes }
+    {
+        match target {
+            Target::Process(pid) => self.report_of_one(me.pid, pid, options),
+            Target::All => self.report_of_any(me.pid, options),
+            Target::OwnGroup => self.report_of_members(me.pid, me.group, options),
+            Target::Group(group) => self.report_of_members(me.pid, group, options),
+            Target::Nobody => Report::NoChild,
+        }
     }
 
     /// The record of a zombie that isn't process 1 goes, and it no longer bears its own number, its
@@ -121,17 +179,23 @@ impl<K: Kin> Machine<K> {
         ensures asked { (child : Process) → process self.old.state pid ≡ Some child → self.new.asked ≡ without_gone pid (Some child.parent) self.old.asked }
     {
         let parent = discard(&mut self.table, &mut self.pids, pid);
-        ask_parent(&mut self.to_ask, pid, Some(parent));
+        forget(&mut self.to_ask, &mut self.reporting, pid, Some(parent));
     }
 
     /// A wait has reported the news of a process that is there: they become none.
     pub fn tell_news(&mut self, pid: Pid)
         requires { IsSome (process self.old.state pid) }
         ensures state { self.new.state ≡ change self.old.state pid news_told }
-        ensures reads { self.new.reads ≤ self.old.reads + 1 }
+        ensures reads { self.new.reads ≤ self.old.reads + 2 }
         ensures asked { self.new.asked ≡ asking pid self.old.state.order self.old.asked }
     {
         ask(&mut self.to_ask, &self.order, pid);
+        let Some(facts) = self.table.get(pid) else {
+            unreachable!()
+        };
         self.table.update(pid).tell_news();
+        if let Life::Running | Life::Stopped = facts.life {
+            self.reporting.remove(facts.parent, pid);
+        }
     }
 }

@@ -6,6 +6,7 @@ ghost use Rattle.posix.specs.Tables.{IsNext, first_pid, above, next_above, left_
 ghost use Rattle.posix.specs.States.{process};
 ghost use Rattle.posix.specs.Regular.{IsRegular};
 ghost use Rattle.posix.specs.Settle.{wakes, NoWakeIsLost};
+ghost use Rattle.posix.specs.Waits.{reporting_in};
 ghost use Rattle.pidset.specs.Numbers.{numbers_above};
 
 use crate::machine::Machine;
@@ -45,6 +46,14 @@ impl<K: Kin> Machine<K> {
         ensures reads { self.new.reads ≤ self.old.reads + 1 }
     {
         self.table.next_sibling(pid)
+    }
+
+    /// The child of a process that has something to report, with the least number above `after`.
+    pub(crate) fn next_reporting(&self, parent: Pid, after: Pid) -> Option<Pid>
+        ensures value { result ≡ first_pid (above after (reporting_in parent self.now.state.processes)) }
+        ensures regular { IsRegular self.now.state }
+    {
+        self.reporting.next_child(parent, after)
     }
 
     /// Whether a process is in this process group.

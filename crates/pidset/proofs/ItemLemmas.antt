@@ -1,5 +1,5 @@
 -- Facts on items in rising order of their numbers.
-use Rattle.std.proofs.Common.{◌≡◌, ◌≢◌, ℕ, zero, suc, ◌+◌, ◌-◌, ◌<◌, ◌≤◌, Bool, true, false, cond, not, refl, ap, sym, ◌∙◌, arith, subst, List, [], ◌∷◌, length, map, filter, find, drop, insert, remove, slice_get, get_or, Some, None, Result, Ok, Err, IfOk, IfErr, ◌==◌, nat_lt}
+use Rattle.std.proofs.Common.{◌≡◌, ◌≢◌, ℕ, zero, suc, ◌+◌, ◌-◌, ◌<◌, ◌≤◌, Bool, true, false, cond, not, refl, ap, sym, ◌∙◌, arith, subst, List, [], ◌∷◌, length, map, filter, find, drop, insert, remove, slice_get, get_or, Option, Some, None, Result, Ok, Err, IfOk, IfErr, ◌==◌, nat_lt}
 use Rattle.std.specs.List.Sorted.{IsSearchInRange, IsBinarySearchResult, IsNonDecreasingBy}
 use Rattle.std.specs.Option.{IfSome, option_map}
 use Rattle.std.specs.Ordering.{nat_cmp, ordering_index}
@@ -9,7 +9,7 @@ use Rattle.std.proofs.lemmas.Option.{slice_get-map, slice_get_within, slice_get_
 use Rattle.std.proofs.lemmas.Bool.{eqb-true, eqb-false, eq-eqb, ne_eqb}
 use Rattle.std.proofs.lemmas.Bool.Decides.{nat_tests}
 use Rattle.posix.specs.States.{is_in}
-use Rattle.pidset.specs.Numbers.{Rises, with_number, IsNumberAt, IsInsertionPoint, inserted_in_order}
+use Rattle.pidset.specs.Numbers.{Rises, with_number, numbers_above, IsNumberAt, IsInsertionPoint, inserted_in_order}
 use Rattle.pidset.proofs.NumberLemmas.{AllAbove, above_get, above_less, not_in_above, out_point, later, rising_or, point_last, rises_filter, rises_with}
 
 -- ---- at the index of a number
@@ -129,6 +129,10 @@ above_point f (x ∷ xs) up n (suc i) g = grind (arith, nat_tests, g.before 0 (o
 pub numbers_passing : {X : Type 0} (f : X → ℕ) (t : ℕ → Bool) (xs : List X) → filter t (map f xs) ≡ map f (filter (λ x. t (f x)) xs)
 numbers_passing f t [] = refl
 numbers_passing f t (x ∷ xs) = grind (arith, numbers_passing f t xs)
+
+-- so the first item above n has the first number above n
+pub first_number : {X : Type 0} (f : X → ℕ) (n : ℕ) (xs : List X) (o : Option X) → o ≡ slice_get (filter (λ x. nat_lt n (f x)) xs) 0 → option_map f o ≡ slice_get (numbers_above n (map f xs)) 0
+first_number f n xs o e = ap (option_map f) e ∙ sym (slice_get-map f (filter (λ x. nat_lt n (f x)) xs) 0) ∙ sym (ap (λ ns. slice_get ns 0) (numbers_passing f (nat_lt n) xs))
 
 -- their order stays
 pub rises_passing : {X : Type 0} (f : X → ℕ) (t : ℕ → Bool) (xs : List X) → Rises (map f xs) → Rises (map f (filter (λ x. t (f x)) xs))

@@ -2,89 +2,88 @@
 
 ghost use Rattle.std.specs.Prelude.{◌≡◌, ◌+◌, ◌<◌, ◌≤◌, ◌==◌, ℕ, None, IsSome, not, nat_lt, map, filter, find, drop, insert, length, slice_get, vec_len, vec_capacity, IfOk, IfErr, OnSome};
 ghost use Rattle.std.specs.Option.{option_copied};
-ghost use Rattle.pidset.specs.Numbers.{Rises, numbers_above, IsNumberAt, IsInsertionPoint, inserted_in_order};
+ghost use Rattle.pidset.specs.Numbers.{Rises, IsNumberAt, IsInsertionPoint, inserted_in_order};
 
 use posix::Pid;
 
-/// What has the number of a process.
+/// What has a number.
 pub trait Numbered: Drop {
     /// The number.
     ghost number: { Self → ℕ };
 
     /// The number.
-    fn pid(&self) -> Pid
+    fn number(&self) -> u64
         ensures { result ≡ number self.now };
 }
 
 impl Numbered for Pid {
     ghost number = { λ p. p };
 
-    fn pid(&self) -> Pid {
-        *self
+    fn number(&self) -> u64 {
+        let pid = *self;
+        u64::from(pid.number())
     }
 }
 
-/// Where the item with a number stands, or where it would go.
-pub fn search<T: Numbered>(items: &[T], pid: Pid) -> Result<usize, usize>
+/// Where the item with the number of `key` stands, or where it would go.
+pub fn search<T: Numbered, K: Numbered>(items: &[T], key: &K) -> Result<usize, usize>
     requires { Rises (map T.number items.now) }
-    ensures found { IfOk result (IsNumberAt (map T.number items.now) pid) }
-    ensures absent { IfErr result (IsInsertionPoint (map T.number items.now) pid) }
+    ensures found { IfOk result (IsNumberAt (map T.number items.now) (K.number key.now)) }
+    ensures absent { IfErr result (IsInsertionPoint (map T.number items.now) (K.number key.now)) }
 {
+    let number = key.number();
     let Some(last) = items.last() else {
         return Err(0);
     };
     // Most numbers that go in are above all others.
-    if last.pid() < pid {
+    if last.number() < number {
         return Err(items.len());
     }
-    items.binary_search_by_key(&pid, |item| item.pid())
+    items.binary_search_by_key(&number, |item| item.number())
 }
 
-/// Where the item with a number stands that is there.
-pub fn found<T: Numbered>(items: &[T], pid: Pid) -> usize
+/// Where the item with the number of `key` stands that is there.
+pub fn found<T: Numbered, K: Numbered>(items: &[T], key: &K) -> usize
     requires rising { Rises (map T.number items.now) }
-    requires there { IsSome (find (λ item. T.number item == pid) items.now) }
-    ensures { IsNumberAt (map T.number items.now) pid result }
+    requires there { IsSome (find (λ item. T.number item == K.number key.now) items.now) }
+    ensures { IsNumberAt (map T.number items.now) (K.number key.now) result }
 {
-    match search(items, pid) {
+    match search(items, key) {
         Ok(at) => at,
         Err(_) => unreachable!(),
     }
 }
 
-/// The item with a number, if it is there.
-pub fn item_of<T: Numbered>(items: &[T], pid: Pid) -> Option<&T>
+/// The item with the number of `key`, if it is there.
+pub fn item_of<'a, T: Numbered, K: Numbered>(items: &'a [T], key: &K) -> Option<&'a T>
     requires { Rises (map T.number items.now) }
-    ensures { option_copied result ≡ find (λ item. T.number item == pid) items.now }
+    ensures { option_copied result ≡ find (λ item. T.number item == K.number key.now) items.now }
 {
-    match search(items, pid) {
+    match search(items, key) {
         Ok(at) => Some(&items[at]),
         Err(_) => None,
     }
 }
 
-/// Where the items above a number begin.
-fn start_above<T: Numbered>(items: &[T], pid: Pid) -> usize
+/// Where the items above the number of `key` begin.
+fn start_above<T: Numbered, K: Numbered>(items: &[T], key: &K) -> usize
     requires { Rises (map T.number items.now) }
     ensures within { result ≤ length items.now }
-    ensures rest { drop result items.now ≡ filter (λ item. nat_lt pid (T.number item)) items.now }
+    ensures rest { drop result items.now ≡ filter (λ item. nat_lt (K.number key.now) (T.number item)) items.now }
 {
-    match search(items, pid) {
+    match search(items, key) {
         Ok(at) => at + 1,
         Err(at) => at,
     }
 }
 
-/// The least number above another.
-pub fn next_above<T: Numbered>(items: &[T], pid: Pid) -> Option<Pid>
+/// The item with the least number above that of `key`.
+pub fn next_above<'a, T: Numbered, K: Numbered>(items: &'a [T], key: &K) -> Option<&'a T>
     requires { Rises (map T.number items.now) }
-    ensures { result ≡ slice_get (numbers_above pid (map T.number items.now)) 0 }
+    ensures { option_copied result ≡ slice_get (filter (λ item. nat_lt (K.number key.now) (T.number item)) items.now) 0 }
 {
-    let start = start_above(items, pid);
-    match items[start..].first() {
-        Some(item) => Some(item.pid()),
-        None => None,
-    }
+    let start = start_above(items, key);
+    items[start..].first()
 }
 
 /// Puts in an item whose number isn't there, where there is room.
@@ -96,7 +95,7 @@ pub fn put_in<T: Numbered>(items: &mut Vec<T>, item: T)
     ensures len { vec_len items.new ≡ vec_len items.old + 1 }
     ensures capacity { vec_capacity items.new ≡ vec_capacity items.old }
 {
-    match search(items, item.pid()) {
+    match search(items, &item) {
         Ok(_) => unreachable!(),
         Err(at) => insert_at(items, at, item),
     }
@@ -113,16 +112,16 @@ pub fn insert_at<T: Drop>(items: &mut Vec<T>, at: usize, item: T)
     let _ = items.insert(at, item);
 }
 
-/// Takes out the item with a number, if it is there.
-pub fn take_out<T: Numbered>(items: &mut Vec<T>, pid: Pid) -> Option<T>
+/// Takes out the item with the number of `key`, if it is there.
+pub fn take_out<T: Numbered, K: Numbered>(items: &mut Vec<T>, key: &K) -> Option<T>
     requires { Rises (map T.number items.old.items) }
-    ensures value { result ≡ find (λ item. T.number item == pid) items.old.items }
-    ensures items { items.new.items ≡ filter (λ item. not (T.number item == pid)) items.old.items }
+    ensures value { result ≡ find (λ item. T.number item == K.number key.now) items.old.items }
+    ensures items { items.new.items ≡ filter (λ item. not (T.number item == K.number key.now)) items.old.items }
     ensures len { vec_len items.new ≤ vec_len items.old }
     ensures one_less { OnSome result (vec_len items.new + 1 ≡ vec_len items.old) }
     ensures capacity { vec_capacity items.new ≡ vec_capacity items.old }
 {
-    match search(items, pid) {
+    match search(items, key) {
         Ok(at) => Some(items.remove(at)),
         Err(_) => None,
     }

@@ -69,7 +69,7 @@ impl PidSet {
         ensures absent { IfErr result (IsInsertionPoint self.now.pids pid) }
         ensures rising { Rises self.now.pids }
     {
-        search(&self.pids, pid)
+        search(&self.pids, &pid)
     }
 
     /// Whether a number is there.
@@ -85,7 +85,7 @@ impl PidSet {
         ensures is { result ≡ slice_get (numbers_above after self.now.pids) 0 }
         ensures rising { Rises self.now.pids }
     {
-        next_above(&self.pids, after)
+        next_above(&self.pids, &after).copied()
     }
 
     /// Puts a number in, unless it is there.
@@ -104,7 +104,7 @@ impl PidSet {
         ensures pids { self.new.pids ≡ without pid self.old.pids }
         ensures room { self.new.room ≡ self.old.room }
     {
-        let _pid = take_out(&mut self.pids, pid);
+        let _pid = take_out(&mut self.pids, &pid);
     }
 
     /// Takes all numbers out.

@@ -1,9 +1,13 @@
-//! A set that is filled, walked and emptied.
+//! Sets that are filled, walked and emptied.
 
-use crate::{Pid, PidSet};
+ghost use Rattle.std.specs.Prelude.{◌≡◌};
+
+use crate::{ChildSet, Pid, PidSet};
 use std::process::Abort;
 
-fn pid(rt: &impl Abort, number: u32) -> Pid {
+fn pid(rt: &impl Abort, number: u32) -> Pid
+    ensures { result ≡ number }
+{
     Pid::new(number).expect(rt, "a number of a process")
 }
 
@@ -41,4 +45,27 @@ fn numbers_go_in_and_out(rt: HostRuntime) {
     assert_eq!(rt; walk(&rt, &set).as_slice(), [5, 7].as_slice());
     set.clear();
     assert!(rt; set.is_empty());
+}
+
+/// The number of the next child of a process; 0 where there is none.
+fn next(rt: &impl Abort, set: &ChildSet, parent: u32, after: u32) -> u32 {
+    let child = set.next_child(pid(rt, parent), pid(rt, after));
+    child.unwrap_or(Pid::NONE).number()
+}
+
+#[test]
+fn children_go_in_over_and_out(rt: HostRuntime) {
+    let mut set = ChildSet::new(rt.alloc());
+    set.reserve(1).expect(&rt, "memory");
+    set.insert(pid(&rt, 2), Pid::INIT);
+    assert_eq!(rt; next(&rt, &set, 2, 0), 1);
+    assert_eq!(rt; next(&rt, &set, 2, 1), 0);
+    assert_eq!(rt; next(&rt, &set, 1, 0), 0);
+
+    set.move_children(pid(&rt, 2), pid(&rt, 3));
+    assert_eq!(rt; next(&rt, &set, 2, 0), 0);
+    assert_eq!(rt; next(&rt, &set, 3, 0), 1);
+
+    set.remove(pid(&rt, 3), Pid::INIT);
+    assert_eq!(rt; next(&rt, &set, 3, 0), 0);
 }

@@ -4,6 +4,7 @@ pub mod WalkLemmas
 pub mod MapLemmas
 pub mod RegularLemmas
 pub mod WaitLemmas
+pub mod ReportingLemmas
 pub mod OrderLemmas
 pub mod SeeLemmas
 pub mod SettleLemmas

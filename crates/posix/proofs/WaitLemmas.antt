@@ -22,7 +22,7 @@ unfoldable pub scan : ℕ → Target → ℕ → Report → List Process → Rep
 scan group target options so_far [] = so_far
 scan group target options so_far (r ∷ rs) = after_look (look group target options r) so_far (λ s. scan group target options s rs)
 
-abbrev is_no_child : Report → Bool
+abbrev pub is_no_child : Report → Bool
 is_no_child found.NoChild = true
 is_no_child found.Nothing = false
 is_no_child (found.End p w) = false
@@ -46,11 +46,11 @@ unfolding report_of
 by_report P options r nothing change ended = by_life P options r.pid nothing change ended r.life r.news
 
 -- a child is a child, whatever it reports
-is_there : (options : ℕ) (r : Process) → is_no_child (report_of options r) ≡ false
+pub is_there : (options : ℕ) (r : Process) → is_no_child (report_of options r) ≡ false
 is_there options r = by_report (λ z o. is_no_child o ≡ false) options r refl (λ w. refl) (λ w. refl)
 
 -- one child that is named, and then the others
-one_named : (o : Report) (rest : Report → Report) (options : ℕ) (r : Process) (rs : List Process) → report_of options r ≡ o → is_no_child o ≡ false
+pub one_named : (o : Report) (rest : Report → Report) (options : ℕ) (r : Process) (rs : List Process) → report_of options r ≡ o → is_no_child o ≡ false
     → rest found.Nothing ≡ report_found options (find (reports options) rs) → (so_far : Report)
     → after_look o so_far rest ≡ report_found options (cond (is_something o) (Some r) (find (reports options) rs))
 one_named found.NoChild rest options r rs e child h so_far = absurd (cc)

@@ -200,11 +200,11 @@ filters_agree t u v [] h = refl
 filters_agree t u v (r ∷ rs) h = grind (arith, h.0, filters_agree t u v rs h.1)
 
 -- whether a number is left, from the one that comes next on
-abbrev is_left : Option ℕ → ℕ → Bool
+abbrev pub is_left : Option ℕ → ℕ → Bool
 is_left None q = false
 is_left (Some n) q = nat_le n q
 
-left_is : (o : Option ℕ) (rs : List Process) → left_of o rs ≡ filter (λ r. is_left o r.pid) rs
+pub left_is : (o : Option ℕ) (rs : List Process) → left_of o rs ≡ filter (λ r. is_left o r.pid) rs
 left_is None [] = refl
 left_is None (x ∷ xs) = left_is None xs
 left_is (Some n) rs = refl
@@ -264,11 +264,11 @@ fails_here t p rs up r e next i h = walk_at t p rs up r e next i ∙ rw h refl
 -- ---- who comes next
 
 -- the record with the number q is there, and passes
-abbrev Passes : (Process → Bool) → List Process → ℕ → Type 0
+abbrev pub Passes : (Process → Bool) → List Process → ℕ → Type 0
 Passes w rs q = (r : Process) × (lookup q rs ≡ Some r) × (w r ≡ true)
 
 -- the first that passes is there
-first_passes : (w : Process → Bool) (rs : List Process) → IsRising rs → IfSome (first_pid (filter w rs)) (Passes w rs)
+pub first_passes : (w : Process → Bool) (rs : List Process) → IsRising rs → IfSome (first_pid (filter w rs)) (Passes w rs)
 unfolding lookup IsRising
 first_passes w [] up = tt
 first_passes w (x ∷ xs) up = elim (w x) as (λ b. w x ≡ b → IfSome (first_pid (cond b (x ∷ filter w xs) (filter w xs))) (Passes w (x ∷ xs))) [
@@ -279,7 +279,7 @@ first_passes w (x ∷ xs) up = elim (w x) as (λ b. w x ≡ b → IfSome (first_
 ] refl
 
 -- nobody before it passes
-none_passes_before : (w : Process → Bool) (rs : List Process) → IsRising rs → (q : ℕ) (r : Process) → lookup q rs ≡ Some r → w r ≡ true → IfSome (first_pid (filter w rs)) (λ m. q < m) → ⊥
+pub none_passes_before : (w : Process → Bool) (rs : List Process) → IsRising rs → (q : ℕ) (r : Process) → lookup q rs ≡ Some r → w r ≡ true → IfSome (first_pid (filter w rs)) (λ m. q < m) → ⊥
 unfolding lookup IsRising
 none_passes_before w [] up q r e k h = absurd (cc)
 none_passes_before w (x ∷ xs) up q r e k h = grind (arith, k, h, found_above x.pid q xs r up.0, none_passes_before w xs up.1 q r, eqb-true x.pid q)
@@ -313,7 +313,7 @@ unfolding children_in removed
 children_removed p c rs = filters_commute (is_child p) (λ r. not (r.pid == c)) rs
 
 -- two tests, one after another
-both_pass : (t u : Process → Bool) (rs : List Process) → filter u (filter t rs) ≡ filter (λ r. t r && u r) rs
+pub both_pass : (t u : Process → Bool) (rs : List Process) → filter u (filter t rs) ≡ filter (λ r. t r && u r) rs
 both_pass t u [] = refl
 both_pass t u (x ∷ xs) = grind (arith, both_pass t u xs)
 

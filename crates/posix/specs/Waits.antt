@@ -1,5 +1,5 @@
 -- Waits, XSH waitpid and waitpid(2).
-use Rattle.std.specs.Prelude.{ℕ, ◌+◌, ◌==◌, Bool, true, false, if◌then◌else◌, List, [], ◌∷◌, filter, find, Option, Some, None, ℤ, pos, bit_and}
+use Rattle.std.specs.Prelude.{ℕ, ◌+◌, ◌==◌, ◌||◌, Bool, true, false, if◌then◌else◌, List, [], ◌∷◌, filter, find, Option, Some, None, ℤ, pos, bit_and}
 use Rattle.std.specs.Int.{cast_unsigned, w64}
 use Rattle.posix.specs.declared.call.Call.TheVariants.{Waitpid}
 use Rattle.posix.specs.declared.errno.Errno.TheVariants.{EINVAL, ECHILD}
@@ -14,7 +14,7 @@ use Rattle.posix.specs.declared.process.Report.TheVariants as found
 use Rattle.posix.specs.declared.target.Target.{Target}
 use Rattle.posix.specs.declared.target.Target.TheVariants as whom
 use Rattle.posix.specs.Statuses.{stopped, continued}
-use Rattle.posix.specs.Processes.{Process, argument}
+use Rattle.posix.specs.Processes.{Process, is_zombie, argument}
 use Rattle.posix.specs.Tables.{removed, children_in}
 use Rattle.posix.specs.States.{State, change}
 use Rattle.posix.specs.Targets.{target_in}
@@ -86,6 +86,19 @@ report_among options (r ∷ rs) = report_found options (find (reports options) (
 -- what a caller of this number and process group finds
 unfoldable pub report : List Process → ℕ → ℕ → Target → ℕ → Report
 report rs caller group target options = report_among options (filter (is_named group target) (children_in caller rs))
+
+abbrev pub is_news : News → Bool
+is_news news.Nothing = false
+is_news (news.StoppedBy s) = true
+is_news news.Continued = true
+
+-- whether a child has something to report to its parent, if the parent asks for it: it has ended, or has news
+unfoldable pub has_report : Process → Bool
+has_report r = is_zombie r.life || is_news r.news
+
+-- the children of p that have
+unfoldable pub reporting_in : ℕ → List Process → List Process
+reporting_in p rs = filter has_report (children_in p rs)
 
 -- what one child says: it isn't named, or this is its report
 unfoldable pub look : ℕ → Target → ℕ → Process → Report

@@ -3,10 +3,10 @@ use Rattle.std.proofs.Common.{◌≡◌, ℕ, ◌+◌, true, false, cond, refl, 
 use Rattle.std.specs.Option.{option_map}
 use Rattle.std.proofs.lemmas.Option.{slice_get-map}
 use Rattle.posix.specs.Processes.{Process}
-use Rattle.posix.specs.Tables.{IsRising, lookup, is_child, children_in, first_pid, above, parent_of, next_sibling, next_above, inserted, pids}
+use Rattle.posix.specs.Tables.{IsRising, lookup, is_child, children_in, first_pid, above, parent_of, next_sibling, inserted, pids}
 use Rattle.posix.proofs.TableLemmas.{Above, lookup_at, changed_at}
 use Rattle.posix.proofs.WalkLemmas.{filters_commute}
-use Rattle.pidset.specs.Numbers.{Rises, numbers_above, IsNumberAt, inserted_in_order}
+use Rattle.pidset.specs.Numbers.{Rises, IsNumberAt, inserted_in_order}
 use Rattle.pidset.proofs.NumberLemmas.{AllAbove}
 use Rattle.pidset.proofs.ItemLemmas.{above_at, read_at as item_read}
 use Rattle.proctable.specs.declared.body.Body.{Body}
@@ -31,11 +31,10 @@ unfolding inserted inserted_in_order
 inserted_same new [] = refl
 inserted_same new (r ∷ rs) = ap (λ l. cond (nat_lt new.pid r.pid) (new ∷ r ∷ rs) (r ∷ l)) (inserted_same new rs)
 
--- the least number above another is that of the next record
-pub next_same : (n : ℕ) (rs : List Process) → slice_get (numbers_above n (pids rs)) 0 ≡ next_above n rs
-unfolding next_above
-next_same n [] = refl
-next_same n (r ∷ rs) = elim (nat_lt n r.pid) as (λ b. slice_get (cond b (r.pid ∷ numbers_above n (pids rs)) (numbers_above n (pids rs))) 0 ≡ first_pid (cond b (r ∷ above n rs) (above n rs))) [ true ↦ refl | false ↦ next_same n rs ]
+-- the first number is that of the first record
+pub next_same : (rs : List Process) → option_map (λ r. r.pid) (slice_get rs 0) ≡ first_pid rs
+next_same [] = refl
+next_same (r ∷ rs) = refl
 
 -- ---- a record that was read
 

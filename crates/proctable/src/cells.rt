@@ -134,7 +134,7 @@ impl Cells {
         ensures room { self.old.room ≤ self.new.room }
         ensures reads { self.new.reads ≤ self.old.reads + 1 }
     {
-        if let Some(entry) = take_out(&mut self.index, pid) {
+        if let Some(entry) = take_out(&mut self.index, &pid) {
             self.slots.remove(entry.slot);
         }
     }
@@ -144,7 +144,10 @@ impl Cells {
         ensures value { result ≡ next_above pid (records self.now.nodes) }
         ensures rising { IsRising (records self.now.nodes) }
     {
-        next_above(&self.index, pid)
+        match next_above(&self.index, &pid) {
+            Some(entry) => Some(entry.pid),
+            None => None,
+        }
     }
 
     /// How many slots were read, up to the greatest u128. No slot is read.

@@ -20,8 +20,9 @@ pub struct Entry {
 impl Numbered for Entry {
     ghost number = { λ e. e.pid };
 
-    fn pid(&self) -> Pid {
-        self.pid
+    fn number(&self) -> u64 {
+        let pid = self.pid;
+        u64::from(pid.number())
     }
 }
 
@@ -31,7 +32,7 @@ pub fn slot_of(entries: &[Entry], pid: Pid) -> Option<usize>
     requires { Rises (pids_of entries.now) }
     ensures { result ≡ option_map (λ e. e.slot) (entry_of pid entries.now) }
 {
-    match item_of(entries, pid) {
+    match item_of(entries, &pid) {
         Some(entry) => Some(entry.slot),
         None => None,
     }

@@ -68,20 +68,20 @@ impl Kin for ScanTable {
     }
 
     fn get(&mut self, pid: Pid) -> Option<Facts> {
-        let Some(slot) = item_of(&self.slots, pid) else {
+        let Some(slot) = item_of(&self.slots, &pid) else {
             return None;
         };
         Some(slot.facts())
     }
 
     fn update(&mut self, pid: Pid) -> &mut Body {
-        let at = found(&self.slots, pid);
+        let at = found(&self.slots, &pid);
         let slot = &mut self.slots[at];
         slot.body_mut()
     }
 
     fn remove(&mut self, pid: Pid) {
-        let _slot = take_out(&mut self.slots, pid);
+        let _slot = take_out(&mut self.slots, &pid);
     }
 
     fn first_child(&mut self, pid: Pid) -> Option<Pid> {
@@ -93,7 +93,10 @@ impl Kin for ScanTable {
     }
 
     fn next_after(&mut self, pid: Pid) -> Option<Pid> {
-        next_above(&self.slots, pid)
+        let Some(slot) = next_above(&self.slots, &pid) else {
+            return None;
+        };
+        Some(slot.pid())
     }
 
     fn adopt(&mut self, from: Pid, to: Pid) {
@@ -121,7 +124,7 @@ fn next_child_in(slots: &[Slot], pid: Pid) -> Option<Pid>
     requires there { IsSome (lookup pid slots.now) }
     ensures { result ≡ next_sibling pid slots.now }
 {
-    let at = found(slots, pid);
+    let at = found(slots, &pid);
     first_child_in(&slots[at + 1..], slots[at].parent())
 }
 

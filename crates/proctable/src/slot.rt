@@ -33,12 +33,20 @@ impl Model for Slot {
 impl Numbered for Slot {
     ghost number = { λ s. s.pid };
 
-    fn pid(&self) -> Pid {
-        self.pid
+    fn number(&self) -> u64 {
+        let pid = self.pid;
+        u64::from(pid.number())
     }
 }
 
 impl Slot {
+    /// Its number.
+    pub fn pid(&self) -> Pid
+        ensures { result ≡ self.now.pid }
+    {
+        self.pid
+    }
+
     /// A process of these parts.
     pub fn new(pid: Pid, parent: Pid, body: Body) -> Slot
         ensures { result ≡ process_of pid parent body }

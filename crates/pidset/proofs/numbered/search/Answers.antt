@@ -5,16 +5,18 @@ use Rattle.std.proofs.lemmas.Bool.Decides.{nat_tests}
 use Rattle.pidset.proofs.ItemLemmas.{point_end, found_at, point_at}
 use Rattle.pidset.proofs.numbered.search.Goals as goal
 
-pub returns-then-lt-clause-absent : goal.returns-then-lt-clause-absent
-returns-then-lt-clause-absent g c =
-    point_end g.T.Numbered.number c.args.items.now c.requires c.args.pid c.in-Some.last.now (sym c.last.ensures.value ∙ ap option_copied c.in-Some.is) (grind (arith, nat_tests, c.pid.ensures, c.lt.ensures, c.if-lt.true))
+pub returns-then-number-clause-absent : goal.returns-then-number-clause-absent
+returns-then-number-clause-absent g c =
+    point_end g.T.Numbered.number c.args.items.now c.requires (g.K.Numbered.number c.args.key.now) c.in-Some.last.now (sym c.last.ensures.value ∙ ap option_copied c.in-Some.is) (grind (arith, nat_tests, c.number-number.ensures, c.number.ensures, c.if-number.true))
 
 pub returns-clause-found : goal.returns-clause-found
 returns-clause-found g c =
     let facts = c.binary_search_by_key.ensures in
-    found_at g.T.Numbered.number c.args.items.now c.args.pid _ facts.bound (facts.position g.T.Numbered.number (answers_always _ _ _ (λ f a r h called. search rules)))
+    let f = g.T.Numbered.number in
+    rw (← c.number-number.ensures) (found_at f c.args.items.now c.number-number.result _ facts.bound (facts.position f (answers_always _ _ _ (λ f a r h called. search rules))))
 
 pub returns-clause-absent : goal.returns-clause-absent
 returns-clause-absent g c =
     let facts = c.binary_search_by_key.ensures in
-    point_at g.T.Numbered.number c.args.items.now c.requires c.args.pid _ facts.bound (facts.position g.T.Numbered.number (answers_always _ _ _ (λ f a r h called. search rules)))
+    let f = g.T.Numbered.number in
+    rw (← c.number-number.ensures) (point_at f c.args.items.now c.requires c.number-number.result _ facts.bound (facts.position f (answers_always _ _ _ (λ f a r h called. search rules))))

@@ -1,10 +1,12 @@
-use Rattle.std.proofs.Common.{length, ℕ, List, ap, ◌∙◌, arith, [], ◌∷◌, ◌++◌}
+use Rattle.std.proofs.Common.{length, subst, sym, ℕ, List, ap, ◌∙◌, arith, [], ◌∷◌, ◌++◌}
 use Rattle.posix.specs.Tables.{lookup, children_in}
 use Rattle.posix.specs.States.{boot, is_in}
 use Rattle.pidalloc.specs.Rows.{Pids, born_in, unborne_table}
 use Rattle.life.proofs.AskLemmas.{listed_first}
 use Rattle.sched.specs.Places.{Places}
 use Rattle.life.proofs.SoundLemmas.{nobody_there, sound_first, first_is_boot}
+use Rattle.pidset.specs.Children.{ArePairs}
+use Rattle.life.proofs.ReportedLemmas.{reported_first}
 use Rattle.life.proofs.machine.Machine.boot.Goals as goal
 
 pub insert-requires-clause-fresh : goal.insert-requires-clause-fresh
@@ -26,6 +28,7 @@ invariant_of-result g c =
     (record {
       sound = sound_first _ _ _ (omega (arith, least, c.pidmax.ensures.value)) bore pidmax c.bear_all.ensures.kept order (omega (arith, room, all, c.pidmax-2.ensures.value));
       listed = listed_first _ _ _ _ (first_is_boot _ c.bear_all.new.self c.place.new.self c.bear_all.ensures.last order) (c.in_ok-reserve-2.ensures.pids ∙ c.new-to_ask.ensures) c.pidmax-3.ensures.value c.in_ok-reserve-2.ensures.room;
+      reported = reported_first _ c.in_ok-world.world _ _ (first_is_boot c.in_ok-world.world c.bear_all.new.self c.place.new.self c.bear_all.ensures.last order) (c.in_ok-reserve-3.ensures.pairs ∙ c.new-reporting.ensures.pairs) (subst ArePairs (sym c.in_ok-reserve-3.ensures.pairs) c.new-reporting.ensures.rising) c.pidmax-4.ensures.value c.in_ok-reserve-3.ensures.room;
     })
 
 pub returns-clause-state : goal.returns-clause-state

@@ -1,4 +1,4 @@
-use Rattle.std.proofs.Common.{◌∙◌, ◌≡◌, ◌≢◌, ap, sym, arith, refl, subst, cond, true, Some, None, [], ◌∷◌}
+use Rattle.std.proofs.Common.{◌∙◌, ◌≡◌, ◌≢◌, ap, sym, arith, refl, subst, cond, ◌==◌, ◌&&◌, ◌||◌, true, Some, None, [], ◌∷◌}
 use Rattle.std.specs.Option.{IsSome}
 use Rattle.posix.specs.Processes.{Process, is_zombie}
 use Rattle.posix.specs.Tables.{lookup, children_in, first_pid}
@@ -7,12 +7,14 @@ use Rattle.posix.specs.Ends.{made_zombie, is_dropping, notice_of_end}
 use Rattle.proctable.proofs.Bodies.{changed_body}
 use Rattle.pidset.specs.Numbers.{with_number}
 use Rattle.life.specs.Machines.{MachineView, IsMachine, IsCounted, state_of}
-use Rattle.life.specs.Asking.{with_numbers, without_gone}
+use Rattle.pidset.specs.Children.{is_child_in}
+use Rattle.life.specs.Asking.{IsForgotten, with_numbers, without_gone}
+use Rattle.posix.proofs.RegularLemmas.{heir_other}
 use Rattle.life.proofs.EndLemmas.{there_after, zombie_after}
 use Rattle.life.proofs.AskLemmas.{has_room, room_after}
 use Rattle.life.proofs.SoundLemmas.{there, here_in, found_in, is_there, there_made_zombie}
 use Rattle.life.proofs.PartLemmas.{room_to_count, told_state}
-use Rattle.life.proofs.NoticeWalkLemmas.{begins, child_here, child_there, child_same, passes, self_lives, life_read, lives, heir_here, zombie_goes, zombie_goes_there, tells, asks_less, tells_less, HasFewer, fewer_left, fewer_told, differs, equals, departed, machine_departed, room_for_parent, departed_told}
+use Rattle.life.proofs.NoticeWalkLemmas.{begins, child_here, child_there, child_same, passes, self_lives, life_read, lives, heir_here, zombie_goes, zombie_goes_there, tells, asks_less, tells_less, HasFewer, fewer_left, fewer_told, differs, equals, departed, machine_departed, room_for_parent, room_to_report, departed_told}
 use Rattle.life.proofs.ReadLemmas.{left_at_most}
 use Rattle.life.proofs.ViewLemmas.{state_is}
 use Rattle.life.proofs.machine.Machine.depart.Goals as goal
@@ -47,7 +49,7 @@ loop-next-init g c =
       read = omega (arith, left, most, old, one, once, c.first_child-next.ensures.reads);
       telling = begins c.args.self.now.state _ _ _ c.self.inside.order _ c.args.pid c.args.heir c.args.status _ me.what (state_is c.self.view_is) (rw (c.first_child-next.ensures.contents, contents, c.drop_place.ensures.pids) refl) c.self.invariant.sound (omega (arith, room)) c.requires.other
           c.requires.heir me.found (c.first_child-next.ensures.value ∙ ap (λ rs. first_pid (children_in c.args.pid rs)) (sym c.first_child-next.ensures.contents))
-          _ _ c.self.invariant.listed (c.insert-2.ensures.pids ∙ ap (with_number c.args.heir) c.insert.ensures.pids) (c.insert-2.ensures.room ∙ c.insert.ensures.room);
+          _ _ c.self.invariant.listed (c.insert-2.ensures.pids ∙ ap (with_number c.args.heir) c.insert.ensures.pids) (c.insert-2.ensures.room ∙ c.insert.ensures.room) _ c.self.invariant.reported;
     }
 
 pub next_sibling-next-requires : goal.next_sibling-next-requires
@@ -106,7 +108,8 @@ loop-next-preserved-in-Zombie g c =
       read = omega (arith, less, read, c.notify_of_end-gone.ensures.reads, c.life-life.ensures.reads, c.next_sibling-next.ensures.reads);
       telling = tells t c.in-Some.child c.in-Zombie.ended c.in-Some.is c.next_sibling-next.result c.next_sibling-next.ensures.value ne dead c.notify_of_end-gone.new.pids c.notify_of_end-gone.new.dropped _
           (subst (λ rs. IsCounted (is_dropping c.args.heir rs) m.pids c.notify_of_end-gone.new.pids m.dropped c.notify_of_end-gone.new.dropped c.in-Some.child (child_here t c.in-Some.child c.in-Some.is).what) same counts) told
-          c.ask_parent.new.to_ask (c.ask_parent.ensures.pids ∙ ap (λ o. without_gone c.in-Some.child o m.to_ask.pids) (c.notify_of_end-gone.ensures.gone _ found ∙ ap (λ rs. cond (is_dropping c.args.heir rs) (Some (child_here t c.in-Some.child c.in-Some.is).what.parent) None) same)) c.ask_parent.ensures.room;
+          c.forget.new.to_ask (c.forget.ensures.pids ∙ ap (λ o. without_gone c.in-Some.child o m.to_ask.pids) (c.notify_of_end-gone.ensures.gone _ found ∙ ap (λ rs. cond (is_dropping c.args.heir rs) (Some (child_here t c.in-Some.child c.in-Some.is).what.parent) None) same)) c.forget.ensures.room
+          c.forget.new.reporting (subst (λ o. IsForgotten c.in-Some.child o m.reporting c.forget.new.reporting) (c.notify_of_end-gone.ensures.gone _ found ∙ ap (λ rs. cond (is_dropping c.args.heir rs) (Some (child_here t c.in-Some.child c.in-Some.is).what.parent) None) same) c.forget.ensures.reporting) c.forget.ensures.fits;
     }
 
 pub loop-next-smaller-in_default-life : goal.loop-next-smaller-in_default-life
@@ -144,11 +147,17 @@ loop-next-preserved g c =
 pub adopt-requires : goal.adopt-requires
 adopt-requires g c = heir_here c.loop-next.invariant.telling
 
-pub ask_parent-requires : goal.ask_parent-requires
-ask_parent-requires g c = room_for_parent c.loop-next.invariant.telling
+pub forget-requires : goal.forget-requires
+forget-requires g c = room_for_parent c.loop-next.invariant.telling
 
 pub insert-requires-3 : goal.insert-requires-3
 insert-requires-3 g c = record { room = λ out. room_for_parent c.loop-next.invariant.telling }
+
+pub insert-requires-4 : goal.insert-requires-4
+insert-requires-4 g c = record { room = λ out. room_to_report c.loop-next.invariant.telling; child = c.loop-next.invariant.telling.least }
+
+pub move_children-requires : goal.move_children-requires
+move_children-requires g c = let t = c.loop-next.invariant.telling in λ same. heir_other t.now.processes c.args.pid c.args.heir t.other t.inherits (sym same)
 
 pub invariant_of-self : goal.invariant_of-self
 invariant_of-self g c =
@@ -156,8 +165,9 @@ invariant_of-self g c =
     let t = c.loop-next.invariant.telling in
     let me = there _ c.requires.there in
     let parent = c.requires.parent me.what me.found in
-    subst (λ (s : State). IsMachine s m.pids m.order c.insert-3.new.self) (sym (departed t _ c.adopt.ensures.contents))
-    (machine_departed t me.what me.found c.insert-3.new.self (c.insert-3.ensures.pids ∙ ap (λ n. with_number n m.to_ask.pids) parent) c.insert-3.ensures.room)
+    subst (λ (s : State). IsMachine s m.pids m.order c.insert-3.new.self c.move_children.new.self) (sym (departed t _ c.adopt.ensures.contents))
+    (machine_departed t me.what me.found c.insert-3.new.self (c.insert-3.ensures.pids ∙ ap (λ n. with_number n m.to_ask.pids) parent) c.insert-3.ensures.room
+    c.insert-4.new.self c.move_children.new.self (λ q d. c.insert-4.ensures.pairs q d ∙ ap (λ n. q == n && d == c.args.pid || is_child_in q d m.reporting.pairs) parent) c.insert-4.ensures.rising c.insert-4.ensures.room c.move_children.ensures.pairs c.move_children.ensures.rising c.move_children.ensures.room)
 
 pub returns-clause-state : goal.returns-clause-state
 returns-clause-state g c =

@@ -1,4 +1,4 @@
-use Rattle.std.proofs.Common.{ap, ◌∙◌, refl, [], ◌∷◌}
+use Rattle.std.proofs.Common.{ap, ◌∙◌, ◌||◌, false, refl, [], ◌∷◌}
 use Rattle.posix.specs.Processes.{Process}
 use Rattle.posix.specs.Tables.{lookup}
 use Rattle.posix.specs.Outcomes.{finished}
@@ -7,6 +7,9 @@ use Rattle.pidset.specs.Numbers.{with_number}
 use Rattle.life.specs.Asking.{with_numbers}
 use Rattle.life.proofs.AskLemmas.{has_room, room_after, listed_born}
 use Rattle.life.proofs.SoundLemmas.{is_there, found_in, next_is_new, room_to_bear, sound_born}
+use Rattle.posix.specs.Waits.{has_report}
+use Rattle.proctable.specs.Body.{process_of}
+use Rattle.life.proofs.ReportedLemmas.{reported_inserted}
 use Rattle.life.proofs.ViewLemmas.{state_is}
 use Rattle.life.proofs.machine.Machine.fork.Goals as goal
 
@@ -35,7 +38,7 @@ insert-requires-3 g c =
     record { room = λ out. room_after _ _ c.insert-2.new.self (c.args.parent ∷ []) c.self.invariant.sound.regular c.self.invariant.listed (is_there _ me.what (found_in _ _ (state_is c.self.view_is) c.args.parent me.what me.found), tt) c.insert-2.ensures.pids c.insert-2.ensures.room }
 
 pub invariant_of-self-2 : goal.invariant_of-self-2
-unfolding child_of finished
+unfolding child_of finished has_report
 invariant_of-self-2 g c =
     let me = c.requires.parent in
     let found = found_in _ _ (state_is c.self.view_is) c.args.parent me.what me.found in
@@ -45,4 +48,5 @@ invariant_of-self-2 g c =
     (record {
       sound = sound_born _ _ _ _ _ _ _ _ _ _ me.what c.self.invariant.sound (next_is_new _ _ _ _ c.args.child (state_is c.self.view_is) refl c.self.invariant.sound c.requires.child) found me.living groups.0 groups.1 (ap (λ (r : Process). r.life) child) c.bear_all.ensures.value c.bear_all.ensures.pidmax c.bear_all.ensures.kept;
       listed = listed_born _ _ _ _ _ _ c.self.invariant.listed (next_is_new _ _ _ _ c.args.child (state_is c.self.view_is) refl c.self.invariant.sound c.requires.child).fresh (is_there _ me.what found) (c.insert-3.ensures.pids ∙ ap (with_number c.args.child) c.insert-2.ensures.pids) (c.insert-3.ensures.room ∙ c.insert-2.ensures.room);
+      reported = reported_inserted _ (process_of c.args.child c.args.parent c.in_ok-body.body) _ _ (next_is_new _ _ _ _ c.args.child (state_is c.self.view_is) refl c.self.invariant.sound c.requires.child).fresh (ap has_report child ∙ ap (λ b. b || false) me.living) c.self.invariant.reported;
     })

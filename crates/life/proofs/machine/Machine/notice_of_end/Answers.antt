@@ -3,11 +3,13 @@ use Rattle.std.proofs.lemmas.Bool.{eq-eqb}
 use Rattle.posix.specs.States.{State, is_in}
 use Rattle.posix.specs.Ends.{notice_of_end}
 use Rattle.pidset.proofs.NumberLemmas.{in_with}
-use Rattle.life.specs.Machines.{IsMachine}
-use Rattle.life.specs.Asking.{with_numbers, without_gone}
+use Rattle.posix.proofs.NoticeLemmas.{only_notice}
+use Rattle.life.specs.Machines.{IsMachine, IsReported, state_of}
+use Rattle.life.specs.Asking.{IsForgotten, with_numbers, without_gone}
 use Rattle.life.proofs.SoundLemmas.{found_in, here_in}
 use Rattle.life.proofs.AskLemmas.{has_room, room_after, listed_more, listed_told}
 use Rattle.life.proofs.PartLemmas.{can_go, room_to_count, told_state, sound_told}
+use Rattle.life.proofs.ReportedLemmas.{reported_told}
 use Rattle.life.proofs.ViewLemmas.{state_is}
 use Rattle.life.proofs.machine.Machine.notice_of_end.Goals as goal
 
@@ -25,15 +27,17 @@ notify_of_end-gone-requires-clause-count g c =
     let few = c.self.ranges in
     room_to_count _ _ _ c.args.child _ c.self.invariant.sound (can_go _ _ _ c.args.child it.0 c.self.invariant.sound (found_in _ _ (state_is c.self.view_is) c.args.child it.0 it.1) it.2 c.requires.other) (omega (arith, few))
 
-pub ask_parent-requires : goal.ask_parent-requires
+pub forget-requires : goal.forget-requires
 unfolding with_numbers
-ask_parent-requires g c =
+forget-requires g c =
     let first = here_in c.args.parent (state_is c.self.view_is) c.requires.parent in
     room_after _ _ c.insert.new.self (c.args.parent ∷ []) c.self.invariant.sound.regular c.self.invariant.listed (first, tt) c.insert.ensures.pids c.insert.ensures.room
 
 pub invariant_of-self : goal.invariant_of-self
 unfolding with_numbers
 invariant_of-self g c =
+    let m = c.self.inside in
+    let old = state_of m.world (g.K.Kin.contents m.table) m.pids m.order m.births m.ticks m.dropped m.halted in
     let it = c.requires.zombie in
     let found = found_in _ _ (state_is c.self.view_is) c.args.child it.0 it.1 in
     let counts = c.notify_of_end-gone.ensures.counts it.0 found in
@@ -41,10 +45,11 @@ invariant_of-self g c =
     let asked = c.insert.new.self in
     let first = here_in c.args.parent (state_is c.self.view_is) c.requires.parent in
     let now = listed_more _ _ asked (c.args.parent ∷ []) c.self.invariant.listed (first, tt) c.insert.ensures.pids c.insert.ensures.room in
-    subst (λ (s : State). IsMachine s c.notify_of_end-gone.new.pids c.self.inside.order c.ask_parent.new.to_ask) (sym (told_state _ _ _ _ _ c.self.inside.order _ _ _ _ _ c.args.parent c.args.child c.args.status it.0 c.notify_of_end-gone.ensures.contents counts))
+    subst (λ (s : State). IsMachine s c.notify_of_end-gone.new.pids c.self.inside.order c.forget.new.to_ask c.forget.new.reporting) (sym (told_state _ _ _ _ _ c.self.inside.order _ _ _ _ _ c.args.parent c.args.child c.args.status it.0 c.notify_of_end-gone.ensures.contents counts))
     (record {
       sound = sound_told _ _ _ _ _ c.args.parent c.args.child c.args.status it.0 c.self.invariant.sound found it.2 c.requires.other counts;
-      listed = listed_told _ c.args.parent c.args.child c.args.status it.0 asked _ c.self.invariant.sound.regular now (ap (is_in c.args.parent) c.insert.ensures.pids ∙ in_with c.args.parent c.args.parent _ ∙ rw (eq-eqb c.args.parent c.args.parent refl) refl) found up (c.ask_parent.ensures.pids ∙ ap (λ o. without_gone c.args.child o asked.pids) (c.notify_of_end-gone.ensures.gone it.0 found)) c.ask_parent.ensures.room;
+      listed = listed_told _ c.args.parent c.args.child c.args.status it.0 asked _ c.self.invariant.sound.regular now (ap (is_in c.args.parent) c.insert.ensures.pids ∙ in_with c.args.parent c.args.parent _ ∙ rw (eq-eqb c.args.parent c.args.parent refl) refl) found up (c.forget.ensures.pids ∙ ap (λ o. without_gone c.args.child o asked.pids) (c.notify_of_end-gone.ensures.gone it.0 found)) c.forget.ensures.room;
+      reported = subst (λ n. IsReported n (notice_of_end old c.args.parent c.args.child c.args.status).processes c.forget.new.reporting) (sym (ap (λ (s : State). s.world.pidmax) (only_notice old c.args.parent c.args.child c.args.status))) (reported_told _ old c.args.parent c.args.child c.args.status it.0 _ _ first found c.self.invariant.reported (subst (λ o. IsForgotten c.args.child o c.self.inside.reporting c.forget.new.reporting) (c.notify_of_end-gone.ensures.gone it.0 found) c.forget.ensures.reporting) c.forget.ensures.fits);
     })
 
 pub returns-clause-state : goal.returns-clause-state

@@ -4,6 +4,7 @@ use Rattle.posix.proofs.TouchLemmas.{touches_unseen}
 use Rattle.life.proofs.SoundLemmas.{sound_change, here_in}
 use Rattle.life.proofs.AskLemmas.{has_room, listed_change}
 use Rattle.life.proofs.LoanLemmas.{keeps_give_own, unseen_give_own, own_if}
+use Rattle.life.proofs.ReportedLemmas.{reported_unseen}
 use Rattle.life.proofs.ViewLemmas.{state_is}
 use Rattle.life.proofs.machine.Machine.own.Goals as goal
 
@@ -16,6 +17,7 @@ invariant_of-self-lent g c = λ w.
     (record {
       sound = sound_change c.args.pid _ (keeps_give_own w) _ _ _ c.self.invariant.sound;
       listed = listed_change _ c.args.pid _ _ _ c.self.invariant.listed (keeps_give_own w).pid (touches_unseen _ c.args.pid _ (unseen_give_own w)) (here_in c.args.pid (state_is c.self.view_is) c.requires) c.ask.ensures.pids c.ask.ensures.room;
+      reported = reported_unseen _ c.args.pid _ (unseen_give_own w) _ _ (here_in c.args.pid (state_is c.self.view_is) c.requires) c.self.invariant.reported;
     })
 
 pub returns : goal.returns

@@ -11,4 +11,5 @@ invariant_of-self g c =
     record {
       sound = record { regular = record { rising = r.rising; bounded = r.bounded; first = r.first; placed = r.placed; distinct = r.distinct; childless = r.childless }; parents = i.parents; counted = i.counted; kept = i.kept };
       listed = listed_same _ _ _ [] c.self.invariant.listed (touches_none _ _ refl refl) refl (λ q e. e) (λ q there e. absurd (in_none q e));
+      reported = c.self.invariant.reported;
     }

@@ -5,6 +5,7 @@ use Rattle.proctable.proofs.Bodies.{changed_here}
 use Rattle.posix.proofs.TouchLemmas.{touches_unseen, unseen_signalled}
 use Rattle.life.proofs.SoundLemmas.{sound_change, here_in}
 use Rattle.life.proofs.AskLemmas.{has_room, listed_change}
+use Rattle.life.proofs.ReportedLemmas.{reported_unseen}
 use Rattle.life.proofs.ViewLemmas.{state_is}
 use Rattle.life.proofs.machine.Machine.signal.Goals as goal
 
@@ -17,6 +18,7 @@ invariant_of-self g c =
     rw contents (record {
       sound = sound_change c.args.pid _ (keeps_signalled c.args.signal) _ _ _ c.self.invariant.sound;
       listed = listed_change _ c.args.pid (signalled c.args.signal) _ _ c.self.invariant.listed (keeps_signalled c.args.signal).pid (touches_unseen _ c.args.pid (signalled c.args.signal) (unseen_signalled c.args.signal)) (here_in c.args.pid (state_is c.self.view_is) c.requires) c.ask.ensures.pids c.ask.ensures.room;
+      reported = reported_unseen _ c.args.pid _ (unseen_signalled c.args.signal) _ _ (here_in c.args.pid (state_is c.self.view_is) c.requires) c.self.invariant.reported;
     })
 
 pub returns-clause-state : goal.returns-clause-state

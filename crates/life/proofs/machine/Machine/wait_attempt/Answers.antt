@@ -1,64 +1,15 @@
-use Rattle.std.proofs.Common.{refl, arith, length, ap, sym, ◌∙◌}
-use Rattle.posix.specs.declared.process.Report.TheVariants as found
-use Rattle.posix.specs.Tables.{next_sibling}
-use Rattle.posix.specs.States.{State}
-use Rattle.posix.proofs.WaitLemmas.{scan}
-use Rattle.life.proofs.ChildLemmas.{IsAtChild, first_here, first_todo, surely_read, child_less, next_here, reported_here, none_left, unnamed_here, nothing_here}
+use Rattle.std.proofs.Common.{◌∙◌, ap, sym}
+use Rattle.posix.specs.Waits.{report}
+use Rattle.posix.proofs.ReportingLemmas.{report_own, report_none_meant}
 use Rattle.life.proofs.machine.Machine.wait_attempt.Goals as goal
-use Rattle.life.proofs.machine.Machine.wait_attempt.Goals.{in-NoChild, in-Nothing}
 
-pub loop-next-init : goal.loop-next-init
-loop-next-init g c =
-    let up = c.first_child-next.ensures.regular.rising in
-    record {
-      same = c.first_child-next.ensures.same;
-      asked = c.first_child-next.ensures.asked;
-      here = first_here _ up c.args.me.now.pid _ c.first_child-next.ensures.value;
-      todo = ap (scan c.args.me.now.group c.args.target c.args.options.0 found.NoChild) (first_todo _ up c.args.me.now.pid _ c.first_child-next.ensures.value);
-      read = let all = ap length (first_todo _ up c.args.me.now.pid _ c.first_child-next.ensures.value) in omega (arith, all, c.first_child-next.ensures.reads);
-    }
+pub returns-in-OwnGroup-clause-value : goal.returns-in-OwnGroup-clause-value
+returns-in-OwnGroup-clause-value g c =
+    let rs = c.args.self.now.state.processes in
+    let me = c.args.me.now in
+    c.report_of_members.ensures.value me.group ∙ sym (report_own rs me.pid me.group c.args.options.0) ∙ ap (λ t. report rs me.pid me.group t c.args.options.0) (sym c.in-OwnGroup.is)
 
-pub returns-in_default-facts-clause-value : goal.returns-in_default-facts-clause-value
-returns-in_default-facts-clause-value g c = absurd
-    (surely_read _ _ c.args.me.now.pid c.in-Some.child _ (record { rising = c.first_child-next.ensures.regular.rising; comes = c.in-Some.is; here = c.loop-next.invariant.here; same = ap (λ (t : State). t.processes) c.loop-next.invariant.same })
-    (sym c.in_default-facts.is ∙ c.facts.ensures.value))
-
-pub returns-in_default-look-clause-value : goal.returns-in_default-look-clause-value
-returns-in_default-look-clause-value g c = reported_here _ _ c.args.me.now.pid c.in-Some.child _ c.args.me.now.group c.args.target c.args.options.0 _ c.loop-next.found
-    (record { rising = c.first_child-next.ensures.regular.rising; comes = c.in-Some.is; here = c.loop-next.invariant.here; same = ap (λ (t : State). t.processes) c.loop-next.invariant.same })
-    (record { facts = _; read = c.in-Some-facts.ensures.value; said = c.look.ensures }) c.loop-next.invariant.todo c.in_default-look.not-NoChild c.in_default-look.not-Nothing
-
-pub loop-next-smaller : goal.loop-next-smaller
-loop-next-smaller g c = child_less _ _ c.args.me.now.pid c.in-Some.child _ _
-    (record { rising = c.first_child-next.ensures.regular.rising; comes = c.in-Some.is; here = c.loop-next.invariant.here; same = ap (λ (t : State). t.processes) c.loop-next.invariant.same })
-    (c.next_sibling-next.ensures.value ∙ ap (λ (t : State). next_sibling c.in-Some.child t.processes) (c.in-Some-facts.ensures.same ∙ c.loop-next.invariant.same))
-
-pub loop-next-preserved : goal.loop-next-preserved
-loop-next-preserved g c =
-    let walk : IsAtChild c.args.self.now.state.processes _ c.args.me.now.pid c.in-Some.child c.loop-next.next = record { rising = c.first_child-next.ensures.regular.rising; comes = c.in-Some.is; here = c.loop-next.invariant.here; same = ap (λ (t : State). t.processes) c.loop-next.invariant.same } in
-    let next = c.next_sibling-next.ensures.value ∙ ap (λ (t : State). next_sibling c.in-Some.child t.processes) (c.in-Some-facts.ensures.same ∙ c.loop-next.invariant.same) in
-    record {
-      same = c.next_sibling-next.ensures.same ∙ c.in-Some-facts.ensures.same ∙ c.loop-next.invariant.same;
-      asked = c.next_sibling-next.ensures.asked ∙ c.in-Some-facts.ensures.asked ∙ c.loop-next.invariant.asked;
-      here = next_here _ _ c.args.me.now.pid c.in-Some.child _ _ walk next;
-      todo = elim c.match-look.branch [
-        | in-NoChild w ↦ unnamed_here _ _ c.args.me.now.pid c.in-Some.child _ _ c.args.me.now.group _ c.args.options.0 _ c.loop-next.found _ walk
-            (record { facts = _; read = c.in-Some-facts.ensures.value; said = c.look.ensures }) next w.in-NoChild.is w.found-is c.loop-next.invariant.todo
-        | in-Nothing w ↦ nothing_here _ _ c.args.me.now.pid c.in-Some.child _ _ c.args.me.now.group _ c.args.options.0 _ c.loop-next.found _ walk
-            (record { facts = _; read = c.in-Some-facts.ensures.value; said = c.look.ensures }) next w.in-Nothing.is w.found-is c.loop-next.invariant.todo
-      ];
-      read = let less = child_less _ _ c.args.me.now.pid c.in-Some.child _ _ walk next in omega (arith, less, c.loop-next.invariant.read, c.in-Some-facts.ensures.reads, c.next_sibling-next.ensures.reads);
-    }
-
-pub returns-clause-value : goal.returns-clause-value
-returns-clause-value g c = none_left _ c.args.me.now.pid _ c.args.me.now.group c.args.target c.args.options.0 c.loop-next.found c.in_default.is c.loop-next.invariant.todo
-
-pub returns-in_default-facts-clause-reads : goal.returns-in_default-facts-clause-reads
-returns-in_default-facts-clause-reads g c =
-    let less = child_less _ _ c.args.me.now.pid c.in-Some.child _ _ (record { rising = c.first_child-next.ensures.regular.rising; comes = c.in-Some.is; here = c.loop-next.invariant.here; same = ap (λ (t : State). t.processes) c.loop-next.invariant.same }) refl in
-    omega (arith, less, c.loop-next.invariant.read, c.facts.ensures.reads)
-
-pub returns-in_default-look-clause-reads : goal.returns-in_default-look-clause-reads
-returns-in_default-look-clause-reads g c =
-    let less = child_less _ _ c.args.me.now.pid c.in-Some.child _ _ (record { rising = c.first_child-next.ensures.regular.rising; comes = c.in-Some.is; here = c.loop-next.invariant.here; same = ap (λ (t : State). t.processes) c.loop-next.invariant.same }) refl in
-    omega (arith, less, c.loop-next.invariant.read, c.in-Some-facts.ensures.reads)
+pub returns-in-Nobody-clause-value : goal.returns-in-Nobody-clause-value
+returns-in-Nobody-clause-value g c =
+    let me = c.args.me.now in
+    sym (report_none_meant c.args.self.now.state.processes me.pid me.group c.args.options.0) ∙ ap (λ t. report c.args.self.now.state.processes me.pid me.group t c.args.options.0) (sym c.in-Nobody.is)

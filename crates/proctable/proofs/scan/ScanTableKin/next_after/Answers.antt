@@ -1,3 +1,7 @@
+use Rattle.std.proofs.Common.{◌∙◌, ap, sym, slice_get}
+use Rattle.std.specs.Option.{option_map, option_copied}
+use Rattle.posix.specs.Processes.{Process}
+use Rattle.posix.specs.Tables.{above, next_above}
 use Rattle.proctable.proofs.ScanLemmas.{rises_pids, next_same}
 use Rattle.proctable.proofs.scan.ScanTableKin.next_after.Goals as goal
 
@@ -5,4 +9,13 @@ pub next_above-requires : goal.next_above-requires
 next_above-requires c = rw c.deref.ensures.value (rises_pids c.self.inside.slots.items c.self.invariant)
 
 pub returns-clause-value : goal.returns-clause-value
-returns-clause-value c = rw (c.next_above.ensures, c.deref.ensures.value, ← c.self.view_is) (next_same c.args.pid c.self.inside.slots.items)
+unfolding next_above
+returns-clause-value c =
+    let first = c.next_above.ensures ∙ ap (λ rs. slice_get (above c.args.pid rs) 0) c.deref.ensures.value in
+    rw (← c.self.view_is, c.pid.ensures) (sym (ap (λ o. option_map (λ (r : Process). r.pid) (option_copied o)) c.in-Some.is) ∙ ap (option_map (λ (r : Process). r.pid)) first ∙ next_same (above c.args.pid c.self.inside.slots.items))
+
+pub returns-in_default-clause-value : goal.returns-in_default-clause-value
+unfolding next_above
+returns-in_default-clause-value c =
+    let first = c.next_above.ensures ∙ ap (λ rs. slice_get (above c.args.pid rs) 0) c.deref.ensures.value in
+    rw (← c.self.view_is) (sym (ap (λ o. option_map (λ (r : Process). r.pid) (option_copied o)) c.in_default.is) ∙ ap (option_map (λ (r : Process). r.pid)) first ∙ next_same (above c.args.pid c.self.inside.slots.items))

@@ -1,0 +1,318 @@
+-- Facts on children by their parents.
+use Rattle.std.proofs.Common.{◌≡◌, ◌≢◌, ℕ, ◌+◌, ◌-◌, ◌*◌, ◌<◌, ◌≤◌, Bool, true, false, cond, not, ◌&&◌, ◌||◌, refl, ap, sym, ◌∙◌, arith, subst, List, [], ◌∷◌, length, map, filter, find, Option, Some, None, ◌==◌, nat_lt, inl, inr, ⊎_elim, slice_get}
+use Rattle.std.specs.List.{AllByRecursion, list_any}
+use Rattle.std.specs.Option.{IfSome, IsSome, OnSome, option_map_or}
+use Rattle.std.proofs.lemmas.Bool.{eqb-true, eqb-false, eq-eqb, ne_eqb, ltb-true, ltb-false, cases_eq, not-true, and_parts, or_left, or_right, or_cases}
+use Rattle.std.proofs.lemmas.Map.Views.{any-filter_same}
+use Rattle.posix.specs.States.{is_in}
+use Rattle.pidset.specs.declared.child_set.ChildOf.{ChildOf}
+use Rattle.pidset.specs.Numbers.{Rises, with_number, inserted_in_order}
+use Rattle.pidset.specs.Children.{ArePairs, IsPair, IsNextChild, pair_number, is_pair, is_child_in}
+use Rattle.pidset.proofs.NumberLemmas.{AllAbove, in_with, in_above, rises_with, few}
+use Rattle.pidset.proofs.ItemLemmas.{rises_inserted, rises_passing}
+
+-- ---- the number of a pair
+
+-- it tells pairs apart
+pair_is : (x : ChildOf) (p c : ℕ) → x.child < 4294967296 → c < 4294967296 → is_pair p c x ≡ (pair_number x == p * 4294967296 + c)
+pair_is x p c low l = elim (cases_eq x.parent p) [
+  | inl e ↦ elim (cases_eq x.child c) [
+    | inl f ↦ rw (eq-eqb x.parent p e, eq-eqb x.child c f, eq-eqb (pair_number x) (p * 4294967296 + c) (omega (arith, e, f))) refl
+    | inr f ↦ rw (ne_eqb x.child c f, ne_eqb (pair_number x) (p * 4294967296 + c) (λ k. f (omega (arith, e, k)))) (and_false (x.parent == p))
+  ]
+  | inr e ↦ rw (ne_eqb x.parent p e, ne_eqb (pair_number x) (p * 4294967296 + c) (λ k. e (omega (arith, k, low, l)))) refl
+]
+  where
+    and_false : (b : Bool) → (b && false) ≡ false
+    and_false true = refl
+    and_false false = refl
+
+-- a child that is there is in the range of numbers
+pub child_range : (pairs : List ChildOf) → AllByRecursion IsPair pairs → (p c : ℕ) → is_child_in p c pairs ≡ true → (1 ≤ c) × (c < 4294967296)
+unfolding is_child_in
+child_range [] h p c e = absurd (cc)
+child_range (x ∷ xs) h p c e = ⊎_elim
+    (λ k. let same : x.child ≡ c = eqb-true _ _ (and_parts (x.parent == p) _ k).1 in let a = h.0.0 in let b = h.0.1 in (omega (arith, same, a), omega (arith, same, b)))
+    (λ k. child_range xs h.1 p c k)
+    (or_cases _ _ e)
+
+-- a child is there where its number is
+pub child_is : (pairs : List ChildOf) → AllByRecursion IsPair pairs → (p c : ℕ) → c < 4294967296 → is_child_in p c pairs ≡ is_in (p * 4294967296 + c) (map pair_number pairs)
+unfolding is_child_in is_in
+child_is [] h p c l = refl
+child_is (x ∷ xs) h p c l = rw (pair_is x p c h.0.1 l, child_is xs h.1 p c l) refl
+
+-- ---- a child that is put in
+
+any_inserted : (t : ChildOf → Bool) (new : ChildOf) (xs : List ChildOf) → list_any t (inserted_in_order pair_number new xs) ≡ (t new || list_any t xs)
+unfolding inserted_in_order
+any_inserted t new [] = refl
+any_inserted t new (x ∷ xs) = elim (nat_lt (pair_number new) (pair_number x)) as (λ b. list_any t (cond b (new ∷ x ∷ xs) (x ∷ inserted_in_order pair_number new xs)) ≡ (t new || (t x || list_any t xs))) [
+  | true ↦ refl
+  | false ↦ ap (λ b. t x || b) (any_inserted t new xs) ∙ swap (t x) (t new) (list_any t xs)
+]
+  where
+    swap : (a b c : Bool) → (a || (b || c)) ≡ (b || (a || c))
+    swap true true c = refl
+    swap true false c = refl
+    swap false b c = refl
+
+-- whether a pair is another one
+flip : (x : ChildOf) (p c : ℕ) → is_pair p c x ≡ (p == x.parent && c == x.child)
+flip x p c = ap (λ b. b && (x.child == c)) (turn x.parent p) ∙ ap (λ b. (p == x.parent) && b) (turn x.child c)
+  where
+    turn : (a b : ℕ) → (a == b) ≡ (b == a)
+    turn a b = elim (cases_eq a b) [ inl e ↦ rw (eq-eqb a b e, eq-eqb b a (sym e)) refl | inr e ↦ rw (ne_eqb a b e, ne_eqb b a (λ k. e (sym k))) refl ]
+
+pub child_put : (new : ChildOf) (pairs : List ChildOf) (p c : ℕ) → is_child_in p c (inserted_in_order pair_number new pairs) ≡ (p == new.parent && c == new.child || is_child_in p c pairs)
+unfolding is_child_in
+child_put new pairs p c = any_inserted (is_pair p c) new pairs ∙ ap (λ b. b || list_any (is_pair p c) pairs) (flip new p c)
+
+within_inserted : (new : ChildOf) (xs : List ChildOf) → IsPair new → AllByRecursion IsPair xs → AllByRecursion IsPair (inserted_in_order pair_number new xs)
+unfolding inserted_in_order
+within_inserted new [] i h = (i, tt)
+within_inserted new (x ∷ xs) i h = elim (nat_lt (pair_number new) (pair_number x)) as (λ b. AllByRecursion IsPair (cond b (new ∷ x ∷ xs) (x ∷ inserted_in_order pair_number new xs))) [
+  | true ↦ (i, h)
+  | false ↦ (h.0, within_inserted new xs i h.1)
+]
+
+pub pairs_put : (new : ChildOf) (pairs : List ChildOf) → IsPair new → ArePairs pairs → find (λ x. pair_number x == pair_number new) pairs ≡ None → ArePairs (inserted_in_order pair_number new pairs)
+pairs_put new pairs i h none = record { rising = rises_inserted pair_number pairs new h.rising none; within = within_inserted new pairs i h.within }
+
+-- where it is there, nothing is to be put in
+pub child_there : (p q c d : ℕ) (pairs : List ChildOf) → is_child_in q d pairs ≡ true → is_child_in p c pairs ≡ (p == q && c == d || is_child_in p c pairs)
+child_there p q c d pairs e = elim (p == q && c == d) as (λ b. (p == q && c == d) ≡ b → is_child_in p c pairs ≡ (b || is_child_in p c pairs)) [
+  | true ↦ λ t. let k = and_parts (p == q) _ t in ap (λ n. is_child_in n c pairs) (eqb-true _ _ k.0) ∙ ap (λ n. is_child_in q n pairs) (eqb-true _ _ k.1) ∙ e
+  | false ↦ λ t. refl
+] refl
+
+-- ---- a child that is taken out
+
+others_are : (x : ChildOf) (xs : List ChildOf) → x.child < 4294967296 → AllByRecursion IsPair xs → filter (λ y. not (pair_number y == pair_number x)) xs ≡ filter (λ y. not (is_pair x.parent x.child y)) xs
+others_are x [] l h = refl
+others_are x (y ∷ ys) l h = rw (pair_is y x.parent x.child h.0.1 l, others_are x ys l h.1) refl
+
+pub child_taken : (x : ChildOf) (pairs : List ChildOf) → x.child < 4294967296 → AllByRecursion IsPair pairs → (p c : ℕ) → is_child_in p c (filter (λ y. not (pair_number y == pair_number x)) pairs) ≡ (not (p == x.parent && c == x.child) && is_child_in p c pairs)
+unfolding is_child_in
+child_taken x pairs l h p c =
+    ap (list_any (is_pair p c)) (others_are x pairs l h)
+    ∙ any-filter_same (is_pair p c) (λ y. not (is_pair x.parent x.child y)) (not (p == x.parent && c == x.child)) (λ y e.
+    let k = and_parts (y.parent == p) _ e in
+    ap (λ n. not (n == x.parent && y.child == x.child)) (eqb-true y.parent p k.0) ∙ ap (λ n. not (p == x.parent && n == x.child)) (eqb-true y.child c k.1)) pairs
+
+within_filter : (t : ChildOf → Bool) (xs : List ChildOf) → AllByRecursion IsPair xs → AllByRecursion IsPair (filter t xs)
+within_filter t [] h = tt
+within_filter t (x ∷ xs) h = elim (t x) as (λ b. AllByRecursion IsPair (cond b (x ∷ filter t xs) (filter t xs))) [ true ↦ (h.0, within_filter t xs h.1) | false ↦ within_filter t xs h.1 ]
+
+pub pairs_taken : (n : ℕ) (pairs : List ChildOf) → ArePairs pairs → ArePairs (filter (λ y. not (pair_number y == n)) pairs)
+pairs_taken n pairs h = record { rising = rises_passing pair_number (λ m. not (m == n)) pairs h.rising; within = within_filter _ pairs h.within }
+
+-- one that is there is found
+pub child_found : (x : ChildOf) (pairs : List ChildOf) → x.child < 4294967296 → AllByRecursion IsPair pairs → is_child_in x.parent x.child pairs ≡ true → IsSome (find (λ y. pair_number y == pair_number x) pairs)
+unfolding is_child_in
+child_found x [] l h e = absurd (cc)
+child_found x (y ∷ ys) l h e = elim (pair_number y == pair_number x) as (λ b. (pair_number y == pair_number x) ≡ b → IsSome (cond b (Some y) (find (λ y. pair_number y == pair_number x) ys))) [
+  | true ↦ λ t. refl
+  | false ↦ λ t. child_found x ys l h.1 (⊎_elim (λ k. let no = sym (pair_is y x.parent x.child h.0.1 l ∙ t) ∙ k in absurd (cc)) (λ k. k) (or_cases _ _ e))
+] refl
+
+-- one that isn't found isn't there
+pub child_absent : (x : ChildOf) (pairs : List ChildOf) → x.child < 4294967296 → AllByRecursion IsPair pairs → find (λ y. pair_number y == pair_number x) pairs ≡ None → is_child_in x.parent x.child pairs ≡ false
+child_absent x pairs l h e = elim (is_child_in x.parent x.child pairs) as (λ b. is_child_in x.parent x.child pairs ≡ b → b ≡ false) [
+  | true ↦ λ t. let k = subst IsSome e (child_found x pairs l h t) in absurd (cc)
+  | false ↦ λ t. refl
+] refl
+
+-- ---- the next child
+
+-- x is the first above k: none is between
+pub record IsFirstAbove (k : ℕ) (pairs : List ChildOf) (x : ChildOf) : Type 0 where
+  pub high : k < pair_number x
+  pub range : IsPair x
+  pub here : is_child_in x.parent x.child pairs ≡ true
+  pub least : (q c : ℕ) → is_child_in q c pairs ≡ true → k < q * 4294967296 + c → pair_number x ≤ q * 4294967296 + c
+
+is_same : (x : ChildOf) → is_pair x.parent x.child x ≡ true
+is_same x = rw (eq-eqb x.parent x.parent refl) (eq-eqb x.child x.child refl)
+
+-- a pair in a list above k is above k
+pair_above : (k : ℕ) (xs : List ChildOf) → AllByRecursion IsPair xs → AllAbove k (map pair_number xs) → (q c : ℕ) → is_child_in q c xs ≡ true → k < q * 4294967296 + c
+pair_above k xs h a q c e = in_above k (q * 4294967296 + c) (map pair_number xs) a (sym (child_is xs h q c (child_range xs h q c e).1) ∙ e)
+
+-- a pair in a list is the first of it, or in the rest
+first_or : {A : Type 0} (x : ChildOf) (xs : List ChildOf) (q c : ℕ) → is_child_in q c (x ∷ xs) ≡ true → (x.parent ≡ q → x.child ≡ c → A) → (is_child_in q c xs ≡ true → A) → A
+unfolding is_child_in
+first_or x xs q c e f g = ⊎_elim (λ k. let b = and_parts (x.parent == q) _ k in f (eqb-true _ _ b.0) (eqb-true _ _ b.1)) g (or_cases _ _ e)
+
+in_others : (x : ChildOf) (xs : List ChildOf) (q c : ℕ) → is_child_in q c xs ≡ true → is_child_in q c (x ∷ xs) ≡ true
+unfolding is_child_in
+in_others x xs q c e = or_right (is_pair q c x) _ e
+
+in_head : (x : ChildOf) (xs : List ChildOf) → is_child_in x.parent x.child (x ∷ xs) ≡ true
+unfolding is_child_in
+in_head x xs = or_left _ _ (is_same x)
+
+pub first_above : (k : ℕ) (pairs : List ChildOf) → ArePairs pairs → (x : ChildOf) → slice_get (filter (λ y. nat_lt k (pair_number y)) pairs) 0 ≡ Some x → IsFirstAbove k pairs x
+unfolding Rises
+first_above k [] h x e = absurd (cc)
+first_above k (y ∷ ys) h x e = elim (nat_lt k (pair_number y)) as (λ b. nat_lt k (pair_number y) ≡ b → slice_get (cond b (y ∷ filter (λ y. nat_lt k (pair_number y)) ys) (filter (λ y. nat_lt k (pair_number y)) ys)) 0 ≡ Some x → IsFirstAbove k (y ∷ ys) x) [
+  | true ↦ λ t f. let one : y ≡ x = cc in subst (IsFirstAbove k (y ∷ ys)) one (record {
+    high = ltb-true _ _ t;
+    range = h.within.0;
+    here = in_head y ys;
+    least = λ q c i l. first_or y ys q c i (λ a b. omega (arith, a, b)) (λ j. let m = pair_above (pair_number y) ys h.within.1 h.rising.0 q c j in omega (arith, m));
+  })
+  | false ↦ λ t f.
+      let low : pair_number y ≤ k = ltb-false _ _ t in
+      let i = first_above k ys (record { rising = h.rising.1; within = h.within.1 }) x f in
+      record { high = i.high; range = i.range; here = in_others y ys x.parent x.child i.here; least = λ q c j l. first_or y ys q c j (λ a b. omega (arith, a, b, low, l)) (λ m. i.least q c m l) }
+] refl e
+
+pub none_above : (k : ℕ) (pairs : List ChildOf) → ArePairs pairs → slice_get (filter (λ y. nat_lt k (pair_number y)) pairs) 0 ≡ None → (q c : ℕ) → is_child_in q c pairs ≡ true → k < q * 4294967296 + c → ⊥
+unfolding Rises is_child_in
+none_above k [] h e q c i l = absurd (cc)
+none_above k (y ∷ ys) h e q c i l = elim (nat_lt k (pair_number y)) as (λ b. nat_lt k (pair_number y) ≡ b → slice_get (cond b (y ∷ filter (λ y. nat_lt k (pair_number y)) ys) (filter (λ y. nat_lt k (pair_number y)) ys)) 0 ≡ None → ⊥) [
+  | true ↦ λ t f. absurd (cc)
+  | false ↦ λ t f. let low : pair_number y ≤ k = ltb-false _ _ t in first_or y ys q c i (λ a b. omega (arith, a, b, low, l)) (λ j. none_above k ys (record { rising = h.rising.1; within = h.within.1 }) f q c j l)
+] refl e
+
+-- so the first above n of the pairs of p is the next child of p
+pub next_is_child : (p n : ℕ) (pairs : List ChildOf) (x : ChildOf) → ArePairs pairs → IsFirstAbove (p * 4294967296 + n) pairs x → x.parent ≡ p → IsNextChild p n pairs (Some x.child)
+next_is_child p n pairs x h i mine = record {
+  there = λ c e. let same : x.child ≡ c = cc in let high = i.high in (omega (arith, high, mine, same), ap (λ q. is_child_in q c pairs) (sym mine) ∙ ap (λ d. is_child_in x.parent d pairs) (sym same) ∙ i.here);
+  least = λ c e l. let k = i.least p c e (omega (arith, l)) in (x.child, refl, omega (arith, k, mine));
+}
+
+-- and where it is another's, or there is none, there is no next child
+pub no_next_child : (p n : ℕ) (pairs : List ChildOf) (x : ChildOf) → ArePairs pairs → IsFirstAbove (p * 4294967296 + n) pairs x → x.parent ≢ p → IsNextChild p n pairs None
+no_next_child p n pairs x h i other = record {
+  there = λ c e. absurd (cc);
+  least = λ c e l.
+      let k = i.least p c e (omega (arith, l)) in
+      let low = (child_range pairs h.within p c e).1 in
+      let high = i.high in
+      let small = i.range.1 in
+      absurd (other (omega (arith, k, low, high, small)));
+}
+
+pub none_next_child : (p n : ℕ) (pairs : List ChildOf) → ArePairs pairs → slice_get (filter (λ y. nat_lt (p * 4294967296 + n) (pair_number y)) pairs) 0 ≡ None → IsNextChild p n pairs None
+none_next_child p n pairs h none = record { there = λ c e. absurd (cc); least = λ c e l. absurd (none_above (p * 4294967296 + n) pairs h none p c e (omega (arith, l))) }
+
+-- ---- how many there are
+
+-- the children in rising order
+in_order : List ChildOf → List ℕ
+in_order [] = []
+in_order (x ∷ xs) = with_number x.child (in_order xs)
+
+rises_in_order : (xs : List ChildOf) → Rises (in_order xs)
+unfolding in_order Rises
+rises_in_order [] = tt
+rises_in_order (x ∷ xs) = rises_with x.child (in_order xs) (rises_in_order xs)
+
+-- who is in it is some parent's
+parent_in_order : (xs : List ChildOf) (c : ℕ) → is_in c (in_order xs) ≡ true → (p : ℕ) × (is_child_in p c xs ≡ true)
+unfolding in_order is_in
+parent_in_order [] c e = absurd (cc)
+parent_in_order (x ∷ xs) c e = ⊎_elim
+    (λ t. let same : x.child ≡ c = eqb-true _ _ t in (x.parent, ap (λ n. is_child_in x.parent n (x ∷ xs)) (sym same) ∙ in_head x xs))
+    (λ t. let k = parent_in_order xs c t in (k.0, in_others x xs k.0 c k.1))
+    (or_cases _ _ (sym (in_with c x.child (in_order xs)) ∙ e))
+
+length_with : (n : ℕ) (ns : List ℕ) → is_in n ns ≡ false → length (with_number n ns) ≡ length ns + 1
+unfolding with_number is_in
+length_with n [] e = refl
+length_with n (x ∷ xs) e = grind (arith, length_with n xs, eq-eqb x n, eqb-true n x)
+
+-- where no child has two parents, they are as many as the pairs
+length_in_order : (xs : List ChildOf) → ArePairs xs → ((p q c : ℕ) → is_child_in p c xs ≡ true → is_child_in q c xs ≡ true → p ≡ q) → length (in_order xs) ≡ length xs
+unfolding in_order Rises
+length_in_order [] h once = refl
+length_in_order (x ∷ xs) h once =
+    let rest = length_in_order xs (record { rising = h.rising.1; within = h.within.1 }) (λ p q c e f. once p q c (in_others x xs p c e) (in_others x xs q c f)) in
+    let new : is_in x.child (in_order xs) ≡ false = elim (is_in x.child (in_order xs)) as (λ b. is_in x.child (in_order xs) ≡ b → b ≡ false) [
+      | true ↦ λ t.
+          let k = parent_in_order xs x.child t in
+          let same = once k.0 x.parent x.child (in_others x xs k.0 x.child k.1) (in_head x xs) in
+          let less = pair_above (pair_number x) xs h.within.1 h.rising.0 k.0 x.child k.1 in
+          absurd (omega (arith, same, less))
+      | false ↦ λ t. refl
+    ] refl in
+    let l = length_with x.child (in_order xs) new in
+    omega (arith, l, rest)
+
+-- so children up to m, of one parent each, are no more than m
+pub few_children : (m : ℕ) (xs : List ChildOf) → ArePairs xs → ((p c : ℕ) → is_child_in p c xs ≡ true → c ≤ m) → ((p q c : ℕ) → is_child_in p c xs ≡ true → is_child_in q c xs ≡ true → p ≡ q) → length xs ≤ m
+few_children m xs h most once =
+    let l = few m (in_order xs) (rises_in_order xs) (λ c e. let k = parent_in_order xs c e in ((child_range xs h.within k.0 c k.1).0, most k.0 c k.1)) in
+    let same = length_in_order xs h once in
+    omega (arith, l, same)
+
+-- what is said where there is one
+pub on_some : {X : Type 0} {P : Type 0} (o : Option X) → IsSome o → OnSome o P → P
+on_some None e h = absurd (cc)
+on_some (Some x) e h = h
+
+-- ---- the children of one parent that become those of another
+
+-- the next child is there, and in the range of numbers
+pub next_here : (p n : ℕ) (pairs : List ChildOf) (next : Option ℕ) → ArePairs pairs → IsNextChild p n pairs next → IfSome next (λ c. (is_child_in p c pairs ≡ true) × (c < 4294967296) × (1 ≤ c))
+next_here p n pairs None h i = tt
+next_here p n pairs (Some c) h i = let e = (i.there c refl).1 in let r = child_range pairs h.within p c e in (e, r.1, r.0)
+
+-- one of them was moved
+pub record IsMoved (from to child : ℕ) (now put : List ChildOf) : Type 0 where
+  pub others : (p c : ℕ) → p ≢ from → p ≢ to → is_child_in p c put ≡ is_child_in p c now
+  pub gone : (c : ℕ) → is_child_in from c put ≡ (not (c == child) && is_child_in from c now)
+  pub came : (c : ℕ) → is_child_in to c put ≡ (c == child || is_child_in to c now)
+
+pub moved_one : (from to child : ℕ) (now removed put : List ChildOf) → from ≢ to → ((p c : ℕ) → is_child_in p c removed ≡ (not (p == from && c == child) && is_child_in p c now))
+    → ((p c : ℕ) → is_child_in p c put ≡ (p == to && c == child || is_child_in p c removed)) → IsMoved from to child now put
+moved_one from to child now removed put ne taken puts = record {
+  others = λ p c a b. puts p c ∙ rw (ne_eqb p to b) (taken p c ∙ rw (ne_eqb p from a) refl);
+  gone = λ c. puts from c ∙ rw (ne_eqb from to ne) (taken from c ∙ rw (eq-eqb from from refl) refl);
+  came = λ c. puts to c ∙ rw (eq-eqb to to refl) (ap (λ b. c == child || b) (taken to c ∙ rw (ne_eqb to from (λ x. ne (sym x))) refl));
+}
+
+-- the two have the same children, between them
+pub moved_same : (from to child : ℕ) (now put : List ChildOf) → IsMoved from to child now put → is_child_in from child now ≡ true → (c : ℕ) → (is_child_in to c put || is_child_in from c put) ≡ (is_child_in to c now || is_child_in from c now)
+moved_same from to child now put m here c = rw (m.came c, m.gone c) (elim (cases_eq c child) [
+  | inl e ↦ rw (eq-eqb c child e, ap (λ n. is_child_in from n now) e ∙ here) (sym (or_true (is_child_in to c now)))
+  | inr e ↦ rw (ne_eqb c child e) refl
+])
+  where
+    or_true : (b : Bool) → (b || true) ≡ true
+    or_true true = refl
+    or_true false = refl
+
+-- a child that is left is another
+pub left_is_other : (from to child c : ℕ) (now put : List ChildOf) → IsMoved from to child now put → is_child_in from c put ≡ true → (c ≢ child) × (is_child_in from c now ≡ true)
+left_is_other from to child c now put m e = let k = and_parts (not (c == child)) _ (sym (m.gone c) ∙ e) in (eqb-false c child (not-true _ k.0), k.1)
+
+-- once none is left, all have been moved
+pub moved_all : (from to : ℕ) (old now : List ChildOf) → ((c : ℕ) → is_child_in from c now ≡ true → ⊥) → ((p c : ℕ) → p ≢ from → p ≢ to → is_child_in p c now ≡ is_child_in p c old)
+    → ((c : ℕ) → (is_child_in to c now || is_child_in from c now) ≡ (is_child_in to c old || is_child_in from c old)) → from ≢ to
+    → (p c : ℕ) → is_child_in p c now ≡ (not (p == from) && (is_child_in p c old || p == to && is_child_in from c old))
+moved_all from to old now none others same ne p c = elim (cases_eq p from) [
+  | inl e ↦ rw (eq-eqb p from e) (ap (λ n. is_child_in n c now) e ∙ gone c)
+  | inr a ↦ rw (ne_eqb p from a) (elim (cases_eq p to) [
+    | inl e ↦ rw (eq-eqb p to e) (ap (λ n. is_child_in n c now) e ∙ or_false _ (is_child_in to c now) (gone c) ∙ same c ∙ ap (λ n. is_child_in n c old || is_child_in from c old) (sym e))
+    | inr b ↦ rw (ne_eqb p to b) (others p c a b ∙ false_or (is_child_in p c old))
+  ])
+]
+  where
+    gone : (c : ℕ) → is_child_in from c now ≡ false
+    gone c = elim (is_child_in from c now) as (λ b. is_child_in from c now ≡ b → b ≡ false) [ true ↦ λ t. absurd (none c t) | false ↦ λ t. refl ] refl
+
+    or_false : (a b : Bool) → a ≡ false → b ≡ (b || a)
+    or_false a true e = refl
+    or_false a false e = sym e
+
+    false_or : (b : Bool) → b ≡ (b || false)
+    false_or true = refl
+    false_or false = refl
+
+-- the walk goes up
+pub goes_up : (p n : ℕ) (pairs : List ChildOf) (next : Option ℕ) → IsNextChild p n pairs next → n < 4294967296 → option_map_or (λ c. 4294967296 - c) next 0 < 4294967296 - n
+goes_up p n pairs None i l = omega (arith, l)
+goes_up p n pairs (Some c) i l = let k = (i.there c refl).0 in omega (arith, k, l)
