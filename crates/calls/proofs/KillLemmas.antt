@@ -15,7 +15,7 @@ use Rattle.posix.specs.Outcomes as outcome
 use Rattle.posix.specs.Generation.{signalled, signalled_all}
 use Rattle.posix.specs.Sends.{permitted, sending, sent, sent_among, sent_by, signal_or_none, send_with, kill, kill_with}
 use Rattle.posix.proofs.RegularLemmas.{keeps_signalled}
-use Rattle.calls.proofs.ReportLemmas.{some_changed}
+use Rattle.posix.proofs.ReportLemmas.{some_changed}
 use Rattle.calls.proofs.ChosenLemmas.{sent_nobody}
 
 -- ---- who is there

@@ -1,4 +1,3 @@
-pub mod ReportLemmas
 pub mod CallLemmas
 pub mod ChosenLemmas
 pub mod DeliveryLemmas

@@ -13,7 +13,7 @@ use Rattle.proctable.specs.declared.own.Own.{Own}
 use Rattle.proctable.specs.Body.{own_of, give_own}
 use Rattle.life.proofs.LoanLemmas.{was_written, own_is}
 use Rattle.calls.specs.Outcomes.{Comes, Answers, with_own}
-use Rattle.calls.proofs.ReportLemmas.{some_changed}
+use Rattle.posix.proofs.ReportLemmas.{some_changed}
 
 -- the process in the words of what was lent of it
 pub own_process : (s : State) (p : ℕ) (o : Own) (me : Process) → IfSome (process s p) (λ r. o ≡ own_of r) → process s p ≡ Some me → with_own p o me ≡ me

@@ -59,50 +59,55 @@ use Rattle.posix.proofs.UnseenLemmas.{settle_unseen}
 
 -- ---- what entries tell of a refusal
 
+-- which negative results count, and what holds where there was no memory
+record Terms : Type 1 where
+  counts : ℕ → Type 0
+  wanting : Type 0
+
 -- where the entry tells that a call of p was refused, by a result that counts, this is all that changed
-abbrev Explained : (ℕ → Type 0) → State → ℕ → State → Entry → Type 0
+abbrev Explained : Terms → State → ℕ → State → Entry → Type 0
 Explained C s p new (Noted q value) = Unit {0}
 Explained C s p new (Called q call (pos n)) = Unit {0}
-Explained C s p new (Called q call (negsuc n)) = C n → (q ≡ p) × (new ≡ finish s p ((0, negsuc n) ∷ []))
+Explained C s p new (Called q call (negsuc n)) = C.counts n → (q ≡ p) × (new ≡ finish s p ((0, negsuc n) ∷ []))
 Explained C s p new (Reported q child status) = Unit {0}
-Explained C s p new (NoMemory q call) = (q ≡ p) × (new ≡ finish s p ((0, refusal EAGAIN) ∷ []))
+Explained C s p new (NoMemory q call) = C.wanting × (q ≡ p) × (new ≡ finish s p ((0, refusal EAGAIN) ∷ []))
 Explained C s p new (Handled q sig value sender) = Unit {0}
 Explained C s p new (Discarded q sig) = Unit {0}
 Explained C s p new (Returned q) = Unit {0}
 Explained C s p new (Ended q status) = Unit {0}
 Explained C s p new Halted = Unit {0}
 
--- all negative results
-abbrev Any : ℕ → Type 0
-Any n = Unit {0}
+-- all negative results; and there is no want of memory
+abbrev Any : Terms
+Any = record { counts = λ n. Unit {0}; wanting = ⊥ }
 
--- all but -4, which a call gives that a signal interrupts
-abbrev NotInterrupted : ℕ → Type 0
-NotInterrupted n = n ≢ 3
+-- all but -4, which a call gives that a signal interrupts; memory is wanting where it isn't granted
+abbrev NotInterrupted : Bool → Terms
+NotInterrupted granted = record { counts = λ n. n ≢ 3; wanting = granted ≡ false }
 
 -- the same of all entries of an outcome
-abbrev ExplainedBy : (ℕ → Type 0) → State → ℕ → Outcome → Type 0
+abbrev ExplainedBy : Terms → State → ℕ → Outcome → Type 0
 ExplainedBy C s p o = AllByRecursion (Explained C s p o.state) o.entries
 
 -- the same of an attempt that is done
-abbrev ExplainedIf : (ℕ → Type 0) → State → ℕ → Attempted → Type 0
+abbrev ExplainedIf : Terms → State → ℕ → Attempted → Type 0
 ExplainedIf C s p (Done o) = ExplainedBy C s p o
 ExplainedIf C s p (Block b) = Unit {0}
 
 -- of both sides of a test
-explained_if : (C : ℕ → Type 0) (s : State) (p : ℕ) (b : Bool) (x y : Attempted) → ExplainedIf C s p x → ExplainedIf C s p y → ExplainedIf C s p (cond b x y)
+explained_if : (C : Terms) (s : State) (p : ℕ) (b : Bool) (x y : Attempted) → ExplainedIf C s p x → ExplainedIf C s p y → ExplainedIf C s p (cond b x y)
 explained_if C s p true x y h k = h
 explained_if C s p false x y h k = k
 
 -- of both outcomes of a test
-explained_either : (C : ℕ → Type 0) (s : State) (p : ℕ) (b : Bool) (x y : Outcome) → ExplainedBy C s p x → ExplainedBy C s p y → ExplainedBy C s p (cond b x y)
+explained_either : (C : Terms) (s : State) (p : ℕ) (b : Bool) (x y : Outcome) → ExplainedBy C s p x → ExplainedBy C s p y → ExplainedBy C s p (cond b x y)
 explained_either C s p true x y h k = h
 explained_either C s p false x y h k = k
 
 -- ---- calls that no signal enters into
 
 -- a refusal
-explained_refused : (C : ℕ → Type 0) (s : State) (p : ℕ) (call : Call) (errno : Errno) → ExplainedIf C s p (refused s p call errno)
+explained_refused : (C : Terms) (s : State) (p : ℕ) (call : Call) (errno : Errno) → ExplainedIf C s p (refused s p call errno)
 explained_refused C s p call EPERM = (λ c. (refl, refl), tt)
 explained_refused C s p call ENOENT = (λ c. (refl, refl), tt)
 explained_refused C s p call ESRCH = (λ c. (refl, refl), tt)
@@ -116,14 +121,14 @@ explained_refused C s p call EINVAL = (λ c. (refl, refl), tt)
 explained_refused C s p call ENOTTY = (λ c. (refl, refl), tt)
 
 -- a wait by what it found
-explained_with : (C : ℕ → Type 0) (s : State) (p options : ℕ) (what : Report) → ExplainedIf C s p (wait_with s p options what)
+explained_with : (C : Terms) (s : State) (p options : ℕ) (what : Report) → ExplainedIf C s p (wait_with s p options what)
 explained_with C s p options found.NoChild = explained_refused C s p Waitpid ECHILD
 explained_with C s p options found.Nothing = explained_if C s p (has_option options 1) _ _ (tt, tt) tt
 explained_with C s p options (found.End child status) = (tt, tt)
 explained_with C s p options (found.Change child status) = (tt, tt)
 
 -- a wait
-explained_wait : (C : ℕ → Type 0) (s : State) (me : Process) → ExplainedIf C s me.pid (wait s me)
+explained_wait : (C : Terms) (s : State) (me : Process) → ExplainedIf C s me.pid (wait s me)
 unfolding wait
 explained_wait C s me =
     explained_if C s me.pid (are_known (options_in (argument me 2))) _ _
@@ -131,14 +136,15 @@ explained_wait C s me =
     (explained_refused C s me.pid Waitpid EINVAL)
 
 -- a fork
-explained_fork : (C : ℕ → Type 0) (granted : Bool) (s : State) (me : Process) (n : Option ℕ) → ExplainedIf C s me.pid (fork_as granted s me n)
+explained_fork : (C : Terms) (granted : Bool) → (granted ≡ false → C.wanting) → (s : State) (me : Process) (n : Option ℕ) → ExplainedIf C s me.pid (fork_as granted s me n)
 unfolding fork_as
-explained_fork C granted s me None = explained_refused C s me.pid Fork EAGAIN
-explained_fork C granted s me (Some n) = explained_if C s me.pid granted _ _ (tt, tt) ((refl, refl), tt)
+explained_fork C granted want s me None = explained_refused C s me.pid Fork EAGAIN
+explained_fork C true want s me (Some n) = (tt, tt)
+explained_fork C false want s me (Some n) = ((want refl, refl, refl), tt)
 
 -- a reply that is a refusal changes nothing else
 abbrev IsExplained : Reply → Type 1
-IsExplained reply = (C : ℕ → Type 0) (s : State) (p : ℕ) (call : Call) → ExplainedIf C s p (answers s p call reply)
+IsExplained reply = (C : Terms) (s : State) (p : ℕ) (call : Call) → ExplainedIf C s p (answers s p call reply)
 
 -- both sides of a test
 explained_replies : (b : Bool) (x y : Reply) → IsExplained x → IsExplained y → IsExplained (cond b x y)
@@ -151,18 +157,18 @@ explained_ids (Ok c) = λ C s p call. (tt, tt)
 explained_ids (Err why) = λ C s p call. explained_refused C s p call why
 
 -- a signal that is sent, by whom it finds
-explained_send : (C : ℕ → Type 0) (s : State) (me : Process) (target : Target) (sig : Option ℕ) (what : Sending) → ExplainedIf C s me.pid (send_with s me target sig what)
+explained_send : (C : Terms) (s : State) (me : Process) (target : Target) (sig : Option ℕ) (what : Sending) → ExplainedIf C s me.pid (send_with s me target sig what)
 explained_send C s me target sig sends.NobodyFound = explained_refused C s me.pid Kill ESRCH
 explained_send C s me target sig sends.NobodyPermitted = explained_refused C s me.pid Kill EPERM
 explained_send C s me target sig sends.Permitted = (tt, tt)
 
 -- a signal that is sent, by what it is
-explained_kill_with : (C : ℕ → Type 0) (s : State) (me : Process) (target : Target) (sig : Result (Option ℕ) Errno) → ExplainedIf C s me.pid (kill_with s me target sig)
+explained_kill_with : (C : Terms) (s : State) (me : Process) (target : Target) (sig : Result (Option ℕ) Errno) → ExplainedIf C s me.pid (kill_with s me target sig)
 explained_kill_with C s me target (Ok sig) = explained_send C s me target sig (sending me target sig s.processes)
 explained_kill_with C s me target (Err why) = explained_refused C s me.pid Kill why
 
 -- a signal that is sent
-explained_kill : (C : ℕ → Type 0) (s : State) (me : Process) → ExplainedIf C s me.pid (kill s me)
+explained_kill : (C : Terms) (s : State) (me : Process) → ExplainedIf C s me.pid (kill s me)
 unfolding kill
 explained_kill C s me = explained_kill_with C s me (target_in (argument me 1)) (signal_or_none (argument me 2))
 
@@ -200,7 +206,7 @@ unfolding sigpending
 explained_pending me = λ C s p call. (tt, tt)
 
 -- each call afresh
-explained_again : (C : ℕ → Type 0) (s : State) (me : Process) (b : Blocked) → ExplainedIf C s me.pid (attempt_again s me b)
+explained_again : (C : Terms) (s : State) (me : Process) (b : Blocked) → ExplainedIf C s me.pid (attempt_again s me b)
 unfolding attempt_again
 explained_again C s me blocked.Waitpid = explained_wait C s me
 explained_again C s me blocked.Pause = tt
@@ -210,7 +216,7 @@ explained_again C s me (blocked.Sigsuspend mask) = tt
 
 -- no entry tells of a refusal, whatever changed
 abbrev NoRefusal : List Entry → Type 0
-NoRefusal es = (s new : State) (p : ℕ) → AllByRecursion (Explained NotInterrupted s p new) es
+NoRefusal es = (granted : Bool) (s new : State) (p : ℕ) → AllByRecursion (Explained (NotInterrupted granted) s p new) es
 
 -- of both outcomes of a test
 none_either : (b : Bool) (x y : Outcome) → NoRefusal x.entries → NoRefusal y.entries → NoRefusal (cond b x y).entries
@@ -220,19 +226,19 @@ none_either false x y h k = k
 -- of one list after another
 none_append : (xs ys : List Entry) → NoRefusal xs → NoRefusal ys → NoRefusal (xs ++ ys)
 none_append [] ys h k = k
-none_append (x ∷ xs) ys h k = λ s new p. ((h s new p).0, none_append xs ys (λ s new p. (h s new p).1) k s new p)
+none_append (x ∷ xs) ys h k = λ granted s new p. ((h granted s new p).0, none_append xs ys (λ granted s new p. (h granted s new p).1) k granted s new p)
 
 -- an end
 none_end : (s : State) (r : Process) (status : ℕ) → NoRefusal (end_process s r status).entries
 unfolding end_process
-none_end s r status = none_either (r.pid == 1) _ _ (λ s new p. (tt, (tt, tt))) (λ s new p. (tt, tt))
+none_end s r status = none_either (r.pid == 1) _ _ (λ granted s new p. (tt, (tt, tt))) (λ granted s new p. (tt, tt))
 
 -- a call that is interrupted gives -4
 none_interrupted : (p : ℕ) (b : Option Blocked) (a : Action) → NoRefusal (interruption p b a)
-none_interrupted p None a = λ s new q. tt
+none_interrupted p None a = λ granted s new q. tt
 none_interrupted p (Some b) a = elim (is_interrupted (Some b) a) as (λ t. NoRefusal (cond t (Called p (call_of b) (refusal EINTR) ∷ []) [])) [
-  | true ↦ λ s new q. (λ other. absurd (other refl), tt)
-  | false ↦ λ s new q. tt
+  | true ↦ λ granted s new q. (λ other. absurd (other refl), tt)
+  | false ↦ λ granted s new q. tt
 ]
 
 -- a handler that is entered
@@ -243,21 +249,21 @@ none_handle s r signal address =
     let told = none_interrupted r.pid r.blocked (action r.signals signal.sig) in
     none_either (is_full r.signals) _ _
     (none_append first _ told (none_end (change s r.pid (handles signal address)) r (killed SEGV)))
-    (none_append first _ told (λ s new p. (tt, tt)))
+    (none_append first _ told (λ granted s new p. (tt, tt)))
 
 -- a default action
 none_default : (s : State) (r : Process) (n : ℕ) (a : DefaultAction) → NoRefusal (act_by_default s r n a).entries
 none_default s r n default.Terminate = none_end s r (killed n)
-none_default s r n default.Ignore = λ s new p. (tt, tt)
-none_default s r n default.Stop = λ s new p. (tt, tt)
-none_default s r n default.Continue = λ s new p. (tt, tt)
+none_default s r n default.Ignore = λ granted s new p. (tt, tt)
+none_default s r n default.Stop = λ granted s new p. (tt, tt)
+none_default s r n default.Continue = λ granted s new p. (tt, tt)
 
 -- the action of a signal
 none_on : (s : State) (r : Process) (signal : PendingSignal) (h : Handler) → NoRefusal (act_on s r signal h).entries
 none_on s r signal (handler.At address) = none_handle s r signal address
-none_on s r signal handler.Ignore = λ s new p. (tt, tt)
+none_on s r signal handler.Ignore = λ granted s new p. (tt, tt)
 none_on s r signal handler.Default =
-    none_either (r.pid == 1) _ _ (λ s new p. (tt, tt)) (none_default s r signal.sig (default_action signal.sig))
+    none_either (r.pid == 1) _ _ (λ granted s new p. (tt, tt)) (none_default s r signal.sig (default_action signal.sig))
 
 -- a delivery
 none_deliver : (s : State) (r : Process) (n : ℕ) → NoRefusal (deliver s r n).entries
@@ -279,7 +285,7 @@ none_fault s r n = none_fault_with s r n (action r.signals n).handler
 -- a return to a frame
 none_return_to : (s : State) (r : Process) (frame : Option Frame) → NoRefusal (return_to s r frame).entries
 none_return_to s r None = none_fault s r SEGV
-none_return_to s r (Some frame) = λ s new p. (tt, tt)
+none_return_to s r (Some frame) = λ granted s new p. (tt, tt)
 
 -- a return from a handler
 none_return : (s : State) (r : Process) → NoRefusal (return_from_handler s r).entries
@@ -289,11 +295,11 @@ none_return s r = none_return_to s r (newest_frame r.signals)
 -- ---- all calls
 
 -- each call
-explained_attempt : (granted : Bool) (s : State) (me : Process) (call : Call) → ExplainedIf NotInterrupted s me.pid (attempt granted s me call)
+explained_attempt : (granted : Bool) (s : State) (me : Process) (call : Call) → ExplainedIf (NotInterrupted granted) s me.pid (attempt granted s me call)
 unfolding attempt
-explained_attempt granted s me Exit = none_end s me (exited (argument me 1)) s (end_process s me (exited (argument me 1))).state me.pid
-explained_attempt granted s me Fork = explained_fork NotInterrupted granted s me (next_pid s)
-explained_attempt granted s me Waitpid = explained_wait NotInterrupted s me
+explained_attempt granted s me Exit = none_end s me (exited (argument me 1)) granted s (end_process s me (exited (argument me 1))).state me.pid
+explained_attempt granted s me Fork = explained_fork (NotInterrupted granted) granted (λ e. e) s me (next_pid s)
+explained_attempt granted s me Waitpid = explained_wait (NotInterrupted granted) s me
 explained_attempt granted s me Pause = tt
 explained_attempt granted s me SchedYield = (tt, tt)
 explained_attempt granted s me Getpid = (tt, tt)
@@ -302,16 +308,16 @@ explained_attempt granted s me Getuid = (tt, tt)
 explained_attempt granted s me Geteuid = (tt, tt)
 explained_attempt granted s me Getgid = (tt, tt)
 explained_attempt granted s me Getegid = (tt, tt)
-explained_attempt granted s me Setuid = explained_ids (setuid me.credentials (argument me 1)) NotInterrupted s me.pid Setuid
-explained_attempt granted s me Seteuid = explained_ids (seteuid me.credentials (argument me 1)) NotInterrupted s me.pid Seteuid
-explained_attempt granted s me Setgid = explained_ids (setgid me.credentials (argument me 1)) NotInterrupted s me.pid Setgid
-explained_attempt granted s me Setegid = explained_ids (setegid me.credentials (argument me 1)) NotInterrupted s me.pid Setegid
-explained_attempt granted s me Kill = explained_kill NotInterrupted s me
-explained_attempt granted s me Sigaction = explained_action me NotInterrupted s me.pid Sigaction
-explained_attempt granted s me Sigprocmask = explained_mask me NotInterrupted s me.pid Sigprocmask
-explained_attempt granted s me Sigpending = explained_pending me NotInterrupted s me.pid Sigpending
+explained_attempt granted s me Setuid = explained_ids (setuid me.credentials (argument me 1)) (NotInterrupted granted) s me.pid Setuid
+explained_attempt granted s me Seteuid = explained_ids (seteuid me.credentials (argument me 1)) (NotInterrupted granted) s me.pid Seteuid
+explained_attempt granted s me Setgid = explained_ids (setgid me.credentials (argument me 1)) (NotInterrupted granted) s me.pid Setgid
+explained_attempt granted s me Setegid = explained_ids (setegid me.credentials (argument me 1)) (NotInterrupted granted) s me.pid Setegid
+explained_attempt granted s me Kill = explained_kill (NotInterrupted granted) s me
+explained_attempt granted s me Sigaction = explained_action me (NotInterrupted granted) s me.pid Sigaction
+explained_attempt granted s me Sigprocmask = explained_mask me (NotInterrupted granted) s me.pid Sigprocmask
+explained_attempt granted s me Sigpending = explained_pending me (NotInterrupted granted) s me.pid Sigpending
 explained_attempt granted s me Sigsuspend = tt
-explained_attempt granted s me Sigreturn = none_return s me s (return_from_handler s me).state me.pid
+explained_attempt granted s me Sigreturn = none_return s me granted s (return_from_handler s me).state me.pid
 
 -- ---- an entry among others
 
@@ -327,13 +333,13 @@ all_contains P (x ∷ xs) h e (suc k, l, is) = all_contains P xs h.1 e (k, omega
 pub attempt_refused : (granted : Bool) (s : State) (me : Process) (call : Call) (o : Outcome) → attempt granted s me call ≡ Done o
     → (p n : ℕ) (called : Call) → n ≢ 3 → Contains o.entries (Called p called (negsuc n)) → o.state ≡ finish s me.pid ((0, negsuc n) ∷ [])
 attempt_refused granted s me call o is p n called other c =
-    (all_contains (Explained NotInterrupted s me.pid o.state) o.entries (subst (ExplainedIf NotInterrupted s me.pid) is (explained_attempt granted s me call)) (Called p called (negsuc n)) c other).1
+    (all_contains (Explained (NotInterrupted granted) s me.pid o.state) o.entries (subst (ExplainedIf (NotInterrupted granted) s me.pid) is (explained_attempt granted s me call)) (Called p called (negsuc n)) c other).1
 
 -- no memory in an attempt
 pub attempt_no_memory : (granted : Bool) (s : State) (me : Process) (call : Call) (o : Outcome) → attempt granted s me call ≡ Done o
     → (p : ℕ) (called : Call) → Contains o.entries (NoMemory p called) → o.state ≡ finish s me.pid ((0, refusal EAGAIN) ∷ [])
 attempt_no_memory granted s me call o is p called c =
-    (all_contains (Explained NotInterrupted s me.pid o.state) o.entries (subst (ExplainedIf NotInterrupted s me.pid) is (explained_attempt granted s me call)) (NoMemory p called) c).1
+    (all_contains (Explained (NotInterrupted granted) s me.pid o.state) o.entries (subst (ExplainedIf (NotInterrupted granted) s me.pid) is (explained_attempt granted s me call)) (NoMemory p called) c).2
 
 -- a negative result of an attempt afresh
 pub again_refused : (s : State) (me : Process) (b : Blocked) (o : Outcome) → attempt_again s me b ≡ Done o
@@ -345,128 +351,132 @@ again_refused s me b o is p n called c =
 pub again_no_memory : (s : State) (me : Process) (b : Blocked) (o : Outcome) → attempt_again s me b ≡ Done o
     → (p : ℕ) (called : Call) → Contains o.entries (NoMemory p called) → o.state ≡ finish s me.pid ((0, refusal EAGAIN) ∷ [])
 again_no_memory s me b o is p called c =
-    (all_contains (Explained Any s me.pid o.state) o.entries (subst (ExplainedIf Any s me.pid) is (explained_again Any s me b)) (NoMemory p called) c).1
+    (all_contains (Explained Any s me.pid o.state) o.entries (subst (ExplainedIf Any s me.pid) is (explained_again Any s me b)) (NoMemory p called) c).2
 
 -- ---- an event
 
 -- a call that begins
-explained_begin : (s : State) (r : Process) (a : Attempted) → ExplainedIf NotInterrupted s r.pid a → ExplainedBy NotInterrupted s r.pid (begin_call s r a)
-explained_begin s r (Done o) h = h
-explained_begin s r (Block b) h = tt
+explained_begin : (granted : Bool) (s : State) (r : Process) (a : Attempted) → ExplainedIf (NotInterrupted granted) s r.pid a → ExplainedBy (NotInterrupted granted) s r.pid (begin_call s r a)
+explained_begin granted s r (Done o) h = h
+explained_begin granted s r (Block b) h = tt
 
 -- a signal that is chosen, or else what happens
-explained_or : (s : State) (r : Process) (n : Option ℕ) (other : Outcome) → ExplainedBy NotInterrupted s r.pid other → ExplainedBy NotInterrupted s r.pid (deliver_or s r n other)
-explained_or s r None other h = h
-explained_or s r (Some n) other h = none_deliver s r n s (deliver s r n).state r.pid
+explained_or : (granted : Bool) (s : State) (r : Process) (n : Option ℕ) (other : Outcome) → ExplainedBy (NotInterrupted granted) s r.pid other → ExplainedBy (NotInterrupted granted) s r.pid (deliver_or s r n other)
+explained_or granted s r None other h = h
+explained_or granted s r (Some n) other h = none_deliver s r n granted s (deliver s r n).state r.pid
 
 -- a call that goes on
-explained_on : (s : State) (r : Process) (a : Attempted) → ExplainedIf NotInterrupted s r.pid a → ExplainedBy NotInterrupted s r.pid (go_on s r a)
-explained_on s r (Done o) h = h
-explained_on s r (Block b) h = explained_or s r (chosen r.life r.signals) _ tt
+explained_on : (granted : Bool) (s : State) (r : Process) (a : Attempted) → ExplainedIf (NotInterrupted granted) s r.pid a → ExplainedBy (NotInterrupted granted) s r.pid (go_on s r a)
+explained_on granted s r (Done o) h = h
+explained_on granted s r (Block b) h = explained_or granted s r (chosen r.life r.signals) _ tt
 
 -- what follows an instruction
-explained_trap : (granted : Bool) (s : State) (r : Process) (c : Cpu) (t : Trap) → ExplainedBy NotInterrupted s r.pid (after_trap granted s r c t)
+explained_trap : (granted : Bool) (s : State) (r : Process) (c : Cpu) (t : Trap) → ExplainedBy (NotInterrupted granted) s r.pid (after_trap granted s r c t)
 unfolding after_trap
 explained_trap granted s r c trap.Next = tt
 explained_trap granted s r c (trap.Note z) = (tt, tt)
-explained_trap granted s r c (trap.Call call) = explained_begin s r _ (explained_attempt granted s r call)
-explained_trap granted s r c (trap.Fault sig) = none_fault s r sig s (fault s r sig).state r.pid
+explained_trap granted s r c (trap.Call call) = explained_begin granted s r _ (explained_attempt granted s r call)
+explained_trap granted s r c (trap.Fault sig) = none_fault s r sig granted s (fault s r sig).state r.pid
 
 -- a turn in a call, or in none
-explained_in : (granted : Bool) (s : State) (r : Process) (b : Option Blocked) → ExplainedBy NotInterrupted s r.pid (act_in granted s r b)
+explained_in : (granted : Bool) (s : State) (r : Process) (b : Option Blocked) → ExplainedBy (NotInterrupted granted) s r.pid (act_in granted s r b)
 unfolding act_in
-explained_in granted s r (Some b) = explained_on s r _ (explained_again NotInterrupted s r b)
-explained_in granted s r None = let done = exec_one (code_of s r) r.cpu in explained_or s r (chosen r.life r.signals) _ (explained_trap granted s r done.cpu done.trap)
+explained_in granted s r (Some b) = explained_on granted s r _ (explained_again (NotInterrupted granted) s r b)
+explained_in granted s r None = let done = exec_one (code_of s r) r.cpu in explained_or granted s r (chosen r.life r.signals) _ (explained_trap granted s r done.cpu done.trap)
 
 -- a turn
-explained_act : (granted : Bool) (s : State) (r : Process) → ExplainedBy NotInterrupted s r.pid (act granted s r)
+explained_act : (granted : Bool) (s : State) (r : Process) → ExplainedBy (NotInterrupted granted) s r.pid (act granted s r)
 unfolding act
 explained_act granted s r =
-    explained_either NotInterrupted s r.pid (is_pending r.signals KILL) _ _
-    (none_end s r (killed KILL) s (end_process s r (killed KILL)).state r.pid) (explained_in granted s r r.blocked)
+    explained_either (NotInterrupted granted) s r.pid (is_pending r.signals KILL) _ _
+    (none_end s r (killed KILL) granted s (end_process s r (killed KILL)).state r.pid) (explained_in granted s r r.blocked)
 
 -- the same of p by the name that the entry gives; and p is current
-abbrev Told : State → State → Entry → Type 0
-Told s new (Noted q value) = Unit {0}
-Told s new (Called q call (pos n)) = Unit {0}
-Told s new (Called q call (negsuc n)) = n ≢ 3 → (current s ≡ Some q) × (new ≡ finish s q ((0, negsuc n) ∷ []))
-Told s new (Reported q child status) = Unit {0}
-Told s new (NoMemory q call) = (current s ≡ Some q) × (new ≡ finish s q ((0, refusal EAGAIN) ∷ []))
-Told s new (Handled q sig value sender) = Unit {0}
-Told s new (Discarded q sig) = Unit {0}
-Told s new (Returned q) = Unit {0}
-Told s new (Ended q status) = Unit {0}
-Told s new Halted = Unit {0}
+abbrev Told : Bool → State → State → Entry → Type 0
+Told granted s new (Noted q value) = Unit {0}
+Told granted s new (Called q call (pos n)) = Unit {0}
+Told granted s new (Called q call (negsuc n)) = n ≢ 3 → (current s ≡ Some q) × (new ≡ finish s q ((0, negsuc n) ∷ []))
+Told granted s new (Reported q child status) = Unit {0}
+Told granted s new (NoMemory q call) = (granted ≡ false) × (current s ≡ Some q) × (new ≡ finish s q ((0, refusal EAGAIN) ∷ []))
+Told granted s new (Handled q sig value sender) = Unit {0}
+Told granted s new (Discarded q sig) = Unit {0}
+Told granted s new (Returned q) = Unit {0}
+Told granted s new (Ended q status) = Unit {0}
+Told granted s new Halted = Unit {0}
 
 -- an entry of the current process
-told : (s : State) (p : ℕ) (new : State) (e : Entry) → current s ≡ Some p → Explained NotInterrupted s p new e → Told s new e
-told s p new (Noted q value) first h = tt
-told s p new (Called q call (pos n)) first h = tt
-told s p new (Called q call (negsuc n)) first h = λ other. (first ∙ ap Some (sym (h other).0), (h other).1 ∙ ap (λ m. finish s m ((0, negsuc n) ∷ [])) (sym (h other).0))
-told s p new (Reported q child status) first h = tt
-told s p new (NoMemory q call) first h = (first ∙ ap Some (sym h.0), h.1 ∙ ap (λ m. finish s m ((0, refusal EAGAIN) ∷ [])) (sym h.0))
-told s p new (Handled q sig value sender) first h = tt
-told s p new (Discarded q sig) first h = tt
-told s p new (Returned q) first h = tt
-told s p new (Ended q status) first h = tt
-told s p new Halted first h = tt
+told : (granted : Bool) (s : State) (p : ℕ) (new : State) (e : Entry) → current s ≡ Some p → Explained (NotInterrupted granted) s p new e → Told granted s new e
+told granted s p new (Noted q value) first h = tt
+told granted s p new (Called q call (pos n)) first h = tt
+told granted s p new (Called q call (negsuc n)) first h = λ other. (first ∙ ap Some (sym (h other).0), (h other).1 ∙ ap (λ m. finish s m ((0, negsuc n) ∷ [])) (sym (h other).0))
+told granted s p new (Reported q child status) first h = tt
+told granted s p new (NoMemory q call) first h = (h.0, first ∙ ap Some (sym h.1), h.2 ∙ ap (λ m. finish s m ((0, refusal EAGAIN) ∷ [])) (sym h.1))
+told granted s p new (Handled q sig value sender) first h = tt
+told granted s p new (Discarded q sig) first h = tt
+told granted s p new (Returned q) first h = tt
+told granted s p new (Ended q status) first h = tt
+told granted s p new Halted first h = tt
 
 -- all entries of the current process
-told_all : (s : State) (p : ℕ) (new : State) (es : List Entry) → current s ≡ Some p → AllByRecursion (Explained NotInterrupted s p new) es → AllByRecursion (Told s new) es
-told_all s p new [] first h = tt
-told_all s p new (e ∷ es) first h = (told s p new e first h.0, told_all s p new es first h.1)
+told_all : (granted : Bool) (s : State) (p : ℕ) (new : State) (es : List Entry) → current s ≡ Some p → AllByRecursion (Explained (NotInterrupted granted) s p new) es → AllByRecursion (Told granted s new) es
+told_all granted s p new [] first h = tt
+told_all granted s p new (e ∷ es) first h = (told granted s p new e first h.0, told_all granted s p new es first h.1)
 
 -- the same of all entries of an outcome
-abbrev ToldBy : State → Outcome → Type 0
-ToldBy s o = AllByRecursion (Told s o.state) o.entries
+abbrev ToldBy : Bool → State → Outcome → Type 0
+ToldBy granted s o = AllByRecursion (Told granted s o.state) o.entries
 
 -- a step of the process that is found
-told_found : (granted : Bool) (s : State) (p : ℕ) → current s ≡ Some p → (o : Option Process) → lookup p s.processes ≡ o → ToldBy s (step granted s o)
+told_found : (granted : Bool) (s : State) (p : ℕ) → current s ≡ Some p → (o : Option Process) → lookup p s.processes ≡ o → ToldBy granted s (step granted s o)
 unfolding step
 told_found granted s p first None e = tt
 told_found granted s p first (Some r) e =
-    told_all s r.pid (act granted s r).state (act granted s r).entries (first ∙ ap Some (sym (pid_looked p s.processes r e))) (explained_act granted s r)
+    told_all granted s r.pid (act granted s r).state (act granted s r).entries (first ∙ ap Some (sym (pid_looked p s.processes r e))) (explained_act granted s r)
 
 -- no process shows nothing
-told_none : (granted : Bool) (s : State) → ToldBy s (step granted s None)
+told_none : (granted : Bool) (s : State) → ToldBy granted s (step granted s None)
 unfolding step
 told_none granted s = tt
 
 -- a step
-told_step : (granted : Bool) (s : State) (c : Option ℕ) → current s ≡ c → ToldBy s (step granted s (option_and_then (process s) c))
+told_step : (granted : Bool) (s : State) (c : Option ℕ) → current s ≡ c → ToldBy granted s (step granted s (option_and_then (process s) c))
 told_step granted s None e = told_none granted s
 told_step granted s (Some p) e = told_found granted s p e (lookup p s.processes) refl
 
 -- an event
-told_happens : (granted : Bool) (s : State) (event : Event) → ToldBy s (happens granted s event)
+told_happens : (granted : Bool) (s : State) (event : Event) → ToldBy granted s (happens granted s event)
 unfolding happens
 told_happens granted s Step = told_step granted s (current s) refl
 told_happens granted s Tick = tt
 
 -- the state before all are asked, and what an entry tells of it
-record Unsettled (s new : State) (e : Entry) : Type 0 where
+record Unsettled (granted : Bool) (s new : State) (e : Entry) : Type 0 where
   mid : State
   is : new ≡ settle mid
-  tells : Told s mid e
+  tells : Told granted s mid e
 
 -- an entry that an event shows
-unsettled : (granted : Bool) (s : State) (event : Event) (e : Entry) → Contains (next granted s event).entries e → Unsettled s (next granted s event).state e
+unsettled : (granted : Bool) (s : State) (event : Event) (e : Entry) → Contains (next granted s event).entries e → Unsettled granted s (next granted s event).state e
 unsettled granted s event e c =
-    elim s.halted as (λ b. s.halted ≡ b → Unsettled s (next granted s event).state e) [
+    elim s.halted as (λ b. s.halted ≡ b → Unsettled granted s (next granted s event).state e) [
       | true ↦ λ h. let l = (subst (λ (o : Outcome). Contains o.entries e) (next_halted granted s event h) c).1 in absurd (omega arith)
       | false ↦ λ h.
           let there : Contains (happens granted s event).entries e = subst (λ (o : Outcome). Contains o.entries e) (next_awake granted s event h) c in
           record {
             mid = (happens granted s event).state;
             is = ap (λ (o : Outcome). o.state) (next_awake granted s event h);
-            tells = all_contains (Told s (happens granted s event).state) _ (told_happens granted s event) e there;
+            tells = all_contains (Told granted s (happens granted s event).state) _ (told_happens granted s event) e there;
           }
     ] refl
 
 -- the same in the relation
-unsettled_step : (old new : State) (event : Event) (entries : List Entry) → IsStep old event entries new → (e : Entry) → Contains entries e → Unsettled old new e
+unsettled_step : (old new : State) (event : Event) (entries : List Entry) (h : IsStep old event entries new) (e : Entry) → Contains entries e → Unsettled h.granted old new e
 unsettled_step old new event entries h e c =
-    subst (λ (o : Outcome). Contains o.entries e → Unsettled old o.state e) h.comes (unsettled h.granted old event e) c
+    subst (λ (o : Outcome). Contains o.entries e → Unsettled h.granted old o.state e) h.comes (unsettled h.granted old event e) c
+
+-- where memory was wanting, it wasn't granted
+pub memory_refused : (granted : Bool) (s : State) (event : Event) (p : ℕ) (call : Call) → Contains (next granted s event).entries (NoMemory p call) → granted ≡ false
+memory_refused granted s event p call c = (unsettled granted s event (NoMemory p call) c).tells.0
 
 -- ---- nobody wakes by a refusal
 
@@ -492,4 +502,4 @@ pub event_no_memory : (old new : State) (event : Event) (entries : List Entry) �
     → (p : ℕ) (call : Call) → Contains entries (NoMemory p call) → new ≡ finish old p ((0, refusal EAGAIN) ∷ [])
 event_no_memory old new event entries h up placed p call c =
     let u = unsettled_step old new event entries h (NoMemory p call) c in
-    u.is ∙ ap settle u.tells.1 ∙ settle_finished old p ((0, refusal EAGAIN) ∷ []) up placed (first_in p old.order u.tells.0)
+    u.is ∙ ap settle u.tells.2 ∙ settle_finished old p ((0, refusal EAGAIN) ∷ []) up placed (first_in p old.order u.tells.1)

@@ -1,5 +1,5 @@
 -- Lists of processes in the rising order of their stamps.
-use Rattle.std.proofs.Common.{ℕ, suc, ◌<◌, ◌≤◌, true, false, cond, not, ◌&&◌, ◌||◌, ◌==◌, List, [], ◌∷◌, ◌++◌, get_or, slice_get, Option, Some, None, is_some, IsSome, All, AllPairs, Contains, ◌≡◌, ⊎_elim, refl, sym, ap, subst, ◌∙◌, arith}
+use Rattle.std.proofs.Common.{ℕ, suc, ◌+◌, ◌<◌, ◌≤◌, true, false, cond, not, ◌&&◌, ◌||◌, ◌==◌, List, [], ◌∷◌, ◌++◌, get_or, slice_get, Option, Some, None, is_some, IsSome, All, AllPairs, Contains, ◌≡◌, ⊎_elim, refl, sym, ap, subst, ◌∙◌, arith}
 use Rattle.std.specs.Bool.{one_answer}
 use Rattle.std.proofs.lemmas.Bool.{eqb-true, eqb-false, eq-eqb, not-true, cases_eq, cases_Bool}
 use Rattle.std.proofs.lemmas.List.Elements.{All-weaker, All-filter, filter_passes, Contains-get_or}
@@ -8,7 +8,8 @@ use Rattle.std.proofs.lemmas.List.Kept.{AllPairs-filter}
 use Rattle.std.proofs.lemmas.List.Quantifiers.{all_pairs_push}
 use Rattle.posix.specs.States.{is_in, without}
 use Rattle.posix.proofs.MemberLemmas.{in_without, in_last, in_first, in_rest}
-use Rattle.laws.specs.Stamps.{Stamps, without_stamp, with_stamp, AllBelow, IsBelow, IsRisingOrder, HasLeastStamp}
+use Rattle.posix.proofs.OrderLemmas.{without_absent}
+use Rattle.laws.specs.Stamps.{Stamps, without_stamp, with_stamp, AllBelow, IsBelow, IsRisingOrder, HasLeastStamp, Stamping, IsStamped, Move, Lose, GoLast, Place, CanMove, order_moved, stamping_moved, Leads, stamping_after}
 
 -- the field `rising`
 abbrev Rises : Stamps → List ℕ → Type 0
@@ -107,6 +108,33 @@ last_keeps_order p n order stamps below h =
     stamped : All (λ x. is_some (stamps x) ≡ true) (without p order)
     stamped = All-filter (λ x. not (x == p)) (λ x. is_some (stamps x) ≡ true) order
         (λ k d lt. (h.placed (get_or order k d)).0 (Contains-get_or order k d lt))
+
+-- ---- moves
+
+-- the stamps stay below n where one is lost
+below_without : (p n : ℕ) (stamps : Stamps) → AllBelow n stamps → AllBelow n (without_stamp p stamps)
+below_without p n stamps below q m e = elim (q == p) as (λ b. cond b None (stamps q) ≡ Some m → m < n) [ true ↦ λ k. absurd (cc) | false ↦ λ k. below q m k ] e
+
+-- with the stamp n all are below the next
+below_with : (p n : ℕ) (stamps : Stamps) → AllBelow n stamps → AllBelow (n + 1) (with_stamp p n stamps)
+below_with p n stamps below q m e = elim (q == p) as (λ b. cond b (Some n) (stamps q) ≡ Some m → m < n + 1) [
+  | true ↦ λ k. let same : n ≡ m = cc in omega (arith, same)
+  | false ↦ λ k. let l = below q m k in omega (arith, l)
+] e
+
+-- a move keeps the order that of the stamps
+stamped_moved : (turn : Option ℕ) (order : List ℕ) (t : Stamping) (m : Move) → CanMove turn order m → IsStamped order t → IsStamped (order_moved order m) (stamping_moved t m)
+stamped_moved turn order t (Lose p) can h = record { rising = losing_keeps_order p order t.stamps h.rising; below = below_without p t.next t.stamps h.below }
+stamped_moved turn order t (GoLast p) can h = record { rising = last_keeps_order p t.next order t.stamps h.below h.rising; below = below_with p t.next t.stamps h.below }
+stamped_moved turn order t (Place p) can h = record {
+  rising = subst (λ o. IsRisingOrder (o ++ p ∷ []) (with_stamp p t.next t.stamps)) (without_absent p order can) (last_keeps_order p t.next order t.stamps h.below h.rising);
+  below = below_with p t.next t.stamps h.below;
+}
+
+-- and so do several
+pub moves_keep_order : (turn : Option ℕ) (old new : List ℕ) (moves : List Move) (t : Stamping) → Leads turn old moves new → IsStamped old t → IsStamped new (stamping_after t moves)
+moves_keep_order turn old new [] t leads h = subst (λ o. IsStamped o t) (sym leads) h
+moves_keep_order turn old new (m ∷ ms) t leads h = moves_keep_order turn (order_moved old m) new ms (stamping_moved t m) leads.1 (stamped_moved turn old t m leads.0 h)
 
 -- ---- the first
 

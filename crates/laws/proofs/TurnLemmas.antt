@@ -1,5 +1,5 @@
 -- Who has a place keeps it, and comes nearer to its turn.
-use Rattle.std.proofs.Common.{◌≡◌, ◌≢◌, ℕ, zero, suc, add-zero, append_assoc, ◌+◌, ◌≤◌, Bool, true, false, cond, not, refl, ap, sym, ◌∙◌, arith, subst, List, [], ◌∷◌, ◌++◌, filter, Option, Some, None, option_and_then, ◌==◌, slice_get, inl, inr}
+use Rattle.std.proofs.Common.{◌≡◌, ◌≢◌, ℕ, zero, suc, add-zero, append_assoc, ◌+◌, ◌≤◌, Bool, true, false, cond, not, refl, ap, sym, ◌∙◌, arith, subst, List, [], ◌∷◌, ◌++◌, filter, Option, Some, None, option_and_then, ◌==◌, slice_get, inl, inr, ◌⊎◌}
 use Rattle.std.proofs.lemmas.Bool.{eqb-true, eq-eqb, ne_eqb, or_left}
 use Rattle.std.proofs.lemmas.List.Sums.{sum_by-cons}
 use Rattle.posix.specs.declared.event.Event.{Event}
@@ -24,40 +24,47 @@ use Rattle.posix.proofs.WakeLemmas.{next_awake, nothing_after_halt}
 
 -- ---- the order after an event
 
+-- nothing happens, or the first may turn
+abbrev pub FirstTurned : List ℕ → List ℕ → Type 0
+FirstTurned old new = (new ≡ old) ⊎ ((p : ℕ) × (slice_get old 0 ≡ Some p) × Turned p old new)
+
+-- a step turns the process that is found
+turned_found : (granted : Bool) (s : State) (p : ℕ) → current s ≡ Some p → (o : Option Process) → lookup p s.processes ≡ o → FirstTurned s.order (step granted s o).state.order
+unfolding step
+turned_found granted s p first None e = inl refl
+turned_found granted s p first (Some r) e = inr (r.pid, first ∙ ap Some (sym (pid_looked p s.processes r e)), (acted granted s r).order)
+
+-- no process, no turn
+turned_none : (granted : Bool) (s : State) → FirstTurned s.order (step granted s None).state.order
+unfolding step
+turned_none granted s = inl refl
+
+-- a step turns the current process
+turned_step : (granted : Bool) (s : State) (c : Option ℕ) → current s ≡ c → FirstTurned s.order (step granted s (option_and_then (process s) c)).state.order
+turned_step granted s None first = turned_none granted s
+turned_step granted s (Some p) first = turned_found granted s p first (lookup p s.processes) refl
+
+-- so does a tick
+turned_rotate : (s : State) (c : Option ℕ) → current s ≡ c → FirstTurned s.order (rotate (pass_time s) c).order
+turned_rotate s None first = inl refl
+turned_rotate s (Some p) first = inr (p, first, inr (inr refl))
+
+-- before places are given an event turns nobody but the current process
+pub turned_first : (granted : Bool) (s : State) (event : Event) → FirstTurned s.order (happens granted s event).state.order
+unfolding happens tick
+turned_first granted s Step = turned_step granted s (current s) refl
+turned_first granted s Tick = turned_rotate s (current s) refl
+
 -- one other than q may have turned
 abbrev OtherTurned : ℕ → List ℕ → List ℕ → Type 0
 OtherTurned q old new = (p : ℕ) × (p ≢ q) × Turned p old new
 
--- the order stays
-nobody_turned : (q : ℕ) (old : List ℕ) → OtherTurned q old old
-nobody_turned q old = (suc q, λ e. omega (arith, e), inl refl)
-
--- a step turns the process that is found
-turned_found : (granted : Bool) (s : State) (p q : ℕ) → p ≢ q → (o : Option Process) → lookup p s.processes ≡ o → OtherTurned q s.order (step granted s o).state.order
-unfolding step
-turned_found granted s p q ne None e = nobody_turned q s.order
-turned_found granted s p q ne (Some r) e = (r.pid, λ k. ne (sym (pid_looked p s.processes r e) ∙ k), (acted granted s r).order)
-
--- no process, no turn
-turned_none : (granted : Bool) (s : State) (q : ℕ) → OtherTurned q s.order (step granted s None).state.order
-unfolding step
-turned_none granted s q = nobody_turned q s.order
-
--- a step turns another than q where q isn't current
-turned_step : (granted : Bool) (s : State) (q : ℕ) (c : Option ℕ) → c ≢ Some q → OtherTurned q s.order (step granted s (option_and_then (process s) c)).state.order
-turned_step granted s q None ne = turned_none granted s q
-turned_step granted s q (Some p) ne = turned_found granted s p q (λ e. ne (ap Some e)) (lookup p s.processes) refl
-
--- a tick turns another than q where q isn't current
-turned_rotate : (s : State) (q : ℕ) (c : Option ℕ) → c ≢ Some q → OtherTurned q s.order (rotate (pass_time s) c).order
-turned_rotate s q None ne = nobody_turned q s.order
-turned_rotate s q (Some p) ne = (p, λ e. ne (ap Some e), inr (inr refl))
-
 -- an event turns another than q where q isn't current
 turned_event : (granted : Bool) (s : State) (event : Event) (q : ℕ) → current s ≢ Some q → OtherTurned q s.order (happens granted s event).state.order
-unfolding happens tick
-turned_event granted s Step q ne = turned_step granted s q (current s) ne
-turned_event granted s Tick q ne = turned_rotate s q (current s) ne
+turned_event granted s event q ne = elim (turned_first granted s event) [
+  | inl same ↦ (suc q, λ e. omega (arith, e), inl same)
+  | inr first ↦ (first.0, λ e. ne (first.1 ∙ ap Some e), first.2)
+]
 
 -- ---- how many are before q
 

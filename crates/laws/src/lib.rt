@@ -1,7 +1,7 @@
 //! Laws of the definitions, each the contract of a function that does nothing.
 #![tactic(auto)]
 
-ghost use Rattle.std.specs.Prelude.{ℕ, ◌+◌, ◌≤◌, ◌≡◌, ◌≢◌, Bool, true, false, List, [], ◌∷◌, ◌++◌, Contains, Some, None, negsuc};
+ghost use Rattle.std.specs.Prelude.{ℕ, ◌+◌, ◌≤◌, ◌≡◌, ◌≢◌, Bool, true, false, List, Option, [], ◌∷◌, Contains, Some, None, negsuc, IsSomeAnd};
 ghost use Rattle.posix.specs.declared.call.Call.{Call};
 ghost use Rattle.posix.specs.declared.errno.Errno.TheVariants.{EAGAIN};
 ghost use Rattle.posix.specs.declared.event.Event.{Event};
@@ -11,47 +11,62 @@ ghost use Rattle.posix.specs.declared.entry.Entry.TheVariants.{Called, NoMemory}
 ghost use Rattle.posix.specs.declared.process.Blocked.{Blocked};
 ghost use Rattle.posix.specs.Processes.{Process};
 ghost use Rattle.posix.specs.Tables.{IsRising};
-ghost use Rattle.posix.specs.States.{World, State, boot, has_place, lose_place, go_last, current};
+ghost use Rattle.posix.specs.States.{World, State, boot, process, has_place, current, lose_place};
 ghost use Rattle.posix.specs.Outcomes.{Outcome, Done, finish, refusal};
 ghost use Rattle.posix.specs.Attempts.{attempt, attempt_again};
 ghost use Rattle.posix.specs.Step.{IsStep};
 ghost use Rattle.posix.specs.Entries.{Line};
-ghost use Rattle.posix.specs.Runs.{RunsFrom};
-ghost use Rattle.posix.specs.Regular.{IsDistinct};
-ghost use Rattle.laws.specs.Stamps.{Stamps, no_stamps, without_stamp, with_stamp, AllBelow, IsRisingOrder, HasLeastStamp};
-ghost use Rattle.posix.specs.Settle.{NoWakeIsLost};
+ghost use Rattle.posix.specs.Runs.{RunsFrom, Runs};
+ghost use Rattle.posix.specs.Regular.{IsRegular, IsDistinct};
+ghost use Rattle.laws.specs.Stamps.{Stamps, without_stamp, IsRisingOrder, HasLeastStamp, Stamping, IsStamped, first_stamping, Move, Leads, stamping_after};
+ghost use Rattle.posix.specs.Settle.{NoWakeIsLost, can_act};
+ghost use Rattle.laws.specs.Memory.{EntriesGrantAll, LinesGrantAll};
 ghost use Rattle.laws.specs.Turns.{places_before, ticks_in, HasTurn};
 
 /// The order of places is the rising order of stamps.
 ///
-/// Say that a process has a place where it has a stamp, a number; that it goes last by the next stamp,
-/// which is above all others; and that the least stamp is the current process's. Then the list of
-/// processes that the state keeps is the rising order of the stamps at the start, and stays so as a
-/// process loses its place, goes last, or is given the last place, as after an event one after another
-/// is. Nothing else of the stamps counts.
+/// Say that a process has a place where it has a stamp, a number; that one that goes last, or is given a
+/// place, takes the next stamp, which is above all others; and that the least stamp is the current
+/// process's. Then the list of processes that the state keeps is the rising order of the stamps, at the
+/// start and after each event from a regular state: the event moves the list by losses, goings last and
+/// new last places alone, and nobody but the current process loses its place or goes last. Nothing else
+/// of the stamps counts.
 pub fn order_is_rising_stamps()
-    ensures start { (w : World) → IsRisingOrder (boot w).order (with_stamp 1 0 no_stamps) }
+    ensures start { (w : World) → IsStamped (boot w).order first_stamping }
     ensures lose { (p : ℕ) (s : State) (stamps : Stamps) → IsRisingOrder s.order stamps → IsRisingOrder (lose_place s p).order (without_stamp p stamps) }
-    ensures last { (p n : ℕ) (s : State) (stamps : Stamps) → AllBelow n stamps → IsRisingOrder s.order stamps
-        → IsRisingOrder (go_last s p).order (with_stamp p n stamps) }
-    ensures place { (p n : ℕ) (s : State) (stamps : Stamps) → AllBelow n stamps → has_place s p ≡ false → IsRisingOrder s.order stamps
-        → IsRisingOrder (s.order ++ p ∷ []) (with_stamp p n stamps) }
-    ensures below_start { AllBelow 1 (with_stamp 1 0 no_stamps) }
-    ensures below_lose { (p n : ℕ) (stamps : Stamps) → AllBelow n stamps → AllBelow n (without_stamp p stamps) }
-    ensures below_last { (p n : ℕ) (stamps : Stamps) → AllBelow n stamps → AllBelow (n + 1) (with_stamp p n stamps) }
+    ensures moves { (turn : Option ℕ) (old new : List ℕ) (moves : List Move) (t : Stamping) → Leads turn old moves new → IsStamped old t → IsStamped new (stamping_after t moves) }
+    ensures event { (old new : State) (event : Event) (entries : List Entry) → IsStep old event entries new → IsRegular old
+        → (moves : List Move) × Leads (current old) old.order moves new.order }
     ensures first { (p : ℕ) (s : State) (stamps : Stamps) → IsRisingOrder s.order stamps → current s ≡ Some p → HasLeastStamp p stamps }
     ensures none { (s : State) (stamps : Stamps) → IsRisingOrder s.order stamps → current s ≡ None → (q : ℕ) → stamps q ≡ None }
     ensures only { (xs ys : List ℕ) (stamps : Stamps) → IsRisingOrder xs stamps → IsRisingOrder ys stamps → xs ≡ ys }
 {}
 
+/// Every state that is reached is regular.
+///
+/// In a regular state the processes stand in the rising order of their numbers, which are from 1 up to
+/// pidmax. Process 1 is there and has no parent. Who has a place is a process that is there and no zombie,
+/// and has one place alone. No zombie but process 1 has children. The state at the start is regular, and
+/// so is each state after it in every run.
+pub fn regular_stays()
+    ensures start { (w : World) → 1 ≤ w.pidmax → IsRegular (boot w) }
+    ensures step { (old new : State) (event : Event) (entries : List Entry) → IsStep old event entries new → IsRegular old → IsRegular new }
+    ensures runs { (w : World) (events : List Event) (lines : List Line) (last : State) → 1 ≤ w.pidmax → Runs w events lines last → IsRegular last }
+{}
+
 /// No wake is lost.
 ///
 /// A living process can act if KILL is pending for it. One that runs can also act if it is in no call, or
-/// in one that needn't wait any longer, or if a signal is chosen for it. At the start and after each event
-/// each process that can act has a place. After a halt no event changes or shows anything.
+/// in one that needn't wait any longer, or if a signal is chosen for it. At the start, after each event and
+/// so at the end of every run each process that can act has a place; and where the state before an event
+/// is regular, whoever has no place then and has one after it can act. After a halt no event changes or
+/// shows anything.
 pub fn no_wake_is_lost()
     ensures start { (w : World) → NoWakeIsLost (boot w) }
     ensures after { (old new : State) (event : Event) (entries : List Entry) → IsStep old event entries new → old.halted ≡ false → NoWakeIsLost new }
+    ensures given { (old new : State) (event : Event) (entries : List Entry) → IsStep old event entries new → IsRegular old
+        → (p : ℕ) → has_place old p ≡ false → has_place new p ≡ true → IsSomeAnd (process new p) (λ r. can_act new r ≡ true) }
+    ensures runs { (w : World) (events : List Event) (lines : List Line) (last : State) → Runs w events lines last → NoWakeIsLost last }
     ensures halted { (old new : State) (event : Event) (entries : List Entry) → IsStep old event entries new → old.halted ≡ true → new ≡ old }
     ensures silent { (old new : State) (event : Event) (entries : List Entry) → IsStep old event entries new → old.halted ≡ true → entries ≡ [] }
 {}
@@ -60,7 +75,7 @@ pub fn no_wake_is_lost()
 ///
 /// A process that has a place and is not current keeps it, and in no event do more places come before
 /// it than did. At each tick it is one less, until the machine halts, where no number stands twice in
-/// the order, as in each state that a machine keeps. With none before it the process is current. So in
+/// the order, as in each regular state. With none before it the process is current. So in
 /// a run without a halt that has as many ticks as places come before it, it becomes current.
 pub fn turns_come()
     ensures stays { (old new : State) (event : Event) (entries : List Entry) → IsStep old event entries new
@@ -94,4 +109,19 @@ pub fn refusals_change_little()
         → (p n : ℕ) (call : Call) → n ≢ 3 → Contains entries (Called p call (negsuc n)) → new ≡ finish old p ((0, negsuc n) ∷ []) }
     ensures event_no_memory { (old new : State) (event : Event) (entries : List Entry) → IsStep old event entries new → IsRising old.processes → NoWakeIsLost old
         → (p : ℕ) (call : Call) → Contains entries (NoMemory p call) → new ≡ finish old p ((0, refusal EAGAIN) ∷ []) }
+{}
+
+/// Runs are determined.
+///
+/// The host decides one thing alone: whether it grants the memory that a fork needs; and where it does
+/// not, a line says so. So from each state, as from the start of each world, the events have just one run
+/// in which no line says that there was no memory.
+pub fn determined()
+    ensures exists { (k : ℕ) (old : State) (events : List Event) → (last : State) × (lines : List Line) × RunsFrom k old events lines last × LinesGrantAll lines }
+    ensures step { (old new other : State) (event : Event) (shown others : List Entry) → IsStep old event shown new → IsStep old event others other
+        → EntriesGrantAll shown → EntriesGrantAll others → (shown ≡ others) × (new ≡ other) }
+    ensures runs_from { (k : ℕ) (old last other : State) (events : List Event) (lines others : List Line) → RunsFrom k old events lines last → RunsFrom k old events others other
+        → LinesGrantAll lines → LinesGrantAll others → (lines ≡ others) × (last ≡ other) }
+    ensures runs { (world : World) (last other : State) (events : List Event) (lines others : List Line) → Runs world events lines last → Runs world events others other
+        → LinesGrantAll lines → LinesGrantAll others → (lines ≡ others) × (last ≡ other) }
 {}

@@ -18,6 +18,7 @@ use Rattle.posix.proofs.WalkLemmas.{children_removed, AtChild, at_child, at_firs
 use Rattle.posix.proofs.MapLemmas.{at_pid, lookup_map, filter_map, first_map, children_map}
 use Rattle.posix.proofs.RegularLemmas.{keeps_at, keeps_noticed, lookup_kept, lookup_other, heir_other, heir_there, heir_living, heir_map, heir_removed, regular_depart}
 use Rattle.posix.proofs.NoticeLemmas.{only_notice}
+use Rattle.posix.proofs.ReportLemmas as report
 use Rattle.pidalloc.specs.Rows.{Pids}
 use Rattle.sched.specs.Places.{Places}
 use Rattle.pidset.specs.Numbers.{PidSetView, with_number}
@@ -100,12 +101,7 @@ pub record IsToTell (s : State) (p heir c w : ℕ) : Type 0 where
 
 -- the zombie isn't process 1
 not_first : (s : State) (p heir c w : ℕ) → IsRegular s → IsToTell s p heir c w → c ≢ 1
-not_first s p heir c w i h e =
-    let both = sym i.first.found ∙ ap (λ n. lookup n s.processes) (sym e) ∙ h.child.found in
-    let same : i.first.what ≡ h.child.what = cc in
-    let zero : p ≡ 0 = sym h.child.parent ∙ ap (λ (r : Process). r.parent) (sym same) ∙ i.first.parent in
-    let l = h.least in
-    absurd (omega (arith, l, zero))
+not_first s p heir c w i h = report.not_first s i p c true h.least (record { what = h.child.what; found = h.child.found; parent = h.child.parent; dead = ap is_zombie h.dead })
 
 -- nor p, since a zombie has no children
 not_self : (s : State) (p heir c w : ℕ) → IsRegular s → IsToTell s p heir c w → c ≢ p

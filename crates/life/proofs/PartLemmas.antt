@@ -8,7 +8,7 @@ use Rattle.posix.specs.States.{World, State, change}
 use Rattle.posix.specs.Ends.{child_signal, noticed, drops_children, is_dropping, drop_child, notice_of_end}
 use Rattle.posix.proofs.TableLemmas.{pid_looked}
 use Rattle.posix.proofs.MapLemmas.{lookup_on, children_map}
-use Rattle.posix.proofs.RegularLemmas.{keeps_at, keeps_noticed, regular_removed}
+use Rattle.posix.proofs.RegularLemmas.{keeps_at, keeps_noticed, regular_as, regular_removed}
 use Rattle.pidalloc.specs.Rows.{Pids, gone_from}
 use Rattle.pidalloc.specs.Tallies.{IsTallied}
 use Rattle.pidalloc.proofs.TallyLemmas.{can_give_up, tallied_gone, length_removed}
@@ -105,11 +105,10 @@ pub sound_gone : (s : State) (p q : Pids) (a : Places) (c last dropped : ℕ) (r
     → IsGone p q c r → dropped ≤ s.dropped + 1 → IsSound (record s { processes = removed c s.processes; last_pid = last; dropped = dropped }) q a
 sound_gone s p q a c last dropped r i found dead other g most =
     let k = i.kept in
-    let x = regular_removed c r s i.regular other found dead in
     let e = length_removed c r s.processes i.regular.rising found in
     let all = i.counted in
     record {
-      regular = record { rising = x.rising; bounded = x.bounded; first = x.first; placed = x.placed; distinct = x.distinct; childless = x.childless };
+      regular = regular_as _ (record s { processes = removed c s.processes; last_pid = last; dropped = dropped }) refl refl refl (regular_removed c r s i.regular other found dead);
       parents = parents_removed c s.processes (i.regular.childless c r other found dead) i.parents;
       counted = omega (arith, e, all, most);
       kept = record {

@@ -1,23 +1,22 @@
 -- What keeps a machine sound.
-use Rattle.std.proofs.Common.{◌≡◌, ◌==◌, ℕ, ◌+◌, ◌<◌, ◌≤◌, Bool, true, false, cond, refl, ap, sym, ◌∙◌, arith, subst, List, [], ◌∷◌, length, map, Option, Some, None, option_map}
+use Rattle.std.proofs.Common.{◌≡◌, ℕ, ◌+◌, ◌<◌, ◌≤◌, Bool, false, refl, ap, sym, ◌∙◌, arith, subst, List, [], ◌∷◌, length, map, Option, Some, None, option_map}
 use Rattle.std.specs.Option.{IsSome}
 use Rattle.std.specs.List.{AllByRecursion}
-use Rattle.std.proofs.lemmas.Bool.{eqb-true, eqb-false, ne_eqb}
 use Rattle.std.proofs.lemmas.List.{length-map, length-replicate}
 use Rattle.posix.specs.Processes.{Process, is_zombie, first_process}
-use Rattle.posix.specs.Tables.{IsRising, at, lookup, changed, inserted, adopted, reparented, children_in}
-use Rattle.posix.specs.States.{World, State, boot, process, next_pid, is_in}
+use Rattle.posix.specs.Tables.{IsRising, at, lookup, changed, inserted, adopted, reparented}
+use Rattle.posix.specs.States.{World, State, boot, process, next_pid}
 use Rattle.posix.specs.NextPid.{is_free, next_free}
-use Rattle.posix.specs.Regular.{IsRegular, IsBounded, IsPlaced, CanInherit, IsDistinct}
+use Rattle.posix.specs.Regular.{IsRegular, IsPlaced, CanInherit}
 use Rattle.posix.specs.Ends.{made_zombie, ended}
 use Rattle.posix.proofs.TableLemmas.{Above}
-use Rattle.posix.proofs.RegularLemmas.{Keeps, keeps_at, regular_map, regular_inserted}
+use Rattle.posix.proofs.NextLemmas.{IsNew, new_number}
+use Rattle.posix.proofs.RegularLemmas.{Keeps, keeps_at, regular_as, regular_map, regular_inserted, regular_first}
 use Rattle.posix.proofs.MapLemmas.{at_pid, some_map}
 use Rattle.posix.proofs.WalkLemmas.{all_looked}
 use Rattle.pidalloc.specs.Rows.{Pids, IsPids, is_free_in, unborne_table, born_in}
 use Rattle.pidalloc.specs.Tallies.{IsTallied}
-use Rattle.pidalloc.proofs.FreeLemmas.{next_found}
-use Rattle.pidalloc.proofs.TallyLemmas.{CanBear, can_bear, next_same, free_none, tallied_unborne, tallied_born, tallied_map, length_inserted}
+use Rattle.pidalloc.proofs.TallyLemmas.{CanBear, can_bear, next_same, tallied_unborne, tallied_born, tallied_map, length_inserted}
 use Rattle.sched.specs.Places.{Places}
 use Rattle.proctable.specs.declared.facts.Facts.{Facts}
 use Rattle.proctable.specs.Body.{facts_of}
@@ -161,20 +160,10 @@ few s i =
 
 -- ---- births
 
--- the number of the next child is free, and in its range
-pub record IsNew (rs : List Process) (m child : ℕ) : Type 0 where
-  pub least : 1 ≤ child
-  pub greatest : child ≤ m
-  pub fresh : lookup child rs ≡ None
-
-pub next_is_new : (s t : State) (p : Pids) (places : Places) (child : ℕ) → s ≡ t → s.last_pid ≡ p.last → IsSound s p places → next_pid t ≡ Some child → IsNew s.processes p.pidmax child
-next_is_new s t p places child now last i next =
-    let same = i.kept.greatest in
-    let given = i.kept.table.given in
-    let here : next_pid s ≡ Some child = ap (λ (s : State). next_pid s) now ∙ next in
-    let f = next_found (is_free s.processes) s.last_pid s.world.pidmax child (omega (arith, last, given, same)) here in
-    let high = f.greatest in
-    record { least = f.least; greatest = omega (arith, high, same); fresh = free_none child s.processes f.free }
+-- the number of the next child is free, and in the range of the rows
+pub next_is_new : (s t : State) (p : Pids) (places : Places) (child : ℕ) → s ≡ t → IsSound s p places → next_pid t ≡ Some child → IsNew s.processes p.pidmax child
+next_is_new s t p places child now i next =
+    subst (λ m. IsNew s.processes m child) (sym i.kept.greatest) (new_number s child (ap (λ (s : State). next_pid s) now ∙ next))
 
 -- and no more than 32,768
 pub not_many : (s : State) (p : Pids) (places : Places) → IsSound s p places → length s.processes ≤ 32768
@@ -185,11 +174,11 @@ not_many s p places i =
     omega (arith, l, same, limit)
 
 -- the rows have room for one more process in the group and session of its parent
-pub room_to_bear : (s t : State) (p : Pids) (places : Places) (child parent group session : ℕ) → s ≡ t → s.last_pid ≡ p.last → IsSound s p places → next_pid t ≡ Some child → IsPlaced t.processes parent
+pub room_to_bear : (s t : State) (p : Pids) (places : Places) (child parent group session : ℕ) → s ≡ t → IsSound s p places → next_pid t ≡ Some child → IsPlaced t.processes parent
     → ((me : Process) → lookup parent s.processes ≡ Some me → (group ≡ me.group) × (session ≡ me.session)) → CanBear p child group session
-room_to_bear s t p places child parent group session now last i next me like =
+room_to_bear s t p places child parent group session now i next me like =
     let l = not_many s p places i in
-    let fresh = next_is_new s t p places child now last i next in
+    let fresh = next_is_new s t p places child now i next in
     let found = found_in s t now parent me.what me.found in
     let bounds = i.regular.bounded parent me.what found in
     let m = i.kept.greatest in
@@ -218,7 +207,7 @@ sound_born w rs p q a births ticks dropped h new me i fresh there up group sessi
     (record { least = fresh.least; pid = omega (arith, high, most); group = omega (arith, g, group); session = omega (arith, l, session) })
     (ap is_zombie life ∙ up) me there up in
     record {
-      regular = record { rising = r.rising; bounded = r.bounded; first = r.first; placed = r.placed; distinct = r.distinct; childless = r.childless };
+      regular = regular_as _ (state_of w (inserted new rs) q a (births + 1) ticks dropped h) refl refl refl r;
       parents = parents_inserted new rs fresh.fresh (is_there _ me there) i.parents;
       counted = let c = i.counted in let e = length_inserted new rs in omega (arith, c, e);
       kept = record {
@@ -236,36 +225,12 @@ first_alone : inserted first_process [] ≡ first_process ∷ []
 unfolding inserted
 first_alone = refl
 
-pub regular_first : (w : World) → 2 ≤ w.pidmax → IsRegular (boot w)
-unfolding lookup IsRising children_in is_in IsDistinct
-regular_first w most = record {
-  rising = (tt, tt);
-  bounded = λ p r e. one p r e;
-  first = record { what = first_process; found = refl; parent = refl };
-  placed = λ p e. elim (p == 1) as (λ b. (p == 1) ≡ b → IsPlaced (first_process ∷ []) p) [
-    | true ↦ λ t. subst (IsPlaced (first_process ∷ [])) (sym (eqb-true _ _ t)) (record { what = first_process; found = refl; living = refl })
-    | false ↦ λ t. let u : (1 == p) ≡ false = ne_eqb _ _ (λ x. eqb-false _ _ t (sym x)) in absurd (let k : false ≡ true = sym (rw u refl) ∙ e in cc)
-  ] refl;
-  distinct = (refl, tt);
-  childless = λ p r ne e z. elim (1 == p) as (λ b. (1 == p) ≡ b → cond b (Some first_process) None ≡ Some r → children_in p (first_process ∷ []) ≡ []) [
-    | true ↦ λ t k. absurd (ne (sym (eqb-true _ _ t)))
-    | false ↦ λ t k. absurd (cc)
-  ] refl e;
-}
-  where
-    one : (p : ℕ) (r : Process) → cond (1 == p) (Some first_process) None ≡ Some r → IsBounded w.pidmax r
-    one p r e = elim (1 == p) as (λ b. cond b (Some first_process) None ≡ Some r → IsBounded w.pidmax r) [
-      | true ↦ λ k. subst (IsBounded w.pidmax) (let same : first_process ≡ r = cc in same) (record { least = omega arith; pid = omega (arith, most); group = omega (arith, most); session = omega (arith, most) })
-      | false ↦ λ k. absurd (cc)
-    ] e
-
 -- a machine with process 1 alone
 pub sound_first : (w : World) (q : Pids) (b : Places) → 2 ≤ w.pidmax → q ≡ born_in (unborne_table w.pidmax) 1 1 1 → q.pidmax ≡ w.pidmax → IsPids q → b.pids ≡ 1 ∷ [] → w.pidmax < b.room
     → IsSound (state_of w (inserted first_process []) q b 1 0 0 false) q b
 sound_first w q b most bore same table order room =
-    let r = regular_first w most in
     record {
-      regular = rw (order, first_alone) (record { rising = r.rising; bounded = r.bounded; first = r.first; placed = r.placed; distinct = r.distinct; childless = r.childless });
+      regular = regular_as (boot w) _ refl first_alone order (regular_first w (omega (arith, most)));
       parents = rw first_alone parents_first;
       counted = rw first_alone (omega arith);
       kept = record {

@@ -1,10 +1,11 @@
 -- A table after many changes.
-use Rattle.std.proofs.Common.{◌≡◌, ℕ, ◌+◌, ◌≤◌, Bool, true, false, cond, ◌&&◌, refl, ap, sym, ◌∙◌, arith, subst, List, [], ◌∷◌, length, filter, ◌==◌, length-set, inl, inr}
+use Rattle.std.proofs.Common.{◌≡◌, ℕ, ◌+◌, ◌≤◌, Bool, true, false, cond, ◌&&◌, refl, ap, sym, ◌∙◌, arith, subst, List, [], ◌∷◌, length, filter, filter_map, None, Some, unwrap_or, ◌==◌, length-set, inl, inr}
+use Rattle.std.specs.List.{last_or}
 use Rattle.std.proofs.lemmas.Bool.{eqb-true, eq-eqb, ne_eqb, cases_eq}
 use Rattle.std.proofs.lemmas.List.{length-replicate}
 use Rattle.posix.specs.NextPid.{next_free}
 use Rattle.pidalloc.specs.Rows.{Row, Role, Process, Group, Session, Pids, row, count_of, one_more, one_less, borne, given_up, unborne, unborne_table, is_free_in}
-use Rattle.pidalloc.specs.Bags.{Change, Bear, GiveUp, after, AreAllowed, same_role, bears_it, gives_it_up, times_borne, times_given_up, is_free_after}
+use Rattle.pidalloc.specs.Bags.{Change, Bear, GiveUp, after, AreAllowed, same_role, bears_it, gives_it_up, times_borne, times_given_up, is_free_after, number_of_process, last_borne}
 use Rattle.pidalloc.proofs.RowLemmas.{row_with, when, no_row}
 use Rattle.pidalloc.proofs.FreeLemmas.{next_free_same}
 
@@ -102,3 +103,24 @@ pub next_after : (pidmax last : ℕ) (cs : List Change) → AreAllowed (unborne_
 unfolding is_free_in is_free_after
 next_after pidmax last cs ok = next_free_same _ _ last pidmax (λ n l.
     rw (even _ _ _ (counts pidmax cs ok Process n), even _ _ _ (counts pidmax cs ok Group n), even _ _ _ (counts pidmax cs ok Session n)) refl)
+
+-- ---- the number given last
+
+-- the number that a table gave last is that of the last process borne, or the one that it gave before
+last_from : (p : Pids) (cs : List Change) (d : ℕ) → (after p cs).last ≡ unwrap_or (last_or (Some p.last) (filter_map number_of_process cs)) d
+unfolding after borne given_up
+last_from p [] d = refl
+last_from p (Bear n Process ∷ cs) d = last_from (borne p n Process) cs d
+last_from p (Bear n Group ∷ cs) d = last_from (borne p n Group) cs d
+last_from p (Bear n Session ∷ cs) d = last_from (borne p n Session) cs d
+last_from p (GiveUp n role ∷ cs) d = last_from (given_up p n role) cs d
+
+-- the last of a list, or n
+last_else : (n : ℕ) (ns : List ℕ) → unwrap_or (last_or (Some n) ns) n ≡ unwrap_or (last_or None ns) n
+last_else n [] = refl
+last_else n (m ∷ ns) = refl
+
+-- from the start on, the number given last is that of the last process borne
+pub last_after : (pidmax : ℕ) (cs : List Change) → (after (unborne_table pidmax) cs).last ≡ last_borne cs
+unfolding last_borne
+last_after pidmax cs = last_from (unborne_table pidmax) cs 1 ∙ last_else 1 (filter_map number_of_process cs)

@@ -1,5 +1,5 @@
 -- The rows of a table of numbers and the records of the processes that bear them.
-use Rattle.std.proofs.Common.{◌≡◌, ℕ, suc, ◌+◌, ◌<◌, ◌≤◌, ◌^◌, Bool, true, false, cond, not, ◌&&◌, ◌||◌, refl, ap, sym, ◌∙◌, arith, subst, List, [], ◌∷◌, length, map, filter, find, Some, None, ◌==◌}
+use Rattle.std.proofs.Common.{◌≡◌, ℕ, suc, ◌+◌, ◌<◌, ◌≤◌, ◌^◌, Bool, true, false, cond, not, ◌&&◌, ◌||◌, refl, ap, sym, ◌∙◌, arith, subst, List, [], ◌∷◌, length, map, filter, find, Some, ◌==◌}
 use Rattle.std.specs.List.{list_any}
 use Rattle.std.proofs.lemmas.Bool.{eqb-true, eq-eqb, ne_eqb}
 use Rattle.std.proofs.lemmas.List.Sums.{length-filter, count_by-le-length}
@@ -47,12 +47,6 @@ free_row rs n =
 pub next_same : (p : Pids) (rs : List Process) → IsTallied p rs → next_free (is_free_in p.rows) p.last p.pidmax ≡ next_free (is_free rs) p.last p.pidmax
 unfolding is_free_in
 next_same p rs t = next_free_same _ _ p.last p.pidmax (λ k l. ap is_free_row (t k l) ∙ free_row rs k)
-
--- nobody has a free number
-pub free_none : (n : ℕ) (rs : List Process) → is_free rs n ≡ true → lookup n rs ≡ None
-unfolding is_free lookup
-free_none n [] e = refl
-free_none n (r ∷ rs) e = grind (arith, free_none n rs)
 
 -- ---- counts of records
 

@@ -1,5 +1,6 @@
 -- The rows of a table as a bag of numbers, each in a role.
-use Rattle.std.specs.Prelude.{ℕ, ◌≤◌, ◌==◌, ◌&&◌, Bool, true, false, List, [], ◌∷◌, length, filter}
+use Rattle.std.specs.Prelude.{ℕ, ◌≤◌, ◌==◌, ◌&&◌, Bool, true, false, List, [], ◌∷◌, length, filter, filter_map, Option, Some, None, unwrap_or}
+use Rattle.std.specs.List.{last_or}
 use Rattle.pidalloc.specs.Rows.{Role, Process, Group, Session, Pids, row, count_of, borne, given_up}
 
 pub data Change : Type 0 where
@@ -51,3 +52,14 @@ is_even role n cs = times_borne role n cs == times_given_up role n cs
 -- nobody bears n: in each role it was given up as often as borne
 unfoldable pub is_free_after : List Change → ℕ → Bool
 is_free_after cs n = is_even Process n cs && is_even Group n cs && is_even Session n cs
+
+-- the number that a process was borne with
+abbrev pub number_of_process : Change → Option ℕ
+number_of_process (Bear n Process) = Some n
+number_of_process (Bear n Group) = None
+number_of_process (Bear n Session) = None
+number_of_process (GiveUp n role) = None
+
+-- the number of the process that was borne last, or 1 where none was
+unfoldable pub last_borne : List Change → ℕ
+last_borne cs = unwrap_or (last_or None (filter_map number_of_process cs)) 1

@@ -5,6 +5,7 @@ pub mod MapLemmas
 pub mod RegularLemmas
 pub mod WaitLemmas
 pub mod ReportingLemmas
+pub mod ReportLemmas
 pub mod OrderLemmas
 pub mod SeeLemmas
 pub mod SettleLemmas
@@ -12,6 +13,7 @@ pub mod NoticeLemmas
 pub mod ActLemmas
 pub mod CountLemmas
 pub mod RangeLemmas
+pub mod NextLemmas
 pub mod WakeLemmas
 pub mod UnseenLemmas
 pub mod TouchLemmas

@@ -3,10 +3,10 @@ use Rattle.std.proofs.Common.{◌≡◌, ◌≢◌, ℕ, ◌≤◌, Bool, true, 
 use Rattle.std.specs.Option.{IsSome}
 use Rattle.std.proofs.lemmas.Bool.{eqb-true, eqb-false, eq-eqb, ne_eqb, cases_eq, cond_both}
 use Rattle.posix.specs.declared.process.PendingSignal.{PendingSignal}
-use Rattle.posix.specs.Processes.{Process, Cpu, is_zombie}
-use Rattle.posix.specs.Tables.{lookup, at, changed, inserted, removed, children_in, reparented, adopted}
-use Rattle.posix.specs.States.{State, without, change, lose_place}
-use Rattle.posix.specs.Regular.{IsRegular, IsBounded, CanInherit, IsDistinct}
+use Rattle.posix.specs.Processes.{Process, Cpu, is_zombie, first_process}
+use Rattle.posix.specs.Tables.{IsRising, lookup, at, changed, inserted, removed, children_in, reparented, adopted}
+use Rattle.posix.specs.States.{World, State, boot, is_in, without, change, lose_place}
+use Rattle.posix.specs.Regular.{IsRegular, IsBounded, IsPlaced, CanInherit, IsDistinct}
 use Rattle.posix.specs.Generation.{signalled}
 use Rattle.posix.specs.Handlers.{handles, is_full}
 use Rattle.posix.specs.Ends.{ended, made_zombie, halt, depart, noticed, ignores_children}
@@ -27,7 +27,7 @@ pub record Keeps (g : Process → Process) : Type 0 where
   pub zombie : (r : Process) → is_zombie (g r).life ≡ is_zombie r.life
 
 -- no change is one
-keeps_none : Keeps (λ r. r)
+pub keeps_none : Keeps (λ r. r)
 keeps_none = record { pid = λ r. refl; parent = λ r. refl; group = λ r. refl; session = λ r. refl; zombie = λ r. refl }
 
 -- one of two such changes, as a test says, is one too
@@ -44,9 +44,37 @@ keeps_cond t f g h k = record {
 pub keeps_at : (p : ℕ) (f : Process → Process) → Keeps f → Keeps (at p f)
 keeps_at p f k = keeps_cond (λ r. r.pid == p) f (λ r. r) k keeps_none
 
+-- where one such change follows another, both together are one
+pub keeps_then : (f g : Process → Process) → Keeps f → Keeps g → Keeps (λ r. g (f r))
+keeps_then f g h k = record {
+  pid = λ r. k.pid (f r) ∙ h.pid r;
+  parent = λ r. k.parent (f r) ∙ h.parent r;
+  group = λ r. k.group (f r) ∙ h.group r;
+  session = λ r. k.session (f r) ∙ h.session r;
+  zombie = λ r. k.zombie (f r) ∙ h.zombie r;
+}
+
 -- numbers within their range stay so
 bounded_as : (m : ℕ) (r q : Process) → IsBounded m q → r.pid ≡ q.pid → r.group ≡ q.group → r.session ≡ q.session → IsBounded m r
 bounded_as m r q b p g s = record { least = omega (arith, b.least); pid = omega (arith, b.pid); group = omega (arith, b.group); session = omega (arith, b.session) }
+
+-- only the world, the records and the order count
+pub regular_as : (s t : State) → t.world ≡ s.world → t.processes ≡ s.processes → t.order ≡ s.order → IsRegular s → IsRegular t
+regular_as s t w p o i = record {
+  rising = rw p i.rising;
+  bounded = rw (p, w) i.bounded;
+  first = rw p i.first;
+  placed = rw (p, o) i.placed;
+  distinct = rw o i.distinct;
+  childless = rw p i.childless;
+}
+
+-- who is placed has a number from 1 on
+pub placed_least : (s : State) → IsRegular s → (p : ℕ) → IsPlaced s.processes p → 1 ≤ p
+placed_least s i p h =
+    let named = pid_looked p s.processes h.what h.found in
+    let least = (i.bounded p h.what h.found).least in
+    omega (arith, named, least)
 
 -- a state stays regular by such a change of each record
 pub regular_map : (g : Process → Process) → Keeps g → (s : State) → IsRegular s → IsRegular (record s { processes = map g s.processes })
@@ -64,6 +92,11 @@ regular_map g k s i = record {
       let old : is_zombie b.what.life ≡ true = sym (k.zombie b.what) ∙ ap (λ (r : Process). is_zombie r.life) (sym b.is) ∙ z in
       children_map g k.parent p s.processes ∙ ap (map g) (i.childless p b.what ne b.found old);
 }
+
+-- or of one
+pub regular_change : (p : ℕ) (f : Process → Process) → Keeps f → (s : State) → IsRegular s → IsRegular (change s p f)
+unfolding changed
+regular_change p f k s i = regular_map (at p f) (keeps_at p f k) s i
 
 -- ---- the order
 
@@ -202,8 +235,7 @@ regular_depart p heir w least ne s i h =
 pub regular_halt : (w : ℕ) (s : State) → IsRegular s → IsRegular (halt s w)
 unfolding ended
 regular_halt w s i =
-    let left = regular_leave 1 (ended w) (λ r. refl) (λ r. refl) (λ r. refl) (λ r. refl) s i (λ ne. absurd (ne refl)) in
-    record { rising = left.rising; bounded = left.bounded; first = left.first; placed = left.placed; distinct = left.distinct; childless = left.childless }
+    regular_as _ (halt s w) refl refl refl (regular_leave 1 (ended w) (λ r. refl) (λ r. refl) (λ r. refl) (λ r. refl) s i (λ ne. absurd (ne refl)))
 
 -- ---- births and collections
 
@@ -335,3 +367,29 @@ keeps_signalled signal = record { pid = λ r. refl; parent = λ r. refl; group =
 pub keeps_noticed : (signal : PendingSignal) → Keeps (noticed signal)
 unfolding noticed
 keeps_noticed signal = keeps_cond (λ r. ignores_children r.signals) (λ r. r) (signalled signal) keeps_none (keeps_signalled signal)
+
+-- ---- the start
+
+-- process 1 alone
+pub regular_first : (w : World) → 1 ≤ w.pidmax → IsRegular (boot w)
+unfolding lookup IsRising children_in is_in IsDistinct
+regular_first w most = record {
+  rising = (tt, tt);
+  bounded = λ p r e. one p r e;
+  first = record { what = first_process; found = refl; parent = refl };
+  placed = λ p e. elim (p == 1) as (λ b. (p == 1) ≡ b → IsPlaced (first_process ∷ []) p) [
+    | true ↦ λ t. subst (IsPlaced (first_process ∷ [])) (sym (eqb-true _ _ t)) (record { what = first_process; found = refl; living = refl })
+    | false ↦ λ t. let u : (1 == p) ≡ false = ne_eqb _ _ (λ x. eqb-false _ _ t (sym x)) in absurd (let k : false ≡ true = sym (rw u refl) ∙ e in cc)
+  ] refl;
+  distinct = (refl, tt);
+  childless = λ p r ne e z. elim (1 == p) as (λ b. (1 == p) ≡ b → cond b (Some first_process) None ≡ Some r → children_in p (first_process ∷ []) ≡ []) [
+    | true ↦ λ t k. absurd (ne (sym (eqb-true _ _ t)))
+    | false ↦ λ t k. absurd (cc)
+  ] refl e;
+}
+  where
+    one : (p : ℕ) (r : Process) → cond (1 == p) (Some first_process) None ≡ Some r → IsBounded w.pidmax r
+    one p r e = elim (1 == p) as (λ b. cond b (Some first_process) None ≡ Some r → IsBounded w.pidmax r) [
+      | true ↦ λ k. subst (IsBounded w.pidmax) (let same : first_process ≡ r = cc in same) (record { least = omega arith; pid = omega (arith, most); group = omega (arith, most); session = omega (arith, most) })
+      | false ↦ λ k. absurd (cc)
+    ] e

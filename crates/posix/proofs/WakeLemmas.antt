@@ -1,5 +1,5 @@
 -- What an event comes to, and that who can act then has a place.
-use Rattle.std.proofs.Common.{◌≡◌, ℕ, Bool, true, false, cond, not, ◌&&◌, ◌||◌, refl, ap, sym, ◌∙◌, arith, subst, List, [], ◌∷◌, ◌++◌, filter, Some, None, ◌==◌}
+use Rattle.std.proofs.Common.{◌≡◌, ℕ, ◌+◌, Bool, true, false, cond, not, ◌&&◌, ◌||◌, refl, ap, sym, ◌∙◌, arith, subst, List, [], ◌∷◌, ◌++◌, filter, Some, None, ◌==◌}
 use Rattle.std.proofs.lemmas.Bool.{or_left, or_right}
 use Rattle.posix.specs.declared.event.Event.{Event}
 use Rattle.posix.specs.declared.entry.Entry.{Entry}
@@ -7,6 +7,8 @@ use Rattle.posix.specs.Processes.{Process, first_process}
 use Rattle.posix.specs.Tables.{lookup, pids}
 use Rattle.posix.specs.States.{State, World, boot, is_in}
 use Rattle.posix.specs.Outcomes.{Outcome}
+use Rattle.posix.specs.Entries.{Line}
+use Rattle.posix.specs.Runs.{RunsFrom}
 use Rattle.posix.specs.Settle.{settle, wakes, can_act}
 use Rattle.posix.specs.Step.{IsStep, next, happens, act}
 use Rattle.posix.specs.Settle.{NoWakeIsLost}
@@ -25,6 +27,14 @@ next_awake granted s event e = rw e refl
 -- after a halt nothing changes
 pub nothing_after_halt : (old new : State) (event : Event) (entries : List Entry) → IsStep old event entries new → old.halted ≡ true → new ≡ old
 nothing_after_halt old new event entries h halted = ap (λ (o : Outcome). o.state) (sym h.comes ∙ next_halted h.granted old event halted)
+
+-- ---- runs
+
+-- what each step keeps, a run keeps
+pub run_keeps : (P : State → Type 0) → ((old new : State) (event : Event) (entries : List Entry) → IsStep old event entries new → P old → P new)
+    → (k : ℕ) (old last : State) (events : List Event) (lines : List Line) → RunsFrom k old events lines last → P old → P last
+run_keeps P keeps k old last [] lines run h = subst P (sym run.1) h
+run_keeps P keeps k old last (event ∷ events) lines run h = run_keeps P keeps (k + 1) run.0 last events run.2 run.5 (keeps old run.0 event run.1 run.3 h)
 
 -- ---- no wake is lost
 
@@ -65,6 +75,13 @@ pub act_has_place : (old new : State) (event : Event) (entries : List Entry) →
 act_has_place old new event entries h awake p r e c =
     let is : settle (happens h.granted old event).state ≡ new = ap (λ (o : Outcome). o.state) (sym (next_awake h.granted old event awake) ∙ h.comes) in
     subst (λ s. lookup p s.processes ≡ Some r → can_act s r ≡ true → is_in p s.order ≡ true) is (places_settled _ p r) e c
+
+-- and still has where it had before, after a halt too
+pub places_stay : (old new : State) (event : Event) (entries : List Entry) → IsStep old event entries new → NoWakeIsLost old → NoWakeIsLost new
+places_stay old new event entries h placed = elim old.halted as (λ b. old.halted ≡ b → NoWakeIsLost new) [
+  | true ↦ λ t. subst (λ (s : State). NoWakeIsLost s) (sym (nothing_after_halt old new event entries h t)) placed
+  | false ↦ λ t. act_has_place old new event entries h t
+] refl
 
 -- at the start
 pub first_has_place : (w : World) → NoWakeIsLost (boot w)

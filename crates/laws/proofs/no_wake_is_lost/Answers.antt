@@ -2,7 +2,10 @@
 use Rattle.std.proofs.Common.{ap, sym, ◌∙◌}
 use Rattle.posix.specs.Outcomes.{Outcome}
 use Rattle.posix.proofs.CountLemmas.{next_halted}
-use Rattle.posix.proofs.WakeLemmas.{first_has_place, act_has_place, nothing_after_halt}
+use Rattle.posix.specs.States.{boot}
+use Rattle.posix.specs.Settle.{NoWakeIsLost}
+use Rattle.posix.proofs.WakeLemmas.{first_has_place, act_has_place, places_stay, nothing_after_halt, run_keeps}
+use Rattle.laws.proofs.PlaceLemmas.{given_can_act}
 use Rattle.laws.proofs.no_wake_is_lost.Goals as goal
 
 pub returns-clause-start : goal.returns-clause-start
@@ -11,8 +14,14 @@ returns-clause-start c = first_has_place
 pub returns-clause-after : goal.returns-clause-after
 returns-clause-after c = act_has_place
 
+pub returns-clause-runs : goal.returns-clause-runs
+returns-clause-runs c = λ w events lines last run. run_keeps NoWakeIsLost places_stay 1 (boot w) last events lines run (first_has_place w)
+
 pub returns-clause-halted : goal.returns-clause-halted
 returns-clause-halted c = nothing_after_halt
 
 pub returns-clause-silent : goal.returns-clause-silent
 returns-clause-silent c = λ old new event entries step halted. ap (λ (o : Outcome). o.entries) (sym step.comes ∙ next_halted step.granted old event halted)
+
+pub returns-clause-given : goal.returns-clause-given
+returns-clause-given c = given_can_act

@@ -9,11 +9,11 @@ use Rattle.posix.specs.States.{State, process, change}
 use Rattle.posix.specs.Outcomes.{Block, gives, refusal}
 use Rattle.posix.specs.Waits.{WNOHANG, has_option, news_told}
 use Rattle.posix.proofs.OrderLemmas.{placed_some}
-use Rattle.posix.proofs.RegularLemmas.{keeps_news_told}
+use Rattle.posix.proofs.RegularLemmas.{keeps_news_told, placed_least}
 use Rattle.calls.specs.Outcomes.{Comes}
 use Rattle.life.specs.Callers.{process_like}
 use Rattle.calls.proofs.CallLemmas.{gives_is, reports_is, wait_unknown, wait_finds}
-use Rattle.calls.proofs.ReportLemmas.{reported, not_first, caller_stays, some_changed}
+use Rattle.posix.proofs.ReportLemmas.{reported, not_first, caller_stays, some_changed}
 use Rattle.calls.proofs.waits.wait_as.Goals as goal
 
 pub returns-in_default : goal.returns-in_default
@@ -28,7 +28,7 @@ reap-requires-clause-other g c =
     let s = c.args.machine.now.state in
     let me = c.args.me.now in
     let child = reported s.processes c.requires.regular.rising me.pid me.group _ _ (found.End c.in-End.child c.in-End.status) c.in-End.child (sym c.wait_attempt.ensures.value ∙ c.in-End.is) refl in
-    not_first s c.requires.regular me.pid c.in-End.child true c.requires.placed child
+    not_first s c.requires.regular me.pid c.in-End.child true (placed_least s c.requires.regular me.pid c.requires.placed) child
 
 pub reap-requires-clause-zombie : goal.reap-requires-clause-zombie
 reap-requires-clause-zombie g c =

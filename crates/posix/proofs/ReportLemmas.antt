@@ -1,5 +1,5 @@
 -- The child that a wait reports.
-use Rattle.std.proofs.Common.{◌≡◌, ◌≢◌, ℕ, Bool, true, false, refl, ap, sym, ◌∙◌, arith, subst, List, [], ◌∷◌, filter, find, Option, Some, None}
+use Rattle.std.proofs.Common.{◌≡◌, ◌≢◌, ◌≤◌, ℕ, Bool, true, false, refl, ap, sym, ◌∙◌, arith, subst, List, [], ◌∷◌, filter, find, Option, Some, None}
 use Rattle.std.specs.Option.{IsSome}
 use Rattle.std.proofs.lemmas.Bool.{eqb-true, eq-eqb}
 use Rattle.posix.specs.declared.process.Report.{Report}
@@ -10,7 +10,7 @@ use Rattle.posix.specs.Tables.{IsRising, lookup, changed, removed, is_child, chi
 use Rattle.posix.specs.States.{State}
 use Rattle.posix.specs.Regular.{IsRegular, IsPlaced}
 use Rattle.posix.specs.Waits.{is_named, report_of, reports, report_found, report_among, report}
-use Rattle.posix.proofs.TableLemmas.{rising_filter, pid_looked}
+use Rattle.posix.proofs.TableLemmas.{rising_filter}
 use Rattle.posix.proofs.WaitLemmas.{by_report}
 use Rattle.posix.proofs.WalkLemmas.{in_filter, found_above}
 use Rattle.posix.proofs.MapLemmas.{at_pid, some_map}
@@ -91,13 +91,11 @@ reported rs up caller group choice options o child e named =
 -- ---- the table afterwards
 
 -- process 1 is nobody's child
-pub not_first : (s : State) → IsRegular s → (caller child : ℕ) (ended : Bool) → IsPlaced s.processes caller → IsChild s.processes caller child ended → child ≢ 1
-not_first s i caller child ended me h same =
+pub not_first : (s : State) → IsRegular s → (caller child : ℕ) (ended : Bool) → 1 ≤ caller → IsChild s.processes caller child ended → child ≢ 1
+not_first s i caller child ended least h same =
     let one : i.first.what ≡ h.what = let both = sym i.first.found ∙ ap (λ n. lookup n s.processes) (sym same) ∙ h.found in cc in
     let parent : 0 ≡ caller = sym i.first.parent ∙ ap (λ (r : Process). r.parent) one ∙ h.parent in
-    let named : me.what.pid ≡ caller = pid_looked caller s.processes me.what me.found in
-    let least = (i.bounded caller me.what me.found).least in
-    absurd (omega (arith, parent, named, least))
+    absurd (omega (arith, parent, least))
 
 -- the caller is there after a zombie is gone
 pub caller_stays : (rs : List Process) (caller child : ℕ) → IsPlaced rs caller → IsChild rs caller child true → IsSome (lookup caller (removed child rs))

@@ -1,0 +1,121 @@
+-- Who is given a place by an event, and how the order moves.
+use Rattle.std.proofs.Common.{◌≡◌, ◌≢◌, ℕ, Bool, true, false, refl, ap, sym, ◌∙◌, subst, List, [], ◌∷◌, ◌++◌, filter, map, append-nil, append_assoc, Option, ◌==◌, slice_get, inl, inr}
+use Rattle.std.specs.Option.{IsSomeAnd}
+use Rattle.std.proofs.lemmas.Bool.{ne_eqb, or_from, or_cases, false_from_ne_true}
+use Rattle.posix.specs.declared.event.Event.{Event}
+use Rattle.posix.specs.declared.entry.Entry.{Entry}
+use Rattle.posix.specs.Tables.{pids}
+use Rattle.posix.specs.States.{State, process, is_in, without, has_place, current}
+use Rattle.posix.specs.Regular.{IsRegular, IsDistinct}
+use Rattle.posix.specs.Outcomes.{Outcome}
+use Rattle.posix.specs.Settle.{settle, wakes, can_act}
+use Rattle.posix.specs.Step.{IsStep, next, happens}
+use Rattle.posix.proofs.MemberLemmas.{in_append, in_first, in_last, in_rest, is_other}
+use Rattle.posix.proofs.TableLemmas.{rising_filter}
+use Rattle.posix.proofs.OrderLemmas.{first_in}
+use Rattle.posix.proofs.ActLemmas.{Turned}
+use Rattle.posix.proofs.CountLemmas.{next_halted}
+use Rattle.posix.proofs.WakeLemmas.{next_awake}
+use Rattle.posix.proofs.SeeLemmas.{can_act_order}
+use Rattle.laws.specs.Stamps.{Move, Lose, GoLast, Place, Leads}
+use Rattle.laws.proofs.TurnLemmas.{FirstTurned, turned_first}
+use Rattle.laws.proofs.WokenLemmas.{distinct_pids, all_wake}
+use Rattle.laws.proofs.RegularStays.{happens_regular}
+
+-- ---- who is given a place can act
+
+-- what is left of an order gives nobody a place
+none_by_loss : (p q : ℕ) (order : List ℕ) → is_in q order ≡ false → is_in q (without p order) ≡ false
+none_by_loss p q order e = false_from_ne_true _ (λ t. let no = sym e ∙ (is_other p q order t).among in absurd (cc))
+
+-- a turn of p, which has a place, gives nobody one
+none_by_turn : (p q : ℕ) (old new : List ℕ) → is_in p old ≡ true → Turned p old new → is_in q old ≡ false → is_in q new ≡ false
+none_by_turn p q old new e (inl same) out = ap (is_in q) same ∙ out
+none_by_turn p q old new e (inr (inl less)) out = ap (is_in q) less ∙ none_by_loss p q old out
+none_by_turn p q old new e (inr (inr last)) out =
+    let apart : (p == q) ≡ false = ne_eqb p q (λ k. let no = sym e ∙ ap (λ n. is_in n old) k ∙ out in absurd (cc)) in
+    ap (is_in q) last ∙ in_last q p (without p old) ∙ or_from _ _ (none_by_loss p q old out) apart
+
+-- before places are given an event gives nobody one
+none_before : (granted : Bool) (s : State) (event : Event) (q : ℕ) → is_in q s.order ≡ false → is_in q (happens granted s event).state.order ≡ false
+none_before granted s event q out = elim (turned_first granted s event) [
+  | inl same ↦ ap (is_in q) same ∙ out
+  | inr first ↦ none_by_turn first.0 q s.order _ (first_in first.0 s.order first.1) first.2 out
+]
+
+-- the record of q is there and can act
+abbrev CanAct : State → ℕ → Type 0
+CanAct s q = IsSomeAnd (process s q) (λ r. can_act s r ≡ true)
+
+-- to settle gives a place to who can act
+acts_settled : (s : State) → IsRegular s → (q : ℕ) → is_in q s.order ≡ false → is_in q (settle s).order ≡ true → CanAct (settle s) q
+unfolding settle
+acts_settled s i q out there =
+    let woken = pids (filter (wakes s) s.processes) in
+    elim (or_cases _ _ (sym (in_append q s.order woken) ∙ there)) [
+      | inl before ↦ let no = sym out ∙ before in absurd (cc)
+      | inr new ↦
+          let w = all_wake s i.rising q new in
+          rw w.found (can_act_order s (s.order ++ woken) w.what ∙ w.acts)
+    ]
+
+-- the same of any event
+acts_next : (granted : Bool) (s : State) (event : Event) → IsRegular s → (q : ℕ) → is_in q s.order ≡ false → is_in q (next granted s event).state.order ≡ true → CanAct (next granted s event).state q
+acts_next granted s event i q out there =
+    elim s.halted as (λ b. s.halted ≡ b → CanAct (next granted s event).state q) [
+      | true ↦ λ h.
+          let no = sym out ∙ ap (λ (o : Outcome). is_in q o.state.order) (sym (next_halted granted s event h)) ∙ there in
+          absurd (cc)
+      | false ↦ λ h.
+          let is = next_awake granted s event h in
+          let placed = ap (λ (o : Outcome). is_in q o.state.order) (sym is) ∙ there in
+          subst (λ (o : Outcome). CanAct o.state q) (sym is)
+          (acts_settled (happens granted s event).state (happens_regular granted s event i h) q (none_before granted s event q out) placed)
+    ] refl
+
+-- who is given a place by an event can act after it
+pub given_can_act : (old new : State) (event : Event) (entries : List Entry) → IsStep old event entries new → IsRegular old
+    → (q : ℕ) → has_place old q ≡ false → has_place new q ≡ true → IsSomeAnd (process new q) (λ r. can_act new r ≡ true)
+given_can_act old new event entries h i q out there =
+    subst (λ (o : Outcome). is_in q o.state.order ≡ true → CanAct o.state q) h.comes (acts_next h.granted old event i q out) there
+
+-- ---- how the order moves
+
+-- all of a list are given places one after another
+leads_placed : (turn : Option ℕ) (order ps : List ℕ) → IsDistinct ps → ((q : ℕ) → is_in q ps ≡ true → is_in q order ≡ false) → Leads turn order (map Place ps) (order ++ ps)
+unfolding IsDistinct
+leads_placed turn order [] d out = append-nil order
+leads_placed turn order (p ∷ ps) d out = (
+  out p (in_first p ps),
+  subst (Leads turn (order ++ p ∷ []) (map Place ps)) (append_assoc order (p ∷ []) ps)
+      (leads_placed turn (order ++ p ∷ []) ps d.1 (λ q e.
+      let apart : p ≢ q = λ k. let no = sym e ∙ ap (λ n. is_in n ps) (sym k) ∙ d.0 in absurd (cc) in
+      in_last q p order ∙ or_from _ _ (out q (in_rest q p ps apart ∙ e)) (ne_eqb p q apart))),
+)
+
+-- to settle gives places
+leads_settled : (turn : Option ℕ) (s : State) → IsRegular s → Leads turn s.order (map Place (pids (filter (wakes s) s.processes))) (settle s).order
+unfolding settle
+leads_settled turn s i =
+    leads_placed turn s.order (pids (filter (wakes s) s.processes)) (distinct_pids (filter (wakes s) s.processes) (rising_filter (wakes s) s.processes i.rising)) (λ q e. (all_wake s i.rising q e).out)
+
+-- before that the first may turn
+leads_turned : (old mid new : List ℕ) (moves : List Move) → FirstTurned old mid → Leads (slice_get old 0) mid moves new → (all : List Move) × Leads (slice_get old 0) old all new
+leads_turned old mid new moves (inl same) h = (moves, subst (λ o. Leads (slice_get old 0) o moves new) same h)
+leads_turned old mid new moves (inr (p, first, inl same)) h = (moves, subst (λ o. Leads (slice_get old 0) o moves new) same h)
+leads_turned old mid new moves (inr (p, first, inr (inl less))) h = (Lose p ∷ moves, (first, subst (λ o. Leads (slice_get old 0) o moves new) less h))
+leads_turned old mid new moves (inr (p, first, inr (inr last))) h = (GoLast p ∷ moves, (first, subst (λ o. Leads (slice_get old 0) o moves new) last h))
+
+-- moves lead from the order before an event to that after it
+leads_next : (granted : Bool) (s : State) (event : Event) → IsRegular s → (moves : List Move) × Leads (current s) s.order moves (next granted s event).state.order
+leads_next granted s event i =
+    elim s.halted as (λ b. s.halted ≡ b → (moves : List Move) × Leads (current s) s.order moves (next granted s event).state.order) [
+      | true ↦ λ h. ([], ap (λ (o : Outcome). o.state.order) (next_halted granted s event h))
+      | false ↦ λ h.
+          subst (λ (o : Outcome). (moves : List Move) × Leads (current s) s.order moves o.state.order) (sym (next_awake granted s event h))
+          (leads_turned s.order _ _ _ (turned_first granted s event) (leads_settled (current s) (happens granted s event).state (happens_regular granted s event i h)))
+    ] refl
+
+-- the same in the relation
+pub order_moves : (old new : State) (event : Event) (entries : List Entry) → IsStep old event entries new → IsRegular old → (moves : List Move) × Leads (current old) old.order moves new.order
+order_moves old new event entries h i = subst (λ (o : Outcome). (moves : List Move) × Leads (current old) old.order moves o.state.order) h.comes (leads_next h.granted old event i)

@@ -1,0 +1,51 @@
+-- Who is given a place as an event is settled.
+use Rattle.std.proofs.Common.{◌≡◌, ℕ, true, false, cond, not, ◌||◌, refl, ap, sym, ◌∙◌, arith, List, [], ◌∷◌, filter, Some, ◌==◌}
+use Rattle.std.proofs.lemmas.Bool.{ne_eqb, or_from, and_parts, not-true}
+use Rattle.posix.specs.Processes.{Process}
+use Rattle.posix.specs.Tables.{IsRising, lookup, pids}
+use Rattle.posix.specs.States.{State, is_in}
+use Rattle.posix.specs.Regular.{IsDistinct}
+use Rattle.posix.specs.Settle.{wakes, can_act}
+use Rattle.posix.proofs.TableLemmas.{Above, pid_looked}
+use Rattle.posix.proofs.WalkLemmas.{in_filter}
+
+-- numbers of some processes are above a number where all are
+pids_above : (n : ℕ) (rs : List Process) → Above n rs → is_in n (pids rs) ≡ false
+unfolding is_in
+pids_above n [] a = refl
+pids_above n (r ∷ rs) a = or_from _ _ (ne_eqb r.pid n (λ e. omega (arith, a.0, e))) (pids_above n rs a.1)
+
+-- the numbers of rising processes are distinct
+pub distinct_pids : (rs : List Process) → IsRising rs → IsDistinct (pids rs)
+unfolding IsDistinct IsRising
+distinct_pids [] up = tt
+distinct_pids (r ∷ rs) up = (pids_above r.pid rs up.0, distinct_pids rs up.1)
+
+-- whose number is among those of processes is found there
+pid_found : (q : ℕ) (rs : List Process) → is_in q (pids rs) ≡ true → (r : Process) × (lookup q rs ≡ Some r)
+unfolding is_in lookup
+pid_found q [] e = absurd (cc)
+pid_found q (r ∷ rs) e = elim (r.pid == q) as (λ b. (b || is_in q (pids rs)) ≡ true → (x : Process) × (cond b (Some r) (lookup q rs) ≡ Some x)) [
+  | true ↦ λ k. (r, refl)
+  | false ↦ λ k. pid_found q rs k
+] e
+
+-- who wakes: a process that can act, and has no place
+pub record Wakes (s : State) (q : ℕ) : Type 0 where
+  pub what : Process
+  pub found : lookup q s.processes ≡ Some what
+  pub acts : can_act s what ≡ true
+  pub out : is_in q s.order ≡ false
+
+-- who is given a place wakes
+pub all_wake : (s : State) → IsRising s.processes → (q : ℕ) → is_in q (pids (filter (wakes s) s.processes)) ≡ true → Wakes s q
+all_wake s up q e =
+    let r = pid_found q (filter (wakes s) s.processes) e in
+    let f = in_filter (wakes s) s.processes up q r.0 r.1 in
+    let awake = and_parts (not (is_in r.0.pid s.order)) _ f.passes in
+    record {
+      what = r.0;
+      found = f.found;
+      acts = awake.1;
+      out = ap (λ n. is_in n s.order) (sym (pid_looked q s.processes r.0 f.found)) ∙ not-true _ awake.0;
+    }
