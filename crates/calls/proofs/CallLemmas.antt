@@ -1,5 +1,5 @@
 -- What calls come to.
-use Rattle.std.proofs.Common.{◌≡◌, ◌↔◌, ℕ, Bool, true, false, cond, refl, ap, sym, ◌∙◌, subst, Option, Some, None, is_some, bit_and, List, [], ◌∷◌, ◌++◌, ℤ, pos, ◌==◌}
+use Rattle.std.proofs.Common.{◌≡◌, ◌↔◌, ℕ, Bool, true, false, cond, refl, ap, sym, ◌∙◌, subst, Option, Some, None, is_some, bit_and, List, map, [], ◌∷◌, ◌++◌, ℤ, pos, ◌==◌}
 use Rattle.std.specs.Option.{IsSome, IfSome}
 use Rattle.std.proofs.lemmas.Bool.{eqb-true, eq-eqb}
 use Rattle.posix.specs.declared.call.Call.{Call}
@@ -12,7 +12,8 @@ use Rattle.posix.specs.declared.process.Report.{Report}
 use Rattle.posix.specs.declared.target.Target.{Target}
 use Rattle.posix.specs.declared.wait_options.WaitOptions.{WaitOptions}
 use Rattle.posix.specs.Processes.{Process, argument}
-use Rattle.posix.specs.States.{State}
+use Rattle.posix.specs.Tables.{at, changed}
+use Rattle.posix.specs.States.{State, change}
 use Rattle.posix.specs.Outcomes as outcome
 use Rattle.posix.specs.Targets.{target_in}
 use Rattle.posix.specs.Ends.{end_process}
@@ -49,6 +50,19 @@ gives_is s t b n a p call v z xs ys r is done state before shown same =
     subst (λ x. Comes s x r xs ys n) (sym is)
     (subst (λ q. Comes s (outcome.gives t p call z) q xs ys n) (sym done)
     (shown ∙ ap (λ w. xs ++ Called p call w ∷ []) same, state ∙ ap (λ (u : State). outcome.finish u p ((0, v) ∷ [])) before ∙ ap (λ w. outcome.finish t p ((0, w) ∷ [])) same))
+
+-- one change of a process after another
+changed_then : (p : ℕ) (f g : Process → Process) → ((r : Process) → (g r).pid ≡ r.pid) → (rs : List Process) → changed p f (changed p g rs) ≡ changed p (λ r. f (g r)) rs
+unfolding changed
+changed_then p f g keeps [] = refl
+changed_then p f g keeps (r ∷ rs) = elim (r.pid == p) as (λ b. (r.pid == p) ≡ b → at p f (cond b (g r) r) ∷ map (at p f) (map (at p g) rs) ≡ cond b (f (g r)) r ∷ map (at p (λ r. f (g r))) rs) [
+  | true ↦ λ e. let mine : ((g r).pid == p) ≡ true = ap (λ n. n == p) (keeps r) ∙ e in rw mine (ap (λ qs. f (g r) ∷ qs) (changed_then p f g keeps rs))
+  | false ↦ λ e. rw e (ap (λ qs. r ∷ qs) (changed_then p f g keeps rs))
+] refl
+
+-- a call that gives z, and changes its process before that
+pub answers_then : (s : State) (p : ℕ) (call : Call) (z : ℤ) (g : Process → Process) → ((r : Process) → (g r).pid ≡ r.pid) → outcome.answers s p call (record { value = z; changes = g }) ≡ outcome.gives (change s p g) p call z
+answers_then s p call z g keeps = ap (λ rs. outcome.Done (outcome_of (record s { processes = rs }) (Called p call z ∷ []))) (sym (changed_then p (outcome.finished ((0, z) ∷ [])) g keeps s.processes))
 
 -- a call that reports a child in t: the code did so in b, which is the same
 pub reports_is : (s t b n : State) (a : outcome.Attempted) (p child status : ℕ) (xs ys : List Entry) (r : Option Blocked) → a ≡ gives_report t p child status

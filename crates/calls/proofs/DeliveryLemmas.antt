@@ -50,7 +50,7 @@ pub handle_full : (s : State) (me : Process) (signal : PendingSignal) (address :
     → handle s me signal address ≡ outcome_of u es
 unfolding handle
 handle_full s me signal address t u es full st end en =
-    let k = keeps_handles signal address in
+    let k = keeps_handles {now = 0} signal address in
     let same : end_process t (handles signal address me) (killed SEGV) ≡ end_process (change s me.pid (handles signal address)) me (killed SEGV) =
     end_same t (handles signal address me) me (killed SEGV) (k.pid me) (k.parent me) ∙ ap (λ x. end_process x me (killed SEGV)) st in
     rw full (same_outcome _ u _ es (sym (end ∙ ap (λ (o : Outcome). o.state) same))

@@ -25,7 +25,7 @@ some_signalled : (signal : PendingSignal) (ps : List ℕ) (q : ℕ) (rs : List P
 unfolding signalled_all
 some_signalled signal [] q rs h = h
 some_signalled signal (p ∷ ps) q rs h =
-    some_signalled signal ps q (changed p (signalled signal) rs) (some_changed p q (signalled signal) (keeps_signalled signal).pid rs h)
+    some_signalled signal ps q (changed p (signalled signal) rs) (some_changed p q (signalled signal) (keeps_signalled {now = 0} signal).pid rs h)
 
 -- after a signal is sent to those that are meant
 some_sent_among : (me : Process) (s : Option ℕ) (qs rs : List Process) (q : ℕ) → IsSome (lookup q rs) → IsSome (lookup q (sent_among me s qs rs))

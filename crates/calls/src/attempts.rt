@@ -6,6 +6,7 @@ ghost use Rattle.posix.specs.Processes.{Process};
 ghost use Rattle.posix.specs.States.{process};
 ghost use Rattle.posix.specs.Regular.{IsPlaced};
 ghost use Rattle.posix.specs.Outcomes.{finish, refusal as refusal_of};
+ghost use Rattle.posix.specs.Alarms.{most_ticks, ticks_in as ticks_in_word};
 ghost use Rattle.posix.specs.Attempts.{attempt_again as attempting_again};
 ghost use Rattle.calls.specs.Outcomes.{Comes, Attempts, IsActing, CostsAtMost, is_own};
 
@@ -128,6 +129,32 @@ fn sigreturn<K: Kin>(machine: &mut Machine<K>, pid: Pid, entries: &mut Entries) 
     None
 }
 
+/// The ticks that a register asks for: 0 to 1,000,000,000.
+fn ticks_in(word: i64) -> Option<u64>
+    ensures { result ≡ ticks_in_word word }
+{
+    match word {
+        0..=1_000_000_000 => Some(word as u64),
+        _ => None,
+    }
+}
+
+/// The caller's alarm is set to r1 ticks from now, 0 to 1,000,000,000, where 0 clears it (XSH alarm).
+#[tactic(auto, unfolding(posix::specs::Attempts::attempt))]
+fn alarm<K: Kin>(machine: &mut Machine<K>, pid: Pid, entries: &mut Entries) -> Option<Blocked>
+    requires acting { IsActing machine.old.state pid }
+    requires time { machine.old.state.ticks + most_ticks < 2 ^ 64 }
+    requires room { length entries.old.items ≤ 1 }
+    ensures { Attempts machine.old.state pid Call.Alarm result entries.old.items entries.new.items machine.new.state }
+{
+    let word = machine.look(pid).cpu.register(Register::FIRST_ARGUMENT);
+    let Some(ticks) = ticks_in(word) else {
+        return refuse(machine, pid, Call::Alarm, Errno::EINVAL, entries);
+    };
+    let left = machine.set_alarm(pid, ticks);
+    gives(machine, pid, Call::Alarm, left as i64, entries)
+}
+
 /// A process that has a place attempts a call. Where it has to wait nothing has changed, and the call that
 /// it is to be blocked in is answered.
 #[tactic(auto, unfolding(posix::specs::Attempts::attempt))]
@@ -139,6 +166,7 @@ pub fn attempt<K: Kin>(
 ) -> Option<Blocked>
     requires acting { IsActing machine.old.state pid }
     requires births { machine.old.state.births + 1 < 2 ^ 64 }
+    requires time { machine.old.state.ticks + most_ticks < 2 ^ 64 }
     requires none { entries.old.items ≡ [] }
     ensures attempts { Attempts machine.old.state pid call result entries.old.items entries.new.items machine.new.state }
     ensures own { is_own call ≡ true → (result ≡ None) × CostsAtMost 1 machine.old machine.new }
@@ -153,6 +181,7 @@ pub fn attempt<K: Kin>(
         Call::Kill => kill(machine, pid, entries),
         Call::Sigsuspend => Some(Blocked::Sigsuspend(machine.look(pid).signals.mask())),
         Call::Sigreturn => sigreturn(machine, pid, entries),
+        Call::Alarm => alarm(machine, pid, entries),
         _ => own_call(machine.own(pid), pid, call, entries),
     }
 }

@@ -1,5 +1,5 @@
 -- What the functions of one event come to.
-use Rattle.std.specs.Prelude.{◌≡◌, ℕ, ◌+◌, ◌||◌, if◌then◌else◌, Bool, true, false, List, [], ◌∷◌, Option, Some, None, is_some, replicate, min}
+use Rattle.std.specs.Prelude.{◌≡◌, ℕ, ◌+◌, ◌||◌, if◌then◌else◌, Bool, true, false, not, List, [], ◌∷◌, Option, Some, None, is_some, replicate, min}
 use Rattle.posix.specs.declared.call.Call.{Call}
 use Rattle.posix.specs.declared.event.Event.{Event}
 use Rattle.posix.specs.declared.event.Event.TheVariants.{Step, Tick}
@@ -10,6 +10,7 @@ use Rattle.posix.specs.declared.instr.Trap.TheVariants as trap
 use Rattle.posix.specs.Processes.{Process}
 use Rattle.posix.specs.Entries.{numbered}
 use Rattle.posix.specs.States.{State, process, current_process}
+use Rattle.posix.specs.Alarms.{has_alarms}
 use Rattle.posix.specs.Attempts.{attempt}
 use Rattle.posix.specs.Choice.{chosen}
 use Rattle.posix.specs.Execute.{exec_one}
@@ -55,10 +56,10 @@ abbrev pub next_changes_one : State → Option Process → Bool
 next_changes_one s None = true
 next_changes_one s (Some me) = if is_some (chosen me.life me.signals) || is_some me.blocked then false else changes_one (exec_one (code_of s me) me.cpu).trap
 
--- an event changes one process at most: a tick changes none
+-- an event changes one process at most: a tick changes none where none has an alarm
 abbrev pub event_changes_one : Event → State → Bool
 event_changes_one Step s = next_changes_one s (current_process s)
-event_changes_one Tick s = true
+event_changes_one Tick s = not (has_alarms s)
 
 -- how many plain instructions, at most so many, a process runs: none in a call, or with a signal chosen
 abbrev pub plain_of : State → ℕ → Option Process → ℕ

@@ -7,6 +7,7 @@ ghost use Rattle.posix.specs.Choice.{chosen};
 ghost use Rattle.posix.specs.States.{process, current_process};
 ghost use Rattle.posix.specs.Execute.{exec_one};
 ghost use Rattle.posix.specs.Step.{code_of, tick as ticking, go_on as going_on, IsStep};
+ghost use Rattle.posix.specs.Alarms.{most_ticks, has_alarms};
 ghost use Rattle.posix.specs.Attempts.{attempt_again};
 ghost use Rattle.posix.specs.Regular.{IsPlaced, IsRegular};
 ghost use Rattle.posix.specs.Settle.{NoWakeIsLost};
@@ -28,6 +29,7 @@ use proctable::{Facts, Kin};
 fn begin_call<K: Kin>(machine: &mut Machine<K>, pid: Pid, call: Call, entries: &mut Entries)
     requires acting { IsActing machine.old.state pid }
     requires births { machine.old.state.births + 1 < 2 ^ 64 }
+    requires time { machine.old.state.ticks + most_ticks < 2 ^ 64 }
     requires none { entries.old.items ≡ [] }
     ensures begins { Begins machine.old.state pid call entries.new.items machine.new.state }
     ensures own { is_own call ≡ true → CostsAtMost 1 machine.old machine.new }
@@ -69,6 +71,7 @@ fn run_instruction<K: Kin>(machine: &mut Machine<K>, pid: Pid, program: u8, entr
     requires acting { IsActing machine.old.state pid }
     requires program { (me : Process) → process machine.old.state pid ≡ Some me → me.program ≡ program }
     requires births { machine.old.state.births + 1 < 2 ^ 64 }
+    requires time { machine.old.state.ticks + most_ticks < 2 ^ 64 }
     requires none { entries.old.items ≡ [] }
     ensures runs { RunsInstruction machine.old.state pid entries.new.items machine.new.state }
     ensures cost { (me : Process) → process machine.old.state pid ≡ Some me → changes_one (exec_one (code_of machine.old.state me) me.cpu).trap ≡ true → CostsAtMost 2 machine.old machine.new }
@@ -88,6 +91,7 @@ fn act<K: Kin>(machine: &mut Machine<K>, pid: Pid, facts: Facts, entries: &mut E
     requires acting { IsActing machine.old.state pid }
     requires facts { Some facts ≡ option_map facts_of (process machine.old.state pid) }
     requires births { machine.old.state.births + 1 < 2 ^ 64 }
+    requires time { machine.old.state.ticks + most_ticks < 2 ^ 64 }
     requires none { entries.old.items ≡ [] }
     ensures acts { ActsAs machine.old.state pid entries.new.items machine.new.state }
     ensures cost { next_changes_one machine.old.state (process machine.old.state pid) ≡ true → CostsAtMost 2 machine.old machine.new }
@@ -114,6 +118,7 @@ fn act<K: Kin>(machine: &mut Machine<K>, pid: Pid, facts: Facts, entries: &mut E
 #[tactic(auto, unfolding(posix::specs::Step::step))]
 fn step<K: Kin>(machine: &mut Machine<K>, entries: &mut Entries)
     requires births { machine.old.state.births + 1 < 2 ^ 64 }
+    requires time { machine.old.state.ticks + most_ticks < 2 ^ 64 }
     requires none { entries.old.items ≡ [] }
     ensures steps { Steps machine.old.state entries.new.items machine.new.state }
     ensures cost { next_changes_one machine.old.state (current_process machine.old.state) ≡ true → CostsAtMost 3 machine.old machine.new }
@@ -127,13 +132,13 @@ fn step<K: Kin>(machine: &mut Machine<K>, entries: &mut Entries)
     act(machine, pid, facts, entries);
 }
 
-/// The time goes on by one, and the current process goes to the end of the order.
+/// The time goes on by one, alarms that are due ring, and the current process goes to the end of the order.
 #[tactic(auto, unfolding(posix::specs::Step::tick))]
 #[inline(never)]
 fn tick<K: Kin>(machine: &mut Machine<K>)
     requires { machine.old.state.ticks + 1 < 2 ^ 64 }
     ensures state { machine.new.state ≡ ticking machine.old.state }
-    ensures cost { CostsAtMost 0 machine.old machine.new }
+    ensures cost { has_alarms machine.old.state ≡ false → CostsAtMost 0 machine.old machine.new }
 {
     machine.pass_time();
     if let Some(pid) = machine.current() {
@@ -145,7 +150,7 @@ fn tick<K: Kin>(machine: &mut Machine<K>)
 #[tactic(auto, unfolding(posix::specs::Step::happens))]
 fn happen<K: Kin>(machine: &mut Machine<K>, event: Event, entries: &mut Entries)
     requires births { machine.old.state.births + 1 < 2 ^ 64 }
-    requires ticks { machine.old.state.ticks + 1 < 2 ^ 64 }
+    requires time { machine.old.state.ticks + most_ticks < 2 ^ 64 }
     requires none { entries.old.items ≡ [] }
     ensures happens { Happens machine.old.state event entries.new.items machine.new.state }
     ensures cost { event_changes_one event machine.old.state ≡ true → CostsAtMost 3 machine.old machine.new }
@@ -196,7 +201,7 @@ pub fn burst<K: Kin>(machine: &mut Machine<K>, most: u64, entries: &mut Entries)
 #[tactic(auto, unfolding(posix::specs::Step::next))]
 pub fn next<K: Kin>(machine: &mut Machine<K>, event: Event, entries: &mut Entries)
     requires births { machine.old.state.births + 1 < 2 ^ 64 }
-    requires ticks { machine.old.state.ticks + 1 < 2 ^ 64 }
+    requires time { machine.old.state.ticks + most_ticks < 2 ^ 64 }
     requires none { entries.old.items ≡ [] }
     ensures step { IsStep machine.old.state event entries.new.items machine.new.state }
     ensures regular { IsRegular machine.new.state }

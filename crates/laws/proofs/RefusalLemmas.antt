@@ -1,9 +1,9 @@
 -- What a refused call changes.
-use Rattle.std.proofs.Common.{◌≡◌, ◌≢◌, ℕ, zero, suc, Bool, true, false, cond, refl, ap, sym, ◌∙◌, arith, subst, List, [], ◌∷◌, ◌++◌, Option, Some, None, option_and_then, ◌==◌, Contains, pos, negsuc, ℤ, Result, Ok, Err}
+use Rattle.std.proofs.Common.{◌≡◌, ◌≢◌, ℕ, zero, suc, Bool, true, false, cond, refl, ap, sym, ◌∙◌, arith, subst, List, [], ◌∷◌, ◌++◌, Option, Some, None, option_and_then, ◌==◌, Contains, pos, negsuc, ℤ, Result, Ok, Err, nat_le}
 use Rattle.std.specs.Int.{cast_unsigned, w64}
 use Rattle.std.specs.List.{AllByRecursion}
 use Rattle.posix.specs.declared.call.Call.{Call}
-use Rattle.posix.specs.declared.call.Call.TheVariants.{Exit, Fork, Waitpid, Pause, SchedYield, Getpid, Getppid, Getuid, Geteuid, Getgid, Getegid, Setuid, Seteuid, Setgid, Setegid, Kill, Sigaction, Sigprocmask, Sigpending, Sigsuspend, Sigreturn}
+use Rattle.posix.specs.declared.call.Call.TheVariants.{Exit, Fork, Waitpid, Pause, SchedYield, Getpid, Getppid, Getuid, Geteuid, Getgid, Getegid, Setuid, Seteuid, Setgid, Setegid, Kill, Sigaction, Sigprocmask, Sigpending, Sigsuspend, Sigreturn, Alarm}
 use Rattle.posix.specs.declared.instr.Trap.{Trap}
 use Rattle.posix.specs.declared.instr.Trap.TheVariants as trap
 use Rattle.posix.specs.declared.event.Event.{Event}
@@ -34,7 +34,7 @@ use Rattle.posix.specs.Processes.{Process, Signals, Credentials, Cpu, argument}
 use Rattle.posix.specs.Tables.{IsRising, lookup}
 use Rattle.posix.specs.States.{State, is_in, change, current, next_pid, process}
 use Rattle.posix.specs.Execute.{exec_one}
-use Rattle.posix.specs.Outcomes.{Outcome, Attempted, Done, Block, finish, finished, refusal, refused, Reply, answers}
+use Rattle.posix.specs.Outcomes.{Outcome, Attempted, Done, Block, finish, finished, refusal, refused, Reply, answers, refusing}
 use Rattle.posix.specs.Credentials.{setuid, seteuid, setgid, setegid}
 use Rattle.posix.specs.Generation.{action, is_pending}
 use Rattle.posix.specs.Choice.{chosen, carried_by, from_kernel}
@@ -46,6 +46,7 @@ use Rattle.posix.specs.Waits.{wait, wait_with, report, options_in, are_known, ha
 use Rattle.posix.specs.Delivery.{call_of, interruption, handle, act_by_default, act_on, take_out, deliver, fault_with, fault, return_to, return_from_handler}
 use Rattle.posix.specs.Sends.{sending, send_with, signal_in, signal_or_none, kill_with, kill}
 use Rattle.posix.specs.SignalCalls.{set_credentials, is_question, are_flags, action_in, sigaction_with, sigaction_of, sigaction, how_in, sigprocmask_with, sigprocmask, sigpending}
+use Rattle.posix.specs.Alarms.{ticks_in, alarm_in, alarm}
 use Rattle.posix.specs.Attempts.{attempt, attempt_again}
 use Rattle.posix.specs.Settle.{settle}
 use Rattle.posix.specs.Step.{IsStep, next, happens, step, act, act_in, after_trap, begin_call, deliver_or, go_on, code_of}
@@ -205,6 +206,16 @@ explained_pending : (me : Process) → IsExplained (sigpending me)
 unfolding sigpending
 explained_pending me = λ C s p call. (tt, tt)
 
+-- an alarm, by the ticks that are asked for
+explained_alarm_in : (now : ℕ) (me : Process) (n : Option ℕ) → IsExplained (alarm_in now me n)
+explained_alarm_in now me None = λ C s p call. explained_refused C s p call EINVAL
+explained_alarm_in now me (Some n) = λ C s p call. (tt, tt)
+
+-- an alarm
+explained_alarm : (s : State) (me : Process) → IsExplained (alarm s me)
+unfolding alarm
+explained_alarm s me = explained_alarm_in s.ticks me (ticks_in (argument me 1))
+
 -- each call afresh
 explained_again : (C : Terms) (s : State) (me : Process) (b : Blocked) → ExplainedIf C s me.pid (attempt_again s me b)
 unfolding attempt_again
@@ -318,6 +329,7 @@ explained_attempt granted s me Sigprocmask = explained_mask me (NotInterrupted g
 explained_attempt granted s me Sigpending = explained_pending me (NotInterrupted granted) s me.pid Sigpending
 explained_attempt granted s me Sigsuspend = tt
 explained_attempt granted s me Sigreturn = none_return s me granted s (return_from_handler s me).state me.pid
+explained_attempt granted s me Alarm = explained_alarm s me (NotInterrupted granted) s me.pid Alarm
 
 -- ---- an entry among others
 

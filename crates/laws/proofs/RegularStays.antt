@@ -1,10 +1,10 @@
 -- Each event keeps a state regular.
-use Rattle.std.proofs.Common.{◌≡◌, ◌≢◌, ℕ, ◌+◌, ◌≤◌, Bool, true, false, refl, ap, sym, ◌∙◌, subst, List, [], ◌∷◌, ◌++◌, map, filter, Option, Some, None, option_and_then, ◌==◌, ℤ, pos, inl, inr, Result, Ok, Err}
+use Rattle.std.proofs.Common.{◌≡◌, ◌≢◌, ℕ, ◌+◌, ◌≤◌, Bool, true, false, refl, ap, sym, ◌∙◌, subst, List, [], ◌∷◌, ◌++◌, map, filter, Option, Some, None, option_and_then, ◌==◌, ℤ, pos, inl, inr, Result, Ok, Err, nat_le, arith, negsuc}
 use Rattle.std.specs.Int.{cast_unsigned, w64}
 use Rattle.std.specs.List.{AllByRecursion}
-use Rattle.std.proofs.lemmas.Bool.{eqb-true, eqb-false, eq-eqb, cond_both, or_cases, or_from, false_from_ne_true}
+use Rattle.std.proofs.lemmas.Bool.{eqb-true, eqb-false, eq-eqb, cond_both, or_cases, or_from, false_from_ne_true, leb-true}
 use Rattle.posix.specs.declared.call.Call.{Call}
-use Rattle.posix.specs.declared.call.Call.TheVariants.{Exit, Fork, Waitpid, Pause, SchedYield, Getpid, Getppid, Getuid, Geteuid, Getgid, Getegid, Setuid, Seteuid, Setgid, Setegid, Kill, Sigaction, Sigprocmask, Sigpending, Sigsuspend, Sigreturn}
+use Rattle.posix.specs.declared.call.Call.TheVariants.{Exit, Fork, Waitpid, Pause, SchedYield, Getpid, Getppid, Getuid, Geteuid, Getgid, Getegid, Setuid, Seteuid, Setgid, Setegid, Kill, Sigaction, Sigprocmask, Sigpending, Sigsuspend, Sigreturn, Alarm}
 use Rattle.posix.specs.declared.instr.Trap.{Trap}
 use Rattle.posix.specs.declared.instr.Trap.TheVariants as trap
 use Rattle.posix.specs.declared.event.Event.{Event}
@@ -46,14 +46,15 @@ use Rattle.posix.specs.Waits.{wait, wait_with, report, options_in, are_known, ha
 use Rattle.posix.specs.Delivery.{handle, act_by_default, act_on, take_out, deliver, fault_with, fault, return_to, return_from_handler}
 use Rattle.posix.specs.Sends.{sent, sent_by, sent_among, permitted, targets, sending, send_with, signal_in, signal_or_none, kill_with, kill}
 use Rattle.posix.specs.SignalCalls.{set_credentials, give_credentials, give_signals, holding, is_question, are_flags, action_in, sigaction_with, sigaction_of, sigaction, how_in, sigprocmask_with, sigprocmask, sigpending}
+use Rattle.posix.specs.Alarms.{most_ticks, due_in, ticks_in, alarm_in, alarm, pass_time}
 use Rattle.posix.specs.Attempts.{attempt, attempt_again}
-use Rattle.posix.specs.Regular.{IsRegular, IsPlaced, CanInherit, IsDistinct}
+use Rattle.posix.specs.Regular.{IsRegular, IsPlaced, CanInherit, IsDistinct, IsAhead}
 use Rattle.posix.specs.Settle.{settle, wakes}
-use Rattle.posix.specs.Step.{IsStep, next, happens, step, tick, rotate, pass_time, act, act_in, after_trap, begin_call, enter, set_cpu, deliver_or, go_on, code_of}
+use Rattle.posix.specs.Step.{IsStep, next, happens, step, tick, rotate, act, act_in, after_trap, begin_call, enter, set_cpu, deliver_or, go_on, code_of}
 use Rattle.posix.proofs.TableLemmas.{pid_looked, pid_reparented, remove_none, rising_filter}
 use Rattle.posix.proofs.MapLemmas.{at_pid, lookup_back}
 use Rattle.posix.proofs.MemberLemmas.{in_append, in_first, apart_rest}
-use Rattle.posix.proofs.RegularLemmas.{Keeps, keeps_none, keeps_at, keeps_then, keeps_set_cpu, keeps_news_told, keeps_handles, keeps_take_out, keeps_signalled, keeps_noticed, lookup_left, placed_least, regular_as, regular_change, regular_lose, regular_depart, regular_halt, regular_inserted, regular_removed}
+use Rattle.posix.proofs.RegularLemmas.{Keeps, keeps_none, keeps_at, keeps_then, keeps_set_cpu, keeps_news_told, keeps_handles, keeps_take_out, keeps_signalled, keeps_noticed, keeps_with_alarm, due_ahead, lookup_left, placed_least, regular_as, regular_change, regular_lose, regular_depart, regular_halt, regular_inserted, regular_removed, regular_pass}
 use Rattle.posix.proofs.OrderLemmas.{regular_last, first_in}
 use Rattle.posix.proofs.WalkLemmas.{all_looked, in_filter}
 use Rattle.posix.proofs.ReportLemmas.{IsChild, reported, not_first}
@@ -66,34 +67,34 @@ use Rattle.laws.proofs.WokenLemmas.{distinct_pids, all_wake}
 -- ---- changes that keep
 
 -- results that are written
-keeps_finished : (results : List (ℕ × ℤ)) → Keeps (finished results)
+keeps_finished : {now : ℕ} (results : List (ℕ × ℤ)) → Keeps now (finished results)
 unfolding finished
-keeps_finished results = record { pid = λ r. refl; parent = λ r. refl; group = λ r. refl; session = λ r. refl; zombie = λ r. refl }
+keeps_finished results = record { pid = λ r. refl; parent = λ r. refl; group = λ r. refl; session = λ r. refl; zombie = λ r. refl; alarm = λ r h. h }
 
 -- one more result
-keeps_written : (i : ℕ) (z : ℤ) → Keeps (written i z)
+keeps_written : {now : ℕ} (i : ℕ) (z : ℤ) → Keeps now (written i z)
 unfolding written
-keeps_written i z = record { pid = λ r. refl; parent = λ r. refl; group = λ r. refl; session = λ r. refl; zombie = λ r. refl }
+keeps_written i z = record { pid = λ r. refl; parent = λ r. refl; group = λ r. refl; session = λ r. refl; zombie = λ r. refl; alarm = λ r h. h }
 
 -- a call that is entered
-keeps_enter : (b : Blocked) → Keeps (enter b)
+keeps_enter : {now : ℕ} (b : Blocked) → Keeps now (enter b)
 unfolding enter
-keeps_enter b = record { pid = λ r. refl; parent = λ r. refl; group = λ r. refl; session = λ r. refl; zombie = λ r. refl }
+keeps_enter b = record { pid = λ r. refl; parent = λ r. refl; group = λ r. refl; session = λ r. refl; zombie = λ r. refl; alarm = λ r h. h }
 
 -- a handler that has returned
-keeps_returned : (frame : Frame) → Keeps (returned frame)
+keeps_returned : {now : ℕ} (frame : Frame) → Keeps now (returned frame)
 unfolding returned
-keeps_returned frame = record { pid = λ r. refl; parent = λ r. refl; group = λ r. refl; session = λ r. refl; zombie = λ r. refl }
+keeps_returned frame = record { pid = λ r. refl; parent = λ r. refl; group = λ r. refl; session = λ r. refl; zombie = λ r. refl; alarm = λ r h. h }
 
 -- new ids
-keeps_credentials : (c : Credentials) → Keeps (give_credentials c)
+keeps_credentials : {now : ℕ} (c : Credentials) → Keeps now (give_credentials c)
 unfolding give_credentials
-keeps_credentials c = record { pid = λ r. refl; parent = λ r. refl; group = λ r. refl; session = λ r. refl; zombie = λ r. refl }
+keeps_credentials c = record { pid = λ r. refl; parent = λ r. refl; group = λ r. refl; session = λ r. refl; zombie = λ r. refl; alarm = λ r h. h }
 
 -- an action that is told, after the signals were changed
-keeps_holding : (a : Action) (g : Signals) → Keeps (λ r. holding a (give_signals g r))
+keeps_holding : {now : ℕ} (a : Action) (g : Signals) → Keeps now (λ r. holding a (give_signals g r))
 unfolding written give_signals
-keeps_holding a g = record { pid = λ r. refl; parent = λ r. refl; group = λ r. refl; session = λ r. refl; zombie = λ r. refl }
+keeps_holding a g = record { pid = λ r. refl; parent = λ r. refl; group = λ r. refl; session = λ r. refl; zombie = λ r. refl; alarm = λ r h. h }
 
 -- ---- ends
 
@@ -111,7 +112,7 @@ dead_map g kp kz rs c h = record {
 }
 
 -- and where one record changes and keeps all that counts
-dead_change : (p : ℕ) (f : Process → Process) → Keeps f → (rs : List Process) (c : ℕ) → IsDead rs c → IsDead (changed p f rs) c
+dead_change : {now : ℕ} (p : ℕ) (f : Process → Process) → Keeps now f → (rs : List Process) (c : ℕ) → IsDead rs c → IsDead (changed p f rs) c
 unfolding changed
 dead_change p f k rs c h = let a = keeps_at p f k in dead_map (at p f) a.pid (λ r z. a.zombie r ∙ z) rs c h
 
@@ -125,12 +126,12 @@ unfolding notice_of_end
 dead_noticed s parent child status c h =
     let signal = child_signal child status in
     let told = change s parent (noticed signal) in
-    let still : IsDead told.processes c = dead_change parent (noticed signal) (keeps_noticed signal) s.processes c h in
+    let still : IsDead told.processes c = dead_change parent (noticed signal) (keeps_noticed {now = s.ticks} signal) s.processes c h in
     cond_both (is_dropping parent s.processes) (drop_child told child) told (λ (t : State). IsDead t.processes c) (λ e. dead_removed child told.processes c still) (λ e. still)
 
 -- a zombie that is dropped
 regular_dropped : (c : ℕ) (s : State) → IsRegular s → IsDead s.processes c → IsRegular (drop_child s c)
-regular_dropped c s i h = regular_as _ (drop_child s c) refl refl refl (elim (lookup c s.processes) as (λ o. lookup c s.processes ≡ o → IsRegular (record s { processes = removed c s.processes })) [
+regular_dropped c s i h = regular_as _ (drop_child s c) refl refl refl refl (elim (lookup c s.processes) as (λ o. lookup c s.processes ≡ o → IsRegular (record s { processes = removed c s.processes })) [
   | None ↦ λ e. subst (λ rs. IsRegular (record s { processes = rs })) (sym (remove_none c s.processes e)) i
   | Some r ↦ λ e. regular_removed c r s i h.other e (h.dead r e)
 ] refl)
@@ -141,8 +142,8 @@ unfolding notice_of_end
 regular_noticed s parent child status i h =
     let signal = child_signal child status in
     let told = change s parent (noticed signal) in
-    let still : IsRegular told = regular_change parent (noticed signal) (keeps_noticed signal) s i in
-    let dead : IsDead told.processes child = dead_change parent (noticed signal) (keeps_noticed signal) s.processes child h in
+    let still : IsRegular told = regular_change parent (noticed signal) s (keeps_noticed signal) i in
+    let dead : IsDead told.processes child = dead_change parent (noticed signal) (keeps_noticed {now = s.ticks} signal) s.processes child h in
     cond_both (is_dropping parent s.processes) (drop_child told child) told IsRegular (λ e. regular_dropped child told still dead) (λ e. still)
 
 -- the same of each of several
@@ -227,7 +228,7 @@ regular_end s r status least i =
 regular_handle : (s : State) (r : Process) (signal : PendingSignal) (address : ℤ) → 1 ≤ r.pid → IsRegular s → IsRegular (handle s r signal address).state
 unfolding handle
 regular_handle s r signal address least i =
-    let entered : IsRegular (change s r.pid (handles signal address)) = regular_change r.pid (handles signal address) (keeps_handles signal address) s i in
+    let entered : IsRegular (change s r.pid (handles signal address)) = regular_change r.pid (handles signal address) s (keeps_handles signal address) i in
     cond_both (is_full r.signals) _ _ (λ (o : Outcome). IsRegular o.state) (λ e. regular_end (change s r.pid (handles signal address)) r (killed SEGV) least entered) (λ e. entered)
 
 -- a default action
@@ -248,7 +249,7 @@ regular_on s r signal handler.Default least i =
 regular_deliver : (s : State) (r : Process) (n : ℕ) → 1 ≤ r.pid → IsRegular s → IsRegular (deliver s r n).state
 unfolding deliver
 regular_deliver s r n least i =
-    regular_on (change s r.pid (take_out n)) r (record { sig = n; carried = carried_by n r.signals }) (action r.signals n).handler least (regular_change r.pid (take_out n) (keeps_take_out n) s i)
+    regular_on (change s r.pid (take_out n)) r (record { sig = n; carried = carried_by n r.signals }) (action r.signals n).handler least (regular_change r.pid (take_out n) s (keeps_take_out n) i)
 
 -- a fault, by the handler of its signal
 regular_fault_with : (s : State) (r : Process) (n : ℕ) (h : Handler) → 1 ≤ r.pid → IsRegular s → IsRegular (fault_with s r n h).state
@@ -265,7 +266,7 @@ regular_fault s r n least i = regular_fault_with s r n (action r.signals n).hand
 -- a return to a frame
 regular_return_to : (s : State) (r : Process) (frame : Option Frame) → 1 ≤ r.pid → IsRegular s → IsRegular (return_to s r frame).state
 regular_return_to s r None least i = regular_fault s r SEGV least i
-regular_return_to s r (Some frame) least i = regular_change r.pid (returned frame) (keeps_returned frame) s i
+regular_return_to s r (Some frame) least i = regular_change r.pid (returned frame) s (keeps_returned frame) i
 
 -- a return from a handler
 regular_return : (s : State) (r : Process) → 1 ≤ r.pid → IsRegular s → IsRegular (return_from_handler s r).state
@@ -301,9 +302,9 @@ RegularIf (Done o) = IsRegular o.state
 RegularIf (Block b) = Unit {0}
 
 -- a call that changes its process alone
-regular_answers : (s : State) (p : ℕ) (call : Call) (reply : Reply) → Keeps reply.changes → IsRegular s → RegularIf (answers s p call reply)
+regular_answers : (s : State) (p : ℕ) (call : Call) (reply : Reply) → Keeps s.ticks reply.changes → IsRegular s → RegularIf (answers s p call reply)
 regular_answers s p call reply k i =
-    regular_change p (λ r. finished ((0, reply.value) ∷ []) (reply.changes r)) (keeps_then reply.changes (finished ((0, reply.value) ∷ [])) k (keeps_finished ((0, reply.value) ∷ []))) s i
+    regular_change p (λ r. finished ((0, reply.value) ∷ []) (reply.changes r)) s (keeps_then reply.changes (finished ((0, reply.value) ∷ [])) k (keeps_finished ((0, reply.value) ∷ []))) i
 
 -- a call that gives a value and changes nothing else
 regular_gives : (s : State) (p : ℕ) (call : Call) (z : ℤ) → IsRegular s → RegularIf (answers s p call (plain z))
@@ -316,7 +317,7 @@ regular_born s me n c e =
     let new = new_number s n e in
     let bounds = c.regular.bounded me.pid me c.found in
     regular_inserted (child_of (s.births + 1) me n) n (s.births + 1) s c.regular new.fresh
-    (record { least = new.least; pid = new.greatest; group = bounds.group; session = bounds.session }) (caller_lives s me c) me c.found (caller_lives s me c)
+    (record { least = new.least; pid = new.greatest; group = bounds.group; session = bounds.session }) (caller_lives s me c) refl me c.found (caller_lives s me c)
 
 -- a fork
 regular_fork : (granted : Bool) (s : State) (me : Process) (n : Option ℕ) → IsCaller s me → next_pid s ≡ n → RegularIf (fork_as granted s me n)
@@ -324,7 +325,7 @@ unfolding fork_as
 regular_fork granted s me None c e = regular_gives s me.pid Fork (refusal EAGAIN) c.regular
 regular_fork granted s me (Some n) c e =
     cond_both granted _ _ RegularIf (λ t. regular_gives (born s me n) me.pid Fork (pos n) (regular_born s me n c e))
-    (λ t. regular_change me.pid (finished ((0, refusal EAGAIN) ∷ [])) (keeps_finished ((0, refusal EAGAIN) ∷ [])) s c.regular)
+    (λ t. regular_change me.pid (finished ((0, refusal EAGAIN) ∷ [])) s (keeps_finished ((0, refusal EAGAIN) ∷ [])) c.regular)
 
 -- a wait, by what it found
 regular_with : (s : State) (me : Process) (target : Target) (options : ℕ) (what : Report) → IsCaller s me → report s.processes me.pid me.group target options ≡ what → RegularIf (wait_with s me.pid options what)
@@ -333,9 +334,9 @@ regular_with s me target options found.Nothing c e = cond_both (has_option optio
 regular_with s me target options (found.End child status) c e =
     let h = reported s.processes c.regular.rising me.pid me.group target options (found.End child status) child e refl in
     let gone = regular_removed child h.what s c.regular (not_first s c.regular me.pid child true (least_caller s me c) h) h.found h.dead in
-    regular_change me.pid _ (keeps_finished ((0, pos child) ∷ (1, pos status) ∷ [])) (record s { processes = removed child s.processes }) gone
+    regular_change me.pid _ (record s { processes = removed child s.processes }) (keeps_finished ((0, pos child) ∷ (1, pos status) ∷ [])) gone
 regular_with s me target options (found.Change child status) c e =
-    regular_change me.pid _ (keeps_finished ((0, pos child) ∷ (1, pos status) ∷ [])) (change s child news_told) (regular_change child news_told keeps_news_told s c.regular)
+    regular_change me.pid _ (change s child news_told) (keeps_finished ((0, pos child) ∷ (1, pos status) ∷ [])) (regular_change child news_told s keeps_news_told c.regular)
 
 -- a wait
 regular_wait : (s : State) (me : Process) → IsCaller s me → RegularIf (wait s me)
@@ -348,7 +349,7 @@ regular_wait s me c =
 regular_signalled : (signal : PendingSignal) (ps : List ℕ) (s : State) → IsRegular s → IsRegular (record s { processes = signalled_all signal ps s.processes })
 unfolding signalled_all
 regular_signalled signal [] s i = i
-regular_signalled signal (p ∷ ps) s i = regular_signalled signal ps (change s p (signalled signal)) (regular_change p (signalled signal) (keeps_signalled signal) s i)
+regular_signalled signal (p ∷ ps) s i = regular_signalled signal ps (change s p (signalled signal)) (regular_change p (signalled signal) s (keeps_signalled signal) i)
 
 -- a signal that is sent
 regular_sent : (s : State) (me : Process) (target : Target) (sig : Option ℕ) → IsRegular s → IsRegular (record s { processes = sent me target sig s.processes })
@@ -373,42 +374,52 @@ unfolding kill
 regular_kill s me i = regular_kill_with s me (target_in (argument me 1)) (signal_or_none (argument me 2)) i
 
 -- new ids, or a refusal
-keeps_ids : (c : Result Credentials Errno) → Keeps (set_credentials c).changes
+keeps_ids : {now : ℕ} (c : Result Credentials Errno) → Keeps now (set_credentials c).changes
 keeps_ids (Ok c) = keeps_credentials c
 keeps_ids (Err why) = keeps_none
 
 -- a new action, or a refusal
-keeps_action_with : (old : Action) (g : Result Signals Errno) → Keeps (sigaction_with old g).changes
+keeps_action_with : {now : ℕ} (old : Action) (g : Result Signals Errno) → Keeps now (sigaction_with old g).changes
 keeps_action_with old (Ok g) = keeps_holding old g
 keeps_action_with old (Err why) = keeps_none
 
 -- a question for an action or a new one, by the signal
-keeps_action_of : (me : Process) (n : Option ℕ) → Keeps (sigaction_of me n).changes
+keeps_action_of : {now : ℕ} (me : Process) (n : Option ℕ) → Keeps now (sigaction_of me n).changes
 keeps_action_of me None = keeps_none
-keeps_action_of me (Some n) =
-    cond_both (is_question (argument me 2)) _ _ (λ (reply : Reply). Keeps reply.changes) (λ t. keeps_holding (action me.signals n) me.signals)
-    (λ t. cond_both (are_flags (cast_unsigned w64 (argument me 4))) _ _ (λ (reply : Reply). Keeps reply.changes) (λ t. keeps_action_with (action me.signals n) (set_action n (action_in me) me.signals)) (λ t. keeps_none))
+keeps_action_of {now = now} me (Some n) =
+    cond_both (is_question (argument me 2)) _ _ (λ (reply : Reply). Keeps now reply.changes) (λ t. keeps_holding (action me.signals n) me.signals)
+    (λ t. cond_both (are_flags (cast_unsigned w64 (argument me 4))) _ _ (λ (reply : Reply). Keeps now reply.changes) (λ t. keeps_action_with (action me.signals n) (set_action n (action_in me) me.signals)) (λ t. keeps_none))
 
 -- a question for an action or a new one
-keeps_action : (me : Process) → Keeps (sigaction me).changes
+keeps_action : {now : ℕ} (me : Process) → Keeps now (sigaction me).changes
 unfolding sigaction
 keeps_action me = keeps_action_of me (signal_in (argument me 1))
 
 -- a new mask, or a refusal
-keeps_mask_with : (me : Process) (what : Option How) → Keeps (sigprocmask_with me what).changes
+keeps_mask_with : {now : ℕ} (me : Process) (what : Option How) → Keeps now (sigprocmask_with me what).changes
 unfolding written give_signals
 keeps_mask_with me None = keeps_none
-keeps_mask_with me (Some what) = record { pid = λ r. refl; parent = λ r. refl; group = λ r. refl; session = λ r. refl; zombie = λ r. refl }
+keeps_mask_with me (Some what) = record { pid = λ r. refl; parent = λ r. refl; group = λ r. refl; session = λ r. refl; zombie = λ r. refl; alarm = λ r h. h }
 
 -- a question for the mask or a new one
-keeps_mask : (me : Process) → Keeps (sigprocmask me).changes
+keeps_mask : {now : ℕ} (me : Process) → Keeps now (sigprocmask me).changes
 unfolding sigprocmask
 keeps_mask me = keeps_mask_with me (how_in (argument me 1))
 
 -- a question for what is pending
-keeps_pending : (me : Process) → Keeps (sigpending me).changes
+keeps_pending : {now : ℕ} (me : Process) → Keeps now (sigpending me).changes
 unfolding sigpending
 keeps_pending me = keeps_written 1 _
+
+-- an alarm, or a refusal
+keeps_alarm_in : (now : ℕ) (me : Process) (z : ℤ) → Keeps now (alarm_in now me (ticks_in z)).changes
+keeps_alarm_in now me (pos n) =
+    cond_both (nat_le n most_ticks) (Some n) None (λ (o : Option ℕ). Keeps now (alarm_in now me o).changes) (λ e. keeps_with_alarm (due_in now n) (due_ahead now n (leb-true _ _ e))) (λ e. keeps_none)
+keeps_alarm_in now me (negsuc n) = keeps_none
+
+keeps_alarm : (s : State) (me : Process) → Keeps s.ticks (alarm s me).changes
+unfolding alarm
+keeps_alarm s me = keeps_alarm_in s.ticks me (argument me 1)
 
 -- each call
 regular_attempt : (granted : Bool) (s : State) (me : Process) (call : Call) → IsCaller s me → RegularIf (attempt granted s me call)
@@ -434,6 +445,7 @@ regular_attempt granted s me Sigprocmask c = regular_answers s me.pid Sigprocmas
 regular_attempt granted s me Sigpending c = regular_answers s me.pid Sigpending (sigpending me) (keeps_pending me) c.regular
 regular_attempt granted s me Sigsuspend c = tt
 regular_attempt granted s me Sigreturn c = regular_return s me (least_caller s me c) c.regular
+regular_attempt granted s me Alarm c = regular_answers s me.pid Alarm (alarm s me) (keeps_alarm s me) c.regular
 
 -- each call afresh
 regular_again : (s : State) (me : Process) (b : Blocked) → IsCaller s me → RegularIf (attempt_again s me b)
@@ -447,7 +459,7 @@ regular_again s me (blocked.Sigsuspend mask) c = tt
 -- who is blocked loses its place
 regular_begin : (s : State) (r : Process) (a : Attempted) → IsCaller s r → RegularIf a → IsRegular (begin_call s r a).state
 regular_begin s r (Done o) c h = h
-regular_begin s r (Block b) c h = regular_lose r.pid (change s r.pid (enter b)) (regular_change r.pid (enter b) (keeps_enter b) s c.regular)
+regular_begin s r (Block b) c h = regular_lose r.pid (change s r.pid (enter b)) (regular_change r.pid (enter b) s (keeps_enter b) c.regular)
 
 -- a signal that is chosen, or else what happens
 regular_or : (s : State) (r : Process) (n : Option ℕ) (other : Outcome) → IsCaller s r → IsRegular other.state → IsRegular (deliver_or s r n other).state
@@ -462,8 +474,8 @@ regular_go_on s r (Block b) c h = regular_or s r (chosen r.life r.signals) _ c (
 -- what follows an instruction
 regular_trap : (granted : Bool) (s : State) (r : Process) (cpu : Cpu) (t : Trap) → IsCaller s r → IsRegular (after_trap granted s r cpu t).state
 unfolding after_trap
-regular_trap granted s r cpu trap.Next c = regular_change r.pid (set_cpu cpu) (keeps_set_cpu cpu) s c.regular
-regular_trap granted s r cpu (trap.Note z) c = regular_change r.pid (set_cpu cpu) (keeps_set_cpu cpu) s c.regular
+regular_trap granted s r cpu trap.Next c = regular_change r.pid (set_cpu cpu) s (keeps_set_cpu cpu) c.regular
+regular_trap granted s r cpu (trap.Note z) c = regular_change r.pid (set_cpu cpu) s (keeps_set_cpu cpu) c.regular
 regular_trap granted s r cpu (trap.Call call) c = regular_begin s r _ c (regular_attempt granted s r call c)
 regular_trap granted s r cpu (trap.Fault sig) c = regular_fault s r sig (least_caller s r c) c.regular
 
@@ -497,8 +509,8 @@ regular_step granted s (Some p) i e = regular_found granted s p i e (lookup p s.
 
 -- a tick
 regular_tick : (s : State) (c : Option ℕ) → IsRegular s → current s ≡ c → IsRegular (rotate (pass_time s) c)
-regular_tick s None i e = regular_as s (pass_time s) refl refl refl i
-regular_tick s (Some p) i e = regular_last p (pass_time s) (regular_as s (pass_time s) refl refl refl i) (first_in p s.order e)
+regular_tick s None i e = regular_pass s i
+regular_tick s (Some p) i e = regular_last p (pass_time s) (regular_pass s i) (first_in p s.order e)
 
 -- what happens at an event
 pub happens_regular : (granted : Bool) (s : State) (event : Event) → IsRegular s → s.halted ≡ false → IsRegular (happens granted s event).state
@@ -529,6 +541,7 @@ regular_settled s i =
       placed = λ q e. elim (or_cases _ _ (sym (in_append q s.order woken) ∙ e)) [ inl there ↦ i.placed q there | inr new ↦ let w = all_wake s i.rising q new in wakes_placed s q w.what w.found w.acts ];
       distinct = distinct_append s.order woken i.distinct (distinct_pids (filter (wakes s) s.processes) (rising_filter (wakes s) s.processes i.rising)) (λ q e. (all_wake s i.rising q e).out);
       childless = i.childless;
+      alarms = i.alarms;
     }
 
 -- ---- steps and runs

@@ -8,7 +8,7 @@ use Rattle.posix.specs.declared.instr.Instr.{Instr}
 use Rattle.posix.specs.declared.instr.Instr.TheVariants.{Set, Compute, Jump, JumpIf, Note, Sys}
 use Rattle.posix.specs.declared.instr.Operator.TheVariants.{Div, Rem}
 use Rattle.posix.specs.declared.instr.Condition.TheVariants.{Zero}
-use Rattle.posix.specs.declared.call.Call.TheVariants.{Exit, Fork, Waitpid, Pause, SchedYield, Getpid, Kill, Sigaction, Sigprocmask, Sigsuspend, Sigreturn}
+use Rattle.posix.specs.declared.call.Call.TheVariants.{Exit, Fork, Waitpid, Pause, SchedYield, Getpid, Kill, Sigaction, Sigprocmask, Sigsuspend, Sigreturn, Alarm}
 use Rattle.posix.specs.Processes.{nothing_pending, default_actions, zero_registers, zero_memory}
 use Rattle.posix.specs.Tables.{lookup, changed, inserted, removed, children_in, adopted}
 use Rattle.posix.specs.NextPid.{is_free, next_free}
@@ -26,6 +26,7 @@ use Rattle.posix.specs.SignalCalls.{give_credentials, give_signals, sigaction, s
 use Rattle.posix.specs.Births.{child_of, fork_as}
 use Rattle.posix.specs.Ends.{ended, made_zombie, noticed, notice_of_end, zombies_of, tell_of_all, end_process}
 use Rattle.posix.specs.Waits.{report_of, report, news_told, wait}
+use Rattle.posix.specs.Alarms.{with_alarm, alarm, rung, ring_all}
 use Rattle.posix.specs.Attempts.{attempt, attempt_again}
 use Rattle.posix.specs.Settle.{can_act, settle}
 use Rattle.posix.specs.Step.{set_cpu, enter, after_trap, act_in, act, step, tick, happens, next}
@@ -49,7 +50,7 @@ trace w events = trace_from 1 (boot w) (λ k. true) events
 
 -- opens every definition of an operation
 unfoldable everything : Unit {0}
-unfolding nothing_pending default_actions zero_registers zero_memory exec_one digits lookup changed inserted removed children_in adopted is_free next_free is_in without finished written setuid seteuid setgid setegid generated signalled signalled_all least_ready chosen taken entered at_handler handles returned set_action set_mask child_of fork_as ended made_zombie noticed notice_of_end zombies_of tell_of_all end_process report_of report news_told wait handle take_out deliver fault return_from_handler targets permitted sending sent_among sent kill give_credentials give_signals sigaction sigprocmask set_of sigpending attempt attempt_again can_act settle set_cpu enter after_trap act_in act step tick happens next
+unfolding nothing_pending default_actions zero_registers zero_memory exec_one digits lookup changed inserted removed children_in adopted is_free next_free is_in without finished written setuid seteuid setgid setegid generated signalled signalled_all least_ready chosen taken entered at_handler handles returned set_action set_mask child_of fork_as ended made_zombie noticed notice_of_end zombies_of tell_of_all end_process report_of report news_told wait handle take_out deliver fault return_from_handler targets permitted sending sent_among sent kill give_credentials give_signals sigaction sigprocmask set_of sigpending attempt attempt_again can_act settle set_cpu enter after_trap act_in act step with_alarm rung ring_all alarm tick happens next
 everything = tt
 
 abbrev note_and_exit : World
@@ -151,3 +152,8 @@ row_suspend_restores_the_mask : trace (world 40 1 (program None None (Set 1 (pos
     ≡ line 3 (Called 1 Sigaction (pos 0)) ∷ line 6 (Called 1 Sigprocmask (pos 0)) ∷ line 9 (Called 1 Kill (pos 0)) ∷ line 12 (Called 1 Sigsuspend (negsuc 3)) ∷ line 12 (Handled 1 10 (pos 0) 1) ∷ line 13 (Returned 1) ∷ line 16 (Called 1 Sigprocmask (pos 0)) ∷ line 17 (Noted 1 (pos 512)) ∷ []
 unfolding everything
 row_suspend_restores_the_mask = refl
+
+row_alarm : trace (world 40 1 (program None None (Set 1 (pos 14) ∷ Set 2 (pos 23) ∷ Sys Sigaction ∷ Set 1 (pos 2) ∷ Sys Alarm ∷ Sys Pause ∷ Sys Alarm ∷ Sys Sigreturn ∷ []) ∷ [])) (replicate 6 Step ++ replicate 2 Tick ++ replicate 3 Step)
+    ≡ line 3 (Called 1 Sigaction (pos 0)) ∷ line 5 (Called 1 Alarm (pos 0)) ∷ line 9 (Called 1 Pause (negsuc 3)) ∷ line 9 (Handled 1 14 (pos 0) 0) ∷ line 10 (Returned 1) ∷ line 11 (Called 1 Alarm (pos 0)) ∷ []
+unfolding everything
+row_alarm = refl

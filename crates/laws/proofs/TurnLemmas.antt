@@ -11,7 +11,8 @@ use Rattle.posix.specs.States.{State, is_in, without, current, process}
 use Rattle.posix.specs.Regular.{IsDistinct}
 use Rattle.posix.specs.Outcomes.{Outcome}
 use Rattle.posix.specs.Settle.{settle, wakes}
-use Rattle.posix.specs.Step.{IsStep, next, happens, step, tick, rotate, pass_time}
+use Rattle.posix.specs.Alarms.{pass_time}
+use Rattle.posix.specs.Step.{IsStep, next, happens, step, tick, rotate}
 use Rattle.posix.specs.Entries.{Line, numbered}
 use Rattle.posix.specs.Runs.{RunsFrom}
 use Rattle.laws.specs.Turns.{places_before, is_tick, ticks_in, HasTurn}

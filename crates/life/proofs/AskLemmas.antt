@@ -1,5 +1,5 @@
 -- The list of those who are to be asked whether they can act.
-use Rattle.std.proofs.Common.{◌≡◌, ◌≢◌, ℕ, ◌+◌, ◌<◌, ◌≤◌, true, false, cond, not, ◌||◌, ◌&&◌, refl, ap, sym, ◌∙◌, arith, subst, List, [], ◌∷◌, ◌++◌, length, Option, Some, None, ◌==◌, slice_get, ⊎_elim}
+use Rattle.std.proofs.Common.{◌≡◌, ◌≢◌, ℕ, ◌+◌, ◌<◌, ◌≤◌, true, false, cond, not, ◌||◌, ◌&&◌, refl, ap, sym, ◌∙◌, arith, subst, List, [], ◌∷◌, ◌++◌, length, Option, Some, None, ◌==◌, slice_get, ⊎_elim, Bool}
 use Rattle.std.specs.List.{AllByRecursion}
 use Rattle.std.specs.Option.{IfSome, IsSome}
 use Rattle.std.proofs.lemmas.Bool.{eqb-true, eq-eqb, or_left, or_right, or_cases}
@@ -38,17 +38,19 @@ rises_numbers (p ∷ ps) ns h = rises_with p (with_numbers ps ns) (rises_numbers
 
 -- ---- there is room for whoever is there
 
-pub has_room : (s : State) (l : PidSetView) → IsRegular s → IsListed s l → length l.pids < l.room
-has_room s l i h =
-    let most = few s.world.pidmax l.pids h.rising (λ q e.
-    let r = there (process s q) (h.there q e) in
+pub room_for : (s : State) (ns : List ℕ) (room : ℕ) → IsRegular s → Rises ns → ((q : ℕ) → is_in q ns ≡ true → IsSome (process s q)) → s.world.pidmax < room → length ns < room
+room_for s ns room i up theirs enough =
+    let most = few s.world.pidmax ns up (λ q e.
+    let r = there (process s q) (theirs q e) in
     let named = pid_looked q s.processes r.what r.found in
     let b = i.bounded q r.what r.found in
     let low = b.least in
     let high = b.pid in
     (omega (arith, named, low), omega (arith, named, high))) in
-    let room = h.room in
-    omega (arith, most, room)
+    omega (arith, most, enough)
+
+pub has_room : (s : State) (l : PidSetView) → IsRegular s → IsListed s l → length l.pids < l.room
+has_room s l i h = room_for s l.pids l.room i h.rising h.there h.room
 
 -- a list with more of those who are there is one too
 pub listed_more : (s : State) (l m : PidSetView) (ps : List ℕ) → IsListed s l → AllByRecursion (λ q. IsSome (process s q)) ps → m.pids ≡ with_numbers ps l.pids → m.room ≡ l.room → IsListed s m
@@ -127,21 +129,26 @@ listed_change s p f before after h keeps touches here is same =
 
 -- ---- who is asked next
 
-pub next_asked : (s : State) (l : PidSetView) (n : ℕ) (next : Option ℕ) → IsListed s l → next ≡ slice_get (numbers_above n l.pids) 0 → IsNext (wakes s) n s.processes next
-next_asked s l n next h is =
-    let least : IfSome next (IsLeastAbove n l.pids) = subst (λ (o : Option ℕ). IfSome o (IsLeastAbove n l.pids)) (sym is) (next_is n l.pids h.rising) in
+-- the next of those who are known, where all are who pass the test
+pub next_known : (test : Process → Bool) (rs : List Process) (ns : List ℕ) (n : ℕ) (next : Option ℕ) → Rises ns → ((q : ℕ) (r : Process) → lookup q rs ≡ Some r → test r ≡ true → is_in q ns ≡ true)
+    → ((q : ℕ) → is_in q ns ≡ true → IsSome (lookup q rs)) → next ≡ slice_get (numbers_above n ns) 0 → IsNext test n rs next
+next_known test rs ns n next up covers theirs is =
+    let least : IfSome next (IsLeastAbove n ns) = subst (λ (o : Option ℕ). IfSome o (IsLeastAbove n ns)) (sym is) (next_is n ns up) in
     record {
-      there = IfSome_then next least (λ m k. h.there m k.there);
+      there = IfSome_then next least (λ m k. theirs m k.there);
       above = IfSome_then next least (λ m k. k.above);
-      between = λ q r e low before. elim (wakes s r) as (λ b. wakes s r ≡ b → b ≡ false) [
-        | true ↦ λ w. absurd (passed next least (subst IsSome (sym is) (next_some n q l.pids h.rising (h.covers q r e w) low)) (h.covers q r e w) low before)
+      between = λ q r e low before. elim (test r) as (λ b. test r ≡ b → b ≡ false) [
+        | true ↦ λ w. absurd (passed next least (subst IsSome (sym is) (next_some n q ns up (covers q r e w) low)) (covers q r e w) low before)
         | false ↦ λ w. refl
       ] refl;
     }
   where
-    passed : {q : ℕ} (o : Option ℕ) → IfSome o (IsLeastAbove n l.pids) → IsSome o → is_in q l.pids ≡ true → n < q → IfSome o (λ m. q < m) → ⊥
+    passed : {q : ℕ} (o : Option ℕ) → IfSome o (IsLeastAbove n ns) → IsSome o → is_in q ns ≡ true → n < q → IfSome o (λ m. q < m) → ⊥
     passed None k some e low before = absurd (cc)
     passed {q = q} (Some m) k some e low before = let l = k.least q e low in omega (arith, l, before)
+
+pub next_asked : (s : State) (l : PidSetView) (n : ℕ) (next : Option ℕ) → IsListed s l → next ≡ slice_get (numbers_above n l.pids) 0 → IsNext (wakes s) n s.processes next
+next_asked s l n next h is = next_known (wakes s) s.processes l.pids n next h.rising h.covers h.there is
 
 -- nobody is to be asked where whoever can act has a place
 pub listed_none : (s : State) (before after : PidSetView) → IsListed s before → NoWakeIsLost s → after.pids ≡ [] → after.room ≡ before.room → IsListed s after
@@ -178,14 +185,14 @@ pub listed_told : (s : State) (parent c v : ℕ) (it : Process) (before after : 
 unfolding notice_of_end changed with_numbers
 listed_told s parent c v it before after i h mine found up is same =
     let signal = child_signal c v in
-    let k = keeps_noticed signal in
+    let k = keeps_noticed {now = s.ticks} signal in
     let told = change s parent (noticed signal) in
     let stay = some_map (at parent (noticed signal)) (at_pid parent (noticed signal) k.pid) in
     let now : IsListed told before = listed_same s told before (parent ∷ []) h (touches_unseen s parent (noticed signal) (unseen_noticed signal)) refl (λ q e. stay q s.processes e) (λ q theirs e. subst (λ n. is_in n before.pids ≡ true) (sym (in_one q parent e)) mine) in
     let x = at parent (noticed signal) it in
     let same_parent : x.parent ≡ it.parent = (keeps_at parent (noticed signal) k).parent it in
     elim (is_dropping parent s.processes) as (λ b. after.pids ≡ without_gone c (cond b (Some it.parent) None) before.pids → IsListed (cond {A = State} b (drop_child told c) told) after) [
-      | true ↦ λ e. listed_removed told c s.last_pid (s.dropped + 1) x before after (regular_map (at parent (noticed signal)) (keeps_at parent (noticed signal) k) s i) now
+      | true ↦ λ e. listed_removed told c s.last_pid (s.dropped + 1) x before after (regular_map (at parent (noticed signal)) s (keeps_at parent (noticed signal) k) i) now
           (lookup_on (at parent (noticed signal)) (at_pid parent (noticed signal) k.pid) c s.processes it found) (stay x.parent s.processes (rw same_parent up)) (rw same_parent e) same
       | false ↦ λ e. listed_more told before after [] now tt e same
     ] is

@@ -70,7 +70,7 @@ dropping_left p heir w ne rs =
 -- that one becomes a zombie comes in either order with a notice to another
 told_left : (signal : PendingSignal) (p heir w : ℕ) → heir ≢ p → (rs : List Process) → changed heir (noticed signal) (changed p (made_zombie w) rs) ≡ changed p (made_zombie w) (changed heir (noticed signal) rs)
 unfolding made_zombie
-told_left signal p heir w ne rs = changed_changed heir p (noticed signal) (made_zombie w) (keeps_noticed signal).pid (λ r. refl) ne rs
+told_left signal p heir w ne rs = changed_changed heir p (noticed signal) (made_zombie w) (keeps_noticed {now = 0} signal).pid (λ r. refl) ne rs
 
 -- and with a removal
 removed_left : (c p w : ℕ) (rs : List Process) → removed c (changed p (made_zombie w) rs) ≡ changed p (made_zombie w) (removed c rs)

@@ -1,5 +1,6 @@
 pub mod SoundLemmas
 pub mod ReportedLemmas
+pub mod TimedLemmas
 pub mod EndLemmas
 pub mod NoticeWalkLemmas
 pub mod ParentLemmas

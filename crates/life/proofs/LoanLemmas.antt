@@ -14,8 +14,8 @@ use Rattle.proctable.specs.Body.{process_of, own_of, give_own}
 use Rattle.proctable.proofs.Bodies.{lent, unchanged}
 
 -- it is nothing that the shape of a machine depends on
-pub keeps_give_own : (o : Own) → Keeps (give_own o)
-keeps_give_own o = record { pid = λ r. refl; parent = λ r. refl; group = λ r. refl; session = λ r. refl; zombie = λ r. refl }
+pub keeps_give_own : {now : ℕ} (o : Own) → Keeps now (give_own o)
+keeps_give_own o = record { pid = λ r. refl; parent = λ r. refl; group = λ r. refl; session = λ r. refl; zombie = λ r. refl; alarm = λ r h. h }
 
 -- nor that a parent sees
 pub unseen_give_own : (o : Own) → Unseen (give_own o)

@@ -61,7 +61,7 @@ can_go_map g kp kq kg ks rs p c h = record {
 pub can_go_noticed : (signal : PendingSignal) (q : ℕ) (rs : List Process) (p : Pids) (c : ℕ) → CanGo rs p c → CanGo (changed q (noticed signal) rs) p c
 unfolding changed
 can_go_noticed signal q rs p c h =
-    let k = keeps_at q (noticed signal) (keeps_noticed signal) in
+    let k = keeps_at q (noticed signal) (keeps_noticed {now = 0} signal) in
     can_go_map (at q (noticed signal)) k.pid k.parent k.group k.session rs p c h
 
 -- only the numbers of the record count
@@ -82,7 +82,7 @@ pub counted_drop : (b : Bool) (signal : PendingSignal) (parent c : ℕ) (rs ts :
     → ((x : Process) → lookup c ts ≡ Some x → IsGone p q c x) → e ≡ d + 1 → (it : Process) → lookup c rs ≡ Some it → IsCounted b p q d e c it
 unfolding changed
 counted_drop b signal parent c rs ts p q d e drops is gone one it found =
-    let k = keeps_at parent (noticed signal) (keeps_noticed signal) in
+    let k = keeps_at parent (noticed signal) (keeps_noticed {now = 0} signal) in
     let x = at parent (noticed signal) it in
     rw drops (gone_as p q c x it (k.group it) (k.session it) (gone x (ap (lookup c) is ∙ lookup_on (at parent (noticed signal)) k.pid c rs it found)), one)
 
@@ -91,7 +91,7 @@ pub parent_of_drop : (b : Bool) (signal : PendingSignal) (parent c : ℕ) (rs ts
     → ((x : Process) → lookup c ts ≡ Some x → up ≡ x.parent) → (it : Process) → lookup c rs ≡ Some it → Some up ≡ cond b (Some it.parent) None
 unfolding changed
 parent_of_drop b signal parent c rs ts up drops is read it found =
-    let k = keeps_at parent (noticed signal) (keeps_noticed signal) in
+    let k = keeps_at parent (noticed signal) (keeps_noticed {now = 0} signal) in
     rw drops (ap Some (read (at parent (noticed signal) it) (ap (lookup c) is ∙ lookup_on (at parent (noticed signal)) k.pid c rs it found) ∙ k.parent it))
 
 -- ---- a sound machine
@@ -108,7 +108,7 @@ sound_gone s p q a c last dropped r i found dead other g most =
     let e = length_removed c r s.processes i.regular.rising found in
     let all = i.counted in
     record {
-      regular = regular_as _ (record s { processes = removed c s.processes; last_pid = last; dropped = dropped }) refl refl refl (regular_removed c r s i.regular other found dead);
+      regular = regular_as _ (record s { processes = removed c s.processes; last_pid = last; dropped = dropped }) refl refl refl refl (regular_removed c r s i.regular other found dead);
       parents = parents_removed c s.processes (i.regular.childless c r other found dead) i.parents;
       counted = omega (arith, e, all, most);
       kept = record {
@@ -140,9 +140,9 @@ pub sound_told : (s : State) (p q : Pids) (a : Places) (e parent c v : ℕ) (it 
 unfolding notice_of_end changed
 sound_told s p q a e parent c v it i found dead other counts =
     let signal = child_signal c v in
-    let k = keeps_at parent (noticed signal) (keeps_noticed signal) in
+    let k = keeps_at parent (noticed signal) (keeps_noticed {now = 0} signal) in
     let old = change s parent (noticed signal) in
-    let sound : IsSound old p a = sound_change parent (noticed signal) (keeps_noticed signal) s p a i in
+    let sound : IsSound old p a = sound_change parent (noticed signal) s (keeps_noticed signal) p a i in
     let x = at parent (noticed signal) it in
     elim (is_dropping parent s.processes) as (λ b. IsCounted b p q s.dropped e c it → IsSound (cond {A = State} b (drop_child old c) old) q a) [
       | true ↦ λ g.

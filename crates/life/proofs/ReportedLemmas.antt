@@ -191,7 +191,7 @@ unfolding notice_of_end changed
 reported_told m s parent c v it before after here found h gone room =
     let signal = child_signal c v in
     let told = change s parent (noticed signal) in
-    let k = keeps_at parent (noticed signal) (keeps_noticed signal) in
+    let k = keeps_at parent (noticed signal) (keeps_noticed {now = 0} signal) in
     let now : IsReported m told.processes before = reported_unseen m parent (noticed signal) (unseen_noticed signal) s.processes before here h in
     let x = at parent (noticed signal) it in
     elim (is_dropping parent s.processes) as (λ b. IsForgotten c (cond b (Some it.parent) None) before after → IsReported m (cond {A = State} b (drop_child told c) told).processes after) [

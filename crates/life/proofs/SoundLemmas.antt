@@ -79,18 +79,18 @@ pub kept_order : (m : ℕ) (rs : List Process) (p : Pids) (a b : Places) → a.r
 kept_order m rs p a b e k = record { greatest = k.greatest; table = k.table; tallied = k.tallied; room = let r = k.room in omega (arith, r, e) }
 
 -- a change of each record that keeps its numbers, its life and its parent
-pub sound_map : (g : Process → Process) → Keeps g → (s : State) (pids : Pids) (places : Places) → IsSound s pids places → IsSound (record s { processes = map g s.processes }) pids places
-sound_map g k s pids places i = record {
-  regular = regular_map g k s i.regular;
+pub sound_map : (g : Process → Process) (s : State) → Keeps s.ticks g → (pids : Pids) (places : Places) → IsSound s pids places → IsSound (record s { processes = map g s.processes }) pids places
+sound_map g s k pids places i = record {
+  regular = regular_map g s k i.regular;
   parents = parents_map g k.pid k.parent s.processes i.parents;
   counted = let c = i.counted in let same = length-map s.processes g in omega (arith, c, same);
   kept = kept_map g k.pid k.group k.session s.world.pidmax s.processes pids places places (omega arith) i.kept;
 }
 
 -- and of one record
-pub sound_change : (p : ℕ) (f : Process → Process) → Keeps f → (s : State) (pids : Pids) (places : Places) → IsSound s pids places → IsSound (record s { processes = changed p f s.processes }) pids places
+pub sound_change : (p : ℕ) (f : Process → Process) (s : State) → Keeps s.ticks f → (pids : Pids) (places : Places) → IsSound s pids places → IsSound (record s { processes = changed p f s.processes }) pids places
 unfolding changed
-sound_change p f k s pids places i = sound_map (at p f) (keeps_at p f k) s pids places i
+sound_change p f s k pids places i = sound_map (at p f) s (keeps_at p f k) pids places i
 
 -- ---- ends
 
@@ -192,10 +192,10 @@ room_to_bear s t p places child parent group session now i next me like =
 -- a birth
 pub sound_born : (w : World) (rs : List Process) (p q : Pids) (a : Places) (births ticks dropped : ℕ) (h : Bool) (new me : Process)
     → IsSound (state_of w rs p a births ticks dropped h) p a → IsNew rs p.pidmax new.pid → lookup new.parent rs ≡ Some me → is_zombie me.life ≡ false
-    → new.group ≡ me.group → new.session ≡ me.session → new.life ≡ me.life
+    → new.group ≡ me.group → new.session ≡ me.session → new.life ≡ me.life → new.alarm ≡ None
     → q ≡ born_in p new.pid new.group new.session → q.pidmax ≡ p.pidmax → IsPids q
     → IsSound (state_of w (inserted new rs) q a (births + 1) ticks dropped h) q a
-sound_born w rs p q a births ticks dropped h new me i fresh there up group session life bore same table =
+sound_born w rs p q a births ticks dropped h new me i fresh there up group session life silent bore same table =
     let s = state_of w rs p a births ticks dropped h in
     let k = i.kept in
     let bounds = i.regular.bounded new.parent me there in
@@ -205,9 +205,9 @@ sound_born w rs p q a births ticks dropped h new me i fresh there up group sessi
     let high = fresh.greatest in
     let r = regular_inserted new q.last (births + 1) s i.regular fresh.fresh
     (record { least = fresh.least; pid = omega (arith, high, most); group = omega (arith, g, group); session = omega (arith, l, session) })
-    (ap is_zombie life ∙ up) me there up in
+    (ap is_zombie life ∙ up) silent me there up in
     record {
-      regular = regular_as _ (state_of w (inserted new rs) q a (births + 1) ticks dropped h) refl refl refl r;
+      regular = regular_as _ (state_of w (inserted new rs) q a (births + 1) ticks dropped h) refl refl refl refl r;
       parents = parents_inserted new rs fresh.fresh (is_there _ me there) i.parents;
       counted = let c = i.counted in let e = length_inserted new rs in omega (arith, c, e);
       kept = record {
@@ -230,7 +230,7 @@ pub sound_first : (w : World) (q : Pids) (b : Places) → 2 ≤ w.pidmax → q �
     → IsSound (state_of w (inserted first_process []) q b 1 0 0 false) q b
 sound_first w q b most bore same table order room =
     record {
-      regular = regular_as (boot w) _ refl first_alone order (regular_first w (omega (arith, most)));
+      regular = regular_as (boot w) _ refl first_alone order refl (regular_first w (omega (arith, most)));
       parents = rw first_alone parents_first;
       counted = rw first_alone (omega arith);
       kept = record {

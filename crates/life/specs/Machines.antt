@@ -1,6 +1,6 @@
 -- The parts of a machine as a state, and what holds of them.
-use Rattle.std.specs.Prelude.{◌≡◌, ◌≢◌, ℕ, ◌+◌, ◌<◌, ◌≤◌, Bool, true, false, List, [], length, Some, IsSome}
-use Rattle.posix.specs.Processes.{Process}
+use Rattle.std.specs.Prelude.{◌≡◌, ◌≢◌, ℕ, ◌+◌, ◌<◌, ◌≤◌, Bool, true, false, List, [], length, is_some, Some, None, IsSome, IfSome}
+use Rattle.posix.specs.Processes.{Process, is_zombie}
 use Rattle.posix.specs.Tables.{lookup, children_in}
 use Rattle.posix.specs.States.{World, State, boot, process, is_in}
 use Rattle.posix.specs.Regular.{IsRegular}
@@ -61,11 +61,26 @@ pub record IsReported (pidmax : ℕ) (rs : List Process) (set : ChildSetView) : 
   pub once : ArePairs set.pairs
   pub room : pidmax < set.room
 
+-- It is known of a process whether it has an alarm; that isn't due before this tick, and a zombie other than
+-- process 1 has none.
+pub record IsClocked (alarmed : List ℕ) (tick p : ℕ) (r : Process) : Type 0 where
+  pub known : is_in p alarmed ≡ is_some r.alarm
+  pub later : IfSome r.alarm (λ due. tick ≤ due)
+  pub dead : p ≢ 1 → is_zombie r.life ≡ true → r.alarm ≡ None
+
+-- It is known which processes have an alarm, and a tick before which none is due; there is room for all numbers.
+pub record IsTimed (pidmax : ℕ) (rs : List Process) (alarmed : PidSetView) (tick : ℕ) : Type 0 where
+  pub each : (p : ℕ) (r : Process) → lookup p rs ≡ Some r → IsClocked alarmed.pids tick p r
+  pub there : (p : ℕ) → is_in p alarmed.pids ≡ true → IsSome (lookup p rs)
+  pub rising : Rises alarmed.pids
+  pub room : pidmax < alarmed.room
+
 -- what the type of a machine keeps
-pub record IsMachine (s : State) (pids : Pids) (places : Places) (asked : PidSetView) (reporting : ChildSetView) : Type 0 where
+pub record IsMachine (s : State) (pids : Pids) (places : Places) (asked : PidSetView) (reporting : ChildSetView) (alarmed : PidSetView) (tick : ℕ) : Type 0 where
   pub sound : IsSound s pids places
   pub listed : IsListed s asked
   pub reported : IsReported s.world.pidmax s.processes reporting
+  pub timed : IsTimed s.world.pidmax s.processes alarmed tick
 
 -- ---- one record that goes
 

@@ -56,6 +56,7 @@ impl<K: Kin> Machine<K> {
         self.to_ask.insert(parent);
         self.reporting.insert(parent, pid);
         self.reporting.move_children(pid, heir);
+        self.alarmed.remove(pid);
         self.table.adopt(pid, heir);
     }
 

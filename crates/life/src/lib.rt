@@ -4,6 +4,7 @@
 //! which they act. Its calls change the state as the definitions say.
 #![tactic(auto)]
 
+mod alarms;
 mod asking;
 mod births;
 pub mod caller;

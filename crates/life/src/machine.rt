@@ -7,7 +7,7 @@ ghost use Rattle.posix.specs.Processes.{Process};
 ghost use Rattle.posix.specs.States.{boot as boot_of, process, change, current as current_of, lose_place as losing_place, go_last as going_last, has_place as has_place_in};
 ghost use Rattle.posix.specs.Regular.{IsRegular, IsPlaced};
 ghost use Rattle.posix.specs.Execute.{exec_one as executed, StaysUnlessRun};
-ghost use Rattle.posix.specs.Step.{code_of, set_cpu, pass_time as passing_time};
+ghost use Rattle.posix.specs.Step.{code_of, set_cpu};
 ghost use Rattle.proctable.specs.Body.{facts_of, own_of, give_own, own_row};
 ghost use Rattle.life.specs.contracts.machine.Machine.{the_row as machine_row};
 ghost use Rattle.life.specs.Loans.{lent, looked};
@@ -35,6 +35,10 @@ pub struct Machine<K: Kin> {
     pub(crate) to_ask: PidSet,
     /// The children that have something to report, by their parents.
     pub(crate) reporting: ChildSet,
+    /// The processes that have an alarm.
+    pub(crate) alarmed: PidSet,
+    /// A tick before which no alarm is due.
+    pub(crate) next_alarm: u64,
     pub(crate) births: u64,
     pub(crate) ticks: u64,
     pub(crate) dropped: u64,
@@ -48,7 +52,7 @@ impl<K: Kin> Model for Machine<K> {
 
     ghost view = { λ m. record { state = state_of m.world (K.contents m.table) m.pids m.order m.births m.ticks m.dropped m.halted; reads = K.reads m.table; asked = m.to_ask.pids } };
 
-    ghost invariant = { λ m. IsMachine (state_of m.world (K.contents m.table) m.pids m.order m.births m.ticks m.dropped m.halted) m.pids m.order m.to_ask m.reporting };
+    ghost invariant = { λ m. IsMachine (state_of m.world (K.contents m.table) m.pids m.order m.births m.ticks m.dropped m.halted) m.pids m.order m.to_ask m.reporting m.alarmed m.next_alarm };
 }
 
 impl<K: Kin> Machine<K> {
@@ -68,6 +72,8 @@ impl<K: Kin> Machine<K> {
         to_ask.reserve(world.pidmax() as usize + 1)?;
         let mut reporting = ChildSet::new(alloc);
         reporting.reserve(world.pidmax() as usize + 1)?;
+        let mut alarmed = PidSet::new(alloc);
+        alarmed.reserve(world.pidmax() as usize + 1)?;
         let first = Body::first(alloc)?;
         table.insert(Pid::INIT, Pid::NONE, first);
         pids.bear_all(Pid::INIT, Pid::INIT, Pid::INIT);
@@ -79,6 +85,8 @@ impl<K: Kin> Machine<K> {
             order,
             to_ask,
             reporting,
+            alarmed,
+            next_alarm: u64::MAX,
             births: 1,
             ticks: 0,
             dropped: 0,
@@ -270,15 +278,5 @@ impl<K: Kin> Machine<K> {
         ensures asked { self.new.asked ≡ self.old.asked }
     {
         self.order.go_last(pid);
-    }
-
-    /// The time goes on by one tick.
-    pub fn pass_time(&mut self)
-        requires { self.old.state.ticks + 1 < 2 ^ 64 }
-        ensures state { self.new.state ≡ passing_time self.old.state }
-        ensures reads { self.new.reads ≡ self.old.reads }
-        ensures asked { self.new.asked ≡ self.old.asked }
-    {
-        self.ticks += 1;
     }
 }

@@ -6,7 +6,8 @@ use Rattle.posix.specs.Processes.{Process}
 use Rattle.posix.specs.States.{State, current, current_process}
 use Rattle.posix.specs.Outcomes.{Outcome, silent}
 use Rattle.posix.specs.Settle.{settle}
-use Rattle.posix.specs.Step.{step, tick, rotate, pass_time, happens, next}
+use Rattle.posix.specs.Alarms.{pass_time}
+use Rattle.posix.specs.Step.{step, tick, rotate, happens, next}
 use Rattle.posix.proofs.ActLemmas.{acted}
 
 -- births and ticks are at most one more than before

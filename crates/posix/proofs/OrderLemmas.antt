@@ -68,6 +68,7 @@ regular_placed p s i h e = record {
   placed = λ q t. elim (or_cases _ (p == q) (sym (in_last q p s.order) ∙ t)) [ inl there ↦ i.placed q there | inr same ↦ subst (IsPlaced s.processes) (eqb-true p q same) h ];
   distinct = distinct_last p s.order i.distinct e;
   childless = i.childless;
+  alarms = i.alarms;
 }
 
 -- p, which has a place, goes last

@@ -1,72 +1,77 @@
 -- What keeps a state regular.
-use Rattle.std.proofs.Common.{◌≡◌, ◌≢◌, ℕ, ◌≤◌, Bool, true, false, cond, refl, ap, sym, ◌∙◌, arith, subst, List, [], ◌∷◌, map, Some, None, ◌==◌, inl, inr, ℤ}
-use Rattle.std.specs.Option.{IsSome}
+use Rattle.std.proofs.Common.{◌≡◌, ◌≢◌, ℕ, ◌+◌, ◌≤◌, Option, Bool, true, false, cond, refl, ap, sym, ◌∙◌, arith, subst, List, [], ◌∷◌, map, Some, None, ◌==◌, inl, inr, ℤ}
+use Rattle.std.specs.Option.{IsSome, IfSome}
 use Rattle.std.proofs.lemmas.Bool.{eqb-true, eqb-false, eq-eqb, ne_eqb, cases_eq, cond_both}
 use Rattle.posix.specs.declared.process.PendingSignal.{PendingSignal}
 use Rattle.posix.specs.Processes.{Process, Cpu, is_zombie, first_process}
 use Rattle.posix.specs.Tables.{IsRising, lookup, at, changed, inserted, removed, children_in, reparented, adopted}
 use Rattle.posix.specs.States.{World, State, boot, is_in, without, change, lose_place}
-use Rattle.posix.specs.Regular.{IsRegular, IsBounded, IsPlaced, CanInherit, IsDistinct}
+use Rattle.posix.specs.Regular.{IsRegular, IsBounded, IsPlaced, CanInherit, IsDistinct, IsAhead}
 use Rattle.posix.specs.Generation.{signalled}
 use Rattle.posix.specs.Handlers.{handles, is_full}
 use Rattle.posix.specs.Ends.{ended, made_zombie, halt, depart, noticed, ignores_children}
 use Rattle.posix.specs.Waits.{news_told}
 use Rattle.posix.specs.Delivery.{take_out}
 use Rattle.posix.specs.Step.{set_cpu}
+use Rattle.posix.specs.Alarms.{most_ticks, due_in, is_due, ring_at, rung, with_alarm, ring_all, pass_time}
 use Rattle.posix.proofs.MemberLemmas.{in_without, is_other}
 use Rattle.posix.proofs.TableLemmas.{rising_map, rising_changed, rising_adopted, rising_inserted, rising_removed, pid_reparented, pid_looked}
 use Rattle.posix.proofs.WalkLemmas.{children_removed}
 use Rattle.posix.proofs.MapLemmas.{at_pid, at_keeps, lookup_back, lookup_on, adopted_changed, children_map, children_adopted, children_elsewhere}
 
--- a change that keeps all that a regular state asks of a record
-pub record Keeps (g : Process → Process) : Type 0 where
+-- a change that keeps all that a regular state asks of a record, at this tick
+pub record Keeps (now : ℕ) (g : Process → Process) : Type 0 where
   pub pid : (r : Process) → (g r).pid ≡ r.pid
   pub parent : (r : Process) → (g r).parent ≡ r.parent
   pub group : (r : Process) → (g r).group ≡ r.group
   pub session : (r : Process) → (g r).session ≡ r.session
   pub zombie : (r : Process) → is_zombie (g r).life ≡ is_zombie r.life
+  pub alarm : (r : Process) → IsAhead now r.alarm → IsAhead now (g r).alarm
 
 -- no change is one
-pub keeps_none : Keeps (λ r. r)
-keeps_none = record { pid = λ r. refl; parent = λ r. refl; group = λ r. refl; session = λ r. refl; zombie = λ r. refl }
+pub keeps_none : {now : ℕ} → Keeps now (λ r. r)
+keeps_none = record { pid = λ r. refl; parent = λ r. refl; group = λ r. refl; session = λ r. refl; zombie = λ r. refl; alarm = λ r h. h }
 
 -- one of two such changes, as a test says, is one too
-keeps_cond : (t : Process → Bool) (f g : Process → Process) → Keeps f → Keeps g → Keeps (λ r. cond (t r) (f r) (g r))
-keeps_cond t f g h k = record {
+pub keeps_cond : {now : ℕ} (t : Process → Bool) (f g : Process → Process) → Keeps now f → Keeps now g → Keeps now (λ r. cond (t r) (f r) (g r))
+keeps_cond {now = now} t f g h k = record {
   pid = λ r. cond_both (t r) (f r) (g r) (λ q. q.pid ≡ r.pid) (λ e. h.pid r) (λ e. k.pid r);
   parent = λ r. cond_both (t r) (f r) (g r) (λ q. q.parent ≡ r.parent) (λ e. h.parent r) (λ e. k.parent r);
   group = λ r. cond_both (t r) (f r) (g r) (λ q. q.group ≡ r.group) (λ e. h.group r) (λ e. k.group r);
   session = λ r. cond_both (t r) (f r) (g r) (λ q. q.session ≡ r.session) (λ e. h.session r) (λ e. k.session r);
   zombie = λ r. cond_both (t r) (f r) (g r) (λ q. is_zombie q.life ≡ is_zombie r.life) (λ e. h.zombie r) (λ e. k.zombie r);
+  alarm = λ r a. cond_both (t r) (f r) (g r) (λ q. IsAhead now q.alarm) (λ e. h.alarm r a) (λ e. k.alarm r a);
 }
 
 -- made to one process only, such a change is one too
-pub keeps_at : (p : ℕ) (f : Process → Process) → Keeps f → Keeps (at p f)
+pub keeps_at : {now : ℕ} (p : ℕ) (f : Process → Process) → Keeps now f → Keeps now (at p f)
 keeps_at p f k = keeps_cond (λ r. r.pid == p) f (λ r. r) k keeps_none
 
 -- where one such change follows another, both together are one
-pub keeps_then : (f g : Process → Process) → Keeps f → Keeps g → Keeps (λ r. g (f r))
+pub keeps_then : {now : ℕ} (f g : Process → Process) → Keeps now f → Keeps now g → Keeps now (λ r. g (f r))
 keeps_then f g h k = record {
   pid = λ r. k.pid (f r) ∙ h.pid r;
   parent = λ r. k.parent (f r) ∙ h.parent r;
   group = λ r. k.group (f r) ∙ h.group r;
   session = λ r. k.session (f r) ∙ h.session r;
   zombie = λ r. k.zombie (f r) ∙ h.zombie r;
+  alarm = λ r a. k.alarm (f r) (h.alarm r a);
 }
 
 -- numbers within their range stay so
 bounded_as : (m : ℕ) (r q : Process) → IsBounded m q → r.pid ≡ q.pid → r.group ≡ q.group → r.session ≡ q.session → IsBounded m r
 bounded_as m r q b p g s = record { least = omega (arith, b.least); pid = omega (arith, b.pid); group = omega (arith, b.group); session = omega (arith, b.session) }
 
--- only the world, the records and the order count
-pub regular_as : (s t : State) → t.world ≡ s.world → t.processes ≡ s.processes → t.order ≡ s.order → IsRegular s → IsRegular t
-regular_as s t w p o i = record {
+-- only the world, the records, the order and the time count
+pub regular_as : (s t : State) → t.world ≡ s.world → t.processes ≡ s.processes → t.order ≡ s.order → t.ticks ≡ s.ticks → IsRegular s → IsRegular t
+regular_as s t w p o k i = record {
   rising = rw p i.rising;
   bounded = rw (p, w) i.bounded;
   first = rw p i.first;
   placed = rw (p, o) i.placed;
   distinct = rw o i.distinct;
   childless = rw p i.childless;
+  alarms = rw (p, k) i.alarms;
 }
 
 -- who is placed has a number from 1 on
@@ -77,8 +82,8 @@ placed_least s i p h =
     omega (arith, named, least)
 
 -- a state stays regular by such a change of each record
-pub regular_map : (g : Process → Process) → Keeps g → (s : State) → IsRegular s → IsRegular (record s { processes = map g s.processes })
-regular_map g k s i = record {
+pub regular_map : (g : Process → Process) (s : State) → Keeps s.ticks g → IsRegular s → IsRegular (record s { processes = map g s.processes })
+regular_map g s k i = record {
   rising = rising_map g k.pid s.processes i.rising;
   bounded = λ p r e.
       let b = lookup_back g k.pid p s.processes r e in
@@ -91,12 +96,15 @@ regular_map g k s i = record {
       let b = lookup_back g k.pid p s.processes r e in
       let old : is_zombie b.what.life ≡ true = sym (k.zombie b.what) ∙ ap (λ (r : Process). is_zombie r.life) (sym b.is) ∙ z in
       children_map g k.parent p s.processes ∙ ap (map g) (i.childless p b.what ne b.found old);
+  alarms = λ p r e.
+      let b = lookup_back g k.pid p s.processes r e in
+      subst (λ (r : Process). IsAhead s.ticks r.alarm) (sym b.is) (k.alarm b.what (i.alarms p b.what b.found));
 }
 
 -- or of one
-pub regular_change : (p : ℕ) (f : Process → Process) → Keeps f → (s : State) → IsRegular s → IsRegular (change s p f)
+pub regular_change : (p : ℕ) (f : Process → Process) (s : State) → Keeps s.ticks f → IsRegular s → IsRegular (change s p f)
 unfolding changed
-regular_change p f k s i = regular_map (at p f) (keeps_at p f k) s i
+regular_change p f s k i = regular_map (at p f) s (keeps_at p f k) i
 
 -- ---- the order
 
@@ -115,6 +123,7 @@ regular_lose p s i = record {
   placed = λ q e. i.placed q (is_other p q s.order e).among;
   distinct = distinct_without p s.order i.distinct;
   childless = i.childless;
+  alarms = i.alarms;
 }
 
 -- ---- ends
@@ -140,9 +149,9 @@ other_back p q f k ne rs r e =
 -- A process that is changed, to a zombie say, and loses its place: all others are as they were.
 pub regular_leave : (p : ℕ) (f : Process → Process) → ((r : Process) → (f r).pid ≡ r.pid) → ((r : Process) → (f r).parent ≡ r.parent)
     → ((r : Process) → (f r).group ≡ r.group) → ((r : Process) → (f r).session ≡ r.session)
-    → (s : State) → IsRegular s → (p ≢ 1 → children_in p s.processes ≡ []) → IsRegular (lose_place (change s p f) p)
+    → (s : State) → ((r : Process) → IsAhead s.ticks r.alarm → IsAhead s.ticks (f r).alarm) → IsRegular s → (p ≢ 1 → children_in p s.processes ≡ []) → IsRegular (lose_place (change s p f) p)
 unfolding changed
-regular_leave p f kp kq kg ks s i none = record {
+regular_leave p f kp kq kg ks s ka i none = record {
   rising = rising_changed p f kp s.processes i.rising;
   bounded = λ q r e.
       let b = lookup_back (at p f) (at_pid p f kp) q s.processes r e in
@@ -158,6 +167,10 @@ regular_leave p f kp kq kg ks s i none = record {
     | inl same ↦ subst (λ n. children_in n s.processes ≡ []) (sym same) (none (λ x. ne (same ∙ x)))
     | inr away ↦ i.childless q r ne (other_back p q f kp away s.processes r e) z
   ]);
+  alarms = λ q r e.
+      let b = lookup_back (at p f) (at_pid p f kp) q s.processes r e in
+      subst (λ (r : Process). IsAhead s.ticks r.alarm) (sym b.is)
+      (cond_both (b.what.pid == p) (f b.what) b.what (λ r. IsAhead s.ticks r.alarm) (λ x. ka b.what (i.alarms q b.what b.found)) (λ x. i.alarms q b.what b.found));
 }
 
 -- an heir of p is another
@@ -206,6 +219,9 @@ regular_adopted p heir least s i h = record {
       let b = lookup_back (reparented p heir) (pid_reparented p heir) q s.processes r e in
       let old : is_zombie b.what.life ≡ true = sym (ap is_zombie (ap (λ (r : Process). r.life) b.is ∙ life_reparented b.what)) ∙ z in
       children_elsewhere p heir q (heir_living s.processes p heir q b.what h other b.found old) s.processes (i.childless q b.what other b.found old);
+  alarms = λ q r e.
+      let b = lookup_back (reparented p heir) (pid_reparented p heir) q s.processes r e in
+      subst (λ (r : Process). IsAhead s.ticks r.alarm) (sym b.is) (subst (IsAhead s.ticks) (sym (alarm_reparented b.what)) (i.alarms q b.what b.found));
 }
   where
     group_reparented : (r : Process) → (reparented p heir r).group ≡ r.group
@@ -213,6 +229,9 @@ regular_adopted p heir least s i h = record {
 
     session_reparented : (r : Process) → (reparented p heir r).session ≡ r.session
     session_reparented r = grind arith
+
+    alarm_reparented : (r : Process) → (reparented p heir r).alarm ≡ r.alarm
+    alarm_reparented r = grind arith
 
     life_reparented : (r : Process) → (reparented p heir r).life ≡ r.life
     life_reparented r = elim (r.parent == p) as (λ b. (cond b (record r { parent = heir }) r).life ≡ r.life) [ true ↦ refl | false ↦ refl ]
@@ -227,7 +246,7 @@ pub regular_depart : (p heir w : ℕ) → 1 ≤ p → p ≢ 1 → (s : State) �
 unfolding made_zombie
 regular_depart p heir w least ne s i h =
     let given = record s { processes = adopted p heir s.processes } in
-    let left = regular_leave p (made_zombie w) (λ r. refl) (λ r. refl) (λ r. refl) (λ r. refl) given (regular_adopted p heir least s i h)
+    let left = regular_leave p (made_zombie w) (λ r. refl) (λ r. refl) (λ r. refl) (λ r. refl) given (λ r h. tt) (regular_adopted p heir least s i h)
     (λ other. children_adopted p heir (heir_other s.processes p heir ne h) s.processes) in
     subst (λ rs. IsRegular (record s { processes = rs; order = without p s.order })) (adopted_changed p heir p (made_zombie w) (commutes p heir w) s.processes) left
 
@@ -235,7 +254,7 @@ regular_depart p heir w least ne s i h =
 pub regular_halt : (w : ℕ) (s : State) → IsRegular s → IsRegular (halt s w)
 unfolding ended
 regular_halt w s i =
-    regular_as _ (halt s w) refl refl refl (regular_leave 1 (ended w) (λ r. refl) (λ r. refl) (λ r. refl) (λ r. refl) s i (λ ne. absurd (ne refl)))
+    regular_as _ (halt s w) refl refl refl refl (regular_leave 1 (ended w) (λ r. refl) (λ r. refl) (λ r. refl) (λ r. refl) s (λ r h. h) i (λ ne. absurd (ne refl)))
 
 -- ---- births and collections
 
@@ -264,10 +283,10 @@ children_inserted new q [] ne = rw (ne_eqb new.parent q ne) refl
 children_inserted new q (r ∷ rs) ne = grind (arith, ne, children_inserted new q rs ne, eqb-true, eqb-false)
 
 -- A living record that is new goes in, with a parent that is living, and the other counts may change.
-pub regular_inserted : (new : Process) (last births : ℕ) (s : State) → IsRegular s → lookup new.pid s.processes ≡ None → IsBounded s.world.pidmax new → is_zombie new.life ≡ false
+pub regular_inserted : (new : Process) (last births : ℕ) (s : State) → IsRegular s → lookup new.pid s.processes ≡ None → IsBounded s.world.pidmax new → is_zombie new.life ≡ false → new.alarm ≡ None
     → (me : Process) → lookup new.parent s.processes ≡ Some me → is_zombie me.life ≡ false
     → IsRegular (record s { processes = inserted new s.processes; last_pid = last; births = births })
-regular_inserted new last births s i fresh bounds living me there up = record {
+regular_inserted new last births s i fresh bounds living silent me there up = record {
   rising = rising_inserted new s.processes i.rising fresh;
   bounded = λ q r e. elim (cases_eq q new.pid) [
     | inl same ↦
@@ -289,6 +308,12 @@ regular_inserted new last births s i fresh bounds living me there up = record {
         let one : me ≡ r = let both = sym there ∙ ap (λ n. lookup n s.processes) x ∙ old in cc in
         let both : false ≡ true = sym up ∙ ap (λ (r : Process). is_zombie r.life) one ∙ z in
         absurd (cc)) ∙ i.childless q r ne old z
+  ];
+  alarms = λ q r e. elim (cases_eq q new.pid) [
+    | inl same ↦
+        let one : new ≡ r = let both = sym (lookup_new new s.processes fresh) ∙ ap (λ n. lookup n (inserted new s.processes)) (sym same) ∙ e in cc in
+        subst (λ (r : Process). IsAhead s.ticks r.alarm) one (subst (IsAhead s.ticks) (sym silent) tt)
+    | inr away ↦ i.alarms q r (sym (lookup_inserted new q s.processes away) ∙ e)
   ];
 }
   where
@@ -333,40 +358,84 @@ regular_removed p zombie s i other there dead = record {
       record { what = o.what; found = lookup_kept p q s.processes apart ∙ o.found; living = o.living };
   distinct = i.distinct;
   childless = λ q r ne e z. children_removed q p s.processes ∙ ap (removed p) (i.childless q r ne (lookup_left p q s.processes r e) z);
+  alarms = λ q r e. i.alarms q r (lookup_left p q s.processes r e);
 }
 
 -- ---- changes that keep
 
 -- so does another content of the cpu
-pub keeps_set_cpu : (c : Cpu) → Keeps (set_cpu c)
+pub keeps_set_cpu : {now : ℕ} (c : Cpu) → Keeps now (set_cpu c)
 unfolding set_cpu
-keeps_set_cpu c = record { pid = λ r. refl; parent = λ r. refl; group = λ r. refl; session = λ r. refl; zombie = λ r. refl }
+keeps_set_cpu c = record { pid = λ r. refl; parent = λ r. refl; group = λ r. refl; session = λ r. refl; zombie = λ r. refl; alarm = λ r h. h }
 
 -- so do news that are told
-pub keeps_news_told : Keeps news_told
+pub keeps_news_told : {now : ℕ} → Keeps now news_told
 unfolding news_told
-keeps_news_told = record { pid = λ r. refl; parent = λ r. refl; group = λ r. refl; session = λ r. refl; zombie = λ r. refl }
+keeps_news_told = record { pid = λ r. refl; parent = λ r. refl; group = λ r. refl; session = λ r. refl; zombie = λ r. refl; alarm = λ r h. h }
 
 -- so does a handler that is entered, or that there is no room for
-pub keeps_handles : (signal : PendingSignal) (address : ℤ) → Keeps (handles signal address)
+pub keeps_handles : {now : ℕ} (signal : PendingSignal) (address : ℤ) → Keeps now (handles signal address)
 unfolding handles
-keeps_handles signal address = keeps_cond (λ r. is_full r.signals) _ _ (record { pid = λ r. refl; parent = λ r. refl; group = λ r. refl; session = λ r. refl; zombie = λ r. refl })
-    (record { pid = λ r. refl; parent = λ r. refl; group = λ r. refl; session = λ r. refl; zombie = λ r. refl })
+keeps_handles signal address = keeps_cond (λ r. is_full r.signals) _ _ (record { pid = λ r. refl; parent = λ r. refl; group = λ r. refl; session = λ r. refl; zombie = λ r. refl; alarm = λ r h. h })
+    (record { pid = λ r. refl; parent = λ r. refl; group = λ r. refl; session = λ r. refl; zombie = λ r. refl; alarm = λ r h. h })
 
 -- so does a signal that is taken out
-pub keeps_take_out : (n : ℕ) → Keeps (take_out n)
+pub keeps_take_out : {now : ℕ} (n : ℕ) → Keeps now (take_out n)
 unfolding take_out
-keeps_take_out n = record { pid = λ r. refl; parent = λ r. refl; group = λ r. refl; session = λ r. refl; zombie = λ r. refl }
+keeps_take_out n = record { pid = λ r. refl; parent = λ r. refl; group = λ r. refl; session = λ r. refl; zombie = λ r. refl; alarm = λ r h. h }
 
 -- so does a signal that is generated
-pub keeps_signalled : (signal : PendingSignal) → Keeps (signalled signal)
+pub keeps_signalled : {now : ℕ} (signal : PendingSignal) → Keeps now (signalled signal)
 unfolding signalled
-keeps_signalled signal = record { pid = λ r. refl; parent = λ r. refl; group = λ r. refl; session = λ r. refl; zombie = λ r. refl }
+keeps_signalled signal = record { pid = λ r. refl; parent = λ r. refl; group = λ r. refl; session = λ r. refl; zombie = λ r. refl; alarm = λ r h. h }
 
 -- so does a notice of an end
-pub keeps_noticed : (signal : PendingSignal) → Keeps (noticed signal)
+pub keeps_noticed : {now : ℕ} (signal : PendingSignal) → Keeps now (noticed signal)
 unfolding noticed
 keeps_noticed signal = keeps_cond (λ r. ignores_children r.signals) (λ r. r) (signalled signal) keeps_none (keeps_signalled signal)
+
+-- so does an alarm that rings
+pub keeps_ring : {now : ℕ} (at : ℕ) → Keeps now (ring_at at)
+unfolding rung with_alarm signalled
+keeps_ring at = keeps_cond (λ r. is_due at r.alarm) rung (λ r. r) (record { pid = λ r. refl; parent = λ r. refl; group = λ r. refl; session = λ r. refl; zombie = λ r. refl; alarm = λ r h. tt }) keeps_none
+
+-- so does an alarm that is set to a later tick, or cleared
+pub keeps_with_alarm : {now : ℕ} (due : Option ℕ) → IsAhead now due → Keeps now (with_alarm due)
+unfolding with_alarm
+keeps_with_alarm due ahead = record { pid = λ r. refl; parent = λ r. refl; group = λ r. refl; session = λ r. refl; zombie = λ r. refl; alarm = λ r h. ahead }
+
+-- ticks from now on are ahead
+pub due_ahead : (now n : ℕ) → n ≤ most_ticks → IsAhead now (due_in now n)
+due_ahead now n few = cond_both (n == 0) None (Some (now + n)) (IsAhead now) (λ e. tt) (λ e. let some = eqb-false n 0 e in (omega (arith, some), omega (arith, few)))
+
+-- ---- the time goes on
+
+-- an alarm that isn't due at the next tick is due later
+not_due : (now : ℕ) (a : Option ℕ) → is_due (now + 1) a ≡ false → IsAhead now a → IsAhead (now + 1) a
+not_due now None e h = tt
+not_due now (Some due) e h = let ne = eqb-false due (now + 1) e in (omega (arith, h.0, ne), omega (arith, h.1))
+
+later : (now : ℕ) (r : Process) → IsAhead now r.alarm → IsAhead (now + 1) (ring_at (now + 1) r).alarm
+unfolding rung with_alarm
+later now r h = cond_both (is_due (now + 1) r.alarm) (rung r) r (λ q. IsAhead (now + 1) q.alarm) (λ e. tt) (λ e. not_due now r.alarm e h)
+
+-- a state stays regular as the time goes on
+pub regular_pass : (s : State) → IsRegular s → IsRegular (pass_time s)
+unfolding ring_all
+regular_pass s i =
+    let k : Keeps s.ticks (ring_at (s.ticks + 1)) = keeps_ring (s.ticks + 1) in
+    let m = regular_map (ring_at (s.ticks + 1)) s k i in
+    record {
+      rising = m.rising;
+      bounded = m.bounded;
+      first = m.first;
+      placed = m.placed;
+      distinct = m.distinct;
+      childless = m.childless;
+      alarms = λ p r e.
+          let b = lookup_back (ring_at (s.ticks + 1)) k.pid p s.processes r e in
+          subst (λ (r : Process). IsAhead (s.ticks + 1) r.alarm) (sym b.is) (later s.ticks b.what (i.alarms p b.what b.found));
+    }
 
 -- ---- the start
 
@@ -386,8 +455,15 @@ regular_first w most = record {
     | true ↦ λ t k. absurd (ne (sym (eqb-true _ _ t)))
     | false ↦ λ t k. absurd (cc)
   ] refl e;
+  alarms = λ p r e. silent p r e;
 }
   where
+    silent : (p : ℕ) (r : Process) → cond (1 == p) (Some first_process) None ≡ Some r → IsAhead 0 r.alarm
+    silent p r e = elim (1 == p) as (λ b. cond b (Some first_process) None ≡ Some r → IsAhead 0 r.alarm) [
+      | true ↦ λ k. subst (λ (r : Process). IsAhead 0 r.alarm) (let same : first_process ≡ r = cc in same) tt
+      | false ↦ λ k. absurd (cc)
+    ] e
+
     one : (p : ℕ) (r : Process) → cond (1 == p) (Some first_process) None ≡ Some r → IsBounded w.pidmax r
     one p r e = elim (1 == p) as (λ b. cond b (Some first_process) None ≡ Some r → IsBounded w.pidmax r) [
       | true ↦ λ k. subst (IsBounded w.pidmax) (let same : first_process ≡ r = cc in same) (record { least = omega arith; pid = omega (arith, most); group = omega (arith, most); session = omega (arith, most) })

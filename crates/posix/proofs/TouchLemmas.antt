@@ -1,7 +1,7 @@
 -- Whom a change of the state can let act, who couldn't before.
 use Rattle.std.proofs.Common.{◌≡◌, ◌≢◌, ℕ, true, false, cond, not, refl, ap, sym, ◌∙◌, subst, List, [], ◌∷◌, ◌++◌, map, filter, Option, Some, None, ◌==◌, arith}
 use Rattle.std.specs.Option.{IfSome, IsSome}
-use Rattle.std.proofs.lemmas.Bool.{eqb-true, ne_eqb, not-true, and_parts, or_parts}
+use Rattle.std.proofs.lemmas.Bool.{eqb-true, ne_eqb, cond_both, not-true, and_parts, or_parts}
 use Rattle.posix.specs.declared.process.PendingSignal.{PendingSignal}
 use Rattle.posix.specs.Processes.{Process, Cpu}
 use Rattle.posix.specs.Tables.{IsRising, lookup, at, changed, inserted, removed, is_child, children_in, reparented, adopted}
@@ -9,6 +9,7 @@ use Rattle.posix.specs.States.{State, process, is_in, change, lose_place, go_las
 use Rattle.posix.specs.Settle.{Covers, can_act}
 use Rattle.posix.specs.Generation.{signalled}
 use Rattle.posix.specs.Ends.{noticed, ignores_children}
+use Rattle.posix.specs.Alarms.{is_due, with_alarm, rung, ring_at}
 use Rattle.posix.specs.Step.{set_cpu}
 use Rattle.posix.proofs.MemberLemmas.{in_append, others_stay, apart_first, apart_rest}
 use Rattle.posix.proofs.TableLemmas.{Above, above_filter, lookup_above, changed_absent, remove_none, pid_looked, pid_reparented}
@@ -89,6 +90,22 @@ unseen_set_cpu c = record { pid = λ r. refl; parent = λ r. refl; group = λ r.
 pub unseen_signalled : (signal : PendingSignal) → Unseen (signalled signal)
 unfolding signalled
 unseen_signalled signal = record { pid = λ r. refl; parent = λ r. refl; group = λ r. refl; life = λ r. refl; news = λ r. refl }
+
+-- and an alarm that rings
+pub unseen_ring : (now : ℕ) → Unseen (ring_at now)
+unfolding rung with_alarm signalled
+unseen_ring now = record {
+  pid = λ r. cond_both (is_due now r.alarm) (rung r) r (λ q. q.pid ≡ r.pid) (λ e. refl) (λ e. refl);
+  parent = λ r. cond_both (is_due now r.alarm) (rung r) r (λ q. q.parent ≡ r.parent) (λ e. refl) (λ e. refl);
+  group = λ r. cond_both (is_due now r.alarm) (rung r) r (λ q. q.group ≡ r.group) (λ e. refl) (λ e. refl);
+  life = λ r. cond_both (is_due now r.alarm) (rung r) r (λ q. q.life ≡ r.life) (λ e. refl) (λ e. refl);
+  news = λ r. cond_both (is_due now r.alarm) (rung r) r (λ q. q.news ≡ r.news) (λ e. refl) (λ e. refl);
+}
+
+-- or is set
+pub unseen_with_alarm : (due : Option ℕ) → Unseen (with_alarm due)
+unfolding with_alarm
+unseen_with_alarm due = record { pid = λ r. refl; parent = λ r. refl; group = λ r. refl; life = λ r. refl; news = λ r. refl }
 
 -- and a notice of an end
 pub unseen_noticed : (signal : PendingSignal) → Unseen (noticed signal)

@@ -1,7 +1,7 @@
 -- Attempts of system calls.
 use Rattle.std.specs.Prelude.{Bool, pos}
 use Rattle.posix.specs.declared.call.Call.{Call}
-use Rattle.posix.specs.declared.call.Call.TheVariants.{Exit, Fork, Waitpid, Pause, SchedYield, Getpid, Getppid, Getuid, Geteuid, Getgid, Getegid, Setuid, Seteuid, Setgid, Setegid, Kill, Sigaction, Sigprocmask, Sigpending, Sigsuspend, Sigreturn}
+use Rattle.posix.specs.declared.call.Call.TheVariants.{Exit, Fork, Waitpid, Pause, SchedYield, Getpid, Getppid, Getuid, Geteuid, Getgid, Getegid, Setuid, Seteuid, Setgid, Setegid, Kill, Sigaction, Sigprocmask, Sigpending, Sigsuspend, Sigreturn, Alarm}
 use Rattle.posix.specs.declared.process.Blocked.{Blocked}
 use Rattle.posix.specs.declared.process.Blocked.TheVariants as blocked
 use Rattle.posix.specs.Statuses.{exited}
@@ -14,6 +14,7 @@ use Rattle.posix.specs.Waits.{wait}
 use Rattle.posix.specs.Credentials.{setuid, seteuid, setgid, setegid}
 use Rattle.posix.specs.Delivery.{return_from_handler}
 use Rattle.posix.specs.Sends.{kill}
+use Rattle.posix.specs.Alarms.{alarm}
 use Rattle.posix.specs.SignalCalls.{set_credentials, sigaction, sigprocmask, sigpending}
 
 -- What each call does, XSH under its name. Whether the host grants memory matters where a call needs
@@ -40,6 +41,7 @@ attempt granted s me Sigprocmask = answers s me.pid Sigprocmask (sigprocmask me)
 attempt granted s me Sigpending = answers s me.pid Sigpending (sigpending me)
 attempt granted s me Sigsuspend = Block (blocked.Sigsuspend me.signals.mask)
 attempt granted s me Sigreturn = Done (return_from_handler s me)
+attempt granted s me Alarm = answers s me.pid Alarm (alarm s me)
 
 -- the call that a process is blocked in, attempted afresh
 unfoldable pub attempt_again : State → Process → Blocked → Attempted

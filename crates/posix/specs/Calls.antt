@@ -1,7 +1,7 @@
 -- System calls by their names.
 use Rattle.std.specs.Prelude.{ℕ, List, [], ◌∷◌, codes, Option, find, bytes_eq}
 use Rattle.posix.specs.declared.call.Call.{Call}
-use Rattle.posix.specs.declared.call.Call.TheVariants.{Exit, Fork, Waitpid, Pause, SchedYield, Getpid, Getppid, Getuid, Geteuid, Getgid, Getegid, Setuid, Seteuid, Setgid, Setegid, Kill, Sigaction, Sigprocmask, Sigpending, Sigsuspend, Sigreturn}
+use Rattle.posix.specs.declared.call.Call.TheVariants.{Exit, Fork, Waitpid, Pause, SchedYield, Getpid, Getppid, Getuid, Geteuid, Getgid, Getegid, Setuid, Seteuid, Setgid, Setegid, Kill, Sigaction, Sigprocmask, Sigpending, Sigsuspend, Sigreturn, Alarm}
 
 -- how a call is written, in world texts and in traces
 abbrev pub call_text : Call → List ℕ
@@ -26,12 +26,13 @@ call_text Sigprocmask = codes "sigprocmask"
 call_text Sigpending = codes "sigpending"
 call_text Sigsuspend = codes "sigsuspend"
 call_text Sigreturn = codes "sigreturn"
+call_text Alarm = codes "alarm"
 
 -- all calls, for looking one up
 abbrev pub all_calls : List Call
 all_calls = Exit ∷ Fork ∷ Waitpid ∷ Pause ∷ SchedYield ∷ Getpid ∷ Getppid
     ∷ Getuid ∷ Geteuid ∷ Getgid ∷ Getegid ∷ Setuid ∷ Seteuid ∷ Setgid ∷ Setegid
-    ∷ Kill ∷ Sigaction ∷ Sigprocmask ∷ Sigpending ∷ Sigsuspend ∷ Sigreturn ∷ []
+    ∷ Kill ∷ Sigaction ∷ Sigprocmask ∷ Sigpending ∷ Sigsuspend ∷ Sigreturn ∷ Alarm ∷ []
 
 -- the call that a word names
 abbrev pub call_named : List ℕ → Option Call

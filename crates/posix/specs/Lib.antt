@@ -17,6 +17,7 @@ pub mod Handlers
 pub mod Births
 pub mod Ends
 pub mod Targets
+pub mod Alarms
 pub mod Waits
 pub mod Delivery
 pub mod Sends

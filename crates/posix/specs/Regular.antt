@@ -1,8 +1,9 @@
 -- What holds of every state that the machine reaches: the type of a machine keeps it.
-use Rattle.std.specs.Prelude.{◌≡◌, ◌≢◌, ◌⊎◌, ℕ, ◌≤◌, true, false, List, [], ◌∷◌, Some}
+use Rattle.std.specs.Prelude.{◌≡◌, ◌≢◌, ◌⊎◌, ℕ, ◌≤◌, true, false, List, [], ◌∷◌, ◌+◌, ◌<◌, Option, Some, IfSome}
 use Rattle.posix.specs.Processes.{Process, is_zombie}
 use Rattle.posix.specs.Tables.{IsRising, lookup, children_in}
 use Rattle.posix.specs.States.{State, is_in}
+use Rattle.posix.specs.Alarms.{most_ticks}
 
 -- the numbers of a record are within their range
 pub record IsBounded (pidmax : ℕ) (r : Process) : Type 0 where
@@ -32,6 +33,10 @@ unfoldable pub IsDistinct : List ℕ → Type 0
 IsDistinct [] = Unit {0}
 IsDistinct (p ∷ ps) = (is_in p ps ≡ false) × IsDistinct ps
 
+-- a set alarm is due later, and not too late
+abbrev pub IsAhead : ℕ → Option ℕ → Type 0
+IsAhead now alarm = IfSome alarm (λ due. (now < due) × (due ≤ now + most_ticks))
+
 pub record IsRegular (s : State) : Type 0 where
   pub rising : IsRising s.processes
   pub bounded : (p : ℕ) (r : Process) → lookup p s.processes ≡ Some r → IsBounded s.world.pidmax r
@@ -39,3 +44,4 @@ pub record IsRegular (s : State) : Type 0 where
   pub placed : (p : ℕ) → is_in p s.order ≡ true → IsPlaced s.processes p
   pub distinct : IsDistinct s.order
   pub childless : (p : ℕ) (r : Process) → p ≢ 1 → lookup p s.processes ≡ Some r → is_zombie r.life ≡ true → children_in p s.processes ≡ []
+  pub alarms : (p : ℕ) (r : Process) → lookup p s.processes ≡ Some r → IsAhead s.ticks r.alarm

@@ -12,6 +12,9 @@ KILL = 9
 abbrev pub SEGV : ℕ
 SEGV = 11
 
+abbrev pub ALRM : ℕ
+ALRM = 14
+
 abbrev pub CHLD : ℕ
 CHLD = 17
 

@@ -16,6 +16,7 @@ use Rattle.posix.specs.Processes.{Process, Signals, Cpu, argument}
 use Rattle.posix.specs.States.{Program, State, change, lose_place, go_last, current, current_process}
 use Rattle.posix.specs.Execute.{exec_one}
 use Rattle.posix.specs.Outcomes.{Outcome, silent, Attempted, Done, Block}
+use Rattle.posix.specs.Alarms.{pass_time}
 use Rattle.posix.specs.Attempts.{attempt, attempt_again}
 use Rattle.posix.specs.Generation.{is_pending}
 use Rattle.posix.specs.Choice.{chosen}
@@ -92,9 +93,7 @@ abbrev pub rotate : State → Option ℕ → State
 rotate s None = s
 rotate s (Some p) = go_last s p
 
-abbrev pub pass_time : State → State
-pass_time s = record s { ticks = s.ticks + 1 }
-
+-- alarms ring first (own)
 unfoldable pub tick : State → State
 tick s = rotate (pass_time s) (current s)
 

@@ -48,13 +48,16 @@ pub enum Call {
     Sigsuspend,
     /// Returns from the newest handler (sigreturn(2)).
     Sigreturn,
+    /// Sets the caller's alarm to r1 ticks from now, or with 0 clears it, and gives the ticks that were
+    /// left (XSH alarm).
+    Alarm,
 }
 
 impl Call {
     ghost use Rattle.posix.specs.Calls.{call_named, call_text};
 
     /// Every call.
-    pub const ALL: [Call; 21] = [
+    pub const ALL: [Call; 22] = [
         Call::Exit,
         Call::Fork,
         Call::Waitpid,
@@ -76,6 +79,7 @@ impl Call {
         Call::Sigpending,
         Call::Sigsuspend,
         Call::Sigreturn,
+        Call::Alarm,
     ];
 
     /// How it is written, in world texts and in traces: at most 16 bytes.
@@ -105,6 +109,7 @@ impl Call {
             Call::Sigpending => b"sigpending",
             Call::Sigsuspend => b"sigsuspend",
             Call::Sigreturn => b"sigreturn",
+            Call::Alarm => b"alarm",
         }
     }
 

@@ -42,6 +42,8 @@ impl Sig {
 
     pub const SEGV: Sig = Sig { number: 11 };
 
+    pub const ALRM: Sig = Sig { number: 14 };
+
     pub const CHLD: Sig = Sig { number: 17 };
 
     pub const CONT: Sig = Sig { number: 18 };

@@ -41,6 +41,7 @@ process_of p q b = record first_process {
   signals = b.own.signals;
   life = b.life;
   news = b.news;
+  alarm = b.alarm;
   blocked = b.own.blocked;
   program = b.own.program;
   cpu = b.own.cpu;

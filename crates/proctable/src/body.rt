@@ -6,16 +6,15 @@ ghost use Rattle.posix.specs.Births.{child_of};
 ghost use Rattle.posix.specs.Ends.{made_zombie, ended, noticed};
 ghost use Rattle.posix.specs.Generation.{signalled, effect_of};
 ghost use Rattle.posix.specs.Waits.{news_told};
+ghost use Rattle.posix.specs.Alarms.{ring_at as ring_at_tick, with_alarm};
 ghost use Rattle.proctable.specs.Body.{process_of, facts_of};
 
 use crate::facts::Facts;
 use crate::own::Own;
-use posix::{Effect, Life, News, PendingSignal, Pid, Status};
+use posix::{Carried, Effect, Life, News, PendingSignal, Pid, Sig, Status};
 use std::alloc::{AllocError, Global};
 
 /// A process without its number and its parent.
-///
-/// Its alarm is not here: it stays as it is at boot.
 #[derive(Drop)]
 pub struct Body {
     /// 1 for process 1, 2 for the next one born, and so on.
@@ -28,6 +27,8 @@ pub struct Body {
     pub life: Life,
     /// What no wait has reported of it yet (XSH waitpid).
     pub news: News,
+    /// The tick at which its alarm is due (XSH alarm).
+    pub alarm: Option<u64>,
     /// What it may change of itself.
     pub own: Own,
 }
@@ -43,6 +44,7 @@ impl Body {
             session: Pid::INIT,
             life: Life::Running,
             news: News::Nothing,
+            alarm: None,
             own: Own::first(alloc)?,
         })
     }
@@ -59,6 +61,7 @@ impl Body {
             session: self.session,
             life: self.life,
             news: News::Nothing,
+            alarm: None,
             own: self.own.fork()?,
         })
     }
@@ -90,6 +93,7 @@ impl Body {
         self.life = Life::Zombie(status);
         self.own.signals.forget();
         self.news = News::Nothing;
+        self.alarm = None;
         self.own.blocked = None;
     }
 
@@ -117,6 +121,32 @@ impl Body {
         ensures effect { result ≡ effect_of pid self.old.life signal self.old.own.signals }
     {
         self.own.signals.generate(pid, self.life, signal)
+    }
+
+    /// The alarm of the process, whose number this is, rings if it is due at this tick, and isn't set any more
+    /// then (XSH alarm).
+    #[tactic(auto, unfolding(posix::specs::Alarms::rung, posix::specs::Alarms::with_alarm))]
+    pub fn ring_at(&mut self, pid: Pid, now: u64)
+        ensures { (q : ℕ) → process_of pid q self.new ≡ ring_at_tick now (process_of pid q self.old) }
+    {
+        if let Some(due) = self.alarm {
+            if due == now {
+                let signal = PendingSignal {
+                    sig: Sig::ALRM,
+                    carried: Carried::FROM_KERNEL,
+                };
+                self.signal(pid, signal);
+                self.alarm = None;
+            }
+        }
+    }
+
+    /// The alarm is set to a tick, or cleared (XSH alarm).
+    #[tactic(auto, unfolding(posix::specs::Alarms::with_alarm))]
+    pub fn set_alarm(&mut self, due: Option<u64>)
+        ensures { (p q : ℕ) → process_of p q self.new ≡ with_alarm due (process_of p q self.old) }
+    {
+        self.alarm = due;
     }
 
     /// The process, whose number this is, gets notice of a child by a signal, unless it ignores CHLD (XSH

@@ -27,7 +27,7 @@ returns-in-At g c = λ me e.
     let t = change s p (give_own w) in
     let changed = was_written s p o w (take_out c.args.sig) c.own-own.ensures.regular c.own-own.ensures.value (λ r. ap (λ h. give_own (record o { signals = h }) r) c.take-carried.ensures.state) in
     let reads : Reads s x c.args.sig t c.action-action.result = record { action_is = c.action-action.ensures; state_is = changed } in
-    let after = there_then s t p (take_out c.args.sig) (keeps_take_out c.args.sig).pid changed x (own_there s p o me c.own-own.ensures.value e) in
+    let after = there_then s t p (take_out c.args.sig) (keeps_take_out {now = 0} c.args.sig).pid changed x (own_there s p o me c.own-own.ensures.value e) in
     let kept : to_z w64 (of_z w64 c.in-At.address) ≡ c.in-At.address = search rules in
     of_own (λ x. deliver s x c.args.sig ≡ outcome_of c.handle.new.machine.state c.handle.new.entries.items) s p o me c.own-own.ensures.value e
     (deliver_at s x c.args.sig t c.action-action.result c.in-At.address c.take-carried.result reads c.in-At.is c.take-carried.ensures.value
@@ -59,6 +59,6 @@ returns-in-Default g c = λ me e.
     let t = change s p (give_own w) in
     let changed = was_written s p o w (take_out c.args.sig) c.own-own.ensures.regular c.own-own.ensures.value (λ r. ap (λ h. give_own (record o { signals = h }) r) c.take-carried.ensures.state) in
     let reads : Reads s x c.args.sig t c.action-action.result = record { action_is = c.action-action.ensures; state_is = changed } in
-    let after = there_then s t p (take_out c.args.sig) (keeps_take_out c.args.sig).pid changed x (own_there s p o me c.own-own.ensures.value e) in
+    let after = there_then s t p (take_out c.args.sig) (keeps_take_out {now = 0} c.args.sig).pid changed x (own_there s p o me c.own-own.ensures.value e) in
     of_own (λ x. deliver s x c.args.sig ≡ outcome_of c.act_by_default.new.machine.state c.act_by_default.new.entries.items) s p o me c.own-own.ensures.value e
     (deliver_default s x c.args.sig t c.action-action.result reads c.in-Default.is ∙ c.act_by_default.ensures (take_out c.args.sig x) after)

@@ -46,7 +46,7 @@ returns-in-Err g c = λ me e.
     let changed = was_written s p o c.handle.new.self (handles c.args.signal (to_z w64 (of_z w64 c.args.address))) c.own-own.ensures.regular c.own-own.ensures.value c.handle.ensures.state
     ∙ ap (λ z. change s p (handles c.args.signal z)) kept in
     let here = own_there s p o me c.own-own.ensures.value e in
-    let after = there_then s t p (handles c.args.signal c.args.address) (keeps_handles _ _).pid changed x here in
+    let after = there_then s t p (handles c.args.signal c.args.address) (keeps_handles {now = 0} _ _).pid changed x here in
     of_own (λ x. handle s x c.args.signal c.args.address ≡ outcome_of c.end.new.machine.state c.end.new.entries.items) s p o me c.own-own.ensures.value e
     (handle_full s x c.args.signal c.args.address t c.end.new.machine.state c.end.new.entries.items c.in-Err.ensures.full changed
     (c.end.ensures.state (handles c.args.signal c.args.address x) after ∙ ap (λ w. (end_process t (handles c.args.signal c.args.address x) w).state) c.killed.ensures)

@@ -57,7 +57,7 @@ report-requires-in-Change-clause-there g c =
     let s = c.args.machine.now.state in
     let me = c.args.me.now in
     let told = c.tell_news.ensures.state ∙ ap (λ (t : State). change t c.in-Change.child news_told) c.wait_attempt.ensures.same in
-    subst (λ (t : State). IsSome (process t me.pid)) (sym told) (some_changed c.in-Change.child me.pid news_told keeps_news_told.pid s.processes (placed_some s.processes me.pid c.requires.placed))
+    subst (λ (t : State). IsSome (process t me.pid)) (sym told) (some_changed c.in-Change.child me.pid news_told (keeps_news_told {now = 0}).pid s.processes (placed_some s.processes me.pid c.requires.placed))
 
 pub returns-in-NoChild : goal.returns-in-NoChild
 returns-in-NoChild g c =

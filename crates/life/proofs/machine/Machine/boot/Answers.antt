@@ -6,6 +6,7 @@ use Rattle.life.proofs.AskLemmas.{listed_first}
 use Rattle.sched.specs.Places.{Places}
 use Rattle.life.proofs.SoundLemmas.{nobody_there, sound_first, first_is_boot}
 use Rattle.pidset.specs.Children.{ArePairs}
+use Rattle.life.proofs.TimedLemmas.{timed_first}
 use Rattle.life.proofs.ReportedLemmas.{reported_first}
 use Rattle.life.proofs.machine.Machine.boot.Goals as goal
 
@@ -29,6 +30,7 @@ invariant_of-result g c =
       sound = sound_first _ _ _ (omega (arith, least, c.pidmax.ensures.value)) bore pidmax c.bear_all.ensures.kept order (omega (arith, room, all, c.pidmax-2.ensures.value));
       listed = listed_first _ _ _ _ (first_is_boot _ c.bear_all.new.self c.place.new.self c.bear_all.ensures.last order) (c.in_ok-reserve-2.ensures.pids ∙ c.new-to_ask.ensures) c.pidmax-3.ensures.value c.in_ok-reserve-2.ensures.room;
       reported = reported_first _ c.in_ok-world.world _ _ (first_is_boot c.in_ok-world.world c.bear_all.new.self c.place.new.self c.bear_all.ensures.last order) (c.in_ok-reserve-3.ensures.pairs ∙ c.new-reporting.ensures.pairs) (subst ArePairs (sym c.in_ok-reserve-3.ensures.pairs) c.new-reporting.ensures.rising) c.pidmax-4.ensures.value c.in_ok-reserve-3.ensures.room;
+      timed = timed_first _ c.in_ok-world.world _ _ _ (first_is_boot c.in_ok-world.world c.bear_all.new.self c.place.new.self c.bear_all.ensures.last order) (c.in_ok-reserve-4.ensures.pids ∙ c.new-alarmed.ensures) c.pidmax-5.ensures.value c.in_ok-reserve-4.ensures.room;
     })
 
 pub returns-clause-state : goal.returns-clause-state

@@ -49,7 +49,7 @@ loop-next-init g c =
       read = omega (arith, left, most, old, one, once, c.first_child-next.ensures.reads);
       telling = begins c.args.self.now.state _ _ _ c.self.inside.order _ c.args.pid c.args.heir c.args.status _ me.what (state_is c.self.view_is) (rw (c.first_child-next.ensures.contents, contents, c.drop_place.ensures.pids) refl) c.self.invariant.sound (omega (arith, room)) c.requires.other
           c.requires.heir me.found (c.first_child-next.ensures.value ∙ ap (λ rs. first_pid (children_in c.args.pid rs)) (sym c.first_child-next.ensures.contents))
-          _ _ c.self.invariant.listed (c.insert-2.ensures.pids ∙ ap (with_number c.args.heir) c.insert.ensures.pids) (c.insert-2.ensures.room ∙ c.insert.ensures.room) _ c.self.invariant.reported;
+          _ _ c.self.invariant.listed (c.insert-2.ensures.pids ∙ ap (with_number c.args.heir) c.insert.ensures.pids) (c.insert-2.ensures.room ∙ c.insert.ensures.room) _ c.self.invariant.reported _ _ c.self.invariant.timed;
     }
 
 pub next_sibling-next-requires : goal.next_sibling-next-requires
@@ -165,9 +165,9 @@ invariant_of-self g c =
     let t = c.loop-next.invariant.telling in
     let me = there _ c.requires.there in
     let parent = c.requires.parent me.what me.found in
-    subst (λ (s : State). IsMachine s m.pids m.order c.insert-3.new.self c.move_children.new.self) (sym (departed t _ c.adopt.ensures.contents))
+    subst (λ (s : State). IsMachine s m.pids m.order c.insert-3.new.self c.move_children.new.self c.remove.new.self m.next_alarm) (sym (departed t _ c.adopt.ensures.contents))
     (machine_departed t me.what me.found c.insert-3.new.self (c.insert-3.ensures.pids ∙ ap (λ n. with_number n m.to_ask.pids) parent) c.insert-3.ensures.room
-    c.insert-4.new.self c.move_children.new.self (λ q d. c.insert-4.ensures.pairs q d ∙ ap (λ n. q == n && d == c.args.pid || is_child_in q d m.reporting.pairs) parent) c.insert-4.ensures.rising c.insert-4.ensures.room c.move_children.ensures.pairs c.move_children.ensures.rising c.move_children.ensures.room)
+    c.insert-4.new.self c.move_children.new.self (λ q d. c.insert-4.ensures.pairs q d ∙ ap (λ n. q == n && d == c.args.pid || is_child_in q d m.reporting.pairs) parent) c.insert-4.ensures.rising c.insert-4.ensures.room c.move_children.ensures.pairs c.move_children.ensures.rising c.move_children.ensures.room c.remove.new.self c.remove.ensures.pids c.remove.ensures.room)
 
 pub returns-clause-state : goal.returns-clause-state
 returns-clause-state g c =

@@ -10,7 +10,7 @@ invariant-loop-next g l =
     let rs = g.K.Kin.contents m.table in
     let first = l.fn.self.state.processes in
     record {
-      telling : IsTelling l.fn.self.state (state_of m.world rs m.pids m.order m.births m.ticks m.dropped m.halted) m.pids m.order m.to_ask m.reporting l.fn.pid l.fn.heir l.fn.status l.next;
+      telling : IsTelling l.fn.self.state (state_of m.world rs m.pids m.order m.births m.ticks m.dropped m.halted) m.pids m.order m.to_ask m.reporting m.alarmed m.next_alarm l.fn.pid l.fn.heir l.fn.status l.next;
       fewer : HasFewer first rs;
       read : g.K.Kin.reads m.table + 8 * kids_left rs l.fn.pid l.next ≤ l.fn.self.reads + 2 + 8 * length (children_in l.fn.pid first);
     }

@@ -4,6 +4,7 @@ use Rattle.posix.proofs.RegularLemmas.{regular_halt}
 use Rattle.proctable.proofs.Bodies.{changed_body}
 use Rattle.life.proofs.SoundLemmas.{is_there, length_halted, parents_halted, kept_halted}
 use Rattle.life.proofs.AskLemmas.{has_room, listed_halted}
+use Rattle.life.proofs.TimedLemmas.{timed_halted}
 use Rattle.life.proofs.ReportedLemmas.{reported_halted, reported_room}
 use Rattle.life.proofs.machine.Machine.halt.Goals as goal
 
@@ -28,6 +29,7 @@ invariant_of-self g c =
       };
       listed = listed_halted _ c.args.status _ _ c.self.invariant.sound.regular c.self.invariant.listed c.insert.ensures.pids c.insert.ensures.room;
       reported = reported_halted _ c.args.status _ _ _ c.self.invariant.sound.regular.first.what c.self.invariant.sound.regular.first.found c.self.invariant.sound.regular.first.parent c.self.invariant.reported c.insert-2.ensures.pairs c.insert-2.ensures.rising c.insert-2.ensures.room;
+      timed = timed_halted _ c.args.status _ _ _ c.self.invariant.sound.regular.first.what c.self.invariant.sound.regular.first.found c.self.invariant.timed;
     }
 
 pub returns-clause-state : goal.returns-clause-state

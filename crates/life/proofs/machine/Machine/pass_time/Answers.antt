@@ -1,15 +1,21 @@
-use Rattle.std.proofs.Common.{refl, []}
+use Rattle.std.proofs.Common.{◌+◌, refl, [], ap, sym, ◌∙◌, subst}
+use Rattle.posix.specs.States.{State}
+use Rattle.posix.specs.Regular.{IsRegular}
 use Rattle.posix.proofs.MemberLemmas.{in_none}
-use Rattle.posix.proofs.RegularLemmas.{regular_as}
+use Rattle.posix.proofs.RegularLemmas.{regular_pass}
 use Rattle.posix.proofs.TouchLemmas.{touches_none}
 use Rattle.life.proofs.AskLemmas.{listed_same}
+use Rattle.life.proofs.ViewLemmas.{state_is}
 use Rattle.life.proofs.machine.Machine.pass_time.Goals as goal
 
 pub invariant_of-self : goal.invariant_of-self
 invariant_of-self g c =
-    let i = c.self.invariant.sound in
+    let i = c.self.invariant in
+    let old = c.args.self.now.state in
+    let is = ap (λ (s : State). record s { ticks = s.ticks + 1 }) (state_is c.self.view_is ∙ c.ring_all.ensures.state) in
     record {
-      sound = record { regular = regular_as _ _ refl refl refl i.regular; parents = i.parents; counted = i.counted; kept = i.kept };
-      listed = listed_same _ _ _ [] c.self.invariant.listed (touches_none _ _ refl refl) refl (λ q e. e) (λ q there e. absurd (in_none q e));
-      reported = c.self.invariant.reported;
+      sound = record { regular = subst IsRegular (sym is) (regular_pass old c.ring_all.ensures.regular); parents = i.sound.parents; counted = i.sound.counted; kept = i.sound.kept };
+      listed = listed_same _ _ _ [] i.listed (touches_none _ _ refl refl) refl (λ q e. e) (λ q there e. absurd (in_none q e));
+      reported = i.reported;
+      timed = i.timed;
     }

@@ -10,6 +10,7 @@ use Rattle.life.proofs.SoundLemmas.{found_in, sound_change, here_in}
 use Rattle.life.proofs.AskLemmas.{has_room, listed_change}
 use Rattle.life.proofs.CodeLemmas.{code_is, get_some, get_none, no_burst, same_cpu}
 use Rattle.life.proofs.ReportedLemmas.{reported_unseen}
+use Rattle.life.proofs.TimedLemmas.{timed_change, untimed_set_cpu}
 use Rattle.life.proofs.ViewLemmas.{state_is}
 use Rattle.life.proofs.machine.Machine.run_until.Goals as goal
 
@@ -19,9 +20,10 @@ ask-requires g c = has_room _ _ c.self.invariant.sound.regular c.self.invariant.
 pub invariant_of-self : goal.invariant_of-self
 invariant_of-self g c =
     rw (g.met.K.Kin.puts _ _ _, run_body _ c.update.ensures.rising c.args.pid c.update.result.now c.run_until.new.self c.update.ensures.value) (record {
-      sound = sound_change c.args.pid _ (keeps_set_cpu _) _ _ _ c.self.invariant.sound;
-      listed = listed_change _ c.args.pid _ _ _ c.self.invariant.listed (keeps_set_cpu _).pid (touches_unseen _ c.args.pid _ (unseen_set_cpu _)) (here_in c.args.pid (state_is c.self.view_is) c.requires.there) c.ask.ensures.pids c.ask.ensures.room;
+      sound = sound_change c.args.pid _ _ (keeps_set_cpu _) _ _ c.self.invariant.sound;
+      listed = listed_change _ c.args.pid _ _ _ c.self.invariant.listed (keeps_set_cpu {now = 0} _).pid (touches_unseen _ c.args.pid _ (unseen_set_cpu _)) (here_in c.args.pid (state_is c.self.view_is) c.requires.there) c.ask.ensures.pids c.ask.ensures.room;
       reported = reported_unseen _ c.args.pid _ (unseen_set_cpu _) _ _ (here_in c.args.pid (state_is c.self.view_is) c.requires.there) c.self.invariant.reported;
+      timed = timed_change _ c.args.pid _ (untimed_set_cpu _) _ _ _ (here_in c.args.pid (state_is c.self.view_is) c.requires.there) c.self.invariant.timed;
     })
 
 pub returns-in-Some-clause-count : goal.returns-in-Some-clause-count

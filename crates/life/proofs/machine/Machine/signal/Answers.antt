@@ -6,6 +6,7 @@ use Rattle.posix.proofs.TouchLemmas.{touches_unseen, unseen_signalled}
 use Rattle.life.proofs.SoundLemmas.{sound_change, here_in}
 use Rattle.life.proofs.AskLemmas.{has_room, listed_change}
 use Rattle.life.proofs.ReportedLemmas.{reported_unseen}
+use Rattle.life.proofs.TimedLemmas.{timed_change, untimed_signalled}
 use Rattle.life.proofs.ViewLemmas.{state_is}
 use Rattle.life.proofs.machine.Machine.signal.Goals as goal
 
@@ -16,9 +17,10 @@ pub invariant_of-self : goal.invariant_of-self
 invariant_of-self g c =
     let contents = g.met.K.Kin.puts c.self.inside.table c.args.pid c.signal.new.self ∙ changed_here _ c.update.ensures.rising c.args.pid c.update.result.now c.signal.new.self (signalled c.args.signal) c.update.ensures.value c.signal.ensures.state in
     rw contents (record {
-      sound = sound_change c.args.pid _ (keeps_signalled c.args.signal) _ _ _ c.self.invariant.sound;
-      listed = listed_change _ c.args.pid (signalled c.args.signal) _ _ c.self.invariant.listed (keeps_signalled c.args.signal).pid (touches_unseen _ c.args.pid (signalled c.args.signal) (unseen_signalled c.args.signal)) (here_in c.args.pid (state_is c.self.view_is) c.requires) c.ask.ensures.pids c.ask.ensures.room;
+      sound = sound_change c.args.pid _ _ (keeps_signalled c.args.signal) _ _ c.self.invariant.sound;
+      listed = listed_change _ c.args.pid (signalled c.args.signal) _ _ c.self.invariant.listed (keeps_signalled {now = 0} c.args.signal).pid (touches_unseen _ c.args.pid (signalled c.args.signal) (unseen_signalled c.args.signal)) (here_in c.args.pid (state_is c.self.view_is) c.requires) c.ask.ensures.pids c.ask.ensures.room;
       reported = reported_unseen _ c.args.pid _ (unseen_signalled c.args.signal) _ _ (here_in c.args.pid (state_is c.self.view_is) c.requires) c.self.invariant.reported;
+      timed = timed_change _ c.args.pid _ (untimed_signalled c.args.signal) _ _ _ (here_in c.args.pid (state_is c.self.view_is) c.requires) c.self.invariant.timed;
     })
 
 pub returns-clause-state : goal.returns-clause-state

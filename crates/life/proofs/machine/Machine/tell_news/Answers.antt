@@ -13,6 +13,7 @@ use Rattle.life.specs.Asking.{asking}
 use Rattle.life.proofs.SoundLemmas.{sound_change, here_in, there, facts_are, none_read}
 use Rattle.life.proofs.AskLemmas.{has_room, listed_change}
 use Rattle.life.proofs.ReportedLemmas.{reported_no_news, reported_dead}
+use Rattle.life.proofs.TimedLemmas.{timed_change, untimed_news_told}
 use Rattle.life.proofs.ViewLemmas.{state_is}
 use Rattle.life.proofs.machine.Machine.tell_news.Goals as goal
 
@@ -36,9 +37,10 @@ invariant_of-self g c =
     let living = sym (ap (λ (f : Facts). is_zombie f.life) facts) ∙ ⊎_elim (ap is_zombie) (ap is_zombie) c.in-Running.is in
     let contents = g.met.K.Kin.puts c.get.new.self c.args.pid c.tell_news.new.self ∙ changed_body _ c.update.ensures.rising c.args.pid c.update.result.now c.tell_news.new.self news_told c.update.ensures.value c.tell_news.ensures in
     rw (contents, c.get.ensures.contents) (record {
-      sound = sound_change c.args.pid _ keeps_news_told _ _ _ c.self.invariant.sound;
-      listed = listed_change _ c.args.pid news_told _ _ c.self.invariant.listed keeps_news_told.pid (touches_told _ c.args.pid) here c.ask.ensures.pids c.ask.ensures.room;
+      sound = sound_change c.args.pid _ _ keeps_news_told _ _ c.self.invariant.sound;
+      listed = listed_change _ c.args.pid news_told _ _ c.self.invariant.listed (keeps_news_told {now = 0}).pid (touches_told _ c.args.pid) here c.ask.ensures.pids c.ask.ensures.room;
       reported = reported_no_news _ c.args.pid _ _ _ it.what it.found living c.self.invariant.reported (λ q d. c.remove.ensures.pairs q d ∙ ap (λ (f : Facts). not (q == f.parent && d == c.args.pid) && is_child_in q d c.self.inside.reporting.pairs) facts) c.remove.ensures.rising c.remove.ensures.room;
+      timed = timed_change _ c.args.pid news_told untimed_news_told _ _ _ here c.self.invariant.timed;
     })
 
 pub invariant_of-self-in_default-life : goal.invariant_of-self-in_default-life
@@ -49,9 +51,10 @@ invariant_of-self-in_default-life g c =
     let dead = sym (ap (λ (f : Facts). is_zombie f.life) facts) ∙ ap is_zombie c.in_default-life.is in
     let contents = g.met.K.Kin.puts c.get.new.self c.args.pid c.tell_news.new.self ∙ changed_body _ c.update.ensures.rising c.args.pid c.update.result.now c.tell_news.new.self news_told c.update.ensures.value c.tell_news.ensures in
     rw (contents, c.get.ensures.contents) (record {
-      sound = sound_change c.args.pid _ keeps_news_told _ _ _ c.self.invariant.sound;
-      listed = listed_change _ c.args.pid news_told _ _ c.self.invariant.listed keeps_news_told.pid (touches_told _ c.args.pid) here c.ask.ensures.pids c.ask.ensures.room;
+      sound = sound_change c.args.pid _ _ keeps_news_told _ _ c.self.invariant.sound;
+      listed = listed_change _ c.args.pid news_told _ _ c.self.invariant.listed (keeps_news_told {now = 0}).pid (touches_told _ c.args.pid) here c.ask.ensures.pids c.ask.ensures.room;
       reported = reported_dead _ c.args.pid _ _ it.what it.found dead c.self.invariant.reported;
+      timed = timed_change _ c.args.pid news_told untimed_news_told _ _ _ here c.self.invariant.timed;
     })
 
 pub returns-in-Running : goal.returns-in-Running
