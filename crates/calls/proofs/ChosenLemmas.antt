@@ -13,7 +13,8 @@ use Rattle.posix.specs.SignalNumbers.{KILL}
 use Rattle.posix.specs.Processes.{Process, Signals, is_running, is_zombie}
 use Rattle.posix.specs.Tables.{lookup, changed, at, pids}
 use Rattle.posix.specs.States.{State}
-use Rattle.posix.specs.Generation.{is_pending, signalled_all}
+use Rattle.posix.specs.Generation.{is_pending}
+use Rattle.posix.specs.Notices.{signalled_all}
 use Rattle.posix.specs.Choice.{chosen, least_ready, is_ready, taken}
 use Rattle.posix.specs.Settle.{can_act, can_go_on}
 use Rattle.posix.specs.Statuses.{killed}

@@ -1,5 +1,5 @@
 -- What a delivery comes to, by what was found on the way.
-use Rattle.std.proofs.Common.{◌≡◌, ℕ, Bool, true, false, cond, refl, ap, sym, ◌∙◌, List, [], ◌∷◌, ◌++◌, Some, ◌==◌, ℤ, inl, inr, ◌⊎◌}
+use Rattle.std.proofs.Common.{◌≡◌, ℕ, Bool, true, false, cond, not, ◌&&◌, refl, ap, sym, ◌∙◌, List, [], ◌∷◌, ◌++◌, Some, ◌==◌, ℤ, inl, inr, ◌⊎◌}
 use Rattle.posix.specs.declared.sig.DefaultAction.{DefaultAction}
 use Rattle.posix.specs.declared.sig.DefaultAction.TheVariants as default
 use Rattle.posix.specs.declared.entry.Entry.{Entry}
@@ -15,10 +15,12 @@ use Rattle.posix.specs.Processes.{Process}
 use Rattle.posix.specs.States.{State, process, change}
 use Rattle.posix.specs.Outcomes.{Outcome}
 use Rattle.posix.specs.Generation.{action}
+use Rattle.posix.specs.Notices.{told_of_change}
+use Rattle.posix.specs.Groups.{is_orphaned}
 use Rattle.posix.specs.Choice.{carried_by}
 use Rattle.posix.specs.Handlers.{handles, is_full, newest_frame, returned}
 use Rattle.posix.specs.Ends.{end_process, halt, depart, notice_of_end, tell_of_all, zombies_of}
-use Rattle.posix.specs.Delivery.{interruption, handle, discard, act_by_default, act_on, take_out, deliver, return_to, return_from_handler}
+use Rattle.posix.specs.Delivery.{interruption, handle, discard, stop_process, stop_or_discard, act_by_default, act_on, take_out, deliver, return_to, return_from_handler}
 use Rattle.posix.proofs.RegularLemmas.{keeps_handles}
 use Rattle.calls.proofs.CallLemmas.{outcome_of, same_outcome}
 use Rattle.calls.proofs.ChosenLemmas.{handle_taken, end_taken, changed_there}
@@ -88,7 +90,7 @@ defaults s me n d = cond (me.pid == 1) (discard s me.pid n) (act_by_default s me
 
 -- the same, whether the signal was taken out or not
 default_taken : (s : State) (me : Process) (n : ℕ) (d : DefaultAction) → defaults s (take_out n me) n d ≡ defaults s me n d
-unfolding take_out
+unfolding take_out stop_process told_of_change
 default_taken s me n default.Terminate = ap (λ x. cond (me.pid == 1) (discard s me.pid n) x) (end_taken s me n (killed n))
 default_taken s me n default.Ignore = refl
 default_taken s me n default.Stop = refl
@@ -111,6 +113,14 @@ default_ends s me n u es other ends st en =
     ∙ ap (act_by_default s me n) ends
     ∙ same_outcome (end_process s me (killed n)).state u (end_process s me (killed n)).entries es (sym st) (sym en)
 
+-- a stop by default
+pub default_stops : (s : State) (me : Process) (n : ℕ) → (me.pid == 1) ≡ false → default_action n ≡ default.Stop → defaults s me n (default_action n) ≡ stop_or_discard s me n
+default_stops s me n other stops = ap (λ b. cond b (discard s me.pid n) (act_by_default s me n (default_action n))) other ∙ ap (act_by_default s me n) stops
+
+-- where the group is orphaned, and the signal isn't STOP, it has no effect
+pub stop_if : (s : State) (me : Process) (n : ℕ) (b : Bool) → (not (n == 19) && is_orphaned me.group s.processes) ≡ b → stop_or_discard s me n ≡ cond b (discard s me.pid n) (stop_process s me n)
+stop_if s me n b e = ap (λ b. cond b (discard s me.pid n) (stop_process s me n)) e
+
 -- ---- a return
 
 -- of the newest handler
@@ -129,11 +139,10 @@ shown_alone old new e none is = sym (is ∙ ap (λ (l : List Entry). l ++ e ∷ 
 pub by_default_if : (s : State) (me : Process) (n : ℕ) (b : Bool) → (me.pid == 1) ≡ b → defaults s me n (default_action n) ≡ cond b (discard s me.pid n) (act_by_default s me n (default_action n))
 by_default_if s me n b e = ap (λ b. cond b (discard s me.pid n) (act_by_default s me n (default_action n))) e
 
--- a default other than an end has no effect
-pub default_rests : (s : State) (me : Process) (n : ℕ) (d e : DefaultAction) → d ≡ e → (d ≡ default.Ignore) ⊎ ((d ≡ default.Stop) ⊎ (d ≡ default.Continue)) → act_by_default s me n e ≡ discard s me.pid n
+-- a default other than an end and a stop has no effect
+pub default_rests : (s : State) (me : Process) (n : ℕ) (d e : DefaultAction) → d ≡ e → (d ≡ default.Ignore) ⊎ (d ≡ default.Continue) → act_by_default s me n e ≡ discard s me.pid n
 default_rests s me n d e same (inl is) = ap (act_by_default s me n) (sym same ∙ is)
-default_rests s me n d e same (inr (inl is)) = ap (act_by_default s me n) (sym same ∙ is)
-default_rests s me n d e same (inr (inr is)) = ap (act_by_default s me n) (sym same ∙ is)
+default_rests s me n d e same (inr is) = ap (act_by_default s me n) (sym same ∙ is)
 
 -- who is there is there after a change
 pub there_then : (s t : State) (p : ℕ) (f : Process → Process) → ((r : Process) → (f r).pid ≡ r.pid) → t ≡ change s p f → (me : Process) → process s p ≡ Some me → process t p ≡ Some (f me)

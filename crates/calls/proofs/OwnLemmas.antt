@@ -6,12 +6,13 @@ use Rattle.posix.specs.declared.entry.Entry.{Entry}
 use Rattle.posix.specs.Processes.{Process}
 use Rattle.posix.specs.Attempts.{attempt}
 use Rattle.posix.specs.States.{State, process, change}
-use Rattle.posix.specs.Regular.{IsRegular}
+use Rattle.posix.specs.Regular.{IsRegular, IsPlaced}
 use Rattle.posix.specs.Outcomes as outcome
 use Rattle.posix.proofs.TableLemmas.{pid_looked}
 use Rattle.proctable.specs.declared.own.Own.{Own}
 use Rattle.proctable.specs.Body.{own_of, give_own}
 use Rattle.life.proofs.LoanLemmas.{was_written, own_is}
+use Rattle.calls.proofs.ChosenLemmas.{changed_there}
 use Rattle.calls.specs.Outcomes.{Comes, Answers, with_own}
 use Rattle.posix.proofs.ReportLemmas.{some_changed}
 
@@ -30,6 +31,10 @@ of_own P s p o me h e x = subst P (own_process s p o me h e) x
 -- who is there is there after a loan
 pub there_lent : (s : State) (p : ℕ) (w : Own) → IsSome (process s p) → IsSome (process (change s p (give_own w)) p)
 there_lent s p w h = some_changed p p (give_own w) (λ r. refl) s.processes h
+
+-- and who is no zombie still is none
+pub placed_lent : (s : State) (p : ℕ) (w : Own) → IsPlaced s.processes p → IsPlaced (change s p (give_own w)).processes p
+placed_lent s p w h = record { what = give_own w h.what; found = changed_there p (give_own w) (λ r. refl) s.processes h.what h.found; living = h.living }
 
 -- a call that was answered through a loan
 pub answered : (s : State) (p : ℕ) (o w : Own) (me : Process) (call : Call) (xs ys : List Entry) → IsRegular s → IfSome (process s p) (λ r. o ≡ own_of r) → process s p ≡ Some me

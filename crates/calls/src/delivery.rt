@@ -1,10 +1,12 @@
 //! Delivery of signals, machine faults, and returns from handlers.
 
-ghost use Rattle.std.specs.Prelude.{◌≡◌, ◌==◌, ◌≤◌, ◌++◌, [], IsSome, Some, length, if◌then◌else◌};
+ghost use Rattle.std.specs.Prelude.{◌≡◌, ◌==◌, ◌&&◌, not, ◌≤◌, ◌++◌, [], IsSome, Some, length, if◌then◌else◌};
 ghost use Rattle.posix.specs.Processes.{Process};
 ghost use Rattle.posix.specs.States.{process};
+ghost use Rattle.posix.specs.Regular.{IsPlaced};
+ghost use Rattle.posix.specs.Groups.{is_orphaned};
 ghost use Rattle.posix.specs.Ends.{end_process};
-ghost use Rattle.posix.specs.Delivery.{call_of as call_in, interruption as interruption_of, handle as handling, discard as discarding, act_by_default as acting_by_default, deliver as delivering, fault as faulting, return_from_handler as returning};
+ghost use Rattle.posix.specs.Delivery.{call_of as call_in, interruption as interruption_of, handle as handling, discard as discarding, stop_or_discard, act_by_default as acting_by_default, deliver as delivering, fault as faulting, return_from_handler as returning};
 ghost use Rattle.posix.specs.SignalNumbers.{default_action};
 
 use crate::entries::Entries;
@@ -91,9 +93,40 @@ fn handle<K: Kin>(
     }
 }
 
-/// The default action for a signal of a process that is there. It has no effect on process 1 (kill(2)).
+/// Whether a stop signal has no effect on a process that is there: it isn't STOP, and the process group is
+/// orphaned (XSH 2.4.3).
+fn is_stop_discarded<K: Kin>(machine: &mut Machine<K>, pid: Pid, sig: Sig) -> bool
+    ensures value { (me : Process) → process machine.old.state pid ≡ Some me → result ≡ (not (sig == 19) && is_orphaned me.group machine.old.state.processes) }
+    ensures same { machine.new.state ≡ machine.old.state }
+{
+    if sig == Sig::STOP {
+        return false;
+    }
+    match machine.facts(pid) {
+        Some(facts) => machine.is_orphaned(facts.group),
+        None => false,
+    }
+}
+
+/// A signal whose default action is to stop comes to a process that is there and no zombie. Where its process
+/// group is orphaned only STOP stops it (XSH 2.4.3).
+fn stop<K: Kin>(machine: &mut Machine<K>, pid: Pid, sig: Sig, entries: &mut Entries)
+    requires placed { IsPlaced machine.old.state.processes pid }
+    requires none { entries.old.items ≡ [] }
+    ensures { (me : Process) → process machine.old.state pid ≡ Some me → stop_or_discard machine.old.state me sig ≡ record { state = machine.new.state; entries = entries.new.items } }
+{
+    if is_stop_discarded(machine, pid, sig) {
+        entries.push(Entry::Discarded { pid, sig });
+    } else {
+        machine.stop_process(pid, sig);
+        entries.push(Entry::Stopped { pid, sig });
+    }
+}
+
+/// The default action for a signal of a process that is there and no zombie. It has no effect on process 1
+/// (kill(2)).
 fn act_by_default<K: Kin>(machine: &mut Machine<K>, pid: Pid, sig: Sig, entries: &mut Entries)
-    requires there { IsSome (process machine.old.state pid) }
+    requires placed { IsPlaced machine.old.state.processes pid }
     requires none { entries.old.items ≡ [] }
     ensures { (me : Process) → process machine.old.state pid ≡ Some me → (if me.pid == 1 then discarding machine.old.state me.pid sig else acting_by_default machine.old.state me sig (default_action sig)) ≡ record { state = machine.new.state; entries = entries.new.items } }
 {
@@ -103,16 +136,17 @@ fn act_by_default<K: Kin>(machine: &mut Machine<K>, pid: Pid, sig: Sig, entries:
     }
     match sig.default_action() {
         DefaultAction::Terminate => end(machine, pid, Status::killed(sig), entries),
-        DefaultAction::Ignore | DefaultAction::Stop | DefaultAction::Continue => {
+        DefaultAction::Stop => stop(machine, pid, sig, entries),
+        DefaultAction::Ignore | DefaultAction::Continue => {
             entries.push(Entry::Discarded { pid, sig });
         }
     }
 }
 
-/// A pending signal of a process that is there is taken out, and its action done.
+/// A pending signal of a process that is there and no zombie is taken out, and its action done.
 #[tactic(auto, unfolding(posix::specs::Delivery::deliver))]
 pub fn deliver<K: Kin>(machine: &mut Machine<K>, pid: Pid, sig: Sig, entries: &mut Entries)
-    requires there { IsSome (process machine.old.state pid) }
+    requires placed { IsPlaced machine.old.state.processes pid }
     requires none { entries.old.items ≡ [] }
     ensures { (me : Process) → process machine.old.state pid ≡ Some me → delivering machine.old.state me sig ≡ record { state = machine.new.state; entries = entries.new.items } }
 {

@@ -52,12 +52,12 @@ pub fn answer(own: &mut Own, pid: Pid, call: Call, value: i64, entries: &mut Ent
 
 // ---- arguments
 
-/// The signal that a register names: 1 to 31 but 18 to 22, as yet.
+/// The signal that a register names: 1 to 31, the standard ones, as yet.
 pub fn signal_in(number: i64) -> Option<Sig>
     ensures { result ≡ signal_number_in number }
 {
     match number {
-        1..=17 | 23..=31 => Sig::new(number as u8),
+        1..=31 => Sig::new(number as u8),
         _ => None,
     }
 }

@@ -111,6 +111,58 @@ sys sigreturn
 end
 ";
 
+const STOP_AND_CONTINUE: &[u8] = b"\
+pidmax 40
+consoles 1
+program init
+sys fork
+jz r0, kid
+set r1, 2
+set r2, 19
+sys kill
+set r2, 2
+sys waitpid
+set r1, 2
+set r2, 15
+sys kill
+set r2, 18
+sys kill
+set r2, 8
+sys waitpid
+set r1, 2
+set r2, 0
+sys waitpid
+kid:
+jmp kid
+end
+";
+
+const KILL_WHILE_STOPPED: &[u8] = b"\
+pidmax 40
+consoles 1
+program init
+sys fork
+jz r0, kid
+set r1, 2
+set r2, 19
+sys kill
+set r2, 2
+sys waitpid
+set r1, 2
+set r2, 15
+sys kill
+set r2, 9
+sys kill
+set r2, 8
+sys waitpid
+set r1, 2
+set r2, 0
+sys waitpid
+kid:
+jmp kid
+end
+";
+
 #[test]
 fn ignored_children_are_dropped(rt: HostRuntime) {
     let dropped = Summary {
@@ -195,4 +247,37 @@ fn ignored_children_are_not_reported(rt: HostRuntime) {
 "
         .as_slice();
     expect_run(&rt, CHILDREN_IGNORED, b"step 15\n", trace, b"", 0);
+}
+
+#[test]
+fn a_stopped_process_takes_no_signal_before_it_is_continued(rt: HostRuntime) {
+    let trace = b"\
+1 call 1 fork = 2
+5 call 1 kill = 0
+8 stop 2 19
+9 call 1 waitpid = 2 status 4991
+12 call 1 kill = 0
+14 call 1 kill = 0
+16 call 1 waitpid = 2 status 65535
+20 end 2 15
+21 call 1 waitpid = 2 status 15
+"
+        .as_slice();
+    expect_run(&rt, STOP_AND_CONTINUE, b"step 21\n", trace, b"", 0);
+}
+
+#[test]
+fn a_stopped_process_is_killed(rt: HostRuntime) {
+    let trace = b"\
+1 call 1 fork = 2
+5 call 1 kill = 0
+8 stop 2 19
+9 call 1 waitpid = 2 status 4991
+12 call 1 kill = 0
+14 call 1 kill = 0
+17 end 2 9
+18 call 1 waitpid = 2 status 9
+"
+        .as_slice();
+    expect_run(&rt, KILL_WHILE_STOPPED, b"step 18\n", trace, b"", 0);
 }

@@ -1,5 +1,5 @@
 -- What a refused call changes.
-use Rattle.std.proofs.Common.{◌≡◌, ◌≢◌, ℕ, zero, suc, Bool, true, false, cond, refl, ap, sym, ◌∙◌, arith, subst, List, [], ◌∷◌, ◌++◌, Option, Some, None, option_and_then, ◌==◌, Contains, pos, negsuc, ℤ, Result, Ok, Err, nat_le}
+use Rattle.std.proofs.Common.{◌≡◌, ◌≢◌, ℕ, zero, suc, Bool, true, false, cond, not, ◌&&◌, refl, ap, sym, ◌∙◌, arith, subst, List, [], ◌∷◌, ◌++◌, Option, Some, None, option_and_then, ◌==◌, Contains, pos, negsuc, ℤ, Result, Ok, Err}
 use Rattle.std.specs.Int.{cast_unsigned, w64}
 use Rattle.std.specs.List.{AllByRecursion}
 use Rattle.posix.specs.declared.call.Call.{Call}
@@ -11,7 +11,7 @@ use Rattle.posix.specs.declared.event.Event.TheVariants.{Step, Tick}
 use Rattle.posix.specs.declared.errno.Errno.{Errno}
 use Rattle.posix.specs.declared.errno.Errno.TheVariants.{EPERM, ENOENT, ESRCH, EINTR, EIO, ECHILD, EAGAIN, EACCES, EFAULT, EINVAL, ENOTTY}
 use Rattle.posix.specs.declared.entry.Entry.{Entry}
-use Rattle.posix.specs.declared.entry.Entry.TheVariants.{Noted, Called, Reported, NoMemory, Handled, Discarded, Returned, Ended, Halted}
+use Rattle.posix.specs.declared.entry.Entry.TheVariants.{Noted, Called, Reported, NoMemory, Handled, Discarded, Stopped, Returned, Ended, Halted}
 use Rattle.posix.specs.declared.how.How.{How}
 use Rattle.posix.specs.declared.sig.DefaultAction.{DefaultAction}
 use Rattle.posix.specs.declared.sig.DefaultAction.TheVariants as default
@@ -27,23 +27,24 @@ use Rattle.posix.specs.declared.process.Report.TheVariants as found
 use Rattle.posix.specs.declared.process.Sending.{Sending}
 use Rattle.posix.specs.declared.process.Sending.TheVariants as sends
 use Rattle.posix.specs.declared.target.Target.{Target}
-use Rattle.posix.specs.SignalNumbers.{KILL, SEGV, default_action}
+use Rattle.posix.specs.SignalNumbers.{KILL, SEGV, STOP, default_action}
 use Rattle.posix.specs.SignalSets.{has}
 use Rattle.posix.specs.Statuses.{exited, killed}
 use Rattle.posix.specs.Processes.{Process, Signals, Credentials, Cpu, argument}
 use Rattle.posix.specs.Tables.{IsRising, lookup}
 use Rattle.posix.specs.States.{State, is_in, change, current, next_pid, process}
 use Rattle.posix.specs.Execute.{exec_one}
-use Rattle.posix.specs.Outcomes.{Outcome, Attempted, Done, Block, finish, finished, refusal, refused, Reply, answers, refusing}
+use Rattle.posix.specs.Outcomes.{Outcome, Attempted, Done, Block, finish, finished, refusal, refused, Reply, answers}
 use Rattle.posix.specs.Credentials.{setuid, seteuid, setgid, setegid}
 use Rattle.posix.specs.Generation.{action, is_pending}
+use Rattle.posix.specs.Groups.{is_orphaned}
 use Rattle.posix.specs.Choice.{chosen, carried_by, from_kernel}
 use Rattle.posix.specs.Handlers.{handles, is_full, is_interrupted, newest_frame, set_action}
 use Rattle.posix.specs.Births.{fork_as}
 use Rattle.posix.specs.Ends.{end_process}
 use Rattle.posix.specs.Targets.{target_in}
 use Rattle.posix.specs.Waits.{wait, wait_with, report, options_in, are_known, has_option}
-use Rattle.posix.specs.Delivery.{call_of, interruption, handle, act_by_default, act_on, take_out, deliver, fault_with, fault, return_to, return_from_handler}
+use Rattle.posix.specs.Delivery.{call_of, interruption, handle, stop_process, act_by_default, act_on, take_out, deliver, fault_with, fault, return_to, return_from_handler}
 use Rattle.posix.specs.Sends.{sending, send_with, signal_in, signal_or_none, kill_with, kill}
 use Rattle.posix.specs.SignalCalls.{set_credentials, is_question, are_flags, action_in, sigaction_with, sigaction_of, sigaction, how_in, sigprocmask_with, sigprocmask, sigpending}
 use Rattle.posix.specs.Alarms.{ticks_in, alarm_in, alarm}
@@ -74,6 +75,7 @@ Explained C s p new (Reported q child status) = Unit {0}
 Explained C s p new (NoMemory q call) = C.wanting × (q ≡ p) × (new ≡ finish s p ((0, refusal EAGAIN) ∷ []))
 Explained C s p new (Handled q sig value sender) = Unit {0}
 Explained C s p new (Discarded q sig) = Unit {0}
+Explained C s p new (Stopped q sig) = Unit {0}
 Explained C s p new (Returned q) = Unit {0}
 Explained C s p new (Ended q status) = Unit {0}
 Explained C s p new Halted = Unit {0}
@@ -262,11 +264,16 @@ none_handle s r signal address =
     (none_append first _ told (none_end (change s r.pid (handles signal address)) r (killed SEGV)))
     (none_append first _ told (λ granted s new p. (tt, tt)))
 
+-- a stop
+none_stop : (s : State) (r : Process) (n : ℕ) → NoRefusal (stop_process s r n).entries
+unfolding stop_process
+none_stop s r n = λ granted s new p. (tt, tt)
+
 -- a default action
 none_default : (s : State) (r : Process) (n : ℕ) (a : DefaultAction) → NoRefusal (act_by_default s r n a).entries
 none_default s r n default.Terminate = none_end s r (killed n)
 none_default s r n default.Ignore = λ granted s new p. (tt, tt)
-none_default s r n default.Stop = λ granted s new p. (tt, tt)
+none_default s r n default.Stop = none_either (not (n == STOP) && is_orphaned r.group s.processes) _ _ (λ granted s new p. (tt, tt)) (none_stop s r n)
 none_default s r n default.Continue = λ granted s new p. (tt, tt)
 
 -- the action of a signal
@@ -412,6 +419,7 @@ Told granted s new (Reported q child status) = Unit {0}
 Told granted s new (NoMemory q call) = (granted ≡ false) × (current s ≡ Some q) × (new ≡ finish s q ((0, refusal EAGAIN) ∷ []))
 Told granted s new (Handled q sig value sender) = Unit {0}
 Told granted s new (Discarded q sig) = Unit {0}
+Told granted s new (Stopped q sig) = Unit {0}
 Told granted s new (Returned q) = Unit {0}
 Told granted s new (Ended q status) = Unit {0}
 Told granted s new Halted = Unit {0}
@@ -425,6 +433,7 @@ told granted s p new (Reported q child status) first h = tt
 told granted s p new (NoMemory q call) first h = (h.0, first ∙ ap Some (sym h.1), h.2 ∙ ap (λ m. finish s m ((0, refusal EAGAIN) ∷ [])) (sym h.1))
 told granted s p new (Handled q sig value sender) first h = tt
 told granted s p new (Discarded q sig) first h = tt
+told granted s p new (Stopped q sig) first h = tt
 told granted s p new (Returned q) first h = tt
 told granted s p new (Ended q status) first h = tt
 told granted s p new Halted first h = tt

@@ -1,5 +1,5 @@
 -- Each event keeps a state regular.
-use Rattle.std.proofs.Common.{◌≡◌, ◌≢◌, ℕ, ◌+◌, ◌≤◌, Bool, true, false, refl, ap, sym, ◌∙◌, subst, List, [], ◌∷◌, ◌++◌, map, filter, Option, Some, None, option_and_then, ◌==◌, ℤ, pos, inl, inr, Result, Ok, Err, nat_le, arith, negsuc}
+use Rattle.std.proofs.Common.{◌≡◌, ◌≢◌, ℕ, ◌+◌, ◌≤◌, Bool, true, false, not, ◌&&◌, refl, ap, sym, ◌∙◌, subst, List, [], ◌∷◌, ◌++◌, map, filter, Option, Some, None, option_and_then, ◌==◌, ℤ, pos, inl, inr, Result, Ok, Err, nat_le, negsuc}
 use Rattle.std.specs.Int.{cast_unsigned, w64}
 use Rattle.std.specs.List.{AllByRecursion}
 use Rattle.std.proofs.lemmas.Bool.{eqb-true, eqb-false, eq-eqb, cond_both, or_cases, or_from, false_from_ne_true, leb-true}
@@ -27,7 +27,7 @@ use Rattle.posix.specs.declared.process.Report.TheVariants as found
 use Rattle.posix.specs.declared.process.Sending.{Sending}
 use Rattle.posix.specs.declared.process.Sending.TheVariants as sends
 use Rattle.posix.specs.declared.target.Target.{Target}
-use Rattle.posix.specs.SignalNumbers.{KILL, SEGV, default_action}
+use Rattle.posix.specs.SignalNumbers.{KILL, SEGV, STOP, default_action}
 use Rattle.posix.specs.SignalSets.{has}
 use Rattle.posix.specs.Statuses.{exited, killed}
 use Rattle.posix.specs.Processes.{Process, Signals, Credentials, Cpu, is_zombie, argument}
@@ -36,11 +36,13 @@ use Rattle.posix.specs.States.{State, is_in, change, go_last, current, next_pid,
 use Rattle.posix.specs.Execute.{exec_one}
 use Rattle.posix.specs.Outcomes.{Outcome, Attempted, Done, Block, Reply, answers, finished, written, refusal, plain}
 use Rattle.posix.specs.Credentials.{setuid, seteuid, setgid, setegid}
-use Rattle.posix.specs.Generation.{action, is_pending, signalled, signalled_all}
+use Rattle.posix.specs.Generation.{action, is_pending}
+use Rattle.posix.specs.Notices.{noticed, child_signal}
+use Rattle.posix.specs.Groups.{is_orphaned}
 use Rattle.posix.specs.Choice.{chosen, carried_by, from_kernel}
 use Rattle.posix.specs.Handlers.{handles, is_full, newest_frame, returned, set_action}
 use Rattle.posix.specs.Births.{born, child_of, fork_as}
-use Rattle.posix.specs.Ends.{made_zombie, depart, noticed, child_signal, is_dropping, drop_child, notice_of_end, zombies_of, tell_of_all, status_of, end_process}
+use Rattle.posix.specs.Ends.{made_zombie, depart, is_dropping, drop_child, notice_of_end, zombies_of, tell_of_all, status_of, end_process}
 use Rattle.posix.specs.Targets.{target_in}
 use Rattle.posix.specs.Waits.{wait, wait_with, report, options_in, are_known, has_option, WNOHANG, news_told}
 use Rattle.posix.specs.Delivery.{handle, act_by_default, act_on, take_out, deliver, fault_with, fault, return_to, return_from_handler}
@@ -48,13 +50,14 @@ use Rattle.posix.specs.Sends.{sent, sent_by, sent_among, permitted, targets, sen
 use Rattle.posix.specs.SignalCalls.{set_credentials, give_credentials, give_signals, holding, is_question, are_flags, action_in, sigaction_with, sigaction_of, sigaction, how_in, sigprocmask_with, sigprocmask, sigpending}
 use Rattle.posix.specs.Alarms.{most_ticks, due_in, ticks_in, alarm_in, alarm, pass_time}
 use Rattle.posix.specs.Attempts.{attempt, attempt_again}
-use Rattle.posix.specs.Regular.{IsRegular, IsPlaced, CanInherit, IsDistinct, IsAhead}
+use Rattle.posix.specs.Regular.{IsRegular, IsPlaced, CanInherit, IsDistinct}
 use Rattle.posix.specs.Settle.{settle, wakes}
 use Rattle.posix.specs.Step.{IsStep, next, happens, step, tick, rotate, act, act_in, after_trap, begin_call, enter, set_cpu, deliver_or, go_on, code_of}
 use Rattle.posix.proofs.TableLemmas.{pid_looked, pid_reparented, remove_none, rising_filter}
 use Rattle.posix.proofs.MapLemmas.{at_pid, lookup_back}
 use Rattle.posix.proofs.MemberLemmas.{in_append, in_first, apart_rest}
-use Rattle.posix.proofs.RegularLemmas.{Keeps, keeps_none, keeps_at, keeps_then, keeps_set_cpu, keeps_news_told, keeps_handles, keeps_take_out, keeps_signalled, keeps_noticed, keeps_with_alarm, due_ahead, lookup_left, placed_least, regular_as, regular_change, regular_lose, regular_depart, regular_halt, regular_inserted, regular_removed, regular_pass}
+use Rattle.posix.proofs.RegularLemmas.{Keeps, keeps_none, keeps_at, keeps_then, keeps_set_cpu, keeps_news_told, keeps_handles, keeps_take_out, keeps_noticed, keeps_with_alarm, due_ahead, lookup_left, placed_least, regular_as, regular_change, regular_lose, regular_depart, regular_halt, regular_inserted, regular_removed, regular_pass}
+use Rattle.posix.proofs.ChangeLemmas.{regular_stop, regular_signalled}
 use Rattle.posix.proofs.OrderLemmas.{regular_last, first_in}
 use Rattle.posix.proofs.WalkLemmas.{all_looked, in_filter}
 use Rattle.posix.proofs.ReportLemmas.{IsChild, reported, not_first}
@@ -231,25 +234,31 @@ regular_handle s r signal address least i =
     let entered : IsRegular (change s r.pid (handles signal address)) = regular_change r.pid (handles signal address) s (keeps_handles signal address) i in
     cond_both (is_full r.signals) _ _ (λ (o : Outcome). IsRegular o.state) (λ e. regular_end (change s r.pid (handles signal address)) r (killed SEGV) least entered) (λ e. entered)
 
+-- who has a place has a number from 1 on
+least_in : (s : State) → IsRegular s → (p : ℕ) → is_in p s.order ≡ true → 1 ≤ p
+least_in s i p place = placed_least s i p (i.placed p place)
+
 -- a default action
-regular_default : (s : State) (r : Process) (n : ℕ) (a : DefaultAction) → 1 ≤ r.pid → IsRegular s → IsRegular (act_by_default s r n a).state
-regular_default s r n default.Terminate least i = regular_end s r (killed n) least i
-regular_default s r n default.Ignore least i = i
-regular_default s r n default.Stop least i = i
-regular_default s r n default.Continue least i = i
+regular_default : (s : State) (r : Process) (n : ℕ) (a : DefaultAction) → is_in r.pid s.order ≡ true → IsRegular s → IsRegular (act_by_default s r n a).state
+regular_default s r n default.Terminate place i = regular_end s r (killed n) (least_in s i r.pid place) i
+regular_default s r n default.Ignore place i = i
+regular_default s r n default.Stop place i =
+    cond_both (not (n == STOP) && is_orphaned r.group s.processes) _ _ (λ (o : Outcome). IsRegular o.state) (λ e. i)
+    (λ e. let there = i.placed r.pid place in regular_stop s r there.what n there.found there.living i)
+regular_default s r n default.Continue place i = i
 
 -- the action of a signal
-regular_on : (s : State) (r : Process) (signal : PendingSignal) (h : Handler) → 1 ≤ r.pid → IsRegular s → IsRegular (act_on s r signal h).state
-regular_on s r signal (handler.At address) least i = regular_handle s r signal address least i
-regular_on s r signal handler.Ignore least i = i
-regular_on s r signal handler.Default least i =
-    cond_both (r.pid == 1) _ _ (λ (o : Outcome). IsRegular o.state) (λ e. i) (λ e. regular_default s r signal.sig (default_action signal.sig) least i)
+regular_on : (s : State) (r : Process) (signal : PendingSignal) (h : Handler) → is_in r.pid s.order ≡ true → IsRegular s → IsRegular (act_on s r signal h).state
+regular_on s r signal (handler.At address) place i = regular_handle s r signal address (least_in s i r.pid place) i
+regular_on s r signal handler.Ignore place i = i
+regular_on s r signal handler.Default place i =
+    cond_both (r.pid == 1) _ _ (λ (o : Outcome). IsRegular o.state) (λ e. i) (λ e. regular_default s r signal.sig (default_action signal.sig) place i)
 
 -- a delivery
-regular_deliver : (s : State) (r : Process) (n : ℕ) → 1 ≤ r.pid → IsRegular s → IsRegular (deliver s r n).state
+regular_deliver : (s : State) (r : Process) (n : ℕ) → is_in r.pid s.order ≡ true → IsRegular s → IsRegular (deliver s r n).state
 unfolding deliver
-regular_deliver s r n least i =
-    regular_on (change s r.pid (take_out n)) r (record { sig = n; carried = carried_by n r.signals }) (action r.signals n).handler least (regular_change r.pid (take_out n) s (keeps_take_out n) i)
+regular_deliver s r n place i =
+    regular_on (change s r.pid (take_out n)) r (record { sig = n; carried = carried_by n r.signals }) (action r.signals n).handler place (regular_change r.pid (take_out n) s (keeps_take_out n) i)
 
 -- a fault, by the handler of its signal
 regular_fault_with : (s : State) (r : Process) (n : ℕ) (h : Handler) → 1 ≤ r.pid → IsRegular s → IsRegular (fault_with s r n h).state
@@ -287,7 +296,7 @@ placed_caller s me c = c.regular.placed me.pid c.place
 
 -- its number is one from 1 on
 least_caller : (s : State) (me : Process) → IsCaller s me → 1 ≤ me.pid
-least_caller s me c = placed_least s c.regular me.pid (placed_caller s me c)
+least_caller s me c = least_in s c.regular me.pid c.place
 
 -- it is no zombie
 caller_lives : (s : State) (me : Process) → IsCaller s me → is_zombie me.life ≡ false
@@ -344,12 +353,6 @@ unfolding wait
 regular_wait s me c =
     cond_both (are_known (options_in (argument me 2))) _ _ RegularIf (λ t. regular_with s me (target_in (argument me 1)) (options_in (argument me 2)) _ c refl)
     (λ t. regular_gives s me.pid Waitpid (refusal EINVAL) c.regular)
-
--- a signal to several
-regular_signalled : (signal : PendingSignal) (ps : List ℕ) (s : State) → IsRegular s → IsRegular (record s { processes = signalled_all signal ps s.processes })
-unfolding signalled_all
-regular_signalled signal [] s i = i
-regular_signalled signal (p ∷ ps) s i = regular_signalled signal ps (change s p (signalled signal)) (regular_change p (signalled signal) s (keeps_signalled signal) i)
 
 -- a signal that is sent
 regular_sent : (s : State) (me : Process) (target : Target) (sig : Option ℕ) → IsRegular s → IsRegular (record s { processes = sent me target sig s.processes })
@@ -464,7 +467,7 @@ regular_begin s r (Block b) c h = regular_lose r.pid (change s r.pid (enter b)) 
 -- a signal that is chosen, or else what happens
 regular_or : (s : State) (r : Process) (n : Option ℕ) (other : Outcome) → IsCaller s r → IsRegular other.state → IsRegular (deliver_or s r n other).state
 regular_or s r None other c h = h
-regular_or s r (Some n) other c h = regular_deliver s r n (least_caller s r c) c.regular
+regular_or s r (Some n) other c h = regular_deliver s r n c.place c.regular
 
 -- a call that goes on
 regular_go_on : (s : State) (r : Process) (a : Attempted) → IsCaller s r → RegularIf a → IsRegular (go_on s r a).state

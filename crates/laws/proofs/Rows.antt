@@ -3,28 +3,30 @@ use Rattle.std.specs.Prelude.{ℕ, ◌≡◌, ◌==◌, if◌then◌else◌, ◌
 use Rattle.std.specs.Fmt.{digits}
 use Rattle.posix.specs.declared.event.Event.{Event}
 use Rattle.posix.specs.declared.event.Event.TheVariants.{Step, Tick}
-use Rattle.posix.specs.declared.entry.Entry.TheVariants.{Noted, Called, Reported, NoMemory, Handled, Returned, Ended, Halted}
+use Rattle.posix.specs.declared.entry.Entry.TheVariants.{Noted, Called, Reported, NoMemory, Handled, Discarded, Stopped, Returned, Ended, Halted}
 use Rattle.posix.specs.declared.instr.Instr.{Instr}
 use Rattle.posix.specs.declared.instr.Instr.TheVariants.{Set, Compute, Jump, JumpIf, Note, Sys}
 use Rattle.posix.specs.declared.instr.Operator.TheVariants.{Div, Rem}
 use Rattle.posix.specs.declared.instr.Condition.TheVariants.{Zero}
-use Rattle.posix.specs.declared.call.Call.TheVariants.{Exit, Fork, Waitpid, Pause, SchedYield, Getpid, Kill, Sigaction, Sigprocmask, Sigsuspend, Sigreturn, Alarm}
+use Rattle.posix.specs.declared.call.Call.TheVariants.{Exit, Fork, Waitpid, Pause, SchedYield, Getpid, Setuid, Kill, Sigaction, Sigprocmask, Sigsuspend, Sigreturn, Alarm}
 use Rattle.posix.specs.Processes.{nothing_pending, default_actions, zero_registers, zero_memory}
-use Rattle.posix.specs.Tables.{lookup, changed, inserted, removed, children_in, adopted}
+use Rattle.posix.specs.Tables.{lookup, changed, inserted, removed, children_in, adopted, members_in}
 use Rattle.posix.specs.NextPid.{is_free, next_free}
 use Rattle.posix.specs.States.{Program, World, State, boot, is_in, without}
 use Rattle.posix.specs.Entries.{Line, line, numbered}
 use Rattle.posix.specs.Execute.{exec_one}
 use Rattle.posix.specs.Outcomes.{finished, written}
 use Rattle.posix.specs.Credentials.{setuid, seteuid, setgid, setegid}
-use Rattle.posix.specs.Generation.{generated, signalled, signalled_all}
+use Rattle.posix.specs.Generation.{without_stops, generated, effect_of, signalled}
+use Rattle.posix.specs.Notices.{noticed, noticed_of_change, told_of_change, stopped_by, resumed, signalled_all}
+use Rattle.posix.specs.Groups.{is_anchor, is_orphaned}
 use Rattle.posix.specs.Choice.{least_ready, chosen, taken}
 use Rattle.posix.specs.Handlers.{entered, at_handler, handles, returned, set_action, set_mask}
-use Rattle.posix.specs.Delivery.{handle, take_out, deliver, fault, return_from_handler}
+use Rattle.posix.specs.Delivery.{handle, stop_process, take_out, deliver, fault, return_from_handler}
 use Rattle.posix.specs.Sends.{targets, permitted, sending, sent_among, sent, kill}
 use Rattle.posix.specs.SignalCalls.{give_credentials, give_signals, sigaction, sigprocmask, set_of, sigpending}
 use Rattle.posix.specs.Births.{child_of, fork_as}
-use Rattle.posix.specs.Ends.{ended, made_zombie, noticed, notice_of_end, zombies_of, tell_of_all, end_process}
+use Rattle.posix.specs.Ends.{ended, made_zombie, notice_of_end, zombies_of, tell_of_all, end_process}
 use Rattle.posix.specs.Waits.{report_of, report, news_told, wait}
 use Rattle.posix.specs.Alarms.{with_alarm, alarm, rung, ring_all}
 use Rattle.posix.specs.Attempts.{attempt, attempt_again}
@@ -50,7 +52,7 @@ trace w events = trace_from 1 (boot w) (λ k. true) events
 
 -- opens every definition of an operation
 unfoldable everything : Unit {0}
-unfolding nothing_pending default_actions zero_registers zero_memory exec_one digits lookup changed inserted removed children_in adopted is_free next_free is_in without finished written setuid seteuid setgid setegid generated signalled signalled_all least_ready chosen taken entered at_handler handles returned set_action set_mask child_of fork_as ended made_zombie noticed notice_of_end zombies_of tell_of_all end_process report_of report news_told wait handle take_out deliver fault return_from_handler targets permitted sending sent_among sent kill give_credentials give_signals sigaction sigprocmask set_of sigpending attempt attempt_again can_act settle set_cpu enter after_trap act_in act step with_alarm rung ring_all alarm tick happens next
+unfolding nothing_pending default_actions zero_registers zero_memory exec_one digits lookup changed inserted removed children_in adopted members_in is_free next_free is_in without finished written setuid seteuid setgid setegid without_stops generated effect_of signalled noticed_of_change told_of_change stopped_by resumed signalled_all is_anchor is_orphaned least_ready chosen taken entered at_handler handles returned set_action set_mask child_of fork_as ended made_zombie noticed notice_of_end zombies_of tell_of_all end_process report_of report news_told wait handle stop_process take_out deliver fault return_from_handler targets permitted sending sent_among sent kill give_credentials give_signals sigaction sigprocmask set_of sigpending attempt attempt_again can_act settle set_cpu enter after_trap act_in act step with_alarm rung ring_all alarm tick happens next
 everything = tt
 
 abbrev note_and_exit : World
@@ -157,3 +159,27 @@ row_alarm : trace (world 40 1 (program None None (Set 1 (pos 14) ∷ Set 2 (pos 
     ≡ line 3 (Called 1 Sigaction (pos 0)) ∷ line 5 (Called 1 Alarm (pos 0)) ∷ line 9 (Called 1 Pause (negsuc 3)) ∷ line 9 (Handled 1 14 (pos 0) 0) ∷ line 10 (Returned 1) ∷ line 11 (Called 1 Alarm (pos 0)) ∷ []
 unfolding everything
 row_alarm = refl
+
+-- process 1 stops its child, sends it TERM and then this signal, and waits
+abbrev stops_its_child : ℕ → World
+stops_its_child n = world 40 1 (program None None (Sys Fork ∷ JumpIf Zero 0 33 ∷ Set 1 (pos 2) ∷ Set 2 (pos 19) ∷ Sys Kill ∷ Set 2 (pos 2) ∷ Sys Waitpid ∷ Set 1 (pos 2) ∷ Set 2 (pos 15) ∷ Sys Kill ∷ Set 2 (pos n) ∷ Sys Kill ∷ Set 2 (pos 8) ∷ Sys Waitpid ∷ Set 1 (pos 2) ∷ Set 2 (pos 0) ∷ Sys Waitpid ∷ Jump 33 ∷ []) ∷ [])
+
+row_stop_and_continue : trace (stops_its_child 18) (replicate 21 Step)
+    ≡ line 1 (Called 1 Fork (pos 2)) ∷ line 5 (Called 1 Kill (pos 0)) ∷ line 8 (Stopped 2 19) ∷ line 9 (Reported 1 2 4991) ∷ line 12 (Called 1 Kill (pos 0)) ∷ line 14 (Called 1 Kill (pos 0)) ∷ line 16 (Reported 1 2 65535) ∷ line 20 (Ended 2 15) ∷ line 21 (Reported 1 2 15) ∷ []
+unfolding everything
+row_stop_and_continue = refl
+
+row_kill_while_stopped : trace (stops_its_child 9) (replicate 18 Step)
+    ≡ line 1 (Called 1 Fork (pos 2)) ∷ line 5 (Called 1 Kill (pos 0)) ∷ line 8 (Stopped 2 19) ∷ line 9 (Reported 1 2 4991) ∷ line 12 (Called 1 Kill (pos 0)) ∷ line 14 (Called 1 Kill (pos 0)) ∷ line 17 (Ended 2 9) ∷ line 18 (Reported 1 2 9) ∷ []
+unfolding everything
+row_kill_while_stopped = refl
+
+row_permission : trace (world 40 1 (program None None (Sys Fork ∷ JumpIf Zero 0 21 ∷ Sys Fork ∷ JumpIf Zero 0 34 ∷ Sys Pause ∷ Set 1 (pos 100) ∷ Sys Setuid ∷ Sys SchedYield ∷ Set 1 (pos 3) ∷ Set 2 (pos 15) ∷ Sys Kill ∷ Set 2 (pos 18) ∷ Sys Kill ∷ Set 1 (negsuc 0) ∷ Set 2 (pos 15) ∷ Sys Kill ∷ Set 1 (pos 0) ∷ Sys Kill ∷ Set 1 (pos 200) ∷ Sys Setuid ∷ Sys Pause ∷ []) ∷ [])) (replicate 24 Step)
+    ≡ line 1 (Called 1 Fork (pos 2)) ∷ line 3 (Called 1 Fork (pos 3)) ∷ line 8 (Called 2 Setuid (pos 0)) ∷ line 9 (Called 2 SchedYield (pos 0)) ∷ line 12 (Called 3 Setuid (pos 0)) ∷ line 16 (Called 2 Kill (negsuc 0)) ∷ line 18 (Called 2 Kill (pos 0)) ∷ line 21 (Called 2 Kill (negsuc 0)) ∷ line 23 (Called 2 Kill (pos 0)) ∷ line 24 (Ended 2 15) ∷ []
+unfolding everything
+row_permission = refl
+
+row_stop_without_effect : trace (world 40 1 (program None None (Sys Fork ∷ JumpIf Zero 0 22 ∷ Set 1 (pos 2) ∷ Set 2 (pos 20) ∷ Sys Kill ∷ Sys Pause ∷ Jump 22 ∷ []) ∷ [])) (replicate 8 Step)
+    ≡ line 1 (Called 1 Fork (pos 2)) ∷ line 5 (Called 1 Kill (pos 0)) ∷ line 7 (Discarded 2 20) ∷ []
+unfolding everything
+row_stop_without_effect = refl

@@ -9,7 +9,8 @@ use Rattle.posix.specs.Tables.{IsNext, lookup, at, changed, inserted, removed, r
 use Rattle.posix.specs.States.{World, State, boot, process, is_in, change, lose_place}
 use Rattle.posix.specs.Regular.{IsRegular}
 use Rattle.posix.specs.Settle.{NoWakeIsLost, can_act, wakes}
-use Rattle.posix.specs.Ends.{made_zombie, ended, halt, depart, noticed, child_signal, is_dropping, drop_child, notice_of_end}
+use Rattle.posix.specs.Ends.{made_zombie, ended, halt, depart, is_dropping, drop_child, notice_of_end}
+use Rattle.posix.specs.Notices.{noticed, child_signal}
 use Rattle.posix.proofs.TableLemmas.{pid_looked, pid_reparented}
 use Rattle.posix.proofs.MapLemmas.{at_pid, lookup_on, lookup_back, some_map}
 use Rattle.posix.proofs.RegularLemmas.{lookup_new, some_inserted, lookup_kept, lookup_removed, keeps_at, keeps_noticed, regular_map}

@@ -7,7 +7,8 @@ use Rattle.posix.specs.Processes.{Process, is_zombie}
 use Rattle.posix.specs.Tables.{lookup, at, changed, removed, reparented, adopted}
 use Rattle.posix.specs.States.{State, process, change, without}
 use Rattle.posix.specs.Generation.{signalled}
-use Rattle.posix.specs.Ends.{made_zombie, depart, child_signal, ignores_children, noticed, drops_children, is_dropping, drop_child, notice_of_end, status_of, zombies_of, tell_of_all, end_with_heir}
+use Rattle.posix.specs.Ends.{made_zombie, depart, drops_children, is_dropping, drop_child, notice_of_end, status_of, zombies_of, tell_of_all, end_with_heir}
+use Rattle.posix.specs.Notices.{child_signal, ignores_children, noticed}
 use Rattle.posix.proofs.TableLemmas.{pid_looked, pid_reparented, lookup_changed}
 use Rattle.posix.proofs.MapLemmas.{at_pid, lookup_map, lookup_on, some_map, removed_map, changed_changed, adopted_changed}
 use Rattle.posix.proofs.RegularLemmas.{keeps_noticed}

@@ -1,6 +1,7 @@
 pub mod SoundLemmas
 pub mod ReportedLemmas
 pub mod TimedLemmas
+pub mod StopLemmas
 pub mod EndLemmas
 pub mod NoticeWalkLemmas
 pub mod ParentLemmas
@@ -13,3 +14,4 @@ pub mod PartLemmas
 pub mod CensusLemmas
 pub mod ReadLemmas
 pub mod AskLemmas
+pub mod GroupLemmas

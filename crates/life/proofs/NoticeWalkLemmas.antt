@@ -12,7 +12,8 @@ use Rattle.posix.specs.Tables.{lookup, at, changed, removed, adopted, children_i
 use Rattle.posix.specs.States.{State, process, is_in, change, without}
 use Rattle.posix.specs.Regular.{IsRegular, CanInherit}
 use Rattle.posix.specs.Generation.{signalled}
-use Rattle.posix.specs.Ends.{made_zombie, depart, child_signal, ignores_children, noticed, is_dropping, drop_child, notice_of_end, status_of, zombies_of, tell_of_all}
+use Rattle.posix.specs.Ends.{made_zombie, depart, is_dropping, drop_child, notice_of_end, status_of, zombies_of, tell_of_all}
+use Rattle.posix.specs.Notices.{child_signal, ignores_children, noticed}
 use Rattle.posix.proofs.TableLemmas.{pid_looked, lookup_changed}
 use Rattle.posix.proofs.WalkLemmas.{children_removed, AtChild, at_child, at_first, head_above}
 use Rattle.posix.proofs.MapLemmas.{at_pid, lookup_map, filter_map, first_map, children_map}

@@ -5,7 +5,8 @@ use Rattle.posix.specs.declared.process.PendingSignal.{PendingSignal}
 use Rattle.posix.specs.Processes.{Process, is_zombie}
 use Rattle.posix.specs.Tables.{lookup, at, changed, removed}
 use Rattle.posix.specs.States.{World, State, change}
-use Rattle.posix.specs.Ends.{child_signal, noticed, drops_children, is_dropping, drop_child, notice_of_end}
+use Rattle.posix.specs.Ends.{drops_children, is_dropping, drop_child, notice_of_end}
+use Rattle.posix.specs.Notices.{child_signal, noticed}
 use Rattle.posix.proofs.TableLemmas.{pid_looked}
 use Rattle.posix.proofs.MapLemmas.{lookup_on, children_map}
 use Rattle.posix.proofs.RegularLemmas.{keeps_at, keeps_noticed, regular_as, regular_removed}

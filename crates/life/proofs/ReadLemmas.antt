@@ -1,5 +1,6 @@
 -- How many processes a walk has still to read.
-use Rattle.std.proofs.Common.{◌≡◌, ℕ, ◌<◌, ◌≤◌, arith, List, [], ◌∷◌, length, filter, Option, Some, None, Bool, nat_le}
+use Rattle.std.proofs.Common.{◌≡◌, ℕ, ◌+◌, ◌*◌, ◌<◌, ◌≤◌, arith, List, [], ◌∷◌, length, filter, Option, Some, None, Bool, nat_le}
+use Rattle.std.proofs.Math.Nat.{mul-le-mul_left}
 use Rattle.std.specs.Option.{IfSome}
 use Rattle.std.proofs.lemmas.Bool.{eqb-true}
 use Rattle.std.proofs.lemmas.Bool.Decides.{nat_tests}
@@ -34,3 +35,13 @@ above_less p (x ∷ xs) r e = grind (arith, nat_tests, above_left p xs, above_le
 
 pub left_less : (p : ℕ) (rs : List Process) (r : Process) (next : Option ℕ) → lookup p rs ≡ Some r → IfSome next (λ q. p < q) → length (left_of next rs) < length (left_of (Some p) rs)
 left_less p rs r next e h = let a = left_above next p rs h in let b = above_less p rs r e in omega (arith, a, b)
+
+-- ---- a walk that reads 3 + k of each process
+
+-- it begins with all of them
+pub reads_begin : (k left above all first now : ℕ) → left ≤ all → above ≤ all → now + 2 * left ≤ first + 2 + 2 * above → now + (3 + k) * left ≤ first + 2 + (3 + k) * all
+reads_begin k left above all first now a b e = let m = mul-le-mul_left k a in omega (arith, m)
+
+-- where it has read one, those behind it are left
+pub reads_on : (k were above left before one now : ℕ) → above < were → left ≤ above → one ≤ before + 1 + k → now + 2 * left ≤ one + 2 + 2 * above → now + (3 + k) * left ≤ before + (3 + k) * were
+reads_on k were above left before one now a b c e = let m : k * (left + 1) ≤ k * were = mul-le-mul_left k (omega arith) in omega (arith, m)

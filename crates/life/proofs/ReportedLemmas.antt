@@ -7,7 +7,8 @@ use Rattle.posix.specs.Processes.{Process, is_zombie, first_process}
 use Rattle.posix.specs.Tables.{IsRising, lookup, at, above, first_pid, is_child, children_in, changed, inserted, removed, reparented, adopted}
 use Rattle.posix.specs.States.{World, State, boot, process, change}
 use Rattle.posix.specs.Regular.{IsRegular}
-use Rattle.posix.specs.Ends.{made_zombie, ended, noticed, child_signal, is_dropping, drop_child, notice_of_end}
+use Rattle.posix.specs.Ends.{made_zombie, ended, is_dropping, drop_child, notice_of_end}
+use Rattle.posix.specs.Notices.{noticed, child_signal}
 use Rattle.posix.specs.Waits.{has_report, reporting_in, news_told}
 use Rattle.posix.proofs.TableLemmas.{pid_looked, pid_reparented}
 use Rattle.posix.proofs.WalkLemmas.{Passes, first_passes, none_passes_before, both_pass}

@@ -1,65 +1,142 @@
 -- To signal the processes one after another, from the least number on, is to send to all that are meant.
-use Rattle.std.proofs.Common.{◌≡◌, ℕ, Bool, true, false, cond, refl, ap, sym, ◌∙◌, arith, subst, List, [], ◌∷◌, ◌++◌, append-nil, filter, Option, Some, None, option_map, ◌==◌}
-use Rattle.std.specs.List.{AllByRecursion}
+use Rattle.std.proofs.Common.{◌≡◌, ℕ, Bool, true, false, cond, refl, ap, sym, ◌∙◌, arith, subst, List, [], ◌∷◌, ◌++◌, append-nil, filter, map, length, nat_lt, Option, Some, None, option_map}
 use Rattle.std.specs.Ordering.{ord_max}
-use Rattle.std.proofs.lemmas.List.{map-append}
+use Rattle.std.proofs.lemmas.List.{map-append, length-map}
 use Rattle.std.proofs.lemmas.List.Elements.{filter-append}
-use Rattle.std.proofs.lemmas.Bool.{eqb-true}
-use Rattle.std.proofs.lemmas.Bool.Decides.{nat_tests}
+use Rattle.std.proofs.lemmas.Bool.{cond_both}
+use Rattle.posix.specs.declared.process.Effect.{Effect}
+use Rattle.posix.specs.declared.process.Effect.TheVariants as effect
 use Rattle.posix.specs.declared.process.PendingSignal.{PendingSignal}
 use Rattle.posix.specs.declared.process.Sending.{Sending}
 use Rattle.posix.specs.declared.process.Sending.TheVariants as found
 use Rattle.posix.specs.contracts.process.SendingOrd.TheImpl as order
 use Rattle.posix.specs.declared.target.Target.{Target}
 use Rattle.posix.specs.declared.target.Target.TheVariants as whom
-use Rattle.posix.specs.Processes.{Process}
+use Rattle.posix.specs.Processes.{Process, first_process}
 use Rattle.posix.specs.Tables.{IsRising, IsNext, has_pid, lookup, pids, changed, above, left_of}
 use Rattle.posix.specs.Credentials.{may}
-use Rattle.posix.specs.Generation.{signalled, signalled_all}
+use Rattle.posix.specs.Statuses.{continued}
+use Rattle.posix.specs.Generation.{signalled, effect_of}
+use Rattle.posix.specs.Notices.{ignores_stops, noticed_of_change, child_signal, told_of_change, resumed, acted_upon, generated_for, signalled_all}
 use Rattle.posix.specs.Sends.{is_target, targets, permitted, sending_permitted, sending_found, sending, sent_by, sent_among}
+use Rattle.posix.proofs.MapLemmas.{at_keeps, filter_map}
 use Rattle.posix.proofs.WalkLemmas.{numbered, numbered_one, numbered_none, rest_of_walk, walk_splits}
 use Rattle.posix.specs.States.{State}
 use Rattle.proctable.specs.declared.facts.Facts.{Facts}
 use Rattle.proctable.specs.Body.{facts_of}
-use Rattle.life.specs.Asking.{asking, asking_all, asking_signalled}
+use Rattle.life.specs.Asking.{asking_generated, asking_all, asking_signalled}
 
 -- the state with these processes
 abbrev pub with_processes : State → List Process → State
 with_processes s rs = record s { processes = rs }
 
--- ---- one process signalled
+-- ---- what a sender asks of a process
 
--- those above p stay where p is signalled
-above_signalled : (p : ℕ) (signal : PendingSignal) (rs : List Process) → above p (changed p (signalled signal) rs) ≡ above p rs
-unfolding changed signalled
-above_signalled p signal [] = refl
-above_signalled p signal (x ∷ xs) = grind (arith, nat_tests, above_signalled p signal xs, eqb-true x.pid p)
+-- its number, its group, its session and its credentials; all else is as at boot
+abbrev pub blank : Process → Process
+blank r = record first_process { pid = r.pid; group = r.group; session = r.session; credentials = r.credentials }
 
--- nor do they change where p is signalled several times
-above_signalled_all : (p : ℕ) (signal : PendingSignal) (qs rs : List Process) → AllByRecursion (λ (q : Process). q.pid ≡ p) qs → above p (signalled_all signal (pids qs) rs) ≡ above p rs
+-- whether it is meant
+meant_blank : (me : Process) (target : Target) (r : Process) → is_target me target (blank r) ≡ is_target me target r
+meant_blank me (whom.Process p) r = refl
+meant_blank me whom.OwnGroup r = refl
+meant_blank me (whom.Group p) r = refl
+meant_blank me whom.All r = refl
+meant_blank me whom.Nobody r = refl
+
+-- and whether it may be signalled
+may_blank : (me : Process) (s : Option ℕ) (r : Process) → may me s (blank r) ≡ may me s r
+may_blank me s r = refl
+
+-- where two lists agree on it, those in them agree that pass a test that asks for nothing else
+same_filter : (t : Process → Bool) → ((r : Process) → t (blank r) ≡ t r) → (xs ys : List Process) → map blank xs ≡ map blank ys → map blank (filter t xs) ≡ map blank (filter t ys)
+same_filter t same xs ys e = sym (filter_map t blank same xs) ∙ ap (filter t) e ∙ filter_map t blank same ys
+
+same_above : (p : ℕ) (xs ys : List Process) → map blank xs ≡ map blank ys → map blank (above p xs) ≡ map blank (above p ys)
+same_above p xs ys e = same_filter (λ r. nat_lt p r.pid) (λ r. refl) xs ys e
+
+same_targets : (me : Process) (target : Target) (xs ys : List Process) → map blank xs ≡ map blank ys → map blank (targets me target xs) ≡ map blank (targets me target ys)
+unfolding targets
+same_targets me target xs ys e = same_filter (is_target me target) (meant_blank me target) xs ys e
+
+-- its number stays
+pids_blank : (rs : List Process) → pids (map blank rs) ≡ pids rs
+pids_blank [] = refl
+pids_blank (r ∷ rs) = ap (λ ps. r.pid ∷ ps) (pids_blank rs)
+
+-- so of lists that agree the same numbers may be signalled
+same_permitted : (me : Process) (s : Option ℕ) (xs ys : List Process) → map blank xs ≡ map blank ys → pids (permitted me s xs) ≡ pids (permitted me s ys)
+unfolding permitted
+same_permitted me s xs ys e = sym (pids_blank (filter (may me s) xs)) ∙ ap pids (same_filter (may me s) (may_blank me s) xs ys e) ∙ pids_blank (filter (may me s) ys)
+
+-- a signal to them does the same
+same_sent : (me : Process) (s : Option ℕ) (xs ys rs : List Process) → map blank xs ≡ map blank ys → sent_among me s xs rs ≡ sent_among me s ys rs
+unfolding sent_among
+same_sent me None xs ys rs e = refl
+same_sent me (Some n) xs ys rs e = ap (λ ps. signalled_all (sent_by me.pid n) ps rs) (same_permitted me (Some n) xs ys e)
+
+-- asks the same
+same_asked : (me : Process) (s : Option ℕ) (xs ys rs : List Process) (order ns : List ℕ) → map blank xs ≡ map blank ys → asking_signalled me s xs rs order ns ≡ asking_signalled me s ys rs order ns
+unfolding asking_signalled
+same_asked me None xs ys rs order ns e = refl
+same_asked me (Some n) xs ys rs order ns e = ap (λ ps. asking_all (sent_by me.pid n) ps rs order ns) (same_permitted me (Some n) xs ys e)
+
+-- and finds the same
+found_blank : (me : Process) (s : Option ℕ) (rs : List Process) → sending_found me s (map blank rs) ≡ sending_found me s rs
+unfolding permitted
+found_blank me s [] = refl
+found_blank me s (r ∷ rs) = ap sending_permitted (filter_map (may me s) blank (may_blank me s) (r ∷ rs)) ∙ some_blank (filter (may me s) (r ∷ rs))
+  where
+    some_blank : (qs : List Process) → sending_permitted (map blank qs) ≡ sending_permitted qs
+    some_blank [] = refl
+    some_blank (q ∷ qs) = refl
+
+same_found : (me : Process) (s : Option ℕ) (xs ys : List Process) → map blank xs ≡ map blank ys → sending_found me s xs ≡ sending_found me s ys
+same_found me s xs ys e = sym (found_blank me s xs) ∙ ap (sending_found me s) e ∙ found_blank me s ys
+
+-- ---- a signal leaves it as it is
+
+-- where a change of one process does, a table agrees with what it was before
+blank_changed : (p : ℕ) (f : Process → Process) → ((r : Process) → blank (f r) ≡ blank r) → (rs : List Process) → map blank (changed p f rs) ≡ map blank rs
+unfolding changed
+blank_changed p f keeps [] = refl
+blank_changed p f keeps (r ∷ rs) = let here = at_keeps blank p f keeps r in let rest = blank_changed p f keeps rs in cc
+
+blank_signalled : (signal : PendingSignal) (r : Process) → blank (signalled signal r) ≡ blank r
+unfolding signalled
+blank_signalled signal r = refl
+
+blank_resumed : (r : Process) → blank (resumed r) ≡ blank r
+unfolding resumed
+blank_resumed r = refl
+
+blank_noticed : (signal : PendingSignal) (r : Process) → blank (noticed_of_change signal r) ≡ blank r
+unfolding noticed_of_change
+blank_noticed signal r = cond_both (ignores_stops r.signals) r (signalled signal r) (λ q. blank q ≡ blank r) (λ e. refl) (λ e. blank_signalled signal r)
+
+-- so it is where a process is continued, and its parent gets notice
+blank_acted : (what : Effect) (r : Process) (rs : List Process) → map blank (acted_upon what r rs) ≡ map blank rs
+unfolding told_of_change
+blank_acted effect.Nothing r rs = refl
+blank_acted effect.Continued r rs = blank_changed r.parent _ (blank_noticed (child_signal r.pid continued)) (changed r.pid resumed rs) ∙ blank_changed r.pid resumed blank_resumed rs
+
+blank_generated : (signal : PendingSignal) (o : Option Process) (rs : List Process) → map blank (generated_for signal o rs) ≡ map blank rs
+blank_generated signal None rs = refl
+blank_generated signal (Some r) rs = blank_acted (effect_of r.pid r.life signal r.signals) r (changed r.pid (signalled signal) rs) ∙ blank_changed r.pid (signalled signal) (blank_signalled signal) rs
+
+blank_signalled_all : (signal : PendingSignal) (ps : List ℕ) (rs : List Process) → map blank (signalled_all signal ps rs) ≡ map blank rs
 unfolding signalled_all
-above_signalled_all p signal [] rs a = refl
-above_signalled_all p signal (q ∷ qs) rs a =
-    above_signalled_all p signal qs _ a.1 ∙ ap (λ n. above p (changed n (signalled signal) rs)) a.0 ∙ above_signalled p signal rs
+blank_signalled_all signal [] rs = refl
+blank_signalled_all signal (p ∷ ps) rs = blank_signalled_all signal ps (generated_for signal (lookup p rs) rs) ∙ blank_generated signal (lookup p rs) rs
 
--- what all have, those that pass a test have
-all_filter : (P : Process → Type 0) (t : Process → Bool) (rs : List Process) → AllByRecursion P rs → AllByRecursion P (filter t rs)
-all_filter P t [] a = tt
-all_filter P t (r ∷ rs) a = elim (t r) as (λ b. AllByRecursion P (cond b (r ∷ filter t rs) (filter t rs))) [ true ↦ (a.0, all_filter P t rs a.1) | false ↦ all_filter P t rs a.1 ]
+blank_sent : (me : Process) (s : Option ℕ) (qs rs : List Process) → map blank (sent_among me s qs rs) ≡ map blank rs
+unfolding sent_among
+blank_sent me None qs rs = refl
+blank_sent me (Some n) qs rs = blank_signalled_all (sent_by me.pid n) _ rs
 
--- those with the number p have it
-all_numbered : (p : ℕ) (rs : List Process) → AllByRecursion (λ (q : Process). q.pid ≡ p) (numbered p rs)
-all_numbered p [] = tt
-all_numbered p (x ∷ xs) = elim (x.pid == p) as (λ b. (x.pid == p) ≡ b → AllByRecursion (λ (q : Process). q.pid ≡ p) (cond b (x ∷ numbered p xs) (numbered p xs))) [
-  | true ↦ λ t. (eqb-true _ _ t, all_numbered p xs)
-  | false ↦ λ t. all_numbered p xs
-] refl
-
--- those above p stay where a signal is sent to p
-pub above_sent : (me : Process) (target : Target) (s : Option ℕ) (p : ℕ) (rs : List Process) → above p (sent_among me s (targets me target (numbered p rs)) rs) ≡ above p rs
-unfolding sent_among targets permitted
-above_sent me target None p rs = refl
-above_sent me target (Some n) p rs = above_signalled_all p (sent_by me.pid n) _ rs (all_filter _ (may me (Some n)) _ (all_filter _ (is_target me target) _ (all_numbered p rs)))
+-- as many lie above p
+pub above_sent : (me : Process) (s : Option ℕ) (p : ℕ) (qs rs : List Process) → length (above p (sent_among me s qs rs)) ≡ length (above p rs)
+above_sent me s p qs rs = sym (length-map (above p (sent_among me s qs rs)) blank) ∙ ap length (same_above p _ rs (blank_sent me s qs rs)) ∙ length-map (above p rs) blank
 
 -- ---- several, part by part
 
@@ -67,31 +144,36 @@ above_sent me target (Some n) p rs = above_signalled_all p (sent_by me.pid n) _ 
 signalled_append : (signal : PendingSignal) (ps qs : List ℕ) (rs : List Process) → signalled_all signal (ps ++ qs) rs ≡ signalled_all signal qs (signalled_all signal ps rs)
 unfolding signalled_all
 signalled_append signal [] qs rs = refl
-signalled_append signal (p ∷ ps) qs rs = signalled_append signal ps qs (changed p (signalled signal) rs)
+signalled_append signal (p ∷ ps) qs rs = signalled_append signal ps qs (generated_for signal (lookup p rs) rs)
+
+-- those of two parts that may be signalled
+permitted_append : (me : Process) (s : Option ℕ) (xs ys : List Process) → pids (permitted me s (xs ++ ys)) ≡ pids (permitted me s xs) ++ pids (permitted me s ys)
+unfolding permitted
+permitted_append me s xs ys = ap pids (filter-append (may me s) xs ys) ∙ map-append (λ r. r.pid) (filter (may me s) xs) (filter (may me s) ys)
 
 -- a signal to some and then to others is one to all of them
 sent_append : (me : Process) (s : Option ℕ) (xs ys rs : List Process) → sent_among me s (xs ++ ys) rs ≡ sent_among me s ys (sent_among me s xs rs)
-unfolding sent_among permitted
+unfolding sent_among
 sent_append me None xs ys rs = refl
 sent_append me (Some n) xs ys rs =
-    ap (λ qs. signalled_all (sent_by me.pid n) (pids qs) rs) (filter-append (may me (Some n)) xs ys)
-    ∙ ap (λ ps. signalled_all (sent_by me.pid n) ps rs) (map-append (λ r. r.pid) (filter (may me (Some n)) xs) (filter (may me (Some n)) ys))
-    ∙ signalled_append (sent_by me.pid n) (pids (filter (may me (Some n)) xs)) (pids (filter (may me (Some n)) ys)) rs
+    ap (λ ps. signalled_all (sent_by me.pid n) ps rs) (permitted_append me (Some n) xs ys)
+    ∙ signalled_append (sent_by me.pid n) (pids (permitted me (Some n) xs)) (pids (permitted me (Some n) ys)) rs
 
 -- some are asked and then others
-asking_append : (ps qs order ns : List ℕ) → asking_all (ps ++ qs) order ns ≡ asking_all qs order (asking_all ps order ns)
-unfolding asking_all
-asking_append [] qs order ns = refl
-asking_append (p ∷ ps) qs order ns = asking_append ps qs order (asking p order ns)
+asking_append : (signal : PendingSignal) (ps qs : List ℕ) (rs : List Process) (order ns : List ℕ)
+    → asking_all signal (ps ++ qs) rs order ns ≡ asking_all signal qs (signalled_all signal ps rs) order (asking_all signal ps rs order ns)
+unfolding asking_all signalled_all
+asking_append signal [] qs rs order ns = refl
+asking_append signal (p ∷ ps) qs rs order ns = asking_append signal ps qs (generated_for signal (lookup p rs) rs) order (asking_generated signal (lookup p rs) order ns)
 
 -- so are those who get a signal
-asked_append : (me : Process) (s : Option ℕ) (xs ys : List Process) (order ns : List ℕ) → asking_signalled me s (xs ++ ys) order ns ≡ asking_signalled me s ys order (asking_signalled me s xs order ns)
-unfolding asking_signalled permitted
-asked_append me None xs ys order ns = refl
-asked_append me (Some n) xs ys order ns =
-    ap (λ qs. asking_all (pids qs) order ns) (filter-append (may me (Some n)) xs ys)
-    ∙ ap (λ ps. asking_all ps order ns) (map-append (λ r. r.pid) (filter (may me (Some n)) xs) (filter (may me (Some n)) ys))
-    ∙ asking_append (pids (filter (may me (Some n)) xs)) (pids (filter (may me (Some n)) ys)) order ns
+asked_append : (me : Process) (s : Option ℕ) (xs ys rs : List Process) (order ns : List ℕ)
+    → asking_signalled me s (xs ++ ys) rs order ns ≡ asking_signalled me s ys (sent_among me s xs rs) order (asking_signalled me s xs rs order ns)
+unfolding asking_signalled sent_among
+asked_append me None xs ys rs order ns = refl
+asked_append me (Some n) xs ys rs order ns =
+    ap (λ ps. asking_all (sent_by me.pid n) ps rs order ns) (permitted_append me (Some n) xs ys)
+    ∙ asking_append (sent_by me.pid n) (pids (permitted me (Some n) xs)) (pids (permitted me (Some n) ys)) rs order ns
 
 -- whom a signal to some and then to others finds
 abbrev pub joined : Sending → Sending → Sending
@@ -163,27 +245,31 @@ pub walked : (me : Process) (target : Target) (s : Option ℕ) (p : ℕ) (rs mid
 walked me target s p rs mid now next up e up_mid same comes =
     record { rising = up; rising_now = subst IsRising (sym same) up_mid; sent = same ∙ e; comes = subst (λ rs. IsNext (is_target me target) p rs next) (sym same) comes }
 
--- the same targets are left as were above p
-left_same : (me : Process) (target : Target) (s : Option ℕ) (p : ℕ) (rs now : List Process) (next : Option ℕ) → IsSent me target s p rs now next → targets me target (left_of next now) ≡ targets me target (above p rs)
+-- a sender asks the same of the targets that are left as it did of those above p
+left_same : (me : Process) (target : Target) (s : Option ℕ) (p : ℕ) (rs now : List Process) (next : Option ℕ) → IsSent me target s p rs now next → map blank (targets me target (left_of next now)) ≡ map blank (targets me target (above p rs))
 unfolding targets
-left_same me target s p rs now next i = rest_of_walk (is_target me target) p now next i.rising_now i.comes ∙ ap (filter (is_target me target)) (ap (above p) i.sent ∙ above_sent me target s p rs)
+left_same me target s p rs now next i =
+    ap (map blank) (rest_of_walk (is_target me target) p now next i.rising_now i.comes)
+    ∙ same_targets me target (above p now) (above p rs) (same_above p now rs (ap (map blank) i.sent ∙ blank_sent me s (targets me target (numbered p rs)) rs))
 
 -- what is left to do gives what it gave before
 pub sent_step : (me : Process) (target : Target) (s : Option ℕ) (p : ℕ) (rs now : List Process) (next : Option ℕ) → IsSent me target s p rs now next
     → sent_among me s (targets me target (left_of next now)) now ≡ sent_among me s (targets me target (left_of (Some p) rs)) rs
 sent_step me target s p rs now next i =
-    ap (λ qs. sent_among me s qs now) (left_same me target s p rs now next i)
+    same_sent me s _ _ now (left_same me target s p rs now next i)
     ∙ ap (sent_among me s (targets me target (above p rs))) i.sent
     ∙ sym (sent_append me s (targets me target (numbered p rs)) (targets me target (above p rs)) rs)
     ∙ ap (λ qs. sent_among me s qs rs) (sym (targets_split me target p rs i.rising))
 
 -- asked are the same as before
 pub asked_step : (me : Process) (target : Target) (s : Option ℕ) (p : ℕ) (rs now : List Process) (next : Option ℕ) → IsSent me target s p rs now next → (order ns : List ℕ)
-    → asking_signalled me s (targets me target (left_of next now)) order (asking_signalled me s (targets me target (numbered p rs)) order ns) ≡ asking_signalled me s (targets me target (left_of (Some p) rs)) order ns
+    → asking_signalled me s (targets me target (left_of next now)) now order (asking_signalled me s (targets me target (numbered p rs)) rs order ns) ≡ asking_signalled me s (targets me target (left_of (Some p) rs)) rs order ns
 asked_step me target s p rs now next i order ns =
-    ap (λ qs. asking_signalled me s qs order (asking_signalled me s (targets me target (numbered p rs)) order ns)) (left_same me target s p rs now next i)
-    ∙ sym (asked_append me s (targets me target (numbered p rs)) (targets me target (above p rs)) order ns)
-    ∙ ap (λ qs. asking_signalled me s qs order ns) (sym (targets_split me target p rs i.rising))
+    let asked = asking_signalled me s (targets me target (numbered p rs)) rs order ns in
+    same_asked me s _ _ now order asked (left_same me target s p rs now next i)
+    ∙ ap (λ now. asking_signalled me s (targets me target (above p rs)) now order asked) i.sent
+    ∙ sym (asked_append me s (targets me target (numbered p rs)) (targets me target (above p rs)) rs order ns)
+    ∙ ap (λ qs. asking_signalled me s qs rs order ns) (sym (targets_split me target p rs i.rising))
 
 -- and finds with those found by now what it found before
 pub sending_step : (me : Process) (target : Target) (s : Option ℕ) (p : ℕ) (rs now : List Process) (next : Option ℕ) → IsSent me target s p rs now next
@@ -192,7 +278,7 @@ unfolding sending
 sending_step me target s p rs now next i a b e =
     joined_twice a b (sending_found me s (targets me target (left_of next now)))
     ∙ ap (joined a) (ap (λ b. joined b (sending_found me s (targets me target (left_of next now)))) e
-    ∙ ap (λ qs. joined (sending_found me s (targets me target (numbered p rs))) (sending_found me s qs)) (left_same me target s p rs now next i)
+    ∙ ap (joined (sending_found me s (targets me target (numbered p rs)))) (same_found me s _ _ (left_same me target s p rs now next i))
     ∙ sending_append me s (targets me target (numbered p rs)) (targets me target (above p rs))
     ∙ ap (sending_found me s) (sym (targets_split me target p rs i.rising)))
 
@@ -274,43 +360,49 @@ sent_refused me None q rs e = refl
 sent_refused me (Some n) q rs e = rw e refl
 
 -- who may be is
-sent_one : (me : Process) (n : ℕ) (q : Process) (rs : List Process) → may me (Some n) q ≡ true → sent_among me (Some n) (q ∷ []) rs ≡ changed q.pid (signalled (sent_by me.pid n)) rs
+sent_one : (me : Process) (n : ℕ) (q : Process) (rs : List Process) → may me (Some n) q ≡ true → sent_among me (Some n) (q ∷ []) rs ≡ generated_for (sent_by me.pid n) (lookup q.pid rs) rs
 unfolding sent_among permitted signalled_all
 sent_one me n q rs e = rw e refl
 
 -- the same of its facts
-pub signal_one : (it : Facts) (r q : Process) (s : Option ℕ) (n : ℕ) (signal : PendingSignal) (rs now : List Process) → it ≡ facts_of q → s ≡ Some n → signal ≡ sent_by r.pid n → may r s q ≡ true
-    → now ≡ changed it.pid (signalled signal) rs → now ≡ sent_among r s (q ∷ []) rs
-signal_one it r q s n signal rs now f some is allowed done =
-    done
-    ∙ ap (λ x. changed it.pid (signalled x) rs) is
-    ∙ ap (λ (f : Facts). changed f.pid (signalled (sent_by r.pid n)) rs) f
+pub signal_one : (it : Facts) (r q : Process) (s : Option ℕ) (n : ℕ) (signal : PendingSignal) (rs : List Process) → it ≡ facts_of q → s ≡ Some n → signal ≡ sent_by r.pid n → may r s q ≡ true
+    → generated_for signal (lookup it.pid rs) rs ≡ sent_among r s (q ∷ []) rs
+signal_one it r q s n signal rs f some is allowed =
+    ap (λ x. generated_for x (lookup it.pid rs) rs) is
+    ∙ ap (λ (f : Facts). generated_for (sent_by r.pid n) (lookup f.pid rs) rs) f
     ∙ sym (sent_one r n q rs (ap (λ s. may r s q) (sym some) ∙ allowed))
     ∙ ap (λ s. sent_among r s (q ∷ []) rs) (sym some)
 
 -- nobody is asked where nobody is meant
-pub asked_nobody : (me : Process) (s : Option ℕ) (order ns : List ℕ) → asking_signalled me s [] order ns ≡ ns
+pub asked_nobody : (me : Process) (s : Option ℕ) (rs : List Process) (order ns : List ℕ) → asking_signalled me s [] rs order ns ≡ ns
 unfolding asking_signalled permitted asking_all
-asked_nobody me None order ns = refl
-asked_nobody me (Some n) order ns = refl
+asked_nobody me None rs order ns = refl
+asked_nobody me (Some n) rs order ns = refl
 
 -- nor for signal 0
-pub asked_none : (me : Process) (qs : List Process) (order ns : List ℕ) → asking_signalled me None qs order ns ≡ ns
+pub asked_none : (me : Process) (qs rs : List Process) (order ns : List ℕ) → asking_signalled me None qs rs order ns ≡ ns
 unfolding asking_signalled
-asked_none me qs order ns = refl
+asked_none me qs rs order ns = refl
 
 -- nor who may not be signalled
-pub asked_refused : (me : Process) (s : Option ℕ) (q : Process) (order ns : List ℕ) → may me s q ≡ false → asking_signalled me s (q ∷ []) order ns ≡ ns
+pub asked_refused : (me : Process) (s : Option ℕ) (q : Process) (rs : List Process) (order ns : List ℕ) → may me s q ≡ false → asking_signalled me s (q ∷ []) rs order ns ≡ ns
 unfolding asking_signalled permitted asking_all
-asked_refused me None q order ns e = refl
-asked_refused me (Some n) q order ns e = rw e refl
+asked_refused me None q rs order ns e = refl
+asked_refused me (Some n) q rs order ns e = rw e refl
 
 -- who may be is
-pub asked_one : (it : Facts) (me q : Process) (s : Option ℕ) (n : ℕ) (order ns : List ℕ) → it ≡ facts_of q → s ≡ Some n → may me s q ≡ true → asking it.pid order ns ≡ asking_signalled me s (q ∷ []) order ns
+asking_one : (me : Process) (n : ℕ) (q : Process) (rs : List Process) (order ns : List ℕ) → may me (Some n) q ≡ true → asking_signalled me (Some n) (q ∷ []) rs order ns ≡ asking_generated (sent_by me.pid n) (lookup q.pid rs) order ns
 unfolding asking_signalled permitted asking_all
-asked_one it me q s n order ns f some allowed =
-    let yes : may me (Some n) q ≡ true = ap (λ s. may me s q) (sym some) ∙ allowed in
-    rw some (ap (λ (f : Facts). asking f.pid order ns) f ∙ rw yes refl)
+asking_one me n q rs order ns e = rw e refl
+
+-- the same of its facts
+pub asked_one : (it : Facts) (me q : Process) (s : Option ℕ) (n : ℕ) (signal : PendingSignal) (rs : List Process) (order ns : List ℕ) → it ≡ facts_of q → s ≡ Some n → signal ≡ sent_by me.pid n → may me s q ≡ true
+    → asking_generated signal (lookup it.pid rs) order ns ≡ asking_signalled me s (q ∷ []) rs order ns
+asked_one it me q s n signal rs order ns f some is allowed =
+    ap (λ x. asking_generated x (lookup it.pid rs) order ns) is
+    ∙ ap (λ (f : Facts). asking_generated (sent_by me.pid n) (lookup f.pid rs) order ns) f
+    ∙ sym (asking_one me n q rs order ns (ap (λ s. may me s q) (sym some) ∙ allowed))
+    ∙ ap (λ s. asking_signalled me s (q ∷ []) rs order ns) (sym some)
 
 -- whether it may be decides what is found
 pub sending_one : (me : Process) (s : Option ℕ) (q : Process) (b : Bool) → may me s q ≡ b → sending_permitted (permitted me s (q ∷ [])) ≡ cond b found.Permitted found.NobodyPermitted

@@ -8,7 +8,8 @@ use Rattle.posix.specs.Tables.{lookup, at, changed, inserted, removed, reparente
 use Rattle.posix.specs.States.{World, State, boot, process, change, is_in, without}
 use Rattle.posix.specs.Regular.{IsRegular}
 use Rattle.posix.specs.Generation.{signalled}
-use Rattle.posix.specs.Ends.{made_zombie, ended, noticed, ignores_children, child_signal, is_dropping, drop_child, notice_of_end}
+use Rattle.posix.specs.Ends.{made_zombie, ended, is_dropping, drop_child, notice_of_end}
+use Rattle.posix.specs.Notices.{noticed, ignores_children, child_signal}
 use Rattle.posix.specs.Waits.{news_told}
 use Rattle.posix.specs.Alarms.{with_alarm, is_due, rung, ring_at, ring_all}
 use Rattle.posix.specs.Step.{set_cpu}

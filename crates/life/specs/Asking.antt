@@ -1,9 +1,15 @@
 -- Who is to be asked whether it can act, and who has something to report.
 use Rattle.std.specs.Prelude.{◌≡◌, ℕ, ◌==◌, ◌&&◌, not, if◌then◌else◌, List, [], ◌∷◌, Option, Some, None}
+use Rattle.posix.specs.declared.process.Effect.{Effect}
+use Rattle.posix.specs.declared.process.Effect.TheVariants as effect
+use Rattle.posix.specs.declared.process.PendingSignal.{PendingSignal}
+use Rattle.posix.specs.SignalNumbers.{CONT}
 use Rattle.posix.specs.Processes.{Process}
-use Rattle.posix.specs.Tables.{pids}
+use Rattle.posix.specs.Tables.{lookup, pids}
 use Rattle.posix.specs.States.{is_in, without}
-use Rattle.posix.specs.Sends.{permitted}
+use Rattle.posix.specs.Generation.{effect_of}
+use Rattle.posix.specs.Notices.{generated_for}
+use Rattle.posix.specs.Sends.{permitted, sent_by}
 use Rattle.pidset.specs.Numbers.{with_number}
 use Rattle.pidset.specs.Children.{ArePairs, ChildSetView, is_child_in}
 
@@ -16,15 +22,41 @@ with_numbers (p ∷ ps) ns = with_number p (with_numbers ps ns)
 abbrev pub asking : ℕ → List ℕ → List ℕ → List ℕ
 asking p order ns = if is_in p order then ns else with_number p ns
 
--- several have, one after another
-unfoldable pub asking_all : List ℕ → List ℕ → List ℕ → List ℕ
-asking_all [] order ns = ns
-asking_all (p ∷ ps) order ns = asking_all ps order (asking p order ns)
+-- a parent that is there has to be asked; number 0 is nobody's
+abbrev pub with_parent : ℕ → List ℕ → List ℕ
+with_parent parent ns = if parent == 0 then ns else with_number parent ns
 
--- a signal was sent to those of these processes that may be signalled; signal 0 only checks
-unfoldable pub asking_signalled : Process → Option ℕ → List Process → List ℕ → List ℕ → List ℕ
-asking_signalled me None qs order ns = ns
-asking_signalled me (Some n) qs order ns = asking_all (pids (permitted me (Some n) qs)) order ns
+-- a child was stopped or continued: both are asked
+abbrev pub asking_changed : Process → List ℕ → List ℕ
+asking_changed r ns = with_parent r.parent (with_number r.pid ns)
+
+abbrev pub asking_effect : Effect → Process → List ℕ → List ℕ
+asking_effect effect.Nothing r ns = ns
+asking_effect effect.Continued r ns = asking_changed r ns
+
+-- a signal was generated for a process that is there
+abbrev pub asking_generated : PendingSignal → Option Process → List ℕ → List ℕ → List ℕ
+asking_generated signal None order ns = ns
+asking_generated signal (Some r) order ns = asking_effect (effect_of r.pid r.life signal r.signals) r (asking r.pid order ns)
+
+-- and for several of these processes, one after another
+unfoldable pub asking_all : PendingSignal → List ℕ → List Process → List ℕ → List ℕ → List ℕ
+asking_all signal [] rs order ns = ns
+asking_all signal (p ∷ ps) rs order ns = asking_all signal ps (generated_for signal (lookup p rs) rs) order (asking_generated signal (lookup p rs) order ns)
+
+-- a signal was sent to those who may be signalled; signal 0 only checks
+unfoldable pub asking_signalled : Process → Option ℕ → List Process → List Process → List ℕ → List ℕ → List ℕ
+asking_signalled me None qs rs order ns = ns
+asking_signalled me (Some n) qs rs order ns = asking_all (sent_by me.pid n) (pids (permitted me (Some n) qs)) rs order ns
+
+-- how many slots are read where a signal is generated: CONT may continue its process, whose parent gets notice
+abbrev pub slots_of_signal : ℕ → ℕ
+slots_of_signal n = if n == CONT then 4 else 1
+
+-- for signal 0 none
+abbrev pub slots_of_send : Option ℕ → ℕ
+slots_of_send None = 0
+slots_of_send (Some n) = slots_of_signal n
 
 -- where the record of p has gone, whose parent this was, the parent is asked, and p no more
 abbrev pub without_gone : ℕ → Option ℕ → List ℕ → List ℕ

@@ -5,7 +5,8 @@ ghost use Rattle.posix.specs.Processes.{Process, is_zombie};
 ghost use Rattle.posix.specs.Tables.{lookup, changed, removed, children_in};
 ghost use Rattle.posix.specs.Regular.{CanInherit};
 ghost use Rattle.posix.specs.States.{process};
-ghost use Rattle.posix.specs.Ends.{depart as departing, halt as halting, end_with_heir, child_signal as child_signal_of, notice_of_end as noticing_end, tell_of_all, zombies_of, noticed, is_dropping, drops_children as drops_children_of};
+ghost use Rattle.posix.specs.Ends.{depart as departing, halt as halting, end_with_heir, notice_of_end as noticing_end, tell_of_all, zombies_of, is_dropping, drops_children as drops_children_of};
+ghost use Rattle.posix.specs.Notices.{child_signal as child_signal_of, noticed};
 ghost use Rattle.life.specs.Machines.{CanGo, IsGone, IsCounted};
 ghost use Rattle.life.specs.Asking.{without_gone};
 ghost use Rattle.pidset.specs.Numbers.{with_number};
@@ -185,8 +186,8 @@ fn notice_in<K: Kin>(table: &mut K, pid: Pid, signal: PendingSignal) -> bool
     drops
 }
 
-/// Notice that a child ended, as a signal (XSH _exit).
-fn child_signal(child: Pid, status: Status) -> PendingSignal
+/// Notice that a child ended, was stopped or was continued, as a signal (XSH _exit, sigaction).
+pub(crate) fn child_signal(child: Pid, status: Status) -> PendingSignal
     ensures { result ≡ child_signal_of child status }
 {
     PendingSignal {

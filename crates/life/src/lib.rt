@@ -10,9 +10,11 @@ mod births;
 pub mod caller;
 pub mod census;
 mod ends;
+mod groups;
 pub mod machine;
 pub mod sends;
 pub mod signals;
+pub mod stops;
 pub mod waits;
 pub mod walks;
 

@@ -9,7 +9,7 @@ ghost use Rattle.posix.specs.Credentials.{may};
 ghost use Rattle.posix.specs.Sends.{is_target as is_target_of, targets, permitted, sending_permitted, sending as sending_of, sent_among, sent as sent_to, sent_by};
 ghost use Rattle.proctable.specs.Body.{facts_of};
 ghost use Rattle.life.specs.Callers.{process_like};
-ghost use Rattle.life.specs.Asking.{asking_signalled};
+ghost use Rattle.life.specs.Asking.{asking_signalled, slots_of_send};
 
 use crate::caller::Caller;
 use crate::machine::Machine;
@@ -54,8 +54,8 @@ impl<K: Kin> Machine<K> {
         requires { IsSome (process self.old.state it.now.pid) }
         ensures sending { (q : Process) → it.now ≡ facts_of q → result ≡ sending_permitted (permitted (process_like me.now) sig.now (q ∷ [])) }
         ensures state { (q : Process) → it.now ≡ facts_of q → self.new.state ≡ record (self.old.state) { processes = sent_among (process_like me.now) sig.now (q ∷ []) self.old.state.processes } }
-        ensures asked { (q : Process) → it.now ≡ facts_of q → self.new.asked ≡ asking_signalled (process_like me.now) sig.now (q ∷ []) self.old.state.order self.old.asked }
-        ensures reads { self.new.reads ≤ self.old.reads + 1 }
+        ensures asked { (q : Process) → it.now ≡ facts_of q → self.new.asked ≡ asking_signalled (process_like me.now) sig.now (q ∷ []) self.old.state.processes self.old.state.order self.old.asked }
+        ensures reads { self.new.reads ≤ self.old.reads + slots_of_send sig.now }
     {
         if !may_signal(me, *sig, it) {
             return Sending::NobodyPermitted;
@@ -70,8 +70,8 @@ impl<K: Kin> Machine<K> {
     fn send_to_one(&mut self, me: &Caller, sig: &Option<Sig>, target: &Target, pid: Pid) -> Sending
         ensures sending { result ≡ sending_of (process_like me.now) target.now sig.now (filter (has_pid pid) self.old.state.processes) }
         ensures state { self.new.state ≡ record (self.old.state) { processes = sent_among (process_like me.now) sig.now (targets (process_like me.now) target.now (filter (has_pid pid) self.old.state.processes)) self.old.state.processes } }
-        ensures asked { self.new.asked ≡ asking_signalled (process_like me.now) sig.now (targets (process_like me.now) target.now (filter (has_pid pid) self.old.state.processes)) self.old.state.order self.old.asked }
-        ensures reads { self.new.reads ≤ self.old.reads + 2 }
+        ensures asked { self.new.asked ≡ asking_signalled (process_like me.now) sig.now (targets (process_like me.now) target.now (filter (has_pid pid) self.old.state.processes)) self.old.state.processes self.old.state.order self.old.asked }
+        ensures reads { self.new.reads ≤ self.old.reads + 1 + slots_of_send sig.now }
         ensures regular { IsRegular self.old.state }
     {
         match self.facts(pid) {
@@ -100,8 +100,8 @@ impl<K: Kin> Machine<K> {
     fn send_to_all(&mut self, me: &Caller, sig: &Option<Sig>, target: &Target) -> Sending
         ensures sending { result ≡ sending_of (process_like me.now) target.now sig.now self.old.state.processes }
         ensures state { self.new.state ≡ record (self.old.state) { processes = sent_to (process_like me.now) target.now sig.now self.old.state.processes } }
-        ensures asked { self.new.asked ≡ asking_signalled (process_like me.now) sig.now (targets (process_like me.now) target.now self.old.state.processes) self.old.state.order self.old.asked }
-        ensures reads { self.new.reads ≤ self.old.reads + 2 + 4 * length self.old.state.processes }
+        ensures asked { self.new.asked ≡ asking_signalled (process_like me.now) sig.now (targets (process_like me.now) target.now self.old.state.processes) self.old.state.processes self.old.state.order self.old.asked }
+        ensures reads { self.new.reads ≤ self.old.reads + 2 + (3 + slots_of_send sig.now) * length self.old.state.processes }
     {
         let mut sending = Sending::NobodyFound;
         let mut next = self.next_target(me, target, Pid::NONE);
@@ -117,9 +117,9 @@ impl<K: Kin> Machine<K> {
     pub fn send(&mut self, me: &Caller, target: Target, sig: Option<Sig>) -> Sending
         ensures sending { result ≡ sending_of (process_like me.now) target sig self.old.state.processes }
         ensures state { self.new.state ≡ record (self.old.state) { processes = sent_to (process_like me.now) target sig self.old.state.processes } }
-        ensures asked { self.new.asked ≡ asking_signalled (process_like me.now) sig (targets (process_like me.now) target self.old.state.processes) self.old.state.order self.old.asked }
-        ensures reads_of_all { self.new.reads ≤ self.old.reads + 2 + 4 * length self.old.state.processes }
-        ensures reads { (p : ℕ) → target ≡ Target.Process p → self.new.reads ≤ self.old.reads + 2 }
+        ensures asked { self.new.asked ≡ asking_signalled (process_like me.now) sig (targets (process_like me.now) target self.old.state.processes) self.old.state.processes self.old.state.order self.old.asked }
+        ensures reads_of_all { self.new.reads ≤ self.old.reads + 2 + (3 + slots_of_send sig) * length self.old.state.processes }
+        ensures reads { (p : ℕ) → target ≡ Target.Process p → self.new.reads ≤ self.old.reads + 1 + slots_of_send sig }
     {
         match target {
             Target::Process(pid) => self.send_to_one(me, &sig, &target, pid),

@@ -1,25 +1,28 @@
 //! Signals that are generated for a process.
 
 ghost use Rattle.std.specs.Prelude.{◌≡◌, ◌+◌, ◌≤◌, IsSome};
-ghost use Rattle.posix.specs.States.{process, change};
-ghost use Rattle.posix.specs.Generation.{signalled};
-ghost use Rattle.life.specs.Asking.{asking};
+ghost use Rattle.posix.specs.States.{process};
+ghost use Rattle.posix.specs.Notices.{generated_for};
+ghost use Rattle.life.specs.Asking.{asking_generated, slots_of_signal};
 
 use crate::asking::ask;
 use crate::machine::Machine;
-use posix::{PendingSignal, Pid};
+use posix::{Effect, PendingSignal, Pid};
 use proctable::Kin;
 
 impl<K: Kin> Machine<K> {
-    /// A signal is generated for a process that is there (XSH 2.4.1).
+    /// A signal is generated for a process that is there. CONT continues one that is stopped, and its parent
+    /// gets notice (XSH 2.4.1, 2.4.3).
     pub fn signal(&mut self, pid: Pid, signal: PendingSignal)
         requires { IsSome (process self.old.state pid) }
-        ensures state { self.new.state ≡ change self.old.state pid (signalled signal) }
-        ensures reads { self.new.reads ≤ self.old.reads + 1 }
-        ensures asked { self.new.asked ≡ asking pid self.old.state.order self.old.asked }
+        ensures state { self.new.state ≡ record (self.old.state) { processes = generated_for signal (process self.old.state pid) self.old.state.processes } }
+        ensures reads { self.new.reads ≤ self.old.reads + slots_of_signal signal.sig }
+        ensures asked { self.new.asked ≡ asking_generated signal (process self.old.state pid) self.old.state.order self.old.asked }
     {
         ask(&mut self.to_ask, &self.order, pid);
-        // The effect isn't acted upon yet: as nothing stops a process, none is continued.
-        self.table.update(pid).signal(pid, signal);
+        match self.table.update(pid).signal(pid, signal) {
+            Effect::Nothing => {}
+            Effect::Continued => self.continue_process(pid),
+        }
     }
 }

@@ -1,8 +1,8 @@
-//! Walks over processes, from the least number on. Whoever goes over several processes does it by these.
+//! Walks over processes, from the least number on. Whoever goes over several processes does it by these, or
+//! from member to member of a process group.
 
-ghost use Rattle.std.specs.Prelude.{◌≡◌, ◌+◌, ◌≤◌, ◌*◌, [], IsSome, length, slice_get};
-ghost use Rattle.posix.specs.Processes.{Process};
-ghost use Rattle.posix.specs.Tables.{IsNext, first_pid, above, next_above, left_of, children_in, next_sibling as next_sibling_of, is_member as is_member_of, members_in};
+ghost use Rattle.std.specs.Prelude.{◌≡◌, ◌+◌, ◌≤◌, [], IsSome, slice_get};
+ghost use Rattle.posix.specs.Tables.{IsNext, first_pid, above, next_above, children_in, next_sibling as next_sibling_of};
 ghost use Rattle.posix.specs.States.{process};
 ghost use Rattle.posix.specs.Regular.{IsRegular};
 ghost use Rattle.posix.specs.Settle.{wakes, NoWakeIsLost};
@@ -54,38 +54,6 @@ impl<K: Kin> Machine<K> {
         ensures regular { IsRegular self.now.state }
     {
         self.reporting.next_child(parent, after)
-    }
-
-    /// Whether a process is in this process group.
-    fn is_member(&mut self, pid: Pid, group: Pid) -> bool
-        ensures value { (it : Process) → process self.old.state pid ≡ Some it → result ≡ is_member_of group it }
-        ensures same { self.new.state ≡ self.old.state }
-        ensures asked { self.new.asked ≡ self.old.asked }
-        ensures reads { self.new.reads ≤ self.old.reads + 1 }
-    {
-        match self.table.get(pid) {
-            Some(facts) => facts.group == group,
-            None => false,
-        }
-    }
-
-    /// The member of a process group with the least number above `after`, zombies included (XBD 3 Process
-    /// Group). Its first is that after number 0. At most two slots are read of each process up to it, and two more.
-    pub(crate) fn next_member(&mut self, group: Pid, after: Pid) -> Option<Pid>
-        ensures value { result ≡ first_pid (above after (members_in group self.old.state.processes)) }
-        ensures same { self.new.state ≡ self.old.state }
-        ensures asked { self.new.asked ≡ self.old.asked }
-        ensures reads { self.new.reads + 2 * length (left_of result self.old.state.processes) ≤ self.old.reads + 2 + 2 * length (above after self.old.state.processes) }
-        ensures regular { IsRegular self.old.state }
-    {
-        let mut next = self.next_after(after);
-        while let Some(pid) = next {
-            if self.is_member(pid, group) {
-                return Some(pid);
-            }
-            next = self.next_after(pid);
-        }
-        None
     }
 
     /// Who is to be asked next, after the number `after`, whether it can act: nobody between them has to be

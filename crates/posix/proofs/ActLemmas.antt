@@ -1,5 +1,5 @@
 -- What a process does as its turn comes changes its own place alone, and raises the count of births by one at most.
-use Rattle.std.proofs.Common.{◌≡◌, ◌≤◌, ℕ, ◌+◌, Bool, true, false, cond, refl, ap, sym, ◌∙◌, arith, List, [], ◌∷◌, ◌++◌, Option, Some, None, ◌==◌, ℤ, inl, inr, ◌⊎◌, Result, Ok, Err}
+use Rattle.std.proofs.Common.{◌≡◌, ◌≤◌, ℕ, ◌+◌, Bool, true, false, cond, not, ◌&&◌, refl, ap, sym, ◌∙◌, arith, List, [], ◌∷◌, ◌++◌, Option, Some, None, ◌==◌, ℤ, inl, inr, ◌⊎◌, Result, Ok, Err}
 use Rattle.std.proofs.lemmas.Bool.{eqb-true}
 use Rattle.posix.specs.declared.call.Call.{Call}
 use Rattle.posix.specs.declared.call.Call.TheVariants.{Exit, Fork, Waitpid, Pause, SchedYield, Getpid, Getppid, Getuid, Geteuid, Getgid, Getegid, Setuid, Seteuid, Setgid, Setegid, Kill, Sigaction, Sigprocmask, Sigpending, Sigsuspend, Sigreturn, Alarm}
@@ -19,7 +19,7 @@ use Rattle.posix.specs.declared.process.Report.TheVariants as found
 use Rattle.posix.specs.declared.process.Sending.{Sending}
 use Rattle.posix.specs.declared.process.Sending.TheVariants as sends
 use Rattle.posix.specs.declared.target.Target.{Target}
-use Rattle.posix.specs.SignalNumbers.{KILL, SEGV, default_action}
+use Rattle.posix.specs.SignalNumbers.{KILL, SEGV, STOP, default_action}
 use Rattle.posix.specs.SignalSets.{has}
 use Rattle.posix.specs.Statuses.{exited, killed}
 use Rattle.posix.specs.Processes.{Process, Cpu, argument}
@@ -28,13 +28,14 @@ use Rattle.posix.specs.Execute.{exec_one}
 use Rattle.posix.specs.Outcomes.{Outcome, Attempted, Done, Block, Reply, answers}
 use Rattle.posix.specs.Credentials.{setuid, seteuid, setgid, setegid}
 use Rattle.posix.specs.Generation.{action, is_pending}
+use Rattle.posix.specs.Groups.{is_orphaned}
 use Rattle.posix.specs.Choice.{chosen, carried_by, from_kernel}
 use Rattle.posix.specs.Handlers.{handles, is_full, newest_frame}
 use Rattle.posix.specs.Births.{fork_as}
 use Rattle.posix.specs.Ends.{end_process}
 use Rattle.posix.specs.Targets.{target_in}
 use Rattle.posix.specs.Waits.{wait, wait_with, report, options_in, are_known, has_option, WNOHANG}
-use Rattle.posix.specs.Delivery.{handle, act_by_default, act_on, take_out, deliver, fault_with, fault, return_to, return_from_handler}
+use Rattle.posix.specs.Delivery.{handle, stop_process, act_by_default, act_on, take_out, deliver, fault_with, fault, return_to, return_from_handler}
 use Rattle.posix.specs.Sends.{sending, send_with, signal_or_none, kill_with, kill}
 use Rattle.posix.specs.Alarms.{alarm}
 use Rattle.posix.specs.SignalCalls.{set_credentials, sigaction, sigprocmask, sigpending}
@@ -96,11 +97,16 @@ acted_handle s r signal address =
     let h = acted_end (change s r.pid (handles signal address)) r (killed SEGV) in
     acted_either r.pid s (is_full r.signals) _ _ (record { births = h.births; ticks = h.ticks; order = h.order }) (stays r.pid s _ refl refl refl)
 
+-- who is stopped loses its place
+acted_stop : (s : State) (r : Process) (n : ℕ) → Acted r.pid s (stop_process s r n).state
+unfolding stop_process
+acted_stop s r n = leaves r.pid s _ refl refl refl
+
 -- a default action
 acted_default : (s : State) (r : Process) (n : ℕ) (a : DefaultAction) → Acted r.pid s (act_by_default s r n a).state
 acted_default s r n default.Terminate = acted_end s r (killed n)
 acted_default s r n default.Ignore = stays r.pid s _ refl refl refl
-acted_default s r n default.Stop = stays r.pid s _ refl refl refl
+acted_default s r n default.Stop = acted_either r.pid s (not (n == STOP) && is_orphaned r.group s.processes) _ _ (stays r.pid s _ refl refl refl) (acted_stop s r n)
 acted_default s r n default.Continue = stays r.pid s _ refl refl refl
 
 -- the action of a signal

@@ -3,6 +3,7 @@ pub mod TableLemmas
 pub mod WalkLemmas
 pub mod MapLemmas
 pub mod RegularLemmas
+pub mod ChangeLemmas
 pub mod WaitLemmas
 pub mod ReportingLemmas
 pub mod ReportLemmas

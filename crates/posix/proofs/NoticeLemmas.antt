@@ -2,7 +2,8 @@
 use Rattle.std.proofs.Common.{◌≡◌, ℕ, true, false, cond, refl, ap, ◌∙◌, List, [], ◌∷◌, ◌==◌}
 use Rattle.posix.specs.Processes.{Process}
 use Rattle.posix.specs.States.{State, change}
-use Rattle.posix.specs.Ends.{noticed, child_signal, is_dropping, drop_child, notice_of_end, status_of, zombies_of, tell_of_all, halt, depart, end_with_heir}
+use Rattle.posix.specs.Ends.{is_dropping, drop_child, notice_of_end, status_of, zombies_of, tell_of_all, halt, depart, end_with_heir}
+use Rattle.posix.specs.Notices.{noticed, child_signal}
 
 -- only the records, and the count of those dropped, may have changed
 abbrev pub OnlyRecords : State → State → Type 0

@@ -1,6 +1,6 @@
 -- What keeps a state regular.
 use Rattle.std.proofs.Common.{◌≡◌, ◌≢◌, ℕ, ◌+◌, ◌≤◌, Option, Bool, true, false, cond, refl, ap, sym, ◌∙◌, arith, subst, List, [], ◌∷◌, map, Some, None, ◌==◌, inl, inr, ℤ}
-use Rattle.std.specs.Option.{IsSome, IfSome}
+use Rattle.std.specs.Option.{IsSome}
 use Rattle.std.proofs.lemmas.Bool.{eqb-true, eqb-false, eq-eqb, ne_eqb, cases_eq, cond_both}
 use Rattle.posix.specs.declared.process.PendingSignal.{PendingSignal}
 use Rattle.posix.specs.Processes.{Process, Cpu, is_zombie, first_process}
@@ -9,7 +9,8 @@ use Rattle.posix.specs.States.{World, State, boot, is_in, without, change, lose_
 use Rattle.posix.specs.Regular.{IsRegular, IsBounded, IsPlaced, CanInherit, IsDistinct, IsAhead}
 use Rattle.posix.specs.Generation.{signalled}
 use Rattle.posix.specs.Handlers.{handles, is_full}
-use Rattle.posix.specs.Ends.{ended, made_zombie, halt, depart, noticed, ignores_children}
+use Rattle.posix.specs.Ends.{ended, made_zombie, halt, depart}
+use Rattle.posix.specs.Notices.{noticed, ignores_children}
 use Rattle.posix.specs.Waits.{news_told}
 use Rattle.posix.specs.Delivery.{take_out}
 use Rattle.posix.specs.Step.{set_cpu}

@@ -8,7 +8,7 @@ use Rattle.posix.specs.Tables.{IsRising, lookup, at, changed, inserted, removed,
 use Rattle.posix.specs.States.{State, process, is_in, change, lose_place, go_last, without}
 use Rattle.posix.specs.Settle.{Covers, can_act}
 use Rattle.posix.specs.Generation.{signalled}
-use Rattle.posix.specs.Ends.{noticed, ignores_children}
+use Rattle.posix.specs.Notices.{noticed, ignores_children}
 use Rattle.posix.specs.Alarms.{is_due, with_alarm, rung, ring_at}
 use Rattle.posix.specs.Step.{set_cpu}
 use Rattle.posix.proofs.MemberLemmas.{in_append, others_stay, apart_first, apart_rest}

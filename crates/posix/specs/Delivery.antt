@@ -1,12 +1,12 @@
 -- Delivery of signals, and machine faults, XSH 2.4.1 and 2.4.3.
-use Rattle.std.specs.Prelude.{ℕ, ◌==◌, if◌then◌else◌, List, [], ◌∷◌, ◌++◌, Option, Some, None, ℤ}
+use Rattle.std.specs.Prelude.{ℕ, ◌==◌, ◌&&◌, not, if◌then◌else◌, List, [], ◌∷◌, ◌++◌, Option, Some, None, ℤ}
 use Rattle.posix.specs.declared.call.Call.{Call}
 use Rattle.posix.specs.declared.call.Call.TheVariants as call
 use Rattle.posix.specs.declared.errno.Errno.TheVariants.{EINTR}
 use Rattle.posix.specs.declared.sig.DefaultAction.{DefaultAction}
 use Rattle.posix.specs.declared.sig.DefaultAction.TheVariants as default
 use Rattle.posix.specs.declared.entry.Entry.{Entry}
-use Rattle.posix.specs.declared.entry.Entry.TheVariants.{Called, Handled, Discarded, Returned}
+use Rattle.posix.specs.declared.entry.Entry.TheVariants.{Called, Handled, Stopped, Discarded, Returned}
 use Rattle.posix.specs.declared.process.Action.{Action}
 use Rattle.posix.specs.declared.process.Blocked.{Blocked}
 use Rattle.posix.specs.declared.process.Blocked.TheVariants as blocked
@@ -14,13 +14,16 @@ use Rattle.posix.specs.declared.process.Frame.{Frame}
 use Rattle.posix.specs.declared.process.Handler.{Handler}
 use Rattle.posix.specs.declared.process.Handler.TheVariants as handler
 use Rattle.posix.specs.declared.process.PendingSignal.{PendingSignal}
-use Rattle.posix.specs.SignalNumbers.{SEGV, default_action}
+use Rattle.posix.specs.SignalNumbers.{SEGV, STOP, default_action}
 use Rattle.posix.specs.SignalSets.{has}
-use Rattle.posix.specs.Statuses.{killed}
+use Rattle.posix.specs.Statuses.{killed, stopped}
 use Rattle.posix.specs.Processes.{Process}
-use Rattle.posix.specs.States.{State, change}
+use Rattle.posix.specs.Tables.{changed}
+use Rattle.posix.specs.States.{State, change, lose_place}
 use Rattle.posix.specs.Outcomes.{Outcome, refusal}
 use Rattle.posix.specs.Generation.{action}
+use Rattle.posix.specs.Notices.{told_of_change, stopped_by}
+use Rattle.posix.specs.Groups.{is_orphaned}
 use Rattle.posix.specs.Choice.{taken, carried_by, from_kernel}
 use Rattle.posix.specs.Handlers.{handles, is_full, is_interrupted, newest_frame, returned}
 use Rattle.posix.specs.Ends.{end_process}
@@ -48,11 +51,21 @@ handle s r signal address =
 abbrev pub discard : State → ℕ → ℕ → Outcome
 discard s p n = record { state = s; entries = Discarded p n ∷ [] }
 
--- No signal that stops is sent yet.
+-- The process is stopped and loses its place, and its parent gets notice. A call that it is blocked in stays.
+unfoldable pub stop_process : State → Process → ℕ → Outcome
+stop_process s r n = record {
+  state = record (lose_place s r.pid) { processes = told_of_change (stopped n) r (changed r.pid (stopped_by n) s.processes) };
+  entries = Stopped r.pid n ∷ [];
+}
+
+-- TSTP, TTIN and TTOU have no effect where the group of the process is orphaned now, XSH 2.4.3.
+abbrev pub stop_or_discard : State → Process → ℕ → Outcome
+stop_or_discard s r n = if not (n == STOP) && is_orphaned r.group s.processes then discard s r.pid n else stop_process s r n
+
 abbrev pub act_by_default : State → Process → ℕ → DefaultAction → Outcome
 act_by_default s r n default.Terminate = end_process s r (killed n)
 act_by_default s r n default.Ignore = discard s r.pid n
-act_by_default s r n default.Stop = discard s r.pid n
+act_by_default s r n default.Stop = stop_or_discard s r n
 act_by_default s r n default.Continue = discard s r.pid n
 
 -- default actions have no effect on process 1, kill(2)

@@ -1,17 +1,17 @@
 -- Ends, XSH _exit, Consequences of Process Termination.
-use Rattle.std.specs.Prelude.{ℕ, ◌+◌, ◌==◌, Bool, true, false, ◌||◌, if◌then◌else◌, List, [], ◌∷◌, filter, None, pos}
+use Rattle.std.specs.Prelude.{ℕ, ◌+◌, ◌==◌, Bool, true, false, ◌||◌, if◌then◌else◌, List, [], ◌∷◌, filter, None}
 use Rattle.std.specs.Option.{option_map_or}
 use Rattle.posix.specs.declared.entry.Entry.TheVariants.{Ended, Halted}
 use Rattle.posix.specs.declared.process.Life.{Life}
 use Rattle.posix.specs.declared.process.Life.TheVariants.{Running, Stopped, Zombie}
 use Rattle.posix.specs.declared.process.News.TheVariants as news
-use Rattle.posix.specs.declared.process.PendingSignal.{PendingSignal}
 use Rattle.posix.specs.SignalNumbers.{CHLD}
 use Rattle.posix.specs.Processes.{Process, Signals, nothing_pending, is_zombie}
 use Rattle.posix.specs.Tables.{lookup, changed, removed, adopted, children_in}
 use Rattle.posix.specs.States.{State, change, without, lose_place}
 use Rattle.posix.specs.Outcomes.{Outcome}
-use Rattle.posix.specs.Generation.{action, has_flag, is_ignored, signalled, SA_NOCLDWAIT}
+use Rattle.posix.specs.Generation.{action, has_flag, SA_NOCLDWAIT}
+use Rattle.posix.specs.Notices.{child_signal, ignores_children, noticed}
 
 -- it has ended, and keeps all else
 unfoldable pub ended : ℕ → Process → Process
@@ -42,17 +42,6 @@ abbrev pub depart : State → ℕ → ℕ → ℕ → State
 depart s p heir status = record s { processes = adopted p heir (changed p (made_zombie status) s.processes); order = without p s.order }
 
 -- ---- notice of an end
-
--- CHLD with the status word as its value and the child as its sender
-abbrev pub child_signal : ℕ → ℕ → PendingSignal
-child_signal child status = record { sig = CHLD; carried = record { value = pos status; sender = child } }
-
-abbrev pub ignores_children : Signals → Bool
-ignores_children g = is_ignored (action g CHLD).handler
-
--- a parent that ignores CHLD gets none
-unfoldable pub noticed : PendingSignal → Process → Process
-noticed signal r = if ignores_children r.signals then r else signalled signal r
 
 -- the parent ignores CHLD or has SA_NOCLDWAIT, XSH _exit and sigaction
 abbrev pub drops_children : Signals → Bool

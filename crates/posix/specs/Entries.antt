@@ -2,7 +2,7 @@
 use Rattle.std.specs.Prelude.{ℕ, Bool, false, List, map, count_by}
 use Rattle.posix.specs.Statuses.{tells_end}
 use Rattle.posix.specs.declared.entry.Entry.{Entry}
-use Rattle.posix.specs.declared.entry.Entry.TheVariants.{Noted, Called, Reported, NoMemory, Handled, Discarded, Returned, Ended, Halted}
+use Rattle.posix.specs.declared.entry.Entry.TheVariants.{Noted, Called, Reported, NoMemory, Handled, Discarded, Stopped, Returned, Ended, Halted}
 
 -- an entry with the number of its event
 pub record Line : Type 0 where
@@ -24,6 +24,7 @@ reports_end (Reported pid child status) = tells_end status
 reports_end (NoMemory pid call) = false
 reports_end (Handled pid sig value sender) = false
 reports_end (Discarded pid sig) = false
+reports_end (Stopped pid sig) = false
 reports_end (Returned pid) = false
 reports_end (Ended pid status) = false
 reports_end Halted = false

@@ -1,5 +1,5 @@
 -- Generation of signals: what a signal that is sent to a process does to its signals, XSH 2.4.1 and 2.4.3.
-use Rattle.std.specs.Prelude.{ℕ, ◌-◌, Bool, true, false, ◌&&◌, ◌||◌, not, if◌then◌else◌, ◌==◌, List, [], ◌∷◌, Option, Some, None, is_some, slice_index_or, slice_set, bit_and}
+use Rattle.std.specs.Prelude.{ℕ, ◌-◌, Bool, true, false, ◌&&◌, ◌||◌, not, if◌then◌else◌, ◌==◌, Option, Some, None, is_some, slice_index_or, slice_set, bit_and}
 use Rattle.posix.specs.declared.sig.DefaultAction.{DefaultAction}
 use Rattle.posix.specs.declared.sig.DefaultAction.TheVariants as default
 use Rattle.posix.specs.declared.process.Action.{Action}
@@ -10,10 +10,9 @@ use Rattle.posix.specs.declared.process.PendingSignal.{PendingSignal}
 use Rattle.posix.specs.declared.process.Handler.{Handler}
 use Rattle.posix.specs.declared.process.Handler.TheVariants as handler
 use Rattle.posix.specs.declared.process.Life.{Life}
-use Rattle.posix.specs.SignalNumbers.{CONT, default_action}
+use Rattle.posix.specs.SignalNumbers.{CONT, STOP, TSTP, TTIN, TTOU, is_stop_signal, default_action}
 use Rattle.posix.specs.SignalSets.{has}
 use Rattle.posix.specs.Processes.{Process, Signals, initial_action, is_zombie, is_stopped}
-use Rattle.posix.specs.Tables.{changed}
 
 -- ---- actions
 
@@ -44,6 +43,9 @@ does_nothing handler.Ignore s = true
 does_nothing (handler.At address) s = false
 
 -- the flags of sigaction(2)
+abbrev pub SA_NOCLDSTOP : ℕ
+SA_NOCLDSTOP = 1
+
 abbrev pub SA_NOCLDWAIT : ℕ
 SA_NOCLDWAIT = 2
 
@@ -84,21 +86,31 @@ is_deaf p life g s = is_zombie life || (p == 1 && not (is_caught (action g s).ha
 abbrev pub keeps : Signals → ℕ → Bool
 keeps g s = has g.mask s || not (does_nothing (action g s).handler s)
 
--- The signals of process p after one is generated for it. That stop signals discard a pending CONT, and
--- CONT those and continues a stopped process, follows: nothing sends these yet.
+-- no stop signal is pending
+unfoldable pub without_stops : Signals → Signals
+without_stops g = with_pending STOP None (with_pending TSTP None (with_pending TTIN None (with_pending TTOU None g)))
+
+-- CONT discards the stop signals that are pending, and a stop signal a CONT that is, whether or not they are
+-- blocked or ignored, XSH 2.4.1.
+abbrev pub after_discards : ℕ → Signals → Signals
+after_discards s g =
+    if s == CONT then without_stops g
+    else if is_stop_signal s then with_pending CONT None g
+    else g
+
+-- The signals of process p after one is generated for it: discards come first, also where the signal
+-- itself isn't kept.
 unfoldable pub generated : ℕ → Life → PendingSignal → Signals → Signals
-generated p life signal g = if not (is_deaf p life g signal.sig) && keeps g signal.sig then make_pending signal g else g
+generated p life signal g =
+    if is_deaf p life g signal.sig then g
+    else (let h = after_discards signal.sig g in if keeps g signal.sig then make_pending signal h else h)
 
 -- What a signal that is generated does at once: CONT continues a process that is stopped, also where it is
 -- blocked or ignored, XSH 2.4.1 and 2.4.3.
 unfoldable pub effect_of : ℕ → Life → PendingSignal → Signals → Effect
 effect_of p life signal g =
-    if not (is_deaf p life g signal.sig) && (signal.sig == CONT && is_stopped life) then effect.Continued else effect.Nothing
+    if signal.sig == CONT && (is_stopped life && not (is_deaf p life g signal.sig)) then effect.Continued else effect.Nothing
 
+-- the process with a signal generated for it, but for what that does at once
 unfoldable pub signalled : PendingSignal → Process → Process
 signalled signal r = record r { signals = generated r.pid r.life signal r.signals }
-
--- a signal is generated for each of several processes, one after another
-unfoldable pub signalled_all : PendingSignal → List ℕ → List Process → List Process
-signalled_all signal [] rs = rs
-signalled_all signal (p ∷ ps) rs = signalled_all signal ps (changed p (signalled signal) rs)

@@ -12,6 +12,8 @@ pub mod Execute
 pub mod Outcomes
 pub mod Credentials
 pub mod Generation
+pub mod Notices
+pub mod Groups
 pub mod Choice
 pub mod Handlers
 pub mod Births

@@ -3,7 +3,7 @@ use Rattle.std.specs.Prelude.{ℕ, List, [], ◌∷◌, ◌++◌, codes, decimal
 use Rattle.std.specs.List.{join_with_byte}
 use Rattle.std.specs.Fmt.{signed_decimal}
 use Rattle.posix.specs.declared.entry.Entry.{Entry}
-use Rattle.posix.specs.declared.entry.Entry.TheVariants.{Noted, Called, Reported, NoMemory, Handled, Discarded, Returned, Ended, Halted}
+use Rattle.posix.specs.declared.entry.Entry.TheVariants.{Noted, Called, Reported, NoMemory, Handled, Discarded, Stopped, Returned, Ended, Halted}
 use Rattle.posix.specs.declared.call.Call.TheVariants.{Waitpid}
 use Rattle.posix.specs.Calls.{call_text}
 use Rattle.posix.specs.Entries.{Line}
@@ -15,6 +15,7 @@ words_of (Reported pid child status) = codes "call" ∷ decimal pid ∷ call_tex
 words_of (NoMemory pid call) = codes "call" ∷ decimal pid ∷ call_text call ∷ codes "=" ∷ codes "-11" ∷ codes "memory" ∷ []
 words_of (Handled pid sig value sender) = codes "handle" ∷ decimal pid ∷ decimal sig ∷ signed_decimal value ∷ decimal sender ∷ []
 words_of (Discarded pid sig) = codes "discard" ∷ decimal pid ∷ decimal sig ∷ []
+words_of (Stopped pid sig) = codes "stop" ∷ decimal pid ∷ decimal sig ∷ []
 words_of (Returned pid) = codes "return" ∷ decimal pid ∷ []
 words_of (Ended pid status) = codes "end" ∷ decimal pid ∷ decimal status ∷ []
 words_of Halted = codes "halt" ∷ []

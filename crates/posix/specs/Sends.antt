@@ -8,14 +8,14 @@ use Rattle.posix.specs.declared.process.Sending.{Sending}
 use Rattle.posix.specs.declared.process.Sending.TheVariants as found
 use Rattle.posix.specs.declared.target.Target.{Target}
 use Rattle.posix.specs.declared.target.Target.TheVariants as whom
-use Rattle.posix.specs.SignalNumbers.{is_served}
+use Rattle.posix.specs.SignalNumbers.{is_standard}
 use Rattle.posix.specs.Processes.{Process, argument}
 use Rattle.posix.specs.Tables.{pids}
 use Rattle.posix.specs.Targets.{target_in}
 use Rattle.posix.specs.States.{State}
 use Rattle.posix.specs.Outcomes.{Attempted, gives, refused}
 use Rattle.posix.specs.Credentials.{may}
-use Rattle.posix.specs.Generation.{signalled_all}
+use Rattle.posix.specs.Notices.{signalled_all}
 
 -- All are the processes but the sender and process 1, kill(2).
 abbrev pub is_target : Process → Target → Process → Bool
@@ -62,15 +62,15 @@ send_with s me target sig found.NobodyFound = refused s me.pid Kill ESRCH
 send_with s me target sig found.NobodyPermitted = refused s me.pid Kill EPERM
 send_with s me target sig found.Permitted = gives (record s { processes = sent me target sig s.processes }) me.pid Kill (pos 0)
 
--- the signal that a register names
+-- the signal that a register names, of the signals that kill and sigaction know: the standard ones, as yet
 abbrev pub signal_in : ℤ → Option ℕ
-signal_in (pos n) = if is_served n then Some n else None
+signal_in (pos n) = if is_standard n then Some n else None
 signal_in (negsuc n) = None
 
 -- a signal, or signal 0, which is none
 abbrev pub signal_or_none : ℤ → Result (Option ℕ) Errno
 signal_or_none (pos zero) = Ok None
-signal_or_none (pos (suc n)) = if is_served (suc n) then Ok (Some (suc n)) else Err EINVAL
+signal_or_none (pos (suc n)) = if is_standard (suc n) then Ok (Some (suc n)) else Err EINVAL
 signal_or_none (negsuc n) = Err EINVAL
 
 abbrev pub kill_with : State → Process → Target → Result (Option ℕ) Errno → Attempted

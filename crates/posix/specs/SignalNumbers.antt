@@ -1,5 +1,5 @@
 -- Signals by number (signal(7), x86), and what they do by default.
-use Rattle.std.specs.Prelude.{ℕ, Bool, ◌&&◌, ◌||◌, ◌==◌, not, if◌then◌else◌, nat_le}
+use Rattle.std.specs.Prelude.{ℕ, Bool, ◌&&◌, ◌||◌, ◌==◌, if◌then◌else◌, nat_le}
 use Rattle.posix.specs.declared.sig.DefaultAction.{DefaultAction}
 use Rattle.posix.specs.declared.sig.DefaultAction.TheVariants as default
 
@@ -24,6 +24,12 @@ CONT = 18
 abbrev pub STOP : ℕ
 STOP = 19
 
+abbrev pub TSTP : ℕ
+TSTP = 20
+
+abbrev pub TTIN : ℕ
+TTIN = 21
+
 abbrev pub TTOU : ℕ
 TTOU = 22
 
@@ -46,10 +52,6 @@ is_signal s = is_standard s || is_realtime s
 -- STOP, TSTP, TTIN, TTOU
 abbrev pub is_stop_signal : ℕ → Bool
 is_stop_signal s = nat_le STOP s && nat_le s TTOU
-
--- the signals that kill and sigaction know: the standard ones but CONT and the stop signals, as yet
-abbrev pub is_served : ℕ → Bool
-is_served s = is_standard s && not (nat_le CONT s && nat_le s TTOU)
 
 -- signal(7), the table "Standard signals": where it says Core the process ends without one (own); a
 -- real-time signal ends the process

@@ -43,6 +43,11 @@ pub enum Entry {
         pid: Pid,
         sig: Sig,
     },
+    /// A signal stopped a process.
+    Stopped {
+        pid: Pid,
+        sig: Sig,
+    },
     /// The newest handler of a process returned.
     Returned {
         pid: Pid,

@@ -3,7 +3,8 @@
 ghost use Rattle.std.specs.Prelude.{◌≡◌, IfOk, ℕ};
 ghost use Rattle.posix.specs.Processes.{first_process};
 ghost use Rattle.posix.specs.Births.{child_of};
-ghost use Rattle.posix.specs.Ends.{made_zombie, ended, noticed};
+ghost use Rattle.posix.specs.Ends.{made_zombie, ended};
+ghost use Rattle.posix.specs.Notices.{noticed, noticed_of_change, stopped_by, resumed};
 ghost use Rattle.posix.specs.Generation.{signalled, effect_of};
 ghost use Rattle.posix.specs.Waits.{news_told};
 ghost use Rattle.posix.specs.Alarms.{ring_at as ring_at_tick, with_alarm};
@@ -123,6 +124,24 @@ impl Body {
         self.own.signals.generate(pid, self.life, signal)
     }
 
+    /// A signal has stopped the process (XSH 2.4.3).
+    #[tactic(auto, unfolding(posix::specs::Notices::stopped_by))]
+    pub fn stop(&mut self, sig: Sig)
+        ensures { (p q : ℕ) → process_of p q self.new ≡ stopped_by sig (process_of p q self.old) }
+    {
+        self.life = Life::Stopped;
+        self.news = News::StoppedBy(sig);
+    }
+
+    /// The process runs again (XSH 2.4.3). News of a stop that no wait has reported go.
+    #[tactic(auto, unfolding(posix::specs::Notices::resumed))]
+    pub fn resume(&mut self)
+        ensures { (p q : ℕ) → process_of p q self.new ≡ resumed (process_of p q self.old) }
+    {
+        self.life = Life::Running;
+        self.news = News::Continued;
+    }
+
     /// The alarm of the process, whose number this is, rings if it is due at this tick, and isn't set any more
     /// then (XSH alarm).
     #[tactic(auto, unfolding(posix::specs::Alarms::rung, posix::specs::Alarms::with_alarm))]
@@ -151,11 +170,22 @@ impl Body {
 
     /// The process, whose number this is, gets notice of a child by a signal, unless it ignores CHLD (XSH
     /// _exit).
-    #[tactic(auto, unfolding(posix::specs::Ends::noticed))]
+    #[tactic(auto, unfolding(posix::specs::Notices::noticed))]
     pub fn notice(&mut self, pid: Pid, signal: PendingSignal)
         ensures { (q : ℕ) → process_of pid q self.new ≡ noticed signal (process_of pid q self.old) }
     {
         if !self.own.signals.ignores_children() {
+            self.signal(pid, signal);
+        }
+    }
+
+    /// The process, whose number this is, gets notice that a child was stopped or continued by a signal,
+    /// unless it ignores CHLD or has SA_NOCLDSTOP (XSH sigaction).
+    #[tactic(auto, unfolding(posix::specs::Notices::noticed_of_change))]
+    pub fn notice_of_change(&mut self, pid: Pid, signal: PendingSignal)
+        ensures { (q : ℕ) → process_of pid q self.new ≡ noticed_of_change signal (process_of pid q self.old) }
+    {
+        if !self.own.signals.ignores_stops() {
             self.signal(pid, signal);
         }
     }

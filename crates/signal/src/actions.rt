@@ -2,6 +2,7 @@
 
 ghost use Rattle.std.specs.Prelude.{◌≡◌};
 ghost use Rattle.posix.specs.Generation.{does_nothing as does_nothing_with, is_caught as is_caught_by, is_harmless as is_harmless_action};
+ghost use Rattle.posix.specs.SignalNumbers.{is_stop_signal as is_stop_number};
 
 use posix::{DefaultAction, Handler, Sig};
 
@@ -10,6 +11,13 @@ fn is_harmless(action: DefaultAction) -> bool
     ensures { result ≡ is_harmless_action action }
 {
     matches!(action, DefaultAction::Ignore | DefaultAction::Continue)
+}
+
+/// Whether it is a stop signal: STOP, TSTP, TTIN or TTOU.
+pub fn is_stop_signal(sig: Sig) -> bool
+    ensures { result ≡ is_stop_number sig }
+{
+    matches!(sig.number(), 19..=22)
 }
 
 /// Whether it is the address of code.

@@ -2,14 +2,15 @@
 
 ghost use Rattle.std.specs.Prelude.{◌≡◌, [], true, false, None, Some, Ok, Err, OnOk, OnErr, IfOk, IfErr, IfSome, IsSome};
 ghost use Rattle.posix.specs.Processes.{initial_signals, nothing_pending};
-ghost use Rattle.posix.specs.Ends.{forgotten, ignores_children as ignores_children_of, drops_children as drops_children_of};
-ghost use Rattle.posix.specs.Generation.{action as action_of, is_pending as is_pending_of, with_pending, is_deaf as is_deaf_to, keeps as keeps_of, generated, effect_of};
+ghost use Rattle.posix.specs.Ends.{forgotten, drops_children as drops_children_of};
+ghost use Rattle.posix.specs.Notices.{ignores_children as ignores_children_of, ignores_stops as ignores_stops_of};
+ghost use Rattle.posix.specs.Generation.{action as action_of, is_pending as is_pending_of, with_pending, without_stops, after_discards, is_deaf as is_deaf_to, keeps as keeps_of, generated, effect_of};
 ghost use Rattle.posix.specs.Choice.{chosen, least_ready as least_ready_of, carried_by, taken};
 ghost use Rattle.posix.specs.Handlers.{is_full as is_full_of, handler_mask as handler_mask_of, entered, at_handler, after_entry as after_entry_of, handler_arguments, newest_frame, left, restore, set_action as set_action_of, set_mask as set_mask_of, give_mask};
 ghost use Rattle.posix.specs.SignalCalls.{set_of};
 ghost use Rattle.signal.specs.SignalTables.{IsPendingSet};
 
-use crate::actions::{does_nothing, is_caught};
+use crate::actions::{does_nothing, is_caught, is_stop_signal};
 use crate::tables::{FramesFull, LazyTables, NoFrame};
 use bitflags::Flags;
 use posix::{
@@ -120,6 +121,14 @@ impl Signals {
         self.ignores_children() || self.action(Sig::CHLD).flags.contains(SaFlags::SA_NOCLDWAIT)
     }
 
+    /// Whether the process gets no notice of stops and continuations of its children: it ignores CHLD or
+    /// has SA_NOCLDSTOP (XSH sigaction).
+    pub fn ignores_stops(&self) -> bool
+        ensures { result ≡ ignores_stops_of self.now }
+    {
+        self.ignores_children() || self.action(Sig::CHLD).flags.contains(SaFlags::SA_NOCLDSTOP)
+    }
+
     // ---- pending signals
 
     /// Whether a signal is pending.
@@ -166,11 +175,36 @@ impl Signals {
         self.mask.contains(sig) || !does_nothing(self.action(sig).handler, sig)
     }
 
+    /// No stop signal is pending any more.
+    #[tactic(auto, unfolding(posix::specs::Generation::without_stops))]
+    fn discard_stops(&mut self)
+        ensures { self.new ≡ without_stops self.old }
+    {
+        self.remove(Sig::TTOU);
+        self.remove(Sig::TTIN);
+        self.remove(Sig::TSTP);
+        self.remove(Sig::STOP);
+    }
+
+    /// What is pending goes that a signal discards: by CONT the stop signals, and by a stop signal CONT,
+    /// whether or not they are blocked or ignored (XSH 2.4.1).
+    fn discard_for(&mut self, sig: Sig)
+        ensures { self.new ≡ after_discards sig self.old }
+    {
+        if sig == Sig::CONT {
+            self.discard_stops();
+        } else if is_stop_signal(sig) {
+            self.remove(Sig::CONT);
+        }
+    }
+
     /// A signal is generated for the process, which has this number and life. For a zombie, and for process
-    /// 1 where it has no handler for the signal, nothing is; nor where the signal isn't blocked and its
-    /// action does nothing. Else it is pending; one that was pending already keeps what it came with first
-    /// (XSH 2.4.1). The effect is what the signal does at once: CONT continues a stopped process, whether or
-    /// not it is blocked or ignored (XSH 2.4.3).
+    /// 1 where it has no handler for the signal, nothing is. Else what it discards goes first: CONT discards
+    /// the stop signals that are pending, and a stop signal a CONT, whether or not they are blocked or
+    /// ignored. The signal itself isn't kept where it isn't blocked and its action does nothing; else it is
+    /// pending, and one that was pending already keeps what it came with first (XSH 2.4.1). The effect is
+    /// what the signal does at once: CONT continues a stopped process, whether or not it is blocked or
+    /// ignored (XSH 2.4.3).
     #[tactic(auto, unfolding(posix::specs::Generation::generated, posix::specs::Generation::effect_of))]
     pub fn generate(&mut self, pid: Pid, life: Life, signal: PendingSignal) -> Effect
         ensures state { self.new ≡ generated pid life signal self.old }
@@ -181,7 +215,9 @@ impl Signals {
         if self.is_deaf(pid, life, sig) {
             return Effect::Nothing;
         }
-        if self.keeps(sig) && !self.is_pending(sig) {
+        let is_kept = self.keeps(sig);
+        self.discard_for(sig);
+        if is_kept && !self.is_pending(sig) {
             self.insert(sig, signal.carried);
         }
         if continues {

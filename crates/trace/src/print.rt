@@ -75,6 +75,17 @@ fn put_next_signed(room: &mut [u8], at: usize, number: i64) -> usize
     put_signed(room, at, number)
 }
 
+/// Writes the numbers of a process and of a signal, each behind a space.
+#[inline]
+fn put_pid_and_sig(room: &mut [u8], at: usize, pid: Pid, sig: Sig) -> usize
+    requires { at + 42 ≤ length room.old }
+    ensures text { take result room.new ≡ take at room.old ++ codes " " ++ decimal pid ++ codes " " ++ decimal sig }
+    ensures end { result ≤ at + 42 }
+{
+    let at = put_next(room, at, u64::from(pid.number()));
+    put_next(room, at, u64::from(sig.number()))
+}
+
 /// Writes the words of a call of a process, up to its result.
 fn put_call(room: &mut [u8], at: usize, pid: Pid, call: Call) -> usize
     requires { at + 45 ≤ length room.old }
@@ -138,8 +149,7 @@ fn put_handler(room: &mut [u8], at: usize, pid: Pid, sig: Sig, carried: i64, sen
     ensures end { result ≤ at + 106 }
 {
     let at = put(room, at, b" handle");
-    let at = put_next(room, at, u64::from(pid.number()));
-    let at = put_next(room, at, u64::from(sig.number()));
+    let at = put_pid_and_sig(room, at, pid, sig);
     let at = put_next_signed(room, at, carried);
     put_next(room, at, u64::from(sender.number()))
 }
@@ -151,8 +161,17 @@ fn put_discard(room: &mut [u8], at: usize, pid: Pid, sig: Sig) -> usize
     ensures end { result ≤ at + 106 }
 {
     let at = put(room, at, b" discard");
-    let at = put_next(room, at, u64::from(pid.number()));
-    put_next(room, at, u64::from(sig.number()))
+    put_pid_and_sig(room, at, pid, sig)
+}
+
+/// Writes the words of a stop by a signal.
+fn put_stop(room: &mut [u8], at: usize, pid: Pid, sig: Sig) -> usize
+    requires { at + 106 ≤ length room.old }
+    ensures text { take result room.new ≡ take at room.old ++ 32 ∷ join_with_byte 32 (words_of (Entry.Stopped pid sig)) }
+    ensures end { result ≤ at + 106 }
+{
+    let at = put(room, at, b" stop");
+    put_pid_and_sig(room, at, pid, sig)
 }
 
 /// Writes the words of a return from a handler.
@@ -194,6 +213,7 @@ fn put_entry(room: &mut [u8], at: usize, entry: &Entry) -> usize
             sender,
         } => put_handler(room, at, *pid, *sig, *value, *sender),
         Entry::Discarded { pid, sig } => put_discard(room, at, *pid, *sig),
+        Entry::Stopped { pid, sig } => put_stop(room, at, *pid, *sig),
         Entry::Returned { pid } => put_return(room, at, *pid),
         Entry::Ended { pid, status } => put_end(room, at, *pid, *status),
         Entry::Halted => put(room, at, b" halt"),

@@ -3,9 +3,13 @@ use Rattle.posix.specs.declared.entry.Entry.{Entry}
 use Rattle.posix.specs.declared.entry.Entry.TheVariants.{Discarded}
 use Rattle.posix.specs.Ends.{end_process}
 use Rattle.posix.proofs.TableLemmas.{pid_looked}
+use Rattle.life.proofs.SoundLemmas.{is_there}
 use Rattle.calls.proofs.CallLemmas.{outcome_of}
-use Rattle.calls.proofs.DeliveryLemmas.{default_ends, shown_alone, by_default_if, default_rests}
+use Rattle.calls.proofs.DeliveryLemmas.{default_ends, default_stops, shown_alone, by_default_if, default_rests}
 use Rattle.calls.proofs.delivery.act_by_default.Goals as goal
+
+pub end-requires-clause-there : goal.end-requires-clause-there
+end-requires-clause-there g c = is_there _ c.requires.placed.what c.requires.placed.found
 
 pub returns-then-eq : goal.returns-then-eq
 returns-then-eq g c = λ me e.
@@ -23,6 +27,12 @@ returns-in-Terminate g c = λ me e.
     (sym c.default_action.ensures ∙ c.in-Terminate.is)
     (c.end.ensures.state me e ∙ ap (λ w. (end_process s me w).state) c.killed.ensures)
     (c.end.ensures.entries me e ∙ ap (λ (l : List Entry). l ++ (end_process s me c.killed.result).entries) c.requires.none ∙ ap (λ w. (end_process s me w).entries) c.killed.ensures)
+
+pub returns-in-Stop : goal.returns-in-Stop
+returns-in-Stop g c = λ me e.
+    let s = c.args.machine.now.state in
+    let named = pid_looked c.args.pid s.processes me e in
+    default_stops s me c.args.sig (ap (λ n. n == 1) named ∙ sym c.eq.ensures ∙ c.if-eq.false) (sym c.default_action.ensures ∙ c.in-Stop.is) ∙ c.stop.ensures me e
 
 pub returns-in-Ignore : goal.returns-in-Ignore
 returns-in-Ignore g c = λ me e.

@@ -4,17 +4,21 @@ use Rattle.posix.specs.Delivery.{deliver, handle, take_out}
 use Rattle.posix.proofs.RegularLemmas.{keeps_take_out}
 use Rattle.proctable.specs.Body.{give_own}
 use Rattle.life.proofs.LoanLemmas.{was_written}
+use Rattle.life.proofs.SoundLemmas.{is_there}
 use Rattle.calls.proofs.CallLemmas.{outcome_of}
 use Rattle.calls.proofs.DeliveryLemmas.{Reads, deliver_at, deliver_ignored, deliver_default, shown_alone, there_then}
 use Rattle.calls.specs.Outcomes.{with_own}
-use Rattle.calls.proofs.OwnLemmas.{of_own, own_there, there_lent}
+use Rattle.calls.proofs.OwnLemmas.{of_own, own_there, there_lent, placed_lent}
 use Rattle.calls.proofs.delivery.deliver.Goals as goal
 
-pub handle-requires-clause-there : goal.handle-requires-clause-there
-handle-requires-clause-there g c = there_lent c.args.machine.now.state c.args.pid (record (c.own-own.result.now) { signals = c.take-carried.new.self }) c.requires.there
+pub own-own-requires : goal.own-own-requires
+own-own-requires g c = is_there _ c.requires.placed.what c.requires.placed.found
 
-pub act_by_default-requires-clause-there : goal.act_by_default-requires-clause-there
-act_by_default-requires-clause-there g c = there_lent c.args.machine.now.state c.args.pid (record (c.own-own.result.now) { signals = c.take-carried.new.self }) c.requires.there
+pub handle-requires-clause-there : goal.handle-requires-clause-there
+handle-requires-clause-there g c = there_lent c.args.machine.now.state c.args.pid (record (c.own-own.result.now) { signals = c.take-carried.new.self }) (is_there _ c.requires.placed.what c.requires.placed.found)
+
+pub act_by_default-requires-clause-placed : goal.act_by_default-requires-clause-placed
+act_by_default-requires-clause-placed g c = placed_lent c.args.machine.now.state c.args.pid (record (c.own-own.result.now) { signals = c.take-carried.new.self }) c.requires.placed
 
 pub returns-in-At : goal.returns-in-At
 unfolding take_out

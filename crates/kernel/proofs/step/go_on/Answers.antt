@@ -1,6 +1,6 @@
-use Rattle.std.proofs.Common.{◌∙◌, ap, sym, subst, refl, []}
-use Rattle.std.specs.Option.{IsSome}
-use Rattle.posix.specs.States.{State, process, lose_place}
+use Rattle.std.proofs.Common.{◌∙◌, ap, sym, subst, []}
+use Rattle.posix.specs.States.{State, lose_place}
+use Rattle.posix.specs.Regular.{IsPlaced}
 use Rattle.posix.specs.Outcomes.{silent}
 use Rattle.posix.specs.Attempts.{attempt_again}
 use Rattle.posix.specs.Step.{go_on, deliver_or}
@@ -8,12 +8,12 @@ use Rattle.posix.proofs.TableLemmas.{pid_looked}
 use Rattle.calls.proofs.CallLemmas.{block_is, same_outcome}
 use Rattle.kernel.proofs.step.go_on.Goals as goal
 
-pub deliver-requires-clause-there : goal.deliver-requires-clause-there
-deliver-requires-clause-there g c =
+pub deliver-requires-clause-placed : goal.deliver-requires-clause-placed
+deliver-requires-clause-placed g c =
     let s = c.args.machine.now.state in
     let me = c.requires.placed in
     let b = block_is s (attempt_again s me.what c.args.blocked) c.in-Some.field-0 c.args.entries.now.items c.attempt_again.new.entries.items c.attempt_again.new.machine.state (c.in-Some.ensures me.what me.found) in
-    subst (λ (t : State). IsSome (process t c.args.pid)) (sym b.2) (subst IsSome (sym me.found) refl)
+    subst (λ (t : State). IsPlaced t.processes c.args.pid) (sym b.2) me
 
 pub deliver-requires-clause-none : goal.deliver-requires-clause-none
 deliver-requires-clause-none g c =

@@ -1,5 +1,6 @@
 use Rattle.std.proofs.Common.{◌∙◌, ap}
-use Rattle.posix.specs.Ends.{noticed, drops_children}
+use Rattle.posix.specs.Ends.{drops_children}
+use Rattle.posix.specs.Notices.{noticed}
 use Rattle.proctable.proofs.Bodies.{changed_here, read_own}
 use Rattle.life.proofs.ends.notice_in.Goals as goal
 

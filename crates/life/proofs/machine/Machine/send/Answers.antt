@@ -1,7 +1,9 @@
-use Rattle.std.proofs.Common.{ap, sym, ◌∙◌}
+use Rattle.std.proofs.Common.{ap, sym, ◌∙◌, ◌+◌, ◌≤◌, arith, length, Some}
+use Rattle.std.proofs.Math.Nat.{mul-le-mul_left}
 use Rattle.posix.specs.Sends.{targets, sending, sent, sent_among, sending_found}
-use Rattle.life.specs.Asking.{asking_signalled}
+use Rattle.life.specs.Asking.{asking_signalled, slots_of_send}
 use Rattle.life.specs.Callers.{process_like}
+use Rattle.life.proofs.ReadLemmas.{above_less, left_at_most}
 use Rattle.life.proofs.SendLemmas.{with_processes, targets_numbered, targets_nobody, sent_nobody, asked_nobody}
 use Rattle.life.proofs.machine.Machine.send.Goals as goal
 
@@ -44,13 +46,24 @@ returns-in-Process-clause-asked g c =
     let m = c.args.self.now in
     let me = process_like c.args.me.now in
     c.send_to_one.ensures.asked
-    ∙ ap (λ qs. asking_signalled me c.args.sig qs m.state.order m.asked) (targets_numbered me c.in-Process.pid m.state.processes)
-    ∙ ap (λ x. asking_signalled me c.args.sig (targets me x m.state.processes) m.state.order m.asked) (sym c.in-Process.is)
+    ∙ ap (λ qs. asking_signalled me c.args.sig qs m.state.processes m.state.order m.asked) (targets_numbered me c.in-Process.pid m.state.processes)
+    ∙ ap (λ x. asking_signalled me c.args.sig (targets me x m.state.processes) m.state.processes m.state.order m.asked) (sym c.in-Process.is)
 
 pub returns-in-Nobody-clause-asked : goal.returns-in-Nobody-clause-asked
 returns-in-Nobody-clause-asked g c =
     let m = c.args.self.now in
     let me = process_like c.args.me.now in
-    sym (ap (λ x. asking_signalled me c.args.sig (targets me x m.state.processes) m.state.order m.asked) c.in-Nobody.is
-    ∙ ap (λ qs. asking_signalled me c.args.sig qs m.state.order m.asked) (targets_nobody me m.state.processes)
-    ∙ asked_nobody me c.args.sig m.state.order m.asked)
+    sym (ap (λ x. asking_signalled me c.args.sig (targets me x m.state.processes) m.state.processes m.state.order m.asked) c.in-Nobody.is
+    ∙ ap (λ qs. asking_signalled me c.args.sig qs m.state.processes m.state.order m.asked) (targets_nobody me m.state.processes)
+    ∙ asked_nobody me c.args.sig m.state.processes m.state.order m.asked)
+
+-- process 1 is there
+pub returns-in-Process-clause-reads_of_all : goal.returns-in-Process-clause-reads_of_all
+returns-in-Process-clause-reads_of_all g c =
+    let rs = c.args.self.now.state.processes in
+    let first = c.send_to_one.ensures.regular.first in
+    let some = above_less 1 rs first.what first.found in
+    let all = left_at_most (Some 1) rs in
+    let least : 1 ≤ length rs = omega (arith, some, all) in
+    let product = mul-le-mul_left (3 + slots_of_send c.args.sig) least in
+    omega (arith, product, c.send_to_one.ensures.reads)

@@ -1,14 +1,14 @@
-use Rattle.std.proofs.Common.{ap, sym, ◌∙◌, arith, subst, length, nat_lt, Option, ℕ, ◌<◌}
+use Rattle.std.proofs.Common.{ap, sym, ◌∙◌, arith, subst, length, nat_lt, Option, Some, ℕ, ◌+◌, ◌*◌, ◌<◌}
 use Rattle.std.specs.Option.{IfSome, IsSome}
 use Rattle.posix.specs.Tables.{left_of, above, lookup}
 use Rattle.posix.specs.States.{State}
 use Rattle.posix.specs.Sends.{is_target, targets, sending, sending_found, sent_among, sent}
 use Rattle.posix.proofs.WalkLemmas.{numbered, walk_begins, numbers_left, fewer_left}
-use Rattle.life.specs.Asking.{asking_signalled}
+use Rattle.life.specs.Asking.{asking_signalled, slots_of_send}
 use Rattle.life.specs.Callers.{process_like}
 use Rattle.life.proofs.SendLemmas.{with_processes, above_sent, walked, joined, joined_max, joined_none, sending_none, targets_none, sent_nobody, sent_step, sending_step, asked_step, asked_nobody}
 use Rattle.life.proofs.SoundLemmas.{there}
-use Rattle.life.proofs.ReadLemmas.{filter_at_most, left_at_most, left_above, above_less}
+use Rattle.life.proofs.ReadLemmas.{filter_at_most, left_at_most, left_above, above_less, reads_begin, reads_on}
 use Rattle.life.proofs.machine.Machine.send_to_all.Goals as goal
 
 pub loop-next-init : goal.loop-next-init
@@ -24,10 +24,10 @@ loop-next-init g c =
       read =
           let less = left_at_most c.next_target-next.result s.processes in
           let all = filter_at_most (λ p. nat_lt 0 p.pid) s.processes in
-          omega (arith, less, all, c.next_target-next.ensures.reads);
+          reads_begin (slots_of_send c.args.sig.now) _ _ _ _ _ less all c.next_target-next.ensures.reads;
       asked =
-          ap (asking_signalled r c.args.sig.now (targets r target (left_of c.next_target-next.result s.processes)) s.order) c.next_target-next.ensures.asked
-          ∙ ap (λ qs. asking_signalled r c.args.sig.now qs s.order c.args.self.now.asked) all;
+          ap (asking_signalled r c.args.sig.now (targets r target (left_of c.next_target-next.result s.processes)) s.processes s.order) c.next_target-next.ensures.asked
+          ∙ ap (λ qs. asking_signalled r c.args.sig.now qs s.processes s.order c.args.self.now.asked) all;
       sending = ap (sending_found r c.args.sig.now) all;
       sent = ap (λ qs. with_processes s (sent_among r c.args.sig.now qs s.processes)) all;
     }
@@ -48,18 +48,21 @@ loop-next-preserved g c =
     record {
       there = subst (λ (t : State). IfSome next (λ q. IsSome (lookup q t.processes))) (sym c.next_target-next-in-Some.ensures.same) c.next_target-next-in-Some.ensures.next.there;
       read =
-          let before = ap (λ (o : Option ℕ). length (left_of o rs)) c.in-Some.is in
+          let k = slots_of_send sig in
+          let mid = c.send_to_one.new.self.state.processes in
+          let before = ap (λ (o : Option ℕ). (3 + k) * length (left_of o rs)) c.in-Some.is in
           let less = above_less pid rs it.what it.found in
-          let same = ap (λ (t : State). length (left_of next t.processes)) c.next_target-next-in-Some.ensures.same in
-          let behind = left_above next pid c.send_to_one.new.self.state.processes c.next_target-next-in-Some.ensures.next.above in
-          let kept = ap (λ (t : State). length (above pid t.processes)) c.send_to_one.ensures.state ∙ ap length (above_sent r target sig pid rs) in
-          omega (arith, before, less, same, behind, kept, c.loop-next.invariant.read, c.send_to_one.ensures.reads, c.next_target-next-in-Some.ensures.reads);
+          let same = ap (λ (t : State). (3 + k) * length (left_of next t.processes)) c.next_target-next-in-Some.ensures.same in
+          let behind = left_above next pid mid c.next_target-next-in-Some.ensures.next.above in
+          let kept = ap (λ (t : State). length (above pid t.processes)) c.send_to_one.ensures.state ∙ above_sent r sig pid (targets r target (numbered pid rs)) rs in
+          let on = reads_on k (length (left_of (Some pid) rs)) (length (above pid mid)) (length (left_of next mid)) _ _ _ (omega (arith, less, kept)) behind c.send_to_one.ensures.reads c.next_target-next-in-Some.ensures.reads in
+          omega (arith, before, same, on, c.loop-next.invariant.read);
       asked =
           let order = c.args.self.now.state.order in
-          ap (asking_signalled r sig (targets r target (left_of next now)) order)
-          (c.next_target-next-in-Some.ensures.asked ∙ c.send_to_one.ensures.asked ∙ ap (λ (t : State). asking_signalled r sig (targets r target (numbered pid rs)) t.order c.loop-next.self.asked) c.loop-next.invariant.sent)
+          ap (asking_signalled r sig (targets r target (left_of next now)) now order)
+          (c.next_target-next-in-Some.ensures.asked ∙ c.send_to_one.ensures.asked ∙ ap (λ (t : State). asking_signalled r sig (targets r target (numbered pid rs)) rs t.order c.loop-next.self.asked) c.loop-next.invariant.sent)
           ∙ asked_step r target sig pid rs now next step order c.loop-next.self.asked
-          ∙ ap (λ (o : Option ℕ). asking_signalled r sig (targets r target (left_of o rs)) order c.loop-next.self.asked) (sym c.in-Some.is)
+          ∙ ap (λ (o : Option ℕ). asking_signalled r sig (targets r target (left_of o rs)) rs order c.loop-next.self.asked) (sym c.in-Some.is)
           ∙ c.loop-next.invariant.asked;
       sending =
           ap (λ x. joined x (sending r target sig (left_of next now))) (c.max-sending.ensures ∙ joined_max c.loop-next.sending c.send_to_one.result)
@@ -100,6 +103,6 @@ returns-clause-asked g c =
     let r = process_like c.args.me.now in
     let order = c.args.self.now.state.order in
     let m = c.loop-next.self in
-    sym (ap (λ (o : Option ℕ). asking_signalled r c.args.sig.now (targets r c.args.target.now (left_of o m.state.processes)) order m.asked) c.in_default.is
-    ∙ ap (λ qs. asking_signalled r c.args.sig.now qs order m.asked) (targets_none r _) ∙ asked_nobody r c.args.sig.now order m.asked)
+    sym (ap (λ (o : Option ℕ). asking_signalled r c.args.sig.now (targets r c.args.target.now (left_of o m.state.processes)) m.state.processes order m.asked) c.in_default.is
+    ∙ ap (λ qs. asking_signalled r c.args.sig.now qs m.state.processes order m.asked) (targets_none r _) ∙ asked_nobody r c.args.sig.now m.state.processes order m.asked)
     ∙ c.loop-next.invariant.asked

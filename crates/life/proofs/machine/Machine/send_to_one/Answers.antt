@@ -63,19 +63,19 @@ returns-in-Some-clause-asked g c =
     let it = is_read _ _ (sym c.in-Some.is ∙ c.facts.ensures.value) in
     let target = target_one r c.args.target.now c.args.pid _ c.facts.ensures.regular.rising it.what it.found (sym (c.is_target.ensures it.what it.facts) ∙ c.if-is_target.true) in
     c.send_to.ensures.asked it.what it.facts
-    ∙ ap (λ (t : State). asking_signalled r c.args.sig.now (it.what ∷ []) t.order c.facts.new.self.asked) c.facts.ensures.same
-    ∙ ap (asking_signalled r c.args.sig.now (it.what ∷ []) c.args.self.now.state.order) c.facts.ensures.asked
-    ∙ ap (λ qs. asking_signalled r c.args.sig.now qs c.args.self.now.state.order c.args.self.now.asked) (sym target)
+    ∙ ap (λ (t : State). asking_signalled r c.args.sig.now (it.what ∷ []) t.processes t.order c.facts.new.self.asked) c.facts.ensures.same
+    ∙ ap (asking_signalled r c.args.sig.now (it.what ∷ []) c.args.self.now.state.processes c.args.self.now.state.order) c.facts.ensures.asked
+    ∙ ap (λ qs. asking_signalled r c.args.sig.now qs c.args.self.now.state.processes c.args.self.now.state.order c.args.self.now.asked) (sym target)
 
 pub returns-in_default-clause-asked : goal.returns-in_default-clause-asked
 returns-in_default-clause-asked g c =
     let r = process_like c.args.me.now in
     let it = is_read _ _ (sym c.in-Some.is ∙ c.facts.ensures.value) in
     let none = target_other r c.args.target.now c.args.pid _ c.facts.ensures.regular.rising it.what it.found (sym (c.is_target.ensures it.what it.facts) ∙ c.if-is_target.false) in
-    rw none (c.facts.ensures.asked ∙ sym (asked_nobody r c.args.sig.now _ _))
+    rw none (c.facts.ensures.asked ∙ sym (asked_nobody r c.args.sig.now _ _ _))
 
 pub returns-in_default-2-clause-asked : goal.returns-in_default-2-clause-asked
 returns-in_default-2-clause-asked g c =
     let r = process_like c.args.me.now in
     rw (target_none r c.args.target.now c.args.pid _ (none_read _ (sym c.in_default.is ∙ c.facts.ensures.value)))
-    (c.facts.ensures.asked ∙ sym (asked_nobody r c.args.sig.now _ _))
+    (c.facts.ensures.asked ∙ sym (asked_nobody r c.args.sig.now _ _ _))

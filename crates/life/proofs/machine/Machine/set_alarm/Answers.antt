@@ -1,4 +1,4 @@
-use Rattle.std.proofs.Common.{ℕ, ap, sym, ◌∙◌, refl, subst, Option, IfSome, ◌≤◌}
+use Rattle.std.proofs.Common.{ap, sym, ◌∙◌, refl, subst}
 use Rattle.posix.specs.Processes.{Process}
 use Rattle.posix.specs.Alarms.{with_alarm}
 use Rattle.posix.specs.Regular.{IsAhead}

@@ -1,12 +1,19 @@
-use Rattle.std.proofs.Common.{◌∙◌, refl}
+use Rattle.std.proofs.Common.{◌≡◌, ◌∙◌, ap, sym, arith, ◌==◌, true}
+use Rattle.posix.specs.declared.process.Effect.TheVariants as effect
+use Rattle.posix.specs.Processes.{Process}
+use Rattle.posix.specs.Tables.{lookup, parent_of}
+use Rattle.posix.specs.States.{State, process}
 use Rattle.posix.specs.Generation.{signalled}
-use Rattle.posix.proofs.RegularLemmas.{keeps_signalled}
+use Rattle.posix.specs.Notices.{told_of_change}
+use Rattle.posix.proofs.ChangeLemmas.{lookup_signalled, life_signalled, stopped_living, continued_stopped, continued_cont, generated_as}
+use Rattle.proctable.specs.Body.{process_of}
 use Rattle.proctable.proofs.Bodies.{changed_here}
-use Rattle.posix.proofs.TouchLemmas.{touches_unseen, unseen_signalled}
-use Rattle.life.proofs.SoundLemmas.{sound_change, here_in}
-use Rattle.life.proofs.AskLemmas.{has_room, listed_change}
-use Rattle.life.proofs.ReportedLemmas.{reported_unseen}
-use Rattle.life.proofs.TimedLemmas.{timed_change, untimed_signalled}
+use Rattle.life.specs.Machines.{MachineView, state_of}
+use Rattle.life.specs.Asking.{asking, asking_effect, asking_changed, asking_generated}
+use Rattle.life.proofs.SoundLemmas.{here_in}
+use Rattle.life.proofs.AskLemmas.{has_room}
+use Rattle.life.proofs.StopLemmas.{machine_signalled}
+use Rattle.life.proofs.SendLemmas.{with_processes}
 use Rattle.life.proofs.ViewLemmas.{state_is}
 use Rattle.life.proofs.machine.Machine.signal.Goals as goal
 
@@ -16,17 +23,54 @@ ask-requires g c = has_room _ _ c.self.invariant.sound.regular c.self.invariant.
 pub invariant_of-self : goal.invariant_of-self
 invariant_of-self g c =
     let contents = g.met.K.Kin.puts c.self.inside.table c.args.pid c.signal.new.self ∙ changed_here _ c.update.ensures.rising c.args.pid c.update.result.now c.signal.new.self (signalled c.args.signal) c.update.ensures.value c.signal.ensures.state in
+    rw contents (machine_signalled _ _ _ _ _ _ _ _ c.args.pid c.args.signal (here_in c.args.pid (state_is c.self.view_is) c.requires) c.self.invariant c.ask.ensures.pids c.ask.ensures.room)
+
+pub invariant_of-self-in-Continued : goal.invariant_of-self-in-Continued
+invariant_of-self-in-Continued g c =
+    let contents = g.met.K.Kin.puts c.self.inside.table c.args.pid c.signal.new.self ∙ changed_here _ c.update.ensures.rising c.args.pid c.update.result.now c.signal.new.self (signalled c.args.signal) c.update.ensures.value c.signal.ensures.state in
+    rw contents (machine_signalled _ _ _ _ _ _ _ _ c.args.pid c.args.signal (here_in c.args.pid (state_is c.self.view_is) c.requires) c.self.invariant c.ask.ensures.pids c.ask.ensures.room)
+
+pub continue_process-requires : goal.continue_process-requires
+continue_process-requires g c =
+    let contents = g.met.K.Kin.puts c.self.inside.table c.args.pid c.signal.new.self ∙ changed_here _ c.update.ensures.rising c.args.pid c.update.result.now c.signal.new.self (signalled c.args.signal) c.update.ensures.value c.signal.ensures.state in
+    let me : Process = process_of c.args.pid (parent_of c.args.pid (g.K.Kin.contents c.self.inside.table)) c.update.result.now in
     rw contents (record {
-      sound = sound_change c.args.pid _ _ (keeps_signalled c.args.signal) _ _ c.self.invariant.sound;
-      listed = listed_change _ c.args.pid (signalled c.args.signal) _ _ c.self.invariant.listed (keeps_signalled {now = 0} c.args.signal).pid (touches_unseen _ c.args.pid (signalled c.args.signal) (unseen_signalled c.args.signal)) (here_in c.args.pid (state_is c.self.view_is) c.requires) c.ask.ensures.pids c.ask.ensures.room;
-      reported = reported_unseen _ c.args.pid _ (unseen_signalled c.args.signal) _ _ (here_in c.args.pid (state_is c.self.view_is) c.requires) c.self.invariant.reported;
-      timed = timed_change _ c.args.pid _ (untimed_signalled c.args.signal) _ _ _ (here_in c.args.pid (state_is c.self.view_is) c.requires) c.self.invariant.timed;
+      what = signalled c.args.signal me;
+      found = lookup_signalled c.args.signal me c.args.pid _ c.update.ensures.value;
+      living = life_signalled c.args.signal me ∙ stopped_living me.life (continued_stopped c.args.pid c.args.signal me (sym c.signal.ensures.effect ∙ c.in-Continued.is));
     })
 
-pub returns-clause-state : goal.returns-clause-state
-returns-clause-state g c =
+pub returns-in-Nothing-clause-state : goal.returns-in-Nothing-clause-state
+returns-in-Nothing-clause-state g c =
     let contents = g.met.K.Kin.puts c.self.inside.table c.args.pid c.signal.new.self ∙ changed_here _ c.update.ensures.rising c.args.pid c.update.result.now c.signal.new.self (signalled c.args.signal) c.update.ensures.value c.signal.ensures.state in
-    rw (contents, ← c.self.view_is) refl
+    let me : Process = process_of c.args.pid (parent_of c.args.pid (g.K.Kin.contents c.self.inside.table)) c.update.result.now in
+    rw (contents, ← c.self.view_is) (ap (with_processes (state_of c.self.inside.world (g.K.Kin.contents c.self.inside.table) c.self.inside.pids c.self.inside.order c.self.inside.births c.self.inside.ticks c.self.inside.dropped c.self.inside.halted)) (sym (generated_as c.args.signal c.args.pid _ me effect.Nothing c.update.ensures.value (sym c.signal.ensures.effect ∙ c.in-Nothing.is))))
 
-pub returns-clause-reads : goal.returns-clause-reads
-returns-clause-reads g c = rw (← c.self.view_is, g.met.K.Kin.put_reads _ _ _) (g.met.K.Kin.at_most_one _)
+pub returns-in-Continued-clause-state : goal.returns-in-Continued-clause-state
+unfolding told_of_change signalled
+returns-in-Continued-clause-state g c =
+    let contents = g.met.K.Kin.puts c.self.inside.table c.args.pid c.signal.new.self ∙ changed_here _ c.update.ensures.rising c.args.pid c.update.result.now c.signal.new.self (signalled c.args.signal) c.update.ensures.value c.signal.ensures.state in
+    let me : Process = process_of c.args.pid (parent_of c.args.pid (g.K.Kin.contents c.self.inside.table)) c.update.result.now in
+    let found = ap (lookup c.args.pid) contents ∙ lookup_signalled c.args.signal me c.args.pid _ c.update.ensures.value in
+    c.continue_process.ensures.state (signalled c.args.signal me) found
+    ∙ rw (contents, ← c.self.view_is) (ap (with_processes (state_of c.self.inside.world (g.K.Kin.contents c.self.inside.table) c.self.inside.pids c.self.inside.order c.self.inside.births c.self.inside.ticks c.self.inside.dropped c.self.inside.halted)) (sym (generated_as c.args.signal c.args.pid _ me effect.Continued c.update.ensures.value (sym c.signal.ensures.effect ∙ c.in-Continued.is))))
+
+pub returns-in-Continued-clause-reads : goal.returns-in-Continued-clause-reads
+returns-in-Continued-clause-reads g c =
+    let me : Process = process_of c.args.pid (parent_of c.args.pid (g.K.Kin.contents c.self.inside.table)) c.update.result.now in
+    let put = g.met.K.Kin.put_reads c.self.inside.table c.args.pid c.signal.new.self in
+    let one = g.met.K.Kin.at_most_one (g.K.Kin.reads c.self.inside.table) in
+    let seen = ap (λ (m : MachineView). m.reads) c.self.view_is in
+    let cont : (c.args.signal.sig == 18) ≡ true = continued_cont c.args.pid c.args.signal me (sym c.signal.ensures.effect ∙ c.in-Continued.is) in
+    rw cont (omega (arith, put, one, seen, c.continue_process.ensures.reads))
+
+pub returns-in-Continued-clause-asked : goal.returns-in-Continued-clause-asked
+unfolding signalled
+returns-in-Continued-clause-asked g c =
+    let contents = g.met.K.Kin.puts c.self.inside.table c.args.pid c.signal.new.self ∙ changed_here _ c.update.ensures.rising c.args.pid c.update.result.now c.signal.new.self (signalled c.args.signal) c.update.ensures.value c.signal.ensures.state in
+    let me : Process = process_of c.args.pid (parent_of c.args.pid (g.K.Kin.contents c.self.inside.table)) c.update.result.now in
+    let found = ap (lookup c.args.pid) contents ∙ lookup_signalled c.args.signal me c.args.pid _ c.update.ensures.value in
+    c.continue_process.ensures.asked (signalled c.args.signal me) found
+    ∙ ap (asking_changed me) (c.ask.ensures.pids ∙ ap (λ (m : MachineView). asking c.args.pid m.state.order m.asked) c.self.view_is)
+    ∙ ap (λ w. asking_effect w me (asking c.args.pid c.args.self.now.state.order c.args.self.now.asked)) (sym c.in-Continued.is ∙ c.signal.ensures.effect)
+    ∙ ap (λ o. asking_generated c.args.signal o c.args.self.now.state.order c.args.self.now.asked) (sym (ap (λ (s : State). process s c.args.pid) (sym (state_is c.self.view_is)) ∙ c.update.ensures.value))

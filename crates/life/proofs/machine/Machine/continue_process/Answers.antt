@@ -1,0 +1,65 @@
+use Rattle.std.proofs.Common.{◌∙◌, ap, sym, refl, [], ◌∷◌, ℕ}
+use Rattle.posix.specs.Tables.{changed}
+use Rattle.posix.specs.States.{State}
+use Rattle.posix.specs.Statuses.{continued}
+use Rattle.posix.specs.Waits.{has_report}
+use Rattle.posix.specs.Notices.{noticed_of_change, child_signal, told_of_change, resumed}
+use Rattle.posix.proofs.TableLemmas.{pid_looked}
+use Rattle.posix.proofs.ChangeLemmas.{lives_resumed}
+use Rattle.proctable.proofs.Bodies.{changed_body}
+use Rattle.life.specs.Asking.{with_numbers, with_parent}
+use Rattle.life.proofs.SoundLemmas.{found_in, is_there}
+use Rattle.life.proofs.AskLemmas.{has_room, room_after}
+use Rattle.life.proofs.ReportedLemmas.{reported_room}
+use Rattle.life.proofs.StopLemmas.{machine_told, parent_after, nobody_after}
+use Rattle.life.proofs.ViewLemmas.{state_is}
+use Rattle.life.proofs.machine.Machine.continue_process.Goals as goal
+
+pub insert-requires : goal.insert-requires
+insert-requires g c = record { room = λ out. has_room _ _ c.self.invariant.sound.regular c.self.invariant.listed }
+
+pub insert-requires-2-clause-room : goal.insert-requires-2-clause-room
+insert-requires-2-clause-room g c = λ out. reported_room _ _ c.self.invariant.sound.regular c.self.invariant.reported
+
+pub tell_parent-requires-clause-there : goal.tell_parent-requires-clause-there
+unfolding resumed
+tell_parent-requires-clause-there g c =
+    let same = state_is c.self.view_is ∙ c.parent-parent.ensures.same in
+    let me = c.requires in
+    let contents = g.met.K.Kin.puts c.self.inside.table c.args.pid c.resume.new.self ∙ changed_body _ c.update.ensures.rising c.args.pid c.update.result.now c.resume.new.self resumed c.update.ensures.value c.resume.ensures in
+    rw contents (parent_after _ _ _ c.self.invariant.sound c.args.pid _ resumed lives_resumed me.what (found_in _ _ same c.args.pid me.what me.found) (c.parent-parent.ensures.value me.what me.found))
+
+pub tell_parent-requires-clause-none : goal.tell_parent-requires-clause-none
+tell_parent-requires-clause-none g c =
+    let contents = g.met.K.Kin.puts c.self.inside.table c.args.pid c.resume.new.self ∙ changed_body _ c.update.ensures.rising c.args.pid c.update.result.now c.resume.new.self resumed c.update.ensures.value c.resume.ensures in
+    rw contents (nobody_after _ c.self.invariant.sound.regular c.args.pid _ resumed lives_resumed)
+
+pub tell_parent-requires-clause-few : goal.tell_parent-requires-clause-few
+unfolding with_numbers
+tell_parent-requires-clause-few g c =
+    let same = state_is c.self.view_is ∙ c.parent-parent.ensures.same in
+    let me = c.requires in
+    let here = is_there _ me.what (found_in _ _ same c.args.pid me.what me.found) in
+    room_after _ _ c.insert.new.self (c.args.pid ∷ []) c.self.invariant.sound.regular c.self.invariant.listed (here, tt) c.insert.ensures.pids c.insert.ensures.room
+
+pub invariant_of-self : goal.invariant_of-self
+unfolding resumed has_report
+invariant_of-self g c =
+    let same = state_is c.self.view_is ∙ c.parent-parent.ensures.same in
+    let me = c.requires in
+    let contents = g.met.K.Kin.puts c.self.inside.table c.args.pid c.resume.new.self ∙ changed_body _ c.update.ensures.rising c.args.pid c.update.result.now c.resume.new.self resumed c.update.ensures.value c.resume.ensures in
+    let told = c.tell_parent.ensures.contents ∙ ap (λ w. changed c.parent-parent.result (noticed_of_change (child_signal c.args.pid w)) (g.K.Kin.contents (g.K.Kin.put c.self.inside.table c.args.pid c.resume.new.self))) c.continued.ensures
+    ∙ ap (changed c.parent-parent.result (noticed_of_change (child_signal c.args.pid continued))) contents in
+    rw told (machine_told _ _ _ _ _ _ _ _ _ c.args.pid _ continued resumed me.what lives_resumed refl (found_in _ _ same c.args.pid me.what me.found) me.living (c.parent-parent.ensures.value me.what me.found) c.self.invariant
+    (c.tell_parent.ensures.pids ∙ ap (with_parent c.parent-parent.result) c.insert.ensures.pids) (c.tell_parent.ensures.fits ∙ c.insert.ensures.room) c.insert-2.ensures.pairs c.insert-2.ensures.rising c.insert-2.ensures.room)
+
+pub returns-clause-state : goal.returns-clause-state
+unfolding told_of_change
+returns-clause-state g c = λ me found.
+    let same = state_is c.self.view_is ∙ c.parent-parent.ensures.same in
+    let contents = g.met.K.Kin.puts c.self.inside.table c.args.pid c.resume.new.self ∙ changed_body _ c.update.ensures.rising c.args.pid c.update.result.now c.resume.new.self resumed c.update.ensures.value c.resume.ensures in
+    let told = c.tell_parent.ensures.contents ∙ ap (λ w. changed c.parent-parent.result (noticed_of_change (child_signal c.args.pid w)) (g.K.Kin.contents (g.K.Kin.put c.self.inside.table c.args.pid c.resume.new.self))) c.continued.ensures
+    ∙ ap (changed c.parent-parent.result (noticed_of_change (child_signal c.args.pid continued))) contents in
+    let named = pid_looked c.args.pid c.args.self.now.state.processes me found in
+    let after = λ (n p : ℕ) (s : State). record s { processes = changed n (noticed_of_change (child_signal p continued)) (changed c.args.pid resumed s.processes) } in
+    rw told (ap (after c.parent-parent.result c.args.pid) same ∙ ap (λ n. after n c.args.pid c.args.self.now.state) (c.parent-parent.ensures.value me found) ∙ ap (λ p. after me.parent p c.args.self.now.state) (sym named))

@@ -1,0 +1,68 @@
+use Rattle.std.proofs.Common.{◌∙◌, ap, sym, refl, arith, [], ◌∷◌, ℕ}
+use Rattle.posix.specs.Tables.{changed}
+use Rattle.posix.specs.States.{State, lose_place, is_in}
+use Rattle.posix.specs.Statuses.{stopped}
+use Rattle.posix.specs.Waits.{has_report}
+use Rattle.posix.specs.Notices.{noticed_of_change, child_signal, told_of_change, stopped_by}
+use Rattle.posix.specs.Delivery.{stop_process}
+use Rattle.posix.proofs.TableLemmas.{pid_looked}
+use Rattle.posix.proofs.ChangeLemmas.{lives_stopped}
+use Rattle.proctable.proofs.Bodies.{changed_body}
+use Rattle.life.specs.Asking.{with_numbers, with_parent}
+use Rattle.life.proofs.SoundLemmas.{found_in, is_there}
+use Rattle.life.proofs.AskLemmas.{has_room, room_after}
+use Rattle.life.proofs.ReportedLemmas.{reported_room}
+use Rattle.life.proofs.StopLemmas.{machine_told, parent_after, nobody_after, machine_left, on_list}
+use Rattle.life.proofs.ViewLemmas.{state_is}
+use Rattle.life.proofs.machine.Machine.stop_process.Goals as goal
+
+pub insert-requires : goal.insert-requires
+insert-requires g c = record { room = λ out. has_room _ _ c.self.invariant.sound.regular c.self.invariant.listed }
+
+pub insert-requires-2-clause-room : goal.insert-requires-2-clause-room
+insert-requires-2-clause-room g c = λ out. reported_room _ _ c.self.invariant.sound.regular c.self.invariant.reported
+
+pub tell_parent-requires-clause-there : goal.tell_parent-requires-clause-there
+unfolding stopped_by
+tell_parent-requires-clause-there g c =
+    let same = state_is c.self.view_is ∙ c.parent-parent.ensures.same in
+    let me = c.requires in
+    let contents = g.met.K.Kin.puts c.self.inside.table c.args.pid c.stop.new.self ∙ changed_body _ c.update.ensures.rising c.args.pid c.update.result.now c.stop.new.self (stopped_by c.args.sig) c.update.ensures.value c.stop.ensures in
+    rw contents (parent_after _ _ _ c.self.invariant.sound c.args.pid _ (stopped_by c.args.sig) (lives_stopped c.args.sig) me.what (found_in _ _ same c.args.pid me.what me.found) (c.parent-parent.ensures.value me.what me.found))
+
+pub tell_parent-requires-clause-none : goal.tell_parent-requires-clause-none
+tell_parent-requires-clause-none g c =
+    let contents = g.met.K.Kin.puts c.self.inside.table c.args.pid c.stop.new.self ∙ changed_body _ c.update.ensures.rising c.args.pid c.update.result.now c.stop.new.self (stopped_by c.args.sig) c.update.ensures.value c.stop.ensures in
+    rw contents (nobody_after _ c.self.invariant.sound.regular c.args.pid _ (stopped_by c.args.sig) (lives_stopped c.args.sig))
+
+pub tell_parent-requires-clause-few : goal.tell_parent-requires-clause-few
+unfolding with_numbers
+tell_parent-requires-clause-few g c =
+    let same = state_is c.self.view_is ∙ c.parent-parent.ensures.same in
+    let me = c.requires in
+    let here = is_there _ me.what (found_in _ _ same c.args.pid me.what me.found) in
+    room_after _ _ c.insert.new.self (c.args.pid ∷ []) c.self.invariant.sound.regular c.self.invariant.listed (here, tt) c.insert.ensures.pids c.insert.ensures.room
+
+pub invariant_of-self : goal.invariant_of-self
+unfolding stopped_by has_report
+invariant_of-self g c =
+    let same = state_is c.self.view_is ∙ c.parent-parent.ensures.same in
+    let me = c.requires in
+    let contents = g.met.K.Kin.puts c.self.inside.table c.args.pid c.stop.new.self ∙ changed_body _ c.update.ensures.rising c.args.pid c.update.result.now c.stop.new.self (stopped_by c.args.sig) c.update.ensures.value c.stop.ensures in
+    let told = c.tell_parent.ensures.contents ∙ ap (λ w. changed c.parent-parent.result (noticed_of_change (child_signal c.args.pid w)) (g.K.Kin.contents (g.K.Kin.put c.self.inside.table c.args.pid c.stop.new.self))) c.stopped.ensures
+    ∙ ap (changed c.parent-parent.result (noticed_of_change (child_signal c.args.pid (stopped c.args.sig)))) contents in
+    let asked = c.tell_parent.ensures.pids ∙ ap (with_parent c.parent-parent.result) c.insert.ensures.pids in
+    rw (told, c.drop_place.ensures.pids) (machine_left _ _ _ _ c.tell_parent.new.to_ask _ _ _ c.args.pid (let room = c.drop_place.ensures.room in omega (arith, room)) (ap (is_in c.args.pid) asked ∙ on_list c.args.pid c.parent-parent.result _)
+    (machine_told _ _ _ _ _ _ _ _ _ c.args.pid _ (stopped c.args.sig) (stopped_by c.args.sig) me.what (lives_stopped c.args.sig) refl (found_in _ _ same c.args.pid me.what me.found) me.living (c.parent-parent.ensures.value me.what me.found) c.self.invariant
+    asked (c.tell_parent.ensures.fits ∙ c.insert.ensures.room) c.insert-2.ensures.pairs c.insert-2.ensures.rising c.insert-2.ensures.room))
+
+pub returns-clause-state : goal.returns-clause-state
+unfolding told_of_change stop_process
+returns-clause-state g c = λ me found.
+    let same = state_is c.self.view_is ∙ c.parent-parent.ensures.same in
+    let contents = g.met.K.Kin.puts c.self.inside.table c.args.pid c.stop.new.self ∙ changed_body _ c.update.ensures.rising c.args.pid c.update.result.now c.stop.new.self (stopped_by c.args.sig) c.update.ensures.value c.stop.ensures in
+    let told = c.tell_parent.ensures.contents ∙ ap (λ w. changed c.parent-parent.result (noticed_of_change (child_signal c.args.pid w)) (g.K.Kin.contents (g.K.Kin.put c.self.inside.table c.args.pid c.stop.new.self))) c.stopped.ensures
+    ∙ ap (changed c.parent-parent.result (noticed_of_change (child_signal c.args.pid (stopped c.args.sig)))) contents in
+    let named = pid_looked c.args.pid c.args.self.now.state.processes me found in
+    let after = λ (n p : ℕ) (s : State). record (lose_place s p) { processes = changed n (noticed_of_change (child_signal p (stopped c.args.sig))) (changed p (stopped_by c.args.sig) s.processes) } in
+    rw (told, c.drop_place.ensures.pids) (ap (after c.parent-parent.result c.args.pid) same ∙ ap (λ n. after n c.args.pid c.args.self.now.state) (c.parent-parent.ensures.value me found) ∙ ap (λ p. after me.parent p c.args.self.now.state) (sym named))
