@@ -9,7 +9,7 @@ use Rattle.posix.specs.declared.process.Carried.{Carried}
 use Rattle.posix.specs.declared.process.Frame.{Frame}
 use Rattle.posix.specs.declared.process.Handler.TheVariants as handler
 use Rattle.posix.specs.declared.process.PendingSignal.{PendingSignal}
-use Rattle.posix.specs.SignalNumbers.{SEGV, default_action}
+use Rattle.posix.specs.SignalNumbers.{SEGV, STOP, default_action}
 use Rattle.posix.specs.Statuses.{killed}
 use Rattle.posix.specs.Processes.{Process}
 use Rattle.posix.specs.States.{State, process, change}
@@ -19,7 +19,7 @@ use Rattle.posix.specs.Notices.{told_of_change}
 use Rattle.posix.specs.Groups.{is_orphaned}
 use Rattle.posix.specs.Choice.{carried_by}
 use Rattle.posix.specs.Handlers.{handles, is_full, newest_frame, returned}
-use Rattle.posix.specs.Ends.{end_process, halt, depart, notice_of_end, tell_of_all, zombies_of}
+use Rattle.posix.specs.Ends.{end_process, halt, depart, notice_of_end, tell_of_all, rouse_orphans, zombies_of}
 use Rattle.posix.specs.Delivery.{interruption, handle, discard, stop_process, stop_or_discard, act_by_default, act_on, take_out, deliver, return_to, return_from_handler}
 use Rattle.posix.proofs.RegularLemmas.{keeps_handles}
 use Rattle.calls.proofs.CallLemmas.{outcome_of, same_outcome}
@@ -30,7 +30,7 @@ use Rattle.calls.proofs.ChosenLemmas.{handle_taken, end_taken, changed_there}
 end_with : State → ℕ → ℕ → ℕ → Outcome
 end_with s p parent status =
     cond (p == 1) (outcome_of (halt s status) (Ended p status ∷ Halted ∷ []))
-    (outcome_of (notice_of_end (tell_of_all (depart s p 1 status) 1 (zombies_of p s.processes)) parent p status) (Ended p status ∷ []))
+    (outcome_of (notice_of_end (rouse_orphans s.processes (tell_of_all (depart s p 1 status) 1 (zombies_of p s.processes))) parent p status) (Ended p status ∷ []))
 
 pub end_same : (s : State) (r q : Process) (status : ℕ) → r.pid ≡ q.pid → r.parent ≡ q.parent → end_process s r status ≡ end_process s q status
 unfolding end_process end_with
@@ -118,7 +118,7 @@ pub default_stops : (s : State) (me : Process) (n : ℕ) → (me.pid == 1) ≡ f
 default_stops s me n other stops = ap (λ b. cond b (discard s me.pid n) (act_by_default s me n (default_action n))) other ∙ ap (act_by_default s me n) stops
 
 -- where the group is orphaned, and the signal isn't STOP, it has no effect
-pub stop_if : (s : State) (me : Process) (n : ℕ) (b : Bool) → (not (n == 19) && is_orphaned me.group s.processes) ≡ b → stop_or_discard s me n ≡ cond b (discard s me.pid n) (stop_process s me n)
+pub stop_if : (s : State) (me : Process) (n : ℕ) (b : Bool) → (not (n == STOP) && is_orphaned me.group s.processes) ≡ b → stop_or_discard s me n ≡ cond b (discard s me.pid n) (stop_process s me n)
 stop_if s me n b e = ap (λ b. cond b (discard s me.pid n) (stop_process s me n)) e
 
 -- ---- a return

@@ -4,3 +4,4 @@ pub mod DeliveryLemmas
 pub mod OwnLemmas
 pub mod KillLemmas
 pub mod ReplyLemmas
+pub mod GroupCallLemmas

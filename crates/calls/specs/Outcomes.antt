@@ -1,7 +1,7 @@
 -- What the functions of calls come to.
 use Rattle.std.specs.Prelude.{◌≡◌, ℕ, ◌+◌, ◌≤◌, Bool, true, false, List, [], ◌∷◌, ◌++◌, Option, Some, None, ℤ, pos, Result, Ok, Err}
 use Rattle.posix.specs.declared.call.Call.{Call}
-use Rattle.posix.specs.declared.call.Call.TheVariants.{Exit, Fork, Waitpid, Pause, SchedYield, Getppid, Kill, Sigsuspend, Sigreturn, Alarm}
+use Rattle.posix.specs.declared.call.Call.TheVariants.{Exit, Fork, Waitpid, Pause, SchedYield, Getppid, Kill, Sigsuspend, Sigreturn, Alarm, Exec, Getpgid, Getsid, Setpgid, Setsid}
 use Rattle.posix.specs.declared.entry.Entry.{Entry}
 use Rattle.posix.specs.declared.entry.Entry.TheVariants.{Called}
 use Rattle.posix.specs.declared.errno.Errno.{Errno}
@@ -56,6 +56,11 @@ is_own Kill = false
 is_own Sigsuspend = false
 is_own Sigreturn = false
 is_own Alarm = false
+is_own Exec = false
+is_own Getpgid = false
+is_own Getsid = false
+is_own Setpgid = false
+is_own Setsid = false
 is_own call = true
 
 -- what a call gives that is done, or refused

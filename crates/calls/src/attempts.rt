@@ -12,7 +12,9 @@ ghost use Rattle.calls.specs.Outcomes.{Comes, Attempts, IsActing, CostsAtMost, i
 
 use crate::delivery::{end, return_from_handler};
 use crate::entries::Entries;
+use crate::groups::{getpgid, getsid, setpgid, setsid};
 use crate::kills::kill;
+use crate::programs::exec;
 use crate::replies::{answer, own_call, refusal};
 use crate::waits::wait;
 use life::Machine;
@@ -182,6 +184,11 @@ pub fn attempt<K: Kin>(
         Call::Sigsuspend => Some(Blocked::Sigsuspend(machine.look(pid).signals.mask())),
         Call::Sigreturn => sigreturn(machine, pid, entries),
         Call::Alarm => alarm(machine, pid, entries),
+        Call::Exec => exec(machine, pid, entries),
+        Call::Getpgid => getpgid(machine, pid, entries),
+        Call::Getsid => getsid(machine, pid, entries),
+        Call::Setpgid => setpgid(machine, pid, entries),
+        Call::Setsid => setsid(machine, pid, entries),
         _ => own_call(machine.own(pid), pid, call, entries),
     }
 }

@@ -7,7 +7,7 @@ ghost use Rattle.posix.specs.Regular.{IsPlaced};
 ghost use Rattle.posix.specs.Groups.{is_orphaned};
 ghost use Rattle.posix.specs.Ends.{end_process};
 ghost use Rattle.posix.specs.Delivery.{call_of as call_in, interruption as interruption_of, handle as handling, discard as discarding, stop_or_discard, act_by_default as acting_by_default, deliver as delivering, fault as faulting, return_from_handler as returning};
-ghost use Rattle.posix.specs.SignalNumbers.{default_action};
+ghost use Rattle.posix.specs.SignalNumbers.{STOP, default_action};
 
 use crate::entries::Entries;
 use crate::replies::refusal;
@@ -96,7 +96,7 @@ fn handle<K: Kin>(
 /// Whether a stop signal has no effect on a process that is there: it isn't STOP, and the process group is
 /// orphaned (XSH 2.4.3).
 fn is_stop_discarded<K: Kin>(machine: &mut Machine<K>, pid: Pid, sig: Sig) -> bool
-    ensures value { (me : Process) → process machine.old.state pid ≡ Some me → result ≡ (not (sig == 19) && is_orphaned me.group machine.old.state.processes) }
+    ensures value { (me : Process) → process machine.old.state pid ≡ Some me → result ≡ (not (sig == STOP) && is_orphaned me.group machine.old.state.processes) }
     ensures same { machine.new.state ≡ machine.old.state }
 {
     if sig == Sig::STOP {

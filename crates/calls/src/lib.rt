@@ -4,7 +4,9 @@
 pub mod attempts;
 pub mod delivery;
 pub mod entries;
+mod groups;
 mod kills;
+mod programs;
 mod replies;
 pub mod waits;
 

@@ -116,6 +116,7 @@ fn child() -> Facts {
         life: Life::Running,
         news: News::Nothing,
         blocked: None,
+        ran_exec: false,
         program: 0,
     }
 }

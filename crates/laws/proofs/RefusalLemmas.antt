@@ -1,9 +1,9 @@
 -- What a refused call changes.
-use Rattle.std.proofs.Common.{◌≡◌, ◌≢◌, ℕ, zero, suc, Bool, true, false, cond, not, ◌&&◌, refl, ap, sym, ◌∙◌, arith, subst, List, [], ◌∷◌, ◌++◌, Option, Some, None, option_and_then, ◌==◌, Contains, pos, negsuc, ℤ, Result, Ok, Err}
+use Rattle.std.proofs.Common.{◌≡◌, ◌≢◌, ℕ, zero, suc, Bool, true, false, cond, not, ◌&&◌, refl, ap, sym, ◌∙◌, arith, subst, List, [], ◌∷◌, ◌++◌, Option, Some, None, option_and_then, ◌==◌, Contains, pos, negsuc, ℤ, Result, Ok, Err, slice_get, ◌||◌}
 use Rattle.std.specs.Int.{cast_unsigned, w64}
 use Rattle.std.specs.List.{AllByRecursion}
 use Rattle.posix.specs.declared.call.Call.{Call}
-use Rattle.posix.specs.declared.call.Call.TheVariants.{Exit, Fork, Waitpid, Pause, SchedYield, Getpid, Getppid, Getuid, Geteuid, Getgid, Getegid, Setuid, Seteuid, Setgid, Setegid, Kill, Sigaction, Sigprocmask, Sigpending, Sigsuspend, Sigreturn, Alarm}
+use Rattle.posix.specs.declared.call.Call.TheVariants.{Exit, Fork, Waitpid, Pause, SchedYield, Getpid, Getppid, Getuid, Geteuid, Getgid, Getegid, Setuid, Seteuid, Setgid, Setegid, Kill, Sigaction, Sigprocmask, Sigpending, Sigsuspend, Sigreturn, Alarm, Exec, Getpgid, Getsid, Setpgid, Setsid}
 use Rattle.posix.specs.declared.instr.Trap.{Trap}
 use Rattle.posix.specs.declared.instr.Trap.TheVariants as trap
 use Rattle.posix.specs.declared.event.Event.{Event}
@@ -32,7 +32,7 @@ use Rattle.posix.specs.SignalSets.{has}
 use Rattle.posix.specs.Statuses.{exited, killed}
 use Rattle.posix.specs.Processes.{Process, Signals, Credentials, Cpu, argument}
 use Rattle.posix.specs.Tables.{IsRising, lookup}
-use Rattle.posix.specs.States.{State, is_in, change, current, next_pid, process}
+use Rattle.posix.specs.States.{Program, State, is_in, change, current, next_pid, process}
 use Rattle.posix.specs.Execute.{exec_one}
 use Rattle.posix.specs.Outcomes.{Outcome, Attempted, Done, Block, finish, finished, refusal, refused, Reply, answers}
 use Rattle.posix.specs.Credentials.{setuid, seteuid, setgid, setegid}
@@ -48,6 +48,8 @@ use Rattle.posix.specs.Delivery.{call_of, interruption, handle, stop_process, ac
 use Rattle.posix.specs.Sends.{sending, send_with, signal_in, signal_or_none, kill_with, kill}
 use Rattle.posix.specs.SignalCalls.{set_credentials, is_question, are_flags, action_in, sigaction_with, sigaction_of, sigaction, how_in, sigprocmask_with, sigprocmask, sigpending}
 use Rattle.posix.specs.Alarms.{ticks_in, alarm_in, alarm}
+use Rattle.posix.specs.Programs.{exec_as, exec_of, exec}
+use Rattle.posix.specs.GroupCalls.{named, tells, getpgid, getsid, move_of, setpgid_with, setpgid_to, setpgid, is_group_of_others, setsid}
 use Rattle.posix.specs.Attempts.{attempt, attempt_again}
 use Rattle.posix.specs.Settle.{settle}
 use Rattle.posix.specs.Step.{IsStep, next, happens, step, act, act_in, after_trap, begin_call, deliver_or, go_on, code_of}
@@ -174,6 +176,50 @@ explained_kill_with C s me target (Err why) = explained_refused C s me.pid Kill 
 explained_kill : (C : Terms) (s : State) (me : Process) → ExplainedIf C s me.pid (kill s me)
 unfolding kill
 explained_kill C s me = explained_kill_with C s me (target_in (argument me 1)) (signal_or_none (argument me 2))
+
+-- another program is run, if there is one
+explained_exec_as : (C : Terms) (s : State) (me : Process) (n : ℕ) (program : Option Program) → ExplainedIf C s me.pid (exec_as s me n program)
+explained_exec_as C s me n None = explained_refused C s me.pid Exec ENOENT
+explained_exec_as C s me n (Some program) = (tt, tt)
+
+explained_exec_of : (C : Terms) (s : State) (me : Process) (z : ℤ) → ExplainedIf C s me.pid (exec_of s me z)
+explained_exec_of C s me (pos n) = explained_exec_as C s me n (slice_get s.world.programs n)
+explained_exec_of C s me (negsuc n) = explained_refused C s me.pid Exec ENOENT
+
+explained_exec : (C : Terms) (s : State) (me : Process) → ExplainedIf C s me.pid (exec s me)
+unfolding exec
+explained_exec C s me = explained_exec_of C s me (argument me 1)
+
+-- what a call tells of a process, if it is there
+explained_tells : (C : Terms) (s : State) (me : Process) (call : Call) (field : Process → ℕ) (o : Option Process) → ExplainedIf C s me.pid (tells s me call field o)
+explained_tells C s me call field None = explained_refused C s me.pid call ESRCH
+explained_tells C s me call field (Some r) = (tt, tt)
+
+explained_getpgid : (C : Terms) (s : State) (me : Process) → ExplainedIf C s me.pid (getpgid s me)
+unfolding getpgid
+explained_getpgid C s me = explained_tells C s me Getpgid (λ r. r.group) (named me (argument me 1) s.processes)
+
+explained_getsid : (C : Terms) (s : State) (me : Process) → ExplainedIf C s me.pid (getsid s me)
+unfolding getsid
+explained_getsid C s me = explained_tells C s me Getsid (λ r. r.session) (named me (argument me 1) s.processes)
+
+-- a process moves to another group, or doesn't
+explained_move : (C : Terms) (s : State) (me : Process) (target : Option Process) (what : Result ℕ Errno) → ExplainedIf C s me.pid (setpgid_with s me target what)
+explained_move C s me target (Err why) = explained_refused C s me.pid Setpgid why
+explained_move C s me None (Ok group) = explained_refused C s me.pid Setpgid ESRCH
+explained_move C s me (Some r) (Ok group) = (tt, tt)
+
+explained_move_to : (C : Terms) (s : State) (me : Process) (target : Option Process) (z : ℤ) → ExplainedIf C s me.pid (setpgid_to s me target z)
+explained_move_to C s me target (pos group) = explained_move C s me target (move_of me target group s.processes)
+explained_move_to C s me target (negsuc n) = explained_refused C s me.pid Setpgid EINVAL
+
+explained_setpgid : (C : Terms) (s : State) (me : Process) → ExplainedIf C s me.pid (setpgid s me)
+unfolding setpgid
+explained_setpgid C s me = explained_move_to C s me (named me (argument me 1) s.processes) (argument me 2)
+
+explained_setsid : (C : Terms) (s : State) (me : Process) → ExplainedIf C s me.pid (setsid s me)
+unfolding setsid
+explained_setsid C s me = explained_if C s me.pid (me.group == me.pid || is_group_of_others me s.processes) _ _ (explained_refused C s me.pid Setsid EPERM) (tt, tt)
 
 -- a new action, or a refusal
 explained_action_with : (old : Action) (g : Result Signals Errno) → IsExplained (sigaction_with old g)
@@ -337,6 +383,11 @@ explained_attempt granted s me Sigpending = explained_pending me (NotInterrupted
 explained_attempt granted s me Sigsuspend = tt
 explained_attempt granted s me Sigreturn = none_return s me granted s (return_from_handler s me).state me.pid
 explained_attempt granted s me Alarm = explained_alarm s me (NotInterrupted granted) s me.pid Alarm
+explained_attempt granted s me Exec = explained_exec (NotInterrupted granted) s me
+explained_attempt granted s me Getpgid = explained_getpgid (NotInterrupted granted) s me
+explained_attempt granted s me Getsid = explained_getsid (NotInterrupted granted) s me
+explained_attempt granted s me Setpgid = explained_setpgid (NotInterrupted granted) s me
+explained_attempt granted s me Setsid = explained_setsid (NotInterrupted granted) s me
 
 -- ---- an entry among others
 

@@ -1,16 +1,16 @@
 -- Each event keeps a state regular.
-use Rattle.std.proofs.Common.{◌≡◌, ◌≢◌, ℕ, ◌+◌, ◌≤◌, Bool, true, false, not, ◌&&◌, refl, ap, sym, ◌∙◌, subst, List, [], ◌∷◌, ◌++◌, map, filter, Option, Some, None, option_and_then, ◌==◌, ℤ, pos, inl, inr, Result, Ok, Err, nat_le, negsuc}
+use Rattle.std.proofs.Common.{◌≡◌, ◌≢◌, ℕ, ◌+◌, ◌≤◌, Bool, true, false, not, ◌&&◌, refl, ap, sym, ◌∙◌, subst, List, [], ◌∷◌, ◌++◌, map, filter, Option, Some, None, option_and_then, ◌==◌, ℤ, pos, inl, inr, Result, Ok, Err, nat_le, negsuc, slice_get, ◌||◌, zero, suc}
 use Rattle.std.specs.Int.{cast_unsigned, w64}
 use Rattle.std.specs.List.{AllByRecursion}
-use Rattle.std.proofs.lemmas.Bool.{eqb-true, eqb-false, eq-eqb, cond_both, or_cases, or_from, false_from_ne_true, leb-true}
+use Rattle.std.proofs.lemmas.Bool.{eqb-true, eqb-false, eq-eqb, cond_both, or_cases, or_parts, or_from, false_from_ne_true, leb-true}
 use Rattle.posix.specs.declared.call.Call.{Call}
-use Rattle.posix.specs.declared.call.Call.TheVariants.{Exit, Fork, Waitpid, Pause, SchedYield, Getpid, Getppid, Getuid, Geteuid, Getgid, Getegid, Setuid, Seteuid, Setgid, Setegid, Kill, Sigaction, Sigprocmask, Sigpending, Sigsuspend, Sigreturn, Alarm}
+use Rattle.posix.specs.declared.call.Call.TheVariants.{Exit, Fork, Waitpid, Pause, SchedYield, Getpid, Getppid, Getuid, Geteuid, Getgid, Getegid, Setuid, Seteuid, Setgid, Setegid, Kill, Sigaction, Sigprocmask, Sigpending, Sigsuspend, Sigreturn, Alarm, Exec, Getpgid, Getsid, Setpgid, Setsid}
 use Rattle.posix.specs.declared.instr.Trap.{Trap}
 use Rattle.posix.specs.declared.instr.Trap.TheVariants as trap
 use Rattle.posix.specs.declared.event.Event.{Event}
 use Rattle.posix.specs.declared.event.Event.TheVariants.{Step, Tick}
 use Rattle.posix.specs.declared.errno.Errno.{Errno}
-use Rattle.posix.specs.declared.errno.Errno.TheVariants.{EPERM, ESRCH, ECHILD, EAGAIN, EINVAL}
+use Rattle.posix.specs.declared.errno.Errno.TheVariants.{EPERM, ESRCH, ECHILD, EAGAIN, EINVAL, ENOENT}
 use Rattle.posix.specs.declared.entry.Entry.{Entry}
 use Rattle.posix.specs.declared.how.How.{How}
 use Rattle.posix.specs.declared.sig.DefaultAction.{DefaultAction}
@@ -31,23 +31,25 @@ use Rattle.posix.specs.SignalNumbers.{KILL, SEGV, STOP, default_action}
 use Rattle.posix.specs.SignalSets.{has}
 use Rattle.posix.specs.Statuses.{exited, killed}
 use Rattle.posix.specs.Processes.{Process, Signals, Credentials, Cpu, is_zombie, argument}
-use Rattle.posix.specs.Tables.{lookup, at, changed, removed, is_child, children_in, reparented, adopted, pids}
-use Rattle.posix.specs.States.{State, is_in, change, go_last, current, next_pid, process}
+use Rattle.posix.specs.Tables.{IsRising, lookup, at, changed, removed, is_child, children_in, reparented, adopted, pids}
+use Rattle.posix.specs.States.{Program, State, is_in, change, go_last, current, next_pid, process}
 use Rattle.posix.specs.Execute.{exec_one}
 use Rattle.posix.specs.Outcomes.{Outcome, Attempted, Done, Block, Reply, answers, finished, written, refusal, plain}
 use Rattle.posix.specs.Credentials.{setuid, seteuid, setgid, setegid}
 use Rattle.posix.specs.Generation.{action, is_pending}
 use Rattle.posix.specs.Notices.{noticed, child_signal}
-use Rattle.posix.specs.Groups.{is_orphaned}
+use Rattle.posix.specs.Groups.{is_orphaned, newly_orphaned}
 use Rattle.posix.specs.Choice.{chosen, carried_by, from_kernel}
 use Rattle.posix.specs.Handlers.{handles, is_full, newest_frame, returned, set_action}
 use Rattle.posix.specs.Births.{born, child_of, fork_as}
-use Rattle.posix.specs.Ends.{made_zombie, depart, is_dropping, drop_child, notice_of_end, zombies_of, tell_of_all, status_of, end_process}
+use Rattle.posix.specs.Ends.{made_zombie, depart, is_dropping, drop_child, notice_of_end, zombies_of, tell_of_all, status_of, rouse_orphans, end_process}
 use Rattle.posix.specs.Targets.{target_in}
 use Rattle.posix.specs.Waits.{wait, wait_with, report, options_in, are_known, has_option, WNOHANG, news_told}
 use Rattle.posix.specs.Delivery.{handle, act_by_default, act_on, take_out, deliver, fault_with, fault, return_to, return_from_handler}
 use Rattle.posix.specs.Sends.{sent, sent_by, sent_among, permitted, targets, sending, send_with, signal_in, signal_or_none, kill_with, kill}
 use Rattle.posix.specs.SignalCalls.{set_credentials, give_credentials, give_signals, holding, is_question, are_flags, action_in, sigaction_with, sigaction_of, sigaction, how_in, sigprocmask_with, sigprocmask, sigpending}
+use Rattle.posix.specs.Programs.{executed, exec_as, exec_of, exec}
+use Rattle.posix.specs.GroupCalls.{named, tells, getpgid, getsid, move_of, setpgid_with, setpgid_to, setpgid, is_group_of_others, in_group, in_session, setsid}
 use Rattle.posix.specs.Alarms.{most_ticks, due_in, ticks_in, alarm_in, alarm, pass_time}
 use Rattle.posix.specs.Attempts.{attempt, attempt_again}
 use Rattle.posix.specs.Regular.{IsRegular, IsPlaced, CanInherit, IsDistinct}
@@ -58,6 +60,8 @@ use Rattle.posix.proofs.MapLemmas.{at_pid, lookup_back}
 use Rattle.posix.proofs.MemberLemmas.{in_append, in_first, apart_rest}
 use Rattle.posix.proofs.RegularLemmas.{Keeps, keeps_none, keeps_at, keeps_then, keeps_set_cpu, keeps_news_told, keeps_handles, keeps_take_out, keeps_noticed, keeps_with_alarm, due_ahead, lookup_left, placed_least, regular_as, regular_change, regular_lose, regular_depart, regular_halt, regular_inserted, regular_removed, regular_pass}
 use Rattle.posix.proofs.ChangeLemmas.{regular_stop, regular_signalled}
+use Rattle.posix.proofs.RouseLemmas.{lasts_roused_all, was_there, regular_rouse}
+use Rattle.posix.proofs.GroupLemmas.{regular_move, regular_session, keeps_executed}
 use Rattle.posix.proofs.OrderLemmas.{regular_last, first_in}
 use Rattle.posix.proofs.WalkLemmas.{all_looked, in_filter}
 use Rattle.posix.proofs.ReportLemmas.{IsChild, reported, not_first}
@@ -194,6 +198,13 @@ departed_dead s p heir w ne = dead_map (reparented p heir) (pid_reparented p hei
       ap (λ (r : Process). is_zombie r.life) b.is ∙ rw named refl;
 })
 
+-- and who was dead is dead where groups are roused
+dead_roused : (before : List Process) (s : State) (c : ℕ) → IsRising s.processes → IsDead s.processes c → IsDead (rouse_orphans before s).processes c
+dead_roused before s c up h = record {
+  other = h.other;
+  dead = λ r e. let was = was_there c s.processes _ (lasts_roused_all (newly_orphaned before s.processes) s.processes up).same r e in sym was.zombie ∙ h.dead was.what was.found;
+}
+
 -- so are the zombies among the children of a process
 children_dead : (s : State) → IsRegular s → (p : ℕ) → 1 ≤ p → AllDead s.processes (zombies_of p s.processes)
 unfolding zombies_of children_in
@@ -212,12 +223,13 @@ children_dead s i p least =
 
 -- the end of a process other than process 1
 regular_gone : (s : State) (p parent heir w : ℕ) → 1 ≤ p → p ≢ 1 → CanInherit s.processes p heir → IsRegular s
-    → IsRegular (notice_of_end (tell_of_all (depart s p heir w) heir (zombies_of p s.processes)) parent p w)
+    → IsRegular (notice_of_end (rouse_orphans s.processes (tell_of_all (depart s p heir w) heir (zombies_of p s.processes))) parent p w)
 regular_gone s p parent heir w least other inherits i =
     let gone = depart s p heir w in
     let zs = zombies_of p s.processes in
     let told = regular_told gone heir zs (regular_depart p heir w least other s i inherits) (still_dead s.processes gone.processes (dead_departed s p heir w) zs (children_dead s i p least)) in
-    regular_noticed (tell_of_all gone heir zs) parent p w told (dead_told gone heir zs p (departed_dead s p heir w other))
+    let dead = dead_told gone heir zs p (departed_dead s p heir w other) in
+    regular_noticed (rouse_orphans s.processes (tell_of_all gone heir zs)) parent p w (regular_rouse s.processes (tell_of_all gone heir zs) told) (dead_roused s.processes (tell_of_all gone heir zs) p told.rising dead)
 
 -- an end
 regular_end : (s : State) (r : Process) (status : ℕ) → 1 ≤ r.pid → IsRegular s → IsRegular (end_process s r status).state
@@ -323,10 +335,7 @@ regular_gives s p call z i = regular_answers s p call (plain z) keeps_none i
 regular_born : (s : State) (me : Process) (n : ℕ) → IsCaller s me → next_pid s ≡ Some n → IsRegular (born s me n)
 unfolding child_of finished
 regular_born s me n c e =
-    let new = new_number s n e in
-    let bounds = c.regular.bounded me.pid me c.found in
-    regular_inserted (child_of (s.births + 1) me n) n (s.births + 1) s c.regular new.fresh
-    (record { least = new.least; pid = new.greatest; group = bounds.group; session = bounds.session }) (caller_lives s me c) refl me c.found (caller_lives s me c)
+    regular_inserted (child_of (s.births + 1) me n) n (s.births + 1) s c.regular (new_number s n e) (caller_lives s me c) refl me c.found (caller_lives s me c) refl refl
 
 -- a fork
 regular_fork : (granted : Bool) (s : State) (me : Process) (n : Option ℕ) → IsCaller s me → next_pid s ≡ n → RegularIf (fork_as granted s me n)
@@ -424,6 +433,60 @@ keeps_alarm : (s : State) (me : Process) → Keeps s.ticks (alarm s me).changes
 unfolding alarm
 keeps_alarm s me = keeps_alarm_in s.ticks me (argument me 1)
 
+-- another program is run, if there is one
+regular_exec_as : (s : State) (me : Process) (n : ℕ) (program : Option Program) → IsRegular s → RegularIf (exec_as s me n program)
+regular_exec_as s me n None i = regular_gives s me.pid Exec (refusal ENOENT) i
+regular_exec_as s me n (Some program) i = regular_change me.pid (executed n program) s (keeps_executed n program) i
+
+regular_exec_of : (s : State) (me : Process) (z : ℤ) → IsRegular s → RegularIf (exec_of s me z)
+regular_exec_of s me (pos n) i = regular_exec_as s me n (slice_get s.world.programs n) i
+regular_exec_of s me (negsuc n) i = regular_gives s me.pid Exec (refusal ENOENT) i
+
+regular_exec : (s : State) (me : Process) → IsRegular s → RegularIf (exec s me)
+unfolding exec
+regular_exec s me i = regular_exec_of s me (argument me 1) i
+
+-- what a call tells of a process, if it is there
+regular_tells : (s : State) (me : Process) (call : Call) (field : Process → ℕ) (o : Option Process) → IsRegular s → RegularIf (tells s me call field o)
+regular_tells s me call field None i = regular_gives s me.pid call (refusal ESRCH) i
+regular_tells s me call field (Some r) i = regular_gives s me.pid call (pos (field r)) i
+
+regular_getpgid : (s : State) (me : Process) → IsRegular s → RegularIf (getpgid s me)
+unfolding getpgid
+regular_getpgid s me i = regular_tells s me Getpgid (λ r. r.group) (named me (argument me 1) s.processes) i
+
+regular_getsid : (s : State) (me : Process) → IsRegular s → RegularIf (getsid s me)
+unfolding getsid
+regular_getsid s me i = regular_tells s me Getsid (λ r. r.session) (named me (argument me 1) s.processes) i
+
+-- a process that is there moves to the group that it may
+regular_moves : (s : State) (me : Process) (p : ℕ) (target : Option Process) (group : ℕ) (what : Result ℕ Errno) → IsRegular s → lookup p s.processes ≡ target → move_of me target group s.processes ≡ what → RegularIf (setpgid_with s me target what)
+regular_moves s me p target group (Err why) i found e = regular_gives s me.pid Setpgid (refusal why) i
+regular_moves s me p None group (Ok h) i found e = regular_gives s me.pid Setpgid (refusal ESRCH) i
+regular_moves s me p (Some r) group (Ok h) i found e = regular_gives (change s r.pid (in_group h)) me.pid Setpgid (pos 0) (regular_move s i me r p group h found e)
+
+regular_moves_to : (s : State) (me : Process) (p : ℕ) (target : Option Process) (z : ℤ) → IsRegular s → lookup p s.processes ≡ target → RegularIf (setpgid_to s me target z)
+regular_moves_to s me p target (pos group) i found = regular_moves s me p target group (move_of me target group s.processes) i found refl
+regular_moves_to s me p target (negsuc n) i found = regular_gives s me.pid Setpgid (refusal EINVAL) i
+
+-- by the process that the register names
+regular_named : (s : State) (me : Process) (z group : ℤ) → IsCaller s me → RegularIf (setpgid_to s me (named me z s.processes) group)
+regular_named s me (pos zero) group c = regular_moves_to s me me.pid (Some me) group c.regular c.found
+regular_named s me (pos (suc n)) group c = regular_moves_to s me (suc n) (lookup (suc n) s.processes) group c.regular refl
+regular_named s me (negsuc n) (pos group) c = regular_gives s me.pid Setpgid (refusal ESRCH) c.regular
+regular_named s me (negsuc n) (negsuc group) c = regular_gives s me.pid Setpgid (refusal EINVAL) c.regular
+
+regular_setpgid : (s : State) (me : Process) → IsCaller s me → RegularIf (setpgid s me)
+unfolding setpgid
+regular_setpgid s me c = regular_named s me (argument me 1) (argument me 2) c
+
+-- the caller leads a session of its own, or doesn't
+regular_setsid : (s : State) (me : Process) → IsCaller s me → RegularIf (setsid s me)
+unfolding setsid
+regular_setsid s me c =
+    cond_both (me.group == me.pid || is_group_of_others me s.processes) _ _ RegularIf (λ t. regular_gives s me.pid Setsid (refusal EPERM) c.regular)
+    (λ t. regular_gives (change s me.pid in_session) me.pid Setsid (pos me.pid) (regular_session s c.regular me me.pid c.found (or_parts _ _ t).1))
+
 -- each call
 regular_attempt : (granted : Bool) (s : State) (me : Process) (call : Call) → IsCaller s me → RegularIf (attempt granted s me call)
 unfolding attempt
@@ -449,6 +512,11 @@ regular_attempt granted s me Sigpending c = regular_answers s me.pid Sigpending 
 regular_attempt granted s me Sigsuspend c = tt
 regular_attempt granted s me Sigreturn c = regular_return s me (least_caller s me c) c.regular
 regular_attempt granted s me Alarm c = regular_answers s me.pid Alarm (alarm s me) (keeps_alarm s me) c.regular
+regular_attempt granted s me Exec c = regular_exec s me c.regular
+regular_attempt granted s me Getpgid c = regular_getpgid s me c.regular
+regular_attempt granted s me Getsid c = regular_getsid s me c.regular
+regular_attempt granted s me Setpgid c = regular_setpgid s me c
+regular_attempt granted s me Setsid c = regular_setsid s me c
 
 -- each call afresh
 regular_again : (s : State) (me : Process) (b : Blocked) → IsCaller s me → RegularIf (attempt_again s me b)
@@ -545,6 +613,7 @@ regular_settled s i =
       distinct = distinct_append s.order woken i.distinct (distinct_pids (filter (wakes s) s.processes) (rising_filter (wakes s) s.processes i.rising)) (λ q e. (all_wake s i.rising q e).out);
       childless = i.childless;
       alarms = i.alarms;
+      grouped = i.grouped;
     }
 
 -- ---- steps and runs

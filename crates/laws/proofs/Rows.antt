@@ -1,5 +1,5 @@
 -- Worked runs, computed from a world and events to the lines of the trace.
-use Rattle.std.specs.Prelude.{ℕ, ◌≡◌, ◌==◌, if◌then◌else◌, ◌+◌, Bool, true, false, refl, List, [], ◌∷◌, ◌++◌, replicate, Option, None, pos, negsuc, codes}
+use Rattle.std.specs.Prelude.{Some, ℕ, ◌≡◌, ◌==◌, if◌then◌else◌, ◌+◌, Bool, true, false, refl, List, [], ◌∷◌, ◌++◌, replicate, Option, None, pos, negsuc, codes}
 use Rattle.std.specs.Fmt.{digits}
 use Rattle.posix.specs.declared.event.Event.{Event}
 use Rattle.posix.specs.declared.event.Event.TheVariants.{Step, Tick}
@@ -8,8 +8,9 @@ use Rattle.posix.specs.declared.instr.Instr.{Instr}
 use Rattle.posix.specs.declared.instr.Instr.TheVariants.{Set, Compute, Jump, JumpIf, Note, Sys}
 use Rattle.posix.specs.declared.instr.Operator.TheVariants.{Div, Rem}
 use Rattle.posix.specs.declared.instr.Condition.TheVariants.{Zero}
-use Rattle.posix.specs.declared.call.Call.TheVariants.{Exit, Fork, Waitpid, Pause, SchedYield, Getpid, Setuid, Kill, Sigaction, Sigprocmask, Sigsuspend, Sigreturn, Alarm}
+use Rattle.posix.specs.declared.call.Call.TheVariants.{Exit, Fork, Waitpid, Pause, SchedYield, Getpid, Setuid, Kill, Sigaction, Sigprocmask, Sigsuspend, Sigreturn, Alarm, Exec, Setpgid, Setsid, Geteuid, Getuid}
 use Rattle.posix.specs.Processes.{nothing_pending, default_actions, zero_registers, zero_memory}
+use Rattle.posix.specs.Numbers.{with_number}
 use Rattle.posix.specs.Tables.{lookup, changed, inserted, removed, children_in, adopted, members_in}
 use Rattle.posix.specs.NextPid.{is_free, next_free}
 use Rattle.posix.specs.States.{Program, World, State, boot, is_in, without}
@@ -19,16 +20,18 @@ use Rattle.posix.specs.Outcomes.{finished, written}
 use Rattle.posix.specs.Credentials.{setuid, seteuid, setgid, setegid}
 use Rattle.posix.specs.Generation.{without_stops, generated, effect_of, signalled}
 use Rattle.posix.specs.Notices.{noticed, noticed_of_change, told_of_change, stopped_by, resumed, signalled_all}
-use Rattle.posix.specs.Groups.{is_anchor, is_orphaned}
+use Rattle.posix.specs.Groups.{is_anchor, is_orphaned, group_numbers, has_stopped, is_newly_orphaned, newly_orphaned}
 use Rattle.posix.specs.Choice.{least_ready, chosen, taken}
 use Rattle.posix.specs.Handlers.{entered, at_handler, handles, returned, set_action, set_mask}
 use Rattle.posix.specs.Delivery.{handle, stop_process, take_out, deliver, fault, return_from_handler}
 use Rattle.posix.specs.Sends.{targets, permitted, sending, sent_among, sent, kill}
 use Rattle.posix.specs.SignalCalls.{give_credentials, give_signals, sigaction, sigprocmask, set_of, sigpending}
 use Rattle.posix.specs.Births.{child_of, fork_as}
-use Rattle.posix.specs.Ends.{ended, made_zombie, notice_of_end, zombies_of, tell_of_all, end_process}
+use Rattle.posix.specs.Ends.{ended, made_zombie, notice_of_end, zombies_of, tell_of_all, signalled_members, roused_all, end_process}
 use Rattle.posix.specs.Waits.{report_of, report, news_told, wait}
 use Rattle.posix.specs.Alarms.{with_alarm, alarm, rung, ring_all}
+use Rattle.posix.specs.Programs.{executed, exec}
+use Rattle.posix.specs.GroupCalls.{is_group_of, getpgid, getsid, in_group, setpgid, in_session, setsid}
 use Rattle.posix.specs.Attempts.{attempt, attempt_again}
 use Rattle.posix.specs.Settle.{can_act, settle}
 use Rattle.posix.specs.Step.{set_cpu, enter, after_trap, act_in, act, step, tick, happens, next}
@@ -52,7 +55,7 @@ trace w events = trace_from 1 (boot w) (λ k. true) events
 
 -- opens every definition of an operation
 unfoldable everything : Unit {0}
-unfolding nothing_pending default_actions zero_registers zero_memory exec_one digits lookup changed inserted removed children_in adopted members_in is_free next_free is_in without finished written setuid seteuid setgid setegid without_stops generated effect_of signalled noticed_of_change told_of_change stopped_by resumed signalled_all is_anchor is_orphaned least_ready chosen taken entered at_handler handles returned set_action set_mask child_of fork_as ended made_zombie noticed notice_of_end zombies_of tell_of_all end_process report_of report news_told wait handle stop_process take_out deliver fault return_from_handler targets permitted sending sent_among sent kill give_credentials give_signals sigaction sigprocmask set_of sigpending attempt attempt_again can_act settle set_cpu enter after_trap act_in act step with_alarm rung ring_all alarm tick happens next
+unfolding nothing_pending default_actions zero_registers zero_memory exec_one digits lookup changed inserted removed children_in adopted members_in is_free next_free is_in without finished written setuid seteuid setgid setegid without_stops generated effect_of signalled noticed_of_change told_of_change stopped_by resumed signalled_all with_number is_anchor is_orphaned group_numbers has_stopped is_newly_orphaned newly_orphaned least_ready chosen taken entered at_handler handles returned set_action set_mask child_of fork_as ended made_zombie noticed notice_of_end zombies_of tell_of_all signalled_members roused_all end_process report_of report news_told wait handle stop_process take_out deliver fault return_from_handler targets permitted sending sent_among sent kill give_credentials give_signals sigaction sigprocmask set_of sigpending attempt attempt_again can_act settle set_cpu enter after_trap act_in act step with_alarm rung ring_all alarm executed exec is_group_of getpgid getsid in_group setpgid in_session setsid tick happens next
 everything = tt
 
 abbrev note_and_exit : World
@@ -183,3 +186,30 @@ row_stop_without_effect : trace (world 40 1 (program None None (Sys Fork ∷ Jum
     ≡ line 1 (Called 1 Fork (pos 2)) ∷ line 5 (Called 1 Kill (pos 0)) ∷ line 7 (Discarded 2 20) ∷ []
 unfolding everything
 row_stop_without_effect = refl
+
+-- ---- process groups, sessions and other programs
+
+row_wake_without_an_end : trace (world 40 1 (program None None (Sys Fork ∷ JumpIf Zero 0 21 ∷ Sys SchedYield ∷ Set 1 (negsuc 1) ∷ Sys Waitpid ∷ Sys Setpgid ∷ Sys SchedYield ∷ Set 2 (pos 1) ∷ Sys Setpgid ∷ Sys Pause ∷ []) ∷ [])) (replicate 12 Step)
+    ≡ line 1 (Called 1 Fork (pos 2)) ∷ line 3 (Called 1 SchedYield (pos 0)) ∷ line 5 (Called 2 Setpgid (pos 0)) ∷ line 6 (Called 2 SchedYield (pos 0)) ∷ line 10 (Called 2 Setpgid (pos 0)) ∷ line 12 (Called 1 Waitpid (negsuc 9)) ∷ []
+unfolding everything
+row_wake_without_an_end = refl
+
+row_new_session_refused_while_the_number_is_a_group : trace (world 40 1 (program None None (Sys Fork ∷ JumpIf Zero 0 19 ∷ Sys Pause ∷ Sys Setpgid ∷ Sys Fork ∷ JumpIf Zero 0 25 ∷ Set 2 (pos 1) ∷ Sys Setpgid ∷ Sys Setsid ∷ Sys Pause ∷ []) ∷ [])) (replicate 10 Step)
+    ≡ line 1 (Called 1 Fork (pos 2)) ∷ line 5 (Called 2 Setpgid (pos 0)) ∷ line 6 (Called 2 Fork (pos 3)) ∷ line 9 (Called 2 Setpgid (pos 0)) ∷ line 10 (Called 2 Setsid (negsuc 0)) ∷ []
+unfolding everything
+row_new_session_refused_while_the_number_is_a_group = refl
+
+row_exec_with_setuid : trace (world 40 1 (program None None (Set 1 (pos 100) ∷ Sys Setuid ∷ Set 1 (pos 1) ∷ Set 2 (pos 9) ∷ Sys Exec ∷ []) ∷ program (Some 7) None (Sys Geteuid ∷ Sys Getuid ∷ Note 1 ∷ []) ∷ [])) (replicate 8 Step)
+    ≡ line 2 (Called 1 Setuid (pos 0)) ∷ line 5 (Called 1 Exec (pos 0)) ∷ line 6 (Called 1 Geteuid (pos 7)) ∷ line 7 (Called 1 Getuid (pos 100)) ∷ line 8 (Noted 1 (pos 9)) ∷ []
+unfolding everything
+row_exec_with_setuid = refl
+
+row_group_change_after_exec : trace (world 40 1 (program None None (Sys Fork ∷ JumpIf Zero 0 22 ∷ Sys SchedYield ∷ Set 1 (pos 2) ∷ Set 2 (pos 2) ∷ Sys Setpgid ∷ Set 1 (pos 1) ∷ Sys Exec ∷ []) ∷ program None None (Jump 16 ∷ []) ∷ [])) (replicate 6 Step ++ (Tick ∷ []) ++ replicate 3 Step)
+    ≡ line 1 (Called 1 Fork (pos 2)) ∷ line 3 (Called 1 SchedYield (pos 0)) ∷ line 6 (Called 2 Exec (pos 0)) ∷ line 10 (Called 1 Setpgid (negsuc 12)) ∷ []
+unfolding everything
+row_group_change_after_exec = refl
+
+row_group_outlives_its_leader : trace (world 3 1 (program None None (Sys Fork ∷ JumpIf Zero 0 26 ∷ Sys SchedYield ∷ Sys Fork ∷ JumpIf Zero 0 30 ∷ Sys SchedYield ∷ Set 1 (pos 2) ∷ Set 2 (pos 0) ∷ Sys Waitpid ∷ Sys Fork ∷ Set 1 (pos 0) ∷ Set 2 (pos 0) ∷ Sys Setpgid ∷ Sys Exit ∷ Set 1 (pos 0) ∷ Set 2 (pos 2) ∷ Sys Setpgid ∷ Sys Pause ∷ []) ∷ [])) (replicate 20 Step)
+    ≡ line 1 (Called 1 Fork (pos 2)) ∷ line 3 (Called 1 SchedYield (pos 0)) ∷ line 7 (Called 2 Setpgid (pos 0)) ∷ line 8 (Ended 2 0) ∷ line 9 (Called 1 Fork (pos 3)) ∷ line 11 (Called 1 SchedYield (pos 0)) ∷ line 15 (Called 3 Setpgid (pos 0)) ∷ line 19 (Reported 1 2 0) ∷ line 20 (Called 1 Fork (negsuc 10)) ∷ []
+unfolding everything
+row_group_outlives_its_leader = refl

@@ -1,5 +1,5 @@
 -- Who is given a place as an event is settled.
-use Rattle.std.proofs.Common.{◌≡◌, ℕ, true, false, cond, not, ◌||◌, refl, ap, sym, ◌∙◌, arith, List, [], ◌∷◌, filter, Some, ◌==◌}
+use Rattle.std.proofs.Common.{◌≡◌, ℕ, true, false, not, refl, ap, sym, ◌∙◌, arith, List, [], ◌∷◌, filter, Some}
 use Rattle.std.proofs.lemmas.Bool.{ne_eqb, or_from, and_parts, not-true}
 use Rattle.posix.specs.Processes.{Process}
 use Rattle.posix.specs.Tables.{IsRising, lookup, pids}
@@ -7,7 +7,7 @@ use Rattle.posix.specs.States.{State, is_in}
 use Rattle.posix.specs.Regular.{IsDistinct}
 use Rattle.posix.specs.Settle.{wakes, can_act}
 use Rattle.posix.proofs.TableLemmas.{Above, pid_looked}
-use Rattle.posix.proofs.WalkLemmas.{in_filter}
+use Rattle.posix.proofs.WalkLemmas.{in_filter, pid_found}
 
 -- numbers of some processes are above a number where all are
 pids_above : (n : ℕ) (rs : List Process) → Above n rs → is_in n (pids rs) ≡ false
@@ -20,15 +20,6 @@ pub distinct_pids : (rs : List Process) → IsRising rs → IsDistinct (pids rs)
 unfolding IsDistinct IsRising
 distinct_pids [] up = tt
 distinct_pids (r ∷ rs) up = (pids_above r.pid rs up.0, distinct_pids rs up.1)
-
--- whose number is among those of processes is found there
-pid_found : (q : ℕ) (rs : List Process) → is_in q (pids rs) ≡ true → (r : Process) × (lookup q rs ≡ Some r)
-unfolding is_in lookup
-pid_found q [] e = absurd (cc)
-pid_found q (r ∷ rs) e = elim (r.pid == q) as (λ b. (b || is_in q (pids rs)) ≡ true → (x : Process) × (cond b (Some r) (lookup q rs) ≡ Some x)) [
-  | true ↦ λ k. (r, refl)
-  | false ↦ λ k. pid_found q rs k
-] e
 
 -- who wakes: a process that can act, and has no place
 pub record Wakes (s : State) (q : ℕ) : Type 0 where

@@ -46,8 +46,10 @@ pub fn order_is_rising_stamps()
 ///
 /// In a regular state the processes stand in the rising order of their numbers, which are from 1 up to
 /// pidmax. Process 1 is there and has no parent. Who has a place is a process that is there and no zombie,
-/// and has one place alone. No zombie but process 1 has children. The state at the start is regular, and
-/// so is each state after it in every run.
+/// and has one place alone. No zombie but process 1 has children. The members of a process group are in one
+/// session; if a process has the number of the group, it is the session of that process. A set alarm is due
+/// later, by at most 1,000,000,000 ticks. The state at the start is regular, and so is each state after it
+/// in every run.
 pub fn regular_stays()
     ensures start { (w : World) → 1 ≤ w.pidmax → IsRegular (boot w) }
     ensures step { (old new : State) (event : Event) (entries : List Entry) → IsStep old event entries new → IsRegular old → IsRegular new }

@@ -34,7 +34,8 @@ pub record Says (now : List Process) (c group : ℕ) (target : Target) (options 
   pub read : Some facts ≡ option_map facts_of (lookup c now)
   pub said : (r : Process) → facts ≡ facts_of r → o ≡ look group target options r
 
-child_here : (rs now : List Process) (p c : ℕ) (next : Option ℕ) → IsAtChild rs now p c next → AtChild rs p c
+-- what the walk knows there
+pub child_here : (rs now : List Process) (p c : ℕ) (next : Option ℕ) → IsAtChild rs now p c next → AtChild rs p c
 child_here rs now p c next w = at_child rs w.rising p c (ap (λ (o : Option ℕ). first_pid (left_of o (children_in p rs))) (sym w.comes) ∙ w.here ∙ w.comes)
 
 -- the child is there

@@ -7,7 +7,7 @@ use Rattle.posix.specs.Processes.{Process, is_zombie}
 use Rattle.posix.specs.Tables.{lookup, at, changed, removed, reparented, adopted}
 use Rattle.posix.specs.States.{State, process, change, without}
 use Rattle.posix.specs.Generation.{signalled}
-use Rattle.posix.specs.Ends.{made_zombie, depart, drops_children, is_dropping, drop_child, notice_of_end, status_of, zombies_of, tell_of_all, end_with_heir}
+use Rattle.posix.specs.Ends.{made_zombie, depart, drops_children, is_dropping, drop_child, notice_of_end, status_of, zombies_of, tell_of_all, rouse_orphans, end_with_heir}
 use Rattle.posix.specs.Notices.{child_signal, ignores_children, noticed}
 use Rattle.posix.proofs.TableLemmas.{pid_looked, pid_reparented, lookup_changed}
 use Rattle.posix.proofs.MapLemmas.{at_pid, lookup_map, lookup_on, some_map, removed_map, changed_changed, adopted_changed}
@@ -103,7 +103,7 @@ tell_after s p heir w ne (z ∷ zs) =
 
 -- the end of a process other than process 1
 pub end_is : (s : State) (me : Process) (p heir w : ℕ) → process s p ≡ Some me → p ≢ 1
-    → (end_with_heir s me heir w).state ≡ notice_of_end (tell_of_all (depart s p heir w) heir (zombies_of p s.processes)) me.parent p w
+    → (end_with_heir s me heir w).state ≡ notice_of_end (rouse_orphans s.processes (tell_of_all (depart s p heir w) heir (zombies_of p s.processes))) me.parent p w
 end_is s me p heir w e other =
     let named : me.pid ≡ p = pid_looked p s.processes me e in
     rw (named, ne_eqb p 1 other) refl

@@ -12,6 +12,8 @@ pub mod LoanLemmas
 pub mod ViewLemmas
 pub mod PartLemmas
 pub mod CensusLemmas
-pub mod ReadLemmas
 pub mod AskLemmas
-pub mod GroupLemmas
+pub mod RousingLemmas
+pub mod OrphanLemmas
+pub mod MoveLemmas
+pub mod NameLemmas

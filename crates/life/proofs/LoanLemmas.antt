@@ -1,17 +1,29 @@
 -- What a process may change of itself.
-use Rattle.std.proofs.Common.{◌≡◌, ℕ, refl, ap, ◌∙◌, sym, subst, Option, Some, None, List}
-use Rattle.std.specs.Option.{IfSome}
-use Rattle.posix.specs.Processes.{Process}
-use Rattle.posix.specs.Tables.{IsRising, lookup, changed, parent_of}
+use Rattle.std.proofs.Common.{◌≡◌, ℕ, refl, ap, ◌∙◌, subst, Some, List}
+use Rattle.std.specs.Option.{IfSome, IsSome}
+use Rattle.posix.specs.declared.instr.Trap.{Trap}
+use Rattle.posix.specs.declared.instr.Trap.TheVariants as trap
+use Rattle.posix.specs.Processes.{Process, Cpu}
+use Rattle.posix.specs.Tables.{IsRising, lookup, changed}
+use Rattle.posix.specs.Execute.{StaysUnlessRun}
+use Rattle.posix.specs.Step.{set_cpu}
 use Rattle.posix.specs.States.{State, process, change}
 use Rattle.posix.specs.Regular.{IsRegular}
 use Rattle.posix.proofs.RegularLemmas.{Keeps}
-use Rattle.posix.proofs.TouchLemmas.{Unseen}
-use Rattle.posix.proofs.TableLemmas.{changed_absent}
+use Rattle.posix.proofs.TouchLemmas.{Unseen, touches_unseen}
+use Rattle.pidalloc.specs.Rows.{Pids}
+use Rattle.sched.specs.Places.{Places}
+use Rattle.pidset.specs.Numbers.{PidSetView}
+use Rattle.pidset.specs.Children.{ChildSetView}
 use Rattle.proctable.specs.declared.own.Own.{Own}
-use Rattle.proctable.specs.declared.body.Body.{Body}
-use Rattle.proctable.specs.Body.{process_of, own_of, give_own}
-use Rattle.proctable.proofs.Bodies.{lent, unchanged}
+use Rattle.proctable.specs.Body.{own_of, give_own}
+use Rattle.jobs.proofs.LoanLemmas.{own_found, read_at, written_at}
+use Rattle.life.specs.Machines.{IsMachine}
+use Rattle.life.specs.Asking.{asking}
+use Rattle.life.proofs.SoundLemmas.{sound_change}
+use Rattle.life.proofs.AskLemmas.{listed_change}
+use Rattle.life.proofs.ReportedLemmas.{reported_unseen}
+use Rattle.life.proofs.TimedLemmas.{timed_change, untimed_give_own}
 
 -- it is nothing that the shape of a machine depends on
 pub keeps_give_own : {now : ℕ} (o : Own) → Keeps now (give_own o)
@@ -21,33 +33,52 @@ keeps_give_own o = record { pid = λ r. refl; parent = λ r. refl; group = λ r.
 pub unseen_give_own : (o : Own) → Unseen (give_own o)
 unseen_give_own o = record { pid = λ r. refl; parent = λ r. refl; group = λ r. refl; life = λ r. refl; news = λ r. refl }
 
-own_at : (p q : ℕ) (b : Body) (rs : List Process) → lookup p rs ≡ Some (process_of p q b) → IfSome (lookup p rs) (λ me. b.own ≡ own_of me)
-own_at p q b rs e = rw e refl
-
 -- what was read is that of the process that is there
-pub own_if : (s t : State) → s ≡ t → (p : ℕ) (b : Body) → lookup p s.processes ≡ Some (process_of p (parent_of p s.processes) b) → IfSome (process t p) (λ me. b.own ≡ own_of me)
-own_if s t same p b e = subst (λ (x : State). IfSome (process x p) (λ me. b.own ≡ own_of me)) same (own_at p (parent_of p s.processes) b s.processes e)
+pub own_if : (s t : State) → s ≡ t → (p : ℕ) (o : Own) → IfSome (process s p) (λ me. o ≡ own_of me) → IfSome (process t p) (λ me. o ≡ own_of me)
+own_if s t same p o h = subst (λ (x : State). IfSome (process x p) (λ me. o ≡ own_of me)) same h
 
 -- the value of a loan, said of the record that is there
 pub own_is : (s : State) (p : ℕ) (o : Own) (me : Process) → IfSome (process s p) (λ r. o ≡ own_of r) → process s p ≡ Some me → o ≡ own_of me
-own_is s p o me h e = subst (λ x. IfSome x (λ r. o ≡ own_of r)) e h
+own_is s p o me h e = own_found s.processes p o me h e
 
 -- ---- without the record at hand
-
-read_at : (rs : List Process) (up : IsRising rs) (p : ℕ) (o : Own) (found : Option Process) → lookup p rs ≡ found → IfSome found (λ r. o ≡ own_of r) → changed p (give_own o) rs ≡ rs
-read_at rs up p o None e h = changed_absent p (give_own o) rs e
-read_at rs up p o (Some me) e h = unchanged rs up p me o o e h refl
 
 -- a loan through which nothing was written
 pub only_read : (s : State) (p : ℕ) (o : Own) → IsRegular s → IfSome (process s p) (λ r. o ≡ own_of r) → change s p (give_own o) ≡ s
 only_read s p o i h = ap (λ rs. record s { processes = rs }) (read_at s.processes i.rising p o (lookup p s.processes) refl h)
 
-written_at : (rs : List Process) (up : IsRising rs) (p : ℕ) (o w : Own) (f : Process → Process) (found : Option Process) → lookup p rs ≡ found → IfSome found (λ r. o ≡ own_of r)
-    → ((r : Process) → give_own w r ≡ f (give_own o r)) → changed p (give_own w) rs ≡ changed p f rs
-written_at rs up p o w f None e h did = changed_absent p (give_own w) rs e ∙ sym (changed_absent p f rs e)
-written_at rs up p o w f (Some me) e h did = lent rs up p me o w f e h (did me)
-
 -- a loan through which was written what f does
 pub was_written : (s : State) (p : ℕ) (o w : Own) (f : Process → Process) → IsRegular s → IfSome (process s p) (λ r. o ≡ own_of r) → ((r : Process) → give_own w r ≡ f (give_own o r))
     → change s p (give_own w) ≡ change s p f
 was_written s p o w f i h did = ap (λ rs. record s { processes = rs }) (written_at s.processes i.rising p o w f (lookup p s.processes) refl h did)
+
+-- ---- an instruction
+
+-- what was run is the processor of the process that is there
+pub cpu_ran : (rs : List Process) → IsRising rs → (p : ℕ) (o : Own) → IfSome (lookup p rs) (λ r. o ≡ own_of r) → (f : Cpu → Cpu) (c : Cpu) → c ≡ f o.cpu → (me : Process) → lookup p rs ≡ Some me
+    → changed p (give_own (record o { cpu = c })) rs ≡ changed p (set_cpu (f me.cpu)) rs
+unfolding set_cpu
+cpu_ran rs up p o h f c is me e =
+    let same : o ≡ own_of me = own_found rs p o me h e in
+    written_at rs up p o (record o { cpu = c }) (set_cpu c) (lookup p rs) refl h (λ r. refl) ∙ ap (λ x. changed p (set_cpu x) rs) (is ∙ ap (λ (w : Own). f w.cpu) same)
+
+-- one that leaves the processor leaves the processes
+pub cpu_stays : (t : Trap) (rs : List Process) → IsRising rs → (p : ℕ) (o : Own) (c : Cpu) → IfSome (lookup p rs) (λ r. o ≡ own_of r) → StaysUnlessRun t o.cpu c → StaysUnlessRun t rs (changed p (give_own (record o { cpu = c })) rs)
+cpu_stays trap.Next rs up p o c h stays = tt
+cpu_stays (trap.Note value) rs up p o c h stays = tt
+cpu_stays (trap.Call call) rs up p o c h stays = ap (λ x. changed p (give_own (record o { cpu = x })) rs) stays ∙ read_at rs up p o (lookup p rs) refl h
+cpu_stays (trap.Fault sig) rs up p o c h stays = ap (λ x. changed p (give_own (record o { cpu = x })) rs) stays ∙ read_at rs up p o (lookup p rs) refl h
+
+-- ---- a machine
+
+-- whatever was written through a loan, the machine keeps
+pub machine_lent : {losing : PidSetView} (s : State) (pids : Pids) (places : Places) (asked after : PidSetView) (reporting : ChildSetView) (alarmed : PidSetView) (tick p : ℕ) (w : Own)
+    → IsSome (process s p) → IsMachine s pids places asked reporting alarmed tick losing → after.pids ≡ asking p s.order asked.pids → after.room ≡ asked.room
+    → IsMachine (change s p (give_own w)) pids places after reporting alarmed tick losing
+machine_lent s pids places asked after reporting alarmed tick p w here i put room = record {
+  sound = sound_change p (give_own w) s (keeps_give_own w) pids places i.sound;
+  listed = listed_change s p (give_own w) asked after i.listed (unseen_give_own w).pid (touches_unseen s p (give_own w) (unseen_give_own w)) here put room;
+  reported = reported_unseen s.world.pidmax p (give_own w) (unseen_give_own w) s.processes reporting here i.reported;
+  timed = timed_change s.world.pidmax p (give_own w) (untimed_give_own w) s.processes alarmed tick here i.timed;
+  noted = i.noted;
+}

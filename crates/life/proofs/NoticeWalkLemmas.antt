@@ -6,7 +6,7 @@ use Rattle.std.proofs.lemmas.List.{length-map}
 use Rattle.std.proofs.lemmas.Bool.Decides.{nat_tests}
 use Rattle.posix.specs.declared.process.Life.{Life}
 use Rattle.posix.specs.declared.process.PendingSignal.{PendingSignal}
-use Rattle.posix.specs.declared.process.Life.TheVariants.{Running, Stopped, Zombie}
+use Rattle.posix.specs.declared.process.Life.TheVariants.{Zombie}
 use Rattle.posix.specs.Processes.{Process, is_zombie}
 use Rattle.posix.specs.Tables.{lookup, at, changed, removed, adopted, children_in, first_pid, above, left_of, parent_of, next_sibling}
 use Rattle.posix.specs.States.{State, process, is_in, change, without}
@@ -24,12 +24,12 @@ use Rattle.pidalloc.specs.Rows.{Pids}
 use Rattle.sched.specs.Places.{Places}
 use Rattle.pidset.specs.Numbers.{PidSetView, with_number}
 use Rattle.pidset.specs.Children.{ArePairs, ChildSetView, is_child_in}
-use Rattle.life.specs.Machines.{IsSound, IsListed, IsReported, IsTimed, IsMachine, CanGo, IsCounted}
+use Rattle.life.specs.Machines.{IsSound, IsListed, IsReported, IsTimed, IsMachine, IsNoted, CanGo, IsCounted}
 use Rattle.life.proofs.TimedLemmas.{timed_told, timed_departed}
 use Rattle.life.specs.Asking.{IsForgotten, with_numbers, without_gone}
 use Rattle.life.proofs.SoundLemmas.{is_there, found_in, heir_in, kept_order, length_departed, kept_departed, parents_departed, there_made_zombie}
 use Rattle.life.proofs.EndLemmas.{leave, dropping_left, notice_left, tell_after}
-use Rattle.life.proofs.ReadLemmas.{filter_at_most}
+use Rattle.jobs.proofs.ReadLemmas.{filter_at_most}
 use Rattle.life.proofs.PartLemmas.{can_go, can_go_map, sound_told}
 use Rattle.life.proofs.ReportedLemmas.{reported_told, reported_departed, reported_room}
 use Rattle.life.proofs.AskLemmas.{in_numbers, stays_asked, has_room, listed_more, listed_told, listed_departed}
@@ -353,15 +353,6 @@ pub life_read : {old m : State} {pids : Pids} {places : Places} {asked : PidSetV
     → (life : Life) → ((it : Process) → lookup c m.processes ≡ Some it → life ≡ it.life) → life ≡ (child_here t c comes).what.life
 life_read t c comes ne life reads = reads (child_here t c comes).what (child_same t c comes ne)
 
--- and who isn't read as a zombie lives
-pub lives : (life other : Life) → life ≡ other → ((w : ℕ) → life ≡ Zombie w → ⊥) → is_zombie other ≡ false
-lives life other e h = ap is_zombie (sym e) ∙ living life h
-  where
-    living : (l : Life) → ((w : ℕ) → l ≡ Zombie w → ⊥) → is_zombie l ≡ false
-    living Running h = refl
-    living Stopped h = refl
-    living (Zombie w) h = absurd (h w refl)
-
 -- what the walk knows of a zombie
 pub to_tell : {old m : State} {pids : Pids} {places : Places} {asked : PidSetView} {set : ChildSetView} {clocks : PidSetView} {tick p heir w : ℕ} {next : Option ℕ} (t : IsTelling old m pids places asked set clocks tick p heir w next) (c v : ℕ) (comes : next ≡ Some c) → (child_here t c comes).what.life ≡ Zombie v → IsToTell t.now p heir c v
 to_tell t c v comes dead = record { child = child_here t c comes; dead = dead; least = t.least; other = t.other; inherits = t.inherits }
@@ -449,13 +440,6 @@ told_of_all {p = p} {heir = heir} t none = ap (λ o. tell_of_all t.now heir (zom
 
 -- ---- the departure
 
--- p is another child than c
-pub differs : (a b : ℕ) → not (a == b) ≡ true → a ≢ b
-differs a b e = λ x. let t : (a == b) ≡ true = eq-eqb a b x in let no : false ≡ true = ap not (sym t) ∙ e in absurd (cc)
-
-pub equals : (a b : ℕ) → not (a == b) ≡ false → a ≡ b
-equals a b e = eqb-true a b (elim (a == b) as (λ b. not b ≡ false → b ≡ true) [ true ↦ λ k. refl | false ↦ λ k. sym k ] e)
-
 -- once its children are the heir's, the state is that after the departure
 pub departed : {old m : State} {pids : Pids} {places : Places} {asked : PidSetView} {set : ChildSetView} {clocks : PidSetView} {tick p heir w : ℕ} {next : Option ℕ} (t : IsTelling old m pids places asked set clocks tick p heir w next) (rs : List Process) → rs ≡ adopted p heir m.processes
     → record m { processes = rs } ≡ depart t.now p heir w
@@ -466,8 +450,8 @@ pub machine_departed : {old m : State} {pids : Pids} {places : Places} {asked : 
     → (l : PidSetView) → l.pids ≡ with_number me.parent asked.pids → l.room ≡ asked.room
     → (put after : ChildSetView) → ((q c : ℕ) → is_child_in q c put.pairs ≡ (q == me.parent && c == p || is_child_in q c set.pairs)) → ArePairs put.pairs → put.room ≡ set.room
     → ((q c : ℕ) → is_child_in q c after.pairs ≡ (not (q == p) && (is_child_in q c put.pairs || q == heir && is_child_in p c put.pairs))) → ArePairs after.pairs → after.room ≡ put.room
-    → (alarmed : PidSetView) → alarmed.pids ≡ without p clocks.pids → alarmed.room ≡ clocks.room → IsMachine (depart t.now p heir w) pids places l after alarmed tick
-machine_departed {pids = pids} {places = places} {asked = asked} {set = set} {clocks = clocks} {tick = tick} {p = p} {heir = heir} {w = w} t me e l list room put after puts first fits moves once holds alarmed out same =
+    → (alarmed : PidSetView) → alarmed.pids ≡ without p clocks.pids → alarmed.room ≡ clocks.room → (losing : PidSetView) → IsNoted t.now.world.pidmax losing → IsMachine (depart t.now p heir w) pids places l after alarmed tick losing
+machine_departed {pids = pids} {places = places} {asked = asked} {set = set} {clocks = clocks} {tick = tick} {p = p} {heir = heir} {w = w} t me e l list room put after puts first fits moves once holds alarmed out same losing noted =
     let now = t.now in
     let i = t.sound in
     let found : process now p ≡ Some me = t.mine ∙ e in
@@ -481,6 +465,7 @@ machine_departed {pids = pids} {places = places} {asked = asked} {set = set} {cl
       listed = listed_departed now p heir w me asked l i.regular t.listed found (i.parents p me t.other found) t.mine_asked t.heir_asked list room;
       reported = reported_departed now.world.pidmax p heir w now.processes set put after me found (λ x. heir_other now.processes p heir t.other t.inherits (sym x)) t.reported puts first fits moves once holds;
       timed = timed_departed now.world.pidmax p heir w now.processes clocks alarmed tick me found t.timed out same;
+      noted = noted;
     }
 
 -- there is room to ask the parent

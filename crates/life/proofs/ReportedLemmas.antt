@@ -53,7 +53,8 @@ here_taken parent child before after taken = taken parent child ∙ rw (eq-eqb p
 
 -- ---- a record that changes
 
-one_of : {A : Type 0} {x y : A} (o : Option A) → o ≡ Some x → o ≡ Some y → x ≡ y
+-- what is found once is all that is found
+pub one_of : {A : Type 0} {x y : A} (o : Option A) → o ≡ Some x → o ≡ Some y → x ≡ y
 one_of o a b = let both = sym a ∙ b in cc
 
 pub reported_change : (m p : ℕ) (f : Process → Process) → ((r : Process) → (f r).pid ≡ r.pid) → ((r : Process) → (f r).parent ≡ r.parent) → (rs : List Process) (before after : ChildSetView) (me : Process) → lookup p rs ≡ Some me

@@ -1,15 +1,13 @@
 -- What keeps a machine sound.
-use Rattle.std.proofs.Common.{◌≡◌, ℕ, ◌+◌, ◌<◌, ◌≤◌, Bool, false, refl, ap, sym, ◌∙◌, arith, subst, List, [], ◌∷◌, length, map, Option, Some, None, option_map}
+use Rattle.std.proofs.Common.{◌≡◌, ℕ, ◌+◌, ◌<◌, ◌≤◌, Bool, false, refl, ap, sym, ◌∙◌, arith, subst, List, [], ◌∷◌, length, map, Some, None}
 use Rattle.std.specs.Option.{IsSome}
-use Rattle.std.specs.List.{AllByRecursion}
 use Rattle.std.proofs.lemmas.List.{length-map, length-replicate}
 use Rattle.posix.specs.Processes.{Process, is_zombie, first_process}
-use Rattle.posix.specs.Tables.{IsRising, at, lookup, changed, inserted, adopted, reparented}
+use Rattle.posix.specs.Tables.{at, lookup, changed, inserted, adopted, reparented}
 use Rattle.posix.specs.States.{World, State, boot, process, next_pid}
 use Rattle.posix.specs.NextPid.{is_free, next_free}
 use Rattle.posix.specs.Regular.{IsRegular, IsPlaced, CanInherit}
 use Rattle.posix.specs.Ends.{made_zombie, ended}
-use Rattle.posix.proofs.TableLemmas.{Above}
 use Rattle.posix.proofs.NextLemmas.{IsNew, new_number}
 use Rattle.posix.proofs.RegularLemmas.{Keeps, keeps_at, regular_as, regular_map, regular_inserted, regular_first}
 use Rattle.posix.proofs.MapLemmas.{at_pid, some_map}
@@ -18,23 +16,10 @@ use Rattle.pidalloc.specs.Rows.{Pids, IsPids, is_free_in, unborne_table, born_in
 use Rattle.pidalloc.specs.Tallies.{IsTallied}
 use Rattle.pidalloc.proofs.TallyLemmas.{CanBear, can_bear, next_same, tallied_unborne, tallied_born, tallied_map, length_inserted}
 use Rattle.sched.specs.Places.{Places}
-use Rattle.proctable.specs.declared.facts.Facts.{Facts}
-use Rattle.proctable.specs.Body.{facts_of}
 use Rattle.life.specs.Machines.{IsKept, HaveParents, IsSound, state_of}
+use Rattle.jobs.proofs.NumberLemmas.{no_more, above_none}
+pub use Rattle.jobs.proofs.FactLemmas.{There, there, is_there, facts_are, some_read, none_read}
 use Rattle.life.proofs.ParentLemmas.{parents_map, parents_adopted, parents_inserted, parents_first}
-
--- who is looked up
-pub record There (o : Option Process) : Type 0 where
-  pub what : Process
-  pub found : o ≡ Some what
-
-pub there : (o : Option Process) → IsSome o → There o
-there None h = absurd (cc)
-there (Some r) h = record { what = r; found = refl }
-
--- a process that is found is there
-pub is_there : (o : Option Process) (r : Process) → o ≡ Some r → IsSome o
-is_there o r e = rw e refl
 
 -- what the value of a machine says of a process, its parts say
 pub found_in : (s t : State) → s ≡ t → (p : ℕ) (r : Process) → process t p ≡ Some r → lookup p s.processes ≡ Some r
@@ -47,20 +32,6 @@ here_in p same h = subst (λ (s : State). IsSome (process s p)) (sym same) h
 -- and of an heir
 pub heir_in : {s t : State} {p heir : ℕ} → s ≡ t → CanInherit t.processes p heir → CanInherit s.processes p heir
 heir_in {p = p} {heir = heir} same h = subst (λ (s : State). CanInherit s.processes p heir) (sym same) h
-
--- the facts that were read of a record
-pub facts_are : (o : Option Process) (r : Process) (f : Facts) → Some f ≡ option_map facts_of o → o ≡ Some r → f ≡ facts_of r
-facts_are o r f e there = let both : Some f ≡ Some (facts_of r) = e ∙ ap (option_map facts_of) there in cc
-
--- something was read where somebody is there
-pub some_read : (o : Option Process) (f : Facts) → Some f ≡ option_map facts_of o → There o
-some_read None f e = absurd (cc)
-some_read (Some r) f e = record { what = r; found = refl }
-
--- nothing was read where nobody is there
-pub none_read : (o : Option Process) → None ≡ option_map facts_of o → o ≡ None
-none_read None e = refl
-none_read (Some r) e = absurd (cc)
 
 -- ---- changes of records
 
@@ -138,18 +109,6 @@ pub next_is : (s : State) (p : Pids) (places : Places) → s.last_pid ≡ p.last
 next_is s p places last i =
     next_same p s.processes i.kept.tallied ∙ ap (λ m. next_free (is_free s.processes) p.last m) i.kept.greatest ∙ ap (λ l. next_free (is_free s.processes) l s.world.pidmax) (sym last)
 
--- in a rising list of numbers up to m there are no more than m
-no_more : (low m : ℕ) (rs : List Process) → IsRising rs → Above low rs → AllByRecursion (λ (r : Process). r.pid ≤ m) rs → low ≤ m → length rs + low ≤ m
-unfolding IsRising
-no_more low m [] up above most l = omega (arith, l)
-no_more low m (r ∷ rs) up above most l =
-    let rest = no_more r.pid m rs up.1 up.0 most.1 most.0 in
-    omega (arith, rest, above.0)
-
-above_none : (rs : List Process) → AllByRecursion (λ (r : Process). 1 ≤ r.pid) rs → Above 0 rs
-above_none [] a = tt
-above_none (r ∷ rs) a = (omega (arith, a.0), above_none rs a.1)
-
 -- there are no more processes than numbers
 pub few : (s : State) → IsRegular s → length s.processes ≤ s.world.pidmax
 few s i =
@@ -198,14 +157,8 @@ pub sound_born : (w : World) (rs : List Process) (p q : Pids) (a : Places) (birt
 sound_born w rs p q a births ticks dropped h new me i fresh there up group session life silent bore same table =
     let s = state_of w rs p a births ticks dropped h in
     let k = i.kept in
-    let bounds = i.regular.bounded new.parent me there in
-    let most = k.greatest in
-    let g = bounds.group in
-    let l = bounds.session in
-    let high = fresh.greatest in
-    let r = regular_inserted new q.last (births + 1) s i.regular fresh.fresh
-    (record { least = fresh.least; pid = omega (arith, high, most); group = omega (arith, g, group); session = omega (arith, l, session) })
-    (ap is_zombie life ∙ up) silent me there up in
+    let number : IsNew rs w.pidmax new.pid = subst (λ m. IsNew rs m new.pid) k.greatest fresh in
+    let r = regular_inserted new q.last (births + 1) s i.regular number (ap is_zombie life ∙ up) silent me there up group session in
     record {
       regular = regular_as _ (state_of w (inserted new rs) q a (births + 1) ticks dropped h) refl refl refl refl r;
       parents = parents_inserted new rs fresh.fresh (is_there _ me there) i.parents;
@@ -244,8 +197,3 @@ sound_first w q b most bore same table order room =
 -- and it is the machine at boot
 pub first_is_boot : (w : World) (q : Pids) (b : Places) → q.last ≡ 1 → b.pids ≡ 1 ∷ [] → state_of w (inserted first_process []) q b 1 0 0 false ≡ boot w
 first_is_boot w q b last order = rw (order, last, first_alone) refl
-
--- nobody is there at the start
-pub nobody_there : (p : ℕ) → lookup p [] ≡ None
-unfolding lookup
-nobody_there p = refl

@@ -93,18 +93,19 @@ untimed_among f k =
     }
 
 -- a signal was generated for a process that is there, and has done nothing else yet
-pub machine_signalled : (s : State) (pids : Pids) (places : Places) (asked after : PidSetView) (reporting : ChildSetView) (alarmed : PidSetView) (tick p : ℕ) (signal : PendingSignal)
-    → IsSome (process s p) → IsMachine s pids places asked reporting alarmed tick → after.pids ≡ asking p s.order asked.pids → after.room ≡ asked.room
-    → IsMachine (change s p (signalled signal)) pids places after reporting alarmed tick
+pub machine_signalled : {losing : PidSetView} (s : State) (pids : Pids) (places : Places) (asked after : PidSetView) (reporting : ChildSetView) (alarmed : PidSetView) (tick p : ℕ) (signal : PendingSignal)
+    → IsSome (process s p) → IsMachine s pids places asked reporting alarmed tick losing → after.pids ≡ asking p s.order asked.pids → after.room ≡ asked.room
+    → IsMachine (change s p (signalled signal)) pids places after reporting alarmed tick losing
 machine_signalled s pids places asked after reporting alarmed tick p signal here i put room = record {
   sound = sound_change p (signalled signal) s (keeps_signalled signal) pids places i.sound;
   listed = listed_change s p (signalled signal) asked after i.listed (unseen_signalled signal).pid (touches_unseen s p (signalled signal) (unseen_signalled signal)) here put room;
   reported = reported_unseen s.world.pidmax p (signalled signal) (unseen_signalled signal) s.processes reporting here i.reported;
   timed = timed_change s.world.pidmax p (signalled signal) (untimed_signalled signal) s.processes alarmed tick here i.timed;
+  noted = i.noted;
 }
 
 -- those who are asked: the process, and its parent if it has one that is there
-listed_changed : (s t : State) (p parent : ℕ) (before after : PidSetView) (touched : List ℕ) → IsListed s before → Touches s t touched → t.world.pidmax ≡ s.world.pidmax → ((q : ℕ) → IsSome (process s q) → IsSome (process t q))
+pub listed_changed : (s t : State) (p parent : ℕ) (before after : PidSetView) (touched : List ℕ) → IsListed s before → Touches s t touched → t.world.pidmax ≡ s.world.pidmax → ((q : ℕ) → IsSome (process s q) → IsSome (process t q))
     → IsSome (process t p) → (parent ≢ 0 → IsSome (process t parent)) → process t 0 ≡ None → ((q : ℕ) → is_in q touched ≡ true → (q ≡ p) ⊎ (q ≡ parent))
     → after.pids ≡ with_parent parent (with_number p before.pids) → after.room ≡ before.room → IsListed t after
 unfolding with_numbers is_in
@@ -127,11 +128,11 @@ reported_news m p status f k rs before after me found news h put once room =
     if_there (λ rs. IsReported m rs after) me.parent (noticed_of_change (child_signal p status)) (changed p f rs) now
     (λ there. reported_unseen m me.parent _ (unseen_noticed_of_change _) (changed p f rs) after there now)
 
-machine_changed : (s : State) (pids : Pids) (places : Places) (asked after : PidSetView) (reporting reported : ChildSetView) (alarmed : PidSetView) (tick p status : ℕ) (f : Process → Process) (me : Process)
-    → Lives f → has_report (f me) ≡ true → lookup p s.processes ≡ Some me → is_zombie me.life ≡ false → IsMachine s pids places asked reporting alarmed tick
+machine_changed : {losing : PidSetView} (s : State) (pids : Pids) (places : Places) (asked after : PidSetView) (reporting reported : ChildSetView) (alarmed : PidSetView) (tick p status : ℕ) (f : Process → Process) (me : Process)
+    → Lives f → has_report (f me) ≡ true → lookup p s.processes ≡ Some me → is_zombie me.life ≡ false → IsMachine s pids places asked reporting alarmed tick losing
     → after.pids ≡ with_parent me.parent (with_number p asked.pids) → after.room ≡ asked.room
     → ((q c : ℕ) → is_child_in q c reported.pairs ≡ (q == me.parent && c == p || is_child_in q c reporting.pairs)) → ArePairs reported.pairs → reported.room ≡ reporting.room
-    → IsMachine (record s { processes = changed me.parent (noticed_of_change (child_signal p status)) (changed p f s.processes) }) pids places after reported alarmed tick
+    → IsMachine (record s { processes = changed me.parent (noticed_of_change (child_signal p status)) (changed p f s.processes) }) pids places after reported alarmed tick losing
 unfolding is_in
 machine_changed s pids places asked after reporting reported alarmed tick p status f me k news found living i is same put once room =
     let rs = s.processes in
@@ -159,18 +160,19 @@ machine_changed s pids places asked after reporting reported alarmed tick p stat
           let now : IsTimed s.world.pidmax (changed p g rs) alarmed tick = timed_change s.world.pidmax p g (untimed_among f k) rs alarmed tick here i.timed in
           subst (λ qs. IsTimed s.world.pidmax (changed me.parent notice qs) alarmed tick) (sym as_living)
           (if_there (λ qs. IsTimed s.world.pidmax qs alarmed tick) me.parent notice (changed p g rs) now (λ there. timed_change s.world.pidmax me.parent notice (untimed_noticed_of_change p status) (changed p g rs) alarmed tick there now));
+      noted = i.noted;
     }
 
 -- A living process changed, and lives, with something to report; its parent has notice of it.
-pub machine_told : (s : State) (pids : Pids) (places : Places) (asked after : PidSetView) (reporting reported : ChildSetView) (alarmed : PidSetView) (tick p parent status : ℕ) (f : Process → Process) (me : Process)
-    → Lives f → has_report (f me) ≡ true → lookup p s.processes ≡ Some me → is_zombie me.life ≡ false → parent ≡ me.parent → IsMachine s pids places asked reporting alarmed tick
+pub machine_told : {losing : PidSetView} (s : State) (pids : Pids) (places : Places) (asked after : PidSetView) (reporting reported : ChildSetView) (alarmed : PidSetView) (tick p parent status : ℕ) (f : Process → Process) (me : Process)
+    → Lives f → has_report (f me) ≡ true → lookup p s.processes ≡ Some me → is_zombie me.life ≡ false → parent ≡ me.parent → IsMachine s pids places asked reporting alarmed tick losing
     → after.pids ≡ with_parent parent (with_number p asked.pids) → after.room ≡ asked.room
     → ((q c : ℕ) → is_child_in q c reported.pairs ≡ (q == parent && c == p || is_child_in q c reporting.pairs)) → ArePairs reported.pairs → reported.room ≡ reporting.room
-    → IsMachine (record s { processes = changed parent (noticed_of_change (child_signal p status)) (changed p f s.processes) }) pids places after reported alarmed tick
-machine_told s pids places asked after reporting reported alarmed tick p parent status f me k news found living its i =
+    → IsMachine (record s { processes = changed parent (noticed_of_change (child_signal p status)) (changed p f s.processes) }) pids places after reported alarmed tick losing
+machine_told {losing = losing} s pids places asked after reporting reported alarmed tick p parent status f me k news found living its i =
     subst (λ n. after.pids ≡ with_parent n (with_number p asked.pids) → after.room ≡ asked.room
     → ((q c : ℕ) → is_child_in q c reported.pairs ≡ (q == n && c == p || is_child_in q c reporting.pairs)) → ArePairs reported.pairs → reported.room ≡ reporting.room
-    → IsMachine (record s { processes = changed n (noticed_of_change (child_signal p status)) (changed p f s.processes) }) pids places after reported alarmed tick)
+    → IsMachine (record s { processes = changed n (noticed_of_change (child_signal p status)) (changed p f s.processes) }) pids places after reported alarmed tick losing)
     (sym its) (machine_changed s pids places asked after reporting reported alarmed tick p status f me k news found living i)
 
 -- its parent is there after the change, if it is another than number 0
@@ -183,13 +185,14 @@ pub nobody_after : (s : State) → IsRegular s → (p parent : ℕ) (f : Process
 nobody_after s i p parent f k e = subst (λ n. lookup n (changed p f s.processes) ≡ None) (sym e) (none_still p f k.pid 0 s.processes (nobody_0 s i))
 
 -- who is asked may lose its place
-pub machine_left : (s : State) (pids : Pids) (places left : Places) (asked : PidSetView) (reporting : ChildSetView) (alarmed : PidSetView) (tick p : ℕ) → places.room ≤ left.room → is_in p asked.pids ≡ true
-    → IsMachine s pids places asked reporting alarmed tick → IsMachine (lose_place s p) pids left asked reporting alarmed tick
+pub machine_left : {losing : PidSetView} (s : State) (pids : Pids) (places left : Places) (asked : PidSetView) (reporting : ChildSetView) (alarmed : PidSetView) (tick p : ℕ) → places.room ≤ left.room → is_in p asked.pids ≡ true
+    → IsMachine s pids places asked reporting alarmed tick losing → IsMachine (lose_place s p) pids left asked reporting alarmed tick losing
 machine_left s pids places left asked reporting alarmed tick p room on i = record {
   sound = record { regular = regular_lose p s i.sound.regular; parents = i.sound.parents; counted = i.sound.counted; kept = kept_order _ _ _ _ _ room i.sound.kept };
   listed = listed_same s (lose_place s p) asked (p ∷ []) i.listed (touches_lost s p) refl (λ q e. e) (λ q theirs e. each (λ q. is_in q asked.pids ≡ true) (p ∷ []) (on, tt) q e);
   reported = i.reported;
   timed = i.timed;
+  noted = i.noted;
 }
 
 -- the process itself is asked

@@ -3,7 +3,7 @@ use Rattle.std.proofs.Common.{unwrap_or, ◌≡◌, ◌≢◌, ℕ, ◌<◌, ◌
 use Rattle.std.specs.Option.{IsSome, IfSome}
 use Rattle.std.proofs.lemmas.Bool.{eq-eqb, ne_eqb, cases_eq, cond_both, ltb-true, ltb-false, or_left, or_right}
 use Rattle.posix.specs.declared.process.PendingSignal.{PendingSignal}
-use Rattle.posix.specs.Processes.{Process, Cpu, is_zombie, first_process}
+use Rattle.posix.specs.Processes.{Process, is_zombie, first_process}
 use Rattle.posix.specs.Tables.{lookup, at, changed, inserted, removed, reparented, adopted, IsRising, IsNext}
 use Rattle.posix.specs.States.{World, State, boot, process, change, is_in, without}
 use Rattle.posix.specs.Regular.{IsRegular}
@@ -12,7 +12,6 @@ use Rattle.posix.specs.Ends.{made_zombie, ended, is_dropping, drop_child, notice
 use Rattle.posix.specs.Notices.{noticed, ignores_children, child_signal}
 use Rattle.posix.specs.Waits.{news_told}
 use Rattle.posix.specs.Alarms.{with_alarm, is_due, rung, ring_at, ring_all}
-use Rattle.posix.specs.Step.{set_cpu}
 use Rattle.posix.proofs.TableLemmas.{pid_looked, pid_reparented}
 use Rattle.posix.proofs.MapLemmas.{at_pid, lookup_on, lookup_back, some_map}
 use Rattle.posix.proofs.MemberLemmas.{in_without, in_none}
@@ -21,6 +20,7 @@ use Rattle.pidset.specs.Numbers.{PidSetView, Rises, with_number, numbers_above}
 use Rattle.pidset.proofs.NumberLemmas.{in_with, rises_with, rises_without, IsLeastAbove, next_is}
 use Rattle.proctable.specs.declared.own.Own.{Own}
 use Rattle.proctable.specs.Body.{give_own}
+use Rattle.life.proofs.ReportedLemmas.{one_of}
 use Rattle.life.specs.Machines.{IsClocked, IsTimed}
 use Rattle.life.proofs.SoundLemmas.{there}
 use Rattle.life.proofs.AskLemmas.{room_for, next_known}
@@ -38,9 +38,6 @@ clocked_as : (ns ms : List ℕ) (n k p : ℕ) (r : Process) → is_in p ms ≡ i
 clocked_as ns ms n k p r same l h = record { known = same ∙ h.known; later = earlier k n r.alarm l h.later; dead = h.dead }
 
 -- ---- a record that changes
-
-one_of : {A : Type 0} {x y : A} (o : Option A) → o ≡ Some x → o ≡ Some y → x ≡ y
-one_of o a b = let both = sym a ∙ b in cc
 
 pub timed_at : (m p : ℕ) (f : Process → Process) → ((r : Process) → (f r).pid ≡ r.pid) → (rs : List Process) (before after : PidSetView) (n k : ℕ) (me : Process) → lookup p rs ≡ Some me
     → IsTimed m rs before n → k ≤ n → ((q : ℕ) → q ≢ p → is_in q after.pids ≡ is_in q before.pids) → IsClocked after.pids k p (f me) → Rises after.pids → after.room ≡ before.room → IsTimed m (changed p f rs) after k
@@ -70,10 +67,6 @@ pub record Untimed (f : Process → Process) : Type 0 where
   pub pid : (r : Process) → (f r).pid ≡ r.pid
   pub alarm : (r : Process) → (f r).alarm ≡ r.alarm
   pub zombie : (r : Process) → is_zombie (f r).life ≡ is_zombie r.life
-
-pub untimed_set_cpu : (c : Cpu) → Untimed (set_cpu c)
-unfolding set_cpu
-untimed_set_cpu c = record { pid = λ r. refl; alarm = λ r. refl; zombie = λ r. refl }
 
 pub untimed_give_own : (o : Own) → Untimed (give_own o)
 untimed_give_own o = record { pid = λ r. refl; alarm = λ r. refl; zombie = λ r. refl }

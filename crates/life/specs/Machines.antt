@@ -24,11 +24,13 @@ state_of world processes pids places births ticks dropped halted = record (boot 
   halted = halted;
 }
 
--- the state of a machine, how many slots of its table have been read, and who is on the list of those to ask
+-- The state of a machine, how many slots of its table have been read, who is on the list of those to ask, and
+-- which process groups were noted as those that an end may orphan.
 pub record MachineView : Type 0 where
   pub state : State
   pub reads : ℕ
   pub asked : List ℕ
+  pub losing : List ℕ
 
 -- The rows count which numbers the processes bear, and each number can be given a place.
 pub record IsKept (pidmax : ℕ) (rs : List Process) (pids : Pids) (places : Places) : Type 0 where
@@ -75,12 +77,19 @@ pub record IsTimed (pidmax : ℕ) (rs : List Process) (alarmed : PidSetView) (ti
   pub rising : Rises alarmed.pids
   pub room : pidmax < alarmed.room
 
+-- Groups are noted in rising order, and there is room for all numbers, 0 too.
+pub record IsNoted (pidmax : ℕ) (losing : PidSetView) : Type 0 where
+  pub rising : Rises losing.pids
+  pub within : (g : ℕ) → is_in g losing.pids ≡ true → g ≤ pidmax
+  pub room : pidmax + 1 < losing.room
+
 -- what the type of a machine keeps
-pub record IsMachine (s : State) (pids : Pids) (places : Places) (asked : PidSetView) (reporting : ChildSetView) (alarmed : PidSetView) (tick : ℕ) : Type 0 where
+pub record IsMachine (s : State) (pids : Pids) (places : Places) (asked : PidSetView) (reporting : ChildSetView) (alarmed : PidSetView) (tick : ℕ) (losing : PidSetView) : Type 0 where
   pub sound : IsSound s pids places
   pub listed : IsListed s asked
   pub reported : IsReported s.world.pidmax s.processes reporting
   pub timed : IsTimed s.world.pidmax s.processes alarmed tick
+  pub noted : IsNoted s.world.pidmax losing
 
 -- ---- one record that goes
 

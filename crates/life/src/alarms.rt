@@ -30,9 +30,8 @@ impl<K: Kin> Machine<K> {
     {
         let due = due_in(self.ticks, ticks);
         ask(&mut self.to_ask, &self.order, pid);
-        let body = self.table.update(pid);
-        let left = ticks_left(self.ticks, body.alarm);
-        body.set_alarm(due);
+        let before = self.table.set_alarm(pid, due);
+        let left = ticks_left(self.ticks, before);
         note_alarm(&mut self.alarmed, &mut self.next_alarm, pid, due);
         left
     }
@@ -47,9 +46,7 @@ impl<K: Kin> Machine<K> {
         ensures reads { self.new.reads ≤ self.old.reads + 1 }
     {
         ask(&mut self.to_ask, &self.order, pid);
-        let body = self.table.update(pid);
-        body.ring_at(pid, self.ticks + 1);
-        let due = body.alarm;
+        let due = self.table.ring_at(pid, self.ticks + 1);
         note_alarm(&mut self.alarmed, &mut self.next_alarm, pid, due);
         due
     }

@@ -1,31 +1,17 @@
 //! Births.
 
-ghost use Rattle.std.specs.Prelude.{◌≡◌, ◌+◌, ◌≤◌, ◌<◌, ◌^◌, length, ℕ, Some, IsSome, IfOk, OnOk, OnErr};
+ghost use Rattle.std.specs.Prelude.{◌≡◌, ◌+◌, ◌≤◌, ◌<◌, ◌^◌, length, Some, OnOk, OnErr};
 ghost use Rattle.posix.specs.Processes.{Process};
 ghost use Rattle.posix.specs.States.{process, next_pid as next_pid_of};
-ghost use Rattle.posix.specs.Births.{born, child_of};
-ghost use Rattle.posix.specs.Tables.{lookup, children_in};
-ghost use Rattle.proctable.specs.Body.{process_of};
+ghost use Rattle.posix.specs.Births.{born};
+ghost use Rattle.posix.specs.Tables.{children_in};
 ghost use Rattle.posix.specs.Regular.{IsPlaced};
 ghost use Rattle.pidset.specs.Numbers.{with_number};
 
 use crate::machine::Machine;
 use posix::Pid;
-use proctable::{Body, Kin};
+use proctable::Kin;
 use std::alloc::AllocError;
-
-/// What a child of a process would be, with this birth number (XSH fork). The table is unchanged. An
-/// error where the host has no memory for it.
-fn newborn<K: Kin>(table: &mut K, pid: Pid, birth: u64) -> Result<Body, AllocError>
-    requires { IsSome (lookup pid (K.contents table.old)) }
-    ensures child { IfOk result (λ b. (me : Process) → lookup pid (K.contents table.old) ≡ Some me → (n : ℕ) → process_of n pid b ≡ child_of birth me n) }
-    ensures groups { IfOk result (λ b. (me : Process) → lookup pid (K.contents table.old) ≡ Some me → (b.group ≡ me.group) × (b.session ≡ me.session)) }
-    ensures contents { K.contents table.new ≡ K.contents table.old }
-    ensures room { K.room table.new ≡ K.room table.old }
-    ensures reads { K.reads table.new ≤ K.reads table.old + 1 }
-{
-    table.update(pid).fork(birth)
-}
 
 impl<K: Kin> Machine<K> {
     /// The number that the next child gets, if there is one.
@@ -48,7 +34,7 @@ impl<K: Kin> Machine<K> {
         ensures asked_at_error { OnErr result (self.new.asked ≡ self.old.asked) }
         ensures reads { self.new.reads ≤ self.old.reads + 6 + length (children_in parent self.old.state.processes) }
     {
-        let body = newborn(&mut self.table, parent, self.births + 1)?;
+        let body = self.table.newborn(parent, self.births + 1)?;
         self.table.reserve()?;
         self.pids.bear_all(child, body.group, body.session);
         self.table.insert(child, parent, body);

@@ -1,15 +1,17 @@
 //! The caller of a system call.
 
 ghost use Rattle.std.specs.Prelude.{◌≡◌, ◌+◌, ◌≤◌, IsSome, IfSome};
+ghost use Rattle.posix.specs.Processes.{Process, root as root_credentials};
 ghost use Rattle.posix.specs.States.{process};
 ghost use Rattle.posix.specs.Regular.{IsRegular};
 ghost use Rattle.posix.specs.Targets.{target_in};
+ghost use Rattle.proctable.specs.Body.{facts_of, own_of};
 ghost use Rattle.life.specs.Callers.{caller_of};
 
 use crate::machine::Machine;
 use creds::Creds;
 use posix::{Pid, Register, Target};
-use proctable::Kin;
+use proctable::{Facts, Kin, Own};
 
 /// What a call that concerns others reads of the process that makes it.
 #[derive(Clone, Copy, Debug, PartialEq, Eq)]
@@ -31,6 +33,22 @@ pub struct Caller {
 }
 
 impl Caller {
+    /// The kernel, which may signal all processes; its signals come with value 0 and from number 0.
+    pub(crate) fn kernel() -> Caller
+        ensures pid { result.pid ≡ 0 }
+        ensures creds { result.creds ≡ root_credentials }
+    {
+        Caller {
+            pid: Pid::NONE,
+            parent: Pid::NONE,
+            group: Pid::NONE,
+            session: Pid::NONE,
+            creds: Creds::root(),
+            r1: 0,
+            r2: 0,
+        }
+    }
+
     /// Whom its first argument means (XSH kill, waitpid).
     pub fn target(&self) -> Target
         ensures { result ≡ target_in self.now.r1 }
@@ -53,15 +71,21 @@ impl<K: Kin> Machine<K> {
         let Some(facts) = self.table.get(pid) else {
             unreachable!()
         };
-        let cpu = &self.table.update(pid).own.cpu;
-        Caller {
-            pid,
-            parent: facts.parent,
-            group: facts.group,
-            session: facts.session,
-            creds: facts.creds,
-            r1: cpu.register(Register::FIRST_ARGUMENT),
-            r2: cpu.register(Register::SECOND_ARGUMENT),
-        }
+        caller_by(facts, self.table.look(pid))
+    }
+}
+
+/// The caller, by its facts and by what it may change of itself.
+fn caller_by(facts: Facts, own: &Own) -> Caller
+    ensures { (r : Process) → facts ≡ facts_of r → own.now ≡ own_of r → result ≡ caller_of r }
+{
+    Caller {
+        pid: facts.pid,
+        parent: facts.parent,
+        group: facts.group,
+        session: facts.session,
+        creds: facts.creds,
+        r1: own.cpu.register(Register::FIRST_ARGUMENT),
+        r2: own.cpu.register(Register::SECOND_ARGUMENT),
     }
 }

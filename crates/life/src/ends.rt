@@ -1,11 +1,12 @@
 //! Ends.
 
-ghost use Rattle.std.specs.Prelude.{◌≡◌, ◌≢◌, ◌≤◌, ◌<◌, ◌+◌, ◌*◌, ◌^◌, length, IsSome, Some, None, true, if◌then◌else◌};
+ghost use Rattle.std.specs.Prelude.{◌≡◌, ◌≢◌, ◌≤◌, ◌<◌, ◌+◌, ◌*◌, ◌^◌, length, IsSome, Some, None, true, false, if◌then◌else◌};
 ghost use Rattle.posix.specs.Processes.{Process, is_zombie};
 ghost use Rattle.posix.specs.Tables.{lookup, changed, removed, children_in};
+ghost use Rattle.posix.specs.Groups.{some_stopped};
 ghost use Rattle.posix.specs.Regular.{CanInherit};
 ghost use Rattle.posix.specs.States.{process};
-ghost use Rattle.posix.specs.Ends.{depart as departing, halt as halting, end_with_heir, notice_of_end as noticing_end, tell_of_all, zombies_of, is_dropping, drops_children as drops_children_of};
+ghost use Rattle.posix.specs.Ends.{depart as departing, halt as halting, end_with_heir, notice_of_end as noticing_end, tell_of_all, zombies_of, is_dropping};
 ghost use Rattle.posix.specs.Notices.{child_signal as child_signal_of, noticed};
 ghost use Rattle.life.specs.Machines.{CanGo, IsGone, IsCounted};
 ghost use Rattle.life.specs.Asking.{without_gone};
@@ -14,6 +15,7 @@ ghost use Rattle.pidset.specs.Numbers.{with_number};
 use crate::asking::forget;
 use crate::machine::Machine;
 use crate::waits::discard;
+use jobs::JobTable;
 use pidalloc::PidTable;
 use posix::{Carried, Life, PendingSignal, Pid, Sig, Status};
 use proctable::Kin;
@@ -22,7 +24,7 @@ impl<K: Kin> Machine<K> {
     /// The process, whose parent this is, is a zombie and loses its place, and its children become those of
     /// its heir, which gets notice of the ends of the zombies among them, in rising order. No number of a
     /// child is to be had once they are the heir's, so it gets notice on the way.
-    fn depart(&mut self, pid: Pid, parent: Pid, heir: Pid, status: Status)
+    pub(crate) fn depart(&mut self, pid: Pid, parent: Pid, heir: Pid, status: Status)
         requires there { IsSome (process self.old.state pid) }
         requires other { pid ≢ 1 }
         requires parent { (me : Process) → process self.old.state pid ≡ Some me → parent ≡ me.parent }
@@ -30,11 +32,12 @@ impl<K: Kin> Machine<K> {
         ensures state { self.new.state ≡ tell_of_all (departing self.old.state pid heir status) heir (zombies_of pid self.old.state.processes) }
         ensures parent { (me : Process) → process self.old.state pid ≡ Some me → IsSome (process self.new.state me.parent) }
         ensures zombie { (it : Process) × (process self.new.state pid ≡ Some it) × (is_zombie it.life ≡ true) }
+        ensures losing { self.new.losing ≡ self.old.losing }
         ensures reads { self.new.reads ≤ self.old.reads + 3 + 16 * length (children_in pid self.old.state.processes) + length (children_in heir self.old.state.processes) }
     {
         self.to_ask.insert(pid);
         self.to_ask.insert(heir);
-        self.table.update(pid).make_zombie(status);
+        self.table.make_zombie(pid, status);
         self.order.drop_place(pid);
         let mut next = self.table.first_child(pid);
         while let Some(child) = next {
@@ -69,7 +72,7 @@ impl<K: Kin> Machine<K> {
     {
         self.to_ask.insert(Pid::INIT);
         self.reporting.insert(Pid::NONE, Pid::INIT);
-        self.table.update(Pid::INIT).end(status);
+        self.table.end(Pid::INIT, status);
         self.order.drop_place(Pid::INIT);
         self.halted = true;
     }
@@ -98,20 +101,21 @@ impl<K: Kin> Machine<K> {
 
     /// A process that is there ends with this status. At the end of process 1 the machine halts. Any other
     /// becomes a zombie without a place; its children become those of its heir, which gets notice of those
-    /// that have ended; and its parent gets notice of its end, and may drop it (XSH _exit, Consequences of
-    /// Process Termination).
+    /// that have ended; the process groups that this orphans, and that have a stopped member, get HUP and CONT; and
+    /// its parent gets notice of its end, and may drop it (XSH _exit, Consequences of Process Termination).
+    /// Where no process is stopped no slot is read for the groups.
     pub fn end(&mut self, pid: Pid, heir: Pid, status: Status)
         requires there { IsSome (process self.old.state pid) }
         requires heir { pid ≢ 1 → CanInherit self.old.state.processes pid heir }
         ensures state { (me : Process) → process self.old.state pid ≡ Some me → self.new.state ≡ (end_with_heir self.old.state me heir status).state }
         ensures asked { pid ≡ 1 → self.new.asked ≡ with_number 1 self.old.asked }
-        ensures reads { self.new.reads ≤ self.old.reads + 10 + 16 * length (children_in pid self.old.state.processes) + length (children_in heir self.old.state.processes) }
+        ensures reads { some_stopped self.old.state.processes ≡ false → self.new.reads ≤ self.old.reads + 10 + 16 * length (children_in pid self.old.state.processes) + length (children_in heir self.old.state.processes) }
     {
         if pid == Pid::INIT {
             self.halt(status);
         } else {
             let parent = self.parent(pid);
-            self.depart(pid, parent, heir, status);
+            self.depart_and_rouse(pid, parent, heir, status);
             self.notice_of_end(parent, pid, status);
         }
     }
@@ -120,22 +124,22 @@ impl<K: Kin> Machine<K> {
 /// The parent gets notice that a child ended with this status, and the child is dropped where the parent
 /// drops its children (XSH _exit), in the parts of a machine. The parent in the child's record where it went.
 fn notify_of_end<K: Kin>(
-    table: &mut K,
+    table: &mut JobTable<K>,
     pids: &mut PidTable,
     dropped: &mut u64,
     parent: Pid,
     child: Pid,
     status: Status,
 ) -> Option<Pid>
-    requires parent { IsSome (lookup parent (K.contents table.old)) }
-    requires child { CanGo (K.contents table.old) pids.old child }
+    requires parent { IsSome (lookup parent table.old.processes) }
+    requires child { CanGo table.old.processes pids.old child }
     requires count { dropped.old + 1 < 2 ^ 64 }
-    ensures gone { (it : Process) → lookup child (K.contents table.old) ≡ Some it → result ≡ (if is_dropping parent (K.contents table.old) then Some it.parent else None) }
-    ensures contents { K.contents table.new ≡ (let told = changed parent (noticed (child_signal_of child status)) (K.contents table.old) in if is_dropping parent (K.contents table.old) then removed child told else told) }
-    ensures counts { (it : Process) → lookup child (K.contents table.old) ≡ Some it → IsCounted (is_dropping parent (K.contents table.old)) pids.old pids.new dropped.old dropped.new child it }
-    ensures reads { K.reads table.new ≤ K.reads table.old + 6 }
+    ensures gone { (it : Process) → lookup child table.old.processes ≡ Some it → result ≡ (if is_dropping parent table.old.processes then Some it.parent else None) }
+    ensures processes { table.new.processes ≡ (let told = changed parent (noticed (child_signal_of child status)) table.old.processes in if is_dropping parent table.old.processes then removed child told else told) }
+    ensures counts { (it : Process) → lookup child table.old.processes ≡ Some it → IsCounted (is_dropping parent table.old.processes) pids.old pids.new dropped.old dropped.new child it }
+    ensures reads { table.new.reads ≤ table.old.reads + 6 }
 {
-    let drops = notice_in(table, parent, child_signal(child, status));
+    let drops = table.notice(parent, child_signal(child, status));
     if drops {
         Some(drop_child(table, pids, dropped, child))
     } else {
@@ -144,14 +148,19 @@ fn notify_of_end<K: Kin>(
 }
 
 /// A child is dropped: its record goes without a report, and it is counted. Its parent.
-fn drop_child<K: Kin>(table: &mut K, pids: &mut PidTable, dropped: &mut u64, child: Pid) -> Pid
-    requires child { CanGo (K.contents table.old) pids.old child }
+fn drop_child<K: Kin>(
+    table: &mut JobTable<K>,
+    pids: &mut PidTable,
+    dropped: &mut u64,
+    child: Pid,
+) -> Pid
+    requires child { CanGo table.old.processes pids.old child }
     requires count { dropped.old + 1 < 2 ^ 64 }
-    ensures parent { (it : Process) → lookup child (K.contents table.old) ≡ Some it → result ≡ it.parent }
-    ensures contents { K.contents table.new ≡ removed child (K.contents table.old) }
-    ensures counts { (it : Process) → lookup child (K.contents table.old) ≡ Some it → IsGone pids.old pids.new child it }
+    ensures parent { (it : Process) → lookup child table.old.processes ≡ Some it → result ≡ it.parent }
+    ensures processes { table.new.processes ≡ removed child table.old.processes }
+    ensures counts { (it : Process) → lookup child table.old.processes ≡ Some it → IsGone pids.old pids.new child it }
     ensures dropped { dropped.new ≡ dropped.old + 1 }
-    ensures reads { K.reads table.new ≤ K.reads table.old + 5 }
+    ensures reads { table.new.reads ≤ table.old.reads + 5 }
 {
     let parent = discard(table, pids, child);
     *dropped += 1;
@@ -159,31 +168,16 @@ fn drop_child<K: Kin>(table: &mut K, pids: &mut PidTable, dropped: &mut u64, chi
 }
 
 /// Whether a process that is there runs, is stopped or has ended.
-fn life<K: Kin>(table: &mut K, pid: Pid) -> Life
-    requires { IsSome (lookup pid (K.contents table.old)) }
-    ensures value { (it : Process) → lookup pid (K.contents table.old) ≡ Some it → result ≡ it.life }
-    ensures contents { K.contents table.new ≡ K.contents table.old }
-    ensures reads { K.reads table.new ≤ K.reads table.old + 1 }
+fn life<K: Kin>(table: &mut JobTable<K>, pid: Pid) -> Life
+    requires { IsSome (lookup pid table.old.processes) }
+    ensures value { (it : Process) → lookup pid table.old.processes ≡ Some it → result ≡ it.life }
+    ensures processes { table.new.processes ≡ table.old.processes }
+    ensures reads { table.new.reads ≤ table.old.reads + 1 }
 {
     match table.get(pid) {
         Some(facts) => facts.life,
         None => Life::Running,
     }
-}
-
-/// A process gets notice of a child by a signal, unless it ignores CHLD; and whether it drops its children
-/// as they end (XSH _exit).
-fn notice_in<K: Kin>(table: &mut K, pid: Pid, signal: PendingSignal) -> bool
-    requires { IsSome (lookup pid (K.contents table.old)) }
-    ensures value { (me : Process) → lookup pid (K.contents table.old) ≡ Some me → result ≡ drops_children_of me.signals }
-    ensures contents { K.contents table.new ≡ changed pid (noticed signal) (K.contents table.old) }
-    ensures room { K.room table.new ≡ K.room table.old }
-    ensures reads { K.reads table.new ≤ K.reads table.old + 1 }
-{
-    let body = table.update(pid);
-    let drops = body.own.signals.drops_children();
-    body.notice(pid, signal);
-    drops
 }
 
 /// Notice that a child ended, was stopped or was continued, as a signal (XSH _exit, sigaction).

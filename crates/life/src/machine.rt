@@ -8,13 +8,14 @@ ghost use Rattle.posix.specs.States.{boot as boot_of, process, change, current a
 ghost use Rattle.posix.specs.Regular.{IsRegular, IsPlaced};
 ghost use Rattle.posix.specs.Execute.{exec_one as executed, StaysUnlessRun};
 ghost use Rattle.posix.specs.Step.{code_of, set_cpu};
-ghost use Rattle.proctable.specs.Body.{facts_of, own_of, give_own, own_row};
+ghost use Rattle.proctable.specs.Body.{facts_of, own_of, own_row};
 ghost use Rattle.life.specs.contracts.machine.Machine.{the_row as machine_row};
 ghost use Rattle.life.specs.Loans.{lent, looked};
 ghost use Rattle.umach.specs.Bursts.{exec_until, IsWithin};
 ghost use Rattle.pidset.specs.Numbers.{with_number};
 
 use crate::asking::ask;
+use jobs::JobTable;
 use pidalloc::PidTable;
 use pidset::{ChildSet, PidSet};
 use posix::{Pid, Sig, Trap};
@@ -28,7 +29,7 @@ use umach::World;
 #[derive(Drop)]
 pub struct Machine<K: Kin> {
     pub(crate) world: World,
-    pub(crate) table: K,
+    pub(crate) table: JobTable<K>,
     pub(crate) pids: PidTable,
     pub(crate) order: Order,
     /// Those who are to be asked whether they can act. Whoever has to be given a place is among them.
@@ -39,6 +40,8 @@ pub struct Machine<K: Kin> {
     pub(crate) alarmed: PidSet,
     /// A tick before which no alarm is due.
     pub(crate) next_alarm: u64,
+    /// While a process ends: the process groups that it and its children kept from being orphaned.
+    pub(crate) losing: PidSet,
     pub(crate) births: u64,
     pub(crate) ticks: u64,
     pub(crate) dropped: u64,
@@ -50,9 +53,9 @@ impl<K: Kin> Model for Machine<K> {
 
     ghost Value = { MachineView };
 
-    ghost view = { λ m. record { state = state_of m.world (K.contents m.table) m.pids m.order m.births m.ticks m.dropped m.halted; reads = K.reads m.table; asked = m.to_ask.pids } };
+    ghost view = { λ m. record { state = state_of m.world (m.table.processes) m.pids m.order m.births m.ticks m.dropped m.halted; reads = m.table.reads; asked = m.to_ask.pids; losing = m.losing.pids } };
 
-    ghost invariant = { λ m. IsMachine (state_of m.world (K.contents m.table) m.pids m.order m.births m.ticks m.dropped m.halted) m.pids m.order m.to_ask m.reporting m.alarmed m.next_alarm };
+    ghost invariant = { λ m. IsMachine (state_of m.world (m.table.processes) m.pids m.order m.births m.ticks m.dropped m.halted) m.pids m.order m.to_ask m.reporting m.alarmed m.next_alarm m.losing };
 }
 
 impl<K: Kin> Machine<K> {
@@ -65,7 +68,7 @@ impl<K: Kin> Machine<K> {
     {
         let world = world.try_clone(alloc)?;
         let mut pids = PidTable::new(alloc, world.pidmax())?;
-        let mut table = K::empty(alloc);
+        let mut table = JobTable::empty(alloc);
         table.reserve()?;
         let mut order = Order::new(alloc, world.pidmax())?;
         let mut to_ask = PidSet::new(alloc);
@@ -74,6 +77,8 @@ impl<K: Kin> Machine<K> {
         reporting.reserve(world.pidmax() as usize + 1)?;
         let mut alarmed = PidSet::new(alloc);
         alarmed.reserve(world.pidmax() as usize + 1)?;
+        let mut losing = PidSet::new(alloc);
+        losing.reserve(world.pidmax() as usize + 2)?;
         let first = Body::first(alloc)?;
         table.insert(Pid::INIT, Pid::NONE, first);
         pids.bear_all(Pid::INIT, Pid::INIT, Pid::INIT);
@@ -87,6 +92,7 @@ impl<K: Kin> Machine<K> {
             reporting,
             alarmed,
             next_alarm: u64::MAX,
+            losing,
             births: 1,
             ticks: 0,
             dropped: 0,
@@ -154,6 +160,7 @@ impl<K: Kin> Machine<K> {
         ensures same { self.new.state ≡ self.old.state }
         ensures reads { self.new.reads ≤ self.old.reads + 1 }
         ensures asked { self.new.asked ≡ self.old.asked }
+        ensures losing { self.new.losing ≡ self.old.losing }
         ensures regular { IsRegular self.old.state }
         ensures size { length self.old.state.processes < 2 ^ 63 }
     {
@@ -168,6 +175,7 @@ impl<K: Kin> Machine<K> {
         ensures same { self.new.state ≡ self.old.state }
         ensures reads { self.new.reads ≤ self.old.reads + 1 }
         ensures asked { self.new.asked ≡ self.old.asked }
+        ensures losing { self.new.losing ≡ self.old.losing }
     {
         match self.table.get(pid) {
             Some(facts) => facts.parent,
@@ -185,8 +193,7 @@ impl<K: Kin> Machine<K> {
         ensures regular { IsRegular self.old.state }
     {
         ask(&mut self.to_ask, &self.order, pid);
-        let body = self.table.update(pid);
-        &mut body.own
+        self.table.own(pid)
     }
 
     /// Runs the instruction at the pc of a process that is there and runs this program. A call and a
@@ -203,7 +210,7 @@ impl<K: Kin> Machine<K> {
         match self.world.programs().get(usize::from(program)) {
             Some(program) => {
                 ask(&mut self.to_ask, &self.order, pid);
-                self.table.update(pid).own.cpu.exec_one(program)
+                self.table.own(pid).cpu.exec_one(program)
             }
             None => Trap::Fault(Sig::SEGV),
         }
@@ -228,7 +235,7 @@ impl<K: Kin> Machine<K> {
         match self.world.programs().get(usize::from(program)) {
             Some(program) => {
                 ask(&mut self.to_ask, &self.order, pid);
-                self.table.update(pid).own.cpu.run_until(program, most)
+                self.table.own(pid).cpu.run_until(program, most)
             }
             None => (0, Trap::Fault(Sig::SEGV)),
         }
@@ -241,8 +248,7 @@ impl<K: Kin> Machine<K> {
         ensures value { IfSome (process self.old.state pid) (λ me. result.now ≡ own_of me) }
         ensures regular { IsRegular self.old.state }
     {
-        let seen = self.table.update(pid);
-        &seen.own
+        self.table.look(pid)
     }
 
     // ---- places

@@ -55,6 +55,7 @@ impl<K: Kin> Machine<K> {
         ensures sending { (q : Process) → it.now ≡ facts_of q → result ≡ sending_permitted (permitted (process_like me.now) sig.now (q ∷ [])) }
         ensures state { (q : Process) → it.now ≡ facts_of q → self.new.state ≡ record (self.old.state) { processes = sent_among (process_like me.now) sig.now (q ∷ []) self.old.state.processes } }
         ensures asked { (q : Process) → it.now ≡ facts_of q → self.new.asked ≡ asking_signalled (process_like me.now) sig.now (q ∷ []) self.old.state.processes self.old.state.order self.old.asked }
+        ensures losing { self.new.losing ≡ self.old.losing }
         ensures reads { self.new.reads ≤ self.old.reads + slots_of_send sig.now }
     {
         if !may_signal(me, *sig, it) {
@@ -71,6 +72,7 @@ impl<K: Kin> Machine<K> {
         ensures sending { result ≡ sending_of (process_like me.now) target.now sig.now (filter (has_pid pid) self.old.state.processes) }
         ensures state { self.new.state ≡ record (self.old.state) { processes = sent_among (process_like me.now) sig.now (targets (process_like me.now) target.now (filter (has_pid pid) self.old.state.processes)) self.old.state.processes } }
         ensures asked { self.new.asked ≡ asking_signalled (process_like me.now) sig.now (targets (process_like me.now) target.now (filter (has_pid pid) self.old.state.processes)) self.old.state.processes self.old.state.order self.old.asked }
+        ensures losing { self.new.losing ≡ self.old.losing }
         ensures reads { self.new.reads ≤ self.old.reads + 1 + slots_of_send sig.now }
         ensures regular { IsRegular self.old.state }
     {
@@ -86,6 +88,7 @@ impl<K: Kin> Machine<K> {
         ensures next { IsNext (is_target_of (process_like me.now) target.now) after self.old.state.processes result }
         ensures same { self.new.state ≡ self.old.state }
         ensures asked { self.new.asked ≡ self.old.asked }
+        ensures losing { self.new.losing ≡ self.old.losing }
         ensures reads { self.new.reads + 2 * length (left_of result self.old.state.processes) ≤ self.old.reads + 2 + 2 * length (above after self.old.state.processes) }
         ensures regular { IsRegular self.old.state }
     {
@@ -101,6 +104,7 @@ impl<K: Kin> Machine<K> {
         ensures sending { result ≡ sending_of (process_like me.now) target.now sig.now self.old.state.processes }
         ensures state { self.new.state ≡ record (self.old.state) { processes = sent_to (process_like me.now) target.now sig.now self.old.state.processes } }
         ensures asked { self.new.asked ≡ asking_signalled (process_like me.now) sig.now (targets (process_like me.now) target.now self.old.state.processes) self.old.state.processes self.old.state.order self.old.asked }
+        ensures losing { self.new.losing ≡ self.old.losing }
         ensures reads { self.new.reads ≤ self.old.reads + 2 + (3 + slots_of_send sig.now) * length self.old.state.processes }
     {
         let mut sending = Sending::NobodyFound;
@@ -118,6 +122,7 @@ impl<K: Kin> Machine<K> {
         ensures sending { result ≡ sending_of (process_like me.now) target sig self.old.state.processes }
         ensures state { self.new.state ≡ record (self.old.state) { processes = sent_to (process_like me.now) target sig self.old.state.processes } }
         ensures asked { self.new.asked ≡ asking_signalled (process_like me.now) sig (targets (process_like me.now) target self.old.state.processes) self.old.state.processes self.old.state.order self.old.asked }
+        ensures losing { self.new.losing ≡ self.old.losing }
         ensures reads_of_all { self.new.reads ≤ self.old.reads + 2 + (3 + slots_of_send sig) * length self.old.state.processes }
         ensures reads { (p : ℕ) → target ≡ Target.Process p → self.new.reads ≤ self.old.reads + 1 + slots_of_send sig }
     {

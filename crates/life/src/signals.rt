@@ -18,9 +18,10 @@ impl<K: Kin> Machine<K> {
         ensures state { self.new.state ≡ record (self.old.state) { processes = generated_for signal (process self.old.state pid) self.old.state.processes } }
         ensures reads { self.new.reads ≤ self.old.reads + slots_of_signal signal.sig }
         ensures asked { self.new.asked ≡ asking_generated signal (process self.old.state pid) self.old.state.order self.old.asked }
+        ensures losing { self.new.losing ≡ self.old.losing }
     {
         ask(&mut self.to_ask, &self.order, pid);
-        match self.table.update(pid).signal(pid, signal) {
+        match self.table.signal(pid, signal) {
             Effect::Nothing => {}
             Effect::Continued => self.continue_process(pid),
         }

@@ -12,6 +12,7 @@ ghost use Rattle.life.specs.Asking.{asking_changed, with_parent};
 
 use crate::ends::child_signal;
 use crate::machine::Machine;
+use jobs::JobTable;
 use pidset::PidSet;
 use posix::{Pid, Sig, Status};
 use proctable::Kin;
@@ -27,7 +28,7 @@ impl<K: Kin> Machine<K> {
     {
         let parent = self.parent(pid);
         self.to_ask.insert(pid);
-        self.table.update(pid).stop(sig);
+        self.table.stop(pid, sig);
         self.order.drop_place(pid);
         self.reporting.insert(parent, pid);
         tell_parent(
@@ -46,10 +47,11 @@ impl<K: Kin> Machine<K> {
         ensures state { (me : Process) → process self.old.state pid ≡ Some me → self.new.state ≡ record (self.old.state) { processes = told_of_change continued me (changed pid resumed self.old.state.processes) } }
         ensures reads { self.new.reads ≤ self.old.reads + 3 }
         ensures asked { (me : Process) → process self.old.state pid ≡ Some me → self.new.asked ≡ asking_changed me self.old.asked }
+        ensures losing { self.new.losing ≡ self.old.losing }
     {
         let parent = self.parent(pid);
         self.to_ask.insert(pid);
-        self.table.update(pid).resume();
+        self.table.resume(pid);
         self.reporting.insert(parent, pid);
         tell_parent(
             &mut self.table,
@@ -63,20 +65,24 @@ impl<K: Kin> Machine<K> {
 
 /// The parent of a child that was stopped or continued gets notice of it by this status, and is to be asked,
 /// in the parts of a machine. Number 0 is nobody's.
-fn tell_parent<K: Kin>(table: &mut K, to_ask: &mut PidSet, child: Pid, parent: Pid, status: Status)
-    requires there { parent ≢ 0 → IsSome (lookup parent (K.contents table.old)) }
-    requires none { parent ≡ 0 → lookup parent (K.contents table.old) ≡ None }
+fn tell_parent<K: Kin>(
+    table: &mut JobTable<K>,
+    to_ask: &mut PidSet,
+    child: Pid,
+    parent: Pid,
+    status: Status,
+)
+    requires there { parent ≢ 0 → IsSome (lookup parent table.old.processes) }
+    requires none { parent ≡ 0 → lookup parent table.old.processes ≡ None }
     requires few { length to_ask.old.pids < to_ask.old.room }
-    ensures contents { K.contents table.new ≡ changed parent (noticed_of_change (child_signal_of child status)) (K.contents table.old) }
-    ensures room { K.room table.new ≡ K.room table.old }
-    ensures reads { K.reads table.new ≤ K.reads table.old + 1 }
+    ensures processes { table.new.processes ≡ changed parent (noticed_of_change (child_signal_of child status)) table.old.processes }
+    ensures room { table.new.room ≡ table.old.room }
+    ensures reads { table.new.reads ≤ table.old.reads + 1 }
     ensures pids { to_ask.new.pids ≡ with_parent parent to_ask.old.pids }
     ensures fits { to_ask.new.room ≡ to_ask.old.room }
 {
     if parent != Pid::NONE {
         to_ask.insert(parent);
-        table
-            .update(parent)
-            .notice_of_change(parent, child_signal(child, status));
+        table.notice_of_change(parent, child_signal(child, status));
     }
 }

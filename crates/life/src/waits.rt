@@ -15,6 +15,7 @@ use crate::asking::{ask, forget};
 use crate::caller::Caller;
 use crate::machine::Machine;
 use bitflags::Flags;
+use jobs::JobTable;
 use pidalloc::PidTable;
 use posix::{Life, News, Pid, Report, Status, Target, WaitOptions};
 use proctable::{Facts, Kin};
@@ -59,17 +60,16 @@ fn look(group: Pid, options: WaitOptions, child: Facts) -> Report
 
 /// The record of a process without children goes, and it no longer bears its own number, its group's and its
 /// session's, in the parts of a machine. Its parent.
-pub(crate) fn discard<K: Kin>(table: &mut K, pids: &mut PidTable, pid: Pid) -> Pid
-    requires { CanGo (K.contents table.old) pids.old pid }
-    ensures parent { (it : Process) → lookup pid (K.contents table.old) ≡ Some it → result ≡ it.parent }
-    ensures contents { K.contents table.new ≡ removed pid (K.contents table.old) }
-    ensures counts { (it : Process) → lookup pid (K.contents table.old) ≡ Some it → IsGone pids.old pids.new pid it }
-    ensures reads { K.reads table.new ≤ K.reads table.old + 5 }
+pub(crate) fn discard<K: Kin>(table: &mut JobTable<K>, pids: &mut PidTable, pid: Pid) -> Pid
+    requires { CanGo table.old.processes pids.old pid }
+    ensures parent { (it : Process) → lookup pid table.old.processes ≡ Some it → result ≡ it.parent }
+    ensures processes { table.new.processes ≡ removed pid table.old.processes }
+    ensures counts { (it : Process) → lookup pid table.old.processes ≡ Some it → IsGone pids.old pids.new pid it }
+    ensures reads { table.new.reads ≤ table.old.reads + 5 }
 {
-    let Some(facts) = table.get(pid) else {
+    let Some(facts) = table.remove(pid) else {
         return Pid::NONE;
     };
-    table.remove(pid);
     pids.give_up_all(pid, facts.group, facts.session);
     facts.parent
 }
@@ -193,7 +193,7 @@ impl<K: Kin> Machine<K> {
         let Some(facts) = self.table.get(pid) else {
             unreachable!()
         };
-        self.table.update(pid).tell_news();
+        self.table.tell_news(pid);
         if let Life::Running | Life::Stopped = facts.life {
             self.reporting.remove(facts.parent, pid);
         }

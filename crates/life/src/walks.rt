@@ -19,6 +19,7 @@ impl<K: Kin> Machine<K> {
         ensures value { result ≡ next_above pid self.old.state.processes }
         ensures same { self.new.state ≡ self.old.state }
         ensures asked { self.new.asked ≡ self.old.asked }
+        ensures losing { self.new.losing ≡ self.old.losing }
         ensures reads { self.new.reads ≤ self.old.reads + 1 }
         ensures regular { IsRegular self.old.state }
     {
@@ -31,6 +32,7 @@ impl<K: Kin> Machine<K> {
         ensures value { result ≡ first_pid (children_in pid self.old.state.processes) }
         ensures same { self.new.state ≡ self.old.state }
         ensures asked { self.new.asked ≡ self.old.asked }
+        ensures losing { self.new.losing ≡ self.old.losing }
         ensures reads { self.new.reads ≤ self.old.reads + 1 }
         ensures regular { IsRegular self.old.state }
     {
@@ -43,6 +45,7 @@ impl<K: Kin> Machine<K> {
         ensures value { result ≡ next_sibling_of pid self.old.state.processes }
         ensures same { self.new.state ≡ self.old.state }
         ensures asked { self.new.asked ≡ self.old.asked }
+        ensures losing { self.new.losing ≡ self.old.losing }
         ensures reads { self.new.reads ≤ self.old.reads + 1 }
     {
         self.table.next_sibling(pid)

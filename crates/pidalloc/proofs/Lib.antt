@@ -2,3 +2,4 @@ pub mod RowLemmas
 pub mod FreeLemmas
 pub mod TallyLemmas
 pub mod BagLemmas
+pub mod MoveLemmas

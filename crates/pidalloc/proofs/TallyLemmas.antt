@@ -1,14 +1,13 @@
 -- The rows of a table of numbers and the records of the processes that bear them.
-use Rattle.std.proofs.Common.{◌≡◌, ℕ, suc, ◌+◌, ◌<◌, ◌≤◌, ◌^◌, Bool, true, false, cond, not, ◌&&◌, ◌||◌, refl, ap, sym, ◌∙◌, arith, subst, List, [], ◌∷◌, length, map, filter, find, Some, ◌==◌}
+use Rattle.std.proofs.Common.{◌≡◌, ℕ, suc, ◌+◌, ◌<◌, ◌≤◌, ◌^◌, Bool, true, false, cond, not, ◌&&◌, ◌||◌, refl, ap, sym, ◌∙◌, arith, List, [], ◌∷◌, length, map, filter, Some, ◌==◌}
 use Rattle.std.specs.List.{list_any}
-use Rattle.std.proofs.lemmas.Bool.{eqb-true, eq-eqb, ne_eqb}
+use Rattle.std.proofs.lemmas.Bool.{eq-eqb}
 use Rattle.std.proofs.lemmas.List.Sums.{length-filter, count_by-le-length}
 use Rattle.posix.specs.Processes.{Process}
-use Rattle.posix.specs.Tables.{IsRising, lookup, has_pid, inserted, removed, bears}
+use Rattle.posix.specs.Tables.{IsRising, lookup, inserted, removed, bears}
 use Rattle.posix.specs.NextPid.{is_free, next_free}
-use Rattle.std.proofs.lemmas.List.{length-map}
-use Rattle.posix.proofs.MapLemmas.{filter_map}
-use Rattle.posix.proofs.TableLemmas.{Above, remove_above, pid_looked}
+use Rattle.posix.proofs.TableLemmas.{pid_looked}
+use Rattle.posix.proofs.PassingLemmas.{none_counted, counted_inserted, counted_removed, counted_map, counted_found}
 use Rattle.pidalloc.specs.Rows.{Row, Pids, unborne_table, row, is_free_row, is_free_in, with_row, one_more, one_less, borne, given_up, born_in, gone_from}
 use Rattle.pidalloc.specs.Rows as roles
 use Rattle.pidalloc.specs.Tallies.{tally, IsTallied}
@@ -16,11 +15,6 @@ use Rattle.pidalloc.proofs.FreeLemmas.{next_free_same}
 use Rattle.pidalloc.proofs.RowLemmas.{no_row, row_with_three, same_row, more, less, less_more}
 
 -- ---- free numbers
-
--- no records are counted where none passes the test
-none_counted : (t : Process → Bool) (rs : List Process) → (length (filter t rs) == 0) ≡ not (list_any t rs)
-none_counted t [] = refl
-none_counted t (r ∷ rs) = grind (arith, none_counted t rs, ne_eqb)
 
 -- a record passes one of two tests where one passes the first or one the second
 any_or : (t u : Process → Bool) (rs : List Process) → list_any (λ r. t r || u r) rs ≡ (list_any t rs || list_any u rs)
@@ -49,47 +43,6 @@ unfolding is_free_in
 next_same p rs t = next_free_same _ _ p.last p.pidmax (λ k l. ap is_free_row (t k l) ∙ free_row rs k)
 
 -- ---- counts of records
-
--- a record in front counts the same behind one that comes in
-swap_counted : (t : Process → Bool) (x y : Process) (xs ys : List Process) → length (filter t xs) ≡ length (filter t (y ∷ ys)) → length (filter t (x ∷ xs)) ≡ length (filter t (y ∷ x ∷ ys))
-swap_counted t x y xs ys h = over (t x) (t y) h
-  where
-    over : (a b : Bool) → length (filter t xs) ≡ length (cond b (y ∷ filter t ys) (filter t ys))
-        → length (cond a (x ∷ filter t xs) (filter t xs)) ≡ length (cond b (y ∷ cond a (x ∷ filter t ys) (filter t ys)) (cond a (x ∷ filter t ys) (filter t ys)))
-    over true true h = ap suc h
-    over true false h = ap suc h
-    over false true h = h
-    over false false h = h
-
--- a record that comes in counts as if it came in front
-pub counted_inserted : (t : Process → Bool) (new : Process) (rs : List Process) → length (filter t (inserted new rs)) ≡ length (filter t (new ∷ rs))
-unfolding inserted
-counted_inserted t new [] = refl
-counted_inserted t new (r ∷ rs) = grind (arith, counted_inserted t new rs)
-
--- a record that goes counted as if it went from the front
-pub counted_removed : (t : Process → Bool) (p : ℕ) (r : Process) (rs : List Process) → IsRising rs → lookup p rs ≡ Some r → length (filter t rs) ≡ length (filter t (r ∷ removed p rs))
-unfolding lookup removed IsRising
-counted_removed t p r [] up e = absurd (cc)
-counted_removed t p r (x ∷ xs) up e =
-    elim (x.pid == p) as (λ b. (x.pid == p) ≡ b → cond b (Some x) (find (has_pid p) xs) ≡ Some r
-    → length (filter t (x ∷ xs)) ≡ length (filter t (r ∷ cond (not b) (x ∷ removed p xs) (removed p xs)))) [
-      | true ↦ λ u k.
-          let same : x ≡ r = cc in
-          let gone : removed p xs ≡ xs = remove_above p xs (subst (λ n. Above n xs) (eqb-true _ _ u) up.0) in
-          ap (λ y. length (filter t (y ∷ xs))) same ∙ ap (λ ys. length (filter t (r ∷ ys))) (sym gone)
-      | false ↦ λ u k. swap_counted t x r xs (removed p xs) (counted_removed t p r xs up.1 k)
-    ] refl e
-
--- changes that leave the test leave the count
-counted_map : (t : Process → Bool) (g : Process → Process) → ((r : Process) → t (g r) ≡ t r) → (rs : List Process) → length (filter t (map g rs)) ≡ length (filter t rs)
-counted_map t g keeps rs = ap length (filter_map t g keeps rs) ∙ length-map (filter t rs) g
-
--- a record that is found and passes the test is counted
-counted_found : (t : Process → Bool) (p : ℕ) (r : Process) (rs : List Process) → t r ≡ true → lookup p rs ≡ Some r → 1 ≤ length (filter t rs)
-unfolding lookup
-counted_found t p r [] h e = absurd (cc)
-counted_found t p r (x ∷ xs) h e = grind (arith, h, counted_found t p r xs h)
 
 -- no more are counted than there are
 fewer : (t : Process → Bool) (rs : List Process) → length (filter t rs) ≤ length rs

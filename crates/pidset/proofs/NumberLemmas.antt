@@ -1,9 +1,9 @@
 -- Facts on numbers in rising order.
-use Rattle.std.proofs.Common.{◌≡◌, ℕ, zero, suc, ◌+◌, ◌-◌, ◌<◌, ◌≤◌, Bool, true, false, cond, ◌||◌, refl, ap, sym, ◌∙◌, arith, subst, List, [], ◌∷◌, length, filter, insert, slice_get, get_or, Some, Result, Ok, Err, is_ok, IfOk, IfErr, ◌==◌, nat_lt}
+use Rattle.std.proofs.Common.{◌≡◌, ℕ, zero, suc, ◌+◌, ◌-◌, ◌<◌, ◌≤◌, Bool, true, false, cond, ◌||◌, refl, ap, sym, ◌∙◌, arith, subst, List, [], ◌∷◌, length, filter, insert, slice_get, get_or, Some, inl, inr, Result, Ok, Err, is_ok, IfOk, IfErr, ◌==◌, nat_lt}
 use Rattle.std.specs.List.{AllByRecursion}
 use Rattle.std.specs.Option.{IfSome, IsSome}
 use Rattle.std.proofs.lemmas.Option.{IfSome_then, slice_get_past, get_or_from_slice_get}
-use Rattle.std.proofs.lemmas.Bool.{eqb-true, eqb-false, eq-eqb, ne_eqb, ltb-true, ltb-false, or_right}
+use Rattle.std.proofs.lemmas.Bool.{eqb-true, eqb-false, eq-eqb, ne_eqb, ltb-true, ltb-false, or_right, cases_eq, cases_order}
 use Rattle.std.proofs.lemmas.Bool.Decides.{nat_tests}
 use Rattle.posix.specs.States.{is_in, without}
 use Rattle.pidset.specs.Numbers.{Rises, with_number, numbers_above, IsNumberAt, IsInsertionPoint}
@@ -155,6 +155,32 @@ pub in_with : (q n : ℕ) (ns : List ℕ) → is_in q (with_number n ns) ≡ (n 
 unfolding with_number is_in
 in_with q n [] = refl
 in_with q n (x ∷ xs) = grind (arith, in_with q n xs, eqb-true)
+
+-- of two rising lists that each hold the other's first number, the first is the same
+first_same : (x : ℕ) (xs : List ℕ) (y : ℕ) (ys : List ℕ) → AllAbove x xs → AllAbove y ys → is_in x (y ∷ ys) ≡ true → is_in y (x ∷ xs) ≡ true → x ≡ y
+first_same x xs y ys a b h k = elim (cases_order x y) [
+  | inl same ↦ same
+  | inr (inl low) ↦ let l = in_above y x ys b (sym (in_rest x y ys (λ e. omega (arith, low, e))) ∙ h) in absurd (omega (arith, low, l))
+  | inr (inr high) ↦ let l = in_above x y xs a (sym (in_rest y x xs (λ e. omega (arith, high, e))) ∙ k) in absurd (omega (arith, high, l))
+]
+
+-- and the rest hold the same numbers, where both lists do
+rest_same : (x : ℕ) (xs : List ℕ) (y : ℕ) (ys : List ℕ) → AllAbove x xs → AllAbove y ys → x ≡ y → (q : ℕ) → is_in q (x ∷ xs) ≡ is_in q (y ∷ ys) → is_in q xs ≡ is_in q ys
+rest_same x xs y ys a b same q h = elim (cases_eq x q) [
+  | inl here ↦ not_in_above x q xs (omega (arith, here)) a ∙ sym (not_in_above y q ys (omega (arith, here, same)) b)
+  | inr apart ↦ sym (in_rest q x xs apart) ∙ h ∙ in_rest q y ys (λ e. apart (same ∙ e))
+]
+
+-- rising lists with the same numbers are the same
+pub same_numbers : (xs ys : List ℕ) → Rises xs → Rises ys → ((q : ℕ) → is_in q xs ≡ is_in q ys) → xs ≡ ys
+unfolding Rises
+same_numbers [] [] up high h = refl
+same_numbers [] (y ∷ ys) up high h = absurd (in_none y (h y ∙ in_first y ys))
+same_numbers (x ∷ xs) [] up high h = absurd (in_none x (sym (h x) ∙ in_first x xs))
+same_numbers (x ∷ xs) (y ∷ ys) up high h =
+    let least : x ≡ y = first_same x xs y ys up.0 high.0 (sym (h x) ∙ in_first x xs) (h y ∙ in_first y ys) in
+    let rest : xs ≡ ys = same_numbers xs ys up.1 high.1 (λ q. rest_same x xs y ys up.0 high.0 least q (h q)) in
+    ap (λ n. n ∷ xs) least ∙ ap (λ ns. y ∷ ns) rest
 
 -- ---- the next above a number
 

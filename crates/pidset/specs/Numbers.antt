@@ -1,15 +1,11 @@
 -- Numbers of processes in rising order, each once.
-use Rattle.std.specs.Prelude.{◌≡◌, ℕ, ◌<◌, ◌≤◌, ◌==◌, if◌then◌else◌, nat_lt, List, [], ◌∷◌, filter, length, slice_get, Some, IfSome}
+use Rattle.std.specs.Prelude.{◌≡◌, ℕ, ◌<◌, ◌≤◌, if◌then◌else◌, nat_lt, List, [], ◌∷◌, filter, length, slice_get, Some, IfSome}
 use Rattle.std.specs.List.{AllByRecursion}
+unfoldable pub use Rattle.posix.specs.Numbers.{with_number}
 
 unfoldable pub Rises : List ℕ → Type 0
 Rises [] = Unit {0}
 Rises (n ∷ ns) = AllByRecursion (λ m. n < m) ns × Rises ns
-
--- n put in where it belongs, unless it is there
-unfoldable pub with_number : ℕ → List ℕ → List ℕ
-with_number n [] = n ∷ []
-with_number n (m ∷ ms) = if nat_lt n m then n ∷ m ∷ ms else if n == m then m ∷ ms else m ∷ with_number n ms
 
 -- those above n
 abbrev pub numbers_above : ℕ → List ℕ → List ℕ

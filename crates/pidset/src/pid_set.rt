@@ -80,6 +80,14 @@ impl PidSet {
         self.search(pid).is_ok()
     }
 
+    /// The least number.
+    pub fn first(&self) -> Option<Pid>
+        ensures is { result ≡ slice_get self.now.pids 0 }
+        ensures rising { Rises self.now.pids }
+    {
+        self.pids.first().copied()
+    }
+
     /// The least number above another.
     pub fn next_above(&self, after: Pid) -> Option<Pid>
         ensures is { result ≡ slice_get (numbers_above after self.now.pids) 0 }

@@ -1,8 +1,8 @@
 -- What a process does as its turn comes changes its own place alone, and raises the count of births by one at most.
-use Rattle.std.proofs.Common.{◌≡◌, ◌≤◌, ℕ, ◌+◌, Bool, true, false, cond, not, ◌&&◌, refl, ap, sym, ◌∙◌, arith, List, [], ◌∷◌, ◌++◌, Option, Some, None, ◌==◌, ℤ, inl, inr, ◌⊎◌, Result, Ok, Err}
+use Rattle.std.proofs.Common.{◌≡◌, ◌≤◌, ℕ, ◌+◌, Bool, true, false, cond, not, ◌&&◌, refl, ap, sym, ◌∙◌, arith, List, [], ◌∷◌, ◌++◌, Option, Some, None, ◌==◌, ◌||◌, ℤ, pos, negsuc, slice_get, inl, inr, ◌⊎◌, Result, Ok, Err}
 use Rattle.std.proofs.lemmas.Bool.{eqb-true}
 use Rattle.posix.specs.declared.call.Call.{Call}
-use Rattle.posix.specs.declared.call.Call.TheVariants.{Exit, Fork, Waitpid, Pause, SchedYield, Getpid, Getppid, Getuid, Geteuid, Getgid, Getegid, Setuid, Seteuid, Setgid, Setegid, Kill, Sigaction, Sigprocmask, Sigpending, Sigsuspend, Sigreturn, Alarm}
+use Rattle.posix.specs.declared.call.Call.TheVariants.{Exit, Fork, Waitpid, Pause, SchedYield, Getpid, Getppid, Getuid, Geteuid, Getgid, Getegid, Setuid, Seteuid, Setgid, Setegid, Kill, Sigaction, Sigprocmask, Sigpending, Sigsuspend, Sigreturn, Alarm, Exec, Getpgid, Getsid, Setpgid, Setsid}
 use Rattle.posix.specs.declared.instr.Trap.{Trap}
 use Rattle.posix.specs.declared.instr.Trap.TheVariants as trap
 use Rattle.posix.specs.declared.errno.Errno.{Errno}
@@ -23,7 +23,7 @@ use Rattle.posix.specs.SignalNumbers.{KILL, SEGV, STOP, default_action}
 use Rattle.posix.specs.SignalSets.{has}
 use Rattle.posix.specs.Statuses.{exited, killed}
 use Rattle.posix.specs.Processes.{Process, Cpu, argument}
-use Rattle.posix.specs.States.{State, without, change, next_pid}
+use Rattle.posix.specs.States.{State, Program, without, change, next_pid}
 use Rattle.posix.specs.Execute.{exec_one}
 use Rattle.posix.specs.Outcomes.{Outcome, Attempted, Done, Block, Reply, answers}
 use Rattle.posix.specs.Credentials.{setuid, seteuid, setgid, setegid}
@@ -38,6 +38,8 @@ use Rattle.posix.specs.Waits.{wait, wait_with, report, options_in, are_known, ha
 use Rattle.posix.specs.Delivery.{handle, stop_process, act_by_default, act_on, take_out, deliver, fault_with, fault, return_to, return_from_handler}
 use Rattle.posix.specs.Sends.{sending, send_with, signal_or_none, kill_with, kill}
 use Rattle.posix.specs.Alarms.{alarm}
+use Rattle.posix.specs.Programs.{exec_as, exec_of, exec}
+use Rattle.posix.specs.GroupCalls.{named, tells, getpgid, getsid, move_of, setpgid_with, setpgid_to, setpgid, is_group_of_others, setsid}
 use Rattle.posix.specs.SignalCalls.{set_credentials, sigaction, sigprocmask, sigpending}
 use Rattle.posix.specs.Attempts.{attempt, attempt_again}
 use Rattle.posix.specs.Step.{act, act_in, after_trap, begin_call, deliver_or, go_on, code_of}
@@ -188,6 +190,50 @@ acted_kill : (s : State) (me : Process) → ActedIf me.pid s (kill s me)
 unfolding kill
 acted_kill s me = acted_kill_with s me (target_in (argument me 1)) (signal_or_none (argument me 2))
 
+-- another program is run, if there is one
+acted_exec_as : (s : State) (me : Process) (n : ℕ) (program : Option Program) → ActedIf me.pid s (exec_as s me n program)
+acted_exec_as s me n None = stays me.pid s _ refl refl refl
+acted_exec_as s me n (Some program) = stays me.pid s _ refl refl refl
+
+acted_exec_of : (s : State) (me : Process) (z : ℤ) → ActedIf me.pid s (exec_of s me z)
+acted_exec_of s me (pos n) = acted_exec_as s me n (slice_get s.world.programs n)
+acted_exec_of s me (negsuc n) = stays me.pid s _ refl refl refl
+
+acted_exec : (s : State) (me : Process) → ActedIf me.pid s (exec s me)
+unfolding exec
+acted_exec s me = acted_exec_of s me (argument me 1)
+
+-- what a call tells of a process, if it is there
+acted_tells : (s : State) (me : Process) (call : Call) (field : Process → ℕ) (o : Option Process) → ActedIf me.pid s (tells s me call field o)
+acted_tells s me call field None = stays me.pid s _ refl refl refl
+acted_tells s me call field (Some r) = stays me.pid s _ refl refl refl
+
+acted_getpgid : (s : State) (me : Process) → ActedIf me.pid s (getpgid s me)
+unfolding getpgid
+acted_getpgid s me = acted_tells s me Getpgid (λ r. r.group) (named me (argument me 1) s.processes)
+
+acted_getsid : (s : State) (me : Process) → ActedIf me.pid s (getsid s me)
+unfolding getsid
+acted_getsid s me = acted_tells s me Getsid (λ r. r.session) (named me (argument me 1) s.processes)
+
+-- a process moves to another group, or doesn't
+acted_move : (s : State) (me : Process) (target : Option Process) (what : Result ℕ Errno) → ActedIf me.pid s (setpgid_with s me target what)
+acted_move s me target (Err why) = stays me.pid s _ refl refl refl
+acted_move s me None (Ok group) = stays me.pid s _ refl refl refl
+acted_move s me (Some r) (Ok group) = stays me.pid s _ refl refl refl
+
+acted_move_to : (s : State) (me : Process) (target : Option Process) (z : ℤ) → ActedIf me.pid s (setpgid_to s me target z)
+acted_move_to s me target (pos group) = acted_move s me target (move_of me target group s.processes)
+acted_move_to s me target (negsuc n) = stays me.pid s _ refl refl refl
+
+acted_setpgid : (s : State) (me : Process) → ActedIf me.pid s (setpgid s me)
+unfolding setpgid
+acted_setpgid s me = acted_move_to s me (named me (argument me 1) s.processes) (argument me 2)
+
+acted_setsid : (s : State) (me : Process) → ActedIf me.pid s (setsid s me)
+unfolding setsid
+acted_setsid s me = acted_if me.pid s (me.group == me.pid || is_group_of_others me s.processes) _ _ (stays me.pid s _ refl refl refl) (stays me.pid s _ refl refl refl)
+
 -- each call
 acted_attempt : (granted : Bool) (s : State) (me : Process) (call : Call) → ActedIf me.pid s (attempt granted s me call)
 unfolding attempt
@@ -213,6 +259,11 @@ acted_attempt granted s me Sigpending = acted_answers s me.pid Sigpending (sigpe
 acted_attempt granted s me Sigsuspend = tt
 acted_attempt granted s me Sigreturn = acted_return s me
 acted_attempt granted s me Alarm = acted_answers s me.pid Alarm (alarm s me)
+acted_attempt granted s me Exec = acted_exec s me
+acted_attempt granted s me Getpgid = acted_getpgid s me
+acted_attempt granted s me Getsid = acted_getsid s me
+acted_attempt granted s me Setpgid = acted_setpgid s me
+acted_attempt granted s me Setsid = acted_setsid s me
 
 -- each call afresh
 acted_again : (s : State) (me : Process) (b : Blocked) → ActedIf me.pid s (attempt_again s me b)

@@ -2,8 +2,10 @@ pub mod MemberLemmas
 pub mod TableLemmas
 pub mod WalkLemmas
 pub mod MapLemmas
+pub mod GroupedLemmas
 pub mod RegularLemmas
 pub mod ChangeLemmas
+pub mod GroupLemmas
 pub mod WaitLemmas
 pub mod ReportingLemmas
 pub mod ReportLemmas
@@ -12,6 +14,7 @@ pub mod SeeLemmas
 pub mod SettleLemmas
 pub mod NoticeLemmas
 pub mod ActLemmas
+pub mod PassingLemmas
 pub mod CountLemmas
 pub mod RangeLemmas
 pub mod NextLemmas
@@ -19,3 +22,7 @@ pub mod WakeLemmas
 pub mod UnseenLemmas
 pub mod TouchLemmas
 pub mod NewsLemmas
+pub mod RouseLemmas
+pub mod OrphanLemmas
+pub mod MoveLemmas
+pub mod QuietLemmas

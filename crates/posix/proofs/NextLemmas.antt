@@ -1,10 +1,12 @@
 -- The number of the next process.
-use Rattle.std.proofs.Common.{◌≡◌, ℕ, zero, suc, ◌+◌, ◌-◌, ◌≤◌, Bool, true, false, cond, refl, ap, ◌∙◌, sym, arith, subst, List, [], ◌∷◌, find, Some, None}
+use Rattle.std.proofs.Common.{◌≡◌, ◌≢◌, ◌==◌, ℕ, zero, suc, ◌+◌, ◌-◌, ◌≤◌, Bool, true, false, cond, refl, ap, ◌∙◌, sym, arith, subst, List, [], ◌∷◌, find, Some, None}
 use Rattle.std.specs.List.{range_with_len}
+use Rattle.std.proofs.lemmas.Bool.{eq-eqb}
 use Rattle.posix.specs.Processes.{Process}
-use Rattle.posix.specs.Tables.{lookup}
+use Rattle.posix.specs.Tables.{lookup, bears}
 use Rattle.posix.specs.States.{State, next_pid}
 use Rattle.posix.specs.NextPid.{is_free, first_free, or_else, next_free}
+use Rattle.posix.proofs.TableLemmas.{none_found}
 
 -- a number that was found from low up to high
 record Found (f : ℕ → Bool) (low high k : ℕ) : Type 0 where
@@ -35,14 +37,23 @@ unfolding is_free lookup
 free_none n [] e = refl
 free_none n (r ∷ rs) e = grind (arith, free_none n rs)
 
--- a number from 1 up to pidmax that nobody has
+-- nor is anybody in a group with it
+free_group : (n : ℕ) (rs : List Process) → is_free rs n ≡ true → (p : ℕ) (r : Process) → lookup p rs ≡ Some r → r.group ≢ n
+unfolding is_free
+free_group n rs e p r found same =
+    let no : bears n r ≡ false = none_found (bears n) rs (grind (arith, e)) p r found in
+    let is : (r.group == n) ≡ true = eq-eqb r.group n same in
+    absurd (grind (arith, no, is))
+
+-- a number from 1 up to pidmax that nobody has, as its own or as its group's
 pub record IsNew (rs : List Process) (pidmax n : ℕ) : Type 0 where
   pub least : 1 ≤ n
   pub greatest : n ≤ pidmax
   pub fresh : lookup n rs ≡ None
+  pub groupless : (p : ℕ) (r : Process) → lookup p rs ≡ Some r → r.group ≢ n
 
 -- the number of the next process is one
 pub new_number : (s : State) (n : ℕ) → next_pid s ≡ Some n → IsNew s.processes s.world.pidmax n
 new_number s n e =
     let f = next_found (is_free s.processes) s.last_pid s.world.pidmax n e in
-    record { least = f.least; greatest = f.greatest; fresh = free_none n s.processes f.free }
+    record { least = f.least; greatest = f.greatest; fresh = free_none n s.processes f.free; groupless = free_group n s.processes f.free }

@@ -1,8 +1,8 @@
--- Notices of ends change the records, and the count of those dropped without a report, and nothing else of a state.
+-- Notices of ends, and what they are followed by, change the records, and the count of those dropped without a report, and nothing else of a state.
 use Rattle.std.proofs.Common.{◌≡◌, ℕ, true, false, cond, refl, ap, ◌∙◌, List, [], ◌∷◌, ◌==◌}
 use Rattle.posix.specs.Processes.{Process}
 use Rattle.posix.specs.States.{State, change}
-use Rattle.posix.specs.Ends.{is_dropping, drop_child, notice_of_end, status_of, zombies_of, tell_of_all, halt, depart, end_with_heir}
+use Rattle.posix.specs.Ends.{is_dropping, drop_child, notice_of_end, status_of, zombies_of, tell_of_all, rouse_orphans, halt, depart, end_with_heir}
 use Rattle.posix.specs.Notices.{noticed, child_signal}
 
 -- only the records, and the count of those dropped, may have changed
@@ -37,4 +37,6 @@ pub end_other : (s : State) (r : Process) (heir status : ℕ) → (r.pid == 1) �
 end_other s r heir status t =
     let gone = depart s r.pid heir status in
     let told = tell_of_all gone heir (zombies_of r.pid s.processes) in
-    rw t (only_after gone told (notice_of_end told r.parent r.pid status) (only_told gone heir (zombies_of r.pid s.processes)) (only_notice told r.parent r.pid status))
+    let roused = rouse_orphans s.processes told in
+    let before = only_after gone told roused (only_told gone heir (zombies_of r.pid s.processes)) refl in
+    rw t (only_after gone roused (notice_of_end roused r.parent r.pid status) before (only_notice roused r.parent r.pid status))

@@ -69,6 +69,7 @@ regular_placed p s i h e = record {
   distinct = distinct_last p s.order i.distinct e;
   childless = i.childless;
   alarms = i.alarms;
+  grouped = i.grouped;
 }
 
 -- p, which has a place, goes last

@@ -6,7 +6,7 @@ use Rattle.posix.specs.declared.process.PendingSignal.{PendingSignal}
 use Rattle.posix.specs.Processes.{Process, Cpu, is_zombie, first_process}
 use Rattle.posix.specs.Tables.{IsRising, lookup, at, changed, inserted, removed, children_in, reparented, adopted}
 use Rattle.posix.specs.States.{World, State, boot, is_in, without, change, lose_place}
-use Rattle.posix.specs.Regular.{IsRegular, IsBounded, IsPlaced, CanInherit, IsDistinct, IsAhead}
+use Rattle.posix.specs.Regular.{IsRegular, IsBounded, IsPlaced, CanInherit, IsDistinct, IsAhead, AreGrouped}
 use Rattle.posix.specs.Generation.{signalled}
 use Rattle.posix.specs.Handlers.{handles, is_full}
 use Rattle.posix.specs.Ends.{ended, made_zombie, halt, depart}
@@ -18,6 +18,8 @@ use Rattle.posix.specs.Alarms.{most_ticks, due_in, is_due, ring_at, rung, with_a
 use Rattle.posix.proofs.MemberLemmas.{in_without, is_other}
 use Rattle.posix.proofs.TableLemmas.{rising_map, rising_changed, rising_adopted, rising_inserted, rising_removed, pid_reparented, pid_looked}
 use Rattle.posix.proofs.WalkLemmas.{children_removed}
+use Rattle.posix.proofs.NextLemmas.{IsNew}
+use Rattle.posix.proofs.GroupedLemmas.{FitsIn, grouped_left, grouped_map, grouped_with}
 use Rattle.posix.proofs.MapLemmas.{at_pid, at_keeps, lookup_back, lookup_on, adopted_changed, children_map, children_adopted, children_elsewhere}
 
 -- a change that keeps all that a regular state asks of a record, at this tick
@@ -73,6 +75,7 @@ regular_as s t w p o k i = record {
   distinct = rw o i.distinct;
   childless = rw p i.childless;
   alarms = rw (p, k) i.alarms;
+  grouped = rw p i.grouped;
 }
 
 -- who is placed has a number from 1 on
@@ -100,6 +103,7 @@ regular_map g s k i = record {
   alarms = λ p r e.
       let b = lookup_back g k.pid p s.processes r e in
       subst (λ (r : Process). IsAhead s.ticks r.alarm) (sym b.is) (k.alarm b.what (i.alarms p b.what b.found));
+  grouped = grouped_map g k.pid k.group k.session s.processes i.grouped;
 }
 
 -- or of one
@@ -125,6 +129,7 @@ regular_lose p s i = record {
   distinct = distinct_without p s.order i.distinct;
   childless = i.childless;
   alarms = i.alarms;
+  grouped = i.grouped;
 }
 
 -- ---- ends
@@ -146,6 +151,51 @@ other_back p q f k ne rs r e =
     let away : (b.what.pid == p) ≡ false = ne_eqb _ _ (λ x. ne (sym named ∙ x)) in
     let same : r ≡ b.what = b.is ∙ rw away refl in
     b.found ∙ ap Some (sym same)
+
+-- A change of one process that may give it another group and session, within their range, and keeps the rest.
+pub record Moves (now : ℕ) (g : Process → Process) : Type 0 where
+  pub pid : (r : Process) → (g r).pid ≡ r.pid
+  pub parent : (r : Process) → (g r).parent ≡ r.parent
+  pub zombie : (r : Process) → is_zombie (g r).life ≡ is_zombie r.life
+  pub alarm : (r : Process) → IsAhead now r.alarm → IsAhead now (g r).alarm
+
+-- Groups stay in one session where a process is changed and fits in.
+grouped_changed : (p : ℕ) (f : Process → Process) → ((r : Process) → (f r).pid ≡ r.pid) → (rs : List Process) (me : Process) → lookup p rs ≡ Some me → FitsIn rs p (f me) → AreGrouped rs → AreGrouped (changed p f rs)
+unfolding changed
+grouped_changed p f k rs me found fits h =
+    let itself : (me.pid == p) ≡ true = eq-eqb me.pid p (pid_looked p rs me found) in
+    let now = lookup_on (at p f) (at_pid p f k) p rs me found ∙ ap Some (rw itself refl) in
+    grouped_with rs (changed p f rs) p (f me) now (λ q t away e. other_back p q f k away rs t e) fits h
+
+-- a state stays regular where a process is changed so, and fits in with the others
+pub regular_moved : (p : ℕ) (f : Process → Process) (s : State) (me : Process) → lookup p s.processes ≡ Some me → Moves s.ticks f → IsBounded s.world.pidmax (f me) → FitsIn s.processes p (f me) → IsRegular s → IsRegular (change s p f)
+unfolding changed
+regular_moved p f s me found k bounds fits i = record {
+  rising = rising_changed p f k.pid s.processes i.rising;
+  bounded = λ q r e.
+      let b = lookup_back (at p f) (at_pid p f k.pid) q s.processes r e in
+      elim (cases_eq q p) [
+        | inl same ↦
+            let named : b.what.pid ≡ p = pid_looked q s.processes b.what b.found ∙ same in
+            let it : (b.what.pid == p) ≡ true = eq-eqb b.what.pid p named in
+            let is : r ≡ f b.what = b.is ∙ rw it refl in
+            let one : me ≡ b.what = let both = sym found ∙ ap (λ n. lookup n s.processes) (sym same) ∙ b.found in cc in
+            subst (IsBounded s.world.pidmax) (ap f one ∙ sym is) bounds
+        | inr away ↦ i.bounded q r (other_back p q f k.pid away s.processes r e)
+      ];
+  first = record { what = at p f i.first.what; found = lookup_on (at p f) (at_pid p f k.pid) 1 s.processes i.first.what i.first.found; parent = at_keeps (λ q. q.parent) p f k.parent i.first.what ∙ i.first.parent };
+  placed = λ q e. let o = i.placed q e in record { what = at p f o.what; found = lookup_on (at p f) (at_pid p f k.pid) q s.processes o.what o.found; living = at_keeps (λ q. is_zombie q.life) p f k.zombie o.what ∙ o.living };
+  distinct = i.distinct;
+  childless = λ q r ne e z.
+      let b = lookup_back (at p f) (at_pid p f k.pid) q s.processes r e in
+      let old : is_zombie b.what.life ≡ true = sym (at_keeps (λ q. is_zombie q.life) p f k.zombie b.what) ∙ ap (λ (r : Process). is_zombie r.life) (sym b.is) ∙ z in
+      children_map (at p f) (at_keeps (λ q. q.parent) p f k.parent) q s.processes ∙ ap (map (at p f)) (i.childless q b.what ne b.found old);
+  alarms = λ q r e.
+      let b = lookup_back (at p f) (at_pid p f k.pid) q s.processes r e in
+      subst (λ (r : Process). IsAhead s.ticks r.alarm) (sym b.is)
+      (cond_both (b.what.pid == p) (f b.what) b.what (λ r. IsAhead s.ticks r.alarm) (λ x. k.alarm b.what (i.alarms q b.what b.found)) (λ x. i.alarms q b.what b.found));
+  grouped = grouped_changed p f k.pid s.processes me found fits i.grouped;
+}
 
 -- A process that is changed, to a zombie say, and loses its place: all others are as they were.
 pub regular_leave : (p : ℕ) (f : Process → Process) → ((r : Process) → (f r).pid ≡ r.pid) → ((r : Process) → (f r).parent ≡ r.parent)
@@ -172,6 +222,7 @@ regular_leave p f kp kq kg ks s ka i none = record {
       let b = lookup_back (at p f) (at_pid p f kp) q s.processes r e in
       subst (λ (r : Process). IsAhead s.ticks r.alarm) (sym b.is)
       (cond_both (b.what.pid == p) (f b.what) b.what (λ r. IsAhead s.ticks r.alarm) (λ x. ka b.what (i.alarms q b.what b.found)) (λ x. i.alarms q b.what b.found));
+  grouped = grouped_map (at p f) (at_pid p f kp) (at_keeps (λ q. q.group) p f kg) (at_keeps (λ q. q.session) p f ks) s.processes i.grouped;
 }
 
 -- an heir of p is another
@@ -223,6 +274,7 @@ regular_adopted p heir least s i h = record {
   alarms = λ q r e.
       let b = lookup_back (reparented p heir) (pid_reparented p heir) q s.processes r e in
       subst (λ (r : Process). IsAhead s.ticks r.alarm) (sym b.is) (subst (IsAhead s.ticks) (sym (alarm_reparented b.what)) (i.alarms q b.what b.found));
+  grouped = grouped_map (reparented p heir) (pid_reparented p heir) group_reparented session_reparented s.processes i.grouped;
 }
   where
     group_reparented : (r : Process) → (reparented p heir r).group ≡ r.group
@@ -283,15 +335,16 @@ unfolding children_in inserted
 children_inserted new q [] ne = rw (ne_eqb new.parent q ne) refl
 children_inserted new q (r ∷ rs) ne = grind (arith, ne, children_inserted new q rs ne, eqb-true, eqb-false)
 
--- A living record that is new goes in, with a parent that is living, and the other counts may change.
-pub regular_inserted : (new : Process) (last births : ℕ) (s : State) → IsRegular s → lookup new.pid s.processes ≡ None → IsBounded s.world.pidmax new → is_zombie new.life ≡ false → new.alarm ≡ None
-    → (me : Process) → lookup new.parent s.processes ≡ Some me → is_zombie me.life ≡ false
+-- A living record with a new number goes in, in the group and session of its parent, which is living; the other
+-- counts may change.
+pub regular_inserted : (new : Process) (last births : ℕ) (s : State) → IsRegular s → IsNew s.processes s.world.pidmax new.pid → is_zombie new.life ≡ false → new.alarm ≡ None
+    → (me : Process) → lookup new.parent s.processes ≡ Some me → is_zombie me.life ≡ false → new.group ≡ me.group → new.session ≡ me.session
     → IsRegular (record s { processes = inserted new s.processes; last_pid = last; births = births })
-regular_inserted new last births s i fresh bounds living silent me there up = record {
-  rising = rising_inserted new s.processes i.rising fresh;
+regular_inserted new last births s i number living silent me there up group session = record {
+  rising = rising_inserted new s.processes i.rising number.fresh;
   bounded = λ q r e. elim (cases_eq q new.pid) [
     | inl same ↦
-        let one : new ≡ r = let both = sym (lookup_new new s.processes fresh) ∙ ap (λ n. lookup n (inserted new s.processes)) (sym same) ∙ e in cc in
+        let one : new ≡ r = let both = sym (lookup_new new s.processes number.fresh) ∙ ap (λ n. lookup n (inserted new s.processes)) (sym same) ∙ e in cc in
         subst (IsBounded s.world.pidmax) one bounds
     | inr away ↦ i.bounded q r (sym (lookup_inserted new q s.processes away) ∙ e)
   ];
@@ -300,7 +353,7 @@ regular_inserted new last births s i fresh bounds living silent me there up = re
   distinct = i.distinct;
   childless = λ q r ne e z. elim (cases_eq q new.pid) [
     | inl same ↦
-        let one : new ≡ r = let both = sym (lookup_new new s.processes fresh) ∙ ap (λ n. lookup n (inserted new s.processes)) (sym same) ∙ e in cc in
+        let one : new ≡ r = let both = sym (lookup_new new s.processes number.fresh) ∙ ap (λ n. lookup n (inserted new s.processes)) (sym same) ∙ e in cc in
         let both : false ≡ true = sym living ∙ ap (λ (r : Process). is_zombie r.life) one ∙ z in
         absurd (cc)
     | inr away ↦
@@ -312,15 +365,27 @@ regular_inserted new last births s i fresh bounds living silent me there up = re
   ];
   alarms = λ q r e. elim (cases_eq q new.pid) [
     | inl same ↦
-        let one : new ≡ r = let both = sym (lookup_new new s.processes fresh) ∙ ap (λ n. lookup n (inserted new s.processes)) (sym same) ∙ e in cc in
+        let one : new ≡ r = let both = sym (lookup_new new s.processes number.fresh) ∙ ap (λ n. lookup n (inserted new s.processes)) (sym same) ∙ e in cc in
         subst (λ (r : Process). IsAhead s.ticks r.alarm) one (subst (IsAhead s.ticks) (sym silent) tt)
     | inr away ↦ i.alarms q r (sym (lookup_inserted new q s.processes away) ∙ e)
   ];
+  grouped = grouped_with s.processes (inserted new s.processes) new.pid new (lookup_new new s.processes number.fresh)
+      (λ q t away e. sym (lookup_inserted new q s.processes away) ∙ e) fits i.grouped;
 }
   where
+    bounds : IsBounded s.world.pidmax new
+    bounds = let b = i.bounded new.parent me there in record { least = number.least; pid = number.greatest; group = omega (arith, b.group, group); session = omega (arith, b.session, session) }
+
+    fits : FitsIn s.processes new.pid new
+    fits = record {
+      one = λ q t away e same. i.grouped.one q new.parent t me e there (same ∙ group) ∙ sym session;
+      own = λ q t away e same. absurd (number.groupless q t e same);
+      leader = λ q t away e same. session ∙ i.grouped.own q new.parent t me e there (sym group ∙ same);
+    }
+
     -- who was there is there
     still : (q : ℕ) (r : Process) → lookup q s.processes ≡ Some r → lookup q (inserted new s.processes) ≡ Some r
-    still q r e = lookup_inserted new q s.processes (λ x. let both = sym e ∙ ap (λ n. lookup n s.processes) x ∙ fresh in absurd (cc)) ∙ e
+    still q r e = lookup_inserted new q s.processes (λ x. let both = sym e ∙ ap (λ n. lookup n s.processes) x ∙ number.fresh in absurd (cc)) ∙ e
 
 -- the record of another process stays where one is removed
 pub lookup_kept : (p q : ℕ) (rs : List Process) → q ≢ p → lookup q (removed p rs) ≡ lookup q rs
@@ -360,6 +425,7 @@ regular_removed p zombie s i other there dead = record {
   distinct = i.distinct;
   childless = λ q r ne e z. children_removed q p s.processes ∙ ap (removed p) (i.childless q r ne (lookup_left p q s.processes r e) z);
   alarms = λ q r e. i.alarms q r (lookup_left p q s.processes r e);
+  grouped = grouped_left s.processes (removed p s.processes) (λ q t e. lookup_left p q s.processes t e) i.grouped;
 }
 
 -- ---- changes that keep
@@ -436,6 +502,7 @@ regular_pass s i =
       alarms = λ p r e.
           let b = lookup_back (ring_at (s.ticks + 1)) k.pid p s.processes r e in
           subst (λ (r : Process). IsAhead (s.ticks + 1) r.alarm) (sym b.is) (later s.ticks b.what (i.alarms p b.what b.found));
+      grouped = m.grouped;
     }
 
 -- ---- the start
@@ -445,7 +512,7 @@ pub regular_first : (w : World) → 1 ≤ w.pidmax → IsRegular (boot w)
 unfolding lookup IsRising children_in is_in IsDistinct
 regular_first w most = record {
   rising = (tt, tt);
-  bounded = λ p r e. one p r e;
+  bounded = λ p r e. subst (IsBounded w.pidmax) (alone p r e) (record { least = omega arith; pid = omega (arith, most); group = omega (arith, most); session = omega (arith, most) });
   first = record { what = first_process; found = refl; parent = refl };
   placed = λ p e. elim (p == 1) as (λ b. (p == 1) ≡ b → IsPlaced (first_process ∷ []) p) [
     | true ↦ λ t. subst (IsPlaced (first_process ∷ [])) (sym (eqb-true _ _ t)) (record { what = first_process; found = refl; living = refl })
@@ -456,17 +523,12 @@ regular_first w most = record {
     | true ↦ λ t k. absurd (ne (sym (eqb-true _ _ t)))
     | false ↦ λ t k. absurd (cc)
   ] refl e;
-  alarms = λ p r e. silent p r e;
+  alarms = λ p r e. subst (λ (r : Process). IsAhead 0 r.alarm) (alone p r e) tt;
+  grouped = record {
+    one = λ p q r t e f same. ap (λ (r : Process). r.session) (sym (alone p r e) ∙ alone q t f);
+    own = λ p q r t e f same. ap (λ (r : Process). r.session) (sym (alone q t f) ∙ alone p r e);
+  };
 }
   where
-    silent : (p : ℕ) (r : Process) → cond (1 == p) (Some first_process) None ≡ Some r → IsAhead 0 r.alarm
-    silent p r e = elim (1 == p) as (λ b. cond b (Some first_process) None ≡ Some r → IsAhead 0 r.alarm) [
-      | true ↦ λ k. subst (λ (r : Process). IsAhead 0 r.alarm) (let same : first_process ≡ r = cc in same) tt
-      | false ↦ λ k. absurd (cc)
-    ] e
-
-    one : (p : ℕ) (r : Process) → cond (1 == p) (Some first_process) None ≡ Some r → IsBounded w.pidmax r
-    one p r e = elim (1 == p) as (λ b. cond b (Some first_process) None ≡ Some r → IsBounded w.pidmax r) [
-      | true ↦ λ k. subst (IsBounded w.pidmax) (let same : first_process ≡ r = cc in same) (record { least = omega arith; pid = omega (arith, most); group = omega (arith, most); session = omega (arith, most) })
-      | false ↦ λ k. absurd (cc)
-    ] e
+    alone : (p : ℕ) (r : Process) → cond (1 == p) (Some first_process) None ≡ Some r → first_process ≡ r
+    alone p r e = elim (1 == p) as (λ b. cond b (Some first_process) None ≡ Some r → first_process ≡ r) [ true ↦ λ k. cc | false ↦ λ k. absurd (cc) ] e

@@ -1,6 +1,6 @@
 -- Facts on the table of processes as a list in rising pid order.
 use Rattle.std.proofs.Common.{◌≡◌, ℕ, zero, suc, ◌<◌, Bool, true, false, cond, refl, arith, subst, List, [], ◌∷◌, map, filter, slice_get, slice_set, Some, None, option_map, ◌==◌, nat_lt}
-use Rattle.std.specs.List.{AllByRecursion}
+use Rattle.std.specs.List.{AllByRecursion, list_any}
 use Rattle.std.proofs.lemmas.Bool.{eqb-true, eqb-false, eq-eqb, ne_eqb}
 use Rattle.std.proofs.lemmas.Bool.Decides.{nat_tests}
 use Rattle.posix.specs.Processes.{Process}
@@ -153,3 +153,9 @@ pub pid_looked : (p : ℕ) (rs : List Process) (r : Process) → lookup p rs ≡
 unfolding lookup
 pid_looked p [] r e = absurd (cc)
 pid_looked p (x ∷ rs) r e = grind (arith, pid_looked p rs r, eqb-true x.pid p)
+
+-- where nobody passes a test, nobody who is found does
+pub none_found : (t : Process → Bool) (rs : List Process) → list_any t rs ≡ false → (p : ℕ) (r : Process) → lookup p rs ≡ Some r → t r ≡ false
+unfolding lookup
+none_found t [] none p r e = absurd (cc)
+none_found t (x ∷ xs) none p r e = grind (arith, none, e, none_found t xs)

@@ -1,13 +1,14 @@
 -- Processes of a table in rising order, and children, read off one after another.
-use Rattle.std.proofs.Common.{◌≡◌, ℕ, ◌<◌, ◌≤◌, Bool, true, false, not, ◌&&◌, cond, refl, ap, sym, ◌∙◌, arith, subst, List, [], ◌∷◌, ◌++◌, filter, find, Option, Some, None, ◌==◌, ◌-◌, nat_lt, nat_le, inl, inr}
-use Rattle.std.specs.List.{AllByRecursion}
+use Rattle.std.proofs.Common.{◌≡◌, ℕ, ◌<◌, ◌≤◌, Bool, true, false, not, ◌&&◌, ◌||◌, cond, refl, ap, sym, ◌∙◌, arith, subst, List, [], ◌∷◌, ◌++◌, filter, find, Option, Some, None, ◌==◌, ◌-◌, nat_lt, nat_le, inl, inr}
+use Rattle.std.specs.List.{AllByRecursion, list_any}
 use Rattle.std.specs.Option.{IfSome, IsSome}
 use Rattle.std.proofs.lemmas.List.Elements.{filter-append}
-use Rattle.std.proofs.lemmas.Bool.{eqb-true, eq-eqb, ne_eqb, ltb-true, ltb-false, cases_order, and_parts}
+use Rattle.std.proofs.lemmas.Bool.{eqb-true, eq-eqb, ne_eqb, ltb-true, ltb-false, cases_order, and_parts, or_cases}
 use Rattle.std.proofs.lemmas.Bool.Decides.{nat_tests}
 use Rattle.std.proofs.lemmas.Option.{IfSome_then}
 use Rattle.posix.specs.Processes.{Process}
-use Rattle.posix.specs.Tables.{IsRising, IsNext, has_pid, lookup, removed, is_child, children_in, first_pid, above, next_above, left_of, parent_of, next_sibling}
+use Rattle.posix.specs.Tables.{IsRising, IsNext, has_pid, lookup, pids, removed, is_child, children_in, first_pid, above, next_above, left_of, parent_of, next_sibling}
+use Rattle.posix.specs.States.{is_in}
 use Rattle.posix.proofs.TableLemmas.{Above, above_less, lookup_above, pid_looked, rising_filter}
 
 -- of a list above n, all lie above n
@@ -167,6 +168,38 @@ all_looked P (x ∷ xs) up h = (
     | false ↦ λ t. e
   ] refl)),
 )
+
+-- who passes a test is one that does
+pub any_looked : (t : Process → Bool) (p : ℕ) (rs : List Process) (r : Process) → lookup p rs ≡ Some r → t r ≡ true → list_any t rs ≡ true
+unfolding lookup
+any_looked t p [] r e k = absurd (cc)
+any_looked t p (x ∷ xs) r e k = grind (arith, e, k, any_looked t p xs r)
+
+-- and where one does, one that does is there
+pub some_looked : (t : Process → Bool) (rs : List Process) → IsRising rs → list_any t rs ≡ true → (r : Process) × (lookup r.pid rs ≡ Some r) × (t r ≡ true)
+unfolding lookup IsRising
+some_looked t [] up e = absurd (cc)
+some_looked t (x ∷ xs) up e = elim (or_cases (t x) _ e) [
+  | inl k ↦ (x, rw (eq-eqb x.pid x.pid refl) refl, k)
+  | inr k ↦
+      let i = some_looked t xs up.1 k in
+      let low = found_above x.pid i.0.pid xs i.0 up.0 i.1 in
+      (i.0, rw (ne_eqb x.pid i.0.pid (λ s. omega (arith, low, s))) i.1, i.2)
+]
+
+-- where one of those that pass a test passes another, one passes both
+pub any_filter : (t u : Process → Bool) (rs : List Process) → list_any u (filter t rs) ≡ list_any (λ r. t r && u r) rs
+any_filter t u [] = refl
+any_filter t u (x ∷ xs) = grind (arith, any_filter t u xs)
+
+-- whose number is among those of processes is found there
+pub pid_found : (q : ℕ) (rs : List Process) → is_in q (pids rs) ≡ true → (r : Process) × (lookup q rs ≡ Some r)
+unfolding is_in lookup
+pid_found q [] e = absurd (cc)
+pid_found q (r ∷ rs) e = elim (r.pid == q) as (λ b. (b || is_in q (pids rs)) ≡ true → (x : Process) × (cond b (Some r) (lookup q rs) ≡ Some x)) [
+  | true ↦ λ k. (r, refl)
+  | false ↦ λ k. pid_found q rs k
+] e
 
 -- those with the number p: one, or none
 abbrev pub numbered : ℕ → List Process → List Process

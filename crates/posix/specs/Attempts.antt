@@ -1,7 +1,7 @@
 -- Attempts of system calls.
 use Rattle.std.specs.Prelude.{Bool, pos}
 use Rattle.posix.specs.declared.call.Call.{Call}
-use Rattle.posix.specs.declared.call.Call.TheVariants.{Exit, Fork, Waitpid, Pause, SchedYield, Getpid, Getppid, Getuid, Geteuid, Getgid, Getegid, Setuid, Seteuid, Setgid, Setegid, Kill, Sigaction, Sigprocmask, Sigpending, Sigsuspend, Sigreturn, Alarm}
+use Rattle.posix.specs.declared.call.Call.TheVariants.{Exit, Fork, Waitpid, Pause, SchedYield, Getpid, Getppid, Getuid, Geteuid, Getgid, Getegid, Setuid, Seteuid, Setgid, Setegid, Kill, Sigaction, Sigprocmask, Sigpending, Sigsuspend, Sigreturn, Alarm, Exec, Getpgid, Getsid, Setpgid, Setsid}
 use Rattle.posix.specs.declared.process.Blocked.{Blocked}
 use Rattle.posix.specs.declared.process.Blocked.TheVariants as blocked
 use Rattle.posix.specs.Statuses.{exited}
@@ -15,6 +15,8 @@ use Rattle.posix.specs.Credentials.{setuid, seteuid, setgid, setegid}
 use Rattle.posix.specs.Delivery.{return_from_handler}
 use Rattle.posix.specs.Sends.{kill}
 use Rattle.posix.specs.Alarms.{alarm}
+use Rattle.posix.specs.Programs.{exec}
+use Rattle.posix.specs.GroupCalls.{getpgid, getsid, setpgid, setsid}
 use Rattle.posix.specs.SignalCalls.{set_credentials, sigaction, sigprocmask, sigpending}
 
 -- What each call does, XSH under its name. Whether the host grants memory matters where a call needs
@@ -42,8 +44,13 @@ attempt granted s me Sigpending = answers s me.pid Sigpending (sigpending me)
 attempt granted s me Sigsuspend = Block (blocked.Sigsuspend me.signals.mask)
 attempt granted s me Sigreturn = Done (return_from_handler s me)
 attempt granted s me Alarm = answers s me.pid Alarm (alarm s me)
+attempt granted s me Exec = exec s me
+attempt granted s me Getpgid = getpgid s me
+attempt granted s me Getsid = getsid s me
+attempt granted s me Setpgid = setpgid s me
+attempt granted s me Setsid = setsid s me
 
--- the call that a process is blocked in, attempted afresh
+-- the call that a process is blocked in, attempted afresh; in Linux a child that changes its group wakes no waiting parent
 unfoldable pub attempt_again : State → Process → Blocked → Attempted
 attempt_again s me blocked.Waitpid = wait s me
 attempt_again s me blocked.Pause = Block blocked.Pause

@@ -1,7 +1,7 @@
 -- System calls by their names.
 use Rattle.std.specs.Prelude.{ℕ, List, [], ◌∷◌, codes, Option, find, bytes_eq}
 use Rattle.posix.specs.declared.call.Call.{Call}
-use Rattle.posix.specs.declared.call.Call.TheVariants.{Exit, Fork, Waitpid, Pause, SchedYield, Getpid, Getppid, Getuid, Geteuid, Getgid, Getegid, Setuid, Seteuid, Setgid, Setegid, Kill, Sigaction, Sigprocmask, Sigpending, Sigsuspend, Sigreturn, Alarm}
+use Rattle.posix.specs.declared.call.Call.TheVariants.{Exit, Fork, Waitpid, Pause, SchedYield, Getpid, Getppid, Getuid, Geteuid, Getgid, Getegid, Setuid, Seteuid, Setgid, Setegid, Kill, Sigaction, Sigprocmask, Sigpending, Sigsuspend, Sigreturn, Alarm, Exec, Getpgid, Getsid, Setpgid, Setsid}
 
 -- how a call is written, in world texts and in traces
 abbrev pub call_text : Call → List ℕ
@@ -27,12 +27,18 @@ call_text Sigpending = codes "sigpending"
 call_text Sigsuspend = codes "sigsuspend"
 call_text Sigreturn = codes "sigreturn"
 call_text Alarm = codes "alarm"
+call_text Exec = codes "exec"
+call_text Getpgid = codes "getpgid"
+call_text Getsid = codes "getsid"
+call_text Setpgid = codes "setpgid"
+call_text Setsid = codes "setsid"
 
 -- all calls, for looking one up
 abbrev pub all_calls : List Call
 all_calls = Exit ∷ Fork ∷ Waitpid ∷ Pause ∷ SchedYield ∷ Getpid ∷ Getppid
     ∷ Getuid ∷ Geteuid ∷ Getgid ∷ Getegid ∷ Setuid ∷ Seteuid ∷ Setgid ∷ Setegid
-    ∷ Kill ∷ Sigaction ∷ Sigprocmask ∷ Sigpending ∷ Sigsuspend ∷ Sigreturn ∷ Alarm ∷ []
+    ∷ Kill ∷ Sigaction ∷ Sigprocmask ∷ Sigpending ∷ Sigsuspend ∷ Sigreturn ∷ Alarm
+    ∷ Exec ∷ Getpgid ∷ Getsid ∷ Setpgid ∷ Setsid ∷ []
 
 -- the call that a word names
 abbrev pub call_named : List ℕ → Option Call

@@ -5,13 +5,16 @@ use Rattle.posix.specs.declared.entry.Entry.TheVariants.{Ended, Halted}
 use Rattle.posix.specs.declared.process.Life.{Life}
 use Rattle.posix.specs.declared.process.Life.TheVariants.{Running, Stopped, Zombie}
 use Rattle.posix.specs.declared.process.News.TheVariants as news
-use Rattle.posix.specs.SignalNumbers.{CHLD}
+use Rattle.posix.specs.declared.process.PendingSignal.{PendingSignal}
+use Rattle.posix.specs.SignalNumbers.{HUP, CHLD, CONT}
 use Rattle.posix.specs.Processes.{Process, Signals, nothing_pending, is_zombie}
-use Rattle.posix.specs.Tables.{lookup, changed, removed, adopted, children_in}
+use Rattle.posix.specs.Tables.{lookup, pids, changed, removed, adopted, children_in, members_in}
 use Rattle.posix.specs.States.{State, change, without, lose_place}
 use Rattle.posix.specs.Outcomes.{Outcome}
 use Rattle.posix.specs.Generation.{action, has_flag, SA_NOCLDWAIT}
-use Rattle.posix.specs.Notices.{child_signal, ignores_children, noticed}
+use Rattle.posix.specs.Choice.{from_kernel}
+use Rattle.posix.specs.Notices.{child_signal, ignores_children, noticed, signalled_all}
+use Rattle.posix.specs.Groups.{newly_orphaned}
 
 -- it has ended, and keeps all else
 unfoldable pub ended : ℕ → Process → Process
@@ -74,15 +77,35 @@ unfoldable pub tell_of_all : State → ℕ → List Process → State
 tell_of_all s heir [] = s
 tell_of_all s heir (r ∷ rs) = tell_of_all (notice_of_end s heir r.pid (status_of r.life)) heir rs
 
+-- ---- process groups that it orphans
+
+-- a signal is generated for each member of a process group, zombies included, in rising order
+unfoldable pub signalled_members : PendingSignal → ℕ → List Process → List Process
+signalled_members signal group rs = signalled_all signal (pids (members_in group rs)) rs
+
+-- HUP to each member of a process group, then CONT to each, XSH _exit
+abbrev pub roused : ℕ → List Process → List Process
+roused group rs = signalled_members (record { sig = CONT; carried = from_kernel }) group (signalled_members (record { sig = HUP; carried = from_kernel }) group rs)
+
+-- to those of each of several groups, one after another
+unfoldable pub roused_all : List ℕ → List Process → List Process
+roused_all [] rs = rs
+roused_all (g ∷ gs) rs = roused_all gs (roused g rs)
+
+-- to those of the groups that have become orphaned and have a stopped member
+abbrev pub rouse_orphans : List Process → State → State
+rouse_orphans before s = record s { processes = roused_all (newly_orphaned before s.processes) s.processes }
+
 -- ---- the end of a process
 
 -- In this order: process 1 takes the machine with it. Any other process becomes a zombie; its children
--- go to its heir, which gets notice of those that have ended; and its parent gets notice of its end.
+-- go to its heir, which gets notice of those that have ended; the groups that are orphaned by that, and
+-- have a stopped member, get HUP and CONT; and its parent gets notice of its end.
 abbrev pub end_with_heir : State → Process → ℕ → ℕ → Outcome
 end_with_heir s r heir status =
     if r.pid == 1 then record { state = halt s status; entries = Ended r.pid status ∷ Halted ∷ [] }
     else record {
-      state = notice_of_end (tell_of_all (depart s r.pid heir status) heir (zombies_of r.pid s.processes)) r.parent r.pid status;
+      state = notice_of_end (rouse_orphans s.processes (tell_of_all (depart s r.pid heir status) heir (zombies_of r.pid s.processes))) r.parent r.pid status;
       entries = Ended r.pid status ∷ [];
     }
 

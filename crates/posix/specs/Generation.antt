@@ -78,7 +78,8 @@ with_pending s c g = record g { standard = slice_set g.standard (s - 1) c }
 abbrev pub make_pending : PendingSignal → Signals → Signals
 make_pending signal g = if is_pending g signal.sig then g else with_pending signal.sig (Some signal.carried) g
 
--- Nothing is generated for a zombie, nor for process 1 where it has no handler for the signal, kill(2).
+-- Nothing is generated for a zombie, nor for process 1 where it has no handler for the signal, kill(2);
+-- Linux keeps one that process 1 blocks.
 abbrev pub is_deaf : ℕ → Life → Signals → ℕ → Bool
 is_deaf p life g s = is_zombie life || (p == 1 && not (is_caught (action g s).handler))
 
@@ -91,7 +92,7 @@ unfoldable pub without_stops : Signals → Signals
 without_stops g = with_pending STOP None (with_pending TSTP None (with_pending TTIN None (with_pending TTOU None g)))
 
 -- CONT discards the stop signals that are pending, and a stop signal a CONT that is, whether or not they are
--- blocked or ignored, XSH 2.4.1.
+-- blocked or ignored, XSH 2.4.1; in Linux those of process 1, too, where it has no handler.
 abbrev pub after_discards : ℕ → Signals → Signals
 after_discards s g =
     if s == CONT then without_stops g

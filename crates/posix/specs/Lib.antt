@@ -4,6 +4,7 @@ pub mod Statuses
 pub mod Errnos
 pub mod Calls
 pub mod Processes
+pub mod Numbers
 pub mod Tables
 pub mod NextPid
 pub mod States
@@ -20,6 +21,8 @@ pub mod Births
 pub mod Ends
 pub mod Targets
 pub mod Alarms
+pub mod Programs
+pub mod GroupCalls
 pub mod Waits
 pub mod Delivery
 pub mod Sends

@@ -37,6 +37,11 @@ IsDistinct (p ∷ ps) = (is_in p ps ≡ false) × IsDistinct ps
 abbrev pub IsAhead : ℕ → Option ℕ → Type 0
 IsAhead now alarm = IfSome alarm (λ due. (now < due) × (due ≤ now + most_ticks))
 
+-- The members of a process group are in one session, and a group with the number of a process is in that process's session.
+pub record AreGrouped (rs : List Process) : Type 0 where
+  pub one : (p q : ℕ) (r t : Process) → lookup p rs ≡ Some r → lookup q rs ≡ Some t → r.group ≡ t.group → r.session ≡ t.session
+  pub own : (p q : ℕ) (r t : Process) → lookup p rs ≡ Some r → lookup q rs ≡ Some t → t.group ≡ p → t.session ≡ r.session
+
 pub record IsRegular (s : State) : Type 0 where
   pub rising : IsRising s.processes
   pub bounded : (p : ℕ) (r : Process) → lookup p s.processes ≡ Some r → IsBounded s.world.pidmax r
@@ -45,3 +50,4 @@ pub record IsRegular (s : State) : Type 0 where
   pub distinct : IsDistinct s.order
   pub childless : (p : ℕ) (r : Process) → p ≢ 1 → lookup p s.processes ≡ Some r → is_zombie r.life ≡ true → children_in p s.processes ≡ []
   pub alarms : (p : ℕ) (r : Process) → lookup p s.processes ≡ Some r → IsAhead s.ticks r.alarm
+  pub grouped : AreGrouped s.processes

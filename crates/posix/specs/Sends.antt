@@ -32,6 +32,7 @@ targets me target rs = filter (is_target me target) rs
 unfoldable pub permitted : Process → Option ℕ → List Process → List Process
 permitted me s rs = filter (may me s) rs
 
+-- where there are such; Linux gives 0 for -1 where none may be signalled
 abbrev pub sending_permitted : List Process → Sending
 sending_permitted [] = found.NobodyPermitted
 sending_permitted (r ∷ rs) = found.Permitted
@@ -73,6 +74,7 @@ signal_or_none (pos zero) = Ok None
 signal_or_none (pos (suc n)) = if is_standard (suc n) then Ok (Some (suc n)) else Err EINVAL
 signal_or_none (negsuc n) = Err EINVAL
 
+-- the signal is judged first; Linux looks for the processes first
 abbrev pub kill_with : State → Process → Target → Result (Option ℕ) Errno → Attempted
 kill_with s me target (Ok sig) = send_with s me target sig (sending me target sig s.processes)
 kill_with s me target (Err why) = refused s me.pid Kill why

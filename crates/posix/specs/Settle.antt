@@ -19,7 +19,7 @@ abbrev pub can_go_on : State → Process → Option Blocked → Bool
 can_go_on s r None = true
 can_go_on s r (Some b) = not (is_block (attempt_again s r b))
 
--- KILL is pending for it, or it runs and goes on or takes a signal
+-- KILL is pending for it, or it runs and goes on or takes a signal; in Linux a stopped process is dying from KILL on
 unfoldable pub can_act : State → Process → Bool
 can_act s r =
     is_living r && is_pending r.signals KILL

@@ -3,6 +3,9 @@ use Rattle.std.specs.Prelude.{ℕ, Bool, ◌&&◌, ◌||◌, ◌==◌, if◌then
 use Rattle.posix.specs.declared.sig.DefaultAction.{DefaultAction}
 use Rattle.posix.specs.declared.sig.DefaultAction.TheVariants as default
 
+abbrev pub HUP : ℕ
+HUP = 1
+
 abbrev pub FPE : ℕ
 FPE = 8
 

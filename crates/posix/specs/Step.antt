@@ -56,8 +56,8 @@ abbrev pub deliver_or : State → Process → Option ℕ → Outcome → Outcome
 deliver_or s r (Some n) other = deliver s r n
 deliver_or s r None other = other
 
--- A call that can be completed goes before any signal but KILL. Where the process still has to wait, a
--- signal is delivered; without one it loses its place.
+-- A call that can be completed goes before any signal but KILL; in Linux a wait goes before KILL, too. Where the
+-- process still has to wait, a signal is delivered; without one it loses its place.
 abbrev pub go_on : State → Process → Attempted → Outcome
 go_on s r (Done outcome) = outcome
 go_on s r (Block b) = deliver_or s r (chosen r.life r.signals) (silent (lose_place s r.pid))

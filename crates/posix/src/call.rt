@@ -51,13 +51,23 @@ pub enum Call {
     /// Sets the caller's alarm to r1 ticks from now, or with 0 clears it, and gives the ticks that were
     /// left (XSH alarm).
     Alarm,
+    /// Runs the program in r1 in place of the caller's own, with r2 and r3 as its arguments (XSH exec).
+    Exec,
+    /// The process group of the process that r1 names, 0 being the caller (XSH getpgid).
+    Getpgid,
+    /// The session of the process that r1 names, 0 being the caller (XSH getsid).
+    Getsid,
+    /// Moves the process in r1 into the process group in r2, which it may be the first of (XSH setpgid).
+    Setpgid,
+    /// The caller becomes the leader of a new session and process group (XSH setsid).
+    Setsid,
 }
 
 impl Call {
     ghost use Rattle.posix.specs.Calls.{call_named, call_text};
 
     /// Every call.
-    pub const ALL: [Call; 22] = [
+    pub const ALL: [Call; 27] = [
         Call::Exit,
         Call::Fork,
         Call::Waitpid,
@@ -80,6 +90,11 @@ impl Call {
         Call::Sigsuspend,
         Call::Sigreturn,
         Call::Alarm,
+        Call::Exec,
+        Call::Getpgid,
+        Call::Getsid,
+        Call::Setpgid,
+        Call::Setsid,
     ];
 
     /// How it is written, in world texts and in traces: at most 16 bytes.
@@ -110,6 +125,11 @@ impl Call {
             Call::Sigsuspend => b"sigsuspend",
             Call::Sigreturn => b"sigreturn",
             Call::Alarm => b"alarm",
+            Call::Exec => b"exec",
+            Call::Getpgid => b"getpgid",
+            Call::Getsid => b"getsid",
+            Call::Setpgid => b"setpgid",
+            Call::Setsid => b"setsid",
         }
     }
 

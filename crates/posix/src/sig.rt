@@ -36,6 +36,8 @@ pub enum DefaultAction {
 }
 
 impl Sig {
+    pub const HUP: Sig = Sig { number: 1 };
+
     pub const FPE: Sig = Sig { number: 8 };
 
     pub const KILL: Sig = Sig { number: 9 };

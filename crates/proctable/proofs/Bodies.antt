@@ -1,10 +1,6 @@
 -- What another body for a process changes.
 use Rattle.std.proofs.Common.{◌≡◌, ℕ, refl, ap, ◌∙◌, List, Some}
-use Rattle.posix.specs.declared.instr.Trap.{Trap}
-use Rattle.posix.specs.declared.instr.Trap.TheVariants as trap
-use Rattle.posix.specs.Processes.{Process, Cpu}
-use Rattle.posix.specs.Execute.{StaysUnlessRun}
-use Rattle.posix.specs.Step.{set_cpu}
+use Rattle.posix.specs.Processes.{Process}
 use Rattle.posix.specs.Births.{child_of}
 use Rattle.posix.specs.Outcomes.{finished}
 use Rattle.posix.specs.Tables.{IsRising, lookup, changed, parent_of}
@@ -45,10 +41,6 @@ pub own_body : (rs : List Process) → IsRising rs → (p : ℕ) (b : Body) (o :
     → with_body rs p (record b { own = o }) ≡ changed p (give_own o) rs
 own_body rs up p b o e = changed_body rs up p b (record b { own = o }) (give_own o) e (λ p q. refl)
 
--- the own part that was read is that of the process that is there
-pub read_own : (rs : List Process) (p : ℕ) (b : Body) (me : Process) → lookup p rs ≡ Some (process_of p (parent_of p rs) b) → lookup p rs ≡ Some me → b.own ≡ own_of me
-read_own rs p b me e here = ap own_of (read_body rs p b me e here)
-
 -- What was lent of a process, and given back changed as f does, is the change f of the process.
 pub lent : (rs : List Process) → IsRising rs → (p : ℕ) (me : Process) (o w : Own) (f : Process → Process) → lookup p rs ≡ Some me → o ≡ own_of me
     → give_own w me ≡ f (give_own o me) → changed p (give_own w) rs ≡ changed p f rs
@@ -69,26 +61,3 @@ child_groups rs p birth mine b e child me here =
     let same = read_body rs p mine me e here in
     let born = child p (parent_of p rs) 0 in
     (ap (λ (r : Process). r.group) born ∙ ap (λ (r : Process). r.group) same, ap (λ (r : Process). r.session) born ∙ ap (λ (r : Process). r.session) same)
-
--- ---- an instruction
-
--- a body with another processor
-pub run_body : (rs : List Process) → IsRising rs → (p : ℕ) (b : Body) (c : Cpu) → lookup p rs ≡ Some (process_of p (parent_of p rs) b)
-    → with_body rs p (record b { own = record (b.own) { cpu = c } }) ≡ changed p (set_cpu c) rs
-unfolding set_cpu
-run_body rs up p b c e = changed_body rs up p b (record b { own = record (b.own) { cpu = c } }) (set_cpu c) e (λ p q. refl)
-
--- an instruction that leaves the processor leaves the processes
-pub stays_body : (t : Trap) (rs new : List Process) → IsRising rs → (p : ℕ) (b : Body) (c : Cpu) → lookup p rs ≡ Some (process_of p (parent_of p rs) b)
-    → StaysUnlessRun t b.own.cpu c → new ≡ with_body rs p (record b { own = record (b.own) { cpu = c } }) → StaysUnlessRun t rs new
-stays_body trap.Next rs new up p b c e stays is = tt
-stays_body (trap.Note value) rs new up p b c e stays is = tt
-stays_body (trap.Call call) rs new up p b c e stays is = is ∙ ap (λ x. with_body rs p (record b { own = record (b.own) { cpu = x } })) stays ∙ same_body rs up p b e
-stays_body (trap.Fault sig) rs new up p b c e stays is = is ∙ ap (λ x. with_body rs p (record b { own = record (b.own) { cpu = x } })) stays ∙ same_body rs up p b e
-
--- what is run is the processor of the process that is there
-pub ran : (rs : List Process) → IsRising rs → (p : ℕ) (b : Body) → lookup p rs ≡ Some (process_of p (parent_of p rs) b) → (f : Cpu → Cpu) (c : Cpu) → c ≡ f b.own.cpu
-    → (new : List Process) → new ≡ with_body rs p (record b { own = record (b.own) { cpu = c } }) → (me : Process) → lookup p rs ≡ Some me → new ≡ changed p (set_cpu (f me.cpu)) rs
-ran rs up p b e f c is new comes me here =
-    let same : b.own.cpu ≡ me.cpu = ap (λ (r : Process). r.cpu) (read_body rs p b me e here) in
-    comes ∙ run_body rs up p b c e ∙ ap (λ x. changed p (set_cpu x) rs) (is ∙ ap f same)

@@ -6,6 +6,7 @@ use Rattle.std.proofs.lemmas.Bool.{eqb-true, eqb-false, eq-eqb, ne_eqb}
 use Rattle.posix.specs.Processes.{Process}
 use Rattle.posix.specs.Tables.{IsRising, lookup, at, changed, inserted, removed, above, first_pid, is_child, children_in}
 use Rattle.posix.proofs.TableLemmas.{changed_id, rising_inserted, rising_changed, rising_filter, rising_removed, pid_looked, lookup_changed, remove_none}
+use Rattle.posix.proofs.PassingLemmas.{removed_changed}
 use Rattle.posix.proofs.WalkLemmas.{all_looked, in_filter}
 use Rattle.posix.proofs.RegularLemmas.{lookup_inserted, lookup_new, lookup_kept, lookup_removed, lookup_left, some_inserted}
 use Rattle.posix.proofs.SettleLemmas.{none_passes}
@@ -336,11 +337,6 @@ records_relinked c p a b [] = refl
 records_relinked c p a b (n ∷ ns) =
     let one : record_of (at_node c (relinked p a b) n) ≡ at c (moved p) (record_of n) = elim (n.pid == c) as (λ t. record_of (cond t (relinked p a b n) n) ≡ cond t (moved p (record_of n)) (record_of n)) [ true ↦ refl | false ↦ refl ] in
     rw one (ap (λ l. at c (moved p) (record_of n) ∷ l) (records_relinked c p a b ns))
-
-removed_changed : (c : ℕ) (f : Process → Process) → ((r : Process) → (f r).pid ≡ r.pid) → (rs : List Process) → removed c (changed c f rs) ≡ removed c rs
-unfolding removed changed
-removed_changed c f keeps [] = refl
-removed_changed c f keeps (r ∷ rs) = grind (arith, keeps r, removed_changed c f keeps rs)
 
 joined_relinked : (ks : List Process) (ns : List Node) (roots : Ends) (c p : ℕ) (a b : Option ℕ) → Absent c ks → IsJoined ks ns roots → IsJoined ks (changed_node c (relinked p a b) ns) roots
 unfolding changed_node

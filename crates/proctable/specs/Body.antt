@@ -1,5 +1,5 @@
 -- A process as a table keeps it.
-use Rattle.std.specs.Prelude.{ℕ, [], List, None, pos}
+use Rattle.std.specs.Prelude.{ℕ, false, [], List, None, pos}
 use Rattle.std.specs.Borrow.{RattleType}
 use Rattle.posix.specs.Processes.{Process, first_process, nothing_pending}
 use Rattle.posix.specs.Execute.{set_register, move_on}
@@ -19,15 +19,15 @@ own_row = the_own_row
 
 -- what a process may change of itself
 abbrev pub own_of : Process → Own
-own_of r = record { creds = r.credentials; signals = r.signals; blocked = r.blocked; program = r.program; cpu = r.cpu }
+own_of r = record { creds = r.credentials; signals = r.signals; ran_exec = r.ran_exec; blocked = r.blocked; program = r.program; cpu = r.cpu }
 
 -- the process with this in its place
 abbrev pub give_own : Own → Process → Process
-give_own o r = record r { credentials = o.creds; signals = o.signals; blocked = o.blocked; program = o.program; cpu = o.cpu }
+give_own o r = record r { credentials = o.creds; signals = o.signals; ran_exec = o.ran_exec; blocked = o.blocked; program = o.program; cpu = o.cpu }
 
 -- that of a child, whose call gave 0
 abbrev pub forked : Own → Own
-forked o = record o { signals = record (o.signals) { standard = nothing_pending; queue = [] }; blocked = None; cpu = move_on (set_register o.cpu 0 (pos 0)) }
+forked o = record o { signals = record (o.signals) { standard = nothing_pending; queue = [] }; ran_exec = false; blocked = None; cpu = move_on (set_register o.cpu 0 (pos 0)) }
 
 -- the process with this number, this parent and this body; all else is as at boot
 abbrev pub process_of : ℕ → ℕ → Body → Process
@@ -41,6 +41,7 @@ process_of p q b = record first_process {
   signals = b.own.signals;
   life = b.life;
   news = b.news;
+  ran_exec = b.own.ran_exec;
   alarm = b.alarm;
   blocked = b.own.blocked;
   program = b.own.program;
@@ -65,6 +66,7 @@ facts_of r = record {
   chosen = chosen r.life r.signals;
   life = r.life;
   news = r.news;
+  ran_exec = r.ran_exec;
   blocked = r.blocked;
   program = r.program;
 }

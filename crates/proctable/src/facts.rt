@@ -22,6 +22,8 @@ pub struct Facts {
     pub life: Life,
     /// What no wait has reported of it yet (XSH waitpid).
     pub news: News,
+    /// Whether it has run exec since its birth (XSH setpgid).
+    pub ran_exec: bool,
     /// The call that it waits in.
     pub blocked: Option<Blocked>,
     /// Its index among the programs of the world.

@@ -6,24 +6,26 @@ ghost use Rattle.posix.specs.Processes.{Process, first_process};
 ghost use Rattle.posix.specs.Outcomes.{finished};
 ghost use Rattle.posix.specs.Handlers.{handles, is_full, newest_frame, returned};
 ghost use Rattle.posix.specs.Step.{enter};
+ghost use Rattle.posix.specs.States.{Program};
+ghost use Rattle.posix.specs.Programs.{executed};
 ghost use Rattle.proctable.specs.Body.{own_of, give_own, forked};
 
 use creds::Creds;
-use posix::{Blocked, PendingSignal, Pid, Register, SigSet, Status};
+use posix::{Blocked, Gid, PendingSignal, Pid, Register, SigSet, Status, Uid};
 use signal::{FramesFull, NoFrame, Signals, leave_call, mask_before};
 use std::alloc::{AllocError, Global};
 use umach::Cpu;
 
 /// What may change of a process without leave of the machine: no number that it bears, and neither its
 /// life nor its news.
-///
-/// Its exec mark is not here: it stays as it is at boot.
 #[derive(Drop)]
 pub struct Own {
     /// Its user and group ids (credentials(7)).
     pub creds: Creds,
     /// Its signal mask, pending signals, actions and frames (XSH 2.4).
     pub signals: Signals,
+    /// Whether it has run exec since its birth (XSH setpgid).
+    pub ran_exec: bool,
     /// The call that it waits in.
     pub blocked: Option<Blocked>,
     /// Its index among the programs of the world.
@@ -40,6 +42,7 @@ impl Own {
         Ok(Own {
             creds: Creds::root(),
             signals: Signals::initial(alloc)?,
+            ran_exec: false,
             blocked: None,
             program: 0,
             cpu: Cpu::new(alloc)?,
@@ -57,6 +60,7 @@ impl Own {
         Ok(Own {
             creds: self.creds,
             signals: self.signals.fork()?,
+            ran_exec: false,
             blocked: None,
             program: self.program,
             cpu,
@@ -96,6 +100,21 @@ impl Own {
             self.signals.replace_mask(set);
         }
         self.blocked = Some(blocked);
+    }
+
+    /// The process runs the program with this number, which sets these effective ids, in place of its own (XSH
+    /// exec). Its second and third arguments are the new first and second one. It takes no memory.
+    #[tactic(auto, unfolding(posix::specs::Programs::executed))]
+    pub fn exec(&mut self, number: u8, user: Option<Uid>, group: Option<Gid>)
+        ensures { (program : Program) (r : Process) → program.setuid ≡ user → program.setgid ≡ group → give_own self.new r ≡ executed number program (give_own self.old r) }
+    {
+        let first = self.cpu.register(Register::SECOND_ARGUMENT);
+        let second = self.cpu.register(Register::THIRD_ARGUMENT);
+        self.creds.on_exec(user, group);
+        self.signals.on_exec();
+        self.cpu.reset(first, second);
+        self.ran_exec = true;
+        self.program = number;
     }
 
     /// The process leaves the call that it is blocked in, and enters the handler of a signal at an address

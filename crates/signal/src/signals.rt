@@ -7,6 +7,7 @@ ghost use Rattle.posix.specs.Notices.{ignores_children as ignores_children_of, i
 ghost use Rattle.posix.specs.Generation.{action as action_of, is_pending as is_pending_of, with_pending, without_stops, after_discards, is_deaf as is_deaf_to, keeps as keeps_of, generated, effect_of};
 ghost use Rattle.posix.specs.Choice.{chosen, least_ready as least_ready_of, carried_by, taken};
 ghost use Rattle.posix.specs.Handlers.{is_full as is_full_of, handler_mask as handler_mask_of, entered, at_handler, after_entry as after_entry_of, handler_arguments, newest_frame, left, restore, set_action as set_action_of, set_mask as set_mask_of, give_mask};
+ghost use Rattle.posix.specs.Programs.{signals_on_exec};
 ghost use Rattle.posix.specs.SignalCalls.{set_of};
 ghost use Rattle.signal.specs.SignalTables.{IsPendingSet};
 
@@ -325,6 +326,14 @@ impl Signals {
         self.mask = frame.mask;
         cpu.restore(&frame);
         Ok(())
+    }
+
+    /// What another program leaves of them: caught signals go to the default, masks and flags of actions go,
+    /// and so do the frames. The signal mask and the pending signals stay (XSH exec).
+    pub fn on_exec(&mut self)
+        ensures { self.new ≡ signals_on_exec self.old }
+    {
+        self.tables.on_exec();
     }
 
     // ---- actions and masks

@@ -1,10 +1,12 @@
 //! The tables of a process for signals.
 
-ghost use Rattle.std.specs.Prelude.{◌≡◌, ◌-◌, ◌<◌, ◌≤◌, ◌++◌, ◌∷◌, [], false, true, None, IfOk, OnOk, OnErr, length, take, nat_le, slice_get, slice_index_or, slice_set, vec_capacity};
+ghost use Rattle.std.specs.Prelude.{◌≡◌, ◌-◌, ◌<◌, ◌≤◌, ◌++◌, ◌∷◌, [], false, true, None, IfOk, OnOk, OnErr, length, map, take, nat_le, slice_get, slice_index_or, slice_set, vec_capacity};
 ghost use Rattle.posix.specs.Processes.{initial_action, nothing_pending};
 ghost use Rattle.posix.specs.Handlers.{most_frames};
+ghost use Rattle.posix.specs.Programs.{action_on_exec};
 ghost use Rattle.signal.specs.SignalTables.{initial_tables, tables_or_blank};
 
+use crate::actions::reset_all;
 use bitflags::Flags;
 use posix::{Action, Carried, Frame, Handler, SaFlags, Sig, SigSet};
 use std::alloc::{AllocError, Global};
@@ -92,6 +94,17 @@ impl LazyTables {
     {
         ensure_written(&mut self.written);
         self.written[0].actions[place(sig)] = action;
+    }
+
+    /// What another program leaves of the actions; the frames are dropped (XSH exec).
+    #[tactic(auto, unfolding(posix::specs::Processes::default_actions))]
+    pub fn on_exec(&mut self)
+        ensures { self.new ≡ record self.old { actions = map action_on_exec self.old.actions; frames = [] } }
+    {
+        if !self.written.is_empty() {
+            reset_all(&mut self.written[0].actions);
+            self.written[0].frame_count = 0;
+        }
     }
 
     // ---- what pending signals came with

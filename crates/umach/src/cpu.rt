@@ -57,6 +57,19 @@ impl Cpu {
         })
     }
 
+    /// The start of another program with two arguments, in r1 and r2: the other registers and the memory are
+    /// 0 (XSH exec). It takes no memory.
+    #[tactic(auto, unfolding(posix::specs::Processes::zero_registers))]
+    pub fn reset(&mut self, first: i64, second: i64)
+        ensures { self.new ≡ set_register (set_register fresh_cpu 1 first) 2 second }
+    {
+        self.pc = FIRST_ADDRESS;
+        self.registers = [0; 8];
+        self.memory.clear();
+        self.set_register(Register::FIRST_ARGUMENT, first);
+        self.set_register(Register::SECOND_ARGUMENT, second);
+    }
+
     /// The value of a register.
     pub fn register(&self, register: Register) -> i64
         ensures { result ≡ register_of self.now register }

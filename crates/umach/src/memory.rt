@@ -61,6 +61,14 @@ impl UserMem {
         self.words[address] = value;
     }
 
+    /// All words are 0 again. It takes no memory.
+    #[tactic(auto, unfolding(posix::specs::Processes::zero_memory))]
+    pub fn clear(&mut self)
+        ensures { self.new ≡ zero_memory }
+    {
+        self.words.clear();
+    }
+
     /// Another memory with the same words; an error where the host has no memory for it.
     pub fn try_clone(&self) -> Result<UserMem, AllocError>
         ensures { IfOk result (λ m. m ≡ self.now) }

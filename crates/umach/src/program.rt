@@ -52,6 +52,20 @@ impl Program {
         }
     }
 
+    /// The user id that it takes on as it is run, if any (XSH exec).
+    pub fn setuid(&self) -> Option<Uid>
+        ensures { result ≡ self.now.setuid }
+    {
+        self.setuid
+    }
+
+    /// The group id that it takes on as it is run, if any.
+    pub fn setgid(&self) -> Option<Gid>
+        ensures { result ≡ self.now.setgid }
+    {
+        self.setgid
+    }
+
     /// How many instructions it has.
     pub fn len(&self) -> usize
         ensures value { result ≡ length self.now.instructions }

@@ -10,4 +10,5 @@ invariant_of-self g c = record {
   listed = listed_none _ _ _ c.self.invariant.listed (subst NoWakeIsLost (sym (state_is c.self.view_is)) c.requires) c.clear.ensures.pids c.clear.ensures.room;
   reported = c.self.invariant.reported;
   timed = c.self.invariant.timed;
+  noted = c.self.invariant.noted;
 }

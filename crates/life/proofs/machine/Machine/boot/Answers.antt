@@ -4,20 +4,23 @@ use Rattle.posix.specs.States.{boot, is_in}
 use Rattle.pidalloc.specs.Rows.{Pids, born_in, unborne_table}
 use Rattle.life.proofs.AskLemmas.{listed_first}
 use Rattle.sched.specs.Places.{Places}
-use Rattle.life.proofs.SoundLemmas.{nobody_there, sound_first, first_is_boot}
+use Rattle.jobs.proofs.NumberLemmas.{nobody_there}
+use Rattle.life.proofs.SoundLemmas.{sound_first, first_is_boot}
+use Rattle.pidset.specs.Numbers.{Rises}
 use Rattle.pidset.specs.Children.{ArePairs}
 use Rattle.life.proofs.TimedLemmas.{timed_first}
 use Rattle.life.proofs.ReportedLemmas.{reported_first}
 use Rattle.life.proofs.machine.Machine.boot.Goals as goal
 
 pub insert-requires-clause-fresh : goal.insert-requires-clause-fresh
-insert-requires-clause-fresh g c = ap (lookup 1) (c.in_ok-reserve.ensures.contents ∙ c.empty-table.ensures.contents) ∙ nobody_there 1
+insert-requires-clause-fresh g c = ap (lookup 1) (c.in_ok-reserve.ensures.processes ∙ c.empty-table.ensures.processes) ∙ nobody_there 1
 
 pub place-requires-clause-none : goal.place-requires-clause-none
 unfolding is_in
 place-requires-clause-none g c = ap (λ (o : Places). is_in 1 o.pids) c.in_ok-order.ensures
 
 pub invariant_of-result : goal.invariant_of-result
+unfolding Rises is_in
 invariant_of-result g c =
     let bore = c.bear_all.ensures.value ∙ ap (λ (p : Pids). born_in p 1 1 1) c.in_ok-pids.ensures.value ∙ ap (λ m. born_in (unborne_table m) 1 1 1) c.pidmax.ensures.value in
     let pidmax = c.bear_all.ensures.pidmax ∙ ap (λ (p : Pids). p.pidmax) c.in_ok-pids.ensures.value ∙ c.pidmax.ensures.value in
@@ -25,24 +28,25 @@ invariant_of-result g c =
     let room = c.place.ensures.room in
     let all = ap (λ (o : Places). o.room) c.in_ok-order.ensures in
     let least = c.pidmax.ensures.range.0 in
-    rw (c.insert.ensures.contents, c.in_ok-reserve.ensures.contents, c.empty-table.ensures.contents, c.in_ok-first.ensures)
+    rw (c.insert.ensures.processes, c.in_ok-reserve.ensures.processes, c.empty-table.ensures.processes, c.in_ok-first.ensures)
     (record {
       sound = sound_first _ _ _ (omega (arith, least, c.pidmax.ensures.value)) bore pidmax c.bear_all.ensures.kept order (omega (arith, room, all, c.pidmax-2.ensures.value));
       listed = listed_first _ _ _ _ (first_is_boot _ c.bear_all.new.self c.place.new.self c.bear_all.ensures.last order) (c.in_ok-reserve-2.ensures.pids ∙ c.new-to_ask.ensures) c.pidmax-3.ensures.value c.in_ok-reserve-2.ensures.room;
       reported = reported_first _ c.in_ok-world.world _ _ (first_is_boot c.in_ok-world.world c.bear_all.new.self c.place.new.self c.bear_all.ensures.last order) (c.in_ok-reserve-3.ensures.pairs ∙ c.new-reporting.ensures.pairs) (subst ArePairs (sym c.in_ok-reserve-3.ensures.pairs) c.new-reporting.ensures.rising) c.pidmax-4.ensures.value c.in_ok-reserve-3.ensures.room;
       timed = timed_first _ c.in_ok-world.world _ _ _ (first_is_boot c.in_ok-world.world c.bear_all.new.self c.place.new.self c.bear_all.ensures.last order) (c.in_ok-reserve-4.ensures.pids ∙ c.new-alarmed.ensures) c.pidmax-5.ensures.value c.in_ok-reserve-4.ensures.room;
+      noted = record { rising = rw (c.in_ok-reserve-5.ensures.pids ∙ c.new-losing.ensures) tt; within = λ q e. absurd (let none = ap (is_in q) (c.in_ok-reserve-5.ensures.pids ∙ c.new-losing.ensures) in cc); room = let few = c.pidmax-6.ensures.value in let all = c.in_ok-reserve-5.ensures.room in omega (arith, few, all) };
     })
 
 pub returns-clause-state : goal.returns-clause-state
 returns-clause-state g c =
     let order = c.place.ensures.pids ∙ ap (λ (ps : List ℕ). ps ++ 1 ∷ []) (ap (λ (o : Places). o.pids) c.in_ok-order.ensures) in
-    rw (c.insert.ensures.contents, c.in_ok-reserve.ensures.contents, c.empty-table.ensures.contents, c.in_ok-first.ensures)
+    rw (c.insert.ensures.processes, c.in_ok-reserve.ensures.processes, c.empty-table.ensures.processes, c.in_ok-first.ensures)
     (first_is_boot _ c.bear_all.new.self c.place.new.self c.bear_all.ensures.last order ∙ ap boot c.in_ok-world.ensures)
 
 pub returns-clause-reads : goal.returns-clause-reads
 unfolding children_in
 returns-clause-reads g c =
-    let none = ap (λ rs. length (children_in 0 rs)) (c.in_ok-reserve.ensures.contents ∙ c.empty-table.ensures.contents) in
+    let none = ap (λ rs. length (children_in 0 rs)) (c.in_ok-reserve.ensures.processes ∙ c.empty-table.ensures.processes) in
     let all = c.insert.ensures.reads in
     let reserved = c.in_ok-reserve.ensures.reads ∙ c.empty-table.ensures.reads in
     omega (arith, none, all, reserved)

@@ -1,12 +1,15 @@
-use Rattle.std.proofs.Common.{◌∙◌, ap, sym, refl, [], ◌∷◌, ℕ}
+use Rattle.std.proofs.Common.{◌∙◌, ap, sym, subst, refl, [], ◌∷◌, ℕ}
 use Rattle.posix.specs.Tables.{changed}
 use Rattle.posix.specs.States.{State}
 use Rattle.posix.specs.Statuses.{continued}
 use Rattle.posix.specs.Waits.{has_report}
 use Rattle.posix.specs.Notices.{noticed_of_change, child_signal, told_of_change, resumed}
+use Rattle.posix.specs.Regular.{IsPlaced}
 use Rattle.posix.proofs.TableLemmas.{pid_looked}
+use Rattle.posix.proofs.RegularLemmas.{placed_least}
+use Rattle.pidset.specs.Numbers.{with_number}
 use Rattle.posix.proofs.ChangeLemmas.{lives_resumed}
-use Rattle.proctable.proofs.Bodies.{changed_body}
+use Rattle.life.specs.Machines.{MachineView}
 use Rattle.life.specs.Asking.{with_numbers, with_parent}
 use Rattle.life.proofs.SoundLemmas.{found_in, is_there}
 use Rattle.life.proofs.AskLemmas.{has_room, room_after}
@@ -26,12 +29,12 @@ unfolding resumed
 tell_parent-requires-clause-there g c =
     let same = state_is c.self.view_is ∙ c.parent-parent.ensures.same in
     let me = c.requires in
-    let contents = g.met.K.Kin.puts c.self.inside.table c.args.pid c.resume.new.self ∙ changed_body _ c.update.ensures.rising c.args.pid c.update.result.now c.resume.new.self resumed c.update.ensures.value c.resume.ensures in
+    let contents = c.resume.ensures.processes in
     rw contents (parent_after _ _ _ c.self.invariant.sound c.args.pid _ resumed lives_resumed me.what (found_in _ _ same c.args.pid me.what me.found) (c.parent-parent.ensures.value me.what me.found))
 
 pub tell_parent-requires-clause-none : goal.tell_parent-requires-clause-none
 tell_parent-requires-clause-none g c =
-    let contents = g.met.K.Kin.puts c.self.inside.table c.args.pid c.resume.new.self ∙ changed_body _ c.update.ensures.rising c.args.pid c.update.result.now c.resume.new.self resumed c.update.ensures.value c.resume.ensures in
+    let contents = c.resume.ensures.processes in
     rw contents (nobody_after _ c.self.invariant.sound.regular c.args.pid _ resumed lives_resumed)
 
 pub tell_parent-requires-clause-few : goal.tell_parent-requires-clause-few
@@ -47,8 +50,8 @@ unfolding resumed has_report
 invariant_of-self g c =
     let same = state_is c.self.view_is ∙ c.parent-parent.ensures.same in
     let me = c.requires in
-    let contents = g.met.K.Kin.puts c.self.inside.table c.args.pid c.resume.new.self ∙ changed_body _ c.update.ensures.rising c.args.pid c.update.result.now c.resume.new.self resumed c.update.ensures.value c.resume.ensures in
-    let told = c.tell_parent.ensures.contents ∙ ap (λ w. changed c.parent-parent.result (noticed_of_change (child_signal c.args.pid w)) (g.K.Kin.contents (g.K.Kin.put c.self.inside.table c.args.pid c.resume.new.self))) c.continued.ensures
+    let contents = c.resume.ensures.processes in
+    let told = c.tell_parent.ensures.processes ∙ ap (λ w. changed c.parent-parent.result (noticed_of_change (child_signal c.args.pid w)) c.resume.new.self.processes) c.continued.ensures
     ∙ ap (changed c.parent-parent.result (noticed_of_change (child_signal c.args.pid continued))) contents in
     rw told (machine_told _ _ _ _ _ _ _ _ _ c.args.pid _ continued resumed me.what lives_resumed refl (found_in _ _ same c.args.pid me.what me.found) me.living (c.parent-parent.ensures.value me.what me.found) c.self.invariant
     (c.tell_parent.ensures.pids ∙ ap (with_parent c.parent-parent.result) c.insert.ensures.pids) (c.tell_parent.ensures.fits ∙ c.insert.ensures.room) c.insert-2.ensures.pairs c.insert-2.ensures.rising c.insert-2.ensures.room)
@@ -57,9 +60,25 @@ pub returns-clause-state : goal.returns-clause-state
 unfolding told_of_change
 returns-clause-state g c = λ me found.
     let same = state_is c.self.view_is ∙ c.parent-parent.ensures.same in
-    let contents = g.met.K.Kin.puts c.self.inside.table c.args.pid c.resume.new.self ∙ changed_body _ c.update.ensures.rising c.args.pid c.update.result.now c.resume.new.self resumed c.update.ensures.value c.resume.ensures in
-    let told = c.tell_parent.ensures.contents ∙ ap (λ w. changed c.parent-parent.result (noticed_of_change (child_signal c.args.pid w)) (g.K.Kin.contents (g.K.Kin.put c.self.inside.table c.args.pid c.resume.new.self))) c.continued.ensures
+    let contents = c.resume.ensures.processes in
+    let told = c.tell_parent.ensures.processes ∙ ap (λ w. changed c.parent-parent.result (noticed_of_change (child_signal c.args.pid w)) c.resume.new.self.processes) c.continued.ensures
     ∙ ap (changed c.parent-parent.result (noticed_of_change (child_signal c.args.pid continued))) contents in
     let named = pid_looked c.args.pid c.args.self.now.state.processes me found in
     let after = λ (n p : ℕ) (s : State). record s { processes = changed n (noticed_of_change (child_signal p continued)) (changed c.args.pid resumed s.processes) } in
     rw told (ap (after c.parent-parent.result c.args.pid) same ∙ ap (λ n. after n c.args.pid c.args.self.now.state) (c.parent-parent.ensures.value me found) ∙ ap (λ p. after me.parent p c.args.self.now.state) (sym named))
+
+pub insert-requires-2-clause-child : goal.insert-requires-2-clause-child
+insert-requires-2-clause-child g c =
+    let same = state_is c.self.view_is ∙ c.parent-parent.ensures.same in
+    placed_least _ c.self.invariant.sound.regular c.args.pid (subst (λ (s : State). IsPlaced s.processes c.args.pid) (sym same) c.requires)
+
+pub returns-clause-asked : goal.returns-clause-asked
+returns-clause-asked g c = λ me found.
+    let old = c.args.self.now.asked in
+    let asked = ap (λ (m : MachineView). m.asked) c.self.view_is ∙ c.parent-parent.ensures.asked in
+    let named = pid_looked c.args.pid c.args.self.now.state.processes me found in
+    c.tell_parent.ensures.pids ∙ ap (with_parent c.parent-parent.result) (c.insert.ensures.pids ∙ ap (with_number c.args.pid) asked)
+    ∙ ap (λ n. with_parent n (with_number c.args.pid old)) (c.parent-parent.ensures.value me found) ∙ ap (λ p. with_parent me.parent (with_number p old)) (sym named)
+
+pub returns-clause-losing : goal.returns-clause-losing
+returns-clause-losing g c = ap (λ (m : MachineView). m.losing) c.self.view_is ∙ c.parent-parent.ensures.losing

@@ -1,4 +1,4 @@
-use Rattle.std.proofs.Common.{ap, ◌∙◌, ◌||◌, false, [], ◌∷◌}
+use Rattle.std.proofs.Common.{ap, arith, ◌∙◌, ◌||◌, false, [], ◌∷◌}
 use Rattle.posix.specs.Processes.{Process}
 use Rattle.posix.specs.Tables.{lookup}
 use Rattle.posix.specs.Outcomes.{finished}
@@ -27,7 +27,10 @@ pub bear_all-requires-clause-session_count : goal.bear_all-requires-clause-sessi
 bear_all-requires-clause-session_count g c = (room_to_bear _ _ _ _ c.args.child c.args.parent _ _ (state_is c.self.view_is) c.self.invariant.sound c.requires.child c.requires.parent c.in_ok-body.ensures.groups).session_count
 
 pub insert-requires-clause-fresh : goal.insert-requires-clause-fresh
-insert-requires-clause-fresh g c = ap (lookup c.args.child) (c.in_ok-reserve.ensures.contents ∙ c.in_ok-body.ensures.contents) ∙ (next_is_new _ _ _ _ c.args.child (state_is c.self.view_is) c.self.invariant.sound c.requires.child).fresh
+insert-requires-clause-fresh g c = ap (lookup c.args.child) (c.in_ok-reserve.ensures.processes ∙ c.in_ok-body.ensures.processes) ∙ (next_is_new _ _ _ _ c.args.child (state_is c.self.view_is) c.self.invariant.sound c.requires.child).fresh
+
+pub insert-requires-clause-number : goal.insert-requires-clause-number
+insert-requires-clause-number g c = λ none. let least = (next_is_new _ _ _ _ c.args.child (state_is c.self.view_is) c.self.invariant.sound c.requires.child).least in absurd (omega (arith, least, none))
 
 pub insert-requires-2 : goal.insert-requires-2
 insert-requires-2 g c = record { room = λ out. has_room _ _ c.self.invariant.sound.regular c.self.invariant.listed }
@@ -45,10 +48,11 @@ invariant_of-self-2 g c =
     let found = found_in _ _ (state_is c.self.view_is) c.args.parent me.what me.found in
     let child = c.in_ok-body.ensures.child me.what found c.args.child in
     let groups = c.in_ok-body.ensures.groups me.what found in
-    rw (c.insert.ensures.contents, c.in_ok-reserve.ensures.contents, c.in_ok-body.ensures.contents)
+    rw (c.insert.ensures.processes, c.in_ok-reserve.ensures.processes, c.in_ok-body.ensures.processes)
     (record {
       sound = sound_born _ _ _ _ _ _ _ _ _ _ me.what c.self.invariant.sound (next_is_new _ _ _ _ c.args.child (state_is c.self.view_is) c.self.invariant.sound c.requires.child) found me.living groups.0 groups.1 (ap (λ (r : Process). r.life) child) (ap (λ (r : Process). r.alarm) child) c.bear_all.ensures.value c.bear_all.ensures.pidmax c.bear_all.ensures.kept;
       listed = listed_born _ _ _ _ _ _ c.self.invariant.listed (next_is_new _ _ _ _ c.args.child (state_is c.self.view_is) c.self.invariant.sound c.requires.child).fresh (is_there _ me.what found) (c.insert-3.ensures.pids ∙ ap (with_number c.args.child) c.insert-2.ensures.pids) (c.insert-3.ensures.room ∙ c.insert-2.ensures.room);
       reported = reported_inserted _ (process_of c.args.child c.args.parent c.in_ok-body.body) _ _ (next_is_new _ _ _ _ c.args.child (state_is c.self.view_is) c.self.invariant.sound c.requires.child).fresh (ap has_report child ∙ ap (λ b. b || false) me.living) c.self.invariant.reported;
       timed = timed_inserted _ (process_of c.args.child c.args.parent c.in_ok-body.body) _ _ _ (next_is_new _ _ _ _ c.args.child (state_is c.self.view_is) c.self.invariant.sound c.requires.child).fresh (ap (λ (r : Process). r.alarm) child) c.self.invariant.timed;
+      noted = c.self.invariant.noted;
     })

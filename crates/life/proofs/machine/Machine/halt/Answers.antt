@@ -1,7 +1,5 @@
-use Rattle.std.proofs.Common.{arith, ◌∙◌, refl}
-use Rattle.posix.specs.Ends.{ended}
+use Rattle.std.proofs.Common.{arith, refl}
 use Rattle.posix.proofs.RegularLemmas.{regular_halt}
-use Rattle.proctable.proofs.Bodies.{changed_body}
 use Rattle.life.proofs.SoundLemmas.{is_there, length_halted, parents_halted, kept_halted}
 use Rattle.life.proofs.AskLemmas.{has_room, listed_halted}
 use Rattle.life.proofs.TimedLemmas.{timed_halted}
@@ -14,28 +12,29 @@ insert-requires g c = record { room = λ out. has_room _ _ c.self.invariant.soun
 pub insert-requires-2 : goal.insert-requires-2
 insert-requires-2 g c = record { room = λ out. reported_room _ _ c.self.invariant.sound.regular c.self.invariant.reported; child = omega arith }
 
-pub update-requires : goal.update-requires
-update-requires g c = is_there _ _ c.self.invariant.sound.regular.first.found
+pub end-requires : goal.end-requires
+end-requires g c = is_there _ _ c.self.invariant.sound.regular.first.found
 
 pub invariant_of-self : goal.invariant_of-self
 invariant_of-self g c =
-    let contents = g.met.K.Kin.puts c.self.inside.table 1 c.end.new.self ∙ changed_body _ c.update.ensures.rising 1 c.update.result.now c.end.new.self (ended c.args.status) c.update.ensures.value c.end.ensures in
+    let contents = c.end.ensures.processes in
     rw (contents, c.drop_place.ensures.pids) record {
       sound = record {
         regular = regular_halt c.args.status _ c.self.invariant.sound.regular;
         parents = parents_halted c.args.status _ c.self.invariant.sound.parents;
-        counted = let n = c.self.invariant.sound.counted in let same = length_halted c.args.status (g.K.Kin.contents c.self.inside.table) in omega (arith, n, same);
+        counted = let n = c.self.invariant.sound.counted in let same = length_halted c.args.status c.self.inside.table.processes in omega (arith, n, same);
         kept = kept_halted c.args.status _ _ _ _ _ (let r = c.drop_place.ensures.room in omega (arith, r)) c.self.invariant.sound.kept;
       };
       listed = listed_halted _ c.args.status _ _ c.self.invariant.sound.regular c.self.invariant.listed c.insert.ensures.pids c.insert.ensures.room;
       reported = reported_halted _ c.args.status _ _ _ c.self.invariant.sound.regular.first.what c.self.invariant.sound.regular.first.found c.self.invariant.sound.regular.first.parent c.self.invariant.reported c.insert-2.ensures.pairs c.insert-2.ensures.rising c.insert-2.ensures.room;
       timed = timed_halted _ c.args.status _ _ _ c.self.invariant.sound.regular.first.what c.self.invariant.sound.regular.first.found c.self.invariant.timed;
+      noted = c.self.invariant.noted;
     }
 
 pub returns-clause-state : goal.returns-clause-state
 returns-clause-state g c =
-    let contents = g.met.K.Kin.puts c.self.inside.table 1 c.end.new.self ∙ changed_body _ c.update.ensures.rising 1 c.update.result.now c.end.new.self (ended c.args.status) c.update.ensures.value c.end.ensures in
+    let contents = c.end.ensures.processes in
     rw (contents, c.drop_place.ensures.pids, ← c.self.view_is) refl
 
 pub returns-clause-reads : goal.returns-clause-reads
-returns-clause-reads g c = rw (← c.self.view_is, g.met.K.Kin.put_reads _ _ _) (g.met.K.Kin.at_most_one _)
+returns-clause-reads g c = rw (← c.self.view_is) c.end.ensures.reads

@@ -24,6 +24,7 @@ invariant_of-self g c =
       listed = listed_with _ _ _ _ (c.args.pid ∷ []) (c.args.pid ∷ []) c.self.invariant.listed (touches_lost _ c.args.pid) refl (λ q e. e) (here, tt) (λ q there e. e) c.insert.ensures.pids c.insert.ensures.room;
       reported = c.self.invariant.reported;
       timed = c.self.invariant.timed;
+      noted = c.self.invariant.noted;
     }
 
 pub returns-else-has-clause-state : goal.returns-else-has-clause-state

@@ -3,7 +3,7 @@ use Rattle.posix.specs.Tables.{IsNext, is_member, members_in}
 use Rattle.posix.specs.Sends.{is_target}
 use Rattle.posix.proofs.WalkLemmas.{passing_is_next, least_is_next}
 use Rattle.life.specs.Callers.{process_like}
-use Rattle.life.proofs.ReadLemmas.{left_above}
+use Rattle.jobs.proofs.ReadLemmas.{left_above}
 use Rattle.life.proofs.machine.Machine.next_target.Goals as goal
 
 pub returns-in-OwnGroup-clause-next : goal.returns-in-OwnGroup-clause-next
@@ -32,6 +32,7 @@ returns-in-Process g c =
       next = next;
       same = c.next_after.ensures.same;
       asked = c.next_after.ensures.asked;
+      losing = c.next_after.ensures.losing;
       reads = let less = left_above c.next_after.result c.args.after rs next.above in omega (arith, less, c.next_after.ensures.reads);
       regular = c.next_after.ensures.regular;
     }

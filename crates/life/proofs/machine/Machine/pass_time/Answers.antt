@@ -18,4 +18,5 @@ invariant_of-self g c =
       listed = listed_same _ _ _ [] i.listed (touches_none _ _ refl refl) refl (λ q e. e) (λ q there e. absurd (in_none q e));
       reported = i.reported;
       timed = i.timed;
+      noted = i.noted;
     }

@@ -35,4 +35,5 @@ invariant_of-self g c =
       listed = listed_same _ _ _ [] c.self.invariant.listed (touches_placed _ c.args.pid) refl (λ q e. e) (λ q there e. absurd (in_none q e));
       reported = c.self.invariant.reported;
       timed = c.self.invariant.timed;
+      noted = c.self.invariant.noted;
     }

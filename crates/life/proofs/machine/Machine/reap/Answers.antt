@@ -24,15 +24,16 @@ invariant_of-self g c =
     let gone = c.discard-parent.ensures.counts it.0 found in
     let up = c.self.invariant.sound.parents c.args.pid it.0 c.requires.other found in
     let parent = c.discard-parent.ensures.parent it.0 found in
-    rw c.discard-parent.ensures.contents (record {
+    rw c.discard-parent.ensures.processes (record {
       sound = sound_gone _ _ _ _ c.args.pid _ _ it.0 c.self.invariant.sound found it.2 c.requires.other gone (omega arith);
       listed = listed_removed _ c.args.pid _ _ it.0 _ _ c.self.invariant.sound.regular c.self.invariant.listed found up (c.forget.ensures.pids ∙ ap (λ n. without_gone c.args.pid (Some n) c.self.inside.to_ask.pids) parent) c.forget.ensures.room;
       reported = reported_reaped _ c.args.pid _ _ _ it.0 found c.self.invariant.reported (λ q d. c.forget.ensures.reporting.1 q d ∙ ap (λ n. not (q == n && d == c.args.pid) && is_child_in q d c.self.inside.reporting.pairs) parent) c.forget.ensures.reporting.0 c.forget.ensures.fits;
       timed = timed_removed _ c.args.pid _ _ _ it.0 found c.requires.other it.2 c.self.invariant.timed;
+      noted = c.self.invariant.noted;
     })
 
 pub returns-clause-state : goal.returns-clause-state
 returns-clause-state g c =
     let it = c.requires.zombie in
     let found = found_in _ _ (state_is c.self.view_is) c.args.pid it.0 it.1 in
-    rw (c.discard-parent.ensures.contents, (c.discard-parent.ensures.counts it.0 found).last, ← c.self.view_is) refl
+    rw (c.discard-parent.ensures.processes, (c.discard-parent.ensures.counts it.0 found).last, ← c.self.view_is) refl

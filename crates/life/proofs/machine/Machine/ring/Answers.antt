@@ -1,10 +1,7 @@
-use Rattle.std.proofs.Common.{◌+◌, ap, ◌∙◌, refl}
-use Rattle.posix.specs.Processes.{Process}
-use Rattle.posix.specs.Tables.{parent_of}
+use Rattle.std.proofs.Common.{◌+◌, refl}
 use Rattle.posix.specs.Alarms.{ring_at}
 use Rattle.posix.proofs.RegularLemmas.{keeps_ring}
 use Rattle.posix.proofs.TouchLemmas.{touches_unseen, unseen_ring}
-use Rattle.proctable.proofs.Bodies.{changed_here, read_body}
 use Rattle.life.proofs.SoundLemmas.{sound_change, here_in, there}
 use Rattle.life.proofs.AskLemmas.{has_room, listed_change}
 use Rattle.life.proofs.ReportedLemmas.{reported_unseen}
@@ -22,20 +19,20 @@ pub invariant_of-self : goal.invariant_of-self
 invariant_of-self g c =
     let m = c.self.inside in
     let now = m.ticks + 1 in
-    let rs = g.K.Kin.contents m.table in
     let here = here_in c.args.pid (state_is c.self.view_is) c.requires.there in
     let me = there _ here in
-    let contents = g.met.K.Kin.puts m.table c.args.pid c.ring_at.new.self ∙ changed_here _ c.update-body.ensures.rising c.args.pid c.update-body.result.now c.ring_at.new.self (ring_at now) c.update-body.ensures.value c.ring_at.ensures in
-    let due = ap (λ (r : Process). r.alarm) (c.ring_at.ensures (parent_of c.args.pid rs) ∙ ap (ring_at now) (read_body rs c.args.pid c.update-body.result.now me.what c.update-body.ensures.value me.found)) in
+    let contents = c.ring_at-due.ensures.processes in
+    let due = c.ring_at-due.ensures.due me.what me.found in
     rw contents (record {
       sound = sound_change c.args.pid _ _ (keeps_ring now) _ _ c.self.invariant.sound;
       listed = listed_change _ c.args.pid (ring_at now) _ _ c.self.invariant.listed (keeps_ring {now = 0} now).pid (touches_unseen _ c.args.pid (ring_at now) (unseen_ring now)) here c.ask.ensures.pids c.ask.ensures.room;
       reported = reported_unseen _ c.args.pid _ (unseen_ring now) _ _ here c.self.invariant.reported;
       timed = timed_rung _ now c.args.pid _ _ _ _ _ me.what _ me.found c.self.invariant.timed due c.note_alarm.ensures.pids c.note_alarm.ensures.room c.note_alarm.ensures.earlier c.note_alarm.ensures.before;
+      noted = c.self.invariant.noted;
     })
 
 pub returns-clause-state : goal.returns-clause-state
 returns-clause-state g c =
     let m = c.self.inside in
-    let contents = g.met.K.Kin.puts m.table c.args.pid c.ring_at.new.self ∙ changed_here _ c.update-body.ensures.rising c.args.pid c.update-body.result.now c.ring_at.new.self (ring_at (m.ticks + 1)) c.update-body.ensures.value c.ring_at.ensures in
+    let contents = c.ring_at-due.ensures.processes in
     rw (contents, ← c.self.view_is) refl

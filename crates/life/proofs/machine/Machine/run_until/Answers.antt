@@ -2,15 +2,12 @@ use Rattle.std.proofs.Common.{ap, sym, ◌∙◌, subst, refl}
 use Rattle.posix.specs.States.{State, change}
 use Rattle.posix.specs.Tables.{IsRising}
 use Rattle.posix.specs.Step.{set_cpu}
-use Rattle.posix.proofs.RegularLemmas.{keeps_set_cpu}
 use Rattle.umach.specs.Bursts.{Burst, exec_until}
-use Rattle.proctable.proofs.Bodies.{run_body, ran, read_own}
-use Rattle.posix.proofs.TouchLemmas.{touches_unseen, unseen_set_cpu}
-use Rattle.life.proofs.SoundLemmas.{found_in, sound_change, here_in}
-use Rattle.life.proofs.AskLemmas.{has_room, listed_change}
+use Rattle.life.proofs.SoundLemmas.{found_in, here_in}
+use Rattle.life.proofs.AskLemmas.{has_room}
 use Rattle.life.proofs.CodeLemmas.{code_is, get_some, get_none, no_burst, same_cpu}
-use Rattle.life.proofs.ReportedLemmas.{reported_unseen}
-use Rattle.life.proofs.TimedLemmas.{timed_change, untimed_set_cpu}
+use Rattle.jobs.proofs.LoanLemmas.{own_found}
+use Rattle.life.proofs.LoanLemmas.{machine_lent, cpu_ran}
 use Rattle.life.proofs.ViewLemmas.{state_is}
 use Rattle.life.proofs.machine.Machine.run_until.Goals as goal
 
@@ -18,31 +15,25 @@ pub ask-requires : goal.ask-requires
 ask-requires g c = has_room _ _ c.self.invariant.sound.regular c.self.invariant.listed
 
 pub invariant_of-self : goal.invariant_of-self
-invariant_of-self g c =
-    rw (g.met.K.Kin.puts _ _ _, run_body _ c.update.ensures.rising c.args.pid c.update.result.now c.run_until.new.self c.update.ensures.value) (record {
-      sound = sound_change c.args.pid _ _ (keeps_set_cpu _) _ _ c.self.invariant.sound;
-      listed = listed_change _ c.args.pid _ _ _ c.self.invariant.listed (keeps_set_cpu {now = 0} _).pid (touches_unseen _ c.args.pid _ (unseen_set_cpu _)) (here_in c.args.pid (state_is c.self.view_is) c.requires.there) c.ask.ensures.pids c.ask.ensures.room;
-      reported = reported_unseen _ c.args.pid _ (unseen_set_cpu _) _ _ (here_in c.args.pid (state_is c.self.view_is) c.requires.there) c.self.invariant.reported;
-      timed = timed_change _ c.args.pid _ (untimed_set_cpu _) _ _ _ (here_in c.args.pid (state_is c.self.view_is) c.requires.there) c.self.invariant.timed;
-    })
+invariant_of-self g c = machine_lent _ _ _ _ _ _ _ _ c.args.pid (record (c.own.result.now) { cpu = c.run_until.new.self }) (here_in c.args.pid (state_is c.self.view_is) c.requires.there) c.self.invariant c.ask.ensures.pids c.ask.ensures.room
 
 pub returns-in-Some-clause-count : goal.returns-in-Some-clause-count
 returns-in-Some-clause-count g c = λ me e.
     let found = found_in _ _ (state_is c.self.view_is) c.args.pid me e in
     let code = code_is c.args.self.now.state me _ _ _ (c.programs.ensures.value ∙ ap (λ (s : State). s.world.programs) (state_is c.self.view_is)) (c.from.ensures ∙ sym (c.requires.program me e)) (get_some _ _ _ (c.in-Some.ensures.lookup.0, c.in-Some.ensures.lookup.1)) in
-    c.run_until.ensures.count ∙ ap (λ o. (exec_until c.in-Some.program.now.instructions c.args.most o.cpu).count) (read_own _ c.args.pid c.update.result.now me c.update.ensures.value found) ∙ ap (λ is. (exec_until is c.args.most me.cpu).count) (sym code)
+    c.run_until.ensures.count ∙ ap (λ o. (exec_until c.in-Some.program.now.instructions c.args.most o.cpu).count) (own_found _ c.args.pid c.own.result.now me c.own.ensures.value found) ∙ ap (λ is. (exec_until is c.args.most me.cpu).count) (sym code)
 
 pub returns-in-Some-clause-trap : goal.returns-in-Some-clause-trap
 returns-in-Some-clause-trap g c = λ me e.
     let found = found_in _ _ (state_is c.self.view_is) c.args.pid me e in
     let code = code_is c.args.self.now.state me _ _ _ (c.programs.ensures.value ∙ ap (λ (s : State). s.world.programs) (state_is c.self.view_is)) (c.from.ensures ∙ sym (c.requires.program me e)) (get_some _ _ _ (c.in-Some.ensures.lookup.0, c.in-Some.ensures.lookup.1)) in
-    c.run_until.ensures.trap ∙ ap (λ o. (exec_until c.in-Some.program.now.instructions c.args.most o.cpu).trap) (read_own _ c.args.pid c.update.result.now me c.update.ensures.value found) ∙ ap (λ is. (exec_until is c.args.most me.cpu).trap) (sym code)
+    c.run_until.ensures.trap ∙ ap (λ o. (exec_until c.in-Some.program.now.instructions c.args.most o.cpu).trap) (own_found _ c.args.pid c.own.result.now me c.own.ensures.value found) ∙ ap (λ is. (exec_until is c.args.most me.cpu).trap) (sym code)
 
 pub returns-in-Some-clause-state : goal.returns-in-Some-clause-state
 returns-in-Some-clause-state g c = λ me e.
     let found = found_in _ _ (state_is c.self.view_is) c.args.pid me e in
     let code = code_is c.args.self.now.state me _ _ _ (c.programs.ensures.value ∙ ap (λ (s : State). s.world.programs) (state_is c.self.view_is)) (c.from.ensures ∙ sym (c.requires.program me e)) (get_some _ _ _ (c.in-Some.ensures.lookup.0, c.in-Some.ensures.lookup.1)) in
-    let contents = ran _ c.update.ensures.rising c.args.pid c.update.result.now c.update.ensures.value (λ x. (exec_until c.in-Some.program.now.instructions c.args.most x).cpu) c.run_until.new.self c.run_until.ensures.cpu _ (g.met.K.Kin.puts _ _ _) me found in
+    let contents = cpu_ran _ c.own.ensures.rising c.args.pid c.own.result.now c.own.ensures.value (λ x. (exec_until c.in-Some.program.now.instructions c.args.most x).cpu) c.run_until.new.self c.run_until.ensures.cpu me found in
     rw (code, ← c.self.view_is, contents) refl
 
 pub returns-in-None-clause-count : goal.returns-in-None-clause-count
@@ -62,7 +53,7 @@ returns-in-None-clause-state g c = λ me e.
     same_cpu c.args.self.now.state c.args.pid me rising e ∙ ap (λ (b : Burst). change c.args.self.now.state c.args.pid (set_cpu b.cpu)) (sym (no_burst c.args.self.now.state me c.args.most code c.requires.some))
 
 pub returns-in-Some-clause-reads : goal.returns-in-Some-clause-reads
-returns-in-Some-clause-reads g c = rw (← c.self.view_is, g.met.K.Kin.put_reads _ _ _) (g.met.K.Kin.at_most_one _)
+returns-in-Some-clause-reads g c = rw (← c.self.view_is) (g.met.K.Kin.at_most_one _)
 
 pub returns-in-Some-clause-regular : goal.returns-in-Some-clause-regular
 returns-in-Some-clause-regular g c = (invariant_of-self g c).sound.regular

@@ -8,7 +8,7 @@ use Rattle.life.specs.Asking.{asking_signalled, slots_of_send}
 use Rattle.life.specs.Callers.{process_like}
 use Rattle.life.proofs.SendLemmas.{with_processes, above_sent, walked, joined, joined_max, joined_none, sending_none, targets_none, sent_nobody, sent_step, sending_step, asked_step, asked_nobody}
 use Rattle.life.proofs.SoundLemmas.{there}
-use Rattle.life.proofs.ReadLemmas.{filter_at_most, left_at_most, left_above, above_less, reads_begin, reads_on}
+use Rattle.jobs.proofs.ReadLemmas.{filter_at_most, left_at_most, left_above, above_less, reads_begin, reads_on}
 use Rattle.life.proofs.machine.Machine.send_to_all.Goals as goal
 
 pub loop-next-init : goal.loop-next-init
@@ -20,6 +20,7 @@ loop-next-init g c =
     let i = c.next_target-next.ensures.regular in
     let all = walk_begins (is_target r target) s.processes c.next_target-next.result i.rising (λ p r e. (i.bounded p r e).least) c.next_target-next.ensures.next in
     rw c.next_target-next.ensures.same record {
+      losing = c.next_target-next.ensures.losing;
       there = c.next_target-next.ensures.next.there;
       read =
           let less = left_at_most c.next_target-next.result s.processes in
@@ -46,6 +47,7 @@ loop-next-preserved g c =
     c.next_target-next-in-Some.ensures.regular.rising (ap (λ (t : State). t.processes) c.next_target-next-in-Some.ensures.same) c.next_target-next-in-Some.ensures.next in
     let it = there (lookup pid rs) (subst (λ (o : Option ℕ). IfSome o (λ q. IsSome (lookup q rs))) c.in-Some.is c.loop-next.invariant.there) in
     record {
+      losing = c.next_target-next-in-Some.ensures.losing ∙ c.send_to_one.ensures.losing ∙ c.loop-next.invariant.losing;
       there = subst (λ (t : State). IfSome next (λ q. IsSome (lookup q t.processes))) (sym c.next_target-next-in-Some.ensures.same) c.next_target-next-in-Some.ensures.next.there;
       read =
           let k = slots_of_send sig in
@@ -106,3 +108,6 @@ returns-clause-asked g c =
     sym (ap (λ (o : Option ℕ). asking_signalled r c.args.sig.now (targets r c.args.target.now (left_of o m.state.processes)) m.state.processes order m.asked) c.in_default.is
     ∙ ap (λ qs. asking_signalled r c.args.sig.now qs m.state.processes order m.asked) (targets_none r _) ∙ asked_nobody r c.args.sig.now m.state.processes order m.asked)
     ∙ c.loop-next.invariant.asked
+
+pub returns-clause-losing : goal.returns-clause-losing
+returns-clause-losing g c = c.loop-next.invariant.losing

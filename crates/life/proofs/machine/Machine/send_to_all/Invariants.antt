@@ -13,6 +13,7 @@ abbrev pub invariant-loop-next : goal.invariant-loop-next
 invariant-loop-next g l =
     let r = process_like l.me in let now = l.self.state in let first = l.fn.self.state in
     record {
+      losing : l.self.losing ≡ l.fn.self.losing;
       there : IfSome l.next (λ p. IsSome (lookup p now.processes));
       read : l.self.reads + (3 + slots_of_send l.sig) * length (left_of l.next now.processes) ≤ l.fn.self.reads + 2 + (3 + slots_of_send l.sig) * length first.processes;
       asked : asking_signalled r l.sig (targets r l.target (left_of l.next now.processes)) now.processes first.order l.self.asked ≡ asking_signalled r l.sig (targets r l.fn.target first.processes) first.processes first.order l.fn.self.asked;

@@ -1,10 +1,7 @@
-use Rattle.std.proofs.Common.{ap, sym, ◌∙◌, refl, subst}
-use Rattle.posix.specs.Processes.{Process}
-use Rattle.posix.specs.Alarms.{with_alarm}
+use Rattle.std.proofs.Common.{sym, refl, subst}
 use Rattle.posix.specs.Regular.{IsAhead}
 use Rattle.posix.proofs.RegularLemmas.{keeps_with_alarm, due_ahead}
 use Rattle.posix.proofs.TouchLemmas.{touches_unseen, unseen_with_alarm}
-use Rattle.proctable.proofs.Bodies.{changed_body, read_body}
 use Rattle.life.proofs.SoundLemmas.{found_in, sound_change, is_there}
 use Rattle.life.proofs.AskLemmas.{has_room, listed_change}
 use Rattle.life.proofs.ReportedLemmas.{reported_unseen}
@@ -21,7 +18,7 @@ note_alarm-requires g c = timed_room _ _ _ c.self.invariant.sound.regular c.self
 pub ticks_left-left-requires : goal.ticks_left-left-requires
 ticks_left-left-requires g c =
     let found = found_in _ _ (state_is c.self.view_is) c.args.pid c.requires.there.what c.requires.there.found in
-    let is = ap (λ (r : Process). r.alarm) (read_body _ c.args.pid c.update-body.result.now c.requires.there.what c.update-body.ensures.value found) in
+    let is = c.set_alarm-before.ensures.before c.requires.there.what found in
     subst (IsAhead c.self.inside.ticks) (sym is) (c.self.invariant.sound.regular.alarms c.args.pid c.requires.there.what found)
 
 pub invariant_of-self : goal.invariant_of-self
@@ -30,16 +27,17 @@ invariant_of-self g c =
     let me = c.requires.there in
     let found = found_in _ _ (state_is c.self.view_is) c.args.pid me.what me.found in
     let here = is_there _ me.what found in
-    let contents = g.met.K.Kin.puts m.table c.args.pid c.set_alarm.new.self ∙ changed_body _ c.update-body.ensures.rising c.args.pid c.update-body.result.now c.set_alarm.new.self (with_alarm c.due_in-due.result) c.update-body.ensures.value c.set_alarm.ensures in
+    let contents = c.set_alarm-before.ensures.processes in
     rw contents (record {
       sound = sound_change c.args.pid _ _ (keeps_with_alarm _ (rw c.due_in-due.ensures (due_ahead m.ticks c.args.ticks c.requires.few))) _ _ c.self.invariant.sound;
       listed = listed_change _ c.args.pid _ _ _ c.self.invariant.listed (unseen_with_alarm c.due_in-due.result).pid (touches_unseen _ c.args.pid _ (unseen_with_alarm c.due_in-due.result)) here c.ask.ensures.pids c.ask.ensures.room;
       reported = reported_unseen _ c.args.pid _ (unseen_with_alarm c.due_in-due.result) _ _ here c.self.invariant.reported;
       timed = timed_set _ c.args.pid _ _ _ _ _ me.what _ found me.living c.self.invariant.timed c.note_alarm.ensures.pids c.note_alarm.ensures.room c.note_alarm.ensures.earlier c.note_alarm.ensures.before;
+      noted = c.self.invariant.noted;
     })
 
 pub returns-clause-state : goal.returns-clause-state
 returns-clause-state g c =
     let m = c.self.inside in
-    let contents = g.met.K.Kin.puts m.table c.args.pid c.set_alarm.new.self ∙ changed_body _ c.update-body.ensures.rising c.args.pid c.update-body.result.now c.set_alarm.new.self (with_alarm c.due_in-due.result) c.update-body.ensures.value c.set_alarm.ensures in
+    let contents = c.set_alarm-before.ensures.processes in
     rw (contents, c.due_in-due.ensures, ← c.self.view_is) refl

@@ -1,13 +1,16 @@
-use Rattle.std.proofs.Common.{◌∙◌, ap, sym, refl, arith, [], ◌∷◌, ℕ}
+use Rattle.std.proofs.Common.{◌∙◌, ap, sym, subst, refl, arith, [], ◌∷◌, ℕ}
 use Rattle.posix.specs.Tables.{changed}
 use Rattle.posix.specs.States.{State, lose_place, is_in}
 use Rattle.posix.specs.Statuses.{stopped}
 use Rattle.posix.specs.Waits.{has_report}
 use Rattle.posix.specs.Notices.{noticed_of_change, child_signal, told_of_change, stopped_by}
 use Rattle.posix.specs.Delivery.{stop_process}
+use Rattle.posix.specs.Regular.{IsPlaced}
 use Rattle.posix.proofs.TableLemmas.{pid_looked}
+use Rattle.posix.proofs.RegularLemmas.{placed_least}
+use Rattle.pidset.specs.Numbers.{with_number}
 use Rattle.posix.proofs.ChangeLemmas.{lives_stopped}
-use Rattle.proctable.proofs.Bodies.{changed_body}
+use Rattle.life.specs.Machines.{MachineView}
 use Rattle.life.specs.Asking.{with_numbers, with_parent}
 use Rattle.life.proofs.SoundLemmas.{found_in, is_there}
 use Rattle.life.proofs.AskLemmas.{has_room, room_after}
@@ -27,12 +30,12 @@ unfolding stopped_by
 tell_parent-requires-clause-there g c =
     let same = state_is c.self.view_is ∙ c.parent-parent.ensures.same in
     let me = c.requires in
-    let contents = g.met.K.Kin.puts c.self.inside.table c.args.pid c.stop.new.self ∙ changed_body _ c.update.ensures.rising c.args.pid c.update.result.now c.stop.new.self (stopped_by c.args.sig) c.update.ensures.value c.stop.ensures in
+    let contents = c.stop.ensures.processes in
     rw contents (parent_after _ _ _ c.self.invariant.sound c.args.pid _ (stopped_by c.args.sig) (lives_stopped c.args.sig) me.what (found_in _ _ same c.args.pid me.what me.found) (c.parent-parent.ensures.value me.what me.found))
 
 pub tell_parent-requires-clause-none : goal.tell_parent-requires-clause-none
 tell_parent-requires-clause-none g c =
-    let contents = g.met.K.Kin.puts c.self.inside.table c.args.pid c.stop.new.self ∙ changed_body _ c.update.ensures.rising c.args.pid c.update.result.now c.stop.new.self (stopped_by c.args.sig) c.update.ensures.value c.stop.ensures in
+    let contents = c.stop.ensures.processes in
     rw contents (nobody_after _ c.self.invariant.sound.regular c.args.pid _ (stopped_by c.args.sig) (lives_stopped c.args.sig))
 
 pub tell_parent-requires-clause-few : goal.tell_parent-requires-clause-few
@@ -48,8 +51,8 @@ unfolding stopped_by has_report
 invariant_of-self g c =
     let same = state_is c.self.view_is ∙ c.parent-parent.ensures.same in
     let me = c.requires in
-    let contents = g.met.K.Kin.puts c.self.inside.table c.args.pid c.stop.new.self ∙ changed_body _ c.update.ensures.rising c.args.pid c.update.result.now c.stop.new.self (stopped_by c.args.sig) c.update.ensures.value c.stop.ensures in
-    let told = c.tell_parent.ensures.contents ∙ ap (λ w. changed c.parent-parent.result (noticed_of_change (child_signal c.args.pid w)) (g.K.Kin.contents (g.K.Kin.put c.self.inside.table c.args.pid c.stop.new.self))) c.stopped.ensures
+    let contents = c.stop.ensures.processes in
+    let told = c.tell_parent.ensures.processes ∙ ap (λ w. changed c.parent-parent.result (noticed_of_change (child_signal c.args.pid w)) c.stop.new.self.processes) c.stopped.ensures
     ∙ ap (changed c.parent-parent.result (noticed_of_change (child_signal c.args.pid (stopped c.args.sig)))) contents in
     let asked = c.tell_parent.ensures.pids ∙ ap (with_parent c.parent-parent.result) c.insert.ensures.pids in
     rw (told, c.drop_place.ensures.pids) (machine_left _ _ _ _ c.tell_parent.new.to_ask _ _ _ c.args.pid (let room = c.drop_place.ensures.room in omega (arith, room)) (ap (is_in c.args.pid) asked ∙ on_list c.args.pid c.parent-parent.result _)
@@ -60,9 +63,22 @@ pub returns-clause-state : goal.returns-clause-state
 unfolding told_of_change stop_process
 returns-clause-state g c = λ me found.
     let same = state_is c.self.view_is ∙ c.parent-parent.ensures.same in
-    let contents = g.met.K.Kin.puts c.self.inside.table c.args.pid c.stop.new.self ∙ changed_body _ c.update.ensures.rising c.args.pid c.update.result.now c.stop.new.self (stopped_by c.args.sig) c.update.ensures.value c.stop.ensures in
-    let told = c.tell_parent.ensures.contents ∙ ap (λ w. changed c.parent-parent.result (noticed_of_change (child_signal c.args.pid w)) (g.K.Kin.contents (g.K.Kin.put c.self.inside.table c.args.pid c.stop.new.self))) c.stopped.ensures
+    let contents = c.stop.ensures.processes in
+    let told = c.tell_parent.ensures.processes ∙ ap (λ w. changed c.parent-parent.result (noticed_of_change (child_signal c.args.pid w)) c.stop.new.self.processes) c.stopped.ensures
     ∙ ap (changed c.parent-parent.result (noticed_of_change (child_signal c.args.pid (stopped c.args.sig)))) contents in
     let named = pid_looked c.args.pid c.args.self.now.state.processes me found in
     let after = λ (n p : ℕ) (s : State). record (lose_place s p) { processes = changed n (noticed_of_change (child_signal p (stopped c.args.sig))) (changed p (stopped_by c.args.sig) s.processes) } in
     rw (told, c.drop_place.ensures.pids) (ap (after c.parent-parent.result c.args.pid) same ∙ ap (λ n. after n c.args.pid c.args.self.now.state) (c.parent-parent.ensures.value me found) ∙ ap (λ p. after me.parent p c.args.self.now.state) (sym named))
+
+pub insert-requires-2-clause-child : goal.insert-requires-2-clause-child
+insert-requires-2-clause-child g c =
+    let same = state_is c.self.view_is ∙ c.parent-parent.ensures.same in
+    placed_least _ c.self.invariant.sound.regular c.args.pid (subst (λ (s : State). IsPlaced s.processes c.args.pid) (sym same) c.requires)
+
+pub returns-clause-asked : goal.returns-clause-asked
+returns-clause-asked g c = λ me found.
+    let old = c.args.self.now.asked in
+    let asked = ap (λ (m : MachineView). m.asked) c.self.view_is ∙ c.parent-parent.ensures.asked in
+    let named = pid_looked c.args.pid c.args.self.now.state.processes me found in
+    c.tell_parent.ensures.pids ∙ ap (with_parent c.parent-parent.result) (c.insert.ensures.pids ∙ ap (with_number c.args.pid) asked)
+    ∙ ap (λ n. with_parent n (with_number c.args.pid old)) (c.parent-parent.ensures.value me found) ∙ ap (λ p. with_parent me.parent (with_number p old)) (sym named)

@@ -5,7 +5,6 @@ use Rattle.posix.specs.Tables.{lookup}
 use Rattle.posix.specs.Waits.{news_told}
 use Rattle.posix.proofs.RegularLemmas.{keeps_news_told}
 use Rattle.proctable.specs.declared.facts.Facts.{Facts}
-use Rattle.proctable.proofs.Bodies.{changed_body}
 use Rattle.pidset.specs.Children.{is_child_in}
 use Rattle.posix.proofs.NewsLemmas.{touches_told}
 use Rattle.life.specs.Machines.{MachineView}
@@ -26,8 +25,8 @@ unreachable-requires g c =
     let none = none_read _ (sym c.in_default.is ∙ c.get.ensures.value) in
     let no = subst IsSome none here in cc
 
-pub update-requires : goal.update-requires
-update-requires g c = subst (λ rs. IsSome (lookup c.args.pid rs)) (sym c.get.ensures.contents) (here_in c.args.pid (state_is c.self.view_is) c.requires)
+pub tell_news-requires : goal.tell_news-requires
+tell_news-requires g c = subst (λ rs. IsSome (lookup c.args.pid rs)) (sym c.get.ensures.processes) (here_in c.args.pid (state_is c.self.view_is) c.requires)
 
 pub invariant_of-self : goal.invariant_of-self
 invariant_of-self g c =
@@ -35,12 +34,13 @@ invariant_of-self g c =
     let it = there _ here in
     let facts = facts_are _ it.what c.in-Some.facts (sym c.in-Some.is ∙ c.get.ensures.value) it.found in
     let living = sym (ap (λ (f : Facts). is_zombie f.life) facts) ∙ ⊎_elim (ap is_zombie) (ap is_zombie) c.in-Running.is in
-    let contents = g.met.K.Kin.puts c.get.new.self c.args.pid c.tell_news.new.self ∙ changed_body _ c.update.ensures.rising c.args.pid c.update.result.now c.tell_news.new.self news_told c.update.ensures.value c.tell_news.ensures in
-    rw (contents, c.get.ensures.contents) (record {
+    let contents = c.tell_news.ensures.processes in
+    rw (contents, c.get.ensures.processes) (record {
       sound = sound_change c.args.pid _ _ keeps_news_told _ _ c.self.invariant.sound;
       listed = listed_change _ c.args.pid news_told _ _ c.self.invariant.listed (keeps_news_told {now = 0}).pid (touches_told _ c.args.pid) here c.ask.ensures.pids c.ask.ensures.room;
       reported = reported_no_news _ c.args.pid _ _ _ it.what it.found living c.self.invariant.reported (λ q d. c.remove.ensures.pairs q d ∙ ap (λ (f : Facts). not (q == f.parent && d == c.args.pid) && is_child_in q d c.self.inside.reporting.pairs) facts) c.remove.ensures.rising c.remove.ensures.room;
       timed = timed_change _ c.args.pid news_told untimed_news_told _ _ _ here c.self.invariant.timed;
+      noted = c.self.invariant.noted;
     })
 
 pub invariant_of-self-in_default-life : goal.invariant_of-self-in_default-life
@@ -49,34 +49,31 @@ invariant_of-self-in_default-life g c =
     let it = there _ here in
     let facts = facts_are _ it.what c.in-Some.facts (sym c.in-Some.is ∙ c.get.ensures.value) it.found in
     let dead = sym (ap (λ (f : Facts). is_zombie f.life) facts) ∙ ap is_zombie c.in_default-life.is in
-    let contents = g.met.K.Kin.puts c.get.new.self c.args.pid c.tell_news.new.self ∙ changed_body _ c.update.ensures.rising c.args.pid c.update.result.now c.tell_news.new.self news_told c.update.ensures.value c.tell_news.ensures in
-    rw (contents, c.get.ensures.contents) (record {
+    let contents = c.tell_news.ensures.processes in
+    rw (contents, c.get.ensures.processes) (record {
       sound = sound_change c.args.pid _ _ keeps_news_told _ _ c.self.invariant.sound;
       listed = listed_change _ c.args.pid news_told _ _ c.self.invariant.listed (keeps_news_told {now = 0}).pid (touches_told _ c.args.pid) here c.ask.ensures.pids c.ask.ensures.room;
       reported = reported_dead _ c.args.pid _ _ it.what it.found dead c.self.invariant.reported;
       timed = timed_change _ c.args.pid news_told untimed_news_told _ _ _ here c.self.invariant.timed;
+      noted = c.self.invariant.noted;
     })
 
 pub returns-in-Running : goal.returns-in-Running
 returns-in-Running g c =
-    let contents = g.met.K.Kin.puts c.get.new.self c.args.pid c.tell_news.new.self ∙ changed_body _ c.update.ensures.rising c.args.pid c.update.result.now c.tell_news.new.self news_told c.update.ensures.value c.tell_news.ensures in
-    let put = g.met.K.Kin.put_reads c.get.new.self c.args.pid c.tell_news.new.self in
-    let one = g.met.K.Kin.at_most_one (g.K.Kin.reads c.get.new.self) in
+    let contents = c.tell_news.ensures.processes in
     let seen = ap (λ (m : MachineView). m.reads) c.self.view_is in
     record {
-      state = rw (contents, c.get.ensures.contents, ← c.self.view_is) refl;
-      reads = omega (arith, put, one, seen, c.get.ensures.reads);
+      state = rw (contents, c.get.ensures.processes, ← c.self.view_is) refl;
+      reads = omega (arith, c.tell_news.ensures.reads, seen, c.get.ensures.reads);
       asked = c.ask.ensures.pids ∙ ap (λ (m : MachineView). asking c.args.pid m.state.order m.asked) c.self.view_is;
     }
 
 pub returns-in_default-life : goal.returns-in_default-life
 returns-in_default-life g c =
-    let contents = g.met.K.Kin.puts c.get.new.self c.args.pid c.tell_news.new.self ∙ changed_body _ c.update.ensures.rising c.args.pid c.update.result.now c.tell_news.new.self news_told c.update.ensures.value c.tell_news.ensures in
-    let put = g.met.K.Kin.put_reads c.get.new.self c.args.pid c.tell_news.new.self in
-    let one = g.met.K.Kin.at_most_one (g.K.Kin.reads c.get.new.self) in
+    let contents = c.tell_news.ensures.processes in
     let seen = ap (λ (m : MachineView). m.reads) c.self.view_is in
     record {
-      state = rw (contents, c.get.ensures.contents, ← c.self.view_is) refl;
-      reads = omega (arith, put, one, seen, c.get.ensures.reads);
+      state = rw (contents, c.get.ensures.processes, ← c.self.view_is) refl;
+      reads = omega (arith, c.tell_news.ensures.reads, seen, c.get.ensures.reads);
       asked = c.ask.ensures.pids ∙ ap (λ (m : MachineView). asking c.args.pid m.state.order m.asked) c.self.view_is;
     }

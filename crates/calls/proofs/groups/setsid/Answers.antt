@@ -1,0 +1,53 @@
+use Rattle.std.proofs.Common.{◌≡◌, ◌∙◌, ap, sym, subst, refl, true, pos, rules, to_z, of_z, w64}
+use Rattle.std.specs.Option.{IsSome}
+use Rattle.posix.specs.declared.call.Call.TheVariants.{Setsid}
+use Rattle.posix.specs.States.{State, process, change}
+use Rattle.posix.specs.Outcomes.{gives, refused, refusal}
+use Rattle.posix.specs.GroupCalls.{in_session}
+use Rattle.posix.specs.Attempts.{attempt}
+use Rattle.posix.proofs.TableLemmas.{pid_looked}
+use Rattle.posix.proofs.OrderLemmas.{placed_some}
+use Rattle.calls.proofs.CallLemmas.{gives_is}
+use Rattle.calls.proofs.GroupCallLemmas.{has_led, has_not_led, session_led, session_refused, there_led}
+use Rattle.calls.proofs.groups.setsid.Goals as goal
+
+pub gives-requires-clause-there : goal.gives-requires-clause-there
+gives-requires-clause-there g c =
+    let s = c.args.machine.now.state in
+    let p = c.args.pid in
+    let me = c.requires.placed in
+    let led = has_led s _ p me.what _ _ c.in-Ok.is (c.new_session.ensures.refused me.what me.found) (c.new_session.ensures.leads me.what me.found) in
+    subst (λ (t : State). IsSome (process t p)) (sym led.state) (there_led s p (placed_some s.processes p me))
+
+pub refuse-requires-clause-there : goal.refuse-requires-clause-there
+refuse-requires-clause-there g c =
+    let s = c.args.machine.now.state in
+    let p = c.args.pid in
+    let me = c.requires.placed in
+    let stays = has_not_led s _ p me.what _ _ c.in-Err.is (c.new_session.ensures.refused me.what me.found) (c.new_session.ensures.leads me.what me.found) in
+    subst (λ (t : State). IsSome (process t p)) (sym stays.state) (placed_some s.processes p me)
+
+pub returns-in-Ok : goal.returns-in-Ok
+unfolding attempt
+returns-in-Ok g c = λ me e.
+    let s = c.args.machine.now.state in
+    let p = c.args.pid in
+    let named = pid_looked p s.processes me e in
+    let led = has_led s _ p me _ _ c.in-Ok.is (c.new_session.ensures.refused me e) (c.new_session.ensures.leads me e) in
+    let kept : to_z w64 (of_z w64 c.from.result) ≡ c.from.result = search rules in (
+      true,
+      gives_is s (change s p in_session) _ _ _ p Setsid _ (pos p) _ _ _ (session_led s me led.may ∙ ap (λ q. gives (change s q in_session) q Setsid (pos q)) named)
+          c.gives.ensures.done c.gives.ensures.state led.state c.gives.ensures.shown (kept ∙ c.from.ensures ∙ ap pos c.number.ensures.value),
+    )
+
+pub returns-in-Err : goal.returns-in-Err
+unfolding attempt
+returns-in-Err g c = λ me e.
+    let s = c.args.machine.now.state in
+    let p = c.args.pid in
+    let named = pid_looked p s.processes me e in
+    let stays = has_not_led s _ p me _ _ c.in-Err.is (c.new_session.ensures.refused me e) (c.new_session.ensures.leads me e) in (
+      true,
+      gives_is s s _ _ _ p Setsid (refusal c.in-Err.errno) _ _ _ _ (session_refused s me stays.refused ∙ ap (λ why. refused s me.pid Setsid why) (sym stays.errno) ∙ ap (λ q. refused s q Setsid c.in-Err.errno) named)
+          c.refuse.ensures.done c.refuse.ensures.state stays.state c.refuse.ensures.shown refl,
+    )

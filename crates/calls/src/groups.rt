@@ -1,0 +1,91 @@
+//! Process groups and sessions (XSH getpgid, getsid, setpgid, setsid).
+
+ghost use Rattle.std.specs.Prelude.{◌≡◌, ◌≤◌, length, IsSome, Some, option_map};
+ghost use Rattle.posix.specs.Processes.{Process, argument};
+ghost use Rattle.posix.specs.States.{process};
+ghost use Rattle.posix.specs.Regular.{IsPlaced};
+ghost use Rattle.posix.specs.GroupCalls.{named as named_by};
+ghost use Rattle.proctable.specs.Body.{facts_of};
+ghost use Rattle.calls.specs.Outcomes.{Attempts};
+
+use crate::attempts::{gives, refuse};
+use crate::entries::Entries;
+use life::Machine;
+use posix::{Blocked, Call, Errno, Pid, Register};
+use proctable::{Facts, Kin};
+
+/// The small fields of the process that the first argument of a caller that is there names, 0 being the
+/// caller; none where no process has that number. Nothing changes.
+fn named<K: Kin>(machine: &mut Machine<K>, pid: Pid) -> Option<Facts>
+    requires { IsSome (process machine.old.state pid) }
+    ensures value { (me : Process) → process machine.old.state pid ≡ Some me → result ≡ option_map facts_of (named_by me (argument me 1) machine.old.state.processes) }
+    ensures same { machine.new.state ≡ machine.old.state }
+{
+    let word = machine.look(pid).cpu.register(Register::FIRST_ARGUMENT);
+    machine.named(pid, word)
+}
+
+/// The process group of the process that r1 names, 0 being the caller (XSH getpgid).
+#[tactic(auto, unfolding(posix::specs::Attempts::attempt, posix::specs::GroupCalls::getpgid))]
+pub fn getpgid<K: Kin>(machine: &mut Machine<K>, pid: Pid, entries: &mut Entries) -> Option<Blocked>
+    requires there { IsSome (process machine.old.state pid) }
+    requires room { length entries.old.items ≤ 1 }
+    ensures { Attempts machine.old.state pid Call.Getpgid result entries.old.items entries.new.items machine.new.state }
+{
+    let Some(it) = named(machine, pid) else {
+        return refuse(machine, pid, Call::Getpgid, Errno::ESRCH, entries);
+    };
+    gives(
+        machine,
+        pid,
+        Call::Getpgid,
+        i64::from(it.group.number()),
+        entries,
+    )
+}
+
+/// The session of the process that r1 names, 0 being the caller (XSH getsid).
+#[tactic(auto, unfolding(posix::specs::Attempts::attempt, posix::specs::GroupCalls::getsid))]
+pub fn getsid<K: Kin>(machine: &mut Machine<K>, pid: Pid, entries: &mut Entries) -> Option<Blocked>
+    requires there { IsSome (process machine.old.state pid) }
+    requires room { length entries.old.items ≤ 1 }
+    ensures { Attempts machine.old.state pid Call.Getsid result entries.old.items entries.new.items machine.new.state }
+{
+    let Some(it) = named(machine, pid) else {
+        return refuse(machine, pid, Call::Getsid, Errno::ESRCH, entries);
+    };
+    gives(
+        machine,
+        pid,
+        Call::Getsid,
+        i64::from(it.session.number()),
+        entries,
+    )
+}
+
+/// Moves the process that r1 names, the caller or a child, to the process group in r2 (XSH setpgid).
+#[tactic(auto, unfolding(posix::specs::Attempts::attempt, posix::specs::GroupCalls::setpgid))]
+pub fn setpgid<K: Kin>(machine: &mut Machine<K>, pid: Pid, entries: &mut Entries) -> Option<Blocked>
+    requires placed { IsPlaced machine.old.state.processes pid }
+    requires room { length entries.old.items ≤ 1 }
+    ensures { Attempts machine.old.state pid Call.Setpgid result entries.old.items entries.new.items machine.new.state }
+{
+    let me = machine.caller(pid);
+    match machine.move_group(&me) {
+        Ok(_) => gives(machine, pid, Call::Setpgid, 0, entries),
+        Err(errno) => refuse(machine, pid, Call::Setpgid, errno, entries),
+    }
+}
+
+/// The caller leads a session and a process group of its own (XSH setsid).
+#[tactic(auto, unfolding(posix::specs::Attempts::attempt, posix::specs::GroupCalls::setsid))]
+pub fn setsid<K: Kin>(machine: &mut Machine<K>, pid: Pid, entries: &mut Entries) -> Option<Blocked>
+    requires placed { IsPlaced machine.old.state.processes pid }
+    requires room { length entries.old.items ≤ 1 }
+    ensures { Attempts machine.old.state pid Call.Setsid result entries.old.items entries.new.items machine.new.state }
+{
+    match machine.new_session(pid) {
+        Ok(()) => gives(machine, pid, Call::Setsid, i64::from(pid.number()), entries),
+        Err(errno) => refuse(machine, pid, Call::Setsid, errno, entries),
+    }
+}

@@ -1,0 +1,31 @@
+//! Programs that processes run in place of their own (XSH exec).
+
+ghost use Rattle.std.specs.Prelude.{◌≡◌, ◌≤◌, length, IsSome};
+ghost use Rattle.posix.specs.States.{process};
+ghost use Rattle.calls.specs.Outcomes.{Attempts};
+
+use crate::attempts::refuse;
+use crate::entries::Entries;
+use life::Machine;
+use posix::{Blocked, Call, Entry, Errno, Pid, Register};
+use proctable::Kin;
+
+/// Runs the program in r1 in place of the caller's own. The pc doesn't move on: it is where the program
+/// begins (XSH exec).
+#[tactic(auto, unfolding(posix::specs::Attempts::attempt, posix::specs::Programs::exec))]
+pub fn exec<K: Kin>(machine: &mut Machine<K>, pid: Pid, entries: &mut Entries) -> Option<Blocked>
+    requires there { IsSome (process machine.old.state pid) }
+    requires room { length entries.old.items ≤ 1 }
+    ensures { Attempts machine.old.state pid Call.Exec result entries.old.items entries.new.items machine.new.state }
+{
+    let word = machine.look(pid).cpu.register(Register::FIRST_ARGUMENT);
+    if !machine.exec_named(pid, word) {
+        return refuse(machine, pid, Call::Exec, Errno::ENOENT, entries);
+    }
+    entries.push(Entry::Called {
+        pid,
+        call: Call::Exec,
+        result: 0,
+    });
+    None
+}

@@ -1,0 +1,19 @@
+use Rattle.std.proofs.Common.{◌≡◌, ◌+◌, ◌*◌, ◌≤◌, filter, length}
+use Rattle.posix.specs.Groups.{is_anchor}
+use Rattle.posix.specs.Tables.{members_in, first_pid, left_of}
+use Rattle.jobs.proofs.job_table.JobTable.anchors.Given as goal
+
+-- those that were counted, and those that are left, are all that keep the group from being orphaned
+abbrev pub invariant-loop-next : goal.invariant-loop-next
+invariant-loop-next g l =
+    let rs = l.fn.self.processes in
+    record {
+      same : l.self.processes ≡ l.fn.self.processes;
+      room : l.self.room ≡ l.fn.self.room;
+      read : l.self.reads + 4 * length (left_of l.next rs) ≤ l.fn.self.reads + 2 + 4 * length rs;
+      begins : first_pid (left_of l.next (members_in l.group rs)) ≡ l.next;
+      counted : l.count + length (filter (is_anchor rs) (left_of l.next (members_in l.group rs))) ≡ length (filter (is_anchor rs) (members_in l.group rs));
+    }
+
+abbrev pub decreases-loop-next : goal.decreases-loop-next
+decreases-loop-next g l = length (left_of l.next (members_in l.group l.fn.self.processes))

@@ -1,0 +1,16 @@
+use Rattle.std.proofs.Common.{◌∙◌, refl}
+use Rattle.proctable.proofs.Bodies.{same_body}
+use Rattle.jobs.proofs.KeptLemmas.{kept_body}
+use Rattle.jobs.proofs.LoanLemmas.{own_at}
+use Rattle.jobs.proofs.job_table.JobTable.look.Goals as goal
+
+pub invariant_of-self : goal.invariant_of-self
+invariant_of-self g c = kept_body _ _ _ c.update-seen.ensures.rising c.args.pid c.update-seen.result.now c.update-seen.result.now c.update-seen.ensures.value (g.met.K.Kin.puts _ _ _) refl c.self.invariant
+
+pub returns : goal.returns
+returns g c =
+    let b = c.update-seen.result.now in
+    let same = g.met.K.Kin.puts c.self.inside.table c.args.pid b ∙ same_body _ c.update-seen.ensures.rising c.args.pid b c.update-seen.ensures.value in (
+      (refl, λ _. tt, rw (← c.self.view_is, same, g.met.K.Kin.put_reads c.self.inside.table c.args.pid b, g.met.K.Kin.keeps_room c.self.inside.table c.args.pid b) refl),
+      record { lends = tt; value = rw (← c.self.view_is) (own_at c.args.pid _ b _ c.update-seen.ensures.value); rising = rw (← c.self.view_is) c.update-seen.ensures.rising },
+    )

@@ -1,0 +1,14 @@
+use Rattle.std.proofs.Common.{◌∙◌, ap}
+use Rattle.posix.specs.Processes.{Process}
+use Rattle.posix.proofs.TouchLemmas.{unseen_ring}
+use Rattle.posix.specs.Alarms.{ring_at}
+use Rattle.proctable.proofs.Bodies.{changed_here}
+use Rattle.jobs.proofs.KeptLemmas.{kept_body}
+use Rattle.jobs.proofs.job_table.JobTable.ring_at.Goals as goal
+
+pub invariant_of-self : goal.invariant_of-self
+invariant_of-self g c = kept_body _ _ _ c.update-body.ensures.rising c.args.pid c.update-body.result.now c.ring_at.new.self c.update-body.ensures.value (g.met.K.Kin.puts _ _ _) (ap (λ (r : Process). r.life) (c.ring_at.ensures 0) ∙ (unseen_ring c.args.now).life _) c.self.invariant
+
+pub returns-clause-processes : goal.returns-clause-processes
+returns-clause-processes g c =
+    rw (← c.self.view_is) (g.met.K.Kin.puts c.self.inside.table c.args.pid c.ring_at.new.self ∙ changed_here _ c.update-body.ensures.rising c.args.pid c.update-body.result.now c.ring_at.new.self (ring_at c.args.now) c.update-body.ensures.value c.ring_at.ensures)

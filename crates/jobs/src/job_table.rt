@@ -1,0 +1,212 @@
+//! The table: who is there.
+
+ghost use Rattle.std.specs.Prelude.{◌≡◌, ◌≢◌, ◌+◌, ◌*◌, ◌<◌, ◌≤◌, ◌^◌, ◌⊎◌, [], ⊤, IfSome, IsSome, OnOk, None, true, not, if◌then◌else◌, length, option_map};
+ghost use mathlib.Core.Option.{none};
+ghost use Rattle.std.specs.Borrow.{sem, Lends, follows_so};
+ghost use Rattle.std.specs.List.{list_any};
+ghost use Rattle.posix.specs.Processes.{is_stopped as is_stopped_by};
+ghost use Rattle.posix.specs.Tables.{IsRising, lookup, inserted, removed, children_in, first_pid, next_above, next_sibling as next_sibling_of, adopted};
+ghost use Rattle.proctable.specs.Body.{process_of, facts_of, own_of, own_row};
+ghost use Rattle.jobs.specs.contracts.job_table.JobTable.{the_row as jobs_row};
+ghost use Rattle.jobs.specs.JobTables.{AreNumbers, lent, looked};
+
+use posix::{Life, Pid};
+use proctable::{Body, Facts, Kin, Own};
+use std::alloc::{AllocError, Global};
+use std::marker::Model;
+
+/// The processes of a machine, zombies included, seen as the list of their records in rising order of their
+/// numbers. None has number 0.
+///
+/// Methods that only read leave the processes and the room unchanged.
+#[derive(Drop)]
+pub struct JobTable<K: Kin> {
+    pub(crate) table: K,
+    /// How many processes are stopped.
+    pub(crate) stopped: u64,
+}
+
+impl<K: Kin> Model for JobTable<K> {
+    ghost use Rattle.jobs.specs.JobTables.{JobsView, IsKept};
+
+    ghost Value = { JobsView };
+
+    ghost view = { λ t. record { processes = K.contents t.table; room = K.room t.table; reads = K.reads t.table } };
+
+    ghost invariant = { λ t. IsKept t.stopped (K.contents t.table) };
+}
+
+impl<K: Kin> JobTable<K> {
+    /// A table without processes. It takes no memory.
+    pub fn empty(alloc: Global) -> Self
+        ensures processes { result.processes ≡ [] }
+        ensures reads { result.reads ≡ 0 }
+    {
+        JobTable {
+            table: K::empty(alloc),
+            stopped: 0,
+        }
+    }
+
+    /// Makes room for one more process. At an error the host has no memory for it, and the processes are
+    /// unchanged.
+    pub fn reserve(&mut self) -> Result<(), AllocError>
+        ensures ok { OnOk result (0 < self.new.room) }
+        ensures rising { IsRising self.old.processes }
+        ensures room { self.old.room ≤ self.new.room }
+        ensures processes { self.new.processes ≡ self.old.processes }
+        ensures reads { self.new.reads ≡ self.old.reads }
+    {
+        self.table.reserve()
+    }
+
+    /// Puts in a process that isn't there, where there is room for one. Its number isn't 0, and its parent is
+    /// there, or number 0. The others are unchanged.
+    pub fn insert(&mut self, pid: Pid, parent: Pid, body: Body)
+        requires room { 0 < self.old.room }
+        requires number { pid ≢ 0 }
+        requires fresh { lookup pid self.old.processes ≡ None }
+        requires parent { (parent ≡ 0) ⊎ IsSome (lookup parent self.old.processes) }
+        ensures rising { IsRising self.old.processes }
+        ensures processes { self.new.processes ≡ inserted (process_of pid parent body) self.old.processes }
+        ensures room { self.old.room ≤ self.new.room + 1 }
+        ensures reads { self.new.reads ≤ self.old.reads + 5 + length (children_in parent self.old.processes) }
+    {
+        let is = is_stopped(body.life);
+        self.table.insert(pid, parent, body);
+        self.stopped = recount(self.stopped, false, is);
+    }
+
+    /// The small fields of a process; none where it isn't there.
+    #[inline(always)]
+    pub fn get(&mut self, pid: Pid) -> Option<Facts>
+        ensures value { result ≡ option_map facts_of (lookup pid self.old.processes) }
+        ensures rising { IsRising self.old.processes }
+        ensures size { length self.old.processes < 2 ^ 63 }
+        ensures numbers { AreNumbers self.old.processes }
+        ensures processes { self.new.processes ≡ self.old.processes }
+        ensures room { self.new.room ≡ self.old.room }
+        ensures reads { self.new.reads ≤ self.old.reads + 1 }
+    {
+        self.table.get(pid)
+    }
+
+    /// Takes out a process without children. Its small fields; none, and nothing changes, where it isn't there.
+    pub fn remove(&mut self, pid: Pid) -> Option<Facts>
+        requires { children_in pid self.old.processes ≡ [] }
+        ensures value { result ≡ option_map facts_of (lookup pid self.old.processes) }
+        ensures rising { IsRising self.old.processes }
+        ensures processes { self.new.processes ≡ removed pid self.old.processes }
+        ensures room { self.old.room ≤ self.new.room }
+        ensures reads { self.new.reads ≤ self.old.reads + 5 }
+    {
+        let Some(facts) = self.table.get(pid) else {
+            return None;
+        };
+        self.table.remove(pid);
+        self.stopped = recount(self.stopped, is_stopped(facts.life), false);
+        Some(facts)
+    }
+
+    /// The child with the least number of a process that is there, zombies included; none where it has no
+    /// child.
+    pub fn first_child(&mut self, pid: Pid) -> Option<Pid>
+        requires { IsSome (lookup pid self.old.processes) }
+        ensures value { result ≡ first_pid (children_in pid self.old.processes) }
+        ensures rising { IsRising self.old.processes }
+        ensures processes { self.new.processes ≡ self.old.processes }
+        ensures room { self.new.room ≡ self.old.room }
+        ensures reads { self.new.reads ≤ self.old.reads + 1 }
+    {
+        self.table.first_child(pid)
+    }
+
+    /// Of the children of the same parent, the one with the least number above that of a process that is
+    /// there; none where there is no such child.
+    pub fn next_sibling(&mut self, pid: Pid) -> Option<Pid>
+        requires { IsSome (lookup pid self.old.processes) }
+        ensures value { result ≡ next_sibling_of pid self.old.processes }
+        ensures rising { IsRising self.old.processes }
+        ensures processes { self.new.processes ≡ self.old.processes }
+        ensures room { self.new.room ≡ self.old.room }
+        ensures reads { self.new.reads ≤ self.old.reads + 1 }
+    {
+        self.table.next_sibling(pid)
+    }
+
+    /// The process with the least number above `pid`, which need not be there; none where there is none.
+    pub fn next_after(&mut self, pid: Pid) -> Option<Pid>
+        ensures value { result ≡ next_above pid self.old.processes }
+        ensures rising { IsRising self.old.processes }
+        ensures numbers { AreNumbers self.old.processes }
+        ensures processes { self.new.processes ≡ self.old.processes }
+        ensures room { self.new.room ≡ self.old.room }
+        ensures reads { self.new.reads ≤ self.old.reads + 1 }
+    {
+        self.table.next_after(pid)
+    }
+
+    /// Gives the children of one process to another, which is there.
+    pub fn adopt(&mut self, from: Pid, to: Pid)
+        requires { IsSome (lookup to self.old.processes) }
+        ensures rising { IsRising self.old.processes }
+        ensures processes { self.new.processes ≡ adopted from to self.old.processes }
+        ensures room { self.new.room ≡ self.old.room }
+        ensures reads { self.new.reads ≤ self.old.reads + 1 + 8 * length (children_in from self.old.processes) + length (children_in to self.old.processes) }
+    {
+        self.table.adopt(from, to);
+    }
+
+    /// Whether no process is stopped. No slot is read.
+    pub fn nobody_stopped(&self) -> bool
+        ensures { result ≡ not (list_any (λ r. is_stopped_by r.life) self.now.processes) }
+    {
+        self.stopped == 0
+    }
+
+    /// How many slots have been read, up to the greatest u128; 0 over a table that doesn't count them.
+    pub fn visits(&self) -> u128
+        ensures { result ≡ self.now.reads }
+    {
+        self.table.visits()
+    }
+
+    /// Lends what a process that is there may change of itself. Nothing else changes.
+    #[inline]
+    pub fn own(&mut self, pid: Pid) -> &mut Own
+        requires { IsSome (lookup pid self.old.processes) }
+        ensures* lends { sem 𝓛 (Lends (jobs_row K.row K.Kin) own_row self.entry result (lent K.one_more self.old pid)) }
+        ensures value { IfSome (lookup pid self.old.processes) (λ me. result.now ≡ own_of me) }
+        ensures rising { IsRising self.old.processes }
+    {
+        let body = self.table.update(pid);
+        &mut body.own
+    }
+
+    /// Shows what a process that is there may change of itself. Nothing changes.
+    pub fn look(&mut self, pid: Pid) -> &Own
+        requires { IsSome (lookup pid self.old.processes) }
+        ensures* lends { sem 𝓛 (follows_so (jobs_row K.row K.Kin) (jobs_row K.row K.Kin) self.entry.ghost_name none (λ _ _. ⊤) (λ n. n ≡ looked K.one_more self.old)) }
+        ensures value { IfSome (lookup pid self.old.processes) (λ me. result.now ≡ own_of me) }
+        ensures rising { IsRising self.old.processes }
+    {
+        let seen = self.table.update(pid);
+        &seen.own
+    }
+}
+
+/// Whether a process with this life is stopped.
+pub(crate) fn is_stopped(life: Life) -> bool
+    ensures { result ≡ is_stopped_by life }
+{
+    matches!(life, Life::Stopped)
+}
+
+/// How many processes are stopped, once one that was stopped, or wasn't, is stopped, or isn't.
+pub(crate) fn recount(stopped: u64, was: bool, is: bool) -> u64
+    requires some { was ≡ true → 1 ≤ stopped }
+    requires few { stopped + 1 < 2 ^ 64 }
+    ensures { result + (if was then 1 else 0) ≡ stopped + (if is then 1 else 0) }
+{
+    stopped - u64::from(was) + u64::from(is)
+}

@@ -1,0 +1,221 @@
+//! Moves from one process group to another, and new sessions (XSH setpgid, setsid).
+
+ghost use Rattle.std.specs.Prelude.{◌≡◌, ◌+◌, ◌*◌, ◌≤◌, ◌==◌, ◌&&◌, ◌||◌, not, if◌then◌else◌, Option, Some, None, IsSome, IfOk, IfErr, OnOk, OnErr, is_ok, length, option_map};
+ghost use Rattle.posix.specs.declared.errno.Errno.TheVariants.{EPERM};
+ghost use Rattle.posix.specs.Processes.{Process};
+ghost use Rattle.posix.specs.Tables.{IsRising, lookup, changed};
+ghost use Rattle.posix.specs.GroupCalls.{named as named_by, is_group_of, group_meant as group_meant_by, can_join as can_join_by, can_move as can_move_by, move_to, in_group, is_group_of_others as is_group_of_others_by, in_session};
+ghost use Rattle.proctable.specs.Body.{facts_of};
+ghost use Rattle.jobs.specs.JobTables.{pid_in as pid_in_register};
+
+use crate::job_table::JobTable;
+use posix::{Errno, Pid};
+use proctable::{Facts, Kin};
+
+/// The number of a process that a register holds; none where no process can have it.
+fn pid_in(number: i64) -> Option<Pid>
+    ensures { result ≡ pid_in_register number }
+{
+    Pid::new(u32::try_from(number).ok()?)
+}
+
+/// The process group that is meant by a number: 0 stands for that of the process itself.
+fn group_meant(it: &Facts, group: u64) -> u64
+    ensures { (r : Process) → it.now ≡ facts_of r → result ≡ group_meant_by r group }
+{
+    if group == 0 {
+        u64::from(it.pid.number())
+    } else {
+        group
+    }
+}
+
+impl<K: Kin> JobTable<K> {
+    /// The process that a register names: 0 is the caller.
+    fn named(&mut self, me: &Facts, number: i64) -> Option<Facts>
+        ensures value { (caller : Process) → me.now ≡ facts_of caller → result ≡ option_map facts_of (named_by caller number self.old.processes) }
+        ensures processes { self.new.processes ≡ self.old.processes }
+        ensures room { self.new.room ≡ self.old.room }
+        ensures reads { self.new.reads ≤ self.old.reads + 1 }
+    {
+        if number == 0 {
+            Some(*me)
+        } else {
+            self.get(pid_in(number).unwrap_or(Pid::NONE))
+        }
+    }
+
+    /// The process group of a process, where it has this number and is one of this session.
+    fn group_at(&mut self, pid: Pid, session: Pid, group: u64) -> Option<Pid>
+        ensures value { (it : Process) → lookup pid self.old.processes ≡ Some it → result ≡ (if it.session == session && it.group == group then Some group else None) }
+        ensures processes { self.new.processes ≡ self.old.processes }
+        ensures room { self.new.room ≡ self.old.room }
+        ensures reads { self.new.reads ≤ self.old.reads + 1 }
+    {
+        let facts = self.get(pid)?;
+        if facts.session == session && u64::from(facts.group.number()) == group {
+            Some(facts.group)
+        } else {
+            None
+        }
+    }
+
+    /// The process group with this number, where it is one of this session, zombies being members.
+    fn group_of(&mut self, session: Pid, group: u64) -> Option<Pid>
+        ensures value { result ≡ (if is_group_of session group self.old.processes then Some group else None) }
+        ensures processes { self.new.processes ≡ self.old.processes }
+        ensures room { self.new.room ≡ self.old.room }
+        ensures reads { self.new.reads ≤ self.old.reads + 1 + 2 * length self.old.processes }
+    {
+        let mut next = self.next_after(Pid::NONE);
+        while let Some(pid) = next {
+            if let Some(found) = self.group_at(pid, session, group) {
+                return Some(found);
+            }
+            next = self.next_after(pid);
+        }
+        None
+    }
+
+    /// Which process group a process would join, or why not, for a caller of this session: one of its own
+    /// number, or one of that session, unless it leads a session or is in another one.
+    fn can_join(&mut self, me: &Facts, it: &Facts, group: u64) -> Result<Pid, Errno>
+        ensures value { (caller r : Process) → me.now ≡ facts_of caller → it.now ≡ facts_of r → result ≡ can_join_by caller r group self.old.processes }
+        ensures processes { self.new.processes ≡ self.old.processes }
+        ensures room { self.new.room ≡ self.old.room }
+        ensures reads { self.new.reads ≤ self.old.reads + 1 + 2 * length self.old.processes }
+    {
+        if it.session != me.session || it.session == it.pid {
+            return Err(Errno::EPERM);
+        }
+        if u64::from(it.pid.number()) == group {
+            return Ok(it.pid);
+        }
+        match self.group_of(me.session, group) {
+            Some(group) => Ok(group),
+            None => Err(Errno::EPERM),
+        }
+    }
+
+    /// Which process group a process would move to for a caller, or why not: the caller may move itself, and a
+    /// child of its session that hasn't run exec since its birth.
+    fn can_move(&mut self, me: &Facts, it: &Facts, group: u64) -> Result<Pid, Errno>
+        ensures value { (caller r : Process) → me.now ≡ facts_of caller → it.now ≡ facts_of r → result ≡ can_move_by caller r group self.old.processes }
+        ensures processes { self.new.processes ≡ self.old.processes }
+        ensures room { self.new.room ≡ self.old.room }
+        ensures reads { self.new.reads ≤ self.old.reads + 1 + 2 * length self.old.processes }
+    {
+        if it.pid != me.pid {
+            if it.parent != me.pid {
+                return Err(Errno::ESRCH);
+            }
+            if it.session != me.session {
+                return Err(Errno::EPERM);
+            }
+            if it.ran_exec {
+                return Err(Errno::EACCES);
+            }
+        }
+        self.can_join(me, it, group)
+    }
+
+    /// Which process group the process that a caller named would move to, or why not.
+    fn judge(&mut self, me: &Facts, target: &Option<Facts>, group: i64) -> Result<Pid, Errno>
+        ensures value { (caller : Process) (named : Option Process) → me.now ≡ facts_of caller → target.now ≡ option_map facts_of named → result ≡ move_to caller named group self.old.processes }
+        ensures processes { self.new.processes ≡ self.old.processes }
+        ensures room { self.new.room ≡ self.old.room }
+        ensures reads { self.new.reads ≤ self.old.reads + 1 + 2 * length self.old.processes }
+    {
+        let Ok(group) = u64::try_from(group) else {
+            return Err(Errno::EINVAL);
+        };
+        match target {
+            Some(it) => {
+                let group = group_meant(it, group);
+                self.can_move(me, it, group)
+            }
+            None => Err(Errno::ESRCH),
+        }
+    }
+
+    /// A process that is there is in this process group.
+    fn set_group(&mut self, pid: Pid, group: Pid)
+        requires { IsSome (lookup pid self.old.processes) }
+        ensures processes { self.new.processes ≡ changed pid (in_group group) self.old.processes }
+        ensures room { self.new.room ≡ self.old.room }
+        ensures reads { self.new.reads ≤ self.old.reads + 1 }
+    {
+        self.table.update(pid).group = group;
+    }
+
+    /// A process that is there leads a session and a process group of its own.
+    fn set_session(&mut self, pid: Pid)
+        requires { IsSome (lookup pid self.old.processes) }
+        ensures processes { self.new.processes ≡ changed pid in_session self.old.processes }
+        ensures room { self.new.room ≡ self.old.room }
+        ensures reads { self.new.reads ≤ self.old.reads + 1 }
+    {
+        let body = self.table.update(pid);
+        body.session = pid;
+        body.group = pid;
+    }
+
+    /// The process that a caller names moves to the process group that is named; 0 stands for the caller, and
+    /// for the number of the process itself. The number of the group. At an error the caller may not move it,
+    /// or it or the group isn't there, and nothing changes (XSH setpgid).
+    pub fn move_group(&mut self, me: Pid, target: i64, group: i64) -> Result<Pid, Errno>
+        requires { IsSome (lookup me self.old.processes) }
+        ensures value { (caller : Process) → lookup me self.old.processes ≡ Some caller → result ≡ move_to caller (named_by caller target self.old.processes) group self.old.processes }
+        ensures ok { IfOk result (λ to. (caller r : Process) → lookup me self.old.processes ≡ Some caller → named_by caller target self.old.processes ≡ Some r → self.new.processes ≡ changed r.pid (in_group to) self.old.processes) }
+        ensures err { OnErr result (self.new.processes ≡ self.old.processes) }
+        ensures rising { IsRising self.old.processes }
+        ensures room { self.new.room ≡ self.old.room }
+        ensures reads { self.new.reads ≤ self.old.reads + 4 + 2 * length self.old.processes }
+    {
+        let Some(caller) = self.get(me) else {
+            unreachable!()
+        };
+        let target = self.named(&caller, target);
+        let answer = self.judge(&caller, &target, group);
+        if let Some(it) = target {
+            if let Ok(group) = answer {
+                self.set_group(it.pid, group);
+            }
+        }
+        answer
+    }
+
+    /// Whether a process is there in the process group with the number of another, zombies included.
+    fn is_group_of_others(&mut self, pid: Pid) -> bool
+        ensures value { (it : Process) → lookup pid self.old.processes ≡ Some it → result ≡ is_group_of_others_by it self.old.processes }
+        ensures processes { self.new.processes ≡ self.old.processes }
+        ensures room { self.new.room ≡ self.old.room }
+        ensures reads { self.new.reads ≤ self.old.reads + 4 + 4 * length self.old.processes }
+    {
+        let Some(first) = self.next_member(pid, Pid::NONE) else {
+            return false;
+        };
+        first != pid || self.next_member(pid, pid).is_some()
+    }
+
+    /// A process that is there leads a session and a process group of its own. EPERM, and nothing changes,
+    /// where it leads a process group, or another process is in one with its number (XSH setsid).
+    pub fn new_session(&mut self, me: Pid) -> Result<(), Errno>
+        requires { IsSome (lookup me self.old.processes) }
+        ensures test { (caller : Process) → lookup me self.old.processes ≡ Some caller → is_ok result ≡ not (caller.group == caller.pid || is_group_of_others_by caller self.old.processes) }
+        ensures ok { OnOk result (self.new.processes ≡ changed me in_session self.old.processes) }
+        ensures err { IfErr result (λ why. (why ≡ EPERM) × (self.new.processes ≡ self.old.processes)) }
+        ensures rising { IsRising self.old.processes }
+        ensures room { self.new.room ≡ self.old.room }
+        ensures reads { self.new.reads ≤ self.old.reads + 6 + 4 * length self.old.processes }
+    {
+        let Some(caller) = self.get(me) else {
+            unreachable!()
+        };
+        if caller.group == me || self.is_group_of_others(me) {
+            return Err(Errno::EPERM);
+        }
+        self.set_session(me);
+        Ok(())
+    }
+}

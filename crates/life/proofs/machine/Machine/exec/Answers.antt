@@ -1,0 +1,39 @@
+use Rattle.std.proofs.Common.{◌≡◌, ◌∙◌, ap, sym, refl, Some, None, slice_get}
+use Rattle.posix.specs.States.{State, Program, change}
+use Rattle.posix.specs.Programs.{executed}
+use Rattle.life.proofs.SoundLemmas.{here_in}
+use Rattle.life.proofs.AskLemmas.{has_room}
+use Rattle.life.proofs.CodeLemmas.{get_some, get_none}
+use Rattle.life.proofs.LoanLemmas.{machine_lent, was_written}
+use Rattle.life.proofs.ViewLemmas.{state_is}
+use Rattle.life.proofs.machine.Machine.exec.Goals as goal
+
+pub ask-requires : goal.ask-requires
+ask-requires g c = has_room _ _ c.self.invariant.sound.regular c.self.invariant.listed
+
+pub invariant_of-self : goal.invariant_of-self
+invariant_of-self g c = machine_lent _ _ _ _ _ _ _ _ c.args.pid c.exec.new.self (here_in c.args.pid (state_is c.self.view_is) c.requires) c.self.invariant c.ask.ensures.pids c.ask.ensures.room
+
+pub returns-in-Some-clause-done : goal.returns-in-Some-clause-done
+returns-in-Some-clause-done g c = λ program e.
+    let all = c.programs.ensures.value ∙ ap (λ (s : State). s.world.programs) (state_is c.self.view_is) in
+    let at = get_some _ _ _ (c.in-Some.ensures.lookup.0, c.in-Some.ensures.lookup.1) in
+    let both : Some program ≡ Some c.in-Some.program.now = sym e ∙ ap (λ ps. slice_get ps c.args.number) (sym all) ∙ ap (λ n. slice_get c.programs.result.now n) (sym c.from.ensures) ∙ at in
+    let is : c.in-Some.program.now ≡ program = cc in
+    let regular = c.self.invariant.sound.regular in
+    let did = was_written _ c.args.pid c.own.result.now c.exec.new.self (executed c.args.number c.in-Some.program.now) regular c.own.ensures.value (λ r. c.exec.ensures c.in-Some.program.now r (sym c.setuid.ensures) (sym c.setgid.ensures)) in
+    (refl, did ∙ ap (λ (s : State). change s c.args.pid (executed c.args.number c.in-Some.program.now)) (state_is c.self.view_is) ∙ ap (λ (x : Program). change c.args.self.now.state c.args.pid (executed c.args.number x)) is)
+
+pub returns-in-Some-clause-none : goal.returns-in-Some-clause-none
+returns-in-Some-clause-none g c = λ e.
+    let all = c.programs.ensures.value ∙ ap (λ (s : State). s.world.programs) (state_is c.self.view_is) in
+    let at = get_some _ _ _ (c.in-Some.ensures.lookup.0, c.in-Some.ensures.lookup.1) in
+    let no : None ≡ Some c.in-Some.program.now = sym e ∙ ap (λ ps. slice_get ps c.args.number) (sym all) ∙ ap (λ n. slice_get c.programs.result.now n) (sym c.from.ensures) ∙ at in
+    absurd (cc)
+
+pub returns-in-None-clause-done : goal.returns-in-None-clause-done
+returns-in-None-clause-done g c = λ program e.
+    let all = c.programs.ensures.value ∙ ap (λ (s : State). s.world.programs) (state_is c.self.view_is) in
+    let at = get_none _ _ c.in-None.ensures.lookup.0 in
+    let no : Some program ≡ None = sym e ∙ ap (λ ps. slice_get ps c.args.number) (sym all) ∙ ap (λ n. slice_get c.programs.result.now n) (sym c.from.ensures) ∙ at in
+    absurd (cc)

@@ -1,0 +1,48 @@
+//! What a register names to a call: a process, or a program.
+
+ghost use Rattle.std.specs.Prelude.{◌≡◌, ℕ, ◌+◌, ◌≤◌, pos, true, false, IsSome, Some, None, option_map, slice_get};
+ghost use Rattle.posix.specs.Processes.{Process};
+ghost use Rattle.posix.specs.States.{Program, process, change};
+ghost use Rattle.posix.specs.GroupCalls.{named as named_by};
+ghost use Rattle.posix.specs.Programs.{executed};
+ghost use Rattle.posix.specs.Regular.{IsRegular};
+ghost use Rattle.proctable.specs.Body.{facts_of};
+
+use crate::machine::Machine;
+use posix::Pid;
+use proctable::{Facts, Kin};
+
+impl<K: Kin> Machine<K> {
+    /// The small fields of the process that a word names to a caller that is there: 0 is the caller itself.
+    /// None where no process has that number, a negative one too (XSH getpgid, getsid). Nothing changes.
+    pub fn named(&mut self, me: Pid, word: i64) -> Option<Facts>
+        requires { IsSome (process self.old.state me) }
+        ensures value { (it : Process) → process self.old.state me ≡ Some it → result ≡ option_map facts_of (named_by it word self.old.state.processes) }
+        ensures same { self.new.state ≡ self.old.state }
+        ensures reads { self.new.reads ≤ self.old.reads + 1 }
+        ensures asked { self.new.asked ≡ self.old.asked }
+        ensures regular { IsRegular self.old.state }
+    {
+        if word == 0 {
+            return self.facts(me);
+        }
+        if word < 0 || word > i64::from(self.world.pidmax()) {
+            return None;
+        }
+        self.facts(Pid::new(word as u32)?)
+    }
+
+    /// A process that is there runs the program that a word names in place of its own, and true is the answer;
+    /// where there is no such program nothing changes, and it is false (XSH exec).
+    pub fn exec_named(&mut self, pid: Pid, word: i64) -> bool
+        requires { IsSome (process self.old.state pid) }
+        ensures done { (n : ℕ) (program : Program) → word ≡ pos n → slice_get self.old.state.world.programs n ≡ Some program → (result ≡ true) × (self.new.state ≡ change self.old.state pid (executed n program)) }
+        ensures none { ((n : ℕ) → word ≡ pos n → slice_get self.old.state.world.programs n ≡ None) → (result ≡ false) × (self.new.state ≡ self.old.state) }
+        ensures reads { self.new.reads ≤ self.old.reads + 1 }
+    {
+        if word < 0 || word >= self.world.programs().len() as i64 {
+            return false;
+        }
+        self.exec(pid, word as u8)
+    }
+}

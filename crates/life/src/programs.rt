@@ -1,0 +1,33 @@
+//! Programs that a process runs in place of its own (XSH exec).
+
+ghost use Rattle.std.specs.Prelude.{◌≡◌, ◌+◌, ◌≤◌, IsSome, Some, None, true, false, slice_get};
+ghost use Rattle.posix.specs.States.{Program, process, change};
+ghost use Rattle.posix.specs.Programs.{executed};
+ghost use Rattle.life.specs.Asking.{asking};
+
+use crate::asking::ask;
+use crate::machine::Machine;
+use posix::Pid;
+use proctable::Kin;
+
+impl<K: Kin> Machine<K> {
+    /// A process that is there runs the program with this number in place of its own, and true is the answer;
+    /// where there is no such program nothing changes, and it is false (XSH exec).
+    pub fn exec(&mut self, pid: Pid, number: u8) -> bool
+        requires { IsSome (process self.old.state pid) }
+        ensures done { (program : Program) → slice_get self.old.state.world.programs number ≡ Some program → (result ≡ true) × (self.new.state ≡ change self.old.state pid (executed number program)) }
+        ensures none { slice_get self.old.state.world.programs number ≡ None → (result ≡ false) × (self.new.state ≡ self.old.state) }
+        ensures reads { self.new.reads ≤ self.old.reads + 1 }
+    {
+        match self.world.programs().get(usize::from(number)) {
+            Some(program) => {
+                ask(&mut self.to_ask, &self.order, pid);
+                self.table
+                    .own(pid)
+                    .exec(number, program.setuid(), program.setgid());
+                true
+            }
+            None => false,
+        }
+    }
+}

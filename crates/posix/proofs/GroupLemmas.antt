@@ -1,0 +1,139 @@
+-- Calls on process groups, sessions and programs keep a state regular.
+use Rattle.std.proofs.Common.{◌≡◌, ◌≢◌, ℕ, ◌≤◌, Bool, true, false, cond, not, ◌&&◌, ◌||◌, ◌==◌, refl, ap, sym, ◌∙◌, arith, subst, List, [], ◌∷◌, Some, Ok, Err, ⊎_elim}
+use Rattle.std.specs.List.{list_any, AllByRecursion}
+use Rattle.std.proofs.lemmas.Bool.{eqb-true, eq-eqb, ne_eqb, and_parts, or_cases}
+use Rattle.posix.specs.declared.errno.Errno.TheVariants.{EPERM, ESRCH, EACCES}
+use Rattle.posix.specs.Processes.{Process}
+use Rattle.posix.specs.Tables.{IsRising, lookup}
+use Rattle.posix.specs.States.{State, Program, change}
+use Rattle.posix.specs.Regular.{IsRegular}
+use Rattle.posix.specs.Programs.{executed}
+use Rattle.posix.specs.GroupCalls.{is_group_of, group_meant, can_join, can_move, move_of, in_group, is_group_of_others, in_session}
+use Rattle.posix.proofs.TableLemmas.{pid_looked, none_found}
+use Rattle.posix.proofs.WalkLemmas.{all_looked}
+use Rattle.posix.proofs.GroupedLemmas.{FitsIn}
+use Rattle.posix.proofs.RegularLemmas.{Keeps, regular_moved}
+use Rattle.posix.proofs.TouchLemmas.{Unseen}
+
+-- ---- which group a process moves to
+
+-- what follows for each that passes a test follows where one does
+any_gives : (C : Type 0) (t : Process → Bool) (rs : List Process) → AllByRecursion (λ r. t r ≡ true → C) rs → list_any t rs ≡ true → C
+any_gives C t [] a e = absurd (cc)
+any_gives C t (x ∷ xs) a e = ⊎_elim a.0 (any_gives C t xs a.1) (or_cases _ _ e)
+
+-- a member of a group of a session
+record IsMember (rs : List Process) (own g : ℕ) : Type 0 where
+  number : ℕ
+  what : Process
+  found : lookup number rs ≡ Some what
+  session : what.session ≡ own
+  group : what.group ≡ g
+
+-- a group of a session has one
+member_of : (rs : List Process) → IsRising rs → (session g : ℕ) → is_group_of session g rs ≡ true → IsMember rs session g
+unfolding is_group_of
+member_of rs up session g e =
+    any_gives (IsMember rs session g) _ rs
+    (all_looked _ rs up (λ p r found k. let both = and_parts _ _ k in record { number = p; what = r; found = found; session = eqb-true r.session session both.0; group = eqb-true r.group g both.1 })) e
+
+-- r may move to the group g of the session of me, which is its own
+record Joins (me r : Process) (g : ℕ) (rs : List Process) : Type 0 where
+  session : r.session ≡ me.session
+  group : (g == r.pid || is_group_of me.session g rs) ≡ true
+
+-- a process that may join a group
+joined : (me r : Process) (g h : ℕ) (rs : List Process) → can_join me r g rs ≡ Ok h → Joins me r h rs
+joined me r g h rs e = elim (not (r.session == me.session) || r.session == r.pid) as (λ b. (not (r.session == me.session) || r.session == r.pid) ≡ b → cond b (Err EPERM) (cond (g == r.pid || is_group_of me.session g rs) (Ok g) (Err EPERM)) ≡ Ok h → Joins me r h rs) [
+  | true ↦ λ n k. absurd (cc)
+  | false ↦ λ n k. elim (g == r.pid || is_group_of me.session g rs) as (λ b. (g == r.pid || is_group_of me.session g rs) ≡ b → cond b (Ok g) (Err EPERM) ≡ Ok h → Joins me r h rs) [
+    | true ↦ λ t o. let is : g ≡ h = cc in subst (λ n. Joins me r n rs) is (record { session = eqb-true r.session me.session (within _ _ n); group = t })
+    | false ↦ λ t o. absurd (cc)
+  ] refl k
+] refl e
+  where
+    within : (a b : Bool) → (not a || b) ≡ false → a ≡ true
+    within true b k = refl
+    within false b k = absurd (cc)
+
+-- or move to it
+moved : (me r : Process) (g h : ℕ) (rs : List Process) → can_move me r g rs ≡ Ok h → Joins me r h rs
+moved me r g h rs e = step (r.pid == me.pid) (not (r.parent == me.pid)) (not (r.session == me.session)) r.ran_exec e
+  where
+    step : (a b c d : Bool) → cond a (can_join me r g rs) (cond b (Err ESRCH) (cond c (Err EPERM) (cond d (Err EACCES) (can_join me r g rs)))) ≡ Ok h → Joins me r h rs
+    step true b c d k = joined me r g h rs k
+    step false true c d k = absurd (cc)
+    step false false true d k = absurd (cc)
+    step false false false true k = absurd (cc)
+    step false false false false k = joined me r g h rs k
+
+-- the number of that group is within the range
+joined_bounded : (s : State) → IsRegular s → (me r : Process) (p h : ℕ) → lookup p s.processes ≡ Some r → Joins me r h s.processes → h ≤ s.world.pidmax
+joined_bounded s i me r p h found j = ⊎_elim
+    (λ x. let same = eqb-true h r.pid x in let most = (i.bounded p r found).pid in omega (arith, same, most))
+    (λ x. let m = member_of s.processes i.rising me.session h x in let most = (i.bounded m.number m.what m.found).group in let same = m.group in omega (arith, most, same))
+    (or_cases _ _ j.group)
+
+-- and the process fits in with its members
+joined_fits : (s : State) → IsRegular s → (me r : Process) (p h : ℕ) → lookup p s.processes ≡ Some r → Joins me r h s.processes → FitsIn s.processes p (in_group h r)
+unfolding in_group
+joined_fits s i me r p h found j = ⊎_elim
+    (λ x.
+    let named : h ≡ p = eqb-true h r.pid x ∙ pid_looked p s.processes r found in
+    record {
+      one = λ q t away e same. i.grouped.own p q r t found e (same ∙ named);
+      own = λ q t away e same. i.grouped.own p q r t found e same;
+      leader = λ q t away e same. absurd (away (sym same ∙ named));
+    })
+    (λ x.
+    let m = member_of s.processes i.rising me.session h x in
+    let own : r.session ≡ m.what.session = j.session ∙ sym m.session in
+    record {
+      one = λ q t away e same. i.grouped.one q m.number t m.what e m.found (same ∙ sym m.group) ∙ sym own;
+      own = λ q t away e same. i.grouped.own p q r t found e same;
+      leader = λ q t away e same. own ∙ i.grouped.own q m.number t m.what e m.found (m.group ∙ same);
+    })
+    (or_cases _ _ j.group)
+
+-- a state stays regular where a process moves to the group that it may
+pub regular_move : (s : State) → IsRegular s → (me r : Process) (p g h : ℕ) → lookup p s.processes ≡ Some r → move_of me (Some r) g s.processes ≡ Ok h → IsRegular (change s r.pid (in_group h))
+unfolding in_group
+regular_move s i me r p g h found e =
+    let named = pid_looked p s.processes r found in
+    let here : lookup r.pid s.processes ≡ Some r = ap (λ n. lookup n s.processes) named ∙ found in
+    let j = moved me r (group_meant r g) h s.processes e in
+    let b = i.bounded r.pid r here in
+    regular_moved r.pid (in_group h) s r here (record { pid = λ r. refl; parent = λ r. refl; zombie = λ r. refl; alarm = λ r a. a })
+    (record { least = b.least; pid = b.pid; group = joined_bounded s i me r r.pid h here j; session = b.session }) (joined_fits s i me r r.pid h here j) i
+
+-- where no other is in a group with the number of a process, each other's group has another number
+others_elsewhere : (rs : List Process) (me : Process) (p : ℕ) → lookup p rs ≡ Some me → is_group_of_others me rs ≡ false → (q : ℕ) (t : Process) → q ≢ p → lookup q rs ≡ Some t → t.group ≢ me.pid
+others_elsewhere rs me p found none q t away e same =
+    let no : (t.group == me.pid && not (t.pid == me.pid)) ≡ false = none_found _ rs none q t e in
+    let is : (t.group == me.pid) ≡ true = eq-eqb t.group me.pid same in
+    let other : (t.pid == me.pid) ≡ false = ne_eqb _ _ (λ x. away (sym (pid_looked q rs t e) ∙ x ∙ pid_looked p rs me found)) in
+    absurd (let k : true ≡ false = sym (rw (is, other) refl) ∙ no in cc)
+
+-- and where it leads a session of its own, no other being in a group with its number
+pub regular_session : (s : State) → IsRegular s → (me : Process) (p : ℕ) → lookup p s.processes ≡ Some me → is_group_of_others me s.processes ≡ false → IsRegular (change s p in_session)
+unfolding in_session
+regular_session s i me p found none =
+    let named = pid_looked p s.processes me found in
+    let b = i.bounded p me found in
+    regular_moved p in_session s me found (record { pid = λ r. refl; parent = λ r. refl; zombie = λ r. refl; alarm = λ r a. a })
+    (record { least = b.least; pid = b.pid; group = b.pid; session = b.pid })
+    (record {
+      one = λ q t away e same. absurd (others_elsewhere s.processes me p found none q t away e same);
+      own = λ q t away e same. absurd (others_elsewhere s.processes me p found none q t away e (same ∙ sym named));
+      leader = λ q t away e same. absurd (away (sym same ∙ named));
+    }) i
+
+-- another program keeps what a regular state asks
+pub keeps_executed : {now : ℕ} (number : ℕ) (program : Program) → Keeps now (executed number program)
+unfolding executed
+keeps_executed number program = record { pid = λ r. refl; parent = λ r. refl; group = λ r. refl; session = λ r. refl; zombie = λ r. refl; alarm = λ r h. h }
+
+-- and a parent sees nothing of it
+pub unseen_executed : (number : ℕ) (program : Program) → Unseen (executed number program)
+unfolding executed
+unseen_executed number program = record { pid = λ r. refl; parent = λ r. refl; group = λ r. refl; life = λ r. refl; news = λ r. refl }

@@ -1,0 +1,25 @@
+-- The process that setpgid moves.
+use Rattle.std.proofs.Common.{◌≡◌, ℕ, zero, suc, ap, sym, ◌∙◌, List, Some, None, Ok, ℤ, pos, negsuc}
+use Rattle.posix.specs.Processes.{Process}
+use Rattle.posix.specs.Tables.{lookup}
+use Rattle.posix.specs.States.{State, change}
+use Rattle.posix.specs.Regular.{IsRegular}
+use Rattle.posix.specs.GroupCalls.{named, move_to, in_group}
+use Rattle.posix.proofs.TableLemmas.{pid_looked}
+use Rattle.posix.proofs.GroupLemmas.{regular_move}
+
+-- who is named is found by its number
+pub named_looked : (me r : Process) (word : ℤ) (rs : List Process) → lookup me.pid rs ≡ Some me → named me word rs ≡ Some r → lookup r.pid rs ≡ Some r
+named_looked me r (pos zero) rs found e = let is : me ≡ r = cc in ap (λ (q : Process). lookup q.pid rs) (sym is) ∙ found ∙ e
+named_looked me r (pos (suc n)) rs found e = ap (λ p. lookup p rs) (pid_looked (suc n) rs r e) ∙ e
+named_looked me r (negsuc n) rs found e = absurd (cc)
+
+-- nobody moves where nobody is named
+pub moves_nobody : (me : Process) (z : ℤ) (rs : List Process) (g : ℕ) → move_to me None z rs ≡ Ok g → ⊥
+moves_nobody me (pos n) rs g e = absurd (cc)
+moves_nobody me (negsuc n) rs g e = absurd (cc)
+
+-- a state stays regular where the one that is named moves
+pub regular_move_to : (s : State) → IsRegular s → (me r : Process) (z : ℤ) (g : ℕ) → lookup r.pid s.processes ≡ Some r → move_to me (Some r) z s.processes ≡ Ok g → IsRegular (change s r.pid (in_group g))
+regular_move_to s i me r (pos n) g found e = regular_move s i me r r.pid n g found e
+regular_move_to s i me r (negsuc n) g found e = absurd (cc)

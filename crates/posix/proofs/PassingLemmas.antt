@@ -1,0 +1,68 @@
+-- How many records of a list pass a test.
+use Rattle.std.proofs.Common.{◌≡◌, ℕ, suc, ◌≤◌, Bool, true, false, cond, not, refl, ap, sym, ◌∙◌, arith, subst, List, [], ◌∷◌, length, map, filter, find, Some, ◌==◌}
+use Rattle.std.specs.List.{list_any}
+use Rattle.std.proofs.lemmas.Bool.{eqb-true, eq-eqb, ne_eqb}
+use Rattle.std.proofs.lemmas.List.{length-map}
+use Rattle.posix.specs.Processes.{Process}
+use Rattle.posix.specs.Tables.{IsRising, lookup, has_pid, at, changed, inserted, removed}
+use Rattle.posix.proofs.MapLemmas.{at_pid, filter_map, lookup_on}
+use Rattle.posix.proofs.TableLemmas.{Above, remove_above, rising_changed, pid_looked}
+
+-- no records are counted where none passes the test
+pub none_counted : (t : Process → Bool) (rs : List Process) → (length (filter t rs) == 0) ≡ not (list_any t rs)
+none_counted t [] = refl
+none_counted t (r ∷ rs) = grind (arith, none_counted t rs, ne_eqb)
+
+-- a record that is found and passes the test is counted
+pub counted_found : (t : Process → Bool) (p : ℕ) (r : Process) (rs : List Process) → t r ≡ true → lookup p rs ≡ Some r → 1 ≤ length (filter t rs)
+unfolding lookup
+counted_found t p r [] h e = absurd (cc)
+counted_found t p r (x ∷ xs) h e = grind (arith, h, counted_found t p r xs h)
+
+-- a record in front counts the same behind one that comes in
+swap_counted : (t : Process → Bool) (x y : Process) (xs ys : List Process) → length (filter t xs) ≡ length (filter t (y ∷ ys)) → length (filter t (x ∷ xs)) ≡ length (filter t (y ∷ x ∷ ys))
+swap_counted t x y xs ys h = over (t x) (t y) h
+  where
+    over : (a b : Bool) → length (filter t xs) ≡ length (cond b (y ∷ filter t ys) (filter t ys))
+        → length (cond a (x ∷ filter t xs) (filter t xs)) ≡ length (cond b (y ∷ cond a (x ∷ filter t ys) (filter t ys)) (cond a (x ∷ filter t ys) (filter t ys)))
+    over true true h = ap suc h
+    over true false h = ap suc h
+    over false true h = h
+    over false false h = h
+
+-- a record that comes in counts as if it came in front
+pub counted_inserted : (t : Process → Bool) (new : Process) (rs : List Process) → length (filter t (inserted new rs)) ≡ length (filter t (new ∷ rs))
+unfolding inserted
+counted_inserted t new [] = refl
+counted_inserted t new (r ∷ rs) = grind (arith, counted_inserted t new rs)
+
+-- a record that goes counted as if it went from the front
+pub counted_removed : (t : Process → Bool) (p : ℕ) (r : Process) (rs : List Process) → IsRising rs → lookup p rs ≡ Some r → length (filter t rs) ≡ length (filter t (r ∷ removed p rs))
+unfolding lookup removed IsRising
+counted_removed t p r [] up e = absurd (cc)
+counted_removed t p r (x ∷ xs) up e =
+    elim (x.pid == p) as (λ b. (x.pid == p) ≡ b → cond b (Some x) (find (has_pid p) xs) ≡ Some r
+    → length (filter t (x ∷ xs)) ≡ length (filter t (r ∷ cond (not b) (x ∷ removed p xs) (removed p xs)))) [
+      | true ↦ λ u k.
+          let same : x ≡ r = cc in
+          let gone : removed p xs ≡ xs = remove_above p xs (subst (λ n. Above n xs) (eqb-true _ _ u) up.0) in
+          ap (λ y. length (filter t (y ∷ xs))) same ∙ ap (λ ys. length (filter t (r ∷ ys))) (sym gone)
+      | false ↦ λ u k. swap_counted t x r xs (removed p xs) (counted_removed t p r xs up.1 k)
+    ] refl e
+
+-- changes that leave the test leave the count
+pub counted_map : (t : Process → Bool) (g : Process → Process) → ((r : Process) → t (g r) ≡ t r) → (rs : List Process) → length (filter t (map g rs)) ≡ length (filter t rs)
+counted_map t g keeps rs = ap length (filter_map t g keeps rs) ∙ length-map (filter t rs) g
+
+pub removed_changed : (c : ℕ) (f : Process → Process) → ((r : Process) → (f r).pid ≡ r.pid) → (rs : List Process) → removed c (changed c f rs) ≡ removed c rs
+unfolding removed changed
+removed_changed c f keeps [] = refl
+removed_changed c f keeps (r ∷ rs) = grind (arith, keeps r, removed_changed c f keeps rs)
+
+-- a record that changes counts as if it came in front changed, where it was
+pub counted_changed : (t : Process → Bool) (p : ℕ) (f : Process → Process) → ((r : Process) → (f r).pid ≡ r.pid) → (r : Process) (rs : List Process) → IsRising rs → lookup p rs ≡ Some r
+    → length (filter t (changed p f rs)) ≡ length (filter t (f r ∷ removed p rs))
+unfolding changed
+counted_changed t p f keeps r rs up e =
+    let found : lookup p (changed p f rs) ≡ Some (f r) = lookup_on (at p f) (at_pid p f keeps) p rs r e ∙ ap Some (rw (eq-eqb r.pid p (pid_looked p rs r e)) refl) in
+    counted_removed t p (f r) (changed p f rs) (rising_changed p f keeps rs up) found ∙ ap (λ l. length (filter t (f r ∷ l))) (removed_changed p f keeps rs)
