@@ -11,7 +11,7 @@ use Rattle.posix.specs.declared.event.Event.TheVariants.{Step, Tick}
 use Rattle.posix.specs.declared.errno.Errno.{Errno}
 use Rattle.posix.specs.declared.errno.Errno.TheVariants.{EPERM, ENOENT, ESRCH, EINTR, EIO, ECHILD, EAGAIN, EACCES, EFAULT, EINVAL, ENOTTY}
 use Rattle.posix.specs.declared.entry.Entry.{Entry}
-use Rattle.posix.specs.declared.entry.Entry.TheVariants.{Noted, Called, Reported, NoMemory, Handled, Discarded, Stopped, Returned, Ended, Halted}
+use Rattle.posix.specs.declared.entry.Entry.TheVariants.{Noted, Called, Moved, Reported, NoMemory, Handled, Discarded, Stopped, Returned, Ended, Halted}
 use Rattle.posix.specs.declared.how.How.{How}
 use Rattle.posix.specs.declared.sig.DefaultAction.{DefaultAction}
 use Rattle.posix.specs.declared.sig.DefaultAction.TheVariants as default
@@ -73,6 +73,7 @@ abbrev Explained : Terms → State → ℕ → State → Entry → Type 0
 Explained C s p new (Noted q value) = Unit {0}
 Explained C s p new (Called q call (pos n)) = Unit {0}
 Explained C s p new (Called q call (negsuc n)) = C.counts n → (q ≡ p) × (new ≡ finish s p ((0, negsuc n) ∷ []))
+Explained C s p new (Moved q call bytes) = Unit {0}
 Explained C s p new (Reported q child status) = Unit {0}
 Explained C s p new (NoMemory q call) = C.wanting × (q ≡ p) × (new ≡ finish s p ((0, refusal EAGAIN) ∷ []))
 Explained C s p new (Handled q sig value sender) = Unit {0}
@@ -466,6 +467,7 @@ abbrev Told : Bool → State → State → Entry → Type 0
 Told granted s new (Noted q value) = Unit {0}
 Told granted s new (Called q call (pos n)) = Unit {0}
 Told granted s new (Called q call (negsuc n)) = n ≢ 3 → (current s ≡ Some q) × (new ≡ finish s q ((0, negsuc n) ∷ []))
+Told granted s new (Moved q call bytes) = Unit {0}
 Told granted s new (Reported q child status) = Unit {0}
 Told granted s new (NoMemory q call) = (granted ≡ false) × (current s ≡ Some q) × (new ≡ finish s q ((0, refusal EAGAIN) ∷ []))
 Told granted s new (Handled q sig value sender) = Unit {0}
@@ -480,6 +482,7 @@ told : (granted : Bool) (s : State) (p : ℕ) (new : State) (e : Entry) → curr
 told granted s p new (Noted q value) first h = tt
 told granted s p new (Called q call (pos n)) first h = tt
 told granted s p new (Called q call (negsuc n)) first h = λ other. (first ∙ ap Some (sym (h other).0), (h other).1 ∙ ap (λ m. finish s m ((0, negsuc n) ∷ [])) (sym (h other).0))
+told granted s p new (Moved q call bytes) first h = tt
 told granted s p new (Reported q child status) first h = tt
 told granted s p new (NoMemory q call) first h = (h.0, first ∙ ap Some (sym h.1), h.2 ∙ ap (λ m. finish s m ((0, refusal EAGAIN) ∷ [])) (sym h.1))
 told granted s p new (Handled q sig value sender) first h = tt

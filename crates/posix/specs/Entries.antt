@@ -2,7 +2,7 @@
 use Rattle.std.specs.Prelude.{ℕ, Bool, false, List, map, count_by}
 use Rattle.posix.specs.Statuses.{tells_end}
 use Rattle.posix.specs.declared.entry.Entry.{Entry}
-use Rattle.posix.specs.declared.entry.Entry.TheVariants.{Noted, Called, Reported, NoMemory, Handled, Discarded, Stopped, Returned, Ended, Halted}
+use Rattle.posix.specs.declared.entry.Entry.TheVariants.{Noted, Called, Moved, Reported, NoMemory, Handled, Discarded, Stopped, Returned, Ended, Halted}
 
 -- an entry with the number of its event
 pub record Line : Type 0 where
@@ -20,6 +20,7 @@ numbered k entries = map (line k) entries
 abbrev pub reports_end : Entry → Bool
 reports_end (Noted pid value) = false
 reports_end (Called pid call result) = false
+reports_end (Moved pid call bytes) = false
 reports_end (Reported pid child status) = tells_end status
 reports_end (NoMemory pid call) = false
 reports_end (Handled pid sig value sender) = false

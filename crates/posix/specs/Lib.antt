@@ -7,6 +7,8 @@ pub mod Processes
 pub mod Numbers
 pub mod Tables
 pub mod NextPid
+pub mod Consoles
+pub mod Transfers
 pub mod States
 pub mod Entries
 pub mod Execute

@@ -1,16 +1,28 @@
 -- A trace as text: the number of the event and the words of the entry, separated by one space, and a line feed.
-use Rattle.std.specs.Prelude.{ℕ, List, [], ◌∷◌, ◌++◌, codes, decimal, flat_map}
+use Rattle.std.specs.Prelude.{ℕ, ◌/◌, ◌%◌, List, [], ◌∷◌, ◌++◌, length, codes, decimal, flat_map, slice_index_or}
 use Rattle.std.specs.List.{join_with_byte}
 use Rattle.std.specs.Fmt.{signed_decimal}
 use Rattle.posix.specs.declared.entry.Entry.{Entry}
-use Rattle.posix.specs.declared.entry.Entry.TheVariants.{Noted, Called, Reported, NoMemory, Handled, Discarded, Stopped, Returned, Ended, Halted}
+use Rattle.posix.specs.declared.entry.Entry.TheVariants.{Noted, Called, Moved, Reported, NoMemory, Handled, Discarded, Stopped, Returned, Ended, Halted}
 use Rattle.posix.specs.declared.call.Call.TheVariants.{Waitpid}
 use Rattle.posix.specs.Calls.{call_text}
 use Rattle.posix.specs.Entries.{Line}
 
+-- a number below 16 as a digit
+abbrev pub digit : ℕ → ℕ
+digit n = slice_index_or (codes "0123456789abcdef") n 0
+
+abbrev pub two_digits : ℕ → List ℕ
+two_digits byte = digit (byte / 16) ∷ digit (byte % 16) ∷ []
+
+-- bytes to base 16, each as two digits
+unfoldable pub hex : List ℕ → List ℕ
+hex bytes = flat_map two_digits bytes
+
 abbrev pub words_of : Entry → List (List ℕ)
 words_of (Noted pid value) = codes "note" ∷ decimal pid ∷ signed_decimal value ∷ []
 words_of (Called pid call result) = codes "call" ∷ decimal pid ∷ call_text call ∷ codes "=" ∷ signed_decimal result ∷ []
+words_of (Moved pid call bytes) = codes "call" ∷ decimal pid ∷ call_text call ∷ codes "=" ∷ decimal (length bytes) ∷ codes "bytes" ∷ hex bytes ∷ []
 words_of (Reported pid child status) = codes "call" ∷ decimal pid ∷ call_text Waitpid ∷ codes "=" ∷ decimal child ∷ codes "status" ∷ decimal status ∷ []
 words_of (NoMemory pid call) = codes "call" ∷ decimal pid ∷ call_text call ∷ codes "=" ∷ codes "-11" ∷ codes "memory" ∷ []
 words_of (Handled pid sig value sender) = codes "handle" ∷ decimal pid ∷ decimal sig ∷ signed_decimal value ∷ decimal sender ∷ []

@@ -6,6 +6,12 @@ use Rattle.posix.specs.declared.sig.DefaultAction.TheVariants as default
 abbrev pub HUP : ℕ
 HUP = 1
 
+abbrev pub INT : ℕ
+INT = 2
+
+abbrev pub QUIT : ℕ
+QUIT = 3
+
 abbrev pub FPE : ℕ
 FPE = 8
 

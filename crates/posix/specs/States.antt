@@ -5,6 +5,7 @@ use Rattle.posix.specs.declared.instr.Instr.{Instr}
 use Rattle.posix.specs.Processes.{Process, first_process}
 use Rattle.posix.specs.Tables.{lookup, changed}
 use Rattle.posix.specs.NextPid.{is_free, next_free}
+use Rattle.posix.specs.Consoles.{Console, unused_console}
 
 -- a program, and the ids that it takes on as it is run, XSH exec
 pub record Program : Type 0 where
@@ -17,14 +18,6 @@ pub record World : Type 0 where
   pub pidmax : ℕ
   pub consoles : ℕ
   pub programs : List Program
-
--- a terminal, XBD 11.1 General Terminal Interface
-pub record Console : Type 0 where
-  pub session : ℕ  -- 0 for none
-  pub foreground : ℕ  -- a process group, 0 for none
-  pub lines : List (List ℕ)  -- finished, and not read yet
-  pub edited : List ℕ
-  pub tostop : Bool
 
 -- the whole of the machine (own)
 pub record State : Type 0 where
@@ -76,9 +69,6 @@ abbrev pub current_process : State → Option Process
 current_process s = option_and_then (process s) (current s)
 
 -- ---- the start
-
-abbrev pub unused_console : Console
-unused_console = record { session = 0; foreground = 0; lines = []; edited = []; tostop = false }
 
 -- process 1 runs the first program and has the only place (own)
 abbrev pub boot : World → State

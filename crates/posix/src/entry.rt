@@ -1,5 +1,6 @@
 //! Entries of a trace.
 
+use crate::bytes::Bytes;
 use crate::call::Call;
 use crate::pid::Pid;
 use crate::sig::Sig;
@@ -19,6 +20,12 @@ pub enum Entry {
         pid: Pid,
         call: Call,
         result: i64,
+    },
+    /// A read or a write of a process moved bytes: at least one.
+    Moved {
+        pid: Pid,
+        call: Call,
+        bytes: Bytes,
     },
     /// A wait of a process reported the status of a child.
     Reported {

@@ -4,6 +4,7 @@
 //! the machine, one instruction, one event, whole runs, and how a trace is printed.
 #![tactic(auto)]
 
+pub mod bytes;
 pub mod call;
 pub mod entry;
 pub mod errno;
@@ -16,10 +17,12 @@ pub mod process;
 pub mod sa_flags;
 pub mod sig;
 pub mod sig_set;
+pub mod span;
 pub mod status;
 pub mod target;
 pub mod wait_options;
 
+pub use bytes::Bytes;
 pub use call::Call;
 pub use entry::Entry;
 pub use errno::Errno;
@@ -34,6 +37,7 @@ pub use process::{
 pub use sa_flags::SaFlags;
 pub use sig::{DefaultAction, Sig};
 pub use sig_set::SigSet;
+pub use span::Span;
 pub use status::Status;
 pub use target::Target;
 pub use wait_options::WaitOptions;

@@ -38,6 +38,10 @@ pub enum DefaultAction {
 impl Sig {
     pub const HUP: Sig = Sig { number: 1 };
 
+    pub const INT: Sig = Sig { number: 2 };
+
+    pub const QUIT: Sig = Sig { number: 3 };
+
     pub const FPE: Sig = Sig { number: 8 };
 
     pub const KILL: Sig = Sig { number: 9 };

@@ -1,1 +1,2 @@
 pub mod DigitLemmas
+pub mod HexLemmas

@@ -3,15 +3,15 @@
 //! A line is written into room that has enough of it, from a place on; each function returns the place
 //! behind what it wrote, so that no line is moved.
 
-ghost use Rattle.std.specs.Prelude.{◌≡◌, ◌+◌, ◌≤◌, ◌++◌, length, ◌∷◌, take, codes, decimal};
+ghost use Rattle.std.specs.Prelude.{◌≡◌, ◌+◌, ◌*◌, ◌<◌, ◌≤◌, ◌++◌, length, ◌∷◌, take, codes, decimal};
 ghost use Rattle.std.specs.List.{join_with_byte};
 ghost use Rattle.std.specs.Fmt.{signed_decimal};
 ghost use Rattle.posix.specs.Calls.{call_text};
-ghost use Rattle.posix.specs.Printing.{printed, words_of};
+ghost use Rattle.posix.specs.Printing.{digit, hex, printed, two_digits, words_of};
 
 use arrayvec::ArrayVec;
 use itoa::write_digits;
-use posix::{Call, Entry, Pid, Sig, Status};
+use posix::{Bytes, Call, Entry, Pid, Sig, Status};
 
 /// Writes bytes.
 #[inline(always)]
@@ -75,6 +75,36 @@ fn put_next_signed(room: &mut [u8], at: usize, number: i64) -> usize
     put_signed(room, at, number)
 }
 
+/// A number below 16 as a lower case digit.
+fn digit(number: u8) -> u8
+    requires { number < 16 }
+    ensures { result ≡ digit number }
+{
+    b"0123456789abcdef"[usize::from(number)]
+}
+
+/// Writes a byte as two lower case digits to base 16.
+fn put_byte(room: &mut [u8], at: usize, byte: u8) -> usize
+    requires { at + 2 ≤ length room.old }
+    ensures text { take result room.new ≡ take at room.old ++ two_digits byte }
+    ensures end { result ≡ at + 2 }
+{
+    put(room, at, &[digit(byte / 16), digit(byte % 16)])
+}
+
+/// Writes bytes as lower case digits to base 16, two a byte.
+fn put_hex(room: &mut [u8], at: usize, bytes: &[u8]) -> usize
+    requires { at + 2 * length bytes.now ≤ length room.old }
+    ensures text { take result room.new ≡ take at room.old ++ hex bytes.now }
+    ensures end { result ≡ at + 2 * length bytes.now }
+{
+    let mut end = at;
+    for byte in bytes {
+        end = put_byte(room, end, *byte);
+    }
+    end
+}
+
 /// Writes the numbers of a process and of a signal, each behind a space.
 #[inline]
 fn put_pid_and_sig(room: &mut [u8], at: usize, pid: Pid, sig: Sig) -> usize
@@ -118,6 +148,19 @@ fn put_result(room: &mut [u8], at: usize, pid: Pid, call: Call, value: i64) -> u
 {
     let at = put_call(room, at, pid, call);
     put_next_signed(room, at, value)
+}
+
+/// Writes the words of a call that moved bytes.
+fn put_moved(room: &mut [u8], at: usize, pid: Pid, call: Call, bytes: Bytes) -> usize
+    requires { at + 106 ≤ length room.old }
+    ensures text { take result room.new ≡ take at room.old ++ 32 ∷ join_with_byte 32 (words_of (Entry.Moved pid call bytes)) }
+    ensures end { result ≤ at + 106 }
+{
+    let bytes = bytes.as_slice();
+    let at = put_call(room, at, pid, call);
+    let at = put_next(room, at, bytes.len() as u64);
+    let at = put(room, at, b" bytes ");
+    put_hex(room, at, bytes)
 }
 
 /// Writes the words of a wait that reported the status of a child.
@@ -204,6 +247,7 @@ fn put_entry(room: &mut [u8], at: usize, entry: &Entry) -> usize
     match entry {
         Entry::Noted { pid, value } => put_note(room, at, *pid, *value),
         Entry::Called { pid, call, result } => put_result(room, at, *pid, *call, *result),
+        Entry::Moved { pid, call, bytes } => put_moved(room, at, *pid, *call, *bytes),
         Entry::Reported { pid, child, status } => put_report(room, at, *pid, *child, *status),
         Entry::NoMemory { pid, call } => put_no_memory(room, at, *pid, *call),
         Entry::Handled {

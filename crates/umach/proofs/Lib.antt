@@ -1,2 +1,3 @@
 pub mod BurstLemmas
+pub mod ByteLemmas
 pub mod MemoryLemmas

@@ -1,14 +1,15 @@
 //! The processor of a process, and the run of one instruction.
 
-ghost use Rattle.std.specs.Prelude.{◌≡◌, ◌<◌, IfOk, IfSome, if◌then◌else◌};
+ghost use Rattle.std.specs.Prelude.{◌≡◌, ◌+◌, ◌<◌, ◌≤◌, length, IfOk, IfSome, if◌then◌else◌};
 ghost use Rattle.posix.specs.Processes.{fresh_cpu};
 ghost use Rattle.posix.specs.Execute.{exec_one as executed, execute as execute_instr, set_register, register as register_of, move_on, put_result, load_from, store_at, address_of, jump, computed, passes as passed, fetched, StaysUnlessRun};
 ghost use Rattle.posix.specs.Handlers.{frame_of, restore};
+ghost use Rattle.posix.specs.Transfers.{stored, bytes_in};
 ghost use Rattle.umach.specs.Bursts.{exec_until, IsWithin};
 
 use crate::memory::UserMem;
 use crate::program::Program;
-use posix::{Condition, Frame, Instr, Operator, Register, Sig, SigSet, Trap};
+use posix::{Bytes, Condition, Frame, Instr, Operator, Register, Sig, SigSet, Span, Trap};
 use std::alloc::{AllocError, Global};
 use std::marker::Model;
 
@@ -115,6 +116,25 @@ impl Cpu {
         ensures { self.new ≡ record self.old { pc = address } }
     {
         self.pc = address;
+    }
+
+    /// Puts bytes into the words of the memory from an address on, one a word; the other words, the pc and the
+    /// registers stay (XSH read). The last word has at most the address 255.
+    pub fn store(&mut self, address: u16, bytes: &[u8])
+        requires { address + length bytes.now ≤ 256 }
+        ensures { self.new ≡ record self.old { memory = stored address bytes.now self.old.memory } }
+    {
+        self.memory.store(address, bytes);
+    }
+
+    /// The bytes in the words of a span, each the low 8 bits of its word (XSH write). They are at most 16, and
+    /// the last word has at most the address 255.
+    pub fn bytes(&self, span: Span) -> Bytes
+        requires few { span.count ≤ 16 }
+        requires within { span.address + span.count ≤ 256 }
+        ensures { result ≡ bytes_in span self.now.memory }
+    {
+        self.memory.bytes(span)
     }
 
     /// Runs the instruction of a program at the pc. A call and a machine fault leave the processor as

@@ -1,9 +1,11 @@
 //! The memory of a process.
 
-ghost use Rattle.std.specs.Prelude.{◌≡◌, ◌-◌, ◌<◌, ◌≤◌, ◌++◌, IfOk, pos, length, replicate, vec_capacity, slice_index_or, slice_set};
+ghost use Rattle.std.specs.Prelude.{◌≡◌, ◌+◌, ◌-◌, ◌<◌, ◌≤◌, ◌++◌, IfOk, pos, length, replicate, vec_capacity, slice_index_or, slice_set};
 ghost use Rattle.posix.specs.Processes.{zero_memory};
+ghost use Rattle.posix.specs.Transfers.{stored, low_byte, bytes_in};
 ghost use Rattle.umach.specs.Memories.{words_of};
 
+use posix::{Bytes, Span};
 use std::alloc::{AllocError, Global};
 use std::marker::Model;
 
@@ -61,6 +63,32 @@ impl UserMem {
         self.words[address] = value;
     }
 
+    /// Puts bytes into the words from an address on, one a word; the other words stay (XSH read). The last has
+    /// at most the address 255.
+    pub fn store(&mut self, address: u16, bytes: &[u8])
+        requires { address + length bytes.now ≤ 256 }
+        ensures { self.new ≡ stored address bytes.now self.old }
+    {
+        for (place, byte) in bytes.iter().enumerate() {
+            self.set(usize::from(address) + place, i64::from(*byte));
+        }
+    }
+
+    /// The bytes in the words of a span, each the low 8 bits of its word (XSH write). They are at most 16, and
+    /// the last word has at most the address 255.
+    pub fn bytes(&self, span: Span) -> Bytes
+        requires few { span.count ≤ 16 }
+        requires within { span.address + span.count ≤ 256 }
+        ensures { result ≡ bytes_in span self.now }
+    {
+        let _ = &self.words;
+        let mut bytes = [0; 16];
+        for place in 0..usize::from(span.count) {
+            bytes[place] = low_byte(self.get(usize::from(span.address) + place));
+        }
+        Bytes::new(&bytes[..usize::from(span.count)])
+    }
+
     /// All words are 0 again. It takes no memory.
     #[tactic(auto, unfolding(posix::specs::Processes::zero_memory))]
     pub fn clear(&mut self)
@@ -105,4 +133,11 @@ fn keep(words: &mut Vec<i64>, count: usize)
     ensures room { vec_capacity words.old ≤ vec_capacity words.new }
 {
     let _ = words.resize(count, 0);
+}
+
+/// The low 8 bits of a word.
+fn low_byte(word: i64) -> u8
+    ensures { result ≡ low_byte word }
+{
+    (word.cast_unsigned() % 256) as u8
 }

@@ -1,0 +1,254 @@
+//! A console: the keys that are typed at it, the lines that they make, and whose terminal it is.
+
+ghost use Rattle.std.specs.Prelude.{◌≡◌, ◌≤◌, ◌==◌, ◌++◌, not, length, IfOk};
+ghost use Rattle.posix.specs.Consoles.{unused_console, keyed, key_signal, edit as edited_by, finishes, finish_line, has_room, flushed, erased, with_byte, line_taken, acquired, released, with_foreground, with_tostop};
+ghost use Rattle.tty.specs.Limits.{IsWithinLimits};
+ghost use Rattle.tty.specs.Lines.{Takes};
+
+use crate::lines::LineQueue;
+use arrayvec::ArrayVec;
+use posix::{Pid, Sig};
+use std::alloc::{AllocError, Global};
+use std::marker::Model;
+
+/// INTR, ^C (XBD 11.1.9).
+const INTR: u8 = 0x03;
+
+/// EOF, ^D.
+const EOF: u8 = 0x04;
+
+/// NL, the newline.
+const NL: u8 = 0x0a;
+
+/// KILL, ^U.
+const KILL: u8 = 0x15;
+
+/// SUSP, ^Z.
+const SUSP: u8 = 0x1a;
+
+/// QUIT, ^\.
+const QUIT: u8 = 0x1c;
+
+/// ERASE, the key DEL.
+const ERASE: u8 = 0x7f;
+
+/// What a key did.
+#[derive(Clone, Copy, Debug, PartialEq, Eq)]
+pub struct KeyEffect {
+    /// The signal that goes to the foreground process group; none for a key that is no signal key.
+    pub signal: Option<Sig>,
+    /// Whether it finished a line, which now waits to be read; false where the line had no room.
+    pub finished: bool,
+}
+
+/// The signal that a key sends: INT for INTR, QUIT for QUIT, TSTP for SUSP (XBD 11.1.9).
+#[tactic(auto, unfolding(posix::specs::Consoles::key_signal))]
+fn signal_of(key: u8) -> Option<Sig>
+    ensures { result ≡ key_signal key }
+{
+    match key {
+        INTR => Some(Sig::INT),
+        QUIT => Some(Sig::QUIT),
+        SUSP => Some(Sig::TSTP),
+        _ => None,
+    }
+}
+
+/// A terminal in canonical mode (XBD 11.1.6). It takes memory in [`Console::new`] alone.
+#[derive(Drop)]
+pub struct Console {
+    /// The session whose controlling terminal it is.
+    session: Pid,
+    /// The process group in the foreground.
+    foreground: Pid,
+    /// Finished, and not read yet.
+    lines: LineQueue,
+    /// The line that is edited, at most 255 bytes.
+    edited: ArrayVec<u8, 255>,
+    tostop: bool,
+}
+
+impl Model for Console {
+    ghost use Rattle.posix.specs.Consoles.{Console};
+    ghost use Rattle.tty.specs.Limits.{AreWithinLimits};
+
+    ghost Value = { Console };
+
+    ghost view = { λ c. record { session = c.session; foreground = c.foreground; lines = c.lines; edited = c.edited.items; tostop = c.tostop } };
+
+    ghost invariant = { λ c. AreWithinLimits c.lines c.edited.items };
+}
+
+impl Console {
+    /// A console that nobody uses, with nothing typed; an error where the host has no memory for it.
+    pub fn new(alloc: Global) -> Result<Console, AllocError>
+        ensures { IfOk result (λ c. c ≡ unused_console) }
+    {
+        let lines = LineQueue::new(alloc)?;
+        Ok(Console {
+            session: Pid::NONE,
+            foreground: Pid::NONE,
+            lines,
+            edited: ArrayVec::new(),
+            tostop: false,
+        })
+    }
+
+    // ---- whose it is
+
+    /// The session whose controlling terminal it is, [`Pid::NONE`] for none (XBD 11.1.3).
+    pub fn session(&self) -> Pid
+        ensures is { result ≡ self.now.session }
+        ensures limits { IsWithinLimits self.now }
+    {
+        self.session
+    }
+
+    /// Its foreground process group, [`Pid::NONE`] for none (XBD 11.1.2).
+    pub fn foreground(&self) -> Pid
+        ensures is { result ≡ self.now.foreground }
+        ensures limits { IsWithinLimits self.now }
+    {
+        self.foreground
+    }
+
+    /// Whether a write from the background stops the writer, TOSTOP (XBD 11.2.5).
+    pub fn tostop(&self) -> bool
+        ensures is { result ≡ self.now.tostop }
+        ensures limits { IsWithinLimits self.now }
+    {
+        self.tostop
+    }
+
+    /// It becomes the controlling terminal of a session, with a foreground process group (XBD 11.1.3). What was typed
+    /// stays (own).
+    #[tactic(auto, unfolding(posix::specs::Consoles::acquired))]
+    pub fn acquire(&mut self, session: Pid, group: Pid)
+        ensures { self.new ≡ acquired session group self.old }
+    {
+        self.session = session;
+        self.foreground = group;
+    }
+
+    /// It is nobody's controlling terminal any more. What was typed stays (own).
+    #[tactic(auto, unfolding(posix::specs::Consoles::released))]
+    pub fn release(&mut self)
+        ensures { self.new ≡ released self.old }
+    {
+        self.session = Pid::NONE;
+        self.foreground = Pid::NONE;
+    }
+
+    /// A process group comes into the foreground.
+    #[tactic(auto, unfolding(posix::specs::Consoles::with_foreground))]
+    pub fn set_foreground(&mut self, group: Pid)
+        ensures { self.new ≡ with_foreground group self.old }
+    {
+        self.foreground = group;
+    }
+
+    /// Sets or clears TOSTOP.
+    #[tactic(auto, unfolding(posix::specs::Consoles::with_tostop))]
+    pub fn set_tostop(&mut self, tostop: bool)
+        ensures { self.new ≡ with_tostop tostop self.old }
+    {
+        self.tostop = tostop;
+    }
+
+    // ---- what is typed
+
+    /// A key is pressed (XBD 11.1.6, 11.1.9). A signal key discards all input, edited and finished. ERASE and KILL
+    /// edit the line; NL finishes it, and so does EOF, which isn't put into it. A line that has no room, as the 65th
+    /// or beyond 1,024 bytes, is dropped whole (own). Any other byte is edited, and dropped where 255 are (own).
+    #[tactic(auto, unfolding(posix::specs::Consoles::keyed, posix::specs::Consoles::finishes))]
+    pub fn key(&mut self, byte: u8) -> KeyEffect
+        ensures console { self.new ≡ keyed byte self.old }
+        ensures signal { result.signal ≡ key_signal byte }
+        ensures finished { result.finished ≡ finishes byte self.old }
+    {
+        let signal = signal_of(byte);
+        let finished = match signal {
+            Some(_) => {
+                self.flush();
+                false
+            }
+            None => self.edit(byte),
+        };
+        KeyEffect { signal, finished }
+    }
+
+    /// Discards all input.
+    #[tactic(auto, unfolding(posix::specs::Consoles::flushed))]
+    fn flush(&mut self)
+        ensures { self.new ≡ flushed self.old }
+    {
+        self.lines.clear();
+        self.edited.clear();
+    }
+
+    /// A byte of no signal key, and whether it finishes a line.
+    #[tactic(auto, unfolding(posix::specs::Consoles::edit, posix::specs::Consoles::finishes))]
+    fn edit(&mut self, byte: u8) -> bool
+        ensures console { self.new ≡ edited_by byte self.old }
+        ensures finished { result ≡ finishes byte self.old }
+    {
+        match byte {
+            ERASE => self.erase(),
+            KILL => self.edited.clear(),
+            NL => return self.finish(&[NL]),
+            EOF => return self.finish(&[]),
+            _ => self.insert(byte),
+        }
+        false
+    }
+
+    /// Erases the last byte of the line that is edited, where there is one.
+    #[tactic(auto, unfolding(posix::specs::Consoles::erased))]
+    fn erase(&mut self)
+        ensures { self.new ≡ record self.old { edited = erased self.old.edited } }
+    {
+        let _ = self.edited.pop();
+    }
+
+    /// Appends a byte to the line that is edited, where it has room.
+    #[tactic(auto, unfolding(posix::specs::Consoles::with_byte))]
+    fn insert(&mut self, byte: u8)
+        ensures { self.new ≡ record self.old { edited = with_byte byte self.old.edited } }
+    {
+        let _ = self.edited.try_push(byte);
+    }
+
+    /// Finishes the line that is edited, with an end, and says whether it had room among those that wait.
+    #[tactic(auto, unfolding(posix::specs::Consoles::finish_line))]
+    fn finish(&mut self, end: &[u8]) -> bool
+        requires { length end.now ≤ 1 }
+        ensures console { self.new ≡ finish_line (self.old.edited ++ end.now) self.old }
+        ensures finished { result ≡ has_room (self.old.edited ++ end.now) self.old.lines }
+    {
+        let finished = self.lines.push(&self.edited, end);
+        self.edited.clear();
+        finished
+    }
+
+    // ---- what is read
+
+    /// Whether a finished line waits.
+    pub fn has_line(&self) -> bool
+        ensures is { result ≡ not (length self.now.lines == 0) }
+        ensures limits { IsWithinLimits self.now }
+    {
+        !self.lines.is_empty()
+    }
+
+    /// Reads as many bytes of the first finished line as `out` holds, and returns their number; none where no line is
+    /// finished, and then nothing changes. The rest of `out` stays as it was, and the rest of the line waits. A line
+    /// without a rest is gone, also the empty one that EOF makes, which reads as 0 bytes, the end of file; into an
+    /// `out` of no bytes 0 are read of any other, and it waits (XBD 11.1.6, 11.1.9).
+    #[tactic(auto, unfolding(posix::specs::Consoles::line_taken))]
+    pub fn take(&mut self, out: &mut [u8]) -> Option<usize>
+        ensures taken { Takes self.old.lines out.old out.new result }
+        ensures console { self.new ≡ line_taken (length out.old) self.old }
+    {
+        self.lines.take(out)
+    }
+}

@@ -1,0 +1,10 @@
+//! The line discipline of a console: canonical mode, XBD 11.1.6.
+#![tactic(auto)]
+
+pub mod console;
+pub mod lines;
+#[cfg(test)]
+mod tests;
+
+pub use console::{Console, KeyEffect};
+pub use posix::{Pid, Sig};

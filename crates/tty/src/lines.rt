@@ -1,0 +1,105 @@
+//! Finished lines of a console, which wait to be read.
+
+ghost use Rattle.std.specs.Prelude.{◌≡◌, ◌+◌, ◌≤◌, ◌==◌, ◌&&◌, nat_lt, nat_le, [], ◌∷◌, ◌++◌, length, if◌then◌else◌, IfOk};
+ghost use Rattle.posix.specs.Consoles.{has_room, lines_left, waiting, most_lines, most_waiting};
+ghost use Rattle.tty.specs.Limits.{AreFew};
+ghost use Rattle.tty.specs.Lines.{Takes};
+
+use circular_buffer::HeapCircularBuffer;
+use std::alloc::{AllocError, Global};
+use std::marker::Model;
+
+/// At most 64 lines with 1,024 bytes together, the first of which is the next one read. A line has at most
+/// 256 bytes. It takes memory in [`LineQueue::new`] alone.
+#[derive(Drop)]
+pub struct LineQueue {
+    /// The bytes of all lines.
+    bytes: HeapCircularBuffer<u8>,
+    /// How many of them each line has.
+    lengths: HeapCircularBuffer<u16>,
+}
+
+impl Model for LineQueue {
+    ghost use Rattle.std.specs.Prelude.{List, ℕ};
+    ghost use Rattle.tty.specs.Lines.{cut, AreLines};
+
+    ghost Value = { List (List ℕ) };
+
+    ghost view = { λ q. cut q.lengths.items q.bytes.items };
+
+    ghost invariant = { λ q. AreLines q.lengths q.bytes };
+}
+
+impl LineQueue {
+    /// The most lines that wait.
+    pub const MOST_LINES: usize = 64;
+
+    /// The most bytes in them.
+    pub const MOST_BYTES: usize = 1024;
+
+    /// No line; an error where the host has no memory for it.
+    pub fn new(alloc: Global) -> Result<LineQueue, AllocError>
+        ensures { IfOk result (λ q. q ≡ []) }
+    {
+        let bytes = HeapCircularBuffer::with_capacity(alloc, LineQueue::MOST_BYTES)?;
+        let lengths = HeapCircularBuffer::with_capacity(alloc, LineQueue::MOST_LINES)?;
+        Ok(LineQueue { bytes, lengths })
+    }
+
+    /// Whether there is no line.
+    pub fn is_empty(&self) -> bool
+        ensures is { result ≡ (length self.now == 0) }
+        ensures limits { AreFew self.now }
+    {
+        self.lengths.is_empty()
+    }
+
+    /// Drops all lines.
+    pub fn clear(&mut self)
+        ensures { self.new ≡ [] }
+    {
+        self.bytes.clear();
+        self.lengths.clear();
+    }
+
+    /// Whether a line of so many bytes has room.
+    fn has_room(&self, len: usize) -> bool
+        requires { len ≤ 256 }
+        ensures { result ≡ (nat_lt (length self.now) most_lines && nat_le (waiting self.now + len) most_waiting) }
+    {
+        self.lengths.len() < LineQueue::MOST_LINES
+            && self.bytes.len() + len <= LineQueue::MOST_BYTES
+    }
+
+    /// Appends the line of these bytes and an end, and says whether it had room; without room nothing changes.
+    #[tactic(auto, using(crate::proofs::LineLemmas::room_of))]
+    pub fn push(&mut self, line: &[u8], end: &[u8]) -> bool
+        requires { length line.now + length end.now ≤ 256 }
+        ensures lines { self.new ≡ (if has_room (line.now ++ end.now) self.old then self.old ++ (line.now ++ end.now) ∷ [] else self.old) }
+        ensures pushed { result ≡ has_room (line.now ++ end.now) self.old }
+    {
+        let len = line.len() + end.len();
+        if !self.has_room(len) {
+            return false;
+        }
+        self.bytes.fill_from_slice(line);
+        self.bytes.fill_from_slice(end);
+        let _ = self.lengths.push_back(len as u16);
+        true
+    }
+
+    /// Moves bytes of the first line into the front of `out`, as many as it holds, and returns their number; none where
+    /// there is no line, and then nothing changes. A line without a rest is gone, and of another the rest stays.
+    pub fn take(&mut self, out: &mut [u8]) -> Option<usize>
+        ensures taken { Takes self.old out.old out.new result }
+        ensures lines { self.new ≡ lines_left (length out.old) self.old }
+    {
+        let len = usize::from(self.lengths.pop_front()?);
+        let count = len.min(out.len());
+        self.bytes.read_into(&mut out[..count]);
+        if count < len {
+            let _ = self.lengths.push_front((len - count) as u16);
+        }
+        Some(count)
+    }
+}
