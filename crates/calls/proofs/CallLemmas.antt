@@ -21,6 +21,8 @@ use Rattle.posix.specs.Sends.{kill, sending, targets, permitted, sent, sent_amon
 use Rattle.posix.specs.Waits.{wait, wait_with, gives_report, report, options_in, are_known}
 use Rattle.life.specs.declared.caller.Caller.{Caller}
 use Rattle.life.specs.Callers.{caller_of}
+use Rattle.calls.specs.declared.outcome.Attempt.{Attempt}
+use Rattle.calls.specs.declared.outcome.Attempt.TheVariants as came
 use Rattle.calls.specs.Outcomes.{Comes}
 use Rattle.life.specs.Callers.{process_like}
 
@@ -34,18 +36,26 @@ same_outcome s t xs ys e f = ap (λ (u : State). outcome_of u xs) e ∙ ap (outc
 -- ---- what an attempt comes to
 
 -- where the process has to wait, the definition blocks it in the same call, and nothing has changed
-pub block_is : (s : State) (a : outcome.Attempted) (b : Blocked) (xs ys : List Entry) (n : State) → Comes s a (Some b) xs ys n → (a ≡ outcome.Block b) × (ys ≡ xs) × (n ≡ s)
+pub block_is : (s : State) (a : outcome.Attempted) (b : Blocked) (xs ys : List Entry) (n : State) → Comes s a (came.Block b) xs ys n → (a ≡ outcome.Block b) × (ys ≡ xs) × (n ≡ s)
 block_is s (outcome.Done o) b xs ys n h = absurd h
 block_is s (outcome.Block x) b xs ys n h = (ap outcome.Block (sym h.0), h.1, h.2)
+block_is s (outcome.Again t) b xs ys n h = absurd h
+
+-- where it begins again, it does so in the definition, in the same state
+pub again_is : (s : State) (a : outcome.Attempted) (xs ys : List Entry) (n : State) → Comes s a came.Again xs ys n → (a ≡ outcome.Again n) × (ys ≡ xs)
+again_is s (outcome.Done o) xs ys n h = absurd h
+again_is s (outcome.Block b) xs ys n h = absurd h
+again_is s (outcome.Again t) xs ys n h = (ap outcome.Again (sym h.1), h.0)
 
 -- where it is done, it is the definition's outcome
-pub done_is : (s : State) (a : outcome.Attempted) (xs ys : List Entry) (n : State) → xs ≡ [] → Comes s a None xs ys n → a ≡ outcome.Done (outcome_of n ys)
+pub done_is : (s : State) (a : outcome.Attempted) (xs ys : List Entry) (n : State) → xs ≡ [] → Comes s a came.Done xs ys n → a ≡ outcome.Done (outcome_of n ys)
 done_is s (outcome.Done o) xs ys n none h = ap outcome.Done (same_outcome o.state n o.entries ys (sym h.1) (sym (h.0 ∙ ap (λ (l : List Entry). l ++ o.entries) none)))
 done_is s (outcome.Block b) xs ys n none h = absurd h
+done_is s (outcome.Again t) xs ys n none h = absurd h
 
 -- a call that gives z in t: the code gave v in b, and these are the same
-pub gives_is : (s t b n : State) (a : outcome.Attempted) (p : ℕ) (call : Call) (v z : ℤ) (xs ys : List Entry) (r : Option Blocked) → a ≡ outcome.gives t p call z
-    → r ≡ None → n ≡ outcome.finish b p ((0, v) ∷ []) → b ≡ t → ys ≡ xs ++ Called p call v ∷ [] → v ≡ z → Comes s a r xs ys n
+pub gives_is : (s t b n : State) (a : outcome.Attempted) (p : ℕ) (call : Call) (v z : ℤ) (xs ys : List Entry) (r : Attempt) → a ≡ outcome.gives t p call z
+    → r ≡ came.Done → n ≡ outcome.finish b p ((0, v) ∷ []) → b ≡ t → ys ≡ xs ++ Called p call v ∷ [] → v ≡ z → Comes s a r xs ys n
 gives_is s t b n a p call v z xs ys r is done state before shown same =
     subst (λ x. Comes s x r xs ys n) (sym is)
     (subst (λ q. Comes s (outcome.gives t p call z) q xs ys n) (sym done)
@@ -65,8 +75,8 @@ pub answers_then : (s : State) (p : ℕ) (call : Call) (z : ℤ) (g : Process �
 answers_then s p call z g keeps = ap (λ rs. outcome.Done (outcome_of (record s { processes = rs }) (Called p call z ∷ []))) (sym (changed_then p (outcome.finished ((0, z) ∷ [])) g keeps s.processes))
 
 -- a call that reports a child in t: the code did so in b, which is the same
-pub reports_is : (s t b n : State) (a : outcome.Attempted) (p child status : ℕ) (xs ys : List Entry) (r : Option Blocked) → a ≡ gives_report t p child status
-    → r ≡ None → n ≡ outcome.finish b p ((0, pos child) ∷ (1, pos status) ∷ []) → b ≡ t → ys ≡ xs ++ Reported p child status ∷ [] → Comes s a r xs ys n
+pub reports_is : (s t b n : State) (a : outcome.Attempted) (p child status : ℕ) (xs ys : List Entry) (r : Attempt) → a ≡ gives_report t p child status
+    → r ≡ came.Done → n ≡ outcome.finish b p ((0, pos child) ∷ (1, pos status) ∷ []) → b ≡ t → ys ≡ xs ++ Reported p child status ∷ [] → Comes s a r xs ys n
 reports_is s t b n a p child status xs ys r is done state before shown =
     subst (λ x. Comes s x r xs ys n) (sym is)
     (subst (λ q. Comes s (gives_report t p child status) q xs ys n) (sym done)

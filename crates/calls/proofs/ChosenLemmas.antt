@@ -22,7 +22,7 @@ use Rattle.posix.specs.Execute.{exec_one}
 use Rattle.posix.specs.Attempts.{attempt_again}
 use Rattle.posix.specs.Step.{act, act_in, go_on, deliver_or, after_trap, code_of}
 use Rattle.posix.specs.declared.process.Blocked.{Blocked}
-use Rattle.posix.specs.Ends.{end_process}
+use Rattle.posix.specs.Ends.{hang_up, end_process}
 use Rattle.posix.specs.Delivery.{handle, take_out, deliver}
 use Rattle.posix.specs.Sends.{targets, permitted, sending, sending_found, sending_permitted, sent, sent_among, sent_by}
 use Rattle.posix.proofs.TableLemmas.{pid_looked}
@@ -81,12 +81,12 @@ sent_nobody me choice s rs w e ne = sent_found me s (targets me choice rs) rs w 
 
 -- a handler is entered the same, whether the signal was taken out of the record that is looked at or not
 pub handle_taken : (s : State) (me : Process) (n : ℕ) (signal : PendingSignal) (address : ℤ) → handle s (take_out n me) signal address ≡ handle s me signal address
-unfolding handle take_out taken end_process
+unfolding handle take_out taken end_process hang_up
 handle_taken s me n signal address = refl
 
 -- a process ends the same
 pub end_taken : (s : State) (me : Process) (n status : ℕ) → end_process s (take_out n me) status ≡ end_process s me status
-unfolding take_out taken end_process
+unfolding take_out taken end_process hang_up
 end_taken s me n status = refl
 
 -- who is there is there after a change that keeps the number, changed

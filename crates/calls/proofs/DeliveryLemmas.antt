@@ -3,7 +3,7 @@ use Rattle.std.proofs.Common.{◌≡◌, ℕ, Bool, true, false, cond, not, ◌&
 use Rattle.posix.specs.declared.sig.DefaultAction.{DefaultAction}
 use Rattle.posix.specs.declared.sig.DefaultAction.TheVariants as default
 use Rattle.posix.specs.declared.entry.Entry.{Entry}
-use Rattle.posix.specs.declared.entry.Entry.TheVariants.{Ended, Halted, Handled, Discarded, Returned}
+use Rattle.posix.specs.declared.entry.Entry.TheVariants.{Handled, Discarded, Returned}
 use Rattle.posix.specs.declared.process.Action.{Action}
 use Rattle.posix.specs.declared.process.Carried.{Carried}
 use Rattle.posix.specs.declared.process.Frame.{Frame}
@@ -19,22 +19,17 @@ use Rattle.posix.specs.Notices.{told_of_change}
 use Rattle.posix.specs.Groups.{is_orphaned}
 use Rattle.posix.specs.Choice.{carried_by}
 use Rattle.posix.specs.Handlers.{handles, is_full, newest_frame, returned}
-use Rattle.posix.specs.Ends.{end_process, halt, depart, notice_of_end, tell_of_all, rouse_orphans, zombies_of}
+use Rattle.posix.specs.Ends.{hang_up, end_process}
 use Rattle.posix.specs.Delivery.{interruption, handle, discard, stop_process, stop_or_discard, act_by_default, act_on, take_out, deliver, return_to, return_from_handler}
 use Rattle.posix.proofs.RegularLemmas.{keeps_handles}
 use Rattle.calls.proofs.CallLemmas.{outcome_of, same_outcome}
 use Rattle.calls.proofs.ChosenLemmas.{handle_taken, end_taken, changed_there}
 
--- ---- an end depends on the number and the parent alone
+-- ---- an end depends on the number, the parent and the session alone
 
-end_with : State → ℕ → ℕ → ℕ → Outcome
-end_with s p parent status =
-    cond (p == 1) (outcome_of (halt s status) (Ended p status ∷ Halted ∷ []))
-    (outcome_of (notice_of_end (rouse_orphans s.processes (tell_of_all (depart s p 1 status) 1 (zombies_of p s.processes))) parent p status) (Ended p status ∷ []))
-
-pub end_same : (s : State) (r q : Process) (status : ℕ) → r.pid ≡ q.pid → r.parent ≡ q.parent → end_process s r status ≡ end_process s q status
-unfolding end_process end_with
-end_same s r q status e f = ap (λ n. end_with s n r.parent status) e ∙ ap (λ n. end_with s q.pid n status) f
+pub end_same : (s : State) (r q : Process) (status : ℕ) → r.pid ≡ q.pid → r.parent ≡ q.parent → r.session ≡ q.session → end_process s r status ≡ end_process s q status
+unfolding end_process hang_up
+end_same s r q status e f g = rw (e, f, g) refl
 
 -- ---- a handler
 
@@ -54,7 +49,7 @@ unfolding handle
 handle_full s me signal address t u es full st end en =
     let k = keeps_handles {now = 0} signal address in
     let same : end_process t (handles signal address me) (killed SEGV) ≡ end_process (change s me.pid (handles signal address)) me (killed SEGV) =
-    end_same t (handles signal address me) me (killed SEGV) (k.pid me) (k.parent me) ∙ ap (λ x. end_process x me (killed SEGV)) st in
+    end_same t (handles signal address me) me (killed SEGV) (k.pid me) (k.parent me) (k.session me) ∙ ap (λ x. end_process x me (killed SEGV)) st in
     rw full (same_outcome _ u _ es (sym (end ∙ ap (λ (o : Outcome). o.state) same))
     (sym (en ∙ ap (λ (o : Outcome). interruption me.pid me.blocked (action me.signals signal.sig) ++ o.entries) same)))
 

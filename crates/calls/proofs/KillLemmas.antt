@@ -1,49 +1,21 @@
 -- A kill.
-use Rattle.std.proofs.Common.{◌≡◌, ◌≢◌, ℕ, ap, sym, ◌∙◌, subst, Option, Some, None, List, [], ◌∷◌, Result, Ok, Err}
+use Rattle.std.proofs.Common.{◌≡◌, ◌≢◌, ℕ, ap, sym, ◌∙◌, subst, Option, Some, None, List, Result, Ok, Err}
 use Rattle.std.specs.Option.{IsSome}
 use Rattle.posix.specs.declared.call.Call.TheVariants.{Kill}
 use Rattle.posix.specs.declared.errno.Errno.{Errno}
-use Rattle.posix.specs.declared.process.Effect.TheVariants as effect
-use Rattle.posix.specs.declared.process.PendingSignal.{PendingSignal}
 use Rattle.posix.specs.declared.process.Sending.{Sending}
 use Rattle.posix.specs.declared.process.Sending.TheVariants as found
 use Rattle.posix.specs.declared.target.Target.{Target}
 use Rattle.posix.specs.Targets.{target_in}
 use Rattle.posix.specs.Processes.{Process, argument}
-use Rattle.posix.specs.Tables.{lookup, changed, pids}
+use Rattle.posix.specs.Tables.{lookup, pids}
 use Rattle.posix.specs.States.{State, process}
 use Rattle.posix.specs.Outcomes as outcome
-use Rattle.posix.specs.Statuses.{continued}
-use Rattle.posix.specs.Generation.{signalled, effect_of}
-use Rattle.posix.specs.Notices.{child_signal, noticed_of_change, told_of_change, resumed, acted_upon, generated_for, signalled_all}
 use Rattle.posix.specs.Sends.{permitted, sending, sent, sent_among, sent_by, signal_or_none, send_with, kill, kill_with}
-use Rattle.posix.proofs.RegularLemmas.{keeps_signalled}
-use Rattle.posix.proofs.ChangeLemmas.{lives_resumed, unseen_noticed_of_change}
-use Rattle.posix.proofs.ReportLemmas.{some_changed}
 use Rattle.calls.proofs.ChosenLemmas.{sent_nobody}
+use Rattle.calls.proofs.RemainLemmas.{some_signalled}
 
 -- ---- who is there
-
--- after a child was continued, and its parent has notice
-some_continued : (r : Process) (q : ℕ) (rs : List Process) → IsSome (lookup q rs) → IsSome (lookup q (acted_upon effect.Continued r rs))
-unfolding told_of_change
-some_continued r q rs h =
-    let signal = child_signal r.pid continued in
-    some_changed r.parent q (noticed_of_change signal) (unseen_noticed_of_change signal).pid (changed r.pid resumed rs) (some_changed r.pid q resumed lives_resumed.pid rs h)
-
--- after a signal is generated for one
-some_generated : (signal : PendingSignal) (o : Option Process) (q : ℕ) (rs : List Process) → IsSome (lookup q rs) → IsSome (lookup q (generated_for signal o rs))
-some_generated signal None q rs h = h
-some_generated signal (Some r) q rs h =
-    let now = some_changed r.pid q (signalled signal) (keeps_signalled {now = 0} signal).pid rs h in
-    elim (effect_of r.pid r.life signal r.signals) as (λ w. IsSome (lookup q (acted_upon w r (changed r.pid (signalled signal) rs)))) [ effect.Nothing ↦ now | effect.Continued ↦ some_continued r q (changed r.pid (signalled signal) rs) now ]
-
--- after a signal is generated for several
-some_signalled : (signal : PendingSignal) (ps : List ℕ) (q : ℕ) (rs : List Process) → IsSome (lookup q rs) → IsSome (lookup q (signalled_all signal ps rs))
-unfolding signalled_all
-some_signalled signal [] q rs h = h
-some_signalled signal (p ∷ ps) q rs h =
-    some_signalled signal ps q (generated_for signal (lookup p rs) rs) (some_generated signal (lookup p rs) q rs h)
 
 -- after a signal is sent to those that are meant
 some_sent_among : (me : Process) (s : Option ℕ) (qs rs : List Process) (q : ℕ) → IsSome (lookup q rs) → IsSome (lookup q (sent_among me s qs rs))

@@ -1,7 +1,10 @@
 pub mod CallLemmas
 pub mod ChosenLemmas
+pub mod RemainLemmas
 pub mod DeliveryLemmas
 pub mod OwnLemmas
 pub mod KillLemmas
 pub mod ReplyLemmas
 pub mod GroupCallLemmas
+pub mod TerminalCallLemmas
+pub mod TransferLemmas

@@ -1,5 +1,5 @@
 -- Calls that change the own part of their process alone.
-use Rattle.std.proofs.Common.{◌≡◌, ℕ, true, Some, None, refl, ap, sym, subst, ◌∙◌, List, [], ◌∷◌}
+use Rattle.std.proofs.Common.{◌≡◌, ℕ, true, Some, refl, ap, sym, subst, ◌∙◌, List, [], ◌∷◌}
 use Rattle.std.specs.Option.{IsSome, IfSome}
 use Rattle.posix.specs.declared.call.Call.{Call}
 use Rattle.posix.specs.declared.entry.Entry.{Entry}
@@ -13,6 +13,7 @@ use Rattle.proctable.specs.declared.own.Own.{Own}
 use Rattle.proctable.specs.Body.{own_of, give_own}
 use Rattle.life.proofs.LoanLemmas.{was_written, own_is}
 use Rattle.calls.proofs.ChosenLemmas.{changed_there}
+use Rattle.calls.specs.declared.outcome.Attempt.TheVariants as came
 use Rattle.calls.specs.Outcomes.{Comes, Answers, with_own}
 use Rattle.posix.proofs.ReportLemmas.{some_changed}
 
@@ -38,8 +39,8 @@ placed_lent s p w h = record { what = give_own w h.what; found = changed_there p
 
 -- a call that was answered through a loan
 pub answered : (s : State) (p : ℕ) (o w : Own) (me : Process) (call : Call) (xs ys : List Entry) → IsRegular s → IfSome (process s p) (λ r. o ≡ own_of r) → process s p ≡ Some me
-    → Answers (with_own p o me) call o w xs ys → Comes s (attempt true s me call) None xs ys (change s p (give_own w))
+    → Answers (with_own p o me) call o w xs ys → Comes s (attempt true s me call) came.Done xs ys (change s p (give_own w))
 answered s p o w me call xs ys regular lent e a =
-    of_own (λ x. Comes s (attempt true s x call) None xs ys (change s p (give_own w))) s p o me lent e
-    (subst (λ t. Comes s t None xs ys (change s p (give_own w))) (sym (a.attempts true s))
+    of_own (λ x. Comes s (attempt true s x call) came.Done xs ys (change s p (give_own w))) s p o me lent e
+    (subst (λ t. Comes s t came.Done xs ys (change s p (give_own w))) (sym (a.attempts true s))
     (a.shown, was_written s p o w (λ r. outcome.finished ((0, a.reply.value) ∷ []) (a.reply.changes r)) regular lent a.left))

@@ -1,11 +1,10 @@
 -- What the functions of calls come to.
-use Rattle.std.specs.Prelude.{◌≡◌, ℕ, ◌+◌, ◌≤◌, Bool, true, false, List, [], ◌∷◌, ◌++◌, Option, Some, None, ℤ, pos, Result, Ok, Err}
+use Rattle.std.specs.Prelude.{◌≡◌, ℕ, ◌+◌, ◌≤◌, Bool, true, false, List, [], ◌∷◌, ◌++◌, Some, ℤ, pos, Result, Ok, Err}
 use Rattle.posix.specs.declared.call.Call.{Call}
-use Rattle.posix.specs.declared.call.Call.TheVariants.{Exit, Fork, Waitpid, Pause, SchedYield, Getppid, Kill, Sigsuspend, Sigreturn, Alarm, Exec, Getpgid, Getsid, Setpgid, Setsid}
+use Rattle.posix.specs.declared.call.Call.TheVariants.{Exit, Fork, Waitpid, Pause, SchedYield, Getppid, Kill, Sigsuspend, Sigreturn, Alarm, Exec, Getpgid, Getsid, Setpgid, Setsid, Setctty, Tcgetpgrp, Tcsetpgrp, Settostop, Read, Write}
 use Rattle.posix.specs.declared.entry.Entry.{Entry}
 use Rattle.posix.specs.declared.entry.Entry.TheVariants.{Called}
 use Rattle.posix.specs.declared.errno.Errno.{Errno}
-use Rattle.posix.specs.declared.process.Blocked.{Blocked}
 use Rattle.posix.specs.Processes.{Process}
 use Rattle.posix.specs.States.{State, process, has_place}
 use Rattle.posix.specs.Regular.{IsPlaced}
@@ -14,24 +13,33 @@ use Rattle.posix.specs.Attempts.{attempt}
 use Rattle.proctable.specs.declared.own.Own.{Own}
 use Rattle.proctable.specs.Body.{give_own}
 use Rattle.life.specs.Machines.{MachineView}
+use Rattle.calls.specs.declared.outcome.Attempt.{Attempt}
+use Rattle.calls.specs.declared.outcome.Attempt.TheVariants as came
 
--- At most so many slots were read, and nobody was put on the list of those to ask.
+-- At most so many slots were read, nobody was put on the list of those to ask, and whether a foreground process group
+-- may have lost its members is as before.
 pub record CostsAtMost (most : ℕ) (old new : MachineView) : Type 0 where
   pub reads : new.reads ≤ old.reads + most
   pub asked : new.asked ≡ old.asked
+  pub stale : new.stale ≡ old.stale
 
 -- ---- attempts
 
--- The code's attempt came to what the definition says: it is done, and its entries come after those before;
--- or the process has to wait, and none do.
-abbrev pub Comes : State → outcome.Attempted → Option Blocked → List Entry → List Entry → State → Type 0
-Comes old (outcome.Done o) None before after new = (after ≡ before ++ o.entries) × (new ≡ o.state)
-Comes old (outcome.Block b) (Some c) before after new = (c ≡ b) × (after ≡ before) × (new ≡ old)
-Comes old (outcome.Done o) (Some c) before after new = ⊥
-Comes old (outcome.Block b) None before after new = ⊥
+-- The code's attempt came to what the definition says: it is done, and its entries come after those before; or it
+-- begins again, and shows nothing; or the process has to wait, and nothing has changed.
+abbrev pub Comes : State → outcome.Attempted → Attempt → List Entry → List Entry → State → Type 0
+Comes old (outcome.Done o) came.Done before after new = (after ≡ before ++ o.entries) × (new ≡ o.state)
+Comes old (outcome.Done o) came.Again before after new = ⊥
+Comes old (outcome.Done o) (came.Block c) before after new = ⊥
+Comes old (outcome.Block b) came.Done before after new = ⊥
+Comes old (outcome.Block b) came.Again before after new = ⊥
+Comes old (outcome.Block b) (came.Block c) before after new = (c ≡ b) × (after ≡ before) × (new ≡ old)
+Comes old (outcome.Again t) came.Done before after new = ⊥
+Comes old (outcome.Again t) came.Again before after new = (after ≡ before) × (new ≡ t)
+Comes old (outcome.Again t) (came.Block c) before after new = ⊥
 
 -- The call of p may come to this.
-abbrev pub Attempts : State → ℕ → Call → Option Blocked → List Entry → List Entry → State → Type 0
+abbrev pub Attempts : State → ℕ → Call → Attempt → List Entry → List Entry → State → Type 0
 Attempts old p call result before after new = (me : Process) → process old p ≡ Some me → (granted : Bool) × Comes old (attempt granted old me call) result before after new
 
 -- p has a place, and is a record that is no zombie.
@@ -61,6 +69,12 @@ is_own Getpgid = false
 is_own Getsid = false
 is_own Setpgid = false
 is_own Setsid = false
+is_own Setctty = false
+is_own Tcgetpgrp = false
+is_own Tcsetpgrp = false
+is_own Settostop = false
+is_own Read = false
+is_own Write = false
 is_own call = true
 
 -- what a call gives that is done, or refused

@@ -1,6 +1,6 @@
 //! Attempts of system calls: each is done, and adds what it shows, or the process has to wait.
 
-ghost use Rattle.std.specs.Prelude.{◌≡◌, ◌+◌, ◌<◌, ◌≤◌, ◌^◌, ◌++◌, ◌∷◌, [], length, IsSome, None, true};
+ghost use Rattle.std.specs.Prelude.{◌≡◌, ◌+◌, ◌<◌, ◌≤◌, ◌^◌, ◌++◌, ◌∷◌, [], length, IsSome, true};
 ghost use Rattle.posix.specs.declared.entry.Entry.TheVariants.{Called};
 ghost use Rattle.posix.specs.Processes.{Process};
 ghost use Rattle.posix.specs.States.{process};
@@ -14,8 +14,11 @@ use crate::delivery::{end, return_from_handler};
 use crate::entries::Entries;
 use crate::groups::{getpgid, getsid, setpgid, setsid};
 use crate::kills::kill;
+use crate::outcome::Attempt;
 use crate::programs::exec;
 use crate::replies::{answer, own_call, refusal};
+use crate::terminals::{setctty, settostop, tcgetpgrp, tcsetpgrp};
+use crate::transfers::{read, write};
 use crate::waits::wait;
 use life::Machine;
 use posix::{Blocked, Call, Entry, Errno, Pid, Register, Status};
@@ -28,15 +31,15 @@ pub fn gives<K: Kin>(
     call: Call,
     value: i64,
     entries: &mut Entries,
-) -> Option<Blocked>
+) -> Attempt
     requires there { IsSome (process machine.old.state pid) }
     requires room { length entries.old.items ≤ 3 }
-    ensures done { result ≡ None }
+    ensures done { result ≡ Attempt.Done }
     ensures state { machine.new.state ≡ finish machine.old.state pid ((0, value) ∷ []) }
     ensures shown { entries.new.items ≡ entries.old.items ++ Called pid call value ∷ [] }
 {
     answer(machine.own(pid), pid, call, value, entries);
-    None
+    Attempt::Done
 }
 
 /// The call of a process that is there is refused.
@@ -46,10 +49,10 @@ pub fn refuse<K: Kin>(
     call: Call,
     errno: Errno,
     entries: &mut Entries,
-) -> Option<Blocked>
+) -> Attempt
     requires there { IsSome (process machine.old.state pid) }
     requires room { length entries.old.items ≤ 3 }
-    ensures done { result ≡ None }
+    ensures done { result ≡ Attempt.Done }
     ensures state { machine.new.state ≡ finish machine.old.state pid ((0, refusal_of errno) ∷ []) }
     ensures shown { entries.new.items ≡ entries.old.items ++ Called pid call (refusal_of errno) ∷ [] }
 {
@@ -58,7 +61,7 @@ pub fn refuse<K: Kin>(
 
 /// The number of the caller's parent (XSH getppid).
 #[tactic(auto, unfolding(posix::specs::Attempts::attempt))]
-fn getppid<K: Kin>(machine: &mut Machine<K>, pid: Pid, entries: &mut Entries) -> Option<Blocked>
+fn getppid<K: Kin>(machine: &mut Machine<K>, pid: Pid, entries: &mut Entries) -> Attempt
     requires there { IsSome (process machine.old.state pid) }
     requires room { length entries.old.items ≤ 1 }
     ensures { Attempts machine.old.state pid Call.Getppid result entries.old.items entries.new.items machine.new.state }
@@ -75,7 +78,7 @@ fn getppid<K: Kin>(machine: &mut Machine<K>, pid: Pid, entries: &mut Entries) ->
 
 /// The caller goes to the end of the order (XSH sched_yield).
 #[tactic(auto, unfolding(posix::specs::Attempts::attempt))]
-fn sched_yield<K: Kin>(machine: &mut Machine<K>, pid: Pid, entries: &mut Entries) -> Option<Blocked>
+fn sched_yield<K: Kin>(machine: &mut Machine<K>, pid: Pid, entries: &mut Entries) -> Attempt
     requires acting { IsActing machine.old.state pid }
     requires room { length entries.old.items ≤ 1 }
     ensures { Attempts machine.old.state pid Call.SchedYield result entries.old.items entries.new.items machine.new.state }
@@ -86,7 +89,7 @@ fn sched_yield<K: Kin>(machine: &mut Machine<K>, pid: Pid, entries: &mut Entries
 
 /// A child like the caller is born (XSH fork).
 #[tactic(auto, unfolding(posix::specs::Attempts::attempt, posix::specs::Births::fork_as))]
-fn fork<K: Kin>(machine: &mut Machine<K>, pid: Pid, entries: &mut Entries) -> Option<Blocked>
+fn fork<K: Kin>(machine: &mut Machine<K>, pid: Pid, entries: &mut Entries) -> Attempt
     requires acting { IsActing machine.old.state pid }
     requires births { machine.old.state.births + 1 < 2 ^ 64 }
     requires room { length entries.old.items ≤ 1 }
@@ -103,32 +106,32 @@ fn fork<K: Kin>(machine: &mut Machine<K>, pid: Pid, entries: &mut Entries) -> Op
                 pid,
                 call: Call::Fork,
             });
-            None
+            Attempt::Done
         }
     }
 }
 
 /// The process ends with the code in r1 (XSH _exit).
 #[tactic(auto, unfolding(posix::specs::Attempts::attempt))]
-fn exit<K: Kin>(machine: &mut Machine<K>, pid: Pid, entries: &mut Entries) -> Option<Blocked>
+fn exit<K: Kin>(machine: &mut Machine<K>, pid: Pid, entries: &mut Entries) -> Attempt
     requires there { IsSome (process machine.old.state pid) }
     requires room { length entries.old.items ≤ 1 }
     ensures { Attempts machine.old.state pid Call.Exit result entries.old.items entries.new.items machine.new.state }
 {
     let code = machine.look(pid).cpu.register(Register::FIRST_ARGUMENT);
     end(machine, pid, Status::exited(code), entries);
-    None
+    Attempt::Done
 }
 
 /// Returns from the newest handler (sigreturn(2)).
 #[tactic(auto, unfolding(posix::specs::Attempts::attempt))]
-fn sigreturn<K: Kin>(machine: &mut Machine<K>, pid: Pid, entries: &mut Entries) -> Option<Blocked>
+fn sigreturn<K: Kin>(machine: &mut Machine<K>, pid: Pid, entries: &mut Entries) -> Attempt
     requires there { IsSome (process machine.old.state pid) }
     requires none { entries.old.items ≡ [] }
     ensures { Attempts machine.old.state pid Call.Sigreturn result entries.old.items entries.new.items machine.new.state }
 {
     return_from_handler(machine, pid, entries);
-    None
+    Attempt::Done
 }
 
 /// The ticks that a register asks for: 0 to 1,000,000,000.
@@ -143,7 +146,7 @@ fn ticks_in(word: i64) -> Option<u64>
 
 /// The caller's alarm is set to r1 ticks from now, 0 to 1,000,000,000, where 0 clears it (XSH alarm).
 #[tactic(auto, unfolding(posix::specs::Attempts::attempt))]
-fn alarm<K: Kin>(machine: &mut Machine<K>, pid: Pid, entries: &mut Entries) -> Option<Blocked>
+fn alarm<K: Kin>(machine: &mut Machine<K>, pid: Pid, entries: &mut Entries) -> Attempt
     requires acting { IsActing machine.old.state pid }
     requires time { machine.old.state.ticks + most_ticks < 2 ^ 64 }
     requires room { length entries.old.items ≤ 1 }
@@ -165,23 +168,25 @@ pub fn attempt<K: Kin>(
     pid: Pid,
     call: Call,
     entries: &mut Entries,
-) -> Option<Blocked>
+) -> Attempt
     requires acting { IsActing machine.old.state pid }
     requires births { machine.old.state.births + 1 < 2 ^ 64 }
     requires time { machine.old.state.ticks + most_ticks < 2 ^ 64 }
     requires none { entries.old.items ≡ [] }
     ensures attempts { Attempts machine.old.state pid call result entries.old.items entries.new.items machine.new.state }
-    ensures own { is_own call ≡ true → (result ≡ None) × CostsAtMost 1 machine.old machine.new }
+    ensures own { is_own call ≡ true → (result ≡ Attempt.Done) × CostsAtMost 1 machine.old machine.new }
 {
     match call {
         Call::Exit => exit(machine, pid, entries),
         Call::Fork => fork(machine, pid, entries),
         Call::Waitpid => wait(machine, pid, entries),
-        Call::Pause => Some(Blocked::Pause),
+        Call::Pause => Attempt::Block(Blocked::Pause),
         Call::SchedYield => sched_yield(machine, pid, entries),
         Call::Getppid => getppid(machine, pid, entries),
         Call::Kill => kill(machine, pid, entries),
-        Call::Sigsuspend => Some(Blocked::Sigsuspend(machine.look(pid).signals.mask())),
+        Call::Sigsuspend => {
+            Attempt::Block(Blocked::Sigsuspend(machine.look(pid).signals.mask()))
+        },
         Call::Sigreturn => sigreturn(machine, pid, entries),
         Call::Alarm => alarm(machine, pid, entries),
         Call::Exec => exec(machine, pid, entries),
@@ -189,6 +194,12 @@ pub fn attempt<K: Kin>(
         Call::Getsid => getsid(machine, pid, entries),
         Call::Setpgid => setpgid(machine, pid, entries),
         Call::Setsid => setsid(machine, pid, entries),
+        Call::Setctty => setctty(machine, pid, entries),
+        Call::Tcgetpgrp => tcgetpgrp(machine, pid, entries),
+        Call::Tcsetpgrp => tcsetpgrp(machine, pid, entries),
+        Call::Settostop => settostop(machine, pid, entries),
+        Call::Read => read(machine, pid, entries),
+        Call::Write => write(machine, pid, entries),
         _ => own_call(machine.own(pid), pid, call, entries),
     }
 }
@@ -200,13 +211,14 @@ pub fn attempt_again<K: Kin>(
     pid: Pid,
     blocked: Blocked,
     entries: &mut Entries,
-) -> Option<Blocked>
+) -> Attempt
     requires placed { IsPlaced machine.old.state.processes pid }
     requires none { entries.old.items ≡ [] }
     ensures { (me : Process) → process machine.old.state pid ≡ Some me → Comes machine.old.state (attempting_again machine.old.state me blocked) result entries.old.items entries.new.items machine.new.state }
 {
     match blocked {
         Blocked::Waitpid => wait(machine, pid, entries),
-        _ => Some(blocked),
+        Blocked::Read => read(machine, pid, entries),
+        _ => Attempt::Block(blocked),
     }
 }

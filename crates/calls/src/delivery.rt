@@ -19,7 +19,8 @@ use posix::{
 use proctable::Kin;
 use signal::is_interrupted;
 
-/// The end of a process that is there, and what it shows.
+/// The end of a process that is there, and what it shows. The terminal of the session that it leads is hung up
+/// first, and its heir is process 1 (XSH _exit).
 #[tactic(auto, unfolding(posix::specs::Ends::end_process))]
 pub fn end<K: Kin>(machine: &mut Machine<K>, pid: Pid, status: Status, entries: &mut Entries)
     requires there { IsSome (process machine.old.state pid) }
@@ -27,6 +28,7 @@ pub fn end<K: Kin>(machine: &mut Machine<K>, pid: Pid, status: Status, entries: 
     ensures state { (me : Process) → process machine.old.state pid ≡ Some me → machine.new.state ≡ (end_process machine.old.state me status).state }
     ensures entries { (me : Process) → process machine.old.state pid ≡ Some me → entries.new.items ≡ entries.old.items ++ (end_process machine.old.state me status).entries }
 {
+    machine.hang_up(pid);
     machine.end(pid, Pid::INIT, status);
     entries.push(Entry::Ended { pid, status });
     if pid == Pid::INIT {
@@ -40,6 +42,7 @@ fn call_of(blocked: Blocked) -> Call
 {
     match blocked {
         Blocked::Waitpid => Call::Waitpid,
+        Blocked::Read => Call::Read,
         Blocked::Pause => Call::Pause,
         Blocked::Sigsuspend(_) => Call::Sigsuspend,
     }

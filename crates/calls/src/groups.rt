@@ -10,8 +10,9 @@ ghost use Rattle.calls.specs.Outcomes.{Attempts};
 
 use crate::attempts::{gives, refuse};
 use crate::entries::Entries;
+use crate::outcome::Attempt;
 use life::Machine;
-use posix::{Blocked, Call, Errno, Pid, Register};
+use posix::{Call, Errno, Pid, Register};
 use proctable::{Facts, Kin};
 
 /// The small fields of the process that the first argument of a caller that is there names, 0 being the
@@ -27,7 +28,7 @@ fn named<K: Kin>(machine: &mut Machine<K>, pid: Pid) -> Option<Facts>
 
 /// The process group of the process that r1 names, 0 being the caller (XSH getpgid).
 #[tactic(auto, unfolding(posix::specs::Attempts::attempt, posix::specs::GroupCalls::getpgid))]
-pub fn getpgid<K: Kin>(machine: &mut Machine<K>, pid: Pid, entries: &mut Entries) -> Option<Blocked>
+pub fn getpgid<K: Kin>(machine: &mut Machine<K>, pid: Pid, entries: &mut Entries) -> Attempt
     requires there { IsSome (process machine.old.state pid) }
     requires room { length entries.old.items ≤ 1 }
     ensures { Attempts machine.old.state pid Call.Getpgid result entries.old.items entries.new.items machine.new.state }
@@ -46,7 +47,7 @@ pub fn getpgid<K: Kin>(machine: &mut Machine<K>, pid: Pid, entries: &mut Entries
 
 /// The session of the process that r1 names, 0 being the caller (XSH getsid).
 #[tactic(auto, unfolding(posix::specs::Attempts::attempt, posix::specs::GroupCalls::getsid))]
-pub fn getsid<K: Kin>(machine: &mut Machine<K>, pid: Pid, entries: &mut Entries) -> Option<Blocked>
+pub fn getsid<K: Kin>(machine: &mut Machine<K>, pid: Pid, entries: &mut Entries) -> Attempt
     requires there { IsSome (process machine.old.state pid) }
     requires room { length entries.old.items ≤ 1 }
     ensures { Attempts machine.old.state pid Call.Getsid result entries.old.items entries.new.items machine.new.state }
@@ -65,7 +66,7 @@ pub fn getsid<K: Kin>(machine: &mut Machine<K>, pid: Pid, entries: &mut Entries)
 
 /// Moves the process that r1 names, the caller or a child, to the process group in r2 (XSH setpgid).
 #[tactic(auto, unfolding(posix::specs::Attempts::attempt, posix::specs::GroupCalls::setpgid))]
-pub fn setpgid<K: Kin>(machine: &mut Machine<K>, pid: Pid, entries: &mut Entries) -> Option<Blocked>
+pub fn setpgid<K: Kin>(machine: &mut Machine<K>, pid: Pid, entries: &mut Entries) -> Attempt
     requires placed { IsPlaced machine.old.state.processes pid }
     requires room { length entries.old.items ≤ 1 }
     ensures { Attempts machine.old.state pid Call.Setpgid result entries.old.items entries.new.items machine.new.state }
@@ -79,7 +80,7 @@ pub fn setpgid<K: Kin>(machine: &mut Machine<K>, pid: Pid, entries: &mut Entries
 
 /// The caller leads a session and a process group of its own (XSH setsid).
 #[tactic(auto, unfolding(posix::specs::Attempts::attempt, posix::specs::GroupCalls::setsid))]
-pub fn setsid<K: Kin>(machine: &mut Machine<K>, pid: Pid, entries: &mut Entries) -> Option<Blocked>
+pub fn setsid<K: Kin>(machine: &mut Machine<K>, pid: Pid, entries: &mut Entries) -> Attempt
     requires placed { IsPlaced machine.old.state.processes pid }
     requires room { length entries.old.items ≤ 1 }
     ensures { Attempts machine.old.state pid Call.Setsid result entries.old.items entries.new.items machine.new.state }

@@ -8,9 +8,10 @@ ghost use Rattle.calls.specs.Outcomes.{Attempts, Comes};
 
 use crate::attempts::{gives, refuse};
 use crate::entries::Entries;
+use crate::outcome::Attempt;
 use crate::replies::signal_in;
 use life::{Caller, Machine};
-use posix::{Blocked, Call, Errno, Pid, Sending, Sig};
+use posix::{Call, Errno, Pid, Sending, Sig};
 use proctable::Kin;
 
 /// The signal that the second argument names; none for signal 0. EINVAL where it is neither.
@@ -28,7 +29,7 @@ fn signal_or_none(me: &Caller) -> Result<Option<Sig>, Errno>
 
 /// Sends a signal, as a caller that is there.
 #[tactic(auto, unfolding(posix::specs::Sends::kill))]
-fn kill_as<K: Kin>(machine: &mut Machine<K>, me: &Caller, entries: &mut Entries) -> Option<Blocked>
+fn kill_as<K: Kin>(machine: &mut Machine<K>, me: &Caller, entries: &mut Entries) -> Attempt
     requires there { IsSome (process machine.old.state me.now.pid) }
     requires room { length entries.old.items ≤ 1 }
     ensures { Comes machine.old.state (killing machine.old.state (process_like me.now)) result entries.old.items entries.new.items machine.new.state }
@@ -46,7 +47,7 @@ fn kill_as<K: Kin>(machine: &mut Machine<K>, me: &Caller, entries: &mut Entries)
 
 /// Sends a signal.
 #[tactic(auto, unfolding(posix::specs::Attempts::attempt, posix::specs::Sends::kill))]
-pub fn kill<K: Kin>(machine: &mut Machine<K>, pid: Pid, entries: &mut Entries) -> Option<Blocked>
+pub fn kill<K: Kin>(machine: &mut Machine<K>, pid: Pid, entries: &mut Entries) -> Attempt
     requires there { IsSome (process machine.old.state pid) }
     requires room { length entries.old.items ≤ 1 }
     ensures { Attempts machine.old.state pid Call.Kill result entries.old.items entries.new.items machine.new.state }

@@ -2,12 +2,16 @@
 #![tactic(auto)]
 
 pub mod attempts;
+mod background;
 pub mod delivery;
 pub mod entries;
 mod groups;
 mod kills;
+pub mod outcome;
 mod programs;
 mod replies;
+mod terminals;
+mod transfers;
 pub mod waits;
 
 pub use attempts::{attempt, attempt_again};

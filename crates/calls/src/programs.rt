@@ -6,14 +6,15 @@ ghost use Rattle.calls.specs.Outcomes.{Attempts};
 
 use crate::attempts::refuse;
 use crate::entries::Entries;
+use crate::outcome::Attempt;
 use life::Machine;
-use posix::{Blocked, Call, Entry, Errno, Pid, Register};
+use posix::{Call, Entry, Errno, Pid, Register};
 use proctable::Kin;
 
 /// Runs the program in r1 in place of the caller's own. The pc doesn't move on: it is where the program
 /// begins (XSH exec).
 #[tactic(auto, unfolding(posix::specs::Attempts::attempt, posix::specs::Programs::exec))]
-pub fn exec<K: Kin>(machine: &mut Machine<K>, pid: Pid, entries: &mut Entries) -> Option<Blocked>
+pub fn exec<K: Kin>(machine: &mut Machine<K>, pid: Pid, entries: &mut Entries) -> Attempt
     requires there { IsSome (process machine.old.state pid) }
     requires room { length entries.old.items ≤ 1 }
     ensures { Attempts machine.old.state pid Call.Exec result entries.old.items entries.new.items machine.new.state }
@@ -27,5 +28,5 @@ pub fn exec<K: Kin>(machine: &mut Machine<K>, pid: Pid, entries: &mut Entries) -
         call: Call::Exec,
         result: 0,
     });
-    None
+    Attempt::Done
 }

@@ -1,6 +1,6 @@
 //! Calls that change their process alone: its number, ids, actions and signal mask.
 
-ghost use Rattle.std.specs.Prelude.{◌≡◌, ◌≤◌, ◌++◌, ◌∷◌, [], length, pos, true, is_some, IfSome, None};
+ghost use Rattle.std.specs.Prelude.{◌≡◌, ◌≤◌, ◌++◌, ◌∷◌, [], length, pos, true, is_some, IfSome};
 ghost use Rattle.std.specs.Int.{cast_unsigned, w64};
 ghost use Rattle.posix.specs.declared.entry.Entry.TheVariants.{Called};
 ghost use Rattle.posix.specs.Processes.{Process, argument};
@@ -11,10 +11,9 @@ ghost use Rattle.proctable.specs.Body.{give_own};
 ghost use Rattle.calls.specs.Outcomes.{Replies, RepliesTo, Answers, is_own, value_of, with_own};
 
 use crate::entries::Entries;
+use crate::outcome::Attempt;
 use bitflags::Flags;
-use posix::{
-    Action, Blocked, Call, Entry, Errno, Handler, How, Pid, Register, SaFlags, Sig, SigSet,
-};
+use posix::{Action, Call, Entry, Errno, Handler, How, Pid, Register, SaFlags, Sig, SigSet};
 use proctable::Own;
 
 // ---- results
@@ -196,13 +195,13 @@ fn reply(own: &mut Own, pid: Pid, call: Call) -> i64
 }
 
 /// A call of a process, with this of its own, that changes the process alone.
-pub fn own_call(own: &mut Own, pid: Pid, call: Call, entries: &mut Entries) -> Option<Blocked>
+pub fn own_call(own: &mut Own, pid: Pid, call: Call, entries: &mut Entries) -> Attempt
     requires own { is_own call ≡ true }
     requires room { length entries.old.items ≤ 3 }
-    ensures done { result ≡ None }
+    ensures done { result ≡ Attempt.Done }
     ensures answers { (r : Process) → Answers (with_own pid own.old r) call own.old own.new entries.old.items entries.new.items }
 {
     let value = reply(own, pid, call);
     answer(own, pid, call, value, entries);
-    None
+    Attempt::Done
 }

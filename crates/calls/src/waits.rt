@@ -1,6 +1,6 @@
 //! Waits for children (XSH waitpid).
 
-ghost use Rattle.std.specs.Prelude.{◌≡◌, ◌≤◌, ◌++◌, ◌∷◌, [], length, pos, IsSome, IfSome, Some, None, is_some};
+ghost use Rattle.std.specs.Prelude.{◌≡◌, ◌≤◌, ◌++◌, ◌∷◌, [], length, pos, IsSome, IfSome, Some, is_some};
 ghost use Rattle.posix.specs.declared.entry.Entry.TheVariants.{Reported};
 ghost use Rattle.posix.specs.Processes.{Process};
 ghost use Rattle.posix.specs.States.{process};
@@ -13,6 +13,7 @@ ghost use Rattle.calls.specs.Outcomes.{Comes};
 
 use crate::attempts::{gives, refuse};
 use crate::entries::Entries;
+use crate::outcome::Attempt;
 use bitflags::Flags;
 use life::{Caller, Machine};
 use posix::{Blocked, Call, Entry, Errno, Pid, Report, Status, WaitOptions};
@@ -34,21 +35,21 @@ fn report<K: Kin>(
     child: Pid,
     status: Status,
     entries: &mut Entries,
-) -> Option<Blocked>
+) -> Attempt
     requires there { IsSome (process machine.old.state pid) }
     requires room { length entries.old.items ≤ 3 }
-    ensures done { result ≡ None }
+    ensures done { result ≡ Attempt.Done }
     ensures state { machine.new.state ≡ finish machine.old.state pid ((0, pos child) ∷ (1, pos status) ∷ []) }
     ensures shown { entries.new.items ≡ entries.old.items ++ Reported pid child status ∷ [] }
 {
     machine.own(pid).finish_wait(child, status);
     entries.push(Entry::Reported { pid, child, status });
-    None
+    Attempt::Done
 }
 
 /// Waits for a child, as a caller that is there and no zombie.
 #[tactic(auto, unfolding(posix::specs::Waits::wait))]
-fn wait_as<K: Kin>(machine: &mut Machine<K>, me: &Caller, entries: &mut Entries) -> Option<Blocked>
+fn wait_as<K: Kin>(machine: &mut Machine<K>, me: &Caller, entries: &mut Entries) -> Attempt
     requires regular { IsRegular machine.old.state }
     requires placed { IsPlaced machine.old.state.processes me.now.pid }
     requires room { length entries.old.items ≤ 1 }
@@ -63,7 +64,7 @@ fn wait_as<K: Kin>(machine: &mut Machine<K>, me: &Caller, entries: &mut Entries)
             if options.contains(WaitOptions::WNOHANG) {
                 gives(machine, me.pid, Call::Waitpid, 0, entries)
             } else {
-                Some(Blocked::Waitpid)
+                Attempt::Block(Blocked::Waitpid)
             }
         }
         Report::End(child, status) => {
@@ -79,7 +80,7 @@ fn wait_as<K: Kin>(machine: &mut Machine<K>, me: &Caller, entries: &mut Entries)
 
 /// Waits for a child.
 #[tactic(auto, unfolding(posix::specs::Waits::wait))]
-pub fn wait<K: Kin>(machine: &mut Machine<K>, pid: Pid, entries: &mut Entries) -> Option<Blocked>
+pub fn wait<K: Kin>(machine: &mut Machine<K>, pid: Pid, entries: &mut Entries) -> Attempt
     requires placed { IsPlaced machine.old.state.processes pid }
     requires room { length entries.old.items ≤ 1 }
     ensures { (me : Process) → process machine.old.state pid ≡ Some me → Comes machine.old.state (waiting machine.old.state me) result entries.old.items entries.new.items machine.new.state }
@@ -94,6 +95,8 @@ fn would_wait<K: Kin>(machine: &mut Machine<K>, me: &Caller) -> bool
     requires { IsSome (process machine.old.state me.now.pid) }
     ensures value { result ≡ is_block (waiting machine.old.state (process_like me.now)) }
     ensures same { machine.new.state ≡ machine.old.state }
+    ensures asked { machine.new.asked ≡ machine.old.asked }
+    ensures stale { machine.new.stale ≡ machine.old.stale }
 {
     let Some(options) = options_of(me) else {
         return false;
@@ -109,6 +112,8 @@ pub fn has_to_wait<K: Kin>(machine: &mut Machine<K>, pid: Pid) -> bool
     requires { IsSome (process machine.old.state pid) }
     ensures value { (me : Process) → process machine.old.state pid ≡ Some me → result ≡ is_block (waiting machine.old.state me) }
     ensures same { machine.new.state ≡ machine.old.state }
+    ensures asked { machine.new.asked ≡ machine.old.asked }
+    ensures stale { machine.new.stale ≡ machine.old.stale }
 {
     let me = machine.caller(pid);
     would_wait(machine, &me)

@@ -2,6 +2,8 @@
 #![tactic(auto)]
 
 #[cfg(test)]
+mod console_tests;
+#[cfg(test)]
 mod group_tests;
 #[cfg(test)]
 mod machine_tests;

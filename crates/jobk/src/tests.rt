@@ -9,7 +9,7 @@ use std::alloc::Global;
 use std::io;
 use std::process::Abort;
 use std::test::Fail;
-use text::{EventReader, Reason, TextFault, read_world};
+use text::{EventReader, EventRun, Reason, TextFault, read_world};
 use umach::{Call, Cpu, Instr, Program, Trap};
 
 /// Two files, `world` and `events`.
@@ -259,6 +259,45 @@ fn an_event_text_comes_in_pieces(rt: HostRuntime) -> Result<(), Fail> {
     assert_eq!(rt; events.len(), 1_000_002);
     assert_eq!(rt; events.runs().len(), 2);
     Ok(())
+}
+
+const STEP: EventRun = EventRun {
+    event: Event::Step,
+    count: 1,
+};
+
+fn keys(console: u8, byte: u8, count: u64) -> EventRun {
+    EventRun {
+        event: Event::Key { console, byte },
+        count,
+    }
+}
+
+#[test]
+fn keys_come_in_pieces(rt: HostRuntime) -> Result<(), Fail> {
+    let mut reader = EventReader::new(rt.alloc(), 2);
+    reader.feed(b"step 1\nke")?;
+    reader.feed(b"y 2 6")?;
+    reader.feed(b"8,fF Ff # two of one")?;
+    reader.feed(b"\nkey 1 ff")?;
+    let events = reader.finish()?;
+    assert_eq!(rt; events.len(), 5);
+    assert_eq!(rt;
+        events.runs(),
+        [STEP, keys(2, 0x68, 1), keys(2, 0xff, 2), keys(1, 0xff, 1)].as_slice()
+    );
+    Ok(())
+}
+
+#[test]
+fn a_key_needs_a_console(rt: HostRuntime) {
+    let fault = TextFault {
+        line: 1,
+        reason: Reason::OutOfRange,
+    };
+    let mut reader = EventReader::new(rt.alloc(), 0);
+    assert_eq!(rt; reader.feed(b"key 1 41"), Ok(()));
+    assert!(rt; reader.finish().err() == Some(fault));
 }
 
 #[test]

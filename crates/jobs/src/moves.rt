@@ -61,7 +61,7 @@ impl<K: Kin> JobTable<K> {
     }
 
     /// The process group with this number, where it is one of this session, zombies being members.
-    fn group_of(&mut self, session: Pid, group: u64) -> Option<Pid>
+    pub fn group_of(&mut self, session: Pid, group: u64) -> Option<Pid>
         ensures value { result ≡ (if is_group_of session group self.old.processes then Some group else None) }
         ensures processes { self.new.processes ≡ self.old.processes }
         ensures room { self.new.room ≡ self.old.room }

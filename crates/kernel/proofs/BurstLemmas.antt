@@ -15,10 +15,10 @@ use Rattle.posix.specs.Execute.{exec_one}
 use Rattle.posix.specs.Choice.{chosen}
 use Rattle.posix.specs.Runs.{RunsFrom}
 use Rattle.posix.specs.Step.{IsStep, after_trap, code_of, set_cpu}
-use Rattle.posix.specs.Settle.{NoWakeIsLost}
+use Rattle.posix.specs.Settle.{IsSettled}
 use Rattle.posix.specs.Regular.{IsRegular}
 use Rattle.posix.proofs.TableLemmas.{pid_looked, rising_changed, changed_id}
-use Rattle.posix.proofs.WakeLemmas.{act_has_place}
+use Rattle.posix.proofs.WakeLemmas.{next_settled}
 use Rattle.posix.proofs.OrderLemmas.{first_in}
 use Rattle.proctable.specs.declared.facts.Facts.{Facts}
 use Rattle.proctable.specs.Body.{facts_of}
@@ -32,7 +32,7 @@ use Rattle.kernel.proofs.PlainLemmas.{plain_step, none_of}
 pub record IsReady (s : State) (p : ℕ) (me : Process) : Type 0 where
   pub going : s.halted ≡ false
   pub rising : IsRising s.processes
-  pub awake : NoWakeIsLost s
+  pub settled : IsSettled s
   pub place : is_in p s.order ≡ true
   pub now : current s ≡ Some p
   pub here : process s p ≡ Some me
@@ -58,7 +58,7 @@ unfolding set_cpu
 stays_ready s p me c r step = record {
   going = r.going;
   rising = rising_changed p (set_cpu c) (keeps c) s.processes r.rising;
-  awake = act_has_place s (change s p (set_cpu c)) Step [] step r.going;
+  settled = next_settled s (change s p (set_cpu c)) Step [] step r.going;
   place = r.place;
   now = r.now;
   here = found s p me c r.here;
@@ -94,7 +94,7 @@ unfolding after_trap
 ran_plain s p me r is =
     let c = (exec_one (code_of s me) me.cpu).cpu in
     let named = pid_looked p s.processes me r.here in
-    plain_step s p me c [] r.going r.rising r.awake r.place r.now r.here r.free r.none
+    plain_step s p me c [] r.going r.rising r.settled r.place r.now r.here r.free r.none
     (ap (after_trap true s me c) is ∙ same_outcome (change s me.pid (set_cpu c)) (change s p (set_cpu c)) [] [] (ap (λ n. change s n (set_cpu c)) named) refl)
 
 -- or gives a note
@@ -104,7 +104,7 @@ unfolding after_trap
 ran_note s p me z r is =
     let c = (exec_one (code_of s me) me.cpu).cpu in
     let named = pid_looked p s.processes me r.here in
-    plain_step s p me c (Noted p z ∷ []) r.going r.rising r.awake r.place r.now r.here r.free r.none
+    plain_step s p me c (Noted p z ∷ []) r.going r.rising r.settled r.place r.now r.here r.free r.none
     (ap (after_trap true s me c) is ∙ same_outcome (change s me.pid (set_cpu c)) (change s p (set_cpu c)) (Noted me.pid z ∷ []) (Noted p z ∷ []) (ap (λ n. change s n (set_cpu c)) named) (ap (λ n. Noted n z ∷ []) named))
 
 -- ---- bursts
@@ -129,12 +129,12 @@ given_more n (trap.Call call) = refl
 given_more n (trap.Fault sig) = refl
 
 -- no events
-pub none_given : (s : State) (es : List Entry) → es ≡ [] → NoWakeIsLost s → Bursts s 0 es s
-none_given s es none awake = record {
+pub none_given : (s : State) (es : List Entry) → es ≡ [] → IsSettled s → Bursts s 0 es s
+none_given s es none settled = record {
   runs = λ k. (ap (numbered (k + 0)) none, refl);
   births = refl;
   ticks = refl;
-  awake = awake;
+  settled = settled;
 }
 
 -- a step before others
@@ -148,7 +148,7 @@ one_before s t u n es step births ticks b =
           (t, [], numbered (k + (n + 1)) es, step, refl, subst (λ (m : ℕ). RunsFrom ((k + 1) + 1) t (replicate n Step) (numbered m es) u) at (b.runs (k + 1)));
       births = b.births ∙ births;
       ticks = b.ticks ∙ ticks;
-      awake = b.awake;
+      settled = b.settled;
     }
 
 -- a step that may show something
@@ -157,7 +157,7 @@ one_step s t es going step births ticks = record {
   runs = λ k. (t, es, [], step, sym (append-nil (numbered (k + 1) es)), (refl, refl));
   births = births;
   ticks = ticks;
-  awake = act_has_place s t Step es step going;
+  settled = next_settled s t Step es step going;
 }
 
 -- what the first instruction comes to, and then the rest
@@ -178,10 +178,10 @@ by_trap s p me r (trap.Note z) is rest more b e =
     (one_step s (change s p (set_cpu c)) (Noted p z ∷ []) r.going (ran_note s p me z r is) refl refl)
 by_trap s p me r (trap.Call call) is rest more b e =
     subst (λ (x : Burst). Bursts s (given x.count x.trap) (shown p x.trap) (change s p (set_cpu x.cpu))) (sym e)
-    (subst (Bursts s 0 []) (sym (same_cpu s p me r)) (none_given s [] refl r.awake))
+    (subst (Bursts s 0 []) (sym (same_cpu s p me r)) (none_given s [] refl r.settled))
 by_trap s p me r (trap.Fault sig) is rest more b e =
     subst (λ (x : Burst). Bursts s (given x.count x.trap) (shown p x.trap) (change s p (set_cpu x.cpu))) (sym e)
-    (subst (Bursts s 0 []) (sym (same_cpu s p me r)) (none_given s [] refl r.awake))
+    (subst (Bursts s 0 []) (sym (same_cpu s p me r)) (none_given s [] refl r.settled))
 
 rest_of : (s : State) (p : ℕ) (me : Process) (c : Cpu) (most : ℕ) → exec_until (code_of (change s p (set_cpu c)) (set_cpu c me)) most (set_cpu c me).cpu ≡ exec_until (code_of s me) most c
 unfolding set_cpu
@@ -193,7 +193,7 @@ pub burst_runs : (most : ℕ) (s : State) (p : ℕ) (me : Process) → IsReady s
 unfolding exec_until
 burst_runs zero s p me r b e =
     subst (λ (x : Burst). Bursts s (given x.count x.trap) (shown p x.trap) (change s p (set_cpu x.cpu))) (sym e)
-    (subst (Bursts s 0 []) (sym (same_cpu s p me r)) (none_given s [] refl r.awake))
+    (subst (Bursts s 0 []) (sym (same_cpu s p me r)) (none_given s [] refl r.settled))
 burst_runs (suc most) s p me r b e =
     let c = (exec_one (code_of s me) me.cpu).cpu in
     by_trap s p me r (exec_one (code_of s me) me.cpu).trap refl (exec_until (code_of s me) most c)
@@ -207,9 +207,9 @@ pub record Readies (s : State) (p : ℕ) : Type 0 where
   pub me : Process
   pub ready : IsReady s p me
 
-pub readies : (s : State) (p : ℕ) (f : Facts) → s.halted ≡ false → NoWakeIsLost s → IsRegular s → current s ≡ Some p → Some f ≡ option_map facts_of (process s p) → is_some f.chosen ≡ false
+pub readies : (s : State) (p : ℕ) (f : Facts) → s.halted ≡ false → IsSettled s → IsRegular s → current s ≡ Some p → Some f ≡ option_map facts_of (process s p) → is_some f.chosen ≡ false
     → is_some f.blocked ≡ false → Readies s p
-readies s p f going awake regular now read none free =
+readies s p f going settled regular now read none free =
     let place = first_in p s.order now in
     let placed = regular.placed p place in
     let me = placed.what in
@@ -220,7 +220,7 @@ readies s p f going awake regular now read none free =
       ready = record {
         going = going;
         rising = regular.rising;
-        awake = awake;
+        settled = settled;
         place = place;
         now = now;
         here = placed.found;

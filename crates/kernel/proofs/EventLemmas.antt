@@ -4,7 +4,7 @@ use Rattle.std.specs.Prelude.{replicate}
 use Rattle.std.proofs.lemmas.List.{length-replicate, replicate-append-replicate, take_more, take-append-drop}
 use Rattle.std.proofs.lemmas.List.Concat.{flat_map-append}
 use Rattle.posix.specs.declared.event.Event.{Event}
-use Rattle.posix.specs.declared.event.Event.TheVariants.{Step, Tick}
+use Rattle.posix.specs.declared.event.Event.TheVariants.{Step, Tick, Key}
 use Rattle.posix.specs.States.{State}
 use Rattle.kernel.specs.Steps.{given}
 use Rattle.text.specs.declared.event_list.EventRun.{EventRun}
@@ -53,3 +53,4 @@ events_more rs d i old now new lt at more =
 pub given_within : (x : Event) (most : ℕ) (s : State) → 0 < most → (0 < given x most s) × (given x most s ≤ most)
 given_within Step most s some = (omega (arith, some), omega arith)
 given_within Tick most s some = (omega arith, omega (arith, some))
+given_within (Key console byte) most s some = (omega arith, omega (arith, some))

@@ -3,3 +3,5 @@ pub mod EventLemmas
 pub mod HeadlineLemmas
 pub mod PlainLemmas
 pub mod BurstLemmas
+pub mod AskedLemmas
+pub mod AgainLemmas

@@ -10,25 +10,30 @@ use Rattle.posix.specs.Execute.{exec_one}
 use Rattle.posix.specs.Outcomes.{Outcome, silent}
 use Rattle.posix.specs.Choice.{chosen}
 use Rattle.posix.specs.Step.{IsStep, next, happens, step, act, after_trap, code_of, set_cpu, settled}
-use Rattle.posix.specs.Settle.{NoWakeIsLost}
+use Rattle.posix.specs.Settle.{IsSettled}
 use Rattle.calls.proofs.ChosenLemmas.{act_runs, no_kill_chosen}
 use Rattle.posix.proofs.TouchLemmas.{unseen_set_cpu}
 use Rattle.posix.proofs.UnseenLemmas.{settle_unseen}
 
+-- another processor leaves the session
+keeps_session : (c : Cpu) (r : Process) → (set_cpu c r).session ≡ r.session
+unfolding set_cpu
+keeps_session c r = refl
+
 -- what a plain instruction comes to is the event
-pub plain_step : (s : State) (p : ℕ) (me : Process) (c : Cpu) (es : List Entry) → s.halted ≡ false → IsRising s.processes → NoWakeIsLost s → is_in p s.order ≡ true
+pub plain_step : (s : State) (p : ℕ) (me : Process) (c : Cpu) (es : List Entry) → s.halted ≡ false → IsRising s.processes → IsSettled s → is_in p s.order ≡ true
     → current s ≡ Some p → process s p ≡ Some me → me.blocked ≡ None → chosen me.life me.signals ≡ None
     → after_trap true s me (exec_one (code_of s me) me.cpu).cpu (exec_one (code_of s me) me.cpu).trap ≡ record { state = change s p (set_cpu c); entries = es }
     → IsStep s Step es (change s p (set_cpu c))
 unfolding next happens step
-plain_step s p me c es awake up placed first now here free none ran =
+plain_step s p me c es going up rests first now here free none ran =
     let other : chosen me.life me.signals ≢ Some KILL = λ k. let no = sym none ∙ k in absurd (cc) in
     let acts : act true s me ≡ record { state = change s p (set_cpu c); entries = es } = act_runs true s me (no_kill_chosen me.life me.signals other) free none ∙ ran in
     let found : current_process s ≡ Some me = ap (option_and_then (process s)) now ∙ here in
     let went : happens true s Step ≡ record { state = change s p (set_cpu c); entries = es } = ap (step true s) found ∙ acts in
     record {
       granted = true;
-      comes = ap (λ b. cond {A = Outcome} b (silent s) (settled (happens true s Step))) awake ∙ ap settled went ∙ ap (λ (t : State). record { state = t; entries = es }) (settle_unseen s p (set_cpu c) (unseen_set_cpu c) up placed first);
+      comes = ap (λ b. cond {A = Outcome} b (silent s) (settled (happens true s Step))) going ∙ ap settled went ∙ ap (λ (t : State). record { state = t; entries = es }) (settle_unseen s p (set_cpu c) (unseen_set_cpu c) (keeps_session c) up rests first);
     }
 
 -- what isn't Some is None

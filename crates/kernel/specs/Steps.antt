@@ -2,7 +2,7 @@
 use Rattle.std.specs.Prelude.{◌≡◌, ℕ, ◌+◌, ◌||◌, if◌then◌else◌, Bool, true, false, not, List, [], ◌∷◌, Option, Some, None, is_some, replicate, min}
 use Rattle.posix.specs.declared.call.Call.{Call}
 use Rattle.posix.specs.declared.event.Event.{Event}
-use Rattle.posix.specs.declared.event.Event.TheVariants.{Step, Tick}
+use Rattle.posix.specs.declared.event.Event.TheVariants.{Step, Tick, Key}
 use Rattle.posix.specs.declared.entry.Entry.{Entry}
 use Rattle.posix.specs.declared.entry.Entry.TheVariants.{Noted}
 use Rattle.posix.specs.declared.instr.Trap.{Trap}
@@ -15,7 +15,7 @@ use Rattle.posix.specs.Attempts.{attempt}
 use Rattle.posix.specs.Choice.{chosen}
 use Rattle.posix.specs.Execute.{exec_one}
 use Rattle.posix.specs.Runs.{RunsFrom}
-use Rattle.posix.specs.Settle.{NoWakeIsLost}
+use Rattle.posix.specs.Settle.{IsSettled}
 use Rattle.posix.specs.Step.{code_of, begin_call, after_trap, act, step, happens}
 use Rattle.umach.specs.Bursts.{exec_until}
 use Rattle.calls.specs.Outcomes.{is_own}
@@ -56,10 +56,11 @@ abbrev pub next_changes_one : State → Option Process → Bool
 next_changes_one s None = true
 next_changes_one s (Some me) = if is_some (chosen me.life me.signals) || is_some me.blocked then false else changes_one (exec_one (code_of s me) me.cpu).trap
 
--- an event changes one process at most: a tick changes none where none has an alarm
+-- an event changes one process at most: a tick changes none where none has an alarm, and a key may signal a process group
 abbrev pub event_changes_one : Event → State → Bool
 event_changes_one Step s = next_changes_one s (current_process s)
 event_changes_one Tick s = not (has_alarms s)
+event_changes_one (Key console byte) s = false
 
 -- how many plain instructions, at most so many, a process runs: none in a call, or with a signal chosen
 abbrev pub plain_of : State → ℕ → Option Process → ℕ
@@ -86,11 +87,12 @@ note_of s most (Some me) = if is_some (chosen me.life me.signals) || is_some me.
 abbrev pub given : Event → ℕ → State → ℕ
 given Step most s = min most (plain_steps s most + 1)
 given Tick most s = 1
+given (Key console byte) most s = 1
 
 -- So many steps lead from old to new, of which the last alone may show something; nobody is born, no time
--- goes by, and each process that can act has a place.
+-- goes by, and nothing is left to settle.
 pub record Bursts (old : State) (count : ℕ) (entries : List Entry) (new : State) : Type 0 where
   pub runs : (k : ℕ) → RunsFrom (k + 1) old (replicate count Step) (numbered (k + count) entries) new
   pub births : new.births ≡ old.births
   pub ticks : new.ticks ≡ old.ticks
-  pub awake : NoWakeIsLost new
+  pub settled : IsSettled new

@@ -33,7 +33,7 @@ pub struct KernelOn<K: Kin> {
 
 impl<K: Kin> Model for KernelOn<K> {
     ghost use Rattle.std.specs.Prelude.{◌≤◌, ◌+◌, ◌≡◌, [], false};
-    ghost use Rattle.posix.specs.Settle.{NoWakeIsLost};
+    ghost use Rattle.posix.specs.Settle.{IsSettled};
     ghost use Rattle.posix.specs.Regular.{IsRegular};
     ghost use Rattle.kernel.specs.Views.{KernelView};
 
@@ -41,7 +41,7 @@ impl<K: Kin> Model for KernelOn<K> {
 
     ghost view = { λ k. record { state = k.machine.state; events = k.events; reads = k.machine.reads } };
 
-    ghost invariant = { λ k. (k.machine.state.births ≤ k.events + 1) × (k.machine.state.ticks ≤ k.events) × (k.machine.state.halted ≡ false → NoWakeIsLost k.machine.state) × IsRegular k.machine.state × (k.machine.asked ≡ []) };
+    ghost invariant = { λ k. (k.machine.state.births ≤ k.events + 1) × (k.machine.state.ticks ≤ k.events) × IsSettled k.machine.state × IsRegular k.machine.state × (k.machine.asked ≡ []) × (k.machine.stale ≡ false) };
 }
 
 impl<K: Kin> KernelOn<K> {

@@ -64,7 +64,7 @@ fn give<K: Kin>(kernel: &mut KernelOn<K>, event: Event, most: u64, entries: &mut
         Event::Step => {
             kernel.steps(most, entries);
         }
-        Event::Tick => kernel.event_into(event, entries),
+        Event::Tick | Event::Key { .. } => kernel.event_into(event, entries),
     }
 }
 

@@ -10,21 +10,21 @@ ghost use Rattle.posix.specs.Step.{code_of, tick as ticking, go_on as going_on, 
 ghost use Rattle.posix.specs.Alarms.{most_ticks, has_alarms};
 ghost use Rattle.posix.specs.Attempts.{attempt_again};
 ghost use Rattle.posix.specs.Regular.{IsPlaced, IsRegular};
-ghost use Rattle.posix.specs.Settle.{NoWakeIsLost};
+ghost use Rattle.posix.specs.Settle.{IsSettled};
 ghost use Rattle.proctable.specs.Body.{facts_of};
 ghost use Rattle.calls.specs.Outcomes.{IsActing, CostsAtMost, is_own};
 ghost use Rattle.kernel.specs.Steps.{ActsAs, Begins, Bursts, Happens, RunsInstruction, Steps, next_changes_one, changes_one, event_changes_one, note_of, plain_steps};
 
 use crate::settle::settle;
-use calls::Entries;
-use calls::attempts::{attempt, attempt_again};
 use calls::delivery::{deliver, end, fault};
+use calls::outcome::Attempt;
+use calls::{Entries, attempt, attempt_again};
 use life::Machine;
 use posix::{Blocked, Call, Entry, Event, Pid, Sig, Status, Trap};
 use proctable::{Facts, Kin};
 
 /// A process that has a place asks for a call. Where it has to wait it is blocked in the call and loses
-/// its place.
+/// its place; where the call begins again it keeps the place.
 #[inline(never)]
 fn begin_call<K: Kin>(machine: &mut Machine<K>, pid: Pid, call: Call, entries: &mut Entries)
     requires acting { IsActing machine.old.state pid }
@@ -34,15 +34,18 @@ fn begin_call<K: Kin>(machine: &mut Machine<K>, pid: Pid, call: Call, entries: &
     ensures begins { Begins machine.old.state pid call entries.new.items machine.new.state }
     ensures own { is_own call ≡ true → CostsAtMost 1 machine.old machine.new }
 {
-    let Some(blocked) = attempt(machine, pid, call, entries) else {
-        return;
-    };
-    machine.own(pid).enter(blocked);
-    machine.lose_place(pid);
+    match attempt(machine, pid, call, entries) {
+        Attempt::Done | Attempt::Again => {}
+        Attempt::Block(blocked) => {
+            machine.own(pid).enter(blocked);
+            machine.lose_place(pid);
+        }
+    }
 }
 
-/// A process that is blocked in a call, and no zombie, takes it up. Where it still has to wait the signal
-/// that is chosen for it is delivered; without one it loses its place.
+/// A process that has a place and is blocked in a call takes it up. Where it still has to wait the signal
+/// that is chosen for it is delivered; without one it loses its place. Where the call begins again the
+/// process leaves it, and keeps the place.
 #[inline(never)]
 fn go_on<K: Kin>(
     machine: &mut Machine<K>,
@@ -51,17 +54,19 @@ fn go_on<K: Kin>(
     signal: Option<Sig>,
     entries: &mut Entries,
 )
-    requires placed { IsPlaced machine.old.state.processes pid }
+    requires acting { IsActing machine.old.state pid }
+    requires regular { IsRegular machine.old.state }
     requires signal { (me : Process) → process machine.old.state pid ≡ Some me → signal ≡ chosen me.life me.signals }
     requires none { entries.old.items ≡ [] }
     ensures { (me : Process) → process machine.old.state pid ≡ Some me → going_on machine.old.state me (attempt_again machine.old.state me blocked) ≡ record { state = machine.new.state; entries = entries.new.items } }
 {
-    let Some(_) = attempt_again(machine, pid, blocked, entries) else {
-        return;
-    };
-    match signal {
-        Some(sig) => deliver(machine, pid, sig, entries),
-        None => machine.lose_place(pid),
+    match attempt_again(machine, pid, blocked, entries) {
+        Attempt::Done => {}
+        Attempt::Again => machine.own(pid).leave(),
+        Attempt::Block(_) => match signal {
+            Some(sig) => deliver(machine, pid, sig, entries),
+            None => machine.lose_place(pid),
+        },
     }
 }
 
@@ -89,6 +94,7 @@ fn run_instruction<K: Kin>(machine: &mut Machine<K>, pid: Pid, program: u8, entr
 #[tactic(auto, unfolding(posix::specs::Step::act, posix::specs::Step::act_in))]
 fn act<K: Kin>(machine: &mut Machine<K>, pid: Pid, facts: Facts, entries: &mut Entries)
     requires acting { IsActing machine.old.state pid }
+    requires regular { IsRegular machine.old.state }
     requires facts { Some facts ≡ option_map facts_of (process machine.old.state pid) }
     requires births { machine.old.state.births + 1 < 2 ^ 64 }
     requires time { machine.old.state.ticks + most_ticks < 2 ^ 64 }
@@ -146,7 +152,7 @@ fn tick<K: Kin>(machine: &mut Machine<K>)
     }
 }
 
-/// An event, before places are given.
+/// An event, before foreground process groups are cleared and places are given.
 #[tactic(auto, unfolding(posix::specs::Step::happens))]
 fn happen<K: Kin>(machine: &mut Machine<K>, event: Event, entries: &mut Entries)
     requires births { machine.old.state.births + 1 < 2 ^ 64 }
@@ -158,15 +164,16 @@ fn happen<K: Kin>(machine: &mut Machine<K>, event: Event, entries: &mut Entries)
     match event {
         Event::Step => step(machine, entries),
         Event::Tick => tick(machine),
+        Event::Key { console, byte } => machine.key(console, byte),
     }
 }
 
 /// The current process runs plain instructions, at most so many, and the one after them where that gives a
 /// note: none where it is in a call, or a signal is chosen for it. The number of instructions that were
-/// run; nobody gets a place by them.
+/// run; nothing is left to settle by them.
 pub fn burst<K: Kin>(machine: &mut Machine<K>, most: u64, entries: &mut Entries) -> u64
     requires regular { IsRegular machine.old.state }
-    requires awake { NoWakeIsLost machine.old.state }
+    requires settled { IsSettled machine.old.state }
     requires going { machine.old.state.halted ≡ false }
     requires some { 0 < most }
     requires none { entries.old.items ≡ [] }
@@ -176,6 +183,7 @@ pub fn burst<K: Kin>(machine: &mut Machine<K>, most: u64, entries: &mut Entries)
     ensures one { length entries.new.items ≤ 1 }
     ensures within { result ≤ most }
     ensures asked { machine.new.asked ≡ machine.old.asked }
+    ensures stale { machine.new.stale ≡ machine.old.stale }
     ensures regular { IsRegular machine.new.state }
 {
     let Some(pid) = machine.current() else {
@@ -206,7 +214,8 @@ pub fn next<K: Kin>(machine: &mut Machine<K>, event: Event, entries: &mut Entrie
     ensures step { IsStep machine.old.state event entries.new.items machine.new.state }
     ensures regular { IsRegular machine.new.state }
     ensures asked { machine.old.asked ≡ [] → machine.new.asked ≡ [] }
-    ensures reads { machine.old.asked ≡ [] → event_changes_one event machine.old.state ≡ true → machine.new.reads ≤ machine.old.reads + 3 }
+    ensures stale { machine.old.stale ≡ false → machine.new.stale ≡ false }
+    ensures reads { machine.old.asked ≡ [] → machine.old.stale ≡ false → event_changes_one event machine.old.state ≡ true → machine.new.reads ≤ machine.old.reads + 3 }
 {
     if machine.is_halted() {
         return;

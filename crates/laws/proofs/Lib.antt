@@ -1,8 +1,11 @@
 pub mod StampLemmas
 pub mod Rows
 pub mod TurnLemmas
+pub mod RefusalTerminals
 pub mod RefusalLemmas
+pub mod AgainLemmas
 pub mod MemoryLemmas
+pub mod RegularTerminals
 pub mod RegularStays
 pub mod WokenLemmas
 pub mod PlaceLemmas

@@ -1,25 +1,28 @@
 -- Who is given a place by an event, and how the order moves.
-use Rattle.std.proofs.Common.{◌≡◌, ◌≢◌, ℕ, Bool, true, false, refl, ap, sym, ◌∙◌, subst, List, [], ◌∷◌, ◌++◌, filter, map, append-nil, append_assoc, Option, ◌==◌, slice_get, inl, inr}
+use Rattle.std.proofs.Common.{◌≡◌, ◌≢◌, ℕ, Bool, true, false, not, ◌&&◌, ◌||◌, is_some, Some, refl, ap, sym, ◌∙◌, subst, List, [], ◌∷◌, ◌++◌, map, append-nil, append_assoc, Option, ◌==◌, slice_get, inl, inr}
 use Rattle.std.specs.Option.{IsSomeAnd}
-use Rattle.std.proofs.lemmas.Bool.{ne_eqb, or_from, or_cases, false_from_ne_true}
+use Rattle.std.proofs.lemmas.Bool.{ne_eqb, or_from, or_cases, or_right, false_from_ne_true}
 use Rattle.posix.specs.declared.event.Event.{Event}
 use Rattle.posix.specs.declared.entry.Entry.{Entry}
-use Rattle.posix.specs.Tables.{pids}
+use Rattle.posix.specs.declared.process.Blocked.TheVariants as blocked
+use Rattle.posix.specs.Processes.{Process, is_running}
+use Rattle.posix.specs.Choice.{chosen}
+use Rattle.posix.specs.Terminals.{waits_to_read}
+use Rattle.posix.specs.Attempts.{attempt_again}
 use Rattle.posix.specs.States.{State, process, is_in, without, has_place, current}
 use Rattle.posix.specs.Regular.{IsRegular, IsDistinct}
 use Rattle.posix.specs.Outcomes.{Outcome}
-use Rattle.posix.specs.Settle.{settle, wakes, can_act}
+use Rattle.posix.specs.Settle.{give_places, clear_foregrounds, settle, can_go_on, can_act}
 use Rattle.posix.specs.Step.{IsStep, next, happens}
 use Rattle.posix.proofs.MemberLemmas.{in_append, in_first, in_last, in_rest, is_other}
-use Rattle.posix.proofs.TableLemmas.{rising_filter}
 use Rattle.posix.proofs.OrderLemmas.{first_in}
 use Rattle.posix.proofs.ActLemmas.{Turned}
 use Rattle.posix.proofs.CountLemmas.{next_halted}
-use Rattle.posix.proofs.WakeLemmas.{next_awake}
-use Rattle.posix.proofs.SeeLemmas.{can_act_order}
+use Rattle.posix.proofs.WakeLemmas.{next_awake, act_has_place}
+use Rattle.posix.proofs.SeeLemmas.{can_act_order, block_read}
 use Rattle.laws.specs.Stamps.{Move, Lose, GoLast, Place, Leads}
 use Rattle.laws.proofs.TurnLemmas.{FirstTurned, turned_first}
-use Rattle.laws.proofs.WokenLemmas.{distinct_pids, all_wake}
+use Rattle.laws.proofs.WokenLemmas.{given_places, order_settled, distinct_given, all_wake}
 use Rattle.laws.proofs.RegularStays.{happens_regular}
 
 -- ---- who is given a place can act
@@ -49,14 +52,13 @@ CanAct s q = IsSomeAnd (process s q) (λ r. can_act s r ≡ true)
 
 -- to settle gives a place to who can act
 acts_settled : (s : State) → IsRegular s → (q : ℕ) → is_in q s.order ≡ false → is_in q (settle s).order ≡ true → CanAct (settle s) q
-unfolding settle
+unfolding settle give_places clear_foregrounds
 acts_settled s i q out there =
-    let woken = pids (filter (wakes s) s.processes) in
-    elim (or_cases _ _ (sym (in_append q s.order woken) ∙ there)) [
+    elim (or_cases _ _ (sym (in_append q s.order (given_places s)) ∙ there)) [
       | inl before ↦ let no = sym out ∙ before in absurd (cc)
       | inr new ↦
           let w = all_wake s i.rising q new in
-          rw w.found (can_act_order s (s.order ++ woken) w.what ∙ w.acts)
+          rw w.found (can_act_order (clear_foregrounds s) (s.order ++ given_places s) w.what ∙ w.acts)
     ]
 
 -- the same of any event
@@ -79,6 +81,21 @@ pub given_can_act : (old new : State) (event : Event) (entries : List Entry) →
 given_can_act old new event entries h i q out there =
     subst (λ (o : Outcome). is_in q o.state.order ≡ true → CanAct o.state q) h.comes (acts_next h.granted old event i q out) there
 
+-- ---- readers
+
+-- who runs, in a read that needn't wait, can act
+reader_acts : (s : State) (r : Process) → is_running r.life ≡ true → r.blocked ≡ Some blocked.Read → waits_to_read s.consoles r ≡ false → can_act s r ≡ true
+unfolding can_act attempt_again
+reader_acts s r runs reads w =
+    let goes : can_go_on s r r.blocked ≡ true = ap (can_go_on s r) reads ∙ ap not (block_read s r ∙ w) in
+    let both : (is_running r.life && (can_go_on s r r.blocked || is_some (chosen r.life r.signals))) ≡ true = rw (runs, goes) refl in
+    or_right _ _ both
+
+-- and has a place after an event
+pub reader_has_place : (old new : State) (event : Event) (entries : List Entry) → IsStep old event entries new → old.halted ≡ false
+    → (p : ℕ) (r : Process) → process new p ≡ Some r → is_running r.life ≡ true → r.blocked ≡ Some blocked.Read → waits_to_read new.consoles r ≡ false → has_place new p ≡ true
+reader_has_place old new event entries h awake p r found runs reads w = act_has_place old new event entries h awake p r found (reader_acts new r runs reads w)
+
 -- ---- how the order moves
 
 -- all of a list are given places one after another
@@ -94,10 +111,10 @@ leads_placed turn order (p ∷ ps) d out = (
 )
 
 -- to settle gives places
-leads_settled : (turn : Option ℕ) (s : State) → IsRegular s → Leads turn s.order (map Place (pids (filter (wakes s) s.processes))) (settle s).order
-unfolding settle
+leads_settled : (turn : Option ℕ) (s : State) → IsRegular s → Leads turn s.order (map Place (given_places s)) (settle s).order
 leads_settled turn s i =
-    leads_placed turn s.order (pids (filter (wakes s) s.processes)) (distinct_pids (filter (wakes s) s.processes) (rising_filter (wakes s) s.processes i.rising)) (λ q e. (all_wake s i.rising q e).out)
+    subst (Leads turn s.order (map Place (given_places s))) (sym (order_settled s))
+    (leads_placed turn s.order (given_places s) (distinct_given s i.rising) (λ q e. (all_wake s i.rising q e).out))
 
 -- before that the first may turn
 leads_turned : (old mid new : List ℕ) (moves : List Move) → FirstTurned old mid → Leads (slice_get old 0) mid moves new → (all : List Move) × Leads (slice_get old 0) old all new

@@ -3,13 +3,13 @@ use Rattle.std.proofs.Common.{◌≡◌, ◌≢◌, ℕ, zero, suc, Bool, true, 
 use Rattle.std.specs.Int.{cast_unsigned, w64}
 use Rattle.std.specs.List.{AllByRecursion}
 use Rattle.posix.specs.declared.call.Call.{Call}
-use Rattle.posix.specs.declared.call.Call.TheVariants.{Exit, Fork, Waitpid, Pause, SchedYield, Getpid, Getppid, Getuid, Geteuid, Getgid, Getegid, Setuid, Seteuid, Setgid, Setegid, Kill, Sigaction, Sigprocmask, Sigpending, Sigsuspend, Sigreturn, Alarm, Exec, Getpgid, Getsid, Setpgid, Setsid}
+use Rattle.posix.specs.declared.call.Call.TheVariants.{Exit, Fork, Waitpid, Pause, SchedYield, Getpid, Getppid, Getuid, Geteuid, Getgid, Getegid, Setuid, Seteuid, Setgid, Setegid, Kill, Sigaction, Sigprocmask, Sigpending, Sigsuspend, Sigreturn, Alarm, Exec, Getpgid, Getsid, Setpgid, Setsid, Setctty, Tcgetpgrp, Tcsetpgrp, Settostop, Read, Write}
 use Rattle.posix.specs.declared.instr.Trap.{Trap}
 use Rattle.posix.specs.declared.instr.Trap.TheVariants as trap
 use Rattle.posix.specs.declared.event.Event.{Event}
-use Rattle.posix.specs.declared.event.Event.TheVariants.{Step, Tick}
+use Rattle.posix.specs.declared.event.Event.TheVariants.{Step, Tick, Key}
 use Rattle.posix.specs.declared.errno.Errno.{Errno}
-use Rattle.posix.specs.declared.errno.Errno.TheVariants.{EPERM, ENOENT, ESRCH, EINTR, EIO, ECHILD, EAGAIN, EACCES, EFAULT, EINVAL, ENOTTY}
+use Rattle.posix.specs.declared.errno.Errno.TheVariants.{EPERM, ENOENT, ESRCH, EINTR, ECHILD, EAGAIN, EINVAL}
 use Rattle.posix.specs.declared.entry.Entry.{Entry}
 use Rattle.posix.specs.declared.entry.Entry.TheVariants.{Noted, Called, Moved, Reported, NoMemory, Handled, Discarded, Stopped, Returned, Ended, Halted}
 use Rattle.posix.specs.declared.how.How.{How}
@@ -34,14 +34,14 @@ use Rattle.posix.specs.Processes.{Process, Signals, Credentials, Cpu, argument}
 use Rattle.posix.specs.Tables.{IsRising, lookup}
 use Rattle.posix.specs.States.{Program, State, is_in, change, current, next_pid, process}
 use Rattle.posix.specs.Execute.{exec_one}
-use Rattle.posix.specs.Outcomes.{Outcome, Attempted, Done, Block, finish, finished, refusal, refused, Reply, answers}
+use Rattle.posix.specs.Outcomes.{Outcome, Attempted, Done, Block, Again, finish, finished, refusal, Reply, answers}
 use Rattle.posix.specs.Credentials.{setuid, seteuid, setgid, setegid}
 use Rattle.posix.specs.Generation.{action, is_pending}
 use Rattle.posix.specs.Groups.{is_orphaned}
 use Rattle.posix.specs.Choice.{chosen, carried_by, from_kernel}
 use Rattle.posix.specs.Handlers.{handles, is_full, is_interrupted, newest_frame, set_action}
 use Rattle.posix.specs.Births.{fork_as}
-use Rattle.posix.specs.Ends.{end_process}
+use Rattle.posix.specs.Ends.{hang_up, end_with_heir, end_process}
 use Rattle.posix.specs.Targets.{target_in}
 use Rattle.posix.specs.Waits.{wait, wait_with, report, options_in, are_known, has_option}
 use Rattle.posix.specs.Delivery.{call_of, interruption, handle, stop_process, act_by_default, act_on, take_out, deliver, fault_with, fault, return_to, return_from_handler}
@@ -51,80 +51,17 @@ use Rattle.posix.specs.Alarms.{ticks_in, alarm_in, alarm}
 use Rattle.posix.specs.Programs.{exec_as, exec_of, exec}
 use Rattle.posix.specs.GroupCalls.{named, tells, getpgid, getsid, move_of, setpgid_with, setpgid_to, setpgid, is_group_of_others, setsid}
 use Rattle.posix.specs.Attempts.{attempt, attempt_again}
-use Rattle.posix.specs.Settle.{settle}
+use Rattle.posix.specs.Settle.{IsSettled, settle}
 use Rattle.posix.specs.Step.{IsStep, next, happens, step, act, act_in, after_trap, begin_call, deliver_or, go_on, code_of}
-use Rattle.posix.specs.Settle.{NoWakeIsLost}
 use Rattle.posix.proofs.TableLemmas.{pid_looked}
 use Rattle.posix.proofs.OrderLemmas.{first_in}
 use Rattle.posix.proofs.CountLemmas.{next_halted}
 use Rattle.posix.proofs.WakeLemmas.{next_awake}
 use Rattle.posix.proofs.TouchLemmas.{Unseen}
 use Rattle.posix.proofs.UnseenLemmas.{settle_unseen}
-
--- ---- what entries tell of a refusal
-
--- which negative results count, and what holds where there was no memory
-record Terms : Type 1 where
-  counts : ℕ → Type 0
-  wanting : Type 0
-
--- where the entry tells that a call of p was refused, by a result that counts, this is all that changed
-abbrev Explained : Terms → State → ℕ → State → Entry → Type 0
-Explained C s p new (Noted q value) = Unit {0}
-Explained C s p new (Called q call (pos n)) = Unit {0}
-Explained C s p new (Called q call (negsuc n)) = C.counts n → (q ≡ p) × (new ≡ finish s p ((0, negsuc n) ∷ []))
-Explained C s p new (Moved q call bytes) = Unit {0}
-Explained C s p new (Reported q child status) = Unit {0}
-Explained C s p new (NoMemory q call) = C.wanting × (q ≡ p) × (new ≡ finish s p ((0, refusal EAGAIN) ∷ []))
-Explained C s p new (Handled q sig value sender) = Unit {0}
-Explained C s p new (Discarded q sig) = Unit {0}
-Explained C s p new (Stopped q sig) = Unit {0}
-Explained C s p new (Returned q) = Unit {0}
-Explained C s p new (Ended q status) = Unit {0}
-Explained C s p new Halted = Unit {0}
-
--- all negative results; and there is no want of memory
-abbrev Any : Terms
-Any = record { counts = λ n. Unit {0}; wanting = ⊥ }
-
--- all but -4, which a call gives that a signal interrupts; memory is wanting where it isn't granted
-abbrev NotInterrupted : Bool → Terms
-NotInterrupted granted = record { counts = λ n. n ≢ 3; wanting = granted ≡ false }
-
--- the same of all entries of an outcome
-abbrev ExplainedBy : Terms → State → ℕ → Outcome → Type 0
-ExplainedBy C s p o = AllByRecursion (Explained C s p o.state) o.entries
-
--- the same of an attempt that is done
-abbrev ExplainedIf : Terms → State → ℕ → Attempted → Type 0
-ExplainedIf C s p (Done o) = ExplainedBy C s p o
-ExplainedIf C s p (Block b) = Unit {0}
-
--- of both sides of a test
-explained_if : (C : Terms) (s : State) (p : ℕ) (b : Bool) (x y : Attempted) → ExplainedIf C s p x → ExplainedIf C s p y → ExplainedIf C s p (cond b x y)
-explained_if C s p true x y h k = h
-explained_if C s p false x y h k = k
-
--- of both outcomes of a test
-explained_either : (C : Terms) (s : State) (p : ℕ) (b : Bool) (x y : Outcome) → ExplainedBy C s p x → ExplainedBy C s p y → ExplainedBy C s p (cond b x y)
-explained_either C s p true x y h k = h
-explained_either C s p false x y h k = k
+use Rattle.laws.proofs.RefusalTerminals.{Terms, Explained, Any, NotInterrupted, ExplainedBy, ExplainedIf, explained_if, explained_either, explained_refused, explained_setctty, explained_tcgetpgrp, explained_tcsetpgrp, explained_settostop, explained_read, explained_write}
 
 -- ---- calls that no signal enters into
-
--- a refusal
-explained_refused : (C : Terms) (s : State) (p : ℕ) (call : Call) (errno : Errno) → ExplainedIf C s p (refused s p call errno)
-explained_refused C s p call EPERM = (λ c. (refl, refl), tt)
-explained_refused C s p call ENOENT = (λ c. (refl, refl), tt)
-explained_refused C s p call ESRCH = (λ c. (refl, refl), tt)
-explained_refused C s p call EINTR = (λ c. (refl, refl), tt)
-explained_refused C s p call EIO = (λ c. (refl, refl), tt)
-explained_refused C s p call ECHILD = (λ c. (refl, refl), tt)
-explained_refused C s p call EAGAIN = (λ c. (refl, refl), tt)
-explained_refused C s p call EACCES = (λ c. (refl, refl), tt)
-explained_refused C s p call EFAULT = (λ c. (refl, refl), tt)
-explained_refused C s p call EINVAL = (λ c. (refl, refl), tt)
-explained_refused C s p call ENOTTY = (λ c. (refl, refl), tt)
 
 -- a wait by what it found
 explained_with : (C : Terms) (s : State) (p options : ℕ) (what : Report) → ExplainedIf C s p (wait_with s p options what)
@@ -269,6 +206,7 @@ explained_alarm s me = explained_alarm_in s.ticks me (ticks_in (argument me 1))
 explained_again : (C : Terms) (s : State) (me : Process) (b : Blocked) → ExplainedIf C s me.pid (attempt_again s me b)
 unfolding attempt_again
 explained_again C s me blocked.Waitpid = explained_wait C s me
+explained_again C s me blocked.Read = explained_read C s me
 explained_again C s me blocked.Pause = tt
 explained_again C s me (blocked.Sigsuspend mask) = tt
 
@@ -289,9 +227,13 @@ none_append [] ys h k = k
 none_append (x ∷ xs) ys h k = λ granted s new p. ((h granted s new p).0, none_append xs ys (λ granted s new p. (h granted s new p).1) k granted s new p)
 
 -- an end
+none_ends : (s : State) (r : Process) (status : ℕ) → NoRefusal (end_with_heir s r 1 status).entries
+none_ends s r status = none_either (r.pid == 1) _ _ (λ granted s new p. (tt, (tt, tt))) (λ granted s new p. (tt, tt))
+
+-- its session's terminal is hung up before
 none_end : (s : State) (r : Process) (status : ℕ) → NoRefusal (end_process s r status).entries
 unfolding end_process
-none_end s r status = none_either (r.pid == 1) _ _ (λ granted s new p. (tt, (tt, tt))) (λ granted s new p. (tt, tt))
+none_end s r status = none_ends (hang_up s r) r status
 
 -- a call that is interrupted gives -4
 none_interrupted : (p : ℕ) (b : Option Blocked) (a : Action) → NoRefusal (interruption p b a)
@@ -389,6 +331,12 @@ explained_attempt granted s me Getpgid = explained_getpgid (NotInterrupted grant
 explained_attempt granted s me Getsid = explained_getsid (NotInterrupted granted) s me
 explained_attempt granted s me Setpgid = explained_setpgid (NotInterrupted granted) s me
 explained_attempt granted s me Setsid = explained_setsid (NotInterrupted granted) s me
+explained_attempt granted s me Setctty = explained_setctty (NotInterrupted granted) s me
+explained_attempt granted s me Tcgetpgrp = explained_tcgetpgrp (NotInterrupted granted) s me
+explained_attempt granted s me Tcsetpgrp = explained_tcsetpgrp (NotInterrupted granted) s me
+explained_attempt granted s me Settostop = explained_settostop (NotInterrupted granted) s me
+explained_attempt granted s me Read = explained_read (NotInterrupted granted) s me
+explained_attempt granted s me Write = explained_write (NotInterrupted granted) s me
 
 -- ---- an entry among others
 
@@ -430,6 +378,7 @@ again_no_memory s me b o is p called c =
 explained_begin : (granted : Bool) (s : State) (r : Process) (a : Attempted) → ExplainedIf (NotInterrupted granted) s r.pid a → ExplainedBy (NotInterrupted granted) s r.pid (begin_call s r a)
 explained_begin granted s r (Done o) h = h
 explained_begin granted s r (Block b) h = tt
+explained_begin granted s r (Again t) h = tt
 
 -- a signal that is chosen, or else what happens
 explained_or : (granted : Bool) (s : State) (r : Process) (n : Option ℕ) (other : Outcome) → ExplainedBy (NotInterrupted granted) s r.pid other → ExplainedBy (NotInterrupted granted) s r.pid (deliver_or s r n other)
@@ -439,6 +388,7 @@ explained_or granted s r (Some n) other h = none_deliver s r n granted s (delive
 -- a call that goes on
 explained_on : (granted : Bool) (s : State) (r : Process) (a : Attempted) → ExplainedIf (NotInterrupted granted) s r.pid a → ExplainedBy (NotInterrupted granted) s r.pid (go_on s r a)
 explained_on granted s r (Done o) h = h
+explained_on granted s r (Again t) h = tt
 explained_on granted s r (Block b) h = explained_or granted s r (chosen r.life r.signals) _ tt
 
 -- what follows an instruction
@@ -523,6 +473,7 @@ told_happens : (granted : Bool) (s : State) (event : Event) → ToldBy granted s
 unfolding happens
 told_happens granted s Step = told_step granted s (current s) refl
 told_happens granted s Tick = tt
+told_happens granted s (Key console byte) = tt
 
 -- the state before all are asked, and what an entry tells of it
 record Unsettled (granted : Bool) (s new : State) (e : Entry) : Type 0 where
@@ -560,21 +511,22 @@ unseen_finished : (ws : List (ℕ × ℤ)) → Unseen (finished ws)
 unfolding finished
 unseen_finished ws = record { pid = λ r. refl; parent = λ r. refl; group = λ r. refl; life = λ r. refl; news = λ r. refl }
 
--- to settle gives no place then
-settle_finished : (s : State) (p : ℕ) (ws : List (ℕ × ℤ)) → IsRising s.processes → NoWakeIsLost s → is_in p s.order ≡ true → settle (finish s p ws) ≡ finish s p ws
-settle_finished s p ws = settle_unseen s p (finished ws) (unseen_finished ws)
+-- to settle does nothing then
+settle_finished : (s : State) (p : ℕ) (ws : List (ℕ × ℤ)) → IsRising s.processes → IsSettled s → is_in p s.order ≡ true → settle (finish s p ws) ≡ finish s p ws
+unfolding finished
+settle_finished s p ws = settle_unseen s p (finished ws) (unseen_finished ws) (λ r. refl)
 
 -- a negative result of an event
-pub event_refused : (old new : State) (event : Event) (entries : List Entry) → IsStep old event entries new → IsRising old.processes → NoWakeIsLost old
+pub event_refused : (old new : State) (event : Event) (entries : List Entry) → IsStep old event entries new → IsRising old.processes → IsSettled old
     → (p n : ℕ) (call : Call) → n ≢ 3 → Contains entries (Called p call (negsuc n)) → new ≡ finish old p ((0, negsuc n) ∷ [])
-event_refused old new event entries h up placed p n call other c =
+event_refused old new event entries h up still p n call other c =
     let u = unsettled_step old new event entries h (Called p call (negsuc n)) c in
     let t = u.tells other in
-    u.is ∙ ap settle t.1 ∙ settle_finished old p ((0, negsuc n) ∷ []) up placed (first_in p old.order t.0)
+    u.is ∙ ap settle t.1 ∙ settle_finished old p ((0, negsuc n) ∷ []) up still (first_in p old.order t.0)
 
 -- no memory in an event
-pub event_no_memory : (old new : State) (event : Event) (entries : List Entry) → IsStep old event entries new → IsRising old.processes → NoWakeIsLost old
+pub event_no_memory : (old new : State) (event : Event) (entries : List Entry) → IsStep old event entries new → IsRising old.processes → IsSettled old
     → (p : ℕ) (call : Call) → Contains entries (NoMemory p call) → new ≡ finish old p ((0, refusal EAGAIN) ∷ [])
-event_no_memory old new event entries h up placed p call c =
+event_no_memory old new event entries h up still p call c =
     let u = unsettled_step old new event entries h (NoMemory p call) c in
-    u.is ∙ ap settle u.tells.2 ∙ settle_finished old p ((0, refusal EAGAIN) ∷ []) up placed (first_in p old.order u.tells.1)
+    u.is ∙ ap settle u.tells.2 ∙ settle_finished old p ((0, refusal EAGAIN) ∷ []) up still (first_in p old.order u.tells.1)

@@ -4,11 +4,11 @@ use Rattle.std.specs.Int.{cast_unsigned, w64}
 use Rattle.std.specs.List.{AllByRecursion}
 use Rattle.std.proofs.lemmas.Bool.{eqb-true, eqb-false, eq-eqb, cond_both, or_cases, or_parts, or_from, false_from_ne_true, leb-true}
 use Rattle.posix.specs.declared.call.Call.{Call}
-use Rattle.posix.specs.declared.call.Call.TheVariants.{Exit, Fork, Waitpid, Pause, SchedYield, Getpid, Getppid, Getuid, Geteuid, Getgid, Getegid, Setuid, Seteuid, Setgid, Setegid, Kill, Sigaction, Sigprocmask, Sigpending, Sigsuspend, Sigreturn, Alarm, Exec, Getpgid, Getsid, Setpgid, Setsid}
+use Rattle.posix.specs.declared.call.Call.TheVariants.{Exit, Fork, Waitpid, Pause, SchedYield, Getpid, Getppid, Getuid, Geteuid, Getgid, Getegid, Setuid, Seteuid, Setgid, Setegid, Kill, Sigaction, Sigprocmask, Sigpending, Sigsuspend, Sigreturn, Alarm, Exec, Getpgid, Getsid, Setpgid, Setsid, Setctty, Tcgetpgrp, Tcsetpgrp, Settostop, Read, Write}
 use Rattle.posix.specs.declared.instr.Trap.{Trap}
 use Rattle.posix.specs.declared.instr.Trap.TheVariants as trap
 use Rattle.posix.specs.declared.event.Event.{Event}
-use Rattle.posix.specs.declared.event.Event.TheVariants.{Step, Tick}
+use Rattle.posix.specs.declared.event.Event.TheVariants.{Step, Tick, Key}
 use Rattle.posix.specs.declared.errno.Errno.{Errno}
 use Rattle.posix.specs.declared.errno.Errno.TheVariants.{EPERM, ESRCH, ECHILD, EAGAIN, EINVAL, ENOENT}
 use Rattle.posix.specs.declared.entry.Entry.{Entry}
@@ -34,7 +34,7 @@ use Rattle.posix.specs.Processes.{Process, Signals, Credentials, Cpu, is_zombie,
 use Rattle.posix.specs.Tables.{IsRising, lookup, at, changed, removed, is_child, children_in, reparented, adopted, pids}
 use Rattle.posix.specs.States.{Program, State, is_in, change, go_last, current, next_pid, process}
 use Rattle.posix.specs.Execute.{exec_one}
-use Rattle.posix.specs.Outcomes.{Outcome, Attempted, Done, Block, Reply, answers, finished, written, refusal, plain}
+use Rattle.posix.specs.Outcomes.{Outcome, Attempted, Done, Block, Again, Reply, finished, written, refusal}
 use Rattle.posix.specs.Credentials.{setuid, seteuid, setgid, setegid}
 use Rattle.posix.specs.Generation.{action, is_pending}
 use Rattle.posix.specs.Notices.{noticed, child_signal}
@@ -42,7 +42,7 @@ use Rattle.posix.specs.Groups.{is_orphaned, newly_orphaned}
 use Rattle.posix.specs.Choice.{chosen, carried_by, from_kernel}
 use Rattle.posix.specs.Handlers.{handles, is_full, newest_frame, returned, set_action}
 use Rattle.posix.specs.Births.{born, child_of, fork_as}
-use Rattle.posix.specs.Ends.{made_zombie, depart, is_dropping, drop_child, notice_of_end, zombies_of, tell_of_all, status_of, rouse_orphans, end_process}
+use Rattle.posix.specs.Ends.{made_zombie, depart, is_dropping, drop_child, notice_of_end, zombies_of, tell_of_all, status_of, rouse_orphans, hang_up, end_with_heir, end_process}
 use Rattle.posix.specs.Targets.{target_in}
 use Rattle.posix.specs.Waits.{wait, wait_with, report, options_in, are_known, has_option, WNOHANG, news_told}
 use Rattle.posix.specs.Delivery.{handle, act_by_default, act_on, take_out, deliver, fault_with, fault, return_to, return_from_handler}
@@ -53,12 +53,12 @@ use Rattle.posix.specs.GroupCalls.{named, tells, getpgid, getsid, move_of, setpg
 use Rattle.posix.specs.Alarms.{most_ticks, due_in, ticks_in, alarm_in, alarm, pass_time}
 use Rattle.posix.specs.Attempts.{attempt, attempt_again}
 use Rattle.posix.specs.Regular.{IsRegular, IsPlaced, CanInherit, IsDistinct}
-use Rattle.posix.specs.Settle.{settle, wakes}
-use Rattle.posix.specs.Step.{IsStep, next, happens, step, tick, rotate, act, act_in, after_trap, begin_call, enter, set_cpu, deliver_or, go_on, code_of}
+use Rattle.posix.specs.Settle.{give_places, clear_foregrounds, settle}
+use Rattle.posix.specs.Step.{IsStep, next, happens, step, tick, rotate, act, act_in, after_trap, begin_call, enter, set_cpu, deliver_or, out_of_call, go_on, code_of}
 use Rattle.posix.proofs.TableLemmas.{pid_looked, pid_reparented, remove_none, rising_filter}
 use Rattle.posix.proofs.MapLemmas.{at_pid, lookup_back}
 use Rattle.posix.proofs.MemberLemmas.{in_append, in_first, apart_rest}
-use Rattle.posix.proofs.RegularLemmas.{Keeps, keeps_none, keeps_at, keeps_then, keeps_set_cpu, keeps_news_told, keeps_handles, keeps_take_out, keeps_noticed, keeps_with_alarm, due_ahead, lookup_left, placed_least, regular_as, regular_change, regular_lose, regular_depart, regular_halt, regular_inserted, regular_removed, regular_pass}
+use Rattle.posix.proofs.RegularLemmas.{Keeps, keeps_none, keeps_at, keeps_set_cpu, keeps_news_told, keeps_handles, keeps_take_out, keeps_noticed, keeps_with_alarm, due_ahead, lookup_left, placed_least, regular_as, regular_change, regular_lose, regular_depart, regular_halt, regular_inserted, regular_removed, regular_pass}
 use Rattle.posix.proofs.ChangeLemmas.{regular_stop, regular_signalled}
 use Rattle.posix.proofs.RouseLemmas.{lasts_roused_all, was_there, regular_rouse}
 use Rattle.posix.proofs.GroupLemmas.{regular_move, regular_session, keeps_executed}
@@ -69,14 +69,11 @@ use Rattle.posix.proofs.NextLemmas.{new_number}
 use Rattle.posix.proofs.SettleLemmas.{wakes_placed}
 use Rattle.posix.proofs.CountLemmas.{next_halted}
 use Rattle.posix.proofs.WakeLemmas.{next_awake}
-use Rattle.laws.proofs.WokenLemmas.{distinct_pids, all_wake}
+use Rattle.posix.proofs.ConsoleLemmas.{regular_cleared, regular_hung_up, regular_key}
+use Rattle.laws.proofs.WokenLemmas.{given_places, distinct_given, all_wake}
+use Rattle.laws.proofs.RegularTerminals.{RegularIf, keeps_finished, regular_answers, regular_gives, regular_setctty, regular_tcgetpgrp, regular_tcsetpgrp, regular_settostop, regular_read, regular_write}
 
 -- ---- changes that keep
-
--- results that are written
-keeps_finished : {now : ℕ} (results : List (ℕ × ℤ)) → Keeps now (finished results)
-unfolding finished
-keeps_finished results = record { pid = λ r. refl; parent = λ r. refl; group = λ r. refl; session = λ r. refl; zombie = λ r. refl; alarm = λ r h. h }
 
 -- one more result
 keeps_written : {now : ℕ} (i : ℕ) (z : ℤ) → Keeps now (written i z)
@@ -87,6 +84,11 @@ keeps_written i z = record { pid = λ r. refl; parent = λ r. refl; group = λ r
 keeps_enter : {now : ℕ} (b : Blocked) → Keeps now (enter b)
 unfolding enter
 keeps_enter b = record { pid = λ r. refl; parent = λ r. refl; group = λ r. refl; session = λ r. refl; zombie = λ r. refl; alarm = λ r h. h }
+
+-- a call that is left
+keeps_out : {now : ℕ} → Keeps now out_of_call
+unfolding out_of_call
+keeps_out = record { pid = λ r. refl; parent = λ r. refl; group = λ r. refl; session = λ r. refl; zombie = λ r. refl; alarm = λ r h. h }
 
 -- a handler that has returned
 keeps_returned : {now : ℕ} (frame : Frame) → Keeps now (returned frame)
@@ -138,7 +140,7 @@ dead_noticed s parent child status c h =
 
 -- a zombie that is dropped
 regular_dropped : (c : ℕ) (s : State) → IsRegular s → IsDead s.processes c → IsRegular (drop_child s c)
-regular_dropped c s i h = regular_as _ (drop_child s c) refl refl refl refl (elim (lookup c s.processes) as (λ o. lookup c s.processes ≡ o → IsRegular (record s { processes = removed c s.processes })) [
+regular_dropped c s i h = regular_as _ (drop_child s c) refl refl refl refl refl (elim (lookup c s.processes) as (λ o. lookup c s.processes ≡ o → IsRegular (record s { processes = removed c s.processes })) [
   | None ↦ λ e. subst (λ rs. IsRegular (record s { processes = rs })) (sym (remove_none c s.processes e)) i
   | Some r ↦ λ e. regular_removed c r s i h.other e (h.dead r e)
 ] refl)
@@ -231,11 +233,15 @@ regular_gone s p parent heir w least other inherits i =
     let dead = dead_told gone heir zs p (departed_dead s p heir w other) in
     regular_noticed (rouse_orphans s.processes (tell_of_all gone heir zs)) parent p w (regular_rouse s.processes (tell_of_all gone heir zs) told) (dead_roused s.processes (tell_of_all gone heir zs) p told.rising dead)
 
--- an end
+-- an end, of process 1 too
+regular_ends : (s : State) (r : Process) (status : ℕ) → 1 ≤ r.pid → IsRegular s → IsRegular (end_with_heir s r 1 status).state
+regular_ends s r status least i =
+    cond_both (r.pid == 1) _ _ (λ (o : Outcome). IsRegular o.state) (λ e. regular_halt status s i) (λ e. regular_gone s r.pid r.parent 1 status least (eqb-false _ _ e) (inl refl) i)
+
+-- its session's terminal is hung up before
 regular_end : (s : State) (r : Process) (status : ℕ) → 1 ≤ r.pid → IsRegular s → IsRegular (end_process s r status).state
 unfolding end_process
-regular_end s r status least i =
-    cond_both (r.pid == 1) _ _ (λ (o : Outcome). IsRegular o.state) (λ e. regular_halt status s i) (λ e. regular_gone s r.pid r.parent 1 status least (eqb-false _ _ e) (inl refl) i)
+regular_end s r status least i = regular_ends (hang_up s r) r status least (regular_hung_up s r i)
 
 -- ---- deliveries
 
@@ -316,20 +322,6 @@ caller_lives s me c =
     let p = placed_caller s me c in
     let same : p.what ≡ me = let both = sym p.found ∙ c.found in cc in
     ap (λ (r : Process). is_zombie r.life) (sym same) ∙ p.living
-
--- an attempt that is done leaves a regular state
-abbrev RegularIf : Attempted → Type 0
-RegularIf (Done o) = IsRegular o.state
-RegularIf (Block b) = Unit {0}
-
--- a call that changes its process alone
-regular_answers : (s : State) (p : ℕ) (call : Call) (reply : Reply) → Keeps s.ticks reply.changes → IsRegular s → RegularIf (answers s p call reply)
-regular_answers s p call reply k i =
-    regular_change p (λ r. finished ((0, reply.value) ∷ []) (reply.changes r)) s (keeps_then reply.changes (finished ((0, reply.value) ∷ [])) k (keeps_finished ((0, reply.value) ∷ []))) i
-
--- a call that gives a value and changes nothing else
-regular_gives : (s : State) (p : ℕ) (call : Call) (z : ℤ) → IsRegular s → RegularIf (answers s p call (plain z))
-regular_gives s p call z i = regular_answers s p call (plain z) keeps_none i
 
 -- a birth
 regular_born : (s : State) (me : Process) (n : ℕ) → IsCaller s me → next_pid s ≡ Some n → IsRegular (born s me n)
@@ -517,11 +509,18 @@ regular_attempt granted s me Getpgid c = regular_getpgid s me c.regular
 regular_attempt granted s me Getsid c = regular_getsid s me c.regular
 regular_attempt granted s me Setpgid c = regular_setpgid s me c
 regular_attempt granted s me Setsid c = regular_setsid s me c
+regular_attempt granted s me Setctty c = regular_setctty s me c.regular
+regular_attempt granted s me Tcgetpgrp c = regular_tcgetpgrp s me c.regular
+regular_attempt granted s me Tcsetpgrp c = regular_tcsetpgrp s me c.regular
+regular_attempt granted s me Settostop c = regular_settostop s me c.regular
+regular_attempt granted s me Read c = regular_read s me c.regular
+regular_attempt granted s me Write c = regular_write s me c.regular
 
 -- each call afresh
 regular_again : (s : State) (me : Process) (b : Blocked) → IsCaller s me → RegularIf (attempt_again s me b)
 unfolding attempt_again
 regular_again s me blocked.Waitpid c = regular_wait s me c
+regular_again s me blocked.Read c = regular_read s me c.regular
 regular_again s me blocked.Pause c = tt
 regular_again s me (blocked.Sigsuspend mask) c = tt
 
@@ -531,6 +530,7 @@ regular_again s me (blocked.Sigsuspend mask) c = tt
 regular_begin : (s : State) (r : Process) (a : Attempted) → IsCaller s r → RegularIf a → IsRegular (begin_call s r a).state
 regular_begin s r (Done o) c h = h
 regular_begin s r (Block b) c h = regular_lose r.pid (change s r.pid (enter b)) (regular_change r.pid (enter b) s (keeps_enter b) c.regular)
+regular_begin s r (Again t) c h = h
 
 -- a signal that is chosen, or else what happens
 regular_or : (s : State) (r : Process) (n : Option ℕ) (other : Outcome) → IsCaller s r → IsRegular other.state → IsRegular (deliver_or s r n other).state
@@ -540,6 +540,7 @@ regular_or s r (Some n) other c h = regular_deliver s r n c.place c.regular
 -- a call that goes on
 regular_go_on : (s : State) (r : Process) (a : Attempted) → IsCaller s r → RegularIf a → IsRegular (go_on s r a).state
 regular_go_on s r (Done o) c h = h
+regular_go_on s r (Again t) c h = regular_change r.pid out_of_call t keeps_out h
 regular_go_on s r (Block b) c h = regular_or s r (chosen r.life r.signals) _ c (regular_lose r.pid s c.regular)
 
 -- what follows an instruction
@@ -588,6 +589,7 @@ pub happens_regular : (granted : Bool) (s : State) (event : Event) → IsRegular
 unfolding happens tick
 happens_regular granted s Step i awake = regular_step granted s (current s) i refl
 happens_regular granted s Tick i awake = regular_tick s (current s) i refl
+happens_regular granted s (Key console byte) i awake = regular_key s console byte i
 
 -- ---- to settle
 
@@ -602,19 +604,21 @@ distinct_append (x ∷ xs) ys h k apart = (
 
 -- to settle
 regular_settled : (s : State) → IsRegular s → IsRegular (settle s)
-unfolding settle
-regular_settled s i =
-    let woken = pids (filter (wakes s) s.processes) in
-    record {
-      rising = i.rising;
-      bounded = i.bounded;
-      first = i.first;
-      placed = λ q e. elim (or_cases _ _ (sym (in_append q s.order woken) ∙ e)) [ inl there ↦ i.placed q there | inr new ↦ let w = all_wake s i.rising q new in wakes_placed s q w.what w.found w.acts ];
-      distinct = distinct_append s.order woken i.distinct (distinct_pids (filter (wakes s) s.processes) (rising_filter (wakes s) s.processes i.rising)) (λ q e. (all_wake s i.rising q e).out);
-      childless = i.childless;
-      alarms = i.alarms;
-      grouped = i.grouped;
-    }
+unfolding settle give_places clear_foregrounds
+regular_settled s i = record {
+  rising = i.rising;
+  bounded = i.bounded;
+  first = i.first;
+  placed = λ q e. elim (or_cases _ _ (sym (in_append q s.order (given_places s)) ∙ e)) [
+    | inl there ↦ i.placed q there
+    | inr new ↦ let w = all_wake s i.rising q new in wakes_placed (clear_foregrounds s) q w.what w.found w.acts
+  ];
+  distinct = distinct_append s.order (given_places s) i.distinct (distinct_given s i.rising) (λ q e. (all_wake s i.rising q e).out);
+  childless = i.childless;
+  alarms = i.alarms;
+  grouped = i.grouped;
+  consoles = (regular_cleared s i).consoles;
+}
 
 -- ---- steps and runs
 

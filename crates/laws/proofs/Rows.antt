@@ -2,17 +2,19 @@
 use Rattle.std.specs.Prelude.{Some, ℕ, ◌≡◌, ◌==◌, if◌then◌else◌, ◌+◌, Bool, true, false, refl, List, [], ◌∷◌, ◌++◌, replicate, Option, None, pos, negsuc, codes}
 use Rattle.std.specs.Fmt.{digits}
 use Rattle.posix.specs.declared.event.Event.{Event}
-use Rattle.posix.specs.declared.event.Event.TheVariants.{Step, Tick}
-use Rattle.posix.specs.declared.entry.Entry.TheVariants.{Noted, Called, Reported, NoMemory, Handled, Discarded, Stopped, Returned, Ended, Halted}
+use Rattle.posix.specs.declared.event.Event.TheVariants.{Step, Tick, Key}
+use Rattle.posix.specs.declared.entry.Entry.TheVariants.{Noted, Called, Moved, Reported, NoMemory, Handled, Discarded, Stopped, Returned, Ended, Halted}
 use Rattle.posix.specs.declared.instr.Instr.{Instr}
 use Rattle.posix.specs.declared.instr.Instr.TheVariants.{Set, Compute, Jump, JumpIf, Note, Sys}
 use Rattle.posix.specs.declared.instr.Operator.TheVariants.{Div, Rem}
 use Rattle.posix.specs.declared.instr.Condition.TheVariants.{Zero}
-use Rattle.posix.specs.declared.call.Call.TheVariants.{Exit, Fork, Waitpid, Pause, SchedYield, Getpid, Setuid, Kill, Sigaction, Sigprocmask, Sigsuspend, Sigreturn, Alarm, Exec, Setpgid, Setsid, Geteuid, Getuid}
+use Rattle.posix.specs.declared.call.Call.TheVariants.{Exit, Fork, Waitpid, Pause, SchedYield, Getpid, Setuid, Kill, Sigaction, Sigprocmask, Sigsuspend, Sigreturn, Alarm, Exec, Setpgid, Setsid, Geteuid, Getuid, Setctty, Tcgetpgrp, Tcsetpgrp, Read}
 use Rattle.posix.specs.Processes.{nothing_pending, default_actions, zero_registers, zero_memory}
 use Rattle.posix.specs.Numbers.{with_number}
 use Rattle.posix.specs.Tables.{lookup, changed, inserted, removed, children_in, adopted, members_in}
 use Rattle.posix.specs.NextPid.{is_free, next_free}
+use Rattle.posix.specs.Consoles.{waiting, has_room, finish_line, erased, with_byte, edit, key_signal, flushed, keyed, line_taken, acquired, released, with_foreground, with_tostop, console_of, changed_console}
+use Rattle.posix.specs.Transfers.{stored, bytes_in}
 use Rattle.posix.specs.States.{Program, World, State, boot, is_in, without}
 use Rattle.posix.specs.Entries.{Line, line, numbered}
 use Rattle.posix.specs.Execute.{exec_one}
@@ -27,15 +29,16 @@ use Rattle.posix.specs.Delivery.{handle, stop_process, take_out, deliver, fault,
 use Rattle.posix.specs.Sends.{targets, permitted, sending, sent_among, sent, kill}
 use Rattle.posix.specs.SignalCalls.{give_credentials, give_signals, sigaction, sigprocmask, set_of, sigpending}
 use Rattle.posix.specs.Births.{child_of, fork_as}
-use Rattle.posix.specs.Ends.{ended, made_zombie, notice_of_end, zombies_of, tell_of_all, signalled_members, roused_all, end_process}
+use Rattle.posix.specs.Ends.{ended, made_zombie, notice_of_end, zombies_of, tell_of_all, signalled_members, roused_all, hang_up, end_process}
 use Rattle.posix.specs.Waits.{report_of, report, news_told, wait}
 use Rattle.posix.specs.Alarms.{with_alarm, alarm, rung, ring_all}
 use Rattle.posix.specs.Programs.{executed, exec}
 use Rattle.posix.specs.GroupCalls.{is_group_of, getpgid, getsid, in_group, setpgid, in_session, setsid}
+use Rattle.posix.specs.Terminals.{setctty, tcgetpgrp, tcsetpgrp, settostop, with_bytes, read, write}
 use Rattle.posix.specs.Attempts.{attempt, attempt_again}
-use Rattle.posix.specs.Settle.{can_act, settle}
-use Rattle.posix.specs.Step.{set_cpu, enter, after_trap, act_in, act, step, tick, happens, next}
-use Rattle.posix.specs.Printing.{print}
+use Rattle.posix.specs.Settle.{can_act, give_places, clear_foregrounds, settle}
+use Rattle.posix.specs.Step.{set_cpu, enter, after_trap, out_of_call, act_in, act, step, tick, key, happens, next}
+use Rattle.posix.specs.Printing.{hex, print}
 
 abbrev program : Option ℕ → Option ℕ → List Instr → Program
 program setuid setgid instructions = record { setuid = setuid; setgid = setgid; instructions = instructions }
@@ -55,7 +58,7 @@ trace w events = trace_from 1 (boot w) (λ k. true) events
 
 -- opens every definition of an operation
 unfoldable everything : Unit {0}
-unfolding nothing_pending default_actions zero_registers zero_memory exec_one digits lookup changed inserted removed children_in adopted members_in is_free next_free is_in without finished written setuid seteuid setgid setegid without_stops generated effect_of signalled noticed_of_change told_of_change stopped_by resumed signalled_all with_number is_anchor is_orphaned group_numbers has_stopped is_newly_orphaned newly_orphaned least_ready chosen taken entered at_handler handles returned set_action set_mask child_of fork_as ended made_zombie noticed notice_of_end zombies_of tell_of_all signalled_members roused_all end_process report_of report news_told wait handle stop_process take_out deliver fault return_from_handler targets permitted sending sent_among sent kill give_credentials give_signals sigaction sigprocmask set_of sigpending attempt attempt_again can_act settle set_cpu enter after_trap act_in act step with_alarm rung ring_all alarm executed exec is_group_of getpgid getsid in_group setpgid in_session setsid tick happens next
+unfolding nothing_pending default_actions zero_registers zero_memory exec_one digits lookup changed inserted removed children_in adopted members_in is_free next_free is_in without finished written setuid seteuid setgid setegid without_stops generated effect_of signalled noticed_of_change told_of_change stopped_by resumed signalled_all with_number is_anchor is_orphaned group_numbers has_stopped is_newly_orphaned newly_orphaned least_ready chosen taken entered at_handler handles returned set_action set_mask child_of fork_as ended made_zombie noticed notice_of_end zombies_of tell_of_all signalled_members roused_all hang_up end_process report_of report news_told wait handle stop_process take_out deliver fault return_from_handler targets permitted sending sent_among sent kill give_credentials give_signals sigaction sigprocmask set_of sigpending attempt attempt_again can_act give_places clear_foregrounds settle set_cpu enter after_trap out_of_call act_in act step with_alarm rung ring_all alarm executed exec is_group_of getpgid getsid in_group setpgid in_session setsid waiting has_room finish_line erased with_byte edit key_signal flushed keyed line_taken acquired released with_foreground with_tostop console_of changed_console stored bytes_in setctty tcgetpgrp tcsetpgrp settostop with_bytes read write tick key happens next hex
 everything = tt
 
 abbrev note_and_exit : World
@@ -213,3 +216,46 @@ row_group_outlives_its_leader : trace (world 3 1 (program None None (Sys Fork �
     ≡ line 1 (Called 1 Fork (pos 2)) ∷ line 3 (Called 1 SchedYield (pos 0)) ∷ line 7 (Called 2 Setpgid (pos 0)) ∷ line 8 (Ended 2 0) ∷ line 9 (Called 1 Fork (pos 3)) ∷ line 11 (Called 1 SchedYield (pos 0)) ∷ line 15 (Called 3 Setpgid (pos 0)) ∷ line 19 (Reported 1 2 0) ∷ line 20 (Called 1 Fork (negsuc 10)) ∷ []
 unfolding everything
 row_group_outlives_its_leader = refl
+
+-- ---- consoles
+
+-- process 1 reads lines, 16 bytes at once
+abbrev reads_lines : World
+reads_lines = world 40 1 (program None None (Set 1 (pos 1) ∷ Sys Setctty ∷ Set 1 (pos 0) ∷ Set 2 (pos 16) ∷ Sys Read ∷ Jump 20 ∷ []) ∷ [])
+
+row_shell_ends_with_a_stopped_job : trace (world 40 1 (program None None (Sys Fork ∷ JumpIf Zero 0 21 ∷ Set 1 (negsuc 0) ∷ Sys Waitpid ∷ Jump 18 ∷ Sys Setsid ∷ Set 1 (pos 1) ∷ Sys Setctty ∷ Sys Fork ∷ JumpIf Zero 0 35 ∷ Set 1 (pos 3) ∷ Set 2 (pos 3) ∷ Sys Setpgid ∷ Sys Tcsetpgrp ∷ Set 1 (negsuc 0) ∷ Set 2 (pos 2) ∷ Sys Waitpid ∷ Set 1 (pos 0) ∷ Sys Exit ∷ Jump 35 ∷ []) ∷ [])) (replicate 18 Step ++ (Key 1 26 ∷ []) ++ replicate 10 Step)
+    ≡ line 1 (Called 1 Fork (pos 2)) ∷ line 6 (Called 2 Setsid (pos 2)) ∷ line 8 (Called 2 Setctty (pos 0)) ∷ line 9 (Called 2 Fork (pos 3)) ∷ line 13 (Called 2 Setpgid (pos 0)) ∷ line 14 (Called 2 Tcsetpgrp (pos 0)) ∷ line 20 (Stopped 3 20) ∷ line 21 (Reported 2 3 5247) ∷ line 23 (Ended 2 0) ∷ line 24 (Reported 1 2 0) ∷ line 28 (Ended 3 1) ∷ line 29 (Reported 1 3 1) ∷ []
+unfolding everything
+row_shell_ends_with_a_stopped_job = refl
+
+row_background_read : trace (world 40 1 (program None None (Sys Fork ∷ JumpIf Zero 0 19 ∷ Sys Pause ∷ Sys Setsid ∷ Set 1 (pos 1) ∷ Sys Setctty ∷ Sys Fork ∷ JumpIf Zero 0 31 ∷ Set 1 (pos 3) ∷ Set 2 (pos 3) ∷ Sys Setpgid ∷ Set 1 (negsuc 0) ∷ Set 2 (pos 2) ∷ Sys Waitpid ∷ Sys Pause ∷ Set 1 (pos 0) ∷ Set 2 (pos 16) ∷ Sys Read ∷ []) ∷ [])) (replicate 21 Step)
+    ≡ line 1 (Called 1 Fork (pos 2)) ∷ line 5 (Called 2 Setsid (pos 2)) ∷ line 7 (Called 2 Setctty (pos 0)) ∷ line 8 (Called 2 Fork (pos 3)) ∷ line 12 (Called 2 Setpgid (pos 0)) ∷ line 20 (Stopped 3 21) ∷ line 21 (Reported 2 3 5503) ∷ []
+unfolding everything
+row_background_read = refl
+
+row_background_read_orphaned : trace (world 40 1 (program None None (Sys Fork ∷ JumpIf Zero 0 19 ∷ Sys Pause ∷ Sys Setsid ∷ Set 1 (pos 1) ∷ Sys Setctty ∷ Sys Fork ∷ JumpIf Zero 0 30 ∷ Set 1 (pos 3) ∷ Set 2 (pos 3) ∷ Sys Setpgid ∷ Sys Tcsetpgrp ∷ Set 1 (pos 0) ∷ Sys Read ∷ Set 1 (pos 0) ∷ Set 2 (pos 16) ∷ Sys Read ∷ []) ∷ [])) (replicate 15 Step)
+    ≡ line 1 (Called 1 Fork (pos 2)) ∷ line 5 (Called 2 Setsid (pos 2)) ∷ line 7 (Called 2 Setctty (pos 0)) ∷ line 8 (Called 2 Fork (pos 3)) ∷ line 12 (Called 2 Setpgid (pos 0)) ∷ line 13 (Called 2 Tcsetpgrp (pos 0)) ∷ line 15 (Called 2 Read (negsuc 4)) ∷ []
+unfolding everything
+row_background_read_orphaned = refl
+
+abbrev line_edited : List Event
+line_edited = replicate 5 Step ++ (Key 1 104 ∷ Key 1 105 ∷ Key 1 127 ∷ Key 1 106 ∷ Key 1 10 ∷ []) ++ replicate 3 Step ++ (Key 1 4 ∷ []) ++ replicate 3 Step ++ (Key 1 120 ∷ Key 1 3 ∷ Key 1 10 ∷ []) ++ replicate 1 Step
+
+row_line_editing : trace reads_lines line_edited
+    ≡ line 2 (Called 1 Setctty (pos 0)) ∷ line 11 (Moved 1 Read (104 ∷ 106 ∷ 10 ∷ [])) ∷ line 15 (Called 1 Read (pos 0)) ∷ line 21 (Moved 1 Read (10 ∷ [])) ∷ []
+unfolding everything
+row_line_editing = refl
+
+row_line_editing_printed : print (trace reads_lines line_edited) ≡ codes "2 call 1 setctty = 0\n11 call 1 read = 3 bytes 686a0a\n15 call 1 read = 0\n21 call 1 read = 1 bytes 0a\n"
+unfolding everything
+row_line_editing_printed = refl
+
+row_long_line : trace reads_lines (replicate 5 Step ++ replicate 256 (Key 1 97) ++ (Key 1 10 ∷ []) ++ replicate 31 Step)
+    ≡ line 2 (Called 1 Setctty (pos 0)) ∷ line 263 (Moved 1 Read (replicate 16 97)) ∷ line 265 (Moved 1 Read (replicate 16 97)) ∷ line 267 (Moved 1 Read (replicate 16 97)) ∷ line 269 (Moved 1 Read (replicate 16 97)) ∷ line 271 (Moved 1 Read (replicate 16 97)) ∷ line 273 (Moved 1 Read (replicate 16 97)) ∷ line 275 (Moved 1 Read (replicate 16 97)) ∷ line 277 (Moved 1 Read (replicate 16 97)) ∷ line 279 (Moved 1 Read (replicate 16 97)) ∷ line 281 (Moved 1 Read (replicate 16 97)) ∷ line 283 (Moved 1 Read (replicate 16 97)) ∷ line 285 (Moved 1 Read (replicate 16 97)) ∷ line 287 (Moved 1 Read (replicate 16 97)) ∷ line 289 (Moved 1 Read (replicate 16 97)) ∷ line 291 (Moved 1 Read (replicate 16 97)) ∷ line 293 (Moved 1 Read (replicate 15 97 ++ 10 ∷ [])) ∷ []
+unfolding everything
+row_long_line = refl
+
+row_reused_number_is_not_the_old_foreground : trace (world 3 1 (program None None (Sys Fork ∷ JumpIf Zero 0 19 ∷ Sys Pause ∷ Sys Setsid ∷ Set 1 (pos 1) ∷ Sys Setctty ∷ Sys Fork ∷ JumpIf Zero 0 36 ∷ Set 1 (pos 3) ∷ Set 2 (pos 3) ∷ Sys Setpgid ∷ Sys Tcsetpgrp ∷ Set 2 (pos 0) ∷ Sys Waitpid ∷ Sys Fork ∷ JumpIf Zero 0 37 ∷ Set 1 (pos 3) ∷ Set 2 (pos 3) ∷ Sys Setpgid ∷ Sys Tcgetpgrp ∷ Sys Exit ∷ Jump 37 ∷ []) ∷ [])) (replicate 24 Step)
+    ≡ line 1 (Called 1 Fork (pos 2)) ∷ line 5 (Called 2 Setsid (pos 2)) ∷ line 7 (Called 2 Setctty (pos 0)) ∷ line 8 (Called 2 Fork (pos 3)) ∷ line 12 (Called 2 Setpgid (pos 0)) ∷ line 13 (Called 2 Tcsetpgrp (pos 0)) ∷ line 17 (Ended 3 256) ∷ line 18 (Reported 2 3 256) ∷ line 19 (Called 2 Fork (pos 3)) ∷ line 23 (Called 2 Setpgid (pos 0)) ∷ line 24 (Called 2 Tcgetpgrp (pos 4)) ∷ []
+unfolding everything
+row_reused_number_is_not_the_old_foreground = refl

@@ -3,16 +3,17 @@ use Rattle.std.proofs.Common.{◌≡◌, ◌≢◌, ℕ, zero, suc, add-zero, ap
 use Rattle.std.proofs.lemmas.Bool.{eqb-true, eq-eqb, ne_eqb, or_left}
 use Rattle.std.proofs.lemmas.List.Sums.{sum_by-cons}
 use Rattle.posix.specs.declared.event.Event.{Event}
-use Rattle.posix.specs.declared.event.Event.TheVariants.{Step, Tick}
+use Rattle.posix.specs.declared.event.Event.TheVariants.{Step, Tick, Key}
 use Rattle.posix.specs.declared.entry.Entry.{Entry}
 use Rattle.posix.specs.Processes.{Process}
-use Rattle.posix.specs.Tables.{lookup, pids}
+use Rattle.posix.specs.Tables.{lookup}
 use Rattle.posix.specs.States.{State, is_in, without, current, process}
 use Rattle.posix.specs.Regular.{IsDistinct}
+use Rattle.posix.specs.Consoles.{Console, console_at}
 use Rattle.posix.specs.Outcomes.{Outcome}
-use Rattle.posix.specs.Settle.{settle, wakes}
+use Rattle.posix.specs.Settle.{settle}
 use Rattle.posix.specs.Alarms.{pass_time}
-use Rattle.posix.specs.Step.{IsStep, next, happens, step, tick, rotate}
+use Rattle.posix.specs.Step.{IsStep, next, happens, step, tick, rotate, key, key_on}
 use Rattle.posix.specs.Entries.{Line, numbered}
 use Rattle.posix.specs.Runs.{RunsFrom}
 use Rattle.laws.specs.Turns.{places_before, is_tick, ticks_in, HasTurn}
@@ -22,6 +23,7 @@ use Rattle.posix.proofs.ActLemmas.{Turned, acted}
 use Rattle.posix.proofs.CountLemmas.{next_halted}
 use Rattle.posix.proofs.MemberLemmas.{in_append, others_stay}
 use Rattle.posix.proofs.WakeLemmas.{next_awake, nothing_after_halt}
+use Rattle.laws.proofs.WokenLemmas.{given_places, order_settled}
 
 -- ---- the order after an event
 
@@ -50,11 +52,17 @@ turned_rotate : (s : State) (c : Option ℕ) → current s ≡ c → FirstTurned
 turned_rotate s None first = inl refl
 turned_rotate s (Some p) first = inr (p, first, inr (inr refl))
 
+-- a key turns nobody
+turned_key : (s : State) (console byte : ℕ) (c : Option Console) → FirstTurned s.order (key_on s console byte c).order
+turned_key s console byte None = inl refl
+turned_key s console byte (Some c) = inl refl
+
 -- before places are given an event turns nobody but the current process
 pub turned_first : (granted : Bool) (s : State) (event : Event) → FirstTurned s.order (happens granted s event).state.order
-unfolding happens tick
+unfolding happens tick key
 turned_first granted s Step = turned_step granted s (current s) refl
 turned_first granted s Tick = turned_rotate s (current s) refl
+turned_first granted s (Key console byte) = turned_key s console byte (console_at console s.consoles)
 
 -- one other than q may have turned
 abbrev OtherTurned : ℕ → List ℕ → List ℕ → Type 0
@@ -102,8 +110,10 @@ nearer_turned p q old new ne e (inr (inr last)) =
 
 -- to settle leaves who is before q
 nearer_settled : (s : State) (q : ℕ) (old : List ℕ) → Nearer q old s.order → Nearer q old (settle s).order
-unfolding settle
-nearer_settled s q old h = (in_append q s.order _ ∙ or_left _ _ h.0, rw (before_front q s.order (pids (filter (wakes s) s.processes)) h.0) h.1)
+nearer_settled s q old h = (
+  ap (is_in q) (order_settled s) ∙ in_append q s.order _ ∙ or_left _ _ h.0,
+  rw (order_settled s, before_front q s.order (given_places s) h.0) h.1,
+)
 
 -- an event before a halt brings q nearer
 nearer_awake : (granted : Bool) (s : State) (event : Event) (q : ℕ) → is_in q s.order ≡ true → current s ≢ Some q → Nearer q s.order (settle (happens granted s event).state).order
@@ -163,8 +173,7 @@ tick_rotates s q (Some p) k d e ne =
 
 -- to settle leaves how many are before q
 settle_counts : (s : State) (q : ℕ) → is_in q s.order ≡ true → places_before q (settle s).order ≡ places_before q s.order
-unfolding settle
-settle_counts s q e = before_front q s.order _ e
+settle_counts s q e = ap (places_before q) (order_settled s) ∙ before_front q s.order _ e
 
 -- a tick takes one from before q
 tick_counts : (granted : Bool) (s : State) (q : ℕ) → IsDistinct s.order → is_in q s.order ≡ true → current s ≢ Some q
@@ -246,6 +255,9 @@ enough : (old new : State) (event : Event) (entries : List Entry) (events : List
     → (q : ℕ) → is_in q old.order ≡ true → current old ≢ Some q → places_before q old.order ≤ ticks_in (event ∷ events) → places_before q new.order ≤ ticks_in events
 enough old new Step entries events h awake q e ne l =
     let n = place_nears old new Step entries h q e ne in
+    omega (arith, n, l)
+enough old new (Key console byte) entries events h awake q e ne l =
+    let n = place_nears old new (Key console byte) entries h q e ne in
     omega (arith, n, l)
 enough old new Tick entries events h awake q e ne l =
     let n = tick_lessens h.granted old q awake e ne in

@@ -1,12 +1,12 @@
 -- Who is given a place as an event is settled.
-use Rattle.std.proofs.Common.{◌≡◌, ℕ, true, false, not, refl, ap, sym, ◌∙◌, arith, List, [], ◌∷◌, filter, Some}
+use Rattle.std.proofs.Common.{◌≡◌, ℕ, true, false, not, refl, ap, sym, ◌∙◌, arith, List, [], ◌∷◌, ◌++◌, filter, Some}
 use Rattle.std.proofs.lemmas.Bool.{ne_eqb, or_from, and_parts, not-true}
 use Rattle.posix.specs.Processes.{Process}
 use Rattle.posix.specs.Tables.{IsRising, lookup, pids}
 use Rattle.posix.specs.States.{State, is_in}
 use Rattle.posix.specs.Regular.{IsDistinct}
-use Rattle.posix.specs.Settle.{wakes, can_act}
-use Rattle.posix.proofs.TableLemmas.{Above, pid_looked}
+use Rattle.posix.specs.Settle.{wakes, can_act, clear_foregrounds, give_places, settle}
+use Rattle.posix.proofs.TableLemmas.{Above, pid_looked, rising_filter}
 use Rattle.posix.proofs.WalkLemmas.{in_filter, pid_found}
 
 -- numbers of some processes are above a number where all are
@@ -16,23 +16,38 @@ pids_above n [] a = refl
 pids_above n (r ∷ rs) a = or_from _ _ (ne_eqb r.pid n (λ e. omega (arith, a.0, e))) (pids_above n rs a.1)
 
 -- the numbers of rising processes are distinct
-pub distinct_pids : (rs : List Process) → IsRising rs → IsDistinct (pids rs)
+distinct_pids : (rs : List Process) → IsRising rs → IsDistinct (pids rs)
 unfolding IsDistinct IsRising
 distinct_pids [] up = tt
 distinct_pids (r ∷ rs) up = (pids_above r.pid rs up.0, distinct_pids rs up.1)
 
--- who wakes: a process that can act, and has no place
+-- the numbers of those who are given a place
+abbrev pub given_places : State → List ℕ
+given_places s = pids (filter (wakes (clear_foregrounds s)) s.processes)
+
+-- their places come behind the others
+pub order_settled : (s : State) → (settle s).order ≡ s.order ++ given_places s
+unfolding settle give_places clear_foregrounds
+order_settled s = refl
+
+-- they are distinct
+pub distinct_given : (s : State) → IsRising s.processes → IsDistinct (given_places s)
+distinct_given s up = distinct_pids (filter (wakes (clear_foregrounds s)) s.processes) (rising_filter (wakes (clear_foregrounds s)) s.processes up)
+
+-- who wakes: a process that can act once foregrounds are cleared, and has no place
 pub record Wakes (s : State) (q : ℕ) : Type 0 where
   pub what : Process
   pub found : lookup q s.processes ≡ Some what
-  pub acts : can_act s what ≡ true
+  pub acts : can_act (clear_foregrounds s) what ≡ true
   pub out : is_in q s.order ≡ false
 
 -- who is given a place wakes
-pub all_wake : (s : State) → IsRising s.processes → (q : ℕ) → is_in q (pids (filter (wakes s) s.processes)) ≡ true → Wakes s q
+pub all_wake : (s : State) → IsRising s.processes → (q : ℕ) → is_in q (given_places s) ≡ true → Wakes s q
+unfolding clear_foregrounds
 all_wake s up q e =
-    let r = pid_found q (filter (wakes s) s.processes) e in
-    let f = in_filter (wakes s) s.processes up q r.0 r.1 in
+    let t = clear_foregrounds s in
+    let r = pid_found q (filter (wakes t) s.processes) e in
+    let f = in_filter (wakes t) s.processes up q r.0 r.1 in
     let awake = and_parts (not (is_in r.0.pid s.order)) _ f.passes in
     record {
       what = r.0;

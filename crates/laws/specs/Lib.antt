@@ -1,3 +1,4 @@
 pub mod Stamps
 pub mod Turns
 pub mod Memory
+pub mod Background

@@ -1,4 +1,6 @@
 pub mod SoundLemmas
+pub mod TerminalLemmas
+pub mod ReaderLemmas
 pub mod ReportedLemmas
 pub mod TimedLemmas
 pub mod StopLemmas
@@ -17,3 +19,4 @@ pub mod RousingLemmas
 pub mod OrphanLemmas
 pub mod MoveLemmas
 pub mod NameLemmas
+pub mod ConsoleLemmas

@@ -1,5 +1,5 @@
 -- A process that moves to another process group, or leads a new session, in the parts of a machine.
-use Rattle.std.proofs.Common.{◌≡◌, ℕ, ◌≤◌, refl, ap, sym, ◌∙◌, arith, subst, List, [], ◌∷◌, Option, Some, None, option_map, Ok, ℤ, inl, inr, ◌⊎◌}
+use Rattle.std.proofs.Common.{◌≡◌, ℕ, ◌≤◌, refl, ap, sym, ◌∙◌, arith, subst, List, [], ◌∷◌, Option, Some, None, option_map, Ok, ℤ, inl, inr, ◌⊎◌, true}
 use Rattle.std.proofs.lemmas.Bool.{eq-eqb}
 use Rattle.std.proofs.lemmas.List.{length-map}
 use Rattle.posix.specs.Processes.{Process}
@@ -21,7 +21,7 @@ use Rattle.pidset.specs.Numbers.{PidSetView, with_number}
 use Rattle.pidset.specs.Children.{ChildSetView}
 use Rattle.proctable.specs.declared.facts.Facts.{Facts}
 use Rattle.proctable.specs.Body.{facts_of}
-use Rattle.life.specs.Machines.{IsKept, IsSound, IsMachine}
+use Rattle.life.specs.Machines.{IsKept, IsSound, IsMachine, Terminals}
 use Rattle.life.specs.Asking.{asking_changed, with_parent}
 use Rattle.life.proofs.ParentLemmas.{parents_map}
 use Rattle.life.proofs.SoundLemmas.{facts_are, found_in, is_there, none_read, not_many}
@@ -59,28 +59,29 @@ sound_regrouped s p f pids now places k regular same table tallied i = record {
 }
 
 -- both the process and its parent are asked, as either may wait for the members of a group
-machine_regrouped : {losing : PidSetView} (s : State) (pids now : Pids) (places : Places) (asked after : PidSetView) (reporting : ChildSetView) (alarmed : PidSetView) (tick p : ℕ) (f : Process → Process) (me : Process)
-    → Regroups f → lookup p s.processes ≡ Some me → IsRegular (change s p f) → now.pidmax ≡ pids.pidmax → IsPids now → IsTallied now (changed p f s.processes) → IsMachine s pids places asked reporting alarmed tick losing
-    → after.pids ≡ asking_changed me asked.pids → after.room ≡ asked.room → IsMachine (change s p f) now places after reporting alarmed tick losing
+machine_regrouped : {losing : PidSetView} {terminals : Terminals} (s : State) (pids now : Pids) (places : Places) (asked after : PidSetView) (reporting : ChildSetView) (alarmed : PidSetView) (tick p : ℕ) (f : Process → Process) (me : Process)
+    → Regroups f → lookup p s.processes ≡ Some me → IsRegular (change s p f) → now.pidmax ≡ pids.pidmax → IsPids now → IsTallied now (changed p f s.processes) → IsMachine s pids places asked reporting alarmed tick losing terminals
+    → after.pids ≡ asking_changed me asked.pids → after.room ≡ asked.room → IsMachine (change s p f) now places after reporting alarmed tick losing (record { readers = terminals.readers; stale = true })
 machine_regrouped s pids now places asked after reporting alarmed tick p f me k found regular same table tallied i is room =
     let rs = s.processes in
     let pid = k.rest.pid in
     let here = is_there (lookup p rs) me found in
     record {
       sound = sound_regrouped s p f pids now places k regular same table tallied i.sound;
-      listed = listed_changed s (change s p f) p me.parent asked after (p ∷ me.parent ∷ []) i.listed (touches_shown s p f pid k.parent i.sound.regular.rising me found) refl
+      listed = listed_changed s (change s p f) p me.parent asked after (p ∷ me.parent ∷ []) i.listed (touches_shown s p f pid k.parent i.sound.regular.rising me found) (refl, refl)
           (λ q e. still p f pid q rs e) (still p f pid p rs here) (λ some. still p f pid me.parent rs (parent_there s pids places i.sound p me found some)) (none_still p f pid 0 rs (nobody_0 s i.sound.regular))
           (λ q e. each (λ q. (q ≡ p) ⊎ (q ≡ me.parent)) (p ∷ me.parent ∷ []) (inl refl, (inr refl, tt)) q e)
           (subst (λ n. after.pids ≡ asking_changed (record me { pid = n }) asked.pids) (pid_looked p rs me found) is) room;
       reported = reported_change s.world.pidmax p f pid k.parent rs reporting reporting me found i.reported (λ q c ne. refl) (i.reported.each p me found ∙ sym (k.report me)) i.reported.once refl;
       timed = timed_change s.world.pidmax p f k.rest rs alarmed tick here i.timed;
       noted = i.noted;
+      fresh = λ e. absurd (cc);
     }
 
 -- the number that was given last is the same
-pub machine_numbered : {losing : PidSetView} (t : State) (pids : Pids) (places : Places) (asked : PidSetView) (reporting : ChildSetView) (alarmed : PidSetView) (tick last : ℕ) → t.last_pid ≡ last
-    → IsMachine t pids places asked reporting alarmed tick losing → IsMachine (record t { last_pid = last }) pids places asked reporting alarmed tick losing
-machine_numbered {losing = losing} t pids places asked reporting alarmed tick last same i = subst (λ n. IsMachine (record t { last_pid = n }) pids places asked reporting alarmed tick losing) same i
+pub machine_numbered : {losing : PidSetView} {terminals : Terminals} (t : State) (pids : Pids) (places : Places) (asked : PidSetView) (reporting : ChildSetView) (alarmed : PidSetView) (tick last : ℕ) → t.last_pid ≡ last
+    → IsMachine t pids places asked reporting alarmed tick losing terminals → IsMachine (record t { last_pid = last }) pids places asked reporting alarmed tick losing terminals
+machine_numbered {losing = losing} {terminals = terminals} t pids places asked reporting alarmed tick last same i = subst (λ n. IsMachine (record t { last_pid = n }) pids places asked reporting alarmed tick losing terminals) same i
 
 -- ---- a process that moves
 
@@ -101,9 +102,9 @@ room_to_move s pids places i p to me found regular =
     let most = i.kept.greatest in
     can_move pids p to me s.processes i.kept.table i.kept.tallied (omega (arith, l)) found (omega (arith, b, most)) (group_range s pids places i p to me found regular)
 
-pub machine_moved : {losing : PidSetView} (s : State) (pids now : Pids) (places : Places) (asked after : PidSetView) (reporting : ChildSetView) (alarmed : PidSetView) (tick p to : ℕ) (me : Process)
-    → lookup p s.processes ≡ Some me → IsRegular (change s p (in_group to)) → now ≡ moved_in pids me.group to → IsMachine s pids places asked reporting alarmed tick losing
-    → after.pids ≡ asking_changed me asked.pids → after.room ≡ asked.room → IsMachine (change s p (in_group to)) now places after reporting alarmed tick losing
+pub machine_moved : {losing : PidSetView} {terminals : Terminals} (s : State) (pids now : Pids) (places : Places) (asked after : PidSetView) (reporting : ChildSetView) (alarmed : PidSetView) (tick p to : ℕ) (me : Process)
+    → lookup p s.processes ≡ Some me → IsRegular (change s p (in_group to)) → now ≡ moved_in pids me.group to → IsMachine s pids places asked reporting alarmed tick losing terminals
+    → after.pids ≡ asking_changed me asked.pids → after.room ≡ asked.room → IsMachine (change s p (in_group to)) now places after reporting alarmed tick losing (record { readers = terminals.readers; stale = true })
 machine_moved s pids now places asked after reporting alarmed tick p to me found regular moved i =
     let table = i.sound.kept.table in
     machine_regrouped s pids now places asked after reporting alarmed tick p (in_group to) me (regroups_in_group to) found regular (ap (λ (n : Pids). n.pidmax) moved ∙ greatest_moved pids me.group to)
@@ -123,9 +124,9 @@ room_to_lead s pids places i p me found =
     let most = i.kept.greatest in
     can_lead pids p p me s.processes i.kept.table i.kept.tallied (omega (arith, l)) found (omega (arith, pid, named, most)) (omega (arith, group, most)) (omega (arith, session, most))
 
-pub machine_led : {losing : PidSetView} (s : State) (pids now : Pids) (places : Places) (asked after : PidSetView) (reporting : ChildSetView) (alarmed : PidSetView) (tick p : ℕ) (me : Process)
-    → lookup p s.processes ≡ Some me → IsRegular (change s p in_session) → now ≡ led_in pids p me.group me.session → IsMachine s pids places asked reporting alarmed tick losing
-    → after.pids ≡ asking_changed me asked.pids → after.room ≡ asked.room → IsMachine (change s p in_session) now places after reporting alarmed tick losing
+pub machine_led : {losing : PidSetView} {terminals : Terminals} (s : State) (pids now : Pids) (places : Places) (asked after : PidSetView) (reporting : ChildSetView) (alarmed : PidSetView) (tick p : ℕ) (me : Process)
+    → lookup p s.processes ≡ Some me → IsRegular (change s p in_session) → now ≡ led_in pids p me.group me.session → IsMachine s pids places asked reporting alarmed tick losing terminals
+    → after.pids ≡ asking_changed me asked.pids → after.room ≡ asked.room → IsMachine (change s p in_session) now places after reporting alarmed tick losing (record { readers = terminals.readers; stale = true })
 machine_led s pids now places asked after reporting alarmed tick p me found regular led i =
     let table = i.sound.kept.table in
     machine_regrouped s pids now places asked after reporting alarmed tick p in_session me regroups_in_session found regular (ap (λ (n : Pids). n.pidmax) led ∙ greatest_led pids p me.group me.session)

@@ -24,7 +24,7 @@ use Rattle.pidalloc.specs.Rows.{Pids}
 use Rattle.sched.specs.Places.{Places}
 use Rattle.pidset.specs.Numbers.{PidSetView, with_number}
 use Rattle.pidset.specs.Children.{ArePairs, ChildSetView, is_child_in}
-use Rattle.life.specs.Machines.{IsSound, IsListed, IsReported, IsTimed, IsMachine, IsNoted, CanGo, IsCounted}
+use Rattle.life.specs.Machines.{IsSound, IsListed, IsReported, IsTimed, IsMachine, IsNoted, CanGo, IsCounted, Terminals}
 use Rattle.life.proofs.TimedLemmas.{timed_told, timed_departed}
 use Rattle.life.specs.Asking.{IsForgotten, with_numbers, without_gone}
 use Rattle.life.proofs.SoundLemmas.{is_there, found_in, heir_in, kept_order, length_departed, kept_departed, parents_departed, there_made_zombie}
@@ -251,11 +251,11 @@ fewer_told s old new heir c v h e = λ q.
 
 -- The parts m of a machine have p made a zombie, and but for that are the sound state now. From the child that
 -- comes next, what is left to tell of comes to all that there was to tell of.
-pub record IsTelling (old m : State) (pids : Pids) (places : Places) (asked : PidSetView) (set : ChildSetView) (clocks : PidSetView) (tick p heir w : ℕ) (next : Option ℕ) : Type 0 where
+pub record IsTelling (old m : State) (pids : Pids) (places : Places) (asked : PidSetView) (readers : List PidSetView) (set : ChildSetView) (clocks : PidSetView) (tick p heir w : ℕ) (next : Option ℕ) : Type 0 where
   pub now : State
   pub left : m ≡ leave p w now
   pub sound : IsSound now pids places
-  pub listed : IsListed now asked
+  pub listed : IsListed now asked readers
   pub reported : IsReported now.world.pidmax now.processes set
   pub timed : IsTimed now.world.pidmax now.processes clocks tick
   pub mine_asked : is_in p asked.pids ≡ true
@@ -269,9 +269,9 @@ pub record IsTelling (old m : State) (pids : Pids) (places : Places) (asked : Pi
   pub todo : tell_of_all now heir (zombies (left_of next (children_in p now.processes))) ≡ tell_of_all old heir (zombies_of p old.processes)
 
 -- the walk begins at the first child
-pub begins : (old s m : State) (pids : Pids) (a b : Places) (p heir w : ℕ) (next : Option ℕ) (me : Process) → s ≡ old → m ≡ leave p w s → IsSound s pids a → a.room ≤ b.room → p ≢ 1
+pub begins : {readers : List PidSetView} (old s m : State) (pids : Pids) (a b : Places) (p heir w : ℕ) (next : Option ℕ) (me : Process) → s ≡ old → m ≡ leave p w s → IsSound s pids a → a.room ≤ b.room → p ≢ 1
     → CanInherit old.processes p heir → process old p ≡ Some me → next ≡ first_pid (children_in p m.processes)
-    → (l asked : PidSetView) → IsListed s l → asked.pids ≡ with_number heir (with_number p l.pids) → asked.room ≡ l.room → (set : ChildSetView) → IsReported s.world.pidmax s.processes set → (clocks : PidSetView) (tick : ℕ) → IsTimed s.world.pidmax s.processes clocks tick → IsTelling old m pids b asked set clocks tick p heir w next
+    → (l asked : PidSetView) → IsListed s l readers → asked.pids ≡ with_number heir (with_number p l.pids) → asked.room ≡ l.room → (set : ChildSetView) → IsReported s.world.pidmax s.processes set → (clocks : PidSetView) (tick : ℕ) → IsTimed s.world.pidmax s.processes clocks tick → IsTelling old m pids b asked readers set clocks tick p heir w next
 unfolding zombies_of with_numbers is_in
 begins old s m pids a b p heir w next me same left i room other h e is l asked list put kept set reports clocks tick times =
     let found = found_in s old same p me e in
@@ -298,22 +298,22 @@ begins old s m pids a b p heir w next me same left i room other h e is l asked l
     }
 
 -- what the walk knows at the child c
-pub child_here : {old m : State} {pids : Pids} {places : Places} {asked : PidSetView} {set : ChildSetView} {clocks : PidSetView} {tick p heir w : ℕ} {next : Option ℕ} (t : IsTelling old m pids places asked set clocks tick p heir w next) (c : ℕ) → next ≡ Some c → AtChild t.now.processes p c
+pub child_here : {old m : State} {pids : Pids} {places : Places} {asked : PidSetView} {readers : List PidSetView} {set : ChildSetView} {clocks : PidSetView} {tick p heir w : ℕ} {next : Option ℕ} (t : IsTelling old m pids places asked readers set clocks tick p heir w next) (c : ℕ) → next ≡ Some c → AtChild t.now.processes p c
 child_here {p = p} t c comes =
     at_child t.now.processes t.sound.regular.rising p c (ap (λ o. first_pid (left_of o (children_in p t.now.processes))) (sym comes) ∙ t.here ∙ comes)
 
 -- it is there
-pub child_there : {old m : State} {pids : Pids} {places : Places} {asked : PidSetView} {set : ChildSetView} {clocks : PidSetView} {tick p heir w : ℕ} {next : Option ℕ} (t : IsTelling old m pids places asked set clocks tick p heir w next) (c : ℕ) → next ≡ Some c → IsSome (lookup c m.processes)
+pub child_there : {old m : State} {pids : Pids} {places : Places} {asked : PidSetView} {readers : List PidSetView} {set : ChildSetView} {clocks : PidSetView} {tick p heir w : ℕ} {next : Option ℕ} (t : IsTelling old m pids places asked readers set clocks tick p heir w next) (c : ℕ) → next ≡ Some c → IsSome (lookup c m.processes)
 child_there {p = p} {w = w} t c comes = let k = child_here t c comes in rw t.left (there_made_zombie p w c t.now.processes (is_there _ k.what k.found))
 
 -- and is as it was, unless it is p
-pub child_same : {old m : State} {pids : Pids} {places : Places} {asked : PidSetView} {set : ChildSetView} {clocks : PidSetView} {tick p heir w : ℕ} {next : Option ℕ} (t : IsTelling old m pids places asked set clocks tick p heir w next) (c : ℕ) (comes : next ≡ Some c) → c ≢ p → lookup c m.processes ≡ Some (child_here t c comes).what
+pub child_same : {old m : State} {pids : Pids} {places : Places} {asked : PidSetView} {readers : List PidSetView} {set : ChildSetView} {clocks : PidSetView} {tick p heir w : ℕ} {next : Option ℕ} (t : IsTelling old m pids places asked readers set clocks tick p heir w next) (c : ℕ) (comes : next ≡ Some c) → c ≢ p → lookup c m.processes ≡ Some (child_here t c comes).what
 unfolding made_zombie
 child_same {p = p} {w = w} t c comes ne = let k = child_here t c comes in ap (λ (s : State). lookup c s.processes) t.left ∙ lookup_other p c (made_zombie w) (λ r. refl) ne t.now.processes k.what k.found
 
 -- a child that lives is passed
-pub passes : {old m : State} {pids : Pids} {places : Places} {asked : PidSetView} {set : ChildSetView} {clocks : PidSetView} {tick p heir w : ℕ} {next : Option ℕ} (t : IsTelling old m pids places asked set clocks tick p heir w next) (c : ℕ) (comes : next ≡ Some c) (after : Option ℕ) → after ≡ next_sibling c m.processes
-    → is_zombie (child_here t c comes).what.life ≡ false → IsTelling old m pids places asked set clocks tick p heir w after
+pub passes : {old m : State} {pids : Pids} {places : Places} {asked : PidSetView} {readers : List PidSetView} {set : ChildSetView} {clocks : PidSetView} {tick p heir w : ℕ} {next : Option ℕ} (t : IsTelling old m pids places asked readers set clocks tick p heir w next) (c : ℕ) (comes : next ≡ Some c) (after : Option ℕ) → after ≡ next_sibling c m.processes
+    → is_zombie (child_here t c comes).what.life ≡ false → IsTelling old m pids places asked readers set clocks tick p heir w after
 passes {p = p} {heir = heir} {w = w} t c comes after is living =
     let k = child_here t c comes in
     let sibling : after ≡ next_sibling c t.now.processes = is ∙ ap (λ (s : State). next_sibling c s.processes) t.left ∙ sibling_made_zombie p w c t.now.processes in
@@ -337,7 +337,7 @@ passes {p = p} {heir = heir} {w = w} t c comes after is living =
     })
 
 -- p, if it is its own child, was no zombie, since a zombie has no children
-pub self_lives : {old m : State} {pids : Pids} {places : Places} {asked : PidSetView} {set : ChildSetView} {clocks : PidSetView} {tick p heir w : ℕ} {next : Option ℕ} (t : IsTelling old m pids places asked set clocks tick p heir w next) (c : ℕ) (comes : next ≡ Some c) → c ≡ p → is_zombie (child_here t c comes).what.life ≡ false
+pub self_lives : {old m : State} {pids : Pids} {places : Places} {asked : PidSetView} {readers : List PidSetView} {set : ChildSetView} {clocks : PidSetView} {tick p heir w : ℕ} {next : Option ℕ} (t : IsTelling old m pids places asked readers set clocks tick p heir w next) (c : ℕ) (comes : next ≡ Some c) → c ≡ p → is_zombie (child_here t c comes).what.life ≡ false
 self_lives {p = p} t c comes e =
     let k = child_here t c comes in
     elim (is_zombie k.what.life) as (λ b. is_zombie k.what.life ≡ b → b ≡ false) [
@@ -349,37 +349,37 @@ self_lives {p = p} t c comes e =
     ] refl
 
 -- what was read of another child is its life
-pub life_read : {old m : State} {pids : Pids} {places : Places} {asked : PidSetView} {set : ChildSetView} {clocks : PidSetView} {tick p heir w : ℕ} {next : Option ℕ} (t : IsTelling old m pids places asked set clocks tick p heir w next) (c : ℕ) (comes : next ≡ Some c) → c ≢ p
+pub life_read : {old m : State} {pids : Pids} {places : Places} {asked : PidSetView} {readers : List PidSetView} {set : ChildSetView} {clocks : PidSetView} {tick p heir w : ℕ} {next : Option ℕ} (t : IsTelling old m pids places asked readers set clocks tick p heir w next) (c : ℕ) (comes : next ≡ Some c) → c ≢ p
     → (life : Life) → ((it : Process) → lookup c m.processes ≡ Some it → life ≡ it.life) → life ≡ (child_here t c comes).what.life
 life_read t c comes ne life reads = reads (child_here t c comes).what (child_same t c comes ne)
 
 -- what the walk knows of a zombie
-pub to_tell : {old m : State} {pids : Pids} {places : Places} {asked : PidSetView} {set : ChildSetView} {clocks : PidSetView} {tick p heir w : ℕ} {next : Option ℕ} (t : IsTelling old m pids places asked set clocks tick p heir w next) (c v : ℕ) (comes : next ≡ Some c) → (child_here t c comes).what.life ≡ Zombie v → IsToTell t.now p heir c v
+pub to_tell : {old m : State} {pids : Pids} {places : Places} {asked : PidSetView} {readers : List PidSetView} {set : ChildSetView} {clocks : PidSetView} {tick p heir w : ℕ} {next : Option ℕ} (t : IsTelling old m pids places asked readers set clocks tick p heir w next) (c v : ℕ) (comes : next ≡ Some c) → (child_here t c comes).what.life ≡ Zombie v → IsToTell t.now p heir c v
 to_tell t c v comes dead = record { child = child_here t c comes; dead = dead; least = t.least; other = t.other; inherits = t.inherits }
 
 -- the heir is there
-pub heir_here : {old m : State} {pids : Pids} {places : Places} {asked : PidSetView} {set : ChildSetView} {clocks : PidSetView} {tick p heir w : ℕ} {next : Option ℕ} (t : IsTelling old m pids places asked set clocks tick p heir w next) → IsSome (lookup heir m.processes)
+pub heir_here : {old m : State} {pids : Pids} {places : Places} {asked : PidSetView} {readers : List PidSetView} {set : ChildSetView} {clocks : PidSetView} {tick p heir w : ℕ} {next : Option ℕ} (t : IsTelling old m pids places asked readers set clocks tick p heir w next) → IsSome (lookup heir m.processes)
 heir_here {p = p} {heir = heir} {w = w} t = rw t.left (there_made_zombie p w heir t.now.processes (heir_there t.now p heir t.sound.regular t.inherits))
 
 -- a zombie can go
-pub zombie_goes : {old m : State} {pids : Pids} {places : Places} {asked : PidSetView} {set : ChildSetView} {clocks : PidSetView} {tick p heir w : ℕ} {next : Option ℕ} (t : IsTelling old m pids places asked set clocks tick p heir w next) (c v : ℕ) (comes : next ≡ Some c) → (child_here t c comes).what.life ≡ Zombie v
+pub zombie_goes : {old m : State} {pids : Pids} {places : Places} {asked : PidSetView} {readers : List PidSetView} {set : ChildSetView} {clocks : PidSetView} {tick p heir w : ℕ} {next : Option ℕ} (t : IsTelling old m pids places asked readers set clocks tick p heir w next) (c v : ℕ) (comes : next ≡ Some c) → (child_here t c comes).what.life ≡ Zombie v
     → CanGo t.now.processes pids c
 zombie_goes {pids = pids} {places = places} {p = p} {heir = heir} t c v comes dead =
     let k = child_here t c comes in
     can_go t.now pids places c k.what t.sound k.found (ap is_zombie dead) (not_first t.now p heir c v t.sound.regular (to_tell t c v comes dead))
 
 -- from the parts of the machine, too
-pub zombie_goes_there : {old m : State} {pids : Pids} {places : Places} {asked : PidSetView} {set : ChildSetView} {clocks : PidSetView} {tick p heir w : ℕ} {next : Option ℕ} (t : IsTelling old m pids places asked set clocks tick p heir w next) (c v : ℕ) (comes : next ≡ Some c) → (child_here t c comes).what.life ≡ Zombie v
+pub zombie_goes_there : {old m : State} {pids : Pids} {places : Places} {asked : PidSetView} {readers : List PidSetView} {set : ChildSetView} {clocks : PidSetView} {tick p heir w : ℕ} {next : Option ℕ} (t : IsTelling old m pids places asked readers set clocks tick p heir w next) (c v : ℕ) (comes : next ≡ Some c) → (child_here t c comes).what.life ≡ Zombie v
     → CanGo m.processes pids c
 unfolding changed made_zombie
 zombie_goes_there {pids = pids} {p = p} {w = w} t c v comes dead =
     rw t.left (can_go_map (at p (made_zombie w)) (at_made_zombie p w) (parent_made_zombie p w) (λ r. grind arith) (λ r. grind arith) t.now.processes pids c (zombie_goes t c v comes dead))
 
 -- the heir is told of it
-pub tells : {old m : State} {pids : Pids} {places : Places} {asked : PidSetView} {set : ChildSetView} {clocks : PidSetView} {tick p heir w : ℕ} {next : Option ℕ} (t : IsTelling old m pids places asked set clocks tick p heir w next) (c v : ℕ) (comes : next ≡ Some c) (after : Option ℕ) → after ≡ next_sibling c m.processes
+pub tells : {old m : State} {pids : Pids} {places : Places} {asked : PidSetView} {readers : List PidSetView} {set : ChildSetView} {clocks : PidSetView} {tick p heir w : ℕ} {next : Option ℕ} (t : IsTelling old m pids places asked readers set clocks tick p heir w next) (c v : ℕ) (comes : next ≡ Some c) (after : Option ℕ) → after ≡ next_sibling c m.processes
     → c ≢ p → (child_here t c comes).what.life ≡ Zombie v → (q : Pids) (e : ℕ) (new : State) → IsCounted (is_dropping heir m.processes) pids q m.dropped e c (child_here t c comes).what → new ≡ notice_of_end m heir c v
     → (l : PidSetView) → l.pids ≡ without_gone c (cond (is_dropping heir m.processes) (Some (child_here t c comes).what.parent) None) asked.pids → l.room ≡ asked.room
-    → (kept : ChildSetView) → IsForgotten c (cond (is_dropping heir m.processes) (Some (child_here t c comes).what.parent) None) set kept → kept.room ≡ set.room → IsTelling old new q places l kept clocks tick p heir w after
+    → (kept : ChildSetView) → IsForgotten c (cond (is_dropping heir m.processes) (Some (child_here t c comes).what.parent) None) set kept → kept.room ≡ set.room → IsTelling old new q places l readers kept clocks tick p heir w after
 tells {m = m} {pids = pids} {places = places} {asked = asked} {set = set} {clocks = clocks} {tick = tick} {p = p} {heir = heir} {w = w} t c v comes after is ne dead q e new counts told l list room kept gone fits =
     let now = t.now in
     let h = to_tell t c v comes dead in
@@ -411,7 +411,7 @@ tells {m = m} {pids = pids} {places = places} {asked = asked} {set = set} {clock
     })
 
 -- one child less is left where nothing changed
-pub asks_less : {old m : State} {pids : Pids} {places : Places} {asked : PidSetView} {set : ChildSetView} {clocks : PidSetView} {tick p heir w : ℕ} {next : Option ℕ} (t : IsTelling old m pids places asked set clocks tick p heir w next) (c : ℕ) → next ≡ Some c → (after : Option ℕ) → after ≡ next_sibling c m.processes
+pub asks_less : {old m : State} {pids : Pids} {places : Places} {asked : PidSetView} {readers : List PidSetView} {set : ChildSetView} {clocks : PidSetView} {tick p heir w : ℕ} {next : Option ℕ} (t : IsTelling old m pids places asked readers set clocks tick p heir w next) (c : ℕ) → next ≡ Some c → (after : Option ℕ) → after ≡ next_sibling c m.processes
     → kids_left m.processes p after < kids_left m.processes p next
 asks_less {p = p} {w = w} t c comes after is =
     let now = t.now in
@@ -421,7 +421,7 @@ asks_less {p = p} {w = w} t c comes after is =
     rw (t.left, asks_made_zombie p w now.processes after, asks_made_zombie p w now.processes _, sibling, comes) (omega (arith, l))
 
 -- and where the heir was told
-pub tells_less : {old m : State} {pids : Pids} {places : Places} {asked : PidSetView} {set : ChildSetView} {clocks : PidSetView} {tick p heir w : ℕ} {next : Option ℕ} (t : IsTelling old m pids places asked set clocks tick p heir w next) (c v : ℕ) (comes : next ≡ Some c) (after : Option ℕ) → after ≡ next_sibling c m.processes
+pub tells_less : {old m : State} {pids : Pids} {places : Places} {asked : PidSetView} {readers : List PidSetView} {set : ChildSetView} {clocks : PidSetView} {tick p heir w : ℕ} {next : Option ℕ} (t : IsTelling old m pids places asked readers set clocks tick p heir w next) (c v : ℕ) (comes : next ≡ Some c) (after : Option ℕ) → after ≡ next_sibling c m.processes
     → (new : State) → new ≡ notice_of_end m heir c v → kids_left new.processes p after < kids_left m.processes p next
 tells_less {p = p} {heir = heir} {w = w} t c v comes after is new told =
     let now = t.now in
@@ -434,23 +434,23 @@ tells_less {p = p} {heir = heir} {w = w} t c v comes after is new told =
     rw (left, t.left, asks_made_zombie p w (notice_of_end now heir c v).processes after, asks_made_zombie p w now.processes _, sibling, comes) (omega (arith, same, l))
 
 -- at the end the heir was told of all
-pub told_of_all : {old m : State} {pids : Pids} {places : Places} {asked : PidSetView} {set : ChildSetView} {clocks : PidSetView} {tick p heir w : ℕ} {next : Option ℕ} (t : IsTelling old m pids places asked set clocks tick p heir w next) → next ≡ None → t.now ≡ tell_of_all old heir (zombies_of p old.processes)
+pub told_of_all : {old m : State} {pids : Pids} {places : Places} {asked : PidSetView} {readers : List PidSetView} {set : ChildSetView} {clocks : PidSetView} {tick p heir w : ℕ} {next : Option ℕ} (t : IsTelling old m pids places asked readers set clocks tick p heir w next) → next ≡ None → t.now ≡ tell_of_all old heir (zombies_of p old.processes)
 unfolding tell_of_all
 told_of_all {p = p} {heir = heir} t none = ap (λ o. tell_of_all t.now heir (zombies (left_of o (children_in p t.now.processes)))) (sym none) ∙ t.todo
 
 -- ---- the departure
 
 -- once its children are the heir's, the state is that after the departure
-pub departed : {old m : State} {pids : Pids} {places : Places} {asked : PidSetView} {set : ChildSetView} {clocks : PidSetView} {tick p heir w : ℕ} {next : Option ℕ} (t : IsTelling old m pids places asked set clocks tick p heir w next) (rs : List Process) → rs ≡ adopted p heir m.processes
+pub departed : {old m : State} {pids : Pids} {places : Places} {asked : PidSetView} {readers : List PidSetView} {set : ChildSetView} {clocks : PidSetView} {tick p heir w : ℕ} {next : Option ℕ} (t : IsTelling old m pids places asked readers set clocks tick p heir w next) (rs : List Process) → rs ≡ adopted p heir m.processes
     → record m { processes = rs } ≡ depart t.now p heir w
 departed {m = m} {p = p} {heir = heir} t rs is = ap (λ rs. record m { processes = rs }) is ∙ ap (λ (s : State). record s { processes = adopted p heir s.processes }) t.left
 
 -- which is a machine's, where the parent is asked too
-pub machine_departed : {old m : State} {pids : Pids} {places : Places} {asked : PidSetView} {set : ChildSetView} {clocks : PidSetView} {tick p heir w : ℕ} {next : Option ℕ} (t : IsTelling old m pids places asked set clocks tick p heir w next) (me : Process) → process old p ≡ Some me
+pub machine_departed : {old m : State} {pids : Pids} {places : Places} {asked : PidSetView} {readers : List PidSetView} {set : ChildSetView} {clocks : PidSetView} {tick p heir w : ℕ} {next : Option ℕ} (t : IsTelling old m pids places asked readers set clocks tick p heir w next) (me : Process) → process old p ≡ Some me
     → (l : PidSetView) → l.pids ≡ with_number me.parent asked.pids → l.room ≡ asked.room
     → (put after : ChildSetView) → ((q c : ℕ) → is_child_in q c put.pairs ≡ (q == me.parent && c == p || is_child_in q c set.pairs)) → ArePairs put.pairs → put.room ≡ set.room
     → ((q c : ℕ) → is_child_in q c after.pairs ≡ (not (q == p) && (is_child_in q c put.pairs || q == heir && is_child_in p c put.pairs))) → ArePairs after.pairs → after.room ≡ put.room
-    → (alarmed : PidSetView) → alarmed.pids ≡ without p clocks.pids → alarmed.room ≡ clocks.room → (losing : PidSetView) → IsNoted t.now.world.pidmax losing → IsMachine (depart t.now p heir w) pids places l after alarmed tick losing
+    → (alarmed : PidSetView) → alarmed.pids ≡ without p clocks.pids → alarmed.room ≡ clocks.room → (losing : PidSetView) → IsNoted t.now.world.pidmax losing → IsMachine (depart t.now p heir w) pids places l after alarmed tick losing (record { readers = readers; stale = true })
 machine_departed {pids = pids} {places = places} {asked = asked} {set = set} {clocks = clocks} {tick = tick} {p = p} {heir = heir} {w = w} t me e l list room put after puts first fits moves once holds alarmed out same losing noted =
     let now = t.now in
     let i = t.sound in
@@ -466,18 +466,19 @@ machine_departed {pids = pids} {places = places} {asked = asked} {set = set} {cl
       reported = reported_departed now.world.pidmax p heir w now.processes set put after me found (λ x. heir_other now.processes p heir t.other t.inherits (sym x)) t.reported puts first fits moves once holds;
       timed = timed_departed now.world.pidmax p heir w now.processes clocks alarmed tick me found t.timed out same;
       noted = noted;
+      fresh = λ e. absurd (cc);
     }
 
 -- there is room to ask the parent
-pub room_for_parent : {old m : State} {pids : Pids} {places : Places} {asked : PidSetView} {set : ChildSetView} {clocks : PidSetView} {tick p heir w : ℕ} {next : Option ℕ} (t : IsTelling old m pids places asked set clocks tick p heir w next) → length asked.pids < asked.room
+pub room_for_parent : {old m : State} {pids : Pids} {places : Places} {asked : PidSetView} {readers : List PidSetView} {set : ChildSetView} {clocks : PidSetView} {tick p heir w : ℕ} {next : Option ℕ} (t : IsTelling old m pids places asked readers set clocks tick p heir w next) → length asked.pids < asked.room
 room_for_parent t = has_room t.now _ t.sound.regular t.listed
 
 -- and to put it among those that have something to report, who has had nothing yet
-pub room_to_report : {old m : State} {pids : Pids} {places : Places} {asked : PidSetView} {set : ChildSetView} {clocks : PidSetView} {tick p heir w : ℕ} {next : Option ℕ} (t : IsTelling old m pids places asked set clocks tick p heir w next) → length set.pairs < set.room
+pub room_to_report : {old m : State} {pids : Pids} {places : Places} {asked : PidSetView} {readers : List PidSetView} {set : ChildSetView} {clocks : PidSetView} {tick p heir w : ℕ} {next : Option ℕ} (t : IsTelling old m pids places asked readers set clocks tick p heir w next) → length set.pairs < set.room
 room_to_report t = reported_room t.now _ t.sound.regular t.reported
 
 -- and what the definition comes to
-pub departed_told : {old m : State} {pids : Pids} {places : Places} {asked : PidSetView} {set : ChildSetView} {clocks : PidSetView} {tick p heir w : ℕ} {next : Option ℕ} (t : IsTelling old m pids places asked set clocks tick p heir w next) → next ≡ None
+pub departed_told : {old m : State} {pids : Pids} {places : Places} {asked : PidSetView} {readers : List PidSetView} {set : ChildSetView} {clocks : PidSetView} {tick p heir w : ℕ} {next : Option ℕ} (t : IsTelling old m pids places asked readers set clocks tick p heir w next) → next ≡ None
     → depart t.now p heir w ≡ tell_of_all (depart old p heir w) heir (zombies_of p old.processes)
 departed_told {old = old} {p = p} {heir = heir} {w = w} t none =
     ap (λ (s : State). depart s p heir w) (told_of_all t none) ∙ sym (tell_after old p heir w (heir_other t.now.processes p heir t.other t.inherits) (zombies_of p old.processes))

@@ -4,6 +4,7 @@ use Rattle.std.specs.Option.{IsSome, option_map_or}
 use Rattle.posix.specs.declared.process.PendingSignal.{PendingSignal}
 use Rattle.posix.specs.Processes.{Process, is_zombie}
 use Rattle.posix.specs.Tables.{lookup, at, changed, removed}
+use Rattle.posix.specs.Consoles.{Console}
 use Rattle.posix.specs.States.{World, State, change}
 use Rattle.posix.specs.Ends.{drops_children, is_dropping, drop_child, notice_of_end}
 use Rattle.posix.specs.Notices.{child_signal, noticed}
@@ -109,7 +110,7 @@ sound_gone s p q a c last dropped r i found dead other g most =
     let e = length_removed c r s.processes i.regular.rising found in
     let all = i.counted in
     record {
-      regular = regular_as _ (record s { processes = removed c s.processes; last_pid = last; dropped = dropped }) refl refl refl refl (regular_removed c r s i.regular other found dead);
+      regular = regular_as _ (record s { processes = removed c s.processes; last_pid = last; dropped = dropped }) refl refl refl refl refl (regular_removed c r s i.regular other found dead);
       parents = parents_removed c s.processes (i.regular.childless c r other found dead) i.parents;
       counted = omega (arith, e, all, most);
       kept = record {
@@ -123,14 +124,14 @@ sound_gone s p q a c last dropped r i found dead other g most =
 -- ---- a notice of an end
 
 -- the state of the parts after it
-pub told_state : (w : World) (rs ts : List Process) (p q : Pids) (a : Places) (births ticks d e : ℕ) (h : Bool) (parent c v : ℕ) (it : Process)
+pub told_state : (w : World) (rs ts : List Process) (cs : List Console) (p q : Pids) (a : Places) (births ticks d e : ℕ) (h : Bool) (parent c v : ℕ) (it : Process)
     → ts ≡ cond (is_dropping parent rs) (removed c (changed parent (noticed (child_signal c v)) rs)) (changed parent (noticed (child_signal c v)) rs)
-    → IsCounted (is_dropping parent rs) p q d e c it → state_of w ts q a births ticks e h ≡ notice_of_end (state_of w rs p a births ticks d h) parent c v
+    → IsCounted (is_dropping parent rs) p q d e c it → state_of w ts cs q a births ticks e h ≡ notice_of_end (state_of w rs cs p a births ticks d h) parent c v
 unfolding notice_of_end
-told_state w rs ts p q a births ticks d e h parent c v it is counts =
+told_state w rs ts cs p q a births ticks d e h parent c v it is counts =
     let told = changed parent (noticed (child_signal c v)) rs in
-    let old = change (state_of w rs p a births ticks d h) parent (noticed (child_signal c v)) in
-    rw is (elim (is_dropping parent rs) as (λ b. IsCounted b p q d e c it → state_of w (cond b (removed c told) told) q a births ticks e h ≡ cond {A = State} b (drop_child old c) old) [
+    let old = change (state_of w rs cs p a births ticks d h) parent (noticed (child_signal c v)) in
+    rw is (elim (is_dropping parent rs) as (λ b. IsCounted b p q d e c it → state_of w (cond b (removed c told) told) cs q a births ticks e h ≡ cond {A = State} b (drop_child old c) old) [
       | true ↦ λ k. rw (k.0.last, k.1) refl
       | false ↦ λ k. rw (k.0, k.1) refl
     ] counts)

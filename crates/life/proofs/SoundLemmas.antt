@@ -1,9 +1,10 @@
 -- What keeps a machine sound.
-use Rattle.std.proofs.Common.{◌≡◌, ℕ, ◌+◌, ◌<◌, ◌≤◌, Bool, false, refl, ap, sym, ◌∙◌, arith, subst, List, [], ◌∷◌, length, map, Some, None}
+use Rattle.std.proofs.Common.{◌≡◌, ℕ, ◌+◌, ◌<◌, ◌≤◌, Bool, false, refl, ap, sym, ◌∙◌, arith, subst, List, [], ◌∷◌, length, map, replicate, Some, None}
 use Rattle.std.specs.Option.{IsSome}
 use Rattle.std.proofs.lemmas.List.{length-map, length-replicate}
 use Rattle.posix.specs.Processes.{Process, is_zombie, first_process}
 use Rattle.posix.specs.Tables.{at, lookup, changed, inserted, adopted, reparented}
+use Rattle.posix.specs.Consoles.{Console, unused_console}
 use Rattle.posix.specs.States.{World, State, boot, process, next_pid}
 use Rattle.posix.specs.NextPid.{is_free, next_free}
 use Rattle.posix.specs.Regular.{IsRegular, IsPlaced, CanInherit}
@@ -149,18 +150,18 @@ room_to_bear s t p places child parent group session now i next me like =
     can_bear p s.processes i.kept.tallied (omega (arith, l)) child group session fresh.greatest (omega (arith, a, m, same_group)) (omega (arith, b, m, same_session))
 
 -- a birth
-pub sound_born : (w : World) (rs : List Process) (p q : Pids) (a : Places) (births ticks dropped : ℕ) (h : Bool) (new me : Process)
-    → IsSound (state_of w rs p a births ticks dropped h) p a → IsNew rs p.pidmax new.pid → lookup new.parent rs ≡ Some me → is_zombie me.life ≡ false
+pub sound_born : (w : World) (rs : List Process) (cs : List Console) (p q : Pids) (a : Places) (births ticks dropped : ℕ) (h : Bool) (new me : Process)
+    → IsSound (state_of w rs cs p a births ticks dropped h) p a → IsNew rs p.pidmax new.pid → lookup new.parent rs ≡ Some me → is_zombie me.life ≡ false
     → new.group ≡ me.group → new.session ≡ me.session → new.life ≡ me.life → new.alarm ≡ None
     → q ≡ born_in p new.pid new.group new.session → q.pidmax ≡ p.pidmax → IsPids q
-    → IsSound (state_of w (inserted new rs) q a (births + 1) ticks dropped h) q a
-sound_born w rs p q a births ticks dropped h new me i fresh there up group session life silent bore same table =
-    let s = state_of w rs p a births ticks dropped h in
+    → IsSound (state_of w (inserted new rs) cs q a (births + 1) ticks dropped h) q a
+sound_born w rs cs p q a births ticks dropped h new me i fresh there up group session life silent bore same table =
+    let s = state_of w rs cs p a births ticks dropped h in
     let k = i.kept in
     let number : IsNew rs w.pidmax new.pid = subst (λ m. IsNew rs m new.pid) k.greatest fresh in
     let r = regular_inserted new q.last (births + 1) s i.regular number (ap is_zombie life ∙ up) silent me there up group session in
     record {
-      regular = regular_as _ (state_of w (inserted new rs) q a (births + 1) ticks dropped h) refl refl refl refl r;
+      regular = regular_as _ (state_of w (inserted new rs) cs q a (births + 1) ticks dropped h) refl refl refl refl refl r;
       parents = parents_inserted new rs fresh.fresh (is_there _ me there) i.parents;
       counted = let c = i.counted in let e = length_inserted new rs in omega (arith, c, e);
       kept = record {
@@ -179,11 +180,11 @@ unfolding inserted
 first_alone = refl
 
 -- a machine with process 1 alone
-pub sound_first : (w : World) (q : Pids) (b : Places) → 2 ≤ w.pidmax → q ≡ born_in (unborne_table w.pidmax) 1 1 1 → q.pidmax ≡ w.pidmax → IsPids q → b.pids ≡ 1 ∷ [] → w.pidmax < b.room
-    → IsSound (state_of w (inserted first_process []) q b 1 0 0 false) q b
-sound_first w q b most bore same table order room =
+pub sound_first : (w : World) (cs : List Console) (q : Pids) (b : Places) → cs ≡ replicate w.consoles unused_console → 2 ≤ w.pidmax → q ≡ born_in (unborne_table w.pidmax) 1 1 1 → q.pidmax ≡ w.pidmax → IsPids q → b.pids ≡ 1 ∷ [] → w.pidmax < b.room
+    → IsSound (state_of w (inserted first_process []) cs q b 1 0 0 false) q b
+sound_first w cs q b unused most bore same table order room =
     record {
-      regular = regular_as (boot w) _ refl first_alone order refl (regular_first w (omega (arith, most)));
+      regular = regular_as (boot w) _ refl first_alone order refl unused (regular_first w (omega (arith, most)));
       parents = rw first_alone parents_first;
       counted = rw first_alone (omega arith);
       kept = record {
@@ -195,5 +196,5 @@ sound_first w q b most bore same table order room =
     }
 
 -- and it is the machine at boot
-pub first_is_boot : (w : World) (q : Pids) (b : Places) → q.last ≡ 1 → b.pids ≡ 1 ∷ [] → state_of w (inserted first_process []) q b 1 0 0 false ≡ boot w
-first_is_boot w q b last order = rw (order, last, first_alone) refl
+pub first_is_boot : (w : World) (cs : List Console) (q : Pids) (b : Places) → cs ≡ replicate w.consoles unused_console → q.last ≡ 1 → b.pids ≡ 1 ∷ [] → state_of w (inserted first_process []) cs q b 1 0 0 false ≡ boot w
+first_is_boot w cs q b unused last order = rw (order, last, first_alone, unused) refl

@@ -21,10 +21,11 @@ use Rattle.sched.specs.Places.{Places}
 use Rattle.pidset.specs.Numbers.{PidSetView, with_number}
 use Rattle.pidset.specs.Children.{ArePairs, ChildSetView, is_child_in}
 use Rattle.pidset.proofs.NumberLemmas.{in_with}
-use Rattle.life.specs.Machines.{IsSound, IsListed, IsReported, IsTimed, IsMachine}
+use Rattle.life.specs.Machines.{IsSound, IsListed, IsReported, IsTimed, IsMachine, Terminals}
 use Rattle.life.specs.Asking.{with_numbers, with_parent, asking}
 use Rattle.life.proofs.SoundLemmas.{sound_change, kept_order}
-use Rattle.life.proofs.AskLemmas.{listed_with, listed_same, listed_change}
+use Rattle.life.proofs.TerminalLemmas.{fresh_changed}
+use Rattle.life.proofs.AskLemmas.{IsBeside, listed_with, listed_same, listed_change}
 use Rattle.life.proofs.ReportedLemmas.{reported_change, reported_unseen, elsewhere_put, here_put}
 use Rattle.life.proofs.TimedLemmas.{Untimed, timed_change, untimed_signalled}
 
@@ -93,21 +94,22 @@ untimed_among f k =
     }
 
 -- a signal was generated for a process that is there, and has done nothing else yet
-pub machine_signalled : {losing : PidSetView} (s : State) (pids : Pids) (places : Places) (asked after : PidSetView) (reporting : ChildSetView) (alarmed : PidSetView) (tick p : ℕ) (signal : PendingSignal)
-    → IsSome (process s p) → IsMachine s pids places asked reporting alarmed tick losing → after.pids ≡ asking p s.order asked.pids → after.room ≡ asked.room
-    → IsMachine (change s p (signalled signal)) pids places after reporting alarmed tick losing
+pub machine_signalled : {losing : PidSetView} {terminals : Terminals} (s : State) (pids : Pids) (places : Places) (asked after : PidSetView) (reporting : ChildSetView) (alarmed : PidSetView) (tick p : ℕ) (signal : PendingSignal)
+    → IsSome (process s p) → IsMachine s pids places asked reporting alarmed tick losing terminals → after.pids ≡ asking p s.order asked.pids → after.room ≡ asked.room
+    → IsMachine (change s p (signalled signal)) pids places after reporting alarmed tick losing terminals
 machine_signalled s pids places asked after reporting alarmed tick p signal here i put room = record {
   sound = sound_change p (signalled signal) s (keeps_signalled signal) pids places i.sound;
   listed = listed_change s p (signalled signal) asked after i.listed (unseen_signalled signal).pid (touches_unseen s p (signalled signal) (unseen_signalled signal)) here put room;
   reported = reported_unseen s.world.pidmax p (signalled signal) (unseen_signalled signal) s.processes reporting here i.reported;
   timed = timed_change s.world.pidmax p (signalled signal) (untimed_signalled signal) s.processes alarmed tick here i.timed;
   noted = i.noted;
+  fresh = λ e. fresh_changed p (signalled signal) (keeps_signalled {now = 0} signal).group (keeps_signalled {now = 0} signal).session s.processes s.consoles (i.fresh e);
 }
 
 -- those who are asked: the process, and its parent if it has one that is there
-pub listed_changed : (s t : State) (p parent : ℕ) (before after : PidSetView) (touched : List ℕ) → IsListed s before → Touches s t touched → t.world.pidmax ≡ s.world.pidmax → ((q : ℕ) → IsSome (process s q) → IsSome (process t q))
+pub listed_changed : {readers : List PidSetView} (s t : State) (p parent : ℕ) (before after : PidSetView) (touched : List ℕ) → IsListed s before readers → Touches s t touched → IsBeside s t → ((q : ℕ) → IsSome (process s q) → IsSome (process t q))
     → IsSome (process t p) → (parent ≢ 0 → IsSome (process t parent)) → process t 0 ≡ None → ((q : ℕ) → is_in q touched ≡ true → (q ≡ p) ⊎ (q ≡ parent))
-    → after.pids ≡ with_parent parent (with_number p before.pids) → after.room ≡ before.room → IsListed t after
+    → after.pids ≡ with_parent parent (with_number p before.pids) → after.room ≡ before.room → IsListed t after readers
 unfolding with_numbers is_in
 listed_changed s t p parent before after touched h touches most stay here up none among is same =
     elim (cases_eq parent 0) [
@@ -128,11 +130,11 @@ reported_news m p status f k rs before after me found news h put once room =
     if_there (λ rs. IsReported m rs after) me.parent (noticed_of_change (child_signal p status)) (changed p f rs) now
     (λ there. reported_unseen m me.parent _ (unseen_noticed_of_change _) (changed p f rs) after there now)
 
-machine_changed : {losing : PidSetView} (s : State) (pids : Pids) (places : Places) (asked after : PidSetView) (reporting reported : ChildSetView) (alarmed : PidSetView) (tick p status : ℕ) (f : Process → Process) (me : Process)
-    → Lives f → has_report (f me) ≡ true → lookup p s.processes ≡ Some me → is_zombie me.life ≡ false → IsMachine s pids places asked reporting alarmed tick losing
+machine_changed : {losing : PidSetView} {terminals : Terminals} (s : State) (pids : Pids) (places : Places) (asked after : PidSetView) (reporting reported : ChildSetView) (alarmed : PidSetView) (tick p status : ℕ) (f : Process → Process) (me : Process)
+    → Lives f → has_report (f me) ≡ true → lookup p s.processes ≡ Some me → is_zombie me.life ≡ false → IsMachine s pids places asked reporting alarmed tick losing terminals
     → after.pids ≡ with_parent me.parent (with_number p asked.pids) → after.room ≡ asked.room
     → ((q c : ℕ) → is_child_in q c reported.pairs ≡ (q == me.parent && c == p || is_child_in q c reporting.pairs)) → ArePairs reported.pairs → reported.room ≡ reporting.room
-    → IsMachine (record s { processes = changed me.parent (noticed_of_change (child_signal p status)) (changed p f s.processes) }) pids places after reported alarmed tick losing
+    → IsMachine (record s { processes = changed me.parent (noticed_of_change (child_signal p status)) (changed p f s.processes) }) pids places after reported alarmed tick losing terminals
 unfolding is_in
 machine_changed s pids places asked after reporting reported alarmed tick p status f me k news found living i is same put once room =
     let rs = s.processes in
@@ -148,7 +150,7 @@ machine_changed s pids places asked after reporting reported alarmed tick p stat
       sound = subst (λ qs. IsSound (record s { processes = changed me.parent notice qs }) pids places) (sym as_living)
           (sound_change me.parent notice (change s p g) (keeps_noticed_of_change (child_signal p status)) pids places (sound_change p g s (keeps_among f k) pids places i.sound));
       listed = listed_changed s t p me.parent asked after ((me.parent ∷ []) ++ (p ∷ me.parent ∷ [])) i.listed
-          (touches_both s mid t (p ∷ me.parent ∷ []) (me.parent ∷ []) (touches_shown s p f k.pid k.parent rising me found) (touches_unseen mid me.parent notice u)) refl
+          (touches_both s mid t (p ∷ me.parent ∷ []) (me.parent ∷ []) (touches_shown s p f k.pid k.parent rising me found) (touches_unseen mid me.parent notice u)) (refl, refl)
           (λ q e. still me.parent notice u.pid q (changed p f rs) (still p f k.pid q rs e))
           (still me.parent notice u.pid p (changed p f rs) (still p f k.pid p rs here))
           (λ some. still me.parent notice u.pid me.parent (changed p f rs) (still p f k.pid me.parent rs (parent_there s pids places i.sound p me found some)))
@@ -161,18 +163,19 @@ machine_changed s pids places asked after reporting reported alarmed tick p stat
           subst (λ qs. IsTimed s.world.pidmax (changed me.parent notice qs) alarmed tick) (sym as_living)
           (if_there (λ qs. IsTimed s.world.pidmax qs alarmed tick) me.parent notice (changed p g rs) now (λ there. timed_change s.world.pidmax me.parent notice (untimed_noticed_of_change p status) (changed p g rs) alarmed tick there now));
       noted = i.noted;
+      fresh = λ e. fresh_changed me.parent notice (keeps_noticed_of_change {now = 0} (child_signal p status)).group (keeps_noticed_of_change {now = 0} (child_signal p status)).session (changed p f rs) s.consoles (fresh_changed p f k.group k.session rs s.consoles (i.fresh e));
     }
 
 -- A living process changed, and lives, with something to report; its parent has notice of it.
-pub machine_told : {losing : PidSetView} (s : State) (pids : Pids) (places : Places) (asked after : PidSetView) (reporting reported : ChildSetView) (alarmed : PidSetView) (tick p parent status : ℕ) (f : Process → Process) (me : Process)
-    → Lives f → has_report (f me) ≡ true → lookup p s.processes ≡ Some me → is_zombie me.life ≡ false → parent ≡ me.parent → IsMachine s pids places asked reporting alarmed tick losing
+pub machine_told : {losing : PidSetView} {terminals : Terminals} (s : State) (pids : Pids) (places : Places) (asked after : PidSetView) (reporting reported : ChildSetView) (alarmed : PidSetView) (tick p parent status : ℕ) (f : Process → Process) (me : Process)
+    → Lives f → has_report (f me) ≡ true → lookup p s.processes ≡ Some me → is_zombie me.life ≡ false → parent ≡ me.parent → IsMachine s pids places asked reporting alarmed tick losing terminals
     → after.pids ≡ with_parent parent (with_number p asked.pids) → after.room ≡ asked.room
     → ((q c : ℕ) → is_child_in q c reported.pairs ≡ (q == parent && c == p || is_child_in q c reporting.pairs)) → ArePairs reported.pairs → reported.room ≡ reporting.room
-    → IsMachine (record s { processes = changed parent (noticed_of_change (child_signal p status)) (changed p f s.processes) }) pids places after reported alarmed tick losing
-machine_told {losing = losing} s pids places asked after reporting reported alarmed tick p parent status f me k news found living its i =
+    → IsMachine (record s { processes = changed parent (noticed_of_change (child_signal p status)) (changed p f s.processes) }) pids places after reported alarmed tick losing terminals
+machine_told {losing = losing} {terminals = terminals} s pids places asked after reporting reported alarmed tick p parent status f me k news found living its i =
     subst (λ n. after.pids ≡ with_parent n (with_number p asked.pids) → after.room ≡ asked.room
     → ((q c : ℕ) → is_child_in q c reported.pairs ≡ (q == n && c == p || is_child_in q c reporting.pairs)) → ArePairs reported.pairs → reported.room ≡ reporting.room
-    → IsMachine (record s { processes = changed n (noticed_of_change (child_signal p status)) (changed p f s.processes) }) pids places after reported alarmed tick losing)
+    → IsMachine (record s { processes = changed n (noticed_of_change (child_signal p status)) (changed p f s.processes) }) pids places after reported alarmed tick losing terminals)
     (sym its) (machine_changed s pids places asked after reporting reported alarmed tick p status f me k news found living i)
 
 -- its parent is there after the change, if it is another than number 0
@@ -185,14 +188,15 @@ pub nobody_after : (s : State) → IsRegular s → (p parent : ℕ) (f : Process
 nobody_after s i p parent f k e = subst (λ n. lookup n (changed p f s.processes) ≡ None) (sym e) (none_still p f k.pid 0 s.processes (nobody_0 s i))
 
 -- who is asked may lose its place
-pub machine_left : {losing : PidSetView} (s : State) (pids : Pids) (places left : Places) (asked : PidSetView) (reporting : ChildSetView) (alarmed : PidSetView) (tick p : ℕ) → places.room ≤ left.room → is_in p asked.pids ≡ true
-    → IsMachine s pids places asked reporting alarmed tick losing → IsMachine (lose_place s p) pids left asked reporting alarmed tick losing
+pub machine_left : {losing : PidSetView} {terminals : Terminals} (s : State) (pids : Pids) (places left : Places) (asked : PidSetView) (reporting : ChildSetView) (alarmed : PidSetView) (tick p : ℕ) → places.room ≤ left.room → is_in p asked.pids ≡ true
+    → IsMachine s pids places asked reporting alarmed tick losing terminals → IsMachine (lose_place s p) pids left asked reporting alarmed tick losing terminals
 machine_left s pids places left asked reporting alarmed tick p room on i = record {
   sound = record { regular = regular_lose p s i.sound.regular; parents = i.sound.parents; counted = i.sound.counted; kept = kept_order _ _ _ _ _ room i.sound.kept };
-  listed = listed_same s (lose_place s p) asked (p ∷ []) i.listed (touches_lost s p) refl (λ q e. e) (λ q theirs e. each (λ q. is_in q asked.pids ≡ true) (p ∷ []) (on, tt) q e);
+  listed = listed_same s (lose_place s p) asked (p ∷ []) i.listed (touches_lost s p) (refl, refl) (λ q e. e) (λ q theirs e. each (λ q. is_in q asked.pids ≡ true) (p ∷ []) (on, tt) q e);
   reported = i.reported;
   timed = i.timed;
   noted = i.noted;
+  fresh = i.fresh;
 }
 
 -- the process itself is asked

@@ -4,3 +4,4 @@ pub mod Callers
 pub mod Censuses
 pub mod Asking
 pub mod Waits
+pub mod Consoles

@@ -12,4 +12,4 @@ looked more m = record m { reads = more m.reads }
 
 -- and the process has this in its place, and is to be asked where it has no place
 abbrev pub lent : (ℕ → ℕ) → MachineView → ℕ → Own → MachineView
-lent more m p o = record { state = change m.state p (give_own o); reads = more m.reads; asked = asking p m.state.order m.asked; losing = m.losing }
+lent more m p o = record { state = change m.state p (give_own o); reads = more m.reads; asked = asking p m.state.order m.asked; losing = m.losing; stale = m.stale; readers = m.readers }

@@ -1,10 +1,14 @@
 -- The parts of a machine as a state, and what holds of them.
-use Rattle.std.specs.Prelude.{◌≡◌, ◌≢◌, ℕ, ◌+◌, ◌<◌, ◌≤◌, Bool, true, false, List, [], length, is_some, Some, None, IsSome, IfSome}
+use Rattle.std.specs.Prelude.{◌≡◌, ◌≢◌, ℕ, ◌+◌, ◌<◌, ◌≤◌, Bool, true, false, List, [], length, slice_get, Option, is_some, Some, None, IsSome, IfSome}
 use Rattle.posix.specs.Processes.{Process, is_zombie}
 use Rattle.posix.specs.Tables.{lookup, children_in}
 use Rattle.posix.specs.States.{World, State, boot, process, is_in}
 use Rattle.posix.specs.Regular.{IsRegular}
-use Rattle.posix.specs.Settle.{Covers}
+use Rattle.std.specs.Option.{option_map_or}
+use Rattle.std.specs.List.{AllByRecursion}
+use Rattle.posix.specs.Consoles.{Console}
+use Rattle.posix.specs.Settle.{Covers, AreFresh}
+use Rattle.posix.specs.Terminals.{is_reader}
 use Rattle.posix.specs.Waits.{has_report}
 use Rattle.pidalloc.specs.Rows.{Pids, IsPids, row, gone_from}
 use Rattle.pidalloc.specs.Tallies.{IsTallied}
@@ -12,10 +16,10 @@ use Rattle.sched.specs.Places.{Places}
 use Rattle.pidset.specs.Numbers.{PidSetView, Rises}
 use Rattle.pidset.specs.Children.{ArePairs, ChildSetView, is_child_in}
 
--- No console changes yet.
-abbrev pub state_of : World → List Process → Pids → Places → ℕ → ℕ → ℕ → Bool → State
-state_of world processes pids places births ticks dropped halted = record (boot world) {
+abbrev pub state_of : World → List Process → List Console → Pids → Places → ℕ → ℕ → ℕ → Bool → State
+state_of world processes consoles pids places births ticks dropped halted = record (boot world) {
   processes = processes;
+  consoles = consoles;
   last_pid = pids.last;
   births = births;
   ticks = ticks;
@@ -24,13 +28,16 @@ state_of world processes pids places births ticks dropped halted = record (boot 
   halted = halted;
 }
 
--- The state of a machine, how many slots of its table have been read, who is on the list of those to ask, and
--- which process groups were noted as those that an end may orphan.
+-- The state of a machine, how many slots of its table have been read, who is on the list of those to ask, which
+-- process groups were noted as those that an end may orphan, whether a foreground process group may have lost its
+-- members, and who may wait to read from each console.
 pub record MachineView : Type 0 where
   pub state : State
   pub reads : ℕ
   pub asked : List ℕ
   pub losing : List ℕ
+  pub stale : Bool
+  pub readers : List PidSetView
 
 -- The rows count which numbers the processes bear, and each number can be given a place.
 pub record IsKept (pidmax : ℕ) (rs : List Process) (pids : Pids) (places : Places) : Type 0 where
@@ -49,12 +56,30 @@ pub record IsSound (s : State) (pids : Pids) (places : Places) : Type 0 where
   pub counted : s.dropped + length s.processes ≤ s.births  -- each was born
   pub kept : IsKept s.world.pidmax s.processes pids places
 
--- Whoever has to be given a place is to be asked, each of those is there, and there is room for all numbers.
-pub record IsListed (s : State) (asked : PidSetView) : Type 0 where
+-- those who may wait to read from the console in a place
+abbrev pub readers_at : ℕ → List PidSetView → List ℕ
+readers_at k readers = option_map_or (λ set. set.pids) (slice_get readers k) []
+
+-- one such set: there is room for all numbers
+pub record IsReaders (pidmax : ℕ) (set : PidSetView) : Type 0 where
+  pub rising : Rises set.pids
+  pub within : (p : ℕ) → is_in p set.pids ≡ true → (1 ≤ p) × (p ≤ pidmax)
+  pub room : pidmax < set.room
+
+-- Whoever waits to read from a console is known by it, or is to be asked.
+pub record IsWatched (s : State) (asked : List ℕ) (readers : List PidSetView) : Type 0 where
+  pub known : (k p : ℕ) (c : Console) (r : Process) → slice_get s.consoles k ≡ Some c → process s p ≡ Some r → is_reader c.session r ≡ true → is_in p s.order ≡ false → is_in p asked ≡ false → is_in p (readers_at k readers) ≡ true
+  pub each : AllByRecursion (IsReaders s.world.pidmax) readers
+  pub many : length readers ≡ s.world.consoles
+
+-- Whoever has to be given a place is to be asked, each of those is there, and there is room for all numbers; and
+-- whoever waits to read is known.
+pub record IsListed (s : State) (asked : PidSetView) (readers : List PidSetView) : Type 0 where
   pub covers : Covers s asked.pids
   pub rising : Rises asked.pids
   pub there : (p : ℕ) → is_in p asked.pids ≡ true → IsSome (process s p)
   pub room : s.world.pidmax < asked.room
+  pub watched : IsWatched s asked.pids readers
 
 -- The children that have something to report are known by their parents, and there is room for all numbers.
 pub record IsReported (pidmax : ℕ) (rs : List Process) (set : ChildSetView) : Type 0 where
@@ -83,13 +108,20 @@ pub record IsNoted (pidmax : ℕ) (losing : PidSetView) : Type 0 where
   pub within : (g : ℕ) → is_in g losing.pids ≡ true → g ≤ pidmax
   pub room : pidmax + 1 < losing.room
 
+-- what a machine keeps of its consoles beside them: who may wait to read from each, and whether a foreground
+-- process group may have lost its members
+pub record Terminals : Type 0 where
+  pub readers : List PidSetView
+  pub stale : Bool
+
 -- what the type of a machine keeps
-pub record IsMachine (s : State) (pids : Pids) (places : Places) (asked : PidSetView) (reporting : ChildSetView) (alarmed : PidSetView) (tick : ℕ) (losing : PidSetView) : Type 0 where
+pub record IsMachine (s : State) (pids : Pids) (places : Places) (asked : PidSetView) (reporting : ChildSetView) (alarmed : PidSetView) (tick : ℕ) (losing : PidSetView) (terminals : Terminals) : Type 0 where
   pub sound : IsSound s pids places
-  pub listed : IsListed s asked
+  pub listed : IsListed s asked terminals.readers
   pub reported : IsReported s.world.pidmax s.processes reporting
   pub timed : IsTimed s.world.pidmax s.processes alarmed tick
   pub noted : IsNoted s.world.pidmax losing
+  pub fresh : terminals.stale ≡ false → AreFresh s
 
 -- ---- one record that goes
 

@@ -87,6 +87,7 @@ impl<K: Kin> Machine<K> {
         ensures state { self.new.state ≡ passing_time self.old.state }
         ensures reads { has_alarms self.old.state ≡ false → self.new.reads ≡ self.old.reads }
         ensures asked { has_alarms self.old.state ≡ false → self.new.asked ≡ self.old.asked }
+        ensures stale { has_alarms self.old.state ≡ false → self.new.stale ≡ self.old.stale }
     {
         self.ring_all();
         self.ticks += 1;

@@ -66,6 +66,7 @@ impl<K: Kin> Machine<K> {
         ensures same { self.new.state ≡ self.old.state }
         ensures reads { self.new.reads ≤ self.old.reads + 2 }
         ensures asked { self.new.asked ≡ self.old.asked }
+        ensures stale { self.new.stale ≡ self.old.stale }
         ensures regular { IsRegular self.old.state }
     {
         let Some(facts) = self.table.get(pid) else {

@@ -31,6 +31,7 @@ impl<K: Kin> Machine<K> {
         ensures value { result ≡ census_of self.old.state }
         ensures same { self.new.state ≡ self.old.state }
         ensures asked { self.new.asked ≡ self.old.asked }
+        ensures stale { self.new.stale ≡ self.old.stale }
         ensures reads { self.new.reads ≤ self.old.reads + 1 + 2 * length self.old.state.processes }
     {
         let mut living = 0;
@@ -58,6 +59,7 @@ impl<K: Kin> Machine<K> {
         ensures value { (it : Process) → process self.old.state pid ≡ Some it → result ≡ is_zombie_of it.life }
         ensures same { self.new.state ≡ self.old.state }
         ensures asked { self.new.asked ≡ self.old.asked }
+        ensures stale { self.new.stale ≡ self.old.stale }
         ensures reads { self.new.reads ≤ self.old.reads + 1 }
         ensures regular { IsRegular self.old.state }
         ensures size { length self.old.state.processes < 2 ^ 63 }

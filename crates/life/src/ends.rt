@@ -62,6 +62,7 @@ impl<K: Kin> Machine<K> {
         self.reporting.move_children(pid, heir);
         self.alarmed.remove(pid);
         self.table.adopt(pid, heir);
+        self.stale = true;
     }
 
     /// Process 1 is a zombie and loses its place, and the machine halts.
@@ -97,6 +98,7 @@ impl<K: Kin> Machine<K> {
             status,
         );
         forget(&mut self.to_ask, &mut self.reporting, child, gone);
+        self.stale = true;
     }
 
     /// A process that is there ends with this status. At the end of process 1 the machine halts. Any other

@@ -9,6 +9,7 @@ mod asking;
 mod births;
 pub mod caller;
 pub mod census;
+pub mod consoles;
 mod ends;
 mod groups;
 pub mod machine;
@@ -24,4 +25,5 @@ pub mod walks;
 
 pub use caller::Caller;
 pub use census::Census;
+pub use consoles::Terminal;
 pub use machine::Machine;

@@ -15,6 +15,7 @@ ghost use Rattle.umach.specs.Bursts.{exec_until, IsWithin};
 ghost use Rattle.pidset.specs.Numbers.{with_number};
 
 use crate::asking::ask;
+use crate::consoles::{no_readers, unused};
 use jobs::JobTable;
 use pidalloc::PidTable;
 use pidset::{ChildSet, PidSet};
@@ -23,6 +24,7 @@ use proctable::{Body, Facts, Kin, Own};
 use sched::Order;
 use std::alloc::{AllocError, Global};
 use std::marker::Model;
+use tty::Console;
 use umach::World;
 
 /// The state of a world over a table of processes.
@@ -42,6 +44,12 @@ pub struct Machine<K: Kin> {
     pub(crate) next_alarm: u64,
     /// While a process ends: the process groups that it and its children kept from being orphaned.
     pub(crate) losing: PidSet,
+    pub(crate) consoles: Vec<Console>,
+    /// Who may wait to read from each console. Whoever does is among them, or is to be asked.
+    pub(crate) readers: Vec<PidSet>,
+    /// Whether a foreground process group may have lost its members: it is set where a record goes or changes its
+    /// process group.
+    pub(crate) stale: bool,
     pub(crate) births: u64,
     pub(crate) ticks: u64,
     pub(crate) dropped: u64,
@@ -53,9 +61,9 @@ impl<K: Kin> Model for Machine<K> {
 
     ghost Value = { MachineView };
 
-    ghost view = { λ m. record { state = state_of m.world (m.table.processes) m.pids m.order m.births m.ticks m.dropped m.halted; reads = m.table.reads; asked = m.to_ask.pids; losing = m.losing.pids } };
+    ghost view = { λ m. record { state = state_of m.world (m.table.processes) m.consoles.items m.pids m.order m.births m.ticks m.dropped m.halted; reads = m.table.reads; asked = m.to_ask.pids; losing = m.losing.pids; stale = m.stale; readers = m.readers.items } };
 
-    ghost invariant = { λ m. IsMachine (state_of m.world (m.table.processes) m.pids m.order m.births m.ticks m.dropped m.halted) m.pids m.order m.to_ask m.reporting m.alarmed m.next_alarm m.losing };
+    ghost invariant = { λ m. IsMachine (state_of m.world (m.table.processes) m.consoles.items m.pids m.order m.births m.ticks m.dropped m.halted) m.pids m.order m.to_ask m.reporting m.alarmed m.next_alarm m.losing (record { readers = m.readers.items; stale = m.stale }) };
 }
 
 impl<K: Kin> Machine<K> {
@@ -64,6 +72,7 @@ impl<K: Kin> Machine<K> {
         ensures state { IfOk result (λ m. m.state ≡ boot_of world.now) }
         ensures reads { IfOk result (λ m. m.reads ≤ 6) }
         ensures asked { IfOk result (λ m. m.asked ≡ []) }
+        ensures stale { IfOk result (λ m. m.stale ≡ false) }
         ensures regular { IfOk result (λ m. IsRegular m.state) }
     {
         let world = world.try_clone(alloc)?;
@@ -79,6 +88,8 @@ impl<K: Kin> Machine<K> {
         alarmed.reserve(world.pidmax() as usize + 1)?;
         let mut losing = PidSet::new(alloc);
         losing.reserve(world.pidmax() as usize + 2)?;
+        let consoles = unused(alloc, world.consoles())?;
+        let readers = no_readers(alloc, world.consoles(), world.pidmax())?;
         let first = Body::first(alloc)?;
         table.insert(Pid::INIT, Pid::NONE, first);
         pids.bear_all(Pid::INIT, Pid::INIT, Pid::INIT);
@@ -93,6 +104,9 @@ impl<K: Kin> Machine<K> {
             alarmed,
             next_alarm: u64::MAX,
             losing,
+            consoles,
+            readers,
+            stale: false,
             births: 1,
             ticks: 0,
             dropped: 0,
@@ -161,6 +175,7 @@ impl<K: Kin> Machine<K> {
         ensures reads { self.new.reads ≤ self.old.reads + 1 }
         ensures asked { self.new.asked ≡ self.old.asked }
         ensures losing { self.new.losing ≡ self.old.losing }
+        ensures stale { self.new.stale ≡ self.old.stale }
         ensures regular { IsRegular self.old.state }
         ensures size { length self.old.state.processes < 2 ^ 63 }
     {
@@ -176,6 +191,7 @@ impl<K: Kin> Machine<K> {
         ensures reads { self.new.reads ≤ self.old.reads + 1 }
         ensures asked { self.new.asked ≡ self.old.asked }
         ensures losing { self.new.losing ≡ self.old.losing }
+        ensures stale { self.new.stale ≡ self.old.stale }
     {
         match self.table.get(pid) {
             Some(facts) => facts.parent,
@@ -206,6 +222,7 @@ impl<K: Kin> Machine<K> {
         ensures stays { StaysUnlessRun result self.old.state self.new.state }
         ensures reads { self.new.reads ≤ self.old.reads + 1 }
         ensures asked { has_place_in self.old.state pid ≡ true → self.new.asked ≡ self.old.asked }
+        ensures stale { self.new.stale ≡ self.old.stale }
     {
         match self.world.programs().get(usize::from(program)) {
             Some(program) => {
@@ -231,6 +248,7 @@ impl<K: Kin> Machine<K> {
         ensures regular { IsRegular self.new.state }
         ensures reads { self.new.reads ≤ self.old.reads + 1 }
         ensures asked { has_place_in self.old.state pid ≡ true → self.new.asked ≡ self.old.asked }
+        ensures stale { self.new.stale ≡ self.old.stale }
     {
         match self.world.programs().get(usize::from(program)) {
             Some(program) => {
@@ -260,6 +278,7 @@ impl<K: Kin> Machine<K> {
         ensures state { self.new.state ≡ record (self.old.state) { order = self.old.state.order ++ pid ∷ [] } }
         ensures reads { self.new.reads ≡ self.old.reads }
         ensures asked { self.new.asked ≡ self.old.asked }
+        ensures stale { self.new.stale ≡ self.old.stale }
     {
         self.order.place(pid);
     }
@@ -269,6 +288,7 @@ impl<K: Kin> Machine<K> {
         ensures state { self.new.state ≡ losing_place self.old.state pid }
         ensures reads { self.new.reads ≡ self.old.reads }
         ensures asked { self.new.asked ≡ (if has_place_in self.old.state pid then with_number pid self.old.asked else self.old.asked) }
+        ensures stale { self.new.stale ≡ self.old.stale }
     {
         if self.order.has(pid) {
             self.to_ask.insert(pid);
@@ -282,6 +302,7 @@ impl<K: Kin> Machine<K> {
         ensures state { self.new.state ≡ going_last self.old.state pid }
         ensures reads { self.new.reads ≡ self.old.reads }
         ensures asked { self.new.asked ≡ self.old.asked }
+        ensures stale { self.new.stale ≡ self.old.stale }
     {
         self.order.go_last(pid);
     }

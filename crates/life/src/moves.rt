@@ -38,6 +38,7 @@ impl<K: Kin> Machine<K> {
         self.pids.bear(group, Role::Group);
         self.pids.give_up(it.group, Role::Group);
         ask_with_parent(&mut self.to_ask, it.pid, it.parent);
+        self.stale = true;
         Ok(group)
     }
 
@@ -61,6 +62,7 @@ impl<K: Kin> Machine<K> {
         self.pids.give_up(it.group, Role::Group);
         self.pids.give_up(it.session, Role::Session);
         ask_with_parent(&mut self.to_ask, pid, it.parent);
+        self.stale = true;
         Ok(())
     }
 }

@@ -79,7 +79,7 @@ impl<K: Kin> Machine<K> {
 
     /// A signal of the kernel is generated for each member of a process group, zombies included, in rising
     /// order.
-    fn signal_members(&mut self, group: Pid, sig: Sig)
+    pub(crate) fn signal_members(&mut self, group: Pid, sig: Sig)
         ensures state { self.new.state ≡ record (self.old.state) { processes = signalled_members (record { sig = sig; carried = from_kernel }) group self.old.state.processes } }
         ensures losing { self.new.losing ≡ self.old.losing }
     {

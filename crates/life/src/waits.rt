@@ -80,6 +80,7 @@ impl<K: Kin> Machine<K> {
         ensures value { (own : ℕ) → result ≡ report self.old.state.processes parent own (whom.Process child) options.0 }
         ensures same { self.new.state ≡ self.old.state }
         ensures asked { self.new.asked ≡ self.old.asked }
+        ensures stale { self.new.stale ≡ self.old.stale }
         ensures reads { self.new.reads ≤ self.old.reads + 1 }
     {
         if let Some(facts) = self.facts(child) {
@@ -96,6 +97,7 @@ impl<K: Kin> Machine<K> {
         ensures value { (it : Process) → process self.old.state child ≡ Some it → result ≡ report_of_child options.0 it }
         ensures same { self.new.state ≡ self.old.state }
         ensures asked { self.new.asked ≡ self.old.asked }
+        ensures stale { self.new.stale ≡ self.old.stale }
         ensures reads { self.new.reads ≤ self.old.reads + 1 }
     {
         match self.facts(child) {
@@ -111,6 +113,7 @@ impl<K: Kin> Machine<K> {
         ensures value { (own : ℕ) → result ≡ report self.old.state.processes parent own whom.All options.0 }
         ensures same { self.new.state ≡ self.old.state }
         ensures asked { self.new.asked ≡ self.old.asked }
+        ensures stale { self.new.stale ≡ self.old.stale }
         ensures reads { self.new.reads ≤ self.old.reads + 1 + length (reporting_in parent self.old.state.processes) }
     {
         let mut next = self.next_reporting(parent, Pid::NONE);
@@ -133,6 +136,7 @@ impl<K: Kin> Machine<K> {
         ensures value { (own : ℕ) → result ≡ report self.old.state.processes parent own (whom.Group group) options.0 }
         ensures same { self.new.state ≡ self.old.state }
         ensures asked { self.new.asked ≡ self.old.asked }
+        ensures stale { self.new.stale ≡ self.old.stale }
         ensures reads { self.new.reads ≤ self.old.reads + 1 + 2 * length (children_in parent self.old.state.processes) }
     {
         let mut found = Report::NoChild;
@@ -158,6 +162,7 @@ impl<K: Kin> Machine<K> {
         ensures value { result ≡ report self.old.state.processes me.now.pid me.now.group target options.0 }
         ensures same { self.new.state ≡ self.old.state }
         ensures asked { self.new.asked ≡ self.old.asked }
+        ensures stale { self.new.stale ≡ self.old.stale }
         ensures reads { self.new.reads ≤ self.old.reads + 1 + slots_of_wait target me.now.pid self.old.state.processes }
     {
         match target {
@@ -180,6 +185,7 @@ impl<K: Kin> Machine<K> {
     {
         let parent = discard(&mut self.table, &mut self.pids, pid);
         forget(&mut self.to_ask, &mut self.reporting, pid, Some(parent));
+        self.stale = true;
     }
 
     /// A wait has reported the news of a process that is there: they become none.

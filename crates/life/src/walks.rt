@@ -1,13 +1,13 @@
 //! Walks over processes, from the least number on. Whoever goes over several processes does it by these, or
 //! from member to member of a process group.
 
-ghost use Rattle.std.specs.Prelude.{◌≡◌, ◌+◌, ◌≤◌, [], IsSome, slice_get};
+ghost use Rattle.std.specs.Prelude.{◌≡◌, ◌+◌, ◌≤◌, ℕ, true, IsSome, slice_get};
 ghost use Rattle.posix.specs.Tables.{IsNext, first_pid, above, next_above, children_in, next_sibling as next_sibling_of};
-ghost use Rattle.posix.specs.States.{process};
+ghost use Rattle.posix.specs.States.{process, is_in};
 ghost use Rattle.posix.specs.Regular.{IsRegular};
 ghost use Rattle.posix.specs.Settle.{wakes, NoWakeIsLost};
 ghost use Rattle.posix.specs.Waits.{reporting_in};
-ghost use Rattle.pidset.specs.Numbers.{numbers_above};
+ghost use Rattle.pidset.specs.Numbers.{numbers_above, Rises};
 
 use crate::machine::Machine;
 use posix::Pid;
@@ -19,6 +19,7 @@ impl<K: Kin> Machine<K> {
         ensures value { result ≡ next_above pid self.old.state.processes }
         ensures same { self.new.state ≡ self.old.state }
         ensures asked { self.new.asked ≡ self.old.asked }
+        ensures stale { self.new.stale ≡ self.old.stale }
         ensures losing { self.new.losing ≡ self.old.losing }
         ensures reads { self.new.reads ≤ self.old.reads + 1 }
         ensures regular { IsRegular self.old.state }
@@ -32,6 +33,7 @@ impl<K: Kin> Machine<K> {
         ensures value { result ≡ first_pid (children_in pid self.old.state.processes) }
         ensures same { self.new.state ≡ self.old.state }
         ensures asked { self.new.asked ≡ self.old.asked }
+        ensures stale { self.new.stale ≡ self.old.stale }
         ensures losing { self.new.losing ≡ self.old.losing }
         ensures reads { self.new.reads ≤ self.old.reads + 1 }
         ensures regular { IsRegular self.old.state }
@@ -45,6 +47,7 @@ impl<K: Kin> Machine<K> {
         ensures value { result ≡ next_sibling_of pid self.old.state.processes }
         ensures same { self.new.state ≡ self.old.state }
         ensures asked { self.new.asked ≡ self.old.asked }
+        ensures stale { self.new.stale ≡ self.old.stale }
         ensures losing { self.new.losing ≡ self.old.losing }
         ensures reads { self.new.reads ≤ self.old.reads + 1 }
     {
@@ -64,17 +67,10 @@ impl<K: Kin> Machine<K> {
     pub fn next_to_ask(&self, after: Pid) -> Option<Pid>
         ensures next { IsNext (wakes self.now.state) after self.now.state.processes result }
         ensures value { result ≡ slice_get (numbers_above after self.now.asked) 0 }
+        ensures rising { Rises self.now.asked }
+        ensures there { (p : ℕ) → is_in p self.now.asked ≡ true → IsSome (process self.now.state p) }
         ensures regular { IsRegular self.now.state }
     {
         self.to_ask.next_above(after)
-    }
-
-    /// All who were to be asked have been, and whoever can act has a place: nobody is to be asked any more.
-    pub fn all_asked(&mut self)
-        requires { NoWakeIsLost self.old.state }
-        ensures value { self.new ≡ record self.old { asked = [] } }
-        ensures regular { IsRegular self.old.state }
-    {
-        self.to_ask.clear();
     }
 }

@@ -1,8 +1,8 @@
 -- What a process does as its turn comes changes its own place alone, and raises the count of births by one at most.
-use Rattle.std.proofs.Common.{◌≡◌, ◌≤◌, ℕ, ◌+◌, Bool, true, false, cond, not, ◌&&◌, refl, ap, sym, ◌∙◌, arith, List, [], ◌∷◌, ◌++◌, Option, Some, None, ◌==◌, ◌||◌, ℤ, pos, negsuc, slice_get, inl, inr, ◌⊎◌, Result, Ok, Err}
+use Rattle.std.proofs.Common.{◌≡◌, ◌≤◌, ℕ, ◌+◌, Bool, true, false, cond, not, ◌&&◌, refl, ap, sym, ◌∙◌, arith, subst, List, [], ◌∷◌, ◌++◌, take, Option, Some, None, ◌==◌, ◌||◌, ℤ, pos, negsuc, slice_get, inl, inr, ◌⊎◌, Result, Ok, Err}
 use Rattle.std.proofs.lemmas.Bool.{eqb-true}
 use Rattle.posix.specs.declared.call.Call.{Call}
-use Rattle.posix.specs.declared.call.Call.TheVariants.{Exit, Fork, Waitpid, Pause, SchedYield, Getpid, Getppid, Getuid, Geteuid, Getgid, Getegid, Setuid, Seteuid, Setgid, Setegid, Kill, Sigaction, Sigprocmask, Sigpending, Sigsuspend, Sigreturn, Alarm, Exec, Getpgid, Getsid, Setpgid, Setsid}
+use Rattle.posix.specs.declared.call.Call.TheVariants.{Exit, Fork, Waitpid, Pause, SchedYield, Getpid, Getppid, Getuid, Geteuid, Getgid, Getegid, Setuid, Seteuid, Setgid, Setegid, Kill, Sigaction, Sigprocmask, Sigpending, Sigsuspend, Sigreturn, Alarm, Exec, Getpgid, Getsid, Setpgid, Setsid, Setctty, Tcgetpgrp, Tcsetpgrp, Settostop, Read, Write}
 use Rattle.posix.specs.declared.instr.Trap.{Trap}
 use Rattle.posix.specs.declared.instr.Trap.TheVariants as trap
 use Rattle.posix.specs.declared.errno.Errno.{Errno}
@@ -18,32 +18,36 @@ use Rattle.posix.specs.declared.process.Report.{Report}
 use Rattle.posix.specs.declared.process.Report.TheVariants as found
 use Rattle.posix.specs.declared.process.Sending.{Sending}
 use Rattle.posix.specs.declared.process.Sending.TheVariants as sends
+use Rattle.posix.specs.declared.span.Span.{Span}
 use Rattle.posix.specs.declared.target.Target.{Target}
-use Rattle.posix.specs.SignalNumbers.{KILL, SEGV, STOP, default_action}
+use Rattle.posix.specs.SignalNumbers.{KILL, SEGV, STOP, TTIN, TTOU, default_action}
 use Rattle.posix.specs.SignalSets.{has}
 use Rattle.posix.specs.Statuses.{exited, killed}
 use Rattle.posix.specs.Processes.{Process, Cpu, argument}
 use Rattle.posix.specs.States.{State, Program, without, change, next_pid}
+use Rattle.posix.specs.Consoles.{Console}
 use Rattle.posix.specs.Execute.{exec_one}
-use Rattle.posix.specs.Outcomes.{Outcome, Attempted, Done, Block, Reply, answers}
+use Rattle.posix.specs.Outcomes.{Outcome, Attempted, Done, Block, Again, Reply, answers}
 use Rattle.posix.specs.Credentials.{setuid, seteuid, setgid, setegid}
 use Rattle.posix.specs.Generation.{action, is_pending}
 use Rattle.posix.specs.Groups.{is_orphaned}
 use Rattle.posix.specs.Choice.{chosen, carried_by, from_kernel}
 use Rattle.posix.specs.Handlers.{handles, is_full, newest_frame}
 use Rattle.posix.specs.Births.{fork_as}
-use Rattle.posix.specs.Ends.{end_process}
+use Rattle.posix.specs.Ends.{end_with_heir, hang_up, end_process}
 use Rattle.posix.specs.Targets.{target_in}
 use Rattle.posix.specs.Waits.{wait, wait_with, report, options_in, are_known, has_option, WNOHANG}
 use Rattle.posix.specs.Delivery.{handle, stop_process, act_by_default, act_on, take_out, deliver, fault_with, fault, return_to, return_from_handler}
 use Rattle.posix.specs.Sends.{sending, send_with, signal_or_none, kill_with, kill}
 use Rattle.posix.specs.Alarms.{alarm}
 use Rattle.posix.specs.Programs.{exec_as, exec_of, exec}
-use Rattle.posix.specs.GroupCalls.{named, tells, getpgid, getsid, move_of, setpgid_with, setpgid_to, setpgid, is_group_of_others, setsid}
+use Rattle.posix.specs.GroupCalls.{named, tells, getpgid, getsid, move_of, setpgid_with, setpgid_to, setpgid, is_group_of, is_group_of_others, setsid}
+use Rattle.posix.specs.Transfers.{span_in, bytes_in}
+use Rattle.posix.specs.Terminals.{terminal, is_in_background, spurns, if_allowed, place_named, may_acquire, setctty_of, setctty_at, setctty, tcgetpgrp_on, tcgetpgrp, put_foreground, tcsetpgrp_on, tcsetpgrp, settostop_on, settostop, moved, read_from, read_in, read_on, read, write_in, write_on, write}
 use Rattle.posix.specs.SignalCalls.{set_credentials, sigaction, sigprocmask, sigpending}
 use Rattle.posix.specs.Attempts.{attempt, attempt_again}
 use Rattle.posix.specs.Step.{act, act_in, after_trap, begin_call, deliver_or, go_on, code_of}
-use Rattle.posix.proofs.NoticeLemmas.{end_first, end_other}
+use Rattle.posix.proofs.NoticeLemmas.{end_first, end_other, only_hung_up}
 
 -- nothing happens to the order, or p loses its place, or p goes last
 abbrev pub Turned : ℕ → List ℕ → List ℕ → Type 0
@@ -63,10 +67,15 @@ stays p s t b k o = record { births = omega (arith, b); ticks = k; order = inl o
 leaves : (p : ℕ) (s t : State) → t.births ≡ s.births → t.ticks ≡ s.ticks → t.order ≡ without p s.order → Acted p s t
 leaves p s t b k o = record { births = omega (arith, b); ticks = k; order = inr (inl o) }
 
--- the same of an attempt that is done
+-- where nothing of that changed before
+from : (p : ℕ) (s t u : State) → t.births ≡ s.births → t.ticks ≡ s.ticks → t.order ≡ s.order → Acted p t u → Acted p s u
+from p s t u b k o h = record { births = omega (arith, b, h.births); ticks = h.ticks ∙ k; order = subst (λ (l : List ℕ). Turned p l u.order) o h.order }
+
+-- the same of an attempt that is done, or begins again
 abbrev ActedIf : ℕ → State → Attempted → Type 0
 ActedIf p s (Done o) = Acted p s o.state
 ActedIf p s (Block b) = Unit {0}
+ActedIf p s (Again t) = Acted p s t
 
 -- of both sides of a test
 acted_if : (p : ℕ) (s : State) (b : Bool) (x y : Attempted) → ActedIf p s x → ActedIf p s y → ActedIf p s (cond b x y)
@@ -81,9 +90,8 @@ acted_either p s false x y h k = k
 -- ---- ends and signals
 
 -- who ends loses its place
-acted_end : (s : State) (r : Process) (status : ℕ) → Acted r.pid s (end_process s r status).state
-unfolding end_process
-acted_end s r status = elim (r.pid == 1) as (λ b. (r.pid == 1) ≡ b → Acted r.pid s (end_process s r status).state) [
+acted_ends : (s : State) (r : Process) (status : ℕ) → Acted r.pid s (end_with_heir s r 1 status).state
+acted_ends s r status = elim (r.pid == 1) as (λ b. (r.pid == 1) ≡ b → Acted r.pid s (end_with_heir s r 1 status).state) [
   | true ↦ λ t.
       let is = end_first s r 1 status t in
       leaves r.pid s _ (ap (λ (n : State). n.births) is) (ap (λ (n : State). n.ticks) is) (ap (λ (n : State). n.order) is ∙ ap (λ n. without n s.order) (sym (eqb-true r.pid 1 t)))
@@ -91,6 +99,13 @@ acted_end s r status = elim (r.pid == 1) as (λ b. (r.pid == 1) ≡ b → Acted 
       let is = end_other s r 1 status t in
       leaves r.pid s _ (ap (λ (n : State). n.births) is) (ap (λ (n : State). n.ticks) is) (ap (λ (n : State). n.order) is)
 ] refl
+
+-- its session's terminal is hung up before
+acted_end : (s : State) (r : Process) (status : ℕ) → Acted r.pid s (end_process s r status).state
+unfolding end_process
+acted_end s r status =
+    let only = only_hung_up s r in
+    from r.pid s (hang_up s r) _ (ap (λ (n : State). n.births) only) (ap (λ (n : State). n.ticks) only) (ap (λ (n : State). n.order) only) (acted_ends (hang_up s r) r status)
 
 -- who enters a handler keeps its place, or ends
 acted_handle : (s : State) (r : Process) (signal : PendingSignal) (address : ℤ) → Acted r.pid s (handle s r signal address).state
@@ -234,6 +249,94 @@ acted_setsid : (s : State) (me : Process) → ActedIf me.pid s (setsid s me)
 unfolding setsid
 acted_setsid s me = acted_if me.pid s (me.group == me.pid || is_group_of_others me s.processes) _ _ (stays me.pid s _ refl refl refl) (stays me.pid s _ refl refl refl)
 
+-- ---- calls on the terminal
+
+-- a call that is judged by the rule for the background
+acted_allowed : (s : State) (me : Process) (call : Call) (c : Console) (allowed : Attempted) → ActedIf me.pid s allowed → ActedIf me.pid s (if_allowed s me call c allowed)
+acted_allowed s me call c allowed h =
+    acted_if me.pid s (not (is_in_background me c) || spurns me TTOU) _ _ h
+    (acted_if me.pid s (is_orphaned me.group s.processes) _ _ (stays me.pid s _ refl refl refl) (stays me.pid s _ refl refl refl))
+
+-- bytes that are moved
+acted_moved : (p : ℕ) (s t : State) (call : Call) (bytes : List ℕ) → t.births ≡ s.births → t.ticks ≡ s.ticks → t.order ≡ s.order → ActedIf p s (moved t p call bytes)
+acted_moved p s t call [] b k o = stays p s _ b k o
+acted_moved p s t call (x ∷ xs) b k o = stays p s _ b k o
+
+acted_setctty_of : (s : State) (me : Process) (k : ℕ) (c : Option Console) → ActedIf me.pid s (setctty_of s me k c)
+acted_setctty_of s me k None = stays me.pid s _ refl refl refl
+acted_setctty_of s me k (Some c) = acted_if me.pid s (may_acquire s me c) _ _ (stays me.pid s _ refl refl refl) (stays me.pid s _ refl refl refl)
+
+acted_setctty_at : (s : State) (me : Process) (k : Option ℕ) → ActedIf me.pid s (setctty_at s me k)
+acted_setctty_at s me None = stays me.pid s _ refl refl refl
+acted_setctty_at s me (Some k) = acted_setctty_of s me k (slice_get s.consoles k)
+
+acted_setctty : (s : State) (me : Process) → ActedIf me.pid s (setctty s me)
+unfolding setctty
+acted_setctty s me = acted_setctty_at s me (place_named (argument me 1))
+
+acted_tcgetpgrp_on : (s : State) (me : Process) (c : Option Console) → ActedIf me.pid s (tcgetpgrp_on s me c)
+acted_tcgetpgrp_on s me None = stays me.pid s _ refl refl refl
+acted_tcgetpgrp_on s me (Some c) = stays me.pid s _ refl refl refl
+
+acted_tcgetpgrp : (s : State) (me : Process) → ActedIf me.pid s (tcgetpgrp s me)
+unfolding tcgetpgrp
+acted_tcgetpgrp s me = acted_tcgetpgrp_on s me (terminal s me)
+
+acted_foreground : (s : State) (me : Process) (z : ℤ) → ActedIf me.pid s (put_foreground s me z)
+acted_foreground s me (negsuc n) = stays me.pid s _ refl refl refl
+acted_foreground s me (pos g) = acted_if me.pid s (is_group_of me.session g s.processes) _ _ (stays me.pid s _ refl refl refl) (stays me.pid s _ refl refl refl)
+
+acted_tcsetpgrp_on : (s : State) (me : Process) (c : Option Console) → ActedIf me.pid s (tcsetpgrp_on s me c)
+acted_tcsetpgrp_on s me None = stays me.pid s _ refl refl refl
+acted_tcsetpgrp_on s me (Some c) = acted_allowed s me Tcsetpgrp c _ (acted_foreground s me (argument me 1))
+
+acted_tcsetpgrp : (s : State) (me : Process) → ActedIf me.pid s (tcsetpgrp s me)
+unfolding tcsetpgrp
+acted_tcsetpgrp s me = acted_tcsetpgrp_on s me (terminal s me)
+
+acted_settostop_on : (s : State) (me : Process) (c : Option Console) → ActedIf me.pid s (settostop_on s me c)
+acted_settostop_on s me None = stays me.pid s _ refl refl refl
+acted_settostop_on s me (Some c) = acted_allowed s me Settostop c _ (stays me.pid s _ refl refl refl)
+
+acted_settostop : (s : State) (me : Process) → ActedIf me.pid s (settostop s me)
+unfolding settostop
+acted_settostop s me = acted_settostop_on s me (terminal s me)
+
+acted_read_from : (s : State) (me : Process) (span : Span) (lines : List (List ℕ)) → ActedIf me.pid s (read_from s me span lines)
+acted_read_from s me span [] = tt
+acted_read_from s me span (line ∷ rest) = acted_moved me.pid s _ Read (take span.count line) refl refl refl
+
+acted_read_in : (s : State) (me : Process) (c : Console) (span : Result Span Errno) → ActedIf me.pid s (read_in s me c span)
+acted_read_in s me c (Err why) = stays me.pid s _ refl refl refl
+acted_read_in s me c (Ok span) =
+    acted_if me.pid s (is_in_background me c) _ _
+    (acted_if me.pid s (spurns me TTIN || is_orphaned me.group s.processes) _ _ (stays me.pid s _ refl refl refl) (stays me.pid s _ refl refl refl))
+    (acted_if me.pid s (span.count == 0) _ _ (stays me.pid s _ refl refl refl) (acted_read_from s me span c.lines))
+
+acted_read_on : (s : State) (me : Process) (c : Option Console) → ActedIf me.pid s (read_on s me c)
+acted_read_on s me None = stays me.pid s _ refl refl refl
+acted_read_on s me (Some c) = acted_read_in s me c (span_in (argument me 1) (argument me 2))
+
+acted_read : (s : State) (me : Process) → ActedIf me.pid s (read s me)
+unfolding read
+acted_read s me = acted_read_on s me (terminal s me)
+
+acted_write_in : (s : State) (me : Process) (c : Console) (span : Result Span Errno) → ActedIf me.pid s (write_in s me c span)
+acted_write_in s me c (Err why) = stays me.pid s _ refl refl refl
+acted_write_in s me c (Ok span) =
+    let done = acted_moved me.pid s s Write (bytes_in span me.cpu.memory) refl refl refl in
+    acted_if me.pid s c.tostop _ _ (acted_allowed s me Write c _ done) done
+
+acted_write_on : (s : State) (me : Process) (c : Option Console) → ActedIf me.pid s (write_on s me c)
+acted_write_on s me None = stays me.pid s _ refl refl refl
+acted_write_on s me (Some c) = acted_write_in s me c (span_in (argument me 1) (argument me 2))
+
+acted_write : (s : State) (me : Process) → ActedIf me.pid s (write s me)
+unfolding write
+acted_write s me = acted_write_on s me (terminal s me)
+
+-- ---- all calls
+
 -- each call
 acted_attempt : (granted : Bool) (s : State) (me : Process) (call : Call) → ActedIf me.pid s (attempt granted s me call)
 unfolding attempt
@@ -264,11 +367,18 @@ acted_attempt granted s me Getpgid = acted_getpgid s me
 acted_attempt granted s me Getsid = acted_getsid s me
 acted_attempt granted s me Setpgid = acted_setpgid s me
 acted_attempt granted s me Setsid = acted_setsid s me
+acted_attempt granted s me Setctty = acted_setctty s me
+acted_attempt granted s me Tcgetpgrp = acted_tcgetpgrp s me
+acted_attempt granted s me Tcsetpgrp = acted_tcsetpgrp s me
+acted_attempt granted s me Settostop = acted_settostop s me
+acted_attempt granted s me Read = acted_read s me
+acted_attempt granted s me Write = acted_write s me
 
 -- each call afresh
 acted_again : (s : State) (me : Process) (b : Blocked) → ActedIf me.pid s (attempt_again s me b)
 unfolding attempt_again
 acted_again s me blocked.Waitpid = acted_wait s me
+acted_again s me blocked.Read = acted_read s me
 acted_again s me blocked.Pause = tt
 acted_again s me (blocked.Sigsuspend mask) = tt
 
@@ -278,6 +388,7 @@ acted_again s me (blocked.Sigsuspend mask) = tt
 acted_begin : (s : State) (r : Process) (a : Attempted) → ActedIf r.pid s a → Acted r.pid s (begin_call s r a).state
 acted_begin s r (Done o) h = h
 acted_begin s r (Block b) h = leaves r.pid s _ refl refl refl
+acted_begin s r (Again t) h = h
 
 -- a signal that is chosen, or else what happens
 acted_or : (s : State) (r : Process) (n : Option ℕ) (other : Outcome) → Acted r.pid s other.state → Acted r.pid s (deliver_or s r n other).state
@@ -287,6 +398,7 @@ acted_or s r (Some n) other h = acted_deliver s r n
 -- who stays blocked, and takes no signal, loses its place
 acted_go_on : (s : State) (r : Process) (a : Attempted) → ActedIf r.pid s a → Acted r.pid s (go_on s r a).state
 acted_go_on s r (Done o) h = h
+acted_go_on s r (Again t) h = record { births = h.births; ticks = h.ticks; order = h.order }
 acted_go_on s r (Block b) h = acted_or s r (chosen r.life r.signals) _ (leaves r.pid s _ refl refl refl)
 
 -- what follows an instruction

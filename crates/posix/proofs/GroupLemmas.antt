@@ -68,10 +68,10 @@ moved me r g h rs e = step (r.pid == me.pid) (not (r.parent == me.pid)) (not (r.
     step false false false false k = joined me r g h rs k
 
 -- the number of that group is within the range
-joined_bounded : (s : State) → IsRegular s → (me r : Process) (p h : ℕ) → lookup p s.processes ≡ Some r → Joins me r h s.processes → h ≤ s.world.pidmax
+joined_bounded : (s : State) → IsRegular s → (me r : Process) (p h : ℕ) → lookup p s.processes ≡ Some r → Joins me r h s.processes → (1 ≤ h) × (h ≤ s.world.pidmax)
 joined_bounded s i me r p h found j = ⊎_elim
-    (λ x. let same = eqb-true h r.pid x in let most = (i.bounded p r found).pid in omega (arith, same, most))
-    (λ x. let m = member_of s.processes i.rising me.session h x in let most = (i.bounded m.number m.what m.found).group in let same = m.group in omega (arith, most, same))
+    (λ x. let same = eqb-true h r.pid x in let b = i.bounded p r found in (omega (arith, same, b.least), omega (arith, same, b.pid)))
+    (λ x. let m = member_of s.processes i.rising me.session h x in let b = i.bounded m.number m.what m.found in (omega (arith, b.group_least, m.group), omega (arith, b.group, m.group)))
     (or_cases _ _ j.group)
 
 -- and the process fits in with its members
@@ -103,8 +103,9 @@ regular_move s i me r p g h found e =
     let here : lookup r.pid s.processes ≡ Some r = ap (λ n. lookup n s.processes) named ∙ found in
     let j = moved me r (group_meant r g) h s.processes e in
     let b = i.bounded r.pid r here in
+    let within = joined_bounded s i me r r.pid h here j in
     regular_moved r.pid (in_group h) s r here (record { pid = λ r. refl; parent = λ r. refl; zombie = λ r. refl; alarm = λ r a. a })
-    (record { least = b.least; pid = b.pid; group = joined_bounded s i me r r.pid h here j; session = b.session }) (joined_fits s i me r r.pid h here j) i
+    (record { least = b.least; pid = b.pid; group = within.1; session = b.session; group_least = within.0; session_least = b.session_least }) (joined_fits s i me r r.pid h here j) i
 
 -- where no other is in a group with the number of a process, each other's group has another number
 others_elsewhere : (rs : List Process) (me : Process) (p : ℕ) → lookup p rs ≡ Some me → is_group_of_others me rs ≡ false → (q : ℕ) (t : Process) → q ≢ p → lookup q rs ≡ Some t → t.group ≢ me.pid
@@ -121,7 +122,7 @@ regular_session s i me p found none =
     let named = pid_looked p s.processes me found in
     let b = i.bounded p me found in
     regular_moved p in_session s me found (record { pid = λ r. refl; parent = λ r. refl; zombie = λ r. refl; alarm = λ r a. a })
-    (record { least = b.least; pid = b.pid; group = b.pid; session = b.pid })
+    (record { least = b.least; pid = b.pid; group = b.pid; session = b.pid; group_least = b.least; session_least = b.least })
     (record {
       one = λ q t away e same. absurd (others_elsewhere s.processes me p found none q t away e same);
       own = λ q t away e same. absurd (others_elsewhere s.processes me p found none q t away e (same ∙ sym named));

@@ -5,6 +5,7 @@ pub mod MapLemmas
 pub mod GroupedLemmas
 pub mod RegularLemmas
 pub mod ChangeLemmas
+pub mod ConsoleLemmas
 pub mod GroupLemmas
 pub mod WaitLemmas
 pub mod ReportingLemmas
@@ -18,9 +19,11 @@ pub mod PassingLemmas
 pub mod CountLemmas
 pub mod RangeLemmas
 pub mod NextLemmas
+pub mod FreshLemmas
 pub mod WakeLemmas
 pub mod UnseenLemmas
 pub mod TouchLemmas
+pub mod ReaderLemmas
 pub mod NewsLemmas
 pub mod RouseLemmas
 pub mod OrphanLemmas

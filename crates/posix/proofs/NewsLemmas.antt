@@ -1,5 +1,5 @@
 -- News that are told let nobody act: a wait that found nothing finds nothing after it.
-use Rattle.std.proofs.Common.{◌≡◌, ℕ, Bool, true, false, cond, not, ◌&&◌, ◌||◌, refl, ap, sym, ◌∙◌, arith, List, [], ◌∷◌, map, filter, find, Option, Some, None, ◌==◌, is_some, pos}
+use Rattle.std.proofs.Common.{◌≡◌, ℕ, Bool, true, false, cond, not, refl, ap, sym, ◌∙◌, arith, List, [], ◌∷◌, map, filter, find, Option, Some, None, ◌==◌, pos}
 use Rattle.posix.specs.declared.call.Call.TheVariants.{Waitpid}
 use Rattle.posix.specs.declared.errno.Errno.TheVariants.{EINVAL}
 use Rattle.posix.specs.declared.process.Life.{Life}
@@ -11,21 +11,19 @@ use Rattle.posix.specs.declared.process.Report.{Report}
 use Rattle.posix.specs.declared.process.Report.TheVariants as found
 use Rattle.posix.specs.declared.target.Target.{Target}
 use Rattle.posix.specs.declared.target.Target.TheVariants as whom
-use Rattle.posix.specs.SignalNumbers.{KILL}
-use Rattle.posix.specs.Processes.{Process, argument, is_running, is_living}
+use Rattle.posix.specs.Processes.{Process, argument}
 use Rattle.posix.specs.Tables.{at, changed, children_in}
 use Rattle.posix.specs.States.{State, change}
 use Rattle.posix.specs.Outcomes.{Block, gives, refused}
 use Rattle.posix.specs.Targets.{target_in}
 use Rattle.posix.specs.Waits.{wait, wait_with, news_told, is_named, is_something, report, report_of, report_life, report_found, report_among, reports, options_in, are_known, has_option}
-use Rattle.posix.specs.Generation.{is_pending}
-use Rattle.posix.specs.Choice.{chosen}
 use Rattle.posix.specs.Attempts.{attempt_again}
-use Rattle.posix.specs.Settle.{can_act, can_go_on, is_block}
+use Rattle.posix.specs.Settle.{can_go_on, is_block}
 use Rattle.posix.proofs.MemberLemmas.{apart_first}
 use Rattle.posix.proofs.MapLemmas.{at_keeps, children_map, filter_map}
 use Rattle.posix.proofs.RegularLemmas.{other_back}
-use Rattle.posix.proofs.TouchLemmas.{Touches}
+use Rattle.posix.proofs.SeeLemmas.{block_read, acts_less}
+use Rattle.posix.proofs.TouchLemmas.{Touches, stands}
 
 -- where nothing was found to report, nobody had anything
 none_reports : (options : ℕ) (ks : List Process) → report_found options (find (reports options) ks) ≡ found.Nothing → find (reports options) ks ≡ None
@@ -97,6 +95,7 @@ waits_still s p me e =
     let w = waiting s me.pid options (report s.processes me.pid me.group target options) (are_known options) e in
     rw (w.known, nothing_told p s.processes me.pid me.group target options w.nothing, w.stays) refl
 
+-- the wait is the only call that the news count for
 goes_on_before : (s : State) (p : ℕ) (me : Process) (b : Option Blocked) → can_go_on (change s p news_told) me b ≡ true → can_go_on s me b ≡ true
 unfolding attempt_again
 goes_on_before s p me None e = refl
@@ -104,26 +103,13 @@ goes_on_before s p me (Some blocked.Waitpid) e = elim (is_block (wait s me)) as 
   | true ↦ λ t. let no : false ≡ true = sym (ap not (waits_still s p me t)) ∙ e in absurd (cc)
   | false ↦ λ t. refl
 ] refl
+goes_on_before s p me (Some blocked.Read) e = ap not (block_read s me ∙ sym (block_read (change s p news_told) me)) ∙ e
 goes_on_before s p me (Some blocked.Pause) e = e
 goes_on_before s p me (Some (blocked.Sigsuspend mask)) e = e
-
-acts_before : (s : State) (p : ℕ) (r : Process) → can_act (change s p news_told) r ≡ true → can_act s r ≡ true
-unfolding can_act
-acts_before s p r e = less (is_living r && is_pending r.signals KILL) (is_running r.life) (can_go_on (change s p news_told) r r.blocked) (can_go_on s r r.blocked) (is_some (chosen r.life r.signals)) (goes_on_before s p r r.blocked) e
-  where
-    less : (k l a b c : Bool) → (a ≡ true → b ≡ true) → (k || l && (a || c)) ≡ true → (k || l && (b || c)) ≡ true
-    less true l a b c h e = refl
-    less false false a b c h e = e
-    less false true true b c h e = rw (h refl) refl
-    less false true false true c h e = refl
-    less false true false false c h e = e
 
 -- news that are told touch nobody else
 pub touches_told : (s : State) (p : ℕ) → Touches s (change s p news_told) (p ∷ [])
 unfolding news_told
-touches_told s p q r e out = record {
-  placed = λ h. h;
-  old = r;
-  found = other_back p q news_told (λ r. refl) (apart_first q p [] out) s.processes r e;
-  acts = acts_before s p r;
-}
+touches_told s p q r e out =
+    stands s _ q r (λ h. h) (other_back p q news_told (λ r. refl) (apart_first q p [] out) s.processes r e)
+    (acts_less s (change s p news_told) r (λ l. goes_on_before s p r r.blocked))

@@ -1,8 +1,9 @@
 -- Notices of ends, and what they are followed by, change the records, and the count of those dropped without a report, and nothing else of a state.
-use Rattle.std.proofs.Common.{◌≡◌, ℕ, true, false, cond, refl, ap, ◌∙◌, List, [], ◌∷◌, ◌==◌}
+use Rattle.std.proofs.Common.{◌≡◌, ℕ, Bool, true, false, cond, not, ◌&&◌, refl, ap, ◌∙◌, List, [], ◌∷◌, ◌==◌, Option, Some, None}
 use Rattle.posix.specs.Processes.{Process}
 use Rattle.posix.specs.States.{State, change}
-use Rattle.posix.specs.Ends.{is_dropping, drop_child, notice_of_end, status_of, zombies_of, tell_of_all, rouse_orphans, halt, depart, end_with_heir}
+use Rattle.posix.specs.Consoles.{Console, console_of}
+use Rattle.posix.specs.Ends.{is_dropping, drop_child, notice_of_end, status_of, zombies_of, tell_of_all, rouse_orphans, halt, depart, end_with_heir, hung_up, hang_up}
 use Rattle.posix.specs.Notices.{noticed, child_signal}
 
 -- only the records, and the count of those dropped, may have changed
@@ -28,6 +29,10 @@ only_told s heir (r ∷ rs) =
     let one = notice_of_end s heir r.pid (status_of r.life) in
     only_after s one (tell_of_all one heir rs) (only_notice s heir r.pid (status_of r.life)) (only_told one heir rs)
 
+-- Of who ends only the number and the parent count.
+pub end_alike : (s : State) (r t : Process) (heir status : ℕ) → r.pid ≡ t.pid → r.parent ≡ t.parent → end_with_heir s r heir status ≡ end_with_heir s t heir status
+end_alike s r t heir status p q = rw (p, q) refl
+
 -- the end of process 1 halts the machine
 pub end_first : (s : State) (r : Process) (heir status : ℕ) → (r.pid == 1) ≡ true → (end_with_heir s r heir status).state ≡ halt s status
 end_first s r heir status t = rw t refl
@@ -40,3 +45,13 @@ end_other s r heir status t =
     let roused = rouse_orphans s.processes told in
     let before = only_after gone told roused (only_told gone heir (zombies_of r.pid s.processes)) refl in
     rw t (only_after gone roused (notice_of_end roused r.parent r.pid status) before (only_notice roused r.parent r.pid status))
+
+-- to hang up changes the records and the consoles, and nothing else of a state
+pub only_hung_up : (s : State) (r : Process) → hang_up s r ≡ record s { processes = (hang_up s r).processes; consoles = (hang_up s r).consoles }
+unfolding hang_up
+only_hung_up s r = both (not (r.pid == 1) && r.session == r.pid) (console_of r.session s.consoles)
+  where
+    both : (b : Bool) (o : Option Console) → (λ (t : State). t ≡ record s { processes = t.processes; consoles = t.consoles }) (cond b (hung_up s r.session o) s)
+    both true None = refl
+    both true (Some c) = refl
+    both false o = refl

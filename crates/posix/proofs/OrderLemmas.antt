@@ -70,6 +70,7 @@ regular_placed p s i h e = record {
   childless = i.childless;
   alarms = i.alarms;
   grouped = i.grouped;
+  consoles = i.consoles;
 }
 
 -- p, which has a place, goes last

@@ -1,12 +1,15 @@
 -- What keeps a state regular.
-use Rattle.std.proofs.Common.{◌≡◌, ◌≢◌, ℕ, ◌+◌, ◌≤◌, Option, Bool, true, false, cond, refl, ap, sym, ◌∙◌, arith, subst, List, [], ◌∷◌, map, Some, None, ◌==◌, inl, inr, ℤ}
+use Rattle.std.proofs.Common.{◌≡◌, ◌≢◌, ℕ, ◌+◌, ◌≤◌, ◌<◌, Option, Bool, true, false, cond, refl, ap, sym, ◌∙◌, arith, subst, List, [], ◌∷◌, map, Some, None, ◌==◌, inl, inr, ℤ, replicate, slice_get}
 use Rattle.std.specs.Option.{IsSome}
 use Rattle.std.proofs.lemmas.Bool.{eqb-true, eqb-false, eq-eqb, ne_eqb, cases_eq, cond_both}
+use Rattle.std.proofs.lemmas.List.{length-replicate, get_or-replicate}
+use Rattle.std.proofs.lemmas.Option.{slice_get_within, get_or_from_slice_get}
 use Rattle.posix.specs.declared.process.PendingSignal.{PendingSignal}
 use Rattle.posix.specs.Processes.{Process, Cpu, is_zombie, first_process}
 use Rattle.posix.specs.Tables.{IsRising, lookup, at, changed, inserted, removed, children_in, reparented, adopted}
+use Rattle.posix.specs.Consoles.{Console, unused_console}
 use Rattle.posix.specs.States.{World, State, boot, is_in, without, change, lose_place}
-use Rattle.posix.specs.Regular.{IsRegular, IsBounded, IsPlaced, CanInherit, IsDistinct, IsAhead, AreGrouped}
+use Rattle.posix.specs.Regular.{IsRegular, IsBounded, IsPlaced, CanInherit, IsDistinct, IsAhead, AreGrouped, AreConsoles}
 use Rattle.posix.specs.Generation.{signalled}
 use Rattle.posix.specs.Handlers.{handles, is_full}
 use Rattle.posix.specs.Ends.{ended, made_zombie, halt, depart}
@@ -63,11 +66,11 @@ keeps_then f g h k = record {
 
 -- numbers within their range stay so
 bounded_as : (m : ℕ) (r q : Process) → IsBounded m q → r.pid ≡ q.pid → r.group ≡ q.group → r.session ≡ q.session → IsBounded m r
-bounded_as m r q b p g s = record { least = omega (arith, b.least); pid = omega (arith, b.pid); group = omega (arith, b.group); session = omega (arith, b.session) }
+bounded_as m r q b p g s = record { least = omega (arith, b.least); pid = omega (arith, b.pid); group = omega (arith, b.group); session = omega (arith, b.session); group_least = omega (arith, b.group_least); session_least = omega (arith, b.session_least) }
 
--- only the world, the records, the order and the time count
-pub regular_as : (s t : State) → t.world ≡ s.world → t.processes ≡ s.processes → t.order ≡ s.order → t.ticks ≡ s.ticks → IsRegular s → IsRegular t
-regular_as s t w p o k i = record {
+-- only the world, the records, the order, the time and the consoles count
+pub regular_as : (s t : State) → t.world ≡ s.world → t.processes ≡ s.processes → t.order ≡ s.order → t.ticks ≡ s.ticks → t.consoles ≡ s.consoles → IsRegular s → IsRegular t
+regular_as s t w p o k c i = record {
   rising = rw p i.rising;
   bounded = rw (p, w) i.bounded;
   first = rw p i.first;
@@ -76,6 +79,7 @@ regular_as s t w p o k i = record {
   childless = rw p i.childless;
   alarms = rw (p, k) i.alarms;
   grouped = rw p i.grouped;
+  consoles = rw (w, c) i.consoles;
 }
 
 -- who is placed has a number from 1 on
@@ -104,6 +108,7 @@ regular_map g s k i = record {
       let b = lookup_back g k.pid p s.processes r e in
       subst (λ (r : Process). IsAhead s.ticks r.alarm) (sym b.is) (k.alarm b.what (i.alarms p b.what b.found));
   grouped = grouped_map g k.pid k.group k.session s.processes i.grouped;
+  consoles = i.consoles;
 }
 
 -- or of one
@@ -130,6 +135,7 @@ regular_lose p s i = record {
   childless = i.childless;
   alarms = i.alarms;
   grouped = i.grouped;
+  consoles = i.consoles;
 }
 
 -- ---- ends
@@ -195,6 +201,7 @@ regular_moved p f s me found k bounds fits i = record {
       subst (λ (r : Process). IsAhead s.ticks r.alarm) (sym b.is)
       (cond_both (b.what.pid == p) (f b.what) b.what (λ r. IsAhead s.ticks r.alarm) (λ x. k.alarm b.what (i.alarms q b.what b.found)) (λ x. i.alarms q b.what b.found));
   grouped = grouped_changed p f k.pid s.processes me found fits i.grouped;
+  consoles = i.consoles;
 }
 
 -- A process that is changed, to a zombie say, and loses its place: all others are as they were.
@@ -223,6 +230,7 @@ regular_leave p f kp kq kg ks s ka i none = record {
       subst (λ (r : Process). IsAhead s.ticks r.alarm) (sym b.is)
       (cond_both (b.what.pid == p) (f b.what) b.what (λ r. IsAhead s.ticks r.alarm) (λ x. ka b.what (i.alarms q b.what b.found)) (λ x. i.alarms q b.what b.found));
   grouped = grouped_map (at p f) (at_pid p f kp) (at_keeps (λ q. q.group) p f kg) (at_keeps (λ q. q.session) p f ks) s.processes i.grouped;
+  consoles = i.consoles;
 }
 
 -- an heir of p is another
@@ -275,6 +283,7 @@ regular_adopted p heir least s i h = record {
       let b = lookup_back (reparented p heir) (pid_reparented p heir) q s.processes r e in
       subst (λ (r : Process). IsAhead s.ticks r.alarm) (sym b.is) (subst (IsAhead s.ticks) (sym (alarm_reparented b.what)) (i.alarms q b.what b.found));
   grouped = grouped_map (reparented p heir) (pid_reparented p heir) group_reparented session_reparented s.processes i.grouped;
+  consoles = i.consoles;
 }
   where
     group_reparented : (r : Process) → (reparented p heir r).group ≡ r.group
@@ -307,7 +316,7 @@ regular_depart p heir w least ne s i h =
 pub regular_halt : (w : ℕ) (s : State) → IsRegular s → IsRegular (halt s w)
 unfolding ended
 regular_halt w s i =
-    regular_as _ (halt s w) refl refl refl refl (regular_leave 1 (ended w) (λ r. refl) (λ r. refl) (λ r. refl) (λ r. refl) s (λ r h. h) i (λ ne. absurd (ne refl)))
+    regular_as _ (halt s w) refl refl refl refl refl (regular_leave 1 (ended w) (λ r. refl) (λ r. refl) (λ r. refl) (λ r. refl) s (λ r h. h) i (λ ne. absurd (ne refl)))
 
 -- ---- births and collections
 
@@ -371,10 +380,11 @@ regular_inserted new last births s i number living silent me there up group sess
   ];
   grouped = grouped_with s.processes (inserted new s.processes) new.pid new (lookup_new new s.processes number.fresh)
       (λ q t away e. sym (lookup_inserted new q s.processes away) ∙ e) fits i.grouped;
+  consoles = i.consoles;
 }
   where
     bounds : IsBounded s.world.pidmax new
-    bounds = let b = i.bounded new.parent me there in record { least = number.least; pid = number.greatest; group = omega (arith, b.group, group); session = omega (arith, b.session, session) }
+    bounds = let b = i.bounded new.parent me there in record { least = number.least; pid = number.greatest; group = omega (arith, b.group, group); session = omega (arith, b.session, session); group_least = omega (arith, b.group_least, group); session_least = omega (arith, b.session_least, session) }
 
     fits : FitsIn s.processes new.pid new
     fits = record {
@@ -426,6 +436,7 @@ regular_removed p zombie s i other there dead = record {
   childless = λ q r ne e z. children_removed q p s.processes ∙ ap (removed p) (i.childless q r ne (lookup_left p q s.processes r e) z);
   alarms = λ q r e. i.alarms q r (lookup_left p q s.processes r e);
   grouped = grouped_left s.processes (removed p s.processes) (λ q t e. lookup_left p q s.processes t e) i.grouped;
+  consoles = i.consoles;
 }
 
 -- ---- changes that keep
@@ -503,16 +514,29 @@ regular_pass s i =
           let b = lookup_back (ring_at (s.ticks + 1)) k.pid p s.processes r e in
           subst (λ (r : Process). IsAhead (s.ticks + 1) r.alarm) (sym b.is) (later s.ticks b.what (i.alarms p b.what b.found));
       grouped = m.grouped;
+      consoles = m.consoles;
     }
 
 -- ---- the start
+
+-- consoles that are nobody's
+pub consoles_unused : (n : ℕ) → AreConsoles n (replicate n unused_console)
+consoles_unused n = record {
+  count = length-replicate n unused_console;
+  apart = λ i j c d e f some same. absurd (some (sym (ap (λ (c : Console). c.session) (alike i c e))));
+}
+  where
+    alike : (i : ℕ) (c : Console) → slice_get (replicate n unused_console) i ≡ Some c → unused_console ≡ c
+    alike i c e =
+        let within : i < n = let l = slice_get_within (replicate n unused_console) i c e in omega (arith, l, length-replicate n unused_console) in
+        sym (get_or-replicate n i unused_console unused_console within) ∙ get_or_from_slice_get (replicate n unused_console) i c unused_console e
 
 -- process 1 alone
 pub regular_first : (w : World) → 1 ≤ w.pidmax → IsRegular (boot w)
 unfolding lookup IsRising children_in is_in IsDistinct
 regular_first w most = record {
   rising = (tt, tt);
-  bounded = λ p r e. subst (IsBounded w.pidmax) (alone p r e) (record { least = omega arith; pid = omega (arith, most); group = omega (arith, most); session = omega (arith, most) });
+  bounded = λ p r e. subst (IsBounded w.pidmax) (alone p r e) (record { least = omega arith; pid = omega (arith, most); group = omega (arith, most); session = omega (arith, most); group_least = omega arith; session_least = omega arith });
   first = record { what = first_process; found = refl; parent = refl };
   placed = λ p e. elim (p == 1) as (λ b. (p == 1) ≡ b → IsPlaced (first_process ∷ []) p) [
     | true ↦ λ t. subst (IsPlaced (first_process ∷ [])) (sym (eqb-true _ _ t)) (record { what = first_process; found = refl; living = refl })
@@ -528,6 +552,7 @@ regular_first w most = record {
     one = λ p q r t e f same. ap (λ (r : Process). r.session) (sym (alone p r e) ∙ alone q t f);
     own = λ p q r t e f same. ap (λ (r : Process). r.session) (sym (alone q t f) ∙ alone p r e);
   };
+  consoles = consoles_unused w.consoles;
 }
   where
     alone : (p : ℕ) (r : Process) → cond (1 == p) (Some first_process) None ≡ Some r → first_process ≡ r

@@ -1,5 +1,6 @@
 -- What decides whether a process can act: its record but for its parent, and what it sees of its children.
-use Rattle.std.proofs.Common.{◌≡◌, ℕ, Bool, true, false, cond, not, ◌&&◌, ◌||◌, refl, ap, sym, ◌∙◌, subst, List, [], ◌∷◌, map, filter, find, Option, Some, None, is_some, arith}
+use Rattle.std.proofs.Common.{◌≡◌, ℕ, Bool, true, false, cond, not, ◌&&◌, ◌||◌, refl, ap, sym, ◌∙◌, subst, List, [], ◌∷◌, map, filter, find, Option, Some, None, is_some, Result, Ok, Err, arith}
+use Rattle.std.proofs.lemmas.Bool.{ne_eqb}
 use Rattle.posix.specs.declared.process.Life.{Life}
 use Rattle.posix.specs.declared.process.News.{News}
 use Rattle.posix.specs.declared.process.Blocked.{Blocked}
@@ -8,15 +9,20 @@ use Rattle.posix.specs.declared.process.Report.{Report}
 use Rattle.posix.specs.declared.process.Report.TheVariants as found
 use Rattle.posix.specs.declared.target.Target.{Target}
 use Rattle.posix.specs.declared.target.Target.TheVariants as whom
+use Rattle.posix.specs.declared.errno.Errno.{Errno}
+use Rattle.posix.specs.declared.span.Span.{Span}
 use Rattle.posix.specs.SignalNumbers.{KILL}
 use Rattle.posix.specs.Processes.{Process, first_process, is_running, is_living, argument}
 use Rattle.posix.specs.Tables.{children_in}
 use Rattle.posix.specs.States.{State}
+use Rattle.posix.specs.Consoles.{Console}
+use Rattle.posix.specs.Transfers.{span_in}
 use Rattle.posix.specs.Outcomes.{Attempted}
 use Rattle.posix.specs.Targets.{target_in}
 use Rattle.posix.specs.Waits.{wait, wait_with, is_named, report, report_of, report_found, report_among, reports, options_in, are_known, has_option}
 use Rattle.posix.specs.Generation.{is_pending}
 use Rattle.posix.specs.Choice.{chosen}
+use Rattle.posix.specs.Terminals.{terminal, read, read_on, read_in, waits_in, waits_on, waits_to_read}
 use Rattle.posix.specs.Attempts.{attempt_again}
 use Rattle.posix.specs.Settle.{can_act, can_go_on, is_block}
 
@@ -98,19 +104,71 @@ block_wait s t me n e =
     (ap (λ w. is_block (wait_with t me.pid options w)) (report_sees t.processes s.processes me.pid me.group (target_in (argument me 1)) options e)
     ∙ block_with t s me.pid options (report s.processes me.pid me.group (target_in (argument me 1)) options)) refl
 
-go_on_alike : (s t : State) (me : Process) (n : ℕ) (b : Option Blocked) → sees me.pid t.processes ≡ sees me.pid s.processes → can_go_on t (record me { parent = n }) b ≡ can_go_on s me b
-unfolding attempt_again
-go_on_alike s t me n None e = refl
-go_on_alike s t me n (Some blocked.Waitpid) e = ap not (block_wait s t me n e)
-go_on_alike s t me n (Some blocked.Pause) e = refl
-go_on_alike s t me n (Some (blocked.Sigsuspend mask)) e = refl
+-- a read, by what its span is
+block_in : (s : State) (me : Process) (c : Console) (span : Result Span Errno) → is_block (read_in s me c span) ≡ waits_in me c span
+block_in s me c (Err why) = refl
+block_in s me c (Ok span) = grind (arith, ne_eqb)
 
-pub can_act_alike : (s t : State) (old new : Process) → Alike old new → sees old.pid t.processes ≡ sees old.pid s.processes → can_act t new ≡ can_act s old
+block_on : (s : State) (me : Process) (o : Option Console) → is_block (read_on s me o) ≡ waits_on me o
+block_on s me None = refl
+block_on s me (Some c) = block_in s me c (span_in (argument me 1) (argument me 2))
+
+-- the consoles decide alone
+pub block_read : (s : State) (me : Process) → is_block (read s me) ≡ waits_to_read s.consoles me
+unfolding read waits_to_read
+block_read s me = block_on s me (terminal s me)
+
+-- whose read waits as before, and who sees the same of its children, goes on as before, whatever its parent is now
+go_on_alike : (s t : State) (me : Process) (n : ℕ) (b : Option Blocked) → waits_to_read t.consoles me ≡ waits_to_read s.consoles me → sees me.pid t.processes ≡ sees me.pid s.processes
+    → can_go_on t (record me { parent = n }) b ≡ can_go_on s me b
+unfolding attempt_again waits_to_read
+go_on_alike s t me n None same e = refl
+go_on_alike s t me n (Some blocked.Waitpid) same e = ap not (block_wait s t me n e)
+go_on_alike s t me n (Some blocked.Read) same e = ap not (block_read t (record me { parent = n }) ∙ same ∙ sym (block_read s me))
+go_on_alike s t me n (Some blocked.Pause) same e = refl
+go_on_alike s t me n (Some (blocked.Sigsuspend mask)) same e = refl
+
+-- and can act as before
+pub can_act_waits : (s t : State) (old new : Process) → Alike old new → waits_to_read t.consoles old ≡ waits_to_read s.consoles old → sees old.pid t.processes ≡ sees old.pid s.processes → can_act t new ≡ can_act s old
 unfolding can_act
-can_act_alike s t old new a e =
+can_act_waits s t old new a same e =
     subst (λ new. can_act t new ≡ can_act s old) (sym a.is)
-    (ap (λ b. is_living old && is_pending old.signals KILL || is_running old.life && (b || is_some (chosen old.life old.signals))) (go_on_alike s t old a.parent old.blocked e))
+    (ap (λ b. is_living old && is_pending old.signals KILL || is_running old.life && (b || is_some (chosen old.life old.signals))) (go_on_alike s t old a.parent old.blocked same e))
+
+-- so where the consoles are the same
+pub can_act_alike : (s t : State) (old new : Process) → Alike old new → t.consoles ≡ s.consoles → sees old.pid t.processes ≡ sees old.pid s.processes → can_act t new ≡ can_act s old
+can_act_alike s t old new a same e = can_act_waits s t old new a (ap (λ cs. waits_to_read cs old) same) e
 
 -- the order doesn't count
 pub can_act_order : (s : State) (o : List ℕ) (r : Process) → can_act (record s { order = o }) r ≡ can_act s r
-can_act_order s o r = can_act_alike s (record s { order = o }) r r (record { parent = r.parent; is = refl }) refl
+can_act_order s o r = can_act_alike s (record s { order = o }) r r (record { parent = r.parent; is = refl }) refl refl
+
+-- ---- who can act no more than before
+
+-- one that goes on in its call only where it did
+pub acts_less : (s t : State) (r : Process) → (is_running r.life ≡ true → can_go_on t r r.blocked ≡ true → can_go_on s r r.blocked ≡ true) → can_act t r ≡ true → can_act s r ≡ true
+unfolding can_act
+acts_less s t r h e = less (is_living r && is_pending r.signals KILL) (is_running r.life) (can_go_on t r r.blocked) (can_go_on s r r.blocked) (is_some (chosen r.life r.signals)) h e
+  where
+    less : (k l a b c : Bool) → (l ≡ true → a ≡ true → b ≡ true) → (k || l && (a || c)) ≡ true → (k || l && (b || c)) ≡ true
+    less true l a b c h e = refl
+    less false false a b c h e = e
+    less false true true b c h e = rw (h refl refl) refl
+    less false true false true c h e = refl
+    less false true false false c h e = e
+
+-- one whose read waits where it did, the processes being the same
+pub acts_reading : (s t : State) (r : Process) → t.processes ≡ s.processes → (is_running r.life ≡ true → r.blocked ≡ Some blocked.Read → waits_to_read s.consoles r ≡ true → waits_to_read t.consoles r ≡ true) → can_act t r ≡ true → can_act s r ≡ true
+unfolding attempt_again
+acts_reading s t r same h e = acts_less s t r (λ l k. goes r.blocked (h l) k) e
+  where
+    less : (a b : Bool) → (a ≡ true → b ≡ true) → not b ≡ true → not a ≡ true
+    less true b k e = sym (ap not (k refl)) ∙ e
+    less false b k e = refl
+
+    goes : (b : Option Blocked) → (b ≡ Some blocked.Read → waits_to_read s.consoles r ≡ true → waits_to_read t.consoles r ≡ true) → can_go_on t r b ≡ true → can_go_on s r b ≡ true
+    goes None k e = refl
+    goes (Some blocked.Waitpid) k e = sym (ap not (block_wait s t r r.parent (ap (sees r.pid) same))) ∙ e
+    goes (Some blocked.Read) k e = less (is_block (read s r)) (is_block (read t r)) (λ w. block_read t r ∙ k refl (sym (block_read s r) ∙ w)) e
+    goes (Some blocked.Pause) k e = e
+    goes (Some (blocked.Sigsuspend mask)) k e = e

@@ -1,4 +1,4 @@
--- To ask the records one after another, from the least number on, is to settle; and what settles stays regular.
+-- To ask the records one after another, from the least number on, is to give places; and who gets one lives.
 use Rattle.std.proofs.Common.{◌≡◌, ℕ, ◌<◌, Bool, true, false, cond, not, ◌&&◌, ◌||◌, refl, ap, sym, ◌∙◌, arith, subst, List, [], ◌∷◌, ◌++◌, append-nil, append_assoc, filter, Option, Some, None, is_some}
 use Rattle.std.specs.List.{AllByRecursion}
 use Rattle.std.proofs.lemmas.Bool.{eqb-true}
@@ -10,10 +10,9 @@ use Rattle.posix.specs.SignalNumbers.{KILL}
 use Rattle.posix.specs.Processes.{Process, is_running, is_zombie}
 use Rattle.posix.specs.Tables.{IsRising, IsNext, lookup, pids, above, left_of}
 use Rattle.posix.specs.States.{State, is_in}
-use Rattle.posix.specs.Regular.{IsPlaced}
 use Rattle.posix.specs.Generation.{is_pending}
 use Rattle.posix.specs.Choice.{chosen}
-use Rattle.posix.specs.Settle.{woken, woken_if, settle, wakes, can_act, can_go_on}
+use Rattle.posix.specs.Settle.{woken, woken_if, give_places, wakes, can_act, can_go_on}
 use Rattle.posix.proofs.MemberLemmas.{in_append, or_none}
 use Rattle.posix.proofs.TableLemmas.{pid_looked}
 use Rattle.posix.proofs.SeeLemmas.{can_act_order}
@@ -74,13 +73,13 @@ woken_one s up p = elim (lookup p s.processes) as (λ o. lookup p s.processes �
   ])
 ] refl
 
--- what settling makes of those that are left
+-- the places that are given to those that are left
 unfoldable pub settled_from : Option ℕ → State → State
 settled_from next s = record s { order = s.order ++ pids (filter (wakes s) (left_of next s.processes)) }
 
 -- at the start all are left
-pub asking_begins : (s : State) (next : Option ℕ) → IsRegular s → IsNext (wakes s) 0 s.processes next → settled_from next s ≡ settle s
-unfolding settled_from settle
+pub asking_begins : (s : State) (next : Option ℕ) → IsRegular s → IsNext (wakes s) 0 s.processes next → settled_from next s ≡ give_places s
+unfolding settled_from give_places
 asking_begins s next i n = ap (λ rs. record s { order = s.order ++ pids rs }) (walk_begins (wakes s) s.processes next i.rising (λ p r e. (i.bounded p r e).least) n)
 
 -- one is asked, and then the others

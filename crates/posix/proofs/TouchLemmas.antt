@@ -18,25 +18,33 @@ use Rattle.posix.proofs.RegularLemmas.{lookup_inserted, lookup_kept, lookup_remo
 use Rattle.posix.proofs.WalkLemmas.{children_removed}
 use Rattle.posix.proofs.SeeLemmas.{seen, sees, Alike, can_act_alike}
 
--- a process that the change of state didn't touch: it lost no place, and can't act where it couldn't
+-- a process that the change of state didn't touch: it lost no place, is in the same call, session and life, and can't
+-- act where it couldn't
 pub record Untouched (s t : State) (q : ℕ) (new : Process) : Type 0 where
   pub placed : is_in q t.order ≡ false → is_in q s.order ≡ false
   pub old : Process
   pub found : lookup q s.processes ≡ Some old
+  pub blocked : new.blocked ≡ old.blocked
+  pub session : new.session ≡ old.session
+  pub life : new.life ≡ old.life
   pub acts : can_act t new ≡ true → can_act s old ≡ true
+
+-- one whose record is as it was
+pub stands : (s t : State) (q : ℕ) (r : Process) → (is_in q t.order ≡ false → is_in q s.order ≡ false) → lookup q s.processes ≡ Some r → (can_act t r ≡ true → can_act s r ≡ true) → Untouched s t q r
+stands s t q r placed found acts = record { placed = placed; old = r; found = found; blocked = refl; session = refl; life = refl; acts = acts }
 
 -- all but those of the list are untouched
 abbrev pub Touches : State → State → List ℕ → Type 0
 Touches s t ps = (q : ℕ) (r : Process) → lookup q t.processes ≡ Some r → is_in q ps ≡ false → Untouched s t q r
 
 -- who sees the same of its children can act as before, whatever its parent is now
-acts_alike : (s t : State) (q : ℕ) (old new : Process) → lookup q s.processes ≡ Some old → Alike old new → sees q t.processes ≡ sees q s.processes → can_act t new ≡ true → can_act s old ≡ true
-acts_alike s t q old new found alike same acts =
-    sym (can_act_alike s t old new alike (subst (λ n. sees n t.processes ≡ sees n s.processes) (sym (pid_looked q s.processes old found)) same)) ∙ acts
+acts_alike : (s t : State) (q : ℕ) (old new : Process) → lookup q s.processes ≡ Some old → Alike old new → t.consoles ≡ s.consoles → sees q t.processes ≡ sees q s.processes → can_act t new ≡ true → can_act s old ≡ true
+acts_alike s t q old new found alike consoles same acts =
+    sym (can_act_alike s t old new alike consoles (subst (λ n. sees n t.processes ≡ sees n s.processes) (sym (pid_looked q s.processes old found)) same)) ∙ acts
 
 -- and who is as it was, too
-acts_same : (s t : State) (q : ℕ) (r : Process) → lookup q s.processes ≡ Some r → sees q t.processes ≡ sees q s.processes → can_act t r ≡ true → can_act s r ≡ true
-acts_same s t q r found same acts = acts_alike s t q r r found (record { parent = r.parent; is = refl }) same acts
+acts_same : (s t : State) (q : ℕ) (r : Process) → lookup q s.processes ≡ Some r → t.consoles ≡ s.consoles → sees q t.processes ≡ sees q s.processes → can_act t r ≡ true → can_act s r ≡ true
+acts_same s t q r found consoles same acts = acts_alike s t q r r found (record { parent = r.parent; is = refl }) consoles same acts
 
 -- a list that covers goes on to cover where it keeps those that are there, and gets those that are touched
 pub goes_on : (s t : State) (before after touched : List ℕ) → Covers s before → Touches s t touched
@@ -58,18 +66,26 @@ goes_on s t before after touched covers touches gets keeps p r found w =
 
 -- ---- one change after another
 
--- one that changes neither processes nor order
-pub touches_none : (s t : State) → t.processes ≡ s.processes → t.order ≡ s.order → Touches s t []
-touches_none s t same order q r e out =
+-- one that changes neither processes nor order nor consoles
+pub touches_none : (s t : State) → t.processes ≡ s.processes → t.order ≡ s.order → t.consoles ≡ s.consoles → Touches s t []
+touches_none s t same order consoles q r e out =
     let found = ap (lookup q) (sym same) ∙ e in
-    record { placed = λ h. sym (ap (is_in q) order) ∙ h; old = r; found = found; acts = acts_same s t q r found (ap (sees q) same) }
+    stands s t q r (λ h. sym (ap (is_in q) order) ∙ h) found (acts_same s t q r found consoles (ap (sees q) same))
 
 pub touches_both : (s t u : State) (ps qs : List ℕ) → Touches s t ps → Touches t u qs → Touches s u (qs ++ ps)
 touches_both s t u ps qs a b q r e out =
     let apart = or_parts _ _ (sym (in_append q qs ps) ∙ out) in
     let y = b q r e apart.0 in
     let x = a q y.old y.found apart.1 in
-    record { placed = λ h. x.placed (y.placed h); old = x.old; found = x.found; acts = λ h. x.acts (y.acts h) }
+    record {
+      placed = λ h. x.placed (y.placed h);
+      old = x.old;
+      found = x.found;
+      blocked = y.blocked ∙ x.blocked;
+      session = y.session ∙ x.session;
+      life = y.life ∙ x.life;
+      acts = λ h. x.acts (y.acts h);
+    }
 
 -- ---- a record changed
 
@@ -132,7 +148,7 @@ touches_unseen s p f u q r e out =
     let found = other_back p q f u.pid (apart_first q p [] out) s.processes r e in
     let same = ap (map seen) (children_map (at p f) (at_keeps (λ q. q.parent) p f u.parent) q s.processes)
     ∙ all_seen (at p f) (at_keeps seen p f (seen_same f u)) (children_in q s.processes) in
-    record { placed = λ h. h; old = r; found = found; acts = acts_same s (change s p f) q r found same }
+    stands s _ q r (λ h. h) found (acts_same s (change s p f) q r found refl same)
 
 -- who isn't a child isn't found among the children
 not_child : (p q : ℕ) (rs : List Process) → IsRising rs → IfSome (lookup p rs) (λ r. r.parent ≢ q) → lookup p (children_in q rs) ≡ None
@@ -148,26 +164,23 @@ touches_shown s p f pid parent up me here q r e out =
     let rest = apart_rest q p (me.parent ∷ []) out in
     let found = other_back p q f pid (apart_first q p (me.parent ∷ []) out) s.processes r e in
     let same = ap (map seen) (children_map (at p f) (at_keeps (λ q. q.parent) p f parent) q s.processes ∙ changed_absent p f (children_in q s.processes) (not_child p q s.processes up (rw here (λ same. apart_first q me.parent [] rest (sym same))))) in
-    record { placed = λ h. h; old = r; found = found; acts = acts_same s (change s p f) q r found same }
+    stands s _ q r (λ h. h) found (acts_same s (change s p f) q r found refl same)
 
 -- ---- places
 
 -- who loses its place is touched
 pub touches_lost : (s : State) (p : ℕ) → Touches s (lose_place s p) (p ∷ [])
-touches_lost s p q r e out = record { placed = λ h. sym (others_stay p q s.order (apart_first q p [] out)) ∙ h; old = r; found = e; acts = acts_same s _ q r e refl }
+touches_lost s p q r e out = stands s _ q r (λ h. sym (others_stay p q s.order (apart_first q p [] out)) ∙ h) e (acts_same s _ q r e refl refl)
 
 -- who gets a place is not, nor is anyone else
 pub touches_placed : (s : State) (p : ℕ) → Touches s (record s { order = s.order ++ p ∷ [] }) []
-touches_placed s p q r e out = record { placed = λ h. (or_parts _ _ (sym (in_append q s.order (p ∷ [])) ∙ h)).0; old = r; found = e; acts = acts_same s _ q r e refl }
+touches_placed s p q r e out = stands s _ q r (λ h. (or_parts _ _ (sym (in_append q s.order (p ∷ [])) ∙ h)).0) e (acts_same s _ q r e refl refl)
 
 -- nor where one goes last
 pub touches_last : (s : State) (p : ℕ) → Touches s (go_last s p) []
-touches_last s p q r e out = record {
-  placed = λ h. let apart = or_parts _ _ (sym (in_append q (without p s.order) (p ∷ [])) ∙ h) in sym (others_stay p q s.order (apart_first q p [] apart.1)) ∙ apart.0;
-  old = r;
-  found = e;
-  acts = acts_same s (go_last s p) q r e refl;
-}
+touches_last s p q r e out =
+    stands s _ q r (λ h. let apart = or_parts _ _ (sym (in_append q (without p s.order) (p ∷ [])) ∙ h) in sym (others_stay p q s.order (apart_first q p [] apart.1)) ∙ apart.0) e
+    (acts_same s (go_last s p) q r e refl refl)
 
 -- ---- births and removals
 
@@ -178,7 +191,7 @@ touches_born s new last births q r e out =
     let rest = apart_rest q new.pid (new.parent ∷ []) out in
     let found = sym (lookup_inserted new q s.processes (apart_first q new.pid (new.parent ∷ []) out)) ∙ e in
     let same = ap (map seen) (children_inserted new q s.processes (λ same. apart_first q new.parent [] rest (sym same))) in
-    record { placed = λ h. h; old = r; found = found; acts = acts_same s _ q r found same }
+    stands s _ q r (λ h. h) found (acts_same s _ q r found refl same)
 
 -- a record that goes, if it is there, touches its parent
 pub touches_removed : (s : State) (c parent last dropped : ℕ) → IsRising s.processes → IfSome (lookup c s.processes) (λ r. r.parent ≡ parent)
@@ -188,7 +201,7 @@ touches_removed s c parent last dropped up its q r e out =
     let other : q ≢ c = λ same. let no = sym (lookup_removed c s.processes) ∙ ap (λ n. lookup n (removed c s.processes)) (sym same) ∙ e in absurd (cc) in
     let found = sym (lookup_kept c q s.processes other) ∙ e in
     let same = ap (map seen) (children_removed q c s.processes ∙ remove_none c (filter (is_child q) s.processes) (not_child c q s.processes up (another (lookup c s.processes) its (apart_first q parent [] out)))) in
-    record { placed = λ h. h; old = r; found = found; acts = acts_same s _ q r found same }
+    stands s _ q r (λ h. h) found (acts_same s _ q r found refl same)
   where
     another : (o : Option Process) → IfSome o (λ r. r.parent ≡ parent) → q ≢ parent → IfSome o (λ r. r.parent ≢ q)
     another None h ne = tt
@@ -202,7 +215,16 @@ unfolding sees adopted
 touches_adopted s p t q r e out =
     let b = lookup_back (reparented p t) (pid_reparented p t) q s.processes r e in
     let same = ap (map seen) (children_others p t q (apart_first q p (t ∷ []) out) (apart_first q t [] (apart_rest q p (t ∷ []) out)) s.processes) in
-    record { placed = λ h. h; old = b.what; found = b.found; acts = acts_alike s _ q b.what r b.found (other b.what r b.is) same }
+    let alike = other b.what r b.is in
+    record {
+      placed = λ h. h;
+      old = b.what;
+      found = b.found;
+      blocked = ap (λ q. q.blocked) alike.is;
+      session = ap (λ q. q.session) alike.is;
+      life = ap (λ q. q.life) alike.is;
+      acts = acts_alike s _ q b.what r b.found alike refl same;
+    }
   where
     other : (old new : Process) → new ≡ reparented p t old → Alike old new
     other old new e = elim (old.parent == p) as (λ w. new ≡ cond w (record old { parent = t }) old → Alike old new) [ true ↦ λ k. record { parent = t; is = k } | false ↦ λ k. record { parent = old.parent; is = k } ] e

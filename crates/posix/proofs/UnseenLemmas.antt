@@ -1,11 +1,12 @@
--- A change of one process that others see nothing of gives nobody a place.
+-- Where nothing is left to settle, to settle does nothing; nor does it after a change of one process that others see nothing of.
 use Rattle.std.proofs.Common.{◌≡◌, ℕ, true, false, not, ◌&&◌, refl, ap, sym, ◌∙◌, [], ◌∷◌, ◌++◌, append-nil, Some}
 use Rattle.std.proofs.lemmas.Bool.{not-true, and_parts}
 use Rattle.posix.specs.Processes.{Process}
 use Rattle.posix.specs.Tables.{IsRising, pids}
 use Rattle.posix.specs.States.{State, process, is_in, change}
-use Rattle.posix.specs.Settle.{settle, NoWakeIsLost, Covers, wakes, can_act}
+use Rattle.posix.specs.Settle.{give_places, settle, IsSettled, NoWakeIsLost, AreFresh, Covers, wakes, can_act}
 use Rattle.posix.proofs.MemberLemmas.{in_none, in_one}
+use Rattle.posix.proofs.FreshLemmas.{cleared_none, fresh_change}
 use Rattle.posix.proofs.SettleLemmas.{none_passes}
 use Rattle.posix.proofs.TableLemmas.{pid_looked, rising_changed}
 use Rattle.posix.proofs.WalkLemmas.{all_looked}
@@ -18,22 +19,32 @@ covers_none s placed p r e w =
     let awake = and_parts (not (is_in r.pid s.order)) _ w in
     let no = sym (not-true _ awake.0) ∙ ap (λ n. is_in n s.order) named ∙ placed p r e awake.1 in absurd (cc)
 
--- where nobody has to be given a place, to settle gives none
-pub settle_none : (s : State) → IsRising s.processes → Covers s [] → settle s ≡ s
-unfolding settle
-settle_none s up covers =
+-- where nobody has to be given a place, none is
+give_none : (s : State) → IsRising s.processes → Covers s [] → give_places s ≡ s
+unfolding give_places
+give_none s up covers =
     ap (λ rs. record s { order = s.order ++ pids rs }) (none_passes (wakes s) s.processes (all_looked _ s.processes up (λ p r e. sleeps p r e)))
     ∙ ap (λ o. record s { order = o }) (append-nil s.order)
   where
     sleeps : (p : ℕ) (r : Process) → process s p ≡ Some r → wakes s r ≡ false
     sleeps p r e = elim (wakes s r) as (λ b. wakes s r ≡ b → b ≡ false) [ true ↦ λ w. absurd (in_none p (covers p r e w)) | false ↦ λ w. refl ] refl
 
--- a change of who has a place, of which its parent sees nothing, gives nobody one
-pub settle_unseen : (s : State) (p : ℕ) (f : Process → Process) → Unseen f → IsRising s.processes → NoWakeIsLost s → is_in p s.order ≡ true → settle (change s p f) ≡ change s p f
-settle_unseen s p f u up placed first =
+-- and where each foreground process group has a member, to settle does nothing
+pub settle_none : (s : State) → IsRising s.processes → AreFresh s → Covers s [] → settle s ≡ s
+unfolding settle
+settle_none s up fresh covers = ap give_places (cleared_none s fresh) ∙ give_none s up covers
+
+-- to settle a settled state does nothing
+pub settle_settled : (s : State) → IsRising s.processes → IsSettled s → settle s ≡ s
+settle_settled s up settled = settle_none s up settled.fresh (covers_none s settled.awake)
+
+-- nor does it after a change of who has a place, of which its parent sees nothing and which keeps its session
+pub settle_unseen : (s : State) (p : ℕ) (f : Process → Process) → Unseen f → ((r : Process) → (f r).session ≡ r.session) → IsRising s.processes → IsSettled s → is_in p s.order ≡ true
+    → settle (change s p f) ≡ change s p f
+settle_unseen s p f u session up settled first =
     let t = change s p f in
-    let covers = goes_on s t [] (p ∷ []) (p ∷ []) (covers_none s placed) (touches_unseen s p f u) (λ q there e. e) (λ q there e. absurd (in_none q e)) in
-    settle_none t (rising_changed p f u.pid s.processes up) (λ q r e w. absurd (rests q r e w (in_one q p (covers q r e w))))
+    let covers = goes_on s t [] (p ∷ []) (p ∷ []) (covers_none s settled.awake) (touches_unseen s p f u) (λ q there e. e) (λ q there e. absurd (in_none q e)) in
+    settle_none t (rising_changed p f u.pid s.processes up) (fresh_change p f u.group session s settled.fresh) (λ q r e w. absurd (rests q r e w (in_one q p (covers q r e w))))
   where
     rests : (q : ℕ) (r : Process) → process (change s p f) q ≡ Some r → wakes (change s p f) r ≡ true → q ≡ p → ⊥
     rests q r e w same =

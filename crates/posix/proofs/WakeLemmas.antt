@@ -1,4 +1,4 @@
--- What an event comes to, and that who can act then has a place.
+-- What an event comes to, and that nothing is left to settle then: who can act has a place.
 use Rattle.std.proofs.Common.{◌≡◌, ℕ, ◌+◌, Bool, true, false, cond, not, ◌&&◌, ◌||◌, refl, ap, sym, ◌∙◌, arith, subst, List, [], ◌∷◌, ◌++◌, filter, Some, None, ◌==◌}
 use Rattle.std.proofs.lemmas.Bool.{or_left, or_right}
 use Rattle.posix.specs.declared.event.Event.{Event}
@@ -9,13 +9,13 @@ use Rattle.posix.specs.States.{State, World, boot, is_in}
 use Rattle.posix.specs.Outcomes.{Outcome}
 use Rattle.posix.specs.Entries.{Line}
 use Rattle.posix.specs.Runs.{RunsFrom}
-use Rattle.posix.specs.Settle.{settle, wakes, can_act}
+use Rattle.posix.specs.Settle.{give_places, clear_foregrounds, settle, wakes, can_act, IsSettled, NoWakeIsLost, AreFresh}
 use Rattle.posix.specs.Step.{IsStep, next, happens, act}
-use Rattle.posix.specs.Settle.{NoWakeIsLost}
 use Rattle.posix.proofs.MemberLemmas.{in_append}
 use Rattle.posix.proofs.TableLemmas.{pid_looked}
 use Rattle.posix.proofs.SeeLemmas.{can_act_order}
 use Rattle.posix.proofs.CountLemmas.{next_halted}
+use Rattle.posix.proofs.FreshLemmas.{fresh_cleared, first_fresh}
 
 -- ---- what an event comes to
 
@@ -44,10 +44,10 @@ unfolding lookup is_in
 among t [] p r e k = absurd (cc)
 among t (x ∷ xs) p r e k = grind (arith, k, among t xs p r)
 
--- to settle gives a place to who can act
-settled_places : (s : State) (p : ℕ) (r : Process) → lookup p s.processes ≡ Some r → can_act s r ≡ true → is_in p (settle s).order ≡ true
-unfolding settle
-settled_places s p r e c =
+-- who can act is given a place
+places_given : (s : State) (p : ℕ) (r : Process) → lookup p s.processes ≡ Some r → can_act s r ≡ true → is_in p (give_places s).order ≡ true
+unfolding give_places
+places_given s p r e c =
     elim (is_in p s.order) as (λ b. is_in p s.order ≡ b → is_in p (s.order ++ pids (filter (wakes s) s.processes)) ≡ true) [
       | true ↦ λ t. in_append p s.order _ ∙ or_left _ _ t
       | false ↦ λ t.
@@ -56,25 +56,52 @@ settled_places s p r e c =
           in_append p s.order _ ∙ or_right _ _ (among (wakes s) s.processes p r e w)
     ] refl
 
--- to settle lets nobody act
-act_unsettled : (s : State) (r : Process) → can_act (settle s) r ≡ can_act s r
-unfolding settle
-act_unsettled s r = can_act_order s _ r
+-- nobody can act by places that are given
+act_given : (s : State) (r : Process) → can_act (give_places s) r ≡ can_act s r
+unfolding give_places
+act_given s r = can_act_order s _ r
 
--- to settle keeps the processes
-processes_settled : (s : State) → (settle s).processes ≡ s.processes
-unfolding settle
-processes_settled s = refl
+-- the processes stay
+processes_given : (s : State) → (give_places s).processes ≡ s.processes
+unfolding give_places
+processes_given s = refl
 
--- in a settled state who can act has a place
-pub places_settled : (s : State) (p : ℕ) (r : Process) → lookup p (settle s).processes ≡ Some r → can_act (settle s) r ≡ true → is_in p (settle s).order ≡ true
-places_settled s p r e c = settled_places s p r (sym (ap (lookup p) (processes_settled s)) ∙ e) (sym (act_unsettled s r) ∙ c)
+-- so that after it who can act has a place
+pub awake_given : (s : State) → NoWakeIsLost (give_places s)
+awake_given s p r e c = places_given s p r (sym (ap (lookup p) (processes_given s)) ∙ e) (sym (act_given s r) ∙ c)
+
+-- and foreground process groups keep a member
+fresh_given : (s : State) → AreFresh s → AreFresh (give_places s)
+unfolding give_places
+fresh_given s fresh = fresh
+
+-- ---- a settled state
+
+-- to settle leaves nothing to settle
+pub is_settled : (s : State) → IsSettled (settle s)
+unfolding settle
+is_settled s = record { awake = awake_given (clear_foregrounds s); fresh = fresh_given (clear_foregrounds s) (fresh_cleared s) }
+
+-- who can act has a place
+pub places_settled : (s : State) → NoWakeIsLost (settle s)
+places_settled s = (is_settled s).awake
+
+-- after an event nothing is left
+pub next_settled : (old new : State) (event : Event) (entries : List Entry) → IsStep old event entries new → old.halted ≡ false → IsSettled new
+next_settled old new event entries h going =
+    let is : settle (happens h.granted old event).state ≡ new = ap (λ (o : Outcome). o.state) (sym (next_awake h.granted old event going) ∙ h.comes) in
+    subst IsSettled is (is_settled (happens h.granted old event).state)
+
+-- nor is anything where nothing was before, after a halt too
+pub settled_stays : (old new : State) (event : Event) (entries : List Entry) → IsStep old event entries new → IsSettled old → IsSettled new
+settled_stays old new event entries h settled = elim old.halted as (λ b. old.halted ≡ b → IsSettled new) [
+  | true ↦ λ t. subst IsSettled (sym (nothing_after_halt old new event entries h t)) settled
+  | false ↦ λ t. next_settled old new event entries h t
+] refl
 
 -- after an event who can act has a place
 pub act_has_place : (old new : State) (event : Event) (entries : List Entry) → IsStep old event entries new → old.halted ≡ false → NoWakeIsLost new
-act_has_place old new event entries h awake p r e c =
-    let is : settle (happens h.granted old event).state ≡ new = ap (λ (o : Outcome). o.state) (sym (next_awake h.granted old event awake) ∙ h.comes) in
-    subst (λ s. lookup p s.processes ≡ Some r → can_act s r ≡ true → is_in p s.order ≡ true) is (places_settled _ p r) e c
+act_has_place old new event entries h awake = (next_settled old new event entries h awake).awake
 
 -- and still has where it had before, after a halt too
 pub places_stay : (old new : State) (event : Event) (entries : List Entry) → IsStep old event entries new → NoWakeIsLost old → NoWakeIsLost new
@@ -91,3 +118,7 @@ first_has_place w p r e act =
       | true ↦ λ k. refl
       | false ↦ λ k. absurd (cc)
     ] e
+
+-- and nothing is left to settle
+pub first_settled : (w : World) → IsSettled (boot w)
+first_settled w = record { awake = first_has_place w; fresh = first_fresh w }

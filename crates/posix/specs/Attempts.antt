@@ -1,7 +1,7 @@
 -- Attempts of system calls.
 use Rattle.std.specs.Prelude.{Bool, pos}
 use Rattle.posix.specs.declared.call.Call.{Call}
-use Rattle.posix.specs.declared.call.Call.TheVariants.{Exit, Fork, Waitpid, Pause, SchedYield, Getpid, Getppid, Getuid, Geteuid, Getgid, Getegid, Setuid, Seteuid, Setgid, Setegid, Kill, Sigaction, Sigprocmask, Sigpending, Sigsuspend, Sigreturn, Alarm, Exec, Getpgid, Getsid, Setpgid, Setsid}
+use Rattle.posix.specs.declared.call.Call.TheVariants.{Exit, Fork, Waitpid, Pause, SchedYield, Getpid, Getppid, Getuid, Geteuid, Getgid, Getegid, Setuid, Seteuid, Setgid, Setegid, Kill, Sigaction, Sigprocmask, Sigpending, Sigsuspend, Sigreturn, Alarm, Exec, Getpgid, Getsid, Setpgid, Setsid, Setctty, Tcgetpgrp, Tcsetpgrp, Settostop, Read, Write}
 use Rattle.posix.specs.declared.process.Blocked.{Blocked}
 use Rattle.posix.specs.declared.process.Blocked.TheVariants as blocked
 use Rattle.posix.specs.Statuses.{exited}
@@ -17,6 +17,7 @@ use Rattle.posix.specs.Sends.{kill}
 use Rattle.posix.specs.Alarms.{alarm}
 use Rattle.posix.specs.Programs.{exec}
 use Rattle.posix.specs.GroupCalls.{getpgid, getsid, setpgid, setsid}
+use Rattle.posix.specs.Terminals.{setctty, tcgetpgrp, tcsetpgrp, settostop, read, write}
 use Rattle.posix.specs.SignalCalls.{set_credentials, sigaction, sigprocmask, sigpending}
 
 -- What each call does, XSH under its name. Whether the host grants memory matters where a call needs
@@ -49,9 +50,16 @@ attempt granted s me Getpgid = getpgid s me
 attempt granted s me Getsid = getsid s me
 attempt granted s me Setpgid = setpgid s me
 attempt granted s me Setsid = setsid s me
+attempt granted s me Setctty = setctty s me
+attempt granted s me Tcgetpgrp = tcgetpgrp s me
+attempt granted s me Tcsetpgrp = tcsetpgrp s me
+attempt granted s me Settostop = settostop s me
+attempt granted s me Read = read s me
+attempt granted s me Write = write s me
 
 -- the call that a process is blocked in, attempted afresh; in Linux a child that changes its group wakes no waiting parent
 unfoldable pub attempt_again : State → Process → Blocked → Attempted
 attempt_again s me blocked.Waitpid = wait s me
+attempt_again s me blocked.Read = read s me
 attempt_again s me blocked.Pause = Block blocked.Pause
 attempt_again s me (blocked.Sigsuspend mask) = Block (blocked.Sigsuspend mask)

@@ -1,7 +1,7 @@
 -- System calls by their names.
 use Rattle.std.specs.Prelude.{ℕ, List, [], ◌∷◌, codes, Option, find, bytes_eq}
 use Rattle.posix.specs.declared.call.Call.{Call}
-use Rattle.posix.specs.declared.call.Call.TheVariants.{Exit, Fork, Waitpid, Pause, SchedYield, Getpid, Getppid, Getuid, Geteuid, Getgid, Getegid, Setuid, Seteuid, Setgid, Setegid, Kill, Sigaction, Sigprocmask, Sigpending, Sigsuspend, Sigreturn, Alarm, Exec, Getpgid, Getsid, Setpgid, Setsid}
+use Rattle.posix.specs.declared.call.Call.TheVariants.{Exit, Fork, Waitpid, Pause, SchedYield, Getpid, Getppid, Getuid, Geteuid, Getgid, Getegid, Setuid, Seteuid, Setgid, Setegid, Kill, Sigaction, Sigprocmask, Sigpending, Sigsuspend, Sigreturn, Alarm, Exec, Getpgid, Getsid, Setpgid, Setsid, Setctty, Tcgetpgrp, Tcsetpgrp, Settostop, Read, Write}
 
 -- how a call is written, in world texts and in traces
 abbrev pub call_text : Call → List ℕ
@@ -32,13 +32,20 @@ call_text Getpgid = codes "getpgid"
 call_text Getsid = codes "getsid"
 call_text Setpgid = codes "setpgid"
 call_text Setsid = codes "setsid"
+call_text Setctty = codes "setctty"
+call_text Tcgetpgrp = codes "tcgetpgrp"
+call_text Tcsetpgrp = codes "tcsetpgrp"
+call_text Settostop = codes "settostop"
+call_text Read = codes "read"
+call_text Write = codes "write"
 
 -- all calls, for looking one up
 abbrev pub all_calls : List Call
 all_calls = Exit ∷ Fork ∷ Waitpid ∷ Pause ∷ SchedYield ∷ Getpid ∷ Getppid
     ∷ Getuid ∷ Geteuid ∷ Getgid ∷ Getegid ∷ Setuid ∷ Seteuid ∷ Setgid ∷ Setegid
     ∷ Kill ∷ Sigaction ∷ Sigprocmask ∷ Sigpending ∷ Sigsuspend ∷ Sigreturn ∷ Alarm
-    ∷ Exec ∷ Getpgid ∷ Getsid ∷ Setpgid ∷ Setsid ∷ []
+    ∷ Exec ∷ Getpgid ∷ Getsid ∷ Setpgid ∷ Setsid ∷ Setctty ∷ Tcgetpgrp
+    ∷ Tcsetpgrp ∷ Settostop ∷ Read ∷ Write ∷ []
 
 -- the call that a word names
 abbrev pub call_named : List ℕ → Option Call

@@ -31,6 +31,7 @@ use Rattle.posix.specs.Ends.{end_process}
 -- the call that it is
 abbrev pub call_of : Blocked → Call
 call_of blocked.Waitpid = call.Waitpid
+call_of blocked.Read = call.Read
 call_of blocked.Pause = call.Pause
 call_of (blocked.Sigsuspend earlier) = call.Sigsuspend
 

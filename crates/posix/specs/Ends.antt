@@ -1,5 +1,5 @@
 -- Ends, XSH _exit, Consequences of Process Termination.
-use Rattle.std.specs.Prelude.{ℕ, ◌+◌, ◌==◌, Bool, true, false, ◌||◌, if◌then◌else◌, List, [], ◌∷◌, filter, None}
+use Rattle.std.specs.Prelude.{ℕ, ◌+◌, ◌==◌, Bool, true, false, not, ◌&&◌, ◌||◌, if◌then◌else◌, List, [], ◌∷◌, filter, Option, Some, None}
 use Rattle.std.specs.Option.{option_map_or}
 use Rattle.posix.specs.declared.entry.Entry.TheVariants.{Ended, Halted}
 use Rattle.posix.specs.declared.process.Life.{Life}
@@ -10,6 +10,7 @@ use Rattle.posix.specs.SignalNumbers.{HUP, CHLD, CONT}
 use Rattle.posix.specs.Processes.{Process, Signals, nothing_pending, is_zombie}
 use Rattle.posix.specs.Tables.{lookup, pids, changed, removed, adopted, children_in, members_in}
 use Rattle.posix.specs.States.{State, change, without, lose_place}
+use Rattle.posix.specs.Consoles.{Console, console_of, changed_console, released}
 use Rattle.posix.specs.Outcomes.{Outcome}
 use Rattle.posix.specs.Generation.{action, has_flag, SA_NOCLDWAIT}
 use Rattle.posix.specs.Choice.{from_kernel}
@@ -83,6 +84,10 @@ tell_of_all s heir (r ∷ rs) = tell_of_all (notice_of_end s heir r.pid (status_
 unfoldable pub signalled_members : PendingSignal → ℕ → List Process → List Process
 signalled_members signal group rs = signalled_all signal (pids (members_in group rs)) rs
 
+-- a signal of the kernel for each member; there is no process group 0
+abbrev pub signalled_group : ℕ → ℕ → List Process → List Process
+signalled_group n group rs = if group == 0 then rs else signalled_members (record { sig = n; carried = from_kernel }) group rs
+
 -- HUP to each member of a process group, then CONT to each, XSH _exit
 abbrev pub roused : ℕ → List Process → List Process
 roused group rs = signalled_members (record { sig = CONT; carried = from_kernel }) group (signalled_members (record { sig = HUP; carried = from_kernel }) group rs)
@@ -95,6 +100,20 @@ roused_all (g ∷ gs) rs = roused_all gs (roused g rs)
 -- to those of the groups that have become orphaned and have a stopped member
 abbrev pub rouse_orphans : List Process → State → State
 rouse_orphans before s = record s { processes = roused_all (newly_orphaned before s.processes) s.processes }
+
+-- ---- the terminal of a session
+
+abbrev pub hung_up : State → ℕ → Option Console → State
+hung_up s session None = s
+hung_up s session (Some c) = record s {
+  processes = signalled_group HUP c.foreground s.processes;
+  consoles = changed_console session released s.consoles;
+}
+
+-- The leader of a session other than process 1 ends: each member of the foreground process group of its terminal gets
+-- HUP, and the terminal is nobody's any more, XSH _exit.
+unfoldable pub hang_up : State → Process → State
+hang_up s r = if not (r.pid == 1) && r.session == r.pid then hung_up s r.session (console_of r.session s.consoles) else s
 
 -- ---- the end of a process
 
@@ -109,6 +128,6 @@ end_with_heir s r heir status =
       entries = Ended r.pid status ∷ [];
     }
 
--- The heir is process 1 (own; as init has it in Linux).
+-- A session's terminal is hung up first. The heir is process 1 (own; as init has it in Linux).
 unfoldable pub end_process : State → Process → ℕ → Outcome
-end_process s r status = end_with_heir s r 1 status
+end_process s r status = end_with_heir (hang_up s r) r 1 status

@@ -20,9 +20,10 @@ use Rattle.posix.specs.Choice.{taken}
 
 -- ---- the call that a process is blocked in as a handler is entered
 
--- waitpid is begun again after the handler where the action asks for it
+-- waitpid and read are begun again after the handler where the action asks for it
 abbrev pub is_restarted : Blocked → Action → Bool
 is_restarted blocked.Waitpid a = has_flag a SA_RESTART
+is_restarted blocked.Read a = has_flag a SA_RESTART
 is_restarted blocked.Pause a = false
 is_restarted (blocked.Sigsuspend earlier) a = false
 
@@ -39,6 +40,7 @@ leave_call b a c = if is_interrupted b a then move_on (set_register c 0 (refusal
 abbrev pub mask_before : Option Blocked → ℕ → ℕ
 mask_before None mask = mask
 mask_before (Some blocked.Waitpid) mask = mask
+mask_before (Some blocked.Read) mask = mask
 mask_before (Some blocked.Pause) mask = mask
 mask_before (Some (blocked.Sigsuspend earlier)) mask = earlier
 

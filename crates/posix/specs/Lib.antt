@@ -29,6 +29,7 @@ pub mod Waits
 pub mod Delivery
 pub mod Sends
 pub mod SignalCalls
+pub mod Terminals
 pub mod Attempts
 pub mod Settle
 pub mod Step

@@ -21,10 +21,11 @@ abbrev pub silent : State → Outcome
 silent s = record { state = s; entries = [] }
 
 -- An attempt of a call is done, the results being written and the call being left; or the process has
--- to wait, blocked in the call.
+-- to wait, blocked in the call; or the call begins again, shows nothing, and leads to this state.
 pub data Attempted : Type 0 where
   Done : Outcome → Attempted
   Block : Blocked → Attempted
+  Again : State → Attempted
 
 -- ---- results
 

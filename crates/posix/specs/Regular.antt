@@ -1,8 +1,9 @@
 -- What holds of every state that the machine reaches: the type of a machine keeps it.
-use Rattle.std.specs.Prelude.{◌≡◌, ◌≢◌, ◌⊎◌, ℕ, ◌≤◌, true, false, List, [], ◌∷◌, ◌+◌, ◌<◌, Option, Some, IfSome}
+use Rattle.std.specs.Prelude.{◌≡◌, ◌≢◌, ◌⊎◌, ℕ, ◌≤◌, true, false, List, [], ◌∷◌, ◌+◌, ◌<◌, Option, Some, IfSome, length, slice_get}
 use Rattle.posix.specs.Processes.{Process, is_zombie}
 use Rattle.posix.specs.Tables.{IsRising, lookup, children_in}
 use Rattle.posix.specs.States.{State, is_in}
+use Rattle.posix.specs.Consoles.{Console}
 use Rattle.posix.specs.Alarms.{most_ticks}
 
 -- the numbers of a record are within their range
@@ -11,6 +12,8 @@ pub record IsBounded (pidmax : ℕ) (r : Process) : Type 0 where
   pub pid : r.pid ≤ pidmax
   pub group : r.group ≤ pidmax
   pub session : r.session ≤ pidmax
+  pub group_least : 1 ≤ r.group
+  pub session_least : 1 ≤ r.session
 
 -- process 1 is there, without a parent
 pub record HasFirst (rs : List Process) : Type 0 where
@@ -42,6 +45,11 @@ pub record AreGrouped (rs : List Process) : Type 0 where
   pub one : (p q : ℕ) (r t : Process) → lookup p rs ≡ Some r → lookup q rs ≡ Some t → r.group ≡ t.group → r.session ≡ t.session
   pub own : (p q : ℕ) (r t : Process) → lookup p rs ≡ Some r → lookup q rs ≡ Some t → t.group ≡ p → t.session ≡ r.session
 
+-- There are so many consoles, and a session has one at most.
+pub record AreConsoles (many : ℕ) (cs : List Console) : Type 0 where
+  pub count : length cs ≡ many
+  pub apart : (i j : ℕ) (c d : Console) → slice_get cs i ≡ Some c → slice_get cs j ≡ Some d → c.session ≢ 0 → c.session ≡ d.session → i ≡ j
+
 pub record IsRegular (s : State) : Type 0 where
   pub rising : IsRising s.processes
   pub bounded : (p : ℕ) (r : Process) → lookup p s.processes ≡ Some r → IsBounded s.world.pidmax r
@@ -51,3 +59,4 @@ pub record IsRegular (s : State) : Type 0 where
   pub childless : (p : ℕ) (r : Process) → p ≢ 1 → lookup p s.processes ≡ Some r → is_zombie r.life ≡ true → children_in p s.processes ≡ []
   pub alarms : (p : ℕ) (r : Process) → lookup p s.processes ≡ Some r → IsAhead s.ticks r.alarm
   pub grouped : AreGrouped s.processes
+  pub consoles : AreConsoles s.world.consoles s.consoles

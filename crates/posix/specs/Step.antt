@@ -4,7 +4,7 @@ use Rattle.posix.specs.declared.instr.Instr.{Instr}
 use Rattle.posix.specs.declared.instr.Trap.{Trap}
 use Rattle.posix.specs.declared.instr.Trap.TheVariants as trap
 use Rattle.posix.specs.declared.event.Event.{Event}
-use Rattle.posix.specs.declared.event.Event.TheVariants.{Step, Tick}
+use Rattle.posix.specs.declared.event.Event.TheVariants.{Step, Tick, Key}
 use Rattle.posix.specs.declared.entry.Entry.{Entry}
 use Rattle.posix.specs.declared.entry.Entry.TheVariants.{Noted}
 use Rattle.posix.specs.declared.process.Blocked.{Blocked}
@@ -15,13 +15,14 @@ use Rattle.posix.specs.SignalSets.{set_in}
 use Rattle.posix.specs.Processes.{Process, Signals, Cpu, argument}
 use Rattle.posix.specs.States.{Program, State, change, lose_place, go_last, current, current_process}
 use Rattle.posix.specs.Execute.{exec_one}
-use Rattle.posix.specs.Outcomes.{Outcome, silent, Attempted, Done, Block}
+use Rattle.posix.specs.Consoles.{Console, keyed, key_signal, console_at, with_console}
+use Rattle.posix.specs.Outcomes.{Outcome, silent, Attempted, Done, Block, Again}
 use Rattle.posix.specs.Alarms.{pass_time}
 use Rattle.posix.specs.Attempts.{attempt, attempt_again}
 use Rattle.posix.specs.Generation.{is_pending}
 use Rattle.posix.specs.Choice.{chosen}
 use Rattle.posix.specs.Handlers.{give_mask}
-use Rattle.posix.specs.Ends.{end_process}
+use Rattle.posix.specs.Ends.{end_process, signalled_group}
 use Rattle.posix.specs.Delivery.{deliver, fault}
 use Rattle.posix.specs.Settle.{settle}
 
@@ -33,16 +34,19 @@ set_cpu c r = record r { cpu = c }
 -- sigsuspend begins with the mask in r1
 abbrev pub waiting_signals : Blocked → ℤ → Signals → Signals
 waiting_signals blocked.Waitpid z g = g
+waiting_signals blocked.Read z g = g
 waiting_signals blocked.Pause z g = g
 waiting_signals (blocked.Sigsuspend earlier) z g = give_mask (set_in z) g
 
 unfoldable pub enter : Blocked → Process → Process
 enter b r = record r { blocked = Some b; signals = waiting_signals b (argument r 1) r.signals }
 
--- a call that has to wait: the process is blocked in it, with the pc at the call, and loses its place
+-- A call that has to wait: the process is blocked in it, with the pc at the call, and loses its place. One that begins
+-- again does so at the next turn: the pc stays at it, and the place is kept.
 abbrev pub begin_call : State → Process → Attempted → Outcome
 begin_call s r (Done outcome) = outcome
 begin_call s r (Block b) = silent (lose_place (change s r.pid (enter b)) r.pid)
+begin_call s r (Again t) = silent t
 
 -- what follows an instruction
 unfoldable pub after_trap : Bool → State → Process → Cpu → Trap → Outcome
@@ -56,10 +60,15 @@ abbrev pub deliver_or : State → Process → Option ℕ → Outcome → Outcome
 deliver_or s r (Some n) other = deliver s r n
 deliver_or s r None other = other
 
+-- it is in no call any more
+unfoldable pub out_of_call : Process → Process
+out_of_call r = record r { blocked = None }
+
 -- A call that can be completed goes before any signal but KILL; in Linux a wait goes before KILL, too. Where the
 -- process still has to wait, a signal is delivered; without one it loses its place.
 abbrev pub go_on : State → Process → Attempted → Outcome
 go_on s r (Done outcome) = outcome
+go_on s r (Again t) = silent (change t r.pid out_of_call)
 go_on s r (Block b) = deliver_or s r (chosen r.life r.signals) (silent (lose_place s r.pid))
 
 abbrev pub instructions : Option Program → List Instr
@@ -97,11 +106,30 @@ rotate s (Some p) = go_last s p
 unfoldable pub tick : State → State
 tick s = rotate (pass_time s) (current s)
 
+-- ---- a key
+
+-- the members of the foreground process group get the signal of a key
+abbrev pub signalled_from : Option ℕ → ℕ → List Process → List Process
+signalled_from None group rs = rs
+signalled_from (Some n) group rs = signalled_group n group rs
+
+abbrev pub key_on : State → ℕ → ℕ → Option Console → State
+key_on s console byte None = s
+key_on s console byte (Some c) = record s {
+  processes = signalled_from (key_signal byte) c.foreground s.processes;
+  consoles = with_console console (keyed byte c) s.consoles;
+}
+
+-- on a console that isn't there nothing happens
+unfoldable pub key : State → ℕ → ℕ → State
+key s console byte = key_on s console byte (console_at console s.consoles)
+
 -- ---- an event
 
 unfoldable pub happens : Bool → State → Event → Outcome
 happens granted s Step = step granted s (current_process s)
 happens granted s Tick = silent (tick s)
+happens granted s (Key console byte) = silent (key s console byte)
 
 abbrev pub settled : Outcome → Outcome
 settled o = record o { state = settle o.state }

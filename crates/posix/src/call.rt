@@ -61,13 +61,26 @@ pub enum Call {
     Setpgid,
     /// The caller becomes the leader of a new session and process group (XSH setsid).
     Setsid,
+    /// The console in r1 becomes the controlling terminal of the session that the caller leads (own; as TIOCSCTTY in
+    /// ioctl_tty(2)).
+    Setctty,
+    /// The foreground process group of the caller's terminal (XSH tcgetpgrp).
+    Tcgetpgrp,
+    /// The process group in r1 becomes the foreground one of the caller's terminal (XSH tcsetpgrp).
+    Tcsetpgrp,
+    /// Sets TOSTOP of the caller's terminal where r1 isn't 0, else clears it (own; as XSH tcsetattr).
+    Settostop,
+    /// Reads at most r2 bytes of a line of the caller's terminal into the words from address r1 on (XSH read).
+    Read,
+    /// Writes the r2 words from address r1 on to the caller's terminal, as bytes (XSH write).
+    Write,
 }
 
 impl Call {
     ghost use Rattle.posix.specs.Calls.{call_named, call_text};
 
     /// Every call.
-    pub const ALL: [Call; 27] = [
+    pub const ALL: [Call; 33] = [
         Call::Exit,
         Call::Fork,
         Call::Waitpid,
@@ -95,6 +108,12 @@ impl Call {
         Call::Getsid,
         Call::Setpgid,
         Call::Setsid,
+        Call::Setctty,
+        Call::Tcgetpgrp,
+        Call::Tcsetpgrp,
+        Call::Settostop,
+        Call::Read,
+        Call::Write,
     ];
 
     /// How it is written, in world texts and in traces: at most 16 bytes.
@@ -130,6 +149,12 @@ impl Call {
             Call::Getsid => b"getsid",
             Call::Setpgid => b"setpgid",
             Call::Setsid => b"setsid",
+            Call::Setctty => b"setctty",
+            Call::Tcgetpgrp => b"tcgetpgrp",
+            Call::Tcsetpgrp => b"tcsetpgrp",
+            Call::Settostop => b"settostop",
+            Call::Read => b"read",
+            Call::Write => b"write",
         }
     }
 

@@ -7,4 +7,6 @@ pub enum Event {
     Step,
     /// The time goes on by one, and the current process goes to the end of the order.
     Tick,
+    /// A byte comes on a console, which counts from 1.
+    Key { console: u8, byte: u8 },
 }

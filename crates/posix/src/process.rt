@@ -83,6 +83,7 @@ pub enum News {
 #[derive(Clone, Copy, Debug, PartialEq, Eq)]
 pub enum Blocked {
     Waitpid,
+    Read,
     Pause,
     Sigsuspend(SigSet),
 }

@@ -5,7 +5,7 @@ ghost use Rattle.posix.specs.declared.process.Frame.{Frame};
 ghost use Rattle.posix.specs.Processes.{Process, first_process};
 ghost use Rattle.posix.specs.Outcomes.{finished};
 ghost use Rattle.posix.specs.Handlers.{handles, is_full, newest_frame, returned};
-ghost use Rattle.posix.specs.Step.{enter};
+ghost use Rattle.posix.specs.Step.{enter, out_of_call};
 ghost use Rattle.posix.specs.States.{Program};
 ghost use Rattle.posix.specs.Programs.{executed};
 ghost use Rattle.proctable.specs.Body.{own_of, give_own, forked};
@@ -100,6 +100,14 @@ impl Own {
             self.signals.replace_mask(set);
         }
         self.blocked = Some(blocked);
+    }
+
+    /// The process leaves the call that it waits in, which gives nothing: the pc stays at it.
+    #[tactic(auto, unfolding(posix::specs::Step::out_of_call))]
+    pub fn leave(&mut self)
+        ensures { (r : Process) → give_own self.new r ≡ out_of_call (give_own self.old r) }
+    {
+        self.blocked = None;
     }
 
     /// The process runs the program with this number, which sets these effective ids, in place of its own (XSH

@@ -1,6 +1,7 @@
 pub mod WordLemmas
 pub mod LineLemmas
 pub mod EventLemmas
+pub mod KeyLemmas
 pub mod ReaderLemmas
 pub mod EachLemmas
 pub mod Rows

@@ -174,17 +174,15 @@ no_fault (Some f) h = cc
 
 -- its events are added
 pub line_added : (old : Progress) (events : List Event) (partial line : List ℕ) → line ≡ old.partial → partial ≡ [] → old.reading.fault ≡ None →
-    ((n : ℕ) → (more : List Event) × (event_line n (most_events - length old.reading.events) line ≡ Ok more) × (events ≡ old.reading.events ++ more)) →
+    ((more : List Event) × (event_line old.consoles (most_events - length old.reading.events) line ≡ Ok more) × (events ≡ old.reading.events ++ more)) →
     EndsLine old (record { consoles = old.consoles; reading = record { lines = old.reading.lines + 1; events = events; fault = old.reading.fault }; partial = partial })
-line_added old events partial line same empty fine adds =
-    let a = adds old.consoles in
-    rw (fine, ← same) (rw (a.1, a.2) refl, empty)
+line_added old events partial line same empty fine adds = rw (fine, ← same) (rw (adds.1, adds.2) refl, empty)
 
 -- or it is refused
 pub line_refused : (m : ℕ) (r : Reading) (partial : List ℕ) (events : List Event) (line : List ℕ) (reason : Reason) → line ≡ partial →
-    ((n : ℕ) → (events ≡ r.events) × ((reason ≡ Memory) ⊎ (event_line n (most_events - length r.events) line ≡ Err reason))) →
+    (events ≡ r.events) × ((reason ≡ Memory) ⊎ (event_line m (most_events - length r.events) line ≡ Err reason)) →
     (reason ≡ Memory) ⊎ ((judged_line m r partial).fault ≡ Some (record { line = r.lines + 1; reason = reason }))
-line_refused m r partial events line reason same adds = elim (adds m).1 [
+line_refused m r partial events line reason same adds = elim adds.1 [
   | inl e ↦ inl e
   | inr q ↦ inr (rw (← same, q) refl)
 ]

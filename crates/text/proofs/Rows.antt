@@ -1,6 +1,8 @@
 -- Worked texts, computed: worlds, events and faults.
-use Rattle.std.specs.Prelude.{◌≡◌, ℕ, List, [], ◌∷◌, ◌++◌, refl, replicate, Result, Ok, Err, Option, Some, None, codes, pos, negsuc, flat_map}
-use Rattle.posix.specs.declared.event.Event.TheVariants.{Step, Tick}
+use Rattle.std.specs.Prelude.{◌≡◌, ℕ, List, [], ◌∷◌, ◌++◌, refl, replicate, Result, Ok, Err, Option, Some, None, codes, ℤ, pos, negsuc, map, flat_map, nat_le, ◌&&◌, false}
+use Rattle.std.proofs.Common.{arith, inr}
+use Rattle.std.proofs.lemmas.Bool.Decides.{nat_tests}
+use Rattle.posix.specs.declared.event.Event.TheVariants.{Step, Tick, Key}
 use Rattle.posix.specs.declared.instr.Instr.{Instr}
 use Rattle.posix.specs.declared.instr.Instr.TheVariants.{Set, Move, Compute, Load, Store, Jump, JumpIf, Note, Sys}
 use Rattle.posix.specs.declared.instr.Operator.TheVariants.{Add, Sub, Mul, Div, Rem, And, Or, Xor}
@@ -14,11 +16,12 @@ use Rattle.text.specs.Names.{defined}
 use Rattle.text.specs.Instructions.{operation_named, two_registers, target, operands}
 use Rattle.text.specs.Outlines.{completed, program_of}
 use Rattle.text.specs.WorldTexts.{world_text, world_of, header, setting, program_line, label_line, instruction_line, inner_line, pidmax_line, consoles_line, outer_line, line_at}
-use Rattle.text.specs.EventTexts.{event_text, counted}
+use Rattle.text.specs.Numbers.{ranged}
+use Rattle.text.specs.EventTexts.{event_text, counted, keys, HasRead}
 
 -- opens every definition of a text
 unfoldable everything : Unit {0}
-unfolding defined operation_named two_registers target operands completed program_of world_text world_of header setting program_line label_line instruction_line inner_line pidmax_line consoles_line outer_line line_at event_text counted
+unfolding defined operation_named two_registers target operands completed program_of world_text world_of header setting program_line label_line instruction_line inner_line pidmax_line consoles_line outer_line line_at event_text counted keys
 everything = tt
 
 abbrev program : Option ℕ → Option ℕ → List Instr → Program
@@ -306,9 +309,163 @@ row_word_too_many : event_text 1 (codes "step 1 2\n") ≡ refused 1 UnknownWord
 unfolding everything
 row_word_too_many = refl
 
-row_key_is_unknown : event_text 1 (codes "key 1 41\n") ≡ refused 1 UnknownWord
+-- ---- keys
+
+-- `hi` and a line feed, in either case of digits, and the greatest byte
+row_keys : event_text 2 (codes "key 1 68,69\t0a # hi\nstep 1\nkey 2 fF") ≡ Ok (Key 1 104 ∷ Key 1 105 ∷ Key 1 10 ∷ Step ∷ Key 2 255 ∷ [])
 unfolding everything
-row_key_is_unknown = refl
+row_keys = refl
+
+row_every_digit : event_text 1 (codes "key 1 00 12 34 56 78 9A BC DE Fa bc de ff\n")
+    ≡ Ok (map (Key 1) (0 ∷ 18 ∷ 52 ∷ 86 ∷ 120 ∷ 154 ∷ 188 ∷ 222 ∷ 250 ∷ 188 ∷ 222 ∷ 255 ∷ []))
+unfolding everything
+row_every_digit = refl
+
+-- a number may have zeros in front
+row_console_with_zeros : event_text 8 (codes "key 008 41\n") ≡ Ok (Key 8 65 ∷ [])
+unfolding everything
+row_console_with_zeros = refl
+
+-- the most bytes that a line has room for
+row_65_bytes : event_text 1 (codes "key 1" ++ flat_map (λ (n : ℕ). codes " 61") (replicate 65 0)) ≡ Ok (replicate 65 (Key 1 97))
+unfolding everything
+row_65_bytes = refl
+
+row_66_bytes : event_text 1 (codes "key 1" ++ flat_map (λ (n : ℕ). codes " 61") (replicate 66 0)) ≡ refused 1 LineTooLong
+unfolding everything
+row_66_bytes = refl
+
+-- a word too few
+row_key_alone : event_text 1 (codes "key\n") ≡ refused 1 UnknownWord
+unfolding everything
+row_key_alone = refl
+
+row_key_without_a_byte : event_text 1 (codes "step 1\nkey 1 # 41\n") ≡ refused 2 UnknownWord
+unfolding everything
+row_key_without_a_byte = refl
+
+-- no byte
+row_one_digit : event_text 1 (codes "key 1 4\n") ≡ refused 1 BadNumber
+unfolding everything
+row_one_digit = refl
+
+row_no_digit : event_text 1 (codes "key 1 4G\n") ≡ refused 1 BadNumber
+unfolding everything
+row_no_digit = refl
+
+row_no_first_digit : event_text 1 (codes "key 1 @4\n") ≡ refused 1 BadNumber
+unfolding everything
+row_no_first_digit = refl
+
+row_three_digits : event_text 1 (codes "key 1 041\n") ≡ refused 1 BadNumber
+unfolding everything
+row_three_digits = refl
+
+row_negative_byte : event_text 1 (codes "key 1 -4\n") ≡ refused 1 BadNumber
+unfolding everything
+row_negative_byte = refl
+
+row_prefixed_byte : event_text 1 (codes "key 1 0x41\n") ≡ refused 1 BadNumber
+unfolding everything
+row_prefixed_byte = refl
+
+row_bad_last_byte : event_text 1 (codes "key 1 41 42 4\n") ≡ refused 1 BadNumber
+unfolding everything
+row_bad_last_byte = refl
+
+-- no console
+row_console_0 : event_text 1 (codes "key 0 41\n") ≡ refused 1 OutOfRange
+unfolding everything
+row_console_0 = refl
+
+row_console_2 : event_text 1 (codes "key 2 41\n") ≡ refused 1 OutOfRange
+unfolding everything
+row_console_2 = refl
+
+row_console_9 : event_text 8 (codes "key 9 41\n") ≡ refused 1 OutOfRange
+unfolding everything
+row_console_9 = refl
+
+row_negative_console : event_text 8 (codes "key -1 41\n") ≡ refused 1 OutOfRange
+unfolding everything
+row_negative_console = refl
+
+row_named_console : event_text 1 (codes "key A 41\n") ≡ refused 1 BadNumber
+unfolding everything
+row_named_console = refl
+
+-- where the world has none, each number is out of range, and all else no number
+no_console : (z : ℤ) → ranged 1 0 (Some z) ≡ Err OutOfRange
+no_console (pos n) = let e : (nat_le 1 n && nat_le n 0) ≡ false = grind (arith, nat_tests) in rw e refl
+no_console (negsuc n) = refl
+
+row_no_consoles : event_text 0 (codes "key 1 41\n") ≡ refused 1 OutOfRange
+unfolding everything
+row_no_consoles = refl
+
+row_no_consoles_and_0 : event_text 0 (codes "key 0 41\n") ≡ refused 1 OutOfRange
+unfolding everything
+row_no_consoles_and_0 = refl
+
+row_no_consoles_and_no_number : event_text 0 (codes "key one 41\n") ≡ refused 1 BadNumber
+unfolding everything
+row_no_consoles_and_no_number = refl
+
+row_no_consoles_and_no_byte : event_text 0 (codes "key 1\n") ≡ refused 1 OutOfRange
+unfolding everything
+row_no_consoles_and_no_byte = refl
+
+-- the leftmost faulty word decides
+row_console_before_a_byte : event_text 1 (codes "key 2 4G\n") ≡ refused 1 OutOfRange
+unfolding everything
+row_console_before_a_byte = refl
+
+row_console_before_no_byte : event_text 1 (codes "key 2\n") ≡ refused 1 OutOfRange
+unfolding everything
+row_console_before_no_byte = refl
+
+-- A text may be cut anywhere, here within a byte: this is what a reader keeps before the cut, and after the next piece.
+
+row_before_a_cut : HasRead (codes "step 1\nkey 1 6")
+    (record { consoles = 1; reading = record { lines = 1; events = Step ∷ []; fault = None }; partial = codes "key 1 6" })
+unfolding everything
+row_before_a_cut = (refl, refl)
+
+row_after_a_cut : HasRead (codes "step 1\nkey 1 6" ++ codes "8 69\ntick ")
+    (record { consoles = 1; reading = record { lines = 2; events = Step ∷ Key 1 104 ∷ Key 1 105 ∷ []; fault = None }; partial = codes "tick " })
+unfolding everything
+row_after_a_cut = (refl, refl)
+
+row_bad_byte_after_a_cut : HasRead (codes "step 1\nkey 1 6" ++ codes "x\n")
+    (record { consoles = 1; reading = record { lines = 1; events = Step ∷ []; fault = Some (record { line = 2; reason = BadNumber }) }; partial = [] })
+unfolding everything
+row_bad_byte_after_a_cut = inr refl
+
+row_upper_case_key : event_text 1 (codes "Key 1 41\n") ≡ refused 1 UnknownWord
+unfolding everything
+row_upper_case_key = refl
+
+-- The byte that is too much is out of range, unless it is no byte. A line behind one that leaves room for so many events:
+
+row_last_byte : keys 1 2 (codes "1" ∷ codes "41" ∷ codes "42" ∷ []) ≡ Ok (Key 1 65 ∷ Key 1 66 ∷ [])
+unfolding everything
+row_last_byte = refl
+
+row_byte_too_much : keys 1 2 (codes "1" ∷ codes "41" ∷ codes "42" ∷ codes "43" ∷ []) ≡ Err OutOfRange
+unfolding everything
+row_byte_too_much = refl
+
+row_byte_too_much_before_a_bad_one : keys 1 2 (codes "1" ∷ codes "41" ∷ codes "42" ∷ codes "43" ∷ codes "4" ∷ []) ≡ Err OutOfRange
+unfolding everything
+row_byte_too_much_before_a_bad_one = refl
+
+row_bad_byte_too_much : keys 1 2 (codes "1" ∷ codes "41" ∷ codes "42" ∷ codes "4" ∷ []) ≡ Err BadNumber
+unfolding everything
+row_bad_byte_too_much = refl
+
+row_no_room : keys 1 0 (codes "1" ∷ []) ≡ Err UnknownWord
+unfolding everything
+row_no_room = refl
 
 -- a line of 200 bytes is read, one of 201 is too long, a comment and a last line without its line feed, too
 row_long_enough : event_text 1 (replicate 200 35) ≡ Ok []

@@ -1,12 +1,12 @@
 -- Event texts: what a line says, what a text says, and what a reader keeps of a text.
-use Rattle.std.specs.Prelude.{◌≡◌, ◌⊎◌, ℕ, ◌+◌, ◌-◌, List, [], ◌∷◌, ◌++◌, length, replicate, fold, codes, nat_le, if◌then◌else◌, Option, Some, None, Result, Ok, Err, take, bytes_eq}
+use Rattle.std.specs.Prelude.{◌≡◌, ◌⊎◌, ℕ, ◌+◌, ◌-◌, List, [], ◌∷◌, ◌++◌, length, map, replicate, fold, codes, nat_le, nat_lt, if◌then◌else◌, Option, Some, None, Result, Ok, Err, take, bytes_eq}
 use Rattle.posix.specs.declared.event.Event.{Event}
-use Rattle.posix.specs.declared.event.Event.TheVariants.{Step, Tick}
+use Rattle.posix.specs.declared.event.Event.TheVariants.{Step, Tick, Key}
 use Rattle.text.specs.declared.fault.Reason.{Reason}
 use Rattle.text.specs.declared.fault.Reason.TheVariants.{UnknownWord, OutOfRange, Memory}
 use Rattle.text.specs.declared.fault.TextFault.{TextFault}
 use Rattle.text.specs.Lines.{lines_of, all_lines}
-use Rattle.text.specs.Numbers.{number_in}
+use Rattle.text.specs.Numbers.{number_in, byte_in}
 use Rattle.text.specs.Reading.{◌>>=◌, first, no_more, words_within, unless, IsFaultOf}
 
 -- ---- a line
@@ -26,12 +26,37 @@ counted room event ws = do
   events ← run_within room event n.value
   no_more n.rest events
 
--- the events of a line's words, none of which asks for the number of consoles yet
+-- the byte that a word says, where there is room for one more event
+abbrev pub byte_within : ℕ → List ℕ → Result ℕ Reason
+byte_within room w = byte_in w >>= λ byte. if nat_lt 0 room then Ok byte else Err OutOfRange
+
+-- the bytes that some words say, where there is room for so many events
+abbrev pub bytes_within : ℕ → List (List ℕ) → Result (List ℕ) Reason
+bytes_within room [] = Ok []
+bytes_within room (w ∷ ws) = do
+  byte ← byte_within room w
+  bytes ← bytes_within (room - 1) ws
+  Ok (byte ∷ bytes)
+
+-- a key each for one or more bytes
+abbrev pub some_keys : ℕ → List ℕ → Result (List Event) Reason
+some_keys console [] = Err UnknownWord
+some_keys console (byte ∷ bytes) = Ok (map (Key console) (byte ∷ bytes))
+
+-- `C B ..` behind `key`, in a world of so many consoles
+unfoldable pub keys : ℕ → ℕ → List (List ℕ) → Result (List Event) Reason
+keys consoles room ws = do
+  console ← first (number_in 1 consoles) ws
+  bytes ← bytes_within room console.rest
+  some_keys console.value bytes
+
+-- the events of a line's words
 abbrev pub event_words : ℕ → ℕ → List (List ℕ) → Result (List Event) Reason
 event_words consoles room [] = Ok []
 event_words consoles room (w ∷ ws) =
     if bytes_eq w (codes "step") then counted room Step ws
     else if bytes_eq w (codes "tick") then counted room Tick ws
+    else if bytes_eq w (codes "key") then keys consoles room ws
     else Err UnknownWord
 
 -- the events of one line, where there is room for so many

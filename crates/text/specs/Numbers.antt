@@ -1,9 +1,10 @@
 -- Numbers in words.
 use Rattle.std.specs.Prelude.{ℕ, ◌+◌, ◌-◌, ◌*◌, fold, length, nat_lt, ◌==◌, ◌&&◌, ℤ, pos, neg_ℤ, negsuc, Bool, List, [], ◌∷◌, if◌then◌else◌, Option, Some, None, Result, Ok, Err, int_le, unsigned_abs, option_map}
 use Rattle.std.specs.List.{list_all}
-use Rattle.std.specs.Char.{is_ascii_digit}
+use Rattle.std.specs.Char.{is_ascii_digit, is_digit, digit_value}
 use Rattle.text.specs.declared.fault.Reason.{Reason}
 use Rattle.text.specs.declared.fault.Reason.TheVariants.{BadNumber, OutOfRange}
+use Rattle.text.specs.Reading.{◌>>=◌}
 
 -- the number that decimal digits stand for
 abbrev pub value_of : List ℕ → ℕ
@@ -47,3 +48,15 @@ fitting (Some z) = if is_i64 z then Ok z else Err OutOfRange
 -- an i64
 abbrev pub integer : List ℕ → Result ℤ Reason
 integer w = fitting (number w)
+
+-- the value of a hexadecimal digit in either case
+abbrev pub hex_digit : ℕ → Result ℕ Reason
+hex_digit b = if is_digit b 16 then Ok (digit_value b) else Err BadNumber
+
+-- a byte: exactly two hexadecimal digits
+abbrev pub byte_in : List ℕ → Result ℕ Reason
+byte_in (h ∷ l ∷ []) = do
+  high ← hex_digit h
+  low ← hex_digit l
+  Ok (high * 16 + low)
+byte_in _ = Err BadNumber

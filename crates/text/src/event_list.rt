@@ -1,6 +1,7 @@
 //! Events, kept as counted runs.
 
-ghost use Rattle.std.specs.Prelude.{◌≡◌, ◌==◌, ◌+◌, ◌<◌, ◌^◌, [], ◌++◌, length, replicate, OnOk, OnErr};
+ghost use Rattle.std.specs.Prelude.{◌≡◌, ◌==◌, ◌+◌, ◌<◌, ◌≤◌, ◌^◌, [], ◌++◌, length, map, replicate, MatchBool, OnOk, OnErr, vec_len, vec_capacity};
+ghost use Rattle.posix.specs.declared.event.Event.TheVariants.{Key};
 ghost use Rattle.text.specs.EventLists.{expanded};
 
 use posix::Event;
@@ -33,6 +34,22 @@ impl Model for EventList {
     ghost invariant = { λ l. l.len ≡ length (expanded l.runs.items) };
 }
 
+/// Adds one event so many times to the last run, where that is of the same event. The answer is whether
+/// it is; else the runs are unchanged.
+fn grow_last(runs: &mut Vec<EventRun>, event: Event, count: u64) -> bool
+    requires { length (expanded runs.old.items) + count < 2 ^ 64 }
+    ensures items { MatchBool result (expanded runs.new.items ≡ expanded runs.old.items ++ replicate count event) (runs.new.items ≡ runs.old.items) }
+    ensures len { vec_len runs.new ≡ vec_len runs.old }
+    ensures capacity { vec_capacity runs.new ≡ vec_capacity runs.old }
+{
+    let len = runs.len();
+    if len > 0 && runs[len - 1].event == event {
+        runs[len - 1].count += count;
+        return true;
+    }
+    false
+}
+
 /// Adds one event so many times: to the last run, where that is of the same event. Without memory the
 /// runs are unchanged.
 #[tactic(auto, using(crate::proofs::EventLemmas::expanded_rules))]
@@ -41,13 +58,28 @@ fn push_run(runs: &mut Vec<EventRun>, event: Event, count: u64) -> Result<(), Al
     ensures ok { OnOk result (expanded runs.new.items ≡ expanded runs.old.items ++ replicate count event) }
     ensures err { OnErr result (runs.new.items ≡ runs.old.items) }
 {
-    let len = runs.len();
-    if len > 0 && runs[len - 1].event == event {
-        runs[len - 1].count += count;
-        return Ok(());
+    if !grow_last(runs, event, count) {
+        runs.push(EventRun { event, count })?;
     }
-    runs.push(EventRun { event, count })?;
     Ok(())
+}
+
+/// Adds a key on a console for each byte, where there is room for a run each.
+#[tactic(auto, using(crate::proofs::EventLemmas::expanded_rules))]
+fn push_key_runs(runs: &mut Vec<EventRun>, console: u8, bytes: &[u8])
+    requires room { vec_len runs.old + length bytes.now ≤ vec_capacity runs.old }
+    requires count { length (expanded runs.old.items) + length bytes.now < 2 ^ 64 }
+    ensures { expanded runs.new.items ≡ expanded runs.old.items ++ map (Key console) bytes.now }
+{
+    for byte in bytes {
+        let event = Event::Key {
+            console,
+            byte: *byte,
+        };
+        if !grow_last(runs, event, 1) {
+            runs.push_reserved(EventRun { event, count: 1 });
+        }
+    }
 }
 
 impl EventList {
@@ -83,6 +115,18 @@ impl EventList {
     {
         push_run(&mut self.runs, event, count)?;
         self.len += count;
+        Ok(())
+    }
+
+    /// Adds a key on a console for each byte. Without memory the list is unchanged.
+    pub fn push_keys(&mut self, console: u8, bytes: &[u8]) -> Result<(), AllocError>
+        requires { length self.old + length bytes.now < 2 ^ 64 }
+        ensures ok { OnOk result (self.new ≡ self.old ++ map (Key console) bytes.now) }
+        ensures err { OnErr result (self.new ≡ self.old) }
+    {
+        self.runs.reserve(bytes.len())?;
+        push_key_runs(&mut self.runs, console, bytes);
+        self.len += bytes.len() as u64;
         Ok(())
     }
 

@@ -1,14 +1,14 @@
 //! Event texts, read in pieces.
 
-ghost use Rattle.std.specs.Prelude.{◌≡◌, ◌-◌, ◌≤◌, [], ◌∷◌, ◌++◌, length, List, ℕ, Some, None, Err, MatchResult, IfOk, IfErr, IfSome, IsSome};
+ghost use Rattle.std.specs.Prelude.{◌≡◌, ◌-◌, ◌≤◌, [], ◌∷◌, ◌++◌, length, List, ℕ, Some, None, Ok, Err, MatchResult, IfOk, IfErr, IfSome, IsSome};
 ghost use Rattle.text.specs.Words.{words};
 ghost use Rattle.text.specs.Reading.{Answers, IsFaultOf};
-ghost use Rattle.text.specs.EventTexts.{Adds, EndsLine, Meets, HasRead, event_line as event_line_of, counted as counted_of, event_text, most_events};
+ghost use Rattle.text.specs.EventTexts.{Adds, EndsLine, Meets, HasRead, event_line as event_line_of, counted as counted_of, keys as keys_of, bytes_within as bytes_within_of, event_text, most_events};
 
 use crate::event_list::EventList;
 use crate::fault::{Reason, TextFault};
-use crate::numbers::number_in;
-use crate::words::{first_word, next_word, no_more_words, words_within};
+use crate::numbers::{byte_in, number_in};
+use crate::words::{MAX_LINE_LEN, first_word, next_word, no_more_words, words_within};
 use arrayvec::ArrayVec;
 use posix::Event;
 use std::alloc::Global;
@@ -36,10 +36,54 @@ fn add_counted(list: &mut EventList, event: Event, line: &[u8]) -> Result<(), Re
     Ok(())
 }
 
-/// Adds the events of a line. After an error the list is unchanged.
-fn add_line(list: &mut EventList, line: &[u8]) -> Result<(), Reason>
+/// Room for the bytes that a line says, by two digits each.
+const MAX_KEYS: usize = MAX_LINE_LEN / 2;
+
+/// The bytes that the words of a line say, where there is room for so many events. A word that is no byte
+/// is `BadNumber`, one without room `OutOfRange`.
+fn bytes_within(room: u64, line: &[u8]) -> Result<ArrayVec<u8, MAX_KEYS>, Reason>
+    requires { length line.now ≤ 200 }
+    ensures bytes { MatchResult result (λ bytes. bytes_within_of room (words line.now) ≡ Ok bytes.items) (λ reason. bytes_within_of room (words line.now) ≡ Err reason) }
+    ensures within { IfOk result (λ bytes. length bytes.items ≤ room) }
+{
+    let mut bytes = ArrayVec::new();
+    let mut rest = line;
+    while let Some((word, behind)) = next_word(rest) {
+        let byte = byte_in(word)?;
+        if bytes.len() as u64 == room {
+            return Err(Reason::OutOfRange);
+        }
+        bytes.push(byte);
+        rest = behind;
+    }
+    Ok(bytes)
+}
+
+/// Adds the events of `key C B ..`, C from 1 to the number of consoles, where `line` is what stands
+/// behind the first word: a key for each of one or more bytes B. A word too few is `UnknownWord`; a C that
+/// is no number and a B that is no byte is `BadNumber`; another C, and a B that is one event more than a
+/// text may have, is `OutOfRange`. After an error the list is unchanged.
+#[tactic(auto, unfolding(crate::specs::EventTexts::keys))]
+fn add_keys(list: &mut EventList, consoles: u8, line: &[u8]) -> Result<(), Reason>
+    requires events { length list.old ≤ most_events }
+    requires short { length line.now ≤ 200 }
+    ensures adds { Adds list.old list.new result (keys_of consoles (most_events - length list.old) (words line.now)) }
+    ensures within { length list.new ≤ most_events }
+{
+    let (word, rest) = first_word(line)?;
+    let console = number_in(1, u32::from(consoles), word)? as u8;
+    let bytes = bytes_within(MAX_EVENTS - list.len(), rest)?;
+    if bytes.is_empty() {
+        return Err(Reason::UnknownWord);
+    }
+    list.push_keys(console, bytes.as_slice())?;
+    Ok(())
+}
+
+/// Adds the events of a line in a world of so many consoles. After an error the list is unchanged.
+fn add_line(list: &mut EventList, consoles: u8, line: &[u8]) -> Result<(), Reason>
     requires { length list.old ≤ most_events }
-    ensures adds { (consoles : ℕ) → Adds list.old list.new result (event_line_of consoles (most_events - length list.old) line.now) }
+    ensures adds { Adds list.old list.new result (event_line_of consoles (most_events - length list.old) line.now) }
     ensures within { length list.new ≤ most_events }
 {
     let Some((word, rest)) = next_word(words_within(line)?) else {
@@ -48,14 +92,16 @@ fn add_line(list: &mut EventList, line: &[u8]) -> Result<(), Reason>
     match word {
         b"step" => add_counted(list, Event::Step, rest),
         b"tick" => add_counted(list, Event::Tick, rest),
+        b"key" => add_keys(list, consoles, rest),
         _ => Err(Reason::UnknownWord),
     }
 }
 
 /// Reads an event text that comes in pieces, however it is cut.
 ///
-/// A line is `step N` or `tick N`, N from 1 to 1,000,000: so many events. A text has at most
-/// 1,000,000,000,000 events.
+/// A line is `step N` or `tick N`, N from 1 to 1,000,000: so many events; or `key C B ..`, C from 1 to the
+/// number of consoles, with one or more bytes B of two hexadecimal digits each: a key for each byte. A text
+/// has at most 1,000,000,000,000 events.
 #[derive(Drop)]
 pub struct EventReader {
     consoles: u8,
@@ -115,7 +161,7 @@ impl EventReader {
             return;
         }
         let line = self.lines + 1;
-        let judged = add_line(&mut self.events, self.partial.as_slice());
+        let judged = add_line(&mut self.events, self.consoles, self.partial.as_slice());
         self.partial.clear();
         match judged {
             Ok(()) => self.lines = line,

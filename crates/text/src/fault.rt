@@ -13,7 +13,7 @@ pub enum Reason {
     /// A word that its place doesn't allow, a malformed name or register, or a word too few or too many.
     #[error("unknown word")]
     UnknownWord,
-    /// The place of a number holds none.
+    /// The place of a number or a byte holds none.
     #[error("bad number")]
     BadNumber,
     /// A number outside its range, more programs than a world may have, more instructions than a program

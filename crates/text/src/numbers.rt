@@ -1,9 +1,9 @@
-//! Numbers in words: an optional `-`, and one or more decimal digits.
+//! Numbers in words: an optional `-` and one or more decimal digits, or two hexadecimal digits for a byte.
 
-ghost use Rattle.std.specs.Prelude.{◌≡◌, ◌≤◌, ◌^◌, ◌-◌, true, min, IfOk};
+ghost use Rattle.std.specs.Prelude.{◌≡◌, ◌≤◌, ◌<◌, ◌^◌, ◌-◌, true, min, IfOk};
 ghost use Rattle.std.specs.List.{list_all};
 ghost use Rattle.std.specs.Char.{is_ascii_digit};
-ghost use Rattle.text.specs.Numbers.{integer as integer_of, is_numeral, number_in as number_in_of, value_of};
+ghost use Rattle.text.specs.Numbers.{byte_in as byte_in_of, hex_digit as hex_digit_of, integer as integer_of, is_numeral, number_in as number_in_of, value_of};
 
 use crate::fault::Reason;
 
@@ -64,4 +64,22 @@ pub fn number_in(low: u32, high: u32, word: &[u8]) -> Result<u32, Reason>
         return Err(Reason::OutOfRange);
     }
     u32::try_from(value).map_err(|_| Reason::OutOfRange)
+}
+
+/// The value of a hexadecimal digit in either case. Any other byte is `BadNumber`.
+fn hex_digit(byte: u8) -> Result<u32, Reason>
+    ensures value { result ≡ hex_digit_of byte }
+    ensures range { IfOk result (λ n. n < 16) }
+{
+    char::from(byte).to_digit(16).ok_or(Reason::BadNumber)
+}
+
+/// The byte that a word says. A word that isn't two hexadecimal digits is `BadNumber`.
+pub fn byte_in(word: &[u8]) -> Result<u8, Reason>
+    ensures { result ≡ byte_in_of word.now }
+{
+    match word {
+        [high, low] => Ok((hex_digit(*high)? * 16 + hex_digit(*low)?) as u8),
+        _ => Err(Reason::BadNumber),
+    }
 }

@@ -1,6 +1,6 @@
 //! Words of a line.
 
-ghost use Rattle.std.specs.Prelude.{◌≡◌, ℕ, List, ◌∷◌, ◌<◌, [], Ok, Err, MatchOption, MatchResult, ◌≤◌, length, slice_index, false, take, drop};
+ghost use Rattle.std.specs.Prelude.{◌≡◌, ◌+◌, ◌<◌, ◌≤◌, ℕ, List, [], ◌∷◌, Ok, Err, MatchOption, MatchResult, IfSome, IfOk, length, slice_index, false, take, drop};
 ghost use Rattle.std.specs.List.{list_all};
 ghost use Rattle.text.specs.Lines.{all_lines};
 ghost use Rattle.text.specs.Words.{before_comment, is_name as is_name_of, is_name_byte as is_name_byte_of, is_separator as is_separator_of, words};
@@ -53,7 +53,8 @@ fn without_comment(line: &[u8]) -> &[u8]
 
 /// A line of at most 200 bytes without its comment; a longer one is `LineTooLong`.
 pub fn words_within(line: &[u8]) -> Result<&[u8], Reason>
-    ensures { MatchResult result (λ rest. words_within_of line.now ≡ Ok (words rest.now)) (λ reason. words_within_of line.now ≡ Err reason) }
+    ensures short { IfOk result (λ rest. length rest.now ≤ 200) }
+    ensures words { MatchResult result (λ rest. words_within_of line.now ≡ Ok (words rest.now)) (λ reason. words_within_of line.now ≡ Err reason) }
 {
     if line.len() > MAX_LINE_LEN {
         return Err(Reason::LineTooLong);
@@ -64,6 +65,7 @@ pub fn words_within(line: &[u8]) -> Result<&[u8], Reason>
 /// A line without the separators at its front.
 #[tactic(auto, using(crate::proofs::WordLemmas::word_rules))]
 fn skip_separators(line: &[u8]) -> &[u8]
+    ensures within { length result.now ≤ length line.now }
     ensures same { words result.now ≡ words line.now }
     ensures begins { 0 < length result.now → is_separator_of (slice_index result.now 0) ≡ false }
 {
@@ -91,7 +93,8 @@ fn word_len(line: &[u8]) -> usize
 
 /// The first word, and what follows it; none where there is no word.
 pub fn next_word(line: &[u8]) -> Option<(&[u8], &[u8])>
-    ensures { MatchOption result (words line.now ≡ []) (λ f. words line.now ≡ f.0.now ∷ words f.1.now) }
+    ensures within { IfSome result (λ f. length f.0.now + length f.1.now ≤ length line.now) }
+    ensures words { MatchOption result (words line.now ≡ []) (λ f. words line.now ≡ f.0.now ∷ words f.1.now) }
 {
     let rest = skip_separators(line);
     if rest.is_empty() {
@@ -103,7 +106,8 @@ pub fn next_word(line: &[u8]) -> Option<(&[u8], &[u8])>
 
 /// The first word, and what follows it. A word too few is `UnknownWord`.
 pub fn first_word(line: &[u8]) -> Result<(&[u8], &[u8]), Reason>
-    ensures { MatchResult result (λ f. words line.now ≡ f.0.now ∷ words f.1.now) (λ reason. (words line.now ≡ []) × (reason ≡ UnknownWord)) }
+    ensures within { IfOk result (λ f. length f.0.now + length f.1.now ≤ length line.now) }
+    ensures words { MatchResult result (λ f. words line.now ≡ f.0.now ∷ words f.1.now) (λ reason. (words line.now ≡ []) × (reason ≡ UnknownWord)) }
 {
     next_word(line).ok_or(Reason::UnknownWord)
 }

@@ -3,19 +3,22 @@ use Rattle.std.proofs.Common.{ap, sym, ◌∙◌}
 use Rattle.posix.specs.Outcomes.{Outcome}
 use Rattle.posix.proofs.CountLemmas.{next_halted}
 use Rattle.posix.specs.States.{boot}
-use Rattle.posix.specs.Settle.{NoWakeIsLost}
-use Rattle.posix.proofs.WakeLemmas.{first_has_place, act_has_place, places_stay, nothing_after_halt, run_keeps}
-use Rattle.laws.proofs.PlaceLemmas.{given_can_act}
+use Rattle.posix.specs.Settle.{IsSettled}
+use Rattle.posix.proofs.WakeLemmas.{first_settled, next_settled, settled_stays, nothing_after_halt, run_keeps}
+use Rattle.laws.proofs.PlaceLemmas.{given_can_act, reader_has_place}
 use Rattle.laws.proofs.no_wake_is_lost.Goals as goal
 
 pub returns-clause-start : goal.returns-clause-start
-returns-clause-start c = first_has_place
+returns-clause-start c = first_settled
 
 pub returns-clause-after : goal.returns-clause-after
-returns-clause-after c = act_has_place
+returns-clause-after c = next_settled
+
+pub returns-clause-readers : goal.returns-clause-readers
+returns-clause-readers c = reader_has_place
 
 pub returns-clause-runs : goal.returns-clause-runs
-returns-clause-runs c = λ w events lines last run. run_keeps NoWakeIsLost places_stay 1 (boot w) last events lines run (first_has_place w)
+returns-clause-runs c = λ w events lines last run. run_keeps IsSettled settled_stays 1 (boot w) last events lines run (first_settled w)
 
 pub returns-clause-halted : goal.returns-clause-halted
 returns-clause-halted c = nothing_after_halt

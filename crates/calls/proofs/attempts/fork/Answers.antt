@@ -10,6 +10,7 @@ use Rattle.posix.proofs.OrderLemmas.{placed_some}
 use Rattle.posix.proofs.TableLemmas.{pid_looked}
 use Rattle.proctable.specs.Body.{give_own}
 use Rattle.life.proofs.LoanLemmas.{was_written}
+use Rattle.calls.specs.declared.outcome.Attempt.TheVariants as came
 use Rattle.calls.specs.Outcomes.{Comes}
 use Rattle.calls.proofs.CallLemmas.{gives_is}
 use Rattle.posix.proofs.RegularLemmas.{some_inserted}
@@ -66,7 +67,7 @@ returns-in-Err g c = λ me e.
     let state = was_written t p c.own.result.now c.finish.new.self (finished ((0, to_z w64 (of_z w64 c.refusal.result)) ∷ [])) c.own.ensures.regular c.own.ensures.value c.finish.ensures
     ∙ ap (λ z. finish t p ((0, z) ∷ [])) value ∙ ap (λ (u : State). finish u p ((0, refusal EAGAIN) ∷ [])) c.in-Err.ensures.err in (
       false,
-      subst (λ (o : Option ℕ). Comes s (fork_as false s me o) None c.args.entries.now.items c.push.new.self.items (change t p (give_own c.finish.new.self))) (sym some)
-          (subst (λ q. Comes s (no_memory s q Fork) None c.args.entries.now.items c.push.new.self.items (change t p (give_own c.finish.new.self))) (sym named)
+      subst (λ (o : Option ℕ). Comes s (fork_as false s me o) came.Done c.args.entries.now.items c.push.new.self.items (change t p (give_own c.finish.new.self))) (sym some)
+          (subst (λ q. Comes s (no_memory s q Fork) came.Done c.args.entries.now.items c.push.new.self.items (change t p (give_own c.finish.new.self))) (sym named)
           (c.push.ensures.items, state)),
     )

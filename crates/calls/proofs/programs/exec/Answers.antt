@@ -1,4 +1,4 @@
-use Rattle.std.proofs.Common.{◌≡◌, ◌∙◌, ap, sym, subst, refl, true, pos, rules, to_z, of_z, w64, None, ◌∷◌, [], ◌++◌}
+use Rattle.std.proofs.Common.{◌≡◌, ◌∙◌, ap, sym, subst, refl, true, pos, rules, to_z, of_z, w64, ◌∷◌, [], ◌++◌}
 use Rattle.std.specs.Option.{IsSome}
 use Rattle.posix.specs.declared.call.Call.TheVariants.{Exec}
 use Rattle.posix.specs.declared.entry.Entry.TheVariants.{Called}
@@ -15,6 +15,7 @@ use Rattle.life.proofs.ViewLemmas.{state_is}
 use Rattle.calls.specs.Outcomes.{Comes}
 use Rattle.calls.proofs.CallLemmas.{gives_is}
 use Rattle.calls.proofs.GroupCallLemmas.{has_run, has_not_run, exec_made}
+use Rattle.calls.specs.declared.outcome.Attempt.TheVariants as came
 use Rattle.calls.proofs.programs.exec.Goals as goal
 
 pub refuse-requires-clause-there : goal.refuse-requires-clause-there
@@ -52,6 +53,6 @@ returns g c = λ me e.
     let kept : to_z w64 (of_z w64 c.register-word.result) ≡ c.register-word.result = search rules in
     let word : to_z w64 (of_z w64 c.register-word.result) ≡ argument me 1 = kept ∙ c.register-word.ensures ∙ ap (λ o. register o.cpu 1) is in (
       true,
-      subst (λ a. Comes s a None c.args.entries.now.items c.push.new.self.items c.exec_named.new.self.state) (sym (exec_made s me run.number run.program (sym word ∙ run.word) run.found))
+      subst (λ a. Comes s a came.Done c.args.entries.now.items c.push.new.self.items c.exec_named.new.self.state) (sym (exec_made s me run.number run.program (sym word ∙ run.word) run.found))
           (c.push.ensures.items ∙ ap (λ q. c.args.entries.now.items ++ Called q Exec (pos 0) ∷ []) (sym named), run.state ∙ ap (λ q. change s q (executed run.number run.program)) (sym named)),
     )

@@ -1,4 +1,4 @@
-use Rattle.std.proofs.Common.{◌≡◌, ◌∙◌, ap, sym, refl, subst, true, false, cond, pos, Some}
+use Rattle.std.proofs.Common.{◌≡◌, ◌∙◌, ap, sym, refl, subst, true, false, cond, pos}
 use Rattle.std.specs.Option.{IsSome}
 use Rattle.posix.specs.declared.errno.Errno.TheVariants.{ECHILD, EINVAL}
 use Rattle.posix.specs.declared.call.Call.TheVariants.{Waitpid}
@@ -10,6 +10,7 @@ use Rattle.posix.specs.Outcomes.{Block, gives, refusal}
 use Rattle.posix.specs.Waits.{WNOHANG, has_option, news_told}
 use Rattle.posix.proofs.OrderLemmas.{placed_some}
 use Rattle.posix.proofs.RegularLemmas.{keeps_news_told, placed_least}
+use Rattle.calls.specs.declared.outcome.Attempt.TheVariants as came
 use Rattle.calls.specs.Outcomes.{Comes}
 use Rattle.life.specs.Callers.{process_like}
 use Rattle.calls.proofs.CallLemmas.{gives_is, reports_is, wait_unknown, wait_finds}
@@ -83,7 +84,7 @@ returns-else-contains g c =
     let is = wait_finds s (process_like me) _ _ c.in-Some.options _ found.Nothing c.options_of.ensures.known c.in-Some.is c.in-Some.ensures.value c.target.ensures c.wait_attempt.ensures.value c.in-Nothing.is in
     let hangs : has_option c.in-Some.options.0 WNOHANG ≡ false = sym {b = has_option c.in-Some.options.0 WNOHANG} (c.contains.ensures tt) ∙ c.if-contains.false in
     let value = is ∙ ap (λ b. cond b (gives s me.pid Waitpid (pos 0)) (Block blocked.Waitpid)) hangs in
-    subst (λ a. Comes s a (Some blocked.Waitpid) c.args.entries.now.items c.args.entries.now.items c.wait_attempt.new.self.state) (sym value) (refl, refl, c.wait_attempt.ensures.same)
+    subst (λ a. Comes s a (came.Block blocked.Waitpid) c.args.entries.now.items c.args.entries.now.items c.wait_attempt.new.self.state) (sym value) (refl, refl, c.wait_attempt.ensures.same)
 
 pub returns-in-End : goal.returns-in-End
 returns-in-End g c =

@@ -15,8 +15,8 @@ place-requires-clause-there g c =
     let acts = sym (c.can_act.ensures.value me.what me.found) ∙ c.if-can_act.true in
     subst (λ (t : State). IsPlaced t.processes c.args.pid) (sym c.can_act.ensures.same) (wakes_placed s c.args.pid me.what me.found acts)
 
-pub returns-then-can_act : goal.returns-then-can_act
-returns-then-can_act g c =
+pub returns-then-can_act-clause-state : goal.returns-then-can_act-clause-state
+returns-then-can_act-clause-state g c =
     let s = c.args.machine.now.state in
     let me = there (process s c.args.pid) c.requires in
     let acts = sym (c.can_act.ensures.value me.what me.found) ∙ c.if-can_act.true in
@@ -24,8 +24,8 @@ returns-then-can_act g c =
     subst (λ (t : State). c.place.new.self.state ≡ record t { order = t.order ++ c.args.pid ∷ [] }) c.can_act.ensures.same c.place.ensures.state
     ∙ sym (woken_is s c.args.pid me.what false true me.found none acts)
 
-pub returns-else-not-has_place : goal.returns-else-not-has_place
-returns-else-not-has_place g c =
+pub returns-else-not-has_place-clause-state : goal.returns-else-not-has_place-clause-state
+returns-else-not-has_place-clause-state g c =
     let s = c.args.machine.now.state in
     let me = there (process s c.args.pid) c.requires in
     elim c.else-not-has_place.branch [

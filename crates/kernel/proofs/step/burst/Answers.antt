@@ -9,7 +9,7 @@ pub returns-in-Note-clause-runs : goal.returns-in-Note-clause-runs
 returns-in-Note-clause-runs g c =
     let s = c.args.machine.now.state in
     let p = c.in-Some.pid in
-    let ready = readies s p c.in-Some-facts.facts c.requires.going c.requires.awake c.facts.ensures.regular (sym c.current.ensures ∙ c.in-Some.is) (sym c.in-Some-facts.is ∙ c.facts.ensures.value)
+    let ready = readies s p c.in-Some-facts.facts c.requires.going c.requires.settled c.facts.ensures.regular (sym c.current.ensures ∙ c.in-Some.is) (sym c.in-Some-facts.is ∙ c.facts.ensures.value)
     (sym c.is_some.ensures ∙ c.if-is_some.false) (sym c.is_some-else-is_some.ensures ∙ c.if-is_some-2.false) in
     let kept : to_z w64 (of_z w64 c.in-Note.value) ≡ c.in-Note.value = search rules in
     let pushed = c.push.ensures.items ∙ ap (λ (xs : List Entry). xs ++ Noted p (to_z w64 (of_z w64 c.in-Note.value)) ∷ []) c.requires.none ∙ ap (λ z. Noted p z ∷ []) kept in
@@ -21,7 +21,7 @@ pub returns-in-Next-clause-runs : goal.returns-in-Next-clause-runs
 returns-in-Next-clause-runs g c =
     let s = c.args.machine.now.state in
     let p = c.in-Some.pid in
-    let ready = readies s p c.in-Some-facts.facts c.requires.going c.requires.awake c.facts.ensures.regular (sym c.current.ensures ∙ c.in-Some.is) (sym c.in-Some-facts.is ∙ c.facts.ensures.value)
+    let ready = readies s p c.in-Some-facts.facts c.requires.going c.requires.settled c.facts.ensures.regular (sym c.current.ensures ∙ c.in-Some.is) (sym c.in-Some-facts.is ∙ c.facts.ensures.value)
     (sym c.is_some.ensures ∙ c.if-is_some.false) (sym c.is_some-else-is_some.ensures ∙ c.if-is_some-2.false) in
     let r = c.run_until-count in
     burst_shows s c.facts.new.self.state p ready c.facts.ensures.same _ r.result.0 r.result.1 r.new.self.state _ _ r.ensures.count r.ensures.trap r.ensures.state
@@ -31,7 +31,7 @@ pub returns-in-Note-clause-note : goal.returns-in-Note-clause-note
 returns-in-Note-clause-note g c =
     let s = c.args.machine.now.state in
     let p = c.in-Some.pid in
-    let ready = readies s p c.in-Some-facts.facts c.requires.going c.requires.awake c.facts.ensures.regular (sym c.current.ensures ∙ c.in-Some.is) (sym c.in-Some-facts.is ∙ c.facts.ensures.value)
+    let ready = readies s p c.in-Some-facts.facts c.requires.going c.requires.settled c.facts.ensures.regular (sym c.current.ensures ∙ c.in-Some.is) (sym c.in-Some-facts.is ∙ c.facts.ensures.value)
     (sym c.is_some.ensures ∙ c.if-is_some.false) (sym c.is_some-else-is_some.ensures ∙ c.if-is_some-2.false) in
     let kept : to_z w64 (of_z w64 c.in-Note.value) ≡ c.in-Note.value = search rules in
     let pushed = c.push.ensures.items ∙ ap (λ (xs : List Entry). xs ++ Noted p (to_z w64 (of_z w64 c.in-Note.value)) ∷ []) c.requires.none ∙ ap (λ z. Noted p z ∷ []) kept in
@@ -43,7 +43,7 @@ pub returns-in-Next-clause-note : goal.returns-in-Next-clause-note
 returns-in-Next-clause-note g c =
     let s = c.args.machine.now.state in
     let p = c.in-Some.pid in
-    let ready = readies s p c.in-Some-facts.facts c.requires.going c.requires.awake c.facts.ensures.regular (sym c.current.ensures ∙ c.in-Some.is) (sym c.in-Some-facts.is ∙ c.facts.ensures.value)
+    let ready = readies s p c.in-Some-facts.facts c.requires.going c.requires.settled c.facts.ensures.regular (sym c.current.ensures ∙ c.in-Some.is) (sym c.in-Some-facts.is ∙ c.facts.ensures.value)
     (sym c.is_some.ensures ∙ c.if-is_some.false) (sym c.is_some-else-is_some.ensures ∙ c.if-is_some-2.false) in
     let r = c.run_until-count in
     note_is s c.facts.new.self.state p ready c.facts.ensures.same _ r.result.1 _ r.ensures.trap

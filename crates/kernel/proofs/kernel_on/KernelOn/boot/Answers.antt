@@ -1,10 +1,10 @@
 use Rattle.std.proofs.Common.{sym, subst, arith, ◌≤◌}
 use Rattle.posix.specs.States.{State}
-use Rattle.posix.specs.Settle.{NoWakeIsLost}
-use Rattle.posix.proofs.WakeLemmas.{first_has_place}
+use Rattle.posix.specs.Settle.{IsSettled}
+use Rattle.posix.proofs.WakeLemmas.{first_settled}
 use Rattle.kernel.proofs.kernel_on.KernelOn.boot.Goals as goal
 
 pub invariant_of-result : goal.invariant_of-result
 invariant_of-result g c =
     let is = c.in_ok-boot.ensures.state in
-    (subst (λ (s : State). s.births ≤ 1) (sym is) (omega arith), subst (λ (s : State). s.ticks ≤ 0) (sym is) (omega arith), λ _. subst NoWakeIsLost (sym is) (first_has_place c.args.world.now), c.in_ok-boot.ensures.regular, c.in_ok-boot.ensures.asked)
+    (subst (λ (s : State). s.births ≤ 1) (sym is) (omega arith), subst (λ (s : State). s.ticks ≤ 0) (sym is) (omega arith), subst IsSettled (sym is) (first_settled c.args.world.now), c.in_ok-boot.ensures.regular, c.in_ok-boot.ensures.asked, c.in_ok-boot.ensures.stale)

@@ -1,4 +1,9 @@
-use Rattle.std.proofs.Common.{length, subst, sym, ℕ, List, ap, ◌∙◌, arith, [], ◌∷◌, ◌++◌}
+use Rattle.std.proofs.Common.{length, subst, sym, ℕ, List, ap, ◌∙◌, ◌≡◌, arith, [], ◌∷◌, ◌++◌, replicate}
+use Rattle.std.specs.List.{AllByRecursion}
+use Rattle.posix.specs.Consoles.{unused_console}
+use Rattle.life.specs.Machines.{IsReaders}
+use Rattle.posix.specs.Settle.{AreFresh}
+use Rattle.posix.proofs.FreshLemmas.{first_fresh}
 use Rattle.posix.specs.Tables.{lookup, children_in}
 use Rattle.posix.specs.States.{boot, is_in}
 use Rattle.pidalloc.specs.Rows.{Pids, born_in, unborne_table}
@@ -28,20 +33,23 @@ invariant_of-result g c =
     let room = c.place.ensures.room in
     let all = ap (λ (o : Places). o.room) c.in_ok-order.ensures in
     let least = c.pidmax.ensures.range.0 in
+    let unused : c.in_ok-consoles.consoles.items ≡ replicate c.in_ok-world.world.consoles unused_console = c.in_ok-consoles.ensures ∙ ap (λ n. replicate n unused_console) c.consoles.ensures.value in
     rw (c.insert.ensures.processes, c.in_ok-reserve.ensures.processes, c.empty-table.ensures.processes, c.in_ok-first.ensures)
     (record {
-      sound = sound_first _ _ _ (omega (arith, least, c.pidmax.ensures.value)) bore pidmax c.bear_all.ensures.kept order (omega (arith, room, all, c.pidmax-2.ensures.value));
-      listed = listed_first _ _ _ _ (first_is_boot _ c.bear_all.new.self c.place.new.self c.bear_all.ensures.last order) (c.in_ok-reserve-2.ensures.pids ∙ c.new-to_ask.ensures) c.pidmax-3.ensures.value c.in_ok-reserve-2.ensures.room;
-      reported = reported_first _ c.in_ok-world.world _ _ (first_is_boot c.in_ok-world.world c.bear_all.new.self c.place.new.self c.bear_all.ensures.last order) (c.in_ok-reserve-3.ensures.pairs ∙ c.new-reporting.ensures.pairs) (subst ArePairs (sym c.in_ok-reserve-3.ensures.pairs) c.new-reporting.ensures.rising) c.pidmax-4.ensures.value c.in_ok-reserve-3.ensures.room;
-      timed = timed_first _ c.in_ok-world.world _ _ _ (first_is_boot c.in_ok-world.world c.bear_all.new.self c.place.new.self c.bear_all.ensures.last order) (c.in_ok-reserve-4.ensures.pids ∙ c.new-alarmed.ensures) c.pidmax-5.ensures.value c.in_ok-reserve-4.ensures.room;
+      sound = sound_first _ _ _ _ unused (omega (arith, least, c.pidmax.ensures.value)) bore pidmax c.bear_all.ensures.kept order (omega (arith, room, all, c.pidmax-2.ensures.value));
+      listed = listed_first _ _ _ _ (first_is_boot _ _ c.bear_all.new.self c.place.new.self unused c.bear_all.ensures.last order) (c.in_ok-reserve-2.ensures.pids ∙ c.new-to_ask.ensures) c.pidmax-3.ensures.value c.in_ok-reserve-2.ensures.room (subst (λ n. AllByRecursion (IsReaders n) c.in_ok-readers.readers.items) c.pidmax-7.ensures.value c.in_ok-readers.ensures.each) (c.in_ok-readers.ensures.many ∙ c.consoles-2.ensures.value);
+      reported = reported_first _ c.in_ok-world.world _ _ (first_is_boot c.in_ok-world.world _ c.bear_all.new.self c.place.new.self unused c.bear_all.ensures.last order) (c.in_ok-reserve-3.ensures.pairs ∙ c.new-reporting.ensures.pairs) (subst ArePairs (sym c.in_ok-reserve-3.ensures.pairs) c.new-reporting.ensures.rising) c.pidmax-4.ensures.value c.in_ok-reserve-3.ensures.room;
+      timed = timed_first _ c.in_ok-world.world _ _ _ (first_is_boot c.in_ok-world.world _ c.bear_all.new.self c.place.new.self unused c.bear_all.ensures.last order) (c.in_ok-reserve-4.ensures.pids ∙ c.new-alarmed.ensures) c.pidmax-5.ensures.value c.in_ok-reserve-4.ensures.room;
+      fresh = λ e. subst AreFresh (sym (first_is_boot c.in_ok-world.world _ c.bear_all.new.self c.place.new.self unused c.bear_all.ensures.last order)) (first_fresh c.in_ok-world.world);
       noted = record { rising = rw (c.in_ok-reserve-5.ensures.pids ∙ c.new-losing.ensures) tt; within = λ q e. absurd (let none = ap (is_in q) (c.in_ok-reserve-5.ensures.pids ∙ c.new-losing.ensures) in cc); room = let few = c.pidmax-6.ensures.value in let all = c.in_ok-reserve-5.ensures.room in omega (arith, few, all) };
     })
 
 pub returns-clause-state : goal.returns-clause-state
 returns-clause-state g c =
     let order = c.place.ensures.pids ∙ ap (λ (ps : List ℕ). ps ++ 1 ∷ []) (ap (λ (o : Places). o.pids) c.in_ok-order.ensures) in
+    let unused : c.in_ok-consoles.consoles.items ≡ replicate c.in_ok-world.world.consoles unused_console = c.in_ok-consoles.ensures ∙ ap (λ n. replicate n unused_console) c.consoles.ensures.value in
     rw (c.insert.ensures.processes, c.in_ok-reserve.ensures.processes, c.empty-table.ensures.processes, c.in_ok-first.ensures)
-    (first_is_boot _ c.bear_all.new.self c.place.new.self c.bear_all.ensures.last order ∙ ap boot c.in_ok-world.ensures)
+    (first_is_boot _ _ c.bear_all.new.self c.place.new.self unused c.bear_all.ensures.last order ∙ ap boot c.in_ok-world.ensures)
 
 pub returns-clause-reads : goal.returns-clause-reads
 unfolding children_in

@@ -18,6 +18,7 @@ loop-next-init g c =
     record {
       same = c.next_after-next.ensures.same;
       asked = c.next_after-next.ensures.asked;
+      stale = c.next_after-next.ensures.stale;
       read = let less = left_at_most c.next_after-next.result rs in omega (arith, less, c.next_after-next.ensures.reads);
       there = (first is_living).there;
       living = none_counted is_living rs _ i.rising (λ p r e. (i.bounded p r e).least) (first is_living);
@@ -45,6 +46,7 @@ loop-next-preserved g c =
     record {
       same = c.next_after-next-in-Some.ensures.same ∙ c.is_zombie.ensures.same ∙ c.loop-next.invariant.same;
       asked = c.next_after-next-in-Some.ensures.asked ∙ c.is_zombie.ensures.asked ∙ c.loop-next.invariant.asked;
+      stale = c.next_after-next-in-Some.ensures.stale ∙ c.is_zombie.ensures.stale ∙ c.loop-next.invariant.stale;
       read =
           let less = left_less p rs it.what c.next_after-next-in-Some.result it.found (after is_living).above in
           let now = ap (λ (o : Option ℕ). length (left_of o rs)) c.in-Some.is in

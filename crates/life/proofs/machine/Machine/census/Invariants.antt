@@ -13,6 +13,7 @@ invariant-loop-next g l =
     record {
       same : l.self.state ≡ l.fn.self.state;
       asked : l.self.asked ≡ l.fn.self.asked;
+      stale : l.self.stale ≡ l.fn.self.stale;
       read : l.self.reads + 2 * length (left_of l.next rs) ≤ l.fn.self.reads + 1 + 2 * length rs;
       there : IfSome l.next (λ p. IsSome (lookup p rs));
       living : l.living + count_by is_living (left_of l.next rs) ≡ count_by is_living rs;

@@ -1,4 +1,4 @@
-use Rattle.std.proofs.Common.{◌∙◌, ◌≡◌, ◌≢◌, ap, sym, arith, refl, subst, cond, ◌==◌, ◌&&◌, ◌||◌, true, Some, None, [], ◌∷◌}
+use Rattle.std.proofs.Common.{◌∙◌, ◌≡◌, ◌≢◌, ap, sym, arith, refl, subst, cond, ◌==◌, ◌&&◌, ◌||◌, true, Some, None, [], ◌∷◌, true}
 use Rattle.std.specs.Option.{IsSome}
 use Rattle.posix.specs.Processes.{Process, is_zombie}
 use Rattle.posix.specs.Tables.{lookup, children_in, first_pid}
@@ -86,8 +86,8 @@ loop-next-smaller-in-Zombie g c =
     let ne : c.in-Some.child ≢ c.args.pid = differs _ _ (sym c.ne.ensures ∙ c.if-ne.true) in
     let same = c.life-life.ensures.processes ∙ c.next_sibling-next.ensures.processes in
     let found = ap (lookup c.in-Some.child) same ∙ child_same t c.in-Some.child c.in-Some.is ne in
-    let told = told_state m.world _ _ m.pids c.notify_of_end-gone.new.pids m.order m.births m.ticks m.dropped c.notify_of_end-gone.new.dropped m.halted c.args.heir c.in-Some.child c.in-Zombie.ended _ c.notify_of_end-gone.ensures.processes (c.notify_of_end-gone.ensures.counts _ found)
-    ∙ ap (λ rs. notice_of_end (state_of m.world rs m.pids m.order m.births m.ticks m.dropped m.halted) c.args.heir c.in-Some.child c.in-Zombie.ended) same in
+    let told = told_state m.world _ _ m.consoles.items m.pids c.notify_of_end-gone.new.pids m.order m.births m.ticks m.dropped c.notify_of_end-gone.new.dropped m.halted c.args.heir c.in-Some.child c.in-Zombie.ended _ c.notify_of_end-gone.ensures.processes (c.notify_of_end-gone.ensures.counts _ found)
+    ∙ ap (λ rs. notice_of_end (state_of m.world rs m.consoles.items m.pids m.order m.births m.ticks m.dropped m.halted) c.args.heir c.in-Some.child c.in-Zombie.ended) same in
     tells_less t c.in-Some.child c.in-Zombie.ended c.in-Some.is c.next_sibling-next.result c.next_sibling-next.ensures.value _ told
 
 pub loop-next-preserved-in-Zombie : goal.loop-next-preserved-in-Zombie
@@ -99,12 +99,12 @@ loop-next-preserved-in-Zombie g c =
     let same = c.life-life.ensures.processes ∙ c.next_sibling-next.ensures.processes in
     let found = ap (lookup c.in-Some.child) same ∙ child_same t c.in-Some.child c.in-Some.is ne in
     let counts = c.notify_of_end-gone.ensures.counts _ found in
-    let told = told_state m.world _ _ m.pids c.notify_of_end-gone.new.pids m.order m.births m.ticks m.dropped c.notify_of_end-gone.new.dropped m.halted c.args.heir c.in-Some.child c.in-Zombie.ended _ c.notify_of_end-gone.ensures.processes counts
-    ∙ ap (λ rs. notice_of_end (state_of m.world rs m.pids m.order m.births m.ticks m.dropped m.halted) c.args.heir c.in-Some.child c.in-Zombie.ended) same in
+    let told = told_state m.world _ _ m.consoles.items m.pids c.notify_of_end-gone.new.pids m.order m.births m.ticks m.dropped c.notify_of_end-gone.new.dropped m.halted c.args.heir c.in-Some.child c.in-Zombie.ended _ c.notify_of_end-gone.ensures.processes counts
+    ∙ ap (λ rs. notice_of_end (state_of m.world rs m.consoles.items m.pids m.order m.births m.ticks m.dropped m.halted) c.args.heir c.in-Some.child c.in-Zombie.ended) same in
     let less = tells_less t c.in-Some.child c.in-Zombie.ended c.in-Some.is c.next_sibling-next.result c.next_sibling-next.ensures.value _ told in
     let read = c.loop-next.invariant.read in
     record {
-      fewer = fewer_told (state_of m.world m.table.processes m.pids m.order m.births m.ticks m.dropped m.halted) _ _ c.args.heir c.in-Some.child c.in-Zombie.ended c.loop-next.invariant.fewer (ap (λ (s : State). s.processes) told);
+      fewer = fewer_told (state_of m.world m.table.processes m.consoles.items m.pids m.order m.births m.ticks m.dropped m.halted) _ _ c.args.heir c.in-Some.child c.in-Zombie.ended c.loop-next.invariant.fewer (ap (λ (s : State). s.processes) told);
       read = omega (arith, less, read, c.notify_of_end-gone.ensures.reads, c.life-life.ensures.reads, c.next_sibling-next.ensures.reads);
       noted = c.loop-next.invariant.noted;
       losing = c.loop-next.invariant.losing;
@@ -171,7 +171,7 @@ invariant_of-self g c =
     let t = c.loop-next.invariant.telling in
     let me = there _ c.requires.there in
     let parent = c.requires.parent me.what me.found in
-    subst (λ (s : State). IsMachine s m.pids m.order c.insert-3.new.self c.move_children.new.self c.remove.new.self m.next_alarm m.losing) (sym (departed t _ c.adopt.ensures.processes))
+    subst (λ (s : State). IsMachine s m.pids m.order c.insert-3.new.self c.move_children.new.self c.remove.new.self m.next_alarm m.losing (record { readers = m.readers.items; stale = true })) (sym (departed t _ c.adopt.ensures.processes))
     (machine_departed t me.what me.found c.insert-3.new.self (c.insert-3.ensures.pids ∙ ap (λ n. with_number n m.to_ask.pids) parent) c.insert-3.ensures.room
     c.insert-4.new.self c.move_children.new.self (λ q d. c.insert-4.ensures.pairs q d ∙ ap (λ n. q == n && d == c.args.pid || is_child_in q d m.reporting.pairs) parent) c.insert-4.ensures.rising c.insert-4.ensures.room c.move_children.ensures.pairs c.move_children.ensures.rising c.move_children.ensures.room c.remove.new.self c.remove.ensures.pids c.remove.ensures.room
     m.losing (subst (λ n. IsNoted n m.losing) (ap (λ (s : State). s.world.pidmax) t.left) c.loop-next.invariant.noted))

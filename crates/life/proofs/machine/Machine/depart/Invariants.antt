@@ -10,7 +10,7 @@ invariant-loop-next g l =
     let rs = m.table.processes in
     let first = l.fn.self.state.processes in
     record {
-      telling : IsTelling l.fn.self.state (state_of m.world rs m.pids m.order m.births m.ticks m.dropped m.halted) m.pids m.order m.to_ask m.reporting m.alarmed m.next_alarm l.fn.pid l.fn.heir l.fn.status l.next;
+      telling : IsTelling l.fn.self.state (state_of m.world rs m.consoles.items m.pids m.order m.births m.ticks m.dropped m.halted) m.pids m.order m.to_ask m.readers.items m.reporting m.alarmed m.next_alarm l.fn.pid l.fn.heir l.fn.status l.next;
       fewer : HasFewer first rs;
       noted : IsNoted m.world.pidmax m.losing;
       losing : m.losing.pids ≡ l.fn.self.losing;

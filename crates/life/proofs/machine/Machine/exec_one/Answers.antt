@@ -34,7 +34,7 @@ returns-in-Some-clause-state g c = λ me e.
 pub returns-in-Some-clause-stays : goal.returns-in-Some-clause-stays
 returns-in-Some-clause-stays g c =
     let m = c.self.inside in
-    rw (← c.self.view_is) (stays_by (λ rs. state_of m.world rs m.pids m.order m.births m.ticks m.dropped m.halted) c.exec_one.result _ _
+    rw (← c.self.view_is) (stays_by (λ rs. state_of m.world rs m.consoles.items m.pids m.order m.births m.ticks m.dropped m.halted) c.exec_one.result _ _
     (cpu_stays c.exec_one.result _ c.own.ensures.rising c.args.pid c.own.result.now c.exec_one.new.self c.own.ensures.value c.exec_one.ensures.stays))
 
 pub returns-in-None-clause-trap : goal.returns-in-None-clause-trap

@@ -12,6 +12,7 @@ use Rattle.proctable.specs.Body.{process_of}
 use Rattle.life.proofs.ReportedLemmas.{reported_inserted}
 use Rattle.life.proofs.TimedLemmas.{timed_inserted}
 use Rattle.life.proofs.ViewLemmas.{state_is}
+use Rattle.life.proofs.TerminalLemmas.{fresh_inserted}
 use Rattle.life.proofs.machine.Machine.fork.Goals as goal
 
 pub bear_all-requires-clause-pid_range : goal.bear_all-requires-clause-pid_range
@@ -50,9 +51,10 @@ invariant_of-self-2 g c =
     let groups = c.in_ok-body.ensures.groups me.what found in
     rw (c.insert.ensures.processes, c.in_ok-reserve.ensures.processes, c.in_ok-body.ensures.processes)
     (record {
-      sound = sound_born _ _ _ _ _ _ _ _ _ _ me.what c.self.invariant.sound (next_is_new _ _ _ _ c.args.child (state_is c.self.view_is) c.self.invariant.sound c.requires.child) found me.living groups.0 groups.1 (ap (λ (r : Process). r.life) child) (ap (λ (r : Process). r.alarm) child) c.bear_all.ensures.value c.bear_all.ensures.pidmax c.bear_all.ensures.kept;
+      sound = sound_born _ _ _ _ _ _ _ _ _ _ _ me.what c.self.invariant.sound (next_is_new _ _ _ _ c.args.child (state_is c.self.view_is) c.self.invariant.sound c.requires.child) found me.living groups.0 groups.1 (ap (λ (r : Process). r.life) child) (ap (λ (r : Process). r.alarm) child) c.bear_all.ensures.value c.bear_all.ensures.pidmax c.bear_all.ensures.kept;
       listed = listed_born _ _ _ _ _ _ c.self.invariant.listed (next_is_new _ _ _ _ c.args.child (state_is c.self.view_is) c.self.invariant.sound c.requires.child).fresh (is_there _ me.what found) (c.insert-3.ensures.pids ∙ ap (with_number c.args.child) c.insert-2.ensures.pids) (c.insert-3.ensures.room ∙ c.insert-2.ensures.room);
       reported = reported_inserted _ (process_of c.args.child c.args.parent c.in_ok-body.body) _ _ (next_is_new _ _ _ _ c.args.child (state_is c.self.view_is) c.self.invariant.sound c.requires.child).fresh (ap has_report child ∙ ap (λ b. b || false) me.living) c.self.invariant.reported;
       timed = timed_inserted _ (process_of c.args.child c.args.parent c.in_ok-body.body) _ _ _ (next_is_new _ _ _ _ c.args.child (state_is c.self.view_is) c.self.invariant.sound c.requires.child).fresh (ap (λ (r : Process). r.alarm) child) c.self.invariant.timed;
       noted = c.self.invariant.noted;
+      fresh = λ e. fresh_inserted (process_of c.args.child c.args.parent c.in_ok-body.body) _ _ (c.self.invariant.fresh e);
     })

@@ -1,9 +1,11 @@
+use Rattle.posix.specs.Ends.{ended}
 use Rattle.std.proofs.Common.{arith, refl}
 use Rattle.posix.proofs.RegularLemmas.{regular_halt}
 use Rattle.life.proofs.SoundLemmas.{is_there, length_halted, parents_halted, kept_halted}
 use Rattle.life.proofs.AskLemmas.{has_room, listed_halted}
 use Rattle.life.proofs.TimedLemmas.{timed_halted}
 use Rattle.life.proofs.ReportedLemmas.{reported_halted, reported_room}
+use Rattle.life.proofs.TerminalLemmas.{fresh_changed}
 use Rattle.life.proofs.machine.Machine.halt.Goals as goal
 
 pub insert-requires : goal.insert-requires
@@ -16,6 +18,7 @@ pub end-requires : goal.end-requires
 end-requires g c = is_there _ _ c.self.invariant.sound.regular.first.found
 
 pub invariant_of-self : goal.invariant_of-self
+unfolding ended
 invariant_of-self g c =
     let contents = c.end.ensures.processes in
     rw (contents, c.drop_place.ensures.pids) record {
@@ -29,6 +32,7 @@ invariant_of-self g c =
       reported = reported_halted _ c.args.status _ _ _ c.self.invariant.sound.regular.first.what c.self.invariant.sound.regular.first.found c.self.invariant.sound.regular.first.parent c.self.invariant.reported c.insert-2.ensures.pairs c.insert-2.ensures.rising c.insert-2.ensures.room;
       timed = timed_halted _ c.args.status _ _ _ c.self.invariant.sound.regular.first.what c.self.invariant.sound.regular.first.found c.self.invariant.timed;
       noted = c.self.invariant.noted;
+      fresh = λ e. fresh_changed 1 (ended c.args.status) (λ r. refl) (λ r. refl) _ _ (c.self.invariant.fresh e);
     }
 
 pub returns-clause-state : goal.returns-clause-state

@@ -8,4 +8,5 @@ invariant_of-self g c = record {
   reported = c.self.invariant.reported;
   timed = c.self.invariant.timed;
   noted = noted_without _ c.args.group _ _ c.self.invariant.noted c.remove.ensures.pids c.remove.ensures.room;
+  fresh = c.self.invariant.fresh;
 }

@@ -26,4 +26,5 @@ invariant_of-self g c =
       reported = c.self.invariant.reported;
       timed = c.self.invariant.timed;
       noted = noted_with _ c.in-Some.it.group _ _ c.self.invariant.noted (omega (arith, group, most, world)) c.insert.ensures.pids c.insert.ensures.room;
+      fresh = c.self.invariant.fresh;
     }

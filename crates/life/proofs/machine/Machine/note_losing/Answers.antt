@@ -19,6 +19,7 @@ invariant_of-self g c = record {
   reported = c.self.invariant.reported;
   timed = c.self.invariant.timed;
   noted = noted_cleared _ _ _ c.self.invariant.noted c.clear.ensures.pids c.clear.ensures.room;
+  fresh = c.self.invariant.fresh;
 }
 
 pub loop-next-init : goal.loop-next-init

@@ -1,4 +1,4 @@
-use Rattle.std.proofs.Common.{◌∙◌, ◌∷◌, [], refl, arith, ap, sym, subst}
+use Rattle.std.proofs.Common.{◌∙◌, ◌∷◌, [], refl, arith, ap, sym, subst, true}
 use Rattle.std.proofs.lemmas.Bool.{eq-eqb}
 use Rattle.posix.specs.States.{State, is_in}
 use Rattle.posix.specs.Ends.{notice_of_end}
@@ -38,7 +38,7 @@ pub invariant_of-self : goal.invariant_of-self
 unfolding with_numbers
 invariant_of-self g c =
     let m = c.self.inside in
-    let old = state_of m.world m.table.processes m.pids m.order m.births m.ticks m.dropped m.halted in
+    let old = state_of m.world m.table.processes m.consoles.items m.pids m.order m.births m.ticks m.dropped m.halted in
     let it = c.requires.zombie in
     let found = found_in _ _ (state_is c.self.view_is) c.args.child it.0 it.1 in
     let counts = c.notify_of_end-gone.ensures.counts it.0 found in
@@ -46,18 +46,19 @@ invariant_of-self g c =
     let asked = c.insert.new.self in
     let first = here_in c.args.parent (state_is c.self.view_is) c.requires.parent in
     let now = listed_more _ _ asked (c.args.parent ∷ []) c.self.invariant.listed (first, tt) c.insert.ensures.pids c.insert.ensures.room in
-    subst (λ (s : State). IsMachine s c.notify_of_end-gone.new.pids c.self.inside.order c.forget.new.to_ask c.forget.new.reporting c.self.inside.alarmed c.self.inside.next_alarm c.self.inside.losing) (sym (told_state _ _ _ _ _ c.self.inside.order _ _ _ _ _ c.args.parent c.args.child c.args.status it.0 c.notify_of_end-gone.ensures.processes counts))
+    subst (λ (s : State). IsMachine s c.notify_of_end-gone.new.pids c.self.inside.order c.forget.new.to_ask c.forget.new.reporting c.self.inside.alarmed c.self.inside.next_alarm c.self.inside.losing (record { readers = c.self.inside.readers.items; stale = true })) (sym (told_state _ _ _ _ _ _ c.self.inside.order _ _ _ _ _ c.args.parent c.args.child c.args.status it.0 c.notify_of_end-gone.ensures.processes counts))
     (record {
       sound = sound_told _ _ _ _ _ c.args.parent c.args.child c.args.status it.0 c.self.invariant.sound found it.2 c.requires.other counts;
       listed = listed_told _ c.args.parent c.args.child c.args.status it.0 asked _ c.self.invariant.sound.regular now (ap (is_in c.args.parent) c.insert.ensures.pids ∙ in_with c.args.parent c.args.parent _ ∙ rw (eq-eqb c.args.parent c.args.parent refl) refl) found up (c.forget.ensures.pids ∙ ap (λ o. without_gone c.args.child o asked.pids) (c.notify_of_end-gone.ensures.gone it.0 found)) c.forget.ensures.room;
       reported = subst (λ n. IsReported n (notice_of_end old c.args.parent c.args.child c.args.status).processes c.forget.new.reporting) (sym (ap (λ (s : State). s.world.pidmax) (only_notice old c.args.parent c.args.child c.args.status))) (reported_told _ old c.args.parent c.args.child c.args.status it.0 _ _ first found c.self.invariant.reported (subst (λ o. IsForgotten c.args.child o c.self.inside.reporting c.forget.new.reporting) (c.notify_of_end-gone.ensures.gone it.0 found) c.forget.ensures.reporting) c.forget.ensures.fits);
       timed = subst (λ n. IsTimed n (notice_of_end old c.args.parent c.args.child c.args.status).processes c.self.inside.alarmed c.self.inside.next_alarm) (sym (ap (λ (s : State). s.world.pidmax) (only_notice old c.args.parent c.args.child c.args.status))) (timed_told _ old c.args.parent c.args.child c.args.status it.0 _ _ first found c.requires.other it.2 c.self.invariant.timed);
       noted = subst (λ n. IsNoted n c.self.inside.losing) (sym (ap (λ (s : State). s.world.pidmax) (only_notice old c.args.parent c.args.child c.args.status))) c.self.invariant.noted;
+      fresh = λ e. absurd (cc);
     })
 
 pub returns-clause-state : goal.returns-clause-state
 returns-clause-state g c =
     let it = c.requires.zombie in
     let found = found_in _ _ (state_is c.self.view_is) c.args.child it.0 it.1 in
-    told_state _ _ _ _ _ c.self.inside.order _ _ _ _ _ c.args.parent c.args.child c.args.status it.0 c.notify_of_end-gone.ensures.processes (c.notify_of_end-gone.ensures.counts it.0 found)
+    told_state _ _ _ _ _ _ c.self.inside.order _ _ _ _ _ c.args.parent c.args.child c.args.status it.0 c.notify_of_end-gone.ensures.processes (c.notify_of_end-gone.ensures.counts it.0 found)
     ∙ ap (λ (s : State). notice_of_end s c.args.parent c.args.child c.args.status) (state_is c.self.view_is)

@@ -30,6 +30,7 @@ invariant_of-self g c =
       reported = reported_reaped _ c.args.pid _ _ _ it.0 found c.self.invariant.reported (λ q d. c.forget.ensures.reporting.1 q d ∙ ap (λ n. not (q == n && d == c.args.pid) && is_child_in q d c.self.inside.reporting.pairs) parent) c.forget.ensures.reporting.0 c.forget.ensures.fits;
       timed = timed_removed _ c.args.pid _ _ _ it.0 found c.requires.other it.2 c.self.invariant.timed;
       noted = c.self.invariant.noted;
+      fresh = λ e. absurd (cc);
     })
 
 pub returns-clause-state : goal.returns-clause-state

@@ -12,6 +12,7 @@ loop-next-init g c =
     record {
       same = refl;
       asked = refl;
+      stale = refl;
       walk = report_begins _ i.rising (λ q r e. (i.bounded q r e).least) c.args.parent c.args.options.0 _ c.next_reporting-next.ensures.value;
       read = let few = few_left c.args.self.now.state.processes c.args.parent c.next_reporting-next.result in omega (arith, few);
     }
@@ -37,6 +38,7 @@ returns-in_default-report_of g c =
       value = λ own. is ∙ sym (report_here rs c.args.parent c.in-Some.child own c.args.options.0 at walk (λ e. c.in_default-report_of.not-Nothing (is ∙ e)));
       same = c.report_of.ensures.same ∙ i.same;
       asked = c.report_of.ensures.asked ∙ i.asked;
+      stale = c.report_of.ensures.stale ∙ i.stale;
       reads = omega (arith, less, left, i.read, c.report_of.ensures.reads);
     }
 
@@ -61,6 +63,7 @@ loop-next-preserved g c =
     record {
       same = c.report_of.ensures.same ∙ i.same;
       asked = c.report_of.ensures.asked ∙ i.asked;
+      stale = c.report_of.ensures.stale ∙ i.stale;
       walk = report_passes rs c.args.parent c.in-Some.child c.args.options.0 at walk (sym is ∙ c.in-Nothing.is) c.next_reporting-next-in-Some.result next;
       read = omega (arith, less, left, i.read, c.report_of.ensures.reads);
     }

@@ -10,6 +10,7 @@ invariant-loop-next g l =
     record {
       same : l.self.state ≡ l.fn.self.state;
       asked : l.self.asked ≡ l.fn.self.asked;
+      stale : l.self.stale ≡ l.fn.self.stale;
       walk : IsReportWalk rs l.parent l.options.0 l.next;
       read : l.self.reads + length (left_of l.next (reporting_in l.parent rs)) ≤ l.fn.self.reads + length (reporting_in l.parent rs);
     }

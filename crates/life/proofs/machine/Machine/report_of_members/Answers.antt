@@ -15,6 +15,7 @@ loop-next-init g c =
     record {
       same = c.first_child-next.ensures.same;
       asked = c.first_child-next.ensures.asked;
+      stale = c.first_child-next.ensures.stale;
       here = first_here _ up c.args.parent _ c.first_child-next.ensures.value;
       todo = ap (scan 0 (whom.Group c.args.group) c.args.options.0 found.NoChild) (first_todo _ up c.args.parent _ c.first_child-next.ensures.value);
       read = let all = ap length (first_todo _ up c.args.parent _ c.first_child-next.ensures.value) in omega (arith, all, c.first_child-next.ensures.reads);
@@ -44,6 +45,7 @@ loop-next-preserved g c =
     record {
       same = c.next_sibling-next.ensures.same ∙ c.in-Some-facts.ensures.same ∙ c.loop-next.invariant.same;
       asked = c.next_sibling-next.ensures.asked ∙ c.in-Some-facts.ensures.asked ∙ c.loop-next.invariant.asked;
+      stale = c.next_sibling-next.ensures.stale ∙ c.in-Some-facts.ensures.stale ∙ c.loop-next.invariant.stale;
       here = next_here _ _ c.args.parent c.in-Some.child _ _ walk next;
       todo = elim c.match-look.branch [
         | in-NoChild w ↦ unnamed_here _ _ c.args.parent c.in-Some.child _ _ 0 _ c.args.options.0 _ c.loop-next.found _ walk

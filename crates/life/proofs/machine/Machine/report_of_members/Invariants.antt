@@ -12,6 +12,7 @@ invariant-loop-next g l =
     record {
       same : l.self.state ≡ l.fn.self.state;
       asked : l.self.asked ≡ l.fn.self.asked;
+      stale : l.self.stale ≡ l.fn.self.stale;
       here : first_pid (left_of l.next kids) ≡ l.next;
       todo : scan 0 (whom.Group l.group) l.options.0 l.found (left_of l.next kids) ≡ scan 0 (whom.Group l.group) l.options.0 found.NoChild kids;
       read : l.self.reads + 2 * length (left_of l.next kids) ≤ l.fn.self.reads + 1 + 2 * length kids;

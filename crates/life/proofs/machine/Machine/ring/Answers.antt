@@ -7,6 +7,7 @@ use Rattle.life.proofs.AskLemmas.{has_room, listed_change}
 use Rattle.life.proofs.ReportedLemmas.{reported_unseen}
 use Rattle.life.proofs.TimedLemmas.{timed_rung, timed_room}
 use Rattle.life.proofs.ViewLemmas.{state_is}
+use Rattle.life.proofs.TerminalLemmas.{fresh_changed}
 use Rattle.life.proofs.machine.Machine.ring.Goals as goal
 
 pub ask-requires : goal.ask-requires
@@ -29,6 +30,7 @@ invariant_of-self g c =
       reported = reported_unseen _ c.args.pid _ (unseen_ring now) _ _ here c.self.invariant.reported;
       timed = timed_rung _ now c.args.pid _ _ _ _ _ me.what _ me.found c.self.invariant.timed due c.note_alarm.ensures.pids c.note_alarm.ensures.room c.note_alarm.ensures.earlier c.note_alarm.ensures.before;
       noted = c.self.invariant.noted;
+      fresh = λ e. fresh_changed c.args.pid (ring_at now) (keeps_ring {now = 0} now).group (keeps_ring {now = 0} now).session _ _ (c.self.invariant.fresh e);
     })
 
 pub returns-clause-state : goal.returns-clause-state

@@ -1,3 +1,4 @@
+use Rattle.posix.specs.Alarms.{with_alarm}
 use Rattle.std.proofs.Common.{sym, refl, subst}
 use Rattle.posix.specs.Regular.{IsAhead}
 use Rattle.posix.proofs.RegularLemmas.{keeps_with_alarm, due_ahead}
@@ -7,6 +8,7 @@ use Rattle.life.proofs.AskLemmas.{has_room, listed_change}
 use Rattle.life.proofs.ReportedLemmas.{reported_unseen}
 use Rattle.life.proofs.TimedLemmas.{timed_set, timed_room}
 use Rattle.life.proofs.ViewLemmas.{state_is}
+use Rattle.life.proofs.TerminalLemmas.{fresh_changed}
 use Rattle.life.proofs.machine.Machine.set_alarm.Goals as goal
 
 pub ask-requires : goal.ask-requires
@@ -22,6 +24,7 @@ ticks_left-left-requires g c =
     subst (IsAhead c.self.inside.ticks) (sym is) (c.self.invariant.sound.regular.alarms c.args.pid c.requires.there.what found)
 
 pub invariant_of-self : goal.invariant_of-self
+unfolding with_alarm
 invariant_of-self g c =
     let m = c.self.inside in
     let me = c.requires.there in
@@ -34,6 +37,7 @@ invariant_of-self g c =
       reported = reported_unseen _ c.args.pid _ (unseen_with_alarm c.due_in-due.result) _ _ here c.self.invariant.reported;
       timed = timed_set _ c.args.pid _ _ _ _ _ me.what _ found me.living c.self.invariant.timed c.note_alarm.ensures.pids c.note_alarm.ensures.room c.note_alarm.ensures.earlier c.note_alarm.ensures.before;
       noted = c.self.invariant.noted;
+      fresh = λ e. fresh_changed c.args.pid (with_alarm c.due_in-due.result) (λ r. refl) (λ r. refl) _ _ (c.self.invariant.fresh e);
     })
 
 pub returns-clause-state : goal.returns-clause-state

@@ -42,7 +42,7 @@ pub returns-in-Nothing-clause-state : goal.returns-in-Nothing-clause-state
 returns-in-Nothing-clause-state g c =
     let contents = c.signal.ensures.processes in
     let me = named_there c.args.pid _ (here_in c.args.pid (state_is c.self.view_is) c.requires) in
-    rw (contents, ← c.self.view_is) (ap (with_processes (state_of c.self.inside.world c.self.inside.table.processes c.self.inside.pids c.self.inside.order c.self.inside.births c.self.inside.ticks c.self.inside.dropped c.self.inside.halted)) (sym (generated_as c.args.signal c.args.pid _ (record (me.what) { pid = c.args.pid }) effect.Nothing me.found (sym (c.signal.ensures.effect (record (me.what) { pid = c.args.pid }) me.found) ∙ c.in-Nothing.is))))
+    rw (contents, ← c.self.view_is) (ap (with_processes (state_of c.self.inside.world c.self.inside.table.processes c.self.inside.consoles.items c.self.inside.pids c.self.inside.order c.self.inside.births c.self.inside.ticks c.self.inside.dropped c.self.inside.halted)) (sym (generated_as c.args.signal c.args.pid _ (record (me.what) { pid = c.args.pid }) effect.Nothing me.found (sym (c.signal.ensures.effect (record (me.what) { pid = c.args.pid }) me.found) ∙ c.in-Nothing.is))))
 
 pub returns-in-Continued-clause-state : goal.returns-in-Continued-clause-state
 unfolding told_of_change signalled
@@ -51,7 +51,7 @@ returns-in-Continued-clause-state g c =
     let me = named_there c.args.pid _ (here_in c.args.pid (state_is c.self.view_is) c.requires) in
     let found = ap (lookup c.args.pid) contents ∙ lookup_signalled c.args.signal (record (me.what) { pid = c.args.pid }) c.args.pid _ me.found in
     c.continue_process.ensures.state (signalled c.args.signal (record (me.what) { pid = c.args.pid })) found
-    ∙ rw contents (ap (with_processes (state_of c.self.inside.world c.self.inside.table.processes c.self.inside.pids c.self.inside.order c.self.inside.births c.self.inside.ticks c.self.inside.dropped c.self.inside.halted)) (sym (generated_as c.args.signal c.args.pid _ (record (me.what) { pid = c.args.pid }) effect.Continued me.found (sym (c.signal.ensures.effect (record (me.what) { pid = c.args.pid }) me.found) ∙ c.in-Continued.is))))
+    ∙ rw contents (ap (with_processes (state_of c.self.inside.world c.self.inside.table.processes c.self.inside.consoles.items c.self.inside.pids c.self.inside.order c.self.inside.births c.self.inside.ticks c.self.inside.dropped c.self.inside.halted)) (sym (generated_as c.args.signal c.args.pid _ (record (me.what) { pid = c.args.pid }) effect.Continued me.found (sym (c.signal.ensures.effect (record (me.what) { pid = c.args.pid }) me.found) ∙ c.in-Continued.is))))
     ∙ ap (λ (s : State). record s { processes = generated_for c.args.signal (process s c.args.pid) s.processes }) (state_is c.self.view_is)
 
 pub returns-in-Continued-clause-reads : goal.returns-in-Continued-clause-reads

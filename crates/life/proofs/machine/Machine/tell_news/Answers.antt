@@ -14,6 +14,7 @@ use Rattle.life.proofs.AskLemmas.{has_room, listed_change}
 use Rattle.life.proofs.ReportedLemmas.{reported_no_news, reported_dead}
 use Rattle.life.proofs.TimedLemmas.{timed_change, untimed_news_told}
 use Rattle.life.proofs.ViewLemmas.{state_is}
+use Rattle.life.proofs.TerminalLemmas.{fresh_changed}
 use Rattle.life.proofs.machine.Machine.tell_news.Goals as goal
 
 pub ask-requires : goal.ask-requires
@@ -41,6 +42,7 @@ invariant_of-self g c =
       reported = reported_no_news _ c.args.pid _ _ _ it.what it.found living c.self.invariant.reported (λ q d. c.remove.ensures.pairs q d ∙ ap (λ (f : Facts). not (q == f.parent && d == c.args.pid) && is_child_in q d c.self.inside.reporting.pairs) facts) c.remove.ensures.rising c.remove.ensures.room;
       timed = timed_change _ c.args.pid news_told untimed_news_told _ _ _ here c.self.invariant.timed;
       noted = c.self.invariant.noted;
+      fresh = λ e. fresh_changed c.args.pid news_told (keeps_news_told {now = 0}).group (keeps_news_told {now = 0}).session _ _ (c.self.invariant.fresh e);
     })
 
 pub invariant_of-self-in_default-life : goal.invariant_of-self-in_default-life
@@ -56,6 +58,7 @@ invariant_of-self-in_default-life g c =
       reported = reported_dead _ c.args.pid _ _ it.what it.found dead c.self.invariant.reported;
       timed = timed_change _ c.args.pid news_told untimed_news_told _ _ _ here c.self.invariant.timed;
       noted = c.self.invariant.noted;
+      fresh = λ e. fresh_changed c.args.pid news_told (keeps_news_told {now = 0}).group (keeps_news_told {now = 0}).session _ _ (c.self.invariant.fresh e);
     })
 
 pub returns-in-Running : goal.returns-in-Running

@@ -1,0 +1,35 @@
+-- Whether a process may use its terminal, XBD 11.1.4.
+use Rattle.std.specs.Prelude.{not, ◌||◌, if◌then◌else◌}
+use Rattle.posix.specs.SignalNumbers.{TTIN, TTOU}
+use Rattle.posix.specs.Processes.{Process}
+use Rattle.posix.specs.States.{State}
+use Rattle.posix.specs.Consoles.{Console}
+use Rattle.posix.specs.Outcomes.{Attempted}
+use Rattle.posix.specs.Groups.{is_orphaned}
+use Rattle.posix.specs.Terminals.{is_in_background, spurns}
+use Rattle.calls.specs.declared.background.Access.{Access}
+use Rattle.calls.specs.declared.background.Access.TheVariants.{Allowed, Refused, Signalled}
+
+-- to change it or write to it
+abbrev pub change_access_of : State → Process → Console → Access
+change_access_of s me c =
+    if not (is_in_background me c) || spurns me TTOU then Allowed
+    else if is_orphaned me.group s.processes then Refused
+    else Signalled
+
+-- to read from it
+abbrev pub read_access_of : State → Process → Console → Access
+read_access_of s me c =
+    if not (is_in_background me c) then Allowed
+    else if spurns me TTIN || is_orphaned me.group s.processes then Refused
+    else Signalled
+
+-- to write to it: only where TOSTOP is set does it matter who writes
+abbrev pub write_access_of : State → Process → Console → Access
+write_access_of s me c = if c.tostop then change_access_of s me c else Allowed
+
+-- what a call comes to by its access
+abbrev pub by_access : Access → Attempted → Attempted → Attempted → Attempted
+by_access Allowed allowed refused signalled = allowed
+by_access Refused allowed refused signalled = refused
+by_access Signalled allowed refused signalled = signalled

@@ -1,0 +1,122 @@
+//! Background process groups: who may use a terminal (XBD 11.1.4).
+
+ghost use Rattle.std.specs.Prelude.{◌≡◌, IsSome, Some};
+ghost use Rattle.posix.specs.Processes.{Process};
+ghost use Rattle.posix.specs.Consoles.{Console};
+ghost use Rattle.posix.specs.States.{process};
+ghost use Rattle.posix.specs.Generation.{is_ignored as is_ignored_by};
+ghost use Rattle.posix.specs.Terminals.{is_in_background as is_in_background_of, spurns as spurns_signal};
+ghost use Rattle.posix.specs.Ends.{signalled_group};
+ghost use Rattle.life.specs.Callers.{caller_of};
+ghost use Rattle.life.specs.Consoles.{terminal_of};
+ghost use Rattle.calls.specs.Access.{change_access_of, read_access_of, write_access_of};
+
+use crate::outcome::Attempt;
+use life::{Caller, Machine, Terminal};
+use posix::{Handler, Pid, Sig};
+use proctable::Kin;
+
+/// Whether a process may use its terminal.
+#[derive(Clone, Copy, Debug, PartialEq, Eq)]
+pub enum Access {
+    /// It may.
+    Allowed,
+    /// The call is refused with EIO.
+    Refused,
+    /// A signal is sent to the process group, and then the call begins again.
+    Signalled,
+}
+
+/// Whether a handler ignores its signal.
+fn is_ignored(handler: Handler) -> bool
+    ensures { result ≡ is_ignored_by handler }
+{
+    matches!(handler, Handler::Ignore)
+}
+
+/// Whether a caller is in the background of its terminal: its process group isn't the foreground one (XBD 3
+/// Background Process Group).
+fn is_in_background(me: &Caller, terminal: &Terminal) -> bool
+    ensures { (r : Process) (c : Console) → me.now ≡ caller_of r → terminal.now ≡ terminal_of c → result ≡ is_in_background_of r c }
+{
+    me.group != terminal.foreground
+}
+
+/// Whether a process that is there blocks or ignores a signal. Nothing changes.
+fn spurns<K: Kin>(machine: &mut Machine<K>, pid: Pid, sig: Sig) -> bool
+    requires { IsSome (process machine.old.state pid) }
+    ensures value { (me : Process) → process machine.old.state pid ≡ Some me → result ≡ spurns_signal me sig }
+    ensures same { machine.new.state ≡ machine.old.state }
+{
+    let signals = &machine.look(pid).signals;
+    signals.mask().contains(sig) || is_ignored(signals.action(sig).handler)
+}
+
+/// Whether a caller that is there may change its terminal: in the foreground, and where it blocks or ignores TTOU. Else
+/// it is refused where its process group is orphaned (XBD 11.1.4). Nothing changes.
+pub(crate) fn change_access<K: Kin>(
+    machine: &mut Machine<K>,
+    me: &Caller,
+    terminal: &Terminal,
+) -> Access
+    requires { IsSome (process machine.old.state me.now.pid) }
+    ensures value { (r : Process) (c : Console) → process machine.old.state me.now.pid ≡ Some r → me.now ≡ caller_of r → terminal.now ≡ terminal_of c → result ≡ change_access_of machine.old.state r c }
+    ensures same { machine.new.state ≡ machine.old.state }
+{
+    if !is_in_background(me, terminal) || spurns(machine, me.pid, Sig::TTOU) {
+        return Access::Allowed;
+    }
+    if machine.is_orphaned(me.group) {
+        Access::Refused
+    } else {
+        Access::Signalled
+    }
+}
+
+/// Whether a caller that is there may read from its terminal: in the foreground. Else it is refused where it blocks or
+/// ignores TTIN, or its process group is orphaned (XBD 11.1.4). Nothing changes.
+pub(crate) fn read_access<K: Kin>(
+    machine: &mut Machine<K>,
+    me: &Caller,
+    terminal: &Terminal,
+) -> Access
+    requires { IsSome (process machine.old.state me.now.pid) }
+    ensures value { (r : Process) (c : Console) → process machine.old.state me.now.pid ≡ Some r → me.now ≡ caller_of r → terminal.now ≡ terminal_of c → result ≡ read_access_of machine.old.state r c }
+    ensures same { machine.new.state ≡ machine.old.state }
+{
+    if !is_in_background(me, terminal) {
+        return Access::Allowed;
+    }
+    if spurns(machine, me.pid, Sig::TTIN) || machine.is_orphaned(me.group) {
+        Access::Refused
+    } else {
+        Access::Signalled
+    }
+}
+
+/// Whether a caller that is there may write to its terminal: always, unless TOSTOP is set, and then where it may
+/// change it (XBD 11.1.4, 11.2.5). Nothing changes.
+pub(crate) fn write_access<K: Kin>(
+    machine: &mut Machine<K>,
+    me: &Caller,
+    terminal: &Terminal,
+) -> Access
+    requires { IsSome (process machine.old.state me.now.pid) }
+    ensures value { (r : Process) (c : Console) → process machine.old.state me.now.pid ≡ Some r → me.now ≡ caller_of r → terminal.now ≡ terminal_of c → result ≡ write_access_of machine.old.state r c }
+    ensures same { machine.new.state ≡ machine.old.state }
+{
+    if terminal.tostop {
+        change_access(machine, me, terminal)
+    } else {
+        Access::Allowed
+    }
+}
+
+/// A signal of the kernel is generated for each member of the caller's process group, and the call begins again.
+pub(crate) fn signal_own_group<K: Kin>(machine: &mut Machine<K>, me: &Caller, sig: Sig) -> Attempt
+    ensures again { result ≡ Attempt.Again }
+    ensures state { machine.new.state ≡ record (machine.old.state) { processes = signalled_group sig me.now.group machine.old.state.processes } }
+{
+    machine.signal_group(me.group, sig);
+    Attempt::Again
+}

@@ -1,0 +1,221 @@
+//! Calls on the controlling terminal but read and write: whose it is, its foreground process group and TOSTOP (XBD
+//! 11.1, XSH tcgetpgrp, tcsetpgrp).
+
+ghost use Rattle.std.specs.Prelude.{◌≡◌, ◌≤◌, length, pos, IsSome, Some, option_map, slice_get};
+ghost use Rattle.posix.specs.Processes.{Process, argument};
+ghost use Rattle.posix.specs.Consoles.{Console};
+ghost use Rattle.posix.specs.States.{process};
+ghost use Rattle.posix.specs.Regular.{IsRegular};
+ghost use Rattle.posix.specs.Terminals.{place_named as place_named_by, setctty_of, may_acquire as may_acquire_by, foreground_told as foreground_told_of, put_foreground as putting_foreground, tcsetpgrp_on as tcsetpgrp_of, settostop_on as settostop_of};
+ghost use Rattle.life.specs.Callers.{caller_of};
+ghost use Rattle.life.specs.Consoles.{terminal_of};
+ghost use Rattle.calls.specs.Outcomes.{Attempts, Comes};
+ghost use Rattle.calls.specs.Terminals.{natural_in as natural_number_in, putting_tostop};
+
+use crate::attempts::{gives, refuse};
+use crate::background::{Access, change_access, signal_own_group};
+use crate::entries::Entries;
+use crate::outcome::Attempt;
+use life::{Caller, Machine, Terminal};
+use posix::{Call, Errno, Pid, Sig};
+use proctable::Kin;
+
+// ---- setctty
+
+/// The place of the console that a register names: consoles count from 1.
+fn place_named(word: i64) -> Option<usize>
+    ensures { result ≡ place_named_by word }
+{
+    usize::try_from(word).ok()?.checked_sub(1)
+}
+
+/// Whether a caller leads a session without a terminal, and a console that is the terminal of this session is nobody's.
+fn may_acquire<K: Kin>(machine: &Machine<K>, me: &Caller, session: Pid) -> bool
+    ensures { (r : Process) (c : Console) → me.now ≡ caller_of r → session ≡ c.session → result ≡ may_acquire_by machine.now.state r c }
+{
+    me.session == me.pid && machine.terminal(me.session).is_none() && session == Pid::NONE
+}
+
+/// A caller that is there asks for the console in a place, which is the terminal of this session; number 0 is nobody's.
+fn acquire<K: Kin>(
+    machine: &mut Machine<K>,
+    me: &Caller,
+    place: usize,
+    session: Pid,
+    entries: &mut Entries,
+) -> Attempt
+    requires there { IsSome (process machine.old.state me.now.pid) }
+    requires caller { (r : Process) → process machine.old.state me.now.pid ≡ Some r → me.now ≡ caller_of r }
+    requires place { Some session ≡ option_map (λ (c : Console). c.session) (slice_get machine.old.state.consoles place) }
+    requires room { length entries.old.items ≤ 1 }
+    ensures { (r : Process) (c : Console) → process machine.old.state me.now.pid ≡ Some r → slice_get machine.old.state.consoles place ≡ Some c → Comes machine.old.state (setctty_of machine.old.state r place (Some c)) result entries.old.items entries.new.items machine.new.state }
+{
+    if !may_acquire(machine, me, session) {
+        return refuse(machine, me.pid, Call::Setctty, Errno::EPERM, entries);
+    }
+    machine.acquire_console(place, me.session, me.group);
+    gives(machine, me.pid, Call::Setctty, 0, entries)
+}
+
+/// The console in r1 becomes the controlling terminal of the session that the caller leads, with the caller's process
+/// group in the foreground; what was typed before stays. ENOENT where there is no such console; EPERM where the caller
+/// leads no session, its session has a terminal, or the console is another session's (own; as TIOCSCTTY in
+/// ioctl_tty(2)).
+#[tactic(auto, unfolding(posix::specs::Attempts::attempt, posix::specs::Terminals::setctty))]
+pub fn setctty<K: Kin>(machine: &mut Machine<K>, pid: Pid, entries: &mut Entries) -> Attempt
+    requires there { IsSome (process machine.old.state pid) }
+    requires room { length entries.old.items ≤ 1 }
+    ensures { Attempts machine.old.state pid Call.Setctty result entries.old.items entries.new.items machine.new.state }
+{
+    let me = machine.caller(pid);
+    let Some(place) = place_named(me.r1) else {
+        return refuse(machine, pid, Call::Setctty, Errno::ENOENT, entries);
+    };
+    let Some(session) = machine.session_at(place) else {
+        return refuse(machine, pid, Call::Setctty, Errno::ENOENT, entries);
+    };
+    acquire(machine, &me, place, session, entries)
+}
+
+// ---- tcgetpgrp
+
+/// What tcgetpgrp gives: the foreground process group, or a number above all where there is none.
+fn foreground_told(pidmax: u32, group: Pid) -> i64
+    ensures { result ≡ pos (foreground_told_of pidmax group) }
+{
+    if group == Pid::NONE {
+        i64::from(pidmax) + 1
+    } else {
+        i64::from(group.number())
+    }
+}
+
+/// The foreground process group of the caller's terminal, or pidmax + 1 where there is none. ENOTTY where the caller's
+/// session has no terminal (XSH tcgetpgrp).
+#[tactic(auto, unfolding(posix::specs::Attempts::attempt, posix::specs::Terminals::tcgetpgrp))]
+pub fn tcgetpgrp<K: Kin>(machine: &mut Machine<K>, pid: Pid, entries: &mut Entries) -> Attempt
+    requires there { IsSome (process machine.old.state pid) }
+    requires room { length entries.old.items ≤ 1 }
+    ensures { Attempts machine.old.state pid Call.Tcgetpgrp result entries.old.items entries.new.items machine.new.state }
+{
+    let me = machine.caller(pid);
+    let Some(terminal) = machine.terminal(me.session) else {
+        return refuse(machine, pid, Call::Tcgetpgrp, Errno::ENOTTY, entries);
+    };
+    let told = foreground_told(machine.pidmax(), terminal.foreground);
+    gives(machine, pid, Call::Tcgetpgrp, told, entries)
+}
+
+// ---- tcsetpgrp
+
+/// The number in a register; none where it is negative.
+fn natural_in(word: i64) -> Option<u64>
+    ensures { result ≡ natural_number_in word }
+{
+    u64::try_from(word).ok()
+}
+
+/// The process group in r1 of a caller that is there becomes the foreground one of its session's terminal. EINVAL where
+/// r1 is negative, EPERM where no process of the session is in that group.
+fn put_foreground<K: Kin>(machine: &mut Machine<K>, me: &Caller, entries: &mut Entries) -> Attempt
+    requires regular { IsRegular machine.old.state }
+    requires there { IsSome (process machine.old.state me.now.pid) }
+    requires caller { (r : Process) → process machine.old.state me.now.pid ≡ Some r → me.now ≡ caller_of r }
+    requires room { length entries.old.items ≤ 1 }
+    ensures { (r : Process) → process machine.old.state me.now.pid ≡ Some r → Comes machine.old.state (putting_foreground machine.old.state r (argument r 1)) result entries.old.items entries.new.items machine.new.state }
+{
+    let Some(group) = natural_in(me.r1) else {
+        return refuse(machine, me.pid, Call::Tcsetpgrp, Errno::EINVAL, entries);
+    };
+    let Some(group) = machine.group_of(me.session, group) else {
+        return refuse(machine, me.pid, Call::Tcsetpgrp, Errno::EPERM, entries);
+    };
+    machine.set_foreground(me.session, group);
+    gives(machine, me.pid, Call::Tcsetpgrp, 0, entries)
+}
+
+/// The same by a caller that has this terminal, where the rule for the background allows it.
+fn tcsetpgrp_on<K: Kin>(
+    machine: &mut Machine<K>,
+    me: &Caller,
+    terminal: &Terminal,
+    entries: &mut Entries,
+) -> Attempt
+    requires regular { IsRegular machine.old.state }
+    requires there { IsSome (process machine.old.state me.now.pid) }
+    requires caller { (r : Process) → process machine.old.state me.now.pid ≡ Some r → me.now ≡ caller_of r }
+    requires room { length entries.old.items ≤ 1 }
+    ensures { (r : Process) (c : Console) → process machine.old.state me.now.pid ≡ Some r → terminal.now ≡ terminal_of c → Comes machine.old.state (tcsetpgrp_of machine.old.state r (Some c)) result entries.old.items entries.new.items machine.new.state }
+{
+    match change_access(machine, me, terminal) {
+        Access::Allowed => put_foreground(machine, me, entries),
+        Access::Refused => refuse(machine, me.pid, Call::Tcsetpgrp, Errno::EIO, entries),
+        Access::Signalled => signal_own_group(machine, me, Sig::TTOU),
+    }
+}
+
+/// The process group in r1 becomes the foreground one of the caller's terminal. ENOTTY where the caller's session has no
+/// terminal; EIO, or TTOU for the caller's process group and the call again, in the background (XBD 11.1.4); EINVAL where
+/// the group is negative; EPERM where no process of the caller's session is in it (XSH tcsetpgrp).
+#[tactic(auto, unfolding(posix::specs::Attempts::attempt, posix::specs::Terminals::tcsetpgrp))]
+pub fn tcsetpgrp<K: Kin>(machine: &mut Machine<K>, pid: Pid, entries: &mut Entries) -> Attempt
+    requires there { IsSome (process machine.old.state pid) }
+    requires room { length entries.old.items ≤ 1 }
+    ensures { Attempts machine.old.state pid Call.Tcsetpgrp result entries.old.items entries.new.items machine.new.state }
+{
+    let me = machine.caller(pid);
+    let Some(terminal) = machine.terminal(me.session) else {
+        return refuse(machine, pid, Call::Tcsetpgrp, Errno::ENOTTY, entries);
+    };
+    tcsetpgrp_on(machine, &me, &terminal, entries)
+}
+
+// ---- settostop
+
+/// TOSTOP of the terminal of a caller that is there is set where r1 isn't 0, and else cleared.
+fn put_tostop<K: Kin>(machine: &mut Machine<K>, me: &Caller, entries: &mut Entries) -> Attempt
+    requires regular { IsRegular machine.old.state }
+    requires there { IsSome (process machine.old.state me.now.pid) }
+    requires caller { (r : Process) → process machine.old.state me.now.pid ≡ Some r → me.now ≡ caller_of r }
+    requires room { length entries.old.items ≤ 1 }
+    ensures { (r : Process) → process machine.old.state me.now.pid ≡ Some r → Comes machine.old.state (putting_tostop machine.old.state r) result entries.old.items entries.new.items machine.new.state }
+{
+    machine.set_tostop(me.session, me.r1 != 0);
+    gives(machine, me.pid, Call::Settostop, 0, entries)
+}
+
+/// The same by a caller that has this terminal, where the rule for the background allows it.
+fn settostop_on<K: Kin>(
+    machine: &mut Machine<K>,
+    me: &Caller,
+    terminal: &Terminal,
+    entries: &mut Entries,
+) -> Attempt
+    requires regular { IsRegular machine.old.state }
+    requires there { IsSome (process machine.old.state me.now.pid) }
+    requires caller { (r : Process) → process machine.old.state me.now.pid ≡ Some r → me.now ≡ caller_of r }
+    requires room { length entries.old.items ≤ 1 }
+    ensures { (r : Process) (c : Console) → process machine.old.state me.now.pid ≡ Some r → terminal.now ≡ terminal_of c → Comes machine.old.state (settostop_of machine.old.state r (Some c)) result entries.old.items entries.new.items machine.new.state }
+{
+    match change_access(machine, me, terminal) {
+        Access::Allowed => put_tostop(machine, me, entries),
+        Access::Refused => refuse(machine, me.pid, Call::Settostop, Errno::EIO, entries),
+        Access::Signalled => signal_own_group(machine, me, Sig::TTOU),
+    }
+}
+
+/// TOSTOP of the caller's terminal is set where r1 isn't 0, and else cleared. ENOTTY where the caller's session has no
+/// terminal; EIO, or TTOU for the caller's process group and the call again, in the background (own; as XSH tcsetattr,
+/// XBD 11.1.4).
+#[tactic(auto, unfolding(posix::specs::Attempts::attempt, posix::specs::Terminals::settostop))]
+pub fn settostop<K: Kin>(machine: &mut Machine<K>, pid: Pid, entries: &mut Entries) -> Attempt
+    requires there { IsSome (process machine.old.state pid) }
+    requires room { length entries.old.items ≤ 1 }
+    ensures { Attempts machine.old.state pid Call.Settostop result entries.old.items entries.new.items machine.new.state }
+{
+    let me = machine.caller(pid);
+    let Some(terminal) = machine.terminal(me.session) else {
+        return refuse(machine, pid, Call::Settostop, Errno::ENOTTY, entries);
+    };
+    settostop_on(machine, &me, &terminal, entries)
+}

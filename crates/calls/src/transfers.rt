@@ -1,0 +1,186 @@
+//! Bytes between a process and its terminal (XSH read, write).
+
+ghost use Rattle.std.specs.Prelude.{◌≡◌, ◌≢◌, ◌+◌, ◌≤◌, length, IsSome, Some, Ok};
+ghost use Rattle.posix.specs.Processes.{Process};
+ghost use Rattle.posix.specs.Consoles.{Console, console_of, line_taken};
+ghost use Rattle.posix.specs.States.{process, change};
+ghost use Rattle.posix.specs.Regular.{IsRegular};
+ghost use Rattle.posix.specs.Terminals.{change_console, moved as moved_by, with_bytes, read as reading, read_in, read_from, write as writing, write_in};
+ghost use Rattle.life.specs.Callers.{caller_of};
+ghost use Rattle.life.specs.Consoles.{terminal_of};
+ghost use Rattle.calls.specs.Outcomes.{Comes};
+ghost use Rattle.calls.specs.Terminals.{first_bytes};
+
+use crate::attempts::{gives, refuse};
+use crate::background::{Access, read_access, signal_own_group, write_access};
+use crate::entries::Entries;
+use crate::outcome::Attempt;
+use life::{Caller, Machine, Terminal};
+use posix::{Blocked, Bytes, Call, Entry, Errno, Pid, Sig, Span};
+use proctable::Kin;
+
+/// The call of a process that is there moved these bytes, and gives their number; where there are none it shows no
+/// more than that.
+fn moved<K: Kin>(
+    machine: &mut Machine<K>,
+    pid: Pid,
+    call: Call,
+    bytes: Bytes,
+    entries: &mut Entries,
+) -> Attempt
+    requires there { IsSome (process machine.old.state pid) }
+    requires room { length entries.old.items ≤ 3 }
+    ensures { Comes machine.old.state (moved_by machine.old.state pid call bytes) result entries.old.items entries.new.items machine.new.state }
+{
+    let count = bytes.as_slice().len();
+    if count == 0 {
+        return gives(machine, pid, call, 0, entries);
+    }
+    machine.own(pid).finish(count as i64);
+    entries.push(Entry::Moved { pid, call, bytes });
+    Attempt::Done
+}
+
+// ---- read
+
+/// Bytes are put into the words of a process that is there from an address on.
+#[tactic(auto, unfolding(posix::specs::Terminals::with_bytes))]
+fn store<K: Kin>(machine: &mut Machine<K>, pid: Pid, address: u16, bytes: &[u8])
+    requires there { IsSome (process machine.old.state pid) }
+    requires within { address + length bytes.now ≤ 256 }
+    ensures { machine.new.state ≡ change machine.old.state pid (with_bytes address bytes.now) }
+{
+    machine.own(pid).cpu.store(address, bytes);
+}
+
+/// Takes at most so many bytes, up to 16, of the first finished line of a session's terminal; what it leaves of the line
+/// stays. None, and nothing changes, where no line is finished.
+fn take_bytes<K: Kin>(machine: &mut Machine<K>, session: Pid, most: u8) -> Option<Bytes>
+    requires session { session ≢ 0 }
+    requires terminal { IsSome (console_of session machine.old.state.consoles) }
+    requires few { most ≤ 16 }
+    ensures bytes { (c : Console) → console_of session machine.old.state.consoles ≡ Some c → result ≡ first_bytes most c.lines }
+    ensures state { machine.new.state ≡ change_console machine.old.state session (line_taken most) }
+{
+    let mut buffer = [0; Span::MOST as usize];
+    let part = &mut buffer[..usize::from(most)];
+    let count = machine.take_line(session, part)?;
+    Some(Bytes::new(&part[..count]))
+}
+
+/// A caller that is there, and whose session has a terminal, reads into the words of a span. Where no line is finished
+/// it has to wait.
+fn read_line<K: Kin>(
+    machine: &mut Machine<K>,
+    me: &Caller,
+    span: Span,
+    entries: &mut Entries,
+) -> Attempt
+    requires regular { IsRegular machine.old.state }
+    requires there { IsSome (process machine.old.state me.now.pid) }
+    requires caller { (r : Process) → process machine.old.state me.now.pid ≡ Some r → me.now ≡ caller_of r }
+    requires terminal { IsSome (console_of me.now.session machine.old.state.consoles) }
+    requires few { span.count ≤ 16 }
+    requires within { span.address + span.count ≤ 256 }
+    requires room { length entries.old.items ≤ 1 }
+    ensures { (r : Process) (c : Console) → process machine.old.state me.now.pid ≡ Some r → console_of r.session machine.old.state.consoles ≡ Some c → Comes machine.old.state (read_from machine.old.state r span c.lines) result entries.old.items entries.new.items machine.new.state }
+{
+    let Some(bytes) = take_bytes(machine, me.session, span.count) else {
+        return Attempt::Block(Blocked::Read);
+    };
+    store(machine, me.pid, span.address, bytes.as_slice());
+    moved(machine, me.pid, Call::Read, bytes, entries)
+}
+
+/// A read into the words of a span by a caller that is there, with this terminal. A count of 0 takes nothing.
+fn read_span<K: Kin>(
+    machine: &mut Machine<K>,
+    me: &Caller,
+    terminal: &Terminal,
+    span: Span,
+    entries: &mut Entries,
+) -> Attempt
+    requires regular { IsRegular machine.old.state }
+    requires there { IsSome (process machine.old.state me.now.pid) }
+    requires caller { (r : Process) → process machine.old.state me.now.pid ≡ Some r → me.now ≡ caller_of r }
+    requires terminal { IsSome (console_of me.now.session machine.old.state.consoles) }
+    requires few { span.count ≤ 16 }
+    requires within { span.address + span.count ≤ 256 }
+    requires room { length entries.old.items ≤ 1 }
+    ensures { (r : Process) (c : Console) → process machine.old.state me.now.pid ≡ Some r → console_of r.session machine.old.state.consoles ≡ Some c → terminal.now ≡ terminal_of c → Comes machine.old.state (read_in machine.old.state r c (Ok span)) result entries.old.items entries.new.items machine.new.state }
+{
+    match read_access(machine, me, terminal) {
+        Access::Allowed if span.count == 0 => gives(machine, me.pid, Call::Read, 0, entries),
+        Access::Allowed => read_line(machine, me, span, entries),
+        Access::Refused => refuse(machine, me.pid, Call::Read, Errno::EIO, entries),
+        Access::Signalled => signal_own_group(machine, me, Sig::TTIN),
+    }
+}
+
+/// Takes at most r2 bytes of the first finished line of the caller's terminal into the words from address r1 on, and
+/// gives their number: 0 at the end of file. What it leaves of the line stays. ENOTTY where the caller's session has no
+/// terminal; EINVAL for a count outside 0 to 16; EFAULT where a word is none of the process; EIO, or TTIN for the
+/// caller's process group and the call again, in the background (XBD 11.1.4, 11.1.6, XSH read). Where no line is
+/// finished the caller has to wait.
+#[tactic(auto, unfolding(posix::specs::Terminals::read))]
+pub fn read<K: Kin>(machine: &mut Machine<K>, pid: Pid, entries: &mut Entries) -> Attempt
+    requires there { IsSome (process machine.old.state pid) }
+    requires room { length entries.old.items ≤ 1 }
+    ensures { (me : Process) → process machine.old.state pid ≡ Some me → Comes machine.old.state (reading machine.old.state me) result entries.old.items entries.new.items machine.new.state }
+{
+    let me = machine.caller(pid);
+    let Some(terminal) = machine.terminal(me.session) else {
+        return refuse(machine, pid, Call::Read, Errno::ENOTTY, entries);
+    };
+    match Span::from_words(me.r1, me.r2) {
+        Ok(span) => read_span(machine, &me, &terminal, span, entries),
+        Err(errno) => refuse(machine, pid, Call::Read, errno, entries),
+    }
+}
+
+// ---- write
+
+/// A write of the words of a span by a caller that is there, with this terminal.
+fn write_span<K: Kin>(
+    machine: &mut Machine<K>,
+    me: &Caller,
+    terminal: &Terminal,
+    span: Span,
+    entries: &mut Entries,
+) -> Attempt
+    requires there { IsSome (process machine.old.state me.now.pid) }
+    requires caller { (r : Process) → process machine.old.state me.now.pid ≡ Some r → me.now ≡ caller_of r }
+    requires few { span.count ≤ 16 }
+    requires within { span.address + span.count ≤ 256 }
+    requires room { length entries.old.items ≤ 1 }
+    ensures { (r : Process) (c : Console) → process machine.old.state me.now.pid ≡ Some r → terminal.now ≡ terminal_of c → Comes machine.old.state (write_in machine.old.state r c (Ok span)) result entries.old.items entries.new.items machine.new.state }
+{
+    match write_access(machine, me, terminal) {
+        Access::Allowed => {
+            let bytes = machine.look(me.pid).cpu.bytes(span);
+            moved(machine, me.pid, Call::Write, bytes, entries)
+        }
+        Access::Refused => refuse(machine, me.pid, Call::Write, Errno::EIO, entries),
+        Access::Signalled => signal_own_group(machine, me, Sig::TTOU),
+    }
+}
+
+/// Writes the r2 words from address r1 on to the caller's terminal, each as its low 8 bits, and gives their number.
+/// ENOTTY where the caller's session has no terminal; EINVAL for a count outside 0 to 16; EFAULT where a word is none of
+/// the process; EIO, or TTOU for the caller's process group and the call again, in the background where TOSTOP is set
+/// (XBD 11.1.4, XSH write).
+#[tactic(auto, unfolding(posix::specs::Terminals::write))]
+pub fn write<K: Kin>(machine: &mut Machine<K>, pid: Pid, entries: &mut Entries) -> Attempt
+    requires there { IsSome (process machine.old.state pid) }
+    requires room { length entries.old.items ≤ 1 }
+    ensures { (me : Process) → process machine.old.state pid ≡ Some me → Comes machine.old.state (writing machine.old.state me) result entries.old.items entries.new.items machine.new.state }
+{
+    let me = machine.caller(pid);
+    let Some(terminal) = machine.terminal(me.session) else {
+        return refuse(machine, pid, Call::Write, Errno::ENOTTY, entries);
+    };
+    match Span::from_words(me.r1, me.r2) {
+        Ok(span) => write_span(machine, &me, &terminal, span, entries),
+        Err(errno) => refuse(machine, pid, Call::Write, errno, entries),
+    }
+}

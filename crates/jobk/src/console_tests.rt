@@ -1,0 +1,174 @@
+//! Runs with consoles: keys, background reads, and the end of a session.
+
+use crate::tests::expect_run;
+use kernel::Kernel;
+use posix::{Bytes, Call, Entry, Event, Pid};
+use std::process::Abort;
+use std::test::Fail;
+use text::read_world;
+
+const SHELL_ENDS_WITH_A_STOPPED_JOB: &[u8] = b"\
+pidmax 40
+consoles 1
+program init
+sys fork
+jz r0, shell
+wait:
+set r1, -1
+sys waitpid
+jmp wait
+shell:
+sys setsid
+set r1, 1
+sys setctty
+sys fork
+jz r0, job
+set r1, 3
+set r2, 3
+sys setpgid
+sys tcsetpgrp
+set r1, -1
+set r2, 2
+sys waitpid
+set r1, 0
+sys exit
+job:
+jmp job
+end
+";
+
+const BACKGROUND_READ: &[u8] = b"\
+pidmax 40
+consoles 1
+program init
+sys fork
+jz r0, shell
+sys pause
+shell:
+sys setsid
+set r1, 1
+sys setctty
+sys fork
+jz r0, job
+set r1, 3
+set r2, 3
+sys setpgid
+set r1, -1
+set r2, 2
+sys waitpid
+sys pause
+job:
+set r1, 0
+set r2, 16
+sys read
+end
+";
+
+const LINE_EDITING: &[u8] = b"\
+pidmax 40
+consoles 1
+program init
+set r1, 1
+sys setctty
+set r1, 0
+set r2, 16
+again:
+sys read
+jmp again
+end
+";
+
+#[test]
+fn a_stopped_job_outlives_its_session(rt: HostRuntime) {
+    let trace = b"\
+1 call 1 fork = 2
+6 call 2 setsid = 2
+8 call 2 setctty = 0
+9 call 2 fork = 3
+13 call 2 setpgid = 0
+14 call 2 tcsetpgrp = 0
+20 stop 3 20
+21 call 2 waitpid = 3 status 5247
+23 end 2 0
+24 call 1 waitpid = 2 status 0
+28 end 3 1
+29 call 1 waitpid = 3 status 1
+"
+        .as_slice();
+    let events = b"step 18\nkey 1 1A\nstep 10\n".as_slice();
+    expect_run(&rt, SHELL_ENDS_WITH_A_STOPPED_JOB, events, trace, b"", 0);
+}
+
+#[test]
+fn a_read_in_the_background_stops_the_job(rt: HostRuntime) {
+    let trace = b"\
+1 call 1 fork = 2
+5 call 2 setsid = 2
+7 call 2 setctty = 0
+8 call 2 fork = 3
+12 call 2 setpgid = 0
+20 stop 3 21
+21 call 2 waitpid = 3 status 5503
+"
+        .as_slice();
+    expect_run(&rt, BACKGROUND_READ, b"step 21\n", trace, b"", 0);
+}
+
+#[test]
+fn a_line_is_edited(rt: HostRuntime) {
+    let events = b"\
+step 5
+key 1 68 69 7F 6A 0A
+step 3
+key 1 04
+step 3
+key 1 78 03 0A
+step 1
+"
+        .as_slice();
+    let trace = b"\
+2 call 1 setctty = 0
+11 call 1 read = 3 bytes 686a0a
+15 call 1 read = 0
+21 call 1 read = 1 bytes 0a
+"
+        .as_slice();
+    expect_run(&rt, LINE_EDITING, events, trace, b"", 0);
+}
+
+/// How many entries an event shows.
+fn shown<R: Abort + AllocGlobal>(rt: &R, kernel: &mut Kernel, event: Event) -> usize {
+    assert!(rt; kernel.events() < 10_000);
+    kernel.event(event).len()
+}
+
+/// How many entries a line feed on a console shows, with a step behind it.
+fn shown_by_a_line<R: Abort + AllocGlobal>(rt: &R, kernel: &mut Kernel, console: u8) -> usize {
+    let byte = b'\n';
+    let typed = shown(rt, kernel, Event::Key { console, byte });
+    typed.wrapping_add(shown(rt, kernel, Event::Step))
+}
+
+#[test]
+fn a_key_on_a_console_that_is_not_there_does_nothing(rt: HostRuntime) -> Result<(), Fail> {
+    let world = read_world(rt.alloc(), LINE_EDITING)?;
+    let mut kernel = Kernel::boot(rt.alloc(), &world)?;
+    let mut count: usize = 0;
+    for _ in 0..5 {
+        count = count.wrapping_add(shown(&rt, &mut kernel, Event::Step));
+    }
+    assert_eq!(rt; count, 1);
+    assert_eq!(rt; shown_by_a_line(&rt, &mut kernel, 0), 0);
+    assert_eq!(rt; shown_by_a_line(&rt, &mut kernel, 2), 0);
+    assert_eq!(rt; shown_by_a_line(&rt, &mut kernel, 255), 0);
+    let (console, byte) = (1, b'\n');
+    assert_eq!(rt; shown(&rt, &mut kernel, Event::Key { console, byte }), 0);
+    assert!(rt; kernel.events() < 10_000);
+    let (pid, call, bytes) = (Pid::INIT, Call::Read, Bytes::new(b"\n"));
+    assert_eq!(rt;
+        kernel.event(Event::Step).as_slice(),
+        [Entry::Moved { pid, call, bytes }].as_slice()
+    );
+    assert_eq!(rt; kernel.events(), 13);
+    Ok(())
+}

@@ -1,0 +1,12 @@
+-- Calls from the background that begin again.
+use Rattle.std.specs.Prelude.{◌≡◌, ◌⊎◌}
+use Rattle.posix.specs.SignalNumbers.{TTIN, TTOU}
+use Rattle.posix.specs.Processes.{Process}
+use Rattle.posix.specs.States.{State}
+use Rattle.posix.specs.Ends.{signalled_group}
+
+-- From the first state to the second TTIN, or else TTOU, was generated for each member of the caller's process group, and
+-- nothing else happened.
+abbrev pub HasSignalledItsGroup : State → Process → State → Type 0
+HasSignalledItsGroup s me t =
+    (t ≡ record s { processes = signalled_group TTIN me.group s.processes }) ⊎ (t ≡ record s { processes = signalled_group TTOU me.group s.processes })

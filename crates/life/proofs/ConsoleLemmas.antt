@@ -1,0 +1,310 @@
+-- A machine that gets another console in the place of one.
+use Rattle.std.proofs.Common.{◌≡◌, ◌≢◌, ◌⊎◌, ℕ, zero, suc, ◌≤◌, ◌==◌, Bool, true, false, not, ◌&&◌, ◌||◌, refl, ap, sym, ◌∙◌, arith, List, [], ◌∷◌, map, Option, Some, None, is_some, length, nat_lt, slice_get, slice_set, slice_index_or, inl, inr, ⊎_elim}
+use Rattle.std.proofs.lemmas.Bool.{eqb-true, eqb-false, eq-eqb, ne_eqb, and_parts, not-true, or_right, ltb-true, ltb-false, cond_both}
+use Rattle.std.proofs.lemmas.Option.{slice_get_read, slice_get_cases}
+use Rattle.posix.specs.declared.process.Blocked.{Blocked}
+use Rattle.posix.specs.declared.process.Blocked.TheVariants as blocked
+use Rattle.posix.specs.SignalNumbers.{HUP}
+use Rattle.posix.specs.Processes.{Process, is_running}
+use Rattle.posix.specs.States.{State, process, is_in, has_place}
+use Rattle.posix.specs.Consoles.{Console, console_of, changed_console, changed_at, key_signal, keyed, keyed_by, edit, flushed, finish_line, released}
+use Rattle.posix.specs.Choice.{chosen}
+use Rattle.posix.specs.Attempts.{attempt_again}
+use Rattle.posix.specs.Terminals.{is_reader, is_in_read, waits_on, waits_to_read}
+use Rattle.posix.specs.Ends.{signalled_group, hang_up}
+use Rattle.posix.specs.Step.{signalled_from, key}
+use Rattle.posix.specs.Settle.{can_act, can_go_on, is_fresh, AreFresh}
+use Rattle.posix.specs.Regular.{IsRegular, AreConsoles}
+use Rattle.posix.proofs.TableLemmas.{pid_looked}
+use Rattle.posix.proofs.SeeLemmas.{block_read, acts_reading}
+use Rattle.posix.proofs.ConsoleLemmas.{consoles_set, consoles_freed, consoles_acquired, none_of, changed_at_place, regular_consoles, console_is}
+use Rattle.posix.proofs.ReaderLemmas.{IsOfOrFree, console_of_set, touches_unread}
+use Rattle.pidalloc.specs.Rows.{Pids}
+use Rattle.sched.specs.Places.{Places}
+use Rattle.pidset.specs.Numbers.{PidSetView}
+use Rattle.pidset.specs.Children.{ChildSetView}
+use Rattle.life.specs.Machines.{IsListed, IsMachine, readers_at}
+use Rattle.life.specs.Consoles.{AreReaders}
+use Rattle.life.proofs.TerminalLemmas.{AllFresh}
+
+-- the state with another console in a place
+abbrev pub put : State → ℕ → Console → State
+put s k d = record s { consoles = slice_set s.consoles k d }
+
+-- It can be put there: a session has one console at most, nobody can act for it who isn't asked and has no place, and
+-- whoever waits to read from it is known.
+pub record CanPut (s : State) (asked : List ℕ) (readers : List PidSetView) (k : ℕ) (d : Console) : Type 0 where
+  pub apart : AreConsoles s.world.consoles (slice_set s.consoles k d)
+  pub acts : (p : ℕ) (r : Process) → process s p ≡ Some r → has_place s p ≡ false → is_in p asked ≡ false → can_act (put s k d) r ≡ true → can_act s r ≡ true
+  pub known : (p : ℕ) (r : Process) → process s p ≡ Some r → is_reader d.session r ≡ true → has_place s p ≡ false → is_in p asked ≡ false → is_in p (readers_at k readers) ≡ true
+
+-- ---- the machine
+
+-- what is found where d was put in the place k: d there, or else what was there
+found_put : (cs : List Console) (k j : ℕ) (d c : Console) → slice_get (slice_set cs k d) j ≡ Some c → ((j ≡ k) × (d ≡ c)) ⊎ ((j ≢ k) × (slice_get cs j ≡ Some c))
+found_put [] k j d c e = absurd (cc)
+found_put (x ∷ xs) zero zero d c e = inl (refl, cc)
+found_put (x ∷ xs) zero (suc j) d c e = inr (λ q. absurd (omega (arith, q)), e)
+found_put (x ∷ xs) (suc k) zero d c e = inr (λ q. absurd (omega (arith, q)), e)
+found_put (x ∷ xs) (suc k) (suc j) d c e = ⊎_elim (λ h. inl (ap suc h.0, h.1)) (λ h. inr (λ q. h.0 (omega (arith, q)), h.1)) (found_put xs k j d c e)
+
+pub both_ways : (b : Bool) → b ≡ true → b ≡ false → ⊥
+both_ways b y n = absurd (cc)
+
+-- who can act and has no place is on the list
+on_list : {readers : List PidSetView} (s : State) (l : PidSetView) (p : ℕ) (r : Process) → IsListed s l readers → process s p ≡ Some r → has_place s p ≡ false → can_act s r ≡ true → is_in p l.pids ≡ true
+on_list s l p r h found out acts =
+    let unplaced : is_in r.pid s.order ≡ false = ap (λ n. is_in n s.order) (pid_looked p s.processes r found) ∙ out in
+    h.covers p r found (rw (unplaced, acts) refl)
+
+listed_put : {readers : List PidSetView} (s : State) (l : PidSetView) (k : ℕ) (d : Console) → IsListed s l readers → CanPut s l.pids readers k d → IsListed (put s k d) l readers
+listed_put {readers = readers} s l k d h can = record {
+  covers = λ p r found w.
+      let awake = and_parts (not (is_in r.pid s.order)) _ w in
+      let out : is_in p s.order ≡ false = ap (λ n. is_in n s.order) (sym (pid_looked p s.processes r found)) ∙ not-true _ awake.0 in
+      elim (is_in p l.pids) as (λ b. is_in p l.pids ≡ b → b ≡ true) [
+        | true ↦ λ e. refl
+        | false ↦ λ e. sym e ∙ on_list s l p r h found out (can.acts p r found out e awake.1)
+      ] refl;
+  rising = h.rising;
+  there = h.there;
+  room = h.room;
+  watched = record {
+    known = λ j p c r at found reads out unasked. ⊎_elim
+        (λ here.
+        let mine : is_reader d.session r ≡ true = ap (λ (c : Console). is_reader c.session r) here.1 ∙ reads in
+        ap (λ i. is_in p (readers_at i readers)) here.0 ∙ can.known p r found mine out unasked)
+        (λ other. h.watched.known j p c r other.1 found reads out unasked)
+        (found_put s.consoles k j d c at);
+    each = h.watched.each;
+    many = h.watched.many;
+  };
+}
+
+-- the machine stays one
+pub machine_put : (s : State) (pids : Pids) (places : Places) (asked : PidSetView) (reporting : ChildSetView) (alarmed : PidSetView) (tick : ℕ) (losing : PidSetView) (readers : List PidSetView) (before after : Bool) (k : ℕ) (d : Console)
+    → IsMachine s pids places asked reporting alarmed tick losing (record { readers = readers; stale = before }) → CanPut s asked.pids readers k d → (after ≡ false → AreFresh (put s k d))
+    → IsMachine (put s k d) pids places asked reporting alarmed tick losing (record { readers = readers; stale = after })
+machine_put s pids places asked reporting alarmed tick losing readers before after k d h can fresh = record {
+  sound = record {
+    regular = regular_consoles s _ h.sound.regular can.apart;
+    parents = h.sound.parents;
+    counted = h.sound.counted;
+    kept = h.sound.kept;
+  };
+  listed = listed_put s asked k d h.listed can;
+  reported = h.reported;
+  timed = h.timed;
+  noted = h.noted;
+  fresh = fresh;
+}
+
+-- ---- which consoles can be put
+
+-- what a test of a reader says
+record IsReading (session : ℕ) (r : Process) : Type 0 where
+  runs : is_running r.life ≡ true
+  reads : is_in_read r.blocked ≡ true
+  own : r.session ≡ session
+
+reader_is : (session : ℕ) (r : Process) → is_reader session r ≡ true → IsReading session r
+reader_is session r h =
+    let a = and_parts (is_running r.life) (is_in_read r.blocked && r.session == session) h in
+    let b = and_parts (is_in_read r.blocked) (r.session == session) a.1 in
+    record { runs = a.0; reads = b.0; own = eqb-true r.session session b.1 }
+
+-- one with the same session and foreground process group, and no line where there was none
+pub put_unread : {readers : List PidSetView} (s : State) (l : PidSetView) (k : ℕ) (c d : Console) → IsRegular s → IsListed s l readers → slice_get s.consoles k ≡ Some c
+    → d.session ≡ c.session → d.foreground ≡ c.foreground → (c.lines ≡ [] → d.lines ≡ []) → CanPut s l.pids readers k d
+unfolding is_in
+put_unread s l k c d i h at owner foreground lines = record {
+  apart = consoles_set s.world.consoles s.consoles k c d at owner i.consoles;
+  acts = λ p r found out unasked acts.
+      let u = touches_unread s k c d at owner foreground lines p r found refl in
+      let was = u.found in
+      let same : u.old ≡ r = cc in
+      ap (can_act s) (sym same) ∙ u.acts acts;
+  known = λ p r found reads out unasked. h.watched.known k p c r at found (ap (λ n. is_reader n r) (sym owner) ∙ reads) out unasked;
+}
+
+-- where whoever waits to read from it is asked, one with the same session, or nobody's
+pub put_asked : {readers : List PidSetView} (s : State) (l : PidSetView) (k : ℕ) (c d : Console) → IsRegular s → IsListed s l readers → slice_get s.consoles k ≡ Some c
+    → AreReaders s k l.pids → IsOfOrFree c.session d → CanPut s l.pids readers k d
+unfolding waits_to_read
+put_asked {readers = readers} s l k c d i h at asked kind = record {
+  apart = ⊎_elim (λ same. consoles_set s.world.consoles s.consoles k c d at same i.consoles) (λ free. consoles_freed s.world.consoles s.consoles k d free i.consoles) kind;
+  acts = λ p r found out unasked acts. acts_reading s (put s k d) r refl (λ runs reads w.
+      elim (r.session == c.session) as (λ b. (r.session == c.session) ≡ b → waits_to_read (slice_set s.consoles k d) r ≡ true) [
+        | true ↦ λ e. absurd (let reader : is_reader c.session r ≡ true = rw (runs, reads, e) refl in both_ways _ (asked p c r at found reader out) unasked)
+        | false ↦ λ e. ap (waits_on r) (console_of_set r.session k c d s.consoles at (λ same. eqb-false _ _ e (sym same)) (others r d (i.bounded p r found).session_least (eqb-false _ _ e) kind)) ∙ w
+      ] refl) acts;
+  known = λ p r found reads out unasked. ⊎_elim
+      (λ same. h.watched.known k p c r at found (ap (λ n. is_reader n r) (sym same) ∙ reads) out unasked)
+      (λ free. absurd (nobody r d (i.bounded p r found).session_least free reads))
+      kind;
+}
+  where
+    others : (r : Process) (d : Console) → 1 ≤ r.session → r.session ≢ c.session → IsOfOrFree c.session d → d.session ≢ r.session
+    others r d least ne (inl h) same = ne (sym same ∙ h)
+    others r d least ne (inr h) same = omega (arith, h, same, least)
+
+    nobody : (r : Process) (d : Console) → 1 ≤ r.session → d.session ≡ 0 → is_reader d.session r ≡ true → ⊥
+    nobody r d least free reads =
+        let own = (reader_is d.session r reads).own in
+        omega (arith, least, free, own)
+
+-- who reads where there is no line to wait for can act
+reads_on : (s : State) (r : Process) → is_running r.life ≡ true → is_in_read r.blocked ≡ true → waits_to_read s.consoles r ≡ false → can_act s r ≡ true
+unfolding can_act attempt_again
+reads_on s r runs reads none =
+    let on : (is_running r.life && (can_go_on s r r.blocked || is_some (chosen r.life r.signals))) ≡ true = rw (runs, goes r.blocked reads) refl in
+    or_right _ _ on
+  where
+    goes : (b : Option Blocked) → is_in_read b ≡ true → can_go_on s r b ≡ true
+    goes None e = absurd (cc)
+    goes (Some blocked.Waitpid) e = absurd (cc)
+    goes (Some blocked.Read) e = ap not (block_read s r ∙ none)
+    goes (Some blocked.Pause) e = absurd (cc)
+    goes (Some (blocked.Sigsuspend mask)) e = absurd (cc)
+
+-- in the place of one that was nobody's, one of a session that had none: its reads were refused, and needn't wait
+pub put_acquired : {readers : List PidSetView} (s : State) (l : PidSetView) (k : ℕ) (c d : Console) → IsRegular s → IsListed s l readers → slice_get s.consoles k ≡ Some c
+    → c.session ≡ 0 → console_of d.session s.consoles ≡ None → CanPut s l.pids readers k d
+unfolding waits_to_read
+put_acquired {readers = readers} s l k c d i h at free none = record {
+  apart = consoles_acquired s.world.consoles s.consoles k d none i.consoles;
+  acts = λ p r found out unasked acts. acts_reading s (put s k d) r refl (λ runs reads w.
+      elim (r.session == d.session) as (λ b. (r.session == d.session) ≡ b → waits_to_read (slice_set s.consoles k d) r ≡ true) [
+        | true ↦ λ e. absurd (both_ways _ w (no_wait r (eqb-true _ _ e)))
+        | false ↦ λ e. ap (waits_on r) (console_of_set r.session k c d s.consoles at (nobody r (i.bounded p r found).session_least) (λ same. eqb-false _ _ e (sym same))) ∙ w
+      ] refl) acts;
+  known = λ p r found reads out unasked.
+      let it = reader_is d.session r reads in
+      absurd (both_ways _ (on_list s l p r h found out (reads_on s r it.runs it.reads (no_wait r it.own))) unasked);
+}
+  where
+    no_wait : (r : Process) → r.session ≡ d.session → waits_to_read s.consoles r ≡ false
+    no_wait r e = ap (λ n. waits_on r (console_of n s.consoles)) e ∙ ap (waits_on r) none
+
+    nobody : (r : Process) → 1 ≤ r.session → c.session ≢ r.session
+    nobody r least same = omega (arith, free, same, least)
+
+-- ---- foregrounds
+
+-- a fresh console in the place of one
+pub fresh_put : (rs : List Process) (cs : List Console) (k : ℕ) (d : Console) → AllFresh rs cs → is_fresh rs d ≡ true → AllFresh rs (slice_set cs k d)
+fresh_put rs [] k d h e = tt
+fresh_put rs (x ∷ xs) zero d h e = (e, h.1)
+fresh_put rs (x ∷ xs) (suc k) d h e = (h.0, fresh_put rs xs k d h.1 e)
+
+fresh_at : (rs : List Process) (cs : List Console) (k : ℕ) (c : Console) → AllFresh rs cs → slice_get cs k ≡ Some c → is_fresh rs c ≡ true
+fresh_at rs [] k c h e = absurd (cc)
+fresh_at rs (x ∷ xs) zero c h e = let same : x ≡ c = cc in ap (is_fresh rs) (sym same) ∙ h.0
+fresh_at rs (x ∷ xs) (suc k) c h e = fresh_at rs xs k c h.1 e
+
+-- one with the same session and foreground process group
+pub fresh_alike : (rs : List Process) (cs : List Console) (k : ℕ) (c d : Console) → slice_get cs k ≡ Some c → d.session ≡ c.session → d.foreground ≡ c.foreground → AllFresh rs cs → AllFresh rs (slice_set cs k d)
+fresh_alike rs cs k c d at owner foreground h = fresh_put rs cs k d h (rw (owner, foreground) (fresh_at rs cs k c h at))
+
+-- ---- the console in a place
+
+-- what the test of a place says
+pub lent_at : (cs : List Console) (k : ℕ) (c : Console) → true ≡ nat_lt k (length cs) → c ≡ slice_index_or cs k c → slice_get cs k ≡ Some c
+lent_at cs k c within is = slice_get_read cs (length cs) k c refl (ltb-true _ _ (sym within)) is
+
+pub none_at : (cs : List Console) (k : ℕ) → false ≡ nat_lt k (length cs) → slice_get cs k ≡ None
+none_at cs k past =
+    let l : length cs ≤ k = ltb-false _ _ (sym past) in
+    ⊎_elim (λ here. absurd (let lt = here.1 in omega (arith, l, lt))) (λ gone. gone.1) (slice_get_cases cs k).1
+
+-- there is one or there isn't
+pub not_both : (o : Option Console) (c : Console) → o ≡ Some c → o ≡ None → ⊥
+not_both o c some none = absurd (cc)
+
+-- the same change of equal states
+pub put_is : (s t : State) (k : ℕ) (c d : Console) (f : Console → Console) → s ≡ t → slice_get s.consoles k ≡ Some c → slice_get t.consoles k ≡ Some d → put s k (f c) ≡ put t k (f d)
+put_is s t k c d f same at found =
+    let both : Some c ≡ Some d = sym at ∙ ap (λ (s : State). slice_get s.consoles k) same ∙ found in
+    let is : c ≡ d = cc in
+    ap (λ c. put s k (f c)) is ∙ ap (λ (s : State). put s k (f d)) same
+
+-- ---- the console of a session
+
+-- it is changed in its place
+pub put_changed : (s : State) (k session : ℕ) (c : Console) (f : Console → Console) → IsRegular s → slice_get s.consoles k ≡ Some c → c.session ≡ session → session ≢ 0
+    → put s k (f c) ≡ record s { consoles = changed_console session f s.consoles }
+put_changed s k session c f i at own some = ap (λ cs. record s { consoles = cs }) (sym (changed_at_place s.world.consoles s.consoles k session c f i.consoles at own some))
+
+changed_none : (session : ℕ) (f : Console → Console) (cs : List Console) → ((j : ℕ) (c : Console) → slice_get cs j ≡ Some c → c.session ≢ session) → map (changed_at session f) cs ≡ cs
+changed_none session f [] none = refl
+changed_none session f (x ∷ xs) none =
+    let away : (x.session == session) ≡ false = ne_eqb _ _ (none 0 x refl) in
+    rw away (ap (λ cs. x ∷ cs) (changed_none session f xs (λ j c e. none (suc j) c e)))
+
+-- and nothing is changed where it has none
+pub none_changed : (s : State) (session : ℕ) (f : Console → Console) → console_of session s.consoles ≡ None → s ≡ record s { consoles = changed_console session f s.consoles }
+unfolding changed_console
+none_changed s session f e = ap (λ cs. record s { consoles = cs }) (sym (changed_none session f s.consoles (none_of session s.consoles e)))
+
+-- ---- keys
+
+-- a key leaves the foreground process group
+pub foreground_keyed : (byte : ℕ) (c : Console) → (keyed byte c).foreground ≡ c.foreground
+unfolding keyed edit finish_line flushed
+foreground_keyed byte c = elim (key_signal byte) as (λ o. (keyed_by o byte c).foreground ≡ c.foreground) [
+  | None ↦ grind arith
+  | Some n ↦ refl
+]
+
+-- and finishes no line but by NL and EOF
+pub lines_keyed : (byte : ℕ) (c : Console) → (byte == 10) ≡ false → (byte == 4) ≡ false → c.lines ≡ [] → (keyed byte c).lines ≡ []
+unfolding keyed edit flushed
+lines_keyed byte c newline eof none = elim (key_signal byte) as (λ o. (keyed_by o byte c).lines ≡ []) [
+  | None ↦ grind (arith, newline, eof, none)
+  | Some n ↦ refl
+]
+
+-- on a console that isn't there nothing happens
+pub key_nowhere : (s : State) (console byte : ℕ) → console ≡ 0 → s ≡ key s console byte
+unfolding key
+key_nowhere s console byte none = rw none refl
+
+pub key_past : (s : State) (console k byte : ℕ) → console ≡ suc k → slice_get s.consoles k ≡ None → s ≡ key s console byte
+unfolding key
+key_past s console k byte number none = rw (number, none) refl
+
+-- on one that is, its input and the process group in its foreground
+pub key_on_it : (s : State) (console k byte : ℕ) (c : Console) (signal : Option ℕ) (group : ℕ) → console ≡ suc k → slice_get s.consoles k ≡ Some c → signal ≡ key_signal byte → group ≡ c.foreground
+    → record (put s k (keyed byte c)) { processes = signalled_from signal group s.processes } ≡ key s console byte
+unfolding key
+key_on_it s console k byte c signal group number found same foreground = rw (number, found, same, foreground) refl
+
+-- ---- hangups
+
+-- process 1 hangs up nothing, nor does another that leads no session, or one without a terminal
+pub first_stays : (s : State) (me : Process) → me.pid ≡ 1 → s ≡ hang_up s me
+unfolding hang_up
+first_stays s me first = rw (eq-eqb me.pid 1 first) refl
+
+pub member_stays : (s : State) (me : Process) → me.session ≢ me.pid → s ≡ hang_up s me
+unfolding hang_up
+member_stays s me other = rw (ne_eqb me.session me.pid other) (sym (cond_both (not (me.pid == 1) && false) _ s (λ t. t ≡ s) (λ e. absurd (no_more (not (me.pid == 1)) e)) (λ e. refl)))
+  where
+    no_more : (b : Bool) → (b && false) ≡ true → ⊥
+    no_more true e = absurd (cc)
+    no_more false e = absurd (cc)
+
+pub none_stays : (s : State) (me : Process) → console_of me.session s.consoles ≡ None → s ≡ hang_up s me
+unfolding hang_up
+none_stays s me none = rw none (sym (cond_both (not (me.pid == 1) && me.session == me.pid) s s (λ t. t ≡ s) (λ e. refl) (λ e. refl)))
+
+-- the leader of a session that has one
+pub leader_hangs_up : (s : State) (k p : ℕ) (me : Process) (c : Console) → IsRegular s → process s p ≡ Some me → me.pid ≢ 1 → me.session ≡ me.pid → slice_get s.consoles k ≡ Some c → c.session ≡ me.session
+    → put (record s { processes = signalled_group HUP c.foreground s.processes }) k (released c) ≡ hang_up s me
+unfolding hang_up
+leader_hangs_up s k p me c i found other leads at own =
+    let least = (i.bounded p me found).session_least in
+    let some : me.session ≢ 0 = λ none. omega (arith, none, least) in
+    let is = console_is s.world.consoles s.consoles k me.session c i.consoles at own some in
+    rw (ne_eqb me.pid 1 other, eq-eqb me.session me.pid leads, is)
+    (ap (λ cs. record s { processes = signalled_group HUP c.foreground s.processes; consoles = cs }) (sym (changed_at_place s.world.consoles s.consoles k me.session c released i.consoles at own some)))

@@ -1,0 +1,28 @@
+use Rattle.std.proofs.Common.{rules, ◌∙◌, ap, sym, subst, arith, ◌++◌, ◌∷◌, [], length, ◌≡◌}
+use Rattle.std.specs.List.{AllByRecursion}
+use Rattle.std.proofs.lemmas.List.{length-append}
+use Rattle.life.specs.Machines.{IsReaders}
+use Rattle.life.proofs.ReaderLemmas.{readers_none, readers_more}
+use Rattle.life.proofs.consoles.no_readers.Goals as goal
+
+pub loop-init : goal.loop-init
+loop-init c = (ap length c.in_ok-sets.ensures.items, subst (AllByRecursion (IsReaders c.args.pidmax)) (sym c.in_ok-sets.ensures.items) tt)
+
+pub loop-preserved : goal.loop-preserved
+loop-preserved c =
+    let items = c.in_ok-push.ensures.items in
+    let longer = length-append c.loop.sets.items (c.reserve.new.self ∷ []) in
+    let so_far = c.loop.invariant.0 in (
+      ap length items ∙ omega (arith, longer, so_far),
+      subst (AllByRecursion (IsReaders c.args.pidmax)) (sym items) (readers_more _ _ _ c.loop.invariant.1 (readers_none _ _ (c.in_ok-reserve.ensures.pids ∙ c.new-readers.ensures) c.in_ok-reserve.ensures.room)),
+    )
+
+pub returns-clause-each : goal.returns-clause-each
+returns-clause-each c = c.loop.invariant.1
+
+pub returns-clause-many : goal.returns-clause-many
+returns-clause-many c =
+    let low = c.loop-test.false in
+    let high = c.loop.auto.counter-end in
+    let is = c.loop.invariant.0 in
+    omega (arith, low, high, is)

@@ -1,0 +1,26 @@
+use Rattle.std.proofs.Common.{◌≡◌, ap, sym, ◌∙◌, subst, Some, slice_get}
+use Rattle.std.specs.Option.{IfSome}
+use Rattle.posix.specs.Consoles.{console_of, acquired}
+use Rattle.posix.specs.States.{State}
+use Rattle.life.proofs.ConsoleLemmas.{machine_put, put_acquired, put_is, lent_at}
+use Rattle.life.proofs.ViewLemmas.{state_is}
+use Rattle.life.proofs.machine.Machine.acquire_console.Goals as goal
+
+pub invariant_of-self : goal.invariant_of-self
+unfolding acquired
+invariant_of-self g c =
+    let cs = c.self.inside.consoles.items in
+    let place = c.args.place in
+    let it = c.in-Some.console.now in
+    let at : slice_get cs place ≡ Some it = lent_at cs place it c.in-Some.ensures.item.0 c.in-Some.ensures.item.1 in
+    let same = state_is c.self.view_is ∙ c.ask_readers.ensures.state in
+    let free = subst (λ o. IfSome o (λ c. c.session ≡ 0)) at (subst (λ (s : State). IfSome (slice_get s.consoles place) (λ c. c.session ≡ 0)) (sym same) c.requires.free) in
+    let none = ap (λ (s : State). console_of c.args.session s.consoles) same ∙ c.requires.none in
+    rw c.acquire.ensures (machine_put _ _ _ _ _ _ _ _ _ _ _ place (acquired c.args.session c.args.group it) c.self.invariant
+    (put_acquired _ _ place it (acquired c.args.session c.args.group it) c.self.invariant.sound.regular c.self.invariant.listed at free none) (λ e. absurd (cc)))
+
+pub returns-in-Some : goal.returns-in-Some
+returns-in-Some g c = λ its found.
+    let it = c.in-Some.console.now in
+    let at = lent_at c.self.inside.consoles.items c.args.place it c.in-Some.ensures.item.0 c.in-Some.ensures.item.1 in
+    rw c.acquire.ensures (put_is _ c.args.self.now.state c.args.place it its (acquired c.args.session c.args.group) (state_is c.self.view_is ∙ c.ask_readers.ensures.state) at found)

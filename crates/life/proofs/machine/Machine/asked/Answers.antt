@@ -1,0 +1,33 @@
+use Rattle.std.proofs.Common.{ℕ, refl, ◌≡◌, ◌≢◌, sym, ap, subst, ◌∙◌, Some, None, Option}
+use Rattle.std.specs.Option.{IsSome}
+use Rattle.posix.specs.Processes.{Process}
+use Rattle.posix.specs.States.{State, process}
+use Rattle.posix.specs.Settle.{wakes}
+use Rattle.life.specs.Consoles.{IsPlaceOf}
+use Rattle.life.proofs.SoundLemmas.{found_in}
+use Rattle.life.proofs.AskLemmas.{listed_asked}
+use Rattle.life.proofs.ReaderLemmas.{readers_at_place, readers_room, watched_known}
+use Rattle.life.proofs.ViewLemmas.{state_is}
+use Rattle.life.proofs.machine.Machine.asked.Goals as goal
+
+-- there is a place
+some_place : (o : Option ℕ) → o ≢ None → IsSome o
+some_place None ne = absurd (ne refl)
+some_place (Some k) ne = refl
+
+pub know-requires : goal.know-requires
+know-requires g c = λ k set at. readers_room _ set (readers_at_place _ _ k set c.self.invariant.listed.watched.each at)
+
+pub invariant_of-self : goal.invariant_of-self
+invariant_of-self g c =
+    let i = c.self.invariant in
+    let same = state_is c.self.view_is ∙ c.reads_from-place.ensures.same in
+    record {
+      sound = i.sound;
+      listed = listed_asked _ c.args.pid _ _ _ i.listed (λ r e. ap (λ (s : State). wakes s r) same ∙ c.requires r (subst (λ (s : State). process s c.args.pid ≡ Some r) same e)) c.remove.ensures.pids c.remove.ensures.room
+          (watched_known _ c.args.pid c.reads_from-place.result _ _ i.sound.regular i.listed.watched c.remove.ensures.pids c.know.ensures (λ ne. subst (λ (s : State). IsSome (process s c.args.pid)) (sym same) (c.reads_from-place.ensures.there (some_place _ ne))) (λ r e b. subst (λ (s : State). IsPlaceOf r.session s.consoles c.reads_from-place.result) (sym same) (c.reads_from-place.ensures.value r (subst (λ (s : State). process s c.args.pid ≡ Some r) same e) b)));
+      reported = i.reported;
+      timed = i.timed;
+      noted = i.noted;
+      fresh = i.fresh;
+    }

@@ -1,0 +1,18 @@
+use Rattle.std.proofs.Common.{sym, subst}
+use Rattle.life.specs.Machines.{MachineView}
+use Rattle.life.specs.Consoles.{AreReaders}
+use Rattle.life.proofs.ReaderLemmas.{watched_forgotten}
+use Rattle.life.proofs.machine.Machine.forget_readers.Goals as goal
+
+pub invariant_of-self : goal.invariant_of-self
+invariant_of-self g c =
+    let i = c.self.invariant in
+    let l = i.listed in
+    record {
+      sound = i.sound;
+      listed = record { covers = l.covers; rising = l.rising; there = l.there; room = l.room; watched = watched_forgotten _ c.args.place _ l.watched (subst (λ (m : MachineView). AreReaders m.state c.args.place m.asked) (sym c.self.view_is) c.requires) c.forget_at.ensures };
+      reported = i.reported;
+      timed = i.timed;
+      noted = i.noted;
+      fresh = i.fresh;
+    }

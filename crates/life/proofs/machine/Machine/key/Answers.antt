@@ -1,0 +1,54 @@
+use Rattle.std.proofs.Common.{ap, sym, ◌∙◌, arith, Some, None, slice_get}
+use Rattle.posix.specs.States.{State}
+use Rattle.posix.specs.Step.{signalled_from}
+use Rattle.life.proofs.ConsoleLemmas.{lent_at, none_at, not_both, key_nowhere, key_past, key_on_it}
+use Rattle.life.proofs.ViewLemmas.{state_is}
+use Rattle.life.proofs.machine.Machine.key.Goals as goal
+
+pub returns-in_default : goal.returns-in_default
+returns-in_default g c =
+    let none = c.in_default.ensures in
+    let same = c.from.ensures in
+    key_nowhere c.args.self.now.state c.args.console c.args.byte (omega (arith, none, same))
+
+pub returns-in-None : goal.returns-in-None
+returns-in-None g c =
+    let place = c.in-Some.place in
+    let was = c.in-Some.ensures in
+    let from = c.from.ensures in
+    let consoles = sym (c.deref.ensures.value ∙ ap (λ (s : State). s.consoles) (state_is c.self.view_is)) in
+    let none = ap (λ cs. slice_get cs place) consoles ∙ none_at c.deref.result.now place c.in-None.ensures.lookup.0 in
+    key_past c.args.self.now.state c.args.console place c.args.byte (omega (arith, was, from)) none
+
+pub returns-in_default-type_byte : goal.returns-in_default-type_byte
+returns-in_default-type_byte g c =
+    let place = c.in-Some.place in
+    let it = c.in-Some-get.console.now in
+    let consoles = sym (c.deref.ensures.value ∙ ap (λ (s : State). s.consoles) (state_is c.self.view_is)) in
+    let found = ap (λ cs. slice_get cs place) consoles ∙ lent_at c.deref.result.now place it c.in-Some-get.ensures.lookup.0 c.in-Some-get.ensures.lookup.1 in
+    absurd (not_both _ it found c.in_default-type_byte.ensures.signal)
+
+pub returns-in-Some-signal : goal.returns-in-Some-signal
+returns-in-Some-signal g c =
+    let place = c.in-Some.place in
+    let was = c.in-Some.ensures in
+    let from = c.from.ensures in
+    let it = c.in-Some-get.console.now in
+    let now = c.args.self.now.state in
+    let consoles = sym (c.deref.ensures.value ∙ ap (λ (s : State). s.consoles) (state_is c.self.view_is)) in
+    let found = ap (λ cs. slice_get cs place) consoles ∙ lent_at c.deref.result.now place it c.in-Some-get.ensures.lookup.0 c.in-Some-get.ensures.lookup.1 in
+    let signal = sym c.in-Some-signal.is ∙ c.in-Some-type_byte.ensures.signal in
+    c.signal_group.ensures ∙ ap (λ (s : State). record s { processes = signalled_from (Some c.in-Some-signal.sig) c.foreground-foreground.result s.processes }) (c.type_byte.ensures.state it found)
+    ∙ key_on_it now c.args.console place c.args.byte it (Some c.in-Some-signal.sig) c.foreground-foreground.result (omega (arith, was, from)) found signal c.foreground-foreground.ensures.is
+
+pub returns-in_default-signal : goal.returns-in_default-signal
+returns-in_default-signal g c =
+    let place = c.in-Some.place in
+    let was = c.in-Some.ensures in
+    let from = c.from.ensures in
+    let it = c.in-Some-get.console.now in
+    let now = c.args.self.now.state in
+    let consoles = sym (c.deref.ensures.value ∙ ap (λ (s : State). s.consoles) (state_is c.self.view_is)) in
+    let found = ap (λ cs. slice_get cs place) consoles ∙ lent_at c.deref.result.now place it c.in-Some-get.ensures.lookup.0 c.in-Some-get.ensures.lookup.1 in
+    let signal = sym c.in_default-signal.is ∙ c.in-Some-type_byte.ensures.signal in
+    c.type_byte.ensures.state it found ∙ key_on_it now c.args.console place c.args.byte it None c.foreground-foreground.result (omega (arith, was, from)) found signal c.foreground-foreground.ensures.is
