@@ -60,7 +60,7 @@ fn acquire<K: Kin>(
 /// The console in r1 becomes the controlling terminal of the session that the caller leads, with the caller's process
 /// group in the foreground; what was typed before stays. ENOENT where there is no such console; EPERM where the caller
 /// leads no session, its session has a terminal, or the console is another session's (own; as TIOCSCTTY in
-/// ioctl_tty(2)).
+/// ioctl_tty(2), which in Linux is 0 for the session's own terminal).
 #[tactic(auto, unfolding(posix::specs::Attempts::attempt, posix::specs::Terminals::setctty))]
 pub fn setctty<K: Kin>(machine: &mut Machine<K>, pid: Pid, entries: &mut Entries) -> Attempt
     requires there { IsSome (process machine.old.state pid) }
@@ -156,7 +156,8 @@ fn tcsetpgrp_on<K: Kin>(
 
 /// The process group in r1 becomes the foreground one of the caller's terminal. ENOTTY where the caller's session has no
 /// terminal; EIO, or TTOU for the caller's process group and the call again, in the background (XBD 11.1.4); EINVAL where
-/// the group is negative; EPERM where no process of the caller's session is in it (XSH tcsetpgrp).
+/// the group is negative; EPERM where no process of the caller's session is in it (XSH tcsetpgrp). In Linux the
+/// background's error is ENOTTY, and that of a number which nobody bears ESRCH.
 #[tactic(auto, unfolding(posix::specs::Attempts::attempt, posix::specs::Terminals::tcsetpgrp))]
 pub fn tcsetpgrp<K: Kin>(machine: &mut Machine<K>, pid: Pid, entries: &mut Entries) -> Attempt
     requires there { IsSome (process machine.old.state pid) }

@@ -1,5 +1,6 @@
 //! Runs with consoles: keys, background reads, and the end of a session.
 
+use crate::process_tests::expect_slots;
 use crate::tests::expect_run;
 use kernel::Kernel;
 use posix::{Bytes, Call, Entry, Event, Pid};
@@ -75,6 +76,38 @@ set r2, 16
 again:
 sys read
 jmp again
+end
+";
+
+const SLEEPING_READERS: &[u8] = b"\
+pidmax 1000
+consoles 2
+program init
+set r1, 1
+sys setctty
+sys fork
+jz r0, readers
+set r1, 0
+set r2, 16
+loop:
+sys read
+jmp loop
+readers:
+sys setsid
+set r1, 2
+sys setctty
+set r1, 0
+set r2, 16
+set r5, 900
+set r6, 1
+again:
+sys fork
+jz r0, reader
+sub r5, r6
+jnz r5, again
+reader:
+sys read
+jmp reader
 end
 ";
 
@@ -170,5 +203,45 @@ fn a_key_on_a_console_that_is_not_there_does_nothing(rt: HostRuntime) -> Result<
         [Entry::Moved { pid, call, bytes }].as_slice()
     );
     assert_eq!(rt; kernel.events(), 13);
+    Ok(())
+}
+
+/// How many entries a line of a letter and a line feed on console 1 shows, with the three steps of its reader. Each of
+/// these events reads at most 16 slots of the table.
+fn shown_by_a_short_line<R: Abort + AllocGlobal>(rt: &R, kernel: &mut Kernel) -> usize {
+    let console = 1;
+    let mut count = expect_slots(
+        rt,
+        kernel,
+        Event::Key {
+            console,
+            byte: b'a',
+        },
+        0,
+    );
+    let byte = b'\n';
+    count = count.wrapping_add(expect_slots(rt, kernel, Event::Key { console, byte }, 1));
+    for _ in 0..3 {
+        count = count.wrapping_add(expect_slots(rt, kernel, Event::Step, 1));
+    }
+    count
+}
+
+#[test]
+fn sleeping_readers_are_not_asked(rt: HostRuntime) -> Result<(), Fail> {
+    let world = read_world(rt.alloc(), SLEEPING_READERS)?;
+    let mut kernel = Kernel::boot(rt.alloc(), &world)?;
+    for _ in 0..5500 {
+        shown(&rt, &mut kernel, Event::Step);
+    }
+    assert_eq!(rt; kernel.census().living, 902);
+    for _ in 0..20 {
+        assert_eq!(rt; shown_by_a_short_line(&rt, &mut kernel), 1);
+    }
+    // A line on the other console is for all 901 of them.
+    let (console, byte) = (2, b'\n');
+    let before = kernel.visits();
+    assert_eq!(rt; shown(&rt, &mut kernel, Event::Key { console, byte }), 0);
+    assert!(rt; kernel.visits().wrapping_sub(before) >= 901);
     Ok(())
 }

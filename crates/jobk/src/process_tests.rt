@@ -392,7 +392,7 @@ fn a_start_without_memory_is_an_error(rt: HostRuntime) {
 }
 
 /// An event reads at least so many slots of the table, and at most 16. How many entries it shows.
-fn expect_slots<R: Abort + AllocGlobal>(
+pub(crate) fn expect_slots<R: Abort + AllocGlobal>(
     rt: &R,
     kernel: &mut KernelOn<ProcTable>,
     event: Event,

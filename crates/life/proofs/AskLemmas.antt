@@ -8,7 +8,7 @@ use Rattle.posix.specs.Processes.{Process, first_process}
 use Rattle.posix.specs.Tables.{IsNext, lookup, at, changed, inserted, removed, reparented, adopted}
 use Rattle.posix.specs.States.{World, State, boot, process, is_in, change, lose_place, without}
 use Rattle.posix.specs.Regular.{IsRegular}
-use Rattle.posix.specs.Settle.{NoWakeIsLost, can_act, wakes}
+use Rattle.posix.specs.Settle.{can_act, wakes}
 use Rattle.posix.specs.Ends.{made_zombie, ended, halt, depart, is_dropping, drop_child, notice_of_end}
 use Rattle.posix.specs.Notices.{noticed, child_signal}
 use Rattle.posix.proofs.TableLemmas.{pid_looked, pid_reparented}

@@ -25,7 +25,7 @@ use Rattle.pidset.specs.Numbers.{PidSetView}
 use Rattle.pidset.specs.Children.{ChildSetView}
 use Rattle.life.specs.Machines.{IsListed, IsMachine, readers_at}
 use Rattle.life.specs.Consoles.{AreReaders}
-use Rattle.life.proofs.TerminalLemmas.{AllFresh}
+use Rattle.posix.proofs.FreshLemmas.{AllFresh}
 
 -- the state with another console in a place
 abbrev pub put : State → ℕ → Console → State

@@ -1,5 +1,4 @@
 pub mod SoundLemmas
-pub mod TerminalLemmas
 pub mod ReaderLemmas
 pub mod ReportedLemmas
 pub mod TimedLemmas

@@ -24,7 +24,7 @@ use Rattle.life.proofs.SoundLemmas.{sound_change}
 use Rattle.life.proofs.AskLemmas.{listed_change}
 use Rattle.life.proofs.ReportedLemmas.{reported_unseen}
 use Rattle.life.proofs.TimedLemmas.{timed_change, untimed_give_own}
-use Rattle.life.proofs.TerminalLemmas.{fresh_changed}
+use Rattle.posix.proofs.FreshLemmas.{fresh_changed}
 
 -- it is nothing that the shape of a machine depends on
 pub keeps_give_own : {now : ℕ} (o : Own) → Keeps now (give_own o)

@@ -24,7 +24,7 @@ use Rattle.pidalloc.specs.Rows.{Pids}
 use Rattle.sched.specs.Places.{Places}
 use Rattle.pidset.specs.Numbers.{PidSetView, with_number}
 use Rattle.pidset.specs.Children.{ArePairs, ChildSetView, is_child_in}
-use Rattle.life.specs.Machines.{IsSound, IsListed, IsReported, IsTimed, IsMachine, IsNoted, CanGo, IsCounted, Terminals}
+use Rattle.life.specs.Machines.{IsSound, IsListed, IsReported, IsTimed, IsMachine, IsNoted, CanGo, IsCounted}
 use Rattle.life.proofs.TimedLemmas.{timed_told, timed_departed}
 use Rattle.life.specs.Asking.{IsForgotten, with_numbers, without_gone}
 use Rattle.life.proofs.SoundLemmas.{is_there, found_in, heir_in, kept_order, length_departed, kept_departed, parents_departed, there_made_zombie}

@@ -1,5 +1,5 @@
 -- Places of consoles, and who waits to read from them.
-use Rattle.std.proofs.Common.{◌≡◌, ◌≢◌, ℕ, ◌+◌, ◌<◌, ◌≤◌, zero, suc, true, false, cond, not, ◌||◌, ◌&&◌, refl, ap, sym, ◌∙◌, arith, subst, List, [], ◌∷◌, ◌++◌, length, take, find, Option, Some, None, ◌==◌, slice_get, slice_set, Bool, MatchOption, ⊎_elim, nat_lt, map, drop, get_or}
+use Rattle.std.proofs.Common.{◌≡◌, ◌≢◌, ℕ, ◌+◌, ◌<◌, ◌≤◌, zero, suc, true, false, cond, refl, ap, sym, ◌∙◌, arith, subst, List, [], ◌∷◌, ◌++◌, length, take, find, Option, Some, None, ◌==◌, slice_get, slice_set, Bool, MatchOption, ⊎_elim, nat_lt, map, drop, get_or}
 use Rattle.std.specs.Option.{IsSome, IfSome, option_map_or}
 use Rattle.std.specs.List.{AllByRecursion}
 use Rattle.std.proofs.lemmas.Bool.{eqb-true, eqb-false, eq-eqb, ltb-true, ltb-false, or_left, or_right, or_cases, and_parts}
@@ -8,11 +8,11 @@ use Rattle.std.proofs.lemmas.Option.{slice_get_within, slice_get_read, same_Some
 use Rattle.posix.specs.declared.process.Blocked.{Blocked}
 use Rattle.posix.specs.declared.process.Blocked.TheVariants as blocked
 use Rattle.posix.specs.Processes.{Process, is_running}
-use Rattle.posix.specs.Consoles.{Console, is_of_session, console_of}
+use Rattle.posix.specs.Consoles.{Console, is_of_session}
 use Rattle.posix.specs.States.{State, process, is_in, has_place, without}
 use Rattle.posix.specs.Regular.{IsRegular, AreConsoles}
 use Rattle.posix.specs.Terminals.{is_reader, is_in_read}
-use Rattle.posix.proofs.MemberLemmas.{in_none, others_stay}
+use Rattle.posix.proofs.MemberLemmas.{others_stay}
 use Rattle.posix.proofs.TableLemmas.{pid_looked}
 use Rattle.posix.proofs.ConsoleLemmas.{none_of}
 use Rattle.pidset.specs.Numbers.{PidSetView, Rises, with_number, numbers_above}
@@ -170,7 +170,7 @@ known_each m (Some j) p old new h range is = by (slice_get old j) refl is
 
 -- who was asked and needn't be any more is known where it waits to read
 pub watched_known : {readers sets : List PidSetView} (s : State) (p : ℕ) (place : Option ℕ) (before after : List ℕ) → IsRegular s → IsWatched s before readers → after ≡ without p before → IsKnownBy place p readers sets
-    → (place ≢ None → IsSome (process s p)) → ((r : Process) → process s p ≡ Some r → r.blocked ≡ Some blocked.Read → IsPlaceOf r.session s.consoles place) → IsWatched s after sets
+    → (place ≢ None → IsSome (process s p)) → ((r : Process) → process s p ≡ Some r → r.blocked ≡ Some blocked.Read → has_place s p ≡ false → IsPlaceOf r.session s.consoles place) → IsWatched s after sets
 watched_known {readers = readers} {sets = sets} s p place before after i h is known here placed = record {
   known = λ k q c r at found reads out unasked.
       elim (q == p) as (λ b. (q == p) ≡ b → is_in q (readers_at k sets) ≡ true) [
@@ -180,7 +180,7 @@ watched_known {readers = readers} {sets = sets} s p place before after i h is kn
             let it = reads_are c.session r reads in
             let some = i.bounded p r mine in
             let least = some.session_least in
-            let at_k : place ≡ Some k = place_is s.world.consoles r.session s.consoles place k c i.consoles (λ z. absurd (omega (arith, z, least))) at (sym it.session_is) (placed r mine it.blocked) in
+            let at_k : place ≡ Some k = place_is s.world.consoles r.session s.consoles place k c i.consoles (λ z. absurd (omega (arith, z, least))) at (sym it.session_is) (placed r mine it.blocked (ap (λ n. has_place s n) (sym same) ∙ out)) in
             let fits : k < length readers = subst (λ n. k < n) (i.consoles.count ∙ sym h.many) (slice_get_within s.consoles k c at) in
             subst (λ n. is_in n (readers_at k sets) ≡ true) (sym same) (known_now k p readers sets fits (subst (λ o. IsKnownBy o p readers sets) at_k known))
         | false ↦ λ e.

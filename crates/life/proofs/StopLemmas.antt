@@ -24,7 +24,7 @@ use Rattle.pidset.proofs.NumberLemmas.{in_with}
 use Rattle.life.specs.Machines.{IsSound, IsListed, IsReported, IsTimed, IsMachine, Terminals}
 use Rattle.life.specs.Asking.{with_numbers, with_parent, asking}
 use Rattle.life.proofs.SoundLemmas.{sound_change, kept_order}
-use Rattle.life.proofs.TerminalLemmas.{fresh_changed}
+use Rattle.posix.proofs.FreshLemmas.{fresh_changed}
 use Rattle.life.proofs.AskLemmas.{IsBeside, listed_with, listed_same, listed_change}
 use Rattle.life.proofs.ReportedLemmas.{reported_change, reported_unseen, elsewhere_put, here_put}
 use Rattle.life.proofs.TimedLemmas.{Untimed, timed_change, untimed_signalled}

@@ -178,9 +178,10 @@ impl<K: Kin> Machine<K> {
 
     // ---- who waits to read
 
-    /// The place of the console that a process reads from, where it is in a read and its session has a terminal.
+    /// The place of the console that a process without a place reads from, where it is in a read and its session has
+    /// a terminal.
     fn reads_from(&mut self, pid: Pid) -> Option<usize>
-        ensures value { (r : Process) → process self.old.state pid ≡ Some r → r.blocked ≡ Some blocked.Read → IsPlaceOf r.session self.old.state.consoles result }
+        ensures value { (r : Process) → process self.old.state pid ≡ Some r → r.blocked ≡ Some blocked.Read → has_place_in self.old.state pid ≡ false → IsPlaceOf r.session self.old.state.consoles result }
         ensures same { self.new.state ≡ self.old.state }
         ensures asked { self.new.asked ≡ self.old.asked }
         ensures losing { self.new.losing ≡ self.old.losing }
@@ -188,6 +189,9 @@ impl<K: Kin> Machine<K> {
         ensures there { IsSome result → IsSome (process self.old.state pid) }
         ensures reads { self.new.reads ≤ self.old.reads + 1 }
     {
+        if self.has_place(pid) {
+            return None;
+        }
         let facts = self.facts(pid)?;
         if facts.blocked == Some(Blocked::Read) {
             place_of(&self.consoles, facts.session)
@@ -389,8 +393,8 @@ impl<K: Kin> Machine<K> {
         }
     }
 
-    /// A console whose foreground process group has no member left in its session has none from then on. While no
-    /// record has gone or changed its process group since the last time, nothing is looked at.
+    /// A console whose foreground process group has no member left in its session has none from then on. While
+    /// none can have lost its members since the last time, nothing is looked at.
     pub fn clear_foregrounds(&mut self)
         ensures state { self.new.state ≡ clearing_foregrounds self.old.state }
         ensures asked { self.new.asked ≡ self.old.asked }

@@ -47,8 +47,8 @@ pub struct Machine<K: Kin> {
     pub(crate) consoles: Vec<Console>,
     /// Who may wait to read from each console. Whoever does is among them, or is to be asked.
     pub(crate) readers: Vec<PidSet>,
-    /// Whether a foreground process group may have lost its members: it is set where a record goes or changes its
-    /// process group.
+    /// Whether a foreground process group may have lost its members: it is set where a record goes, where
+    /// one changes its process group or session, and where a foreground is set.
     pub(crate) stale: bool,
     pub(crate) births: u64,
     pub(crate) ticks: u64,

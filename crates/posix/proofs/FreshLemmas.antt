@@ -1,9 +1,9 @@
 -- Foreground process groups with a member in their console's session: to settle leaves no other.
-use Rattle.std.proofs.Common.{◌≡◌, ℕ, zero, suc, true, false, cond, ◌||◌, refl, ap, ◌∙◌, arith, List, [], ◌∷◌, map, ◌==◌, replicate}
+use Rattle.std.proofs.Common.{◌≡◌, ℕ, zero, suc, Bool, true, false, cond, ◌||◌, refl, ap, ◌∙◌, arith, List, [], ◌∷◌, map, ◌==◌, replicate}
 use Rattle.std.specs.List.{AllByRecursion}
 use Rattle.posix.specs.Processes.{Process}
-use Rattle.posix.specs.Tables.{at, changed}
-use Rattle.posix.specs.States.{State, World, boot, change}
+use Rattle.posix.specs.Tables.{at, changed, inserted}
+use Rattle.posix.specs.States.{State, World, boot}
 use Rattle.posix.specs.Consoles.{Console, with_foreground, unused_console}
 use Rattle.posix.specs.GroupCalls.{is_group_of}
 use Rattle.posix.specs.Settle.{is_fresh, refreshed, clear_foregrounds, AreFresh}
@@ -37,27 +37,41 @@ cleared_none s fresh = ap (λ cs. record s { consoles = cs }) (none_refreshed s.
 
 -- ---- what keeps them
 
+-- each of these consoles has a foreground process group with a member, or none
+abbrev pub AllFresh : List Process → List Console → Type 0
+AllFresh rs cs = AllByRecursion (λ c. is_fresh rs c ≡ true) cs
+
+-- where each group that has a member in a session still has one
+fresh_still : (rs ts : List Process) → ((session group : ℕ) → is_group_of session group rs ≡ true → is_group_of session group ts ≡ true) → (cs : List Console) → AllFresh rs cs → AllFresh ts cs
+fresh_still rs ts still [] h = tt
+fresh_still rs ts still (c ∷ cs) h = (one (c.foreground == 0) (is_group_of c.session c.foreground rs) (is_group_of c.session c.foreground ts) (still c.session c.foreground) h.0, fresh_still rs ts still cs h.1)
+  where
+    one : (z b d : Bool) → (b ≡ true → d ≡ true) → (z || b) ≡ true → (z || d) ≡ true
+    one true b d k h = refl
+    one false b d k h = k h
+
 -- a change of each record that keeps both numbers keeps the groups of a session
-group_map : (g : Process → Process) → ((r : Process) → (g r).group ≡ r.group) → ((r : Process) → (g r).session ≡ r.session)
+group_mapped : (g : Process → Process) → ((r : Process) → (g r).group ≡ r.group) → ((r : Process) → (g r).session ≡ r.session)
     → (session group : ℕ) (rs : List Process) → is_group_of session group (map g rs) ≡ is_group_of session group rs
 unfolding is_group_of
-group_map g groups sessions session group [] = refl
-group_map g groups sessions session group (r ∷ rs) = grind (arith, groups r, sessions r, group_map g groups sessions session group rs)
+group_mapped g groups sessions session group [] = refl
+group_mapped g groups sessions session group (r ∷ rs) = grind (arith, groups r, sessions r, group_mapped g groups sessions session group rs)
 
--- so foreground process groups keep a member
-pub fresh_map : (g : Process → Process) → ((r : Process) → (g r).group ≡ r.group) → ((r : Process) → (g r).session ≡ r.session)
-    → (s : State) → AreFresh s → AreFresh (record s { processes = map g s.processes })
-fresh_map g groups sessions s fresh = all s.consoles fresh
-  where
-    all : (cs : List Console) → AllByRecursion (λ c. is_fresh s.processes c ≡ true) cs → AllByRecursion (λ c. is_fresh (map g s.processes) c ≡ true) cs
-    all [] h = tt
-    all (c ∷ cs) h = (ap (λ b. c.foreground == 0 || b) (group_map g groups sessions c.session c.foreground s.processes) ∙ h.0, all cs h.1)
-
--- after a change of one
-pub fresh_change : (p : ℕ) (f : Process → Process) → ((r : Process) → (f r).group ≡ r.group) → ((r : Process) → (f r).session ≡ r.session)
-    → (s : State) → AreFresh s → AreFresh (change s p f)
+-- so a change of one keeps them
+pub fresh_changed : (p : ℕ) (f : Process → Process) → ((r : Process) → (f r).group ≡ r.group) → ((r : Process) → (f r).session ≡ r.session)
+    → (rs : List Process) (cs : List Console) → AllFresh rs cs → AllFresh (changed p f rs) cs
 unfolding changed
-fresh_change p f groups sessions s fresh = fresh_map (at p f) (at_keeps (λ r. r.group) p f groups) (at_keeps (λ r. r.session) p f sessions) s fresh
+fresh_changed p f groups sessions rs cs h =
+    fresh_still rs (map (at p f) rs) (λ session group e. group_mapped (at p f) (at_keeps (λ r. r.group) p f groups) (at_keeps (λ r. r.session) p f sessions) session group rs ∙ e) cs h
+
+group_inserted : (new : Process) (session group : ℕ) (rs : List Process) → is_group_of session group rs ≡ true → is_group_of session group (inserted new rs) ≡ true
+unfolding is_group_of inserted
+group_inserted new session group [] e = absurd (cc)
+group_inserted new session group (r ∷ rs) e = grind (arith, e, group_inserted new session group rs)
+
+-- and so does one more
+pub fresh_inserted : (new : Process) (rs : List Process) (cs : List Console) → AllFresh rs cs → AllFresh (inserted new rs) cs
+fresh_inserted new rs cs h = fresh_still rs (inserted new rs) (λ session group e. group_inserted new session group rs e) cs h
 
 -- ---- the start
 

@@ -6,7 +6,7 @@ use Rattle.posix.specs.Tables.{IsRising, pids}
 use Rattle.posix.specs.States.{State, process, is_in, change}
 use Rattle.posix.specs.Settle.{give_places, settle, IsSettled, NoWakeIsLost, AreFresh, Covers, wakes, can_act}
 use Rattle.posix.proofs.MemberLemmas.{in_none, in_one}
-use Rattle.posix.proofs.FreshLemmas.{cleared_none, fresh_change}
+use Rattle.posix.proofs.FreshLemmas.{cleared_none, fresh_changed}
 use Rattle.posix.proofs.SettleLemmas.{none_passes}
 use Rattle.posix.proofs.TableLemmas.{pid_looked, rising_changed}
 use Rattle.posix.proofs.WalkLemmas.{all_looked}
@@ -44,7 +44,7 @@ pub settle_unseen : (s : State) (p : ℕ) (f : Process → Process) → Unseen f
 settle_unseen s p f u session up settled first =
     let t = change s p f in
     let covers = goes_on s t [] (p ∷ []) (p ∷ []) (covers_none s settled.awake) (touches_unseen s p f u) (λ q there e. e) (λ q there e. absurd (in_none q e)) in
-    settle_none t (rising_changed p f u.pid s.processes up) (fresh_change p f u.group session s settled.fresh) (λ q r e w. absurd (rests q r e w (in_one q p (covers q r e w))))
+    settle_none t (rising_changed p f u.pid s.processes up) (fresh_changed p f u.group session s.processes s.consoles settled.fresh) (λ q r e w. absurd (rests q r e w (in_one q p (covers q r e w))))
   where
     rests : (q : ℕ) (r : Process) → process (change s p f) q ≡ Some r → wakes (change s p f) r ≡ true → q ≡ p → ⊥
     rests q r e w same =

@@ -47,7 +47,7 @@ erased bytes = take (length bytes - 1) bytes
 unfoldable pub with_byte : ℕ → List ℕ → List ℕ
 with_byte byte bytes = if nat_lt (length bytes) most_edited then bytes ++ byte ∷ [] else bytes
 
--- ERASE is 7F, KILL 15, EOF 04 and NL 0A: EOF ends a line without itself, on an empty line an empty one, which reads
+-- ERASE is 7F, KILL 15, EOF 04 and NL 0A (own): EOF ends a line without itself, on an empty line an empty one, which reads
 -- as the end of file.
 unfoldable pub edit : ℕ → Console → Console
 edit byte c =
@@ -57,7 +57,7 @@ edit byte c =
     else if byte == 4 then finish_line c.edited c
     else record c { edited = with_byte byte c.edited }
 
--- the signals of the keys INTR, QUIT and SUSP
+-- the signals of the keys INTR, 03, QUIT, 1C, and SUSP, 1A (own)
 unfoldable pub key_signal : ℕ → Option ℕ
 key_signal byte =
     if byte == 3 then Some INT

@@ -33,7 +33,8 @@ abbrev pub wakes : State → Process → Bool
 wakes s r = not (has_place s r.pid) && can_act s r
 
 -- The places are given at the end of the order, in the rising order of the numbers. All processes are
--- asked. A process that had a place and can't act any more keeps the place until its turn (own).
+-- asked. A process that had a place and can't act any more keeps the place until its turn (own): so of several readers
+-- the first that has its turn takes the line, and in Linux the one that began first.
 unfoldable pub give_places : State → State
 give_places s = record s { order = s.order ++ pids (filter (wakes s) s.processes) }
 
@@ -41,7 +42,8 @@ give_places s = record s { order = s.order ++ pids (filter (wakes s) s.processes
 abbrev pub is_fresh : List Process → Console → Bool
 is_fresh rs c = c.foreground == 0 || is_group_of c.session c.foreground rs
 
--- a console whose foreground process group has no member left in its session has none from then on
+-- A console whose foreground process group has no member left in its session has none from then on; in Linux it has it
+-- again where the process with that number makes its group again.
 abbrev pub refreshed : List Process → Console → Console
 refreshed rs c = if is_fresh rs c then c else with_foreground 0 c
 

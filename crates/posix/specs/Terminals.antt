@@ -21,7 +21,7 @@ use Rattle.posix.specs.Groups.{is_orphaned}
 use Rattle.posix.specs.GroupCalls.{is_group_of}
 use Rattle.posix.specs.Ends.{signalled_group}
 
--- the controlling terminal of a process, XBD 3 Controlling Terminal
+-- the controlling terminal of a process, XBD 3 Controlling Terminal; in Linux those born before setctty have none
 abbrev pub terminal : State → Process → Option Console
 terminal s me = console_of me.session s.consoles
 
@@ -37,11 +37,13 @@ is_in_background me c = not (me.group == c.foreground)
 abbrev pub spurns : Process → ℕ → Bool
 spurns me n = has me.signals.mask n || is_ignored (action me.signals n).handler
 
--- A signal of the kernel is generated for each member of the caller's process group, and the call begins again.
+-- A signal of the kernel is generated for each member of the caller's process group, and the call begins again,
+-- whatever SA_RESTART says (own); in Linux one that is caught gives EINTR without SA_RESTART.
 abbrev pub signal_own_group : State → Process → ℕ → Attempted
 signal_own_group s me n = Again (record s { processes = signalled_group n me.group s.processes })
 
--- what a call comes to that changes a terminal or writes to it, XBD 11.1.4; this is it where it is allowed
+-- what a call comes to that changes a terminal or writes to it, XBD 11.1.4; this is it where it is allowed. For
+-- tcsetpgrp Linux gives ENOTTY in place of EIO.
 abbrev pub if_allowed : State → Process → Call → Console → Attempted → Attempted
 if_allowed s me call c allowed =
     if not (is_in_background me c) || spurns me TTOU then allowed
@@ -56,7 +58,7 @@ place_named (pos zero) = None
 place_named (pos (suc k)) = Some k
 place_named (negsuc n) = None
 
--- The leader of a session that has none may acquire a terminal that is nobody's.
+-- The leader of a session that has none may acquire a terminal that is nobody's; in Linux its own one again, too.
 abbrev pub may_acquire : State → Process → Console → Bool
 may_acquire s me c = me.session == me.pid && (not (is_some (terminal s me)) && c.session == 0)
 
@@ -76,7 +78,7 @@ setctty s me = setctty_at s me (place_named (argument me 1))
 
 -- ---- tcgetpgrp
 
--- a number above all where there is no foreground process group, XSH tcgetpgrp
+-- a number above all where there is no foreground process group, XSH tcgetpgrp; in Linux that of the one that is gone
 abbrev pub foreground_told : ℕ → ℕ → ℕ
 foreground_told pidmax group = if group == 0 then pidmax + 1 else group
 
@@ -89,7 +91,8 @@ tcgetpgrp s me = tcgetpgrp_on s me (terminal s me)
 
 -- ---- tcsetpgrp
 
--- a group in which a process of the caller's session is
+-- A group in which a process of the caller's session is, XSH tcsetpgrp. Linux gives ESRCH where nobody bears the
+-- number, and takes that of a process which leads no group.
 abbrev pub put_foreground : State → Process → ℤ → Attempted
 put_foreground s me (negsuc n) = refused s me.pid Tcsetpgrp EINVAL
 put_foreground s me (pos g) =

@@ -11,7 +11,7 @@ use posix::{Pid, Sig};
 use std::alloc::{AllocError, Global};
 use std::marker::Model;
 
-/// INTR, ^C (XBD 11.1.9).
+/// INTR, ^C (XBD 11.1.9; the values of these keys are own, as on most systems).
 const INTR: u8 = 0x03;
 
 /// EOF, ^D.

@@ -1,4 +1,4 @@
-use Rattle.std.proofs.Common.{rules, ◌∙◌, ap, sym, subst, arith, ◌++◌, ◌∷◌, [], length, ◌≡◌}
+use Rattle.std.proofs.Common.{◌∙◌, ap, sym, subst, arith, ◌∷◌, [], length}
 use Rattle.std.specs.List.{AllByRecursion}
 use Rattle.std.proofs.lemmas.List.{length-append}
 use Rattle.life.specs.Machines.{IsReaders}

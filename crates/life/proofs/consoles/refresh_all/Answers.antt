@@ -1,7 +1,6 @@
-use Rattle.std.proofs.Common.{◌≡◌, ◌∙◌, ap, sym, refl, arith, rules, length, slice_get, slice_set, List, Some, ◌<◌}
+use Rattle.std.proofs.Common.{◌≡◌, ◌∙◌, ap, refl, arith, length, slice_set, List, ◌<◌}
 use Rattle.posix.specs.Settle.{refreshed}
 use Rattle.posix.specs.Processes.{Process}
-use Rattle.posix.specs.Consoles.{Console}
 use Rattle.life.proofs.ReaderLemmas.{refreshed_to, refreshed_step, refreshed_all}
 use Rattle.life.proofs.consoles.refresh_all.Goals as goal
 

@@ -1,4 +1,4 @@
-use Rattle.std.proofs.Common.{◌≡◌, length}
+use Rattle.std.proofs.Common.{◌≡◌}
 use Rattle.posix.specs.Settle.{refreshed}
 use Rattle.life.proofs.ReaderLemmas.{refreshed_to}
 use Rattle.life.proofs.consoles.refresh_all.Given as goal

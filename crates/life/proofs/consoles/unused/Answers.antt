@@ -1,4 +1,4 @@
-use Rattle.std.proofs.Common.{◌∙◌, ap, sym, arith, ◌++◌, ◌∷◌, [], replicate}
+use Rattle.std.proofs.Common.{◌∙◌, ap, arith, replicate}
 use Rattle.std.proofs.lemmas.List.{replicate_more}
 use Rattle.posix.specs.Consoles.{unused_console}
 use Rattle.life.proofs.consoles.unused.Goals as goal

@@ -1,4 +1,4 @@
-use Rattle.std.proofs.Common.{◌≡◌, sym, ap, subst, ◌∙◌, Some, None, refl, true, false, rules}
+use Rattle.std.proofs.Common.{sym, ap, ◌∙◌}
 use Rattle.posix.specs.States.{is_in}
 use Rattle.life.proofs.SoundLemmas.{is_there, some_read}
 use Rattle.life.proofs.AskLemmas.{has_room, listed_asking}

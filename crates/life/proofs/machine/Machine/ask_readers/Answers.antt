@@ -1,9 +1,9 @@
-use Rattle.std.proofs.Common.{◌≡◌, ◌∙◌, ◌<◌, ap, sym, subst, refl, arith, slice_get, ℕ, Some, None, Option, List, true, false}
+use Rattle.std.proofs.Common.{◌≡◌, ◌∙◌, ◌<◌, ap, sym, subst, refl, arith, slice_get, ℕ, Option, List, false}
 use Rattle.std.specs.Option.{IsSome}
-use Rattle.posix.specs.States.{State, process, has_place, is_in}
+use Rattle.posix.specs.States.{State, process, has_place}
 use Rattle.posix.proofs.WalkLemmas.{numbers_left, fewer_left}
 use Rattle.pidset.specs.Numbers.{PidSetView, Rises, numbers_above}
-use Rattle.life.specs.Machines.{MachineView, readers_at}
+use Rattle.life.specs.Machines.{readers_at}
 use Rattle.life.specs.Consoles.{AreReaders}
 use Rattle.life.proofs.RousingLemmas.{lies_above}
 use Rattle.life.proofs.ReaderLemmas.{IsAsking, watched_rises, watched_least, asking_starts, asking_proceeds, asking_is_over}

@@ -1,10 +1,8 @@
 use Rattle.std.proofs.Common.{ℕ, refl, ◌≡◌, ◌≢◌, sym, ap, subst, ◌∙◌, Some, None, Option}
 use Rattle.std.specs.Option.{IsSome}
-use Rattle.posix.specs.Processes.{Process}
-use Rattle.posix.specs.States.{State, process}
+use Rattle.posix.specs.States.{State, process, has_place}
 use Rattle.posix.specs.Settle.{wakes}
 use Rattle.life.specs.Consoles.{IsPlaceOf}
-use Rattle.life.proofs.SoundLemmas.{found_in}
 use Rattle.life.proofs.AskLemmas.{listed_asked}
 use Rattle.life.proofs.ReaderLemmas.{readers_at_place, readers_room, watched_known}
 use Rattle.life.proofs.ViewLemmas.{state_is}
@@ -25,7 +23,7 @@ invariant_of-self g c =
     record {
       sound = i.sound;
       listed = listed_asked _ c.args.pid _ _ _ i.listed (λ r e. ap (λ (s : State). wakes s r) same ∙ c.requires r (subst (λ (s : State). process s c.args.pid ≡ Some r) same e)) c.remove.ensures.pids c.remove.ensures.room
-          (watched_known _ c.args.pid c.reads_from-place.result _ _ i.sound.regular i.listed.watched c.remove.ensures.pids c.know.ensures (λ ne. subst (λ (s : State). IsSome (process s c.args.pid)) (sym same) (c.reads_from-place.ensures.there (some_place _ ne))) (λ r e b. subst (λ (s : State). IsPlaceOf r.session s.consoles c.reads_from-place.result) (sym same) (c.reads_from-place.ensures.value r (subst (λ (s : State). process s c.args.pid ≡ Some r) same e) b)));
+          (watched_known _ c.args.pid c.reads_from-place.result _ _ i.sound.regular i.listed.watched c.remove.ensures.pids c.know.ensures (λ ne. subst (λ (s : State). IsSome (process s c.args.pid)) (sym same) (c.reads_from-place.ensures.there (some_place _ ne))) (λ r e b out. subst (λ (s : State). IsPlaceOf r.session s.consoles c.reads_from-place.result) (sym same) (c.reads_from-place.ensures.value r (subst (λ (s : State). process s c.args.pid ≡ Some r) same e) b (ap (λ (s : State). has_place s c.args.pid) (sym same) ∙ out))));
       reported = i.reported;
       timed = i.timed;
       noted = i.noted;

@@ -1,9 +1,7 @@
-use Rattle.std.proofs.Common.{◌≡◌, ◌∙◌, ap, sym, subst, refl}
-use Rattle.posix.specs.States.{State}
+use Rattle.std.proofs.Common.{sym, subst, refl}
 use Rattle.posix.specs.Settle.{AreFresh, clear_foregrounds}
 use Rattle.life.specs.Machines.{state_of}
 use Rattle.posix.proofs.FreshLemmas.{cleared_none, fresh_cleared}
-use Rattle.posix.proofs.ReaderLemmas.{touches_cleared}
 use Rattle.posix.proofs.ConsoleLemmas.{regular_cleared}
 use Rattle.life.proofs.AskLemmas.{listed_cleared}
 use Rattle.life.proofs.ViewLemmas.{state_is}

@@ -12,7 +12,7 @@ use Rattle.proctable.specs.Body.{process_of}
 use Rattle.life.proofs.ReportedLemmas.{reported_inserted}
 use Rattle.life.proofs.TimedLemmas.{timed_inserted}
 use Rattle.life.proofs.ViewLemmas.{state_is}
-use Rattle.life.proofs.TerminalLemmas.{fresh_inserted}
+use Rattle.posix.proofs.FreshLemmas.{fresh_inserted}
 use Rattle.life.proofs.machine.Machine.fork.Goals as goal
 
 pub bear_all-requires-clause-pid_range : goal.bear_all-requires-clause-pid_range

@@ -5,7 +5,7 @@ use Rattle.life.proofs.SoundLemmas.{is_there, length_halted, parents_halted, kep
 use Rattle.life.proofs.AskLemmas.{has_room, listed_halted}
 use Rattle.life.proofs.TimedLemmas.{timed_halted}
 use Rattle.life.proofs.ReportedLemmas.{reported_halted, reported_room}
-use Rattle.life.proofs.TerminalLemmas.{fresh_changed}
+use Rattle.posix.proofs.FreshLemmas.{fresh_changed}
 use Rattle.life.proofs.machine.Machine.halt.Goals as goal
 
 pub insert-requires : goal.insert-requires

@@ -7,7 +7,7 @@ use Rattle.life.proofs.AskLemmas.{has_room, listed_change}
 use Rattle.life.proofs.ReportedLemmas.{reported_unseen}
 use Rattle.life.proofs.TimedLemmas.{timed_rung, timed_room}
 use Rattle.life.proofs.ViewLemmas.{state_is}
-use Rattle.life.proofs.TerminalLemmas.{fresh_changed}
+use Rattle.posix.proofs.FreshLemmas.{fresh_changed}
 use Rattle.life.proofs.machine.Machine.ring.Goals as goal
 
 pub ask-requires : goal.ask-requires

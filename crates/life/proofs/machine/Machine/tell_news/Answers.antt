@@ -14,7 +14,7 @@ use Rattle.life.proofs.AskLemmas.{has_room, listed_change}
 use Rattle.life.proofs.ReportedLemmas.{reported_no_news, reported_dead}
 use Rattle.life.proofs.TimedLemmas.{timed_change, untimed_news_told}
 use Rattle.life.proofs.ViewLemmas.{state_is}
-use Rattle.life.proofs.TerminalLemmas.{fresh_changed}
+use Rattle.posix.proofs.FreshLemmas.{fresh_changed}
 use Rattle.life.proofs.machine.Machine.tell_news.Goals as goal
 
 pub ask-requires : goal.ask-requires
