@@ -1,5 +1,5 @@
 -- Plain instructions, one after another, are steps that show nothing.
-use Rattle.std.proofs.Common.{◌≡◌, ◌⊎◌, ⊎_elim, ◌==◌, ℕ, zero, suc, ◌+◌, true, false, cond, refl, ap, sym, ◌∙◌, arith, subst, List, [], ◌∷◌, append-nil, Some, None, option_map, option_and_then, is_some, ℤ}
+use Rattle.std.proofs.Common.{◌≡◌, ◌≢◌, ◌⊎◌, ⊎_elim, ◌==◌, ℕ, zero, suc, ◌+◌, true, false, cond, refl, ap, sym, ◌∙◌, arith, subst, List, [], ◌∷◌, append-nil, Some, None, option_map, option_and_then, is_some, ℤ}
 use Rattle.std.specs.Prelude.{replicate}
 use Rattle.posix.specs.declared.instr.Trap.{Trap}
 use Rattle.posix.specs.declared.instr.Trap.TheVariants as trap
@@ -7,14 +7,16 @@ use Rattle.posix.specs.declared.call.Call.{Call}
 use Rattle.posix.specs.declared.event.Event.TheVariants.{Step}
 use Rattle.posix.specs.declared.entry.Entry.{Entry}
 use Rattle.posix.specs.declared.entry.Entry.TheVariants.{Noted}
-use Rattle.posix.specs.Processes.{Process, Cpu}
+use Rattle.posix.specs.Processes.{Process, Cpu, is_zombie}
 use Rattle.posix.specs.Entries.{numbered}
 use Rattle.posix.specs.Tables.{IsRising, at, changed}
 use Rattle.posix.specs.States.{State, is_in, has_place, change, current, process, current_process}
 use Rattle.posix.specs.Execute.{exec_one}
 use Rattle.posix.specs.Choice.{chosen}
 use Rattle.posix.specs.Runs.{RunsFrom}
-use Rattle.posix.specs.Step.{IsStep, after_trap, code_of, set_cpu}
+use Rattle.posix.specs.SignalNumbers.{KILL}
+use Rattle.posix.specs.Attempts.{attempt}
+use Rattle.posix.specs.Step.{IsStep, step, begin_call, after_trap, code_of, set_cpu}
 use Rattle.posix.specs.Settle.{IsSettled}
 use Rattle.posix.specs.Regular.{IsRegular}
 use Rattle.posix.proofs.TableLemmas.{pid_looked, rising_changed, changed_id}
@@ -23,9 +25,10 @@ use Rattle.posix.proofs.OrderLemmas.{first_in}
 use Rattle.proctable.specs.declared.facts.Facts.{Facts}
 use Rattle.proctable.specs.Body.{facts_of}
 use Rattle.umach.specs.Bursts.{Burst, then_rest, exec_until}
-use Rattle.kernel.specs.Steps.{Bursts, shown, note_of}
+use Rattle.umach.proofs.BurstLemmas.{stops_at}
+use Rattle.kernel.specs.Steps.{Bursts, ComesTo, shown, note_of}
 use Rattle.calls.proofs.CallLemmas.{same_outcome}
-use Rattle.calls.proofs.ChosenLemmas.{changed_there}
+use Rattle.calls.proofs.ChosenLemmas.{changed_there, act_runs, no_kill_chosen}
 use Rattle.kernel.proofs.PlainLemmas.{plain_step, none_of}
 
 -- p is current, and about to run an instruction
@@ -36,6 +39,7 @@ pub record IsReady (s : State) (p : ℕ) (me : Process) : Type 0 where
   pub place : is_in p s.order ≡ true
   pub now : current s ≡ Some p
   pub here : process s p ≡ Some me
+  pub living : is_zombie me.life ≡ false
   pub free : me.blocked ≡ None
   pub none : chosen me.life me.signals ≡ None
 
@@ -52,16 +56,17 @@ keeps c r = refl
 found : (s : State) (p : ℕ) (me : Process) (c : Cpu) → process s p ≡ Some me → process (change s p (set_cpu c)) p ≡ Some (set_cpu c me)
 found s p me c here = changed_there p (set_cpu c) (keeps c) s.processes me here
 
--- after a step that only changed its processor it is ready again
-stays_ready : (s : State) (p : ℕ) (me : Process) (c : Cpu) → IsReady s p me → IsStep s Step [] (change s p (set_cpu c)) → IsReady (change s p (set_cpu c)) p (set_cpu c me)
+-- with another processor it is ready, too, where nothing is left to settle
+stays_ready : (s : State) (p : ℕ) (me : Process) (c : Cpu) → IsReady s p me → IsSettled (change s p (set_cpu c)) → IsReady (change s p (set_cpu c)) p (set_cpu c me)
 unfolding set_cpu
-stays_ready s p me c r step = record {
+stays_ready s p me c r settled = record {
   going = r.going;
   rising = rising_changed p (set_cpu c) (keeps c) s.processes r.rising;
-  settled = next_settled s (change s p (set_cpu c)) Step [] step r.going;
+  settled = settled;
   place = r.place;
   now = r.now;
   here = found s p me c r.here;
+  living = r.living;
   free = r.free;
   none = r.none;
 }
@@ -171,7 +176,7 @@ by_trap s p me r trap.Next is rest more b e =
     subst (λ (x : Burst). Bursts s (given x.count x.trap) (shown p x.trap) (change s p (set_cpu x.cpu))) (sym e)
     (subst (λ (n : ℕ). Bursts s n (shown p rest.trap) (change s p (set_cpu rest.cpu))) (sym (given_more rest.count rest.trap))
     (one_before s (change s p (set_cpu c)) (change s p (set_cpu rest.cpu)) (given rest.count rest.trap) (shown p rest.trap) step refl refl
-    (subst (Bursts (change s p (set_cpu c)) (given rest.count rest.trap) (shown p rest.trap)) (last_cpu s p c rest.cpu) (more (stays_ready s p me c r step)))))
+    (subst (Bursts (change s p (set_cpu c)) (given rest.count rest.trap) (shown p rest.trap)) (last_cpu s p c rest.cpu) (more (stays_ready s p me c r (next_settled s (change s p (set_cpu c)) Step [] step r.going))))))
 by_trap s p me r (trap.Note z) is rest more b e =
     let c = (exec_one (code_of s me) me.cpu).cpu in
     subst (λ (x : Burst). Bursts s (given x.count x.trap) (shown p x.trap) (change s p (set_cpu x.cpu))) (sym e)
@@ -224,6 +229,7 @@ readies s p f going settled regular now read none free =
         place = place;
         now = now;
         here = placed.found;
+        living = placed.living;
         free = ap (λ (g : Facts). g.blocked) (sym is) ∙ none_of f.blocked free;
         none = ap (λ (g : Facts). g.chosen) (sym is) ∙ none_of f.chosen none;
       };
@@ -266,3 +272,35 @@ note_is s x p r same most t es trap_is list =
     let found : current_process s ≡ Some me = ap (option_and_then (process s)) ready.now ∙ ready.here in
     let shows : note_of s most (Some me) ≡ shown p (exec_until (code_of s me) most me.cpu).trap = rw (none, free) (ap (λ n. shown n (exec_until (code_of s me) most me.cpu).trap) (pid_looked p s.processes me ready.here)) in
     list ∙ ap (shown p) here ∙ sym (ap (note_of s most) found ∙ shows)
+
+-- ---- the call behind a burst
+
+-- who is ready and comes to a call begins it by the next step
+comes : (s : State) (p : ℕ) (me : Process) (call : Call) → IsReady s p me → (exec_one (code_of s me) me.cpu).trap ≡ trap.Call call → ComesTo s p call
+unfolding step after_trap
+comes s p me call r is =
+    let other : chosen me.life me.signals ≢ Some KILL = λ k. let no = sym r.none ∙ k in absurd (cc) in
+    let found : current_process s ≡ Some me = ap (option_and_then (process s)) r.now ∙ r.here in
+    record {
+      going = r.going;
+      acting = record { placed = record { what = me; found = r.here; living = r.living }; place = r.place };
+      begins = λ granted m e.
+          let same : me ≡ m = cc in
+          subst (λ (x : Process). step granted s (current_process s) ≡ begin_call s x (attempt granted s x call)) same
+          (ap (step granted s) found ∙ act_runs granted s me (no_kill_chosen me.life me.signals other) r.free r.none ∙ ap (after_trap granted s me (exec_one (code_of s me) me.cpu).cpu) is);
+    }
+
+-- where a burst ends at a call
+pub burst_calls : (s x : State) (p : ℕ) → Readies s p → x ≡ s → (most : ℕ) (t : Trap) (new : State) (call : Call)
+    → ((r : Process) → process x p ≡ Some r → t ≡ (exec_until (code_of x r) most r.cpu).trap)
+    → ((r : Process) → process x p ≡ Some r → new ≡ change x p (set_cpu (exec_until (code_of x r) most r.cpu).cpu))
+    → IsSettled new → t ≡ trap.Call call → ComesTo new p call
+unfolding set_cpu
+burst_calls s x p r same most t new call trap_is state settled is =
+    let me = r.me in
+    let e = ap (λ (y : State). process y p) same ∙ r.ready.here in
+    let cpu = (exec_until (code_of s me) most me.cpu).cpu in
+    let ends = sym (trap_is me e ∙ ap (λ (y : State). (exec_until (code_of y me) most me.cpu).trap) same) ∙ is in
+    let now : new ≡ change s p (set_cpu cpu) = state me e ∙ ap (λ (y : State). change y p (set_cpu (exec_until (code_of y me) most me.cpu).cpu)) same in
+    subst (λ (y : State). ComesTo y p call) (sym now)
+    (comes (change s p (set_cpu cpu)) p (set_cpu cpu me) call (stays_ready s p me cpu r.ready (subst IsSettled now settled)) (stops_at (code_of s me) call most me.cpu ends))

@@ -1,11 +1,15 @@
 -- Counted runs of events, one after another.
-use Rattle.std.proofs.Common.{◌≡◌, ℕ, ◌+◌, ◌*◌, ◌<◌, ◌≤◌, List, [], ◌∷◌, ◌++◌, length, take, drop, ap, sym, ◌∙◌, append-nil, length-append, get_or, refl, arith}
+use Rattle.std.proofs.Common.{◌≡◌, ℕ, ◌+◌, ◌*◌, ◌<◌, ◌≤◌, List, [], ◌∷◌, ◌++◌, length, take, drop, ap, sym, ◌∙◌, append-nil, length-append, get_or, refl, subst, arith}
 use Rattle.std.specs.Prelude.{replicate}
 use Rattle.std.proofs.lemmas.List.{length-replicate, replicate-append-replicate, take_more, take-append-drop}
 use Rattle.std.proofs.lemmas.List.Concat.{flat_map-append}
 use Rattle.posix.specs.declared.event.Event.{Event}
 use Rattle.posix.specs.declared.event.Event.TheVariants.{Step, Tick, Key}
+use Rattle.posix.specs.declared.entry.Entry.{Entry}
 use Rattle.posix.specs.States.{State}
+use Rattle.posix.specs.Outcomes.{Outcome}
+use Rattle.posix.specs.Step.{IsStep}
+use Rattle.posix.proofs.CountLemmas.{Counts, counts_next}
 use Rattle.kernel.specs.Steps.{given}
 use Rattle.text.specs.declared.event_list.EventRun.{EventRun}
 use Rattle.text.specs.EventLists.{expanded, run_events}
@@ -54,3 +58,11 @@ pub given_within : (x : Event) (most : ℕ) (s : State) → 0 < most → (0 < gi
 given_within Step most s some = (omega (arith, some), omega arith)
 given_within Tick most s some = (omega arith, omega (arith, some))
 given_within (Key console byte) most s some = (omega arith, omega (arith, some))
+
+-- there are no more births and ticks than events, after one more, too
+pub counts_on : (s t : State) (x : Event) (es : List Entry) (n : ℕ) → IsStep s x es t → s.births ≤ n + 1 → s.ticks ≤ n → (t.births ≤ (n + 1) + 1) × (t.ticks ≤ n + 1)
+counts_on s t x es n step births ticks =
+    let c = subst (Counts s) (ap (λ (o : Outcome). o.state) step.comes) (counts_next step.granted s x) in
+    let b = c.births in
+    let k = c.ticks in
+    (omega (arith, b, births), omega (arith, k, ticks))

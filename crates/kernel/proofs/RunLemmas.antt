@@ -2,10 +2,11 @@
 use Rattle.std.proofs.Common.{◌≡◌, ℕ, ◌+◌, ◌<◌, ◌≤◌, List, [], ◌∷◌, ◌++◌, length, take, drop, refl, ap, sym, subst, ◌∙◌, append_assoc, append-nil, add-zero, length-append, get_or, arith, cond, Bool, true, false}
 use Rattle.std.specs.Prelude.{replicate}
 use Rattle.std.specs.Int.{from_bool}
-use Rattle.std.proofs.lemmas.List.{take_more, take-append-drop, map-append, length-map, length-replicate, replicate_more}
+use Rattle.std.proofs.lemmas.List.{take_more, take-append-drop, map-append, length-map, length-replicate, nil_from_length, replicate_more}
 use Rattle.std.proofs.lemmas.List.Concat.{flat_map-append}
 use Rattle.std.proofs.lemmas.List.Sums.{sum_by-append, count_by-le-length}
 use Rattle.posix.specs.declared.event.Event.{Event}
+use Rattle.posix.specs.declared.event.Event.TheVariants.{Step}
 use Rattle.posix.specs.declared.entry.Entry.{Entry}
 use Rattle.posix.specs.Entries.{Line, line, numbered, reported, reports_end}
 use Rattle.posix.specs.States.{State}
@@ -13,6 +14,7 @@ use Rattle.posix.specs.Step.{IsStep, next}
 use Rattle.posix.specs.Runs.{RunsFrom}
 use Rattle.posix.specs.Printing.{print, print_line, printed}
 use Rattle.sink.specs.Sinks.{Seen, TakesAll, Gathers, BreaksOff}
+use Rattle.kernel.specs.Steps.{Bursts}
 use Rattle.kernel.specs.Progress.{Writes, Stops, WritesTrace, BreaksTrace}
 use Rattle.sink.proofs.SinkLemmas.{gathers_then, gathers_break, break_on, flush_takes, flush_breaks}
 
@@ -167,6 +169,12 @@ one_after k e n x s m t i es fs run none step at =
     let one : RunsFrom (k + length (replicate n x)) m (x ∷ []) (numbered e es) t =
     subst (λ (j : ℕ). RunsFrom j m (x ∷ []) (numbered e es) t) here (t, es, [], step, sym (append-nil (numbered e es)), (refl, refl)) in
     subst (λ (l : List Event). RunsFrom k s l (numbered e es) t) (replicate_more n x) (runs_then (replicate n x) (x ∷ []) k s m t [] (numbered e es) quiet one)
+
+-- a step after a burst that showed nothing
+pub step_after : (k e n : ℕ) (s started m t : State) (es fs : List Entry) → Bursts started n fs m → started ≡ s → length fs ≡ 0 → IsStep m Step es t → e ≡ (k + n) + 1
+    → RunsFrom (k + 1) s (replicate (n + 1) Step) (numbered e es) t
+step_after k e n s started m t es fs b same zero step at =
+    one_after (k + 1) e n Step s m t (k + n) es fs (subst (λ (u : State). RunsFrom (k + 1) u (replicate n Step) (numbered (k + n) fs) m) same (b.runs k)) (nil_from_length fs zero) step (omega (arith, at))
 
 -- what the last of some events shows is gathered
 pub some_writes : (k j e n : ℕ) (x : Event) (s t : State) (es fs : List Entry) (a b : Seen) (p q : List ℕ) (g : ℕ) → 0 < n → j ≡ e → fs ≡ es → length es ≤ 4

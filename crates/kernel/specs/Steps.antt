@@ -18,7 +18,7 @@ use Rattle.posix.specs.Runs.{RunsFrom}
 use Rattle.posix.specs.Settle.{IsSettled}
 use Rattle.posix.specs.Step.{code_of, begin_call, after_trap, act, step, happens}
 use Rattle.umach.specs.Bursts.{exec_until}
-use Rattle.calls.specs.Outcomes.{is_own}
+use Rattle.calls.specs.Outcomes.{IsActing, is_own}
 
 -- p may begin the call so.
 abbrev pub Begins : State → ℕ → Call → List Entry → State → Type 0
@@ -88,6 +88,12 @@ abbrev pub given : Event → ℕ → State → ℕ
 given Step most s = min most (plain_steps s most + 1)
 given Tick most s = 1
 given (Key console byte) most s = 1
+
+-- The next step is the beginning of this call by p, who has a place.
+pub record ComesTo (s : State) (p : ℕ) (call : Call) : Type 0 where
+  pub going : s.halted ≡ false
+  pub acting : IsActing s p
+  pub begins : (granted : Bool) (me : Process) → process s p ≡ Some me → step granted s (current_process s) ≡ begin_call s me (attempt granted s me call)
 
 -- So many steps lead from old to new, of which the last alone may show something; nobody is born, no time
 -- goes by, and nothing is left to settle.

@@ -11,11 +11,11 @@ ghost use Rattle.kernel.specs.Steps.{event_changes_one, plain_steps};
 ghost use Rattle.kernel.specs.Views.{KernelView};
 ghost use Rattle.life.specs.Censuses.{census_of};
 
-use crate::step::{burst, next};
+use crate::step::{BurstEnd, burst, call_next, next};
 use arrayvec::ArrayVec;
 use calls::Entries;
 use life::{Census, Machine};
-use posix::Event;
+use posix::{Event, Trap};
 use proctable::{Kin, ProcTable};
 use std::alloc::{AllocError, Global};
 use std::marker::Model;
@@ -114,12 +114,17 @@ impl<K: Kin> KernelOn<K> {
             self.event_into(Event::Step, entries);
             return 1;
         }
-        let count = burst(&mut self.machine, most, entries);
+        let BurstEnd { count, pid, trap } = burst(&mut self.machine, most, entries);
         self.events += count;
         if count == most || !entries.is_empty() {
             return count;
         }
-        self.event_into(Event::Step, entries);
+        let Trap::Call(call) = trap else {
+            self.event_into(Event::Step, entries);
+            return count + 1;
+        };
+        self.events += 1;
+        call_next(&mut self.machine, pid, call, entries);
         count + 1
     }
 

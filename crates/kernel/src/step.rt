@@ -2,6 +2,7 @@
 //! an instruction that shows nothing moves none.
 
 ghost use Rattle.std.specs.Prelude.{◌≡◌, ◌+◌, [], length, ◌<◌, ◌≤◌, ◌^◌, Some, option_map, false, true};
+ghost use Rattle.posix.specs.declared.call.Call.{Call as CallValue};
 ghost use Rattle.posix.specs.Processes.{Process};
 ghost use Rattle.posix.specs.Choice.{chosen};
 ghost use Rattle.posix.specs.States.{process, current_process};
@@ -13,7 +14,7 @@ ghost use Rattle.posix.specs.Regular.{IsPlaced, IsRegular};
 ghost use Rattle.posix.specs.Settle.{IsSettled};
 ghost use Rattle.proctable.specs.Body.{facts_of};
 ghost use Rattle.calls.specs.Outcomes.{IsActing, CostsAtMost, is_own};
-ghost use Rattle.kernel.specs.Steps.{ActsAs, Begins, Bursts, Happens, RunsInstruction, Steps, next_changes_one, changes_one, event_changes_one, note_of, plain_steps};
+ghost use Rattle.kernel.specs.Steps.{ActsAs, Begins, Bursts, ComesTo, Happens, RunsInstruction, Steps, next_changes_one, changes_one, event_changes_one, note_of, plain_steps};
 
 use crate::settle::settle;
 use calls::delivery::{deliver, end, fault};
@@ -168,41 +169,76 @@ fn happen<K: Kin>(machine: &mut Machine<K>, event: Event, entries: &mut Entries)
     }
 }
 
+/// What plain instructions that were run one after another came to.
+#[derive(Clone, Copy, Debug, PartialEq, Eq)]
+pub struct BurstEnd {
+    /// How many instructions were run, the one that gave a note included.
+    pub count: u64,
+    /// Whose they were; number 0 where nobody ran any.
+    pub pid: Pid,
+    /// How the last instruction that was looked at came out; a call and a machine fault are left to the next step.
+    pub trap: Trap,
+}
+
 /// The current process runs plain instructions, at most so many, and the one after them where that gives a
-/// note: none where it is in a call, or a signal is chosen for it. The number of instructions that were
-/// run; nothing is left to settle by them.
-pub fn burst<K: Kin>(machine: &mut Machine<K>, most: u64, entries: &mut Entries) -> u64
+/// note: none where it is in a call, or a signal is chosen for it. Nothing is left to settle by them.
+pub fn burst<K: Kin>(machine: &mut Machine<K>, most: u64, entries: &mut Entries) -> BurstEnd
     requires regular { IsRegular machine.old.state }
     requires settled { IsSettled machine.old.state }
     requires going { machine.old.state.halted ≡ false }
     requires some { 0 < most }
     requires none { entries.old.items ≡ [] }
-    ensures runs { Bursts machine.old.state result entries.new.items machine.new.state }
-    ensures count { result ≡ plain_steps machine.old.state most + length entries.new.items }
+    ensures runs { Bursts machine.old.state result.count entries.new.items machine.new.state }
+    ensures count { result.count ≡ plain_steps machine.old.state most + length entries.new.items }
     ensures note { entries.new.items ≡ note_of machine.old.state most (current_process machine.old.state) }
     ensures one { length entries.new.items ≤ 1 }
-    ensures within { result ≤ most }
+    ensures within { result.count ≤ most }
+    ensures call { (call : CallValue) → result.trap ≡ Trap.Call call → ComesTo machine.new.state result.pid call }
     ensures asked { machine.new.asked ≡ machine.old.asked }
     ensures stale { machine.new.stale ≡ machine.old.stale }
     ensures regular { IsRegular machine.new.state }
 {
+    let nothing = BurstEnd {
+        count: 0,
+        pid: Pid::NONE,
+        trap: Trap::Next,
+    };
     let Some(pid) = machine.current() else {
-        return 0;
+        return nothing;
     };
     let Some(facts) = machine.facts(pid) else {
-        return 0;
+        return nothing;
     };
     if facts.chosen.is_some() || facts.blocked.is_some() {
-        return 0;
+        return nothing;
     }
     let (count, trap) = machine.run_until(pid, facts.program, most);
     match trap {
         Trap::Note(value) => {
             entries.push(Entry::Noted { pid, value });
-            count + 1
+            BurstEnd {
+                count: count + 1,
+                pid,
+                trap,
+            }
         }
-        Trap::Next | Trap::Call(_) | Trap::Fault(_) => count,
+        Trap::Next | Trap::Call(_) | Trap::Fault(_) => BurstEnd { count, pid, trap },
     }
+}
+
+/// A step of the current process, which this is, where its next instruction is this call.
+pub fn call_next<K: Kin>(machine: &mut Machine<K>, pid: Pid, call: Call, entries: &mut Entries)
+    requires comes { ComesTo machine.old.state pid call }
+    requires births { machine.old.state.births + 1 < 2 ^ 64 }
+    requires time { machine.old.state.ticks + most_ticks < 2 ^ 64 }
+    requires none { entries.old.items ≡ [] }
+    ensures step { IsStep machine.old.state Event.Step entries.new.items machine.new.state }
+    ensures regular { IsRegular machine.new.state }
+    ensures asked { machine.new.asked ≡ [] }
+    ensures stale { machine.new.stale ≡ false }
+{
+    begin_call(machine, pid, call, entries);
+    settle(machine);
 }
 
 /// One event. After a halt nothing changes, and nothing is shown.

@@ -1,6 +1,6 @@
 -- A machine that gets another console in the place of one.
-use Rattle.std.proofs.Common.{◌≡◌, ◌≢◌, ◌⊎◌, ℕ, zero, suc, ◌≤◌, ◌==◌, Bool, true, false, not, ◌&&◌, ◌||◌, refl, ap, sym, ◌∙◌, arith, List, [], ◌∷◌, map, Option, Some, None, is_some, length, nat_lt, slice_get, slice_set, slice_index_or, inl, inr, ⊎_elim}
-use Rattle.std.proofs.lemmas.Bool.{eqb-true, eqb-false, eq-eqb, ne_eqb, and_parts, not-true, or_right, ltb-true, ltb-false, cond_both}
+use Rattle.std.proofs.Common.{◌≡◌, ◌≢◌, ◌⊎◌, ℕ, zero, suc, ◌≤◌, ◌==◌, Bool, true, false, cond, not, ◌&&◌, ◌||◌, refl, ap, sym, ◌∙◌, arith, List, [], ◌∷◌, map, Option, Some, None, is_some, length, nat_lt, slice_get, slice_set, slice_index_or, inl, inr, ⊎_elim}
+use Rattle.std.proofs.lemmas.Bool.{eqb-true, eqb-false, ne_eqb, and_parts, not-true, or_right, ltb-true, ltb-false, cond_both}
 use Rattle.std.proofs.lemmas.Option.{slice_get_read, slice_get_cases}
 use Rattle.posix.specs.declared.process.Blocked.{Blocked}
 use Rattle.posix.specs.declared.process.Blocked.TheVariants as blocked
@@ -11,7 +11,7 @@ use Rattle.posix.specs.Consoles.{Console, console_of, changed_console, changed_a
 use Rattle.posix.specs.Choice.{chosen}
 use Rattle.posix.specs.Attempts.{attempt_again}
 use Rattle.posix.specs.Terminals.{is_reader, is_in_read, waits_on, waits_to_read}
-use Rattle.posix.specs.Ends.{signalled_group, hang_up}
+use Rattle.posix.specs.Ends.{signalled_group, hang_up, hung_up}
 use Rattle.posix.specs.Step.{signalled_from, key}
 use Rattle.posix.specs.Settle.{can_act, can_go_on, is_fresh, AreFresh}
 use Rattle.posix.specs.Regular.{IsRegular, AreConsoles}
@@ -24,7 +24,8 @@ use Rattle.sched.specs.Places.{Places}
 use Rattle.pidset.specs.Numbers.{PidSetView}
 use Rattle.pidset.specs.Children.{ChildSetView}
 use Rattle.life.specs.Machines.{IsListed, IsMachine, readers_at}
-use Rattle.life.specs.Consoles.{AreReaders}
+use Rattle.proctable.specs.Body.{facts_of}
+use Rattle.life.specs.Consoles.{AreReaders, hangs_up}
 use Rattle.posix.proofs.FreshLemmas.{AllFresh}
 
 -- the state with another console in a place
@@ -282,29 +283,21 @@ key_on_it s console k byte c signal group number found same foreground = rw (num
 -- ---- hangups
 
 -- process 1 hangs up nothing, nor does another that leads no session, or one without a terminal
-pub first_stays : (s : State) (me : Process) → me.pid ≡ 1 → s ≡ hang_up s me
+pub others_stay : (s : State) (me : Process) → hangs_up (facts_of me) ≡ false → s ≡ hang_up s me
 unfolding hang_up
-first_stays s me first = rw (eq-eqb me.pid 1 first) refl
-
-pub member_stays : (s : State) (me : Process) → me.session ≢ me.pid → s ≡ hang_up s me
-unfolding hang_up
-member_stays s me other = rw (ne_eqb me.session me.pid other) (sym (cond_both (not (me.pid == 1) && false) _ s (λ t. t ≡ s) (λ e. absurd (no_more (not (me.pid == 1)) e)) (λ e. refl)))
-  where
-    no_more : (b : Bool) → (b && false) ≡ true → ⊥
-    no_more true e = absurd (cc)
-    no_more false e = absurd (cc)
+others_stay s me e = ap (λ b. cond b (hung_up s me.session (console_of me.session s.consoles)) s) (sym e)
 
 pub none_stays : (s : State) (me : Process) → console_of me.session s.consoles ≡ None → s ≡ hang_up s me
 unfolding hang_up
 none_stays s me none = rw none (sym (cond_both (not (me.pid == 1) && me.session == me.pid) s s (λ t. t ≡ s) (λ e. refl) (λ e. refl)))
 
 -- the leader of a session that has one
-pub leader_hangs_up : (s : State) (k p : ℕ) (me : Process) (c : Console) → IsRegular s → process s p ≡ Some me → me.pid ≢ 1 → me.session ≡ me.pid → slice_get s.consoles k ≡ Some c → c.session ≡ me.session
+pub leader_hangs_up : (s : State) (k p : ℕ) (me : Process) (c : Console) → IsRegular s → process s p ≡ Some me → hangs_up (facts_of me) ≡ true → slice_get s.consoles k ≡ Some c → c.session ≡ me.session
     → put (record s { processes = signalled_group HUP c.foreground s.processes }) k (released c) ≡ hang_up s me
 unfolding hang_up
-leader_hangs_up s k p me c i found other leads at own =
+leader_hangs_up s k p me c i found leads at own =
     let least = (i.bounded p me found).session_least in
     let some : me.session ≢ 0 = λ none. omega (arith, none, least) in
     let is = console_is s.world.consoles s.consoles k me.session c i.consoles at own some in
-    rw (ne_eqb me.pid 1 other, eq-eqb me.session me.pid leads, is)
+    rw (leads, is)
     (ap (λ cs. record s { processes = signalled_group HUP c.foreground s.processes; consoles = cs }) (sym (changed_at_place s.world.consoles s.consoles k me.session c released i.consoles at own some)))

@@ -269,6 +269,14 @@ asking_is_over s k old asked w h others p c r at found reads out =
       | false ↦ λ off. h.before p (w.known k p c r at found reads out off) tt (rw found refl) out
     ] refl
 
+-- nobody is known by a console whose set has become empty
+pub none_known : (k : ℕ) (old new : List PidSetView) → IsForgottenAt k old new → readers_at k new ≡ []
+none_known k old new gone = by_set (slice_get old k) refl gone
+  where
+    by_set : (o : Option PidSetView) → slice_get old k ≡ o → MatchOption o (new ≡ old) (λ set. (now : PidSetView) × (new ≡ slice_set old k now) × (now.pids ≡ []) × (now.room ≡ set.room)) → readers_at k new ≡ []
+    by_set None at m = ap (readers_at k) m ∙ ap (λ o. option_map_or (λ (x : PidSetView). x.pids) o []) at
+    by_set (Some set) at m = ap (readers_at k) m.1 ∙ ap (λ o. option_map_or (λ (x : PidSetView). x.pids) o []) (set_same old k set m.0 at) ∙ m.2
+
 -- and then nobody has to be known
 pub watched_forgotten : {readers sets : List PidSetView} (s : State) (k : ℕ) (asked : List ℕ) → IsWatched s asked readers → AreReaders s k asked → IsForgottenAt k readers sets → IsWatched s asked sets
 watched_forgotten {readers = readers} {sets = sets} s k asked w all gone = record {

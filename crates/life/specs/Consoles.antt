@@ -1,14 +1,19 @@
 -- Consoles as a machine shows them, and who waits to read from one.
-use Rattle.std.specs.Prelude.{◌≡◌, ◌==◌, ℕ, not, true, false, List, [], length, Option, Some, None, slice_get, slice_set, MatchOption}
+use Rattle.std.specs.Prelude.{◌≡◌, ◌==◌, ◌&&◌, ℕ, Bool, not, true, false, List, [], length, Option, Some, None, slice_get, slice_set, MatchOption}
 use Rattle.posix.specs.Processes.{Process}
 use Rattle.posix.specs.Consoles.{Console, console_of}
 use Rattle.posix.specs.States.{State, process, is_in, has_place}
 use Rattle.posix.specs.Terminals.{is_reader}
 use Rattle.pidset.specs.Numbers.{PidSetView, with_number}
+use Rattle.proctable.specs.declared.facts.Facts.{Facts}
 use Rattle.life.specs.declared.consoles.Terminal.{Terminal}
 
 abbrev pub terminal_of : Console → Terminal
 terminal_of c = record { foreground = c.foreground; tostop = c.tostop; has_line = not (length c.lines == 0) }
+
+-- a process other than process 1 that leads its session hangs its terminal up as it ends
+abbrev pub hangs_up : Facts → Bool
+hangs_up f = not (f.pid == 1) && f.session == f.pid
 
 -- the place of the console that is a session's terminal
 abbrev pub IsPlaceOf : ℕ → List Console → Option ℕ → Type 0

@@ -1,7 +1,7 @@
 //! Consoles: whose terminal each is, who waits to read from it, and what a key, a hangup and a lost foreground
 //! process group do (XBD 11.1).
 
-ghost use Rattle.std.specs.Prelude.{◌≡◌, ◌≢◌, ◌+◌, ◌*◌, ◌<◌, ◌≤◌, ◌==◌, ◌&&◌, ◌||◌, ℕ, IfOk, IfSome, IsSome, MatchOption, Option, Some, None, length, false, true, if◌then◌else◌, option_map, map, replicate, slice_get, slice_set};
+ghost use Rattle.std.specs.Prelude.{◌≡◌, ◌≢◌, ◌+◌, ◌*◌, ◌<◌, ◌≤◌, ◌==◌, ◌&&◌, ◌||◌, ℕ, IfOk, IfSome, IsSome, MatchOption, Option, Some, None, [], length, false, true, if◌then◌else◌, option_map, map, replicate, slice_get, slice_set};
 ghost use Rattle.std.specs.List.{AllByRecursion};
 ghost use Rattle.posix.specs.Processes.{Process};
 ghost use Rattle.posix.specs.States.{process, has_place as has_place_in, is_in, without};
@@ -16,7 +16,7 @@ ghost use Rattle.pidset.specs.Numbers.{numbers_above};
 ghost use Rattle.life.specs.Machines.{IsReaders, IsWatched, readers_at};
 ghost use Rattle.pidset.specs.Numbers.{PidSetView};
 ghost use Rattle.posix.specs.declared.process.Blocked.TheVariants as blocked;
-ghost use Rattle.life.specs.Consoles.{terminal_of, IsPlaceOf, IsKnownBy, IsForgottenAt, AreReaders};
+ghost use Rattle.life.specs.Consoles.{terminal_of, hangs_up as hangs_up_with, IsPlaceOf, IsKnownBy, IsForgottenAt, AreReaders};
 ghost use Rattle.tty.specs.Lines.{Takes};
 
 use crate::asking::ask;
@@ -24,7 +24,7 @@ use crate::machine::Machine;
 use jobs::JobTable;
 use pidset::PidSet;
 use posix::{Blocked, Pid, Sig};
-use proctable::Kin;
+use proctable::{Facts, Kin};
 use std::alloc::{AllocError, Global};
 use tty::{Console, KeyEffect};
 
@@ -89,6 +89,13 @@ fn know(readers: &mut Vec<PidSet>, place: Option<usize>, pid: Pid)
     if let Some(set) = readers.get_mut(place) {
         set.insert(pid);
     }
+}
+
+/// Whether a process with these facts hangs its terminal up as it ends: it leads its session, and isn't process 1.
+fn hangs_up(facts: &Facts) -> bool
+    ensures { result ≡ hangs_up_with facts.now }
+{
+    facts.pid != Pid::INIT && facts.session == facts.pid
 }
 
 /// Nobody is known any more to wait to read from the console in a place, if there is one.
@@ -229,12 +236,13 @@ impl<K: Kin> Machine<K> {
         }
     }
 
-    /// Whoever waits to read from the console in a place is to be asked.
+    /// Whoever waits to read from the console in a place is to be asked, and isn't known by it any more.
     fn ask_readers(&mut self, place: usize)
         ensures state { self.new.state ≡ self.old.state }
         ensures asked { AreReaders self.old.state place self.new.asked }
         ensures losing { self.new.losing ≡ self.old.losing }
         ensures stale { self.new.stale ≡ self.old.stale }
+        ensures readers { readers_at place self.new.readers ≡ [] }
     {
         let mut next = self.next_reader(place, Pid::NONE);
         while let Some(pid) = next {
@@ -262,6 +270,7 @@ impl<K: Kin> Machine<K> {
         ensures asked { self.new.asked ≡ self.old.asked }
         ensures losing { self.new.losing ≡ self.old.losing }
         ensures stale { self.new.stale ≡ self.old.stale }
+        ensures readers { readers_at place self.new.readers ≡ [] }
     {
         forget_at(&mut self.readers, place);
     }
@@ -372,10 +381,10 @@ impl<K: Kin> Machine<K> {
         let Some(facts) = self.facts(pid) else {
             return;
         };
-        if pid == Pid::INIT || facts.session != pid {
+        if !hangs_up(&facts) {
             return;
         }
-        let Some(place) = place_of(&self.consoles, pid) else {
+        let Some(place) = place_of(&self.consoles, facts.session) else {
             return;
         };
         let foreground = self.consoles[place].foreground();

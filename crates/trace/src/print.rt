@@ -7,9 +7,10 @@ ghost use Rattle.std.specs.Prelude.{◌≡◌, ◌+◌, ◌*◌, ◌<◌, ◌≤
 ghost use Rattle.std.specs.List.{join_with_byte};
 ghost use Rattle.std.specs.Fmt.{signed_decimal};
 ghost use Rattle.posix.specs.Calls.{call_text};
-ghost use Rattle.posix.specs.Printing.{digit, hex, printed, two_digits, words_of};
+ghost use Rattle.posix.specs.Printing.{hex, printed, words_of};
 
 use arrayvec::ArrayVec;
+use hex::encode_to_slice;
 use itoa::write_digits;
 use posix::{Bytes, Call, Entry, Pid, Sig, Status};
 
@@ -75,33 +76,14 @@ fn put_next_signed(room: &mut [u8], at: usize, number: i64) -> usize
     put_signed(room, at, number)
 }
 
-/// A number below 16 as a lower case digit.
-fn digit(number: u8) -> u8
-    requires { number < 16 }
-    ensures { result ≡ digit number }
-{
-    b"0123456789abcdef"[usize::from(number)]
-}
-
-/// Writes a byte as two lower case digits to base 16.
-fn put_byte(room: &mut [u8], at: usize, byte: u8) -> usize
-    requires { at + 2 ≤ length room.old }
-    ensures text { take result room.new ≡ take at room.old ++ two_digits byte }
-    ensures end { result ≡ at + 2 }
-{
-    put(room, at, &[digit(byte / 16), digit(byte % 16)])
-}
-
 /// Writes bytes as lower case digits to base 16, two a byte.
 fn put_hex(room: &mut [u8], at: usize, bytes: &[u8]) -> usize
     requires { at + 2 * length bytes.now ≤ length room.old }
     ensures text { take result room.new ≡ take at room.old ++ hex bytes.now }
     ensures end { result ≡ at + 2 * length bytes.now }
 {
-    let mut end = at;
-    for byte in bytes {
-        end = put_byte(room, end, *byte);
-    }
+    let end = at + 2 * bytes.len();
+    let _ = encode_to_slice(bytes, &mut room[at..end]);
     end
 }
 

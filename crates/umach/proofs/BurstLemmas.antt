@@ -1,5 +1,6 @@
 -- Instructions, one after another.
-use Rattle.std.proofs.Common.{◌≡◌, ℕ, suc, ◌+◌, ◌-◌, ◌<◌, refl, ap, sym, ◌∙◌, arith, List, add-zero}
+use Rattle.std.proofs.Common.{◌≡◌, ℕ, zero, suc, ◌+◌, ◌-◌, ◌<◌, refl, ap, sym, ◌∙◌, arith, List, add-zero}
+use Rattle.posix.specs.declared.call.Call.{Call}
 use Rattle.posix.specs.declared.instr.Instr.{Instr}
 use Rattle.posix.specs.declared.instr.Trap.{Trap}
 use Rattle.posix.specs.declared.instr.Trap.TheVariants as trap
@@ -53,3 +54,21 @@ unfolding exec_until
 left_none program most i old c all h =
     let none : most - i ≡ 0 = omega (arith, all) in
     h ∙ ap (λ n. later i (exec_until program n c)) none ∙ ap (λ (n : ℕ). record { count = n; trap = trap.Next; cpu = c }) (add-zero i ∙ all)
+
+-- ---- a call
+
+-- where instructions end at a call, it is what comes next
+stops_by : (program : List Instr) (c new : Cpu) (call : Call) (t : Trap) → (exec_one program c).trap ≡ t → (rest : Burst)
+    → (rest.trap ≡ trap.Call call → (exec_one program rest.cpu).trap ≡ trap.Call call) → (then_rest t c new rest).trap ≡ trap.Call call
+    → (exec_one program (then_rest t c new rest).cpu).trap ≡ trap.Call call
+stops_by program c new call trap.Next is rest more e = more e
+stops_by program c new call (trap.Note value) is rest more e = absurd (cc)
+stops_by program c new call (trap.Call other) is rest more e = is ∙ e
+stops_by program c new call (trap.Fault sig) is rest more e = absurd (cc)
+
+pub stops_at : (program : List Instr) (call : Call) (most : ℕ) (c : Cpu) → (exec_until program most c).trap ≡ trap.Call call
+    → (exec_one program (exec_until program most c).cpu).trap ≡ trap.Call call
+unfolding exec_until
+stops_at program call zero c e = absurd (cc)
+stops_at program call (suc most) c e =
+    stops_by program c (exec_one program c).cpu call (exec_one program c).trap refl (exec_until program most (exec_one program c).cpu) (stops_at program call most (exec_one program c).cpu) e

@@ -1,6 +1,6 @@
 //! The memory of a process.
 
-ghost use Rattle.std.specs.Prelude.{◌≡◌, ◌+◌, ◌-◌, ◌<◌, ◌≤◌, ◌++◌, IfOk, pos, length, replicate, vec_capacity, slice_index_or, slice_set};
+ghost use Rattle.std.specs.Prelude.{◌≡◌, ◌+◌, ◌-◌, ◌<◌, ◌≤◌, ◌++◌, IfOk, pos, length, map, replicate, vec_capacity, slice_index_or, slice_set};
 ghost use Rattle.posix.specs.Processes.{zero_memory};
 ghost use Rattle.posix.specs.Transfers.{stored, low_byte, bytes_in};
 ghost use Rattle.umach.specs.Memories.{words_of};
@@ -81,11 +81,10 @@ impl UserMem {
         requires within { span.address + span.count ≤ 256 }
         ensures { result ≡ bytes_in span self.now }
     {
-        let _ = &self.words;
-        let mut bytes = [0; 16];
-        for place in 0..usize::from(span.count) {
-            bytes[place] = low_byte(self.get(usize::from(span.address) + place));
-        }
+        let kept = self.words.len();
+        let first = usize::from(span.address);
+        let end = first + usize::from(span.count);
+        let bytes = low_bytes(&self.words[first.min(kept)..end.min(kept)]);
         Bytes::new(&bytes[..usize::from(span.count)])
     }
 
@@ -133,6 +132,18 @@ fn keep(words: &mut Vec<i64>, count: usize)
     ensures room { vec_capacity words.old ≤ vec_capacity words.new }
 {
     let _ = words.resize(count, 0);
+}
+
+/// The low 8 bits of each of at most 16 words, and zeros behind them.
+fn low_bytes(words: &[i64]) -> [u8; 16]
+    requires { length words.now ≤ 16 }
+    ensures { result ≡ map low_byte words.now ++ replicate (16 - length words.now) 0 }
+{
+    let mut bytes = [0; 16];
+    for (place, word) in words.iter().enumerate() {
+        bytes[place] = low_byte(*word);
+    }
+    bytes
 }
 
 /// The low 8 bits of a word.

@@ -1,14 +1,15 @@
-use Rattle.std.proofs.Common.{◌∙◌, arith}
-use Rattle.trace.proofs.HexLemmas.{hex_none, hex_one}
+use Rattle.std.proofs.Common.{◌≡◌, ◌+◌, ◌-◌, ◌*◌, ◌∙◌, ap, arith, length, take, drop, length-take, length-drop, ◌++◌}
+use Rattle.std.proofs.lemmas.Slice.{take-put_mid}
+use Rattle.posix.specs.Printing.{hex}
+use Rattle.trace.proofs.HexLemmas.{on_ok, same_digits}
 use Rattle.trace.proofs.print.put_hex.Goals as goal
 
-pub loop-byte-init : goal.loop-byte-init
-loop-byte-init c = record { text = hex_none _; end = omega arith }
-
-pub loop-byte-preserved : goal.loop-byte-preserved
-loop-byte-preserved c =
-    let byte = c.put_byte-end.ensures in
-    record {
-      text = byte.text ∙ hex_one c.args.bytes.now _ _ c.loop-byte.byte-index c.loop-byte-test.true c.loop-byte.invariant.text;
-      end = omega arith;
-    }
+pub returns-clause-text : goal.returns-clause-text
+returns-clause-text c =
+    let a = c.args.at in
+    let bytes = c.args.bytes.now in
+    let m = a + 2 * length bytes - a in
+    let room : length (take m (drop a c.args.room.now)) ≡ 2 * length bytes = omega (arith, length-take m (drop a c.args.room.now), length-drop a c.args.room.now, c.requires) in
+    let digits : c.encode_to_slice.new.output ≡ hex bytes = on_ok c.encode_to_slice.result (c.encode_to_slice.ensures.fits.1 room) c.encode_to_slice.ensures.written ∙ same_digits bytes in
+    take-put_mid a m c.args.room.now c.encode_to_slice.new.output (a + 2 * length bytes) (omega (arith, room, c.encode_to_slice.auto.output)) (omega (arith, c.requires))
+    ∙ ap (λ ds. take a c.args.room.now ++ ds) digits

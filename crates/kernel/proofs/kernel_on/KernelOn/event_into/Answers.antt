@@ -1,18 +1,17 @@
-use Rattle.std.proofs.Common.{ap, sym, ◌∙◌, subst, arith}
+use Rattle.std.proofs.Common.{ap, sym, ◌∙◌}
 use Rattle.posix.specs.Outcomes.{Outcome}
 use Rattle.posix.proofs.WakeLemmas.{settled_stays}
-use Rattle.posix.proofs.CountLemmas.{Counts, counts_next, next_halted}
+use Rattle.posix.proofs.CountLemmas.{next_halted}
 use Rattle.kernel.specs.Views.{KernelView}
+use Rattle.kernel.proofs.EventLemmas.{counts_on}
 use Rattle.kernel.proofs.kernel_on.KernelOn.event_into.Goals as goal
 
 pub invariant_of-self : goal.invariant_of-self
 invariant_of-self g c =
-    let k = subst (Counts c.self.inside.machine.state) (ap (λ (o : Outcome). o.state) c.next.ensures.step.comes) (counts_next c.next.ensures.step.granted c.self.inside.machine.state c.args.event) in
-    let b = k.births in
-    let t = k.ticks in
-    let old = c.self.invariant in (
-      omega (arith, b, old.0),
-      omega (arith, t, old.1),
+    let old = c.self.invariant in
+    let counts = counts_on c.self.inside.machine.state c.next.new.machine.state c.args.event _ c.self.inside.events c.next.ensures.step old.0 old.1 in (
+      counts.0,
+      counts.1,
       settled_stays c.self.inside.machine.state c.next.new.machine.state c.args.event _ c.next.ensures.step old.2,
       c.next.ensures.regular,
       c.next.ensures.asked old.4,

@@ -1,7 +1,7 @@
 use Rattle.std.proofs.Common.{sym, subst}
 use Rattle.life.specs.Machines.{MachineView}
 use Rattle.life.specs.Consoles.{AreReaders}
-use Rattle.life.proofs.ReaderLemmas.{watched_forgotten}
+use Rattle.life.proofs.ReaderLemmas.{none_known, watched_forgotten}
 use Rattle.life.proofs.machine.Machine.forget_readers.Goals as goal
 
 pub invariant_of-self : goal.invariant_of-self
@@ -16,3 +16,6 @@ invariant_of-self g c =
       noted = i.noted;
       fresh = i.fresh;
     }
+
+pub returns-clause-readers : goal.returns-clause-readers
+returns-clause-readers g c = none_known c.args.place _ _ c.forget_at.ensures

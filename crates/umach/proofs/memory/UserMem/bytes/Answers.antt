@@ -1,27 +1,23 @@
-use Rattle.std.proofs.Common.{◌≡◌, ◌+◌, ◌<◌, ◌∙◌, ap, sym, arith, drop, take, length, length-drop, length-set, get_or, set, pos, rules, to_z, of_z, w64}
-use Rattle.std.proofs.lemmas.List.{get_or-drop}
+use Rattle.std.proofs.Common.{◌≡◌, ◌+◌, ◌-◌, ◌∙◌, ◌++◌, min, ap, sym, refl, List, ℤ, length, take, drop}
+use Rattle.std.specs.Prelude.{map, replicate}
 use Rattle.posix.specs.Transfers.{bytes_in, low_byte}
-use Rattle.umach.proofs.ByteLemmas.{read_one, read_all, length_words}
+use Rattle.umach.proofs.ByteLemmas.{kept_span, span_bytes}
 use Rattle.umach.proofs.memory.UserMem.bytes.Goals as goal
-
-pub loop-place-preserved : goal.loop-place-preserved
-loop-place-preserved c =
-    let memory = c.args.self.now in
-    let a = c.args.span.address in
-    let i = c.loop-place.place in
-    let bytes = c.loop-place.bytes in
-    let kept : to_z w64 (of_z w64 c.get.result) ≡ c.get.result = search rules in
-    let word : c.get.result ≡ get_or (drop a memory) i (pos 0) = c.get.ensures ∙ ap (λ n. get_or memory (n + i) (pos 0)) c.from.ensures ∙ sym (get_or-drop a memory i (pos 0)) in
-    let byte : c.low_byte.result ≡ low_byte (get_or (drop a memory) i (pos 0)) = c.low_byte.ensures ∙ ap low_byte (kept ∙ word) in
-    let whole : length memory ≡ 256 = ap length (sym c.self.view_is) ∙ length_words _ c.self.invariant.0 in
-    let there : i < length (drop a memory) = omega (arith, length-drop a memory) in
-    let within : i < length bytes = omega arith in
-    record {
-      read = ap (λ b. take (i + 1) (set bytes i b)) byte ∙ read_one low_byte i bytes (drop a memory) within there c.loop-place.invariant.read;
-      room = length-set bytes i c.low_byte.result ∙ c.loop-place.invariant.room;
-    }
 
 pub returns : goal.returns
 unfolding bytes_in
 returns c =
-    read_all low_byte c.args.span.address c.loop-place.place c.args.span.count _ _ c.args.self.now (omega arith) c.loop-place.invariant.read (cc)
+    let a = c.args.span.address in
+    let n = c.args.span.count in
+    let words = c.self.inside.words.items in
+    let len : c.len-kept.result ≡ length words = c.len-kept.ensures ∙ sym c.deref.ensures.len ∙ ap length c.deref.ensures.value in
+    let first : c.min.result ≡ min a (length words) = c.min.ensures ∙ ap (λ k. min k c.len-kept.result) c.from-first.ensures ∙ ap (min a) len in
+    let end : c.min-2.result ≡ min (a + n) (length words) = c.min-2.ensures ∙ ap (λ k. min k c.len-kept.result) (ap (λ k. k + c.from.result) c.from-first.ensures ∙ ap (λ k. a + k) c.from.ensures) ∙ ap (min (a + n)) len in
+    let spanned : take (c.min-2.result - c.min.result) (drop c.min.result c.deref.result.now) ≡ take n (drop a words) =
+    ap (λ k. take (k - c.min.result) (drop c.min.result c.deref.result.now)) end ∙ ap (λ k. take (min (a + n) (length words) - k) (drop k c.deref.result.now)) first
+    ∙ ap (λ (ws : List ℤ). take (min (a + n) (length words) - min a (length words)) (drop (min a (length words)) ws)) c.deref.ensures.value ∙ kept_span a n words in
+    let kept : c.low_bytes-bytes.result ≡ map low_byte (take n (drop a words)) ++ replicate (16 - length (take n (drop a words))) 0 =
+    c.low_bytes-bytes.ensures ∙ ap (λ (ws : List ℤ). map low_byte ws ++ replicate (16 - length ws) 0) spanned in
+    c.new.ensures ∙ ap (take c.from-2.result) kept ∙ ap (λ k. take k (map low_byte (take n (drop a words)) ++ replicate (16 - length (take n (drop a words))) 0)) c.from-2.ensures
+    ∙ span_bytes low_byte a n words refl c.requires.few c.requires.within c.self.invariant.0
+    ∙ ap (λ (ws : List ℤ). map low_byte (take n (drop a ws))) c.self.view_is
