@@ -1,6 +1,9 @@
--- Plain instructions, one after another, are steps that show nothing.
-use Rattle.std.proofs.Common.{◌≡◌, ◌≢◌, ◌⊎◌, ⊎_elim, ◌==◌, ℕ, zero, suc, ◌+◌, true, false, cond, refl, ap, sym, ◌∙◌, arith, subst, List, [], ◌∷◌, append-nil, Some, None, option_map, option_and_then, is_some, ℤ}
+-- Instructions that are plain or give a note, one after another, are steps.
+use Rattle.std.proofs.Common.{◌≡◌, ◌≢◌, ◌==◌, ℕ, zero, suc, ◌+◌, ◌-◌, ◌≤◌, length, true, false, cond, refl, ap, sym, ◌∙◌, arith, subst, List, [], ◌∷◌, append-nil, Some, None, option_map, option_and_then, is_some, ℤ}
 use Rattle.std.specs.Prelude.{replicate}
+use Rattle.std.proofs.lemmas.List.{length-replicate, replicate-append-replicate}
+use Rattle.posix.specs.declared.event.Event.{Event}
+use Rattle.posix.specs.declared.instr.Instr.{Instr}
 use Rattle.posix.specs.declared.instr.Trap.{Trap}
 use Rattle.posix.specs.declared.instr.Trap.TheVariants as trap
 use Rattle.posix.specs.declared.call.Call.{Call}
@@ -26,10 +29,13 @@ use Rattle.proctable.specs.declared.facts.Facts.{Facts}
 use Rattle.proctable.specs.Body.{facts_of}
 use Rattle.umach.specs.Bursts.{Burst, then_rest, exec_until}
 use Rattle.umach.proofs.BurstLemmas.{stops_at}
-use Rattle.kernel.specs.Steps.{Bursts, ComesTo, shown, note_of}
+use Rattle.life.specs.declared.noting.Note.{Note}
+use Rattle.life.specs.Noting.{Noting, then_note, most_notes, noting}
+use Rattle.kernel.specs.Steps.{Bursts, ComesTo, noted_lines, ran_of}
 use Rattle.calls.proofs.CallLemmas.{same_outcome}
 use Rattle.calls.proofs.ChosenLemmas.{changed_there, act_runs, no_kill_chosen}
 use Rattle.kernel.proofs.PlainLemmas.{plain_step, none_of}
+use Rattle.kernel.proofs.RunLemmas.{runs_then}
 
 -- p is current, and about to run an instruction
 pub record IsReady (s : State) (p : ℕ) (me : Process) : Type 0 where
@@ -112,7 +118,21 @@ ran_note s p me z r is =
     plain_step s p me c (Noted p z ∷ []) r.going r.rising r.settled r.place r.now r.here r.free r.none
     (ap (after_trap true s me c) is ∙ same_outcome (change s me.pid (set_cpu c)) (change s p (set_cpu c)) (Noted me.pid z ∷ []) (Noted p z ∷ []) (ap (λ n. change s n (set_cpu c)) named) (ap (λ n. Noted n z ∷ []) named))
 
--- ---- bursts
+-- ---- instructions up to one that isn't plain
+
+-- what the instruction shows that isn't plain: a note, as a call and a fault are left to a step of their own
+abbrev pub shown : ℕ → Trap → List Entry
+shown p trap.Next = []
+shown p (trap.Note z) = Noted p z ∷ []
+shown p (trap.Call call) = []
+shown p (trap.Fault sig) = []
+
+-- So many steps lead from old to new, of which the last alone may show something.
+pub record Segment (old : State) (count : ℕ) (entries : List Entry) (new : State) : Type 0 where
+  pub runs : (k : ℕ) → RunsFrom (k + 1) old (replicate count Step) (numbered (k + count) entries) new
+  pub births : new.births ≡ old.births
+  pub ticks : new.ticks ≡ old.ticks
+  pub settled : IsSettled new
 
 -- how many events they are
 abbrev pub given : ℕ → Trap → ℕ
@@ -121,12 +141,6 @@ given n (trap.Note z) = n + 1
 given n (trap.Call call) = n
 given n (trap.Fault sig) = n
 
--- but for a note nothing is shown
-pub quiet : (t : Trap) → (t ≡ trap.Next) ⊎ (((x : Call) × (t ≡ trap.Call x)) ⊎ ((x : ℕ) × (t ≡ trap.Fault x))) → (n p : ℕ) → (n ≡ given n t) × ([] ≡ shown p t)
-quiet t h n p =
-    ⊎_elim (λ e. (sym (ap (given n) e), sym (ap (shown p) e)))
-    (λ h. ⊎_elim (λ e. (sym (ap (given n) e.1), sym (ap (shown p) e.1))) (λ e. (sym (ap (given n) e.1), sym (ap (shown p) e.1))) h) h
-
 given_more : (n : ℕ) (t : Trap) → given (n + 1) t ≡ given n t + 1
 given_more n trap.Next = refl
 given_more n (trap.Note z) = refl
@@ -134,7 +148,7 @@ given_more n (trap.Call call) = refl
 given_more n (trap.Fault sig) = refl
 
 -- no events
-pub none_given : (s : State) (es : List Entry) → es ≡ [] → IsSettled s → Bursts s 0 es s
+pub none_given : (s : State) (es : List Entry) → es ≡ [] → IsSettled s → Segment s 0 es s
 none_given s es none settled = record {
   runs = λ k. (ap (numbered (k + 0)) none, refl);
   births = refl;
@@ -143,7 +157,7 @@ none_given s es none settled = record {
 }
 
 -- a step before others
-one_before : (s t u : State) (n : ℕ) (es : List Entry) → IsStep s Step [] t → t.births ≡ s.births → t.ticks ≡ s.ticks → Bursts t n es u → Bursts s (n + 1) es u
+one_before : (s t u : State) (n : ℕ) (es : List Entry) → IsStep s Step [] t → t.births ≡ s.births → t.ticks ≡ s.ticks → Segment t n es u → Segment s (n + 1) es u
 one_before s t u n es step births ticks b =
     let count : n + 1 ≡ suc n = omega arith in
     record {
@@ -157,7 +171,7 @@ one_before s t u n es step births ticks b =
     }
 
 -- a step that may show something
-one_step : (s t : State) (es : List Entry) → s.halted ≡ false → IsStep s Step es t → t.births ≡ s.births → t.ticks ≡ s.ticks → Bursts s 1 es t
+one_step : (s t : State) (es : List Entry) → s.halted ≡ false → IsStep s Step es t → t.births ≡ s.births → t.ticks ≡ s.ticks → Segment s 1 es t
 one_step s t es going step births ticks = record {
   runs = λ k. (t, es, [], step, sym (append-nil (numbered (k + 1) es)), (refl, refl));
   births = births;
@@ -168,25 +182,25 @@ one_step s t es going step births ticks = record {
 -- what the first instruction comes to, and then the rest
 by_trap : (s : State) (p : ℕ) (me : Process) → IsReady s p me → (t : Trap) → (exec_one (code_of s me) me.cpu).trap ≡ t → (rest : Burst)
     → (IsReady (change s p (set_cpu (exec_one (code_of s me) me.cpu).cpu)) p (set_cpu (exec_one (code_of s me) me.cpu).cpu me)
-    → Bursts (change s p (set_cpu (exec_one (code_of s me) me.cpu).cpu)) (given rest.count rest.trap) (shown p rest.trap) (change (change s p (set_cpu (exec_one (code_of s me) me.cpu).cpu)) p (set_cpu rest.cpu)))
-    → (b : Burst) → b ≡ then_rest t me.cpu (exec_one (code_of s me) me.cpu).cpu rest → Bursts s (given b.count b.trap) (shown p b.trap) (change s p (set_cpu b.cpu))
+    → Segment (change s p (set_cpu (exec_one (code_of s me) me.cpu).cpu)) (given rest.count rest.trap) (shown p rest.trap) (change (change s p (set_cpu (exec_one (code_of s me) me.cpu).cpu)) p (set_cpu rest.cpu)))
+    → (b : Burst) → b ≡ then_rest t me.cpu (exec_one (code_of s me) me.cpu).cpu rest → Segment s (given b.count b.trap) (shown p b.trap) (change s p (set_cpu b.cpu))
 by_trap s p me r trap.Next is rest more b e =
     let c = (exec_one (code_of s me) me.cpu).cpu in
     let step = ran_plain s p me r is in
-    subst (λ (x : Burst). Bursts s (given x.count x.trap) (shown p x.trap) (change s p (set_cpu x.cpu))) (sym e)
-    (subst (λ (n : ℕ). Bursts s n (shown p rest.trap) (change s p (set_cpu rest.cpu))) (sym (given_more rest.count rest.trap))
+    subst (λ (x : Burst). Segment s (given x.count x.trap) (shown p x.trap) (change s p (set_cpu x.cpu))) (sym e)
+    (subst (λ (n : ℕ). Segment s n (shown p rest.trap) (change s p (set_cpu rest.cpu))) (sym (given_more rest.count rest.trap))
     (one_before s (change s p (set_cpu c)) (change s p (set_cpu rest.cpu)) (given rest.count rest.trap) (shown p rest.trap) step refl refl
-    (subst (Bursts (change s p (set_cpu c)) (given rest.count rest.trap) (shown p rest.trap)) (last_cpu s p c rest.cpu) (more (stays_ready s p me c r (next_settled s (change s p (set_cpu c)) Step [] step r.going))))))
+    (subst (Segment (change s p (set_cpu c)) (given rest.count rest.trap) (shown p rest.trap)) (last_cpu s p c rest.cpu) (more (stays_ready s p me c r (next_settled s (change s p (set_cpu c)) Step [] step r.going))))))
 by_trap s p me r (trap.Note z) is rest more b e =
     let c = (exec_one (code_of s me) me.cpu).cpu in
-    subst (λ (x : Burst). Bursts s (given x.count x.trap) (shown p x.trap) (change s p (set_cpu x.cpu))) (sym e)
+    subst (λ (x : Burst). Segment s (given x.count x.trap) (shown p x.trap) (change s p (set_cpu x.cpu))) (sym e)
     (one_step s (change s p (set_cpu c)) (Noted p z ∷ []) r.going (ran_note s p me z r is) refl refl)
 by_trap s p me r (trap.Call call) is rest more b e =
-    subst (λ (x : Burst). Bursts s (given x.count x.trap) (shown p x.trap) (change s p (set_cpu x.cpu))) (sym e)
-    (subst (Bursts s 0 []) (sym (same_cpu s p me r)) (none_given s [] refl r.settled))
+    subst (λ (x : Burst). Segment s (given x.count x.trap) (shown p x.trap) (change s p (set_cpu x.cpu))) (sym e)
+    (subst (Segment s 0 []) (sym (same_cpu s p me r)) (none_given s [] refl r.settled))
 by_trap s p me r (trap.Fault sig) is rest more b e =
-    subst (λ (x : Burst). Bursts s (given x.count x.trap) (shown p x.trap) (change s p (set_cpu x.cpu))) (sym e)
-    (subst (Bursts s 0 []) (sym (same_cpu s p me r)) (none_given s [] refl r.settled))
+    subst (λ (x : Burst). Segment s (given x.count x.trap) (shown p x.trap) (change s p (set_cpu x.cpu))) (sym e)
+    (subst (Segment s 0 []) (sym (same_cpu s p me r)) (none_given s [] refl r.settled))
 
 rest_of : (s : State) (p : ℕ) (me : Process) (c : Cpu) (most : ℕ) → exec_until (code_of (change s p (set_cpu c)) (set_cpu c me)) most (set_cpu c me).cpu ≡ exec_until (code_of s me) most c
 unfolding set_cpu
@@ -194,11 +208,11 @@ rest_of s p me c most = refl
 
 -- instructions that are run while each is plain, and perhaps one that gives a note, are these events
 pub burst_runs : (most : ℕ) (s : State) (p : ℕ) (me : Process) → IsReady s p me → (b : Burst) → b ≡ exec_until (code_of s me) most me.cpu
-    → Bursts s (given b.count b.trap) (shown p b.trap) (change s p (set_cpu b.cpu))
+    → Segment s (given b.count b.trap) (shown p b.trap) (change s p (set_cpu b.cpu))
 unfolding exec_until
 burst_runs zero s p me r b e =
-    subst (λ (x : Burst). Bursts s (given x.count x.trap) (shown p x.trap) (change s p (set_cpu x.cpu))) (sym e)
-    (subst (Bursts s 0 []) (sym (same_cpu s p me r)) (none_given s [] refl r.settled))
+    subst (λ (x : Burst). Segment s (given x.count x.trap) (shown p x.trap) (change s p (set_cpu x.cpu))) (sym e)
+    (subst (Segment s 0 []) (sym (same_cpu s p me r)) (none_given s [] refl r.settled))
 burst_runs (suc most) s p me r b e =
     let c = (exec_one (code_of s me) me.cpu).cpu in
     by_trap s p me r (exec_one (code_of s me) me.cpu).trap refl (exec_until (code_of s me) most c)
@@ -235,43 +249,93 @@ readies s p f going settled regular now read none free =
       };
     }
 
-burst_is : (s x : State) (p : ℕ) (me : Process) → IsReady s p me → x ≡ s → (most n : ℕ) (t : Trap) (new : State)
-    → ((r : Process) → process x p ≡ Some r → n ≡ (exec_until (code_of x r) most r.cpu).count)
-    → ((r : Process) → process x p ≡ Some r → t ≡ (exec_until (code_of x r) most r.cpu).trap)
-    → ((r : Process) → process x p ≡ Some r → new ≡ change x p (set_cpu (exec_until (code_of x r) most r.cpu).cpu))
-    → Bursts s (given n t) (shown p t) new
-burst_is s x p me r same most n t new count trap_is state =
-    let e = ap (λ (y : State). process y p) same ∙ r.here in
-    let c = count me e ∙ ap (λ (y : State). (exec_until (code_of y me) most me.cpu).count) same in
-    let a = trap_is me e ∙ ap (λ (y : State). (exec_until (code_of y me) most me.cpu).trap) same in
-    let b = state me e ∙ ap (λ (y : State). change y p (set_cpu (exec_until (code_of y me) most me.cpu).cpu)) same in
-    subst (Bursts s (given n t) (shown p t)) (sym b)
-    (subst (λ (m : ℕ). Bursts s (given m t) (shown p t) (change s p (set_cpu (exec_until (code_of s me) most me.cpu).cpu))) (sym c)
-    (subst (λ (u : Trap). Bursts s (given (exec_until (code_of s me) most me.cpu).count u) (shown p u) (change s p (set_cpu (exec_until (code_of s me) most me.cpu).cpu))) (sym a)
-    (burst_runs most s p me r (exec_until (code_of s me) most me.cpu) refl)))
+-- ---- with their notes
 
--- what a burst shows is added to no entries
-pub burst_shows : (s x : State) (p : ℕ) → Readies s p → x ≡ s → (most n : ℕ) (t : Trap) (new : State) (m : ℕ) (es : List Entry)
-    → ((r : Process) → process x p ≡ Some r → n ≡ (exec_until (code_of x r) most r.cpu).count)
-    → ((r : Process) → process x p ≡ Some r → t ≡ (exec_until (code_of x r) most r.cpu).trap)
-    → ((r : Process) → process x p ≡ Some r → new ≡ change x p (set_cpu (exec_until (code_of x r) most r.cpu).cpu))
-    → m ≡ given n t → es ≡ shown p t → Bursts s m es new
-burst_shows s x p r same most n t new m es count trap_is state number list =
-    subst (λ (k : ℕ). Bursts s k es new) (sym number)
-    (subst (λ (l : List Entry). Bursts s (given n t) l new) (sym list) (burst_is s x p r.me r.ready same most n t new count trap_is state))
+-- no steps
+pub none_run : (s : State) (before p : ℕ) (ns : List Note) → ns ≡ [] → IsSettled s → Bursts s before before p ns s
+none_run s before p ns none settled =
+    let zero : before - before ≡ 0 = omega arith in
+    record {
+      runs = subst (λ (n : ℕ). RunsFrom (before + 1) s (replicate n Step) (noted_lines p ns) s) (sym zero) (ap (noted_lines p) none, refl);
+      births = refl;
+      ticks = refl;
+      settled = settled;
+    }
 
--- it is the note that the definitions show
-pub note_is : (s x : State) (p : ℕ) → Readies s p → x ≡ s → (most : ℕ) (t : Trap) (es : List Entry) → ((r : Process) → process x p ≡ Some r → t ≡ (exec_until (code_of x r) most r.cpu).trap)
-    → es ≡ shown p t → es ≡ note_of s most (current_process s)
-note_is s x p r same most t es trap_is list =
-    let me = r.me in
-    let ready = r.ready in
-    let here = trap_is me (ap (λ (y : State). process y p) same ∙ ready.here) ∙ ap (λ (y : State). (exec_until (code_of y me) most me.cpu).trap) same in
-    let free : is_some me.blocked ≡ false = ap is_some ready.free in
-    let none : is_some (chosen me.life me.signals) ≡ false = ap is_some ready.none in
-    let found : current_process s ≡ Some me = ap (option_and_then (process s)) ready.now ∙ ready.here in
-    let shows : note_of s most (Some me) ≡ shown p (exec_until (code_of s me) most me.cpu).trap = rw (none, free) (ap (λ n. shown n (exec_until (code_of s me) most me.cpu).trap) (pid_looked p s.processes me ready.here)) in
-    list ∙ ap (shown p) here ∙ sym (ap (note_of s most) found ∙ shows)
+-- some that show nothing
+quiet_run : (s t : State) (before n p : ℕ) → Segment s n [] t → Bursts s before (before + n) p [] t
+quiet_run s t before n p g =
+    let count : n ≡ (before + n) - before = omega arith in
+    record {
+      runs = subst (λ (m : ℕ). RunsFrom (before + 1) s (replicate m Step) [] t) count (g.runs before);
+      births = g.births;
+      ticks = g.ticks;
+      settled = g.settled;
+    }
+
+-- some with a note, and the rest
+noted_run : (s t u : State) (before n last p : ℕ) (z : ℤ) (ns : List Note) → (before + n) + 1 ≤ last → Segment s (n + 1) (Noted p z ∷ []) t → Bursts t ((before + n) + 1) last p ns u
+    → Bursts s before last p (record { number = (before + n) + 1; value = z } ∷ ns) u
+noted_run s t u before n last p z ns fits g b =
+    let at : (before + 1) + length (replicate (n + 1) Step) ≡ ((before + n) + 1) + 1 = omega (arith, length-replicate (n + 1) Step) in
+    let number : before + (n + 1) ≡ (before + n) + 1 = omega arith in
+    let count : (n + 1) + (last - ((before + n) + 1)) ≡ last - before = omega (arith, fits) in
+    let first : RunsFrom (before + 1) s (replicate (n + 1) Step) (record { event = (before + n) + 1; entry = Noted p z } ∷ []) t =
+    subst (λ (m : ℕ). RunsFrom (before + 1) s (replicate (n + 1) Step) (numbered m (Noted p z ∷ [])) t) number (g.runs before) in
+    let more : RunsFrom ((before + 1) + length (replicate (n + 1) Step)) t (replicate (last - ((before + n) + 1)) Step) (noted_lines p ns) u =
+    subst (λ (m : ℕ). RunsFrom m t (replicate (last - ((before + n) + 1)) Step) (noted_lines p ns) u) (sym at) b.runs in
+    record {
+      runs = subst (λ (xs : List Event). RunsFrom (before + 1) s xs (noted_lines p (record { number = (before + n) + 1; value = z } ∷ ns)) u)
+          (replicate-append-replicate (n + 1) (last - ((before + n) + 1)) Step ∙ ap (λ (m : ℕ). replicate m Step) count)
+          (runs_then (replicate (n + 1) Step) (replicate (last - ((before + n) + 1)) Step) (before + 1) s t u _ (noted_lines p ns) first more);
+      births = b.births ∙ g.births;
+      ticks = b.ticks ∙ g.ticks;
+      settled = b.settled;
+    }
+
+-- instructions that are plain or give a note are these steps, and none goes back
+pub record NotesRun (s : State) (before p : ℕ) (n : Noting) : Type 0 where
+  pub on : before ≤ n.last
+  pub runs : Bursts s before n.last p n.notes (change s p (set_cpu n.cpu))
+
+-- one segment, and what follows it
+by_segment : (s : State) (before p : ℕ) (n : ℕ) (t : Trap) (c : Cpu) (rest : Noting) → Segment s (given n t) (shown p t) (change s p (set_cpu c))
+    → (IsSettled (change s p (set_cpu c)) → NotesRun (change s p (set_cpu c)) ((before + n) + 1) p rest) → NotesRun s before p (then_note (before + n) t c rest)
+by_segment s before p n trap.Next c rest g more = record { on = omega arith; runs = quiet_run s (change s p (set_cpu c)) before n p g }
+by_segment s before p n (trap.Note z) c rest g more =
+    let r = more g.settled in
+    record {
+      on = omega (arith, r.on);
+      runs = subst (Bursts s before rest.last p (record { number = (before + n) + 1; value = z } ∷ rest.notes)) (last_cpu s p c rest.cpu)
+          (noted_run s (change s p (set_cpu c)) (change (change s p (set_cpu c)) p (set_cpu rest.cpu)) before n rest.last p z rest.notes r.on g r.runs);
+    }
+by_segment s before p n (trap.Call call) c rest g more = record { on = omega arith; runs = quiet_run s (change s p (set_cpu c)) before n p g }
+by_segment s before p n (trap.Fault sig) c rest g more = record { on = omega arith; runs = quiet_run s (change s p (set_cpu c)) before n p g }
+
+notes_of : (s : State) (p : ℕ) (me : Process) (c : Cpu) (room before last : ℕ) → noting (code_of (change s p (set_cpu c)) (set_cpu c me)) room before last (set_cpu c me).cpu ≡ noting (code_of s me) room before last c
+unfolding set_cpu
+notes_of s p me c room before last = refl
+
+notes_run : (room before last : ℕ) (s : State) (p : ℕ) (me : Process) → IsReady s p me → NotesRun s before p (noting (code_of s me) room before last me.cpu)
+unfolding noting
+notes_run zero before last s p me r = record {
+  on = omega arith;
+  runs = subst (Bursts s before before p []) (sym (same_cpu s p me r)) (none_run s before p [] refl r.settled);
+}
+notes_run (suc room) before last s p me r =
+    let b = exec_until (code_of s me) (last - before) me.cpu in
+    by_segment s before p b.count b.trap b.cpu (noting (code_of s me) room ((before + b.count) + 1) last b.cpu) (burst_runs (last - before) s p me r b refl)
+    (λ settled. subst (NotesRun (change s p (set_cpu b.cpu)) ((before + b.count) + 1) p) (notes_of s p me b.cpu room ((before + b.count) + 1) last)
+    (notes_run room ((before + b.count) + 1) last (change s p (set_cpu b.cpu)) p (set_cpu b.cpu me) (stays_ready s p me b.cpu r settled)))
+
+-- who is current and ready runs these
+ran_is : (s : State) (p : ℕ) (me : Process) (before last : ℕ) → IsReady s p me → (n : Noting) → n ≡ noting (code_of s me) most_notes before last me.cpu
+    → ran_of s before last (current_process s) ≡ record { last = n.last; notes = n.notes; trap = n.trap }
+ran_is s p me before last r n is =
+    let free : is_some me.blocked ≡ false = ap is_some r.free in
+    let none : is_some (chosen me.life me.signals) ≡ false = ap is_some r.none in
+    let found : current_process s ≡ Some me = ap (option_and_then (process s)) r.now ∙ r.here in
+    ap (ran_of s before last) found ∙ rw (none, free) (ap (λ (m : Noting). record { last = m.last; notes = m.notes; trap = m.trap }) (sym is))
 
 -- ---- the call behind a burst
 
@@ -290,17 +354,61 @@ comes s p me call r is =
           (ap (step granted s) found ∙ act_runs granted s me (no_kill_chosen me.life me.signals other) r.free r.none ∙ ap (after_trap granted s me (exec_one (code_of s me) me.cpu).cpu) is);
     }
 
--- where a burst ends at a call
-pub burst_calls : (s x : State) (p : ℕ) → Readies s p → x ≡ s → (most : ℕ) (t : Trap) (new : State) (call : Call)
-    → ((r : Process) → process x p ≡ Some r → t ≡ (exec_until (code_of x r) most r.cpu).trap)
-    → ((r : Process) → process x p ≡ Some r → new ≡ change x p (set_cpu (exec_until (code_of x r) most r.cpu).cpu))
-    → IsSettled new → t ≡ trap.Call call → ComesTo new p call
+-- where such instructions end at a call
+then_calls : (program : List Instr) (call : Call) (done : ℕ) (t : Trap) (c : Cpu) (rest : Noting) → (t ≡ trap.Call call → (exec_one program c).trap ≡ trap.Call call)
+    → (rest.trap ≡ trap.Call call → (exec_one program rest.cpu).trap ≡ trap.Call call) → (then_note done t c rest).trap ≡ trap.Call call
+    → (exec_one program (then_note done t c rest).cpu).trap ≡ trap.Call call
+then_calls program call done trap.Next c rest here more e = absurd (cc)
+then_calls program call done (trap.Note z) c rest here more e = more e
+then_calls program call done (trap.Call other) c rest here more e = here e
+then_calls program call done (trap.Fault sig) c rest here more e = absurd (cc)
+
+notes_call : (program : List Instr) (call : Call) (room before last : ℕ) (c : Cpu) → (noting program room before last c).trap ≡ trap.Call call
+    → (exec_one program (noting program room before last c).cpu).trap ≡ trap.Call call
+unfolding noting
+notes_call program call zero before last c e = absurd (cc)
+notes_call program call (suc room) before last c e =
+    let b = exec_until program (last - before) c in
+    then_calls program call (before + b.count) b.trap b.cpu (noting program room ((before + b.count) + 1) last b.cpu) (stops_at program call (last - before) c)
+    (notes_call program call room ((before + b.count) + 1) last b.cpu) e
+
+-- ---- what the code found
+
+-- the steps, that they are those of the definitions, and the call behind them
+pub record Shows (s : State) (p before last n : ℕ) (ns : List Note) (t : Trap) (new : State) : Type 0 where
+  pub runs : Bursts s before n p ns new
+  pub ran : record { last = n; notes = ns; trap = t } ≡ ran_of s before last (current_process s)
+  pub call : (call : Call) → t ≡ trap.Call call → ComesTo new p call
+
+shows_by : (s : State) (p : ℕ) (me : Process) (before last : ℕ) → IsReady s p me → (n : Noting) → n ≡ noting (code_of s me) most_notes before last me.cpu
+    → Shows s p before last n.last n.notes n.trap (change s p (set_cpu n.cpu))
 unfolding set_cpu
-burst_calls s x p r same most t new call trap_is state settled is =
+shows_by s p me before last r n is =
+    let ran = subst (NotesRun s before p) (sym is) (notes_run most_notes before last s p me r) in
+    record {
+      runs = ran.runs;
+      ran = sym (ran_is s p me before last r n is);
+      call = λ call e.
+          let ends : (exec_one (code_of s me) n.cpu).trap ≡ trap.Call call = subst (λ (m : Noting). m.trap ≡ trap.Call call → (exec_one (code_of s me) m.cpu).trap ≡ trap.Call call) (sym is)
+          (notes_call (code_of s me) call most_notes before last me.cpu) e in
+          comes (change s p (set_cpu n.cpu)) p (set_cpu n.cpu me) call (stays_ready s p me n.cpu r ran.runs.settled) ends;
+    }
+
+pub shows : (s x : State) (p : ℕ) → Readies s p → x ≡ s → (before last n : ℕ) (ns : List Note) (t : Trap) (new : State)
+    → ((r : Process) → process x p ≡ Some r → n ≡ (noting (code_of x r) most_notes before last r.cpu).last)
+    → ((r : Process) → process x p ≡ Some r → ns ≡ (noting (code_of x r) most_notes before last r.cpu).notes)
+    → ((r : Process) → process x p ≡ Some r → t ≡ (noting (code_of x r) most_notes before last r.cpu).trap)
+    → ((r : Process) → process x p ≡ Some r → new ≡ change x p (set_cpu (noting (code_of x r) most_notes before last r.cpu).cpu))
+    → Shows s p before last n ns t new
+shows s x p r same before last n ns t new last_is notes_are trap_is state =
     let me = r.me in
     let e = ap (λ (y : State). process y p) same ∙ r.ready.here in
-    let cpu = (exec_until (code_of s me) most me.cpu).cpu in
-    let ends = sym (trap_is me e ∙ ap (λ (y : State). (exec_until (code_of y me) most me.cpu).trap) same) ∙ is in
-    let now : new ≡ change s p (set_cpu cpu) = state me e ∙ ap (λ (y : State). change y p (set_cpu (exec_until (code_of y me) most me.cpu).cpu)) same in
-    subst (λ (y : State). ComesTo y p call) (sym now)
-    (comes (change s p (set_cpu cpu)) p (set_cpu cpu me) call (stays_ready s p me cpu r.ready (subst IsSettled now settled)) (stops_at (code_of s me) call most me.cpu ends))
+    let m = noting (code_of s me) most_notes before last me.cpu in
+    let l : n ≡ m.last = last_is me e ∙ ap (λ (y : State). (noting (code_of y me) most_notes before last me.cpu).last) same in
+    let k : ns ≡ m.notes = notes_are me e ∙ ap (λ (y : State). (noting (code_of y me) most_notes before last me.cpu).notes) same in
+    let a : t ≡ m.trap = trap_is me e ∙ ap (λ (y : State). (noting (code_of y me) most_notes before last me.cpu).trap) same in
+    let b : new ≡ change s p (set_cpu m.cpu) = state me e ∙ ap (λ (y : State). change y p (set_cpu (noting (code_of y me) most_notes before last me.cpu).cpu)) same in
+    subst (λ (i : ℕ). Shows s p before last i ns t new) (sym l)
+    (subst (λ (i : List Note). Shows s p before last m.last i t new) (sym k)
+    (subst (λ (i : Trap). Shows s p before last m.last m.notes i new) (sym a)
+    (subst (Shows s p before last m.last m.notes m.trap) (sym b) (shows_by s p me before last r.ready m refl))))

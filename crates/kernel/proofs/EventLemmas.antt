@@ -1,16 +1,19 @@
 -- Counted runs of events, one after another.
-use Rattle.std.proofs.Common.{◌≡◌, ℕ, ◌+◌, ◌*◌, ◌<◌, ◌≤◌, List, [], ◌∷◌, ◌++◌, length, take, drop, ap, sym, ◌∙◌, append-nil, length-append, get_or, refl, subst, arith}
+use Rattle.std.proofs.Common.{◌≡◌, ◌≢◌, ℕ, true, false, cond, ◌+◌, ◌*◌, ◌<◌, ◌≤◌, List, [], ◌∷◌, ◌++◌, length, take, drop, ap, sym, ◌∙◌, append-nil, length-append, get_or, refl, subst, arith}
 use Rattle.std.specs.Prelude.{replicate}
 use Rattle.std.proofs.lemmas.List.{length-replicate, replicate-append-replicate, take_more, take-append-drop}
 use Rattle.std.proofs.lemmas.List.Concat.{flat_map-append}
+use Rattle.std.proofs.lemmas.Bool.{eqb-true}
 use Rattle.posix.specs.declared.event.Event.{Event}
-use Rattle.posix.specs.declared.event.Event.TheVariants.{Step, Tick, Key}
+use Rattle.posix.specs.declared.event.Event.TheVariants.{Step}
+use Rattle.posix.specs.declared.instr.Trap.{Trap}
+use Rattle.posix.specs.declared.instr.Trap.TheVariants as trap
 use Rattle.posix.specs.declared.entry.Entry.{Entry}
-use Rattle.posix.specs.States.{State}
+use Rattle.posix.specs.States.{State, current_process}
 use Rattle.posix.specs.Outcomes.{Outcome}
 use Rattle.posix.specs.Step.{IsStep}
 use Rattle.posix.proofs.CountLemmas.{Counts, counts_next}
-use Rattle.kernel.specs.Steps.{given}
+use Rattle.kernel.specs.Steps.{given, is_followed, then_step, ran_of}
 use Rattle.text.specs.declared.event_list.EventRun.{EventRun}
 use Rattle.text.specs.EventLists.{expanded, run_events}
 
@@ -53,12 +56,6 @@ events_more rs d i old now new lt at more =
     let step = ap length (expanded_more rs i d lt) in
     omega (arith, step, len)
 
--- at least one event is given at once, and no more than wanted
-pub given_within : (x : Event) (most : ℕ) (s : State) → 0 < most → (0 < given x most s) × (given x most s ≤ most)
-given_within Step most s some = (omega (arith, some), omega arith)
-given_within Tick most s some = (omega arith, omega (arith, some))
-given_within (Key console byte) most s some = (omega arith, omega (arith, some))
-
 -- there are no more births and ticks than events, after one more, too
 pub counts_on : (s t : State) (x : Event) (es : List Entry) (n : ℕ) → IsStep s x es t → s.births ≤ n + 1 → s.ticks ≤ n → (t.births ≤ (n + 1) + 1) × (t.ticks ≤ n + 1)
 counts_on s t x es n step births ticks =
@@ -66,3 +63,20 @@ counts_on s t x es n step births ticks =
     let b = c.births in
     let k = c.ticks in
     (omega (arith, b, births), omega (arith, k, ticks))
+
+-- ---- a step of its own behind others
+
+-- there is one more where one follows
+pub then_on : (s : State) (before last n : ℕ) (t : Trap) → s.halted ≡ false → n ≡ (ran_of s before last (current_process s)).last → t ≡ (ran_of s before last (current_process s)).trap
+    → is_followed before n t ≡ true → given Step before last s ≡ n + 1
+then_on s before last n t going l a follows =
+    let r = ran_of s before last (current_process s) in
+    let here : is_followed before r.last r.trap ≡ true = sym (ap (λ (m : ℕ). is_followed before m t) l ∙ ap (is_followed before r.last) a) ∙ follows in
+    ap (λ b. cond b (before + 1) (then_step before r)) going ∙ ap (λ b. cond b (r.last + 1) r.last) here ∙ ap (λ (m : ℕ). m + 1) (sym l)
+
+-- and it is within the bound
+pub followed_short : (before last n : ℕ) (t : Trap) → before < last → is_followed before n t ≡ true → (t ≢ trap.Next → n < last) → n < last
+followed_short before last n trap.Next some follows short = omega (arith, some, eqb-true n before follows)
+followed_short before last n (trap.Note z) some follows short = short (λ e. absurd (cc))
+followed_short before last n (trap.Call call) some follows short = short (λ e. absurd (cc))
+followed_short before last n (trap.Fault sig) some follows short = short (λ e. absurd (cc))

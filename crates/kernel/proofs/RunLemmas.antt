@@ -1,8 +1,8 @@
 -- How runs of the machine are joined, and what is written of them.
-use Rattle.std.proofs.Common.{◌≡◌, ℕ, ◌+◌, ◌<◌, ◌≤◌, List, [], ◌∷◌, ◌++◌, length, take, drop, refl, ap, sym, subst, ◌∙◌, append_assoc, append-nil, add-zero, length-append, get_or, arith, cond, Bool, true, false}
-use Rattle.std.specs.Prelude.{replicate}
+use Rattle.std.proofs.Common.{◌≡◌, ℕ, ◌+◌, ◌-◌, ◌<◌, ◌≤◌, List, [], ◌∷◌, ◌++◌, length, take, drop, refl, ap, sym, subst, ◌∙◌, append_assoc, append-nil, add-zero, length-append, get_or, arith, cond, Bool, true, false}
+use Rattle.std.specs.Prelude.{map, replicate}
 use Rattle.std.specs.Int.{from_bool}
-use Rattle.std.proofs.lemmas.List.{take_more, take-append-drop, map-append, length-map, length-replicate, nil_from_length, replicate_more}
+use Rattle.std.proofs.lemmas.List.{take_more, take-append-drop, map-append, length-map, length-replicate, replicate_more}
 use Rattle.std.proofs.lemmas.List.Concat.{flat_map-append}
 use Rattle.std.proofs.lemmas.List.Sums.{sum_by-append, count_by-le-length}
 use Rattle.posix.specs.declared.event.Event.{Event}
@@ -12,16 +12,17 @@ use Rattle.posix.specs.Entries.{Line, line, numbered, reported, reports_end}
 use Rattle.posix.specs.States.{State}
 use Rattle.posix.specs.Step.{IsStep, next}
 use Rattle.posix.specs.Runs.{RunsFrom}
-use Rattle.posix.specs.Printing.{print, print_line, printed}
+use Rattle.posix.specs.Printing.{print, print_line}
 use Rattle.sink.specs.Sinks.{Seen, TakesAll, Gathers, BreaksOff}
-use Rattle.kernel.specs.Steps.{Bursts}
+use Rattle.life.specs.declared.noting.Note.{Note}
+use Rattle.kernel.specs.Steps.{Bursts, noted_lines}
 use Rattle.kernel.specs.Progress.{Writes, Stops, WritesTrace, BreaksTrace}
 use Rattle.sink.proofs.SinkLemmas.{gathers_then, gathers_break, break_on, flush_takes, flush_breaks}
 
 -- ---- runs
 
 -- a run goes on where another ended
-runs_then : (xs ys : List Event) (k : ℕ) (a b c : State) (ls ms : List Line) →
+pub runs_then : (xs ys : List Event) (k : ℕ) (a b c : State) (ls ms : List Line) →
     RunsFrom k a xs ls b → RunsFrom (k + length xs) b ys ms c → RunsFrom k a (xs ++ ys) (ls ++ ms) c
 runs_then [] ys k a b c ls ms (none, same) q =
     subst (λ (l : List Line). RunsFrom k a ys (l ++ ms) c) (sym none) (subst (λ (s : State). RunsFrom k s ys ms c) same (subst (λ (n : ℕ). RunsFrom n b ys ms c) (add-zero k) q))
@@ -99,44 +100,39 @@ stops_next k j xs ys more zs s m a b c p q g at all w v =
     subst (λ (l : List Event). Stops k s l a p c) all
     (stops_on k (xs ++ ys) more s a c p (writes_stop k xs ys s m a b c p q g w (subst (λ (n : ℕ). Stops n m ys b q c) at v)))
 
--- ---- the entries of one event
+-- ---- the lines of some things, one each
 
--- entries after entries print as the one text after the other
-numbered_then : (k : ℕ) (xs ys : List Entry) → print (numbered k (xs ++ ys)) ≡ print (numbered k xs) ++ print (numbered k ys)
-numbered_then k xs ys = ap print (map-append (line k) xs ys) ∙ print_then (numbered k xs) (numbered k ys)
+-- those up to place i print as those before it, and then the one at i
+lines_more : {A : Type 0} (f : A → Line) (xs : List A) (i : ℕ) (d : A) → i < length xs → print (map f (take (i + 1) xs)) ≡ print (map f (take i xs)) ++ print_line (f (get_or xs i d))
+lines_more f xs i d lt =
+    ap (λ l. print (map f l)) (take_more xs i d lt) ∙ ap print (map-append f (take i xs) (get_or xs i d ∷ [])) ∙ print_then (map f (take i xs)) (f (get_or xs i d) ∷ [])
+    ∙ ap (λ (l : List ℕ). print (map f (take i xs)) ++ l) (append-nil (print_line (f (get_or xs i d))))
 
--- the entries up to place i print as those before it, and then the one at i
-pub entries_more : (k : ℕ) (es : List Entry) (i : ℕ) (d : Entry) → i < length es →
-    print (numbered k (take (i + 1) es)) ≡ print (numbered k (take i es)) ++ printed k (get_or es i d)
-entries_more k es i d lt =
-    ap (λ (l : List Entry). print (numbered k l)) (take_more es i d lt) ∙ numbered_then k (take i es) (get_or es i d ∷ [])
-    ∙ ap (λ (l : List ℕ). print (numbered k (take i es)) ++ l) (append-nil (printed k (get_or es i d)))
+-- all print as those before place i, the one at i and those after it
+lines_split : {A : Type 0} (f : A → Line) (xs : List A) (i : ℕ) (d : A) → i < length xs
+    → print (map f xs) ≡ print (map f (take i xs)) ++ (print_line (f (get_or xs i d)) ++ print (map f (drop (i + 1) xs)))
+lines_split f xs i d lt =
+    ap (λ l. print (map f l)) (sym (take-append-drop (i + 1) xs)) ∙ ap print (map-append f (take (i + 1) xs) (drop (i + 1) xs)) ∙ print_then (map f (take (i + 1) xs)) (map f (drop (i + 1) xs))
+    ∙ ap (λ (l : List ℕ). l ++ print (map f (drop (i + 1) xs))) (lines_more f xs i d lt)
+    ∙ append_assoc (print (map f (take i xs))) (print_line (f (get_or xs i d))) (print (map f (drop (i + 1) xs)))
 
--- all entries print as those before place i, the one at i and those after it
-entries_split : (k : ℕ) (es : List Entry) (i : ℕ) (d : Entry) → i < length es →
-    print (numbered k es) ≡ print (numbered k (take i es)) ++ (printed k (get_or es i d) ++ print (numbered k (drop (i + 1) es)))
-entries_split k es i d lt =
-    ap (λ (l : List Entry). print (numbered k l)) (sym (take-append-drop (i + 1) es)) ∙ numbered_then k (take (i + 1) es) (drop (i + 1) es)
-    ∙ ap (λ (l : List ℕ). l ++ print (numbered k (drop (i + 1) es))) (entries_more k es i d lt)
-    ∙ append_assoc (print (numbered k (take i es))) (printed k (get_or es i d)) (print (numbered k (drop (i + 1) es)))
+-- the lines before place i wait, and then the one at i
+pub line_gathered : {A : Type 0} (f : A → Line) (xs : List A) (i : ℕ) (d : A) (a b c : Seen) (p q r text : List ℕ) → i < length xs → text ≡ print_line (f (get_or xs i d)) →
+    Gathers a p b q (print (map f (take i xs))) → Gathers b q c r text → Gathers a p c r (print (map f (take (i + 1) xs)))
+line_gathered f xs i d a b c p q r text lt e g h =
+    subst (Gathers a p c r) (sym (lines_more f xs i d lt))
+    (gathers_then a b c p q r (print (map f (take i xs))) (print_line (f (get_or xs i d))) g (subst (Gathers b q c r) e h))
 
--- the entries before place i wait, and then the one at i
-pub entry_gathered : (k : ℕ) (es : List Entry) (i : ℕ) (d : Entry) (a b c : Seen) (p q r text : List ℕ) → i < length es → text ≡ printed k (get_or es i d) →
-    Gathers a p b q (print (numbered k (take i es))) → Gathers b q c r text → Gathers a p c r (print (numbered k (take (i + 1) es)))
-entry_gathered k es i d a b c p q r text lt e g h =
-    subst (Gathers a p c r) (sym (entries_more k es i d lt))
-    (gathers_then a b c p q r (print (numbered k (take i es))) (printed k (get_or es i d)) g (subst (Gathers b q c r) e h))
-
--- the entries before place i wait, and the one at i breaks off
-pub entry_broken : (k : ℕ) (es : List Entry) (i : ℕ) (d : Entry) (a b c : Seen) (p q text : List ℕ) → i < length es → text ≡ printed k (get_or es i d) →
-    Gathers a p b q (print (numbered k (take i es))) → BreaksOff b c (q ++ text) → BreaksOff a c (p ++ print (numbered k es))
-entry_broken k es i d a b c p q text lt e g h =
-    let rest = print (numbered k (drop (i + 1) es)) in
-    let here : BreaksOff b c (q ++ printed k (get_or es i d)) = subst (λ (l : List ℕ). BreaksOff b c (q ++ l)) e h in
-    let all : BreaksOff b c (q ++ (printed k (get_or es i d) ++ rest)) =
-    subst (BreaksOff b c) (append_assoc q (printed k (get_or es i d)) rest) (break_on b c (q ++ printed k (get_or es i d)) rest here) in
-    subst (λ (l : List ℕ). BreaksOff a c (p ++ l)) (sym (entries_split k es i d lt))
-    (gathers_break a b c p q (print (numbered k (take i es))) (printed k (get_or es i d) ++ rest) g all)
+-- the lines before place i wait, and the one at i breaks off
+pub line_broken : {A : Type 0} (f : A → Line) (xs : List A) (i : ℕ) (d : A) (a b c : Seen) (p q text : List ℕ) → i < length xs → text ≡ print_line (f (get_or xs i d)) →
+    Gathers a p b q (print (map f (take i xs))) → BreaksOff b c (q ++ text) → BreaksOff a c (p ++ print (map f xs))
+line_broken f xs i d a b c p q text lt e g h =
+    let one = print_line (f (get_or xs i d)) in
+    let rest = print (map f (drop (i + 1) xs)) in
+    let here : BreaksOff b c (q ++ one) = subst (λ (l : List ℕ). BreaksOff b c (q ++ l)) e h in
+    let all : BreaksOff b c (q ++ (one ++ rest)) = subst (BreaksOff b c) (append_assoc q one rest) (break_on b c (q ++ one) rest here) in
+    subst (λ (l : List ℕ). BreaksOff a c (p ++ l)) (sym (lines_split f xs i d lt))
+    (gathers_break a b c p q (print (map f (take i xs))) (one ++ rest) g all)
 
 -- a Bool as a number
 one_or_none : (b : Bool) → cond b 1 0 ≡ from_bool b
@@ -160,43 +156,75 @@ ends_within k es = omega (arith, count_by-le-length (λ (l : Line). reports_end 
 same_lines : (j k : ℕ) (fs es : List Entry) → j ≡ k → fs ≡ es → numbered j fs ≡ numbered k es
 same_lines j k fs es at same = ap (λ (n : ℕ). numbered n fs) at ∙ ap (numbered k) same
 
--- an event after others that showed nothing
-pub one_after : (k e n : ℕ) (x : Event) (s m t : State) (i : ℕ) (es fs : List Entry) → RunsFrom k s (replicate n x) (numbered i fs) m → fs ≡ [] → IsStep m x es t → e ≡ k + n
-    → RunsFrom k s (replicate (n + 1) x) (numbered e es) t
-one_after k e n x s m t i es fs run none step at =
-    let quiet : RunsFrom k s (replicate n x) [] m = subst (λ (l : List Entry). RunsFrom k s (replicate n x) (numbered i l) m) none run in
-    let here : e ≡ k + length (replicate n x) = omega (arith, at, length-replicate n x) in
-    let one : RunsFrom (k + length (replicate n x)) m (x ∷ []) (numbered e es) t =
-    subst (λ (j : ℕ). RunsFrom j m (x ∷ []) (numbered e es) t) here (t, es, [], step, sym (append-nil (numbered e es)), (refl, refl)) in
-    subst (λ (l : List Event). RunsFrom k s l (numbered e es) t) (replicate_more n x) (runs_then (replicate n x) (x ∷ []) k s m t [] (numbered e es) quiet one)
+-- one event alone, which notes nothing
+pub one_event : (before e p : ℕ) (x : Event) (s t : State) (ns : List Note) (es : List Entry) → IsStep s x es t → ns ≡ [] → e ≡ before + 1
+    → RunsFrom (before + 1) s (replicate (e - before) x) (noted_lines p ns ++ numbered e es) t
+one_event before e p x s t ns es step none at =
+    let count : 1 ≡ e - before = omega (arith, at) in
+    subst (λ (n : ℕ). RunsFrom (before + 1) s (replicate n x) (noted_lines p ns ++ numbered e es) t) count
+    (subst (λ (l : List Note). RunsFrom (before + 1) s (x ∷ []) (noted_lines p l ++ numbered e es) t) (sym none)
+    (subst (λ (n : ℕ). RunsFrom (before + 1) s (x ∷ []) (numbered n es) t) (sym at) (t, es, [], step, sym (append-nil (numbered (before + 1) es)), (refl, refl))))
 
--- a step after a burst that showed nothing
-pub step_after : (k e n : ℕ) (s started m t : State) (es fs : List Entry) → Bursts started n fs m → started ≡ s → length fs ≡ 0 → IsStep m Step es t → e ≡ (k + n) + 1
-    → RunsFrom (k + 1) s (replicate (n + 1) Step) (numbered e es) t
-step_after k e n s started m t es fs b same zero step at =
-    one_after (k + 1) e n Step s m t (k + n) es fs (subst (λ (u : State). RunsFrom (k + 1) u (replicate n Step) (numbered (k + n) fs) m) same (b.runs k)) (nil_from_length fs zero) step (omega (arith, at))
+-- a burst alone
+pub burst_alone : (before n p : ℕ) (s started m : State) (ns : List Note) (es : List Entry) → Bursts started before n p ns m → started ≡ s → es ≡ []
+    → RunsFrom (before + 1) s (replicate (n - before) Step) (noted_lines p ns ++ numbered n es) m
+burst_alone before n p s started m ns es b same none =
+    subst (λ (l : List Entry). RunsFrom (before + 1) s (replicate (n - before) Step) (noted_lines p ns ++ numbered n l) m) (sym none)
+    (subst (λ (l : List Line). RunsFrom (before + 1) s (replicate (n - before) Step) l m) (sym (append-nil (noted_lines p ns)))
+    (subst (λ (u : State). RunsFrom (before + 1) u (replicate (n - before) Step) (noted_lines p ns) m) same b.runs))
 
--- what the last of some events shows is gathered
-pub some_writes : (k j e n : ℕ) (x : Event) (s t : State) (es fs : List Entry) (a b : Seen) (p q : List ℕ) (g : ℕ) → 0 < n → j ≡ e → fs ≡ es → length es ≤ 4
-    → RunsFrom k s (replicate n x) (numbered e es) t → Gathers a p b q (print (numbered j fs)) → reported (numbered j fs) ≡ g → Writes k s (replicate n x) t a p b q g
-some_writes k j e n x s t es fs a b p q g some at same few run gathered counted =
+-- a step after a burst
+pub step_after : (before n e p : ℕ) (s started m t : State) (ns : List Note) (es : List Entry) → Bursts started before n p ns m → before ≤ n → started ≡ s → IsStep m Step es t → e ≡ n + 1
+    → RunsFrom (before + 1) s (replicate (e - before) Step) (noted_lines p ns ++ numbered e es) t
+step_after before n e p s started m t ns es b on same step at =
+    let here : e ≡ (before + 1) + length (replicate (n - before) Step) = omega (arith, at, on, length-replicate (n - before) Step) in
+    let count : (n - before) + 1 ≡ e - before = omega (arith, at, on) in
+    let one : RunsFrom ((before + 1) + length (replicate (n - before) Step)) m (Step ∷ []) (numbered e es) t =
+    subst (λ (j : ℕ). RunsFrom j m (Step ∷ []) (numbered e es) t) here (t, es, [], step, sym (append-nil (numbered e es)), (refl, refl)) in
+    subst (λ (l : List Event). RunsFrom (before + 1) s l (noted_lines p ns ++ numbered e es) t) (replicate_more (n - before) Step ∙ ap (λ (k : ℕ). replicate k Step) count)
+    (runs_then (replicate (n - before) Step) (Step ∷ []) (before + 1) s m t (noted_lines p ns) (numbered e es) (subst (λ (u : State). RunsFrom (before + 1) u (replicate (n - before) Step) (noted_lines p ns) m) same b.runs) one)
+
+-- notes report no end
+none_ended : (p : ℕ) (ns : List Note) → reported (noted_lines p ns) ≡ 0
+none_ended p [] = refl
+none_ended p (n ∷ ns) = none_ended p ns
+
+-- what some events show is gathered, the notes first
+pub some_writes : (k j e n p : ℕ) (x : Event) (s t : State) (ns ms : List Note) (es fs : List Entry) (a m b : Seen) (w v q : List ℕ) (g : ℕ) → 0 < n → ms ≡ ns → j ≡ e → fs ≡ es → length es ≤ 4
+    → RunsFrom k s (replicate n x) (noted_lines p ns ++ numbered e es) t → Gathers a w m v (print (noted_lines p ms)) → Gathers m v b q (print (numbered j fs))
+    → reported (numbered j fs) ≡ g → Writes k s (replicate n x) t a w b q g
+some_writes k j e n p x s t ns ms es fs a m b w v q g some notes at same few run first then counted =
     let lines = same_lines j e fs es at same in
     record {
-      lines = numbered e es;
+      lines = noted_lines p ns ++ numbered e es;
       run = run;
-      gathered = subst (λ (l : List Line). Gathers a p b q (print l)) lines gathered;
-      counted = sym (ap reported lines) ∙ counted;
+      gathered = rw print_then
+          (gathers_then a m b w v q (print (noted_lines p ns)) (print (numbered e es)) (subst (λ (l : List Note). Gathers a w m v (print (noted_lines p l))) notes first)
+          (subst (λ (l : List Line). Gathers m v b q (print l)) lines then));
+      counted = omega (arith, reported_then (noted_lines p ns) (numbered e es), none_ended p ns, ap reported lines, counted);
       bound = omega (arith, ends_within e es, few, some, length-replicate n x, ap reported lines, counted);
     }
 
--- or it breaks off
-pub some_stops : (k j e n : ℕ) (x : Event) (s t : State) (es fs : List Entry) (a b : Seen) (p : List ℕ) → j ≡ e → fs ≡ es
-    → RunsFrom k s (replicate n x) (numbered e es) t → BreaksOff a b (p ++ print (numbered j fs)) → Stops k s (replicate n x) a p b
-some_stops k j e n x s t es fs a b p at same run broken = record {
-  lines = numbered e es;
+-- or breaks off behind the notes
+pub some_stops : (k j e n p : ℕ) (x : Event) (s t : State) (ns ms : List Note) (es fs : List Entry) (a m b : Seen) (w v : List ℕ) → ms ≡ ns → j ≡ e → fs ≡ es
+    → RunsFrom k s (replicate n x) (noted_lines p ns ++ numbered e es) t → Gathers a w m v (print (noted_lines p ms)) → BreaksOff m b (v ++ print (numbered j fs)) → Stops k s (replicate n x) a w b
+some_stops k j e n p x s t ns ms es fs a m b w v notes at same run first broken = record {
+  lines = noted_lines p ns ++ numbered e es;
   last = t;
   run = run;
-  broken = subst (λ (l : List Line). BreaksOff a b (p ++ print l)) (same_lines j e fs es at same) broken;
+  broken = rw print_then
+      (gathers_break a m b w v (print (noted_lines p ns)) (print (numbered e es)) (subst (λ (l : List Note). Gathers a w m v (print (noted_lines p l))) notes first)
+      (subst (λ (l : List Line). BreaksOff m b (v ++ print l)) (same_lines j e fs es at same) broken));
+}
+
+-- or in them
+pub notes_stop : (k e n p : ℕ) (x : Event) (s t : State) (ns ms : List Note) (es : List Entry) (a b : Seen) (w : List ℕ) → ms ≡ ns
+    → RunsFrom k s (replicate n x) (noted_lines p ns ++ numbered e es) t → BreaksOff a b (w ++ print (noted_lines p ms)) → Stops k s (replicate n x) a w b
+notes_stop k e n p x s t ns ms es a b w notes run broken = record {
+  lines = noted_lines p ns ++ numbered e es;
+  last = t;
+  run = run;
+  broken = rw (print_then, ← append_assoc) (break_on a b (w ++ print (noted_lines p ns)) (print (numbered e es)) (subst (λ (l : List Note). BreaksOff a b (w ++ print (noted_lines p l))) notes broken));
 }
 
 -- ---- all that waited is put

@@ -1,5 +1,5 @@
 -- What the functions of one event come to.
-use Rattle.std.specs.Prelude.{◌≡◌, ℕ, ◌+◌, ◌||◌, if◌then◌else◌, Bool, true, false, not, List, [], ◌∷◌, Option, Some, None, is_some, replicate, min}
+use Rattle.std.specs.Prelude.{◌≡◌, ℕ, ◌+◌, ◌-◌, ◌==◌, ◌||◌, if◌then◌else◌, Bool, true, false, not, List, [], map, Option, Some, None, is_some, replicate}
 use Rattle.posix.specs.declared.call.Call.{Call}
 use Rattle.posix.specs.declared.event.Event.{Event}
 use Rattle.posix.specs.declared.event.Event.TheVariants.{Step, Tick, Key}
@@ -8,7 +8,7 @@ use Rattle.posix.specs.declared.entry.Entry.TheVariants.{Noted}
 use Rattle.posix.specs.declared.instr.Trap.{Trap}
 use Rattle.posix.specs.declared.instr.Trap.TheVariants as trap
 use Rattle.posix.specs.Processes.{Process}
-use Rattle.posix.specs.Entries.{numbered}
+use Rattle.posix.specs.Entries.{Line, line}
 use Rattle.posix.specs.States.{State, process, current_process}
 use Rattle.posix.specs.Alarms.{has_alarms}
 use Rattle.posix.specs.Attempts.{attempt}
@@ -17,7 +17,8 @@ use Rattle.posix.specs.Execute.{exec_one}
 use Rattle.posix.specs.Runs.{RunsFrom}
 use Rattle.posix.specs.Settle.{IsSettled}
 use Rattle.posix.specs.Step.{code_of, begin_call, after_trap, act, step, happens}
-use Rattle.umach.specs.Bursts.{exec_until}
+use Rattle.life.specs.declared.noting.Note.{Note}
+use Rattle.life.specs.Noting.{most_notes, noting}
 use Rattle.calls.specs.Outcomes.{IsActing, is_own}
 
 -- p may begin the call so.
@@ -62,32 +63,44 @@ event_changes_one Step s = next_changes_one s (current_process s)
 event_changes_one Tick s = not (has_alarms s)
 event_changes_one (Key console byte) s = false
 
--- how many plain instructions, at most so many, a process runs: none in a call, or with a signal chosen
-abbrev pub plain_of : State → ℕ → Option Process → ℕ
-plain_of s most None = 0
-plain_of s most (Some me) = if is_some (chosen me.life me.signals) || is_some me.blocked then 0 else (exec_until (code_of s me) most me.cpu).count
+-- what a process ran at once: the number of the last step, what was noted, and how the instruction after it came out
+pub record Ran : Type 0 where
+  pub last : ℕ
+  pub notes : List Note
+  pub trap : Trap  -- Next, where none after it was looked at
 
--- how many steps from here, at most so many, are plain instructions: none after a halt
-abbrev pub plain_steps : State → ℕ → ℕ
-plain_steps s most = if s.halted then 0 else plain_of s most (current_process s)
+abbrev pub nothing_ran : ℕ → Ran
+nothing_ran before = record { last = before; notes = []; trap = trap.Next }
 
--- what the instruction shows that isn't plain: a note, as a call and a fault are left to a step of their own
-abbrev pub shown : ℕ → Trap → List Entry
-shown p trap.Next = []
-shown p (trap.Note z) = Noted p z ∷ []
-shown p (trap.Call call) = []
-shown p (trap.Fault sig) = []
+-- the steps after number before, up to number last, that are plain instructions or give a note: none in a call, or with a signal chosen
+abbrev pub ran_of : State → ℕ → ℕ → Option Process → Ran
+ran_of s before last None = nothing_ran before
+ran_of s before last (Some me) = if is_some (chosen me.life me.signals) || is_some me.blocked
+    then nothing_ran before
+    else record { last = (noting (code_of s me) most_notes before last me.cpu).last; notes = (noting (code_of s me) most_notes before last me.cpu).notes; trap = (noting (code_of s me) most_notes before last me.cpu).trap }
 
--- the note after the plain instructions, if one is among so many
-abbrev pub note_of : State → ℕ → Option Process → List Entry
-note_of s most None = []
-note_of s most (Some me) = if is_some (chosen me.life me.signals) || is_some me.blocked then [] else shown me.pid (exec_until (code_of s me) most me.cpu).trap
+-- a step of its own follows where nothing was run, or where a call or a machine fault is next
+abbrev pub is_followed : ℕ → ℕ → Trap → Bool
+is_followed before last trap.Next = last == before
+is_followed before last (trap.Note z) = true
+is_followed before last (trap.Call call) = true
+is_followed before last (trap.Fault sig) = true
 
--- how many events are given at once, at most so many: steps up to the first that isn't a plain instruction
-abbrev pub given : Event → ℕ → State → ℕ
-given Step most s = min most (plain_steps s most + 1)
-given Tick most s = 1
-given (Key console byte) most s = 1
+abbrev pub then_step : ℕ → Ran → ℕ
+then_step before ran = if is_followed before ran.last ran.trap then ran.last + 1 else ran.last
+
+-- the number of the last event that is given at once, from the one after number before up to number last
+abbrev pub given : Event → ℕ → ℕ → State → ℕ
+given Step before last s = if s.halted then before + 1 else then_step before (ran_of s before last (current_process s))
+given Tick before last s = before + 1
+given (Key console byte) before last s = before + 1
+
+-- what p noted, as lines
+abbrev pub note_line : ℕ → Note → Line
+note_line p note = line note.number (Noted p note.value)
+
+abbrev pub noted_lines : ℕ → List Note → List Line
+noted_lines p notes = map (note_line p) notes
 
 -- The next step is the beginning of this call by p, who has a place.
 pub record ComesTo (s : State) (p : ℕ) (call : Call) : Type 0 where
@@ -95,10 +108,10 @@ pub record ComesTo (s : State) (p : ℕ) (call : Call) : Type 0 where
   pub acting : IsActing s p
   pub begins : (granted : Bool) (me : Process) → process s p ≡ Some me → step granted s (current_process s) ≡ begin_call s me (attempt granted s me call)
 
--- So many steps lead from old to new, of which the last alone may show something; nobody is born, no time
--- goes by, and nothing is left to settle.
-pub record Bursts (old : State) (count : ℕ) (entries : List Entry) (new : State) : Type 0 where
-  pub runs : (k : ℕ) → RunsFrom (k + 1) old (replicate count Step) (numbered (k + count) entries) new
+-- The steps after number before, up to number last, lead from old to new, and show these notes of p; nobody
+-- is born, no time goes by, and nothing is left to settle.
+pub record Bursts (old : State) (before last p : ℕ) (notes : List Note) (new : State) : Type 0 where
+  pub runs : RunsFrom (before + 1) old (replicate (last - before) Step) (noted_lines p notes) new
   pub births : new.births ≡ old.births
   pub ticks : new.ticks ≡ old.ticks
   pub settled : IsSettled new

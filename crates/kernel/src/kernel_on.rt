@@ -1,21 +1,21 @@
 //! The kernel of one world.
 
-ghost use Rattle.std.specs.Prelude.{◌≡◌, ◌+◌, ◌<◌, ◌≤◌, min, [], IfOk, true, replicate};
+ghost use Rattle.std.specs.Prelude.{◌≡◌, ◌+◌, ◌-◌, ◌++◌, ◌<◌, ◌≤◌, [], IfOk, true, replicate};
 ghost use Rattle.posix.specs.States.{boot as boot_of};
 ghost use Rattle.posix.specs.Entries.{numbered};
 ghost use Rattle.posix.specs.Runs.{RunsFrom};
 ghost use Rattle.posix.specs.Step.{IsStep};
 ghost use Rattle.posix.specs.Regular.{IsRegular};
 ghost use Rattle.text.specs.EventTexts.{most_events};
-ghost use Rattle.kernel.specs.Steps.{event_changes_one, plain_steps};
+ghost use Rattle.kernel.specs.Steps.{event_changes_one, given, noted_lines};
 ghost use Rattle.kernel.specs.Views.{KernelView};
 ghost use Rattle.life.specs.Censuses.{census_of};
 
-use crate::step::{BurstEnd, burst, call_next, next};
+use crate::step::{BurstEnd, burst, call_next, is_followed, next};
 use arrayvec::ArrayVec;
 use calls::Entries;
-use life::{Census, Machine};
-use posix::{Event, Trap};
+use life::{Census, Machine, Notes};
+use posix::{Event, Pid, Trap};
 use proctable::{Kin, ProcTable};
 use std::alloc::{AllocError, Global};
 use std::marker::Model;
@@ -97,35 +97,43 @@ impl<K: Kin> KernelOn<K> {
         entries
     }
 
-    /// Events `Step`, at least one and at most so many: as many as the current process runs plain
-    /// instructions, and the one after them. Only the last may show something, which is added to a list
-    /// that is empty. How many events they are.
+    /// Events `Step`, at least one, up to the one with number `last`: as many as the current process runs plain
+    /// instructions and such as give a note, until there are 32 notes, or with the one after them where that is a
+    /// call or a machine fault. The notes, and what the last event shows besides, are added to lists that are
+    /// empty. Whose notes they are.
     #[inline]
-    pub fn steps(&mut self, most: u64, entries: &mut Entries) -> u64
-        requires few { self.old.events + most ≤ most_events }
-        requires some { 0 < most }
+    pub fn steps(&mut self, last: u64, notes: &mut Notes, entries: &mut Entries) -> Pid
+        requires few { last ≤ most_events }
+        requires some { self.old.events < last }
+        requires unnoted { notes.old.items ≡ [] }
         requires none { entries.old.items ≡ [] }
-        ensures count { result ≡ min most (plain_steps self.old.state most + 1) }
-        ensures runs { RunsFrom (self.old.events + 1) self.old.state (replicate result Event.Step) (numbered self.new.events entries.new.items) self.new.state }
-        ensures events { self.new.events ≡ self.old.events + result }
+        ensures events { self.new.events ≡ given Event.Step self.old.events last self.old.state }
+        ensures from { self.old.events < self.new.events }
+        ensures within { self.new.events ≤ last }
+        ensures runs { RunsFrom (self.old.events + 1) self.old.state (replicate (self.new.events - self.old.events) Event.Step) (noted_lines result notes.new.items ++ numbered self.new.events entries.new.items) self.new.state }
         ensures regular { IsRegular self.new.state }
     {
         if self.machine.is_halted() {
             self.event_into(Event::Step, entries);
-            return 1;
+            return Pid::NONE;
         }
-        let BurstEnd { count, pid, trap } = burst(&mut self.machine, most, entries);
-        self.events += count;
-        if count == most || !entries.is_empty() {
-            return count;
+        let before = self.events;
+        let BurstEnd {
+            last: done,
+            pid,
+            trap,
+        } = burst(&mut self.machine, before, last, notes);
+        self.events = done;
+        if !is_followed(before, done, &trap) {
+            return pid;
         }
         let Trap::Call(call) = trap else {
             self.event_into(Event::Step, entries);
-            return count + 1;
+            return pid;
         };
         self.events += 1;
         call_next(&mut self.machine, pid, call, entries);
-        count + 1
+        pid
     }
 
     /// [`KernelOn::event`], whose entries are added to a list that is empty.

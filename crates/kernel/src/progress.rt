@@ -7,15 +7,17 @@ ghost use Rattle.posix.specs.Printing.{print};
 ghost use Rattle.text.specs.EventTexts.{most_events};
 ghost use Rattle.sink.specs.Sinks.{Gathers, BreaksOff};
 ghost use Rattle.kernel.specs.Progress.{Writes, Stops, WritesTrace, BreaksTrace};
-ghost use Rattle.kernel.specs.Steps.{given};
+ghost use Rattle.kernel.specs.Steps.{given, noted_lines};
 
 use crate::kernel_on::KernelOn;
 use arrayvec::ArrayVec;
 use calls::Entries;
-use posix::{Entry, Event};
+use life::{Note, Notes};
+use posix::{Entry, Event, Pid};
 use proctable::Kin;
 use sink::{LineBuffer, Sink, SinkFault};
 use text::{EventList, EventRun};
+use trace::NoteWords;
 
 /// Whether an entry tells that a wait reported an end.
 fn reports_end(entry: &Entry) -> bool
@@ -50,47 +52,79 @@ fn write_entries<S: Sink>(
     Ok(ends)
 }
 
-/// Gives the kernel one event as often as can be at once, at most so many times: only the last of them may
-/// show something, which is added to a list that is empty.
+/// Prints the notes of a process.
+fn write_notes<S: Sink>(
+    pid: Pid,
+    notes: &[Note],
+    pending: &mut LineBuffer,
+    out: &mut S,
+) -> Result<(), SinkFault>
+    ensures ok { OnOk result (Gathers (S.seen out.old) pending.old (S.seen out.new) pending.new (print (noted_lines pid notes.now))) }
+    ensures err { OnErr result (BreaksOff (S.seen out.old) (S.seen out.new) (pending.old ++ print (noted_lines pid notes.now))) }
+{
+    if notes.is_empty() {
+        return Ok(());
+    }
+    let words = NoteWords::new(pid);
+    for note in notes {
+        pending.add_note(note.number, &words, note.value, out)?;
+    }
+    Ok(())
+}
+
+/// Gives the kernel one event as often as can be at once, up to the one with this number. The notes, and what
+/// the last one shows besides, are added to lists that are empty. Whose notes they are.
 #[inline]
-fn give<K: Kin>(kernel: &mut KernelOn<K>, event: Event, most: u64, entries: &mut Entries)
-    requires few { kernel.old.events + most ≤ most_events }
-    requires some { 0 < most }
+fn give<K: Kin>(
+    kernel: &mut KernelOn<K>,
+    event: Event,
+    last: u64,
+    notes: &mut Notes,
+    entries: &mut Entries,
+) -> Pid
+    requires few { last ≤ most_events }
+    requires some { kernel.old.events < last }
+    requires unnoted { notes.old.items ≡ [] }
     requires none { entries.old.items ≡ [] }
-    ensures count { kernel.new.events ≡ kernel.old.events + given event most kernel.old.state }
-    ensures runs { RunsFrom (kernel.old.events + 1) kernel.old.state (replicate (kernel.new.events - kernel.old.events) event) (numbered kernel.new.events entries.new.items) kernel.new.state }
+    ensures events { kernel.new.events ≡ given event kernel.old.events last kernel.old.state }
+    ensures from { kernel.old.events < kernel.new.events }
+    ensures within { kernel.new.events ≤ last }
+    ensures runs { RunsFrom (kernel.old.events + 1) kernel.old.state (replicate (kernel.new.events - kernel.old.events) event) (noted_lines result notes.new.items ++ numbered kernel.new.events entries.new.items) kernel.new.state }
 {
     match event {
-        Event::Step => {
-            kernel.steps(most, entries);
+        Event::Step => kernel.steps(last, notes, entries),
+        Event::Tick | Event::Key { .. } => {
+            kernel.event_into(event, entries);
+            Pid::NONE
         }
-        Event::Tick | Event::Key { .. } => kernel.event_into(event, entries),
     }
 }
 
-/// Gives one event as often as can be at once, at most so many times, and prints what the last of them
-/// shows; the list is room for it.
+/// Gives one event as often as can be at once, up to the one with this number, and prints what they show; the
+/// lists are room for it.
 #[inline]
 fn run_some<K: Kin, S: Sink>(
     kernel: &mut KernelOn<K>,
     event: Event,
-    most: u64,
+    last: u64,
+    notes: &mut Notes,
     entries: &mut Entries,
     pending: &mut LineBuffer,
     out: &mut S,
 ) -> Result<u64, SinkFault>
-    requires few { kernel.old.events + most ≤ most_events }
-    requires some { 0 < most }
-    requires none { entries.old.items ≡ [] }
+    requires few { last ≤ most_events }
+    requires some { kernel.old.events < last }
     ensures ok { IfOk result (Writes (kernel.old.events + 1) kernel.old.state (replicate (kernel.new.events - kernel.old.events) event) kernel.new.state (S.seen out.old) pending.old (S.seen out.new) pending.new) }
     ensures err { OnErr result (Stops (kernel.old.events + 1) kernel.old.state (replicate (kernel.new.events - kernel.old.events) event) (S.seen out.old) pending.old (S.seen out.new)) }
-    ensures count { kernel.new.events ≡ kernel.old.events + given event most kernel.old.state }
-    ensures none { entries.new.items ≡ [] }
+    ensures events { kernel.new.events ≡ given event kernel.old.events last kernel.old.state }
+    ensures from { kernel.old.events < kernel.new.events }
+    ensures within { kernel.new.events ≤ last }
 {
-    give(kernel, event, most, entries);
-    let put = write_entries(kernel.events(), entries.as_slice(), pending, out);
+    notes.clear();
     entries.clear();
-    put
+    let pid = give(kernel, event, last, notes, entries);
+    write_notes(pid, notes.as_slice(), pending, out)?;
+    write_entries(kernel.events(), entries.as_slice(), pending, out)
 }
 
 /// Gives so many times one event.
@@ -107,10 +141,18 @@ fn run_many<K: Kin, S: Sink>(
 {
     let last = kernel.events() + run.count;
     let mut ends = 0;
+    let mut notes = ArrayVec::new();
     let mut entries = ArrayVec::new();
     while kernel.events() < last {
-        let most = last - kernel.events();
-        ends += run_some(kernel, run.event, most, &mut entries, pending, out)?;
+        ends += run_some(
+            kernel,
+            run.event,
+            last,
+            &mut notes,
+            &mut entries,
+            pending,
+            out,
+        )?;
     }
     Ok(ends)
 }

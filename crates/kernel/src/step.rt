@@ -1,7 +1,7 @@
 //! One event of the machine. What it shows is added to a list of entries that is empty before, so that
 //! an instruction that shows nothing moves none.
 
-ghost use Rattle.std.specs.Prelude.{◌≡◌, ◌+◌, [], length, ◌<◌, ◌≤◌, ◌^◌, Some, option_map, false, true};
+ghost use Rattle.std.specs.Prelude.{◌≡◌, ◌≢◌, ◌+◌, [], ◌<◌, ◌≤◌, ◌^◌, Some, option_map, false, true};
 ghost use Rattle.posix.specs.declared.call.Call.{Call as CallValue};
 ghost use Rattle.posix.specs.Processes.{Process};
 ghost use Rattle.posix.specs.Choice.{chosen};
@@ -14,13 +14,13 @@ ghost use Rattle.posix.specs.Regular.{IsPlaced, IsRegular};
 ghost use Rattle.posix.specs.Settle.{IsSettled};
 ghost use Rattle.proctable.specs.Body.{facts_of};
 ghost use Rattle.calls.specs.Outcomes.{IsActing, CostsAtMost, is_own};
-ghost use Rattle.kernel.specs.Steps.{ActsAs, Begins, Bursts, ComesTo, Happens, RunsInstruction, Steps, next_changes_one, changes_one, event_changes_one, note_of, plain_steps};
+ghost use Rattle.kernel.specs.Steps.{ActsAs, Begins, Bursts, ComesTo, Happens, RunsInstruction, Steps, next_changes_one, changes_one, event_changes_one, is_followed, ran_of};
 
 use crate::settle::settle;
 use calls::delivery::{deliver, end, fault};
 use calls::outcome::Attempt;
 use calls::{Entries, attempt, attempt_again};
-use life::Machine;
+use life::{Machine, Notes};
 use posix::{Blocked, Call, Entry, Event, Pid, Sig, Status, Trap};
 use proctable::{Facts, Kin};
 
@@ -169,37 +169,46 @@ fn happen<K: Kin>(machine: &mut Machine<K>, event: Event, entries: &mut Entries)
     }
 }
 
-/// What plain instructions that were run one after another came to.
+/// What instructions that were run one after another came to.
 #[derive(Clone, Copy, Debug, PartialEq, Eq)]
 pub struct BurstEnd {
-    /// How many instructions were run, the one that gave a note included.
-    pub count: u64,
+    /// The number of the last step.
+    pub last: u64,
     /// Whose they were; number 0 where nobody ran any.
     pub pid: Pid,
-    /// How the last instruction that was looked at came out; a call and a machine fault are left to the next step.
+    /// How the instruction after them came out, a call or a machine fault, which is left to the next step;
+    /// `Next` where none after them was looked at.
     pub trap: Trap,
 }
 
-/// The current process runs plain instructions, at most so many, and the one after them where that gives a
-/// note: none where it is in a call, or a signal is chosen for it. Nothing is left to settle by them.
-pub fn burst<K: Kin>(machine: &mut Machine<K>, most: u64, entries: &mut Entries) -> BurstEnd
+/// The current process runs instructions that are plain or give a note, by the steps after number `before` up
+/// to number `last`, and until there are 32 notes, which are added to a list that is empty: none where it is in
+/// a call, or a signal is chosen for it. Nothing is left to settle by them.
+pub fn burst<K: Kin>(
+    machine: &mut Machine<K>,
+    before: u64,
+    last: u64,
+    notes: &mut Notes,
+) -> BurstEnd
     requires regular { IsRegular machine.old.state }
     requires settled { IsSettled machine.old.state }
     requires going { machine.old.state.halted ≡ false }
-    requires some { 0 < most }
-    requires none { entries.old.items ≡ [] }
-    ensures runs { Bursts machine.old.state result.count entries.new.items machine.new.state }
-    ensures count { result.count ≡ plain_steps machine.old.state most + length entries.new.items }
-    ensures note { entries.new.items ≡ note_of machine.old.state most (current_process machine.old.state) }
-    ensures one { length entries.new.items ≤ 1 }
-    ensures within { result.count ≤ most }
+    requires some { before < last }
+    requires none { notes.old.items ≡ [] }
+    ensures runs { Bursts machine.old.state before result.last result.pid notes.new.items machine.new.state }
+    ensures last { result.last ≡ (ran_of machine.old.state before last (current_process machine.old.state)).last }
+    ensures notes { notes.new.items ≡ (ran_of machine.old.state before last (current_process machine.old.state)).notes }
+    ensures trap { result.trap ≡ (ran_of machine.old.state before last (current_process machine.old.state)).trap }
+    ensures from { before ≤ result.last }
+    ensures within { result.last ≤ last }
+    ensures short { result.trap ≢ Trap.Next → result.last < last }
     ensures call { (call : CallValue) → result.trap ≡ Trap.Call call → ComesTo machine.new.state result.pid call }
     ensures asked { machine.new.asked ≡ machine.old.asked }
     ensures stale { machine.new.stale ≡ machine.old.stale }
     ensures regular { IsRegular machine.new.state }
 {
     let nothing = BurstEnd {
-        count: 0,
+        last: before,
         pid: Pid::NONE,
         trap: Trap::Next,
     };
@@ -212,17 +221,18 @@ pub fn burst<K: Kin>(machine: &mut Machine<K>, most: u64, entries: &mut Entries)
     if facts.chosen.is_some() || facts.blocked.is_some() {
         return nothing;
     }
-    let (count, trap) = machine.run_until(pid, facts.program, most);
+    let (last, trap) = machine.run_noting(pid, facts.program, before, last, notes);
+    BurstEnd { last, pid, trap }
+}
+
+/// Whether a step of its own follows those after number `before` up to number `last`: where these are none, or
+/// where a call or a machine fault is next.
+pub fn is_followed(before: u64, last: u64, trap: &Trap) -> bool
+    ensures { result ≡ is_followed before last trap.now }
+{
     match trap {
-        Trap::Note(value) => {
-            entries.push(Entry::Noted { pid, value });
-            BurstEnd {
-                count: count + 1,
-                pid,
-                trap,
-            }
-        }
-        Trap::Next | Trap::Call(_) | Trap::Fault(_) => BurstEnd { count, pid, trap },
+        Trap::Next => last == before,
+        Trap::Note(_) | Trap::Call(_) | Trap::Fault(_) => true,
     }
 }
 

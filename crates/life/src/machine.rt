@@ -11,11 +11,12 @@ ghost use Rattle.posix.specs.Step.{code_of, set_cpu};
 ghost use Rattle.proctable.specs.Body.{facts_of, own_of, own_row};
 ghost use Rattle.life.specs.contracts.machine.Machine.{the_row as machine_row};
 ghost use Rattle.life.specs.Loans.{lent, looked};
-ghost use Rattle.umach.specs.Bursts.{exec_until, IsWithin};
+ghost use Rattle.life.specs.Noting.{most_notes, noting};
 ghost use Rattle.pidset.specs.Numbers.{with_number};
 
 use crate::asking::ask;
 use crate::consoles::{no_readers, unused};
+use crate::noting::{Notes, run_noting};
 use jobs::JobTable;
 use pidalloc::PidTable;
 use pidset::{ChildSet, PidSet};
@@ -233,18 +234,30 @@ impl<K: Kin> Machine<K> {
         }
     }
 
-    /// A process that is there, and runs this program, runs plain instructions, at most so many, and the one
-    /// after them, which may give a note. The number of the plain ones, and how that one came out; a call
-    /// and a machine fault change nothing.
+    /// A process that is there, and runs this program, runs instructions that are plain or give a note, up to
+    /// one with this number, where so many were counted before, and until there are 32 notes, which are added to
+    /// a list that is empty. The number of the last one that it ran, and how the one after it came out, which is
+    /// a call or a machine fault and changes nothing; `Next` where none after it was looked at.
     #[inline]
-    pub fn run_until(&mut self, pid: Pid, program: u8, most: u64) -> (u64, Trap)
+    pub fn run_noting(
+        &mut self,
+        pid: Pid,
+        program: u8,
+        before: u64,
+        last: u64,
+        notes: &mut Notes,
+    ) -> (u64, Trap)
         requires there { IsSome (process self.old.state pid) }
         requires program { (me : Process) → process self.old.state pid ≡ Some me → me.program ≡ program }
-        requires some { 0 < most }
-        ensures count { (me : Process) → process self.old.state pid ≡ Some me → result.0 ≡ (exec_until (code_of self.old.state me) most me.cpu).count }
-        ensures trap { (me : Process) → process self.old.state pid ≡ Some me → result.1 ≡ (exec_until (code_of self.old.state me) most me.cpu).trap }
-        ensures state { (me : Process) → process self.old.state pid ≡ Some me → self.new.state ≡ change self.old.state pid (set_cpu (exec_until (code_of self.old.state me) most me.cpu).cpu) }
-        ensures within { IsWithin most result.0 result.1 }
+        requires some { before < last }
+        requires none { notes.old.items ≡ [] }
+        ensures last { (me : Process) → process self.old.state pid ≡ Some me → result.0 ≡ (noting (code_of self.old.state me) most_notes before last me.cpu).last }
+        ensures trap { (me : Process) → process self.old.state pid ≡ Some me → result.1 ≡ (noting (code_of self.old.state me) most_notes before last me.cpu).trap }
+        ensures notes { (me : Process) → process self.old.state pid ≡ Some me → notes.new.items ≡ (noting (code_of self.old.state me) most_notes before last me.cpu).notes }
+        ensures state { (me : Process) → process self.old.state pid ≡ Some me → self.new.state ≡ change self.old.state pid (set_cpu (noting (code_of self.old.state me) most_notes before last me.cpu).cpu) }
+        ensures from { before ≤ result.0 }
+        ensures within { result.0 ≤ last }
+        ensures short { result.1 ≢ Trap.Next → result.0 < last }
         ensures regular { IsRegular self.new.state }
         ensures reads { self.new.reads ≤ self.old.reads + 1 }
         ensures asked { has_place_in self.old.state pid ≡ true → self.new.asked ≡ self.old.asked }
@@ -253,9 +266,9 @@ impl<K: Kin> Machine<K> {
         match self.world.programs().get(usize::from(program)) {
             Some(program) => {
                 ask(&mut self.to_ask, &self.order, pid);
-                self.table.own(pid).cpu.run_until(program, most)
+                run_noting(&mut self.table.own(pid).cpu, program, before, last, notes)
             }
-            None => (0, Trap::Fault(Sig::SEGV)),
+            None => (before, Trap::Fault(Sig::SEGV)),
         }
     }
 

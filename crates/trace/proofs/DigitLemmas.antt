@@ -5,7 +5,7 @@ use Rattle.std.proofs.lemmas.Grind.{common_steps}
 use Rattle.std.proofs.Math.Seq.{take-append-add}
 
 -- the first of the bytes that were moved to a place
-moved_there : (a m : ℕ) (xs ys post : List ℕ) → a ≤ length xs → m ≤ length ys → take (a + m) (take a xs ++ (ys ++ post)) ≡ take a xs ++ take m ys
+pub moved_there : (a m : ℕ) (xs ys post : List ℕ) → a ≤ length xs → m ≤ length ys → take (a + m) (take a xs ++ (ys ++ post)) ≡ take a xs ++ take m ys
 moved_there a m xs ys post le fits =
     let at : a + m ≡ length (take a xs) + m = omega (arith, length-take-le a xs le) in
     ap (λ n. take n (take a xs ++ (ys ++ post))) at ∙ take-append-add (take a xs) (ys ++ post) m ∙ ap (λ (l : List ℕ). take a xs ++ l) (take-append-le m ys post fits)

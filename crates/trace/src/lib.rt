@@ -4,6 +4,8 @@
 //! one space between two and a line feed at the end.
 #![tactic(auto)]
 
+pub mod notes;
 pub mod print;
 
+pub use notes::{NoteWords, write_note};
 pub use print::{print_entry, write_entry};

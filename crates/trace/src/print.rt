@@ -16,7 +16,7 @@ use posix::{Bytes, Call, Entry, Pid, Sig, Status};
 
 /// Writes bytes.
 #[inline(always)]
-fn put(room: &mut [u8], at: usize, bytes: &[u8]) -> usize
+pub(crate) fn put(room: &mut [u8], at: usize, bytes: &[u8]) -> usize
     requires { at + length bytes.now ≤ length room.old }
     ensures text { take result room.new ≡ take at room.old ++ bytes.now }
     ensures end { result ≡ at + length bytes.now }
@@ -29,7 +29,7 @@ fn put(room: &mut [u8], at: usize, bytes: &[u8]) -> usize
 /// Writes a number. Its digits stand in the middle of an array, so that the bytes that are moved are
 /// always as many; those behind the digits are written over by what follows.
 #[inline]
-fn put_number(room: &mut [u8], at: usize, number: u64) -> usize
+pub(crate) fn put_number(room: &mut [u8], at: usize, number: u64) -> usize
     requires { at + 20 ≤ length room.old }
     ensures text { take result room.new ≡ take at room.old ++ decimal number }
     ensures end { result ≤ at + 20 }
@@ -42,7 +42,7 @@ fn put_number(room: &mut [u8], at: usize, number: u64) -> usize
 
 /// Writes a signed number.
 #[inline]
-fn put_signed(room: &mut [u8], at: usize, number: i64) -> usize
+pub(crate) fn put_signed(room: &mut [u8], at: usize, number: i64) -> usize
     requires { at + 21 ≤ length room.old }
     ensures text { take result room.new ≡ take at room.old ++ signed_decimal number }
     ensures end { result ≤ at + 21 }
