@@ -29,9 +29,9 @@ use Rattle.proctable.specs.declared.facts.Facts.{Facts}
 use Rattle.proctable.specs.Body.{facts_of}
 use Rattle.umach.specs.Bursts.{Burst, then_rest, exec_until}
 use Rattle.umach.proofs.BurstLemmas.{stops_at}
-use Rattle.life.specs.declared.noting.Note.{Note}
-use Rattle.life.specs.Noting.{Noting, then_note, most_notes, noting}
-use Rattle.kernel.specs.Steps.{Bursts, ComesTo, noted_lines, ran_of}
+use Rattle.life.specs.declared.noted_bursts.Note.{Note}
+use Rattle.life.specs.NotedBursts.{StepsTaken, NotedBurst, then_note, most_notes, exec_with_notes}
+use Rattle.kernel.specs.Steps.{Bursts, ComesTo, noted_lines, runner, taken_at_once}
 use Rattle.calls.proofs.CallLemmas.{same_outcome}
 use Rattle.calls.proofs.ChosenLemmas.{changed_there, act_runs, no_kill_chosen}
 use Rattle.kernel.proofs.PlainLemmas.{plain_step, none_of}
@@ -52,6 +52,10 @@ pub record IsReady (s : State) (p : ℕ) (me : Process) : Type 0 where
 -- the current process has a place, whichever of two equal states is asked
 pub placed_now : (s t : State) (p : ℕ) → t ≡ s → current s ≡ Some p → has_place t p ≡ true
 placed_now s t p same now = ap (λ (u : State). is_in p u.order) same ∙ first_in p s.order now
+
+-- it is the current process
+is_current : (s : State) (p : ℕ) (me : Process) → IsReady s p me → current_process s ≡ Some me
+is_current s p me r = ap (option_and_then (process s)) r.now ∙ r.here
 
 -- another processor leaves the number
 keeps : (c : Cpu) (r : Process) → (set_cpu c r).pid ≡ r.pid
@@ -121,36 +125,36 @@ ran_note s p me z r is =
 -- ---- instructions up to one that isn't plain
 
 -- what the instruction shows that isn't plain: a note, as a call and a fault are left to a step of their own
-abbrev pub shown : ℕ → Trap → List Entry
+abbrev shown : ℕ → Trap → List Entry
 shown p trap.Next = []
 shown p (trap.Note z) = Noted p z ∷ []
 shown p (trap.Call call) = []
 shown p (trap.Fault sig) = []
 
 -- So many steps lead from old to new, of which the last alone may show something.
-pub record Segment (old : State) (count : ℕ) (entries : List Entry) (new : State) : Type 0 where
+record Segment (old : State) (count : ℕ) (entries : List Entry) (new : State) : Type 0 where
   pub runs : (k : ℕ) → RunsFrom (k + 1) old (replicate count Step) (numbered (k + count) entries) new
   pub births : new.births ≡ old.births
   pub ticks : new.ticks ≡ old.ticks
   pub settled : IsSettled new
 
--- how many events they are
-abbrev pub given : ℕ → Trap → ℕ
-given n trap.Next = n
-given n (trap.Note z) = n + 1
-given n (trap.Call call) = n
-given n (trap.Fault sig) = n
+-- how many steps they are: a note is one more
+abbrev step_count : ℕ → Trap → ℕ
+step_count n trap.Next = n
+step_count n (trap.Note z) = n + 1
+step_count n (trap.Call call) = n
+step_count n (trap.Fault sig) = n
 
-given_more : (n : ℕ) (t : Trap) → given (n + 1) t ≡ given n t + 1
-given_more n trap.Next = refl
-given_more n (trap.Note z) = refl
-given_more n (trap.Call call) = refl
-given_more n (trap.Fault sig) = refl
+count_more : (n : ℕ) (t : Trap) → step_count (n + 1) t ≡ step_count n t + 1
+count_more n trap.Next = refl
+count_more n (trap.Note z) = refl
+count_more n (trap.Call call) = refl
+count_more n (trap.Fault sig) = refl
 
--- no events
-pub none_given : (s : State) (es : List Entry) → es ≡ [] → IsSettled s → Segment s 0 es s
-none_given s es none settled = record {
-  runs = λ k. (ap (numbered (k + 0)) none, refl);
+-- no steps
+no_steps : (s : State) → IsSettled s → Segment s 0 [] s
+no_steps s settled = record {
+  runs = λ k. (refl, refl);
   births = refl;
   ticks = refl;
   settled = settled;
@@ -182,41 +186,42 @@ one_step s t es going step births ticks = record {
 -- what the first instruction comes to, and then the rest
 by_trap : (s : State) (p : ℕ) (me : Process) → IsReady s p me → (t : Trap) → (exec_one (code_of s me) me.cpu).trap ≡ t → (rest : Burst)
     → (IsReady (change s p (set_cpu (exec_one (code_of s me) me.cpu).cpu)) p (set_cpu (exec_one (code_of s me) me.cpu).cpu me)
-    → Segment (change s p (set_cpu (exec_one (code_of s me) me.cpu).cpu)) (given rest.count rest.trap) (shown p rest.trap) (change (change s p (set_cpu (exec_one (code_of s me) me.cpu).cpu)) p (set_cpu rest.cpu)))
-    → (b : Burst) → b ≡ then_rest t me.cpu (exec_one (code_of s me) me.cpu).cpu rest → Segment s (given b.count b.trap) (shown p b.trap) (change s p (set_cpu b.cpu))
+    → Segment (change s p (set_cpu (exec_one (code_of s me) me.cpu).cpu)) (step_count rest.count rest.trap) (shown p rest.trap) (change (change s p (set_cpu (exec_one (code_of s me) me.cpu).cpu)) p (set_cpu rest.cpu)))
+    → (b : Burst) → b ≡ then_rest t me.cpu (exec_one (code_of s me) me.cpu).cpu rest → Segment s (step_count b.count b.trap) (shown p b.trap) (change s p (set_cpu b.cpu))
 by_trap s p me r trap.Next is rest more b e =
     let c = (exec_one (code_of s me) me.cpu).cpu in
     let step = ran_plain s p me r is in
-    subst (λ (x : Burst). Segment s (given x.count x.trap) (shown p x.trap) (change s p (set_cpu x.cpu))) (sym e)
-    (subst (λ (n : ℕ). Segment s n (shown p rest.trap) (change s p (set_cpu rest.cpu))) (sym (given_more rest.count rest.trap))
-    (one_before s (change s p (set_cpu c)) (change s p (set_cpu rest.cpu)) (given rest.count rest.trap) (shown p rest.trap) step refl refl
-    (subst (Segment (change s p (set_cpu c)) (given rest.count rest.trap) (shown p rest.trap)) (last_cpu s p c rest.cpu) (more (stays_ready s p me c r (next_settled s (change s p (set_cpu c)) Step [] step r.going))))))
+    subst (λ (x : Burst). Segment s (step_count x.count x.trap) (shown p x.trap) (change s p (set_cpu x.cpu))) (sym e)
+    (subst (λ (n : ℕ). Segment s n (shown p rest.trap) (change s p (set_cpu rest.cpu))) (sym (count_more rest.count rest.trap))
+    (one_before s (change s p (set_cpu c)) (change s p (set_cpu rest.cpu)) (step_count rest.count rest.trap) (shown p rest.trap) step refl refl
+    (subst (Segment (change s p (set_cpu c)) (step_count rest.count rest.trap) (shown p rest.trap)) (last_cpu s p c rest.cpu) (more (stays_ready s p me c r (next_settled s (change s p (set_cpu c)) Step [] step r.going))))))
 by_trap s p me r (trap.Note z) is rest more b e =
     let c = (exec_one (code_of s me) me.cpu).cpu in
-    subst (λ (x : Burst). Segment s (given x.count x.trap) (shown p x.trap) (change s p (set_cpu x.cpu))) (sym e)
+    subst (λ (x : Burst). Segment s (step_count x.count x.trap) (shown p x.trap) (change s p (set_cpu x.cpu))) (sym e)
     (one_step s (change s p (set_cpu c)) (Noted p z ∷ []) r.going (ran_note s p me z r is) refl refl)
 by_trap s p me r (trap.Call call) is rest more b e =
-    subst (λ (x : Burst). Segment s (given x.count x.trap) (shown p x.trap) (change s p (set_cpu x.cpu))) (sym e)
-    (subst (Segment s 0 []) (sym (same_cpu s p me r)) (none_given s [] refl r.settled))
+    subst (λ (x : Burst). Segment s (step_count x.count x.trap) (shown p x.trap) (change s p (set_cpu x.cpu))) (sym e)
+    (subst (Segment s 0 []) (sym (same_cpu s p me r)) (no_steps s r.settled))
 by_trap s p me r (trap.Fault sig) is rest more b e =
-    subst (λ (x : Burst). Segment s (given x.count x.trap) (shown p x.trap) (change s p (set_cpu x.cpu))) (sym e)
-    (subst (Segment s 0 []) (sym (same_cpu s p me r)) (none_given s [] refl r.settled))
+    subst (λ (x : Burst). Segment s (step_count x.count x.trap) (shown p x.trap) (change s p (set_cpu x.cpu))) (sym e)
+    (subst (Segment s 0 []) (sym (same_cpu s p me r)) (no_steps s r.settled))
 
-rest_of : (s : State) (p : ℕ) (me : Process) (c : Cpu) (most : ℕ) → exec_until (code_of (change s p (set_cpu c)) (set_cpu c me)) most (set_cpu c me).cpu ≡ exec_until (code_of s me) most c
+-- the processor that was put in is the process's, whose code stays
+goes_on : {A : Type 0} (f : List Instr → Cpu → A) (s : State) (p : ℕ) (me : Process) (c : Cpu) → f (code_of (change s p (set_cpu c)) (set_cpu c me)) (set_cpu c me).cpu ≡ f (code_of s me) c
 unfolding set_cpu
-rest_of s p me c most = refl
+goes_on f s p me c = refl
 
 -- instructions that are run while each is plain, and perhaps one that gives a note, are these events
-pub burst_runs : (most : ℕ) (s : State) (p : ℕ) (me : Process) → IsReady s p me → (b : Burst) → b ≡ exec_until (code_of s me) most me.cpu
-    → Segment s (given b.count b.trap) (shown p b.trap) (change s p (set_cpu b.cpu))
+burst_runs : (most : ℕ) (s : State) (p : ℕ) (me : Process) → IsReady s p me → (b : Burst) → b ≡ exec_until (code_of s me) most me.cpu
+    → Segment s (step_count b.count b.trap) (shown p b.trap) (change s p (set_cpu b.cpu))
 unfolding exec_until
 burst_runs zero s p me r b e =
-    subst (λ (x : Burst). Segment s (given x.count x.trap) (shown p x.trap) (change s p (set_cpu x.cpu))) (sym e)
-    (subst (Segment s 0 []) (sym (same_cpu s p me r)) (none_given s [] refl r.settled))
+    subst (λ (x : Burst). Segment s (step_count x.count x.trap) (shown p x.trap) (change s p (set_cpu x.cpu))) (sym e)
+    (subst (Segment s 0 []) (sym (same_cpu s p me r)) (no_steps s r.settled))
 burst_runs (suc most) s p me r b e =
     let c = (exec_one (code_of s me) me.cpu).cpu in
     by_trap s p me r (exec_one (code_of s me) me.cpu).trap refl (exec_until (code_of s me) most c)
-    (λ ready. burst_runs most (change s p (set_cpu c)) p (set_cpu c me) ready (exec_until (code_of s me) most c) (sym (rest_of s p me c most)))
+    (λ ready. burst_runs most (change s p (set_cpu c)) p (set_cpu c me) ready (exec_until (code_of s me) most c) (sym (goes_on (λ program d. exec_until program most d) s p me c)))
     b e
 
 -- ---- what the code read and did
@@ -252,11 +257,11 @@ readies s p f going settled regular now read none free =
 -- ---- with their notes
 
 -- no steps
-pub none_run : (s : State) (before p : ℕ) (ns : List Note) → ns ≡ [] → IsSettled s → Bursts s before before p ns s
-none_run s before p ns none settled =
+none_run : (s : State) (before p : ℕ) → IsSettled s → Bursts s before before p [] s
+none_run s before p settled =
     let zero : before - before ≡ 0 = omega arith in
     record {
-      runs = subst (λ (n : ℕ). RunsFrom (before + 1) s (replicate n Step) (noted_lines p ns) s) (sym zero) (ap (noted_lines p) none, refl);
+      runs = subst (λ (n : ℕ). RunsFrom (before + 1) s (replicate n Step) [] s) (sym zero) (refl, refl);
       births = refl;
       ticks = refl;
       settled = settled;
@@ -275,7 +280,7 @@ quiet_run s t before n p g =
 
 -- some with a note, and the rest
 noted_run : (s t u : State) (before n last p : ℕ) (z : ℤ) (ns : List Note) → (before + n) + 1 ≤ last → Segment s (n + 1) (Noted p z ∷ []) t → Bursts t ((before + n) + 1) last p ns u
-    → Bursts s before last p (record { number = (before + n) + 1; value = z } ∷ ns) u
+    → Bursts s before last p (record { step = (before + n) + 1; value = z } ∷ ns) u
 noted_run s t u before n last p z ns fits g b =
     let at : (before + 1) + length (replicate (n + 1) Step) ≡ ((before + n) + 1) + 1 = omega (arith, length-replicate (n + 1) Step) in
     let number : before + (n + 1) ≡ (before + n) + 1 = omega arith in
@@ -285,7 +290,7 @@ noted_run s t u before n last p z ns fits g b =
     let more : RunsFrom ((before + 1) + length (replicate (n + 1) Step)) t (replicate (last - ((before + n) + 1)) Step) (noted_lines p ns) u =
     subst (λ (m : ℕ). RunsFrom m t (replicate (last - ((before + n) + 1)) Step) (noted_lines p ns) u) (sym at) b.runs in
     record {
-      runs = subst (λ (xs : List Event). RunsFrom (before + 1) s xs (noted_lines p (record { number = (before + n) + 1; value = z } ∷ ns)) u)
+      runs = subst (λ (xs : List Event). RunsFrom (before + 1) s xs (noted_lines p (record { step = (before + n) + 1; value = z } ∷ ns)) u)
           (replicate-append-replicate (n + 1) (last - ((before + n) + 1)) Step ∙ ap (λ (m : ℕ). replicate m Step) count)
           (runs_then (replicate (n + 1) Step) (replicate (last - ((before + n) + 1)) Step) (before + 1) s t u _ (noted_lines p ns) first more);
       births = b.births ∙ g.births;
@@ -294,48 +299,36 @@ noted_run s t u before n last p z ns fits g b =
     }
 
 -- instructions that are plain or give a note are these steps, and none goes back
-pub record NotesRun (s : State) (before p : ℕ) (n : Noting) : Type 0 where
-  pub on : before ≤ n.last
-  pub runs : Bursts s before n.last p n.notes (change s p (set_cpu n.cpu))
+record NotesRun (s : State) (before p : ℕ) (b : NotedBurst) : Type 0 where
+  pub on : before ≤ b.taken.last
+  pub runs : Bursts s before b.taken.last p b.taken.notes (change s p (set_cpu b.cpu))
 
 -- one segment, and what follows it
-by_segment : (s : State) (before p : ℕ) (n : ℕ) (t : Trap) (c : Cpu) (rest : Noting) → Segment s (given n t) (shown p t) (change s p (set_cpu c))
+by_segment : (s : State) (before p : ℕ) (n : ℕ) (t : Trap) (c : Cpu) (rest : NotedBurst) → Segment s (step_count n t) (shown p t) (change s p (set_cpu c))
     → (IsSettled (change s p (set_cpu c)) → NotesRun (change s p (set_cpu c)) ((before + n) + 1) p rest) → NotesRun s before p (then_note (before + n) t c rest)
 by_segment s before p n trap.Next c rest g more = record { on = omega arith; runs = quiet_run s (change s p (set_cpu c)) before n p g }
 by_segment s before p n (trap.Note z) c rest g more =
     let r = more g.settled in
     record {
       on = omega (arith, r.on);
-      runs = subst (Bursts s before rest.last p (record { number = (before + n) + 1; value = z } ∷ rest.notes)) (last_cpu s p c rest.cpu)
-          (noted_run s (change s p (set_cpu c)) (change (change s p (set_cpu c)) p (set_cpu rest.cpu)) before n rest.last p z rest.notes r.on g r.runs);
+      runs = subst (Bursts s before rest.taken.last p (record { step = (before + n) + 1; value = z } ∷ rest.taken.notes)) (last_cpu s p c rest.cpu)
+          (noted_run s (change s p (set_cpu c)) (change (change s p (set_cpu c)) p (set_cpu rest.cpu)) before n rest.taken.last p z rest.taken.notes r.on g r.runs);
     }
 by_segment s before p n (trap.Call call) c rest g more = record { on = omega arith; runs = quiet_run s (change s p (set_cpu c)) before n p g }
 by_segment s before p n (trap.Fault sig) c rest g more = record { on = omega arith; runs = quiet_run s (change s p (set_cpu c)) before n p g }
 
-notes_of : (s : State) (p : ℕ) (me : Process) (c : Cpu) (room before last : ℕ) → noting (code_of (change s p (set_cpu c)) (set_cpu c me)) room before last (set_cpu c me).cpu ≡ noting (code_of s me) room before last c
-unfolding set_cpu
-notes_of s p me c room before last = refl
-
-notes_run : (room before last : ℕ) (s : State) (p : ℕ) (me : Process) → IsReady s p me → NotesRun s before p (noting (code_of s me) room before last me.cpu)
-unfolding noting
+notes_run : (room before last : ℕ) (s : State) (p : ℕ) (me : Process) → IsReady s p me → NotesRun s before p (exec_with_notes (code_of s me) room before last me.cpu)
+unfolding exec_with_notes
 notes_run zero before last s p me r = record {
   on = omega arith;
-  runs = subst (Bursts s before before p []) (sym (same_cpu s p me r)) (none_run s before p [] refl r.settled);
+  runs = subst (Bursts s before before p []) (sym (same_cpu s p me r)) (none_run s before p r.settled);
 }
 notes_run (suc room) before last s p me r =
     let b = exec_until (code_of s me) (last - before) me.cpu in
-    by_segment s before p b.count b.trap b.cpu (noting (code_of s me) room ((before + b.count) + 1) last b.cpu) (burst_runs (last - before) s p me r b refl)
-    (λ settled. subst (NotesRun (change s p (set_cpu b.cpu)) ((before + b.count) + 1) p) (notes_of s p me b.cpu room ((before + b.count) + 1) last)
-    (notes_run room ((before + b.count) + 1) last (change s p (set_cpu b.cpu)) p (set_cpu b.cpu me) (stays_ready s p me b.cpu r settled)))
-
--- who is current and ready runs these
-ran_is : (s : State) (p : ℕ) (me : Process) (before last : ℕ) → IsReady s p me → (n : Noting) → n ≡ noting (code_of s me) most_notes before last me.cpu
-    → ran_of s before last (current_process s) ≡ record { last = n.last; notes = n.notes; trap = n.trap }
-ran_is s p me before last r n is =
-    let free : is_some me.blocked ≡ false = ap is_some r.free in
-    let none : is_some (chosen me.life me.signals) ≡ false = ap is_some r.none in
-    let found : current_process s ≡ Some me = ap (option_and_then (process s)) r.now ∙ r.here in
-    ap (ran_of s before last) found ∙ rw (none, free) (ap (λ (m : Noting). record { last = m.last; notes = m.notes; trap = m.trap }) (sym is))
+    let done = (before + b.count) + 1 in
+    by_segment s before p b.count b.trap b.cpu (exec_with_notes (code_of s me) room done last b.cpu) (burst_runs (last - before) s p me r b refl)
+    (λ settled. subst (NotesRun (change s p (set_cpu b.cpu)) done p) (goes_on (λ program c. exec_with_notes program room done last c) s p me b.cpu)
+    (notes_run room done last (change s p (set_cpu b.cpu)) p (set_cpu b.cpu me) (stays_ready s p me b.cpu r settled)))
 
 -- ---- the call behind a burst
 
@@ -344,71 +337,64 @@ comes : (s : State) (p : ℕ) (me : Process) (call : Call) → IsReady s p me �
 unfolding step after_trap
 comes s p me call r is =
     let other : chosen me.life me.signals ≢ Some KILL = λ k. let no = sym r.none ∙ k in absurd (cc) in
-    let found : current_process s ≡ Some me = ap (option_and_then (process s)) r.now ∙ r.here in
     record {
       going = r.going;
       acting = record { placed = record { what = me; found = r.here; living = r.living }; place = r.place };
       begins = λ granted m e.
           let same : me ≡ m = cc in
           subst (λ (x : Process). step granted s (current_process s) ≡ begin_call s x (attempt granted s x call)) same
-          (ap (step granted s) found ∙ act_runs granted s me (no_kill_chosen me.life me.signals other) r.free r.none ∙ ap (after_trap granted s me (exec_one (code_of s me) me.cpu).cpu) is);
+          (ap (step granted s) (is_current s p me r) ∙ act_runs granted s me (no_kill_chosen me.life me.signals other) r.free r.none ∙ ap (after_trap granted s me (exec_one (code_of s me) me.cpu).cpu) is);
     }
 
 -- where such instructions end at a call
-then_calls : (program : List Instr) (call : Call) (done : ℕ) (t : Trap) (c : Cpu) (rest : Noting) → (t ≡ trap.Call call → (exec_one program c).trap ≡ trap.Call call)
-    → (rest.trap ≡ trap.Call call → (exec_one program rest.cpu).trap ≡ trap.Call call) → (then_note done t c rest).trap ≡ trap.Call call
+then_calls : (program : List Instr) (call : Call) (done : ℕ) (t : Trap) (c : Cpu) (rest : NotedBurst) → (t ≡ trap.Call call → (exec_one program c).trap ≡ trap.Call call)
+    → (rest.taken.trap ≡ trap.Call call → (exec_one program rest.cpu).trap ≡ trap.Call call) → (then_note done t c rest).taken.trap ≡ trap.Call call
     → (exec_one program (then_note done t c rest).cpu).trap ≡ trap.Call call
 then_calls program call done trap.Next c rest here more e = absurd (cc)
 then_calls program call done (trap.Note z) c rest here more e = more e
 then_calls program call done (trap.Call other) c rest here more e = here e
 then_calls program call done (trap.Fault sig) c rest here more e = absurd (cc)
 
-notes_call : (program : List Instr) (call : Call) (room before last : ℕ) (c : Cpu) → (noting program room before last c).trap ≡ trap.Call call
-    → (exec_one program (noting program room before last c).cpu).trap ≡ trap.Call call
-unfolding noting
+notes_call : (program : List Instr) (call : Call) (room before last : ℕ) (c : Cpu) → (exec_with_notes program room before last c).taken.trap ≡ trap.Call call
+    → (exec_one program (exec_with_notes program room before last c).cpu).trap ≡ trap.Call call
+unfolding exec_with_notes
 notes_call program call zero before last c e = absurd (cc)
 notes_call program call (suc room) before last c e =
     let b = exec_until program (last - before) c in
-    then_calls program call (before + b.count) b.trap b.cpu (noting program room ((before + b.count) + 1) last b.cpu) (stops_at program call (last - before) c)
-    (notes_call program call room ((before + b.count) + 1) last b.cpu) e
+    let done = (before + b.count) + 1 in
+    then_calls program call (before + b.count) b.trap b.cpu (exec_with_notes program room done last b.cpu) (stops_at program call (last - before) c) (notes_call program call room done last b.cpu) e
 
 -- ---- what the code found
 
 -- the steps, that they are those of the definitions, and the call behind them
-pub record Shows (s : State) (p before last n : ℕ) (ns : List Note) (t : Trap) (new : State) : Type 0 where
-  pub runs : Bursts s before n p ns new
-  pub ran : record { last = n; notes = ns; trap = t } ≡ ran_of s before last (current_process s)
-  pub call : (call : Call) → t ≡ trap.Call call → ComesTo new p call
+pub record Shows (s : State) (p before last : ℕ) (taken : StepsTaken) (new : State) : Type 0 where
+  pub runs : Bursts s before taken.last p taken.notes new
+  pub exact : taken_at_once s before last (current_process s) ≡ taken
+  pub whose : p ≡ runner (current_process s)
+  pub call : (call : Call) → taken.trap ≡ trap.Call call → ComesTo new p call
 
-shows_by : (s : State) (p : ℕ) (me : Process) (before last : ℕ) → IsReady s p me → (n : Noting) → n ≡ noting (code_of s me) most_notes before last me.cpu
-    → Shows s p before last n.last n.notes n.trap (change s p (set_cpu n.cpu))
+-- the whole of what an instruction list gave is what the steps came to
+shows_by : (s : State) (p : ℕ) (me : Process) (before last : ℕ) → IsReady s p me → Shows s p before last (exec_with_notes (code_of s me) most_notes before last me.cpu).taken
+    (change s p (set_cpu (exec_with_notes (code_of s me) most_notes before last me.cpu).cpu))
 unfolding set_cpu
-shows_by s p me before last r n is =
-    let ran = subst (NotesRun s before p) (sym is) (notes_run most_notes before last s p me r) in
+shows_by s p me before last r =
+    let b = exec_with_notes (code_of s me) most_notes before last me.cpu in
+    let ran = notes_run most_notes before last s p me r in
+    let free : is_some me.blocked ≡ false = ap is_some r.free in
+    let none : is_some (chosen me.life me.signals) ≡ false = ap is_some r.none in
     record {
       runs = ran.runs;
-      ran = sym (ran_is s p me before last r n is);
-      call = λ call e.
-          let ends : (exec_one (code_of s me) n.cpu).trap ≡ trap.Call call = subst (λ (m : Noting). m.trap ≡ trap.Call call → (exec_one (code_of s me) m.cpu).trap ≡ trap.Call call) (sym is)
-          (notes_call (code_of s me) call most_notes before last me.cpu) e in
-          comes (change s p (set_cpu n.cpu)) p (set_cpu n.cpu me) call (stays_ready s p me n.cpu r ran.runs.settled) ends;
+      exact = ap (taken_at_once s before last) (is_current s p me r) ∙ rw (none, free) refl;
+      whose = sym (ap runner (is_current s p me r) ∙ rw (none, free) (pid_looked p s.processes me r.here));
+      call = λ call e. comes (change s p (set_cpu b.cpu)) p (set_cpu b.cpu me) call (stays_ready s p me b.cpu r ran.runs.settled) (notes_call (code_of s me) call most_notes before last me.cpu e);
     }
 
-pub shows : (s x : State) (p : ℕ) → Readies s p → x ≡ s → (before last n : ℕ) (ns : List Note) (t : Trap) (new : State)
-    → ((r : Process) → process x p ≡ Some r → n ≡ (noting (code_of x r) most_notes before last r.cpu).last)
-    → ((r : Process) → process x p ≡ Some r → ns ≡ (noting (code_of x r) most_notes before last r.cpu).notes)
-    → ((r : Process) → process x p ≡ Some r → t ≡ (noting (code_of x r) most_notes before last r.cpu).trap)
-    → ((r : Process) → process x p ≡ Some r → new ≡ change x p (set_cpu (noting (code_of x r) most_notes before last r.cpu).cpu))
-    → Shows s p before last n ns t new
-shows s x p r same before last n ns t new last_is notes_are trap_is state =
+pub shows : (s x : State) (p : ℕ) → Readies s p → x ≡ s → (before last : ℕ) (taken : StepsTaken) (new : State)
+    → ((r : Process) → process x p ≡ Some r → (exec_with_notes (code_of x r) most_notes before last r.cpu).taken ≡ taken)
+    → ((r : Process) → process x p ≡ Some r → new ≡ change x p (set_cpu (exec_with_notes (code_of x r) most_notes before last r.cpu).cpu)) → Shows s p before last taken new
+shows s x p r same before last taken new taken_is state =
     let me = r.me in
     let e = ap (λ (y : State). process y p) same ∙ r.ready.here in
-    let m = noting (code_of s me) most_notes before last me.cpu in
-    let l : n ≡ m.last = last_is me e ∙ ap (λ (y : State). (noting (code_of y me) most_notes before last me.cpu).last) same in
-    let k : ns ≡ m.notes = notes_are me e ∙ ap (λ (y : State). (noting (code_of y me) most_notes before last me.cpu).notes) same in
-    let a : t ≡ m.trap = trap_is me e ∙ ap (λ (y : State). (noting (code_of y me) most_notes before last me.cpu).trap) same in
-    let b : new ≡ change s p (set_cpu m.cpu) = state me e ∙ ap (λ (y : State). change y p (set_cpu (noting (code_of y me) most_notes before last me.cpu).cpu)) same in
-    subst (λ (i : ℕ). Shows s p before last i ns t new) (sym l)
-    (subst (λ (i : List Note). Shows s p before last m.last i t new) (sym k)
-    (subst (λ (i : Trap). Shows s p before last m.last m.notes i new) (sym a)
-    (subst (Shows s p before last m.last m.notes m.trap) (sym b) (shows_by s p me before last r.ready m refl))))
+    subst (λ (y : State). ((exec_with_notes (code_of y me) most_notes before last me.cpu).taken ≡ taken) → new ≡ change y p (set_cpu (exec_with_notes (code_of y me) most_notes before last me.cpu).cpu) → Shows s p before last taken new) (sym same)
+    (λ taken_here state_here. subst (λ (t : StepsTaken). Shows s p before last t new) taken_here (subst (Shows s p before last _) (sym state_here) (shows_by s p me before last r.ready)))
+    (taken_is me e) (state me e)

@@ -13,7 +13,8 @@ use Rattle.posix.specs.States.{State, current_process}
 use Rattle.posix.specs.Outcomes.{Outcome}
 use Rattle.posix.specs.Step.{IsStep}
 use Rattle.posix.proofs.CountLemmas.{Counts, counts_next}
-use Rattle.kernel.specs.Steps.{given, is_followed, then_step, ran_of}
+use Rattle.life.specs.NotedBursts.{StepsTaken}
+use Rattle.kernel.specs.Steps.{given, is_followed_by_step, with_step_behind, taken_at_once}
 use Rattle.text.specs.declared.event_list.EventRun.{EventRun}
 use Rattle.text.specs.EventLists.{expanded, run_events}
 
@@ -67,15 +68,13 @@ counts_on s t x es n step births ticks =
 -- ---- a step of its own behind others
 
 -- there is one more where one follows
-pub then_on : (s : State) (before last n : ℕ) (t : Trap) → s.halted ≡ false → n ≡ (ran_of s before last (current_process s)).last → t ≡ (ran_of s before last (current_process s)).trap
-    → is_followed before n t ≡ true → given Step before last s ≡ n + 1
-then_on s before last n t going l a follows =
-    let r = ran_of s before last (current_process s) in
-    let here : is_followed before r.last r.trap ≡ true = sym (ap (λ (m : ℕ). is_followed before m t) l ∙ ap (is_followed before r.last) a) ∙ follows in
-    ap (λ b. cond b (before + 1) (then_step before r)) going ∙ ap (λ b. cond b (r.last + 1) r.last) here ∙ ap (λ (m : ℕ). m + 1) (sym l)
+pub then_on : (s : State) (before last : ℕ) (taken : StepsTaken) → s.halted ≡ false → taken_at_once s before last (current_process s) ≡ taken → is_followed_by_step before taken.last taken.trap ≡ true
+    → given Step before last s ≡ taken.last + 1
+then_on s before last taken going exact follows =
+    ap (λ b. cond b (before + 1) (with_step_behind before (taken_at_once s before last (current_process s)))) going ∙ ap (with_step_behind before) exact ∙ ap (λ b. cond b (taken.last + 1) taken.last) follows
 
 -- and it is within the bound
-pub followed_short : (before last n : ℕ) (t : Trap) → before < last → is_followed before n t ≡ true → (t ≢ trap.Next → n < last) → n < last
+pub followed_short : (before last n : ℕ) (t : Trap) → before < last → is_followed_by_step before n t ≡ true → (t ≢ trap.Next → n < last) → n < last
 followed_short before last n trap.Next some follows short = omega (arith, some, eqb-true n before follows)
 followed_short before last n (trap.Note z) some follows short = short (λ e. absurd (cc))
 followed_short before last n (trap.Call call) some follows short = short (λ e. absurd (cc))

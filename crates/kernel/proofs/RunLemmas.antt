@@ -14,7 +14,7 @@ use Rattle.posix.specs.Step.{IsStep, next}
 use Rattle.posix.specs.Runs.{RunsFrom}
 use Rattle.posix.specs.Printing.{print, print_line}
 use Rattle.sink.specs.Sinks.{Seen, TakesAll, Gathers, BreaksOff}
-use Rattle.life.specs.declared.noting.Note.{Note}
+use Rattle.life.specs.declared.noted_bursts.Note.{Note}
 use Rattle.kernel.specs.Steps.{Bursts, noted_lines}
 use Rattle.kernel.specs.Progress.{Writes, Stops, WritesTrace, BreaksTrace}
 use Rattle.sink.proofs.SinkLemmas.{gathers_then, gathers_break, break_on, flush_takes, flush_breaks}
@@ -155,23 +155,6 @@ ends_within k es = omega (arith, count_by-le-length (λ (l : Line). reports_end 
 -- the same entries with the same number are the same lines
 same_lines : (j k : ℕ) (fs es : List Entry) → j ≡ k → fs ≡ es → numbered j fs ≡ numbered k es
 same_lines j k fs es at same = ap (λ (n : ℕ). numbered n fs) at ∙ ap (numbered k) same
-
--- one event alone, which notes nothing
-pub one_event : (before e p : ℕ) (x : Event) (s t : State) (ns : List Note) (es : List Entry) → IsStep s x es t → ns ≡ [] → e ≡ before + 1
-    → RunsFrom (before + 1) s (replicate (e - before) x) (noted_lines p ns ++ numbered e es) t
-one_event before e p x s t ns es step none at =
-    let count : 1 ≡ e - before = omega (arith, at) in
-    subst (λ (n : ℕ). RunsFrom (before + 1) s (replicate n x) (noted_lines p ns ++ numbered e es) t) count
-    (subst (λ (l : List Note). RunsFrom (before + 1) s (x ∷ []) (noted_lines p l ++ numbered e es) t) (sym none)
-    (subst (λ (n : ℕ). RunsFrom (before + 1) s (x ∷ []) (numbered n es) t) (sym at) (t, es, [], step, sym (append-nil (numbered (before + 1) es)), (refl, refl))))
-
--- a burst alone
-pub burst_alone : (before n p : ℕ) (s started m : State) (ns : List Note) (es : List Entry) → Bursts started before n p ns m → started ≡ s → es ≡ []
-    → RunsFrom (before + 1) s (replicate (n - before) Step) (noted_lines p ns ++ numbered n es) m
-burst_alone before n p s started m ns es b same none =
-    subst (λ (l : List Entry). RunsFrom (before + 1) s (replicate (n - before) Step) (noted_lines p ns ++ numbered n l) m) (sym none)
-    (subst (λ (l : List Line). RunsFrom (before + 1) s (replicate (n - before) Step) l m) (sym (append-nil (noted_lines p ns)))
-    (subst (λ (u : State). RunsFrom (before + 1) u (replicate (n - before) Step) (noted_lines p ns) m) same b.runs))
 
 -- a step after a burst
 pub step_after : (before n e p : ℕ) (s started m t : State) (ns : List Note) (es : List Entry) → Bursts started before n p ns m → before ≤ n → started ≡ s → IsStep m Step es t → e ≡ n + 1

@@ -17,8 +17,8 @@ use Rattle.posix.specs.Execute.{exec_one}
 use Rattle.posix.specs.Runs.{RunsFrom}
 use Rattle.posix.specs.Settle.{IsSettled}
 use Rattle.posix.specs.Step.{code_of, begin_call, after_trap, act, step, happens}
-use Rattle.life.specs.declared.noting.Note.{Note}
-use Rattle.life.specs.Noting.{most_notes, noting}
+use Rattle.life.specs.declared.noted_bursts.Note.{Note}
+use Rattle.life.specs.NotedBursts.{StepsTaken, most_notes, exec_with_notes}
 use Rattle.calls.specs.Outcomes.{IsActing, is_own}
 
 -- p may begin the call so.
@@ -52,10 +52,14 @@ changes_one (trap.Note z) = true
 changes_one (trap.Call call) = is_own call
 changes_one (trap.Fault sig) = false
 
--- the process comes to such an instruction: it is in no call, and no signal is chosen for it
+-- a signal is chosen for the process, or it is in a call: it runs no instruction next
+abbrev pub is_held : Process → Bool
+is_held me = is_some (chosen me.life me.signals) || is_some me.blocked
+
+-- the process comes to such an instruction
 abbrev pub next_changes_one : State → Option Process → Bool
 next_changes_one s None = true
-next_changes_one s (Some me) = if is_some (chosen me.life me.signals) || is_some me.blocked then false else changes_one (exec_one (code_of s me) me.cpu).trap
+next_changes_one s (Some me) = if is_held me then false else changes_one (exec_one (code_of s me) me.cpu).trap
 
 -- an event changes one process at most: a tick changes none where none has an alarm, and a key may signal a process group
 abbrev pub event_changes_one : Event → State → Bool
@@ -63,41 +67,38 @@ event_changes_one Step s = next_changes_one s (current_process s)
 event_changes_one Tick s = not (has_alarms s)
 event_changes_one (Key console byte) s = false
 
--- what a process ran at once: the number of the last step, what was noted, and how the instruction after it came out
-pub record Ran : Type 0 where
-  pub last : ℕ
-  pub notes : List Note
-  pub trap : Trap  -- Next, where none after it was looked at
+-- who runs instructions next; 0 where nobody does
+abbrev pub runner : Option Process → ℕ
+runner None = 0
+runner (Some me) = if is_held me then 0 else me.pid
 
-abbrev pub nothing_ran : ℕ → Ran
-nothing_ran before = record { last = before; notes = []; trap = trap.Next }
+abbrev pub none_taken : ℕ → StepsTaken
+none_taken before = record { last = before; notes = []; trap = trap.Next }
 
--- the steps after number before, up to number last, that are plain instructions or give a note: none in a call, or with a signal chosen
-abbrev pub ran_of : State → ℕ → ℕ → Option Process → Ran
-ran_of s before last None = nothing_ran before
-ran_of s before last (Some me) = if is_some (chosen me.life me.signals) || is_some me.blocked
-    then nothing_ran before
-    else record { last = (noting (code_of s me) most_notes before last me.cpu).last; notes = (noting (code_of s me) most_notes before last me.cpu).notes; trap = (noting (code_of s me) most_notes before last me.cpu).trap }
+-- the steps after number before, up to number last, that the process takes at once: each a plain instruction, or one that gives a note
+abbrev pub taken_at_once : State → ℕ → ℕ → Option Process → StepsTaken
+taken_at_once s before last None = none_taken before
+taken_at_once s before last (Some me) = if is_held me then none_taken before else (exec_with_notes (code_of s me) most_notes before last me.cpu).taken
 
--- a step of its own follows where nothing was run, or where a call or a machine fault is next
-abbrev pub is_followed : ℕ → ℕ → Trap → Bool
-is_followed before last trap.Next = last == before
-is_followed before last (trap.Note z) = true
-is_followed before last (trap.Call call) = true
-is_followed before last (trap.Fault sig) = true
+-- a step of its own follows where none was taken, or where a call or a machine fault is next
+abbrev pub is_followed_by_step : ℕ → ℕ → Trap → Bool
+is_followed_by_step before last trap.Next = last == before
+is_followed_by_step before last (trap.Note value) = true
+is_followed_by_step before last (trap.Call call) = true
+is_followed_by_step before last (trap.Fault sig) = true
 
-abbrev pub then_step : ℕ → Ran → ℕ
-then_step before ran = if is_followed before ran.last ran.trap then ran.last + 1 else ran.last
+abbrev pub with_step_behind : ℕ → StepsTaken → ℕ
+with_step_behind before taken = if is_followed_by_step before taken.last taken.trap then taken.last + 1 else taken.last
 
 -- the number of the last event that is given at once, from the one after number before up to number last
 abbrev pub given : Event → ℕ → ℕ → State → ℕ
-given Step before last s = if s.halted then before + 1 else then_step before (ran_of s before last (current_process s))
+given Step before last s = if s.halted then before + 1 else with_step_behind before (taken_at_once s before last (current_process s))
 given Tick before last s = before + 1
 given (Key console byte) before last s = before + 1
 
 -- what p noted, as lines
 abbrev pub note_line : ℕ → Note → Line
-note_line p note = line note.number (Noted p note.value)
+note_line p note = line note.step (Noted p note.value)
 
 abbrev pub noted_lines : ℕ → List Note → List Line
 noted_lines p notes = map (note_line p) notes

@@ -11,7 +11,7 @@ ghost use Rattle.kernel.specs.Steps.{event_changes_one, given, noted_lines};
 ghost use Rattle.kernel.specs.Views.{KernelView};
 ghost use Rattle.life.specs.Censuses.{census_of};
 
-use crate::step::{BurstEnd, burst, call_next, is_followed, next};
+use crate::step::{BurstEnd, burst, call_next, is_followed_by_step, next};
 use arrayvec::ArrayVec;
 use calls::Entries;
 use life::{Census, Machine, Notes};
@@ -100,12 +100,12 @@ impl<K: Kin> KernelOn<K> {
     /// Events `Step`, at least one, up to the one with number `last`: as many as the current process runs plain
     /// instructions and such as give a note, until there are 32 notes, or with the one after them where that is a
     /// call or a machine fault. The notes, and what the last event shows besides, are added to lists that are
-    /// empty. Whose notes they are.
+    /// empty. Whose notes they are, where there are any.
     #[inline]
     pub fn steps(&mut self, last: u64, notes: &mut Notes, entries: &mut Entries) -> Pid
         requires few { last ≤ most_events }
         requires some { self.old.events < last }
-        requires unnoted { notes.old.items ≡ [] }
+        requires no_notes { notes.old.items ≡ [] }
         requires none { entries.old.items ≡ [] }
         ensures events { self.new.events ≡ given Event.Step self.old.events last self.old.state }
         ensures from { self.old.events < self.new.events }
@@ -124,7 +124,7 @@ impl<K: Kin> KernelOn<K> {
             trap,
         } = burst(&mut self.machine, before, last, notes);
         self.events = done;
-        if !is_followed(before, done, &trap) {
+        if !is_followed_by_step(before, done, &trap) {
             return pid;
         }
         let Trap::Call(call) = trap else {

@@ -67,13 +67,13 @@ fn write_notes<S: Sink>(
     }
     let words = NoteWords::new(pid);
     for note in notes {
-        pending.add_note(note.number, &words, note.value, out)?;
+        pending.add_note(note.step, &words, note.value, out)?;
     }
     Ok(())
 }
 
 /// Gives the kernel one event as often as can be at once, up to the one with this number. The notes, and what
-/// the last one shows besides, are added to lists that are empty. Whose notes they are.
+/// the last one shows besides, are added to lists that are empty. Whose notes they are, where there are any.
 #[inline]
 fn give<K: Kin>(
     kernel: &mut KernelOn<K>,
@@ -84,7 +84,7 @@ fn give<K: Kin>(
 ) -> Pid
     requires few { last ≤ most_events }
     requires some { kernel.old.events < last }
-    requires unnoted { notes.old.items ≡ [] }
+    requires no_notes { notes.old.items ≡ [] }
     requires none { entries.old.items ≡ [] }
     ensures events { kernel.new.events ≡ given event kernel.old.events last kernel.old.state }
     ensures from { kernel.old.events < kernel.new.events }

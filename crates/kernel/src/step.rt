@@ -14,7 +14,7 @@ ghost use Rattle.posix.specs.Regular.{IsPlaced, IsRegular};
 ghost use Rattle.posix.specs.Settle.{IsSettled};
 ghost use Rattle.proctable.specs.Body.{facts_of};
 ghost use Rattle.calls.specs.Outcomes.{IsActing, CostsAtMost, is_own};
-ghost use Rattle.kernel.specs.Steps.{ActsAs, Begins, Bursts, ComesTo, Happens, RunsInstruction, Steps, next_changes_one, changes_one, event_changes_one, is_followed, ran_of};
+ghost use Rattle.kernel.specs.Steps.{ActsAs, Begins, Bursts, ComesTo, Happens, RunsInstruction, Steps, next_changes_one, changes_one, event_changes_one, is_followed_by_step, runner, taken_at_once};
 
 use crate::settle::settle;
 use calls::delivery::{deliver, end, fault};
@@ -196,9 +196,8 @@ pub fn burst<K: Kin>(
     requires some { before < last }
     requires none { notes.old.items ≡ [] }
     ensures runs { Bursts machine.old.state before result.last result.pid notes.new.items machine.new.state }
-    ensures last { result.last ≡ (ran_of machine.old.state before last (current_process machine.old.state)).last }
-    ensures notes { notes.new.items ≡ (ran_of machine.old.state before last (current_process machine.old.state)).notes }
-    ensures trap { result.trap ≡ (ran_of machine.old.state before last (current_process machine.old.state)).trap }
+    ensures taken { taken_at_once machine.old.state before last (current_process machine.old.state) ≡ record { last = result.last; notes = notes.new.items; trap = result.trap } }
+    ensures whose { result.pid ≡ runner (current_process machine.old.state) }
     ensures from { before ≤ result.last }
     ensures within { result.last ≤ last }
     ensures short { result.trap ≢ Trap.Next → result.last < last }
@@ -221,14 +220,14 @@ pub fn burst<K: Kin>(
     if facts.chosen.is_some() || facts.blocked.is_some() {
         return nothing;
     }
-    let (last, trap) = machine.run_noting(pid, facts.program, before, last, notes);
+    let (last, trap) = machine.run_with_notes(pid, facts.program, before, last, notes);
     BurstEnd { last, pid, trap }
 }
 
 /// Whether a step of its own follows those after number `before` up to number `last`: where these are none, or
 /// where a call or a machine fault is next.
-pub fn is_followed(before: u64, last: u64, trap: &Trap) -> bool
-    ensures { result ≡ is_followed before last trap.now }
+pub fn is_followed_by_step(before: u64, last: u64, trap: &Trap) -> bool
+    ensures { result ≡ is_followed_by_step before last trap.now }
 {
     match trap {
         Trap::Next => last == before,

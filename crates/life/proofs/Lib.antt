@@ -7,7 +7,7 @@ pub mod EndLemmas
 pub mod NoticeWalkLemmas
 pub mod ParentLemmas
 pub mod CodeLemmas
-pub mod NotingLemmas
+pub mod NotedBurstLemmas
 pub mod ChildLemmas
 pub mod SendLemmas
 pub mod LoanLemmas

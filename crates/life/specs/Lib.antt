@@ -5,4 +5,4 @@ pub mod Censuses
 pub mod Asking
 pub mod Waits
 pub mod Consoles
-pub mod Noting
+pub mod NotedBursts

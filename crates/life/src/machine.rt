@@ -11,12 +11,12 @@ ghost use Rattle.posix.specs.Step.{code_of, set_cpu};
 ghost use Rattle.proctable.specs.Body.{facts_of, own_of, own_row};
 ghost use Rattle.life.specs.contracts.machine.Machine.{the_row as machine_row};
 ghost use Rattle.life.specs.Loans.{lent, looked};
-ghost use Rattle.life.specs.Noting.{most_notes, noting};
+ghost use Rattle.life.specs.NotedBursts.{most_notes, exec_with_notes};
 ghost use Rattle.pidset.specs.Numbers.{with_number};
 
 use crate::asking::ask;
 use crate::consoles::{no_readers, unused};
-use crate::noting::{Notes, run_noting};
+use crate::noted_bursts::{Notes, run_with_notes};
 use jobs::JobTable;
 use pidalloc::PidTable;
 use pidset::{ChildSet, PidSet};
@@ -234,12 +234,12 @@ impl<K: Kin> Machine<K> {
         }
     }
 
-    /// A process that is there, and runs this program, runs instructions that are plain or give a note, up to
-    /// one with this number, where so many were counted before, and until there are 32 notes, which are added to
-    /// a list that is empty. The number of the last one that it ran, and how the one after it came out, which is
-    /// a call or a machine fault and changes nothing; `Next` where none after it was looked at.
+    /// A process that is there, and runs this program, runs instructions that are plain or give a note, by the
+    /// steps after number `before` up to number `last`, and until there are 32 notes, which are added to a list
+    /// that is empty. The number of the last step that was taken, and how the instruction after it came out: a
+    /// call or a machine fault, which changes nothing, or `Next` where it wasn't looked at.
     #[inline]
-    pub fn run_noting(
+    pub fn run_with_notes(
         &mut self,
         pid: Pid,
         program: u8,
@@ -251,10 +251,8 @@ impl<K: Kin> Machine<K> {
         requires program { (me : Process) → process self.old.state pid ≡ Some me → me.program ≡ program }
         requires some { before < last }
         requires none { notes.old.items ≡ [] }
-        ensures last { (me : Process) → process self.old.state pid ≡ Some me → result.0 ≡ (noting (code_of self.old.state me) most_notes before last me.cpu).last }
-        ensures trap { (me : Process) → process self.old.state pid ≡ Some me → result.1 ≡ (noting (code_of self.old.state me) most_notes before last me.cpu).trap }
-        ensures notes { (me : Process) → process self.old.state pid ≡ Some me → notes.new.items ≡ (noting (code_of self.old.state me) most_notes before last me.cpu).notes }
-        ensures state { (me : Process) → process self.old.state pid ≡ Some me → self.new.state ≡ change self.old.state pid (set_cpu (noting (code_of self.old.state me) most_notes before last me.cpu).cpu) }
+        ensures taken { (me : Process) → process self.old.state pid ≡ Some me → (exec_with_notes (code_of self.old.state me) most_notes before last me.cpu).taken ≡ record { last = result.0; notes = notes.new.items; trap = result.1 } }
+        ensures state { (me : Process) → process self.old.state pid ≡ Some me → self.new.state ≡ change self.old.state pid (set_cpu (exec_with_notes (code_of self.old.state me) most_notes before last me.cpu).cpu) }
         ensures from { before ≤ result.0 }
         ensures within { result.0 ≤ last }
         ensures short { result.1 ≢ Trap.Next → result.0 < last }
@@ -266,7 +264,7 @@ impl<K: Kin> Machine<K> {
         match self.world.programs().get(usize::from(program)) {
             Some(program) => {
                 ask(&mut self.to_ask, &self.order, pid);
-                run_noting(&mut self.table.own(pid).cpu, program, before, last, notes)
+                run_with_notes(&mut self.table.own(pid).cpu, program, before, last, notes)
             }
             None => (before, Trap::Fault(Sig::SEGV)),
         }

@@ -1,7 +1,7 @@
 use Rattle.std.proofs.Common.{◌≡◌, ◌+◌, ◌≤◌, ◌∙◌, ℕ, true, false, ap, sym, refl, subst, arith}
 use Rattle.posix.specs.declared.event.Event.TheVariants.{Step}
 use Rattle.posix.proofs.WakeLemmas.{settled_stays}
-use Rattle.kernel.specs.Steps.{Bursts, given, is_followed}
+use Rattle.kernel.specs.Steps.{Bursts, given, is_followed_by_step}
 use Rattle.kernel.specs.Views.{KernelView}
 use Rattle.kernel.proofs.EventLemmas.{counts_on, then_on, followed_short}
 use Rattle.kernel.proofs.RunLemmas.{step_after}
@@ -27,10 +27,10 @@ returns-in_default g c =
     let b = c.burst-done in
     let now = ap (λ (k : KernelView). k.state) c.self.view_is in
     let events = ap (λ (k : KernelView). k.events) c.self.view_is in
-    let follows : is_followed c.self.inside.events b.result.last b.result.trap ≡ true = grind arith in
+    let follows : is_followed_by_step c.self.inside.events b.result.last b.result.trap ≡ true = grind arith in
     let going : c.self.inside.machine.state.halted ≡ false = grind arith in
     let short = followed_short c.self.inside.events c.args.last b.result.last b.result.trap (omega (arith, c.requires.some, events)) follows b.ensures.short in
-    let counted = then_on c.self.inside.machine.state c.self.inside.events c.args.last b.result.last b.result.trap going b.ensures.last b.ensures.trap follows in
+    let counted = then_on c.self.inside.machine.state c.self.inside.events c.args.last (record { last = b.result.last; notes = b.new.notes.items; trap = b.result.trap }) going b.ensures.taken follows in
     record {
       events = c.event_into-in_default.ensures.events ∙ sym (subst (λ (k : KernelView). given Step k.events c.args.last k.state ≡ b.result.last + 1) c.self.view_is counted);
       from = omega (arith, c.event_into-in_default.ensures.events, b.ensures.from, events);
