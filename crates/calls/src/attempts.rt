@@ -163,6 +163,7 @@ fn alarm<K: Kin>(machine: &mut Machine<K>, pid: Pid, entries: &mut Entries) -> A
 /// A process that has a place attempts a call. Where it has to wait nothing has changed, and the call that
 /// it is to be blocked in is answered.
 #[tactic(auto, unfolding(posix::specs::Attempts::attempt))]
+#[inline(always)]
 pub fn attempt<K: Kin>(
     machine: &mut Machine<K>,
     pid: Pid,

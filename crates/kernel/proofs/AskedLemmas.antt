@@ -1,18 +1,20 @@
--- Those who are asked whether they can act, one after another: whoever was asked needs no place, and in the end nobody is left.
-use Rattle.std.proofs.Common.{◌≡◌, ℕ, ◌<◌, ◌≤◌, Bool, true, false, cond, not, ◌&&◌, ◌==◌, refl, ap, sym, ◌∙◌, arith, subst, List, [], ◌∷◌, ◌++◌, Option, Some, None, slice_get, nat_lt}
-use Rattle.std.specs.Option.{IsSome}
-use Rattle.std.proofs.lemmas.Bool.{eqb-true, eqb-false}
+-- Those who are asked whether they can act, one after another: whoever was asked needs no place, and the places that are left to give are those of the others.
+use Rattle.std.proofs.Common.{◌≡◌, ℕ, suc, ◌<◌, Bool, true, false, cond, not, ◌&&◌, ◌||◌, ◌==◌, refl, ap, sym, ◌∙◌, arith, subst, List, [], ◌∷◌, ◌++◌, length, Option, Some, None, filter, slice_get, nat_lt}
+use Rattle.std.specs.Option.{IfSome}
+use Rattle.std.proofs.lemmas.Bool.{eqb-true, eqb-false, eq-eqb, ltb-true, ltb-false}
 use Rattle.std.proofs.lemmas.Bool.Decides.{nat_tests}
+use Rattle.std.proofs.lemmas.List.Sums.{length-filter, count_by-le-length}
+use Rattle.std.proofs.lemmas.Option.{IfSome_then}
 use Rattle.posix.specs.Processes.{Process}
-use Rattle.posix.specs.Tables.{lookup}
+use Rattle.posix.specs.Tables.{IsNext, lookup, next_above}
 use Rattle.posix.specs.States.{State, process, is_in, without}
-use Rattle.posix.specs.Settle.{woken, woken_if, wakes, can_act}
+use Rattle.posix.specs.Settle.{give_places, woken, woken_if, wakes, can_act}
 use Rattle.posix.specs.Regular.{IsRegular}
-use Rattle.posix.proofs.MemberLemmas.{in_first, in_rest, in_last, is_other}
+use Rattle.posix.proofs.MemberLemmas.{in_append, in_last}
+use Rattle.posix.proofs.SeeLemmas.{can_act_order}
+use Rattle.posix.proofs.SettleLemmas.{woken_is, asking_begins, asking_goes_on}
 use Rattle.posix.proofs.TableLemmas.{pid_looked}
-use Rattle.posix.proofs.SettleLemmas.{woken_is}
-use Rattle.pidset.specs.Numbers.{Rises, numbers_above}
-use Rattle.pidset.proofs.NumberLemmas.{in_above}
+use Rattle.posix.proofs.WalkLemmas.{least_is_next}
 
 -- ---- whoever was asked
 
@@ -52,36 +54,55 @@ woken_rests s p r e =
     last : (ps : List ℕ) (p : ℕ) → is_in p (ps ++ p ∷ []) ≡ true
     last ps p = in_last p p ps ∙ grind (arith, nat_tests)
 
--- ---- who is left on the list
+-- ---- the first one asked
 
--- nobody on the list has a number below that of whoever is next; where nobody is, nobody is on the list
-abbrev pub IsLeft : Option ℕ → List ℕ → Type 0
-IsLeft None ns = ns ≡ []
-IsLeft (Some p) ns = (q : ℕ) → is_in q ns ≡ true → p ≤ q
+-- who needs no place needs none where others have got theirs
+rests_later : (s : State) (o : List ℕ) (r : Process) → wakes s r ≡ false → wakes (record s { order = s.order ++ o }) r ≡ false
+rests_later s o r rests =
+    ap (λ b. not b && can_act (record s { order = s.order ++ o }) r) (in_append r.pid s.order o) ∙ ap (λ b. not (is_in r.pid s.order || is_in r.pid o) && b) (can_act_order s (s.order ++ o) r)
+    ∙ longer (is_in r.pid s.order) (is_in r.pid o) (can_act s r) rests
+  where
+    longer : (here there acts : Bool) → (not here && acts) ≡ false → (not (here || there) && acts) ≡ false
+    longer true there acts e = refl
+    longer false true acts e = refl
+    longer false false acts e = e
 
--- the first above n, where all are above n
-pub left_above : (n : ℕ) (ns : List ℕ) → Rises ns → ((q : ℕ) → is_in q ns ≡ true → n < q) → (next : Option ℕ) → next ≡ slice_get (numbers_above n ns) 0 → IsLeft next ns
-unfolding Rises
-left_above n [] up all next e = subst (λ (o : Option ℕ). IsLeft o []) (sym e) refl
-left_above n (m ∷ ns) up all next e =
-    let above = all m (in_first m ns) in
-    let passes : nat_lt n m ≡ true = grind (arith, nat_tests) in
-    let first : next ≡ Some m = e ∙ ap (λ b. slice_get (cond b (m ∷ numbers_above n ns) (numbers_above n ns)) 0) passes in
-    let least : (q : ℕ) → is_in q (m ∷ ns) ≡ true → m ≤ q = λ q i. elim (m == q) as (λ b. (m == q) ≡ b → m ≤ q) [
-      | true ↦ λ t. omega (arith, eqb-true m q t)
-      | false ↦ λ t. omega (arith, in_above m q ns up.0 (sym (in_rest q m ns (eqb-false m q t)) ∙ i))
+rests_woken : (s : State) (o : Option Process) (r : Process) → wakes s r ≡ false → wakes (woken_if s o) r ≡ false
+rests_woken s None r rests = rests
+rests_woken s (Some x) r rests = elim (wakes s x) as (λ b. wakes (cond b (record s { order = s.order ++ x.pid ∷ [] }) s) r ≡ false) [ true ↦ rests_later s (x.pid ∷ []) r rests | false ↦ rests ]
+
+-- once the first one who may have to be given a place has been asked, the same places are left to give as before and then to the others
+pub first_woken : (s : State) (p : ℕ) → IsRegular s → IsRegular (woken s p) → IsNext (wakes s) 0 s.processes (Some p) → give_places (woken s p) ≡ give_places s
+unfolding woken
+first_woken s p before after first =
+    let rs = s.processes in
+    let t = woken s p in
+    let same = same_processes s p in
+    let next = next_above p rs in
+    let up = before.rising in
+    let others : IsNext (wakes t) p rs next = least_is_next (wakes t) p rs up in
+    let rest : (q : ℕ) (r : Process) → lookup q rs ≡ Some r → 0 < q → IfSome next (λ m. q < m) → wakes t r ≡ false = λ q r e some low. elim (q == p) as (λ b. (q == p) ≡ b → wakes t r ≡ false) [
+      | true ↦ λ k. woken_rests s p r (ap (lookup p) same ∙ ap (λ n. lookup n rs) (sym (eqb-true q p k)) ∙ e)
+      | false ↦ λ k. elim (nat_lt q p) as (λ b. nat_lt q p ≡ b → wakes t r ≡ false) [
+        | true ↦ λ l. rests_woken s (process s p) r (first.between q r e some (ltb-true q p l))
+        | false ↦ λ l. others.between q r e (omega (arith, eqb-false q p k, ltb-false q p l)) low
+      ] refl
     ] refl in
-    subst (λ (o : Option ℕ). IsLeft o (m ∷ ns)) (sym first) least
+    let all : IsNext (wakes t) 0 rs next = record { there = others.there; above = IfSome_then next others.above (λ m l. omega (arith, l)); between = rest } in
+    let all_now : IsNext (wakes t) 0 t.processes next = subst (λ (xs : List Process). IsNext (wakes t) 0 xs next) (sym same) all in
+    let others_now : IsNext (wakes t) p t.processes next = subst (λ (xs : List Process). IsNext (wakes t) p xs next) (sym same) others in
+    sym (asking_begins t next after all_now) ∙ asking_goes_on s up p next others_now ∙ asking_begins s (Some p) before first
 
--- those who are on the list are there, and so have numbers
-pub numbered_above : (s : State) (ns : List ℕ) → IsRegular s → ((p : ℕ) → is_in p ns ≡ true → IsSome (process s p)) → (q : ℕ) → is_in q ns ≡ true → 0 < q
-numbered_above s ns i there q e = elim (process s q) as (λ o. process s q ≡ o → IsSome o → 0 < q) [
-  | None ↦ λ k h. absurd (cc)
-  | Some r ↦ λ k h. omega (arith, (i.bounded q r k).least, pid_looked q s.processes r k)
-] refl (there q e)
+-- the list is shorter without the first one on it
+pub without_first : (ns : List ℕ) (p : ℕ) → slice_get ns 0 ≡ Some p → length (without p ns) < length ns
+unfolding without
+without_first [] p first = absurd (cc)
+without_first (n ∷ ns) p first =
+    let same : n ≡ p = cc in
+    let rest : length (filter (λ q. not (q == p)) ns) < suc (length ns) = omega (arith, length-filter (λ q. not (q == p)) ns, count_by-le-length (λ q. not (q == p)) ns) in
+    rw (eq-eqb n p same) rest
 
--- once p has been asked all others who are left have greater numbers
-pub left_after : (p : ℕ) (ns : List ℕ) → ((q : ℕ) → is_in q ns ≡ true → p ≤ q) → (q : ℕ) → is_in q (without p ns) ≡ true → p < q
-left_after p ns left q e =
-    let h = is_other p q ns e in
-    omega (arith, left q h.among, h.apart)
+-- without a first one nobody is on it
+pub none_first : (ns : List ℕ) → slice_get ns 0 ≡ None → ns ≡ []
+none_first [] none = refl
+none_first (n ∷ ns) none = absurd (cc)

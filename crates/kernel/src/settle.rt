@@ -102,11 +102,9 @@ fn give_places<K: Kin>(machine: &mut Machine<K>)
     ensures stale { machine.new.stale ≡ machine.old.stale }
     ensures none { machine.old.asked ≡ [] → machine.new.reads ≡ machine.old.reads }
 {
-    let mut next = machine.next_to_ask(Pid::NONE);
-    while let Some(pid) = next {
+    while let Some(pid) = machine.first_to_ask() {
         wake(machine, pid);
         machine.asked(pid);
-        next = machine.next_to_ask(pid);
     }
 }
 

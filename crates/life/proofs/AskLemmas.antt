@@ -20,7 +20,7 @@ use Rattle.posix.proofs.OrderLemmas.{without_absent}
 use Rattle.posix.proofs.UnseenLemmas.{covers_none}
 use Rattle.posix.proofs.WakeLemmas.{first_has_place}
 use Rattle.pidset.specs.Numbers.{PidSetView, Rises, with_number, numbers_above}
-use Rattle.pidset.proofs.NumberLemmas.{IsLeastAbove, in_with, rises_with, rises_without, next_is, next_some, few}
+use Rattle.pidset.proofs.NumberLemmas.{IsLeastAbove, all_in, in_with, rises_with, rises_without, next_is, next_some, few}
 use Rattle.std.proofs.lemmas.Option.{same_Some}
 use Rattle.posix.specs.Terminals.{is_reader}
 use Rattle.posix.specs.Consoles.{Console, with_foreground}
@@ -29,6 +29,7 @@ use Rattle.posix.proofs.ReaderLemmas.{touches_cleared}
 use Rattle.life.specs.Machines.{IsListed, IsWatched, IsReaders, readers_at}
 use Rattle.life.specs.Asking.{with_numbers, asking, without_gone}
 use Rattle.life.proofs.SoundLemmas.{there}
+use Rattle.life.proofs.RousingLemmas.{all_above}
 
 -- ---- numbers put in
 
@@ -210,8 +211,25 @@ next_known test rs ns n next up covers theirs is =
     passed None k some e low before = absurd (cc)
     passed {q = q} (Some m) k some e low before = let l = k.least q e low in omega (arith, l, before)
 
-pub next_asked : {readers : List PidSetView} (s : State) (l : PidSetView) (n : ℕ) (next : Option ℕ) → IsListed s l readers → next ≡ slice_get (numbers_above n l.pids) 0 → IsNext (wakes s) n s.processes next
-next_asked s l n next h is = next_known (wakes s) s.processes l.pids n next h.rising h.covers h.there is
+-- the first of all who are on the list
+pub first_asked : {readers : List PidSetView} (s : State) (l : PidSetView) (next : Option ℕ) → IsRegular s → IsListed s l readers → next ≡ slice_get l.pids 0 → IsNext (wakes s) 0 s.processes next
+first_asked s l next i h is =
+    let numbered : (q : ℕ) → is_in q l.pids ≡ true → 0 < q = λ q e. let it = there _ (h.there q e) in omega (arith, (i.bounded q it.what it.found).least, pid_looked q s.processes it.what it.found) in
+    next_known (wakes s) s.processes l.pids 0 next h.rising h.covers h.there (is ∙ ap (λ ns. slice_get ns 0) (sym (all_above 0 l.pids (all_in (λ q. 0 < q) l.pids numbered))))
+
+-- the only one on a list, without whom nobody is
+pub only_one : (ns : List ℕ) (p : ℕ) → length ns ≡ 1 → is_in p ns ≡ true → ns ≡ p ∷ []
+unfolding is_in
+only_one [] p one has = absurd (omega (arith, one))
+only_one (n ∷ []) p one has = elim (n == p) as (λ b. (n == p) ≡ b → (b || false) ≡ true → n ∷ [] ≡ p ∷ []) [
+  | true ↦ λ same e. ap (λ m. m ∷ []) (eqb-true n p same)
+  | false ↦ λ other e. absurd (cc)
+] refl has
+only_one (n ∷ m ∷ ns) p one has = absurd (omega (arith, one))
+
+pub none_left : (ns : List ℕ) (p : ℕ) → ns ≡ p ∷ [] → [] ≡ without p ns
+unfolding without
+none_left ns p only = rw (only, eq-eqb p p refl) refl
 
 -- who was asked and needn't be given a place is taken off, where those who wait to read stay known
 pub listed_asked : {readers : List PidSetView} (s : State) (p : ℕ) (before after : PidSetView) (sets : List PidSetView) → IsListed s before readers → ((r : Process) → process s p ≡ Some r → wakes s r ≡ false)

@@ -107,7 +107,7 @@ step_noted rs p c next after at comes e ns noted is n =
 -- ---- going through them
 
 -- all lie above n
-all_above : (n : ℕ) (ns : List ℕ) → AllAbove n ns → numbers_above n ns ≡ ns
+pub all_above : (n : ℕ) (ns : List ℕ) → AllAbove n ns → numbers_above n ns ≡ ns
 all_above n [] a = refl
 all_above n (m ∷ ms) a = let less = a.0 in let rest = all_above n ms a.1 in grind (arith, less, rest)
 

@@ -19,7 +19,7 @@ ghost use Rattle.posix.specs.declared.process.Blocked.TheVariants as blocked;
 ghost use Rattle.life.specs.Consoles.{terminal_of, hangs_up as hangs_up_with, IsPlaceOf, IsKnownBy, IsForgottenAt, AreReaders};
 ghost use Rattle.tty.specs.Lines.{Takes};
 
-use crate::asking::ask;
+use crate::asking::{ask, take_off};
 use crate::machine::Machine;
 use jobs::JobTable;
 use pidset::PidSet;
@@ -216,10 +216,11 @@ impl<K: Kin> Machine<K> {
         ensures losing { self.new.losing ≡ self.old.losing }
         ensures stale { self.new.stale ≡ self.old.stale }
         ensures reads { self.new.reads ≤ self.old.reads + 1 }
+        ensures regular { IsRegular self.new.state }
     {
         let place = self.reads_from(pid);
         know(&mut self.readers, place, pid);
-        self.to_ask.remove(pid);
+        take_off(&mut self.to_ask, pid);
     }
 
     /// A process is to be asked where it is there and has no place.

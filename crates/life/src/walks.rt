@@ -1,13 +1,12 @@
 //! Walks over processes, from the least number on. Whoever goes over several processes does it by these, or
 //! from member to member of a process group.
 
-ghost use Rattle.std.specs.Prelude.{◌≡◌, ◌+◌, ◌≤◌, ℕ, true, IsSome, slice_get};
+ghost use Rattle.std.specs.Prelude.{◌≡◌, ◌+◌, ◌≤◌, IsSome, slice_get};
 ghost use Rattle.posix.specs.Tables.{IsNext, first_pid, above, next_above, children_in, next_sibling as next_sibling_of};
-ghost use Rattle.posix.specs.States.{process, is_in};
+ghost use Rattle.posix.specs.States.{process};
 ghost use Rattle.posix.specs.Regular.{IsRegular};
 ghost use Rattle.posix.specs.Settle.{wakes, NoWakeIsLost};
 ghost use Rattle.posix.specs.Waits.{reporting_in};
-ghost use Rattle.pidset.specs.Numbers.{numbers_above, Rises};
 
 use crate::machine::Machine;
 use posix::Pid;
@@ -62,15 +61,13 @@ impl<K: Kin> Machine<K> {
         self.reporting.next_child(parent, after)
     }
 
-    /// Who is to be asked next, after the number `after`, whether it can act: nobody between them has to be
-    /// given a place, and where nobody comes next nobody above `after` has.
-    pub fn next_to_ask(&self, after: Pid) -> Option<Pid>
-        ensures next { IsNext (wakes self.now.state) after self.now.state.processes result }
-        ensures value { result ≡ slice_get (numbers_above after self.now.asked) 0 }
-        ensures rising { Rises self.now.asked }
-        ensures there { (p : ℕ) → is_in p self.now.asked ≡ true → IsSome (process self.now.state p) }
+    /// Who is to be asked first whether it can act: nobody with a lower number has to be given a place, and where
+    /// nobody is to be asked nobody has.
+    pub fn first_to_ask(&self) -> Option<Pid>
+        ensures next { IsNext (wakes self.now.state) 0 self.now.state.processes result }
+        ensures value { result ≡ slice_get self.now.asked 0 }
         ensures regular { IsRegular self.now.state }
     {
-        self.to_ask.next_above(after)
+        self.to_ask.first()
     }
 }

@@ -187,9 +187,12 @@ point_at f xs up n (Err i) range parted =
       after = some_at f xs i (λ m. n < m) (λ d h. ranked _ n _ (sym (p.1 i d (omega arith) h)));
     }
 
--- a number above the last item's goes to the end
+-- the last item's number is the last one
+pub last_number : {X : Type 0} (f : X → ℕ) (xs : List X) (x : X) → slice_get xs (length xs - 1) ≡ Some x → IsNumberAt (map f xs) (f x) (length xs - 1)
+last_number f xs x e = slice_get-map f xs (length xs - 1) ∙ ap (option_map f) e
+
+-- a number above it goes to the end
 pub point_end : {X : Type 0} (f : X → ℕ) (xs : List X) → Rises (map f xs) → (n : ℕ) (x : X) → slice_get xs (length xs - 1) ≡ Some x → f x < n → IsInsertionPoint (map f xs) n (length xs)
 point_end f xs up n x e lt =
     let long = length-map xs f in
-    let last : slice_get (map f xs) (length (map f xs) - 1) ≡ Some (f x) = ap (λ k. slice_get (map f xs) (k - 1)) long ∙ slice_get-map f xs (length xs - 1) ∙ ap (option_map f) e in
-    subst (IsInsertionPoint (map f xs) n) long (point_last (map f xs) up n (f x) last lt)
+    subst (IsInsertionPoint (map f xs) n) long (point_last (map f xs) up n (f x) (ap (λ k. slice_get (map f xs) (k - 1)) long ∙ last_number f xs x e) lt)

@@ -35,9 +35,13 @@ pub fn search<T: Numbered, K: Numbered>(items: &[T], key: &K) -> Result<usize, u
     let Some(last) = items.last() else {
         return Err(0);
     };
-    // Most numbers that go in are above all others.
-    if last.number() < number {
+    // Most numbers that go in are above all others, and most that are looked for are the last one.
+    let greatest = last.number();
+    if greatest < number {
         return Err(items.len());
+    }
+    if greatest == number {
+        return Ok(items.len() - 1);
     }
     items.binary_search_by_key(&number, |item| item.number())
 }
