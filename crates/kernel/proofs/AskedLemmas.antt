@@ -31,7 +31,7 @@ same_processes s p = same_records s (process s p)
 placed_rests : (s : State) (p : ℕ) (r : Process) → r.pid ≡ p → is_in p s.order ≡ true → wakes s r ≡ false
 placed_rests s p r named place = ap (λ n. not (is_in n s.order) && can_act s r) named ∙ ap (λ b. not b && can_act s r) place
 
-still_rests : (s : State) (r : Process) → can_act s r ≡ false → wakes s r ≡ false
+pub still_rests : (s : State) (r : Process) → can_act s r ≡ false → wakes s r ≡ false
 still_rests s r still = ap (λ b. not (is_in r.pid s.order) && b) still ∙ neither (not (is_in r.pid s.order))
   where
     neither : (b : Bool) → (b && false) ≡ false

@@ -5,3 +5,4 @@ pub mod PlainLemmas
 pub mod BurstLemmas
 pub mod AskedLemmas
 pub mod AgainLemmas
+pub mod BlockLemmas

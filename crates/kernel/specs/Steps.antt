@@ -21,6 +21,10 @@ use Rattle.life.specs.declared.noted_bursts.Note.{Note}
 use Rattle.life.specs.NotedBursts.{StepsTaken, most_notes, exec_with_notes}
 use Rattle.calls.specs.Outcomes.{IsActing, is_own}
 
+-- No signal is chosen for p.
+abbrev pub IsFree : State → ℕ → Type 0
+IsFree s p = (me : Process) → process s p ≡ Some me → chosen me.life me.signals ≡ None
+
 -- p may begin the call so.
 abbrev pub Begins : State → ℕ → Call → List Entry → State → Type 0
 Begins old p call entries new = (me : Process) → process old p ≡ Some me
@@ -107,6 +111,7 @@ noted_lines p notes = map (note_line p) notes
 pub record ComesTo (s : State) (p : ℕ) (call : Call) : Type 0 where
   pub going : s.halted ≡ false
   pub acting : IsActing s p
+  pub free : IsFree s p
   pub begins : (granted : Bool) (me : Process) → process s p ≡ Some me → step granted s (current_process s) ≡ begin_call s me (attempt granted s me call)
 
 -- The steps after number before, up to number last, lead from old to new, and show these notes of p; nobody

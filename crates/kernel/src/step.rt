@@ -5,16 +5,18 @@ ghost use Rattle.std.specs.Prelude.{◌≡◌, ◌≢◌, ◌+◌, [], ◌<◌, 
 ghost use Rattle.posix.specs.declared.call.Call.{Call as CallValue};
 ghost use Rattle.posix.specs.Processes.{Process};
 ghost use Rattle.posix.specs.Choice.{chosen};
-ghost use Rattle.posix.specs.States.{process, current_process};
+ghost use Rattle.posix.specs.States.{process, current_process, change, lose_place as losing_place};
+ghost use Rattle.posix.specs.Outcomes.{Block};
+ghost use Rattle.posix.specs.Waits.{wait};
 ghost use Rattle.posix.specs.Execute.{exec_one};
-ghost use Rattle.posix.specs.Step.{code_of, tick as ticking, go_on as going_on, IsStep};
+ghost use Rattle.posix.specs.Step.{code_of, enter as entered, tick as ticking, go_on as going_on, IsStep};
 ghost use Rattle.posix.specs.Alarms.{most_ticks, has_alarms};
 ghost use Rattle.posix.specs.Attempts.{attempt_again};
 ghost use Rattle.posix.specs.Regular.{IsPlaced, IsRegular};
 ghost use Rattle.posix.specs.Settle.{IsSettled};
 ghost use Rattle.proctable.specs.Body.{facts_of};
 ghost use Rattle.calls.specs.Outcomes.{IsActing, CostsAtMost, is_own};
-ghost use Rattle.kernel.specs.Steps.{ActsAs, Begins, Bursts, ComesTo, Happens, RunsInstruction, Steps, next_changes_one, changes_one, event_changes_one, is_followed_by_step, runner, taken_at_once};
+ghost use Rattle.kernel.specs.Steps.{ActsAs, Begins, Bursts, ComesTo, Happens, IsFree, RunsInstruction, Steps, next_changes_one, changes_one, event_changes_one, is_followed_by_step, runner, taken_at_once};
 
 use crate::settle::settle;
 use calls::delivery::{deliver, end, fault};
@@ -24,11 +26,27 @@ use life::{Machine, Notes};
 use posix::{Blocked, Call, Entry, Event, Pid, Sig, Status, Trap};
 use proctable::{Facts, Kin};
 
-/// A process that has a place asks for a call. Where it has to wait it is blocked in the call and loses
-/// its place; where the call begins again it keeps the place.
+/// A process for which no signal is chosen has begun a call in which it has to wait: it is blocked in it, and loses
+/// its place. Where it has looked for a child, and found that it has to wait, it isn't asked again.
+fn block<K: Kin>(machine: &mut Machine<K>, pid: Pid, call: Call, blocked: Blocked)
+    requires acting { IsActing machine.old.state pid }
+    requires free { IsFree machine.old.state pid }
+    requires waits { (me : Process) → process machine.old.state pid ≡ Some me → call ≡ Call.Waitpid → wait machine.old.state me ≡ Block blocked }
+    ensures state { machine.new.state ≡ losing_place (change machine.old.state pid (entered blocked)) pid }
+{
+    machine.own(pid).enter(blocked);
+    machine.lose_place(pid);
+    if let Call::Waitpid = call {
+        machine.asked(pid);
+    }
+}
+
+/// A process that has a place, and for which no signal is chosen, asks for a call. Where it has to wait it is
+/// blocked in the call and loses its place; where the call begins again it keeps the place.
 #[inline(never)]
 fn begin_call<K: Kin>(machine: &mut Machine<K>, pid: Pid, call: Call, entries: &mut Entries)
     requires acting { IsActing machine.old.state pid }
+    requires free { IsFree machine.old.state pid }
     requires births { machine.old.state.births + 1 < 2 ^ 64 }
     requires time { machine.old.state.ticks + most_ticks < 2 ^ 64 }
     requires none { entries.old.items ≡ [] }
@@ -37,10 +55,7 @@ fn begin_call<K: Kin>(machine: &mut Machine<K>, pid: Pid, call: Call, entries: &
 {
     match attempt(machine, pid, call, entries) {
         Attempt::Done | Attempt::Again => {}
-        Attempt::Block(blocked) => {
-            machine.own(pid).enter(blocked);
-            machine.lose_place(pid);
-        }
+        Attempt::Block(blocked) => block(machine, pid, call, blocked),
     }
 }
 
@@ -71,10 +86,12 @@ fn go_on<K: Kin>(
     }
 }
 
-/// A process that has a place, and runs this program, runs the instruction at its pc.
+/// A process that has a place, and for which no signal is chosen, and runs this program, runs the instruction at
+/// its pc.
 #[tactic(auto, unfolding(posix::specs::Step::after_trap))]
 fn run_instruction<K: Kin>(machine: &mut Machine<K>, pid: Pid, program: u8, entries: &mut Entries)
     requires acting { IsActing machine.old.state pid }
+    requires free { IsFree machine.old.state pid }
     requires program { (me : Process) → process machine.old.state pid ≡ Some me → me.program ≡ program }
     requires births { machine.old.state.births + 1 < 2 ^ 64 }
     requires time { machine.old.state.ticks + most_ticks < 2 ^ 64 }
