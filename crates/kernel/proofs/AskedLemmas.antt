@@ -5,6 +5,7 @@ use Rattle.std.proofs.lemmas.Bool.{eqb-true, eqb-false, eq-eqb, ltb-true, ltb-fa
 use Rattle.std.proofs.lemmas.Bool.Decides.{nat_tests}
 use Rattle.std.proofs.lemmas.List.Sums.{length-filter, count_by-le-length}
 use Rattle.std.proofs.lemmas.Option.{IfSome_then}
+use Rattle.std.proofs.Math.Bool.{and-false}
 use Rattle.posix.specs.Processes.{Process}
 use Rattle.posix.specs.Tables.{IsNext, lookup, next_above}
 use Rattle.posix.specs.States.{State, process, is_in, without}
@@ -32,11 +33,7 @@ placed_rests : (s : State) (p : ℕ) (r : Process) → r.pid ≡ p → is_in p s
 placed_rests s p r named place = ap (λ n. not (is_in n s.order) && can_act s r) named ∙ ap (λ b. not b && can_act s r) place
 
 pub still_rests : (s : State) (r : Process) → can_act s r ≡ false → wakes s r ≡ false
-still_rests s r still = ap (λ b. not (is_in r.pid s.order) && b) still ∙ neither (not (is_in r.pid s.order))
-  where
-    neither : (b : Bool) → (b && false) ≡ false
-    neither true = refl
-    neither false = refl
+still_rests s r still = ap (λ b. not (is_in r.pid s.order) && b) still ∙ and-false (not (is_in r.pid s.order))
 
 -- whoever was asked needn't be given a place any more
 pub woken_rests : (s : State) (p : ℕ) (r : Process) → process (woken s p) p ≡ Some r → wakes (woken s p) r ≡ false
@@ -71,7 +68,7 @@ rests_woken : (s : State) (o : Option Process) (r : Process) → wakes s r ≡ f
 rests_woken s None r rests = rests
 rests_woken s (Some x) r rests = elim (wakes s x) as (λ b. wakes (cond b (record s { order = s.order ++ x.pid ∷ [] }) s) r ≡ false) [ true ↦ rests_later s (x.pid ∷ []) r rests | false ↦ rests ]
 
--- once the first one who may have to be given a place has been asked, the same places are left to give as before and then to the others
+-- once the first one who may have to be given a place has been asked, giving the others theirs comes to the same
 pub first_woken : (s : State) (p : ℕ) → IsRegular s → IsRegular (woken s p) → IsNext (wakes s) 0 s.processes (Some p) → give_places (woken s p) ≡ give_places s
 unfolding woken
 first_woken s p before after first =
@@ -101,8 +98,3 @@ without_first (n ∷ ns) p first =
     let same : n ≡ p = cc in
     let rest : length (filter (λ q. not (q == p)) ns) < suc (length ns) = omega (arith, length-filter (λ q. not (q == p)) ns, count_by-le-length (λ q. not (q == p)) ns) in
     rw (eq-eqb n p same) rest
-
--- without a first one nobody is on it
-pub none_first : (ns : List ℕ) → slice_get ns 0 ≡ None → ns ≡ []
-none_first [] none = refl
-none_first (n ∷ ns) none = absurd (cc)

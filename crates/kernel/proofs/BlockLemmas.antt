@@ -1,22 +1,22 @@
 -- Who has just found that it has to wait for a child, and is blocked in that wait, can't act.
-use Rattle.std.proofs.Common.{◌≡◌, ◌≢◌, ◌==◌, ℕ, Bool, true, false, cond, ◌&&◌, ◌||◌, not, map, refl, ap, sym, ◌∙◌, List, [], ◌∷◌, Some, None, is_some}
+use Rattle.std.proofs.Common.{◌≡◌, ◌≢◌, ℕ, Bool, true, false, cond, refl, ap, sym, ◌∙◌, Some, None, is_some}
+use Rattle.std.proofs.Math.Bool.{and-false}
 use Rattle.posix.specs.declared.process.Blocked.{Blocked}
 use Rattle.posix.specs.declared.process.Blocked.TheVariants as blocked
 use Rattle.posix.specs.declared.process.Report.{Report}
 use Rattle.posix.specs.declared.process.Report.TheVariants as found
 use Rattle.posix.specs.SignalNumbers.{KILL}
-use Rattle.posix.specs.Processes.{Process, argument, is_living, is_running}
-use Rattle.posix.specs.Tables.{at, changed, children_in}
+use Rattle.posix.specs.Processes.{Process, argument, is_running}
 use Rattle.posix.specs.States.{State, change, lose_place, process}
 use Rattle.posix.specs.Outcomes.{Attempted, Block}
 use Rattle.posix.specs.Targets.{target_in}
 use Rattle.posix.specs.Waits.{wait, wait_with, report, options_in, are_known, has_option}
 use Rattle.posix.specs.Choice.{chosen}
-use Rattle.posix.specs.Generation.{is_pending}
 use Rattle.posix.specs.Attempts.{attempt_again}
 use Rattle.posix.specs.Settle.{can_act, is_block, wakes}
 use Rattle.posix.specs.Step.{enter}
-use Rattle.posix.proofs.SeeLemmas.{seen, sees, can_act_alike}
+use Rattle.posix.proofs.SeeLemmas.{can_act_alike}
+use Rattle.posix.proofs.TouchLemmas.{Unseen, sees_unseen}
 use Rattle.calls.proofs.ChosenLemmas.{changed_there, no_kill_chosen}
 use Rattle.kernel.proofs.AskedLemmas.{still_rests}
 
@@ -41,50 +41,25 @@ wait_blocks s me b e =
 
 -- ---- who is blocked
 
-keeps : (b : Blocked) (r : Process) → (enter b r).pid ≡ r.pid
+unseen_enter : (b : Blocked) → Unseen (enter b)
 unfolding enter
-keeps b r = refl
+unseen_enter b = record { pid = λ r. refl; parent = λ r. refl; group = λ r. refl; life = λ r. refl; news = λ r. refl }
 
--- who is blocked looks the same to its parent, and is the same one's child
-one_seen : (b : Blocked) (p q : ℕ) (r : Process) → ((at p (enter b) r).parent ≡ r.parent) × (seen (at p (enter b) r) ≡ seen r)
-unfolding enter
-one_seen b p q r = elim (r.pid == p) as (λ c. ((cond c (enter b r) r).parent ≡ r.parent) × (seen (cond c (enter b r) r) ≡ seen r)) [ true ↦ (refl, refl) | false ↦ (refl, refl) ]
-
-sees_blocked : (b : Blocked) (p q : ℕ) (rs : List Process) → sees q (changed p (enter b) rs) ≡ sees q rs
-unfolding sees changed children_in
-sees_blocked b p q [] = refl
-sees_blocked b p q (r ∷ rs) =
-    let one = one_seen b p q r in
-    let rest = sees_blocked b p q rs in
-    ap (λ n. map seen (cond (n == q) (at p (enter b) r ∷ children_in q (changed p (enter b) rs)) (children_in q (changed p (enter b) rs)))) one.0
-    ∙ elim (r.parent == q) as (λ c. map seen (cond c (at p (enter b) r ∷ children_in q (changed p (enter b) rs)) (children_in q (changed p (enter b) rs))) ≡ map seen (cond c (r ∷ children_in q rs) (children_in q rs))) [
-      | true ↦ ap (λ x. x ∷ map seen (children_in q (changed p (enter b) rs))) one.1 ∙ ap (λ l. seen r ∷ l) rest
-      | false ↦ rest
-    ]
-
--- neither of both ways to act
-neither : (living pending running waits signalled : Bool) → pending ≡ false → waits ≡ true → signalled ≡ false → (living && pending || running && (not waits || signalled)) ≡ false
-neither living pending running waits signalled kill block none = rw (kill, block, none) (both living running)
-  where
-    both : (living running : Bool) → (living && false || running && false) ≡ false
-    both true true = refl
-    both true false = refl
-    both false true = refl
-    both false false = refl
-
+-- who waits, with no signal, can't act
 waiter_rests : (s : State) (me : Process) → chosen me.life me.signals ≡ None → is_block (wait s me) ≡ true → can_act s (enter blocked.Waitpid me) ≡ false
 unfolding can_act enter attempt_again wait
 waiter_rests s me none waits =
     let other : chosen me.life me.signals ≢ Some KILL = λ k. let no = sym none ∙ k in absurd (cc) in
-    neither (is_living me) (is_pending me.signals KILL) (is_running me.life) (is_block (wait s me)) (is_some (chosen me.life me.signals)) (no_kill_chosen me.life me.signals other) waits (ap is_some none)
+    let signalled : is_some (chosen me.life me.signals) ≡ false = ap is_some none in
+    rw (no_kill_chosen me.life me.signals other, waits, signalled, and-false) (and-false (is_running me.life))
 
--- nor can it act once it is blocked, and has lost its place
+-- nor once it is blocked, and has lost its place
 pub blocked_rests : (s : State) (p : ℕ) (me : Process) (b : Blocked) → process s p ≡ Some me → chosen me.life me.signals ≡ None → wait s me ≡ Block b
     → (r : Process) → process (lose_place (change s p (enter b)) p) p ≡ Some r → wakes (lose_place (change s p (enter b)) p) r ≡ false
 blocked_rests s p me b here none waits r e =
     let same : b ≡ blocked.Waitpid = wait_blocks s me b waits in
-    let there = changed_there p (enter b) (keeps b) s.processes me here in
+    let there = changed_there p (enter b) (unseen_enter b).pid s.processes me here in
     let is : enter b me ≡ r = cc in
     let t = lose_place (change s p (enter b)) p in
     let still : can_act s (enter b me) ≡ false = ap (λ c. can_act s (enter c me)) same ∙ waiter_rests s me none (ap is_block waits) in
-    still_rests t r (ap (can_act t) (sym is) ∙ can_act_alike s t (enter b me) (enter b me) (record { parent = (enter b me).parent; is = refl }) refl (sees_blocked b p (enter b me).pid s.processes) ∙ still)
+    still_rests t r (ap (can_act t) (sym is) ∙ can_act_alike s t (enter b me) (enter b me) (record { parent = (enter b me).parent; is = refl }) refl (sees_unseen p (enter b me).pid (enter b) (unseen_enter b) s.processes) ∙ still)

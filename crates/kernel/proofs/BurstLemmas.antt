@@ -340,7 +340,7 @@ comes s p me call r is =
     record {
       going = r.going;
       acting = record { placed = record { what = me; found = r.here; living = r.living }; place = r.place };
-      free = λ m e. let same : me ≡ m = cc in subst (λ (x : Process). chosen x.life x.signals ≡ None) same r.none;
+      none_chosen = λ m e. let same : me ≡ m = cc in subst (λ (x : Process). chosen x.life x.signals ≡ None) same r.none;
       begins = λ granted m e.
           let same : me ≡ m = cc in
           subst (λ (x : Process). step granted s (current_process s) ≡ begin_call s x (attempt granted s x call)) same

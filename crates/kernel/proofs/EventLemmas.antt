@@ -14,7 +14,7 @@ use Rattle.posix.specs.Outcomes.{Outcome}
 use Rattle.posix.specs.Step.{IsStep}
 use Rattle.posix.proofs.CountLemmas.{Counts, counts_next}
 use Rattle.life.specs.NotedBursts.{StepsTaken}
-use Rattle.kernel.specs.Steps.{given, is_followed_by_step, with_step_behind, taken_at_once}
+use Rattle.kernel.specs.Steps.{last_given, is_followed_by_step, with_step_behind, taken_at_once}
 use Rattle.text.specs.declared.event_list.EventRun.{EventRun}
 use Rattle.text.specs.EventLists.{expanded, run_events}
 
@@ -69,7 +69,7 @@ counts_on s t x es n step births ticks =
 
 -- there is one more where one follows
 pub then_on : (s : State) (before last : ℕ) (taken : StepsTaken) → s.halted ≡ false → taken_at_once s before last (current_process s) ≡ taken → is_followed_by_step before taken.last taken.trap ≡ true
-    → given Step before last s ≡ taken.last + 1
+    → last_given Step before last s ≡ taken.last + 1
 then_on s before last taken going exact follows =
     ap (λ b. cond b (before + 1) (with_step_behind before (taken_at_once s before last (current_process s)))) going ∙ ap (with_step_behind before) exact ∙ ap (λ b. cond b (taken.last + 1) taken.last) follows
 

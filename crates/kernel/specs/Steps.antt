@@ -22,8 +22,8 @@ use Rattle.life.specs.NotedBursts.{StepsTaken, most_notes, exec_with_notes}
 use Rattle.calls.specs.Outcomes.{IsActing, is_own}
 
 -- No signal is chosen for p.
-abbrev pub IsFree : State → ℕ → Type 0
-IsFree s p = (me : Process) → process s p ≡ Some me → chosen me.life me.signals ≡ None
+abbrev pub NoneChosen : State → ℕ → Type 0
+NoneChosen s p = (me : Process) → process s p ≡ Some me → chosen me.life me.signals ≡ None
 
 -- p may begin the call so.
 abbrev pub Begins : State → ℕ → Call → List Entry → State → Type 0
@@ -95,10 +95,10 @@ abbrev pub with_step_behind : ℕ → StepsTaken → ℕ
 with_step_behind before taken = if is_followed_by_step before taken.last taken.trap then taken.last + 1 else taken.last
 
 -- the number of the last event that is given at once, from the one after number before up to number last
-abbrev pub given : Event → ℕ → ℕ → State → ℕ
-given Step before last s = if s.halted then before + 1 else with_step_behind before (taken_at_once s before last (current_process s))
-given Tick before last s = before + 1
-given (Key console byte) before last s = before + 1
+abbrev pub last_given : Event → ℕ → ℕ → State → ℕ
+last_given Step before last s = if s.halted then before + 1 else with_step_behind before (taken_at_once s before last (current_process s))
+last_given Tick before last s = before + 1
+last_given (Key console byte) before last s = before + 1
 
 -- what p noted, as lines
 abbrev pub note_line : ℕ → Note → Line
@@ -111,7 +111,7 @@ noted_lines p notes = map (note_line p) notes
 pub record ComesTo (s : State) (p : ℕ) (call : Call) : Type 0 where
   pub going : s.halted ≡ false
   pub acting : IsActing s p
-  pub free : IsFree s p
+  pub none_chosen : NoneChosen s p
   pub begins : (granted : Bool) (me : Process) → process s p ≡ Some me → step granted s (current_process s) ≡ begin_call s me (attempt granted s me call)
 
 -- The steps after number before, up to number last, lead from old to new, and show these notes of p; nobody

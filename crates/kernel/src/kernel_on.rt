@@ -7,7 +7,7 @@ ghost use Rattle.posix.specs.Runs.{RunsFrom};
 ghost use Rattle.posix.specs.Step.{IsStep};
 ghost use Rattle.posix.specs.Regular.{IsRegular};
 ghost use Rattle.text.specs.EventTexts.{most_events};
-ghost use Rattle.kernel.specs.Steps.{event_changes_one, given, noted_lines};
+ghost use Rattle.kernel.specs.Steps.{event_changes_one, last_given, noted_lines};
 ghost use Rattle.kernel.specs.Views.{KernelView};
 ghost use Rattle.life.specs.Censuses.{census_of};
 
@@ -107,7 +107,7 @@ impl<K: Kin> KernelOn<K> {
         requires some { self.old.events < last }
         requires no_notes { notes.old.items ≡ [] }
         requires none { entries.old.items ≡ [] }
-        ensures events { self.new.events ≡ given Event.Step self.old.events last self.old.state }
+        ensures events { self.new.events ≡ last_given Event.Step self.old.events last self.old.state }
         ensures from { self.old.events < self.new.events }
         ensures within { self.new.events ≤ last }
         ensures runs { RunsFrom (self.old.events + 1) self.old.state (replicate (self.new.events - self.old.events) Event.Step) (noted_lines result notes.new.items ++ numbered self.new.events entries.new.items) self.new.state }

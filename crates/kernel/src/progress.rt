@@ -7,7 +7,7 @@ ghost use Rattle.posix.specs.Printing.{print};
 ghost use Rattle.text.specs.EventTexts.{most_events};
 ghost use Rattle.sink.specs.Sinks.{Gathers, BreaksOff};
 ghost use Rattle.kernel.specs.Progress.{Writes, Stops, WritesTrace, BreaksTrace};
-ghost use Rattle.kernel.specs.Steps.{given, noted_lines};
+ghost use Rattle.kernel.specs.Steps.{last_given, noted_lines};
 
 use crate::kernel_on::KernelOn;
 use arrayvec::ArrayVec;
@@ -86,7 +86,7 @@ fn give<K: Kin>(
     requires some { kernel.old.events < last }
     requires no_notes { notes.old.items ≡ [] }
     requires none { entries.old.items ≡ [] }
-    ensures events { kernel.new.events ≡ given event kernel.old.events last kernel.old.state }
+    ensures events { kernel.new.events ≡ last_given event kernel.old.events last kernel.old.state }
     ensures from { kernel.old.events < kernel.new.events }
     ensures within { kernel.new.events ≤ last }
     ensures runs { RunsFrom (kernel.old.events + 1) kernel.old.state (replicate (kernel.new.events - kernel.old.events) event) (noted_lines result notes.new.items ++ numbered kernel.new.events entries.new.items) kernel.new.state }
@@ -116,7 +116,7 @@ fn run_some<K: Kin, S: Sink>(
     requires some { kernel.old.events < last }
     ensures ok { IfOk result (Writes (kernel.old.events + 1) kernel.old.state (replicate (kernel.new.events - kernel.old.events) event) kernel.new.state (S.seen out.old) pending.old (S.seen out.new) pending.new) }
     ensures err { OnErr result (Stops (kernel.old.events + 1) kernel.old.state (replicate (kernel.new.events - kernel.old.events) event) (S.seen out.old) pending.old (S.seen out.new)) }
-    ensures events { kernel.new.events ≡ given event kernel.old.events last kernel.old.state }
+    ensures events { kernel.new.events ≡ last_given event kernel.old.events last kernel.old.state }
     ensures from { kernel.old.events < kernel.new.events }
     ensures within { kernel.new.events ≤ last }
 {

@@ -1,11 +1,11 @@
 //! One event of the machine. What it shows is added to a list of entries that is empty before, so that
 //! an instruction that shows nothing moves none.
 
-ghost use Rattle.std.specs.Prelude.{◌≡◌, ◌≢◌, ◌+◌, [], ◌<◌, ◌≤◌, ◌^◌, Some, option_map, false, true};
+ghost use Rattle.std.specs.Prelude.{◌≡◌, ◌≢◌, ◌+◌, [], ◌<◌, ◌≤◌, ◌^◌, IsSome, Some, option_map, false, true};
 ghost use Rattle.posix.specs.declared.call.Call.{Call as CallValue};
 ghost use Rattle.posix.specs.Processes.{Process};
 ghost use Rattle.posix.specs.Choice.{chosen};
-ghost use Rattle.posix.specs.States.{process, current_process, change, lose_place as losing_place};
+ghost use Rattle.posix.specs.States.{process, current_process, change, is_in, lose_place as losing_place};
 ghost use Rattle.posix.specs.Outcomes.{Block};
 ghost use Rattle.posix.specs.Waits.{wait};
 ghost use Rattle.posix.specs.Execute.{exec_one};
@@ -16,7 +16,7 @@ ghost use Rattle.posix.specs.Regular.{IsPlaced, IsRegular};
 ghost use Rattle.posix.specs.Settle.{IsSettled};
 ghost use Rattle.proctable.specs.Body.{facts_of};
 ghost use Rattle.calls.specs.Outcomes.{IsActing, CostsAtMost, is_own};
-ghost use Rattle.kernel.specs.Steps.{ActsAs, Begins, Bursts, ComesTo, Happens, IsFree, RunsInstruction, Steps, next_changes_one, changes_one, event_changes_one, is_followed_by_step, runner, taken_at_once};
+ghost use Rattle.kernel.specs.Steps.{ActsAs, Begins, Bursts, ComesTo, Happens, NoneChosen, RunsInstruction, Steps, next_changes_one, changes_one, event_changes_one, is_followed_by_step, runner, taken_at_once};
 
 use crate::settle::settle;
 use calls::delivery::{deliver, end, fault};
@@ -26,16 +26,25 @@ use life::{Machine, Notes};
 use posix::{Blocked, Call, Entry, Event, Pid, Sig, Status, Trap};
 use proctable::{Facts, Kin};
 
-/// A process for which no signal is chosen has begun a call in which it has to wait: it is blocked in it, and loses
-/// its place. Where it has looked for a child, and found that it has to wait, it isn't asked again.
-fn block<K: Kin>(machine: &mut Machine<K>, pid: Pid, call: Call, blocked: Blocked)
-    requires acting { IsActing machine.old.state pid }
-    requires free { IsFree machine.old.state pid }
-    requires waits { (me : Process) → process machine.old.state pid ≡ Some me → call ≡ Call.Waitpid → wait machine.old.state me ≡ Block blocked }
+/// A process that is there is blocked in a call, and loses its place.
+fn enter_call<K: Kin>(machine: &mut Machine<K>, pid: Pid, blocked: Blocked)
+    requires { IsSome (process machine.old.state pid) }
     ensures state { machine.new.state ≡ losing_place (change machine.old.state pid (entered blocked)) pid }
 {
     machine.own(pid).enter(blocked);
     machine.lose_place(pid);
+}
+
+/// A process for which no signal is chosen has begun a call in which it has to wait: it is blocked in it, and loses
+/// its place. Where it has looked for a child, and found that it has to wait, it isn't asked again.
+fn block<K: Kin>(machine: &mut Machine<K>, pid: Pid, call: Call, blocked: Blocked)
+    requires acting { IsActing machine.old.state pid }
+    requires none_chosen { NoneChosen machine.old.state pid }
+    requires waits { (me : Process) → process machine.old.state pid ≡ Some me → call ≡ Call.Waitpid → wait machine.old.state me ≡ Block blocked }
+    ensures state { machine.new.state ≡ losing_place (change machine.old.state pid (entered blocked)) pid }
+    ensures asked { call ≡ Call.Waitpid → is_in pid machine.new.asked ≡ false }
+{
+    enter_call(machine, pid, blocked);
     if let Call::Waitpid = call {
         machine.asked(pid);
     }
@@ -46,7 +55,7 @@ fn block<K: Kin>(machine: &mut Machine<K>, pid: Pid, call: Call, blocked: Blocke
 #[inline(never)]
 fn begin_call<K: Kin>(machine: &mut Machine<K>, pid: Pid, call: Call, entries: &mut Entries)
     requires acting { IsActing machine.old.state pid }
-    requires free { IsFree machine.old.state pid }
+    requires none_chosen { NoneChosen machine.old.state pid }
     requires births { machine.old.state.births + 1 < 2 ^ 64 }
     requires time { machine.old.state.ticks + most_ticks < 2 ^ 64 }
     requires none { entries.old.items ≡ [] }
@@ -91,7 +100,7 @@ fn go_on<K: Kin>(
 #[tactic(auto, unfolding(posix::specs::Step::after_trap))]
 fn run_instruction<K: Kin>(machine: &mut Machine<K>, pid: Pid, program: u8, entries: &mut Entries)
     requires acting { IsActing machine.old.state pid }
-    requires free { IsFree machine.old.state pid }
+    requires none_chosen { NoneChosen machine.old.state pid }
     requires program { (me : Process) → process machine.old.state pid ≡ Some me → me.program ≡ program }
     requires births { machine.old.state.births + 1 < 2 ^ 64 }
     requires time { machine.old.state.ticks + most_ticks < 2 ^ 64 }

@@ -2,7 +2,7 @@
 use Rattle.std.proofs.Common.{◌≡◌, ◌≢◌, ℕ, ◌+◌, ◌<◌, ◌≤◌, true, false, cond, not, ◌||◌, ◌&&◌, refl, ap, sym, ◌∙◌, arith, subst, List, [], ◌∷◌, ◌++◌, length, Option, Some, None, ◌==◌, slice_get, ⊎_elim, Bool, map, zero, suc}
 use Rattle.std.specs.List.{AllByRecursion}
 use Rattle.std.specs.Option.{IfSome, IsSome}
-use Rattle.std.proofs.lemmas.Bool.{eqb-true, eq-eqb, ne_eqb, or_left, or_right, or_cases}
+use Rattle.std.proofs.lemmas.Bool.{eqb-true, eq-eqb, ne_eqb, and_parts, or_left, or_right, or_cases}
 use Rattle.std.proofs.lemmas.Option.{IfSome_then}
 use Rattle.posix.specs.Processes.{Process, first_process}
 use Rattle.posix.specs.Tables.{IsNext, lookup, at, changed, inserted, removed, reparented, adopted}
@@ -217,19 +217,12 @@ first_asked s l next i h is =
     let numbered : (q : ℕ) → is_in q l.pids ≡ true → 0 < q = λ q e. let it = there _ (h.there q e) in omega (arith, (i.bounded q it.what it.found).least, pid_looked q s.processes it.what it.found) in
     next_known (wakes s) s.processes l.pids 0 next h.rising h.covers h.there (is ∙ ap (λ ns. slice_get ns 0) (sym (all_above 0 l.pids (all_in (λ q. 0 < q) l.pids numbered))))
 
--- the only one on a list, without whom nobody is
-pub only_one : (ns : List ℕ) (p : ℕ) → length ns ≡ 1 → is_in p ns ≡ true → ns ≡ p ∷ []
-unfolding is_in
-only_one [] p one has = absurd (omega (arith, one))
-only_one (n ∷ []) p one has = elim (n == p) as (λ b. (n == p) ≡ b → (b || false) ≡ true → n ∷ [] ≡ p ∷ []) [
-  | true ↦ λ same e. ap (λ m. m ∷ []) (eqb-true n p same)
-  | false ↦ λ other e. absurd (cc)
-] refl has
-only_one (n ∷ m ∷ ns) p one has = absurd (omega (arith, one))
-
-pub none_left : (ns : List ℕ) (p : ℕ) → ns ≡ p ∷ [] → [] ≡ without p ns
-unfolding without
-none_left ns p only = rw (only, eq-eqb p p refl) refl
+-- without the only one on a list nobody is on it
+pub without_only : (ns : List ℕ) (p : ℕ) → (length ns == 1 && is_in p ns) ≡ true → [] ≡ without p ns
+unfolding is_in without
+without_only [] p only = refl
+without_only (n ∷ []) p only = elim (n == p) as (λ b. (b || false) ≡ true → [] ≡ cond (not b) (n ∷ []) []) [ true ↦ λ e. refl | false ↦ λ e. absurd (cc) ] only
+without_only (n ∷ m ∷ ns) p only = absurd (omega (arith, eqb-true (length (n ∷ m ∷ ns)) 1 (and_parts (length (n ∷ m ∷ ns) == 1) (is_in p (n ∷ m ∷ ns)) only).0))
 
 -- who was asked and needn't be given a place is taken off, where those who wait to read stay known
 pub listed_asked : {readers : List PidSetView} (s : State) (p : ℕ) (before after : PidSetView) (sets : List PidSetView) → IsListed s before readers → ((r : Process) → process s p ≡ Some r → wakes s r ≡ false)

@@ -168,7 +168,7 @@ pub walk_of : (ns : List ℕ) (next : Option ℕ) → Rises ns → next ≡ slic
 walk_of ns next up e = record { rising = up; parts = refl; comes = e }
 
 -- nothing is left where none comes next
-none_left : (left : List ℕ) → slice_get left 0 ≡ None → left ≡ []
+pub none_left : (left : List ℕ) → slice_get left 0 ≡ None → left ≡ []
 none_left [] e = refl
 none_left (n ∷ ns) e = absurd (cc)
 

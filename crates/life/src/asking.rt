@@ -1,7 +1,7 @@
 //! Who is to be asked whether it can act, and who has something to report.
 
-ghost use Rattle.std.specs.Prelude.{◌≡◌, ◌<◌, ◌∷◌, [], length, true};
-ghost use Rattle.posix.specs.States.{without};
+ghost use Rattle.std.specs.Prelude.{◌≡◌, ◌<◌, ◌==◌, ◌&&◌, length};
+ghost use Rattle.posix.specs.States.{is_in, without};
 ghost use Rattle.life.specs.Asking.{IsForgotten, asking, without_gone};
 
 use pidset::{ChildSet, PidSet};
@@ -20,15 +20,13 @@ pub(crate) fn ask(to_ask: &mut PidSet, order: &Order, pid: Pid)
 }
 
 /// Whether a process is the only one who is to be asked.
-#[tactic(auto, using(crate::proofs::AskLemmas::only_one))]
 fn is_only(to_ask: &PidSet, pid: Pid) -> bool
-    ensures { result ≡ true → to_ask.now.pids ≡ pid ∷ [] }
+    ensures { result ≡ (length to_ask.now.pids == 1 && is_in pid to_ask.now.pids) }
 {
     to_ask.len() == 1 && to_ask.has(pid)
 }
 
 /// A process isn't to be asked any more. Mostly nobody else is.
-#[tactic(auto, using(crate::proofs::AskLemmas::none_left))]
 pub(crate) fn take_off(to_ask: &mut PidSet, pid: Pid)
     ensures pids { to_ask.new.pids ≡ without pid to_ask.old.pids }
     ensures room { to_ask.new.room ≡ to_ask.old.room }

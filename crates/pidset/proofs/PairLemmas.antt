@@ -4,6 +4,7 @@ use Rattle.std.specs.List.{AllByRecursion, list_any}
 use Rattle.std.specs.Option.{IfSome, IsSome, OnSome, option_map_or}
 use Rattle.std.proofs.lemmas.Bool.{eqb-true, eqb-false, eq-eqb, ne_eqb, ltb-true, ltb-false, cases_eq, not-true, and_parts, or_left, or_right, or_cases}
 use Rattle.std.proofs.lemmas.Map.Views.{any-filter_same}
+use Rattle.std.proofs.Math.Bool.{and-false}
 use Rattle.posix.specs.States.{is_in}
 use Rattle.pidset.specs.declared.child_set.ChildOf.{ChildOf}
 use Rattle.pidset.specs.Numbers.{Rises, with_number, inserted_in_order}
@@ -18,14 +19,10 @@ pair_is : (x : ChildOf) (p c : ℕ) → x.child < 4294967296 → c < 4294967296 
 pair_is x p c low l = elim (cases_eq x.parent p) [
   | inl e ↦ elim (cases_eq x.child c) [
     | inl f ↦ rw (eq-eqb x.parent p e, eq-eqb x.child c f, eq-eqb (pair_number x) (p * 4294967296 + c) (omega (arith, e, f))) refl
-    | inr f ↦ rw (ne_eqb x.child c f, ne_eqb (pair_number x) (p * 4294967296 + c) (λ k. f (omega (arith, e, k)))) (and_false (x.parent == p))
+    | inr f ↦ rw (ne_eqb x.child c f, ne_eqb (pair_number x) (p * 4294967296 + c) (λ k. f (omega (arith, e, k)))) (and-false (x.parent == p))
   ]
   | inr e ↦ rw (ne_eqb x.parent p e, ne_eqb (pair_number x) (p * 4294967296 + c) (λ k. e (omega (arith, k, low, l)))) refl
 ]
-  where
-    and_false : (b : Bool) → (b && false) ≡ false
-    and_false true = refl
-    and_false false = refl
 
 -- a child that is there is in the range of numbers
 pub child_range : (pairs : List ChildOf) → AllByRecursion IsPair pairs → (p c : ℕ) → is_child_in p c pairs ≡ true → (1 ≤ c) × (c < 4294967296)

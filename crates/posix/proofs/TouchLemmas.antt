@@ -141,14 +141,16 @@ all_seen : (g : Process → Process) → ((r : Process) → seen (g r) ≡ seen 
 all_seen g k [] = refl
 all_seen g k (r ∷ rs) = rw (k r) (ap (λ l. seen r ∷ l) (all_seen g k rs))
 
--- one that its parent doesn't see touches p alone
-pub touches_unseen : (s : State) (p : ℕ) (f : Process → Process) → Unseen f → Touches s (change s p f) (p ∷ [])
+-- after one that its parent doesn't see everybody sees the same children
+pub sees_unseen : (p q : ℕ) (f : Process → Process) → Unseen f → (rs : List Process) → sees q (changed p f rs) ≡ sees q rs
 unfolding sees changed
+sees_unseen p q f u rs = ap (map seen) (children_map (at p f) (at_keeps (λ r. r.parent) p f u.parent) q rs) ∙ all_seen (at p f) (at_keeps seen p f (seen_same f u)) (children_in q rs)
+
+-- and it touches p alone
+pub touches_unseen : (s : State) (p : ℕ) (f : Process → Process) → Unseen f → Touches s (change s p f) (p ∷ [])
 touches_unseen s p f u q r e out =
     let found = other_back p q f u.pid (apart_first q p [] out) s.processes r e in
-    let same = ap (map seen) (children_map (at p f) (at_keeps (λ q. q.parent) p f u.parent) q s.processes)
-    ∙ all_seen (at p f) (at_keeps seen p f (seen_same f u)) (children_in q s.processes) in
-    stands s _ q r (λ h. h) found (acts_same s (change s p f) q r found refl same)
+    stands s _ q r (λ h. h) found (acts_same s (change s p f) q r found refl (sees_unseen p q f u s.processes))
 
 -- who isn't a child isn't found among the children
 not_child : (p q : ℕ) (rs : List Process) → IsRising rs → IfSome (lookup p rs) (λ r. r.parent ≢ q) → lookup p (children_in q rs) ≡ None

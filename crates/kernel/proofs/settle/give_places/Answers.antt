@@ -4,7 +4,8 @@ use Rattle.posix.specs.Settle.{give_places, wakes}
 use Rattle.posix.specs.Tables.{IsNext}
 use Rattle.posix.specs.Regular.{IsRegular}
 use Rattle.posix.proofs.SettleLemmas.{asking_begins, asking_ends}
-use Rattle.kernel.proofs.AskedLemmas.{woken_rests, first_woken, without_first, none_first}
+use Rattle.life.proofs.RousingLemmas.{none_left}
+use Rattle.kernel.proofs.AskedLemmas.{woken_rests, first_woken, without_first}
 use Rattle.kernel.proofs.settle.give_places.Goals as goal
 
 pub asked-requires : goal.asked-requires
@@ -37,4 +38,4 @@ returns-clause-state g c =
     sym (asking_ends s) ∙ asking_begins s _ c.first_to_ask.ensures.regular (subst (IsNext (wakes s) 0 s.processes) c.in_default.is c.first_to_ask.ensures.next) ∙ c.loop-pid.invariant.places
 
 pub returns-clause-asked : goal.returns-clause-asked
-returns-clause-asked g c = none_first c.loop-pid.machine.asked (sym c.first_to_ask.ensures.value ∙ c.in_default.is)
+returns-clause-asked g c = none_left c.loop-pid.machine.asked (sym c.first_to_ask.ensures.value ∙ c.in_default.is)

@@ -1,7 +1,7 @@
 use Rattle.std.proofs.Common.{◌≡◌, ◌+◌, ◌≤◌, ◌∙◌, ℕ, true, false, ap, sym, refl, subst, arith}
 use Rattle.posix.specs.declared.event.Event.TheVariants.{Step}
 use Rattle.posix.proofs.WakeLemmas.{settled_stays}
-use Rattle.kernel.specs.Steps.{Bursts, given, is_followed_by_step}
+use Rattle.kernel.specs.Steps.{Bursts, last_given, is_followed_by_step}
 use Rattle.kernel.specs.Views.{KernelView}
 use Rattle.kernel.proofs.EventLemmas.{counts_on, then_on, followed_short}
 use Rattle.kernel.proofs.RunLemmas.{step_after}
@@ -32,7 +32,7 @@ returns-in_default g c =
     let short = followed_short c.self.inside.events c.args.last b.result.last b.result.trap (omega (arith, c.requires.some, events)) follows b.ensures.short in
     let counted = then_on c.self.inside.machine.state c.self.inside.events c.args.last (record { last = b.result.last; notes = b.new.notes.items; trap = b.result.trap }) going b.ensures.taken follows in
     record {
-      events = c.event_into-in_default.ensures.events ∙ sym (subst (λ (k : KernelView). given Step k.events c.args.last k.state ≡ b.result.last + 1) c.self.view_is counted);
+      events = c.event_into-in_default.ensures.events ∙ sym (subst (λ (k : KernelView). last_given Step k.events c.args.last k.state ≡ b.result.last + 1) c.self.view_is counted);
       from = omega (arith, c.event_into-in_default.ensures.events, b.ensures.from, events);
       within = omega (arith, c.event_into-in_default.ensures.events, short);
       runs = step_after c.args.self.now.events b.result.last _ _ _ _ _ _ _ _ (subst (λ (n : ℕ). Bursts c.self.inside.machine.state n b.result.last b.result.pid b.new.notes.items b.new.machine.state) events b.ensures.runs) (omega (arith, b.ensures.from, events)) now c.event_into-in_default.ensures.step
