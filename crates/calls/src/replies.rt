@@ -90,6 +90,15 @@ fn is_question(word: i64) -> bool
     matches!(word, -1)
 }
 
+/// The flags that a register holds; none where it has a bit that is no flag's.
+fn flags_in(word: i64) -> Option<SaFlags>
+    ensures known { is_some result ≡ are_flags (cast_unsigned w64 word) }
+    ensures value { IfSome result (λ f. f.0 ≡ cast_unsigned w64 word) }
+{
+    let bits = u32::try_from(word).ok()?;
+    SaFlags::from_bits(bits)
+}
+
 /// The action in r2, r3 and r4 of a process with this of its own; none where r4 has a bit that is no
 /// flag's.
 fn action_in(own: &Own) -> Option<Action>
@@ -98,8 +107,7 @@ fn action_in(own: &Own) -> Option<Action>
 {
     let handler = handler_in(own.cpu.register(Register::SECOND_ARGUMENT));
     let mask = SigSet::from_word(own.cpu.register(Register::THIRD_ARGUMENT));
-    let bits = own.cpu.register(Register::FOURTH_ARGUMENT);
-    let flags = SaFlags::from_bits(bits.cast_unsigned())?;
+    let flags = flags_in(own.cpu.register(Register::FOURTH_ARGUMENT))?;
     Some(Action {
         handler,
         mask,
@@ -117,7 +125,7 @@ fn hold(own: &mut Own, action: &Action)
     let cpu = &mut own.cpu;
     cpu.set_register(Register::SECOND_ARGUMENT, handler_word(action.handler));
     cpu.set_register(Register::THIRD_ARGUMENT, action.mask.word());
-    cpu.set_register(Register::FOURTH_ARGUMENT, action.flags.bits().cast_signed());
+    cpu.set_register(Register::FOURTH_ARGUMENT, i64::from(action.flags.bits()));
 }
 
 /// Asks for the action for a signal, or sets it (XSH sigaction).

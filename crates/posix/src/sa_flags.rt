@@ -6,10 +6,10 @@ use bitflags::{Flag, Flags, bitflag_items};
 
 /// The flags of an action for a signal (XSH sigaction; Linux's numbers, sigaction(2)).
 #[derive(Clone, Copy, Debug, PartialEq, Eq)]
-pub struct SaFlags(u64);
+pub struct SaFlags(u32);
 
 bitflag_items! {
-    impl SaFlags: u64 {
+    impl SaFlags: u32 {
         const SA_NOCLDSTOP = 0x1;
         const SA_NOCLDWAIT = 0x2;
         const SA_SIGINFO = 0x4;
@@ -20,7 +20,7 @@ bitflag_items! {
 }
 
 impl Flags for SaFlags {
-    type Bits = u64;
+    type Bits = u32;
 
     ghost use Rattle.std.specs.Prelude.{⊤, ◌∷◌, [], codes};
 
@@ -34,11 +34,11 @@ impl Flags for SaFlags {
         SaFlags::FLAGS
     }
 
-    fn bits(&self) -> u64 {
+    fn bits(&self) -> u32 {
         self.0
     }
 
-    fn from_bits_retain(bits: u64) -> SaFlags {
+    fn from_bits_retain(bits: u32) -> SaFlags {
         SaFlags(bits)
     }
 }

@@ -18,20 +18,20 @@ use std::alloc::{AllocError, Global};
 /// A process without its number and its parent.
 #[derive(Drop)]
 pub struct Body {
-    /// 1 for process 1, 2 for the next one born, and so on.
-    pub birth: u64,
-    /// Its process group (XBD 3 Process Group ID).
-    pub group: Pid,
-    /// Its session, by the number of the leader (XBD 3 Session).
-    pub session: Pid,
+    /// What it may change of itself.
+    pub own: Own,
     /// Whether it runs, is stopped or has ended.
     pub life: Life,
     /// What no wait has reported of it yet (XSH waitpid).
     pub news: News,
+    /// Its process group (XBD 3 Process Group ID).
+    pub group: Pid,
+    /// Its session, by the number of the leader (XBD 3 Session).
+    pub session: Pid,
     /// The tick at which its alarm is due (XSH alarm).
     pub alarm: Option<u64>,
-    /// What it may change of itself.
-    pub own: Own,
+    /// 1 for process 1, 2 for the next one born, and so on.
+    pub birth: u64,
 }
 
 impl Body {

@@ -41,13 +41,13 @@ pub struct Links {
     pub next: Option<Pid>,
 }
 
-/// A process with its number and its links.
+/// A process with its number and its links. What a step reads of it stands first, in few lines of a cache.
 #[derive(Drop)]
 pub struct Node {
+    /// All but its number and where it stands.
+    pub body: Body,
     /// Its number.
     pub pid: Pid,
     /// Where it stands.
     pub links: Links,
-    /// All else.
-    pub body: Body,
 }

@@ -20,18 +20,18 @@ use umach::Cpu;
 /// life nor its news.
 #[derive(Drop)]
 pub struct Own {
-    /// Its user and group ids (credentials(7)).
-    pub creds: Creds,
-    /// Its signal mask, pending signals, actions and frames (XSH 2.4).
-    pub signals: Signals,
-    /// Whether it has run exec since its birth (XSH setpgid).
-    pub ran_exec: bool,
+    /// Its registers and its memory.
+    pub cpu: Cpu,
     /// The call that it waits in.
     pub blocked: Option<Blocked>,
     /// Its index among the programs of the world.
     pub program: u8,
-    /// Its registers and its memory.
-    pub cpu: Cpu,
+    /// Whether it has run exec since its birth (XSH setpgid).
+    pub ran_exec: bool,
+    /// Its signal mask, pending signals, actions and frames (XSH 2.4).
+    pub signals: Signals,
+    /// Its user and group ids (credentials(7)).
+    pub creds: Creds,
 }
 
 impl Own {

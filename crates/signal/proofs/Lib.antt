@@ -1,1 +1,2 @@
+pub mod FieldLemmas
 pub mod SetLemmas

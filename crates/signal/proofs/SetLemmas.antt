@@ -1,17 +1,20 @@
 -- The set of the signals that are pending, bit by bit.
-use Rattle.std.proofs.Common.{◌≡◌, ℕ, zero, suc, ◌+◌, ◌-◌, ◌*◌, ◌/◌, ◌^◌, ◌<◌, ◌≤◌, min, max, Bool, false, not, ◌&&◌, ◌==◌, List, [], ◌∷◌, length, refl, sym, ap, ◌∙◌, arith, get_or, set, Option, Some, None, is_some, find, subst, bit_and, bit_or, inl, inr}
-use Rattle.std.specs.Prelude.{replicate}
+use Rattle.std.proofs.Common.{◌≡◌, ℕ, zero, suc, ◌+◌, ◌-◌, ◌*◌, ◌/◌, ◌^◌, ◌<◌, ◌≤◌, min, max, Bool, true, false, not, ◌&&◌, ◌==◌, List, [], ◌∷◌, length, refl, sym, ap, ◌∙◌, arith, get_or, set, Option, Some, None, is_some, find, bit_and, bit_or, inl, inr}
+use Rattle.std.specs.Prelude.{replicate, if◌then◌else◌, unwrap_or}
 use Rattle.std.specs.Int.{bit_at, trailing_zeros, w64}
 use Rattle.std.specs.List.{range_with_len}
-use Rattle.std.proofs.lemmas.Bool.{cases_eq, cases_lt}
-use Rattle.std.proofs.lemmas.List.{get_or-set_same, get_or-set_other, get_or_past, length-set}
-use Rattle.std.proofs.lemmas.Nat.Bits.{bit_at_lowest, bit_at-suc, bit_at-zero, bit_at_and, bit_at_or, bit_at_not, bit_at-pow_same, bit_at-pow_other, bit_at-trailing_zeros, bit_at-lt, same_from_bits}
+use Rattle.std.proofs.lemmas.Bool.{cases_lt}
+use Rattle.std.proofs.lemmas.List.{get_or-replicate, get_or-set_same, get_or-set_other, get_or_past, length-replicate}
+use Rattle.std.proofs.lemmas.List.FromFn.{length-map-range_with_len, fill_by_all}
+use Rattle.std.proofs.lemmas.Nat.Bits.{bit_at_lowest, bit_at-suc, bit_at-zero, bit_at_and, bit_at_or, bit_at_not, bit_at-pow_same, bit_at-pow_other, bit_at-trailing_zeros, bit_at-lt, bit_at_above, same_from_bits}
 use Rattle.std.proofs.lemmas.Nat.{pow_below}
 use Rattle.posix.proofs.RangeLemmas.{find_range_none, find_range_first}
 use Rattle.posix.specs.declared.process.Carried.{Carried}
 use Rattle.posix.specs.Processes.{nothing_pending}
 use Rattle.posix.specs.SignalCalls.{set_of, bit_of}
-use Rattle.signal.specs.SignalTables.{IsPendingSet}
+use Rattle.posix.specs.Choice.{from_kernel}
+use Rattle.signal.specs.SignalTables.{TablesView, pending_at, signals_of, standard_of}
+use Rattle.signal.proofs.FieldLemmas.{made_at, set_made}
 
 bit_below : (o : Option Carried) → bit_of o < 2
 bit_below None = omega arith
@@ -29,62 +32,81 @@ bit_of_set (x ∷ xs) (suc i) =
     let others : (2 * set_of xs + bit_of x) / 2 ≡ set_of xs = omega arith in
     bit_at-suc (2 * set_of xs + bit_of x) i ∙ ap (λ n. bit_at n i) others ∙ bit_of_set xs i
 
-bit_with : (xs : List (Option Carried)) (i j : ℕ) (c : Carried) → i < length xs → max (bit_of (get_or xs j None)) (bit_at (2 ^ i) j) ≡ bit_of (get_or (set xs i (Some c)) j None)
-bit_with xs i j c l = elim (cases_eq j i) [
-  | inl e ↦ rw (e, bit_at-pow_same i, get_or-set_same xs i (Some c) None l) (omega (arith, bit_below (get_or xs i None)))
-  | inr ne ↦ rw (bit_at-pow_other i j ne, get_or-set_other xs i j (Some c) None ne) (omega arith)
-]
-
--- one signal more is the union with its set
-pub set_with : (xs : List (Option Carried)) (i : ℕ) (c : Carried) → i < length xs → set_of (set xs i (Some c)) ≡ bit_or (set_of xs) (2 ^ i)
-set_with xs i c l = same_from_bits (set_of (set xs i (Some c))) (bit_or (set_of xs) (2 ^ i)) (λ j.
-    bit_of_set (set xs i (Some c)) j
-    ∙ sym (bit_at_or (set_of xs) (2 ^ i) j ∙ ap (λ b. max b (bit_at (2 ^ i) j)) (bit_of_set xs j) ∙ bit_with xs i j c l))
-
 -- of 64 bits those that aren't in another set
 not_in : (b j : ℕ) → b < 2 ^ 64 → j < 64 → bit_at (2 ^ 64 - 1 - b) j ≡ 1 - bit_at b j
 not_in b j h l = bit_at_not w64 b j h l
 
-bit_without : (xs : List (Option Carried)) (i j : ℕ) → i < length xs → length xs ≤ 64 → min (bit_of (get_or xs j None)) (bit_at (2 ^ 64 - 1 - 2 ^ i) j) ≡ bit_of (get_or (set xs i None) j None)
-bit_without xs i j l n = elim (cases_lt j 64) [
-  | inl small ↦ rw (not_in (2 ^ i) j (pow_below i 64 (omega (arith, l, n))) small) (elim (cases_eq j i) [
-    | inl e ↦ rw (e, bit_at-pow_same i, get_or-set_same xs i None None l) (omega arith)
-    | inr ne ↦ rw (bit_at-pow_other i j ne, get_or-set_other xs i j None None ne) (omega (arith, bit_below (get_or xs j None)))
-  ])
-  | inr large ↦ rw (get_or_past xs j None (omega (arith, n, large)), get_or_past (set xs i None) j None (omega (arith, n, large, length-set xs i None))) (omega arith)
-]
+-- ---- what is pending by the set of its signals
+
+pub length_standard : (p : ℕ) (cs : List Carried) → length (standard_of p cs) ≡ 31
+unfolding standard_of
+length_standard p cs = length-map-range_with_len (pending_at p cs) 0 31
+
+pub pending_there : (p : ℕ) (cs : List Carried) (i : ℕ) → i < 31 → get_or (standard_of p cs) i None ≡ pending_at p cs i
+unfolding standard_of
+pending_there p cs i l = made_at (pending_at p cs) 31 i None l
+
+pending_by : (n m : ℕ) (c d : Carried) → n ≡ m → c ≡ d → (if n == 1 then Some c else None) ≡ (if m == 1 then Some d else None)
+pending_by n m c d e f = cc
+
+-- without a signal nothing is
+pub none_pending : (cs : List Carried) → standard_of 0 cs ≡ nothing_pending
+unfolding standard_of nothing_pending
+none_pending cs = sym (fill_by_all (pending_at 0 cs) (replicate 31 None) 31 None (length-replicate {A = Option Carried} 31 None) (λ k l.
+    get_or-replicate 31 k None None l ∙ sym (ap (λ n. if n == 1 then Some (get_or cs k from_kernel) else None) (bit_at-zero k))))
+
+pub without_pending : (mask : ℕ) (t : TablesView) → signals_of mask 0 t ≡ record (signals_of mask 0 t) { standard = nothing_pending }
+without_pending mask t = ap (λ (xs : List (Option Carried)). record (signals_of mask 0 t) { standard = xs }) (none_pending t.carried)
+
+bit_kept : (n : ℕ) (c : Carried) → n < 2 → bit_of (if n == 1 then Some c else None) ≡ n
+bit_kept zero c l = refl
+bit_kept (suc zero) c l = refl
+bit_kept (suc (suc n)) c l = absurd (omega (arith, l))
+
+-- the set is that of what is pending
+pub set_is : (p : ℕ) (cs : List Carried) → p < 2 ^ 31 → set_of (standard_of p cs) ≡ p
+set_is p cs small = same_from_bits (set_of (standard_of p cs)) p (λ j. bit_of_set (standard_of p cs) j ∙ elim (cases_lt j 31) [
+  | inl l ↦ ap bit_of (pending_there p cs j l) ∙ bit_kept (bit_at p j) (get_or cs j from_kernel) (bit_at-lt p j)
+  | inr past ↦ ap bit_of (get_or_past (standard_of p cs) j None (omega (arith, past, length_standard p cs))) ∙ sym (bit_at_above p 31 j small past)
+])
+
+-- one signal more, with what it came with
+pub one_more : (p : ℕ) (cs : List Carried) (i : ℕ) (c : Carried) → i < 31 → length cs ≡ 31 → standard_of (bit_or p (2 ^ i)) (set cs i c) ≡ set (standard_of p cs) i (Some c)
+unfolding standard_of
+one_more p cs i c l n =
+    let g = pending_at (bit_or p (2 ^ i)) (set cs i c) in
+    let there : bit_at (bit_or p (2 ^ i)) i ≡ 1 = bit_at_or p (2 ^ i) i ∙ ap (max (bit_at p i)) (bit_at-pow_same i) ∙ omega (arith, bit_at-lt p i) in
+    let is : g i ≡ Some c = pending_by _ 1 _ c there (get_or-set_same cs i c from_kernel (omega (arith, l, n))) in
+    sym (ap (set (standard_of p cs) i) (sym is) ∙ set_made (pending_at p cs) g 31 i None (λ j low ne.
+    let same : bit_at (bit_or p (2 ^ i)) j ≡ bit_at p j = bit_at_or p (2 ^ i) j ∙ ap (max (bit_at p j)) (bit_at-pow_other i j ne) ∙ omega arith in
+    pending_by _ _ _ _ (sym same) (sym (get_or-set_other cs i j c from_kernel ne))))
 
 -- one signal less
-pub set_without : (xs : List (Option Carried)) (i : ℕ) → i < length xs → length xs ≤ 64 → set_of (set xs i None) ≡ bit_and (set_of xs) (2 ^ 64 - 1 - 2 ^ i)
-set_without xs i l n = same_from_bits (set_of (set xs i None)) (bit_and (set_of xs) (2 ^ 64 - 1 - 2 ^ i)) (λ j.
-    bit_of_set (set xs i None) j
-    ∙ sym (bit_at_and (set_of xs) (2 ^ 64 - 1 - 2 ^ i) j ∙ ap (λ b. min b (bit_at (2 ^ 64 - 1 - 2 ^ i) j)) (bit_of_set xs j) ∙ bit_without xs i j l n))
+pub one_less : (p : ℕ) (cs : List Carried) (i : ℕ) → i < 64 → standard_of (bit_and p (2 ^ 64 - 1 - 2 ^ i)) cs ≡ set (standard_of p cs) i None
+unfolding standard_of
+one_less p cs i l =
+    let q = bit_and p (2 ^ 64 - 1 - 2 ^ i) in
+    let bits : (j : ℕ) → j < 64 → bit_at q j ≡ min (bit_at p j) (1 - bit_at (2 ^ i) j) = λ j low. bit_at_and p (2 ^ 64 - 1 - 2 ^ i) j ∙ ap (min (bit_at p j)) (not_in (2 ^ i) j (pow_below i 64 l) low) in
+    let gone : bit_at q i ≡ 0 = bits i l ∙ ap (λ n. min (bit_at p i) (1 - n)) (bit_at-pow_same i) ∙ omega arith in
+    let is : pending_at q cs i ≡ None = ap (λ n. if n == 1 then Some (get_or cs i from_kernel) else None) gone in
+    sym (ap (set (standard_of p cs) i) (sym is) ∙ set_made (pending_at p cs) (pending_at q cs) 31 i None (λ j low ne.
+    let same : bit_at q j ≡ bit_at p j = bits j (omega (arith, low)) ∙ ap (λ n. min (bit_at p j) (1 - n)) (bit_at-pow_other i j ne) ∙ omega (arith, bit_at-lt p j) in
+    pending_by _ _ _ _ (sym same) refl))
 
--- ---- the set beside what the signals came with
+-- what a pending signal came with stands at its place
+pub carried_there : (p : ℕ) (cs : List Carried) (i : ℕ) → is_some (get_or (standard_of p cs) i None) ≡ true → get_or cs i from_kernel ≡ unwrap_or (get_or (standard_of p cs) i None) from_kernel
+carried_there p cs i e = elim (cases_lt i 31) [
+  | inl l ↦ by_bit (bit_at p i == 1) (sym (ap is_some (pending_there p cs i l)) ∙ e) ∙ sym (ap (λ o. unwrap_or o from_kernel) (pending_there p cs i l))
+  | inr past ↦ absurd (let none = ap is_some (get_or_past (standard_of p cs) i None (omega (arith, past, length_standard p cs))) in cc)
+]
+  where
+    by_bit : (b : Bool) → is_some (if b then Some (get_or cs i from_kernel) else None) ≡ true → get_or cs i from_kernel ≡ unwrap_or (if b then Some (get_or cs i from_kernel) else None) from_kernel
+    by_bit true e = refl
+    by_bit false e = absurd (cc)
 
-all_none : (xs : List (Option Carried)) → 0 ≡ set_of xs → xs ≡ replicate (length xs) None
-unfolding set_of
-all_none [] e = refl
-all_none (None ∷ xs) e = ap (λ os. None ∷ os) (all_none xs (omega (arith, e)))
-all_none (Some c ∷ xs) e = absurd (omega (arith, e))
-
--- where the set is empty nothing is pending
-pub none_pending : (xs : List (Option Carried)) (p : ℕ) → IsPendingSet p xs → 0 ≡ p → xs ≡ nothing_pending
-unfolding nothing_pending
-none_pending xs p k e = all_none xs (e ∙ k.0) ∙ ap (λ n. replicate n None) k.1
-
--- one signal more is pending
-pub inserted : (xs ys : List (Option Carried)) (i p q : ℕ) (c : Carried) → IsPendingSet p xs → i < 31 → ys ≡ set xs i (Some c) → q ≡ bit_or p (2 ^ i) → IsPendingSet q ys
-inserted xs ys i p q c k l e more =
-    let within : i < length xs = omega (arith, k.1, l) in
-    subst (IsPendingSet q) (sym e) (more ∙ ap (λ n. bit_or n (2 ^ i)) k.0 ∙ sym (set_with xs i c within), length-set xs i (Some c) ∙ k.1)
-
--- one signal less is pending
-pub removed : (xs ys : List (Option Carried)) (i p q : ℕ) → IsPendingSet p xs → i < 31 → ys ≡ set xs i None → q ≡ bit_and p (2 ^ 64 - 1 - 2 ^ i) → IsPendingSet q ys
-removed xs ys i p q k l e less =
-    let within : i < length xs = omega (arith, k.1, l) in
-    let few : length xs ≤ 64 = omega (arith, k.1) in
-    subst (IsPendingSet q) (sym e) (less ∙ ap (λ n. bit_and n (2 ^ 64 - 1 - 2 ^ i)) k.0 ∙ sym (set_without xs i within few), length-set xs i None ∙ k.1)
+pub nothing_there : (o : Option Carried) → is_some o ≡ false → from_kernel ≡ unwrap_or o from_kernel
+nothing_there None e = refl
+nothing_there (Some c) e = absurd (cc)
 
 -- ---- one signal
 

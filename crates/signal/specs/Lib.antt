@@ -1,1 +1,2 @@
+pub mod ActionFields
 pub mod SignalTables

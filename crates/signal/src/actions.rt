@@ -1,12 +1,10 @@
 //! What a process does with signals.
 
-ghost use Rattle.std.specs.Prelude.{◌≡◌, map};
+ghost use Rattle.std.specs.Prelude.{◌≡◌};
 ghost use Rattle.posix.specs.Generation.{does_nothing as does_nothing_with, is_caught as is_caught_by, is_harmless as is_harmless_action};
 ghost use Rattle.posix.specs.SignalNumbers.{is_stop_signal as is_stop_number};
-ghost use Rattle.posix.specs.Programs.{action_on_exec};
 
-use bitflags::Flags;
-use posix::{Action, DefaultAction, Handler, SaFlags, Sig, SigSet};
+use posix::{DefaultAction, Handler, Sig};
 
 /// Whether a default action leaves a process as it is.
 fn is_harmless(action: DefaultAction) -> bool
@@ -37,28 +35,5 @@ pub fn does_nothing(handler: Handler, sig: Sig) -> bool
         Handler::Default => is_harmless(sig.default_action()),
         Handler::Ignore => true,
         Handler::At(_) => false,
-    }
-}
-
-/// What another program leaves of an action: caught signals go to the default, mask and flags go (XSH exec).
-fn on_exec(action: &Action) -> Action
-    ensures { result ≡ action_on_exec action.now }
-{
-    Action {
-        handler: match action.handler {
-            Handler::Ignore => Handler::Ignore,
-            Handler::Default | Handler::At(_) => Handler::Default,
-        },
-        mask: SigSet::EMPTY,
-        flags: SaFlags::empty(),
-    }
-}
-
-/// What another program leaves of all actions.
-pub fn reset_all(actions: &mut [Action])
-    ensures { actions.new ≡ map action_on_exec actions.old }
-{
-    for action in actions.iter_mut() {
-        *action = on_exec(action);
     }
 }

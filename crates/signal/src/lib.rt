@@ -2,6 +2,7 @@
 //! that haven't returned.
 #![tactic(auto)]
 
+mod action_fields;
 mod actions;
 pub mod interrupts;
 pub mod signals;

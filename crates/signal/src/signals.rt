@@ -9,7 +9,6 @@ ghost use Rattle.posix.specs.Choice.{chosen, least_ready as least_ready_of, carr
 ghost use Rattle.posix.specs.Handlers.{is_full as is_full_of, handler_mask as handler_mask_of, entered, at_handler, after_entry as after_entry_of, handler_arguments, newest_frame, left, restore, set_action as set_action_of, set_mask as set_mask_of, give_mask};
 ghost use Rattle.posix.specs.Programs.{signals_on_exec};
 ghost use Rattle.posix.specs.SignalCalls.{set_of};
-ghost use Rattle.signal.specs.SignalTables.{IsPendingSet};
 
 use crate::actions::{does_nothing, is_caught, is_stop_signal};
 use crate::tables::{FramesFull, LazyTables, NoFrame};
@@ -34,21 +33,20 @@ pub struct Signals {
 }
 
 impl Model for Signals {
-    ghost use Rattle.std.specs.Prelude.{[]};
+    ghost use Rattle.std.specs.Prelude.{◌≡◌, ◌<◌, ◌^◌, length};
     ghost use Rattle.posix.specs.Processes.{Signals as SignalsOf};
-    ghost use Rattle.signal.specs.SignalTables.{IsPendingSet};
+    ghost use Rattle.signal.specs.SignalTables.{signals_of};
 
     ghost Value = { SignalsOf };
 
-    ghost view = { λ s. record { mask = s.mask; standard = s.tables.carried; queue = []; actions = s.tables.actions; frames = s.tables.frames } };
+    ghost view = { λ s. signals_of s.mask s.pending s.tables };
 
-    ghost invariant = { λ s. IsPendingSet s.pending s.tables.carried };
+    ghost invariant = { λ s. (s.pending < 2 ^ 31) × (length s.tables.carried ≡ 31) };
 }
 
 impl Signals {
     /// Those of process 1 at boot: none is blocked or pending, the actions are the defaults. An error where
     /// the host has no memory for them.
-    #[tactic(auto, unfolding(posix::specs::Processes::nothing_pending, posix::specs::SignalCalls::set_of))]
     pub fn initial(alloc: Global) -> Result<Signals, AllocError>
         ensures { IfOk result (λ s. s ≡ initial_signals) }
     {
@@ -61,25 +59,20 @@ impl Signals {
 
     /// Those of a child that is born now: the same, but nothing is pending (XSH fork). An error where the
     /// host has no memory for them.
-    #[tactic(auto, unfolding(posix::specs::Processes::nothing_pending, posix::specs::SignalCalls::set_of))]
     pub fn fork(&self) -> Result<Signals, AllocError>
         ensures { IfOk result (λ s. s ≡ record self.now { standard = nothing_pending; queue = [] }) }
     {
-        let mut tables = self.tables.try_clone()?;
-        discard(&mut tables, self.pending);
         Ok(Signals {
             mask: self.mask,
             pending: SigSet::EMPTY,
-            tables,
+            tables: self.tables.try_clone()?,
         })
     }
 
     /// Those of a process that has ended: nothing is pending, and there is no frame; the rest stays.
-    #[tactic(auto, unfolding(posix::specs::Processes::nothing_pending, posix::specs::SignalCalls::set_of))]
     pub fn forget(&mut self)
         ensures { self.new ≡ forgotten self.old }
     {
-        discard(&mut self.tables, self.pending);
         self.pending = SigSet::EMPTY;
         self.tables.clear_frames();
     }
@@ -139,12 +132,23 @@ impl Signals {
         self.pending.contains(sig)
     }
 
+    /// What a signal came with, or value 0 and sender 0 where it isn't pending.
+    fn carried(&self, sig: Sig) -> Carried
+        ensures { result ≡ carried_by sig self.now }
+    {
+        if self.is_pending(sig) {
+            self.tables.carried(sig)
+        } else {
+            Carried::FROM_KERNEL
+        }
+    }
+
     /// A signal becomes pending, with this; one that isn't a standard signal doesn't.
     fn insert(&mut self, sig: Sig, carried: Carried)
         ensures { self.new ≡ with_pending sig (Some carried) self.old }
     {
         if sig.number() <= 31 {
-            self.tables.set_carried(sig, Some(carried));
+            self.tables.set_carried(sig, carried);
             self.pending = self.pending.union(SigSet::just(sig));
         }
     }
@@ -153,10 +157,7 @@ impl Signals {
     fn remove(&mut self, sig: Sig)
         ensures { self.new ≡ with_pending sig None self.old }
     {
-        if sig.number() <= 31 {
-            self.tables.set_carried(sig, None);
-            self.pending = self.pending.except(SigSet::just(sig));
-        }
+        self.pending = self.pending.except(SigSet::just(sig));
     }
 
     // ---- generation and choice
@@ -261,9 +262,9 @@ impl Signals {
         ensures value { result ≡ carried_by sig self.old }
         ensures state { self.new ≡ taken sig self.old }
     {
-        let carried = self.tables.carried(sig);
+        let carried = self.carried(sig);
         self.remove(sig);
-        carried.unwrap_or(Carried::FROM_KERNEL)
+        carried
     }
 
     // ---- handlers
@@ -377,16 +378,6 @@ impl Signals {
         ensures { self.new ≡ give_mask set self.old }
     {
         self.mask = set.maskable();
-    }
-}
-
-/// No signal is pending any more, where these were.
-fn discard(tables: &mut LazyTables, pending: SigSet)
-    requires { IsPendingSet pending tables.old.carried }
-    ensures { tables.new ≡ record tables.old { carried = nothing_pending } }
-{
-    if !pending.is_empty() {
-        tables.clear_carried();
     }
 }
 

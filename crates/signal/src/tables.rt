@@ -1,12 +1,13 @@
 //! The tables of a process for signals.
 
 ghost use Rattle.std.specs.Prelude.{◌≡◌, ◌-◌, ◌<◌, ◌≤◌, ◌++◌, ◌∷◌, [], false, true, None, IfOk, OnOk, OnErr, length, map, take, nat_le, slice_get, slice_index_or, slice_set, vec_capacity};
-ghost use Rattle.posix.specs.Processes.{initial_action, nothing_pending};
+ghost use Rattle.posix.specs.Processes.{initial_action};
+ghost use Rattle.posix.specs.Choice.{from_kernel};
 ghost use Rattle.posix.specs.Handlers.{most_frames};
 ghost use Rattle.posix.specs.Programs.{action_on_exec};
 ghost use Rattle.signal.specs.SignalTables.{initial_tables, tables_or_blank};
 
-use crate::actions::reset_all;
+use crate::action_fields::{Actions, place};
 use bitflags::Flags;
 use posix::{Action, Carried, Frame, Handler, SaFlags, Sig, SigSet};
 use std::alloc::{AllocError, Global};
@@ -15,10 +16,10 @@ use std::marker::Model;
 /// A process's tables as they stand in memory.
 #[derive(Clone, Copy)]
 struct SignalTables {
-    /// The action for signal s, at s - 1.
-    actions: [Action; 64],
-    /// What the pending standard signal s came with, at s - 1.
-    carried: [Option<Carried>; 31],
+    /// The actions for all signals.
+    actions: Actions,
+    /// What the standard signal s came with, at s - 1, where it is pending.
+    carried: [Carried; 31],
     /// The frames of the handlers that haven't returned, the newest last, and behind them room.
     frames: [Frame; 16],
     /// How many handlers haven't returned.
@@ -56,7 +57,7 @@ pub struct NoFrame;
 
 impl LazyTables {
     /// As at boot. An error where the host has no memory for them.
-    #[tactic(auto, unfolding(posix::specs::Processes::default_actions, posix::specs::Processes::nothing_pending, crate::specs::SignalTables::blank_frames))]
+    #[tactic(auto, unfolding(posix::specs::Processes::default_actions, crate::specs::ActionFields::actions_of, crate::specs::ActionFields::blank_actions, crate::specs::SignalTables::nothing_carried, crate::specs::SignalTables::blank_frames))]
     pub fn new(alloc: Global) -> Result<LazyTables, AllocError>
         ensures { IfOk result (λ t. t ≡ initial_tables) }
     {
@@ -70,7 +71,10 @@ impl LazyTables {
         ensures { IfOk result (λ t. t ≡ self.now) }
     {
         let mut written = Vec::with_capacity(*self.written.allocator(), 1)?;
-        written.extend_from_slice(self.written.as_slice())?;
+        // Mostly nothing is written, and this spares a birth the loop over nothing.
+        if !self.written.is_empty() {
+            written.extend_from_slice(self.written.as_slice())?;
+        }
         Ok(LazyTables { written })
     }
 
@@ -80,11 +84,10 @@ impl LazyTables {
     pub fn action(&self, sig: Sig) -> Action
         ensures { result ≡ slice_index_or self.now.actions (sig - 1) initial_action }
     {
-        let place = place(sig);
         if self.written.is_empty() {
             default_action()
         } else {
-            self.written[0].actions[place]
+            self.written[0].actions.action(sig)
         }
     }
 
@@ -93,54 +96,43 @@ impl LazyTables {
         ensures { self.new ≡ record self.old { actions = slice_set self.old.actions (sig - 1) action } }
     {
         ensure_written(&mut self.written);
-        self.written[0].actions[place(sig)] = action;
+        self.written[0].actions.set(sig, action);
     }
 
     /// What another program leaves of the actions; the frames are dropped (XSH exec).
-    #[tactic(auto, unfolding(posix::specs::Processes::default_actions))]
     pub fn on_exec(&mut self)
         ensures { self.new ≡ record self.old { actions = map action_on_exec self.old.actions; frames = [] } }
     {
         if !self.written.is_empty() {
-            reset_all(&mut self.written[0].actions);
-            self.written[0].frame_count = 0;
+            let tables = &mut self.written[0];
+            tables.actions.on_exec();
+            tables.frame_count = 0;
         }
     }
 
     // ---- what pending signals came with
 
-    /// What a signal came with, if it is pending.
-    pub fn carried(&self, sig: Sig) -> Option<Carried>
-        ensures { result ≡ slice_index_or self.now.carried (sig - 1) None }
+    /// What a standard signal came with, where it is pending; for another signal as from the kernel.
+    pub fn carried(&self, sig: Sig) -> Carried
+        ensures { result ≡ slice_index_or self.now.carried (sig - 1) from_kernel }
     {
         if self.written.is_empty() {
-            return None;
+            return Carried::FROM_KERNEL;
         }
         if sig.number() <= 31 {
             self.written[0].carried[place(sig)]
         } else {
-            None
+            Carried::FROM_KERNEL
         }
     }
 
-    /// Sets what a signal came with; nothing changes where it isn't a standard signal.
-    pub fn set_carried(&mut self, sig: Sig, carried: Option<Carried>)
+    /// Sets what a standard signal comes with.
+    pub fn set_carried(&mut self, sig: Sig, carried: Carried)
+        requires { sig ≤ 31 }
         ensures { self.new ≡ record self.old { carried = slice_set self.old.carried (sig - 1) carried } }
     {
-        if sig.number() <= 31 {
-            ensure_written(&mut self.written);
-            self.written[0].carried[place(sig)] = carried;
-        }
-    }
-
-    /// Sets that no signal came with anything.
-    #[tactic(auto, unfolding(posix::specs::Processes::nothing_pending))]
-    pub fn clear_carried(&mut self)
-        ensures { self.new ≡ record self.old { carried = nothing_pending } }
-    {
-        if !self.written.is_empty() {
-            self.written[0].carried = [None; 31];
-        }
+        ensure_written(&mut self.written);
+        self.written[0].carried[place(sig)] = carried;
     }
 
     // ---- frames
@@ -196,16 +188,8 @@ fn default_action() -> Action
     }
 }
 
-/// Where a signal stands in a table.
-fn place(sig: Sig) -> usize
-    ensures value { result ≡ sig - 1 }
-    ensures within { result < 64 }
-{
-    usize::from(sig.number() - 1)
-}
-
 /// Tables are there from now on: those that were, or some in which all is as at boot.
-#[tactic(auto, unfolding(posix::specs::Processes::default_actions, posix::specs::Processes::nothing_pending, posix::specs::Processes::zero_registers, crate::specs::SignalTables::blank_frames))]
+#[tactic(auto, unfolding(posix::specs::Processes::default_actions, crate::specs::SignalTables::nothing_carried, posix::specs::Processes::zero_registers, crate::specs::SignalTables::blank_frames))]
 fn ensure_written(tables: &mut Vec<SignalTables>)
     requires { 1 ≤ vec_capacity tables.old }
     ensures there { 0 < length tables.new.items }
@@ -219,8 +203,8 @@ fn ensure_written(tables: &mut Vec<SignalTables>)
             mask: SigSet::EMPTY,
         };
         tables.push_reserved(SignalTables {
-            actions: [default_action(); 64],
-            carried: [None; 31],
+            actions: Actions::defaults(),
+            carried: [Carried::FROM_KERNEL; 31],
             frames: [frame; 16],
             frame_count: 0,
         });

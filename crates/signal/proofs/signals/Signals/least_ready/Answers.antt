@@ -7,7 +7,8 @@ use Rattle.posix.specs.declared.process.Carried.{Carried}
 use Rattle.posix.specs.Choice.{least_ready as least_ready_of}
 use Rattle.posix.specs.SignalNumbers.{is_signal}
 use Rattle.posix.proofs.RangeLemmas.{is_that}
-use Rattle.signal.proofs.SetLemmas.{none_ready, least_is, ready_set, is_ready_in}
+use Rattle.signal.specs.SignalTables.{standard_of}
+use Rattle.signal.proofs.SetLemmas.{none_ready, least_is, length_standard, ready_set, is_ready_in, set_is}
 use Rattle.signal.proofs.signals.Signals.least_ready.Goals as goal
 
 is_standard_number : (t : ℕ) → t < 31 → is_signal (t + 1) ≡ true
@@ -26,18 +27,18 @@ least_from xs mask r o n small e some fits there is =
 pub returns-then-ready-eq0 : goal.returns-then-ready-eq0
 unfolding least_ready_of
 returns-then-ready-eq0 c =
-    let xs = c.self.inside.tables.carried in
+    let xs = standard_of c.self.inside.pending c.self.inside.tables.carried in
     let mask = c.self.inside.mask in
     let small : mask < 2 ^ 64 = omega (arith, c.bits-2.type_inv, c.bits-2.ensures) in
-    let e = ap (λ n. bit_and n (2 ^ 64 - 1 - c.bits-2.result)) (c.bits.ensures ∙ c.self.invariant.0) ∙ ap (λ n. ready_set xs n) c.bits-2.ensures in
+    let e = ap (λ n. bit_and n (2 ^ 64 - 1 - c.bits-2.result)) (c.bits.ensures ∙ sym (set_is c.self.inside.pending c.self.inside.tables.carried c.self.invariant.0)) ∙ ap (λ n. ready_set xs n) c.bits-2.ensures in
     sym (none_ready xs mask small (sym e ∙ c.if-ready-eq0.true)) ∙ ap least_ready_of c.self.view_is
 
 pub returns : goal.returns
 unfolding least_ready_of
 returns c =
-    let xs = c.self.inside.tables.carried in
+    let xs = standard_of c.self.inside.pending c.self.inside.tables.carried in
     let mask = c.self.inside.mask in
     let small : mask < 2 ^ 64 = omega (arith, c.bits-2.type_inv, c.bits-2.ensures) in
-    let e = ap (λ n. bit_and n (2 ^ 64 - 1 - c.bits-2.result)) (c.bits.ensures ∙ c.self.invariant.0) ∙ ap (λ n. ready_set xs n) c.bits-2.ensures in
+    let e = ap (λ n. bit_and n (2 ^ 64 - 1 - c.bits-2.result)) (c.bits.ensures ∙ sym (set_is c.self.inside.pending c.self.inside.tables.carried c.self.invariant.0)) ∙ ap (λ n. ready_set xs n) c.bits-2.ensures in
     let fits : bit_and c.bits.result (2 ^ 64 - 1 - c.bits-2.result) < 2 ^ 64 = omega (arith, c.bits.type_inv, and_le_l c.bits.result (2 ^ 64 - 1 - c.bits-2.result)) in
-    least_from xs mask _ c.new.result c.self.invariant.1 small e c.if-ready-eq0.false fits c.new.ensures.some.1 c.new.ensures.value ∙ ap least_ready_of c.self.view_is
+    least_from xs mask _ c.new.result (length_standard c.self.inside.pending c.self.inside.tables.carried) small e c.if-ready-eq0.false fits c.new.ensures.some.1 c.new.ensures.value ∙ ap least_ready_of c.self.view_is

@@ -1,0 +1,135 @@
+//! The actions of a process for signals, by field.
+
+ghost use Rattle.std.specs.Prelude.{◌≡◌, ◌-◌, ◌<◌, map, slice_index_or, slice_set};
+ghost use Rattle.posix.specs.Processes.{initial_action};
+ghost use Rattle.posix.specs.Programs.{action_on_exec};
+ghost use Rattle.signal.specs.ActionFields.{AreFields, actions_of, blank_actions, handler_from, disposition_on_exec};
+
+use bitflags::Flags;
+use posix::{Action, Handler, SaFlags, Sig, SigSet};
+
+/// What a process does with a signal, without the address of a handler (signal(7), Signal dispositions).
+#[derive(Clone, Copy)]
+enum Disposition {
+    /// The signal's default action.
+    Default,
+    /// Nothing happens.
+    Ignore,
+    /// A handler is entered.
+    Catch,
+}
+
+/// The actions for the 64 signals. Of each field that for signal s stands at s - 1, so none is padded.
+#[derive(Clone, Copy)]
+pub struct Actions {
+    dispositions: [Disposition; 64],
+    /// Where the handlers of the signals that are caught begin.
+    addresses: [i64; 64],
+    masks: [SigSet; 64],
+    flags: [SaFlags; 64],
+}
+
+impl Actions {
+    /// The default ones.
+    #[tactic(auto, unfolding(crate::specs::ActionFields::blank_actions))]
+    pub fn defaults() -> Actions
+        ensures { result ≡ blank_actions }
+    {
+        Actions {
+            dispositions: [Disposition::Default; 64],
+            addresses: [0; 64],
+            masks: [SigSet::EMPTY; 64],
+            flags: [SaFlags::empty(); 64],
+        }
+    }
+
+    /// The action for a signal.
+    pub fn action(&self, sig: Sig) -> Action
+        requires { AreFields self.now }
+        ensures { result ≡ slice_index_or (actions_of self.now) (sig - 1) initial_action }
+    {
+        let place = place(sig);
+        Action {
+            handler: handler(self.dispositions[place], self.addresses[place]),
+            mask: self.masks[place],
+            flags: self.flags[place],
+        }
+    }
+
+    /// Sets the action for a signal.
+    pub fn set(&mut self, sig: Sig, action: Action)
+        requires { AreFields self.old }
+        ensures action { actions_of self.new ≡ slice_set (actions_of self.old) (sig - 1) action }
+        ensures fields { AreFields self.new }
+    {
+        let place = place(sig);
+        let (disposition, address) = parts(action.handler);
+        self.dispositions[place] = disposition;
+        self.addresses[place] = address;
+        self.masks[place] = action.mask;
+        self.flags[place] = action.flags;
+    }
+
+    /// What another program leaves of them: caught signals go to the default, masks and flags go (XSH exec).
+    pub fn on_exec(&mut self)
+        requires { AreFields self.old }
+        ensures actions { actions_of self.new ≡ map action_on_exec (actions_of self.old) }
+        ensures fields { AreFields self.new }
+    {
+        reset_all(&mut self.dispositions);
+        let defaults = Actions::defaults();
+        let masks = defaults.masks;
+        let flags = defaults.flags;
+        self.masks = masks;
+        self.flags = flags;
+    }
+}
+
+/// Where a signal stands in a table.
+pub fn place(sig: Sig) -> usize
+    ensures value { result ≡ sig - 1 }
+    ensures within { result < 64 }
+{
+    usize::from(sig.number() - 1)
+}
+
+/// The handler of an action.
+fn handler(disposition: Disposition, address: i64) -> Handler
+    ensures { result ≡ handler_from disposition address }
+{
+    match disposition {
+        Disposition::Default => Handler::Default,
+        Disposition::Ignore => Handler::Ignore,
+        Disposition::Catch => Handler::At(address),
+    }
+}
+
+/// A handler by its parts.
+fn parts(handler: Handler) -> (Disposition, i64)
+    ensures { handler_from result.0 result.1 ≡ handler }
+{
+    match handler {
+        Handler::Default => (Disposition::Default, 0),
+        Handler::Ignore => (Disposition::Ignore, 0),
+        Handler::At(address) => (Disposition::Catch, address),
+    }
+}
+
+/// What another program leaves of what is done with a signal: it is no longer caught (XSH exec).
+fn on_exec(disposition: Disposition) -> Disposition
+    ensures { result ≡ disposition_on_exec disposition }
+{
+    match disposition {
+        Disposition::Ignore => Disposition::Ignore,
+        Disposition::Default | Disposition::Catch => Disposition::Default,
+    }
+}
+
+/// The same of all of them.
+fn reset_all(dispositions: &mut [Disposition])
+    ensures { dispositions.new ≡ map disposition_on_exec dispositions.old }
+{
+    for disposition in dispositions.iter_mut() {
+        *disposition = on_exec(*disposition);
+    }
+}
