@@ -47,12 +47,6 @@ again_is s (outcome.Done o) xs ys n h = absurd h
 again_is s (outcome.Block b) xs ys n h = absurd h
 again_is s (outcome.Again t) xs ys n h = (ap outcome.Again (sym h.1), h.0)
 
--- where it is done, it is the definition's outcome
-pub done_is : (s : State) (a : outcome.Attempted) (xs ys : List Entry) (n : State) → xs ≡ [] → Comes s a came.Done xs ys n → a ≡ outcome.Done (outcome_of n ys)
-done_is s (outcome.Done o) xs ys n none h = ap outcome.Done (same_outcome o.state n o.entries ys (sym h.1) (sym (h.0 ∙ ap (λ (l : List Entry). l ++ o.entries) none)))
-done_is s (outcome.Block b) xs ys n none h = absurd h
-done_is s (outcome.Again t) xs ys n none h = absurd h
-
 -- a call that gives z in t: the code gave v in b, and these are the same
 pub gives_is : (s t b n : State) (a : outcome.Attempted) (p : ℕ) (call : Call) (v z : ℤ) (xs ys : List Entry) (r : Attempt) → a ≡ outcome.gives t p call z
     → r ≡ came.Done → n ≡ outcome.finish b p ((0, v) ∷ []) → b ≡ t → ys ≡ xs ++ Called p call v ∷ [] → v ≡ z → Comes s a r xs ys n

@@ -3,7 +3,7 @@ use Rattle.std.proofs.Common.{◌≡◌, ◌≢◌, ℕ, Bool, true, false, cond
 use Rattle.std.specs.Option.{IsSome}
 use Rattle.std.proofs.lemmas.Bool.{eqb-true}
 use Rattle.posix.specs.declared.call.Call.TheVariants.{Tcsetpgrp}
-use Rattle.posix.specs.declared.errno.Errno.TheVariants.{EPERM, EINVAL}
+use Rattle.posix.specs.declared.errno.Errno.TheVariants.{EPERM}
 use Rattle.posix.specs.Processes.{Process}
 use Rattle.posix.specs.Consoles.{Console, console_of, with_foreground}
 use Rattle.posix.specs.States.{State, process}
@@ -62,12 +62,7 @@ acquirable s r c e = elim (console_of r.session s.consoles) as (λ o. (r.session
 abbrev pub foreground_or : State → Process → ℕ → Bool → Attempted
 foreground_or s r g b = cond b (gives (change_console s r.session (with_foreground g)) r.pid Tcsetpgrp (pos 0)) (refused s r.pid Tcsetpgrp EPERM)
 
--- a negative number names none
-pub names_none : (s : State) (r : Process) (z : ℤ) → natural_in z ≡ None → put_foreground s r z ≡ refused s r.pid Tcsetpgrp EINVAL
-names_none s r (pos n) e = absurd (cc)
-names_none s r (negsuc n) e = refl
-
--- any other one is that of a group, which may have a member in the session
+-- a number that is not negative is that of a group, which may have a member in the session
 pub names_group : (s : State) (r : Process) (z : ℤ) (g : ℕ) (b : Bool) → natural_in z ≡ Some g → is_group_of r.session g s.processes ≡ b → put_foreground s r z ≡ foreground_or s r g b
 names_group s r (pos n) g b e is = let same : n ≡ g = cc in rw (same, is) refl
 names_group s r (negsuc n) g b e is = absurd (cc)
@@ -76,7 +71,3 @@ names_group s r (negsuc n) g b e is = absurd (cc)
 pub none_found : (b : Bool) (g : ℕ) → cond b (Some g) None ≡ None → b ≡ false
 none_found true g e = absurd (cc)
 none_found false g e = refl
-
-pub group_found : (b : Bool) (g h : ℕ) → cond b (Some g) None ≡ Some h → (b ≡ true) × (g ≡ h)
-group_found true g h e = (refl, cc)
-group_found false g h e = absurd (cc)

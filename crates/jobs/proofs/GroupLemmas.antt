@@ -7,10 +7,10 @@ use Rattle.posix.specs.Tables.{IsRising, lookup, is_member, members_in, first_pi
 use Rattle.posix.specs.Groups.{is_anchor, is_outside}
 use Rattle.posix.proofs.TableLemmas.{rising_filter}
 use Rattle.posix.proofs.WalkLemmas.{here, in_filter, head_above, head_left_of, left_of_head, above_all, all_looked, filters_commute}
+use Rattle.posix.proofs.PassingLemmas.{filter_at_most}
 use Rattle.proctable.specs.declared.facts.Facts.{Facts}
 use Rattle.proctable.specs.Body.{facts_of}
 use Rattle.jobs.proofs.FactLemmas.{some_read, facts_are}
-use Rattle.jobs.proofs.ReadLemmas.{filter_at_most}
 
 -- ---- one process
 

@@ -6,12 +6,11 @@ use Rattle.posix.specs.Tables.{IsRising, lookup, inserted, removed, adopted, rep
 use Rattle.posix.specs.Targets.{greatest_pid}
 use Rattle.posix.proofs.TableLemmas.{pid_looked}
 use Rattle.posix.proofs.WalkLemmas.{all_looked}
-use Rattle.posix.proofs.PassingLemmas.{counted_inserted, counted_removed, counted_changed, counted_map, counted_found}
+use Rattle.posix.proofs.PassingLemmas.{counted_inserted, counted_removed, counted_changed, counted_map, counted_found, filter_at_most}
 use Rattle.proctable.specs.declared.body.Body.{Body}
 use Rattle.proctable.specs.Body.{process_of, give_body, with_body}
 use Rattle.jobs.specs.JobTables.{AreNumbers, IsKept}
 use Rattle.jobs.proofs.NumberLemmas.{absent_body, absent_inserted, absent_removed, absent_adopted, least_number, no_more, above_none}
-use Rattle.jobs.proofs.ReadLemmas.{filter_at_most}
 
 -- 1 for who is stopped
 abbrev pub one : Bool → ℕ

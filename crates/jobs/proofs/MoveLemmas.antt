@@ -1,5 +1,5 @@
 -- Moves between process groups: which groups there are.
-use Rattle.std.proofs.Common.{◌≡◌, ◌≢◌, ℕ, Bool, true, false, cond, not, ◌&&◌, ◌||◌, ◌==◌, refl, ap, sym, ◌∙◌, arith, subst, List, [], ◌∷◌, filter, Option, Some, None, is_some, option_map, nat_lt, zero, suc, ℤ, pos, negsuc, Result}
+use Rattle.std.proofs.Common.{◌≡◌, ◌≢◌, ℕ, Bool, true, false, cond, not, ◌&&◌, ◌||◌, ◌==◌, refl, ap, sym, ◌∙◌, arith, subst, List, [], ◌∷◌, filter, Option, Some, None, is_some, option_map, nat_lt, ℤ, Result}
 use Rattle.std.specs.List.{list_any}
 use Rattle.std.specs.Option.{IsSome}
 use Rattle.std.proofs.lemmas.Bool.{eq-eqb, ne_eqb}
@@ -10,6 +10,7 @@ use Rattle.posix.specs.declared.errno.Errno.{Errno}
 use Rattle.posix.specs.GroupCalls.{named, move_to, is_group_of_others}
 use Rattle.posix.proofs.TableLemmas.{Above, pid_looked}
 use Rattle.posix.proofs.WalkLemmas.{above_all}
+use Rattle.posix.proofs.MoveLemmas.{named_found}
 use Rattle.proctable.specs.declared.facts.Facts.{Facts}
 use Rattle.proctable.specs.Body.{facts_of}
 use Rattle.jobs.proofs.FactLemmas.{there, is_there, some_read, facts_are}
@@ -98,13 +99,7 @@ judged p rs ss ts z y group h f o answer me found read same still named_by group
     judges me (named me y ss) facts (names me facts) ∙ ap (λ l. move_to me (named me y ss) h l) (still ∙ same) ∙ ap (λ l. move_to me (named me y l) h rs) same
     ∙ ap (λ x. move_to me (named me x rs) h rs) named_by ∙ ap (λ x. move_to me (named me z rs) x rs) grouped
 
--- who is named is there
-named_found : (p : ℕ) (rs : List Process) (me : Process) (z : ℤ) (r : Process) → lookup p rs ≡ Some me → named me z rs ≡ Some r → lookup r.pid rs ≡ Some r
-named_found p rs me (pos zero) r found e = let is : me ≡ r = cc in ap (λ (x : Process). lookup x.pid rs) (sym is) ∙ ap (λ n. lookup n rs) (pid_looked p rs me found) ∙ found ∙ ap Some is
-named_found p rs me (pos (suc n)) r found e = ap (λ m. lookup m rs) (pid_looked (suc n) rs r e) ∙ e
-named_found p rs me (negsuc n) r found e = absurd (cc)
-
--- by the facts that were read of it
+-- who is named is there by the facts that were read of it
 pub named_is_there : (p : ℕ) (rs ss ts : List Process) (y : ℤ) (f it : Facts) (o : Option Facts) → IsSome (lookup p rs) → Some f ≡ option_map facts_of (lookup p rs) → ss ≡ rs → ts ≡ rs
     → ((caller : Process) → f ≡ facts_of caller → o ≡ option_map facts_of (named caller y ss)) → o ≡ Some it → IsSome (lookup it.pid ts)
 named_is_there p rs ss ts y f it o here read same still names is =

@@ -1,21 +1,11 @@
 -- How many processes a walk has still to read.
-use Rattle.std.proofs.Common.{◌≡◌, ℕ, ◌+◌, ◌*◌, ◌<◌, ◌≤◌, arith, List, [], ◌∷◌, length, filter, Option, Some, None, Bool, nat_le}
+use Rattle.std.proofs.Common.{◌≡◌, ℕ, ◌+◌, ◌*◌, ◌<◌, ◌≤◌, arith, List, [], ◌∷◌, length, Option, Some, None}
 use Rattle.std.proofs.Math.Nat.{mul-le-mul_left}
 use Rattle.std.specs.Option.{IfSome}
 use Rattle.std.proofs.lemmas.Bool.{eqb-true}
 use Rattle.std.proofs.lemmas.Bool.Decides.{nat_tests}
 use Rattle.posix.specs.Processes.{Process}
 use Rattle.posix.specs.Tables.{above, left_of, lookup}
-
--- those that pass a test are no more than all
-pub filter_at_most : (t : Process → Bool) (rs : List Process) → length (filter t rs) ≤ length rs
-filter_at_most t [] = omega arith
-filter_at_most t (x ∷ xs) = grind (arith, filter_at_most t xs)
-
--- nor are those that are left
-pub left_at_most : (o : Option ℕ) (rs : List Process) → length (left_of o rs) ≤ length rs
-left_at_most None rs = omega arith
-left_at_most (Some n) rs = filter_at_most (λ r. nat_le n r.pid) rs
 
 -- of those above n, no more are left from one of them on
 pub left_above : (next : Option ℕ) (n : ℕ) (rs : List Process) → IfSome next (λ q. n < q) → length (left_of next rs) ≤ length (above n rs)

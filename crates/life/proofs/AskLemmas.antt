@@ -2,7 +2,7 @@
 use Rattle.std.proofs.Common.{◌≡◌, ◌≢◌, ℕ, ◌+◌, ◌<◌, ◌≤◌, true, false, cond, not, ◌||◌, ◌&&◌, refl, ap, sym, ◌∙◌, arith, subst, List, [], ◌∷◌, ◌++◌, length, Option, Some, None, ◌==◌, slice_get, ⊎_elim, Bool, map, zero, suc}
 use Rattle.std.specs.List.{AllByRecursion}
 use Rattle.std.specs.Option.{IfSome, IsSome}
-use Rattle.std.proofs.lemmas.Bool.{eqb-true, eq-eqb, ne_eqb, and_parts, or_left, or_right, or_cases}
+use Rattle.std.proofs.lemmas.Bool.{eqb-true, eq-eqb, ne_eqb, and_parts, or_left, or_right, or_cases, both_ways}
 use Rattle.std.proofs.lemmas.Option.{IfSome_then}
 use Rattle.posix.specs.Processes.{Process, first_process}
 use Rattle.posix.specs.Tables.{IsNext, lookup, at, changed, inserted, removed, reparented, adopted}
@@ -61,20 +61,17 @@ watched_on {readers = readers} s t before after touched h touches same gets keep
   known = λ k p c r at found reads out unasked.
       let there : IsSome (process t p) = rw found refl in
       elim (is_in p touched) as (λ b. is_in p touched ≡ b → is_in p (readers_at k readers) ≡ true) [
-        | true ↦ λ e. absurd (both_ways (is_in p after) (gets p there e) unasked)
+        | true ↦ λ e. absurd (both_ways (is_in p after) unasked (gets p there e))
         | false ↦ λ e.
             let u = touches p r found e in
             elim (is_in p before) as (λ b. is_in p before ≡ b → is_in p (readers_at k readers) ≡ true) [
-              | true ↦ λ on. absurd (both_ways (is_in p after) (keeps p there on) unasked)
+              | true ↦ λ on. absurd (both_ways (is_in p after) unasked (keeps p there on))
               | false ↦ λ off. h.known k p c u.old (ap (λ cs. slice_get cs k) (sym same.1) ∙ at) u.found (sym (reads_still c.session u.old r u.blocked u.session u.life) ∙ reads) (u.placed out) off
             ] refl
       ] refl;
   each = subst (λ (w : World). AllByRecursion (IsReaders w.pidmax) readers) (sym same.0) h.each;
   many = h.many ∙ ap (λ (w : World). w.consoles) (sym same.0);
 }
-  where
-    both_ways : (b : Bool) → b ≡ true → b ≡ false → ⊥
-    both_ways b y n = absurd (cc)
 
 -- ---- there is room for whoever is there
 
@@ -146,15 +143,12 @@ listed_placed {readers = readers} s t l p h touches most stay placed = record {
   there = λ q e. stay q (h.there q e);
   room = let room = h.room in let size = ap (λ (w : World). w.pidmax) most.0 in omega (arith, room, size);
   watched = record {
-    known = λ k q c r at found reads out unasked. watches.known k q c r at found reads out (in_with q p l.pids ∙ ap (λ b. b || is_in q l.pids) (ne_eqb p q (λ same. both_ways (is_in q t.order) (subst (λ n. is_in n t.order ≡ true) same placed) out)) ∙ unasked);
+    known = λ k q c r at found reads out unasked. watches.known k q c r at found reads out (in_with q p l.pids ∙ ap (λ b. b || is_in q l.pids) (ne_eqb p q (λ same. both_ways (is_in q t.order) out (subst (λ n. is_in n t.order ≡ true) same placed))) ∙ unasked);
     each = watches.each;
     many = watches.many;
   };
 }
   where
-    both_ways : (b : Bool) → b ≡ true → b ≡ false → ⊥
-    both_ways b y n = absurd (cc)
-
     watches : IsWatched t (with_number p l.pids) readers
     watches = watched_on s t l.pids (with_number p l.pids) (p ∷ []) h.watched touches most
         (λ q theirs e. in_with q p l.pids ∙ or_left _ _ (eq-eqb p q (sym (in_one q p e))))
@@ -193,6 +187,14 @@ listed_asking {readers = readers} s p before after h here is same =
 
 -- ---- who is asked next
 
+-- nobody comes between a number and the next one above
+pub none_between : (n q : ℕ) (ns : List ℕ) (next : Option ℕ) → Rises ns → next ≡ slice_get (numbers_above n ns) 0 → is_in q ns ≡ true → n < q → IfSome next (λ m. q < m) → ⊥
+none_between n q ns next up is on low before = by next (subst (λ (o : Option ℕ). IfSome o (IsLeastAbove n ns)) (sym is) (next_is n ns up)) (subst IsSome (sym is) (next_some n q ns up on low)) before
+  where
+    by : (o : Option ℕ) → IfSome o (IsLeastAbove n ns) → IsSome o → IfSome o (λ m. q < m) → ⊥
+    by None k some before = absurd (cc)
+    by (Some m) k some before = let l = k.least q on low in omega (arith, l, before)
+
 -- the next of those who are known, where all are who pass the test
 pub next_known : (test : Process → Bool) (rs : List Process) (ns : List ℕ) (n : ℕ) (next : Option ℕ) → Rises ns → ((q : ℕ) (r : Process) → lookup q rs ≡ Some r → test r ≡ true → is_in q ns ≡ true)
     → ((q : ℕ) → is_in q ns ≡ true → IsSome (lookup q rs)) → next ≡ slice_get (numbers_above n ns) 0 → IsNext test n rs next
@@ -202,14 +204,10 @@ next_known test rs ns n next up covers theirs is =
       there = IfSome_then next least (λ m k. theirs m k.there);
       above = IfSome_then next least (λ m k. k.above);
       between = λ q r e low before. elim (test r) as (λ b. test r ≡ b → b ≡ false) [
-        | true ↦ λ w. absurd (passed next least (subst IsSome (sym is) (next_some n q ns up (covers q r e w) low)) (covers q r e w) low before)
+        | true ↦ λ w. absurd (none_between n q ns next up is (covers q r e w) low before)
         | false ↦ λ w. refl
       ] refl;
     }
-  where
-    passed : {q : ℕ} (o : Option ℕ) → IfSome o (IsLeastAbove n ns) → IsSome o → is_in q ns ≡ true → n < q → IfSome o (λ m. q < m) → ⊥
-    passed None k some e low before = absurd (cc)
-    passed {q = q} (Some m) k some e low before = let l = k.least q e low in omega (arith, l, before)
 
 -- the first of all who are on the list
 pub first_asked : {readers : List PidSetView} (s : State) (l : PidSetView) (next : Option ℕ) → IsRegular s → IsListed s l readers → next ≡ slice_get l.pids 0 → IsNext (wakes s) 0 s.processes next
@@ -228,15 +226,12 @@ without_only (n ∷ m ∷ ns) p only = absurd (omega (arith, eqb-true (length (n
 pub listed_asked : {readers : List PidSetView} (s : State) (p : ℕ) (before after : PidSetView) (sets : List PidSetView) → IsListed s before readers → ((r : Process) → process s p ≡ Some r → wakes s r ≡ false)
     → after.pids ≡ without p before.pids → after.room ≡ before.room → IsWatched s after.pids sets → IsListed s after sets
 listed_asked s p before after sets h asleep is same watched = record {
-  covers = λ q r e w. ap (is_in q) is ∙ others_stay p q before.pids (λ k. both_ways (wakes s r) w (asleep r (subst (λ n. process s n ≡ Some r) k e))) ∙ h.covers q r e w;
+  covers = λ q r e w. ap (is_in q) is ∙ others_stay p q before.pids (λ k. both_ways (wakes s r) (asleep r (subst (λ n. process s n ≡ Some r) k e)) w) ∙ h.covers q r e w;
   rising = subst Rises (sym is) (rises_without p before.pids h.rising);
   there = λ q e. h.there q (is_other p q before.pids (sym (ap (is_in q) is) ∙ e)).among;
   room = let room = h.room in omega (arith, room, same);
   watched = watched;
 }
-  where
-    both_ways : (b : Bool) → b ≡ true → b ≡ false → ⊥
-    both_ways b y n = absurd (cc)
 
 -- ---- a record that goes
 

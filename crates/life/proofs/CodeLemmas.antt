@@ -1,7 +1,7 @@
 -- The code that a process runs.
-use Rattle.std.proofs.Common.{◌≡◌, ◌≤◌, ◌<◌, ℕ, zero, suc, ℤ, pos, negsuc, true, false, cond, refl, ap, sym, ◌∙◌, List, [], length, slice_get, slice_index_or, Option, Some, None, nat_lt, nat_le, ◌-◌, arith, ⊎_elim}
+use Rattle.std.proofs.Common.{◌≡◌, ◌<◌, ℕ, zero, suc, ℤ, pos, negsuc, true, false, cond, refl, ap, sym, ◌∙◌, List, [], length, slice_get, slice_index_or, Option, Some, None, nat_lt, nat_le, ◌-◌, arith}
 use Rattle.std.proofs.lemmas.Bool.{ltb-true, ltb-false}
-use Rattle.std.proofs.lemmas.Option.{slice_get_read, slice_get_cases}
+use Rattle.std.proofs.lemmas.Option.{slice_get_read, slice_get_past}
 use Rattle.posix.specs.declared.instr.Instr.{Instr}
 use Rattle.posix.specs.Processes.{Process}
 use Rattle.posix.specs.States.{Program, State, process, change}
@@ -20,10 +20,8 @@ code_is s me n programs o same number found = ap instructions (sym (ap (λ (ps :
 pub get_some : (programs : List Program) (n : ℕ) (p : Program) → (true ≡ nat_lt n (length programs)) × (p ≡ slice_index_or programs n p) → slice_get programs n ≡ Some p
 get_some programs n p h = slice_get_read programs (length programs) n p refl (ltb-true _ _ (sym h.0)) h.1
 
-pub get_none : (programs : List Program) (n : ℕ) → false ≡ nat_lt n (length programs) → slice_get programs n ≡ None
-get_none programs n h =
-    let l : length programs ≤ n = ltb-false _ _ (sym h) in
-    ⊎_elim (λ here. absurd (let lt = here.1 in omega (arith, l, lt))) (λ gone. gone.1) (slice_get_cases programs n).1
+pub past_none : {A : Type 0} (xs : List A) (n : ℕ) → false ≡ nat_lt n (length xs) → slice_get xs n ≡ None
+past_none xs n past = slice_get_past xs n (ltb-false _ _ (sym past))
 
 nothing_there : (z : ℤ) → fetched [] z ≡ None
 nothing_there (pos n) = elim (nat_le 16 n) as (λ b. cond b (slice_get {X = Instr} [] (n - 16)) None ≡ None) [ true ↦ refl | false ↦ refl ]

@@ -1,13 +1,13 @@
 -- A machine that gets another console in the place of one.
-use Rattle.std.proofs.Common.{◌≡◌, ◌≢◌, ◌⊎◌, ℕ, zero, suc, ◌≤◌, ◌==◌, Bool, true, false, cond, not, ◌&&◌, ◌||◌, refl, ap, sym, ◌∙◌, arith, List, [], ◌∷◌, map, Option, Some, None, is_some, length, nat_lt, slice_get, slice_set, slice_index_or, inl, inr, ⊎_elim}
-use Rattle.std.proofs.lemmas.Bool.{eqb-true, eqb-false, ne_eqb, and_parts, not-true, or_right, ltb-true, ltb-false, cond_both}
-use Rattle.std.proofs.lemmas.Option.{slice_get_read, slice_get_cases}
+use Rattle.std.proofs.Common.{◌≡◌, ◌≢◌, ℕ, zero, suc, ◌≤◌, ◌==◌, Bool, true, false, cond, not, ◌&&◌, ◌||◌, refl, ap, sym, ◌∙◌, arith, List, [], ◌∷◌, Option, Some, None, is_some, length, nat_lt, slice_get, slice_set, slice_index_or, inl, inr, ⊎_elim}
+use Rattle.std.proofs.lemmas.Bool.{eqb-true, eqb-false, and_parts, not-true, or_right, ltb-true, cond_both, both_ways}
+use Rattle.std.proofs.lemmas.Option.{slice_get_read}
 use Rattle.posix.specs.declared.process.Blocked.{Blocked}
 use Rattle.posix.specs.declared.process.Blocked.TheVariants as blocked
 use Rattle.posix.specs.SignalNumbers.{HUP}
 use Rattle.posix.specs.Processes.{Process, is_running}
 use Rattle.posix.specs.States.{State, process, is_in, has_place}
-use Rattle.posix.specs.Consoles.{Console, console_of, changed_console, changed_at, key_signal, keyed, keyed_by, edit, flushed, finish_line, released}
+use Rattle.posix.specs.Consoles.{Console, console_of, changed_console, key_signal, keyed, keyed_by, edit, flushed, finish_line, released}
 use Rattle.posix.specs.Choice.{chosen}
 use Rattle.posix.specs.Attempts.{attempt_again}
 use Rattle.posix.specs.Terminals.{is_reader, is_in_read, waits_on, waits_to_read}
@@ -17,7 +17,7 @@ use Rattle.posix.specs.Settle.{can_act, can_go_on, is_fresh, AreFresh}
 use Rattle.posix.specs.Regular.{IsRegular, AreConsoles}
 use Rattle.posix.proofs.TableLemmas.{pid_looked}
 use Rattle.posix.proofs.SeeLemmas.{block_read, acts_reading}
-use Rattle.posix.proofs.ConsoleLemmas.{consoles_set, consoles_freed, consoles_acquired, none_of, changed_at_place, regular_consoles, console_is}
+use Rattle.posix.proofs.ConsoleLemmas.{consoles_set, consoles_freed, consoles_acquired, none_of, changed_at_place, regular_consoles, console_is, found_put, changed_none}
 use Rattle.posix.proofs.ReaderLemmas.{IsOfOrFree, console_of_set, touches_unread}
 use Rattle.pidalloc.specs.Rows.{Pids}
 use Rattle.sched.specs.Places.{Places}
@@ -40,17 +40,6 @@ pub record CanPut (s : State) (asked : List ℕ) (readers : List PidSetView) (k 
   pub known : (p : ℕ) (r : Process) → process s p ≡ Some r → is_reader d.session r ≡ true → has_place s p ≡ false → is_in p asked ≡ false → is_in p (readers_at k readers) ≡ true
 
 -- ---- the machine
-
--- what is found where d was put in the place k: d there, or else what was there
-found_put : (cs : List Console) (k j : ℕ) (d c : Console) → slice_get (slice_set cs k d) j ≡ Some c → ((j ≡ k) × (d ≡ c)) ⊎ ((j ≢ k) × (slice_get cs j ≡ Some c))
-found_put [] k j d c e = absurd (cc)
-found_put (x ∷ xs) zero zero d c e = inl (refl, cc)
-found_put (x ∷ xs) zero (suc j) d c e = inr (λ q. absurd (omega (arith, q)), e)
-found_put (x ∷ xs) (suc k) zero d c e = inr (λ q. absurd (omega (arith, q)), e)
-found_put (x ∷ xs) (suc k) (suc j) d c e = ⊎_elim (λ h. inl (ap suc h.0, h.1)) (λ h. inr (λ q. h.0 (omega (arith, q)), h.1)) (found_put xs k j d c e)
-
-pub both_ways : (b : Bool) → b ≡ true → b ≡ false → ⊥
-both_ways b y n = absurd (cc)
 
 -- who can act and has no place is on the list
 on_list : {readers : List PidSetView} (s : State) (l : PidSetView) (p : ℕ) (r : Process) → IsListed s l readers → process s p ≡ Some r → has_place s p ≡ false → can_act s r ≡ true → is_in p l.pids ≡ true
@@ -136,7 +125,7 @@ put_asked {readers = readers} s l k c d i h at asked kind = record {
   apart = ⊎_elim (λ same. consoles_set s.world.consoles s.consoles k c d at same i.consoles) (λ free. consoles_freed s.world.consoles s.consoles k d free i.consoles) kind;
   acts = λ p r found out unasked acts. acts_reading s (put s k d) r refl (λ runs reads w.
       elim (r.session == c.session) as (λ b. (r.session == c.session) ≡ b → waits_to_read (slice_set s.consoles k d) r ≡ true) [
-        | true ↦ λ e. absurd (let reader : is_reader c.session r ≡ true = rw (runs, reads, e) refl in both_ways _ (asked p c r at found reader out) unasked)
+        | true ↦ λ e. absurd (let reader : is_reader c.session r ≡ true = rw (runs, reads, e) refl in both_ways _ unasked (asked p c r at found reader out))
         | false ↦ λ e. ap (waits_on r) (console_of_set r.session k c d s.consoles at (λ same. eqb-false _ _ e (sym same)) (others r d (i.bounded p r found).session_least (eqb-false _ _ e) kind)) ∙ w
       ] refl) acts;
   known = λ p r found reads out unasked. ⊎_elim
@@ -176,12 +165,12 @@ put_acquired {readers = readers} s l k c d i h at free none = record {
   apart = consoles_acquired s.world.consoles s.consoles k d none i.consoles;
   acts = λ p r found out unasked acts. acts_reading s (put s k d) r refl (λ runs reads w.
       elim (r.session == d.session) as (λ b. (r.session == d.session) ≡ b → waits_to_read (slice_set s.consoles k d) r ≡ true) [
-        | true ↦ λ e. absurd (both_ways _ w (no_wait r (eqb-true _ _ e)))
+        | true ↦ λ e. absurd (both_ways _ (no_wait r (eqb-true _ _ e)) w)
         | false ↦ λ e. ap (waits_on r) (console_of_set r.session k c d s.consoles at (nobody r (i.bounded p r found).session_least) (λ same. eqb-false _ _ e (sym same))) ∙ w
       ] refl) acts;
   known = λ p r found reads out unasked.
       let it = reader_is d.session r reads in
-      absurd (both_ways _ (on_list s l p r h found out (reads_on s r it.runs it.reads (no_wait r it.own))) unasked);
+      absurd (both_ways _ unasked (on_list s l p r h found out (reads_on s r it.runs it.reads (no_wait r it.own))));
 }
   where
     no_wait : (r : Process) → r.session ≡ d.session → waits_to_read s.consoles r ≡ false
@@ -213,11 +202,6 @@ fresh_alike rs cs k c d at owner foreground h = fresh_put rs cs k d h (rw (owner
 pub lent_at : (cs : List Console) (k : ℕ) (c : Console) → true ≡ nat_lt k (length cs) → c ≡ slice_index_or cs k c → slice_get cs k ≡ Some c
 lent_at cs k c within is = slice_get_read cs (length cs) k c refl (ltb-true _ _ (sym within)) is
 
-pub none_at : (cs : List Console) (k : ℕ) → false ≡ nat_lt k (length cs) → slice_get cs k ≡ None
-none_at cs k past =
-    let l : length cs ≤ k = ltb-false _ _ (sym past) in
-    ⊎_elim (λ here. absurd (let lt = here.1 in omega (arith, l, lt))) (λ gone. gone.1) (slice_get_cases cs k).1
-
 -- there is one or there isn't
 pub not_both : (o : Option Console) (c : Console) → o ≡ Some c → o ≡ None → ⊥
 not_both o c some none = absurd (cc)
@@ -235,12 +219,6 @@ put_is s t k c d f same at found =
 pub put_changed : (s : State) (k session : ℕ) (c : Console) (f : Console → Console) → IsRegular s → slice_get s.consoles k ≡ Some c → c.session ≡ session → session ≢ 0
     → put s k (f c) ≡ record s { consoles = changed_console session f s.consoles }
 put_changed s k session c f i at own some = ap (λ cs. record s { consoles = cs }) (sym (changed_at_place s.world.consoles s.consoles k session c f i.consoles at own some))
-
-changed_none : (session : ℕ) (f : Console → Console) (cs : List Console) → ((j : ℕ) (c : Console) → slice_get cs j ≡ Some c → c.session ≢ session) → map (changed_at session f) cs ≡ cs
-changed_none session f [] none = refl
-changed_none session f (x ∷ xs) none =
-    let away : (x.session == session) ≡ false = ne_eqb _ _ (none 0 x refl) in
-    rw away (ap (λ cs. x ∷ cs) (changed_none session f xs (λ j c e. none (suc j) c e)))
 
 -- and nothing is changed where it has none
 pub none_changed : (s : State) (session : ℕ) (f : Console → Console) → console_of session s.consoles ≡ None → s ≡ record s { consoles = changed_console session f s.consoles }

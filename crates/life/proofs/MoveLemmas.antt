@@ -11,8 +11,10 @@ use Rattle.posix.specs.GroupCalls.{named, move_to, in_group, in_session}
 use Rattle.posix.proofs.MapLemmas.{at_pid, at_keeps, lookup_on}
 use Rattle.posix.proofs.MemberLemmas.{each}
 use Rattle.posix.proofs.TableLemmas.{pid_looked}
-use Rattle.posix.proofs.MoveLemmas.{named_looked, moves_nobody, regular_move_to}
+use Rattle.posix.proofs.MoveLemmas.{moves_nobody, regular_move_to, named_found}
 use Rattle.posix.proofs.TouchLemmas.{touches_shown}
+use Rattle.posix.proofs.ReportLemmas.{some_changed}
+use Rattle.jobs.proofs.NumberLemmas.{absent_changed}
 use Rattle.pidalloc.specs.Rows.{Pids, IsPids}
 use Rattle.pidalloc.specs.Tallies.{IsTallied}
 use Rattle.pidalloc.proofs.MoveLemmas.{CanMove, CanLead, moved_in, led_in, tallied_moved, tallied_led, pids_moved, pids_led, greatest_moved, greatest_led, can_move, can_lead}
@@ -27,7 +29,7 @@ use Rattle.life.proofs.ParentLemmas.{parents_map}
 use Rattle.life.proofs.SoundLemmas.{facts_are, found_in, is_there, none_read, not_many}
 use Rattle.life.proofs.ReportedLemmas.{reported_change}
 use Rattle.life.proofs.TimedLemmas.{Untimed, timed_change}
-use Rattle.life.proofs.StopLemmas.{listed_changed, nobody_0, none_still, parent_there, still}
+use Rattle.life.proofs.StopLemmas.{listed_changed, nobody_0, parent_there}
 
 -- a change that may give a process another group and session, and keeps the rest
 pub record Regroups (f : Process → Process) : Type 0 where
@@ -69,7 +71,7 @@ machine_regrouped s pids now places asked after reporting alarmed tick p f me k 
     record {
       sound = sound_regrouped s p f pids now places k regular same table tallied i.sound;
       listed = listed_changed s (change s p f) p me.parent asked after (p ∷ me.parent ∷ []) i.listed (touches_shown s p f pid k.parent i.sound.regular.rising me found) (refl, refl)
-          (λ q e. still p f pid q rs e) (still p f pid p rs here) (λ some. still p f pid me.parent rs (parent_there s pids places i.sound p me found some)) (none_still p f pid 0 rs (nobody_0 s i.sound.regular))
+          (λ q e. some_changed p q f pid rs e) (some_changed p p f pid rs here) (λ some. some_changed p me.parent f pid rs (parent_there s pids places i.sound p me found some)) (absent_changed p f pid 0 rs (nobody_0 s i.sound.regular))
           (λ q e. each (λ q. (q ≡ p) ⊎ (q ≡ me.parent)) (p ∷ me.parent ∷ []) (inl refl, (inr refl, tt)) q e)
           (subst (λ n. after.pids ≡ asking_changed (record me { pid = n }) asked.pids) (pid_looked p rs me found) is) room;
       reported = reported_change s.world.pidmax p f pid k.parent rs reporting reporting me found i.reported (λ q c ne. refl) (i.reported.each p me found ∙ sym (k.report me)) i.reported.once refl;
@@ -159,7 +161,7 @@ is_moving s t same i p me word z group it here moves read = by (named me word s.
     by : (o : Option Process) → named me word s.processes ≡ o → IsMoving s me word group it
     by None e = let none : Some it ≡ None = read ∙ ap (λ (t : State). option_map facts_of (named me word t.processes)) (sym same) ∙ ap (option_map facts_of) e in absurd (cc)
     by (Some r) e =
-        let found = named_looked me r word s.processes (ap (λ n. lookup n s.processes) (pid_looked p t.processes me here) ∙ found_in s t same p me here) e in
+        let found = named_found p s.processes me word r (found_in s t same p me here) e in
         record {
           what = r;
           named = e;

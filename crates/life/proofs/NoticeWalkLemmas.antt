@@ -20,6 +20,7 @@ use Rattle.posix.proofs.MapLemmas.{at_pid, lookup_map, filter_map, first_map, ch
 use Rattle.posix.proofs.RegularLemmas.{keeps_at, keeps_noticed, lookup_kept, lookup_other, heir_other, heir_there, heir_living, heir_map, heir_removed, regular_depart}
 use Rattle.posix.proofs.NoticeLemmas.{only_notice}
 use Rattle.posix.proofs.ReportLemmas as report
+use Rattle.posix.proofs.PassingLemmas.{filter_at_most}
 use Rattle.pidalloc.specs.Rows.{Pids}
 use Rattle.sched.specs.Places.{Places}
 use Rattle.pidset.specs.Numbers.{PidSetView, with_number}
@@ -29,7 +30,6 @@ use Rattle.life.proofs.TimedLemmas.{timed_told, timed_departed}
 use Rattle.life.specs.Asking.{IsForgotten, with_numbers, without_gone}
 use Rattle.life.proofs.SoundLemmas.{is_there, found_in, heir_in, kept_order, length_departed, kept_departed, parents_departed, there_made_zombie}
 use Rattle.life.proofs.EndLemmas.{leave, dropping_left, notice_left, tell_after}
-use Rattle.jobs.proofs.ReadLemmas.{filter_at_most}
 use Rattle.life.proofs.PartLemmas.{can_go, can_go_map, sound_told}
 use Rattle.life.proofs.ReportedLemmas.{reported_told, reported_departed, reported_room}
 use Rattle.life.proofs.AskLemmas.{in_numbers, stays_asked, has_room, listed_more, listed_told, listed_departed}

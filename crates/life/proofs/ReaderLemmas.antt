@@ -2,7 +2,7 @@
 use Rattle.std.proofs.Common.{◌≡◌, ◌≢◌, ℕ, ◌+◌, ◌<◌, ◌≤◌, zero, suc, true, false, cond, refl, ap, sym, ◌∙◌, arith, subst, List, [], ◌∷◌, ◌++◌, length, take, find, Option, Some, None, ◌==◌, slice_get, slice_set, Bool, MatchOption, ⊎_elim, nat_lt, map, drop, get_or}
 use Rattle.std.specs.Option.{IsSome, IfSome, option_map_or}
 use Rattle.std.specs.List.{AllByRecursion}
-use Rattle.std.proofs.lemmas.Bool.{eqb-true, eqb-false, eq-eqb, ltb-true, ltb-false, or_left, or_right, or_cases, and_parts}
+use Rattle.std.proofs.lemmas.Bool.{eqb-true, eqb-false, eq-eqb, ltb-true, ltb-false, or_left, or_right, or_cases, and_parts, both_ways}
 use Rattle.std.proofs.lemmas.List.{length-set}
 use Rattle.std.proofs.lemmas.Option.{slice_get_within, slice_get_read, same_Some}
 use Rattle.posix.specs.declared.process.Blocked.{Blocked}
@@ -16,11 +16,12 @@ use Rattle.posix.proofs.MemberLemmas.{others_stay}
 use Rattle.posix.proofs.TableLemmas.{pid_looked}
 use Rattle.posix.proofs.ConsoleLemmas.{none_of}
 use Rattle.pidset.specs.Numbers.{PidSetView, Rises, with_number, numbers_above}
-use Rattle.pidset.proofs.NumberLemmas.{IsLeastAbove, few, rises_with, in_with, next_is, next_some}
+use Rattle.pidset.proofs.NumberLemmas.{few, rises_with, in_with}
 use Rattle.life.specs.Machines.{IsReaders, IsWatched, readers_at}
 use Rattle.life.specs.Asking.{asking}
 use Rattle.life.specs.Consoles.{IsPlaceOf, IsKnownBy, IsForgottenAt, AreReaders}
 use Rattle.life.proofs.SoundLemmas.{there}
+use Rattle.life.proofs.AskLemmas.{none_between}
 
 -- ---- the place of a session's terminal
 
@@ -215,14 +216,6 @@ asked_still p q order before after is on =
 
 -- ---- all are asked who may wait to read from a console
 
--- nobody comes between a number and the next one above
-pub none_between : (n q : ℕ) (ns : List ℕ) (next : Option ℕ) → Rises ns → next ≡ slice_get (numbers_above n ns) 0 → is_in q ns ≡ true → n < q → IfSome next (λ m. q < m) → ⊥
-none_between n q ns next up is on low before = by next (subst (λ (o : Option ℕ). IfSome o (IsLeastAbove n ns)) (sym is) (next_is n ns up)) (subst IsSome (sym is) (next_some n q ns up on low)) before
-  where
-    by : (o : Option ℕ) → IfSome o (IsLeastAbove n ns) → IsSome o → IfSome o (λ m. q < m) → ⊥
-    by None k some before = absurd (cc)
-    by (Some m) k some before = let l = k.least q on low in omega (arith, l, before)
-
 -- the readers of a console come in rising order
 pub watched_rises : {readers : List PidSetView} (s : State) (asked : List ℕ) (k : ℕ) → IsWatched s asked readers → Rises (readers_at k readers)
 unfolding Rises
@@ -281,16 +274,13 @@ none_known k old new gone = by_set (slice_get old k) refl gone
 pub watched_forgotten : {readers sets : List PidSetView} (s : State) (k : ℕ) (asked : List ℕ) → IsWatched s asked readers → AreReaders s k asked → IsForgottenAt k readers sets → IsWatched s asked sets
 watched_forgotten {readers = readers} {sets = sets} s k asked w all gone = record {
   known = λ j p c r at found reads out unasked. elim (j == k) as (λ b. (j == k) ≡ b → is_in p (readers_at j sets) ≡ true) [
-    | true ↦ λ e. absurd (both_ways (is_in p asked) (all p c r (subst (λ n. slice_get s.consoles n ≡ Some c) (eqb-true j k e) at) found reads out) unasked)
+    | true ↦ λ e. absurd (both_ways (is_in p asked) unasked (all p c r (subst (λ n. slice_get s.consoles n ≡ Some c) (eqb-true j k e) at) found reads out))
     | false ↦ λ e. elsewhere j p (eqb-false j k e) (w.known j p c r at found reads out unasked) (slice_get readers k) refl gone
   ] refl;
   each = (emptied (slice_get readers k) refl gone).0;
   many = (emptied (slice_get readers k) refl gone).1 ∙ w.many;
 }
   where
-    both_ways : (b : Bool) → b ≡ true → b ≡ false → ⊥
-    both_ways b y n = absurd (cc)
-
     elsewhere : (j p : ℕ) → j ≢ k → is_in p (readers_at j readers) ≡ true → (o : Option PidSetView) → slice_get readers k ≡ o → MatchOption o (sets ≡ readers) (λ set. (now : PidSetView) × (sets ≡ slice_set readers k now) × (now.pids ≡ []) × (now.room ≡ set.room)) → is_in p (readers_at j sets) ≡ true
     elsewhere j p ne e None at m = ap (λ x. is_in p (readers_at j x)) m ∙ e
     elsewhere j p ne e (Some set) at m = ap (λ x. is_in p (readers_at j x)) m.1 ∙ ap (λ o. is_in p (option_map_or (λ (x : PidSetView). x.pids) o [])) (set_other readers k j m.0 ne) ∙ e

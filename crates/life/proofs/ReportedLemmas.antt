@@ -27,26 +27,21 @@ use Rattle.life.proofs.SoundLemmas.{there}
 abbrev pub IsElsewhereSame : ℕ → ℕ → ChildSetView → ChildSetView → Type 0
 IsElsewhereSame parent child before after = (q c : ℕ) → (q ≡ parent → c ≡ child → ⊥) → is_child_in q c after.pairs ≡ is_child_in q c before.pairs
 
+-- another pair has another parent or another child
+other_pair : (parent child q c : ℕ) → (q ≡ parent → c ≡ child → ⊥) → (q == parent && c == child) ≡ false
+other_pair parent child q c ne = elim (cases_eq q parent) [
+  | inl same ↦ rw (eq-eqb q parent same) (ne_eqb c child (ne same))
+  | inr other ↦ rw (ne_eqb q parent other) refl
+]
+
 pub elsewhere_put : (parent child : ℕ) (before after : ChildSetView) → ((q c : ℕ) → is_child_in q c after.pairs ≡ (q == parent && c == child || is_child_in q c before.pairs)) → IsElsewhereSame parent child before after
-elsewhere_put parent child before after put = λ q c ne. put q c ∙ ap (λ b. b || is_child_in q c before.pairs) (apart q c ne)
-  where
-    apart : (q c : ℕ) → (q ≡ parent → c ≡ child → ⊥) → (q == parent && c == child) ≡ false
-    apart q c ne = elim (cases_eq q parent) [
-      | inl same ↦ rw (eq-eqb q parent same) (ne_eqb c child (ne same))
-      | inr other ↦ rw (ne_eqb q parent other) refl
-    ]
+elsewhere_put parent child before after put = λ q c ne. put q c ∙ ap (λ b. b || is_child_in q c before.pairs) (other_pair parent child q c ne)
 
 pub here_put : (parent child : ℕ) (before after : ChildSetView) → ((q c : ℕ) → is_child_in q c after.pairs ≡ (q == parent && c == child || is_child_in q c before.pairs)) → is_child_in parent child after.pairs ≡ true
 here_put parent child before after put = put parent child ∙ rw (eq-eqb parent parent refl, eq-eqb child child refl) refl
 
 pub elsewhere_taken : (parent child : ℕ) (before after : ChildSetView) → ((q c : ℕ) → is_child_in q c after.pairs ≡ (not (q == parent && c == child) && is_child_in q c before.pairs)) → IsElsewhereSame parent child before after
-elsewhere_taken parent child before after taken = λ q c ne. taken q c ∙ ap (λ b. not b && is_child_in q c before.pairs) (apart q c ne)
-  where
-    apart : (q c : ℕ) → (q ≡ parent → c ≡ child → ⊥) → (q == parent && c == child) ≡ false
-    apart q c ne = elim (cases_eq q parent) [
-      | inl same ↦ rw (eq-eqb q parent same) (ne_eqb c child (ne same))
-      | inr other ↦ rw (ne_eqb q parent other) refl
-    ]
+elsewhere_taken parent child before after taken = λ q c ne. taken q c ∙ ap (λ b. not b && is_child_in q c before.pairs) (other_pair parent child q c ne)
 
 pub here_taken : (parent child : ℕ) (before after : ChildSetView) → ((q c : ℕ) → is_child_in q c after.pairs ≡ (not (q == parent && c == child) && is_child_in q c before.pairs)) → is_child_in parent child after.pairs ≡ false
 here_taken parent child before after taken = taken parent child ∙ rw (eq-eqb parent parent refl, eq-eqb child child refl) refl

@@ -31,10 +31,7 @@ use Rattle.life.specs.Machines.{IsNoted}
 pub few_noted : (m : ℕ) (ns : List ℕ) → Rises ns → ((q : ℕ) → is_in q ns ≡ true → q ≤ m) → length ns ≤ m + 1
 unfolding Rises is_in
 few_noted m [] up all = omega arith
-few_noted m (n ∷ ns) up all = let rest = few m ns up.1 (λ q e. (let above = in_above n q ns up.0 e in omega (arith, above), all q (later n q ns e))) in omega (arith, rest)
-  where
-    later : (n q : ℕ) (ns : List ℕ) → is_in q ns ≡ true → (n == q || is_in q ns) ≡ true
-    later n q ns e = elim (n == q) as (λ b. (b || is_in q ns) ≡ true) [ true ↦ refl | false ↦ e ]
+few_noted m (n ∷ ns) up all = let rest = few m ns up.1 (λ q e. (let above = in_above n q ns up.0 e in omega (arith, above), all q (or_right (n == q) _ e))) in omega (arith, rest)
 
 -- one more is noted
 pub noted_with : (m g : ℕ) (losing after : PidSetView) → IsNoted m losing → g ≤ m → after.pids ≡ with_number g losing.pids → after.room ≡ losing.room → IsNoted m after
@@ -180,9 +177,6 @@ pub record IsKeeping (t : ℕ → Bool) (first ns : List ℕ) (next : Option ℕ
   pub left : List ℕ
   pub walk : IsWalking ns done left next
   pub kept : done ++ filter t left ≡ filter t first
-
-pub keeping_begins : (t : ℕ → Bool) (ns : List ℕ) (next : Option ℕ) → Rises ns → next ≡ slice_get ns 0 → IsKeeping t ns ns next
-keeping_begins t ns next up e = record { done = []; left = ns; walk = walk_of ns next up e; kept = refl }
 
 -- one that passes stays
 keeping_stays : (t : ℕ → Bool) (first ns : List ℕ) (next after : Option ℕ) (g : ℕ) → IsKeeping t first ns next → next ≡ Some g → t g ≡ true → after ≡ slice_get (numbers_above g ns) 0 → IsKeeping t first ns after

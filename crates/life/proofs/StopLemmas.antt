@@ -4,14 +4,13 @@ use Rattle.std.specs.Option.{IsSome}
 use Rattle.std.proofs.lemmas.Bool.{eq-eqb, ne_eqb, cases_eq, cond_both, or_left, or_right}
 use Rattle.posix.specs.declared.process.PendingSignal.{PendingSignal}
 use Rattle.posix.specs.Processes.{Process, is_zombie}
-use Rattle.posix.specs.Tables.{lookup, at, changed}
+use Rattle.posix.specs.Tables.{lookup, changed}
 use Rattle.posix.specs.States.{State, process, change, is_in, lose_place}
 use Rattle.posix.specs.Regular.{IsRegular}
 use Rattle.posix.specs.Notices.{ignores_stops, noticed_of_change, child_signal}
 use Rattle.posix.specs.Generation.{signalled}
 use Rattle.posix.specs.Waits.{has_report}
 use Rattle.posix.proofs.TableLemmas.{changed_absent, pid_looked}
-use Rattle.posix.proofs.MapLemmas.{at_pid, some_map, lookup_back}
 use Rattle.posix.proofs.MemberLemmas.{each}
 use Rattle.posix.proofs.RegularLemmas.{regular_lose, keeps_signalled}
 use Rattle.posix.proofs.ChangeLemmas.{Lives, among_living, keeps_among, changed_among, keeps_noticed_of_change, unseen_noticed_of_change}
@@ -21,10 +20,12 @@ use Rattle.sched.specs.Places.{Places}
 use Rattle.pidset.specs.Numbers.{PidSetView, with_number}
 use Rattle.pidset.specs.Children.{ArePairs, ChildSetView, is_child_in}
 use Rattle.pidset.proofs.NumberLemmas.{in_with}
+use Rattle.jobs.proofs.NumberLemmas.{absent_changed}
 use Rattle.life.specs.Machines.{IsSound, IsListed, IsReported, IsTimed, IsMachine, Terminals}
 use Rattle.life.specs.Asking.{with_numbers, with_parent, asking}
 use Rattle.life.proofs.SoundLemmas.{sound_change, kept_order}
 use Rattle.posix.proofs.FreshLemmas.{fresh_changed}
+use Rattle.posix.proofs.ReportLemmas.{some_changed}
 use Rattle.life.proofs.AskLemmas.{IsBeside, listed_with, listed_same, listed_change}
 use Rattle.life.proofs.ReportedLemmas.{reported_change, reported_unseen, elsewhere_put, here_put}
 use Rattle.life.proofs.TimedLemmas.{Untimed, timed_change, untimed_signalled}
@@ -48,19 +49,6 @@ parent_there s pids places i p me found some = elim (cases_eq p 1) [
       absurd (some (ap (λ (r : Process). r.parent) mine ∙ first.parent))
   | inr other ↦ i.parents p me other found
 ]
-
--- who is there is there after a change of one record
-pub still : (p : ℕ) (f : Process → Process) → ((r : Process) → (f r).pid ≡ r.pid) → (q : ℕ) (rs : List Process) → IsSome (lookup q rs) → IsSome (lookup q (changed p f rs))
-unfolding changed
-still p f keeps q rs h = some_map (at p f) (at_pid p f keeps) q rs h
-
--- and nobody else is
-pub none_still : (p : ℕ) (f : Process → Process) → ((r : Process) → (f r).pid ≡ r.pid) → (q : ℕ) (rs : List Process) → lookup q rs ≡ None → lookup q (changed p f rs) ≡ None
-unfolding changed
-none_still p f keeps q rs e = elim (lookup q (changed p f rs)) as (λ o. lookup q (changed p f rs) ≡ o → o ≡ None) [
-  | None ↦ λ k. refl
-  | Some r ↦ λ k. let b = lookup_back (at p f) (at_pid p f keeps) q rs r k in let both = sym e ∙ b.found in absurd (cc)
-] refl
 
 -- what holds before and after a change of who is there holds after a change of anyone
 pub if_there : (P : List Process → Type 0) (p : ℕ) (f : Process → Process) (rs : List Process) → P rs → (IsSome (lookup p rs) → P (changed p f rs)) → P (changed p f rs)
@@ -151,10 +139,10 @@ machine_changed s pids places asked after reporting reported alarmed tick p stat
           (sound_change me.parent notice (change s p g) (keeps_noticed_of_change (child_signal p status)) pids places (sound_change p g s (keeps_among f k) pids places i.sound));
       listed = listed_changed s t p me.parent asked after ((me.parent ∷ []) ++ (p ∷ me.parent ∷ [])) i.listed
           (touches_both s mid t (p ∷ me.parent ∷ []) (me.parent ∷ []) (touches_shown s p f k.pid k.parent rising me found) (touches_unseen mid me.parent notice u)) (refl, refl)
-          (λ q e. still me.parent notice u.pid q (changed p f rs) (still p f k.pid q rs e))
-          (still me.parent notice u.pid p (changed p f rs) (still p f k.pid p rs here))
-          (λ some. still me.parent notice u.pid me.parent (changed p f rs) (still p f k.pid me.parent rs (parent_there s pids places i.sound p me found some)))
-          (none_still me.parent notice u.pid 0 (changed p f rs) (none_still p f k.pid 0 rs (nobody_0 s i.sound.regular)))
+          (λ q e. some_changed me.parent q notice u.pid (changed p f rs) (some_changed p q f k.pid rs e))
+          (some_changed me.parent p notice u.pid (changed p f rs) (some_changed p p f k.pid rs here))
+          (λ some. some_changed me.parent me.parent notice u.pid (changed p f rs) (some_changed p me.parent f k.pid rs (parent_there s pids places i.sound p me found some)))
+          (absent_changed me.parent notice u.pid 0 (changed p f rs) (absent_changed p f k.pid 0 rs (nobody_0 s i.sound.regular)))
           (λ q e. each (λ q. (q ≡ p) ⊎ (q ≡ me.parent)) (me.parent ∷ p ∷ me.parent ∷ []) (inr refl, (inl refl, (inr refl, tt))) q e)
           is same;
       reported = reported_news s.world.pidmax p status f k rs reporting reported me found news i.reported put once room;
@@ -181,11 +169,11 @@ machine_told {losing = losing} {terminals = terminals} s pids places asked after
 -- its parent is there after the change, if it is another than number 0
 pub parent_after : (s : State) (pids : Pids) (places : Places) → IsSound s pids places → (p parent : ℕ) (f : Process → Process) → Lives f → (me : Process) → lookup p s.processes ≡ Some me → parent ≡ me.parent → parent ≢ 0 → IsSome (lookup parent (changed p f s.processes))
 parent_after s pids places i p parent f k me found its some =
-    still p f k.pid parent s.processes (subst (λ n. IsSome (lookup n s.processes)) (sym its) (parent_there s pids places i p me found (λ e. some (its ∙ e))))
+    some_changed p parent f k.pid s.processes (subst (λ n. IsSome (lookup n s.processes)) (sym its) (parent_there s pids places i p me found (λ e. some (its ∙ e))))
 
 -- which nobody has
 pub nobody_after : (s : State) → IsRegular s → (p parent : ℕ) (f : Process → Process) → Lives f → parent ≡ 0 → lookup parent (changed p f s.processes) ≡ None
-nobody_after s i p parent f k e = subst (λ n. lookup n (changed p f s.processes) ≡ None) (sym e) (none_still p f k.pid 0 s.processes (nobody_0 s i))
+nobody_after s i p parent f k e = subst (λ n. lookup n (changed p f s.processes) ≡ None) (sym e) (absent_changed p f k.pid 0 s.processes (nobody_0 s i))
 
 -- who is asked may lose its place
 pub machine_left : {losing : PidSetView} {terminals : Terminals} (s : State) (pids : Pids) (places left : Places) (asked : PidSetView) (reporting : ChildSetView) (alarmed : PidSetView) (tick p : ℕ) → places.room ≤ left.room → is_in p asked.pids ≡ true

@@ -14,7 +14,7 @@ use Rattle.posix.specs.Waits.{news_told}
 use Rattle.posix.specs.Alarms.{with_alarm, is_due, rung, ring_at, ring_all}
 use Rattle.posix.proofs.TableLemmas.{pid_looked, pid_reparented}
 use Rattle.posix.proofs.MapLemmas.{at_pid, lookup_on, lookup_back, some_map}
-use Rattle.posix.proofs.MemberLemmas.{in_without, in_none}
+use Rattle.posix.proofs.MemberLemmas.{in_without, in_none, out_of, others_stay}
 use Rattle.posix.proofs.RegularLemmas.{lookup_new, lookup_inserted, lookup_kept, lookup_left, some_inserted, keeps_ring}
 use Rattle.pidset.specs.Numbers.{PidSetView, Rises, with_number, numbers_above}
 use Rattle.pidset.proofs.NumberLemmas.{in_with, rises_with, rises_without, IsLeastAbove, next_is}
@@ -100,20 +100,16 @@ timed_change m p f u rs set n here h =
 
 -- ---- an alarm that is cleared, or set
 
--- the number itself is out
-gone : (p : ℕ) (ns : List ℕ) → is_in p (without p ns) ≡ false
-gone p ns = in_without p p ns ∙ rw (eq-eqb p p refl) refl
-
--- and all others stay
+-- all other numbers stay
 stay_out : (p : ℕ) (before after : PidSetView) → after.pids ≡ without p before.pids → (q : ℕ) → q ≢ p → is_in q after.pids ≡ is_in q before.pids
-stay_out p before after is q ne = ap (is_in q) is ∙ in_without q p before.pids ∙ rw (ne_eqb q p ne) refl
+stay_out p before after is q ne = ap (is_in q) is ∙ others_stay p q before.pids ne
 
 pub timed_none : (m p : ℕ) (f : Process → Process) → ((r : Process) → (f r).pid ≡ r.pid) → (rs : List Process) (before after : PidSetView) (n : ℕ) (me : Process) → lookup p rs ≡ Some me → (f me).alarm ≡ None
     → IsTimed m rs before n → after.pids ≡ without p before.pids → after.room ≡ before.room → IsTimed m (changed p f rs) after n
 timed_none m p f kp rs before after n me found none h is room =
     timed_at m p f kp rs before after n n me found h (omega arith) (stay_out p before after is)
     (record {
-      known = ap (is_in p) is ∙ gone p before.pids ∙ ap is_some (sym none);
+      known = ap (is_in p) is ∙ out_of p before.pids ∙ ap is_some (sym none);
       later = subst (λ (a : Option ℕ). IfSome a (λ due. n ≤ due)) (sym none) tt;
       dead = λ ne z. none;
     }) (subst Rises (sym is) (rises_without p before.pids h.rising)) room
@@ -131,7 +127,7 @@ timed_noted m p f kp rs before after n k me found h is room l later dead =
     known : is_in p after.pids ≡ some
     known = ap (is_in p) is ∙ elim some as (λ b. is_in p (cond b (with_number p before.pids) (without p before.pids)) ≡ b) [
       | true ↦ in_with p p before.pids ∙ rw (eq-eqb p p refl) refl
-      | false ↦ gone p before.pids
+      | false ↦ out_of p before.pids
     ]
 
     others : (q : ℕ) → q ≢ p → is_in q after.pids ≡ is_in q before.pids

@@ -1,15 +1,8 @@
 -- Rows of a table of which some are changed.
-use Rattle.std.proofs.Common.{◌≡◌, ℕ, zero, suc, ◌<◌, ◌==◌, Bool, true, false, cond, List, [], ◌∷◌, length, refl, sym, ap, ◌∙◌, subst, arith, get_or, replicate, inl, inr, length-set}
-use Rattle.std.proofs.Common.{le_of_suc-le-suc}
+use Rattle.std.proofs.Common.{◌≡◌, ℕ, zero, suc, ◌<◌, ◌==◌, Bool, true, false, cond, List, length, refl, sym, ap, ◌∙◌, subst, arith, replicate, inl, inr, length-set}
 use Rattle.std.proofs.lemmas.Bool.{eq-eqb, ne_eqb, cases_eq}
 use Rattle.std.proofs.lemmas.List.{get_or-set_same, get_or-set_other}
 use Rattle.pidalloc.specs.Rows.{Row, unborne, row, with_row, one_more, one_less, Process, Group, Session}
-
--- within the list no default counts
-pub any_default : (xs : List Row) (n : ℕ) (d e : Row) → n < length xs → get_or xs n d ≡ get_or xs n e
-any_default [] n d e l = absurd (omega arith)
-any_default (x ∷ xs) zero d e l = refl
-any_default (x ∷ xs) (suc n) d e l = any_default xs n d e (le_of_suc-le-suc l)
 
 abbrev pub when : Bool → (Row → Row) → Row → Row
 when b f r = cond b (f r) r

@@ -2,12 +2,11 @@
 use Rattle.std.proofs.Common.{◌≡◌, ℕ, suc, ◌+◌, ◌<◌, ◌≤◌, ◌^◌, Bool, true, false, cond, not, ◌&&◌, ◌||◌, refl, ap, sym, ◌∙◌, arith, List, [], ◌∷◌, length, map, filter, Some, ◌==◌}
 use Rattle.std.specs.List.{list_any}
 use Rattle.std.proofs.lemmas.Bool.{eq-eqb}
-use Rattle.std.proofs.lemmas.List.Sums.{length-filter, count_by-le-length}
 use Rattle.posix.specs.Processes.{Process}
 use Rattle.posix.specs.Tables.{IsRising, lookup, inserted, removed, bears}
 use Rattle.posix.specs.NextPid.{is_free, next_free}
 use Rattle.posix.proofs.TableLemmas.{pid_looked}
-use Rattle.posix.proofs.PassingLemmas.{none_counted, counted_inserted, counted_removed, counted_map, counted_found}
+use Rattle.posix.proofs.PassingLemmas.{none_counted, counted_inserted, counted_removed, counted_map, counted_found, filter_at_most}
 use Rattle.pidalloc.specs.Rows.{Row, Pids, unborne_table, row, is_free_row, is_free_in, with_row, one_more, one_less, borne, given_up, born_in, gone_from}
 use Rattle.pidalloc.specs.Rows as roles
 use Rattle.pidalloc.specs.Tallies.{tally, IsTallied}
@@ -43,10 +42,6 @@ unfolding is_free_in
 next_same p rs t = next_free_same _ _ p.last p.pidmax (λ k l. ap is_free_row (t k l) ∙ free_row rs k)
 
 -- ---- counts of records
-
--- no more are counted than there are
-fewer : (t : Process → Bool) (rs : List Process) → length (filter t rs) ≤ length rs
-fewer t rs = rw (length-filter t rs) (count_by-le-length t rs)
 
 -- a test that all pass counts them all
 all_counted : (rs : List Process) → length (filter (λ r. true) rs) ≡ length rs
@@ -112,7 +107,7 @@ pub record IsWithin (k : ℕ) (r : Row) : Type 0 where
 -- no count is above the number of records
 pub tally_within : (n : ℕ) (rs : List Process) → IsWithin (length rs) (tally n rs)
 unfolding tally
-tally_within n rs = record { process = fewer (λ r. r.pid == n) rs; group = fewer (λ r. r.group == n) rs; session = fewer (λ r. r.session == n) rs }
+tally_within n rs = record { process = filter_at_most (λ r. r.pid == n) rs; group = filter_at_most (λ r. r.group == n) rs; session = filter_at_most (λ r. r.session == n) rs }
 
 -- the numbers of a record that is there are borne
 pub record IsCounted (rs : List Process) (pid : ℕ) (r : Process) : Type 0 where

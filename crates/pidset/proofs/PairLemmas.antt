@@ -4,7 +4,7 @@ use Rattle.std.specs.List.{AllByRecursion, list_any}
 use Rattle.std.specs.Option.{IfSome, IsSome, OnSome, option_map_or}
 use Rattle.std.proofs.lemmas.Bool.{eqb-true, eqb-false, eq-eqb, ne_eqb, ltb-true, ltb-false, cases_eq, not-true, and_parts, or_left, or_right, or_cases}
 use Rattle.std.proofs.lemmas.Map.Views.{any-filter_same}
-use Rattle.std.proofs.Math.Bool.{and-false}
+use Rattle.std.proofs.Math.Bool.{and-false, or-false, or-true}
 use Rattle.posix.specs.States.{is_in}
 use Rattle.pidset.specs.declared.child_set.ChildOf.{ChildOf}
 use Rattle.pidset.specs.Numbers.{Rises, with_number, inserted_in_order}
@@ -54,12 +54,13 @@ any_inserted t new (x ∷ xs) = elim (nat_lt (pair_number new) (pair_number x)) 
     swap true false c = refl
     swap false b c = refl
 
+-- a comparison may be turned
+pub turned : (k q : ℕ) → (k == q) ≡ (q == k)
+turned k q = grind (arith, eqb-true, eqb-false, eq-eqb)
+
 -- whether a pair is another one
 flip : (x : ChildOf) (p c : ℕ) → is_pair p c x ≡ (p == x.parent && c == x.child)
-flip x p c = ap (λ b. b && (x.child == c)) (turn x.parent p) ∙ ap (λ b. (p == x.parent) && b) (turn x.child c)
-  where
-    turn : (a b : ℕ) → (a == b) ≡ (b == a)
-    turn a b = elim (cases_eq a b) [ inl e ↦ rw (eq-eqb a b e, eq-eqb b a (sym e)) refl | inr e ↦ rw (ne_eqb a b e, ne_eqb b a (λ k. e (sym k))) refl ]
+flip x p c = ap (λ b. b && (x.child == c)) (turned x.parent p) ∙ ap (λ b. (p == x.parent) && b) (turned x.child c)
 
 pub child_put : (new : ChildOf) (pairs : List ChildOf) (p c : ℕ) → is_child_in p c (inserted_in_order pair_number new pairs) ≡ (p == new.parent && c == new.child || is_child_in p c pairs)
 unfolding is_child_in
@@ -274,13 +275,9 @@ moved_one from to child now removed put ne taken puts = record {
 -- the two have the same children, between them
 pub moved_same : (from to child : ℕ) (now put : List ChildOf) → IsMoved from to child now put → is_child_in from child now ≡ true → (c : ℕ) → (is_child_in to c put || is_child_in from c put) ≡ (is_child_in to c now || is_child_in from c now)
 moved_same from to child now put m here c = rw (m.came c, m.gone c) (elim (cases_eq c child) [
-  | inl e ↦ rw (eq-eqb c child e, ap (λ n. is_child_in from n now) e ∙ here) (sym (or_true (is_child_in to c now)))
+  | inl e ↦ rw (eq-eqb c child e, ap (λ n. is_child_in from n now) e ∙ here) (sym (or-true (is_child_in to c now)))
   | inr e ↦ rw (ne_eqb c child e) refl
 ])
-  where
-    or_true : (b : Bool) → (b || true) ≡ true
-    or_true true = refl
-    or_true false = refl
 
 -- a child that is left is another
 pub left_is_other : (from to child c : ℕ) (now put : List ChildOf) → IsMoved from to child now put → is_child_in from c put ≡ true → (c ≢ child) × (is_child_in from c now ≡ true)
@@ -294,7 +291,7 @@ moved_all from to old now none others same ne p c = elim (cases_eq p from) [
   | inl e ↦ rw (eq-eqb p from e) (ap (λ n. is_child_in n c now) e ∙ gone c)
   | inr a ↦ rw (ne_eqb p from a) (elim (cases_eq p to) [
     | inl e ↦ rw (eq-eqb p to e) (ap (λ n. is_child_in n c now) e ∙ or_false _ (is_child_in to c now) (gone c) ∙ same c ∙ ap (λ n. is_child_in n c old || is_child_in from c old) (sym e))
-    | inr b ↦ rw (ne_eqb p to b) (others p c a b ∙ false_or (is_child_in p c old))
+    | inr b ↦ rw (ne_eqb p to b) (others p c a b ∙ sym (or-false (is_child_in p c old)))
   ])
 ]
   where
@@ -304,10 +301,6 @@ moved_all from to old now none others same ne p c = elim (cases_eq p from) [
     or_false : (a b : Bool) → a ≡ false → b ≡ (b || a)
     or_false a true e = refl
     or_false a false e = sym e
-
-    false_or : (b : Bool) → b ≡ (b || false)
-    false_or true = refl
-    false_or false = refl
 
 -- the walk goes up
 pub goes_up : (p n : ℕ) (pairs : List ChildOf) (next : Option ℕ) → IsNextChild p n pairs next → n < 4294967296 → option_map_or (λ c. 4294967296 - c) next 0 < 4294967296 - n

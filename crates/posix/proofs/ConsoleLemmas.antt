@@ -18,7 +18,7 @@ use Rattle.posix.proofs.ChangeLemmas.{regular_signalled}
 -- ---- one console in the place of another
 
 -- what is found where d was put in the place k: d there, or else what was there
-found_put : (cs : List Console) (k j : ℕ) (d c : Console) → slice_get (slice_set cs k d) j ≡ Some c → ((j ≡ k) × (d ≡ c)) ⊎ ((j ≢ k) × (slice_get cs j ≡ Some c))
+pub found_put : (cs : List Console) (k j : ℕ) (d c : Console) → slice_get (slice_set cs k d) j ≡ Some c → ((j ≡ k) × (d ≡ c)) ⊎ ((j ≢ k) × (slice_get cs j ≡ Some c))
 found_put [] k j d c e = absurd (cc)
 found_put (x ∷ xs) zero zero d c e = inl (refl, cc)
 found_put (x ∷ xs) zero (suc j) d c e = inr (λ q. absurd (omega (arith, q)), e)
@@ -145,7 +145,7 @@ console_is n cs k session c h found own some = from (console_of session cs) refl
         sym at.found ∙ ap (λ i. slice_get cs i) (sym same) ∙ found
 
 -- where no console is that of a session, nothing is changed
-changed_none : (session : ℕ) (f : Console → Console) (cs : List Console) → ((j : ℕ) (d : Console) → slice_get cs j ≡ Some d → d.session ≢ session) → map (changed_at session f) cs ≡ cs
+pub changed_none : (session : ℕ) (f : Console → Console) (cs : List Console) → ((j : ℕ) (d : Console) → slice_get cs j ≡ Some d → d.session ≢ session) → map (changed_at session f) cs ≡ cs
 changed_none session f [] none = refl
 changed_none session f (x ∷ xs) none =
     let away : (x.session == session) ≡ false = ne_eqb _ _ (none 0 x refl) in

@@ -13,7 +13,6 @@ use Rattle.posix.proofs.TableLemmas.{pid_looked, none_found}
 use Rattle.posix.proofs.WalkLemmas.{all_looked}
 use Rattle.posix.proofs.GroupedLemmas.{FitsIn}
 use Rattle.posix.proofs.RegularLemmas.{Keeps, regular_moved}
-use Rattle.posix.proofs.TouchLemmas.{Unseen}
 
 -- ---- which group a process moves to
 
@@ -133,8 +132,3 @@ regular_session s i me p found none =
 pub keeps_executed : {now : ℕ} (number : ℕ) (program : Program) → Keeps now (executed number program)
 unfolding executed
 keeps_executed number program = record { pid = λ r. refl; parent = λ r. refl; group = λ r. refl; session = λ r. refl; zombie = λ r. refl; alarm = λ r h. h }
-
--- and a parent sees nothing of it
-pub unseen_executed : (number : ℕ) (program : Program) → Unseen (executed number program)
-unfolding executed
-unseen_executed number program = record { pid = λ r. refl; parent = λ r. refl; group = λ r. refl; life = λ r. refl; news = λ r. refl }

@@ -1,5 +1,6 @@
 -- Who is in a list of numbers.
 use Rattle.std.proofs.Common.{◌≡◌, ◌≢◌, ℕ, Bool, true, false, not, ◌&&◌, ◌||◌, refl, ap, sym, ◌∙◌, subst, List, [], ◌∷◌, ◌++◌, filter, ◌==◌, inl, inr}
+use Rattle.std.proofs.Math.Bool.{or-false}
 use Rattle.std.specs.List.{AllByRecursion}
 use Rattle.std.proofs.lemmas.Bool.{eqb-true, eqb-false, eq-eqb, ne_eqb, not-true, and_parts, or_left, or_parts, or_cases}
 use Rattle.std.proofs.lemmas.List.Folds.{list_any-append}
@@ -79,10 +80,6 @@ each P (p ∷ ps) h q e = elim (or_cases (p == q) _ e) [ inl t ↦ subst P (eqb-
 
 -- ---- a list, and p behind it
 
-pub or_none : (b : Bool) → (b || false) ≡ b
-or_none true = refl
-or_none false = refl
-
 pub in_last : (q p : ℕ) (ps : List ℕ) → is_in q (ps ++ p ∷ []) ≡ (is_in q ps || (p == q))
 unfolding is_in
-in_last q p ps = in_append q ps (p ∷ []) ∙ ap (λ b. is_in q ps || b) (or_none (p == q))
+in_last q p ps = in_append q ps (p ∷ []) ∙ ap (λ b. is_in q ps || b) (or-false (p == q))

@@ -9,10 +9,10 @@ use Rattle.posix.proofs.TableLemmas.{pid_looked}
 use Rattle.posix.proofs.GroupLemmas.{regular_move}
 
 -- who is named is found by its number
-pub named_looked : (me r : Process) (word : ℤ) (rs : List Process) → lookup me.pid rs ≡ Some me → named me word rs ≡ Some r → lookup r.pid rs ≡ Some r
-named_looked me r (pos zero) rs found e = let is : me ≡ r = cc in ap (λ (q : Process). lookup q.pid rs) (sym is) ∙ found ∙ e
-named_looked me r (pos (suc n)) rs found e = ap (λ p. lookup p rs) (pid_looked (suc n) rs r e) ∙ e
-named_looked me r (negsuc n) rs found e = absurd (cc)
+pub named_found : (p : ℕ) (rs : List Process) (me : Process) (z : ℤ) (r : Process) → lookup p rs ≡ Some me → named me z rs ≡ Some r → lookup r.pid rs ≡ Some r
+named_found p rs me (pos zero) r found e = let is : me ≡ r = cc in ap (λ (x : Process). lookup x.pid rs) (sym is) ∙ ap (λ n. lookup n rs) (pid_looked p rs me found) ∙ found ∙ ap Some is
+named_found p rs me (pos (suc n)) r found e = ap (λ m. lookup m rs) (pid_looked (suc n) rs r e) ∙ e
+named_found p rs me (negsuc n) r found e = absurd (cc)
 
 -- nobody moves where nobody is named
 pub moves_nobody : (me : Process) (z : ℤ) (rs : List Process) (g : ℕ) → move_to me None z rs ≡ Ok g → ⊥

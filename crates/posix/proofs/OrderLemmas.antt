@@ -1,13 +1,13 @@
 -- Orders of places: each number once, and no more than there are records.
-use Rattle.std.proofs.Common.{◌≡◌, ℕ, ◌+◌, ◌≤◌, true, false, cond, refl, ap, sym, ◌∙◌, arith, subst, List, [], ◌∷◌, ◌++◌, length, find, Some, ◌==◌, slice_get, inl, inr}
+use Rattle.std.proofs.Common.{◌≡◌, ℕ, ◌+◌, ◌≤◌, true, false, refl, ap, sym, ◌∙◌, arith, subst, List, [], ◌∷◌, ◌++◌, length, Some, ◌==◌, slice_get, inl, inr}
 use Rattle.std.specs.Option.{IsSome}
 use Rattle.std.proofs.lemmas.Bool.{eqb-true, eq-eqb, ne_eqb, or_from, or_cases, cases_Bool}
 use Rattle.posix.specs.Processes.{Process}
-use Rattle.posix.specs.Tables.{IsRising, has_pid, lookup}
+use Rattle.posix.specs.Tables.{lookup}
 use Rattle.posix.specs.States.{State, is_in, without, lose_place, go_last}
 use Rattle.posix.specs.Regular.{IsRegular, IsPlaced, IsDistinct}
-use Rattle.posix.proofs.MemberLemmas.{in_first, in_last, is_other, apart_first, apart_rest, out_of}
-use Rattle.posix.proofs.RegularLemmas.{distinct_without, regular_lose}
+use Rattle.posix.proofs.MemberLemmas.{in_last, apart_first, apart_rest, out_of}
+use Rattle.posix.proofs.RegularLemmas.{regular_lose}
 
 -- ---- there are no more places than records
 
@@ -30,25 +30,9 @@ one_less_at_most p o d = elim (cases_Bool (is_in p o)) [
   | inr out ↦ let l = ap length (without_absent p o out) in omega (arith, l)
 ]
 
--- numbers that are each found are no more than the records
-some_fit : (rs : List Process) → IsRising rs → (o : List ℕ) → IsDistinct o → ((p : ℕ) → is_in p o ≡ true → IsSome (lookup p rs)) → length o ≤ length rs
-unfolding lookup IsRising
-some_fit [] up [] d h = omega arith
-some_fit [] up (x ∷ xs) d h = let nobody = h x (in_first x xs) in absurd (cc)
-some_fit (r ∷ rs) up o d h =
-    let rest = some_fit rs up.1 (without r.pid o) (distinct_without r.pid o d) (λ p e.
-    let away : (r.pid == p) ≡ false = ne_eqb _ _ (λ x. (is_other r.pid p o e).apart (sym x)) in
-    subst IsSome (ap (λ b. cond b (Some r) (find (has_pid p) rs)) away) (h p (is_other r.pid p o e).among)) in
-    let l = one_less_at_most r.pid o d in
-    omega (arith, rest, l)
-
 -- who is placed is found
 pub placed_some : (rs : List Process) (p : ℕ) → IsPlaced rs p → IsSome (lookup p rs)
 placed_some rs p h = rw h.found refl
-
--- no more places than records
-pub fits : (rs : List Process) → IsRising rs → (o : List ℕ) → IsDistinct o → ((p : ℕ) → is_in p o ≡ true → IsPlaced rs p) → length o ≤ length rs
-fits rs up o d h = some_fit rs up o d (λ p e. placed_some rs p (h p e))
 
 -- a new last one leaves each number once
 pub distinct_last : (p : ℕ) (o : List ℕ) → IsDistinct o → is_in p o ≡ false → IsDistinct (o ++ p ∷ [])

@@ -1,10 +1,11 @@
 -- How many records of a list pass a test.
-use Rattle.std.proofs.Common.{◌≡◌, ℕ, suc, ◌≤◌, Bool, true, false, cond, not, refl, ap, sym, ◌∙◌, arith, subst, List, [], ◌∷◌, length, map, filter, find, Some, ◌==◌}
+use Rattle.std.proofs.Common.{◌≡◌, ℕ, suc, ◌≤◌, Bool, true, false, cond, not, refl, ap, sym, ◌∙◌, arith, subst, List, [], ◌∷◌, length, map, filter, find, Some, ◌==◌, Option, None, nat_le}
 use Rattle.std.specs.List.{list_any}
 use Rattle.std.proofs.lemmas.Bool.{eqb-true, eq-eqb, ne_eqb}
 use Rattle.std.proofs.lemmas.List.{length-map}
+use Rattle.std.proofs.lemmas.List.Sums.{length-filter, count_by-le-length}
 use Rattle.posix.specs.Processes.{Process}
-use Rattle.posix.specs.Tables.{IsRising, lookup, has_pid, at, changed, inserted, removed}
+use Rattle.posix.specs.Tables.{IsRising, lookup, has_pid, at, changed, inserted, removed, left_of}
 use Rattle.posix.proofs.MapLemmas.{at_pid, filter_map, lookup_on}
 use Rattle.posix.proofs.TableLemmas.{Above, remove_above, rising_changed, pid_looked}
 
@@ -12,6 +13,15 @@ use Rattle.posix.proofs.TableLemmas.{Above, remove_above, rising_changed, pid_lo
 pub none_counted : (t : Process → Bool) (rs : List Process) → (length (filter t rs) == 0) ≡ not (list_any t rs)
 none_counted t [] = refl
 none_counted t (r ∷ rs) = grind (arith, none_counted t rs, ne_eqb)
+
+-- no more are counted than there are
+pub filter_at_most : (t : Process → Bool) (rs : List Process) → length (filter t rs) ≤ length rs
+filter_at_most t rs = rw (length-filter t rs) (count_by-le-length t rs)
+
+-- nor are more left than there are
+pub left_at_most : (o : Option ℕ) (rs : List Process) → length (left_of o rs) ≤ length rs
+left_at_most None rs = omega arith
+left_at_most (Some n) rs = filter_at_most (λ r. nat_le n r.pid) rs
 
 -- a record that is found and passes the test is counted
 pub counted_found : (t : Process → Bool) (p : ℕ) (r : Process) (rs : List Process) → t r ≡ true → lookup p rs ≡ Some r → 1 ≤ length (filter t rs)

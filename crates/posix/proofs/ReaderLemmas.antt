@@ -1,43 +1,22 @@
 -- Whom a change of consoles can let act: who reads from one of them.
-use Rattle.std.proofs.Common.{◌≡◌, ◌≢◌, ℕ, zero, suc, ◌≤◌, Bool, true, false, cond, not, ◌&&◌, refl, ap, sym, ◌∙◌, arith, subst, List, [], ◌∷◌, length, map, filter, find, slice_get, slice_set, Some, ◌==◌, Result, Ok, Err, ◌⊎◌, inl, inr}
-use Rattle.std.proofs.lemmas.Bool.{eqb-true, eqb-false, eq-eqb, ne_eqb, or_parts, cond_both}
+use Rattle.std.proofs.Common.{◌≡◌, ◌≢◌, ℕ, zero, suc, ◌≤◌, Bool, true, false, cond, not, ◌&&◌, refl, ap, sym, ◌∙◌, arith, subst, List, [], ◌∷◌, length, map, find, slice_get, slice_set, Some, ◌==◌, Result, Ok, Err, ◌⊎◌}
+use Rattle.std.proofs.lemmas.Bool.{eqb-true, eq-eqb, ne_eqb, or_parts, cond_both}
 use Rattle.posix.specs.declared.errno.Errno.{Errno}
 use Rattle.posix.specs.declared.span.Span.{Span}
 use Rattle.posix.specs.Processes.{Process, argument}
-use Rattle.posix.specs.Tables.{lookup, pids}
+use Rattle.posix.specs.Tables.{lookup}
 use Rattle.posix.specs.States.{State, is_in}
-use Rattle.posix.specs.Consoles.{Console, console_of, is_of_session, lines_left, line_taken, with_foreground}
+use Rattle.posix.specs.Consoles.{Console, console_of, is_of_session, with_foreground}
 use Rattle.posix.specs.Transfers.{span_in}
 use Rattle.posix.specs.GroupCalls.{is_group_of}
-use Rattle.posix.specs.Terminals.{is_reader, waits_in, waits_on, waits_to_read}
-use Rattle.posix.specs.Settle.{can_act, is_fresh, refreshed, clear_foregrounds}
+use Rattle.posix.specs.Terminals.{waits_in, waits_on, waits_to_read}
+use Rattle.posix.specs.Settle.{is_fresh, refreshed, clear_foregrounds}
 use Rattle.posix.specs.Regular.{IsRegular}
 use Rattle.posix.proofs.TableLemmas.{none_found}
-use Rattle.posix.proofs.SeeLemmas.{can_act_waits, acts_reading}
+use Rattle.posix.proofs.SeeLemmas.{acts_reading}
 use Rattle.posix.proofs.TouchLemmas.{Touches, stands}
 
--- who passes a test is among the numbers of those that do
-among : (t : Process → Bool) (rs : List Process) (p : ℕ) (r : Process) → lookup p rs ≡ Some r → t r ≡ true → is_in p (pids (filter t rs)) ≡ true
-unfolding lookup is_in
-among t [] p r e k = absurd (cc)
-among t (x ∷ xs) p r e k = grind (arith, k, among t xs p r)
-
 -- ---- consoles change, and nothing else does
-
--- where other sessions keep their terminal, who reads from that of this session is touched
-pub touches_readers : (s t : State) (session : ℕ) → t.processes ≡ s.processes → t.order ≡ s.order
-    → ((p : ℕ) (r : Process) → lookup p s.processes ≡ Some r → r.session ≢ session → console_of r.session t.consoles ≡ console_of r.session s.consoles)
-    → Touches s t (pids (filter (is_reader session) s.processes))
-unfolding waits_to_read
-touches_readers s t session same order keeps q r e out =
-    let found = ap (lookup q) (sym same) ∙ e in
-    stands s t q r (λ h. sym (ap (is_in q) order) ∙ h) found (acts_reading s t r same (λ runs reads w.
-    elim (r.session == session) as (λ b. (r.session == session) ≡ b → waits_to_read t.consoles r ≡ true) [
-      | true ↦ λ k.
-          let reader : is_reader session r ≡ true = rw (runs, reads, k) refl in
-          let no = sym out ∙ among (is_reader session) s.processes q r found reader in absurd (cc)
-      | false ↦ λ k. ap (waits_on r) (keeps q r found (eqb-false _ _ k)) ∙ w
-    ] refl))
 
 -- where each read waits that did, nobody is touched
 pub touches_waiting : (s t : State) → t.processes ≡ s.processes → t.order ≡ s.order
@@ -59,17 +38,6 @@ console_of_set session (suc k) c d (x ∷ xs) e a b = grind (arith, console_of_s
 -- a console of this session, or of none
 abbrev pub IsOfOrFree : ℕ → Console → Type 0
 IsOfOrFree session c = (c.session ≡ session) ⊎ (c.session ≡ 0)
-
--- who reads from it before or after is touched
-pub touches_console : (s : State) (k : ℕ) (c d : Console) (session : ℕ) → IsRegular s → slice_get s.consoles k ≡ Some c → IsOfOrFree session c → IsOfOrFree session d
-    → Touches s (record s { consoles = slice_set s.consoles k d }) (pids (filter (is_reader session) s.processes))
-touches_console s k c d session i e old new =
-    touches_readers s (record s { consoles = slice_set s.consoles k d }) session refl refl
-    (λ p r found ne. console_of_set r.session k c d s.consoles e (apart r c (i.bounded p r found).session_least ne old) (apart r d (i.bounded p r found).session_least ne new))
-  where
-    apart : (r : Process) (c : Console) → 1 ≤ r.session → r.session ≢ session → IsOfOrFree session c → c.session ≢ r.session
-    apart r c least ne (inl h) same = ne (sym same ∙ h)
-    apart r c least ne (inr h) same = omega (arith, h, same, least)
 
 -- who waits for a line waits for one still, where none has come
 waits_still : (me : Process) (c d : Console) (span : Result Span Errno) → d.foreground ≡ c.foreground → (c.lines ≡ [] → d.lines ≡ []) → waits_in me c span ≡ true → waits_in me d span ≡ true
@@ -106,15 +74,6 @@ unfolding waits_to_read
 touches_unread s k c d e owner foreground lines =
     touches_waiting s (record s { consoles = slice_set s.consoles k d }) refl refl (λ p r found w. waits_set r r.session k c d s.consoles e owner foreground lines w)
 
--- so where bytes of a line are taken
-pub touches_taken : (s : State) (k : ℕ) (c : Console) (n : ℕ) → slice_get s.consoles k ≡ Some c → Touches s (record s { consoles = slice_set s.consoles k (line_taken n c) }) []
-unfolding line_taken
-touches_taken s k c n e = touches_unread s k c (line_taken n c) e refl refl (none c.lines)
-  where
-    none : (lines : List (List ℕ)) → lines ≡ [] → lines_left n lines ≡ []
-    none [] h = refl
-    none (x ∷ xs) h = absurd (cc)
-
 -- ---- foregrounds that are cleared
 
 -- nobody in the background waits for a line
@@ -150,12 +109,7 @@ waits_cleared rs p r (x ∷ xs) e least =
       | false ↦ λ k. waits_cleared rs p r xs e least
     ] refl
 
--- it decides as before who can act
-pub can_act_cleared : (s : State) (p : ℕ) (r : Process) → IsRegular s → lookup p s.processes ≡ Some r → can_act (clear_foregrounds s) r ≡ can_act s r
-unfolding clear_foregrounds
-can_act_cleared s p r i e = can_act_waits s (clear_foregrounds s) r r (record { parent = r.parent; is = refl }) (waits_cleared s.processes p r s.consoles e (i.bounded p r e).group_least) refl
-
--- and touches nobody
+-- so nobody is touched
 pub touches_cleared : (s : State) → IsRegular s → Touches s (clear_foregrounds s) []
 unfolding clear_foregrounds
 touches_cleared s i = touches_waiting s (clear_foregrounds s) refl refl (λ p r e w. waits_cleared s.processes p r s.consoles e (i.bounded p r e).group_least ∙ w)

@@ -1,5 +1,5 @@
 -- A wait that asks those children alone that have something to report.
-use Rattle.std.proofs.Common.{◌≡◌, ◌<◌, ◌≤◌, ℕ, Bool, true, false, cond, refl, ap, sym, ◌∙◌, arith, List, [], ◌∷◌, length, filter, find, Option, Some, None, ◌==◌, ◌||◌}
+use Rattle.std.proofs.Common.{◌≡◌, ◌<◌, ◌≤◌, ℕ, true, false, cond, refl, ap, sym, ◌∙◌, arith, List, [], ◌∷◌, length, filter, find, Option, Some, None, ◌==◌, ◌||◌}
 use Rattle.posix.specs.declared.process.Life.{Life}
 use Rattle.posix.specs.declared.process.Life.TheVariants.{Running, Stopped, Zombie}
 use Rattle.posix.specs.declared.process.News.{News}
@@ -11,7 +11,7 @@ use Rattle.posix.specs.Processes.{Process, is_zombie}
 use Rattle.posix.specs.Tables.{IsRising, lookup, has_pid, is_child, children_in, first_pid, above, left_of}
 use Rattle.posix.specs.Waits.{is_named, is_something, is_news, has_report, reporting_in, report_life, report_of, reports, report_found, report_among, report}
 use Rattle.posix.proofs.TableLemmas.{rising_filter}
-use Rattle.posix.proofs.WalkLemmas.{above_all, here, head_left_of, left_of_head, in_filter, all_looked, numbered_one, numbered_none, filters_commute, is_left, left_is}
+use Rattle.posix.proofs.WalkLemmas.{above_all, here, head_left_of, left_of_head, in_filter, all_looked, numbered_one, numbered_none, filters_commute}
 use Rattle.posix.proofs.WaitLemmas.{after_look, is_no_child, one_named, is_there}
 
 -- ---- a wait for one process
@@ -160,11 +160,3 @@ report_nothing rs p group options w c e = ap (report_among options) (all_named g
 pub report_childless : (rs : List Process) (p group options : ℕ) → first_pid (children_in p rs) ≡ None → report rs p group whom.All options ≡ found.NoChild
 unfolding report
 report_childless rs p group options e = ap (report_among options) (all_named group (children_in p rs)) ∙ among_empty options (children_in p rs) e
-
--- no more are left than there are
-pub few_left : (rs : List Process) (p : ℕ) (next : Option ℕ) → length (left_of next (reporting_in p rs)) ≤ length (reporting_in p rs)
-few_left rs p next = rw (left_is next (reporting_in p rs)) (fewer (λ r. is_left next r.pid) (reporting_in p rs))
-  where
-    fewer : (t : Process → Bool) (rs : List Process) → length (filter t rs) ≤ length rs
-    fewer t [] = omega arith
-    fewer t (x ∷ xs) = let l = fewer t xs in elim (t x) as (λ b. length (cond b (x ∷ filter t xs) (filter t xs)) ≤ length (x ∷ xs)) [ true ↦ omega (arith, l) | false ↦ omega (arith, l) ]

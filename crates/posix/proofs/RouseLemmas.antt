@@ -1,7 +1,6 @@
 -- What rousing process groups leaves of the records: all but signals, news, and whether a living process is stopped.
-use Rattle.std.proofs.Common.{◌≡◌, ℕ, ◌==◌, Bool, false, cond, refl, ap, sym, ◌∙◌, subst, List, [], ◌∷◌, map, filter, length, Option, Some, None, option_map}
+use Rattle.std.proofs.Common.{◌≡◌, ℕ, false, cond, refl, ap, sym, ◌∙◌, subst, List, [], ◌∷◌, map, Option, Some, None, option_map}
 use Rattle.std.proofs.lemmas.Bool.{cond_both}
-use Rattle.std.proofs.lemmas.List.{length-map}
 use Rattle.posix.specs.declared.process.Effect.TheVariants as effect
 use Rattle.posix.specs.declared.process.Life.{Life}
 use Rattle.posix.specs.declared.process.Life.TheVariants.{Running, Stopped, Zombie}
@@ -9,7 +8,7 @@ use Rattle.posix.specs.declared.process.News.TheVariants as news
 use Rattle.posix.specs.declared.process.PendingSignal.{PendingSignal}
 use Rattle.posix.specs.SignalNumbers.{HUP, CONT}
 use Rattle.posix.specs.Processes.{Process, initial_signals, is_zombie}
-use Rattle.posix.specs.Tables.{IsRising, lookup, pids, changed, children_in, members_in}
+use Rattle.posix.specs.Tables.{IsRising, lookup, pids, changed, members_in}
 use Rattle.posix.specs.States.{State}
 use Rattle.posix.specs.Statuses.{continued}
 use Rattle.posix.specs.Regular.{IsRegular}
@@ -19,7 +18,7 @@ use Rattle.posix.specs.Choice.{from_kernel}
 use Rattle.posix.specs.Groups.{newly_orphaned}
 use Rattle.posix.specs.Ends.{signalled_members, roused, roused_all, rouse_orphans}
 use Rattle.posix.proofs.TableLemmas.{rising_changed}
-use Rattle.posix.proofs.MapLemmas.{at_keeps, back, lookup_map, filter_map}
+use Rattle.posix.proofs.MapLemmas.{at_keeps, back, lookup_map}
 use Rattle.posix.proofs.ChangeLemmas.{among_living, keeps_noticed_of_change, changed_among, lives_resumed, keeps_among, continued_stopped, stopped_living, life_signalled, lookup_signalled, regular_signalled}
 
 -- ---- what lasts
@@ -168,29 +167,6 @@ still_there p old new same r e =
 -- and who is there was there
 pub was_there : (p : ℕ) (old new : List Process) → map lasting new ≡ map lasting old → (r : Process) → lookup p new ≡ Some r → IsLasting (lookup p old) r
 was_there p old new same r e = still_there p new old (sym same) r e
-
--- ---- what that says of all
-
--- their numbers are the same
-pub pids_last : (old new : List Process) → map lasting new ≡ map lasting old → pids new ≡ pids old
-pids_last old new same = sym (named new) ∙ ap pids same ∙ named old
-  where
-    named : (rs : List Process) → pids (map lasting rs) ≡ pids rs
-    named [] = refl
-    named (r ∷ rs) = ap (λ ps. r.pid ∷ ps) (named rs)
-
--- those that pass a test of what lasts are the same
-pub passing_last : (t : Process → Bool) → ((r : Process) → t (lasting r) ≡ t r) → (old new : List Process) → map lasting new ≡ map lasting old → map lasting (filter t new) ≡ map lasting (filter t old)
-passing_last t k old new same = sym (filter_map t lasting k new) ∙ ap (filter t) same ∙ filter_map t lasting k old
-
--- and as many
-pub as_many_last : (old new : List Process) → map lasting new ≡ map lasting old → length new ≡ length old
-as_many_last old new same = sym (length-map new lasting) ∙ ap length same ∙ length-map old lasting
-
--- children, say
-pub children_last : (p : ℕ) (old new : List Process) → map lasting new ≡ map lasting old → map lasting (children_in p new) ≡ map lasting (children_in p old)
-unfolding children_in
-children_last p old new same = passing_last (λ r. r.parent == p) (λ r. refl) old new same
 
 -- ---- a regular state
 

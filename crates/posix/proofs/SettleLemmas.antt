@@ -1,5 +1,6 @@
 -- To ask the records one after another, from the least number on, is to give places; and who gets one lives.
 use Rattle.std.proofs.Common.{◌≡◌, ℕ, ◌<◌, Bool, true, false, cond, not, ◌&&◌, ◌||◌, refl, ap, sym, ◌∙◌, arith, subst, List, [], ◌∷◌, ◌++◌, append-nil, append_assoc, filter, Option, Some, None, is_some}
+use Rattle.std.proofs.Math.Bool.{or-false}
 use Rattle.std.specs.List.{AllByRecursion}
 use Rattle.std.proofs.lemmas.Bool.{eqb-true}
 use Rattle.std.proofs.lemmas.Bool.Decides.{nat_tests}
@@ -13,7 +14,7 @@ use Rattle.posix.specs.States.{State, is_in}
 use Rattle.posix.specs.Generation.{is_pending}
 use Rattle.posix.specs.Choice.{chosen}
 use Rattle.posix.specs.Settle.{woken, woken_if, give_places, wakes, can_act, can_go_on}
-use Rattle.posix.proofs.MemberLemmas.{in_append, or_none}
+use Rattle.posix.proofs.MemberLemmas.{in_append}
 use Rattle.posix.proofs.TableLemmas.{pid_looked}
 use Rattle.posix.proofs.SeeLemmas.{can_act_order}
 use Rattle.posix.specs.Regular.{IsRegular, IsPlaced}
@@ -49,7 +50,7 @@ woken_is s p r h a e i c =
 
 -- places of others change nothing
 wakes_later : (s : State) (o : List ℕ) (r : Process) → is_in r.pid o ≡ false → wakes (record s { order = s.order ++ o }) r ≡ wakes s r
-wakes_later s o r e = ap (λ b. not b && can_act (record s { order = s.order ++ o }) r) (in_append r.pid s.order o ∙ ap (λ b. is_in r.pid s.order || b) e ∙ or_none _) ∙ ap (λ b. not (is_in r.pid s.order) && b) (can_act_order s (s.order ++ o) r)
+wakes_later s o r e = ap (λ b. not b && can_act (record s { order = s.order ++ o }) r) (in_append r.pid s.order o ∙ ap (λ b. is_in r.pid s.order || b) e ∙ or-false _) ∙ ap (λ b. not (is_in r.pid s.order) && b) (can_act_order s (s.order ++ o) r)
 
 -- nobody above p has the number p
 not_numbered : (t : Process → Bool) (p q : ℕ) (rs : List Process) → p < q → is_in q (pids (filter t (numbered p rs))) ≡ false

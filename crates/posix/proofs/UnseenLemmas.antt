@@ -34,10 +34,6 @@ pub settle_none : (s : State) → IsRising s.processes → AreFresh s → Covers
 unfolding settle
 settle_none s up fresh covers = ap give_places (cleared_none s fresh) ∙ give_none s up covers
 
--- to settle a settled state does nothing
-pub settle_settled : (s : State) → IsRising s.processes → IsSettled s → settle s ≡ s
-settle_settled s up settled = settle_none s up settled.fresh (covers_none s settled.awake)
-
 -- nor does it after a change of who has a place, of which its parent sees nothing and which keeps its session
 pub settle_unseen : (s : State) (p : ℕ) (f : Process → Process) → Unseen f → ((r : Process) → (f r).session ≡ r.session) → IsRising s.processes → IsSettled s → is_in p s.order ≡ true
     → settle (change s p f) ≡ change s p f

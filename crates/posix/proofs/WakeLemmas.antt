@@ -82,10 +82,6 @@ pub is_settled : (s : State) → IsSettled (settle s)
 unfolding settle
 is_settled s = record { awake = awake_given (clear_foregrounds s); fresh = fresh_given (clear_foregrounds s) (fresh_cleared s) }
 
--- who can act has a place
-pub places_settled : (s : State) → NoWakeIsLost (settle s)
-places_settled s = (is_settled s).awake
-
 -- after an event nothing is left
 pub next_settled : (old new : State) (event : Event) (entries : List Entry) → IsStep old event entries new → old.halted ≡ false → IsSettled new
 next_settled old new event entries h going =
@@ -102,13 +98,6 @@ settled_stays old new event entries h settled = elim old.halted as (λ b. old.ha
 -- after an event who can act has a place
 pub act_has_place : (old new : State) (event : Event) (entries : List Entry) → IsStep old event entries new → old.halted ≡ false → NoWakeIsLost new
 act_has_place old new event entries h awake = (next_settled old new event entries h awake).awake
-
--- and still has where it had before, after a halt too
-pub places_stay : (old new : State) (event : Event) (entries : List Entry) → IsStep old event entries new → NoWakeIsLost old → NoWakeIsLost new
-places_stay old new event entries h placed = elim old.halted as (λ b. old.halted ≡ b → NoWakeIsLost new) [
-  | true ↦ λ t. subst (λ (s : State). NoWakeIsLost s) (sym (nothing_after_halt old new event entries h t)) placed
-  | false ↦ λ t. act_has_place old new event entries h t
-] refl
 
 -- at the start
 pub first_has_place : (w : World) → NoWakeIsLost (boot w)

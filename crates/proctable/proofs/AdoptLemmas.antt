@@ -96,15 +96,12 @@ unfolding changed
 parents_moved rs q to h there p r e =
     let b = lookup_back (at q (moved to)) (at_pid q (moved to) (moved_pid to)) p rs r e in
     elim (b.what.pid == q) as (λ t. r ≡ cond t (moved to b.what) b.what → (r.parent ≡ 0) ⊎ IsSome (lookup r.parent (map (at q (moved to)) rs))) [
-      | true ↦ λ i. inr (subst (λ n. IsSome (lookup n (map (at q (moved to)) rs))) (sym (ap (λ (r : Process). r.parent) i ∙ moved_to b.what)) (some_map (at q (moved to)) (at_pid q (moved to) (moved_pid to)) to rs there))
+      | true ↦ λ i. inr (subst (λ n. IsSome (lookup n (map (at q (moved to)) rs))) (sym (ap (λ (r : Process). r.parent) i ∙ moved_parent to b.what)) (some_map (at q (moved to)) (at_pid q (moved to) (moved_pid to)) to rs there))
       | false ↦ λ i. elim (h p b.what b.found) [
         | inl z ↦ inl (ap (λ (r : Process). r.parent) i ∙ z)
         | inr s ↦ inr (subst (λ n. IsSome (lookup n (map (at q (moved to)) rs))) (sym (ap (λ (r : Process). r.parent) i)) (some_map (at q (moved to)) (at_pid q (moved to) (moved_pid to)) b.what.parent rs s))
       ]
     ] b.is
-  where
-    moved_to : (r : Process) → (moved to r).parent ≡ to
-    moved_to r = moved_parent to r
 
 pub there_moved : (rs : List Process) (q to p : ℕ) → IsSome (lookup p rs) → IsSome (lookup p (changed q (moved to) rs))
 unfolding changed

@@ -10,6 +10,7 @@ use Rattle.posix.proofs.PassingLemmas.{removed_changed}
 use Rattle.posix.proofs.WalkLemmas.{all_looked, in_filter}
 use Rattle.posix.proofs.RegularLemmas.{lookup_inserted, lookup_new, lookup_kept, lookup_removed, lookup_left, some_inserted}
 use Rattle.posix.proofs.SettleLemmas.{none_passes}
+use Rattle.pidset.proofs.PairLemmas.{turned}
 use Rattle.proctable.specs.declared.node.Ends.{Ends}
 use Rattle.proctable.specs.declared.node.Node.{Node}
 use Rattle.proctable.specs.declared.node.Links.{Links}
@@ -39,9 +40,6 @@ after_record p (Some k) x n = elim (n.pid == k) as (λ b. record_of (cond b (wit
 before_record : (p : ℕ) (b y : Option ℕ) (n : Node) → record_of (set_before p b y n) ≡ record_of n
 before_record p None y n = elim (n.pid == p) as (λ b. record_of (cond b (with_last y n) n) ≡ record_of n) [ true ↦ refl | false ↦ refl ]
 before_record p (Some k) y n = elim (n.pid == k) as (λ b. record_of (cond b (with_prev y n) n) ≡ record_of n) [ true ↦ refl | false ↦ refl ]
-
-turned : (k q : ℕ) → (k == q) ≡ (q == k)
-turned k q = grind (arith, eqb-true, eqb-false, eq-eqb)
 
 after_next : (p : ℕ) (a x : Option ℕ) (n : Node) → (set_after p a x n).links.next ≡ cond (is_it n.pid a) x n.links.next
 after_next p None x n = elim (n.pid == p) as (λ b. (cond b (with_first x n) n).links.next ≡ n.links.next) [ true ↦ refl | false ↦ refl ]

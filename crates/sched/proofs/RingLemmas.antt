@@ -1,10 +1,11 @@
 -- A ring of nodes, as a number is added to it or taken out.
 use Rattle.std.proofs.Common.{◌≡◌, ◌≢◌, ℕ, ◌+◌, ◌<◌, ◌≤◌, Bool, true, false, cond, not, ◌||◌, refl, ap, sym, ◌∙◌, arith, subst, List, [], ◌∷◌, ◌++◌, length, Some, None, slice_get, slice_set, ◌==◌, replicate, length-set, inl, inr}
+use Rattle.std.proofs.Math.Bool.{or-false}
 use Rattle.std.proofs.lemmas.List.{get_or-replicate, length-replicate}
 use Rattle.std.proofs.lemmas.Bool.{eqb-true, eqb-false, ne_eqb, or_right, or_cases}
 use Rattle.posix.specs.States.{is_in, without}
 use Rattle.posix.specs.Regular.{IsDistinct}
-use Rattle.posix.proofs.MemberLemmas.{in_first, in_rest, in_none, in_last, or_none, is_other, others_stay, out_of}
+use Rattle.posix.proofs.MemberLemmas.{in_first, in_rest, in_none, in_last, is_other, others_stay, out_of}
 use Rattle.posix.proofs.OrderLemmas.{distinct_last}
 use Rattle.posix.proofs.RegularLemmas.{distinct_without}
 use Rattle.sched.specs.declared.links.Node.{Node}
@@ -131,7 +132,7 @@ tells_added {old = old} {new = new} {room = room} {p = p} {ps = ps} r less j i h
       let ne : i ≢ p = λ k. eqb-false p i u (sym k) in
       let last = prev_in old room ps room r.linked room (in_first room ps) in
       let limit : p < nowhere = (let l = r.limit in omega (arith, less, l)) in
-      or_none (is_in i ps) ∙ tells_still r j.before last limit i h (t ne) ∙ ap (λ n. not (n == nowhere)) (sym (other_next j.after i ne))
+      or-false (is_in i ps) ∙ tells_still r j.before last limit i h (t ne) ∙ ap (λ n. not (n == nowhere)) (sym (other_next j.after i ne))
 ] refl
 
 -- another number than the one that is taken out tells the same as before

@@ -104,10 +104,6 @@ carried_there p cs i e = elim (cases_lt i 31) [
     by_bit true e = refl
     by_bit false e = absurd (cc)
 
-pub nothing_there : (o : Option Carried) → is_some o ≡ false → from_kernel ≡ unwrap_or o from_kernel
-nothing_there None e = refl
-nothing_there (Some c) e = absurd (cc)
-
 -- ---- one signal
 
 is_there : (o : Option Carried) → (bit_of o == 1) ≡ is_some o

@@ -1,7 +1,7 @@
 -- Laws of events that are kept as runs.
-use Rattle.std.proofs.Common.{◌≡◌, ℕ, ◌+◌, ◌<◌, ◌≤◌, List, [], ◌∷◌, ◌++◌, length, get_or, refl, ap, sym, ◌∙◌, append_assoc, append-nil, arith, length-append, zero, suc}
+use Rattle.std.proofs.Common.{◌≡◌, ℕ, ◌+◌, ◌<◌, ◌≤◌, List, [], ◌∷◌, ◌++◌, length, get_or, ap, sym, ◌∙◌, append_assoc, append-nil, arith, length-append, zero, suc}
 use Rattle.std.proofs.Math.ListN.{set}
-use Rattle.std.proofs.lemmas.List.{length-replicate, replicate-append-replicate}
+use Rattle.std.proofs.lemmas.List.{length-replicate, replicate-append-replicate, get_or_default}
 use Rattle.std.specs.Prelude.{replicate}
 use Rattle.std.proofs.lemmas.Grind.{common_steps}
 use Rattle.posix.specs.declared.event.Event.{Event}
@@ -11,12 +11,6 @@ use Rattle.text.specs.EventLists.{expanded}
 -- another run adds its events at the end
 pub expanded_push : (rs : List EventRun) (r : EventRun) → expanded (rs ++ r ∷ []) ≡ expanded rs ++ replicate r.count r.event
 expanded_push rs r = grind (arith, common_steps)
-
--- at a place within the list the default doesn't matter
-get_or_any : (rs : List EventRun) (i : ℕ) (d e : EventRun) → i < length rs → get_or rs i d ≡ get_or rs i e
-get_or_any [] i d e h = absurd (omega arith)
-get_or_any (r ∷ rs) zero d e h = refl
-get_or_any (r ∷ rs) (suc i) d e h = get_or_any rs i d e (omega arith)
 
 -- the last run grows by n, and n of its events come at the end
 last_grow : (rs : List EventRun) (i n : ℕ) (d : EventRun) → i + 1 ≡ length rs →
@@ -34,7 +28,7 @@ last_grow (r ∷ q ∷ rs) (suc i) n d h =
 pub expanded_grow : (rs : List EventRun) (i n : ℕ) (r q : EventRun) (event : Event) → i + 1 ≡ length rs → r ≡ get_or rs i r → q ≡ get_or rs i q → q.event ≡ event →
     expanded (set rs i (record { event = r.event; count = r.count + n })) ≡ expanded rs ++ replicate n event
 expanded_grow rs i n r q event last r_is q_is same =
-    let e : r ≡ get_or rs i q = r_is ∙ get_or_any rs i r q (omega arith) in
+    let e : r ≡ get_or rs i q = r_is ∙ get_or_default rs i r q (omega arith) in
     let f : (get_or rs i q).event ≡ event = ap (λ (x : EventRun). x.event) (sym q_is) ∙ same in
     rw (e, ← f) (last_grow rs i n q last)
 

@@ -3,9 +3,8 @@ use Rattle.std.proofs.Common.{◌≡◌, ℕ, ◌+◌, ◌<◌, true, false, Lis
 use Rattle.std.specs.Prelude.{◌==◌}
 use Rattle.std.proofs.lemmas.Grind.{common_steps}
 use Rattle.std.proofs.lemmas.Bool.Decides.{nat_tests}
-use Rattle.std.proofs.lemmas.List.{take_all}
+use Rattle.std.proofs.lemmas.List.{take_all, drop_more, take_more}
 use Rattle.text.specs.Lines.{lines_from, all_lines, last_line}
-use Rattle.text.proofs.WordLemmas.{drop_here, take_here}
 
 -- all lines of a text, of whose first line some bytes have come
 abbrev pub all_from : List ℕ → List ℕ → List (List ℕ)
@@ -23,14 +22,14 @@ all_from-more begun c bs h = rw h refl
 pub line_more : (bs : List ℕ) (i : ℕ) → i < length bs → (get_or bs i 0 ≡ 10 → ⊥) → all_from (take (i + 1) bs) (drop (i + 1) bs) ≡ all_from (take i bs) (drop i bs)
 line_more bs i lt h =
     let ne : (get_or bs i 0 == 10) ≡ false = grind (arith, nat_tests) in
-    ap (λ (w : List ℕ). all_from w (drop (i + 1) bs)) (take_here bs i lt)
-    ∙ sym (ap (all_from (take i bs)) (drop_here bs i lt) ∙ all_from-more (take i bs) (get_or bs i 0) (drop (i + 1) bs) ne)
+    ap (λ (w : List ℕ). all_from w (drop (i + 1) bs)) (take_more bs i 0 lt)
+    ∙ sym (ap (all_from (take i bs)) (drop_more bs i 0 lt) ∙ all_from-more (take i bs) (get_or bs i 0) (drop (i + 1) bs) ne)
 
 -- at a line feed, the bytes before it are the first line
 pub line_taken : (bs : List ℕ) (i : ℕ) → i < length bs → get_or bs i 0 ≡ 10 → all_from (take i bs) (drop i bs) ≡ take i bs ∷ all_lines (drop (i + 1) bs)
 line_taken bs i lt h =
     let eq : (get_or bs i 0 == 10) ≡ true = grind (arith, nat_tests) in
-    ap (all_from (take i bs)) (drop_here bs i lt) ∙ all_from-end (take i bs) (get_or bs i 0) (drop (i + 1) bs) eq
+    ap (all_from (take i bs)) (drop_more bs i 0 lt) ∙ all_from-end (take i bs) (get_or bs i 0) (drop (i + 1) bs) eq
 
 -- a last line that lacks its line feed
 pub some_line : (bs : List ℕ) → 0 < length bs → last_line bs ≡ bs ∷ []

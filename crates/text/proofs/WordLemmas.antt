@@ -1,7 +1,7 @@
 -- How the first word of a line is found.
-use Rattle.std.proofs.Common.{◌≡◌, ℕ, ◌+◌, ◌<◌, true, false, List, [], ◌∷◌, ◌++◌, length, get_or, take, drop, refl, ap, sym, ◌∙◌, arith, add-one, length-take}
+use Rattle.std.proofs.Common.{◌≡◌, ℕ, ◌+◌, ◌<◌, true, false, List, [], ◌∷◌, ◌++◌, length, get_or, take, drop, refl, ap, sym, ◌∙◌, arith, length-take}
 use Rattle.std.proofs.lemmas.Grind.{common_steps}
-use Rattle.std.proofs.Math.Seq.{drop-cons, take-suc}
+use Rattle.std.proofs.lemmas.List.{drop_more, take_more}
 use Rattle.text.specs.Words.{words, words_from, closed, is_separator}
 
 -- a separator ends the word that has begun
@@ -11,20 +11,14 @@ words_from-sep begun b bs h = rw h refl
 pub words_from-more : (begun : List ℕ) (b : ℕ) (bs : List ℕ) → is_separator b ≡ false → words_from begun (b ∷ bs) ≡ words_from (begun ++ b ∷ []) bs
 words_from-more begun b bs h = rw h refl
 
-pub drop_here : (bs : List ℕ) (i : ℕ) → i < length bs → drop i bs ≡ get_or bs i 0 ∷ drop (i + 1) bs
-drop_here bs i lt = rw add-one (drop-cons bs i 0 lt)
-
-pub take_here : (bs : List ℕ) (i : ℕ) → i < length bs → take (i + 1) bs ≡ take i bs ++ get_or bs i 0 ∷ []
-take_here bs i lt = rw add-one (take-suc bs i 0 lt)
-
 pub words_drop : (bs : List ℕ) (i : ℕ) → i < length bs → is_separator (get_or bs i 0) ≡ true → words (drop (i + 1) bs) ≡ words (drop i bs)
-words_drop bs i lt h = sym (ap words (drop_here bs i lt) ∙ words_from-sep [] (get_or bs i 0) (drop (i + 1) bs) h)
+words_drop bs i lt h = sym (ap words (drop_more bs i 0 lt) ∙ words_from-sep [] (get_or bs i 0) (drop (i + 1) bs) h)
 
 pub words_take : (bs : List ℕ) (i : ℕ) → i < length bs → is_separator (get_or bs i 0) ≡ false →
     words_from (take (i + 1) bs) (drop (i + 1) bs) ≡ words_from (take i bs) (drop i bs)
 words_take bs i lt h =
-    ap (λ w. words_from w (drop (i + 1) bs)) (take_here bs i lt)
-    ∙ sym (ap (words_from (take i bs)) (drop_here bs i lt) ∙ words_from-more (take i bs) (get_or bs i 0) (drop (i + 1) bs) h)
+    ap (λ w. words_from w (drop (i + 1) bs)) (take_more bs i 0 lt)
+    ∙ sym (ap (words_from (take i bs)) (drop_more bs i 0 lt) ∙ words_from-more (take i bs) (get_or bs i 0) (drop (i + 1) bs) h)
 
 closed_some : (w : List ℕ) → 0 < length w → closed w ≡ w ∷ []
 closed_some [] h = absurd (omega arith)
@@ -34,7 +28,7 @@ closed_some (b ∷ bs) h = refl
 pub words_taken : (bs : List ℕ) (i : ℕ) → 0 < i → i < length bs → is_separator (get_or bs i 0) ≡ true →
     words_from (take i bs) (drop i bs) ≡ take i bs ∷ words (drop i bs)
 words_taken bs i some lt h =
-    ap (words_from (take i bs)) (drop_here bs i lt)
+    ap (words_from (take i bs)) (drop_more bs i 0 lt)
     ∙ words_from-sep (take i bs) (get_or bs i 0) (drop (i + 1) bs) h
     ∙ ap (λ ws. ws ++ words (drop (i + 1) bs)) (closed_some (take i bs) (simp length-take (omega arith)))
     ∙ ap (λ ws. take i bs ∷ ws) (words_drop bs i lt h)

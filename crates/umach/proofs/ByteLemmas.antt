@@ -1,8 +1,7 @@
 -- Bytes put into the words of a memory, and read from them.
-use Rattle.std.proofs.Common.{◌≡◌, ⊎_elim, ℕ, zero, suc, ◌+◌, ◌-◌, ◌<◌, ◌≤◌, ◌∙◌, min, List, [], ◌∷◌, ◌++◌, length, length-take, length-drop, get_or, set, take, drop, drop_of_length-le, drop-cons, refl, sym, ap, arith, add-one, ℤ, pos}
+use Rattle.std.proofs.Common.{◌≡◌, ℕ, zero, suc, ◌+◌, ◌-◌, ◌<◌, ◌≤◌, ◌∙◌, min, List, [], ◌∷◌, ◌++◌, length, length-take, length-drop, get_or, set, take, drop, drop_of_length-le, drop-cons, refl, sym, ap, arith, add-one, ℤ, pos}
 use Rattle.std.specs.Prelude.{map, replicate}
-use Rattle.std.proofs.lemmas.Bool.{cases_lt}
-use Rattle.std.proofs.lemmas.List.{append_assoc, map-append, length-map, length-take-le, set-append_right, take-replicate, drop-replicate, take_more, take_all, drop_all}
+use Rattle.std.proofs.lemmas.List.{append_assoc, map-append, length-map, length-take-le, set-append_right, take-replicate, drop-replicate, take_more, take_min, drop_min}
 use Rattle.posix.specs.Transfers.{stored}
 use Rattle.umach.specs.Memories.{words_of}
 
@@ -53,17 +52,11 @@ drop_kept zero n words = ap (λ k. words ++ replicate k (pos 0)) (omega arith)
 drop_kept (suc a) n [] = drop-replicate (suc a) n (pos 0) ∙ ap (λ k. replicate k (pos 0)) (omega arith)
 drop_kept (suc a) n (w ∷ words) = drop_kept a n words ∙ ap (λ k. drop a words ++ replicate k (pos 0)) (omega arith)
 
-take_least : (c : ℕ) (words : List ℤ) → take (min c (length words)) words ≡ take c words
-take_least c words = ⊎_elim (λ less. ap (λ n. take n words) (omega (arith, less))) (λ over. ap (λ n. take n words) (omega (arith, over)) ∙ take_all (length words) words (omega arith) ∙ sym (take_all c words over)) (cases_lt c (length words))
-
-drop_least : (a : ℕ) (words : List ℤ) → drop (min a (length words)) words ≡ drop a words
-drop_least a words = ⊎_elim (λ less. ap (λ n. drop n words) (omega (arith, less))) (λ over. ap (λ n. drop n words) (omega (arith, over)) ∙ drop_all (length words) words (omega arith) ∙ sym (drop_all a words over)) (cases_lt a (length words))
-
 -- the kept words of a span
 pub kept_span : (a c : ℕ) (words : List ℤ) → take (min (a + c) (length words) - min a (length words)) (drop (min a (length words)) words) ≡ take c (drop a words)
 kept_span a c words =
     let count : min (a + c) (length words) - min a (length words) ≡ min c (length (drop a words)) = omega (arith, length-drop a words) in
-    ap (λ n. take n (drop (min a (length words)) words)) count ∙ ap (take (min c (length (drop a words)))) (drop_least a words) ∙ take_least c (drop a words)
+    ap (λ n. take n (drop (min a (length words)) words)) count ∙ ap (take (min c (length (drop a words)))) (drop_min a words) ∙ take_min c (drop a words)
 
 -- the bytes of a span are those of its kept words, with zeros behind them
 pub span_bytes : (f : ℤ → ℕ) (a c : ℕ) (words : List ℤ) → f (pos 0) ≡ 0 → c ≤ 16 → a + c ≤ 256 → length words ≤ 256

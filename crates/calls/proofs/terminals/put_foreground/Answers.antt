@@ -1,4 +1,5 @@
 use Rattle.std.proofs.Common.{◌≡◌, ◌∙◌, ap, sym, refl, rules, to_z, of_z, w64, true, false, pos, ℕ, Some}
+use Rattle.std.proofs.lemmas.Option.{cond_some}
 use Rattle.posix.specs.declared.call.Call.TheVariants.{Tcsetpgrp}
 use Rattle.posix.specs.declared.errno.Errno.TheVariants.{EPERM}
 use Rattle.posix.specs.Consoles.{with_foreground}
@@ -10,7 +11,7 @@ use Rattle.posix.specs.Terminals.{change_console}
 use Rattle.life.specs.declared.caller.Caller.{Caller}
 use Rattle.calls.specs.Terminals.{natural_in}
 use Rattle.calls.proofs.CallLemmas.{gives_is}
-use Rattle.calls.proofs.TerminalCallLemmas.{in_session, names_group, none_found, group_found}
+use Rattle.calls.proofs.TerminalCallLemmas.{in_session, names_group, none_found}
 use Rattle.calls.proofs.terminals.put_foreground.Goals as goal
 
 pub returns-in_default-group_of : goal.returns-in_default-group_of
@@ -39,7 +40,7 @@ returns g c = λ r e.
     let session = ap (λ (k : Caller). k.session) caller in
     let kept : to_z w64 (of_z w64 me.r1) ≡ me.r1 = search rules in
     let some : natural_in (argument r 1) ≡ Some group = ap natural_in (sym (kept ∙ ap (λ (k : Caller). k.r1) caller)) ∙ sym c.natural_in.ensures ∙ c.in-Some.is in
-    let found = group_found (is_group_of me.session group s.processes) group c.in-Some-group_of.group (sym c.group_of.ensures.value ∙ c.in-Some-group_of.is) in
+    let found = cond_some (is_group_of me.session group s.processes) group c.in-Some-group_of.group (sym c.group_of.ensures.value ∙ c.in-Some-group_of.is) in
     let member : is_group_of r.session group s.processes ≡ true = ap (λ n. is_group_of n group s.processes) (sym session) ∙ found.0 in
     let now = change_console s r.session (with_foreground group) in
     let is = names_group s r (argument r 1) group true some member ∙ ap (λ (q : ℕ). gives now q Tcsetpgrp (pos 0)) (sym (ap (λ (k : Caller). k.pid) caller)) in

@@ -3,8 +3,9 @@ use Rattle.std.specs.Option.{option_map_or}
 use Rattle.posix.specs.Tables.{lookup, members_in, first_pid, above, left_of}
 use Rattle.posix.specs.Groups.{is_anchor}
 use Rattle.posix.specs.Processes.{Process}
+use Rattle.posix.proofs.PassingLemmas.{filter_at_most, left_at_most}
 use Rattle.jobs.proofs.NumberLemmas.{least_number}
-use Rattle.jobs.proofs.ReadLemmas.{filter_at_most, left_at_most, left_above, above_less}
+use Rattle.jobs.proofs.ReadLemmas.{left_above, above_less}
 use Rattle.jobs.proofs.GroupLemmas.{members_begin, next_begins, next_lies_above, member_here, fewer_members, counted_here, counted_few}
 use Rattle.jobs.proofs.job_table.JobTable.anchors.Goals as goal
 use Rattle.jobs.proofs.job_table.JobTable.anchors.Goals.{then-is_anchor, else-is_anchor}

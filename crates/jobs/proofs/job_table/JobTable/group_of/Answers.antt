@@ -4,9 +4,10 @@ use Rattle.posix.specs.Processes.{Process}
 use Rattle.posix.specs.Tables.{IsNext, first_pid, left_of, next_above, lookup}
 use Rattle.posix.specs.GroupCalls.{is_group_of}
 use Rattle.posix.proofs.WalkLemmas.{passes_here, fails_here, walk_begins, least_is_next, numbers_left, fewer_left}
+use Rattle.posix.proofs.PassingLemmas.{left_at_most}
 use Rattle.jobs.proofs.FactLemmas.{there}
 use Rattle.jobs.proofs.NumberLemmas.{least_number}
-use Rattle.jobs.proofs.ReadLemmas.{left_at_most, left_less, above_less}
+use Rattle.jobs.proofs.ReadLemmas.{left_less, above_less}
 use Rattle.jobs.proofs.MoveLemmas.{any_first, chosen, not_chosen}
 use Rattle.jobs.proofs.job_table.JobTable.group_of.Goals as goal
 

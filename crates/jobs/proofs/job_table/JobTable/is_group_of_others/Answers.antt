@@ -1,7 +1,7 @@
 use Rattle.std.proofs.Common.{ap, sym, ◌∙◌, arith, inl, refl, is_some, nat_lt, length, Some}
 use Rattle.posix.specs.Tables.{first_pid, above, members_in}
+use Rattle.posix.proofs.PassingLemmas.{filter_at_most}
 use Rattle.jobs.proofs.NumberLemmas.{least_number}
-use Rattle.jobs.proofs.ReadLemmas.{filter_at_most}
 use Rattle.jobs.proofs.GroupLemmas.{members_rise, members_above}
 use Rattle.jobs.proofs.FactLemmas.{differs, equals}
 use Rattle.jobs.proofs.MoveLemmas.{others_of, other_none, other_first, other_behind}

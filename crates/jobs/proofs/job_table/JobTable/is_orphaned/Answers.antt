@@ -4,8 +4,9 @@ use Rattle.std.specs.List.{list_any}
 use Rattle.posix.specs.Tables.{lookup, members_in, first_pid, above, left_of}
 use Rattle.posix.specs.Groups.{is_anchor, is_orphaned}
 use Rattle.posix.specs.Processes.{Process}
+use Rattle.posix.proofs.PassingLemmas.{filter_at_most, left_at_most}
 use Rattle.jobs.proofs.NumberLemmas.{least_number}
-use Rattle.jobs.proofs.ReadLemmas.{filter_at_most, left_at_most, left_above, above_less}
+use Rattle.jobs.proofs.ReadLemmas.{left_above, above_less}
 use Rattle.jobs.proofs.GroupLemmas.{members_begin, next_begins, next_lies_above, member_here, fewer_members, is_anchored, anchored_here}
 use Rattle.jobs.proofs.job_table.JobTable.is_orphaned.Goals as goal
 

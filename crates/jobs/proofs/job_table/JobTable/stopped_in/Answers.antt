@@ -2,8 +2,9 @@ use Rattle.std.proofs.Common.{◌≡◌, ◌*◌, true, false, ap, sym, ◌∙�
 use Rattle.std.specs.Option.{option_map_or}
 use Rattle.posix.specs.Tables.{lookup, members_in, first_pid, above, left_of}
 use Rattle.posix.specs.Processes.{Process, is_stopped}
+use Rattle.posix.proofs.PassingLemmas.{filter_at_most, left_at_most}
 use Rattle.jobs.proofs.NumberLemmas.{least_number}
-use Rattle.jobs.proofs.ReadLemmas.{filter_at_most, left_at_most, left_above, above_less}
+use Rattle.jobs.proofs.ReadLemmas.{left_above, above_less}
 use Rattle.jobs.proofs.GroupLemmas.{members_begin, next_begins, next_lies_above, member_here, fewer_members, counted_here, counted_few}
 use Rattle.jobs.proofs.job_table.JobTable.stopped_in.Goals as goal
 use Rattle.jobs.proofs.job_table.JobTable.stopped_in.Goals.{then-is_stopped, else-is_stopped}

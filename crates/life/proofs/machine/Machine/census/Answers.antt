@@ -4,8 +4,9 @@ use Rattle.posix.specs.Processes.{Process, is_living, is_zombie}
 use Rattle.posix.specs.States.{State}
 use Rattle.posix.specs.Tables.{IsNext, left_of, next_above, lookup}
 use Rattle.posix.proofs.WalkLemmas.{least_is_next, numbers_left, fewer_left}
+use Rattle.posix.proofs.PassingLemmas.{left_at_most}
 use Rattle.life.proofs.SoundLemmas.{there}
-use Rattle.jobs.proofs.ReadLemmas.{left_at_most, left_less}
+use Rattle.jobs.proofs.ReadLemmas.{left_less}
 use Rattle.life.proofs.CensusLemmas.{none_counted, counted, living_is}
 use Rattle.life.proofs.machine.Machine.census.Goals as goal
 use Rattle.life.proofs.machine.Machine.census.Goals.{then-is_zombie, else-is_zombie}

@@ -9,13 +9,13 @@ use Rattle.life.specs.Machines.{MachineView, IsMachine, IsNoted, IsCounted, stat
 use Rattle.pidset.specs.Children.{is_child_in}
 use Rattle.life.specs.Asking.{IsForgotten, with_numbers, without_gone}
 use Rattle.posix.proofs.RegularLemmas.{heir_other}
+use Rattle.posix.proofs.PassingLemmas.{left_at_most}
 use Rattle.life.proofs.EndLemmas.{there_after, zombie_after}
 use Rattle.life.proofs.AskLemmas.{has_room, room_after}
 use Rattle.life.proofs.SoundLemmas.{there, here_in, found_in, is_there, there_made_zombie}
 use Rattle.life.proofs.PartLemmas.{room_to_count, told_state}
 use Rattle.life.proofs.NoticeWalkLemmas.{begins, child_here, child_there, child_same, passes, self_lives, life_read, heir_here, zombie_goes, zombie_goes_there, tells, asks_less, tells_less, HasFewer, fewer_left, fewer_told, departed, machine_departed, room_for_parent, room_to_report, departed_told}
 use Rattle.jobs.proofs.FactLemmas.{lives, differs, equals}
-use Rattle.jobs.proofs.ReadLemmas.{left_at_most}
 use Rattle.life.proofs.ViewLemmas.{state_is}
 use Rattle.life.proofs.machine.Machine.depart.Goals as goal
 

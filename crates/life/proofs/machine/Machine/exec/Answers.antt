@@ -3,7 +3,7 @@ use Rattle.posix.specs.States.{State, Program, change}
 use Rattle.posix.specs.Programs.{executed}
 use Rattle.life.proofs.SoundLemmas.{here_in}
 use Rattle.life.proofs.AskLemmas.{has_room}
-use Rattle.life.proofs.CodeLemmas.{get_some, get_none}
+use Rattle.life.proofs.CodeLemmas.{get_some, past_none}
 use Rattle.life.proofs.LoanLemmas.{machine_lent, was_written}
 use Rattle.life.proofs.ViewLemmas.{state_is}
 use Rattle.life.proofs.machine.Machine.exec.Goals as goal
@@ -34,6 +34,6 @@ returns-in-Some-clause-none g c = λ e.
 pub returns-in-None-clause-done : goal.returns-in-None-clause-done
 returns-in-None-clause-done g c = λ program e.
     let all = c.programs.ensures.value ∙ ap (λ (s : State). s.world.programs) (state_is c.self.view_is) in
-    let at = get_none _ _ c.in-None.ensures.lookup.0 in
+    let at = past_none _ _ c.in-None.ensures.lookup.0 in
     let no : Some program ≡ None = sym e ∙ ap (λ ps. slice_get ps c.args.number) (sym all) ∙ ap (λ n. slice_get c.programs.result.now n) (sym c.from.ensures) ∙ at in
     absurd (cc)

@@ -5,7 +5,7 @@ use Rattle.posix.specs.Execute.{Executed, exec_one}
 use Rattle.posix.specs.Step.{set_cpu}
 use Rattle.life.proofs.SoundLemmas.{found_in, here_in}
 use Rattle.life.proofs.AskLemmas.{has_room}
-use Rattle.life.proofs.CodeLemmas.{code_is, get_some, get_none, no_code, same_cpu, stays_by}
+use Rattle.life.proofs.CodeLemmas.{code_is, get_some, past_none, no_code, same_cpu, stays_by}
 use Rattle.life.specs.Machines.{state_of}
 use Rattle.jobs.proofs.LoanLemmas.{own_found}
 use Rattle.life.proofs.LoanLemmas.{machine_lent, cpu_ran, cpu_stays}
@@ -39,12 +39,12 @@ returns-in-Some-clause-stays g c =
 
 pub returns-in-None-clause-trap : goal.returns-in-None-clause-trap
 returns-in-None-clause-trap g c = λ me e.
-    let code = code_is c.args.self.now.state me _ _ _ (c.programs.ensures.value ∙ ap (λ (s : State). s.world.programs) (state_is c.self.view_is)) (c.from.ensures ∙ sym (c.requires.program me e)) (get_none _ _ c.in-None.ensures.lookup.0) in
+    let code = code_is c.args.self.now.state me _ _ _ (c.programs.ensures.value ∙ ap (λ (s : State). s.world.programs) (state_is c.self.view_is)) (c.from.ensures ∙ sym (c.requires.program me e)) (past_none _ _ c.in-None.ensures.lookup.0) in
     sym (ap (λ (x : Executed). x.trap) (no_code c.args.self.now.state me code))
 
 pub returns-in-None-clause-state : goal.returns-in-None-clause-state
 returns-in-None-clause-state g c = λ me e.
-    let code = code_is c.args.self.now.state me _ _ _ (c.programs.ensures.value ∙ ap (λ (s : State). s.world.programs) (state_is c.self.view_is)) (c.from.ensures ∙ sym (c.requires.program me e)) (get_none _ _ c.in-None.ensures.lookup.0) in
+    let code = code_is c.args.self.now.state me _ _ _ (c.programs.ensures.value ∙ ap (λ (s : State). s.world.programs) (state_is c.self.view_is)) (c.from.ensures ∙ sym (c.requires.program me e)) (past_none _ _ c.in-None.ensures.lookup.0) in
     let rising = subst (λ (s : State). IsRising s.processes) (state_is c.self.view_is) c.self.invariant.sound.regular.rising in
     same_cpu c.args.self.now.state c.args.pid me rising e ∙ ap (λ (x : Executed). change c.args.self.now.state c.args.pid (set_cpu x.cpu)) (sym (no_code c.args.self.now.state me code))
 

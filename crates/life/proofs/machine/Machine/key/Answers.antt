@@ -1,9 +1,10 @@
 use Rattle.std.proofs.Common.{ap, sym, ◌∙◌, arith, Some, None, slice_get}
 use Rattle.posix.specs.States.{State}
 use Rattle.posix.specs.Step.{signalled_from}
-use Rattle.life.proofs.ConsoleLemmas.{lent_at, none_at, not_both, key_nowhere, key_past, key_on_it}
+use Rattle.life.proofs.ConsoleLemmas.{lent_at, not_both, key_nowhere, key_past, key_on_it}
 use Rattle.life.proofs.ViewLemmas.{state_is}
 use Rattle.life.proofs.machine.Machine.key.Goals as goal
+use Rattle.life.proofs.CodeLemmas.{past_none}
 
 pub returns-in_default : goal.returns-in_default
 returns-in_default g c =
@@ -17,7 +18,7 @@ returns-in-None g c =
     let was = c.in-Some.ensures in
     let from = c.from.ensures in
     let consoles = sym (c.deref.ensures.value ∙ ap (λ (s : State). s.consoles) (state_is c.self.view_is)) in
-    let none = ap (λ cs. slice_get cs place) consoles ∙ none_at c.deref.result.now place c.in-None.ensures.lookup.0 in
+    let none = ap (λ cs. slice_get cs place) consoles ∙ past_none c.deref.result.now place c.in-None.ensures.lookup.0 in
     key_past c.args.self.now.state c.args.console place c.args.byte (omega (arith, was, from)) none
 
 pub returns-in_default-type_byte : goal.returns-in_default-type_byte

@@ -1,4 +1,5 @@
-use Rattle.std.proofs.Common.{◌≡◌, ◌||◌, Bool, true, false, arith, ap, sym, ◌∙◌, subst, refl, cond, length, ℕ, Option}
+use Rattle.std.proofs.Common.{◌≡◌, ◌||◌, arith, ap, sym, ◌∙◌, subst, refl, cond, length, ℕ, Option}
+use Rattle.std.proofs.Math.Bool.{or-false}
 use Rattle.std.specs.List.{list_any}
 use Rattle.posix.specs.Numbers.{with_number}
 use Rattle.posix.specs.Tables.{IsRising, children_in, first_pid, left_of, next_sibling}
@@ -80,11 +81,7 @@ loop-next-preserved g c =
 pub returns-clause-losing : goal.returns-clause-losing
 returns-clause-losing g c = λ n.
     let rs = c.args.self.now.state.processes in
-    sym (ends (is_in n c.loop-next.self.losing)) ∙ sym (ap (λ (o : Option ℕ). is_in n c.loop-next.self.losing || list_any (keeps rs n) (left_of o (children_in c.args.pid rs))) c.in_default.is) ∙ c.loop-next.invariant.todo n
-  where
-    ends : (b : Bool) → (b || false) ≡ b
-    ends true = refl
-    ends false = refl
+    sym (or-false (is_in n c.loop-next.self.losing)) ∙ sym (ap (λ (o : Option ℕ). is_in n c.loop-next.self.losing || list_any (keeps rs n) (left_of o (children_in c.args.pid rs))) c.in_default.is) ∙ c.loop-next.invariant.todo n
 
 pub returns-clause-regular : goal.returns-clause-regular
 returns-clause-regular g c = subst IsRegular (state_is c.self.view_is) c.self.invariant.sound.regular

@@ -3,10 +3,11 @@ use Rattle.posix.specs.Consoles.{released}
 use Rattle.posix.specs.States.{State}
 use Rattle.life.specs.Consoles.{AreReaders}
 use Rattle.life.specs.Machines.{MachineView}
-use Rattle.life.proofs.ConsoleLemmas.{machine_put, put_asked, put_is, lent_at, none_at, not_both, fresh_put}
+use Rattle.life.proofs.ConsoleLemmas.{machine_put, put_asked, put_is, lent_at, not_both, fresh_put}
 use Rattle.life.proofs.ViewLemmas.{state_is}
 use Rattle.life.proofs.machine.Machine.release.Goals as goal
 use Rattle.life.proofs.machine.Machine.release.Goals.{in-Some, in_default}
+use Rattle.life.proofs.CodeLemmas.{past_none}
 
 pub invariant_of-self : goal.invariant_of-self
 unfolding released
@@ -34,6 +35,6 @@ returns g c = λ its found.
           let at : slice_get c.self.inside.consoles.items c.args.place ≡ Some it = lent_at c.self.inside.consoles.items c.args.place it w.in-Some.ensures.item.0 w.in-Some.ensures.item.1 in
           rw (w.self-inside-is, w.release.ensures) (put_is _ c.args.self.now.state c.args.place it its released same at found)
       | in_default w ↦
-          let none = none_at c.self.inside.consoles.items c.args.place w.in_default.ensures.item.0 in
+          let none = past_none c.self.inside.consoles.items c.args.place w.in_default.ensures.item.0 in
           absurd (not_both _ its (ap (λ (s : State). slice_get s.consoles c.args.place) same ∙ found) none)
     ]

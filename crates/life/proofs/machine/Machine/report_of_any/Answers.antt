@@ -2,7 +2,8 @@ use Rattle.std.proofs.Common.{◌<◌, refl, arith, length, ap, sym, ◌∙◌, 
 use Rattle.posix.specs.Tables.{first_pid, above, left_of, children_in}
 use Rattle.posix.specs.States.{State, process}
 use Rattle.posix.specs.Waits.{reporting_in}
-use Rattle.posix.proofs.ReportingLemmas.{IsReportWalk, at_reporting, few_left, report_begins, report_passes, reporting_less, report_here, report_nothing, report_childless}
+use Rattle.posix.proofs.ReportingLemmas.{IsReportWalk, at_reporting, report_begins, report_passes, reporting_less, report_here, report_nothing, report_childless}
+use Rattle.posix.proofs.PassingLemmas.{left_at_most}
 use Rattle.life.proofs.SoundLemmas.{is_there}
 use Rattle.life.proofs.machine.Machine.report_of_any.Goals as goal
 
@@ -14,7 +15,7 @@ loop-next-init g c =
       asked = refl;
       stale = refl;
       walk = report_begins _ i.rising (λ q r e. (i.bounded q r e).least) c.args.parent c.args.options.0 _ c.next_reporting-next.ensures.value;
-      read = let few = few_left c.args.self.now.state.processes c.args.parent c.next_reporting-next.result in omega (arith, few);
+      read = let few = left_at_most c.next_reporting-next.result (reporting_in c.args.parent c.args.self.now.state.processes) in omega (arith, few);
     }
 
 pub report_of-requires : goal.report_of-requires

@@ -6,7 +6,7 @@ use Rattle.posix.specs.Step.{set_cpu}
 use Rattle.life.specs.NotedBursts.{NotedBurst, most_notes, exec_with_notes}
 use Rattle.life.proofs.SoundLemmas.{found_in, here_in}
 use Rattle.life.proofs.AskLemmas.{has_room}
-use Rattle.life.proofs.CodeLemmas.{code_is, get_some, get_none, same_cpu}
+use Rattle.life.proofs.CodeLemmas.{code_is, get_some, past_none, same_cpu}
 use Rattle.life.proofs.NotedBurstLemmas.{no_notes}
 use Rattle.jobs.proofs.LoanLemmas.{own_found}
 use Rattle.life.proofs.LoanLemmas.{machine_lent, cpu_ran}
@@ -36,13 +36,13 @@ returns-in-Some-clause-state g c = λ me e.
 
 pub returns-in-None-clause-taken : goal.returns-in-None-clause-taken
 returns-in-None-clause-taken g c = λ me e.
-    let code = code_is c.args.self.now.state me _ _ _ (c.programs.ensures.value ∙ ap (λ (s : State). s.world.programs) (state_is c.self.view_is)) (c.from.ensures ∙ sym (c.requires.program me e)) (get_none _ _ c.in-None.ensures.lookup.0) in
+    let code = code_is c.args.self.now.state me _ _ _ (c.programs.ensures.value ∙ ap (λ (s : State). s.world.programs) (state_is c.self.view_is)) (c.from.ensures ∙ sym (c.requires.program me e)) (past_none _ _ c.in-None.ensures.lookup.0) in
     ap (λ (b : NotedBurst). b.taken) (no_notes c.args.self.now.state me c.args.before c.args.last code c.requires.some)
     ∙ ap (λ ns. record { last = c.args.before; notes = ns; trap = trap.Fault 11 }) (sym c.requires.none)
 
 pub returns-in-None-clause-state : goal.returns-in-None-clause-state
 returns-in-None-clause-state g c = λ me e.
-    let code = code_is c.args.self.now.state me _ _ _ (c.programs.ensures.value ∙ ap (λ (s : State). s.world.programs) (state_is c.self.view_is)) (c.from.ensures ∙ sym (c.requires.program me e)) (get_none _ _ c.in-None.ensures.lookup.0) in
+    let code = code_is c.args.self.now.state me _ _ _ (c.programs.ensures.value ∙ ap (λ (s : State). s.world.programs) (state_is c.self.view_is)) (c.from.ensures ∙ sym (c.requires.program me e)) (past_none _ _ c.in-None.ensures.lookup.0) in
     let rising = subst (λ (s : State). IsRising s.processes) (state_is c.self.view_is) c.self.invariant.sound.regular.rising in
     same_cpu c.args.self.now.state c.args.pid me rising e ∙ ap (λ (b : NotedBurst). change c.args.self.now.state c.args.pid (set_cpu b.cpu)) (sym (no_notes c.args.self.now.state me c.args.before c.args.last code c.requires.some))
 

@@ -1,9 +1,10 @@
 use Rattle.std.proofs.Common.{ap, sym, ◌∙◌, ◌+◌, ◌≤◌, arith, length, Some}
 use Rattle.std.proofs.Math.Nat.{mul-le-mul_left}
 use Rattle.posix.specs.Sends.{targets, sending, sent, sent_among, sending_found}
+use Rattle.posix.proofs.PassingLemmas.{left_at_most}
 use Rattle.life.specs.Asking.{asking_signalled, slots_of_send}
 use Rattle.life.specs.Callers.{process_like}
-use Rattle.jobs.proofs.ReadLemmas.{above_less, left_at_most}
+use Rattle.jobs.proofs.ReadLemmas.{above_less}
 use Rattle.life.proofs.SendLemmas.{with_processes, targets_numbered, targets_nobody, sent_nobody, asked_nobody}
 use Rattle.life.proofs.machine.Machine.send.Goals as goal
 

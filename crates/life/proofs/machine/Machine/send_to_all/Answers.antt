@@ -4,11 +4,12 @@ use Rattle.posix.specs.Tables.{left_of, above, lookup}
 use Rattle.posix.specs.States.{State}
 use Rattle.posix.specs.Sends.{is_target, targets, sending, sending_found, sent_among, sent}
 use Rattle.posix.proofs.WalkLemmas.{numbered, walk_begins, numbers_left, fewer_left}
+use Rattle.posix.proofs.PassingLemmas.{filter_at_most, left_at_most}
 use Rattle.life.specs.Asking.{asking_signalled, slots_of_send}
 use Rattle.life.specs.Callers.{process_like}
 use Rattle.life.proofs.SendLemmas.{with_processes, above_sent, walked, joined, joined_max, joined_none, sending_none, targets_none, sent_nobody, sent_step, sending_step, asked_step, asked_nobody}
 use Rattle.life.proofs.SoundLemmas.{there}
-use Rattle.jobs.proofs.ReadLemmas.{filter_at_most, left_at_most, left_above, above_less, reads_begin, reads_on}
+use Rattle.jobs.proofs.ReadLemmas.{left_above, above_less, reads_begin, reads_on}
 use Rattle.life.proofs.machine.Machine.send_to_all.Goals as goal
 
 pub loop-next-init : goal.loop-next-init
