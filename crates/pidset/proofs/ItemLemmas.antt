@@ -9,7 +9,7 @@ use Rattle.std.proofs.lemmas.Option.{slice_get-map, slice_get_within, slice_get_
 use Rattle.std.proofs.lemmas.Bool.{eqb-true, eqb-false, eq-eqb, ne_eqb}
 use Rattle.std.proofs.lemmas.Bool.Decides.{nat_tests}
 use Rattle.posix.specs.States.{is_in}
-use Rattle.pidset.specs.Numbers.{Rises, with_number, numbers_above, IsNumberAt, IsInsertionPoint, inserted_in_order}
+use Rattle.pidset.specs.Numbers.{Rises, with_number, numbers_above, IsNumberAt, IsInsertionPoint, index_behind, inserted_in_order}
 use Rattle.pidset.proofs.NumberLemmas.{AllAbove, above_get, above_less, not_in_above, out_point, later, rising_or, point_last, rises_filter, rises_with}
 
 -- ---- at the index of a number
@@ -113,7 +113,7 @@ pub above_at : {X : Type 0} (f : X → ℕ) (xs : List X) → Rises (map f xs) �
 above_at f xs up n i e = let next : i + 1 ≡ suc i = omega arith in ap (λ k. drop k xs) next ∙ after_index f xs up n i e
 
 -- those from the insertion point of a number on are those above it
-pub above_point : {X : Type 0} (f : X → ℕ) (xs : List X) → Rises (map f xs) → (n i : ℕ) → IsInsertionPoint (map f xs) n i → drop i xs ≡ filter (λ x. nat_lt n (f x)) xs
+above_point : {X : Type 0} (f : X → ℕ) (xs : List X) → Rises (map f xs) → (n i : ℕ) → IsInsertionPoint (map f xs) n i → drop i xs ≡ filter (λ x. nat_lt n (f x)) xs
 unfolding Rises
 above_point f [] up n zero g = refl
 above_point f [] up n (suc i) g = refl
@@ -122,6 +122,18 @@ above_point f (x ∷ xs) up n zero g =
     let t : nat_lt n (f x) ≡ true = grind (arith, nat_tests) in
     rw t (ap (λ ys. x ∷ ys) (sym (all_above f xs n (above_less n (f x) (map f xs) high up.0))))
 above_point f (x ∷ xs) up n (suc i) g = grind (arith, nat_tests, g.before 0 (omega arith), above_point f xs up.1 n i (later (f x) (map f xs) n i g))
+
+first_left : {X : Type 0} (xs : List X) (i : ℕ) → slice_get xs i ≡ slice_get (drop i xs) 0
+first_left [] zero = refl
+first_left [] (suc i) = refl
+first_left (x ∷ xs) zero = refl
+first_left (x ∷ xs) (suc i) = first_left xs i
+
+-- so the first of them stands behind the place of the number
+pub behind_place : {X : Type 0} (f : X → ℕ) (xs : List X) → Rises (map f xs) → (n : ℕ) (place : Result ℕ ℕ) → IfOk place (IsNumberAt (map f xs) n) → IfErr place (IsInsertionPoint (map f xs) n)
+    → slice_get xs (index_behind place) ≡ slice_get (filter (λ x. nat_lt n (f x)) xs) 0
+behind_place f xs up n (Ok i) at point = first_left xs (i + 1) ∙ ap (λ ys. slice_get ys 0) (above_at f xs up n i at)
+behind_place f xs up n (Err i) at point = first_left xs i ∙ ap (λ ys. slice_get ys 0) (above_point f xs up n i point)
 
 -- ---- the numbers of items
 

@@ -1,5 +1,5 @@
 -- Numbers of processes in rising order, each once.
-use Rattle.std.specs.Prelude.{◌≡◌, ℕ, ◌<◌, ◌≤◌, if◌then◌else◌, nat_lt, List, [], ◌∷◌, filter, length, slice_get, Some, IfSome}
+use Rattle.std.specs.Prelude.{◌≡◌, ℕ, ◌+◌, ◌<◌, ◌≤◌, if◌then◌else◌, nat_lt, List, [], ◌∷◌, filter, length, slice_get, Some, IfSome, Result, Ok, Err}
 use Rattle.std.specs.List.{AllByRecursion}
 unfoldable pub use Rattle.posix.specs.Numbers.{with_number}
 
@@ -20,6 +20,16 @@ pub record IsInsertionPoint (ns : List ℕ) (n i : ℕ) : Type 0 where
   pub in_range : i ≤ length ns
   pub before : (j : ℕ) → j < i → IfSome (slice_get ns j) (λ m. m < n)
   pub after : IfSome (slice_get ns i) (λ m. n < m)
+
+-- the index behind that of an item, or that at which one would go
+abbrev pub index_behind : Result ℕ ℕ → ℕ
+index_behind (Ok i) = i + 1
+index_behind (Err i) = i
+
+-- where to look first the next time: where an item was found among n, but not at the last one, which is found at once
+abbrev pub next_guess : ℕ → ℕ → Result ℕ ℕ → ℕ
+next_guess n guess (Ok i) = if nat_lt (i + 1) n then i else guess
+next_guess n guess (Err i) = guess
 
 -- an item put in, in rising order of the numbers
 unfoldable pub inserted_in_order : {X : Type 0} → (X → ℕ) → X → List X → List X

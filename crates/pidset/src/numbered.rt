@@ -1,8 +1,8 @@
 //! Items of a vector that have a number each, in rising order of their numbers.
 
-ghost use Rattle.std.specs.Prelude.{◌≡◌, ◌+◌, ◌<◌, ◌≤◌, ◌==◌, ℕ, None, IsSome, not, nat_lt, map, filter, find, drop, insert, length, slice_get, vec_len, vec_capacity, IfOk, IfErr, OnSome};
-ghost use Rattle.std.specs.Option.{option_copied};
-ghost use Rattle.pidset.specs.Numbers.{Rises, IsNumberAt, IsInsertionPoint, inserted_in_order};
+ghost use Rattle.std.specs.Prelude.{◌≡◌, ◌+◌, ◌<◌, ◌≤◌, ◌==◌, ℕ, false, None, IsSome, not, nat_lt, map, filter, find, insert, length, slice_get, vec_len, vec_capacity, IfOk, IfErr, OnSome};
+ghost use Rattle.std.specs.Option.{option_copied, option_map_or};
+ghost use Rattle.pidset.specs.Numbers.{Rises, IsNumberAt, IsInsertionPoint, index_behind, next_guess, inserted_in_order};
 
 use posix::Pid;
 
@@ -46,6 +46,47 @@ pub fn search<T: Numbered, K: Numbered>(items: &[T], key: &K) -> Result<usize, u
     items.binary_search_by_key(&number, |item| item.number())
 }
 
+/// The same, where the item often stands at `guess`, or behind it: so it is for who was looked for last, and
+/// in a walk. Any guess will do. Where the item is there, but not the last one, the guess is its place then.
+pub fn search_near<T: Numbered, K: Numbered>(
+    items: &[T],
+    guess: &mut usize,
+    key: &K,
+) -> Result<usize, usize>
+    requires { Rises (map T.number items.now) }
+    ensures found { IfOk result (IsNumberAt (map T.number items.now) (K.number key.now)) }
+    ensures absent { IfErr result (IsInsertionPoint (map T.number items.now) (K.number key.now)) }
+    ensures guess { guess.new ≡ next_guess (length items.now) guess.old result }
+{
+    let number = key.number();
+    let last = *guess;
+    if stands_at(items, last, number) {
+        return Ok(last);
+    }
+    let next = last.saturating_add(1);
+    let found = if stands_at(items, next, number) {
+        Ok(next)
+    } else {
+        search(items, key)
+    };
+    if let Ok(at) = found {
+        if at + 1 < items.len() {
+            *guess = at;
+        }
+    }
+    found
+}
+
+/// Whether an item stands at an index, and has this number.
+fn stands_at<T: Numbered>(items: &[T], at: usize, number: u64) -> bool
+    ensures { result ≡ option_map_or (λ item. T.number item == number) (slice_get items.now at) false }
+{
+    match items.get(at) {
+        Some(item) => item.number() == number,
+        None => false,
+    }
+}
+
 /// Where the item with the number of `key` stands that is there.
 pub fn found<T: Numbered, K: Numbered>(items: &[T], key: &K) -> usize
     requires rising { Rises (map T.number items.now) }
@@ -69,15 +110,14 @@ pub fn item_of<'a, T: Numbered, K: Numbered>(items: &'a [T], key: &K) -> Option<
     }
 }
 
-/// Where the items above the number of `key` begin.
-fn start_above<T: Numbered, K: Numbered>(items: &[T], key: &K) -> usize
-    requires { Rises (map T.number items.now) }
-    ensures within { result ≤ length items.now }
-    ensures rest { drop result items.now ≡ filter (λ item. nat_lt (K.number key.now) (T.number item)) items.now }
+/// The item behind the place of another, or at the place where one would go.
+fn behind<T>(items: &[T], place: Result<usize, usize>) -> Option<&T>
+    requires { IfOk place (λ at. at < length items.now) }
+    ensures { option_copied result ≡ slice_get items.now (index_behind place) }
 {
-    match search(items, key) {
-        Ok(at) => at + 1,
-        Err(at) => at,
+    match place {
+        Ok(at) => items.get(at + 1),
+        Err(at) => items.get(at),
     }
 }
 
@@ -86,8 +126,19 @@ pub fn next_above<'a, T: Numbered, K: Numbered>(items: &'a [T], key: &K) -> Opti
     requires { Rises (map T.number items.now) }
     ensures { option_copied result ≡ slice_get (filter (λ item. nat_lt (K.number key.now) (T.number item)) items.now) 0 }
 {
-    let start = start_above(items, key);
-    items[start..].first()
+    behind(items, search(items, key))
+}
+
+/// The same, where `key` often stands at `guess`, as for [`search_near`].
+pub fn next_above_near<'a, T: Numbered, K: Numbered>(
+    items: &'a [T],
+    guess: &mut usize,
+    key: &K,
+) -> Option<&'a T>
+    requires { Rises (map T.number items.now) }
+    ensures { option_copied result ≡ slice_get (filter (λ item. nat_lt (K.number key.now) (T.number item)) items.now) 0 }
+{
+    behind(items, search_near(items, guess, key))
 }
 
 /// Puts in an item whose number isn't there, where there is room.

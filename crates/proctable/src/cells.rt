@@ -13,7 +13,7 @@ use crate::entry::{Entry, found, slot_of};
 use crate::facts::Facts;
 use crate::node::{Links, Node};
 use crate::node_slots::NodeSlots;
-use pidset::numbered::{next_above, put_in, take_out};
+use pidset::numbered::{next_above_near, put_in, take_out};
 use posix::Pid;
 use std::alloc::{AllocError, Global};
 use std::marker::Model;
@@ -24,6 +24,8 @@ use std::marker::Model;
 #[derive(Drop)]
 pub struct Cells {
     index: Vec<Entry>,
+    /// Where in the index one stood that was looked for before: who acts is looked for again and again.
+    recent: usize,
     slots: NodeSlots,
 }
 
@@ -47,6 +49,7 @@ impl Cells {
     {
         Cells {
             index: Vec::new(alloc),
+            recent: 0,
             slots: NodeSlots::new(alloc),
         }
     }
@@ -69,7 +72,7 @@ impl Cells {
         ensures room { self.new.room ≡ self.old.room }
         ensures reads { self.new.reads ≤ self.old.reads + 1 }
     {
-        match slot_of(&self.index, pid) {
+        match slot_of(&self.index, &mut self.recent, pid) {
             Some(slot) => Some(self.slots.links(slot)),
             None => None,
         }
@@ -84,7 +87,7 @@ impl Cells {
         ensures room { self.new.room ≡ self.old.room }
         ensures reads { self.new.reads ≤ self.old.reads + 1 }
     {
-        match slot_of(&self.index, pid) {
+        match slot_of(&self.index, &mut self.recent, pid) {
             Some(slot) => Some(self.slots.facts(slot)),
             None => None,
         }
@@ -97,7 +100,7 @@ impl Cells {
         ensures room { self.new.room ≡ self.old.room }
         ensures reads { self.new.reads ≤ self.old.reads + 1 }
     {
-        if let Some(slot) = slot_of(&self.index, pid) {
+        if let Some(slot) = slot_of(&self.index, &mut self.recent, pid) {
             let node = self.slots.node(slot);
             change(&mut node.links);
         }
@@ -110,7 +113,7 @@ impl Cells {
         ensures* lends { sem 𝓛 (Lends cells_row body_row self.entry result (cells_with_body self.old pid)) }
         ensures value { option_map (λ n. n.body) (find_node pid self.old.nodes) ≡ Some result.now }
     {
-        let slot = found(&self.index, pid);
+        let slot = found(&self.index, &mut self.recent, pid);
         let node = self.slots.node(slot);
         &mut node.body
     }
@@ -140,11 +143,12 @@ impl Cells {
     }
 
     /// The process with the least number above `pid`, which need not be there. No slot is read.
-    pub fn next_after(&self, pid: Pid) -> Option<Pid>
-        ensures value { result ≡ next_above pid (records self.now.nodes) }
-        ensures rising { IsRising (records self.now.nodes) }
+    pub fn next_after(&mut self, pid: Pid) -> Option<Pid>
+        ensures value { result ≡ next_above pid (records self.old.nodes) }
+        ensures rising { IsRising (records self.old.nodes) }
+        ensures same { self.new ≡ self.old }
     {
-        match next_above(&self.index, &pid) {
+        match next_above_near(&self.index, &mut self.recent, &pid) {
             Some(entry) => Some(entry.pid),
             None => None,
         }

@@ -5,7 +5,7 @@ ghost use Rattle.pidset.specs.Numbers.{Rises};
 ghost use Rattle.proctable.specs.Cells.{entry_of, pids_of};
 
 use pidset::Numbered;
-use pidset::numbered::item_of;
+use pidset::numbered::search_near;
 use posix::Pid;
 
 /// A process and its slot.
@@ -26,25 +26,25 @@ impl Numbered for Entry {
     }
 }
 
-/// The slot of a process, if it is there.
+/// The slot of a process, if it is there. It is looked for first where one stood that was looked for before.
 #[inline]
-pub fn slot_of(entries: &[Entry], pid: Pid) -> Option<usize>
+pub fn slot_of(entries: &[Entry], recent: &mut usize, pid: Pid) -> Option<usize>
     requires { Rises (pids_of entries.now) }
     ensures { result ≡ option_map (λ e. e.slot) (entry_of pid entries.now) }
 {
-    match item_of(entries, &pid) {
-        Some(entry) => Some(entry.slot),
-        None => None,
+    match search_near(entries, recent, &pid) {
+        Ok(at) => Some(entries[at].slot),
+        Err(_) => None,
     }
 }
 
 /// The slot of a process that is there.
-pub fn found(entries: &[Entry], pid: Pid) -> usize
+pub fn found(entries: &[Entry], recent: &mut usize, pid: Pid) -> usize
     requires rising { Rises (pids_of entries.now) }
     requires there { IsSome (entry_of pid entries.now) }
     ensures { option_map (λ e. e.slot) (entry_of pid entries.now) ≡ Some result }
 {
-    match slot_of(entries, pid) {
+    match slot_of(entries, recent, pid) {
         Some(slot) => slot,
         None => unreachable!(),
     }
