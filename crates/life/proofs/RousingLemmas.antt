@@ -24,6 +24,7 @@ use Rattle.posix.proofs.MemberLemmas.{in_first, in_without}
 use Rattle.life.specs.declared.caller.Caller.{Caller}
 use Rattle.life.specs.Callers.{process_like}
 use Rattle.life.specs.Machines.{IsNoted}
+use Rattle.life.specs.Asking.{asking_all, asking_signalled, asking_members}
 
 -- ---- the list of those that are noted
 
@@ -281,14 +282,26 @@ may_signal_all r s q e = rw e (some (0 == q.credentials.user.real) (0 == q.crede
     some false true e = refl
     some false false e = refl
 
--- so a signal of the kernel to a group is generated for each member
-pub members_sent : (c : Caller) → c.pid ≡ 0 → c.creds ≡ root → (n group : ℕ) (rs : List Process) → sent (process_like c) (whom.Group group) (Some n) rs ≡ signalled_members (record { sig = n; carried = from_kernel }) group rs
-unfolding sent sent_among permitted targets members_in signalled_members
-members_sent c none all n group rs =
-    let me = process_like c in
-    ap (λ p. signalled_all (sent_by p n) (pids (filter (may me (Some n)) (members_in group rs))) rs) none
-    ∙ ap (λ qs. signalled_all (record { sig = n; carried = from_kernel }) (pids qs) rs) (all_pass (may me (Some n)) (λ q. may_signal_all me (Some n) q all) (members_in group rs))
+-- so who is meant by a signal of the kernel to a group are all its members
+members_meant : (c : Caller) → c.creds ≡ root → (n group : ℕ) (rs : List Process) → permitted (process_like c) (Some n) (targets (process_like c) (whom.Group group) rs) ≡ members_in group rs
+unfolding permitted targets members_in
+members_meant c all n group rs = all_pass (may (process_like c) (Some n)) (λ q. may_signal_all (process_like c) (Some n) q all) (members_in group rs)
   where
     all_pass : (t : Process → Bool) → ((r : Process) → t r ≡ true) → (rs : List Process) → filter t rs ≡ rs
     all_pass t h [] = refl
     all_pass t h (r ∷ rs) = rw (h r) (ap (λ qs. r ∷ qs) (all_pass t h rs))
+
+-- it is generated for each of them
+pub members_sent : (c : Caller) → c.pid ≡ 0 → c.creds ≡ root → (n group : ℕ) (rs : List Process) → sent (process_like c) (whom.Group group) (Some n) rs ≡ signalled_members (record { sig = n; carried = from_kernel }) group rs
+unfolding sent sent_among signalled_members
+members_sent c none all n group rs =
+    ap (λ p. signalled_all (sent_by p n) (pids (permitted (process_like c) (Some n) (targets (process_like c) (whom.Group group) rs))) rs) none
+    ∙ ap (λ qs. signalled_all (record { sig = n; carried = from_kernel }) (pids qs) rs) (members_meant c all n group rs)
+
+-- and they are asked
+pub members_asked : (c : Caller) → c.pid ≡ 0 → c.creds ≡ root → (n group : ℕ) (rs : List Process) (order ns : List ℕ)
+    → asking_signalled (process_like c) (Some n) (targets (process_like c) (whom.Group group) rs) rs order ns ≡ asking_members n group rs order ns
+unfolding asking_signalled
+members_asked c none all n group rs order ns =
+    ap (λ p. asking_all (sent_by p n) (pids (permitted (process_like c) (Some n) (targets (process_like c) (whom.Group group) rs))) rs order ns) none
+    ∙ ap (λ qs. asking_all (record { sig = n; carried = from_kernel }) (pids qs) rs order ns) (members_meant c all n group rs)

@@ -5,7 +5,8 @@ use Rattle.posix.specs.declared.process.Effect.TheVariants as effect
 use Rattle.posix.specs.declared.process.PendingSignal.{PendingSignal}
 use Rattle.posix.specs.SignalNumbers.{CONT}
 use Rattle.posix.specs.Processes.{Process}
-use Rattle.posix.specs.Tables.{lookup, pids}
+use Rattle.posix.specs.Tables.{lookup, pids, members_in}
+use Rattle.posix.specs.Choice.{from_kernel}
 use Rattle.posix.specs.States.{is_in, without}
 use Rattle.posix.specs.Generation.{effect_of}
 use Rattle.posix.specs.Notices.{generated_for}
@@ -48,6 +49,10 @@ asking_all signal (p ∷ ps) rs order ns = asking_all signal ps (generated_for s
 unfoldable pub asking_signalled : Process → Option ℕ → List Process → List Process → List ℕ → List ℕ → List ℕ
 asking_signalled me None qs rs order ns = ns
 asking_signalled me (Some n) qs rs order ns = asking_all (sent_by me.pid n) (pids (permitted me (Some n) qs)) rs order ns
+
+-- a signal of the kernel was generated for the members of a process group
+abbrev pub asking_members : ℕ → ℕ → List Process → List ℕ → List ℕ → List ℕ
+asking_members n group rs order ns = asking_all (record { sig = n; carried = from_kernel }) (pids (members_in group rs)) rs order ns
 
 -- how many slots are read where a signal is generated: CONT may continue its process, whose parent gets notice
 abbrev pub slots_of_signal : ℕ → ℕ

@@ -43,6 +43,7 @@ impl<K: Kin> Machine<K> {
         requires time { self.old.state.ticks + 1 < 2 ^ 64 }
         ensures due { (me : Process) → process self.old.state pid ≡ Some me → result ≡ (ring_at (self.old.state.ticks + 1) me).alarm }
         ensures state { self.new.state ≡ change self.old.state pid (ring_at (self.old.state.ticks + 1)) }
+        ensures asked { self.new.asked ≡ asking pid self.old.state.order self.old.asked }
         ensures reads { self.new.reads ≤ self.old.reads + 1 }
     {
         ask(&mut self.to_ask, &self.order, pid);

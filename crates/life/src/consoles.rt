@@ -14,6 +14,7 @@ ghost use Rattle.posix.specs.Step.{key as keying};
 ghost use Rattle.posix.specs.Regular.{IsRegular};
 ghost use Rattle.pidset.specs.Numbers.{numbers_above};
 ghost use Rattle.life.specs.Machines.{IsReaders, IsWatched, readers_at};
+ghost use Rattle.life.specs.Asking.{asking_members};
 ghost use Rattle.pidset.specs.Numbers.{PidSetView};
 ghost use Rattle.posix.specs.declared.process.Blocked.TheVariants as blocked;
 ghost use Rattle.life.specs.Consoles.{terminal_of, hangs_up as hangs_up_with, IsPlaceOf, IsKnownBy, IsForgottenAt, AreReaders};
@@ -307,7 +308,8 @@ impl<K: Kin> Machine<K> {
     /// TOSTOP of a session's terminal is set or cleared.
     pub fn set_tostop(&mut self, session: Pid, tostop: bool)
         requires { session ≢ 0 }
-        ensures { self.new.state ≡ record (self.old.state) { consoles = changed_console session (with_tostop tostop) self.old.state.consoles } }
+        ensures state { self.new.state ≡ record (self.old.state) { consoles = changed_console session (with_tostop tostop) self.old.state.consoles } }
+        ensures asked { self.new.asked ≡ self.old.asked }
     {
         if let Some(place) = place_of(&self.consoles, session) {
             self.consoles[place].set_tostop(tostop);
@@ -321,6 +323,7 @@ impl<K: Kin> Machine<K> {
         requires { session ≢ 0 }
         ensures taken { (c : ConsoleValue) → console_of session self.old.state.consoles ≡ Some c → Takes c.lines out.old out.new result }
         ensures state { self.new.state ≡ record (self.old.state) { consoles = changed_console session (line_taken (length out.old)) self.old.state.consoles } }
+        ensures asked { self.new.asked ≡ self.old.asked }
     {
         let place = place_of(&self.consoles, session)?;
         self.consoles[place].take(out)
@@ -331,7 +334,8 @@ impl<K: Kin> Machine<K> {
     /// A signal of the kernel is generated for each member of a process group, zombies included, in rising order;
     /// number 0 is no group's.
     pub fn signal_group(&mut self, group: Pid, sig: Sig)
-        ensures { self.new.state ≡ record (self.old.state) { processes = signalled_group sig group self.old.state.processes } }
+        ensures state { self.new.state ≡ record (self.old.state) { processes = signalled_group sig group self.old.state.processes } }
+        ensures asked { self.new.asked ≡ (if group == 0 then self.old.asked else asking_members sig group self.old.state.processes self.old.state.order self.old.asked) }
     {
         if group != Pid::NONE {
             self.signal_members(group, sig);

@@ -1,12 +1,13 @@
 //! What a register names to a call: a process, or a program.
 
-ghost use Rattle.std.specs.Prelude.{◌≡◌, ℕ, ◌+◌, ◌≤◌, pos, true, false, IsSome, Some, None, option_map, slice_get};
+ghost use Rattle.std.specs.Prelude.{◌≡◌, ℕ, ◌+◌, ◌≤◌, pos, true, false, if◌then◌else◌, IsSome, Some, None, option_map, slice_get};
 ghost use Rattle.posix.specs.Processes.{Process};
 ghost use Rattle.posix.specs.States.{Program, process, change};
 ghost use Rattle.posix.specs.GroupCalls.{named as named_by};
 ghost use Rattle.posix.specs.Programs.{executed};
 ghost use Rattle.posix.specs.Regular.{IsRegular};
 ghost use Rattle.proctable.specs.Body.{facts_of};
+ghost use Rattle.life.specs.Asking.{asking};
 
 use crate::machine::Machine;
 use posix::Pid;
@@ -38,6 +39,7 @@ impl<K: Kin> Machine<K> {
         requires { IsSome (process self.old.state pid) }
         ensures done { (n : ℕ) (program : Program) → word ≡ pos n → slice_get self.old.state.world.programs n ≡ Some program → (result ≡ true) × (self.new.state ≡ change self.old.state pid (executed n program)) }
         ensures none { ((n : ℕ) → word ≡ pos n → slice_get self.old.state.world.programs n ≡ None) → (result ≡ false) × (self.new.state ≡ self.old.state) }
+        ensures asked { self.new.asked ≡ (if result then asking pid self.old.state.order self.old.asked else self.old.asked) }
         ensures reads { self.new.reads ≤ self.old.reads + 1 }
     {
         if word < 0 || word >= self.world.programs().len() as i64 {

@@ -1,6 +1,6 @@
 //! Programs that a process runs in place of its own (XSH exec).
 
-ghost use Rattle.std.specs.Prelude.{◌≡◌, ◌+◌, ◌≤◌, IsSome, Some, None, true, false, slice_get};
+ghost use Rattle.std.specs.Prelude.{◌≡◌, ◌+◌, ◌≤◌, IsSome, Some, None, true, false, if◌then◌else◌, slice_get};
 ghost use Rattle.posix.specs.States.{Program, process, change};
 ghost use Rattle.posix.specs.Programs.{executed};
 ghost use Rattle.life.specs.Asking.{asking};
@@ -17,6 +17,7 @@ impl<K: Kin> Machine<K> {
         requires { IsSome (process self.old.state pid) }
         ensures done { (program : Program) → slice_get self.old.state.world.programs number ≡ Some program → (result ≡ true) × (self.new.state ≡ change self.old.state pid (executed number program)) }
         ensures none { slice_get self.old.state.world.programs number ≡ None → (result ≡ false) × (self.new.state ≡ self.old.state) }
+        ensures asked { self.new.asked ≡ (if result then asking pid self.old.state.order self.old.asked else self.old.asked) }
         ensures reads { self.new.reads ≤ self.old.reads + 1 }
     {
         match self.world.programs().get(usize::from(number)) {

@@ -9,6 +9,7 @@ ghost use Rattle.posix.specs.Choice.{from_kernel};
 ghost use Rattle.posix.specs.Groups.{is_anchor as is_anchor_of, is_orphaned as is_orphaned_of, has_stopped as has_stopped_of, some_stopped, loses_anchor};
 ghost use Rattle.posix.specs.Ends.{signalled_members, roused, roused_all, rouse_orphans, depart as departing, tell_of_all, zombies_of};
 ghost use Rattle.pidset.specs.Numbers.{Rises};
+ghost use Rattle.life.specs.Asking.{asking_members};
 ghost use Rattle.posix.specs.Regular.{IsRegular, CanInherit};
 
 use crate::caller::Caller;
@@ -81,6 +82,7 @@ impl<K: Kin> Machine<K> {
     /// order.
     pub(crate) fn signal_members(&mut self, group: Pid, sig: Sig)
         ensures state { self.new.state ≡ record (self.old.state) { processes = signalled_members (record { sig = sig; carried = from_kernel }) group self.old.state.processes } }
+        ensures asked { self.new.asked ≡ asking_members sig group self.old.state.processes self.old.state.order self.old.asked }
         ensures losing { self.new.losing ≡ self.old.losing }
     {
         self.send(&Caller::kernel(), Target::Group(group), Some(sig));

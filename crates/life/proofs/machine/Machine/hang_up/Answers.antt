@@ -43,7 +43,7 @@ returns g c = λ me found.
     let at : slice_get now.consoles place ≡ Some it.0 = ap (λ (s : State). slice_get s.consoles place) (sym same) ∙ inside in
     let foreground = c.foreground-foreground.ensures.is ∙ ap (λ (x : Console). x.foreground) (c.index.ensures ∙ get_or_from_slice_get cs place it.0 _ inside) in
     let signalled : c.signal_group.new.self.state ≡ record now { processes = signalled_group HUP it.0.foreground now.processes } =
-    c.signal_group.ensures ∙ ap (λ (s : State). record s { processes = signalled_group HUP c.foreground-foreground.result s.processes }) c.facts.ensures.same
+    c.signal_group.ensures.state ∙ ap (λ (s : State). record s { processes = signalled_group HUP c.foreground-foreground.result s.processes }) c.facts.ensures.same
     ∙ ap (λ n. record now { processes = signalled_group HUP n now.processes }) foreground in
     c.release.ensures it.0 (ap (λ (s : State). slice_get s.consoles place) signalled ∙ at) ∙ ap (λ (s : State). put s place (released it.0)) signalled
     ∙ leader_hangs_up now place c.args.pid me it.0 c.facts.ensures.regular found leads at (it.3 ∙ ap (λ (f : Facts). f.session) is)

@@ -39,7 +39,7 @@ returns-in-Some-signal g c =
     let consoles = sym (c.deref.ensures.value ∙ ap (λ (s : State). s.consoles) (state_is c.self.view_is)) in
     let found = ap (λ cs. slice_get cs place) consoles ∙ lent_at c.deref.result.now place it c.in-Some-get.ensures.lookup.0 c.in-Some-get.ensures.lookup.1 in
     let signal = sym c.in-Some-signal.is ∙ c.in-Some-type_byte.ensures.signal in
-    c.signal_group.ensures ∙ ap (λ (s : State). record s { processes = signalled_from (Some c.in-Some-signal.sig) c.foreground-foreground.result s.processes }) (c.type_byte.ensures.state it found)
+    c.signal_group.ensures.state ∙ ap (λ (s : State). record s { processes = signalled_from (Some c.in-Some-signal.sig) c.foreground-foreground.result s.processes }) (c.type_byte.ensures.state it found)
     ∙ key_on_it now c.args.console place c.args.byte it (Some c.in-Some-signal.sig) c.foreground-foreground.result (omega (arith, was, from)) found signal c.foreground-foreground.ensures.is
 
 pub returns-in_default-signal : goal.returns-in_default-signal

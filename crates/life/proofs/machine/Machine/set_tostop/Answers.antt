@@ -17,15 +17,15 @@ invariant_of-self g c =
     (put_unread _ _ c.in-Some.place it.0 _ c.self.invariant.sound.regular c.self.invariant.listed at refl refl (λ e. e))
     (λ e. fresh_alike _ _ c.in-Some.place it.0 _ at refl refl (c.self.invariant.fresh e)))
 
-pub returns-in-Some : goal.returns-in-Some
-returns-in-Some g c =
+pub returns-in-Some-clause-state : goal.returns-in-Some-clause-state
+returns-in-Some-clause-state g c =
     let it = c.in-Some.ensures in
     let cs = c.self.inside.consoles.items in
     let at : slice_get cs c.in-Some.place ≡ Some it.0 = ap (λ cs. slice_get cs c.in-Some.place) (sym c.deref.ensures.value) ∙ it.1 in
     let is = c.index_mut.ensures.value ∙ get_or_from_slice_get cs c.in-Some.place it.0 _ at in
     rw (c.set_tostop.ensures, is, ← c.self.view_is) (put_changed _ c.in-Some.place c.args.session it.0 (with_tostop c.args.tostop) c.self.invariant.sound.regular at it.3 c.requires)
 
-pub returns-in_default : goal.returns-in_default
-returns-in_default g c =
+pub returns-in_default-clause-state : goal.returns-in_default-clause-state
+returns-in_default-clause-state g c =
     let same = ap (λ (s : State). s.consoles) (sym (state_is c.self.view_is)) ∙ sym c.deref.ensures.value in
     none_changed _ c.args.session (with_tostop c.args.tostop) (ap (console_of c.args.session) same ∙ c.in_default.ensures)
