@@ -32,9 +32,11 @@ fn pid(number: u32) -> Pid
 fn memories_are_copied(rt: HostRuntime) -> Result<(), Fail> {
     let mut memory = UserMem::zeroed(rt.alloc())?;
     memory.set(255, 7);
-    let copy = memory.try_clone()?;
+    let copy = memory.try_clone(None)?;
     memory.set(255, 8);
     assert_eq!(rt; (copy.get(0), copy.get(255)), (0, 7));
+    let in_its_place = memory.try_clone(Some(copy))?;
+    assert_eq!(rt; (in_its_place.get(0), in_its_place.get(255)), (0, 8));
     Ok(())
 }
 
@@ -42,7 +44,7 @@ fn memories_are_copied(rt: HostRuntime) -> Result<(), Fail> {
 fn processors_are_copied(rt: HostRuntime) -> Result<(), Fail> {
     let mut cpu = Cpu::new(rt.alloc())?;
     cpu.set_register(Register::RESULT, 7);
-    let copy = cpu.try_clone()?;
+    let copy = cpu.try_clone(None)?;
     cpu.set_register(Register::RESULT, 8);
     assert_eq!(rt; copy.register(Register::RESULT), 7);
     Ok(())
@@ -96,7 +98,7 @@ fn family<K: Kin>(alloc: Global) -> Result<K, AllocError>
 {
     let mut table = K::empty(alloc);
     let first = Body::first(alloc)?;
-    let child = first.fork(2)?;
+    let child = first.fork(2, None)?;
     table.reserve()?;
     table.insert(Pid::INIT, Pid::NONE, first);
     table.reserve()?;

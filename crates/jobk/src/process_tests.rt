@@ -7,7 +7,7 @@ ghost use Rattle.proctable.specs.ScanTable.{scan_with_body};
 use crate::tests::{expect_run, expect_run_on};
 use kernel::{KernelOn, RunError, Summary, WriteSink, run, run_on};
 use posix::{Event, Pid};
-use proctable::{Body, Facts, Kin, ProcTable, ScanTable};
+use proctable::{Body, Facts, Kin, ProcTable, ScanTable, Spare};
 use std::alloc::{AllocError, Global};
 use std::process::Abort;
 use std::test::Fail;
@@ -338,6 +338,10 @@ impl<const REFUSED: usize> Kin for RefusingTable<REFUSED> {
 
     fn update(&mut self, pid: Pid) -> &mut Body {
         self.table.update(pid)
+    }
+
+    fn spare(&mut self) -> Option<Spare> {
+        self.table.spare()
     }
 
     fn remove(&mut self, pid: Pid) {

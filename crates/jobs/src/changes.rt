@@ -28,7 +28,8 @@ impl<K: Kin> JobTable<K> {
         ensures room { self.new.room ≡ self.old.room }
         ensures reads { self.new.reads ≤ self.old.reads + 1 }
     {
-        self.table.update(pid).fork(birth)
+        let spare = self.table.spare();
+        self.table.update(pid).fork(birth, spare)
     }
 
     /// A process that is there has ended with this status, and nothing is pending for it, and it is in no call

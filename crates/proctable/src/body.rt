@@ -12,6 +12,7 @@ ghost use Rattle.proctable.specs.Body.{process_of, facts_of};
 
 use crate::facts::Facts;
 use crate::own::Own;
+use crate::spare::Spare;
 use posix::{Carried, Effect, Life, News, PendingSignal, Pid, Sig, Status};
 use std::alloc::{AllocError, Global};
 
@@ -51,9 +52,10 @@ impl Body {
     }
 
     /// The child of a fork, with this birth number: like the caller, but nothing is pending for it and
-    /// there is no news of it, and its call gave 0 (XSH fork). An error where the host has no memory for it.
+    /// there is no news of it, and its call gave 0 (XSH fork). It is filled in where `spare` is, if there is
+    /// one; without it an error where the host has no memory for it.
     #[tactic(auto, unfolding(posix::specs::Births::child_of, posix::specs::Outcomes::finished))]
-    pub fn fork(&self, birth: u64) -> Result<Body, AllocError>
+    pub fn fork(&self, birth: u64, spare: Option<Spare>) -> Result<Body, AllocError>
         ensures { IfOk result (λ b. (p q n : ℕ) → process_of n p b ≡ child_of birth (process_of p q self.now) n) }
     {
         Ok(Body {
@@ -63,7 +65,7 @@ impl Body {
             life: self.life,
             news: News::Nothing,
             alarm: None,
-            own: self.own.fork()?,
+            own: self.own.fork(spare)?,
         })
     }
 

@@ -131,14 +131,16 @@ impl Cells {
         put_in(&mut self.index, Entry { pid, slot });
     }
 
-    /// Takes out a process; nothing changes where it isn't there.
-    pub fn remove(&mut self, pid: Pid)
+    /// Takes out the node of a process; none, and nothing changes, where it isn't there.
+    pub fn remove(&mut self, pid: Pid) -> Option<Node>
+        ensures value { result ≡ find_node pid self.old.nodes }
         ensures nodes { self.new.nodes ≡ removed_node pid self.old.nodes }
         ensures room { self.old.room ≤ self.new.room }
         ensures reads { self.new.reads ≤ self.old.reads + 1 }
     {
-        if let Some(entry) = take_out(&mut self.index, &pid) {
-            self.slots.remove(entry.slot);
+        match take_out(&mut self.index, &pid) {
+            Some(entry) => Some(self.slots.remove(entry.slot)),
+            None => None,
         }
     }
 

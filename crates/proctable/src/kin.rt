@@ -9,14 +9,15 @@ ghost use Rattle.proctable.specs.Body.{process_of, facts_of, with_body, body_row
 
 use crate::body::Body;
 use crate::facts::Facts;
+use crate::spare::Spare;
 use posix::Pid;
 use std::alloc::{AllocError, Global};
 
 /// A table of processes, zombies included, seen as the list of their records in rising order of their
 /// numbers.
 ///
-/// Methods that take a `&mut` ensure that this order rises in the table that they are given. Those that
-/// only read leave the processes and the room unchanged.
+/// Methods that take a `&mut`, but `spare`, ensure that this order rises in the table that they are given.
+/// Those that only read leave the processes and the room unchanged.
 pub trait Kin: Drop {
     /// The processes.
     ghost contents: { Self → List Process };
@@ -74,6 +75,13 @@ pub trait Kin: Drop {
         ensures* lends { sem 𝓛 (Lends Self.row body_row self.entry result (put self.old pid)) }
         ensures rising { IsRising (contents self.old) }
         ensures value { lookup pid (contents self.old) ≡ Some (process_of pid (parent_of pid (contents self.old)) result.now) };
+
+    /// The memory of a process that was taken out, for one that is born, if the table has kept some. The
+    /// processes and the room are unchanged.
+    fn spare(&mut self) -> Option<Spare>
+        ensures contents { contents self.new ≡ contents self.old }
+        ensures room { room self.new ≡ room self.old }
+        ensures reads { reads self.new ≡ reads self.old };
 
     /// Takes out a process without children; nothing changes where it isn't there.
     fn remove(&mut self, pid: Pid)

@@ -14,6 +14,7 @@ pub mod own;
 pub mod proc_table;
 pub mod scan;
 mod slot;
+pub mod spare;
 
 pub use body::Body;
 pub use facts::Facts;
@@ -21,3 +22,4 @@ pub use kin::Kin;
 pub use own::Own;
 pub use proc_table::ProcTable;
 pub use scan::ScanTable;
+pub use spare::Spare;

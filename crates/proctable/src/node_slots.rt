@@ -108,15 +108,16 @@ impl NodeSlots {
     }
 
     /// Takes out the node in a slot.
-    pub fn remove(&mut self, slot: usize)
+    pub fn remove(&mut self, slot: usize) -> Node
         requires { ContainsKey self.old.nodes slot }
+        ensures value { get self.old.nodes slot ≡ Some result }
         ensures updates { Updates self.old.nodes self.new.nodes slot None }
         ensures len { slab_len self.new.nodes + 1 ≡ slab_len self.old.nodes }
         ensures capacity { self.new.nodes.capacity ≡ self.old.nodes.capacity }
         ensures reads { self.new.reads ≡ one_more self.old.reads }
     {
         self.count();
-        let _node = self.nodes.remove(slot);
+        self.nodes.remove(slot)
     }
 
     /// How many slots were read or written, up to the greatest u128. No slot is read.

@@ -10,6 +10,7 @@ ghost use Rattle.posix.specs.States.{Program};
 ghost use Rattle.posix.specs.Programs.{executed};
 ghost use Rattle.proctable.specs.Body.{own_of, give_own, forked};
 
+use crate::spare::Spare;
 use creds::Creds;
 use posix::{Blocked, Gid, PendingSignal, Pid, Register, SigSet, Status, Uid};
 use signal::{FramesFull, NoFrame, Signals, leave_call, mask_before};
@@ -49,22 +50,34 @@ impl Own {
         })
     }
 
-    /// That of the child of a fork: nothing is pending for it, and its call gave 0 (XSH fork). An error
-    /// where the host has no memory for it.
-    pub fn fork(&self) -> Result<Own, AllocError>
+    /// That of the child of a fork: nothing is pending for it, and its call gave 0 (XSH fork). It is filled in
+    /// where `spare` is, if there is one; without it an error where the host has no memory for it.
+    pub fn fork(&self, spare: Option<Spare>) -> Result<Own, AllocError>
         ensures { IfOk result (λ o. o ≡ forked self.now) }
     {
-        let mut cpu = self.cpu.try_clone()?;
+        let (words, tables) = match spare {
+            Some(spare) => (Some(spare.words), Some(spare.tables)),
+            None => (None, None),
+        };
+        let mut cpu = self.cpu.try_clone(words)?;
         cpu.set_register(Register::RESULT, 0);
         cpu.move_on();
         Ok(Own {
             creds: self.creds,
-            signals: self.signals.fork()?,
+            signals: self.signals.fork(tables)?,
             ran_exec: false,
             blocked: None,
             program: self.program,
             cpu,
         })
+    }
+
+    /// What a process that was taken out leaves behind.
+    pub fn into_spare(self) -> Spare {
+        Spare {
+            words: self.cpu.into_memory(),
+            tables: self.signals.into_tables(),
+        }
     }
 
     /// The call gives a value, and the process leaves it.

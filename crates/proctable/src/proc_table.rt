@@ -10,6 +10,7 @@ use crate::facts::Facts;
 use crate::kin::Kin;
 use crate::links::{adopt_all, ends_of, link, next_of, unlink};
 use crate::node::{Ends, Links, Node};
+use crate::spare::Spare;
 use posix::Pid;
 use std::alloc::{AllocError, Global};
 use std::marker::Model;
@@ -28,6 +29,8 @@ pub struct ProcTable {
     cells: Cells,
     /// Those with the parent 0.
     roots: Ends,
+    /// The memory of the last process that was taken out, until it is asked for.
+    spare: Option<Spare>,
 }
 
 impl Model for ProcTable {
@@ -67,6 +70,7 @@ impl Kin for ProcTable {
         ProcTable {
             cells: Cells::new(alloc),
             roots: Ends::none(),
+            spare: None,
         }
     }
 
@@ -95,9 +99,14 @@ impl Kin for ProcTable {
         self.cells.body_mut(pid)
     }
 
+    fn spare(&mut self) -> Option<Spare> {
+        self.spare.take()
+    }
+
     fn remove(&mut self, pid: Pid) {
         self.roots = unlink(&mut self.cells, self.roots, pid);
-        self.cells.remove(pid);
+        let gone = self.cells.remove(pid);
+        self.spare = gone.map(|node| node.body.own.into_spare());
     }
 
     fn first_child(&mut self, pid: Pid) -> Option<Pid> {

@@ -9,6 +9,7 @@ use crate::body::Body;
 use crate::facts::Facts;
 use crate::kin::Kin;
 use crate::slot::Slot;
+use crate::spare::Spare;
 use pidset::Numbered;
 use pidset::numbered::{found, item_of, next_above, put_in, take_out};
 use posix::Pid;
@@ -78,6 +79,10 @@ impl Kin for ScanTable {
         let at = found(&self.slots, &pid);
         let slot = &mut self.slots[at];
         slot.body_mut()
+    }
+
+    fn spare(&mut self) -> Option<Spare> {
+        None
     }
 
     fn remove(&mut self, pid: Pid) {

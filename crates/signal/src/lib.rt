@@ -11,4 +11,4 @@ mod tables;
 pub use interrupts::{is_interrupted, leave_call, mask_before};
 pub use posix::{Action, Carried, Frame, Handler, PendingSignal, SaFlags, Sig, SigSet};
 pub use signals::Signals;
-pub use tables::{FramesFull, NoFrame};
+pub use tables::{FramesFull, LazyTables, NoFrame};

@@ -57,16 +57,21 @@ impl Signals {
         })
     }
 
-    /// Those of a child that is born now: the same, but nothing is pending (XSH fork). An error where the
-    /// host has no memory for them.
-    pub fn fork(&self) -> Result<Signals, AllocError>
+    /// Those of a child that is born now: the same, but nothing is pending (XSH fork). The tables are in the
+    /// place of `spare`, if there is one; without it an error where the host has no memory for them.
+    pub fn fork(&self, spare: Option<LazyTables>) -> Result<Signals, AllocError>
         ensures { IfOk result (λ s. s ≡ record self.now { standard = nothing_pending; queue = [] }) }
     {
         Ok(Signals {
             mask: self.mask,
             pending: SigSet::EMPTY,
-            tables: self.tables.try_clone()?,
+            tables: self.tables.try_clone(spare)?,
         })
+    }
+
+    /// The tables of signals that are needed no more.
+    pub fn into_tables(self) -> LazyTables {
+        self.tables
     }
 
     /// Those of a process that has ended: nothing is pending, and there is no frame; the rest stays.

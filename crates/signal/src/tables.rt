@@ -66,11 +66,16 @@ impl LazyTables {
         })
     }
 
-    /// The same again. An error where the host has no memory for them.
-    pub fn try_clone(&self) -> Result<LazyTables, AllocError>
+    /// The same again, in the place of `spare`, if there is one. Without it an error where the host has no
+    /// memory for them.
+    pub fn try_clone(&self, spare: Option<LazyTables>) -> Result<LazyTables, AllocError>
         ensures { IfOk result (λ t. t ≡ self.now) }
     {
-        let mut written = Vec::with_capacity(*self.written.allocator(), 1)?;
+        let mut written = match spare {
+            Some(tables) => tables.written,
+            None => Vec::with_capacity(*self.written.allocator(), 1)?,
+        };
+        written.clear();
         // Mostly nothing is written, and this spares a birth the loop over nothing.
         if !self.written.is_empty() {
             written.extend_from_slice(self.written.as_slice())?;

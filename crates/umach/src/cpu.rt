@@ -46,16 +46,23 @@ impl Cpu {
         })
     }
 
-    /// Another processor in the same state, with a memory of its own; an error where the host has no
-    /// memory for it.
-    pub fn try_clone(&self) -> Result<Cpu, AllocError>
+    /// Another processor in the same state, with a memory of its own, in the place of `spare`, if there is
+    /// one. Without it an error where the host has no memory for it.
+    pub fn try_clone(&self, spare: Option<UserMem>) -> Result<Cpu, AllocError>
         ensures { IfOk result (λ c. c ≡ self.now) }
     {
         Ok(Cpu {
             pc: self.pc,
             registers: self.registers,
-            memory: self.memory.try_clone()?,
+            memory: self.memory.try_clone(spare)?,
         })
+    }
+
+    /// The memory of a processor that is needed no more.
+    pub fn into_memory(self) -> UserMem
+        ensures { result ≡ self.memory }
+    {
+        self.memory
     }
 
     /// The start of another program with two arguments, in r1 and r2: the other registers and the memory are

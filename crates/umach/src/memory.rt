@@ -96,11 +96,16 @@ impl UserMem {
         self.words.clear();
     }
 
-    /// Another memory with the same words; an error where the host has no memory for it.
-    pub fn try_clone(&self) -> Result<UserMem, AllocError>
+    /// Another memory with the same words, in the place of `spare`, if there is one. Without it an error where
+    /// the host has no memory for it.
+    pub fn try_clone(&self, spare: Option<UserMem>) -> Result<UserMem, AllocError>
         ensures { IfOk result (λ m. m ≡ self.now) }
     {
-        let mut words = Vec::with_capacity(*self.words.allocator(), 256)?;
+        let mut words = match spare {
+            Some(memory) => memory.words,
+            None => Vec::with_capacity(*self.words.allocator(), 256)?,
+        };
+        words.clear();
         words.extend_from_slice(self.words.as_slice())?;
         Ok(UserMem { words })
     }
