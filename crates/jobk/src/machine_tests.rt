@@ -3,6 +3,7 @@
 ghost use Rattle.std.specs.Prelude.{◌≡◌, ◌≤◌, IfOk, IsSome, []};
 ghost use Rattle.posix.specs.Tables.{lookup, children_in};
 
+use arena::new_arena;
 use creds::Creds;
 use life::Machine;
 use pidalloc::{PidTable, Role};
@@ -30,7 +31,7 @@ fn pid(number: u32) -> Pid
 
 #[test]
 fn memories_are_copied(rt: HostRuntime) -> Result<(), Fail> {
-    let mut memory = UserMem::zeroed(rt.alloc())?;
+    let mut memory = UserMem::zeroed(new_arena(rt.alloc())?)?;
     memory.set(255, 7);
     let copy = memory.try_clone(None)?;
     memory.set(255, 8);
@@ -42,7 +43,7 @@ fn memories_are_copied(rt: HostRuntime) -> Result<(), Fail> {
 
 #[test]
 fn processors_are_copied(rt: HostRuntime) -> Result<(), Fail> {
-    let mut cpu = Cpu::new(rt.alloc())?;
+    let mut cpu = Cpu::new(new_arena(rt.alloc())?)?;
     cpu.set_register(Register::RESULT, 7);
     let copy = cpu.try_clone(None)?;
     cpu.set_register(Register::RESULT, 8);

@@ -1,6 +1,7 @@
 //! Runs through `serve` with files in memory, and each call that takes memory once with enough of it.
 
 use crate::serving::{FileFault, ReadFiles, WordsFault, serve};
+use arena::new_arena;
 use arrayvec::ArrayVec;
 use kernel::{Kernel, RunError, Summary, WriteSink, run, run_on};
 use posix::{Entry, Event, Pid, Sig, Status};
@@ -335,7 +336,7 @@ fn a_kernel_shows_its_entries(rt: HostRuntime) -> Result<(), Fail> {
 #[test]
 fn a_processor_traps(rt: HostRuntime) -> Result<(), Fail> {
     let mut program = Program::new(rt.alloc());
-    let mut cpu = Cpu::new(rt.alloc())?;
+    let mut cpu = Cpu::new(new_arena(rt.alloc())?)?;
     assert_eq!(rt; cpu.exec_one(&program), Trap::Fault(Sig::SEGV));
     program.push(Instr::Sys(Call::Exit))?;
     assert_eq!(rt; cpu.exec_one(&program), Trap::Call(Call::Exit));

@@ -34,8 +34,8 @@ impl<K: Kin> Machine<K> {
         ensures asked_at_error { OnErr result (self.new.asked ≡ self.old.asked) }
         ensures reads { self.new.reads ≤ self.old.reads + 6 + length (children_in parent self.old.state.processes) }
     {
-        let body = self.table.newborn(parent, self.births + 1)?;
         self.table.reserve()?;
+        let body = self.table.newborn(parent, self.births + 1)?;
         self.pids.bear_all(child, body.group, body.session);
         self.table.insert(child, parent, body);
         self.to_ask.insert(parent);

@@ -156,6 +156,14 @@ impl Cells {
         }
     }
 
+    /// How many nodes there are.
+    pub fn len(&self) -> usize
+        ensures value { result ≡ length self.now.nodes }
+        ensures within { result < 2 ^ 63 }
+    {
+        self.index.len()
+    }
+
     /// How many slots were read, up to the greatest u128. No slot is read.
     pub fn reads(&self) -> u128
         ensures { result ≡ self.now.reads }

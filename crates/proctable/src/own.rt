@@ -11,6 +11,7 @@ ghost use Rattle.posix.specs.Programs.{executed};
 ghost use Rattle.proctable.specs.Body.{own_of, give_own, forked};
 
 use crate::spare::Spare;
+use arena::new_arena;
 use creds::Creds;
 use posix::{Blocked, Gid, PendingSignal, Pid, Register, SigSet, Status, Uid};
 use signal::{FramesFull, NoFrame, Signals, leave_call, mask_before};
@@ -40,13 +41,14 @@ impl Own {
     pub fn first(alloc: Global) -> Result<Own, AllocError>
         ensures { IfOk result (λ o. o ≡ own_of first_process) }
     {
+        let arena = new_arena(alloc)?;
         Ok(Own {
             creds: Creds::root(),
-            signals: Signals::initial(alloc)?,
+            signals: Signals::initial(arena.clone()?)?,
             ran_exec: false,
             blocked: None,
             program: 0,
-            cpu: Cpu::new(alloc)?,
+            cpu: Cpu::new(arena)?,
         })
     }
 

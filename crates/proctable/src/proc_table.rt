@@ -10,7 +10,7 @@ use crate::facts::Facts;
 use crate::kin::Kin;
 use crate::links::{adopt_all, ends_of, link, next_of, unlink};
 use crate::node::{Ends, Links, Node};
-use crate::spare::Spare;
+use crate::spare::{Spare, Spares};
 use posix::Pid;
 use std::alloc::{AllocError, Global};
 use std::marker::Model;
@@ -29,8 +29,8 @@ pub struct ProcTable {
     cells: Cells,
     /// Those with the parent 0.
     roots: Ends,
-    /// The memory of the last process that was taken out, until it is asked for.
-    spare: Option<Spare>,
+    /// What the processes that were taken out have left.
+    spares: Spares,
 }
 
 impl Model for ProcTable {
@@ -70,11 +70,12 @@ impl Kin for ProcTable {
         ProcTable {
             cells: Cells::new(alloc),
             roots: Ends::none(),
-            spare: None,
+            spares: Spares::new(alloc),
         }
     }
 
     fn reserve(&mut self) -> Result<(), AllocError> {
+        self.spares.reserve(self.cells.len() + 1)?;
         self.cells.reserve()
     }
 
@@ -100,13 +101,14 @@ impl Kin for ProcTable {
     }
 
     fn spare(&mut self) -> Option<Spare> {
-        self.spare.take()
+        self.spares.take()
     }
 
     fn remove(&mut self, pid: Pid) {
         self.roots = unlink(&mut self.cells, self.roots, pid);
         let gone = self.cells.remove(pid);
-        self.spare = gone.map(|node| node.body.own.into_spare());
+        self.spares
+            .keep(gone.map(|node| node.body.own.into_spare()));
     }
 
     fn first_child(&mut self, pid: Pid) -> Option<Pid> {

@@ -9,7 +9,7 @@ use crate::body::Body;
 use crate::facts::Facts;
 use crate::kin::Kin;
 use crate::slot::Slot;
-use crate::spare::Spare;
+use crate::spare::{Spare, Spares};
 use pidset::Numbered;
 use pidset::numbered::{found, item_of, next_above, put_in, take_out};
 use posix::Pid;
@@ -21,6 +21,8 @@ use std::marker::Model;
 #[derive(Drop)]
 pub struct ScanTable {
     slots: Vec<Slot>,
+    /// What the processes that were taken out have left.
+    spares: Spares,
 }
 
 impl Model for ScanTable {
@@ -57,10 +59,12 @@ impl Kin for ScanTable {
     fn empty(alloc: Global) -> Self {
         ScanTable {
             slots: Vec::new(alloc),
+            spares: Spares::new(alloc),
         }
     }
 
     fn reserve(&mut self) -> Result<(), AllocError> {
+        self.spares.reserve(self.slots.len() + 1)?;
         self.slots.reserve(1)
     }
 
@@ -82,11 +86,12 @@ impl Kin for ScanTable {
     }
 
     fn spare(&mut self) -> Option<Spare> {
-        None
+        self.spares.take()
     }
 
     fn remove(&mut self, pid: Pid) {
-        let _slot = take_out(&mut self.slots, &pid);
+        let slot = take_out(&mut self.slots, &pid);
+        self.spares.keep(slot.map(|slot| slot.into_spare()));
     }
 
     fn first_child(&mut self, pid: Pid) -> Option<Pid> {

@@ -8,6 +8,7 @@ ghost use Rattle.proctable.specs.contracts.slot.Slot.{the_row as slot_row};
 
 use crate::body::Body;
 use crate::facts::Facts;
+use crate::spare::Spare;
 use pidset::Numbered;
 use posix::Pid;
 use std::marker::Model;
@@ -52,6 +53,11 @@ impl Slot {
         ensures { result ≡ process_of pid parent body }
     {
         Slot { pid, parent, body }
+    }
+
+    /// The memory of a process that was taken out.
+    pub fn into_spare(self) -> Spare {
+        self.body.own.into_spare()
     }
 
     /// Its parent's number.

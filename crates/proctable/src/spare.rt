@@ -1,6 +1,10 @@
-//! What a process leaves behind for one that is born.
+//! What processes leave behind for those that are born.
+
+ghost use Rattle.std.specs.Prelude.{◌≡◌, ◌+◌, ◌-◌, ◌<◌, ◌≤◌, ◌++◌, [], OnOk, length, slice_get, take, vec_len, vec_capacity};
+ghost use Rattle.std.specs.Option.{option_to_list};
 
 use signal::LazyTables;
+use std::alloc::{AllocError, Global};
 use umach::UserMem;
 
 /// The memory of a process that was taken out, where the next one that is born can be filled in.
@@ -10,4 +14,49 @@ pub struct Spare {
     pub words: UserMem,
     /// The place of its tables for signals.
     pub tables: LazyTables,
+}
+
+/// What processes have left that were taken out, until those that are born ask for it.
+#[derive(Drop)]
+pub(crate) struct Spares {
+    kept: Vec<Spare>,
+}
+
+impl Spares {
+    /// Nothing. It takes no memory.
+    pub fn new(alloc: Global) -> Spares
+        ensures { result.kept.items ≡ [] }
+    {
+        Spares {
+            kept: Vec::new(alloc),
+        }
+    }
+
+    /// Makes room for what so many more processes leave. At an error the host has no memory for it.
+    pub fn reserve(&mut self, more: usize) -> Result<(), AllocError>
+        ensures room { OnOk result (vec_len self.new.kept + more ≤ vec_capacity self.new.kept) }
+        ensures same { self.new.kept.items ≡ self.old.kept.items }
+    {
+        self.kept.reserve(more)
+    }
+
+    /// Keeps what a process leaves, if there is something, and room for it.
+    pub fn keep(&mut self, left: Option<Spare>)
+        ensures room { vec_len self.old.kept < vec_capacity self.old.kept → self.new.kept.items ≡ self.old.kept.items ++ option_to_list left }
+        ensures full { vec_capacity self.old.kept ≤ vec_len self.old.kept → self.new.kept.items ≡ self.old.kept.items }
+    {
+        if let Some(spare) = left {
+            if self.kept.len() < self.kept.capacity() {
+                self.kept.push_reserved(spare);
+            }
+        }
+    }
+
+    /// Takes out what was kept last, if anything is kept.
+    pub fn take(&mut self) -> Option<Spare>
+        ensures value { result ≡ slice_get self.old.kept.items (length self.old.kept.items - 1) }
+        ensures rest { self.new.kept.items ≡ take (length self.old.kept.items - 1) self.old.kept.items }
+    {
+        self.kept.pop()
+    }
 }

@@ -42,3 +42,7 @@ AreFields a = (length a.dispositions ≡ 64) × (length a.addresses ≡ 64) × (
 -- those of process 1 at boot
 unfoldable pub blank_actions : Actions
 blank_actions = record { dispositions = replicate 64 disposition.Default; addresses = replicate 64 (pos 0); masks = replicate 64 0; flags = replicate 64 no_flags }
+
+-- those that are kept, or the default ones
+abbrev pub actions_or_blank : List Actions → Actions
+actions_or_blank kept = slice_index_or kept 0 blank_actions

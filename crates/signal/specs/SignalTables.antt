@@ -1,14 +1,14 @@
 -- The tables of a process for signals.
-use Rattle.std.specs.Prelude.{ℕ, ◌≡◌, ◌==◌, ◌≤◌, if◌then◌else◌, List, [], Option, Some, None, map, replicate, length, take, slice_index_or, pos}
+use Rattle.std.specs.Prelude.{ℕ, ◌==◌, if◌then◌else◌, List, [], Option, Some, None, map, replicate, slice_index_or}
 use Rattle.std.specs.Int.{bit_at}
 use Rattle.std.specs.List.{range_with_len}
 use Rattle.posix.specs.declared.process.Action.{Action}
 use Rattle.posix.specs.declared.process.Carried.{Carried}
 use Rattle.posix.specs.declared.process.Frame.{Frame}
-use Rattle.posix.specs.Processes.{Signals, default_actions, zero_registers}
+use Rattle.posix.specs.Processes.{Signals, default_actions}
 use Rattle.posix.specs.Choice.{from_kernel}
-use Rattle.signal.specs.declared.tables.SignalTables.{SignalTables}
-use Rattle.signal.specs.ActionFields.{AreFields, actions_of, blank_actions}
+use Rattle.signal.specs.declared.action_fields.Actions.{Actions}
+use Rattle.signal.specs.ActionFields.{actions_of, actions_or_blank}
 
 pub record TablesView : Type 0 where
   pub actions : List Action
@@ -36,20 +36,10 @@ signals_of mask pending t = record { mask = mask; standard = standard_of pending
 
 -- ---- in memory
 
-unfoldable pub blank_frames : List Frame
-blank_frames = replicate 16 (record { pc = pos 0; registers = zero_registers; mask = 0 })
+-- what is there of what signals came with, or nothing
+abbrev pub carried_or_blank : List (List Carried) → List Carried
+carried_or_blank kept = slice_index_or kept 0 nothing_carried
 
-abbrev pub blank_tables : SignalTables
-blank_tables = record { actions = blank_actions; carried = nothing_carried; frames = blank_frames; frame_count = 0 }
-
--- those that are there, or blank ones
-abbrev pub tables_or_blank : List SignalTables → SignalTables
-tables_or_blank ts = slice_index_or ts 0 blank_tables
-
--- what they are worth: of the frames those that are in use
-abbrev pub view_of : SignalTables → TablesView
-view_of t = record { actions = actions_of t.actions; carried = t.carried; frames = take t.frame_count t.frames }
-
--- each has its length, and no more frames are in use than there are
-abbrev pub AreWellFormed : SignalTables → Type 0
-AreWellFormed t = AreFields t.actions × (length t.carried ≡ 31) × (length t.frames ≡ 16) × (t.frame_count ≤ 16)
+-- what they are worth
+abbrev pub view_of : List Actions → List (List Carried) → List Frame → TablesView
+view_of actions carried frames = record { actions = actions_of (actions_or_blank actions); carried = carried_or_blank carried; frames = frames }

@@ -1,10 +1,11 @@
 //! The actions of a process for signals, by field.
 
-ghost use Rattle.std.specs.Prelude.{◌≡◌, ◌-◌, ◌<◌, map, slice_index_or, slice_set};
+ghost use Rattle.std.specs.Prelude.{◌≡◌, ◌-◌, ◌<◌, ◌≤◌, length, map, slice_index_or, slice_set, vec_capacity};
 ghost use Rattle.posix.specs.Processes.{initial_action};
 ghost use Rattle.posix.specs.Programs.{action_on_exec};
-ghost use Rattle.signal.specs.ActionFields.{AreFields, actions_of, blank_actions, handler_from, disposition_on_exec};
+ghost use Rattle.signal.specs.ActionFields.{AreFields, actions_of, actions_or_blank, handler_from, disposition_on_exec};
 
+use arena::Arena;
 use bitflags::Flags;
 use posix::{Action, Handler, SaFlags, Sig, SigSet};
 
@@ -30,19 +31,6 @@ pub struct Actions {
 }
 
 impl Actions {
-    /// The default ones.
-    #[tactic(auto, unfolding(crate::specs::ActionFields::blank_actions))]
-    pub fn defaults() -> Actions
-        ensures { result ≡ blank_actions }
-    {
-        Actions {
-            dispositions: [Disposition::Default; 64],
-            addresses: [0; 64],
-            masks: [SigSet::EMPTY; 64],
-            flags: [SaFlags::empty(); 64],
-        }
-    }
-
     /// The action for a signal.
     pub fn action(&self, sig: Sig) -> Action
         requires { AreFields self.now }
@@ -77,11 +65,28 @@ impl Actions {
         ensures fields { AreFields self.new }
     {
         reset_all(&mut self.dispositions);
-        let defaults = Actions::defaults();
-        let masks = defaults.masks;
-        let flags = defaults.flags;
+        let masks = [SigSet::EMPTY; 64];
+        let flags = [SaFlags::empty(); 64];
         self.masks = masks;
         self.flags = flags;
+    }
+}
+
+/// Actions are kept from now on: those that were, or the default ones.
+#[tactic(auto, unfolding(crate::specs::ActionFields::blank_actions))]
+pub fn keep_actions(kept: &mut Vec<Actions, Arena>)
+    requires { 1 ≤ vec_capacity kept.old }
+    ensures there { 0 < length kept.new.items }
+    ensures same { actions_or_blank kept.new.items ≡ actions_or_blank kept.old.items }
+    ensures room { vec_capacity kept.new ≡ vec_capacity kept.old }
+{
+    if kept.is_empty() {
+        kept.push_reserved(Actions {
+            dispositions: [Disposition::Default; 64],
+            addresses: [0; 64],
+            masks: [SigSet::EMPTY; 64],
+            flags: [SaFlags::empty(); 64],
+        });
     }
 }
 

@@ -12,12 +12,13 @@ ghost use Rattle.posix.specs.SignalCalls.{set_of};
 
 use crate::actions::{does_nothing, is_caught, is_stop_signal};
 use crate::tables::{FramesFull, LazyTables, NoFrame};
+use arena::Arena;
 use bitflags::Flags;
 use posix::{
     Action, Carried, Effect, Errno, Handler, How, Life, PendingSignal, Pid, Register, SaFlags, Sig,
     SigSet,
 };
-use std::alloc::{AllocError, Global};
+use std::alloc::AllocError;
 use std::marker::Model;
 use umach::Cpu;
 
@@ -47,13 +48,13 @@ impl Model for Signals {
 impl Signals {
     /// Those of process 1 at boot: none is blocked or pending, the actions are the defaults. An error where
     /// the host has no memory for them.
-    pub fn initial(alloc: Global) -> Result<Signals, AllocError>
+    pub fn initial(arena: Arena) -> Result<Signals, AllocError>
         ensures { IfOk result (λ s. s ≡ initial_signals) }
     {
         Ok(Signals {
             mask: SigSet::EMPTY,
             pending: SigSet::EMPTY,
-            tables: LazyTables::new(alloc)?,
+            tables: LazyTables::new(arena)?,
         })
     }
 
@@ -65,7 +66,7 @@ impl Signals {
         Ok(Signals {
             mask: self.mask,
             pending: SigSet::EMPTY,
-            tables: self.tables.try_clone(spare)?,
+            tables: self.tables.fork(spare)?,
         })
     }
 

@@ -5,46 +5,40 @@ ghost use Rattle.posix.specs.Processes.{initial_action};
 ghost use Rattle.posix.specs.Choice.{from_kernel};
 ghost use Rattle.posix.specs.Handlers.{most_frames};
 ghost use Rattle.posix.specs.Programs.{action_on_exec};
-ghost use Rattle.signal.specs.SignalTables.{initial_tables, tables_or_blank};
+ghost use Rattle.signal.specs.SignalTables.{initial_tables, nothing_carried, carried_or_blank};
 
-use crate::action_fields::{Actions, place};
+use crate::action_fields::{Actions, keep_actions, place};
+use arena::Arena;
 use bitflags::Flags;
 use posix::{Action, Carried, Frame, Handler, SaFlags, Sig, SigSet};
-use std::alloc::{AllocError, Global};
+use std::alloc::AllocError;
 use std::marker::Model;
-
-/// A process's tables as they stand in memory.
-#[derive(Clone, Copy)]
-struct SignalTables {
-    /// The actions for all signals.
-    actions: Actions,
-    /// What the standard signal s came with, at s - 1, where it is pending.
-    carried: [Carried; 31],
-    /// The frames of the handlers that haven't returned, the newest last, and behind them room.
-    frames: [Frame; 16],
-    /// How many handlers haven't returned.
-    frame_count: usize,
-}
 
 /// The actions of a process for signals, what its pending standard signals came with (XSH 2.4.1), and the
 /// frames of its handlers that haven't returned. Real-time signals, which nothing sends yet, aren't kept.
 ///
-/// Its memory is taken at once, and written to at the first change: until then all is as at boot.
+/// Its memory is taken at once, and written to as it is needed: until the first change all is as at boot, and only
+/// frames that are in use are kept.
 #[derive(Drop)]
 pub struct LazyTables {
-    /// At most one, with room for it.
-    written: Vec<SignalTables>,
+    /// At most one item, with room for it: without it they are the default ones.
+    actions: Vec<Actions, Arena>,
+    /// At most one item, with room for it: what the standard signal s came with, at s - 1, where it is pending.
+    carried: Vec<[Carried; 31], Arena>,
+    /// The newest last, with room for 16.
+    frames: Vec<Frame, Arena>,
 }
 
 impl Model for LazyTables {
-    ghost use Rattle.std.specs.Prelude.{◌≤◌, vec_capacity};
-    ghost use Rattle.signal.specs.SignalTables.{TablesView, view_of, tables_or_blank, AreWellFormed};
+    ghost use Rattle.std.specs.Prelude.{◌≡◌, ◌≤◌, length, vec_capacity};
+    ghost use Rattle.signal.specs.ActionFields.{AreFields, actions_or_blank};
+    ghost use Rattle.signal.specs.SignalTables.{TablesView, view_of, carried_or_blank};
 
     ghost Value = { TablesView };
 
-    ghost view = { λ t. view_of (tables_or_blank t.written.items) };
+    ghost view = { λ t. view_of t.actions.items t.carried.items t.frames.items };
 
-    ghost invariant = { λ t. (1 ≤ vec_capacity t.written) × AreWellFormed (tables_or_blank t.written.items) };
+    ghost invariant = { λ t. (1 ≤ vec_capacity t.actions) × (1 ≤ vec_capacity t.carried) × (16 ≤ vec_capacity t.frames) × AreFields (actions_or_blank t.actions.items) × (length (carried_or_blank t.carried.items) ≡ 31) × (length t.frames.items ≤ 16) };
 }
 
 /// There are 16 frames already.
@@ -57,30 +51,38 @@ pub struct NoFrame;
 
 impl LazyTables {
     /// As at boot. An error where the host has no memory for them.
-    #[tactic(auto, unfolding(posix::specs::Processes::default_actions, crate::specs::ActionFields::actions_of, crate::specs::ActionFields::blank_actions, crate::specs::SignalTables::nothing_carried, crate::specs::SignalTables::blank_frames))]
-    pub fn new(alloc: Global) -> Result<LazyTables, AllocError>
+    #[tactic(auto, unfolding(posix::specs::Processes::default_actions, crate::specs::ActionFields::actions_of, crate::specs::ActionFields::blank_actions, crate::specs::SignalTables::nothing_carried))]
+    pub fn new(arena: Arena) -> Result<LazyTables, AllocError>
         ensures { IfOk result (λ t. t ≡ initial_tables) }
     {
         Ok(LazyTables {
-            written: Vec::with_capacity(alloc, 1)?,
+            actions: Vec::with_capacity(arena.clone()?, 1)?,
+            carried: Vec::with_capacity(arena.clone()?, 1)?,
+            frames: Vec::with_capacity(arena, 16)?,
         })
     }
 
-    /// The same again, in the place of `spare`, if there is one. Without it an error where the host has no
-    /// memory for them.
-    pub fn try_clone(&self, spare: Option<LazyTables>) -> Result<LazyTables, AllocError>
-        ensures { IfOk result (λ t. t ≡ self.now) }
+    /// Those of a child that is born now: the same, but nothing came with anything. They are in the place of
+    /// `spare`, if there is one; without it an error where the host has no memory for them.
+    pub fn fork(&self, spare: Option<LazyTables>) -> Result<LazyTables, AllocError>
+        ensures { IfOk result (λ t. t ≡ record self.now { carried = nothing_carried }) }
     {
-        let mut written = match spare {
-            Some(tables) => tables.written,
-            None => Vec::with_capacity(*self.written.allocator(), 1)?,
+        let LazyTables {
+            mut actions,
+            mut carried,
+            mut frames,
+        } = match spare {
+            Some(tables) => tables,
+            None => LazyTables::new(self.frames.allocator().clone()?)?,
         };
-        written.clear();
-        // Mostly nothing is written, and this spares a birth the loop over nothing.
-        if !self.written.is_empty() {
-            written.extend_from_slice(self.written.as_slice())?;
-        }
-        Ok(LazyTables { written })
+        refill(&mut actions, self.actions.as_slice())?;
+        carried.clear();
+        refill(&mut frames, self.frames.as_slice())?;
+        Ok(LazyTables {
+            actions,
+            carried,
+            frames,
+        })
     }
 
     // ---- actions
@@ -89,10 +91,10 @@ impl LazyTables {
     pub fn action(&self, sig: Sig) -> Action
         ensures { result ≡ slice_index_or self.now.actions (sig - 1) initial_action }
     {
-        if self.written.is_empty() {
+        if self.actions.is_empty() {
             default_action()
         } else {
-            self.written[0].actions.action(sig)
+            self.actions[0].action(sig)
         }
     }
 
@@ -100,18 +102,17 @@ impl LazyTables {
     pub fn set_action(&mut self, sig: Sig, action: Action)
         ensures { self.new ≡ record self.old { actions = slice_set self.old.actions (sig - 1) action } }
     {
-        ensure_written(&mut self.written);
-        self.written[0].actions.set(sig, action);
+        keep_actions(&mut self.actions);
+        self.actions[0].set(sig, action);
     }
 
     /// What another program leaves of the actions; the frames are dropped (XSH exec).
     pub fn on_exec(&mut self)
         ensures { self.new ≡ record self.old { actions = map action_on_exec self.old.actions; frames = [] } }
     {
-        if !self.written.is_empty() {
-            let tables = &mut self.written[0];
-            tables.actions.on_exec();
-            tables.frame_count = 0;
+        self.frames.clear();
+        if !self.actions.is_empty() {
+            self.actions[0].on_exec();
         }
     }
 
@@ -121,11 +122,11 @@ impl LazyTables {
     pub fn carried(&self, sig: Sig) -> Carried
         ensures { result ≡ slice_index_or self.now.carried (sig - 1) from_kernel }
     {
-        if self.written.is_empty() {
+        if self.carried.is_empty() {
             return Carried::FROM_KERNEL;
         }
         if sig.number() <= 31 {
-            self.written[0].carried[place(sig)]
+            self.carried[0][place(sig)]
         } else {
             Carried::FROM_KERNEL
         }
@@ -136,8 +137,8 @@ impl LazyTables {
         requires { sig ≤ 31 }
         ensures { self.new ≡ record self.old { carried = slice_set self.old.carried (sig - 1) carried } }
     {
-        ensure_written(&mut self.written);
-        self.written[0].carried[place(sig)] = carried;
+        keep_carried(&mut self.carried);
+        self.carried[0][place(sig)] = carried;
     }
 
     // ---- frames
@@ -149,13 +150,10 @@ impl LazyTables {
         ensures full { OnErr result (nat_le most_frames (length self.old.frames) ≡ true) }
         ensures same { OnErr result (self.new ≡ self.old) }
     {
-        ensure_written(&mut self.written);
-        let tables = &mut self.written[0];
-        if tables.frame_count == 16 {
+        if self.frames.len() == 16 {
             return Err(FramesFull);
         }
-        tables.frames[tables.frame_count] = frame;
-        tables.frame_count += 1;
+        self.frames.push_reserved(frame);
         Ok(())
     }
 
@@ -164,21 +162,14 @@ impl LazyTables {
         ensures value { result ≡ slice_get self.old.frames (length self.old.frames - 1) }
         ensures rest { self.new ≡ record self.old { frames = take (length self.old.frames - 1) self.old.frames } }
     {
-        if self.written.is_empty() || self.written[0].frame_count == 0 {
-            return None;
-        }
-        let tables = &mut self.written[0];
-        tables.frame_count -= 1;
-        Some(tables.frames[tables.frame_count])
+        self.frames.pop()
     }
 
     /// Drops all frames.
     pub fn clear_frames(&mut self)
         ensures { self.new ≡ record self.old { frames = [] } }
     {
-        if !self.written.is_empty() {
-            self.written[0].frame_count = 0;
-        }
+        self.frames.clear();
     }
 }
 
@@ -193,25 +184,28 @@ fn default_action() -> Action
     }
 }
 
-/// Tables are there from now on: those that were, or some in which all is as at boot.
-#[tactic(auto, unfolding(posix::specs::Processes::default_actions, crate::specs::SignalTables::nothing_carried, posix::specs::Processes::zero_registers, crate::specs::SignalTables::blank_frames))]
-fn ensure_written(tables: &mut Vec<SignalTables>)
-    requires { 1 ≤ vec_capacity tables.old }
-    ensures there { 0 < length tables.new.items }
-    ensures same { tables_or_blank tables.new.items ≡ tables_or_blank tables.old.items }
-    ensures room { vec_capacity tables.new ≡ vec_capacity tables.old }
+/// What signals came with is kept from now on: what was, or nothing.
+#[tactic(auto, unfolding(crate::specs::SignalTables::nothing_carried))]
+fn keep_carried(carried: &mut Vec<[Carried; 31], Arena>)
+    requires { 1 ≤ vec_capacity carried.old }
+    ensures there { 0 < length carried.new.items }
+    ensures same { carried_or_blank carried.new.items ≡ carried_or_blank carried.old.items }
+    ensures room { vec_capacity carried.new ≡ vec_capacity carried.old }
 {
-    if tables.is_empty() {
-        let frame = Frame {
-            pc: 0,
-            registers: [0; 8],
-            mask: SigSet::EMPTY,
-        };
-        tables.push_reserved(SignalTables {
-            actions: Actions::defaults(),
-            carried: [Carried::FROM_KERNEL; 31],
-            frames: [frame; 16],
-            frame_count: 0,
-        });
+    if carried.is_empty() {
+        carried.push_reserved([Carried::FROM_KERNEL; 31]);
     }
+}
+
+/// The items of a vector become these. An error where it has too little room and the host has no memory.
+fn refill<T: Copy>(to: &mut Vec<T, Arena>, from: &[T]) -> Result<(), AllocError>
+    ensures items { OnOk result (to.new.items ≡ from.now) }
+    ensures room { vec_capacity to.old ≤ vec_capacity to.new }
+{
+    to.clear();
+    // This spares a birth the loop over nothing.
+    if from.is_empty() {
+        return Ok(());
+    }
+    to.extend_from_slice(from)
 }

@@ -5,8 +5,9 @@ ghost use Rattle.posix.specs.Processes.{zero_memory};
 ghost use Rattle.posix.specs.Transfers.{stored, low_byte, bytes_in};
 ghost use Rattle.umach.specs.Memories.{words_of};
 
+use arena::Arena;
 use posix::{Bytes, Span};
-use std::alloc::{AllocError, Global};
+use std::alloc::AllocError;
 use std::marker::Model;
 
 /// The 256 words of a process, at the addresses 0 to 255.
@@ -14,7 +15,7 @@ use std::marker::Model;
 /// Its room is taken at once. Behind the greatest address that was written all words are 0, and aren't kept.
 #[derive(Drop)]
 pub struct UserMem {
-    words: Vec<i64>,
+    words: Vec<i64, Arena>,
 }
 
 impl Model for UserMem {
@@ -31,11 +32,11 @@ impl Model for UserMem {
 impl UserMem {
     /// A memory of zeros; an error where the host has no memory for it.
     #[tactic(auto, unfolding(posix::specs::Processes::zero_memory))]
-    pub fn zeroed(alloc: Global) -> Result<UserMem, AllocError>
+    pub fn zeroed(arena: Arena) -> Result<UserMem, AllocError>
         ensures { IfOk result (λ m. m ≡ zero_memory) }
     {
         Ok(UserMem {
-            words: Vec::with_capacity(alloc, 256)?,
+            words: Vec::with_capacity(arena, 256)?,
         })
     }
 
@@ -103,7 +104,7 @@ impl UserMem {
     {
         let mut words = match spare {
             Some(memory) => memory.words,
-            None => Vec::with_capacity(*self.words.allocator(), 256)?,
+            None => Vec::with_capacity(self.words.allocator().clone()?, 256)?,
         };
         words.clear();
         words.extend_from_slice(self.words.as_slice())?;
@@ -114,7 +115,7 @@ impl UserMem {
 /// Keeps the word at an address below 256 from now on.
 #[tactic(auto, using(crate::proofs::MemoryLemmas::more_words))]
 #[inline]
-fn cover(words: &mut Vec<i64>, address: usize)
+fn cover(words: &mut Vec<i64, Arena>, address: usize)
     requires address { address < 256 }
     requires few { length words.old.items ≤ 256 }
     requires room { 256 ≤ vec_capacity words.old }
@@ -130,7 +131,7 @@ fn cover(words: &mut Vec<i64>, address: usize)
 
 /// Keeps so many words, more than before.
 #[cold]
-fn keep(words: &mut Vec<i64>, count: usize)
+fn keep(words: &mut Vec<i64, Arena>, count: usize)
     requires more { length words.old.items ≤ count }
     requires room { count ≤ vec_capacity words.old }
     ensures words { words.new.items ≡ words.old.items ++ replicate (count - length words.old.items) (pos 0) }

@@ -19,16 +19,32 @@ pub bear_all-requires-clause-pid_range : goal.bear_all-requires-clause-pid_range
 bear_all-requires-clause-pid_range g c = (next_is_new _ _ _ _ c.args.child (state_is c.self.view_is) c.self.invariant.sound c.requires.child).greatest
 
 pub bear_all-requires-clause-pid_count : goal.bear_all-requires-clause-pid_count
-bear_all-requires-clause-pid_count g c = (room_to_bear _ _ _ _ c.args.child c.args.parent _ _ (state_is c.self.view_is) c.self.invariant.sound c.requires.child c.requires.parent c.in_ok-body.ensures.groups).pid_count
+bear_all-requires-clause-pid_count g c = (room_to_bear _ _ _ _ c.args.child c.args.parent _ _ (state_is c.self.view_is) c.self.invariant.sound c.requires.child c.requires.parent (λ me found. c.in_ok-body.ensures.groups me (ap (lookup c.args.parent) c.in_ok-reserve.ensures.processes ∙ found))).pid_count
 
 pub bear_all-requires-clause-group_count : goal.bear_all-requires-clause-group_count
-bear_all-requires-clause-group_count g c = (room_to_bear _ _ _ _ c.args.child c.args.parent _ _ (state_is c.self.view_is) c.self.invariant.sound c.requires.child c.requires.parent c.in_ok-body.ensures.groups).group_count
+bear_all-requires-clause-group_count g c = (room_to_bear _ _ _ _ c.args.child c.args.parent _ _ (state_is c.self.view_is) c.self.invariant.sound c.requires.child c.requires.parent (λ me found. c.in_ok-body.ensures.groups me (ap (lookup c.args.parent) c.in_ok-reserve.ensures.processes ∙ found))).group_count
 
 pub bear_all-requires-clause-session_count : goal.bear_all-requires-clause-session_count
-bear_all-requires-clause-session_count g c = (room_to_bear _ _ _ _ c.args.child c.args.parent _ _ (state_is c.self.view_is) c.self.invariant.sound c.requires.child c.requires.parent c.in_ok-body.ensures.groups).session_count
+bear_all-requires-clause-session_count g c = (room_to_bear _ _ _ _ c.args.child c.args.parent _ _ (state_is c.self.view_is) c.self.invariant.sound c.requires.child c.requires.parent (λ me found. c.in_ok-body.ensures.groups me (ap (lookup c.args.parent) c.in_ok-reserve.ensures.processes ∙ found))).session_count
+
+pub bear_all-requires-clause-group_range : goal.bear_all-requires-clause-group_range
+bear_all-requires-clause-group_range g c =
+    let me = c.requires.parent in
+    let found = found_in _ _ (state_is c.self.view_is) c.args.parent me.what me.found in
+    let same = (c.in_ok-body.ensures.groups me.what (ap (lookup c.args.parent) c.in_ok-reserve.ensures.processes ∙ found)).0 in
+    let bounds = c.self.invariant.sound.regular.bounded c.args.parent me.what found in
+    omega (arith, same, bounds.group, c.self.invariant.sound.kept.greatest)
+
+pub bear_all-requires-clause-session_range : goal.bear_all-requires-clause-session_range
+bear_all-requires-clause-session_range g c =
+    let me = c.requires.parent in
+    let found = found_in _ _ (state_is c.self.view_is) c.args.parent me.what me.found in
+    let same = (c.in_ok-body.ensures.groups me.what (ap (lookup c.args.parent) c.in_ok-reserve.ensures.processes ∙ found)).1 in
+    let bounds = c.self.invariant.sound.regular.bounded c.args.parent me.what found in
+    omega (arith, same, bounds.session, c.self.invariant.sound.kept.greatest)
 
 pub insert-requires-clause-fresh : goal.insert-requires-clause-fresh
-insert-requires-clause-fresh g c = ap (lookup c.args.child) (c.in_ok-reserve.ensures.processes ∙ c.in_ok-body.ensures.processes) ∙ (next_is_new _ _ _ _ c.args.child (state_is c.self.view_is) c.self.invariant.sound c.requires.child).fresh
+insert-requires-clause-fresh g c = ap (lookup c.args.child) (c.in_ok-body.ensures.processes ∙ c.in_ok-reserve.ensures.processes) ∙ (next_is_new _ _ _ _ c.args.child (state_is c.self.view_is) c.self.invariant.sound c.requires.child).fresh
 
 pub insert-requires-clause-number : goal.insert-requires-clause-number
 insert-requires-clause-number g c = λ none. let least = (next_is_new _ _ _ _ c.args.child (state_is c.self.view_is) c.self.invariant.sound c.requires.child).least in absurd (omega (arith, least, none))
@@ -47,9 +63,10 @@ unfolding child_of finished has_report
 invariant_of-self-2 g c =
     let me = c.requires.parent in
     let found = found_in _ _ (state_is c.self.view_is) c.args.parent me.what me.found in
-    let child = c.in_ok-body.ensures.child me.what found c.args.child in
-    let groups = c.in_ok-body.ensures.groups me.what found in
-    rw (c.insert.ensures.processes, c.in_ok-reserve.ensures.processes, c.in_ok-body.ensures.processes)
+    let still = ap (lookup c.args.parent) c.in_ok-reserve.ensures.processes ∙ found in
+    let child = c.in_ok-body.ensures.child me.what still c.args.child in
+    let groups = c.in_ok-body.ensures.groups me.what still in
+    rw (c.insert.ensures.processes, c.in_ok-body.ensures.processes, c.in_ok-reserve.ensures.processes)
     (record {
       sound = sound_born _ _ _ _ _ _ _ _ _ _ _ me.what c.self.invariant.sound (next_is_new _ _ _ _ c.args.child (state_is c.self.view_is) c.self.invariant.sound c.requires.child) found me.living groups.0 groups.1 (ap (λ (r : Process). r.life) child) (ap (λ (r : Process). r.alarm) child) c.bear_all.ensures.value c.bear_all.ensures.pidmax c.bear_all.ensures.kept;
       listed = listed_born _ _ _ _ _ _ c.self.invariant.listed (next_is_new _ _ _ _ c.args.child (state_is c.self.view_is) c.self.invariant.sound c.requires.child).fresh (is_there _ me.what found) (c.insert-3.ensures.pids ∙ ap (with_number c.args.child) c.insert-2.ensures.pids) (c.insert-3.ensures.room ∙ c.insert-2.ensures.room);

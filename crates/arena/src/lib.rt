@@ -1,0 +1,77 @@
+//! An arena that several owners share.
+#![tactic(auto)]
+
+ghost use Rattle.std.specs.Prelude.{◌≡◌, IfOk};
+
+use bumpalo::Bump;
+use std::alloc::{AllocError, Allocator, Global};
+use std::marker::Model;
+use std::rc::Rc;
+
+/// A handle of an allocator that several owners share. Each clone gives memory of the same one, which lives as
+/// long as the last handle, and so as the last collection that has one.
+#[derive(Drop)]
+pub struct Shared<B> {
+    inner: Rc<B, Global>,
+}
+
+/// A handle of an arena that several owners share.
+pub type Arena = Shared<Bump>;
+
+/// How many bytes an arena has room for at first: about two dozen processes take as much.
+const FIRST_CHUNK: usize = 1 << 17;
+
+/// The first handle of a new arena; an error where the host has no memory for it. What is taken of its room costs
+/// memory only once it is written to, and what is given back isn't used again.
+pub fn new_arena(alloc: Global) -> Result<Arena, AllocError> {
+    Shared::new(alloc, Bump::try_with_capacity(alloc, FIRST_CHUNK)?)
+}
+
+/// Its value is the allocator.
+impl<B> Model for Shared<B> {
+    ghost Value = { B };
+
+    ghost view = { λ handle. handle.inner.value };
+}
+
+impl<B: Drop> Shared<B> {
+    /// The first handle of an allocator; an error where the host has no memory for it.
+    pub fn new(alloc: Global, inner: B) -> Result<Shared<B>, AllocError>
+        ensures { IfOk result (λ handle. handle ≡ inner) }
+    {
+        Ok(Shared {
+            inner: Rc::new(alloc, inner)?,
+        })
+    }
+}
+
+impl<B> Shared<B> {
+    /// The allocator.
+    fn lent(&self) -> &B
+        ensures { result.now ≡ self.now }
+    {
+        &self.inner
+    }
+}
+
+impl<B: Drop> Clone for Shared<B> {
+    ghost is_clone = { λ handle copy. copy ≡ handle };
+
+    fn clone(&self) -> Result<Shared<B>, AllocError> {
+        Ok(Shared {
+            inner: self.inner.clone()?,
+        })
+    }
+}
+
+unsafe impl<B: Allocator> Allocator for Shared<B> {
+    ghost dealloc_token = { λ handle ty ptr. B.dealloc_token handle ty ptr };
+
+    fn allocate(&self, size: usize, align: usize) -> Result<*mut u8, AllocError> {
+        self.lent().allocate(size, align)
+    }
+
+    unsafe fn deallocate(&self, ptr: *mut u8, size: usize, align: usize) {
+        self.lent().deallocate(ptr, size, align);
+    }
+}
