@@ -1,7 +1,7 @@
 //! An arena that several owners share.
 #![tactic(auto)]
 
-ghost use Rattle.std.specs.Prelude.{◌≡◌, IfOk};
+ghost use Rattle.std.specs.Prelude.{◌≡◌, ◌≤◌, IfOk, OnOk, vec_capacity};
 
 use bumpalo::Bump;
 use std::alloc::{AllocError, Allocator, Global};
@@ -25,6 +25,20 @@ const FIRST_CHUNK: usize = 1 << 17;
 /// memory only once it is written to, and what is given back isn't used again.
 pub fn new_arena(alloc: Global) -> Result<Arena, AllocError> {
     Shared::new(alloc, Bump::try_with_capacity(alloc, FIRST_CHUNK)?)
+}
+
+/// The items of a vector become these; its room stays or grows. An error where it has too little room and the host
+/// has no memory.
+pub fn refill<T: Copy>(to: &mut Vec<T, Arena>, from: &[T]) -> Result<(), AllocError>
+    ensures items { OnOk result (to.new.items ≡ from.now) }
+    ensures room { vec_capacity to.old ≤ vec_capacity to.new }
+{
+    to.clear();
+    // This spares a birth the loop over nothing.
+    if from.is_empty() {
+        return Ok(());
+    }
+    to.extend_from_slice(from)
 }
 
 /// Its value is the allocator.

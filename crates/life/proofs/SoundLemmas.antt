@@ -134,9 +134,9 @@ not_many s p places i =
     omega (arith, l, same, limit)
 
 -- the rows have room for one more process in the group and session of its parent
-pub room_to_bear : (s t : State) (p : Pids) (places : Places) (child parent group session : ℕ) → s ≡ t → IsSound s p places → next_pid t ≡ Some child → IsPlaced t.processes parent
-    → ((me : Process) → lookup parent s.processes ≡ Some me → (group ≡ me.group) × (session ≡ me.session)) → CanBear p child group session
-room_to_bear s t p places child parent group session now i next me like =
+pub room_to_bear : (s t : State) (p : Pids) (places : Places) (rs : List Process) (child parent group session : ℕ) → s ≡ t → rs ≡ s.processes → IsSound s p places → next_pid t ≡ Some child → IsPlaced t.processes parent
+    → ((me : Process) → lookup parent rs ≡ Some me → (group ≡ me.group) × (session ≡ me.session)) → CanBear p child group session
+room_to_bear s t p places rs child parent group session now same i next me like =
     let l = not_many s p places i in
     let fresh = next_is_new s t p places child now i next in
     let found = found_in s t now parent me.what me.found in
@@ -144,7 +144,7 @@ room_to_bear s t p places child parent group session now i next me like =
     let m = i.kept.greatest in
     let a = bounds.group in
     let b = bounds.session in
-    let groups = like me.what found in
+    let groups = like me.what (ap (lookup parent) same ∙ found) in
     let same_group = groups.0 in
     let same_session = groups.1 in
     can_bear p s.processes i.kept.tallied (omega (arith, l)) child group session fresh.greatest (omega (arith, a, m, same_group)) (omega (arith, b, m, same_session))

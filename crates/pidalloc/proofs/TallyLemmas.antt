@@ -128,6 +128,8 @@ tally_found pid r rs e = record {
 
 -- what a table needs before three numbers are borne, and before they are given up
 pub record CanBear (p : Pids) (n group session : ℕ) : Type 0 where
+  pub group_range : group ≤ p.pidmax
+  pub session_range : session ≤ p.pidmax
   pub pid_count : (row p.rows n).process < 4294967295
   pub group_count : (row p.rows group).group < 4294967295
   pub session_count : (row p.rows session).session < 4294967295
@@ -140,6 +142,8 @@ pub record CanGiveUp (p : Pids) (n group session : ℕ) : Type 0 where
 -- a table that counts few enough records can bear three numbers more
 pub can_bear : (p : Pids) (rs : List Process) → IsTallied p rs → length rs < 2 ^ 31 → (pid group session : ℕ) → pid ≤ p.pidmax → group ≤ p.pidmax → session ≤ p.pidmax → CanBear p pid group session
 can_bear p rs t l pid group session a b c = record {
+  group_range = b;
+  session_range = c;
   pid_count = let w = (tally_within pid rs).process in let e = ap (λ (r : Row). r.process) (t pid a) in omega (arith, w, e, l);
   group_count = let w = (tally_within group rs).group in let e = ap (λ (r : Row). r.group) (t group b) in omega (arith, w, e, l);
   session_count = let w = (tally_within session rs).session in let e = ap (λ (r : Row). r.session) (t session c) in omega (arith, w, e, l);

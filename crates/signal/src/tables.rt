@@ -8,7 +8,7 @@ ghost use Rattle.posix.specs.Programs.{action_on_exec};
 ghost use Rattle.signal.specs.SignalTables.{initial_tables, nothing_carried, carried_or_blank};
 
 use crate::action_fields::{Actions, keep_actions, place};
-use arena::Arena;
+use arena::{Arena, refill};
 use bitflags::Flags;
 use posix::{Action, Carried, Frame, Handler, SaFlags, Sig, SigSet};
 use std::alloc::AllocError;
@@ -195,17 +195,4 @@ fn keep_carried(carried: &mut Vec<[Carried; 31], Arena>)
     if carried.is_empty() {
         carried.push_reserved([Carried::FROM_KERNEL; 31]);
     }
-}
-
-/// The items of a vector become these. An error where it has too little room and the host has no memory.
-fn refill<T: Copy>(to: &mut Vec<T, Arena>, from: &[T]) -> Result<(), AllocError>
-    ensures items { OnOk result (to.new.items ≡ from.now) }
-    ensures room { vec_capacity to.old ≤ vec_capacity to.new }
-{
-    to.clear();
-    // This spares a birth the loop over nothing.
-    if from.is_empty() {
-        return Ok(());
-    }
-    to.extend_from_slice(from)
 }

@@ -5,7 +5,7 @@ ghost use Rattle.posix.specs.Processes.{zero_memory};
 ghost use Rattle.posix.specs.Transfers.{stored, low_byte, bytes_in};
 ghost use Rattle.umach.specs.Memories.{words_of};
 
-use arena::Arena;
+use arena::{Arena, refill};
 use posix::{Bytes, Span};
 use std::alloc::AllocError;
 use std::marker::Model;
@@ -106,8 +106,7 @@ impl UserMem {
             Some(memory) => memory.words,
             None => Vec::with_capacity(self.words.allocator().clone()?, 256)?,
         };
-        words.clear();
-        words.extend_from_slice(self.words.as_slice())?;
+        refill(&mut words, self.words.as_slice())?;
         Ok(UserMem { words })
     }
 }

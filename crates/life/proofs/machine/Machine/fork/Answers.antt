@@ -19,29 +19,19 @@ pub bear_all-requires-clause-pid_range : goal.bear_all-requires-clause-pid_range
 bear_all-requires-clause-pid_range g c = (next_is_new _ _ _ _ c.args.child (state_is c.self.view_is) c.self.invariant.sound c.requires.child).greatest
 
 pub bear_all-requires-clause-pid_count : goal.bear_all-requires-clause-pid_count
-bear_all-requires-clause-pid_count g c = (room_to_bear _ _ _ _ c.args.child c.args.parent _ _ (state_is c.self.view_is) c.self.invariant.sound c.requires.child c.requires.parent (λ me found. c.in_ok-body.ensures.groups me (ap (lookup c.args.parent) c.in_ok-reserve.ensures.processes ∙ found))).pid_count
+bear_all-requires-clause-pid_count g c = (room_to_bear _ _ _ _ _ c.args.child c.args.parent _ _ (state_is c.self.view_is) c.in_ok-reserve.ensures.processes c.self.invariant.sound c.requires.child c.requires.parent c.in_ok-body.ensures.groups).pid_count
 
 pub bear_all-requires-clause-group_count : goal.bear_all-requires-clause-group_count
-bear_all-requires-clause-group_count g c = (room_to_bear _ _ _ _ c.args.child c.args.parent _ _ (state_is c.self.view_is) c.self.invariant.sound c.requires.child c.requires.parent (λ me found. c.in_ok-body.ensures.groups me (ap (lookup c.args.parent) c.in_ok-reserve.ensures.processes ∙ found))).group_count
+bear_all-requires-clause-group_count g c = (room_to_bear _ _ _ _ _ c.args.child c.args.parent _ _ (state_is c.self.view_is) c.in_ok-reserve.ensures.processes c.self.invariant.sound c.requires.child c.requires.parent c.in_ok-body.ensures.groups).group_count
 
 pub bear_all-requires-clause-session_count : goal.bear_all-requires-clause-session_count
-bear_all-requires-clause-session_count g c = (room_to_bear _ _ _ _ c.args.child c.args.parent _ _ (state_is c.self.view_is) c.self.invariant.sound c.requires.child c.requires.parent (λ me found. c.in_ok-body.ensures.groups me (ap (lookup c.args.parent) c.in_ok-reserve.ensures.processes ∙ found))).session_count
+bear_all-requires-clause-session_count g c = (room_to_bear _ _ _ _ _ c.args.child c.args.parent _ _ (state_is c.self.view_is) c.in_ok-reserve.ensures.processes c.self.invariant.sound c.requires.child c.requires.parent c.in_ok-body.ensures.groups).session_count
 
 pub bear_all-requires-clause-group_range : goal.bear_all-requires-clause-group_range
-bear_all-requires-clause-group_range g c =
-    let me = c.requires.parent in
-    let found = found_in _ _ (state_is c.self.view_is) c.args.parent me.what me.found in
-    let same = (c.in_ok-body.ensures.groups me.what (ap (lookup c.args.parent) c.in_ok-reserve.ensures.processes ∙ found)).0 in
-    let bounds = c.self.invariant.sound.regular.bounded c.args.parent me.what found in
-    omega (arith, same, bounds.group, c.self.invariant.sound.kept.greatest)
+bear_all-requires-clause-group_range g c = (room_to_bear _ _ _ _ _ c.args.child c.args.parent _ _ (state_is c.self.view_is) c.in_ok-reserve.ensures.processes c.self.invariant.sound c.requires.child c.requires.parent c.in_ok-body.ensures.groups).group_range
 
 pub bear_all-requires-clause-session_range : goal.bear_all-requires-clause-session_range
-bear_all-requires-clause-session_range g c =
-    let me = c.requires.parent in
-    let found = found_in _ _ (state_is c.self.view_is) c.args.parent me.what me.found in
-    let same = (c.in_ok-body.ensures.groups me.what (ap (lookup c.args.parent) c.in_ok-reserve.ensures.processes ∙ found)).1 in
-    let bounds = c.self.invariant.sound.regular.bounded c.args.parent me.what found in
-    omega (arith, same, bounds.session, c.self.invariant.sound.kept.greatest)
+bear_all-requires-clause-session_range g c = (room_to_bear _ _ _ _ _ c.args.child c.args.parent _ _ (state_is c.self.view_is) c.in_ok-reserve.ensures.processes c.self.invariant.sound c.requires.child c.requires.parent c.in_ok-body.ensures.groups).session_range
 
 pub insert-requires-clause-fresh : goal.insert-requires-clause-fresh
 insert-requires-clause-fresh g c = ap (lookup c.args.child) (c.in_ok-body.ensures.processes ∙ c.in_ok-reserve.ensures.processes) ∙ (next_is_new _ _ _ _ c.args.child (state_is c.self.view_is) c.self.invariant.sound c.requires.child).fresh
