@@ -1,6 +1,7 @@
 -- Instructions that are plain or give a note, one after another, are steps.
-use Rattle.std.proofs.Common.{◌≡◌, ◌≢◌, ◌==◌, ℕ, zero, suc, ◌+◌, ◌-◌, ◌≤◌, length, true, false, cond, refl, ap, sym, ◌∙◌, arith, subst, List, [], ◌∷◌, append-nil, Some, None, option_map, option_and_then, is_some, ℤ}
+use Rattle.std.proofs.Common.{◌≡◌, ◌≢◌, ◌==◌, ℕ, zero, suc, ◌+◌, ◌-◌, ◌≤◌, length, Bool, true, false, cond, not, ◌||◌, refl, ap, sym, ◌∙◌, arith, subst, List, [], ◌∷◌, append-nil, Some, None, option_map, option_and_then, is_some, ℤ}
 use Rattle.std.specs.Prelude.{replicate}
+use Rattle.std.specs.List.{list_any}
 use Rattle.std.proofs.lemmas.List.{length-replicate, replicate-append-replicate}
 use Rattle.posix.specs.declared.event.Event.{Event}
 use Rattle.posix.specs.declared.instr.Instr.{Instr}
@@ -12,7 +13,8 @@ use Rattle.posix.specs.declared.entry.Entry.{Entry}
 use Rattle.posix.specs.declared.entry.Entry.TheVariants.{Noted}
 use Rattle.posix.specs.Processes.{Process, Cpu, is_zombie}
 use Rattle.posix.specs.Entries.{numbered}
-use Rattle.posix.specs.Tables.{IsRising, at, changed}
+use Rattle.posix.specs.NextPid.{is_free}
+use Rattle.posix.specs.Tables.{IsRising, at, bears, changed}
 use Rattle.posix.specs.States.{State, is_in, has_place, change, current, process, current_process}
 use Rattle.posix.specs.Execute.{exec_one}
 use Rattle.posix.specs.Choice.{chosen}
@@ -373,6 +375,21 @@ pub record Shows (s : State) (p before last : ℕ) (taken : StepsTaken) (new : S
   pub exact : taken_at_once s before last (current_process s) ≡ taken
   pub whose : p ≡ runner (current_process s)
   pub call : (call : Call) → taken.trap ≡ trap.Call call → ComesTo new p call
+  pub numbers : (n : ℕ) → is_free new.processes n ≡ is_free s.processes n
+
+-- another processor leaves the numbers that are borne
+borne_kept : (n p : ℕ) (c : Cpu) (rs : List Process) → list_any (bears n) (changed p (set_cpu c) rs) ≡ list_any (bears n) rs
+unfolding changed set_cpu
+borne_kept n p c [] = refl
+borne_kept n p c (r ∷ rs) = ap (λ b. b || list_any (bears n) (changed p (set_cpu c) rs)) (one (r.pid == p)) ∙ ap (λ b. bears n r || b) (borne_kept n p c rs)
+  where
+    one : (b : Bool) → bears n (cond b (set_cpu c r) r) ≡ bears n r
+    one true = refl
+    one false = refl
+
+free_kept : (n p : ℕ) (c : Cpu) (rs : List Process) → is_free (changed p (set_cpu c) rs) n ≡ is_free rs n
+unfolding is_free
+free_kept n p c rs = ap not (borne_kept n p c rs)
 
 -- the whole of what an instruction list gave is what the steps came to
 shows_by : (s : State) (p : ℕ) (me : Process) (before last : ℕ) → IsReady s p me → Shows s p before last (exec_with_notes (code_of s me) most_notes before last me.cpu).taken
@@ -388,6 +405,7 @@ shows_by s p me before last r =
       exact = ap (taken_at_once s before last) (is_current s p me r) ∙ rw (none, free) refl;
       whose = sym (ap runner (is_current s p me r) ∙ rw (none, free) (pid_looked p s.processes me r.here));
       call = λ call e. comes (change s p (set_cpu b.cpu)) p (set_cpu b.cpu me) call (stays_ready s p me b.cpu r ran.runs.settled) (notes_call (code_of s me) call most_notes before last me.cpu e);
+      numbers = λ n. free_kept n p b.cpu s.processes;
     }
 
 pub shows : (s x : State) (p : ℕ) → Readies s p → x ≡ s → (before last : ℕ) (taken : StepsTaken) (new : State)

@@ -6,3 +6,5 @@ pub mod BurstLemmas
 pub mod AskedLemmas
 pub mod AgainLemmas
 pub mod BlockLemmas
+pub mod AgreeLemmas
+mod AccountLemmas

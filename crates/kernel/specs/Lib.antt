@@ -3,3 +3,4 @@ pub mod Steps
 pub mod Progress
 pub mod Summaries
 pub mod Headline
+pub mod Accounts

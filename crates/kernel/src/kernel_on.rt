@@ -1,8 +1,11 @@
 //! The kernel of one world.
 
-ghost use Rattle.std.specs.Prelude.{◌≡◌, ◌+◌, ◌-◌, ◌++◌, ◌<◌, ◌≤◌, [], IfOk, true, replicate};
+ghost use Rattle.std.specs.Prelude.{◌≡◌, ◌+◌, ◌-◌, ◌++◌, ◌<◌, ◌≤◌, ℕ, List, [], Contains, Some, IfOk, true, replicate};
+ghost use Rattle.std.specs.List.{list_all};
 ghost use Rattle.posix.specs.States.{boot as boot_of};
-ghost use Rattle.posix.specs.Entries.{numbered};
+ghost use Rattle.posix.specs.declared.entry.Entry.{Entry};
+ghost use Rattle.posix.specs.Entries.{Line, numbered};
+ghost use Rattle.posix.specs.NextPid.{is_free};
 ghost use Rattle.posix.specs.Runs.{RunsFrom};
 ghost use Rattle.posix.specs.Step.{IsStep};
 ghost use Rattle.posix.specs.Regular.{IsRegular};
@@ -10,6 +13,10 @@ ghost use Rattle.text.specs.EventTexts.{most_events};
 ghost use Rattle.kernel.specs.Steps.{event_changes_one, last_given, noted_lines};
 ghost use Rattle.kernel.specs.Views.{KernelView};
 ghost use Rattle.life.specs.Censuses.{census_of};
+ghost use Rattle.laws.specs.Agree.{Agree, IsOrderly};
+ghost use Rattle.laws.specs.Kinds.{IsEvent, IsWorld};
+ghost use Rattle.laws.specs.Lives.{born_by};
+ghost use Rattle.laws.specs.TraceLines.{is_line};
 
 use crate::step::{BurstEnd, burst, call_next, is_followed_by_step, next};
 use arrayvec::ArrayVec;
@@ -35,13 +42,14 @@ impl<K: Kin> Model for KernelOn<K> {
     ghost use Rattle.std.specs.Prelude.{◌≤◌, ◌+◌, ◌≡◌, [], false};
     ghost use Rattle.posix.specs.Settle.{IsSettled};
     ghost use Rattle.posix.specs.Regular.{IsRegular};
+    ghost use Rattle.laws.specs.Agree.{AreTurns};
     ghost use Rattle.kernel.specs.Views.{KernelView};
 
     ghost Value = { KernelView };
 
     ghost view = { λ k. record { state = k.machine.state; events = k.events; reads = k.machine.reads } };
 
-    ghost invariant = { λ k. (k.machine.state.births ≤ k.events + 1) × (k.machine.state.ticks ≤ k.events) × IsSettled k.machine.state × IsRegular k.machine.state × (k.machine.asked ≡ []) × (k.machine.stale ≡ false) };
+    ghost invariant = { λ k. (k.machine.state.births ≤ k.events + 1) × (k.machine.state.ticks ≤ k.events) × IsSettled k.machine.state × IsRegular k.machine.state × (k.machine.asked ≡ []) × (k.machine.stale ≡ false) × AreTurns k.machine.state };
 }
 
 impl<K: Kin> KernelOn<K> {
@@ -51,6 +59,8 @@ impl<K: Kin> KernelOn<K> {
         ensures events { IfOk result (λ k. k.events ≡ 0) }
         ensures reads { IfOk result (λ k. k.reads ≤ 6) }
         ensures regular { IfOk result (λ k. IsRegular k.state) }
+        ensures orderly { IfOk result (λ k. IsWorld world.now → IsOrderly k.state) }
+        ensures agrees { IfOk result (λ k. Agree [] 0 k.state) }
     {
         Ok(KernelOn {
             machine: Machine::boot(alloc, world)?,
@@ -90,6 +100,10 @@ impl<K: Kin> KernelOn<K> {
         ensures events { self.new.events ≡ self.old.events + 1 }
         ensures halted { self.old.state.halted ≡ true → (result.items ≡ []) × (self.new.state ≡ self.old.state) }
         ensures regular { IsRegular self.new.state }
+        ensures orderly { IsEvent event → IsOrderly self.old.state → IsOrderly self.new.state }
+        ensures forms { IsEvent event → IsOrderly self.old.state → list_all is_line (numbered self.new.events result.items) ≡ true }
+        ensures agrees { (lines : List Line) → Agree lines self.old.events self.old.state → Agree (lines ++ numbered self.new.events result.items) self.new.events self.new.state }
+        ensures no_number_is_given_out_twice { (e : Entry) (n : ℕ) → Contains result.items e → born_by e ≡ Some n → is_free self.old.state.processes n ≡ true }
         ensures reads { event_changes_one event self.old.state ≡ true → self.new.reads ≤ self.old.reads + 3 }
     {
         let mut entries = ArrayVec::new();
@@ -112,6 +126,10 @@ impl<K: Kin> KernelOn<K> {
         ensures within { self.new.events ≤ last }
         ensures runs { RunsFrom (self.old.events + 1) self.old.state (replicate (self.new.events - self.old.events) Event.Step) (noted_lines result notes.new.items ++ numbered self.new.events entries.new.items) self.new.state }
         ensures regular { IsRegular self.new.state }
+        ensures orderly { IsOrderly self.old.state → IsOrderly self.new.state }
+        ensures forms { IsOrderly self.old.state → list_all is_line (noted_lines result notes.new.items ++ numbered self.new.events entries.new.items) ≡ true }
+        ensures agrees { (lines : List Line) → Agree lines self.old.events self.old.state → Agree (lines ++ (noted_lines result notes.new.items ++ numbered self.new.events entries.new.items)) self.new.events self.new.state }
+        ensures no_number_is_given_out_twice { (e : Entry) (n : ℕ) → Contains entries.new.items e → born_by e ≡ Some n → is_free self.old.state.processes n ≡ true }
     {
         if self.machine.is_halted() {
             self.event_into(Event::Step, entries);
@@ -145,6 +163,10 @@ impl<K: Kin> KernelOn<K> {
         ensures events { self.new.events ≡ self.old.events + 1 }
         ensures halted { self.old.state.halted ≡ true → (entries.new.items ≡ []) × (self.new.state ≡ self.old.state) }
         ensures regular { IsRegular self.new.state }
+        ensures orderly { IsEvent event → IsOrderly self.old.state → IsOrderly self.new.state }
+        ensures forms { IsEvent event → IsOrderly self.old.state → list_all is_line (numbered self.new.events entries.new.items) ≡ true }
+        ensures agrees { (lines : List Line) → Agree lines self.old.events self.old.state → Agree (lines ++ numbered self.new.events entries.new.items) self.new.events self.new.state }
+        ensures no_number_is_given_out_twice { (e : Entry) (n : ℕ) → Contains entries.new.items e → born_by e ≡ Some n → is_free self.old.state.processes n ≡ true }
         ensures reads { event_changes_one event self.old.state ≡ true → self.new.reads ≤ self.old.reads + 3 }
     {
         self.events += 1;

@@ -1,8 +1,9 @@
 //! One event of the machine. What it shows is added to a list of entries that is empty before, so that
 //! an instruction that shows nothing moves none.
 
-ghost use Rattle.std.specs.Prelude.{◌≡◌, ◌≢◌, ◌+◌, [], ◌<◌, ◌≤◌, ◌^◌, IsSome, Some, option_map, false, true};
+ghost use Rattle.std.specs.Prelude.{◌≡◌, ◌≢◌, ◌+◌, ℕ, [], ◌<◌, ◌≤◌, ◌^◌, IsSome, Some, option_map, false, true};
 ghost use Rattle.posix.specs.declared.call.Call.{Call as CallValue};
+ghost use Rattle.posix.specs.NextPid.{is_free};
 ghost use Rattle.posix.specs.Processes.{Process};
 ghost use Rattle.posix.specs.Choice.{chosen};
 ghost use Rattle.posix.specs.States.{process, current_process, change, is_in, lose_place as losing_place};
@@ -231,6 +232,7 @@ pub fn burst<K: Kin>(
     ensures asked { machine.new.asked ≡ machine.old.asked }
     ensures stale { machine.new.stale ≡ machine.old.stale }
     ensures regular { IsRegular machine.new.state }
+    ensures numbers { (n : ℕ) → is_free machine.new.state.processes n ≡ is_free machine.old.state.processes n }
 {
     let nothing = BurstEnd {
         last: before,

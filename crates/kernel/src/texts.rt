@@ -1,6 +1,8 @@
 //! A run, from two texts to a printed trace.
 
+ghost use Rattle.std.specs.Prelude.{IfOk};
 ghost use Rattle.kernel.specs.Headline.{Headline};
+ghost use Rattle.kernel.specs.Accounts.{Accounts};
 
 use crate::kernel_on::KernelOn;
 use crate::progress::write_trace;
@@ -39,7 +41,8 @@ pub fn run_on<K: Kin, S: Sink>(
     events: &[u8],
     out: &mut S,
 ) -> Result<Summary, RunError>
-    ensures { Headline world.now events.now out.old out.new (S.seen out.old) (S.seen out.new) result }
+    ensures headline { Headline world.now events.now out.old out.new (S.seen out.old) (S.seen out.new) result }
+    ensures accounts { IfOk result (λ summary. Accounts (S.seen out.old) (S.seen out.new) summary) }
 {
     let world = read_world(alloc, world).map_err(|fault| match fault.reason {
         Reason::Memory => RunError::Memory,
@@ -65,7 +68,8 @@ pub fn run<S: Sink>(
     events: &[u8],
     out: &mut S,
 ) -> Result<Summary, RunError>
-    ensures { Headline world.now events.now out.old out.new (S.seen out.old) (S.seen out.new) result }
+    ensures headline { Headline world.now events.now out.old out.new (S.seen out.old) (S.seen out.new) result }
+    ensures accounts { IfOk result (λ summary. Accounts (S.seen out.old) (S.seen out.new) summary) }
 {
     run_on::<ProcTable, S>(alloc, world, events, out)
 }

@@ -1,4 +1,4 @@
--- What a refused call changes.
+-- What the entries of an event tell: what a refused call changes, and that who is born has a free number.
 use Rattle.std.proofs.Common.{◌≡◌, ◌≢◌, ℕ, zero, suc, Bool, true, false, cond, not, ◌&&◌, refl, ap, sym, ◌∙◌, arith, subst, List, [], ◌∷◌, ◌++◌, Option, Some, None, option_and_then, ◌==◌, Contains, pos, negsuc, ℤ, Result, Ok, Err, slice_get, ◌||◌}
 use Rattle.std.specs.Int.{cast_unsigned, w64}
 use Rattle.std.specs.List.{AllByRecursion}
@@ -59,7 +59,10 @@ use Rattle.posix.proofs.CountLemmas.{next_halted}
 use Rattle.posix.proofs.WakeLemmas.{next_awake}
 use Rattle.posix.proofs.TouchLemmas.{Unseen}
 use Rattle.posix.proofs.UnseenLemmas.{settle_unseen}
-use Rattle.laws.proofs.RefusalTerminals.{Terms, Explained, Any, NotInterrupted, ExplainedBy, ExplainedIf, explained_if, explained_either, explained_refused, explained_setctty, explained_tcgetpgrp, explained_tcsetpgrp, explained_settostop, explained_read, explained_write}
+use Rattle.posix.specs.NextPid.{is_free}
+use Rattle.posix.proofs.NextLemmas.{new_number}
+use Rattle.laws.specs.Lives.{is_fork, born_by}
+use Rattle.laws.proofs.RefusalTerminals.{Terms, GivesFree, gives_other, Explained, Any, NotInterrupted, ExplainedBy, ExplainedIf, explained_if, explained_either, explained_refused, explained_setctty, explained_tcgetpgrp, explained_tcsetpgrp, explained_settostop, explained_read, explained_write}
 
 -- ---- calls that no signal enters into
 
@@ -79,15 +82,15 @@ explained_wait C s me =
     (explained_refused C s me.pid Waitpid EINVAL)
 
 -- a fork
-explained_fork : (C : Terms) (granted : Bool) → (granted ≡ false → C.wanting) → (s : State) (me : Process) (n : Option ℕ) → ExplainedIf C s me.pid (fork_as granted s me n)
+explained_fork : (C : Terms) (granted : Bool) → (granted ≡ false → C.wanting) → (s : State) (me : Process) (n : Option ℕ) → next_pid s ≡ n → ExplainedIf C s me.pid (fork_as granted s me n)
 unfolding fork_as
-explained_fork C granted want s me None = explained_refused C s me.pid Fork EAGAIN
-explained_fork C true want s me (Some n) = (tt, tt)
-explained_fork C false want s me (Some n) = ((want refl, refl, refl), tt)
+explained_fork C granted want s me None is = explained_refused C s me.pid Fork EAGAIN
+explained_fork C true want s me (Some n) is = ((new_number s n is).free, tt)
+explained_fork C false want s me (Some n) is = ((want refl, refl, refl), tt)
 
 -- a reply that is a refusal changes nothing else
 abbrev IsExplained : Reply → Type 1
-IsExplained reply = (C : Terms) (s : State) (p : ℕ) (call : Call) → ExplainedIf C s p (answers s p call reply)
+IsExplained reply = (C : Terms) (s : State) (p : ℕ) (call : Call) → is_fork call ≡ false → ExplainedIf C s p (answers s p call reply)
 
 -- both sides of a test
 explained_replies : (b : Bool) (x y : Reply) → IsExplained x → IsExplained y → IsExplained (cond b x y)
@@ -96,8 +99,8 @@ explained_replies false x y h k = k
 
 -- new ids, or a refusal
 explained_ids : (c : Result Credentials Errno) → IsExplained (set_credentials c)
-explained_ids (Ok c) = λ C s p call. (tt, tt)
-explained_ids (Err why) = λ C s p call. explained_refused C s p call why
+explained_ids (Ok c) = λ C s p call other. (gives_other s call _ other, tt)
+explained_ids (Err why) = λ C s p call other. explained_refused C s p call why
 
 -- a signal that is sent, by whom it finds
 explained_send : (C : Terms) (s : State) (me : Process) (target : Target) (sig : Option ℕ) (what : Sending) → ExplainedIf C s me.pid (send_with s me target sig what)
@@ -129,17 +132,17 @@ unfolding exec
 explained_exec C s me = explained_exec_of C s me (argument me 1)
 
 -- what a call tells of a process, if it is there
-explained_tells : (C : Terms) (s : State) (me : Process) (call : Call) (field : Process → ℕ) (o : Option Process) → ExplainedIf C s me.pid (tells s me call field o)
-explained_tells C s me call field None = explained_refused C s me.pid call ESRCH
-explained_tells C s me call field (Some r) = (tt, tt)
+explained_tells : (C : Terms) (s : State) (me : Process) (call : Call) (field : Process → ℕ) (o : Option Process) → is_fork call ≡ false → ExplainedIf C s me.pid (tells s me call field o)
+explained_tells C s me call field None other = explained_refused C s me.pid call ESRCH
+explained_tells C s me call field (Some r) other = (gives_other s call (field r) other, tt)
 
 explained_getpgid : (C : Terms) (s : State) (me : Process) → ExplainedIf C s me.pid (getpgid s me)
 unfolding getpgid
-explained_getpgid C s me = explained_tells C s me Getpgid (λ r. r.group) (named me (argument me 1) s.processes)
+explained_getpgid C s me = explained_tells C s me Getpgid (λ r. r.group) (named me (argument me 1) s.processes) refl
 
 explained_getsid : (C : Terms) (s : State) (me : Process) → ExplainedIf C s me.pid (getsid s me)
 unfolding getsid
-explained_getsid C s me = explained_tells C s me Getsid (λ r. r.session) (named me (argument me 1) s.processes)
+explained_getsid C s me = explained_tells C s me Getsid (λ r. r.session) (named me (argument me 1) s.processes) refl
 
 -- a process moves to another group, or doesn't
 explained_move : (C : Terms) (s : State) (me : Process) (target : Option Process) (what : Result ℕ Errno) → ExplainedIf C s me.pid (setpgid_with s me target what)
@@ -161,16 +164,16 @@ explained_setsid C s me = explained_if C s me.pid (me.group == me.pid || is_grou
 
 -- a new action, or a refusal
 explained_action_with : (old : Action) (g : Result Signals Errno) → IsExplained (sigaction_with old g)
-explained_action_with old (Ok g) = λ C s p call. (tt, tt)
-explained_action_with old (Err why) = λ C s p call. explained_refused C s p call why
+explained_action_with old (Ok g) = λ C s p call other. (gives_other s call _ other, tt)
+explained_action_with old (Err why) = λ C s p call other. explained_refused C s p call why
 
 -- a question for an action or a new one, by the signal
 explained_action_of : (me : Process) (n : Option ℕ) → IsExplained (sigaction_of me n)
-explained_action_of me None = λ C s p call. explained_refused C s p call EINVAL
+explained_action_of me None = λ C s p call other. explained_refused C s p call EINVAL
 explained_action_of me (Some n) =
-    explained_replies (is_question (argument me 2)) _ _ (λ C s p call. (tt, tt))
+    explained_replies (is_question (argument me 2)) _ _ (λ C s p call other. (gives_other s call _ other, tt))
     (explained_replies (are_flags (cast_unsigned w64 (argument me 4))) _ _
-    (explained_action_with (action me.signals n) (set_action n (action_in me) me.signals)) (λ C s p call. explained_refused C s p call EINVAL))
+    (explained_action_with (action me.signals n) (set_action n (action_in me) me.signals)) (λ C s p call other. explained_refused C s p call EINVAL))
 
 -- a question for an action or a new one
 explained_action : (me : Process) → IsExplained (sigaction me)
@@ -179,8 +182,8 @@ explained_action me = explained_action_of me (signal_in (argument me 1))
 
 -- a new mask, or a refusal
 explained_mask_with : (me : Process) (what : Option How) → IsExplained (sigprocmask_with me what)
-explained_mask_with me None = λ C s p call. explained_refused C s p call EINVAL
-explained_mask_with me (Some what) = λ C s p call. (tt, tt)
+explained_mask_with me None = λ C s p call other. explained_refused C s p call EINVAL
+explained_mask_with me (Some what) = λ C s p call other. (gives_other s call _ other, tt)
 
 -- a question for the mask or a new one
 explained_mask : (me : Process) → IsExplained (sigprocmask me)
@@ -190,12 +193,12 @@ explained_mask me = explained_mask_with me (how_in (argument me 1))
 -- a question for what is pending
 explained_pending : (me : Process) → IsExplained (sigpending me)
 unfolding sigpending
-explained_pending me = λ C s p call. (tt, tt)
+explained_pending me = λ C s p call other. (gives_other s call _ other, tt)
 
 -- an alarm, by the ticks that are asked for
 explained_alarm_in : (now : ℕ) (me : Process) (n : Option ℕ) → IsExplained (alarm_in now me n)
-explained_alarm_in now me None = λ C s p call. explained_refused C s p call EINVAL
-explained_alarm_in now me (Some n) = λ C s p call. (tt, tt)
+explained_alarm_in now me None = λ C s p call other. explained_refused C s p call EINVAL
+explained_alarm_in now me (Some n) = λ C s p call other. (gives_other s call _ other, tt)
 
 -- an alarm
 explained_alarm : (s : State) (me : Process) → IsExplained (alarm s me)
@@ -305,7 +308,7 @@ none_return s r = none_return_to s r (newest_frame r.signals)
 explained_attempt : (granted : Bool) (s : State) (me : Process) (call : Call) → ExplainedIf (NotInterrupted granted) s me.pid (attempt granted s me call)
 unfolding attempt
 explained_attempt granted s me Exit = none_end s me (exited (argument me 1)) granted s (end_process s me (exited (argument me 1))).state me.pid
-explained_attempt granted s me Fork = explained_fork (NotInterrupted granted) granted (λ e. e) s me (next_pid s)
+explained_attempt granted s me Fork = explained_fork (NotInterrupted granted) granted (λ e. e) s me (next_pid s) refl
 explained_attempt granted s me Waitpid = explained_wait (NotInterrupted granted) s me
 explained_attempt granted s me Pause = tt
 explained_attempt granted s me SchedYield = (tt, tt)
@@ -315,17 +318,17 @@ explained_attempt granted s me Getuid = (tt, tt)
 explained_attempt granted s me Geteuid = (tt, tt)
 explained_attempt granted s me Getgid = (tt, tt)
 explained_attempt granted s me Getegid = (tt, tt)
-explained_attempt granted s me Setuid = explained_ids (setuid me.credentials (argument me 1)) (NotInterrupted granted) s me.pid Setuid
-explained_attempt granted s me Seteuid = explained_ids (seteuid me.credentials (argument me 1)) (NotInterrupted granted) s me.pid Seteuid
-explained_attempt granted s me Setgid = explained_ids (setgid me.credentials (argument me 1)) (NotInterrupted granted) s me.pid Setgid
-explained_attempt granted s me Setegid = explained_ids (setegid me.credentials (argument me 1)) (NotInterrupted granted) s me.pid Setegid
+explained_attempt granted s me Setuid = explained_ids (setuid me.credentials (argument me 1)) (NotInterrupted granted) s me.pid Setuid refl
+explained_attempt granted s me Seteuid = explained_ids (seteuid me.credentials (argument me 1)) (NotInterrupted granted) s me.pid Seteuid refl
+explained_attempt granted s me Setgid = explained_ids (setgid me.credentials (argument me 1)) (NotInterrupted granted) s me.pid Setgid refl
+explained_attempt granted s me Setegid = explained_ids (setegid me.credentials (argument me 1)) (NotInterrupted granted) s me.pid Setegid refl
 explained_attempt granted s me Kill = explained_kill (NotInterrupted granted) s me
-explained_attempt granted s me Sigaction = explained_action me (NotInterrupted granted) s me.pid Sigaction
-explained_attempt granted s me Sigprocmask = explained_mask me (NotInterrupted granted) s me.pid Sigprocmask
-explained_attempt granted s me Sigpending = explained_pending me (NotInterrupted granted) s me.pid Sigpending
+explained_attempt granted s me Sigaction = explained_action me (NotInterrupted granted) s me.pid Sigaction refl
+explained_attempt granted s me Sigprocmask = explained_mask me (NotInterrupted granted) s me.pid Sigprocmask refl
+explained_attempt granted s me Sigpending = explained_pending me (NotInterrupted granted) s me.pid Sigpending refl
 explained_attempt granted s me Sigsuspend = tt
 explained_attempt granted s me Sigreturn = none_return s me granted s (return_from_handler s me).state me.pid
-explained_attempt granted s me Alarm = explained_alarm s me (NotInterrupted granted) s me.pid Alarm
+explained_attempt granted s me Alarm = explained_alarm s me (NotInterrupted granted) s me.pid Alarm refl
 explained_attempt granted s me Exec = explained_exec (NotInterrupted granted) s me
 explained_attempt granted s me Getpgid = explained_getpgid (NotInterrupted granted) s me
 explained_attempt granted s me Getsid = explained_getsid (NotInterrupted granted) s me
@@ -415,7 +418,7 @@ explained_act granted s r =
 -- the same of p by the name that the entry gives; and p is current
 abbrev Told : Bool → State → State → Entry → Type 0
 Told granted s new (Noted q value) = Unit {0}
-Told granted s new (Called q call (pos n)) = Unit {0}
+Told granted s new (Called q call (pos n)) = GivesFree s call n
 Told granted s new (Called q call (negsuc n)) = n ≢ 3 → (current s ≡ Some q) × (new ≡ finish s q ((0, negsuc n) ∷ []))
 Told granted s new (Moved q call bytes) = Unit {0}
 Told granted s new (Reported q child status) = Unit {0}
@@ -430,7 +433,7 @@ Told granted s new Halted = Unit {0}
 -- an entry of the current process
 told : (granted : Bool) (s : State) (p : ℕ) (new : State) (e : Entry) → current s ≡ Some p → Explained (NotInterrupted granted) s p new e → Told granted s new e
 told granted s p new (Noted q value) first h = tt
-told granted s p new (Called q call (pos n)) first h = tt
+told granted s p new (Called q call (pos n)) first h = h
 told granted s p new (Called q call (negsuc n)) first h = λ other. (first ∙ ap Some (sym (h other).0), (h other).1 ∙ ap (λ m. finish s m ((0, negsuc n) ∷ [])) (sym (h other).0))
 told granted s p new (Moved q call bytes) first h = tt
 told granted s p new (Reported q child status) first h = tt
@@ -503,6 +506,15 @@ unsettled_step old new event entries h e c =
 -- where memory was wanting, it wasn't granted
 pub memory_refused : (granted : Bool) (s : State) (event : Event) (p : ℕ) (call : Call) → Contains (next granted s event).entries (NoMemory p call) → granted ≡ false
 memory_refused granted s event p call c = (unsettled granted s event (NoMemory p call) c).tells.0
+
+-- The number of each birth is borne by no record before it, as that of a process, a group or a session.
+pub birth_free : (old new : State) (event : Event) (entries : List Entry) → IsStep old event entries new → (e : Entry) (n : ℕ) → Contains entries e → born_by e ≡ Some n → is_free old.processes n ≡ true
+birth_free old new event entries h e n c born = let u = unsettled_step old new event entries h e c in by u.mid e u.tells born
+  where
+    by : (mid : State) (e : Entry) → Told h.granted old mid e → born_by e ≡ Some n → is_free old.processes n ≡ true
+    by mid (Called q Fork (pos zero)) t b = absurd (cc)
+    by mid (Called q Fork (pos (suc m))) t b = let same : suc m ≡ n = cc in subst (λ k. is_free old.processes k ≡ true) same t
+    by mid e t b = absurd (cc)
 
 -- ---- nobody wakes by a refusal
 

@@ -1,14 +1,15 @@
--- What a refused call on the terminal changes.
+-- What the entries of a call tell: what a refused one changes, and that who is born has a free number; calls on the terminal.
 use Rattle.std.proofs.Common.{◌≡◌, ◌≢◌, ℕ, Bool, true, false, cond, not, refl, ◌==◌, List, [], ◌∷◌, take, Option, Some, None, ℤ, pos, negsuc, Result, Ok, Err, slice_get, ◌||◌}
 use Rattle.std.specs.List.{AllByRecursion}
 use Rattle.posix.specs.declared.call.Call.{Call}
-use Rattle.posix.specs.declared.call.Call.TheVariants.{Setctty, Tcgetpgrp, Tcsetpgrp, Settostop, Read, Write}
+use Rattle.posix.specs.declared.call.Call.TheVariants.{Fork, Setctty, Tcgetpgrp, Tcsetpgrp, Settostop, Read, Write}
 use Rattle.posix.specs.declared.errno.Errno.{Errno}
 use Rattle.posix.specs.declared.errno.Errno.TheVariants.{EPERM, ENOENT, ESRCH, EINTR, EIO, ECHILD, EAGAIN, EACCES, EFAULT, EINVAL, ENOTTY}
 use Rattle.posix.specs.declared.entry.Entry.{Entry}
 use Rattle.posix.specs.declared.entry.Entry.TheVariants.{Noted, Called, Moved, Reported, NoMemory, Handled, Discarded, Stopped, Returned, Ended, Halted}
 use Rattle.posix.specs.declared.span.Span.{Span}
 use Rattle.posix.specs.SignalNumbers.{TTIN, TTOU}
+use Rattle.posix.specs.NextPid.{is_free}
 use Rattle.posix.specs.Processes.{Process, argument}
 use Rattle.posix.specs.States.{State}
 use Rattle.posix.specs.Consoles.{Console}
@@ -16,19 +17,31 @@ use Rattle.posix.specs.Transfers.{span_in, bytes_in}
 use Rattle.posix.specs.Outcomes.{Outcome, Attempted, Done, Block, Again, finish, refusal, refused}
 use Rattle.posix.specs.Groups.{is_orphaned}
 use Rattle.posix.specs.GroupCalls.{is_group_of}
+use Rattle.laws.specs.Lives.{is_fork}
 use Rattle.posix.specs.Terminals.{terminal, is_in_background, spurns, if_allowed, place_named, may_acquire, setctty_of, setctty_at, setctty, tcgetpgrp_on, tcgetpgrp, put_foreground, tcsetpgrp_on, tcsetpgrp, settostop_on, settostop, moved, read_from, read_in, read_on, read, write_in, write_on, write}
 
--- ---- what entries tell of a refusal
+-- ---- what entries tell of the states
 
 -- which negative results count, and what holds where there was no memory
 pub record Terms : Type 1 where
   pub counts : ℕ → Type 0
   pub wanting : Type 0
 
--- where the entry tells that a call of p was refused, by a result that counts, this is all that changed
+-- a fork gives a number that is free in the state before
+abbrev pub GivesFree : State → Call → ℕ → Type 0
+GivesFree s Fork n = is_free s.processes n ≡ true
+GivesFree s _ n = Unit {0}
+
+-- of other calls nothing is asked
+pub gives_other : (s : State) (call : Call) (n : ℕ) → is_fork call ≡ false → GivesFree s call n
+gives_other s Fork n other = absurd (cc)
+gives_other s call n other = tt
+
+-- where the entry tells that a call of p was refused, by a result that counts, this is all that changed; and who is born has
+-- a free number
 abbrev pub Explained : Terms → State → ℕ → State → Entry → Type 0
 Explained C s p new (Noted q value) = Unit {0}
-Explained C s p new (Called q call (pos n)) = Unit {0}
+Explained C s p new (Called q call (pos n)) = GivesFree s call n
 Explained C s p new (Called q call (negsuc n)) = C.counts n → (q ≡ p) × (new ≡ finish s p ((0, negsuc n) ∷ []))
 Explained C s p new (Moved q call bytes) = Unit {0}
 Explained C s p new (Reported q child status) = Unit {0}
@@ -131,13 +144,13 @@ unfolding settostop
 explained_settostop C s me = explained_settostop_on C s me (terminal s me)
 
 -- bytes that are moved
-explained_moved : (C : Terms) (s t : State) (p : ℕ) (call : Call) (bytes : List ℕ) → ExplainedIf C s p (moved t p call bytes)
-explained_moved C s t p call [] = (tt, tt)
-explained_moved C s t p call (b ∷ bs) = (tt, tt)
+explained_moved : (C : Terms) (s t : State) (p : ℕ) (call : Call) (bytes : List ℕ) → is_fork call ≡ false → ExplainedIf C s p (moved t p call bytes)
+explained_moved C s t p call [] other = (gives_other s call 0 other, tt)
+explained_moved C s t p call (b ∷ bs) other = (tt, tt)
 
 explained_read_from : (C : Terms) (s : State) (me : Process) (span : Span) (lines : List (List ℕ)) → ExplainedIf C s me.pid (read_from s me span lines)
 explained_read_from C s me span [] = tt
-explained_read_from C s me span (line ∷ rest) = explained_moved C s _ me.pid Read (take span.count line)
+explained_read_from C s me span (line ∷ rest) = explained_moved C s _ me.pid Read (take span.count line) refl
 
 explained_read_in : (C : Terms) (s : State) (me : Process) (c : Console) (span : Result Span Errno) → ExplainedIf C s me.pid (read_in s me c span)
 explained_read_in C s me c (Err why) = explained_refused C s me.pid Read why
@@ -157,7 +170,7 @@ explained_read C s me = explained_read_on C s me (terminal s me)
 explained_write_in : (C : Terms) (s : State) (me : Process) (c : Console) (span : Result Span Errno) → ExplainedIf C s me.pid (write_in s me c span)
 explained_write_in C s me c (Err why) = explained_refused C s me.pid Write why
 explained_write_in C s me c (Ok span) =
-    let done = explained_moved C s s me.pid Write (bytes_in span me.cpu.memory) in
+    let done = explained_moved C s s me.pid Write (bytes_in span me.cpu.memory) refl in
     explained_if C s me.pid c.tostop _ _ (explained_allowed C s me Write c _ done) done
 
 explained_write_on : (C : Terms) (s : State) (me : Process) (c : Option Console) → ExplainedIf C s me.pid (write_on s me c)

@@ -40,14 +40,14 @@ use Rattle.posix.specs.Settle.{can_act, give_places, clear_foregrounds, settle}
 use Rattle.posix.specs.Step.{set_cpu, enter, after_trap, out_of_call, act_in, act, step, tick, key, happens, next}
 use Rattle.posix.specs.Printing.{hex, print}
 
-abbrev program : Option ℕ → Option ℕ → List Instr → Program
+abbrev pub program : Option ℕ → Option ℕ → List Instr → Program
 program setuid setgid instructions = record { setuid = setuid; setgid = setgid; instructions = instructions }
 
-abbrev world : ℕ → ℕ → List Program → World
+abbrev pub world : ℕ → ℕ → List Program → World
 world pidmax consoles programs = record { pidmax = pidmax; consoles = consoles; programs = programs }
 
 -- the lines of a run in which the k-th event, and those after it, are granted memory or not
-abbrev trace_from : ℕ → State → (ℕ → Bool) → List Event → List Line
+abbrev pub trace_from : ℕ → State → (ℕ → Bool) → List Event → List Line
 trace_from k s granted [] = []
 trace_from k s granted (event ∷ events) =
     let done = next (granted k) s event in numbered k done.entries ++ trace_from (k + 1) done.state granted events
@@ -57,11 +57,11 @@ abbrev trace : World → List Event → List Line
 trace w events = trace_from 1 (boot w) (λ k. true) events
 
 -- opens every definition of an operation
-unfoldable everything : Unit {0}
+unfoldable pub everything : Unit {0}
 unfolding nothing_pending default_actions zero_registers zero_memory exec_one digits lookup changed inserted removed children_in adopted members_in is_free next_free is_in without finished written setuid seteuid setgid setegid without_stops generated effect_of signalled noticed_of_change told_of_change stopped_by resumed signalled_all with_number is_anchor is_orphaned group_numbers has_stopped is_newly_orphaned newly_orphaned least_ready chosen taken entered at_handler handles returned set_action set_mask child_of fork_as ended made_zombie noticed notice_of_end zombies_of tell_of_all signalled_members roused_all hang_up end_process report_of report news_told wait handle stop_process take_out deliver fault return_from_handler targets permitted sending sent_among sent kill give_credentials give_signals sigaction sigprocmask set_of sigpending attempt attempt_again can_act give_places clear_foregrounds settle set_cpu enter after_trap out_of_call act_in act step with_alarm rung ring_all alarm executed exec is_group_of getpgid getsid in_group setpgid in_session setsid waiting has_room finish_line erased with_byte edit key_signal flushed keyed line_taken acquired released with_foreground with_tostop console_of changed_console stored bytes_in setctty tcgetpgrp tcsetpgrp settostop with_bytes read write tick key happens next hex
 everything = tt
 
-abbrev note_and_exit : World
+abbrev pub note_and_exit : World
 note_and_exit = world 40 1 (program None None (Set 1 (pos 7) ∷ Note 1 ∷ Sys Exit ∷ []) ∷ [])
 
 row_note_and_exit : trace note_and_exit (replicate 3 Step)
@@ -117,7 +117,7 @@ row_fork_bomb : trace (world 8 1 (program None None (Sys Fork ∷ Jump 16 ∷ []
 unfolding everything
 row_fork_bomb = refl
 
-abbrev two_forks : World
+abbrev pub two_forks : World
 two_forks = world 40 1 (program None None (Sys Fork ∷ Sys Fork ∷ []) ∷ [])
 
 row_refused_fork : trace_from 1 (boot two_forks) (λ k. if k == 1 then false else true) (replicate 2 Step)
@@ -167,7 +167,7 @@ unfolding everything
 row_alarm = refl
 
 -- process 1 stops its child, sends it TERM and then this signal, and waits
-abbrev stops_its_child : ℕ → World
+abbrev pub stops_its_child : ℕ → World
 stops_its_child n = world 40 1 (program None None (Sys Fork ∷ JumpIf Zero 0 33 ∷ Set 1 (pos 2) ∷ Set 2 (pos 19) ∷ Sys Kill ∷ Set 2 (pos 2) ∷ Sys Waitpid ∷ Set 1 (pos 2) ∷ Set 2 (pos 15) ∷ Sys Kill ∷ Set 2 (pos n) ∷ Sys Kill ∷ Set 2 (pos 8) ∷ Sys Waitpid ∷ Set 1 (pos 2) ∷ Set 2 (pos 0) ∷ Sys Waitpid ∷ Jump 33 ∷ []) ∷ [])
 
 row_stop_and_continue : trace (stops_its_child 18) (replicate 21 Step)

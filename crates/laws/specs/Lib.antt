@@ -2,3 +2,8 @@ pub mod Stamps
 pub mod Turns
 pub mod Memory
 pub mod Background
+pub mod TraceLines
+pub mod Lives
+pub mod Keeping
+pub mod Kinds
+pub mod Agree

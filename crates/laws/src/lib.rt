@@ -1,7 +1,7 @@
 //! Laws of the definitions, each the contract of a function that does nothing.
 #![tactic(auto)]
 
-ghost use Rattle.std.specs.Prelude.{ℕ, ◌+◌, ◌≤◌, ◌≡◌, ◌≢◌, Bool, true, false, List, Option, [], ◌∷◌, Contains, Some, None, negsuc, IsSomeAnd};
+ghost use Rattle.std.specs.Prelude.{length, ◌++◌, ◌<◌, ℕ, ◌+◌, ◌≤◌, ◌≡◌, ◌≢◌, Bool, true, false, List, Option, [], ◌∷◌, Contains, Some, None, negsuc, IsSomeAnd};
 ghost use Rattle.posix.specs.declared.call.Call.{Call};
 ghost use Rattle.posix.specs.declared.errno.Errno.TheVariants.{EAGAIN};
 ghost use Rattle.posix.specs.declared.event.Event.{Event};
@@ -21,6 +21,19 @@ ghost use Rattle.posix.specs.Entries.{Line};
 ghost use Rattle.posix.specs.Runs.{RunsFrom, Runs};
 ghost use Rattle.posix.specs.Regular.{IsRegular, IsDistinct};
 ghost use Rattle.laws.specs.Stamps.{Stamps, without_stamp, IsRisingOrder, HasLeastStamp, Stamping, IsStamped, first_stamping, Move, Leads, stamping_after};
+ghost use Rattle.posix.specs.Processes.{is_zombie};
+ghost use Rattle.posix.specs.NextPid.{is_free};
+ghost use Rattle.posix.specs.Entries.{numbered, reported};
+ghost use Rattle.std.specs.List.{AllByRecursion};
+ghost use Rattle.posix.specs.declared.process.Life.TheVariants.{Zombie};
+ghost use Rattle.std.specs.Prelude.{count_by};
+ghost use Rattle.std.specs.List.{list_any};
+ghost use Rattle.posix.specs.declared.entry.Entry.TheVariants.{Reported};
+ghost use Rattle.laws.specs.TraceLines.{is_end_word, is_stopped_word, is_continued_word};
+ghost use Rattle.laws.specs.Lives.{Laws, laws, IsOfEnd, born_by, begins, ends, stops, reports, is_change_word, process_of, is_halt, ends_first, last_line, is_living, parent_in};
+ghost use Rattle.laws.specs.Keeping.{Died, kept_of};
+ghost use Rattle.laws.specs.Kinds.{IsEvent, IsWorld};
+ghost use Rattle.laws.specs.Agree.{Agree, IsOrderly, IsTraceOf, LivesAndNews, is_birth, count_living, count_zombies};
 ghost use Rattle.posix.specs.Settle.{IsSettled, can_act};
 ghost use Rattle.laws.specs.Memory.{EntriesGrantAll, LinesGrantAll};
 ghost use Rattle.laws.specs.Background.{HasSignalledItsGroup};
@@ -139,4 +152,72 @@ pub fn determined()
         → LinesGrantAll lines → LinesGrantAll others → (lines ≡ others) × (last ≡ other) }
     ensures runs { (world : World) (last other : State) (events : List Event) (lines others : List Line) → Runs world events lines last → Runs world events others other
         → LinesGrantAll lines → LinesGrantAll others → (lines ≡ others) × (last ≡ other) }
+{}
+
+/// What a trace keeps, in words of its lines: each line of each run keeps it, as
+/// [`lines_tell_of_states`] says. `before`, `between` and `after` are the other lines of the trace, `c` is a
+/// process, and a life begins with the line of a fork that gives the number, or with the trace for process 1.
+///
+/// No end is reported twice: between two reports of an end of `c` it is born again. A report of an end comes
+/// from the parent of that moment, with the status of the end, of which no report came before. Neither a
+/// stop nor a continue is reported twice, nor a stop of whose continue a report came: between the two `c`
+/// stops again. After its end `c` has no line until it is born again, and is born again only after its end.
+/// `halt` comes right after the end of process 1, nothing else does, and nothing follows it. The numbers of
+/// events don't fall.
+pub fn traces_keep_laws()
+    ensures no_end_is_reported_twice { (before between after : List Line) (a b : Line) (c : ℕ) → Laws (before ++ a ∷ between ++ b ∷ after)
+        → reports c is_end_word a ≡ true → reports c is_end_word b ≡ true → list_any (begins c) between ≡ true }
+    ensures ends_are_reported_to_the_parent { (before after : List Line) (l : Line) (p c w : ℕ) → Laws (before ++ l ∷ after)
+        → l.entry ≡ Reported p c w → is_end_word w ≡ true → IsOfEnd before p c w }
+    ensures no_stop_is_reported_twice { (before between after : List Line) (a b : Line) (c : ℕ) → Laws (before ++ a ∷ between ++ b ∷ after)
+        → reports c is_change_word a ≡ true → reports c is_stopped_word b ≡ true → list_any (stops c) between ≡ true }
+    ensures no_continue_is_reported_twice { (before between after : List Line) (a b : Line) (c : ℕ) → Laws (before ++ a ∷ between ++ b ∷ after)
+        → reports c is_continued_word a ≡ true → reports c is_continued_word b ≡ true → list_any (stops c) between ≡ true }
+    ensures nothing_comes_after_an_end { (before between after : List Line) (a b : Line) (c : ℕ) → Laws (before ++ a ∷ between ++ b ∷ after)
+        → ends c a ≡ true → process_of b.entry ≡ Some c → list_any (begins c) between ≡ true }
+    ensures lives_are_apart { (before between after : List Line) (a b : Line) (c : ℕ) → Laws (before ++ a ∷ between ++ b ∷ after)
+        → begins c a ≡ true → begins c b ≡ true → list_any (ends c) between ≡ true }
+    ensures halt_comes_after_the_end_of_process_1 { (before after : List Line) (l : Line) → Laws (before ++ l ∷ after)
+        → is_halt l.entry ≡ true → (ends_first (last_line before) ≡ true) × (after ≡ []) }
+    ensures after_the_end_of_process_1_comes_halt { (before after : List Line) (a b : Line) → Laws (before ++ a ∷ b ∷ after)
+        → ends 1 a ≡ true → is_halt b.entry ≡ true }
+    ensures event_numbers_never_fall { (before between after : List Line) (a b : Line) → Laws (before ++ a ∷ between ++ b ∷ after) → a.event ≤ b.event }
+    ensures line_by_line { (before : List Line) (l : Line) → Laws before → laws before l ≡ true → Laws (before ++ l ∷ []) }
+    ensures of_each_line { (before after : List Line) (l : Line) → Laws (before ++ l ∷ after) → Laws before × (laws before l ≡ true) }
+{}
+
+/// The lines of a run tell of its state.
+///
+/// Some lines are the trace of a state, after so many events, where each has a form, with all numbers within
+/// their ranges, and they agree with it. Lines agree with a state where they keep the laws of a trace; where
+/// the living are the lives that have not ended, each with its parent; where a zombie is an ended life whose
+/// end no line reports, with its status and its parent; where news are of the last stop, of which no report
+/// came, nor of its continue; where births are the living, the zombies, the ends that were reported and the
+/// dropped; and where the state is halted exactly where the last line is `halt`. A regular state is orderly
+/// where who has a place while it is stopped is to be killed, and all parts are of their kinds.
+///
+/// The start is orderly, and no lines are its trace. An event from a regular and orderly state leads to an
+/// orderly one, and the lines so far with those of the event are the trace of that. Whoever is born has a
+/// number that no process, process group or session had in the state before. So the lines of a run are the
+/// trace of its last state, and in any world they agree with it.
+pub fn lines_tell_of_states()
+    ensures start { (w : World) → IsWorld w → IsOrderly (boot w) }
+    ensures begins { (w : World) → IsTraceOf [] 0 (boot w) }
+    ensures orderly { (old new : State) (event : Event) (entries : List Entry) → IsStep old event entries new → IsEvent event → IsRegular old → IsOrderly old → IsOrderly new }
+    ensures step { (old new : State) (event : Event) (entries : List Entry) → IsStep old event entries new → IsEvent event → IsRegular old → IsOrderly old
+        → (lines : List Line) (k : ℕ) → k < 1000000000000 → IsTraceOf lines k old → IsTraceOf (lines ++ numbered (k + 1) entries) (k + 1) new }
+    ensures no_number_is_given_out_twice { (old new : State) (event : Event) (entries : List Entry) → IsStep old event entries new
+        → (e : Entry) (n : ℕ) → Contains entries e → born_by e ≡ Some n → is_free old.processes n ≡ true }
+    ensures runs { (w : World) (events : List Event) (lines : List Line) (last : State) → 1 ≤ w.pidmax → IsWorld w → AllByRecursion IsEvent events
+        → length events ≤ 1000000000000 → Runs w events lines last → IsTraceOf lines (length events) last }
+    ensures agrees { (w : World) (events : List Event) (lines : List Line) (last : State) → 1 ≤ w.pidmax → Runs w events lines last → Agree lines (length events) last }
+    ensures lawful { (lines : List Line) (k : ℕ) (s : State) → Agree lines k s → Laws lines }
+    ensures births_are_accounted_for { (lines : List Line) (k : ℕ) (s : State) → Agree lines k s
+        → (s.births ≡ 1 + count_by is_birth lines) × (s.births ≡ count_living s + count_zombies s + reported lines + s.dropped) }
+    ensures living_are_open_lives { (lines : List Line) (k : ℕ) (s : State) → Agree lines k s → (p : ℕ)
+        → ((r : Process) → process s p ≡ Some r → is_zombie r.life ≡ false → (is_living lines p ≡ true) × (parent_in lines p ≡ Some r.parent))
+        × (is_living lines p ≡ true → IsSomeAnd (process s p) (λ r. is_zombie r.life ≡ false)) }
+    ensures zombies_are_ended_lives { (lines : List Line) (k : ℕ) (s : State) → Agree lines k s → (p w : ℕ) (r : Process) → process s p ≡ Some r → r.life ≡ Zombie w
+        → kept_of lines p ≡ Died (record { parent = r.parent; status = w; reported = false }) }
+    ensures lives_and_news { (lines : List Line) (k : ℕ) (s : State) → Agree lines k s → LivesAndNews s }
 {}

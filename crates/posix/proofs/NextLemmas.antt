@@ -45,10 +45,11 @@ free_group n rs e p r found same =
     let is : (r.group == n) ≡ true = eq-eqb r.group n same in
     absurd (grind (arith, no, is))
 
--- a number from 1 up to pidmax that nobody has, as its own or as its group's
+-- a number from 1 up to pidmax that is free: nobody has it, as its own or as its group's
 pub record IsNew (rs : List Process) (pidmax n : ℕ) : Type 0 where
   pub least : 1 ≤ n
   pub greatest : n ≤ pidmax
+  pub free : is_free rs n ≡ true
   pub fresh : lookup n rs ≡ None
   pub groupless : (p : ℕ) (r : Process) → lookup p rs ≡ Some r → r.group ≢ n
 
@@ -56,4 +57,4 @@ pub record IsNew (rs : List Process) (pidmax n : ℕ) : Type 0 where
 pub new_number : (s : State) (n : ℕ) → next_pid s ≡ Some n → IsNew s.processes s.world.pidmax n
 new_number s n e =
     let f = next_found (is_free s.processes) s.last_pid s.world.pidmax n e in
-    record { least = f.least; greatest = f.greatest; fresh = free_none n s.processes f.free; groupless = free_group n s.processes f.free }
+    record { least = f.least; greatest = f.greatest; free = f.free; fresh = free_none n s.processes f.free; groupless = free_group n s.processes f.free }

@@ -63,6 +63,26 @@ in_found options (x ∷ xs) up o child e named =
       | Some r ↦ λ t k. record { what = r; found = find_looked (reports options) (x ∷ xs) up r t; says = k }
     ] refl e
 
+-- a child of the caller that reports this
+pub record IsReporting (rs : List Process) (options caller child : ℕ) (o : Report) : Type 0 where
+  pub what : Process
+  pub found : lookup child rs ≡ Some what
+  pub parent : what.parent ≡ caller
+  pub says : report_of options what ≡ o
+
+-- what a wait finds a child reports
+pub reporting : (rs : List Process) → IsRising rs → (caller group : ℕ) (choice : Target) (options : ℕ) (o : Report) (child : ℕ)
+    → report rs caller group choice options ≡ o → child_named o ≡ Some child → IsReporting rs options caller child o
+unfolding report children_in
+reporting rs up caller group choice options o child e named =
+    let kids = filter (is_child caller) rs in
+    let kids_up = rising_filter (is_child caller) rs up in
+    let f = in_found options (filter (is_named group choice) kids) (rising_filter (is_named group choice) kids kids_up) o child e named in
+    let a = in_filter (is_named group choice) kids kids_up f.what.pid f.what f.found in
+    let b = in_filter (is_child caller) rs up f.what.pid f.what a.found in
+    let here : f.what.pid ≡ child = of_named options f.what child (ap child_named f.says ∙ named) in
+    record { what = f.what; found = subst (λ n. lookup n rs ≡ Some f.what) here b.found; parent = eqb-true _ _ b.passes; says = f.says }
+
 -- a child of the caller, a zombie or not
 pub record IsChild (rs : List Process) (caller child : ℕ) (ended : Bool) : Type 0 where
   pub what : Process
@@ -70,23 +90,12 @@ pub record IsChild (rs : List Process) (caller child : ℕ) (ended : Bool) : Typ
   pub parent : what.parent ≡ caller
   pub dead : is_zombie what.life ≡ ended
 
--- what is reported is reported of a child, and an end of a zombie
+-- an end is reported of a zombie
 pub reported : (rs : List Process) → IsRising rs → (caller group : ℕ) (choice : Target) (options : ℕ) (o : Report) (child : ℕ)
     → report rs caller group choice options ≡ o → child_named o ≡ Some child → IsChild rs caller child (is_end o)
-unfolding report children_in
 reported rs up caller group choice options o child e named =
-    let kids = filter (is_child caller) rs in
-    let kids_up = rising_filter (is_child caller) rs up in
-    let f = in_found options (filter (is_named group choice) kids) (rising_filter (is_named group choice) kids kids_up) o child e named in
-    let a = in_filter (is_named group choice) kids kids_up f.what.pid f.what f.found in
-    let b = in_filter (is_child caller) rs up f.what.pid f.what a.found in
-    let here : f.what.pid ≡ child = of_named options f.what child (ap child_named f.says ∙ named) in
-    record {
-      what = f.what;
-      found = subst (λ n. lookup n rs ≡ Some f.what) here b.found;
-      parent = eqb-true _ _ b.passes;
-      dead = sym (of_zombie options f.what) ∙ ap is_end f.says;
-    }
+    let r = reporting rs up caller group choice options o child e named in
+    record { what = r.what; found = r.found; parent = r.parent; dead = sym (of_zombie options r.what) ∙ ap is_end r.says }
 
 -- ---- the table afterwards
 

@@ -5,3 +5,5 @@ pub mod KeyLemmas
 pub mod ReaderLemmas
 pub mod EachLemmas
 pub mod Rows
+pub mod RangeLemmas
+pub mod WorldRangeLemmas

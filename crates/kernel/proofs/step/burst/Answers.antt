@@ -20,6 +20,7 @@ returns g c =
       within = e.within;
       short = e.short;
       call = shown.call;
+      numbers = shown.numbers;
       asked = e.asked (placed_now s _ p c.facts.ensures.same now) ∙ c.facts.ensures.asked;
       stale = e.stale ∙ c.facts.ensures.stale;
       regular = e.regular;

@@ -1,9 +1,14 @@
-use Rattle.std.proofs.Common.{ap, sym, ◌∙◌}
+use Rattle.std.proofs.Common.{◌≡◌, ◌<◌, true, ap, sym, subst, ◌∙◌}
 use Rattle.posix.specs.Outcomes.{Outcome}
 use Rattle.posix.proofs.WakeLemmas.{settled_stays}
 use Rattle.posix.proofs.CountLemmas.{next_halted}
 use Rattle.kernel.specs.Views.{KernelView}
 use Rattle.kernel.proofs.EventLemmas.{counts_on}
+use Rattle.posix.specs.NextPid.{is_free}
+use Rattle.laws.specs.Agree.{Agree, IsOrderly}
+use Rattle.laws.proofs.AgreeRuns.{step_agrees, step_turns, step_orderly}
+use Rattle.laws.proofs.FormStays.{step_formed}
+use Rattle.laws.proofs.RefusalLemmas.{birth_free}
 use Rattle.kernel.proofs.kernel_on.KernelOn.event_into.Goals as goal
 
 pub invariant_of-self : goal.invariant_of-self
@@ -16,6 +21,7 @@ invariant_of-self g c =
       c.next.ensures.regular,
       c.next.ensures.asked old.4,
       c.next.ensures.stale old.5,
+      step_turns c.self.inside.machine.state c.next.new.machine.state c.args.event _ c.next.ensures.step old.3 old.6,
     )
 
 pub returns-clause-halted : goal.returns-clause-halted
@@ -23,3 +29,21 @@ returns-clause-halted g c = λ e.
     let halted = ap (λ (k : KernelView). k.state.halted) c.self.view_is ∙ e in
     let o = sym c.next.ensures.step.comes ∙ next_halted c.next.ensures.step.granted c.self.inside.machine.state c.args.event halted in
     (ap (λ (o : Outcome). o.entries) o, ap (λ (o : Outcome). o.state) o ∙ ap (λ (k : KernelView). k.state) c.self.view_is)
+
+pub returns-clause-orderly : goal.returns-clause-orderly
+returns-clause-orderly g c = λ ranges old.
+    step_orderly c.self.inside.machine.state c.next.new.machine.state c.args.event _ c.next.ensures.step ranges c.self.invariant.3 (subst (λ (k : KernelView). IsOrderly k.state) (sym c.self.view_is) old)
+
+pub returns-clause-forms : goal.returns-clause-forms
+returns-clause-forms g c = λ ranges old.
+    step_formed c.self.inside.machine.state c.next.new.machine.state c.args.event _ c.next.ensures.step c.self.invariant.3 (subst (λ (k : KernelView). IsOrderly k.state) (sym c.self.view_is) old).kinds ranges c.self.inside.events
+    (subst (λ (k : KernelView). k.events < 1000000000000) (sym c.self.view_is) c.requires.few)
+
+pub returns-clause-agrees : goal.returns-clause-agrees
+returns-clause-agrees g c = λ lines a.
+    step_agrees c.self.inside.machine.state c.next.new.machine.state c.args.event _ c.next.ensures.step c.self.invariant.3 c.self.invariant.6 lines c.self.inside.events
+    (subst (λ (k : KernelView). Agree lines k.events k.state) (sym c.self.view_is) a)
+
+pub returns-clause-no_number_is_given_out_twice : goal.returns-clause-no_number_is_given_out_twice
+returns-clause-no_number_is_given_out_twice g c = λ e n shown born.
+    subst (λ (k : KernelView). is_free k.state.processes n ≡ true) c.self.view_is (birth_free c.self.inside.machine.state c.next.new.machine.state c.args.event _ c.next.ensures.step e n shown born)

@@ -1,25 +1,33 @@
-use Rattle.std.proofs.Common.{◌≡◌, ◌+◌, ◌≤◌, ◌∙◌, ℕ, true, false, ap, sym, refl, subst, arith}
+use Rattle.std.proofs.Common.{◌≡◌, ◌+◌, ◌++◌, ◌≤◌, ◌∙◌, ℕ, true, false, ap, sym, refl, subst, arith}
 use Rattle.posix.specs.declared.event.Event.TheVariants.{Step}
 use Rattle.posix.proofs.WakeLemmas.{settled_stays}
-use Rattle.kernel.specs.Steps.{Bursts, last_given, is_followed_by_step}
+use Rattle.posix.specs.Entries.{numbered}
+use Rattle.posix.specs.NextPid.{is_free}
+use Rattle.posix.specs.Regular.{IsRegular}
+use Rattle.laws.specs.Agree.{AreTurns}
+use Rattle.kernel.specs.Steps.{Bursts, noted_lines, last_given, is_followed_by_step}
 use Rattle.kernel.specs.Views.{KernelView}
 use Rattle.kernel.proofs.EventLemmas.{counts_on, then_on, followed_short}
 use Rattle.kernel.proofs.RunLemmas.{step_after}
+use Rattle.laws.proofs.AgreeRuns.{step_turns}
+use Rattle.laws.proofs.RefusalLemmas.{birth_free}
+use Rattle.kernel.proofs.AgreeLemmas.{StepsTell, burst_tells, step_tells, burst_keeps}
+use Rattle.kernel.proofs.kernel_on.KernelOn.steps.Given.{Over}
 use Rattle.kernel.proofs.kernel_on.KernelOn.steps.Goals as goal
 
 pub invariant_of-self-2 : goal.invariant_of-self-2
 invariant_of-self-2 g c =
     let old = c.self.invariant in
     let b = c.burst-done in
-    let births : b.new.machine.state.births ≤ b.result.last + 1 = omega (arith, old.0, b.ensures.runs.births, b.ensures.from) in
-    let ticks : b.new.machine.state.ticks ≤ b.result.last = omega (arith, old.1, b.ensures.runs.ticks, b.ensures.from) in
-    let counts = counts_on b.new.machine.state c.call_next.new.machine.state Step _ b.result.last c.call_next.ensures.step births ticks in (
+    let k = burst_keeps c.self.inside.events b.result.last b.result.pid c.self.inside.machine.state b.new.machine.state b.new.notes.items b.ensures.runs b.ensures.from old.0 old.1 old.3 old.6 in
+    let counts = counts_on b.new.machine.state c.call_next.new.machine.state Step _ b.result.last c.call_next.ensures.step k.0 k.1 in (
       counts.0,
       counts.1,
       settled_stays b.new.machine.state c.call_next.new.machine.state Step _ c.call_next.ensures.step b.ensures.runs.settled,
       c.call_next.ensures.regular,
       c.call_next.ensures.asked,
       c.call_next.ensures.stale,
+      step_turns b.new.machine.state c.call_next.new.machine.state Step _ c.call_next.ensures.step b.ensures.regular k.2,
     )
 
 pub returns-in_default : goal.returns-in_default
@@ -31,6 +39,10 @@ returns-in_default g c =
     let going : c.self.inside.machine.state.halted ≡ false = grind arith in
     let short = followed_short c.self.inside.events c.args.last b.result.last b.result.trap (omega (arith, c.requires.some, events)) follows b.ensures.short in
     let counted = then_on c.self.inside.machine.state c.self.inside.events c.args.last (record { last = b.result.last; notes = b.new.notes.items; trap = b.result.trap }) going b.ensures.taken follows in
+    let few : c.args.last ≤ 1000000000000 = c.requires.few in
+    let ran = subst (λ (n : ℕ). Bursts c.self.inside.machine.state n b.result.last b.result.pid b.new.notes.items b.new.machine.state) events b.ensures.runs in
+    let told = step_tells c.args.self.now.events b.result.last _ _ _ _ _ _ _ _ ran (omega (arith, b.ensures.from, events)) now c.event_into-in_default.ensures.step c.event_into-in_default.ensures.events
+    (omega (arith, c.event_into-in_default.ensures.events, short, few)) (subst (λ (k : KernelView). IsRegular k.state) c.self.view_is c.self.invariant.3) in
     record {
       events = c.event_into-in_default.ensures.events ∙ sym (subst (λ (k : KernelView). last_given Step k.events c.args.last k.state ≡ b.result.last + 1) c.self.view_is counted);
       from = omega (arith, c.event_into-in_default.ensures.events, b.ensures.from, events);
@@ -38,6 +50,11 @@ returns-in_default g c =
       runs = step_after c.args.self.now.events b.result.last _ _ _ _ _ _ _ _ (subst (λ (n : ℕ). Bursts c.self.inside.machine.state n b.result.last b.result.pid b.new.notes.items b.new.machine.state) events b.ensures.runs) (omega (arith, b.ensures.from, events)) now c.event_into-in_default.ensures.step
           c.event_into-in_default.ensures.events;
       regular = c.event_into-in_default.ensures.regular;
+      orderly = told.orderly;
+      forms = told.forms;
+      agrees = told.agrees (subst (λ (k : KernelView). AreTurns k.state) c.self.view_is c.self.invariant.6);
+      no_number_is_given_out_twice = λ e n shown born.
+          subst (λ (k : KernelView). is_free k.state.processes n ≡ true) c.self.view_is (sym (b.ensures.numbers n) ∙ birth_free b.new.machine.state c.event_into-in_default.new.self.state Step _ c.event_into-in_default.ensures.step e n shown born);
     }
 
 pub returns-clause-runs : goal.returns-clause-runs
@@ -47,3 +64,67 @@ returns-clause-runs g c =
     let events = ap (λ (k : KernelView). k.events) c.self.view_is in
     step_after c.args.self.now.events b.result.last _ _ _ _ _ _ _ _ (subst (λ (n : ℕ). Bursts c.self.inside.machine.state n b.result.last b.result.pid b.new.notes.items b.new.machine.state) events b.ensures.runs) (omega (arith, b.ensures.from, events)) now c.call_next.ensures.step
     refl
+
+pub invariant_of-self : goal.invariant_of-self
+invariant_of-self g c =
+    let old = c.self.invariant in
+    let b = c.burst-done in
+    let k = burst_keeps c.self.inside.events b.result.last b.result.pid c.self.inside.machine.state b.new.machine.state b.new.notes.items b.ensures.runs b.ensures.from old.0 old.1 old.3 old.6 in
+    (k.0, k.1, b.ensures.runs.settled, b.ensures.regular, b.ensures.asked ∙ old.4, b.ensures.stale ∙ old.5, k.2)
+
+pub invariant_of-self-in_default : goal.invariant_of-self-in_default
+invariant_of-self-in_default g c =
+    let old = c.self.invariant in
+    let b = c.burst-done in
+    let k = burst_keeps c.self.inside.events b.result.last b.result.pid c.self.inside.machine.state b.new.machine.state b.new.notes.items b.ensures.runs b.ensures.from old.0 old.1 old.3 old.6 in
+    (k.0, k.1, b.ensures.runs.settled, b.ensures.regular, b.ensures.asked ∙ old.4, b.ensures.stale ∙ old.5, k.2)
+
+-- what the lines tell where no step follows the burst
+told_alone : (g : Over) (c : goal.Then-not-is_followed_by_step g)
+    → StepsTell c.args.self.now.events c.burst-done.result.last c.args.self.now.state c.burst-done.new.machine.state (noted_lines c.burst-done.result.pid c.burst-done.new.notes.items ++ numbered c.burst-done.result.last c.args.entries.now.items)
+told_alone g c =
+    let b = c.burst-done in
+    let now = ap (λ (k : KernelView). k.state) c.self.view_is in
+    let events = ap (λ (k : KernelView). k.events) c.self.view_is in
+    let few : c.args.last ≤ 1000000000000 = c.requires.few in
+    burst_tells c.args.self.now.events b.result.last b.result.pid c.args.self.now.state c.self.inside.machine.state b.new.machine.state b.new.notes.items c.args.entries.now.items
+    (subst (λ (n : ℕ). Bursts c.self.inside.machine.state n b.result.last b.result.pid b.new.notes.items b.new.machine.state) events b.ensures.runs) (omega (arith, b.ensures.from, events)) now c.requires.none
+    (omega (arith, b.ensures.within, few)) (subst (λ (k : KernelView). IsRegular k.state) c.self.view_is c.self.invariant.3)
+
+pub returns-then-not-is_followed_by_step-clause-orderly : goal.returns-then-not-is_followed_by_step-clause-orderly
+returns-then-not-is_followed_by_step-clause-orderly g c = (told_alone g c).orderly
+
+pub returns-then-not-is_followed_by_step-clause-forms : goal.returns-then-not-is_followed_by_step-clause-forms
+returns-then-not-is_followed_by_step-clause-forms g c = (told_alone g c).forms
+
+pub returns-then-not-is_followed_by_step-clause-agrees : goal.returns-then-not-is_followed_by_step-clause-agrees
+returns-then-not-is_followed_by_step-clause-agrees g c = (told_alone g c).agrees (subst (λ (k : KernelView). AreTurns k.state) c.self.view_is c.self.invariant.6)
+
+-- what they tell where a call does
+told_before_call : (g : Over) (c : goal.After-call_next g)
+    → StepsTell c.args.self.now.events (c.burst-done.result.last + 1) c.args.self.now.state c.call_next.new.machine.state
+    (noted_lines c.burst-done.result.pid c.burst-done.new.notes.items ++ numbered (c.burst-done.result.last + 1) c.call_next.new.entries.items)
+told_before_call g c =
+    let b = c.burst-done in
+    let now = ap (λ (k : KernelView). k.state) c.self.view_is in
+    let events = ap (λ (k : KernelView). k.events) c.self.view_is in
+    let follows : is_followed_by_step c.self.inside.events b.result.last b.result.trap ≡ true = grind arith in
+    let short = followed_short c.self.inside.events c.args.last b.result.last b.result.trap (omega (arith, c.requires.some, events)) follows b.ensures.short in
+    let few : c.args.last ≤ 1000000000000 = c.requires.few in
+    step_tells c.args.self.now.events b.result.last (b.result.last + 1) b.result.pid c.args.self.now.state c.self.inside.machine.state b.new.machine.state c.call_next.new.machine.state b.new.notes.items c.call_next.new.entries.items
+    (subst (λ (n : ℕ). Bursts c.self.inside.machine.state n b.result.last b.result.pid b.new.notes.items b.new.machine.state) events b.ensures.runs) (omega (arith, b.ensures.from, events)) now c.call_next.ensures.step refl
+    (omega (arith, short, few)) (subst (λ (k : KernelView). IsRegular k.state) c.self.view_is c.self.invariant.3)
+
+pub returns-clause-orderly : goal.returns-clause-orderly
+returns-clause-orderly g c = (told_before_call g c).orderly
+
+pub returns-clause-forms : goal.returns-clause-forms
+returns-clause-forms g c = (told_before_call g c).forms
+
+pub returns-clause-agrees : goal.returns-clause-agrees
+returns-clause-agrees g c = (told_before_call g c).agrees (subst (λ (k : KernelView). AreTurns k.state) c.self.view_is c.self.invariant.6)
+
+pub returns-clause-no_number_is_given_out_twice : goal.returns-clause-no_number_is_given_out_twice
+returns-clause-no_number_is_given_out_twice g c = λ e n shown born.
+    let b = c.burst-done in
+    subst (λ (k : KernelView). is_free k.state.processes n ≡ true) c.self.view_is (sym (b.ensures.numbers n) ∙ birth_free b.new.machine.state c.call_next.new.machine.state Step _ c.call_next.ensures.step e n shown born)

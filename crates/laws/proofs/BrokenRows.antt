@@ -1,0 +1,74 @@
+-- For each law a trace that keeps all of them, and a line that would break it.
+use Rattle.std.specs.Prelude.{◌≡◌, ◌&&◌, not, Bool, true, refl, List, [], ◌∷◌, ◌++◌, pos}
+use Rattle.posix.specs.declared.entry.Entry.TheVariants.{Noted, Called, Reported, Stopped, Ended, Halted}
+use Rattle.posix.specs.declared.call.Call.TheVariants.{Fork, SchedYield}
+use Rattle.posix.specs.Entries.{Line, line}
+use Rattle.laws.specs.Lives.{newest_life, is_living, lawful}
+
+-- the laws hold up to the line, and not with it
+abbrev breaks : List Line → Line → Bool
+breaks before l = lawful before && not (lawful (before ++ l ∷ []))
+
+-- process 1 has a child, which ends with status 0
+abbrev child_ends : List Line
+child_ends = line 1 (Called 1 Fork (pos 2)) ∷ line 2 (Called 1 SchedYield (pos 0)) ∷ line 3 (Ended 2 0) ∷ []
+
+broken_end_reported_twice : breaks (child_ends ++ line 4 (Reported 1 2 0) ∷ []) (line 5 (Reported 1 2 0)) ≡ true
+unfolding newest_life is_living
+broken_end_reported_twice = refl
+
+broken_status_of_another_end : breaks child_ends (line 4 (Reported 1 2 256)) ≡ true
+unfolding newest_life is_living
+broken_status_of_another_end = refl
+
+-- its child has one, too
+abbrev grandchild_ends : List Line
+grandchild_ends = line 1 (Called 1 Fork (pos 2)) ∷ line 2 (Called 1 SchedYield (pos 0)) ∷ line 3 (Called 2 Fork (pos 3)) ∷ line 4 (Called 2 SchedYield (pos 0)) ∷ line 5 (Ended 3 0) ∷ []
+
+broken_end_reported_to_a_grandparent : breaks grandchild_ends (line 6 (Reported 1 3 0)) ≡ true
+unfolding newest_life is_living
+broken_end_reported_to_a_grandparent = refl
+
+adopted_child_is_reported : lawful (grandchild_ends ++ line 6 (Ended 2 0) ∷ line 7 (Reported 1 3 0) ∷ []) ≡ true
+unfolding newest_life is_living
+adopted_child_is_reported = refl
+
+-- process 1 has a child, whose stop it reports
+abbrev stop_is_reported : List Line
+stop_is_reported = line 1 (Called 1 Fork (pos 2)) ∷ line 2 (Called 1 SchedYield (pos 0)) ∷ line 3 (Stopped 2 19) ∷ line 4 (Reported 1 2 4991) ∷ []
+
+broken_stop_reported_twice : breaks stop_is_reported (line 5 (Reported 1 2 4991)) ≡ true
+unfolding newest_life is_living
+broken_stop_reported_twice = refl
+
+broken_continue_reported_twice : breaks (stop_is_reported ++ line 5 (Reported 1 2 65535) ∷ []) (line 6 (Reported 1 2 65535)) ≡ true
+unfolding newest_life is_living
+broken_continue_reported_twice = refl
+
+broken_line_after_its_end : breaks child_ends (line 4 (Noted 2 (pos 7))) ≡ true
+unfolding newest_life is_living
+broken_line_after_its_end = refl
+
+broken_line_before_its_birth : breaks (line 1 (Noted 1 (pos 7)) ∷ []) (line 2 (Noted 2 (pos 7))) ≡ true
+unfolding newest_life is_living
+broken_line_before_its_birth = refl
+
+broken_birth_of_the_living : breaks (line 1 (Called 1 Fork (pos 2)) ∷ []) (line 2 (Called 1 Fork (pos 2))) ≡ true
+unfolding newest_life is_living
+broken_birth_of_the_living = refl
+
+broken_halt_without_an_end : breaks (line 1 (Noted 1 (pos 7)) ∷ []) (line 1 Halted) ≡ true
+unfolding newest_life is_living
+broken_halt_without_an_end = refl
+
+broken_line_after_the_end_of_process_1 : breaks (line 1 (Called 1 Fork (pos 2)) ∷ line 2 (Ended 1 0) ∷ []) (line 3 (Noted 2 (pos 7))) ≡ true
+unfolding newest_life is_living
+broken_line_after_the_end_of_process_1 = refl
+
+broken_line_after_a_halt : breaks (line 1 (Ended 1 0) ∷ line 1 Halted ∷ []) (line 2 Halted) ≡ true
+unfolding newest_life is_living
+broken_line_after_a_halt = refl
+
+broken_number_that_falls : breaks (line 2 (Noted 1 (pos 7)) ∷ []) (line 1 (Noted 1 (pos 8))) ≡ true
+unfolding newest_life is_living
+broken_number_that_falls = refl

@@ -1,0 +1,486 @@
+-- What the laws of a trace say of its lines.
+use Rattle.std.proofs.Common.{◌≡◌, ◌≤◌, ◌<◌, ℕ, ◌%◌, Bool, true, false, cond, ◌&&◌, ◌||◌, not, if◌then◌else◌, ◌==◌, List, [], ◌∷◌, ◌++◌, append_assoc, append-nil, Option, Some, None, is_some, is_none, refl, ap, sym, ◌∙◌, arith, subst}
+use Rattle.std.specs.List.{list_any}
+use Rattle.std.proofs.lemmas.Bool.{eqb-true, eq-eqb, and_parts, leb-true, ltb-true, true_from_ne_false, false_from_ne_true}
+use Rattle.std.proofs.lemmas.List.Folds.{list_any-append}
+use Rattle.posix.specs.declared.entry.Entry.{Entry}
+use Rattle.posix.specs.declared.entry.Entry.TheVariants.{Reported, Ended}
+use Rattle.posix.specs.Statuses.{continued}
+use Rattle.posix.specs.Entries.{Line, line}
+use Rattle.laws.specs.TraceLines.{is_end_word, is_stopped_word, is_continued_word}
+use Rattle.laws.specs.Lives.{LastOf, last_where, or_this, LifeSoFar, life_after, newest_life, EndOf, the_end, or_later, parent_of, parent_in, parent_in_life, end_in, reports_in, reports, begins, born_by, is_just, is_change_word, process_of, none_or, is_halt, is_due, is_due_to, end_report, is_living, Everywhere, Laws, numbers_rise, within_life, begins_apart, report_law, reports_due, halts_last, last_line, was_halt, ends_first, number_from, ends, stops, IsOfEnd}
+use Rattle.laws.specs.Keeping.{Dead, Kept, NeverBorn, Lives, Died, kept_of, kept_after, lives_now, word_fault, stop_fault, report_fault}
+use Rattle.laws.proofs.KeptLemmas.{last_where_more, line_makes, makes_same, told_is_kept, unborn_stays, begun, kept_more}
+use Rattle.laws.proofs.TestLemmas.{living_kept, report_tested}
+use Rattle.laws.proofs.LawfulLemmas.{everywhere_at, everywhere_first}
+use Rattle.laws.proofs.StatusLemmas.{end_tells}
+
+-- ---- what is kept, line by line
+
+neither : (a b : Bool) → (a || b) ≡ false → (a ≡ false) × (b ≡ false)
+neither true b h = absurd (cc)
+neither false b h = (refl, h)
+
+-- what is kept after one line more
+pub kept_next : (before : List Line) (l : Line) (c : ℕ) → line_makes l.entry c (kept_of before c) ≡ kept_of (before ++ l ∷ []) c
+kept_next before l c = makes_same (kept_of before) l.entry c ∙ sym (kept_more before l c)
+
+-- what stays at each line that fails a test stays over lines that all do
+kept_through : (P : Kept → Type 0) (c : ℕ) (t : Line → Bool) → ((l : Line) (k : Kept) → t l ≡ false → P k → P (line_makes l.entry c k))
+    → (before between : List Line) → list_any t between ≡ false → P (kept_of before c) → P (kept_of (before ++ between) c)
+kept_through P c t stays before [] none h = subst (λ ls. P (kept_of ls c)) (sym (append-nil before)) h
+kept_through P c t stays before (l ∷ ls) none h =
+    let both = neither (t l) (list_any t ls) none in
+    let one : P (kept_of (before ++ l ∷ []) c) = subst P (kept_next before l c) (stays l (kept_of before c) both.0 h) in
+    subst (λ ls. P (kept_of ls c)) (append_assoc before (l ∷ []) ls) (kept_through P c t stays (before ++ l ∷ []) ls both.1 one)
+
+-- What a line brings about, and what lines that fail a test leave, no later line denies: so one of them passes.
+one_between : (P : Kept → Type 0) (c : ℕ) (t : Line → Bool) → ((l : Line) (k : Kept) → t l ≡ false → P k → P (line_makes l.entry c k))
+    → (before between : List Line) (a : Line) → P (line_makes a.entry c (kept_of before c)) → (P (kept_of (before ++ a ∷ between) c) → ⊥) → list_any t between ≡ true
+one_between P c t stays before between a first denied = true_from_ne_false (list_any t between) (λ none.
+    denied (subst (λ ls. P (kept_of ls c)) (append_assoc before (a ∷ []) between) (kept_through P c t stays (before ++ a ∷ []) between none (subst P (kept_next before a c) first))))
+
+-- ---- lives
+
+-- an ended life stays one, until a birth
+abbrev pub IsOver : Kept → Type 0
+IsOver NeverBorn = ⊥
+IsOver (Lives a) = ⊥
+IsOver (Died d) = Unit {0}
+
+over_stays : (c : ℕ) (l : Line) (k : Kept) → begins c l ≡ false → IsOver k → IsOver (line_makes l.entry c k)
+over_stays c l NeverBorn none h = absurd (h)
+over_stays c l (Lives a) none h = absurd (h)
+over_stays c l (Died d) none h = subst IsOver (told_is_kept l.entry c (Died d) none) tt
+
+-- its end makes a life one
+pub over_made : (c w : ℕ) (e : Entry) (k : Kept) → end_in c e ≡ Some w → lives_now k ≡ true → IsOver (line_makes e c k)
+over_made c w e NeverBorn is lives = absurd (cc)
+over_made c w e (Died d) is lives = absurd (cc)
+over_made c w e (Lives a) is lives = subst IsOver (told_is_kept e c (Lives a) (unborn e is)) (rw is tt)
+  where
+    unborn : (e : Entry) → end_in c e ≡ Some w → is_just c (born_by e) ≡ false
+    unborn (Ended p v) is = refl
+    unborn e is = absurd (cc)
+
+pub over_dead : (k : Kept) → IsOver k → lives_now k ≡ false
+over_dead NeverBorn h = absurd (h)
+over_dead (Lives a) h = absurd (h)
+over_dead (Died d) h = refl
+
+-- a life that hasn't ended stays one, until its end
+pub lives_stays : (c : ℕ) (l : Line) (k : Kept) → ends c l ≡ false → lives_now k ≡ true → lives_now (line_makes l.entry c k) ≡ true
+lives_stays c l NeverBorn none h = absurd (cc)
+lives_stays c l (Died d) none h = absurd (cc)
+lives_stays c l (Lives a) none h = by (is_just c (born_by l.entry)) refl (end_in c l.entry) refl
+  where
+    by : (b : Bool) → is_just c (born_by l.entry) ≡ b → (o : Option ℕ) → end_in c l.entry ≡ o → lives_now (line_makes l.entry c (Lives a)) ≡ true
+    by true born o is = ap lives_now (sym (begun l.entry c (Lives a) born))
+    by false born (Some w) is = let no = sym none ∙ ap is_some is in absurd (cc)
+    by false born None is = subst (λ k. lives_now k ≡ true) (told_is_kept l.entry c (Lives a) born) (rw is refl)
+
+-- ---- reports
+
+-- an entry that reports c
+record IsReport (c : ℕ) (test : ℕ → Bool) (e : Entry) : Type 0 where
+  by : ℕ
+  word : ℕ
+  is : e ≡ Reported by c word
+  passes : test word ≡ true
+
+report_in : (c : ℕ) (test : ℕ → Bool) (e : Entry) → reports_in c test e ≡ true → IsReport c test e
+report_in c test (Reported p d w) h = let both = and_parts (d == c) (test w) h in record { by = p; word = w; is = ap (λ n. Reported p n w) (eqb-true d c both.0); passes = both.1 }
+report_in c test e h = absurd (cc)
+
+-- no test of it fails
+report_due : (before : List Line) (l : Line) (p c w : ℕ) → reports_due before l ≡ true → l.entry ≡ Reported p c w → is_none (word_fault p w (kept_of before c)) ≡ true
+report_due before l p c w h is = subst (λ e. is_none (report_fault (kept_of before) e) ≡ true) is (report_tested before l.entry ∙ h)
+
+-- an end that is reported is one of which no report came
+record IsUnreported (p w : ℕ) (k : Kept) : Type 0 where
+  dead : Dead
+  is : k ≡ Died dead
+  reported : dead.reported ≡ false
+
+end_due : (p w : ℕ) (k : Kept) → is_end_word w ≡ true → is_none (word_fault p w k) ≡ true → IsUnreported p w k
+end_due p w NeverBorn word h = absurd (cc)
+end_due p w (Lives a) word h = absurd (none (a.parent == p) (is_end_word w) _ word h)
+  where
+    none : (same e : Bool) (o : Option ℕ) → e ≡ true → is_none (cond (not same) (Some 5) (cond e (Some 3) o)) ≡ true → ⊥
+    none true true o word h = cc
+    none true false o word h = cc
+    none false e o word h = cc
+end_due p w (Died d) word h = record { dead = d; is = refl; reported = of (d.parent == p) (is_end_word w) d.reported _ _ word h }
+  where
+    of : (same e told : Bool) (o n : Option ℕ) → e ≡ true → is_none (cond (not same) (Some 5) (cond e (cond told (Some 4) o) n)) ≡ true → told ≡ false
+    of true true true o n word h = absurd (cc)
+    of true true false o n word h = refl
+    of true false told o n word h = absurd (cc)
+    of false e told o n word h = absurd (cc)
+
+-- an end that was reported stays so, until a birth
+abbrev IsReported : Kept → Type 0
+IsReported NeverBorn = ⊥
+IsReported (Lives a) = ⊥
+IsReported (Died d) = d.reported ≡ true
+
+reported_stays : (c : ℕ) (l : Line) (k : Kept) → begins c l ≡ false → IsReported k → IsReported (line_makes l.entry c k)
+reported_stays c l NeverBorn none h = absurd (h)
+reported_stays c l (Lives a) none h = absurd (h)
+reported_stays c l (Died d) none h = subst IsReported (told_is_kept l.entry c (Died d) none) (rw h refl)
+
+reported_made : (p c w : ℕ) (k : Kept) → is_end_word w ≡ true → IsUnreported p w k → IsReported (line_makes (Reported p c w) c k)
+reported_made p c w k word h = subst (λ k. IsReported (line_makes (Reported p c w) c k)) (sym h.is) (subst IsReported (told_is_kept (Reported p c w) c (Died h.dead) refl) (rw (eq-eqb c c refl, word) (or_true h.dead.reported)))
+  where
+    or_true : (b : Bool) → (b || true) ≡ true
+    or_true true = refl
+    or_true false = refl
+
+reported_once : (p w : ℕ) (k : Kept) → IsReported k → IsUnreported p w k → ⊥
+reported_once p w k h u = let told : u.dead.reported ≡ true = subst IsReported u.is h in let no : false ≡ true = sym u.reported ∙ told in cc
+
+-- ---- stops and continues
+
+-- the signal of the last stop, where no report of it came, nor of its continue
+abbrev stop_left : Kept → Option ℕ
+stop_left NeverBorn = None
+stop_left (Lives a) = a.stop
+stop_left (Died d) = None
+
+-- whether a stop came, of whose continue no report did
+abbrev continue_left : Kept → Bool
+continue_left NeverBorn = false
+continue_left (Lives a) = a.may_continue
+continue_left (Died d) = false
+
+-- none is left, and so it stays until a stop
+stop_stays : (c : ℕ) (l : Line) (k : Kept) → stops c l ≡ false → stop_left k ≡ None → stop_left (line_makes l.entry c k) ≡ None
+stop_stays c l k none h = by (is_just c (born_by l.entry)) refl k h (end_in c l.entry) refl
+  where
+    either : (b : Bool) (o : Option ℕ) → o ≡ None → (if b then None else o) ≡ None
+    either true o e = refl
+    either false o e = e
+
+    by : (b : Bool) → is_just c (born_by l.entry) ≡ b → (k : Kept) → stop_left k ≡ None → (o : Option ℕ) → end_in c l.entry ≡ o → stop_left (line_makes l.entry c k) ≡ None
+    by true born k h o is = ap stop_left (sym (begun l.entry c k born))
+    by false born NeverBorn h o is = ap stop_left (unborn_stays l.entry c born)
+    by false born (Died d) h o is = ap stop_left (sym (told_is_kept l.entry c (Died d) born))
+    by false born (Lives a) h (Some w) is = ap stop_left (sym (told_is_kept l.entry c (Lives a) born)) ∙ rw is refl
+    by false born (Lives a) h None is = ap stop_left (sym (told_is_kept l.entry c (Lives a) born)) ∙ rw (is, none) (either (reports_in c is_change_word l.entry) a.stop h)
+
+continue_stays : (c : ℕ) (l : Line) (k : Kept) → stops c l ≡ false → continue_left k ≡ false → continue_left (line_makes l.entry c k) ≡ false
+continue_stays c l k none h = by (is_just c (born_by l.entry)) refl k h (end_in c l.entry) refl
+  where
+    by : (b : Bool) → is_just c (born_by l.entry) ≡ b → (k : Kept) → continue_left k ≡ false → (o : Option ℕ) → end_in c l.entry ≡ o → continue_left (line_makes l.entry c k) ≡ false
+    by true born k h o is = ap continue_left (sym (begun l.entry c k born))
+    by false born NeverBorn h o is = ap continue_left (unborn_stays l.entry c born)
+    by false born (Died d) h o is = ap continue_left (sym (told_is_kept l.entry c (Died d) born))
+    by false born (Lives a) h (Some w) is = ap continue_left (sym (told_is_kept l.entry c (Lives a) born)) ∙ rw is refl
+    by false born (Lives a) h None is = ap continue_left (sym (told_is_kept l.entry c (Lives a) born)) ∙ rw (is, none, h) refl
+
+-- a report of one leaves none
+stop_told : (p c w : ℕ) (k : Kept) → is_change_word w ≡ true → stop_left (line_makes (Reported p c w) c k) ≡ None
+unfolding kept_after
+stop_told p c w NeverBorn word = rw (eq-eqb c c refl) refl
+stop_told p c w (Lives a) word = rw (eq-eqb c c refl, word) refl
+stop_told p c w (Died d) word = rw (eq-eqb c c refl) refl
+
+continue_told : (p c w : ℕ) (k : Kept) → is_continued_word w ≡ true → continue_left (line_makes (Reported p c w) c k) ≡ false
+unfolding kept_after
+continue_told p c w NeverBorn word = rw (eq-eqb c c refl) refl
+continue_told p c w (Lives a) word = rw (eq-eqb c c refl, word) (and_none a.may_continue)
+  where
+    and_none : (b : Bool) → (b && not true) ≡ false
+    and_none true = refl
+    and_none false = refl
+continue_told p c w (Died d) word = rw (eq-eqb c c refl) refl
+
+-- the words are apart
+stop_no_end : (w : ℕ) → is_stopped_word w ≡ true → is_end_word w ≡ false
+stop_no_end w h = false_from_ne_true (is_end_word w) (λ e.
+    let low : w % 256 < 127 = ltb-true (w % 256) 127 (end_tells w e) in
+    let is : w % 256 ≡ 127 = eqb-true (w % 256) 127 (and_parts (w % 256 == 127) _ h).0 in
+    absurd (omega (arith, low, is)))
+
+-- where none is left none is due
+stop_once : (p w : ℕ) (k : Kept) → is_stopped_word w ≡ true → stop_left k ≡ None → is_none (word_fault p w k) ≡ true → ⊥
+stop_once p w NeverBorn word h due = cc
+stop_once p w (Died d) word h due = of (d.parent == p) (is_end_word w) (is_change_word w) _ (stop_no_end w word) (rw word refl) due
+  where
+    of : (same e change : Bool) (o : Option ℕ) → e ≡ false → change ≡ true → is_none (cond (not same) (Some 5) (cond e o (cond change (Some 3) (Some 6)))) ≡ true → ⊥
+    of true true change o x y due = cc
+    of true false true o x y due = cc
+    of true false false o x y due = cc
+    of false e change o x y due = cc
+stop_once p w (Lives a) word h due = of (a.parent == p) (is_end_word w) (is_stopped_word w) a.has_stopped a.stop _ word h due
+  where
+    of : (same e stop has : Bool) (left : Option ℕ) (o : Option ℕ) → stop ≡ true → left ≡ None
+        → is_none (cond (not same) (Some 5) (cond e (Some 3) (cond stop (cond has (stop_fault w left) (Some 3)) o))) ≡ true → ⊥
+    of true true stop has left o x y due = cc
+    of true false true true None o x y due = cc
+    of true false true true (Some s) o x y due = cc
+    of true false true false left o x y due = cc
+    of true false false has left o x y due = cc
+    of false e stop has left o x y due = cc
+
+continue_once : (p w : ℕ) (k : Kept) → is_continued_word w ≡ true → continue_left k ≡ false → is_none (word_fault p w k) ≡ true → ⊥
+continue_once p w k word h due = all k h (subst (λ v. is_none (word_fault p v k) ≡ true) (eqb-true w continued word) due)
+  where
+    of : (same has may : Bool) → may ≡ false → is_none {T = ℕ} (cond (not same) (Some 5) (cond (not has) (Some 3) (cond may None (Some 4)))) ≡ true → ⊥
+    of true true true h due = cc
+    of true true false h due = cc
+    of true false may h due = cc
+    of false has may h due = cc
+
+    ended : (same : Bool) → is_none {T = ℕ} (cond (not same) (Some 5) (Some 3)) ≡ true → ⊥
+    ended true due = cc
+    ended false due = cc
+
+    all : (k : Kept) → continue_left k ≡ false → is_none (word_fault p continued k) ≡ true → ⊥
+    all NeverBorn h due = cc
+    all (Lives a) h due = of (a.parent == p) a.has_stopped a.may_continue h due
+    all (Died d) h due = ended (d.parent == p) due
+
+-- ---- the laws, in words of lines
+
+-- the law of the first of two lines
+law_first : (law : List Line → Line → Bool) (before : List Line) (a : Line) (between after : List Line) → Everywhere law (before ++ a ∷ between ++ after) → law before a ≡ true
+law_first law before a between after h = everywhere_at law before a between (everywhere_first law (before ++ a ∷ between) after h)
+
+-- No end is reported twice.
+pub no_end_twice : (before between after : List Line) (a b : Line) (c : ℕ) → Laws (before ++ a ∷ between ++ b ∷ after)
+    → reports c is_end_word a ≡ true → reports c is_end_word b ≡ true → list_any (begins c) between ≡ true
+no_end_twice before between after a b c h first second =
+    let x = report_in c is_end_word a.entry first in
+    let y = report_in c is_end_word b.entry second in
+    let one = end_due x.by x.word (kept_of before c) x.passes (report_due before a x.by c x.word (law_first reports_due before a between (b ∷ after) h.reports) x.is) in
+    let two = end_due y.by y.word (kept_of (before ++ a ∷ between) c) y.passes (report_due (before ++ a ∷ between) b y.by c y.word (everywhere_at reports_due (before ++ a ∷ between) b after h.reports) y.is) in
+    one_between IsReported c (begins c) (reported_stays c) before between a (subst (λ e. IsReported (line_makes e c (kept_of before c))) (sym x.is) (reported_made x.by c x.word (kept_of before c) x.passes one))
+    (λ reported. reported_once y.by y.word (kept_of (before ++ a ∷ between) c) reported two)
+
+-- Of a stop that was reported, or whose continue was, no report comes.
+pub no_stop_twice : (before between after : List Line) (a b : Line) (c : ℕ) → Laws (before ++ a ∷ between ++ b ∷ after)
+    → reports c is_change_word a ≡ true → reports c is_stopped_word b ≡ true → list_any (stops c) between ≡ true
+no_stop_twice before between after a b c h first second =
+    let x = report_in c is_change_word a.entry first in
+    let y = report_in c is_stopped_word b.entry second in
+    let due = report_due (before ++ a ∷ between) b y.by c y.word (everywhere_at reports_due (before ++ a ∷ between) b after h.reports) y.is in
+    one_between (λ k. stop_left k ≡ None) c (stops c) (stop_stays c) before between a (subst (λ e. stop_left (line_makes e c (kept_of before c)) ≡ None) (sym x.is) (stop_told x.by c x.word (kept_of before c) x.passes))
+    (λ none. stop_once y.by y.word (kept_of (before ++ a ∷ between) c) y.passes none due)
+
+-- No continue is reported twice.
+pub no_continue_twice : (before between after : List Line) (a b : Line) (c : ℕ) → Laws (before ++ a ∷ between ++ b ∷ after)
+    → reports c is_continued_word a ≡ true → reports c is_continued_word b ≡ true → list_any (stops c) between ≡ true
+no_continue_twice before between after a b c h first second =
+    let x = report_in c is_continued_word a.entry first in
+    let y = report_in c is_continued_word b.entry second in
+    let due = report_due (before ++ a ∷ between) b y.by c y.word (everywhere_at reports_due (before ++ a ∷ between) b after h.reports) y.is in
+    one_between (λ k. continue_left k ≡ false) c (stops c) (continue_stays c) before between a
+    (subst (λ e. continue_left (line_makes e c (kept_of before c)) ≡ false) (sym x.is) (continue_told x.by c x.word (kept_of before c) x.passes))
+    (λ none. continue_once y.by y.word (kept_of (before ++ a ∷ between) c) y.passes none due)
+
+-- Whose line stands there lives.
+lives_within : (before : List Line) (l : Line) (c : ℕ) → within_life before l ≡ true → process_of l.entry ≡ Some c → lives_now (kept_of before c) ≡ true
+lives_within before l c h is = living_kept before c ∙ subst (λ o. none_or (is_living before) o ≡ true) is h
+
+-- After its end a process has no line, until a birth.
+pub nothing_after_end : (before between after : List Line) (a b : Line) (c : ℕ) → Laws (before ++ a ∷ between ++ b ∷ after)
+    → ends c a ≡ true → process_of b.entry ≡ Some c → list_any (begins c) between ≡ true
+nothing_after_end before between after a b c h ended mine = by (end_in c a.entry) refl
+  where
+    whose : (e : Entry) (w : ℕ) → end_in c e ≡ Some w → process_of e ≡ Some c
+    whose (Ended p w) v is = of (p == c) refl is
+      where
+        of : (b : Bool) → (p == c) ≡ b → cond b (Some w) None ≡ Some v → Some p ≡ Some c
+        of true t is = ap Some (eqb-true p c t)
+        of false t is = absurd (cc)
+    whose e v is = absurd (cc)
+
+    by : (o : Option ℕ) → end_in c a.entry ≡ o → list_any (begins c) between ≡ true
+    by None is = let no = sym (ap is_some is) ∙ ended in absurd (cc)
+    by (Some w) is =
+        let lived = lives_within before a c (law_first within_life before a between (b ∷ after) h.lives) (whose a.entry w is) in
+        let lives = lives_within (before ++ a ∷ between) b c (everywhere_at within_life (before ++ a ∷ between) b after h.lives) mine in
+        one_between IsOver c (begins c) (over_stays c) before between a (over_made c w a.entry (kept_of before c) is lived)
+        (λ over. let no = sym lives ∙ over_dead (kept_of (before ++ a ∷ between) c) over in cc)
+
+-- Between two births of one number that process ends.
+pub lives_apart : (before between after : List Line) (a b : Line) (c : ℕ) → Laws (before ++ a ∷ between ++ b ∷ after)
+    → begins c a ≡ true → begins c b ≡ true → list_any (ends c) between ≡ true
+lives_apart before between after a b c h first second =
+    one_between (λ k. lives_now k ≡ true) c (ends c) (lives_stays c) before between a (ap lives_now (sym (begun a.entry c (kept_of before c) first)))
+    (λ lives.
+    let apart = everywhere_at begins_apart (before ++ a ∷ between) b after h.births in
+    let dead : is_living (before ++ a ∷ between) c ≡ false = of (born_by b.entry) second apart in
+    let no = sym (living_kept (before ++ a ∷ between) c ∙ dead) ∙ lives in cc)
+  where
+    not_false : (b : Bool) → not b ≡ true → b ≡ false
+    not_false true e = absurd (cc)
+    not_false false e = refl
+
+    of : (o : Option ℕ) → is_just c o ≡ true → none_or (λ n. not (is_living (before ++ a ∷ between) n)) o ≡ true → is_living (before ++ a ∷ between) c ≡ false
+    of None born apart = absurd (cc)
+    of (Some n) born apart = subst (λ n. is_living (before ++ a ∷ between) n ≡ false) (eqb-true n c born) (not_false (is_living (before ++ a ∷ between) n) apart)
+
+-- ---- numbers of events
+
+next_rises : (before after : List Line) (a b : Line) → Everywhere numbers_rise (before ++ a ∷ [] ++ b ∷ after) → a.event ≤ b.event
+next_rises before after a b h = leb-true a.event b.event (subst (λ o. number_from o b.event ≡ true) (last_where_more (λ l. true) before a) (everywhere_at numbers_rise (before ++ a ∷ []) b after h))
+
+rises : (before between after : List Line) (a b : Line) → Everywhere numbers_rise (before ++ a ∷ between ++ b ∷ after) → a.event ≤ b.event
+rises before [] after a b h = next_rises before after a b h
+rises before (l ∷ ls) after a b h =
+    let first = next_rises before (ls ++ b ∷ after) a l (subst (Everywhere numbers_rise) (append_assoc before (a ∷ l ∷ ls) (b ∷ after) ∙ sym (append_assoc before (a ∷ []) (l ∷ ls ++ b ∷ after))) h) in
+    let rest = rises (before ++ a ∷ []) ls after l b (subst (Everywhere numbers_rise) (ap (λ xs. xs ++ b ∷ after) (sym (append_assoc before (a ∷ []) (l ∷ ls)))) h) in
+    omega (arith, first, rest)
+
+-- Numbers of events don't fall.
+pub numbers_never_fall : (before between after : List Line) (a b : Line) → Laws (before ++ a ∷ between ++ b ∷ after) → a.event ≤ b.event
+numbers_never_fall before between after a b h = rises before between after a b h.numbers
+
+-- ---- the halt
+
+-- `halt` comes right after the end of process 1, and nothing after it.
+pub halt_is_last : (before after : List Line) (l : Line) → Laws (before ++ l ∷ after) → is_halt l.entry ≡ true → (ends_first (last_line before) ≡ true) × (after ≡ [])
+halt_is_last before after l h halts = (first (is_halt l.entry) (was_halt (last_line before)) (ends_first (last_line before)) halts (everywhere_at halts_last before l after h.halts), rest after h.halts)
+  where
+    first : (b was ends : Bool) → b ≡ true → (not was && cond b ends (not ends)) ≡ true → ends ≡ true
+    first true false ends t e = e
+    first true true ends t e = absurd (cc)
+    first false was ends t e = absurd (cc)
+
+    none : (was b : Bool) → was ≡ true → (not was && b) ≡ true → ⊥
+    none true b t e = cc
+    none false b t e = cc
+
+    rest : (after : List Line) → Everywhere halts_last (before ++ l ∷ after) → after ≡ []
+    rest [] h = refl
+    rest (x ∷ xs) h =
+        let was : was_halt (last_line (before ++ l ∷ [])) ≡ true = ap was_halt (last_where_more (λ l. true) before l) ∙ halts in
+        absurd (none (was_halt (last_line (before ++ l ∷ []))) _ was (everywhere_at halts_last (before ++ l ∷ []) x xs (subst (Everywhere halts_last) (sym (append_assoc before (l ∷ []) (x ∷ xs))) h)))
+
+-- After the end of process 1 comes `halt`, if anything does.
+pub first_end_halts : (before after : List Line) (a b : Line) → Laws (before ++ a ∷ b ∷ after) → ends 1 a ≡ true → is_halt b.entry ≡ true
+first_end_halts before after a b h ended =
+    let first : ends_first (last_line (before ++ a ∷ [])) ≡ true = ap ends_first (last_where_more (λ l. true) before a) ∙ ended in
+    of (is_halt b.entry) (was_halt (last_line (before ++ a ∷ []))) (ends_first (last_line (before ++ a ∷ []))) first
+    (everywhere_at halts_last (before ++ a ∷ []) b after (subst (Everywhere halts_last) (sym (append_assoc before (a ∷ []) (b ∷ after))) h.halts))
+  where
+    of : (b was first : Bool) → first ≡ true → (not was && cond b first (not first)) ≡ true → b ≡ true
+    of true was first t e = refl
+    of false false true t e = absurd (cc)
+    of false true first t e = absurd (cc)
+    of false was false t e = absurd (cc)
+
+-- ---- whose end is reported
+
+-- where the last line that passes stands
+record IsLast (test : Line → Bool) (xs : List Line) (f : LastOf Line) : Type 0 where
+  earlier : List Line
+  split : xs ≡ earlier ++ f.it ∷ f.after
+  none : list_any test f.after ≡ false
+
+none_last : (test : Line → Bool) (xs : List Line) → last_where test xs ≡ None → list_any test xs ≡ false
+none_last test [] h = refl
+none_last test (x ∷ xs) h = of (last_where test xs) refl (test x) refl h (none_last test xs)
+  where
+    of : (o : Option (LastOf Line)) → last_where test xs ≡ o → (b : Bool) → test x ≡ b → or_this o b x xs ≡ None → (last_where test xs ≡ None → list_any test xs ≡ false) → (test x || list_any test xs) ≡ false
+    of (Some f) is b t h rest = absurd (cc)
+    of None is true t h rest = absurd (cc)
+    of None is false t h rest = rw t (rest is)
+
+is_last : (test : Line → Bool) (xs : List Line) (f : LastOf Line) → last_where test xs ≡ Some f → IsLast test xs f
+is_last test [] f h = absurd (cc)
+is_last test (x ∷ xs) f h = of (last_where test xs) refl (test x) refl h (is_last test xs f)
+  where
+    of : (o : Option (LastOf Line)) → last_where test xs ≡ o → (b : Bool) → test x ≡ b → or_this o b x xs ≡ Some f → (last_where test xs ≡ Some f → IsLast test xs f) → IsLast test (x ∷ xs) f
+    of (Some g) is b t h rest = let i = rest (is ∙ h) in record { earlier = x ∷ i.earlier; split = ap (λ ys. x ∷ ys) i.split; none = i.none }
+    of None is true t h rest =
+        let same : record { it = x; after = xs } ≡ f = cc in
+        subst (IsLast test (x ∷ xs)) same (record { earlier = []; split = refl; none = none_last test xs is })
+    of None is false t h rest = absurd (cc)
+
+-- the lines since the birth
+record IsSince (lines : List Line) (c : ℕ) (since : List Line) : Type 0 where
+  earlier : List Line
+  split : lines ≡ earlier ++ since
+  none : list_any (begins c) since ≡ false
+
+is_since : (lines : List Line) (c : ℕ) (x : LifeSoFar) → newest_life lines c ≡ Some x → IsSince lines c x.since
+unfolding newest_life
+is_since lines c x h = of (last_where (begins c) lines) refl h
+  where
+    from_start : (b : Bool) → last_where (begins c) lines ≡ None → cond b (Some (record { forker = 0; since = lines })) None ≡ Some x → IsSince lines c x.since
+    from_start true is h =
+        let same : record { forker = 0; since = lines } ≡ x = cc in
+        subst (λ (x : LifeSoFar). IsSince lines c x.since) same (record { earlier = []; split = refl; none = none_last (begins c) lines is })
+    from_start false is h = absurd (cc)
+
+    of : (o : Option (LastOf Line)) → last_where (begins c) lines ≡ o → life_after lines c o ≡ Some x → IsSince lines c x.since
+    of (Some birth) is h =
+        let i = is_last (begins c) lines birth is in
+        let same : birth.after ≡ x.since = cc in
+        subst (IsSince lines c) same (record { earlier = i.earlier ++ birth.it ∷ []; split = i.split ∙ sym (append_assoc i.earlier (birth.it ∷ []) birth.after); none = i.none })
+    of None is h = from_start (c == 1) is h
+
+-- the line of the end
+record IsEnding (c : ℕ) (since : List Line) (e : EndOf) : Type 0 where
+  earlier : List Line
+  event : ℕ
+  split : since ≡ earlier ++ line event (Ended c e.status) ∷ e.after
+
+is_ending : (c : ℕ) (since : List Line) (e : EndOf) → the_end c since ≡ Some e → IsEnding c since e
+is_ending c [] e h = absurd (cc)
+is_ending c (l ∷ ls) e h = of (end_in c l.entry) refl h (is_ending c ls e)
+  where
+    ended : (x : Entry) (w : ℕ) → end_in c x ≡ Some w → x ≡ Ended c w
+    ended (Ended p v) w is = at (p == c) refl is
+      where
+        at : (b : Bool) → (p == c) ≡ b → cond b (Some v) None ≡ Some w → Ended p v ≡ Ended c w
+        at true t is = let same : v ≡ w = cc in ap (λ n. Ended n v) (eqb-true p c t) ∙ ap (Ended c) same
+        at false t is = absurd (cc)
+    ended x w is = absurd (cc)
+
+    of : (o : Option ℕ) → end_in c l.entry ≡ o → or_later o ls (the_end c ls) ≡ Some e → (the_end c ls ≡ Some e → IsEnding c ls e) → IsEnding c (l ∷ ls) e
+    of (Some w) is h rest =
+        let same : record { status = w; after = ls } ≡ e = cc in
+        subst (IsEnding c (l ∷ ls)) same (record { earlier = []; event = l.event; split = ap (λ (x : Entry). line l.event x ∷ ls) (ended l.entry w is) })
+    of None is h rest = let i = rest h in record { earlier = l ∷ i.earlier; event = i.event; split = ap (λ xs. l ∷ xs) i.split }
+
+-- An end is reported by the parent of that moment, with its status.
+pub reported_to_parent : (before after : List Line) (l : Line) (p c w : ℕ) → Laws (before ++ l ∷ after) → l.entry ≡ Reported p c w → is_end_word w ≡ true → IsOfEnd before p c w
+unfolding parent_in
+reported_to_parent before after l p c w h is word =
+    let due : is_due_to before p c w (newest_life before c) ≡ true = subst (λ e. report_law before e ≡ true) is (everywhere_at reports_due before l after h.reports) in
+    of (newest_life before c) refl due
+  where
+    split : (x : LifeSoFar) (e : EndOf) → IsSince before c x.since → IsEnding c x.since e → newest_life before c ≡ Some x → parent_of before x ≡ p → e.status ≡ w → list_any (reports c is_end_word) e.after ≡ false → IsOfEnd before p c w
+    split x e a b life parent status none =
+        let lines : before ≡ (a.earlier ++ b.earlier) ++ line b.event (Ended c e.status) ∷ e.after = a.split ∙ ap (λ ls. a.earlier ++ ls) b.split ∙ sym (append_assoc a.earlier b.earlier (line b.event (Ended c e.status) ∷ e.after)) in
+        let unborn = sym (list_any-append (begins c) b.earlier (line b.event (Ended c e.status) ∷ e.after)) ∙ ap (list_any (begins c)) (sym b.split) ∙ a.none in
+        record {
+          earlier = a.earlier ++ b.earlier;
+          event = b.event;
+          later = e.after;
+          ended = subst (λ v. before ≡ (a.earlier ++ b.earlier) ++ line b.event (Ended c v) ∷ e.after) status lines;
+          same_life = (neither (list_any (begins c) b.earlier) (list_any (begins c) e.after) unborn).1;
+          unreported = none;
+          parent = ap (parent_in_life before) life ∙ ap Some parent;
+        }
+
+    ending : (x : LifeSoFar) → newest_life before c ≡ Some x → parent_of before x ≡ p → (o : Option EndOf) → the_end c x.since ≡ o → end_report c w o ≡ true → IsOfEnd before p c w
+    ending x life parent None ended due = absurd (cc)
+    ending x life parent (Some e) ended due =
+        let both = and_parts (e.status == w) (not (list_any (reports c is_end_word) e.after)) due in
+        split x e (is_since before c x life) (is_ending c x.since e ended) life parent (eqb-true e.status w both.0) (not_true (list_any (reports c is_end_word) e.after) both.1)
+      where
+        not_true : (b : Bool) → not b ≡ true → b ≡ false
+        not_true true e = absurd (cc)
+        not_true false e = refl
+
+    of : (o : Option LifeSoFar) → newest_life before c ≡ o → is_due_to before p c w o ≡ true → IsOfEnd before p c w
+    of None life due = absurd (cc)
+    of (Some x) life due =
+        let both = and_parts (parent_of before x == p) (is_due c w x.since) due in
+        let asks : is_due c w x.since ≡ end_report c w (the_end c x.since) = rw word refl in
+        ending x life (eqb-true (parent_of before x) p both.0) (the_end c x.since) refl (sym asks ∙ both.1)

@@ -1,0 +1,261 @@
+-- Signals, notices, alarms and places: no line tells of them.
+use Rattle.std.proofs.Common.{◌≡◌, ◌≢◌, ℕ, ◌+◌, ◌-◌, ◌<◌, Bool, true, false, cond, not, ◌&&◌, ◌||◌, ◌==◌, List, [], ◌∷◌, ◌++◌, filter, Option, Some, None, option_map, is_some, refl, ap, sym, ◌∙◌, arith, subst, inl, inr}
+use Rattle.std.specs.Prelude.{slice_index_or}
+use Rattle.std.specs.List.{AllByRecursion}
+use Rattle.std.proofs.lemmas.Bool.{eqb-true, cond_both, and_parts, or_cases}
+use Rattle.std.proofs.lemmas.List.{get_or-set_other}
+use Rattle.posix.specs.declared.process.Carried.{Carried}
+use Rattle.posix.specs.declared.process.Effect.{Effect}
+use Rattle.posix.specs.declared.process.Effect.TheVariants as effect
+use Rattle.posix.specs.declared.process.PendingSignal.{PendingSignal}
+use Rattle.posix.specs.SignalNumbers.{KILL, CONT, STOP, TSTP, TTIN, TTOU, HUP, is_stop_signal}
+use Rattle.posix.specs.Statuses.{continued}
+use Rattle.posix.specs.Processes.{Process, Signals, is_zombie, is_running, is_stopped, is_living}
+use Rattle.posix.specs.Tables.{IsRising, lookup, changed, pids, members_in}
+use Rattle.posix.specs.States.{State, change, is_in, without, lose_place, go_last, current}
+use Rattle.posix.specs.Consoles.{Console, console_at, console_of, key_signal}
+use Rattle.posix.specs.Generation.{is_pending, with_pending, make_pending, is_deaf, keeps, without_stops, after_discards, generated, effect_of, signalled}
+use Rattle.posix.specs.Choice.{from_kernel, chosen}
+use Rattle.posix.specs.Notices.{child_signal, ignores_children, noticed, ignores_stops, noticed_of_change, told_of_change, resumed, acted_upon, generated_for, signalled_all}
+use Rattle.posix.specs.Ends.{signalled_members, signalled_group, roused, roused_all, hung_up, hang_up, is_dropping, drop_child, notice_of_end, tell_of_all, status_of}
+use Rattle.posix.specs.Alarms.{is_due, with_alarm, rung, ring_at, ring_all, pass_time}
+use Rattle.posix.specs.Settle.{can_go_on, can_act, wakes, give_places, clear_foregrounds, settle}
+use Rattle.posix.specs.Step.{signalled_from, key_on, key, rotate, tick}
+use Rattle.posix.proofs.MemberLemmas.{in_append, is_other, in_last}
+use Rattle.posix.proofs.TableLemmas.{Above, lookup_changed}
+use Rattle.posix.proofs.WalkLemmas.{in_filter, pid_found}
+use Rattle.posix.proofs.TouchLemmas.{Unseen, unseen_signalled, unseen_ring, unseen_noticed}
+use Rattle.posix.proofs.ChangeLemmas.{unseen_noticed_of_change, continued_stopped, lookup_signalled}
+use Rattle.posix.proofs.OrphanLemmas.{lasting_notice}
+use Rattle.posix.proofs.OrderLemmas.{first_in}
+use Rattle.laws.proofs.QuietLemmas.{Quiet, quiet_same, quiet_then, quiet_as, quiet_order, quiet_at, agree_resumed, quiet_dropped, Untold, KeepsKill, kill_cond, quiet_change, quiet_map, runs_on}
+
+-- what a parent doesn't see no line tells of
+pub untold : (f : Process → Process) → Unseen f → Untold f
+untold f u = record { pid = u.pid; parent = u.parent; life = u.life; news = u.news }
+
+-- ---- KILL stays pending
+
+kill_other : (s : ℕ) (c : Option Carried) (g : Signals) → 8 ≢ s - 1 → is_pending g KILL ≡ true → is_pending (with_pending s c g) KILL ≡ true
+kill_other s c g other e = ap is_some (get_or-set_other g.standard (s - 1) 8 c None other) ∙ e
+
+kill_made : (signal : PendingSignal) (g : Signals) → is_pending g KILL ≡ true → is_pending (make_pending signal g) KILL ≡ true
+kill_made signal g e = by (is_pending g signal.sig) refl
+  where
+    by : (b : Bool) → is_pending g signal.sig ≡ b → is_pending (cond b g (with_pending signal.sig (Some signal.carried) g)) KILL ≡ true
+    by true t = e
+    by false t = kill_other signal.sig (Some signal.carried) g (λ same. let no : true ≡ false = sym e ∙ ap (λ n. is_some (slice_index_or g.standard n None)) same ∙ t in absurd (cc)) e
+
+kill_without_stops : (g : Signals) → is_pending g KILL ≡ true → is_pending (without_stops g) KILL ≡ true
+unfolding without_stops
+kill_without_stops g e =
+    kill_other STOP None (with_pending TSTP None (with_pending TTIN None (with_pending TTOU None g))) (λ e. absurd (omega (arith, e)))
+    (kill_other TSTP None (with_pending TTIN None (with_pending TTOU None g)) (λ e. absurd (omega (arith, e)))
+    (kill_other TTIN None (with_pending TTOU None g) (λ e. absurd (omega (arith, e))) (kill_other TTOU None g (λ e. absurd (omega (arith, e))) e)))
+
+kill_discards : (s : ℕ) (g : Signals) → is_pending g KILL ≡ true → is_pending (after_discards s g) KILL ≡ true
+kill_discards s g e =
+    cond_both (s == CONT) _ _ (λ h. is_pending h KILL ≡ true) (λ t. kill_without_stops g e)
+    (λ t. cond_both (is_stop_signal s) _ _ (λ h. is_pending h KILL ≡ true) (λ u. kill_other CONT None g (λ e. absurd (omega (arith, e))) e) (λ u. e))
+
+pub kill_signalled : (signal : PendingSignal) → KeepsKill (signalled signal)
+unfolding signalled generated
+kill_signalled signal r e =
+    let g = r.signals in
+    let h = after_discards signal.sig g in
+    let kept = kill_discards signal.sig g e in
+    cond_both (is_deaf r.pid r.life g signal.sig) g (cond (keeps g signal.sig) (make_pending signal h) h) (λ x. is_pending x KILL ≡ true) (λ t. e)
+    (λ t. cond_both (keeps g signal.sig) (make_pending signal h) h (λ x. is_pending x KILL ≡ true) (λ u. kill_made signal h kept) (λ u. kept))
+
+kill_same : KeepsKill (λ r. r)
+kill_same r e = e
+
+-- ---- signals
+
+quiet_noticed_of_change : (s : State) (p : ℕ) (signal : PendingSignal) → Quiet s (change s p (noticed_of_change signal))
+unfolding noticed_of_change
+quiet_noticed_of_change s p signal =
+    quiet_change s p (noticed_of_change signal) (untold (noticed_of_change signal) (unseen_noticed_of_change signal))
+    (kill_cond (λ r. ignores_stops r.signals) (λ r. r) (signalled signal) kill_same (kill_signalled signal))
+
+-- a parent's notice of a change
+pub quiet_told_of_change : (status : ℕ) (r : Process) (s : State) → Quiet s (record s { processes = told_of_change status r s.processes })
+unfolding told_of_change
+quiet_told_of_change status r s = quiet_noticed_of_change s r.parent (child_signal r.pid status)
+
+-- one that was stopped is continued
+quiet_resumed : (s : State) (p : ℕ) (r : Process) → lookup p s.processes ≡ Some r → is_stopped r.life ≡ true → Quiet s (change s p resumed)
+unfolding resumed
+quiet_resumed s p r found stops = quiet_at s p resumed (λ r. refl) r found (λ k h. agree_resumed k r stops h) (λ no waits. absurd (cc))
+
+-- a signal is generated for one
+pub quiet_generated : (signal : PendingSignal) (p : ℕ) (s : State) → Quiet s (record s { processes = generated_for signal (lookup p s.processes) s.processes })
+unfolding signalled
+quiet_generated signal p s = by (lookup p s.processes) refl
+  where
+    told : (r : Process) → Quiet s (change s r.pid (signalled signal))
+    told r = quiet_change s r.pid (signalled signal) (untold (signalled signal) (unseen_signalled signal)) (kill_signalled signal)
+
+    acts : (r : Process) → lookup p s.processes ≡ Some r → (w : Effect) → effect_of r.pid r.life signal r.signals ≡ w → Quiet s (record s { processes = acted_upon w r (changed r.pid (signalled signal) s.processes) })
+    acts r e effect.Nothing w = told r
+    acts r e effect.Continued w =
+        let one = change s r.pid (signalled signal) in
+        let two = change one r.pid resumed in
+        quiet_then s two _ (quiet_then s one two (told r) (quiet_resumed one r.pid (signalled signal r) (lookup_signalled signal r p s.processes e) (continued_stopped r.pid signal r w))) (quiet_told_of_change continued r two)
+
+    by : (o : Option Process) → lookup p s.processes ≡ o → Quiet s (record s { processes = generated_for signal o s.processes })
+    by None e = quiet_same s
+    by (Some r) e = acts r e (effect_of r.pid r.life signal r.signals) refl
+
+-- for each of several
+pub quiet_signalled : (signal : PendingSignal) (ps : List ℕ) (s : State) → Quiet s (record s { processes = signalled_all signal ps s.processes })
+unfolding signalled_all
+quiet_signalled signal [] s = quiet_same s
+quiet_signalled signal (p ∷ ps) s =
+    let one = record s { processes = generated_for signal (lookup p s.processes) s.processes } in
+    quiet_then s one _ (quiet_generated signal p s) (quiet_signalled signal ps one)
+
+-- for the members of a group
+quiet_members : (signal : PendingSignal) (group : ℕ) (s : State) → Quiet s (record s { processes = signalled_members signal group s.processes })
+unfolding signalled_members
+quiet_members signal group s = quiet_signalled signal (pids (members_in group s.processes)) s
+
+pub quiet_group : (n group : ℕ) (s : State) → Quiet s (record s { processes = signalled_group n group s.processes })
+quiet_group n group s =
+    cond_both (group == 0) s.processes (signalled_members (record { sig = n; carried = from_kernel }) group s.processes) (λ rs. Quiet s (record s { processes = rs })) (λ e. quiet_same s)
+    (λ e. quiet_members (record { sig = n; carried = from_kernel }) group s)
+
+-- groups that are roused
+pub quiet_roused : (gs : List ℕ) (s : State) → Quiet s (record s { processes = roused_all gs s.processes })
+unfolding roused_all
+quiet_roused [] s = quiet_same s
+quiet_roused (g ∷ gs) s =
+    let hung = record s { processes = signalled_members (record { sig = HUP; carried = from_kernel }) g s.processes } in
+    let one = record s { processes = roused g s.processes } in
+    quiet_then s one _ (quiet_then s hung one (quiet_members (record { sig = HUP; carried = from_kernel }) g s) (quiet_members (record { sig = CONT; carried = from_kernel }) g hung)) (quiet_roused gs one)
+
+-- a terminal that is hung up
+pub quiet_hung_up : (s : State) (r : Process) → Quiet s (hang_up s r)
+unfolding hang_up
+quiet_hung_up s r = cond_both (not (r.pid == 1) && r.session == r.pid) _ _ (Quiet s) (λ e. of (console_of r.session s.consoles)) (λ e. quiet_same s)
+  where
+    of : (c : Option Console) → Quiet s (hung_up s r.session c)
+    of None = quiet_same s
+    of (Some c) = let one = record s { processes = signalled_group HUP c.foreground s.processes } in quiet_then s one _ (quiet_group HUP c.foreground s) (quiet_as one _ refl refl refl refl refl)
+
+-- ---- ends
+
+-- c is there, a zombie
+pub record IsGone (rs : List Process) (c : ℕ) : Type 0 where
+  pub what : Process
+  pub found : lookup c rs ≡ Some what
+  pub dead : is_zombie what.life ≡ true
+
+-- notice of an end, of which the record may be dropped
+pub quiet_notice : (s : State) (parent child status : ℕ) → IsRising s.processes → IsGone s.processes child → Quiet s (notice_of_end s parent child status)
+unfolding notice_of_end noticed
+quiet_notice s parent child status up gone =
+    let signal = child_signal child status in
+    let told = change s parent (noticed signal) in
+    let u = untold (noticed signal) (unseen_noticed signal) in
+    let one : Quiet s told = quiet_change s parent (noticed signal) u (kill_cond (λ r. ignores_children r.signals) (λ r. r) (signalled signal) kill_same (kill_signalled signal)) in
+    let there = lookup_changed parent child (noticed signal) u.pid s.processes in
+    cond_both (is_dropping parent s.processes) (drop_child told child) told (Quiet s)
+    (λ e. cond_both (child == parent) (option_map (noticed signal) (lookup child s.processes)) (lookup child s.processes) (λ o. lookup child told.processes ≡ o → Quiet s (drop_child told child))
+    (λ t found. quiet_then s told _ one (quiet_dropped told child (noticed signal gone.what) (one.rising up) (found ∙ ap (option_map (noticed signal)) gone.found) (ap is_zombie (u.life gone.what) ∙ gone.dead)))
+    (λ t found. quiet_then s told _ one (quiet_dropped told child gone.what (one.rising up) (found ∙ gone.found) gone.dead)) there)
+    (λ e. one)
+
+-- another one stays
+gone_noticed : (s : State) (parent child status c : ℕ) → c ≢ child → IsGone s.processes c → IsGone (notice_of_end s parent child status).processes c
+gone_noticed s parent child status c other h =
+    let l = lasting_notice s parent child status c h.what h.found other in
+    record { what = l.what; found = l.found; dead = l.zombie ∙ h.dead }
+
+-- the same of each of several
+abbrev pub AllGone : List Process → List Process → Type 0
+AllGone rs zs = AllByRecursion (λ (z : Process). IsGone rs z.pid) zs
+
+still_gone : (n : ℕ) (rs ts : List Process) → ((c : ℕ) → n < c → IsGone rs c → IsGone ts c) → (zs : List Process) → Above n zs → AllGone rs zs → AllGone ts zs
+still_gone n rs ts h [] up k = tt
+still_gone n rs ts h (z ∷ zs) up k = (h z.pid up.0 k.0, still_gone n rs ts h zs up.1 k.1)
+
+-- notices of several ends
+pub quiet_told : (s : State) (heir : ℕ) (zs : List Process) → IsRising s.processes → IsRising zs → AllGone s.processes zs → Quiet s (tell_of_all s heir zs)
+unfolding tell_of_all IsRising
+quiet_told s heir [] up rises k = quiet_same s
+quiet_told s heir (z ∷ zs) up rises k =
+    let one = notice_of_end s heir z.pid (status_of z.life) in
+    let q = quiet_notice s heir z.pid (status_of z.life) up k.0 in
+    quiet_then s one _ q (quiet_told one heir zs (q.rising up) rises.1
+    (still_gone z.pid s.processes one.processes (λ c above g. gone_noticed s heir z.pid (status_of z.life) c (λ e. absurd (omega (arith, above, e))) g) zs rises.0 k.1))
+
+-- ---- places
+
+pub quiet_lose : (s : State) (p : ℕ) → Quiet s (lose_place s p)
+quiet_lose s p = quiet_order s (without p s.order) (λ q r e f stops none. (is_other p q s.order e).among)
+
+pub quiet_last : (s : State) (p : ℕ) → is_in p s.order ≡ true → Quiet s (go_last s p)
+quiet_last s p first = quiet_order s (without p s.order ++ p ∷ []) (λ q r e f stops none. elim (or_cases _ _ (sym (in_last q p (without p s.order)) ∙ e)) [
+  | inl there ↦ (is_other p q s.order there).among
+  | inr same ↦ subst (λ n. is_in n s.order ≡ true) (eqb-true p q same) first
+])
+
+-- ---- events
+
+pub quiet_pass : (s : State) → Quiet s (pass_time s)
+unfolding ring_all rung with_alarm
+quiet_pass s =
+    let now = s.ticks + 1 in
+    let rings = quiet_map s (ring_at now) (untold (ring_at now) (unseen_ring now)) (kill_cond (λ r. is_due now r.alarm) rung (λ r. r) (λ r e. kill_signalled _ r e) kill_same) in
+    let t = record s { processes = ring_all now s.processes } in
+    quiet_then s t (pass_time s) rings (quiet_as t (pass_time s) refl refl refl refl refl)
+
+pub quiet_rotate : (s : State) (c : Option ℕ) → current s ≡ c → Quiet s (rotate (pass_time s) c)
+quiet_rotate s None e = quiet_pass s
+quiet_rotate s (Some p) e = quiet_then s (pass_time s) _ (quiet_pass s) (quiet_last (pass_time s) p (first_in p s.order e))
+
+pub quiet_tick : (s : State) → Quiet s (tick s)
+unfolding tick
+quiet_tick s = quiet_rotate s (current s) refl
+
+pub quiet_key : (s : State) (console byte : ℕ) → Quiet s (key s console byte)
+unfolding key
+quiet_key s console byte = on (console_at console s.consoles)
+  where
+    from : (n : Option ℕ) (group : ℕ) → Quiet s (record s { processes = signalled_from n group s.processes })
+    from None group = quiet_same s
+    from (Some n) group = quiet_group n group s
+
+    on : (c : Option Console) → Quiet s (key_on s console byte c)
+    on None = quiet_same s
+    on (Some c) = let one = record s { processes = signalled_from (key_signal byte) c.foreground s.processes } in quiet_then s one _ (from (key_signal byte) c.foreground) (quiet_as one _ refl refl refl refl refl)
+
+-- who can act runs, or has KILL pending
+act_runs : (s : State) (r : Process) → can_act s r ≡ true → is_stopped r.life ≡ true → is_pending r.signals KILL ≡ true
+unfolding can_act
+act_runs s r acts stops = elim (or_cases (is_living r && is_pending r.signals KILL) (is_running r.life && (can_go_on s r r.blocked || is_some (chosen r.life r.signals))) acts) [
+  | inl dying ↦ (and_parts (is_living r) (is_pending r.signals KILL) dying).1
+  | inr goes ↦ absurd (runs_on r.life (and_parts (is_running r.life) (can_go_on s r r.blocked || is_some (chosen r.life r.signals)) goes).0 stops)
+]
+
+-- places that are given
+pub quiet_given : (s : State) → IsRising s.processes → Quiet s (give_places s)
+unfolding give_places
+quiet_given s up = quiet_order s (s.order ++ pids (filter (wakes s) s.processes)) (λ q r e f stops none. elim (or_cases _ _ (sym (in_append q s.order (pids (filter (wakes s) s.processes))) ∙ e)) [
+  | inl there ↦ there
+  | inr new ↦
+      let w = pid_found q (filter (wakes s) s.processes) new in
+      let a = in_filter (wakes s) s.processes up q w.0 w.1 in
+      let same : w.0 ≡ r = let both : Some w.0 ≡ Some r = sym a.found ∙ f in cc in
+      let dying : is_pending r.signals KILL ≡ true = act_runs s r (subst (λ (t : Process). can_act s t ≡ true) same (and_parts _ _ a.passes).1) stops in
+      absurd (not_both (is_pending r.signals KILL) none dying)
+])
+  where
+    not_both : (b : Bool) → b ≡ false → b ≡ true → ⊥
+    not_both true none dying = cc
+    not_both false none dying = cc
+
+pub quiet_settle : (s : State) → IsRising s.processes → Quiet s (settle s)
+unfolding settle clear_foregrounds
+quiet_settle s up = let t = clear_foregrounds s in quiet_then s t (settle s) (quiet_as s t refl refl refl refl refl) (quiet_given t up)

@@ -1,0 +1,472 @@
+-- What lines tell of: births, ends, stops and reports; and lines that tell of nothing.
+use Rattle.std.proofs.Common.{◌≡◌, ◌≢◌, ℕ, zero, suc, ◌+◌, ◌/◌, ◌≤◌, Bool, true, false, cond, ◌==◌, List, [], ◌∷◌, ◌++◌, length, Option, Some, None, option_map, is_none, refl, ap, sym, ◌∙◌, arith, subst, pos, inl, inr}
+use Rattle.std.proofs.lemmas.Bool.{eqb-true, eqb-false, eq-eqb, ne_eqb, cond_both}
+use Rattle.posix.specs.declared.entry.Entry.{Entry}
+use Rattle.posix.specs.declared.entry.Entry.TheVariants.{Noted, Called, Moved, Reported, NoMemory, Handled, Discarded, Stopped, Returned, Ended, Halted}
+use Rattle.posix.specs.declared.call.Call.TheVariants.{Fork}
+use Rattle.posix.specs.declared.process.Life.{Life}
+use Rattle.posix.specs.declared.process.Life.TheVariants.{Running, Stopped as Halting, Zombie}
+use Rattle.posix.specs.declared.process.News.TheVariants as news
+use Rattle.posix.specs.SignalNumbers.{is_stop_signal}
+use Rattle.posix.specs.Statuses.{stopped, continued, tells_end}
+use Rattle.posix.specs.Processes.{Process, is_zombie, is_stopped, is_running}
+use Rattle.posix.specs.Tables.{IsRising, lookup, changed, inserted, removed, reparented, adopted}
+use Rattle.posix.specs.States.{State, process, change}
+use Rattle.posix.specs.Entries.{Line, line, reports_end}
+use Rattle.posix.specs.Outcomes.{finished}
+use Rattle.posix.specs.Births.{child_of, born}
+use Rattle.posix.specs.Ends.{ended, made_zombie, halt, depart}
+use Rattle.posix.specs.Notices.{stopped_by}
+use Rattle.posix.specs.Waits.{news_told}
+use Rattle.laws.specs.TraceLines.{is_end_word}
+use Rattle.laws.specs.Lives.{LastOf, LifeSoFar, EndOf, newest_life, the_end, last_stop, parent_of, process_of, born_by}
+use Rattle.laws.specs.Keeping.{Alive, Kept, NeverBorn, Lives, Died, Phase, Going, FirstEnded, Over, kept_of, kept_of_life, kept_since, alive_since, kept_after, newborn, after_report, after_stop, ended_with, given_on, moved_from, lives_now, place_fault, report_fault, word_fault, phase_after}
+use Rattle.laws.specs.Agree.{NewsAgree, AgreeOn, AgreeIn}
+use Rattle.laws.proofs.KeptLemmas.{and_true}
+use Rattle.laws.proofs.NextLineLemmas.{lives_kept, free_kept, agree_says}
+use Rattle.posix.proofs.TableLemmas.{lookup_changed, pid_looked, pid_reparented}
+use Rattle.posix.proofs.MapLemmas.{lookup_map}
+use Rattle.std.proofs.lemmas.List.{length-map}
+use Rattle.posix.proofs.RegularLemmas.{lookup_kept, lookup_removed, lookup_inserted, lookup_new}
+use Rattle.laws.proofs.StatusLemmas.{stop_word, end_tells}
+use Rattle.laws.proofs.NewsLemmas.{IsNewsOf}
+use Rattle.laws.proofs.QuietLemmas.{runs_on, length_changed, one_removed}
+
+-- ---- lines that tell of nothing
+
+abbrev pub is_plain : Entry → Bool
+is_plain (Noted p z) = true
+is_plain (Called p call z) = is_none (born_by (Called p call z))
+is_plain (Moved p call bytes) = true
+is_plain (Reported p c w) = false
+is_plain (NoMemory p call) = true
+is_plain (Handled p s value sender) = true
+is_plain (Discarded p s) = true
+is_plain (Stopped p s) = false
+is_plain (Returned p) = true
+is_plain (Ended p w) = false
+is_plain Halted = false
+
+record TellsNothing (kept : ℕ → Kept) (e : Entry) : Type 0 where
+  born : born_by e ≡ None
+  same : (c : ℕ) → kept_after kept e c ≡ kept c
+  report : report_fault kept e ≡ None
+  ends : reports_end e ≡ false
+  going : phase_after e ≡ Going
+
+tells_nothing : (kept : ℕ → Kept) (e : Entry) → is_plain e ≡ true → TellsNothing kept e
+unfolding kept_after
+tells_nothing kept (Noted p z) h = record { born = refl; same = λ c. refl; report = refl; ends = refl; going = refl }
+tells_nothing kept (Called p call z) h =
+    let none = is_none_none (born_by (Called p call z)) h in
+    record { born = none; same = λ c. rw none refl; report = refl; ends = refl; going = refl }
+  where
+    is_none_none : (o : Option ℕ) → is_none o ≡ true → o ≡ None
+    is_none_none None h = refl
+    is_none_none (Some n) h = absurd (cc)
+tells_nothing kept (Moved p call bytes) h = record { born = refl; same = λ c. refl; report = refl; ends = refl; going = refl }
+tells_nothing kept (Reported p c w) h = absurd (cc)
+tells_nothing kept (NoMemory p call) h = record { born = refl; same = λ c. refl; report = refl; ends = refl; going = refl }
+tells_nothing kept (Handled p s value sender) h = record { born = refl; same = λ c. refl; report = refl; ends = refl; going = refl }
+tells_nothing kept (Discarded p s) h = record { born = refl; same = λ c. refl; report = refl; ends = refl; going = refl }
+tells_nothing kept (Stopped p s) h = absurd (cc)
+tells_nothing kept (Returned p) h = record { born = refl; same = λ c. refl; report = refl; ends = refl; going = refl }
+tells_nothing kept (Ended p w) h = absurd (cc)
+tells_nothing kept Halted h = absurd (cc)
+
+-- p is there and lives
+pub record IsLiving (s : State) (p : ℕ) : Type 0 where
+  pub what : Process
+  pub found : lookup p s.processes ≡ Some what
+  pub lives : is_zombie what.life ≡ false
+
+-- so p is in a life, and may have lines
+in_life : (phase : Phase) (lines : List Line) (k : ℕ) (s : State) (p : ℕ) → AgreeIn phase lines k s → IsLiving s p → lives_now (kept_of lines p) ≡ true
+in_life phase lines k s p h me = lives_kept (kept_of lines p) me.what (subst (AgreeOn (kept_of lines p)) me.found (h.records p)) me.lives
+
+may_say : (kept : ℕ → Kept) (p : ℕ) (e : Entry) → lives_now (kept p) ≡ true → process_of e ≡ Some p → place_fault kept Going e ≡ None
+may_say kept p e lives named = rw (named, lives) refl
+
+-- a line of who lives that tells of nothing
+pub agree_plain : (lines : List Line) (k : ℕ) (s : State) (p : ℕ) (e : Entry) → AgreeIn Going lines k s → IsLiving s p → process_of e ≡ Some p → is_plain e ≡ true → AgreeIn Going (lines ++ line k e ∷ []) k s
+agree_plain lines k s p e h me named plain =
+    let t = tells_nothing (kept_of lines) e plain in
+    subst (λ phase. AgreeIn phase (lines ++ line k e ∷ []) k s) t.going (agree_says Going lines k e s s h (record {
+      place = may_say (kept_of lines) p e (in_life Going lines k s p h me) named;
+      birth = rw t.born refl;
+      report = t.report;
+      records = λ c. subst (λ m. AgreeOn m (process s c)) (sym (t.same c)) (h.records c);
+      births = rw t.born (omega arith);
+      total = rw (t.born, t.ends) refl;
+    }))
+
+-- several such lines
+pub data AllPlain (p : ℕ) : List Entry → Type 0 where
+  NoneSaid : AllPlain p []
+  Said : (e : Entry) (es : List Entry) → process_of e ≡ Some p → is_plain e ≡ true → AllPlain p es → AllPlain p (e ∷ es)
+
+-- ---- ends
+
+parent_reparented : (p heir : ℕ) (r : Process) → (reparented p heir r).parent ≡ moved_from p heir r.parent
+parent_reparented p heir r = elim (r.parent == p) as (λ b. (cond b (record r { parent = heir }) r).parent ≡ cond b heir r.parent) [ true ↦ refl | false ↦ refl ]
+
+life_reparented : (p heir : ℕ) (r : Process) → (reparented p heir r).life ≡ r.life
+life_reparented p heir r = cond_both (r.parent == p) (record r { parent = heir }) r (λ (q : Process). q.life ≡ r.life) (λ e. refl) (λ e. refl)
+
+news_reparented : (p heir : ℕ) (r : Process) → (reparented p heir r).news ≡ r.news
+news_reparented p heir r = cond_both (r.parent == p) (record r { parent = heir }) r (λ (q : Process). q.news ≡ r.news) (λ e. refl) (λ e. refl)
+
+-- children that are given on
+agree_given : (p heir : ℕ) (k : Kept) (o : Option Process) → AgreeOn k o → AgreeOn (given_on p heir k) (option_map (reparented p heir) o)
+agree_given p heir NeverBorn None h = h
+agree_given p heir NeverBorn (Some r) h = h
+agree_given p heir (Lives a) None h = h
+agree_given p heir (Lives a) (Some r) h = record {
+  living = ap is_zombie (life_reparented p heir r) ∙ h.living;
+  parent = parent_reparented p heir r ∙ ap (moved_from p heir) h.parent;
+  news = rw (life_reparented p heir r, news_reparented p heir r) h.news;
+  stopped = λ e. h.stopped (sym (ap is_stopped (life_reparented p heir r)) ∙ e);
+}
+agree_given p heir (Died d) None h = h
+agree_given p heir (Died d) (Some r) h = record {
+  life = life_reparented p heir r ∙ h.life;
+  parent = parent_reparented p heir r ∙ ap (moved_from p heir) h.parent;
+  reported = h.reported;
+  news = λ other. news_reparented p heir r ∙ h.news (λ e. other (pid_reparented p heir r ∙ e));
+  word = h.word;
+}
+
+-- one that ends
+agree_made : (p heir w : ℕ) (k : Kept) (r : Process) → is_end_word w ≡ true → is_zombie r.life ≡ false → AgreeOn k (Some r) → AgreeOn (ended_with w (given_on p heir k)) (Some (reparented p heir (made_zombie w r)))
+unfolding made_zombie
+agree_made p heir w NeverBorn r word lives h = h
+agree_made p heir w (Lives a) r word lives h = record {
+  life = life_reparented p heir (made_zombie w r);
+  parent = parent_reparented p heir (made_zombie w r) ∙ ap (moved_from p heir) h.parent;
+  reported = refl;
+  news = λ other. news_reparented p heir (made_zombie w r);
+  word = word;
+}
+agree_made p heir w (Died d) r word lives h = let no : true ≡ false = sym (ap is_zombie h.life) ∙ lives in absurd (cc)
+
+pub departed : (s : State) (p heir w c : ℕ) → process (depart s p heir w) c ≡ option_map (reparented p heir) (cond (c == p) (option_map (made_zombie w) (process s c)) (process s c))
+unfolding adopted made_zombie
+departed s p heir w c = lookup_map (reparented p heir) (pid_reparented p heir) c (changed p (made_zombie w) s.processes) ∙ ap (option_map (reparented p heir)) (lookup_changed p c (made_zombie w) (λ r. refl) s.processes)
+
+length_departed : (s : State) (p heir w : ℕ) → length (depart s p heir w).processes ≡ length s.processes
+unfolding adopted
+length_departed s p heir w = length-map (changed p (made_zombie w) s.processes) (reparented p heir) ∙ length_changed p (made_zombie w) s.processes
+
+-- the end of a process other than process 1
+pub agree_ended : (lines : List Line) (k : ℕ) (s : State) (p w : ℕ) → AgreeIn Going lines k s → IsLiving s p → p ≢ 1 → is_end_word w ≡ true → AgreeIn Going (lines ++ line k (Ended p w) ∷ []) k (depart s p 1 w)
+unfolding kept_after
+agree_ended lines k s p w h me other word =
+    let kept = kept_of lines in
+    let going : phase_after (Ended p w) ≡ Going = rw (ne_eqb p 1 other) refl in
+    subst (λ phase. AgreeIn phase (lines ++ line k (Ended p w) ∷ []) k (depart s p 1 w)) going (agree_says Going lines k (Ended p w) s (depart s p 1 w) h (record {
+      place = may_say kept p (Ended p w) (in_life Going lines k s p h me) refl;
+      birth = refl;
+      report = refl;
+      records = λ c. subst (AgreeOn (kept_after kept (Ended p w) c)) (sym (departed s p 1 w c)) (one c (p == c) refl);
+      births = omega arith;
+      total = let l = length_departed s p 1 w in omega (arith, l);
+    }))
+  where
+    one : (c : ℕ) (b : Bool) → (p == c) ≡ b
+        → AgreeOn (cond b (ended_with w (given_on p 1 (kept_of lines c))) (given_on p 1 (kept_of lines c))) (option_map (reparented p 1) (cond (c == p) (option_map (made_zombie w) (process s c)) (process s c)))
+    one c true t =
+        let same : p ≡ c = eqb-true p c t in
+        let there : process s c ≡ Some me.what = ap (process s) (sym same) ∙ me.found in
+        rw (eq-eqb c p (sym same), there) (agree_made p 1 w (kept_of lines c) me.what word me.lives (subst (AgreeOn (kept_of lines c)) there (h.records c)))
+    one c false t = rw (ne_eqb c p (λ e. eqb-false p c t (sym e))) (agree_given p 1 (kept_of lines c) (process s c) (h.records c))
+
+-- ---- a halt
+
+moved_same : (parent : ℕ) → moved_from 1 1 parent ≡ parent
+moved_same parent = elim (parent == 1) as (λ b. (parent == 1) ≡ b → cond b 1 parent ≡ parent) [ true ↦ λ t. sym (eqb-true parent 1 t) | false ↦ λ t. refl ] refl
+
+given_same : (k : Kept) → given_on 1 1 k ≡ k
+given_same NeverBorn = refl
+given_same (Lives a) = ap (λ n. Lives (record a { parent = n })) (moved_same a.parent)
+given_same (Died d) = ap (λ n. Died (record d { parent = n })) (moved_same d.parent)
+
+ended_pid : (w : ℕ) (r : Process) → (ended w r).pid ≡ r.pid
+unfolding ended
+ended_pid w r = refl
+
+stopped_pid : (n : ℕ) (r : Process) → (stopped_by n r).pid ≡ r.pid
+unfolding stopped_by
+stopped_pid n r = refl
+
+agree_first : (w : ℕ) (k : Kept) (r : Process) → r.pid ≡ 1 → is_end_word w ≡ true → is_zombie r.life ≡ false → AgreeOn k (Some r) → AgreeOn (ended_with w k) (Some (ended w r))
+unfolding ended
+agree_first w NeverBorn r one word lives h = h
+agree_first w (Lives a) r one word lives h = record { life = refl; parent = h.parent; reported = refl; news = λ other. absurd (other one); word = word }
+agree_first w (Died d) r one word lives h = let no : true ≡ false = sym (ap is_zombie h.life) ∙ lives in absurd (cc)
+
+-- the end of process 1, and the halt
+pub agree_halted : (lines : List Line) (k : ℕ) (s : State) (w : ℕ) → AgreeIn Going lines k s → IsLiving s 1 → is_end_word w ≡ true
+    → AgreeIn Over ((lines ++ line k (Ended 1 w) ∷ []) ++ line k Halted ∷ []) k (halt s w)
+unfolding kept_after
+agree_halted lines k s w h me word =
+    let kept = kept_of lines in
+    let t = change s 1 (ended w) in
+    let l = length_changed 1 (ended w) s.processes in
+    let first : AgreeIn FirstEnded (lines ++ line k (Ended 1 w) ∷ []) k (halt s w) = agree_says Going lines k (Ended 1 w) s (halt s w) h (record {
+      place = may_say kept 1 (Ended 1 w) (in_life Going lines k s 1 h me) refl;
+      birth = refl;
+      report = refl;
+      records = λ c. one c (1 == c) refl;
+      births = omega arith;
+      total = omega (arith, l);
+    }) in
+    agree_says FirstEnded (lines ++ line k (Ended 1 w) ∷ []) k Halted (halt s w) (halt s w) first (record { place = refl; birth = refl; report = refl; records = first.records; births = omega arith; total = refl })
+  where
+    one : (c : ℕ) (b : Bool) → (1 == c) ≡ b → AgreeOn (cond b (ended_with w (given_on 1 1 (kept_of lines c))) (given_on 1 1 (kept_of lines c))) (lookup c (changed 1 (ended w) s.processes))
+    one c true t =
+        let same : 1 ≡ c = eqb-true 1 c t in
+        let there : process s c ≡ Some me.what = ap (process s) (sym same) ∙ me.found in
+        rw (given_same (kept_of lines c), lookup_changed 1 c (ended w) (ended_pid w) s.processes, eq-eqb c 1 (sym same), there)
+        (agree_first w (kept_of lines c) me.what (pid_looked 1 s.processes me.what me.found) word me.lives (subst (AgreeOn (kept_of lines c)) there (h.records c)))
+    one c false t = rw (given_same (kept_of lines c), lookup_changed 1 c (ended w) (ended_pid w) s.processes, ne_eqb c 1 (λ e. eqb-false 1 c t (sym e))) (h.records c)
+
+-- ---- stops
+
+agree_stops : (n : ℕ) (k : Kept) (r : Process) → is_stop_signal n ≡ true → is_zombie r.life ≡ false → AgreeOn k (Some r) → AgreeOn (after_stop n k) (Some (stopped_by n r))
+unfolding stopped_by
+agree_stops n NeverBorn r word lives h = h
+agree_stops n (Lives a) r word lives h = record { living = refl; parent = h.parent; news = (refl, word); stopped = λ e. refl }
+agree_stops n (Died d) r word lives h = let no : true ≡ false = sym (ap is_zombie h.life) ∙ lives in absurd (cc)
+
+pub agree_stopped : (lines : List Line) (k : ℕ) (s : State) (p n : ℕ) → AgreeIn Going lines k s → IsLiving s p → is_stop_signal n ≡ true → AgreeIn Going (lines ++ line k (Stopped p n) ∷ []) k (change s p (stopped_by n))
+unfolding kept_after
+agree_stopped lines k s p n h me word =
+    let kept = kept_of lines in
+    let l = length_changed p (stopped_by n) s.processes in
+    agree_says Going lines k (Stopped p n) s (change s p (stopped_by n)) h (record {
+      place = may_say kept p (Stopped p n) (in_life Going lines k s p h me) refl;
+      birth = refl;
+      report = refl;
+      records = λ c. one c (p == c) refl;
+      births = omega arith;
+      total = omega (arith, l);
+    })
+  where
+    one : (c : ℕ) (b : Bool) → (p == c) ≡ b → AgreeOn (cond b (after_stop n (kept_of lines c)) (kept_of lines c)) (lookup c (changed p (stopped_by n) s.processes))
+    one c true t =
+        let same : p ≡ c = eqb-true p c t in
+        let there : process s c ≡ Some me.what = ap (process s) (sym same) ∙ me.found in
+        rw (lookup_changed p c (stopped_by n) (stopped_pid n) s.processes, eq-eqb c p (sym same), there)
+        (agree_stops n (kept_of lines c) me.what word me.lives (subst (AgreeOn (kept_of lines c)) there (h.records c)))
+    one c false t = rw (lookup_changed p c (stopped_by n) (stopped_pid n) s.processes, ne_eqb c p (λ e. eqb-false p c t (sym e))) (h.records c)
+
+-- ---- reports
+
+-- the tests of a report of an end
+end_passes : (p w : ℕ) (k : Kept) (r : Process) → r.life ≡ Zombie w → r.parent ≡ p → AgreeOn k (Some r) → word_fault p w k ≡ None
+end_passes p w NeverBorn r life parent h = absurd (h)
+end_passes p w (Lives a) r life parent h = let no : true ≡ false = sym (ap is_zombie life) ∙ h.living in absurd (cc)
+end_passes p w (Died d) r life parent h =
+    let status : d.status ≡ w = let both = sym h.life ∙ life in cc in
+    let word : is_end_word w ≡ true = ap is_end_word (sym status) ∙ h.word in
+    let mine : (d.parent == p) ≡ true = eq-eqb d.parent p (sym h.parent ∙ parent) in
+    let same : (d.status == w) ≡ true = eq-eqb d.status w status in
+    rw (mine, word, h.reported, same) refl
+
+end_worded : (w : ℕ) (k : Kept) (r : Process) → r.life ≡ Zombie w → AgreeOn k (Some r) → is_end_word w ≡ true
+end_worded w NeverBorn r life h = absurd (h)
+end_worded w (Lives a) r life h = let no : true ≡ false = sym (ap is_zombie life) ∙ h.living in absurd (cc)
+end_worded w (Died d) r life h = let status : d.status ≡ w = let both = sym h.life ∙ life in cc in ap is_end_word (sym status) ∙ h.word
+
+none_dead : (w : ℕ) (k : Kept) (r : Process) → r.life ≡ Zombie w → AgreeOn k (Some r) → AgreeOn (after_report w k) None
+none_dead w NeverBorn r life h = absurd (h)
+none_dead w (Lives a) r life h = let no : true ≡ false = sym (ap is_zombie life) ∙ h.living in absurd (cc)
+none_dead w (Died d) r life h = tt
+
+-- a wait reports that a child ended, and its record goes
+pub agree_reaped : (lines : List Line) (k : ℕ) (s : State) (p c w : ℕ) (r : Process) → AgreeIn Going lines k s → IsLiving s p → IsRising s.processes → lookup c s.processes ≡ Some r → r.parent ≡ p → r.life ≡ Zombie w
+    → AgreeIn Going (lines ++ line k (Reported p c w) ∷ []) k (record s { processes = removed c s.processes })
+unfolding kept_after
+agree_reaped lines k s p c w r h me up found parent life =
+    let kept = kept_of lines in
+    let agrees : AgreeOn (kept c) (Some r) = subst (AgreeOn (kept c)) found (h.records c) in
+    let word = end_worded w (kept c) r life agrees in
+    agree_says Going lines k (Reported p c w) s (record s { processes = removed c s.processes }) h (record {
+      place = may_say kept p (Reported p c w) (in_life Going lines k s p h me) refl;
+      birth = refl;
+      report = end_passes p w (kept c) r life parent agrees;
+      records = λ q. one agrees q (c == q) refl;
+      births = omega arith;
+      total = let less = one_removed c r s.processes up found in let tells = end_tells w word in rw tells (omega (arith, less));
+    })
+  where
+    one : AgreeOn (kept_of lines c) (Some r) → (q : ℕ) (b : Bool) → (c == q) ≡ b → AgreeOn (cond b (after_report w (kept_of lines q)) (kept_of lines q)) (lookup q (removed c s.processes))
+    one agrees q true t =
+        let same : c ≡ q = eqb-true c q t in
+        subst (λ n. AgreeOn (after_report w (kept_of lines n)) (lookup n (removed c s.processes))) same (subst (AgreeOn (after_report w (kept_of lines c))) (sym (lookup_removed c s.processes)) (none_dead w (kept_of lines c) r life agrees))
+    one agrees q false t = subst (AgreeOn (kept_of lines q)) (sym (lookup_kept c q s.processes (λ e. eqb-false c q t (sym e)))) (h.records q)
+
+-- ---- news
+
+-- what a report of a stop or a continue comes to
+record ToldAs (p w : ℕ) (k : Kept) (r : Process) : Type 0 where
+  passes : word_fault p w k ≡ None
+  after : AgreeOn (after_report w k) (Some (news_told r))
+  tells : tells_end w ≡ false
+
+-- who never stopped has no stop or continue to report
+abbrev IsSound : Kept → Type 0
+IsSound NeverBorn = Unit {0}
+IsSound (Lives a) = a.has_stopped ≡ false → (a.stop ≡ None) × (a.may_continue ≡ false)
+IsSound (Died d) = Unit {0}
+
+sound_kept : (lines : List Line) (c : ℕ) → IsSound (kept_of lines c)
+unfolding kept_of
+sound_kept lines c = of (newest_life lines c)
+  where
+    stop : (parent : ℕ) (o : Option (LastOf Line)) → IsSound (Lives (alive_since parent c o))
+    stop parent None = λ e. (refl, refl)
+    stop parent (Some found) = λ e. absurd (cc)
+
+    since : (parent : ℕ) (ls : List Line) (o : Option EndOf) → IsSound (kept_since c parent ls o)
+    since parent ls None = stop parent (last_stop c ls)
+    since parent ls (Some e) = tt
+
+    of : (o : Option LifeSoFar) → IsSound (kept_of_life lines c o)
+    of None = tt
+    of (Some x) = since (parent_of lines x) x.since (the_end c x.since)
+
+stop_passes : (p s : ℕ) (a : Alive) → IsSound (Lives a) → (a.parent == p) ≡ true → a.stop ≡ Some s → is_stop_signal s ≡ true → word_fault p (stopped s) (Lives a) ≡ None
+stop_passes p s a sound mine last signal = by a.has_stopped refl
+  where
+    by : (b : Bool) → a.has_stopped ≡ b → word_fault p (stopped s) (Lives a) ≡ None
+    by true t =
+        let w = stop_word s signal in
+        let same : (s == stopped s / 256) ≡ true = eq-eqb s _ (sym w.signal) in
+        rw (mine, w.end, w.stop, t, last, same) refl
+    by false t = let none = sym last ∙ (sound t).0 in absurd (cc)
+
+continue_passes : (p : ℕ) (a : Alive) → IsSound (Lives a) → (a.parent == p) ≡ true → a.may_continue ≡ true → word_fault p continued (Lives a) ≡ None
+continue_passes p a sound mine may = by a.has_stopped refl
+  where
+    by : (b : Bool) → a.has_stopped ≡ b → word_fault p continued (Lives a) ≡ None
+    by true t = rw (mine, t, may) refl
+    by false t = let no = sym may ∙ (sound t).1 in absurd (cc)
+
+stop_told : (p s : ℕ) (k : Kept) (r : Process) → IsSound k → is_zombie r.life ≡ false → r.parent ≡ p → r.news ≡ news.StoppedBy s → AgreeOn k (Some r) → ToldAs p (stopped s) k r
+unfolding news_told
+stop_told p s NeverBorn r sound lives parent is h = absurd (h)
+stop_told p s (Lives a) r sound lives parent is h =
+    let n : (a.stop ≡ Some s) × (is_stop_signal s ≡ true) = subst (NewsAgree a (is_stopped r.life)) is h.news in
+    let w = stop_word s n.1 in
+    let mine : (a.parent == p) ≡ true = eq-eqb a.parent p (sym h.parent ∙ parent) in
+    record {
+      passes = stop_passes p s a sound mine n.0 n.1;
+      after = record { living = h.living; parent = h.parent; news = tt; stopped = λ e. rw w.continue (and_true a.may_continue ∙ h.stopped e) };
+      tells = w.tells;
+    }
+stop_told p s (Died d) r sound lives parent is h = let no : true ≡ false = sym (ap is_zombie h.life) ∙ lives in absurd (cc)
+
+continue_told : (p : ℕ) (k : Kept) (r : Process) → IsSound k → is_zombie r.life ≡ false → r.parent ≡ p → r.news ≡ news.Continued → AgreeOn k (Some r) → ToldAs p continued k r
+unfolding news_told
+continue_told p NeverBorn r sound lives parent is h = absurd (h)
+continue_told p (Lives a) r sound lives parent is h =
+    let n : (a.may_continue ≡ true) × (is_stopped r.life ≡ false) = subst (NewsAgree a (is_stopped r.life)) is h.news in
+    let mine : (a.parent == p) ≡ true = eq-eqb a.parent p (sym h.parent ∙ parent) in
+    record {
+      passes = continue_passes p a sound mine n.0;
+      after = record { living = h.living; parent = h.parent; news = tt; stopped = λ e. let no = sym n.1 ∙ e in absurd (cc) };
+      tells = refl;
+    }
+continue_told p (Died d) r sound lives parent is h = let no : true ≡ false = sym (ap is_zombie h.life) ∙ lives in absurd (cc)
+
+pub told_pid : (r : Process) → (news_told r).pid ≡ r.pid
+unfolding news_told
+told_pid r = refl
+
+-- a wait reports a child's news, which are none from then on
+agree_news : (lines : List Line) (k : ℕ) (s : State) (p c w : ℕ) (r : Process) → AgreeIn Going lines k s → IsLiving s p → lookup c s.processes ≡ Some r → ToldAs p w (kept_of lines c) r
+    → AgreeIn Going (lines ++ line k (Reported p c w) ∷ []) k (change s c news_told)
+unfolding kept_after
+agree_news lines k s p c w r h me found told =
+    let kept = kept_of lines in
+    let l = length_changed c news_told s.processes in
+    agree_says Going lines k (Reported p c w) s (change s c news_told) h (record {
+      place = may_say kept p (Reported p c w) (in_life Going lines k s p h me) refl;
+      birth = refl;
+      report = told.passes;
+      records = λ q. one q (c == q) refl;
+      births = omega arith;
+      total = rw told.tells (omega (arith, l));
+    })
+  where
+    one : (q : ℕ) (b : Bool) → (c == q) ≡ b → AgreeOn (cond b (after_report w (kept_of lines q)) (kept_of lines q)) (lookup q (changed c news_told s.processes))
+    one q true t =
+        let same : c ≡ q = eqb-true c q t in
+        subst (λ n. AgreeOn (after_report w (kept_of lines n)) (lookup n (changed c news_told s.processes))) same
+        (rw (lookup_changed c c news_told told_pid s.processes, eq-eqb c c refl, found) told.after)
+    one q false t = rw (lookup_changed c q news_told told_pid s.processes, ne_eqb q c (λ e. eqb-false c q t (sym e))) (h.records q)
+
+pub agree_reported : (lines : List Line) (k : ℕ) (s : State) (p c w : ℕ) (r : Process) → AgreeIn Going lines k s → IsLiving s p → lookup c s.processes ≡ Some r → r.parent ≡ p → is_zombie r.life ≡ false → IsNewsOf r w
+    → AgreeIn Going (lines ++ line k (Reported p c w) ∷ []) k (change s c news_told)
+agree_reported lines k s p c w r h me found parent lives what =
+    let kept = kept_of lines in
+    let agrees : AgreeOn (kept c) (Some r) = subst (AgreeOn (kept c)) found (h.records c) in
+    agree_news lines k s p c w r h me found (by agrees what)
+  where
+    by : AgreeOn (kept_of lines c) (Some r) → IsNewsOf r w → ToldAs p w (kept_of lines c) r
+    by agrees (inl x) = subst (λ v. ToldAs p v (kept_of lines c) r) (sym x.2) (stop_told p x.0 (kept_of lines c) r (sound_kept lines c) lives parent x.1 agrees)
+    by agrees (inr x) = subst (λ v. ToldAs p v (kept_of lines c) r) (sym x.1) (continue_told p (kept_of lines c) r (sound_kept lines c) lives parent x.0 agrees)
+
+-- ---- births
+
+length_inserted : (new : Process) (rs : List Process) → length (inserted new rs) ≡ length rs + 1
+unfolding inserted
+length_inserted new [] = refl
+length_inserted new (r ∷ rs) = let rest = length_inserted new rs in grind (arith, rest)
+
+pub pid_child : (birth : ℕ) (me : Process) (n : ℕ) → (child_of birth me n).pid ≡ n
+unfolding child_of finished
+pid_child birth me n = refl
+
+pub life_child : (birth : ℕ) (me : Process) (n : ℕ) → is_stopped (child_of birth me n).life ≡ is_stopped me.life
+unfolding child_of finished
+life_child birth me n = refl
+
+-- a child of who runs
+agree_child : (birth : ℕ) (me : Process) (n : ℕ) → is_running me.life ≡ true → AgreeOn (newborn me.pid) (Some (child_of birth me n))
+unfolding child_of finished
+agree_child birth me n runs = record { living = running_lives me.life runs; parent = refl; news = tt; stopped = λ e. absurd (runs_on me.life runs e) }
+  where
+    running_lives : (l : Life) → is_running l ≡ true → is_zombie l ≡ false
+    running_lives Running r = refl
+    running_lives Halting r = absurd (cc)
+    running_lives (Zombie w) r = absurd (cc)
+
+-- a birth
+pub agree_born : (lines : List Line) (k : ℕ) (s : State) (me : Process) (n : ℕ) → AgreeIn Going lines k s → IsLiving s me.pid → is_running me.life ≡ true → 1 ≤ n → lookup n s.processes ≡ None
+    → AgreeIn Going (lines ++ line k (Called me.pid Fork (pos n)) ∷ []) k (born s me n)
+unfolding kept_after
+agree_born lines k s me zero h living runs least fresh = absurd (omega (arith, least))
+agree_born lines k s me (suc m) h living runs least fresh =
+    let kept = kept_of lines in
+    let e = Called me.pid Fork (pos (suc m)) in
+    let child = child_of (s.births + 1) me (suc m) in
+    let named : child.pid ≡ suc m = pid_child (s.births + 1) me (suc m) in
+    let l = length_inserted child s.processes in
+    agree_says Going lines k e s (born s me (suc m)) h (record {
+      place = may_say kept me.pid e (in_life Going lines k s me.pid h living) refl;
+      birth = rw (free_kept (kept (suc m)) (subst (AgreeOn (kept (suc m))) fresh (h.records (suc m)))) refl;
+      report = refl;
+      records = λ q. one named q (suc m == q) refl;
+      births = refl;
+      total = omega (arith, l);
+    })
+  where
+    one : (child_of (s.births + 1) me (suc m)).pid ≡ suc m → (q : ℕ) (b : Bool) → (suc m == q) ≡ b → AgreeOn (cond b (newborn me.pid) (kept_of lines q)) (lookup q (inserted (child_of (s.births + 1) me (suc m)) s.processes))
+    one named q true t =
+        let child = child_of (s.births + 1) me (suc m) in
+        let same : child.pid ≡ q = named ∙ eqb-true (suc m) q t in
+        subst (AgreeOn (newborn me.pid)) (sym (ap (λ n. lookup n (inserted child s.processes)) (sym same) ∙ lookup_new child s.processes (ap (λ n. lookup n s.processes) named ∙ fresh))) (agree_child (s.births + 1) me (suc m) runs)
+    one named q false t =
+        subst (AgreeOn (kept_of lines q)) (sym (lookup_inserted (child_of (s.births + 1) me (suc m)) q s.processes (λ e. eqb-false (suc m) q t (sym (e ∙ named))))) (h.records q)

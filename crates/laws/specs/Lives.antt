@@ -1,0 +1,259 @@
+-- The laws of a trace. Each line is judged by the whole list of lines before it.
+use Rattle.std.specs.Prelude.{ℕ, zero, suc, ◌/◌, ◌≡◌, ◌==◌, ◌&&◌, ◌||◌, not, Bool, true, false, List, [], ◌∷◌, ◌++◌, if◌then◌else◌, nat_le, Option, Some, None, is_some, slice_get, take, ℤ, pos, negsuc}
+use Rattle.std.specs.List.{list_any}
+use Rattle.posix.specs.declared.entry.Entry.{Entry}
+use Rattle.posix.specs.declared.entry.Entry.TheVariants.{Noted, Called, Moved, Reported, NoMemory, Handled, Discarded, Stopped, Returned, Ended, Halted}
+use Rattle.posix.specs.declared.call.Call.{Call}
+use Rattle.posix.specs.declared.call.Call.TheVariants.{Fork}
+use Rattle.posix.specs.Entries.{Line, line}
+use Rattle.laws.specs.TraceLines.{is_end_word, is_stopped_word, is_continued_word}
+
+-- ---- what a line says
+
+-- the process of a line; none of `halt`
+abbrev pub process_of : Entry → Option ℕ
+process_of (Noted p z) = Some p
+process_of (Called p call z) = Some p
+process_of (Moved p call bytes) = Some p
+process_of (Reported p c w) = Some p
+process_of (NoMemory p call) = Some p
+process_of (Handled p s value sender) = Some p
+process_of (Discarded p s) = Some p
+process_of (Stopped p s) = Some p
+process_of (Returned p) = Some p
+process_of (Ended p w) = Some p
+process_of Halted = None
+
+abbrev pub is_halt : Entry → Bool
+is_halt Halted = true
+is_halt _ = false
+
+abbrev pub is_fork : Call → Bool
+is_fork Fork = true
+is_fork _ = false
+
+abbrev pub positive : ℤ → Option ℕ
+positive (pos zero) = None
+positive (pos (suc n)) = Some (suc n)
+positive (negsuc n) = None
+
+-- the number whose life a line begins: a fork's positive result
+abbrev pub born_by : Entry → Option ℕ
+born_by (Called p call z) = if is_fork call then positive z else None
+born_by _ = None
+
+abbrev pub is_just : ℕ → Option ℕ → Bool
+is_just c None = false
+is_just c (Some n) = n == c
+
+abbrev pub begins : ℕ → Line → Bool
+begins c l = is_just c (born_by l.entry)
+
+-- the status with which a line ends c
+abbrev pub end_in : ℕ → Entry → Option ℕ
+end_in c (Ended p w) = if p == c then Some w else None
+end_in c _ = None
+
+-- the signal by which a line stops c
+abbrev pub stop_in : ℕ → Entry → Option ℕ
+stop_in c (Stopped p s) = if p == c then Some s else None
+stop_in c _ = None
+
+abbrev pub ends : ℕ → Line → Bool
+ends c l = is_some (end_in c l.entry)
+
+abbrev pub stops : ℕ → Line → Bool
+stops c l = is_some (stop_in c l.entry)
+
+-- a report of c with a word that passes
+abbrev pub reports_in : ℕ → (ℕ → Bool) → Entry → Bool
+reports_in c test (Reported p d w) = d == c && test w
+reports_in c test _ = false
+
+abbrev pub reports : ℕ → (ℕ → Bool) → Line → Bool
+reports c test l = reports_in c test l.entry
+
+-- ---- lives
+
+-- the last element that passes, and those after it
+pub record LastOf (A : Type 0) : Type 0 where
+  pub it : A
+  pub after : List A
+
+abbrev pub or_this : {A : Type 0} → Option (LastOf A) → Bool → A → List A → Option (LastOf A)
+or_this (Some found) passes x xs = Some found
+or_this None passes x xs = if passes then Some (record { it = x; after = xs }) else None
+
+abbrev pub last_where : {A : Type 0} → (A → Bool) → List A → Option (LastOf A)
+last_where test [] = None
+last_where test (x ∷ xs) = or_this (last_where test xs) (test x) x xs
+
+-- a life: who began it, and the lines since then
+pub record LifeSoFar : Type 0 where
+  pub forker : ℕ
+  pub since : List Line
+
+abbrev pub or_zero : Option ℕ → ℕ
+or_zero None = 0
+or_zero (Some n) = n
+
+abbrev pub life_after : List Line → ℕ → Option (LastOf Line) → Option LifeSoFar
+life_after lines c (Some birth) = Some (record { forker = or_zero (process_of birth.it.entry); since = birth.after })
+life_after lines c None = if c == 1 then Some (record { forker = 0; since = lines }) else None
+
+-- the newest life of c: from the last fork line that bears c on, or from the start that of process 1
+unfoldable pub newest_life : List Line → ℕ → Option LifeSoFar
+newest_life lines c = life_after lines c (last_where (begins c) lines)
+
+-- the end of a life: its status, and the lines after it
+pub record EndOf : Type 0 where
+  pub status : ℕ
+  pub after : List Line
+
+abbrev pub or_later : Option ℕ → List Line → Option EndOf → Option EndOf
+or_later (Some w) rest later = Some (record { status = w; after = rest })
+or_later None rest later = later
+
+-- the first line that ends c
+abbrev pub the_end : ℕ → List Line → Option EndOf
+the_end c [] = None
+the_end c (l ∷ ls) = or_later (end_in c l.entry) ls (the_end c ls)
+
+abbrev pub has_ended : ℕ → List Line → Bool
+has_ended c since = is_some (the_end c since)
+
+-- The parent of a life, by the lines up to the place: who forked it, and process 1 from that one's end on.
+abbrev pub parent_of : List Line → LifeSoFar → ℕ
+parent_of lines x = if has_ended x.forker x.since then 1 else x.forker
+
+-- that of the newest life of c, ended or not, if there is one
+abbrev pub parent_in_life : List Line → Option LifeSoFar → Option ℕ
+parent_in_life lines None = None
+parent_in_life lines (Some x) = Some (parent_of lines x)
+
+unfoldable pub parent_in : List Line → ℕ → Option ℕ
+parent_in lines c = parent_in_life lines (newest_life lines c)
+
+abbrev pub is_unended : ℕ → Option LifeSoFar → Bool
+is_unended c None = false
+is_unended c (Some x) = not (has_ended c x.since)
+
+-- the newest life of p hasn't ended
+unfoldable pub is_living : List Line → ℕ → Bool
+is_living lines p = is_unended p (newest_life lines p)
+
+-- ---- reports
+
+abbrev pub last_stop : ℕ → List Line → Option (LastOf Line)
+last_stop c since = last_where (λ l. is_some (stop_in c l.entry)) since
+
+-- a word of a stop or of a continue
+abbrev pub is_change_word : ℕ → Bool
+is_change_word w = is_stopped_word w || is_continued_word w
+
+-- c ended with this word, and no report of it came since
+abbrev pub end_report : ℕ → ℕ → Option EndOf → Bool
+end_report c w None = false
+end_report c w (Some e) = e.status == w && not (list_any (reports c is_end_word) e.after)
+
+-- this is the word of c's last stop, of which no report came, nor of its continue
+abbrev pub stop_report : ℕ → ℕ → Option (LastOf Line) → Bool
+stop_report c w None = false
+stop_report c w (Some stop) = is_just (w / 256) (stop_in c stop.it.entry) && not (list_any (reports c is_change_word) stop.after)
+
+-- c stopped, and no continue of the last stop is reported yet
+abbrev pub continue_report : ℕ → Option (LastOf Line) → Bool
+continue_report c None = false
+continue_report c (Some stop) = not (list_any (reports c is_continued_word) stop.after)
+
+-- a report of c with the word w, by the lines since c's birth
+abbrev pub is_due : ℕ → ℕ → List Line → Bool
+is_due c w since =
+    if is_end_word w then end_report c w (the_end c since)
+    else if is_stopped_word w then not (has_ended c since) && stop_report c w (last_stop c since)
+    else if is_continued_word w then not (has_ended c since) && continue_report c (last_stop c since)
+    else false
+
+-- by p, of a life of c
+abbrev pub is_due_to : List Line → ℕ → ℕ → ℕ → Option LifeSoFar → Bool
+is_due_to lines p c w None = false
+is_due_to lines p c w (Some x) = parent_of lines x == p && is_due c w x.since
+
+-- ---- the laws
+
+abbrev pub last_line : List Line → Option (LastOf Line)
+last_line lines = last_where (λ l. true) lines
+
+-- event numbers don't fall
+abbrev pub number_from : Option (LastOf Line) → ℕ → Bool
+number_from None n = true
+number_from (Some last) n = nat_le last.it.event n
+
+abbrev pub numbers_rise : List Line → Line → Bool
+numbers_rise before l = number_from (last_line before) l.event
+
+abbrev pub none_or : (ℕ → Bool) → Option ℕ → Bool
+none_or test None = true
+none_or test (Some n) = test n
+
+-- a line of P stands within a life of P
+abbrev pub within_life : List Line → Line → Bool
+within_life before l = none_or (is_living before) (process_of l.entry)
+
+-- lives of one number don't overlap
+abbrev pub begins_apart : List Line → Line → Bool
+begins_apart before l = none_or (λ c. not (is_living before c)) (born_by l.entry)
+
+-- a report is one of the newest life, made by its parent, and due
+abbrev pub report_law : List Line → Entry → Bool
+report_law before (Reported p c w) = is_due_to before p c w (newest_life before c)
+report_law before _ = true
+
+abbrev pub reports_due : List Line → Line → Bool
+reports_due before l = report_law before l.entry
+
+abbrev pub ends_first : Option (LastOf Line) → Bool
+ends_first None = false
+ends_first (Some last) = is_some (end_in 1 last.it.entry)
+
+abbrev pub was_halt : Option (LastOf Line) → Bool
+was_halt None = false
+was_halt (Some last) = is_halt last.it.entry
+
+-- `halt` stands right after `end 1` and nowhere else, no other line does, and nothing follows it
+abbrev pub halts_last : List Line → Line → Bool
+halts_last before l = not (was_halt (last_line before)) && (if is_halt l.entry then ends_first (last_line before) else not (ends_first (last_line before)))
+
+-- the law holds of each line and those before it
+abbrev pub Everywhere : (List Line → Line → Bool) → List Line → Type 0
+Everywhere law lines = (i : ℕ) (l : Line) → slice_get lines i ≡ Some l → law (take i lines) l ≡ true
+
+pub record Laws (lines : List Line) : Type 0 where
+  pub numbers : Everywhere numbers_rise lines
+  pub lives : Everywhere within_life lines
+  pub births : Everywhere begins_apart lines
+  pub reports : Everywhere reports_due lines
+  pub halts : Everywhere halts_last lines
+
+-- By the lines before, p reports the end of c: c ended with the status w since it was born last, no end of it was reported
+-- since, and p is its parent.
+pub record IsOfEnd (before : List Line) (p c w : ℕ) : Type 0 where
+  pub earlier : List Line
+  pub event : ℕ
+  pub later : List Line
+  pub ended : before ≡ earlier ++ line event (Ended c w) ∷ later
+  pub same_life : list_any (begins c) later ≡ false
+  pub unreported : list_any (reports c is_end_word) later ≡ false
+  pub parent : parent_in before c ≡ Some p
+
+-- ---- the same, computed
+
+abbrev pub laws : List Line → Line → Bool
+laws before l = numbers_rise before l && within_life before l && begins_apart before l && reports_due before l && halts_last before l
+
+abbrev pub lawful_from : List Line → List Line → Bool
+lawful_from before [] = true
+lawful_from before (l ∷ ls) = laws before l && lawful_from (before ++ l ∷ []) ls
+
+abbrev pub lawful : List Line → Bool
+lawful lines = lawful_from [] lines

@@ -1,0 +1,71 @@
+-- Lines of a trace: status words, and the ranges of what each form holds.
+use Rattle.std.specs.Prelude.{ℕ, ◌/◌, ◌%◌, ◌==◌, ◌&&◌, ◌||◌, Bool, true, false, length, nat_le, nat_lt, ℤ, pos, negsuc, int_le}
+use Rattle.std.specs.List.{list_all}
+use Rattle.posix.specs.declared.entry.Entry.{Entry}
+use Rattle.posix.specs.declared.entry.Entry.TheVariants.{Noted, Called, Moved, Reported, NoMemory, Handled, Discarded, Stopped, Returned, Ended, Halted}
+use Rattle.posix.specs.declared.call.Call.{Call}
+use Rattle.posix.specs.declared.call.Call.TheVariants.{Exit, Fork, Waitpid, Kill, Sigreturn, Read, Write}
+use Rattle.posix.specs.Entries.{Line}
+use Rattle.posix.specs.SignalNumbers.{is_signal, is_stop_signal}
+use Rattle.posix.specs.Statuses.{continued}
+
+-- ---- status words, waitpid(2)
+
+abbrev pub is_exit_word : ℕ → Bool
+is_exit_word w = w % 256 == 0 && nat_le w 65280
+
+-- it exited, or a signal killed it
+abbrev pub is_end_word : ℕ → Bool
+is_end_word w = is_exit_word w || is_signal w
+
+abbrev pub is_stopped_word : ℕ → Bool
+is_stopped_word w = w % 256 == 127 && is_stop_signal (w / 256)
+
+abbrev pub is_continued_word : ℕ → Bool
+is_continued_word w = w == continued
+
+-- ---- forms
+
+abbrev pub is_number : ℕ → Bool
+is_number p = nat_le 1 p && nat_le p 2147483647
+
+abbrev pub is_i64 : ℤ → Bool
+is_i64 (pos n) = nat_lt n 9223372036854775808
+is_i64 (negsuc n) = nat_lt n 9223372036854775808
+
+-- what a call that shows no more than its result may have given
+abbrev pub is_result : Call → ℤ → Bool
+is_result Exit z = false
+is_result Sigreturn z = false
+is_result Waitpid z = int_le z (pos 0)
+is_result Read z = int_le z (pos 0)
+is_result Write z = int_le z (pos 0)
+is_result Fork z = int_le z (pos 2147483647)
+is_result _ z = true
+
+abbrev pub moves_bytes : Call → Bool
+moves_bytes Read = true
+moves_bytes Write = true
+moves_bytes _ = false
+
+abbrev pub asks_memory : Call → Bool
+asks_memory Fork = true
+asks_memory Kill = true
+asks_memory _ = false
+
+abbrev pub is_entry : Entry → Bool
+is_entry (Noted p z) = is_number p && is_i64 z
+is_entry (Called p call z) = is_number p && is_i64 z && is_result call z
+is_entry (Moved p call bytes) = is_number p && moves_bytes call && nat_le 1 (length bytes) && nat_le (length bytes) 16 && list_all (λ b. nat_lt b 256) bytes
+is_entry (Reported p c w) = is_number p && is_number c && nat_le w 65535
+is_entry (NoMemory p call) = is_number p && asks_memory call
+is_entry (Handled p s value sender) = is_number p && is_signal s && is_i64 value && nat_le sender 2147483647
+is_entry (Discarded p s) = is_number p && is_signal s
+is_entry (Stopped p s) = is_number p && is_stop_signal s
+is_entry (Returned p) = is_number p
+is_entry (Ended p w) = is_number p && is_end_word w
+is_entry Halted = true
+
+-- an event has a number from 1 to 1,000,000,000,000
+abbrev pub is_line : Line → Bool
+is_line l = nat_le 1 l.event && nat_le l.event 1000000000000 && is_entry l.entry
