@@ -53,7 +53,8 @@ impl<K: Kin> Model for KernelOn<K> {
 }
 
 impl<K: Kin> KernelOn<K> {
-    /// The machine at its start; an error where there is no memory for it.
+    /// The machine at its start; an error where there is no memory for it. No lines agree with its state, and in
+    /// a world whose numbers are within their ranges the state is orderly (`laws::lines_tell_of_states`).
     pub fn boot(alloc: Global, world: &World) -> Result<Self, AllocError>
         ensures state { IfOk result (λ k. k.state ≡ boot_of world.now) }
         ensures events { IfOk result (λ k. k.events ≡ 0) }
@@ -94,6 +95,10 @@ impl<K: Kin> KernelOn<K> {
     /// the definitions give, and shows its entries. Memory is taken only by a fork, which shows where it
     /// was refused; so there is no error. After a halt the state stays, nothing is shown, and the event is
     /// counted.
+    ///
+    /// Lines that agree with the state before agree, with those of the event, with the state after it, so what
+    /// is shown from the boot on keeps the laws of a trace (`laws::traces_keep_laws`). From an orderly state, and
+    /// by a key of a byte, each line has its form. Who is born has a number that was free.
     pub fn event(&mut self, event: Event) -> Entries
         requires { self.old.events < most_events }
         ensures step { IsStep self.old.state event result.items self.new.state }
@@ -114,7 +119,8 @@ impl<K: Kin> KernelOn<K> {
     /// Events `Step`, at least one, up to the one with number `last`: as many as the current process runs plain
     /// instructions and such as give a note, until there are 32 notes, or with the one after them where that is a
     /// call or a machine fault. The notes, and what the last event shows besides, are added to lists that are
-    /// empty. Whose notes they are, where there are any.
+    /// empty. Whose notes they are, where there are any. Of all these lines holds what [`KernelOn::event`] says of
+    /// its lines.
     #[inline]
     pub fn steps(&mut self, last: u64, notes: &mut Notes, entries: &mut Entries) -> Pid
         requires few { last ≤ most_events }

@@ -35,6 +35,9 @@ pub enum RunError {
 ///
 /// Both texts are read whole before the first byte is put, the world text first. Lines are put in
 /// pieces of 8 KiB or more, but for the last. After a put that failed nothing is put.
+///
+/// The lines of a whole trace have each their form and keep the laws of a trace (`laws::traces_keep_laws`); and
+/// the births of the summary are its living, zombies, reported and dropped.
 pub fn run_on<K: Kin, S: Sink>(
     alloc: Global,
     world: &[u8],

@@ -2,6 +2,7 @@
 use Rattle.std.proofs.Common.{◌≡◌, ℕ, Bool, true, false, cond, not, ◌&&◌, ◌||◌, if◌then◌else◌, ◌==◌, List, [], ◌∷◌, ◌++◌, Option, Some, None, option_map, is_some, refl, ap, sym, ◌∙◌, arith}
 use Rattle.std.specs.List.{list_any}
 use Rattle.std.proofs.lemmas.Bool.{eqb-true, eqb-false, cases_Bool}
+use Rattle.std.proofs.lemmas.List.Folds.{list_any-append}
 use Rattle.posix.specs.Entries.{Line}
 use Rattle.posix.specs.declared.entry.Entry.{Entry}
 use Rattle.posix.specs.declared.entry.Entry.TheVariants.{Noted, Called, Moved, Reported, NoMemory, Handled, Discarded, Stopped, Returned, Ended, Halted}
@@ -54,9 +55,13 @@ unborn_stays (Returned p) c h = refl
 unborn_stays (Ended p w) c h = grind (arith, cases_Bool)
 unborn_stays Halted c h = refl
 
+or_false : (b : Bool) → (b || false) ≡ b
+or_false true = refl
+or_false false = refl
+
+-- whether one passes of a list with one more
 any_more : {A : Type 0} (test : A → Bool) (xs : List A) (x : A) → list_any test (xs ++ x ∷ []) ≡ (list_any test xs || test x)
-any_more test [] x = grind (arith, cases_Bool)
-any_more test (y ∷ ys) x = grind (arith, any_more test ys x, cases_Bool)
+any_more test xs x = list_any-append test xs (x ∷ []) ∙ ap (λ b. list_any test xs || b) (or_false (test x))
 
 -- ---- the newest life
 
@@ -184,10 +189,6 @@ parent_in (Died d) = d.parent
 pub and_true : (b : Bool) → (b && true) ≡ b
 and_true true = refl
 and_true false = refl
-
-or_false : (b : Bool) → (b || false) ≡ b
-or_false true = refl
-or_false false = refl
 
 alive_same : (parent : ℕ) (a : Alive) → Lives (record { parent = parent; has_stopped = a.has_stopped; stop = a.stop; may_continue = a.may_continue && true }) ≡ Lives (record a { parent = parent })
 alive_same parent a = ap (λ (b : Bool). Lives (record { parent = parent; has_stopped = a.has_stopped; stop = a.stop; may_continue = b })) (and_true a.may_continue)

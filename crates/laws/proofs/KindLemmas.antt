@@ -1,10 +1,11 @@
 -- What each change of a record keeps of its kinds.
-use Rattle.std.proofs.Common.{◌≡◌, ℕ, zero, suc, ◌-◌, ◌≤◌, ◌<◌, Bool, true, false, ◌&&◌, refl, arith, subst, List, [], ◌∷◌, ◌++◌, map, take, drop, replicate, Some, ℤ, pos, negsuc, nat_lt}
+use Rattle.std.proofs.Common.{◌≡◌, ℕ, zero, suc, ◌-◌, ◌≤◌, ◌<◌, Bool, true, false, ◌&&◌, refl, arith, subst, List, [], ◌∷◌, ◌++◌, ◌∙◌, map, take, drop, replicate, Some, ℤ, pos, negsuc, nat_lt}
 use Rattle.std.specs.Prelude.{slice_set, slice_index_or, slice_get, int_rem, unsigned_abs}
 use Rattle.std.specs.Int.{w64, cast_signed}
 use Rattle.std.specs.List.{list_all}
 use Rattle.std.proofs.lemmas.Bool.{and_parts, leb-true}
 use Rattle.std.proofs.lemmas.Bool.Decides.{nat_tests}
+use Rattle.std.proofs.lemmas.List.Folds.{list_all-append}
 use Rattle.std.proofs.lemmas.Int.{rem_below}
 use mir.Val.{sel}
 use Rattle.laws.specs.TraceLines.{is_i64}
@@ -33,8 +34,7 @@ all_found t (y ∷ ys) zero x h e = let same : y ≡ x = cc in subst (λ z. t z 
 all_found t (y ∷ ys) (suc i) x h e = all_found t ys i x (and_parts (t y) (list_all t ys) h).1 e
 
 pub all_append : {A : Type 0} (t : A → Bool) (xs ys : List A) → list_all t xs ≡ true → list_all t ys ≡ true → list_all t (xs ++ ys) ≡ true
-all_append t [] ys h k = k
-all_append t (x ∷ xs) ys h k = let p = and_parts (t x) (list_all t xs) h in and_both (t x) (list_all t (xs ++ ys)) p.0 (all_append t xs ys p.1 k)
+all_append t xs ys h k = list_all-append t xs ys ∙ and_both (list_all t xs) (list_all t ys) h k
 
 pub all_take : {A : Type 0} (t : A → Bool) (n : ℕ) (xs : List A) → list_all t xs ≡ true → list_all t (take n xs) ≡ true
 all_take t zero xs h = refl
