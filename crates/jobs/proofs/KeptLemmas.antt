@@ -1,25 +1,35 @@
 -- What a table keeps of its processes, where one changes, comes or goes.
-use Rattle.std.proofs.Common.{◌≡◌, ℕ, ◌+◌, ◌≤◌, Bool, true, false, cond, refl, ap, sym, ◌∙◌, arith, List, ◌∷◌, length, filter, Some, ⊎_elim, inl, inr, ◌==◌}
-use Rattle.std.proofs.lemmas.Bool.{cases_lt}
-use Rattle.posix.specs.Processes.{Process, is_stopped}
-use Rattle.posix.specs.Tables.{IsRising, lookup, inserted, removed, adopted, reparented, parent_of}
+use Rattle.std.proofs.Common.{◌≡◌, ℕ, ◌+◌, ◌≤◌, refl, ◌-◌, ◌≢◌, ap, sym, ◌∙◌, arith, subst, List, [], ◌∷◌, length, Some, None, ⊎_elim, inl, inr}
+use Rattle.std.proofs.lemmas.Bool.{eqb-true, eq-eqb, cases_lt}
+use Rattle.std.proofs.lemmas.List.{length-map}
+use Rattle.posix.specs.Processes.{Process}
+use Rattle.posix.specs.Tables.{IsRising, lookup, at, changed, inserted, removed, adopted, reparented, parent_of}
 use Rattle.posix.specs.Targets.{greatest_pid}
-use Rattle.posix.proofs.TableLemmas.{pid_looked}
+use Rattle.posix.proofs.TableLemmas.{Above, pid_looked, lookup_changed, remove_above}
+use Rattle.posix.proofs.RegularLemmas.{lookup_new, lookup_removed}
 use Rattle.posix.proofs.WalkLemmas.{all_looked}
-use Rattle.posix.proofs.PassingLemmas.{counted_inserted, counted_removed, counted_changed, counted_map, counted_found, filter_at_most}
+use Rattle.pidset.specs.Indexes.{IsRekeyed}
+use Rattle.pidset.proofs.IndexLemmas.{elsewhere_changed, elsewhere_inserted, elsewhere_removed}
 use Rattle.proctable.specs.declared.body.Body.{Body}
 use Rattle.proctable.specs.Body.{process_of, give_body, with_body}
+use Rattle.jobs.specs.declared.books.Books.{Books}
+use Rattle.jobs.specs.Books.{AreMoved, body_seen, seen_of}
 use Rattle.jobs.specs.JobTables.{AreNumbers, IsKept}
+use Rattle.jobs.proofs.BookLemmas.{Fits, sees, sees_none, fits, books_moved, books_unseen, books_adopted}
 use Rattle.jobs.proofs.NumberLemmas.{absent_body, absent_inserted, absent_removed, absent_adopted, least_number, no_more, above_none}
 
--- 1 for who is stopped
-abbrev pub one : Bool → ℕ
-one b = cond b 1 0
+-- ---- counts
 
--- those that pass a test in a list with one in front
-in_front : (t : Process → Bool) (r : Process) (rs : List Process) (b : Bool) → t r ≡ b → length (filter t (r ∷ rs)) ≡ length (filter t rs) + one b
-in_front t r rs true e = rw e (omega arith)
-in_front t r rs false e = rw e (omega arith)
+-- one more, and one less
+length_inserted : (r : Process) (rs : List Process) → length (inserted r rs) ≡ length rs + 1
+unfolding inserted
+length_inserted r [] = refl
+length_inserted r (x ∷ xs) = grind (arith, length_inserted r xs)
+
+length_removed : (p : ℕ) (r : Process) (rs : List Process) → IsRising rs → lookup p rs ≡ Some r → length rs ≡ length (removed p rs) + 1
+unfolding removed lookup IsRising
+length_removed p r [] up e = absurd (cc)
+length_removed p r (x ∷ xs) up e = grind (arith, λ (i : x.pid ≡ p). ap length (remove_above p xs (subst (λ n. Above n xs) i up.0)), length_removed p r xs up.1, eqb-true x.pid p)
 
 -- ---- few enough to be counted
 
@@ -30,65 +40,80 @@ most_number rs numbers p r found = elim (cases_lt greatest_pid r.pid) [
   | inr most ↦ most
 ]
 
--- so there are no more processes than numbers, nor more that are stopped
-pub few_stopped : (stopped : ℕ) (rs : List Process) → IsRising rs → IsKept stopped rs → stopped ≤ greatest_pid
-few_stopped stopped rs up k =
+-- so there are no more processes than numbers
+pub few_there : (count : ℕ) (books : Books) (rs : List Process) → IsRising rs → IsKept count books rs → count ≤ greatest_pid
+few_there n books rs up k =
     let least = all_looked (λ (r : Process). 1 ≤ r.pid) rs up (least_number rs (k.numbers 0 (inl refl))) in
     let most = all_looked (λ (r : Process). r.pid ≤ greatest_pid) rs up (most_number rs k.numbers) in
     let all = no_more 0 greatest_pid rs up (above_none rs least) most (omega arith) in
-    let some = filter_at_most (λ r. is_stopped r.life) rs in
     let count = k.count in
-    omega (arith, all, some, count)
+    omega (arith, all, count)
 
--- a process that is stopped is counted
-pub some_stopped : (stopped : ℕ) (rs : List Process) (p : ℕ) (r : Process) → IsKept stopped rs → lookup p rs ≡ Some r → is_stopped r.life ≡ true → 1 ≤ stopped
-some_stopped stopped rs p r k found e = let count = k.count in let some = counted_found (λ r. is_stopped r.life) p r rs e found in omega (arith, count, some)
+-- and one at least where one is found
+pub some_there : (n : ℕ) (books : Books) (rs : List Process) (p : ℕ) (r : Process) → IsRising rs → lookup p rs ≡ Some r → IsKept n books rs → 1 ≤ n
+some_there n books rs p r up found k = let count = k.count in let long = length_removed p r rs up found in omega (arith, count, long)
 
 -- ---- another body
 
--- with the count of who is stopped once it was counted again
-pub kept_recounted : (stopped now : ℕ) (rs new : List Process) → IsRising rs → (p : ℕ) (b c : Body) → lookup p rs ≡ Some (process_of p (parent_of p rs) b) → new ≡ with_body rs p c
-    → now + one (is_stopped b.life) ≡ stopped + one (is_stopped c.life) → IsKept stopped rs → IsKept now new
-unfolding give_body
-kept_recounted stopped now rs new up p b c found is counts k =
-    let t = λ (r : Process). is_stopped r.life in
-    let me = process_of p (parent_of p rs) b in
-    let before = counted_removed t p me rs up found ∙ in_front t me (removed p rs) (is_stopped b.life) refl in
-    let after = ap (λ l. length (filter t l)) is ∙ counted_changed t p (give_body c) (λ r. refl) me rs up found ∙ in_front t (give_body c me) (removed p rs) (is_stopped c.life) refl in
-    let count = k.count in
-    record { numbers = λ q out. ap (lookup q) is ∙ absent_body q rs p c (k.numbers q out); count = omega (arith, before, after, counts, count) }
+-- as many processes are there, and p with it
+length_body : (rs : List Process) (p : ℕ) (c : Body) → length (with_body rs p c) ≡ length rs
+unfolding changed
+length_body rs p c = length-map rs (at p (give_body c))
 
--- one that leaves the life leaves the count
-pub kept_body : (stopped : ℕ) (rs new : List Process) → IsRising rs → (p : ℕ) (b c : Body) → lookup p rs ≡ Some (process_of p (parent_of p rs) b) → new ≡ with_body rs p c → c.life ≡ b.life → IsKept stopped rs → IsKept stopped new
-kept_body stopped rs new up p b c found is same k = kept_recounted stopped stopped rs new up p b c found is (ap (λ l. stopped + one (is_stopped l)) (sym same)) k
+pub body_found : (rs : List Process) (p : ℕ) (b c : Body) → lookup p rs ≡ Some (process_of p (parent_of p rs) b) → lookup p (with_body rs p c) ≡ Some (process_of p (parent_of p rs) c)
+unfolding give_body
+body_found rs p b c e = lookup_changed p p (give_body c) (λ r. refl) rs ∙ rw (eq-eqb p p refl, e) refl
+
+-- p moves in the indexes
+pub kept_moved : (count : ℕ) (rs new : List Process) (p : ℕ) (b c : Body) (old now : Books) → lookup p rs ≡ Some (process_of p (parent_of p rs) b) → new ≡ with_body rs p c → AreMoved p (parent_of p rs) (Some (body_seen c)) old now
+    → IsKept count old rs → IsKept count now new
+unfolding give_body
+kept_moved n rs new p b c old now found is moved k =
+    let long = length_body rs p c in
+    rw is (record {
+      numbers = λ q out. absent_body q rs p c (k.numbers q out);
+      count = k.count ∙ sym long;
+      books = books_moved p (parent_of p rs) (Some (body_seen c)) rs (with_body rs p c) old now (elsewhere_changed p (give_body c) (λ r. refl) rs) (fits rs _ old k.books long) k.books (sees p (process_of p (parent_of p rs) c) (with_body rs p c) (body_found rs p b c found)) moved;
+    })
+
+-- or no index sees it
+pub kept_unseen : (count : ℕ) (rs new : List Process) (p : ℕ) (b c : Body) (books : Books) → lookup p rs ≡ Some (process_of p (parent_of p rs) b) → new ≡ with_body rs p c → body_seen c ≡ body_seen b → IsKept count books rs → IsKept count books new
+unfolding give_body
+kept_unseen n rs new p b c books found is same k =
+    let long = length_body rs p c in
+    rw is (record {
+      numbers = λ q out. absent_body q rs p c (k.numbers q out);
+      count = k.count ∙ sym long;
+      books = books_unseen p (parent_of p rs) (Some (body_seen b)) rs (with_body rs p c) books (elsewhere_changed p (give_body c) (λ r. refl) rs) long k.books (sees p (process_of p (parent_of p rs) b) rs found)
+          (rw (← same) (sees p (process_of p (parent_of p rs) c) (with_body rs p c) (body_found rs p b c found)));
+    })
 
 -- ---- births, removals and adoptions
 
-pub kept_inserted : (stopped now : ℕ) (rs new : List Process) (r : Process) → 1 ≤ r.pid → r.pid ≤ greatest_pid → new ≡ inserted r rs → now + 0 ≡ stopped + one (is_stopped r.life) → IsKept stopped rs → IsKept now new
-kept_inserted stopped now rs new r least most is counts k =
-    let t = λ (r : Process). is_stopped r.life in
-    let after = ap (λ l. length (filter t l)) is ∙ counted_inserted t r rs ∙ in_front t r rs (is_stopped r.life) refl in
+pub kept_inserted : (n : ℕ) (rs new : List Process) (r : Process) (old now : Books) → 1 ≤ r.pid → r.pid ≤ greatest_pid → lookup r.pid rs ≡ None → new ≡ inserted r rs → Fits (n + 1) old → AreMoved r.pid r.parent (Some (seen_of r)) old now → IsKept n old rs → IsKept (n + 1) now new
+kept_inserted n rs new r old now least most fresh is free moved k =
+    let long = length_inserted r rs in
     let count = k.count in
-    record {
-      numbers = λ q out. ap (lookup q) is ∙ absent_inserted r q rs (λ same. ⊎_elim (λ none. absurd (omega (arith, least, same, none))) (λ above. absurd (omega (arith, most, same, above))) out) (k.numbers q out);
-      count = omega (arith, after, counts, count);
-    }
+    rw is (record {
+      numbers = λ q out. absent_inserted r q rs (λ same. ⊎_elim (λ none. absurd (omega (arith, least, same, none))) (λ above. absurd (omega (arith, most, same, above))) out) (k.numbers q out);
+      count = omega (arith, long, count);
+      books = books_moved r.pid r.parent (Some (seen_of r)) rs (inserted r rs) old now (elsewhere_inserted r rs) (rw (long, ← count) free) k.books (sees r.pid r (inserted r rs) (lookup_new r rs fresh)) moved;
+    })
 
-pub kept_removed : (stopped now : ℕ) (rs new : List Process) → IsRising rs → (p : ℕ) (r : Process) → lookup p rs ≡ Some r → new ≡ removed p rs → now + one (is_stopped r.life) ≡ stopped + 0 → IsKept stopped rs → IsKept now new
-kept_removed stopped now rs new up p r found is counts k =
-    let t = λ (r : Process). is_stopped r.life in
-    let before = counted_removed t p r rs up found ∙ in_front t r (removed p rs) (is_stopped r.life) refl in
-    let after = ap (λ l. length (filter t l)) is in
+pub kept_removed : (n : ℕ) (rs new : List Process) (p parent : ℕ) (r : Process) (old now : Books) → IsRising rs → lookup p rs ≡ Some r → new ≡ removed p rs → AreMoved p parent None old now → IsKept n old rs → IsKept (n - 1) now new
+kept_removed n rs new p parent r old now up found is moved k =
+    let long = length_removed p r rs up found in
     let count = k.count in
-    record { numbers = λ q out. ap (lookup q) is ∙ absent_removed p q rs (k.numbers q out); count = omega (arith, before, after, counts, count) }
+    rw is (record {
+      numbers = λ q out. absent_removed p q rs (k.numbers q out);
+      count = omega (arith, long, count);
+      books = books_moved p parent None rs (removed p rs) old now (elsewhere_removed p rs) (let f = fits rs n old k.books count in record { reporting = let e = f.reporting in omega (arith, e, long, count); stopped = let e = f.stopped in omega (arith, e, long, count); members = let e = f.members in omega (arith, e, long, count) }) k.books (sees_none p parent (removed p rs) (lookup_removed p rs)) moved;
+    })
 
-pub kept_adopted : (stopped : ℕ) (rs new : List Process) (from to : ℕ) → new ≡ adopted from to rs → IsKept stopped rs → IsKept stopped new
+pub kept_adopted : (n : ℕ) (rs new : List Process) (from to : ℕ) (old now : Books) → from ≢ to → new ≡ adopted from to rs → IsRekeyed from to old.reporting now.reporting → now.stopped ≡ old.stopped → now.members ≡ old.members → IsKept n old rs → IsKept n now new
 unfolding adopted
-kept_adopted stopped rs new from to is k = record {
-  numbers = λ q out. ap (lookup q) is ∙ absent_adopted from to q rs (k.numbers q out);
-  count = k.count ∙ sym (ap (λ l. length (filter (λ r. is_stopped r.life) l)) is ∙ counted_map (λ r. is_stopped r.life) (reparented from to) (λ r. life (r.parent == from) r) rs);
-}
-  where
-    life : (b : Bool) (r : Process) → is_stopped (cond b (record r { parent = to }) r).life ≡ is_stopped r.life
-    life true r = refl
-    life false r = refl
+kept_adopted n rs new from to old now ne is moved same like k = rw is (record {
+  numbers = λ q out. absent_adopted from to q rs (k.numbers q out);
+  count = k.count ∙ sym (length-map rs (reparented from to));
+  books = books_adopted from to ne rs old now k.books moved same like;
+})

@@ -5,3 +5,5 @@ pub mod ReadLemmas
 pub mod GroupLemmas
 pub mod MoveLemmas
 pub mod KeptLemmas
+pub mod BookLemmas
+pub mod RunLemmas

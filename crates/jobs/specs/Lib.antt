@@ -1,1 +1,2 @@
 pub mod JobTables
+pub mod Books

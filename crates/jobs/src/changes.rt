@@ -11,7 +11,7 @@ ghost use Rattle.posix.specs.Waits.{news_told};
 ghost use Rattle.posix.specs.Alarms.{ring_at as ring_at_tick, with_alarm};
 ghost use Rattle.proctable.specs.Body.{process_of};
 
-use crate::job_table::{JobTable, is_stopped, recount};
+use crate::job_table::JobTable;
 use posix::{Effect, PendingSignal, Pid, Sig, Status};
 use proctable::{Body, Kin};
 use std::alloc::AllocError;
@@ -33,18 +33,16 @@ impl<K: Kin> JobTable<K> {
     }
 
     /// A process that is there has ended with this status, and nothing is pending for it, and it is in no call
-    /// (XSH _exit).
-    pub fn make_zombie(&mut self, pid: Pid, status: Status)
+    /// (XSH _exit). Its parent.
+    pub fn make_zombie(&mut self, pid: Pid, status: Status) -> Pid
         requires { IsSome (lookup pid self.old.processes) }
+        ensures parent { (me : Process) → lookup pid self.old.processes ≡ Some me → result ≡ me.parent }
         ensures processes { self.new.processes ≡ changed pid (made_zombie status) self.old.processes }
         ensures rising { IsRising self.old.processes }
         ensures room { self.new.room ≡ self.old.room }
-        ensures reads { self.new.reads ≤ self.old.reads + 1 }
+        ensures reads { self.new.reads ≤ self.old.reads + 2 }
     {
-        let body = self.table.update(pid);
-        let was = is_stopped(body.life);
-        body.make_zombie(status);
-        self.stopped = recount(self.stopped, was, false);
+        self.change_seen(pid, |body| body.make_zombie(status))
     }
 
     /// A process that is there has ended with this status, and keeps all else: the end of process 1.
@@ -53,40 +51,34 @@ impl<K: Kin> JobTable<K> {
         ensures processes { self.new.processes ≡ changed pid (ended status) self.old.processes }
         ensures rising { IsRising self.old.processes }
         ensures room { self.new.room ≡ self.old.room }
-        ensures reads { self.new.reads ≤ self.old.reads + 1 }
+        ensures reads { self.new.reads ≤ self.old.reads + 2 }
     {
-        let body = self.table.update(pid);
-        let was = is_stopped(body.life);
-        body.end(status);
-        self.stopped = recount(self.stopped, was, false);
+        self.change_seen(pid, |body| body.end(status));
     }
 
-    /// A signal has stopped a process that is there (XSH 2.4.3).
-    pub fn stop(&mut self, pid: Pid, sig: Sig)
+    /// A signal has stopped a process that is there (XSH 2.4.3). Its parent.
+    pub fn stop(&mut self, pid: Pid, sig: Sig) -> Pid
         requires { IsSome (lookup pid self.old.processes) }
+        ensures parent { (me : Process) → lookup pid self.old.processes ≡ Some me → result ≡ me.parent }
         ensures processes { self.new.processes ≡ changed pid (stopped_by sig) self.old.processes }
         ensures rising { IsRising self.old.processes }
         ensures room { self.new.room ≡ self.old.room }
-        ensures reads { self.new.reads ≤ self.old.reads + 1 }
+        ensures reads { self.new.reads ≤ self.old.reads + 2 }
     {
-        let body = self.table.update(pid);
-        let was = is_stopped(body.life);
-        body.stop(sig);
-        self.stopped = recount(self.stopped, was, true);
+        self.change_seen(pid, |body| body.stop(sig))
     }
 
     /// A process that is there runs again (XSH 2.4.3). News of a stop that no wait has reported go.
-    pub fn resume(&mut self, pid: Pid)
+    /// Its parent.
+    pub fn resume(&mut self, pid: Pid) -> Pid
         requires { IsSome (lookup pid self.old.processes) }
+        ensures parent { (me : Process) → lookup pid self.old.processes ≡ Some me → result ≡ me.parent }
         ensures processes { self.new.processes ≡ changed pid resumed self.old.processes }
         ensures rising { IsRising self.old.processes }
         ensures room { self.new.room ≡ self.old.room }
-        ensures reads { self.new.reads ≤ self.old.reads + 1 }
+        ensures reads { self.new.reads ≤ self.old.reads + 2 }
     {
-        let body = self.table.update(pid);
-        let was = is_stopped(body.life);
-        body.resume();
-        self.stopped = recount(self.stopped, was, false);
+        self.change_seen(pid, |body| body.resume())
     }
 
     /// A wait has reported the news of a process that is there: they become none (XSH waitpid).
@@ -95,9 +87,9 @@ impl<K: Kin> JobTable<K> {
         ensures processes { self.new.processes ≡ changed pid news_told self.old.processes }
         ensures rising { IsRising self.old.processes }
         ensures room { self.new.room ≡ self.old.room }
-        ensures reads { self.new.reads ≤ self.old.reads + 1 }
+        ensures reads { self.new.reads ≤ self.old.reads + 2 }
     {
-        self.table.update(pid).tell_news();
+        self.change_seen(pid, |body| body.tell_news());
     }
 
     /// The alarm of a process that is there is set to a tick, or cleared. The tick at which the one before was
@@ -110,10 +102,11 @@ impl<K: Kin> JobTable<K> {
         ensures room { self.new.room ≡ self.old.room }
         ensures reads { self.new.reads ≤ self.old.reads + 1 }
     {
-        let body = self.table.update(pid);
-        let before = body.alarm;
-        body.set_alarm(due);
-        before
+        self.change(pid, |body| {
+            let before = body.alarm;
+            body.set_alarm(due);
+            before
+        })
     }
 
     /// The alarm of a process that is there rings if it is due at this tick, and isn't set any more then. The
@@ -126,9 +119,10 @@ impl<K: Kin> JobTable<K> {
         ensures room { self.new.room ≡ self.old.room }
         ensures reads { self.new.reads ≤ self.old.reads + 1 }
     {
-        let body = self.table.update(pid);
-        body.ring_at(pid, now);
-        body.alarm
+        self.change(pid, |body| {
+            body.ring_at(pid, now);
+            body.alarm
+        })
     }
 
     /// A signal is generated for a process that is there (XSH 2.4.1). The effect is what it does at once,
@@ -141,7 +135,7 @@ impl<K: Kin> JobTable<K> {
         ensures room { self.new.room ≡ self.old.room }
         ensures reads { self.new.reads ≤ self.old.reads + 1 }
     {
-        self.table.update(pid).signal(pid, signal)
+        self.change(pid, |body| body.signal(pid, signal))
     }
 
     /// A process that is there gets notice of a child's end by a signal, unless it ignores CHLD. Whether it
@@ -154,10 +148,11 @@ impl<K: Kin> JobTable<K> {
         ensures room { self.new.room ≡ self.old.room }
         ensures reads { self.new.reads ≤ self.old.reads + 1 }
     {
-        let body = self.table.update(pid);
-        let drops = body.own.signals.drops_children();
-        body.notice(pid, signal);
-        drops
+        self.change(pid, |body| {
+            let drops = body.own.signals.drops_children();
+            body.notice(pid, signal);
+            drops
+        })
     }
 
     /// A process that is there gets notice that a child was stopped or continued by a signal, unless it
@@ -169,6 +164,6 @@ impl<K: Kin> JobTable<K> {
         ensures room { self.new.room ≡ self.old.room }
         ensures reads { self.new.reads ≤ self.old.reads + 1 }
     {
-        self.table.update(pid).notice_of_change(pid, signal);
+        self.change(pid, |body| body.notice_of_change(pid, signal))
     }
 }

@@ -5,12 +5,14 @@ ghost use mathlib.Core.Option.{none};
 ghost use Rattle.std.specs.Borrow.{sem, Lends, follows_so};
 ghost use Rattle.std.specs.List.{list_any};
 ghost use Rattle.posix.specs.Processes.{is_stopped as is_stopped_by};
-ghost use Rattle.posix.specs.Tables.{IsRising, lookup, inserted, removed, children_in, first_pid, next_above, next_sibling as next_sibling_of, adopted};
+ghost use Rattle.posix.specs.Tables.{IsRising, lookup, inserted, removed, children_in, first_pid, next_above, next_sibling as next_sibling_of, adopted, above, members_in, parent_of};
+ghost use Rattle.posix.specs.Waits.{reporting_in};
 ghost use Rattle.proctable.specs.Body.{process_of, facts_of, own_of, own_row};
 ghost use Rattle.jobs.specs.contracts.job_table.JobTable.{the_row as jobs_row};
-ghost use Rattle.jobs.specs.JobTables.{AreNumbers, lent, looked};
+ghost use Rattle.jobs.specs.JobTables.{AreNumbers, IsRun, IsUnseen, lent, looked};
 
-use posix::{Life, Pid};
+use crate::books::{Books, of_body, of_facts};
+use posix::Pid;
 use proctable::{Body, Facts, Kin, Own};
 use std::alloc::{AllocError, Global};
 use std::marker::Model;
@@ -22,18 +24,20 @@ use std::marker::Model;
 #[derive(Drop)]
 pub struct JobTable<K: Kin> {
     pub(crate) table: K,
-    /// How many processes are stopped.
-    pub(crate) stopped: u64,
+    /// How many processes there are.
+    pub(crate) count: usize,
+    pub(crate) books: Books,
 }
 
 impl<K: Kin> Model for JobTable<K> {
     ghost use Rattle.jobs.specs.JobTables.{JobsView, IsKept};
+    ghost use Rattle.jobs.specs.Books.{lesser, room_in};
 
     ghost Value = { JobsView };
 
-    ghost view = { λ t. record { processes = K.contents t.table; room = K.room t.table; reads = K.reads t.table } };
+    ghost view = { λ t. record { processes = K.contents t.table; room = lesser (K.room t.table) (room_in t.count t.books); reads = K.reads t.table } };
 
-    ghost invariant = { λ t. IsKept t.stopped (K.contents t.table) };
+    ghost invariant = { λ t. IsKept t.count t.books (K.contents t.table) };
 }
 
 impl<K: Kin> JobTable<K> {
@@ -44,7 +48,8 @@ impl<K: Kin> JobTable<K> {
     {
         JobTable {
             table: K::empty(alloc),
-            stopped: 0,
+            count: 0,
+            books: Books::new(alloc),
         }
     }
 
@@ -57,7 +62,8 @@ impl<K: Kin> JobTable<K> {
         ensures processes { self.new.processes ≡ self.old.processes }
         ensures reads { self.new.reads ≡ self.old.reads }
     {
-        self.table.reserve()
+        self.table.reserve()?;
+        self.books.reserve(self.count + 1)
     }
 
     /// Puts in a process that isn't there, where there is room for one. Its number isn't 0, and its parent is
@@ -72,9 +78,10 @@ impl<K: Kin> JobTable<K> {
         ensures room { self.old.room ≤ self.new.room + 1 }
         ensures reads { self.new.reads ≤ self.old.reads + 5 + length (children_in parent self.old.processes) }
     {
-        let is = is_stopped(body.life);
+        let after = Some(of_body(&body));
         self.table.insert(pid, parent, body);
-        self.stopped = recount(self.stopped, false, is);
+        self.books.moved(pid, parent, &None, &after);
+        self.count += 1;
     }
 
     /// The small fields of a process; none where it isn't there.
@@ -104,7 +111,9 @@ impl<K: Kin> JobTable<K> {
             return None;
         };
         self.table.remove(pid);
-        self.stopped = recount(self.stopped, is_stopped(facts.life), false);
+        let before = Some(of_facts(&facts));
+        self.books.moved(pid, facts.parent, &before, &None);
+        self.count -= 1;
         Some(facts)
     }
 
@@ -148,21 +157,77 @@ impl<K: Kin> JobTable<K> {
 
     /// Gives the children of one process to another, which is there.
     pub fn adopt(&mut self, from: Pid, to: Pid)
-        requires { IsSome (lookup to self.old.processes) }
+        requires there { IsSome (lookup to self.old.processes) }
+        requires apart { from ≢ to }
         ensures rising { IsRising self.old.processes }
         ensures processes { self.new.processes ≡ adopted from to self.old.processes }
         ensures room { self.new.room ≡ self.old.room }
         ensures reads { self.new.reads ≤ self.old.reads + 1 + 8 * length (children_in from self.old.processes) + length (children_in to self.old.processes) }
     {
         self.table.adopt(from, to);
+        self.books.adopted(from, to);
     }
 
     /// Whether no process is stopped. No slot is read.
     pub fn nobody_stopped(&self) -> bool
+        requires { IsRising self.now.processes }
         ensures { result ≡ not (list_any (λ r. is_stopped_by r.life) self.now.processes) }
     {
-        self.stopped == 0
+        self.books.stopped.is_empty()
     }
+
+    /// The child of a process that has something to report, with the least number above `after`.
+    pub fn next_reporting(&self, parent: Pid, after: Pid) -> Option<Pid>
+        requires { IsRising self.now.processes }
+        ensures { result ≡ first_pid (above after (reporting_in parent self.now.processes)) }
+    {
+        self.books.next_reporting(parent, after)
+    }
+
+    /// The member of a process group with the least number above `after`, zombies included. No slot is read.
+    pub fn next_in_group(&self, group: Pid, after: Pid) -> Option<Pid>
+        requires { IsRising self.now.processes }
+        ensures { result ≡ first_pid (above after (members_in group self.now.processes)) }
+    {
+        self.books.next_in_group(group, after)
+    }
+
+    // ---- changes
+
+    /// Changes of a process that is there what no index sees. Each such change goes by this.
+    pub(crate) fn change<T, F: FnOnce(&mut Body) -> T>(&mut self, pid: Pid, change: F) -> T
+        requires there { IsSome (lookup pid self.old.processes) }
+        requires callable { F.IsAlwaysCallable change }
+        requires unseen { IsUnseen F.FnOnce change }
+        ensures run { IsRun F.FnOnce change self.old.processes self.new.processes pid result }
+        ensures rising { IsRising self.old.processes }
+        ensures room { self.new.room ≡ self.old.room }
+        ensures reads { self.new.reads ≤ self.old.reads + 1 }
+    {
+        change(self.table.update(pid))
+    }
+
+    /// Changes a process that is there, and moves it in the indexes. Each change that these see goes by this. The
+    /// parent of the process, which sees the change too.
+    pub(crate) fn change_seen<F: FnOnce(&mut Body)>(&mut self, pid: Pid, change: F) -> Pid
+        requires there { IsSome (lookup pid self.old.processes) }
+        requires callable { F.IsAlwaysCallable change }
+        ensures run { IsRun F.FnOnce change self.old.processes self.new.processes pid tt }
+        ensures parent { result ≡ parent_of pid self.old.processes }
+        ensures rising { IsRising self.old.processes }
+        ensures room { self.new.room ≡ self.old.room }
+        ensures reads { self.new.reads ≤ self.old.reads + 2 }
+    {
+        let parent = parent_in(&mut self.table, pid);
+        let it = self.table.update(pid);
+        let before = Some(of_body(it));
+        change(it);
+        let after = Some(of_body(it));
+        self.books.moved(pid, parent, &before, &after);
+        parent
+    }
+
+    // ---- loans
 
     /// How many slots have been read, up to the greatest u128; 0 over a table that doesn't count them.
     pub fn visits(&self) -> u128
@@ -195,18 +260,17 @@ impl<K: Kin> JobTable<K> {
     }
 }
 
-/// Whether a process with this life is stopped.
-pub(crate) fn is_stopped(life: Life) -> bool
-    ensures { result ≡ is_stopped_by life }
+/// The parent of a process that is there.
+fn parent_in<K: Kin>(table: &mut K, pid: Pid) -> Pid
+    requires { IsSome (lookup pid (K.contents table.old)) }
+    ensures value { result ≡ parent_of pid (K.contents table.old) }
+    ensures contents { K.contents table.new ≡ K.contents table.old }
+    ensures rising { IsRising (K.contents table.old) }
+    ensures room { K.room table.new ≡ K.room table.old }
+    ensures reads { K.reads table.new ≤ K.reads table.old + 1 }
 {
-    matches!(life, Life::Stopped)
-}
-
-/// How many processes are stopped, once one that was stopped, or wasn't, is stopped, or isn't.
-pub(crate) fn recount(stopped: u64, was: bool, is: bool) -> u64
-    requires some { was ≡ true → 1 ≤ stopped }
-    requires few { stopped + 1 < 2 ^ 64 }
-    ensures { result + (if was then 1 else 0) ≡ stopped + (if is then 1 else 0) }
-{
-    stopped - u64::from(was) + u64::from(is)
+    match table.get(pid) {
+        Some(facts) => facts.parent,
+        None => Pid::NONE,
+    }
 }

@@ -143,9 +143,9 @@ impl<K: Kin> JobTable<K> {
         requires { IsSome (lookup pid self.old.processes) }
         ensures processes { self.new.processes ≡ changed pid (in_group group) self.old.processes }
         ensures room { self.new.room ≡ self.old.room }
-        ensures reads { self.new.reads ≤ self.old.reads + 1 }
+        ensures reads { self.new.reads ≤ self.old.reads + 2 }
     {
-        self.table.update(pid).group = group;
+        self.change_seen(pid, |body| body.group = group);
     }
 
     /// A process that is there leads a session and a process group of its own.
@@ -153,11 +153,12 @@ impl<K: Kin> JobTable<K> {
         requires { IsSome (lookup pid self.old.processes) }
         ensures processes { self.new.processes ≡ changed pid in_session self.old.processes }
         ensures room { self.new.room ≡ self.old.room }
-        ensures reads { self.new.reads ≤ self.old.reads + 1 }
+        ensures reads { self.new.reads ≤ self.old.reads + 2 }
     {
-        let body = self.table.update(pid);
-        body.session = pid;
-        body.group = pid;
+        self.change_seen(pid, |body| {
+            body.session = pid;
+            body.group = pid;
+        });
     }
 
     /// The process that a caller names moves to the process group that is named; 0 stands for the caller, and
@@ -170,7 +171,7 @@ impl<K: Kin> JobTable<K> {
         ensures err { OnErr result (self.new.processes ≡ self.old.processes) }
         ensures rising { IsRising self.old.processes }
         ensures room { self.new.room ≡ self.old.room }
-        ensures reads { self.new.reads ≤ self.old.reads + 4 + 2 * length self.old.processes }
+        ensures reads { self.new.reads ≤ self.old.reads + 5 + 2 * length self.old.processes }
     {
         let Some(caller) = self.get(me) else {
             unreachable!()
@@ -207,7 +208,7 @@ impl<K: Kin> JobTable<K> {
         ensures err { IfErr result (λ why. (why ≡ EPERM) × (self.new.processes ≡ self.old.processes)) }
         ensures rising { IsRising self.old.processes }
         ensures room { self.new.room ≡ self.old.room }
-        ensures reads { self.new.reads ≤ self.old.reads + 6 + 4 * length self.old.processes }
+        ensures reads { self.new.reads ≤ self.old.reads + 7 + 4 * length self.old.processes }
     {
         let Some(caller) = self.get(me) else {
             unreachable!()

@@ -22,7 +22,6 @@ use Rattle.posix.proofs.ReaderLemmas.{IsOfOrFree, console_of_set, touches_unread
 use Rattle.pidalloc.specs.Rows.{Pids}
 use Rattle.sched.specs.Places.{Places}
 use Rattle.pidset.specs.Numbers.{PidSetView}
-use Rattle.pidset.specs.Children.{ChildSetView}
 use Rattle.life.specs.Machines.{IsListed, IsMachine, readers_at}
 use Rattle.proctable.specs.Body.{facts_of}
 use Rattle.life.specs.Consoles.{AreReaders, hangs_up}
@@ -72,10 +71,10 @@ listed_put {readers = readers} s l k d h can = record {
 }
 
 -- the machine stays one
-pub machine_put : (s : State) (pids : Pids) (places : Places) (asked : PidSetView) (reporting : ChildSetView) (alarmed : PidSetView) (tick : ℕ) (losing : PidSetView) (readers : List PidSetView) (before after : Bool) (k : ℕ) (d : Console)
-    → IsMachine s pids places asked reporting alarmed tick losing (record { readers = readers; stale = before }) → CanPut s asked.pids readers k d → (after ≡ false → AreFresh (put s k d))
-    → IsMachine (put s k d) pids places asked reporting alarmed tick losing (record { readers = readers; stale = after })
-machine_put s pids places asked reporting alarmed tick losing readers before after k d h can fresh = record {
+pub machine_put : (s : State) (pids : Pids) (places : Places) (asked : PidSetView) (alarmed : PidSetView) (tick : ℕ) (losing : PidSetView) (readers : List PidSetView) (before after : Bool) (k : ℕ) (d : Console)
+    → IsMachine s pids places asked alarmed tick losing (record { readers = readers; stale = before }) → CanPut s asked.pids readers k d → (after ≡ false → AreFresh (put s k d))
+    → IsMachine (put s k d) pids places asked alarmed tick losing (record { readers = readers; stale = after })
+machine_put s pids places asked alarmed tick losing readers before after k d h can fresh = record {
   sound = record {
     regular = regular_consoles s _ h.sound.regular can.apart;
     parents = h.sound.parents;
@@ -83,7 +82,6 @@ machine_put s pids places asked reporting alarmed tick losing readers before aft
     kept = h.sound.kept;
   };
   listed = listed_put s asked k d h.listed can;
-  reported = h.reported;
   timed = h.timed;
   noted = h.noted;
   fresh = fresh;

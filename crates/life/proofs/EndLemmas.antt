@@ -62,7 +62,7 @@ abbrev pub leave : ℕ → ℕ → State → State
 leave p w s = record s { processes = changed p (made_zombie w) s.processes; order = without p s.order }
 
 -- the heir drops its children as before where another leaves
-pub dropping_left : (p heir w : ℕ) → heir ≢ p → (rs : List Process) → is_dropping heir (changed p (made_zombie w) rs) ≡ is_dropping heir rs
+dropping_left : (p heir w : ℕ) → heir ≢ p → (rs : List Process) → is_dropping heir (changed p (made_zombie w) rs) ≡ is_dropping heir rs
 unfolding made_zombie
 dropping_left p heir w ne rs =
     let same : lookup heir (changed p (made_zombie w) rs) ≡ lookup heir rs = lookup_changed p heir (made_zombie w) (λ r. refl) rs ∙ rw (ne_eqb heir p ne) refl in
@@ -79,7 +79,7 @@ unfolding changed made_zombie
 removed_left c p w rs = removed_map c (at p (made_zombie w)) (at_pid p (made_zombie w) (λ r. refl)) rs
 
 -- a notice of an end to the heir, and another that leaves, may come in either order
-pub notice_left : (s : State) (p heir w c v : ℕ) → heir ≢ p → notice_of_end (leave p w s) heir c v ≡ leave p w (notice_of_end s heir c v)
+notice_left : (s : State) (p heir w c v : ℕ) → heir ≢ p → notice_of_end (leave p w s) heir c v ≡ leave p w (notice_of_end s heir c v)
 unfolding notice_of_end
 notice_left s p heir w c v ne =
     let signal = child_signal c v in

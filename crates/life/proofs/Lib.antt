@@ -1,6 +1,5 @@
 pub mod SoundLemmas
 pub mod ReaderLemmas
-pub mod ReportedLemmas
 pub mod TimedLemmas
 pub mod StopLemmas
 pub mod EndLemmas

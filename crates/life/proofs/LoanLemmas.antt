@@ -14,7 +14,6 @@ use Rattle.posix.proofs.TouchLemmas.{Unseen, touches_unseen}
 use Rattle.pidalloc.specs.Rows.{Pids}
 use Rattle.sched.specs.Places.{Places}
 use Rattle.pidset.specs.Numbers.{PidSetView}
-use Rattle.pidset.specs.Children.{ChildSetView}
 use Rattle.proctable.specs.declared.own.Own.{Own}
 use Rattle.proctable.specs.Body.{own_of, give_own}
 use Rattle.jobs.proofs.LoanLemmas.{own_found, read_at, written_at}
@@ -22,7 +21,6 @@ use Rattle.life.specs.Machines.{IsMachine, Terminals}
 use Rattle.life.specs.Asking.{asking}
 use Rattle.life.proofs.SoundLemmas.{sound_change}
 use Rattle.life.proofs.AskLemmas.{listed_change}
-use Rattle.life.proofs.ReportedLemmas.{reported_unseen}
 use Rattle.life.proofs.TimedLemmas.{timed_change, untimed_give_own}
 use Rattle.posix.proofs.FreshLemmas.{fresh_changed}
 
@@ -73,13 +71,12 @@ cpu_stays (trap.Fault sig) rs up p o c h stays = ap (λ x. changed p (give_own (
 -- ---- a machine
 
 -- whatever was written through a loan, the machine keeps
-pub machine_lent : {losing : PidSetView} {terminals : Terminals} (s : State) (pids : Pids) (places : Places) (asked after : PidSetView) (reporting : ChildSetView) (alarmed : PidSetView) (tick p : ℕ) (w : Own)
-    → IsSome (process s p) → IsMachine s pids places asked reporting alarmed tick losing terminals → after.pids ≡ asking p s.order asked.pids → after.room ≡ asked.room
-    → IsMachine (change s p (give_own w)) pids places after reporting alarmed tick losing terminals
-machine_lent s pids places asked after reporting alarmed tick p w here i put room = record {
+pub machine_lent : {losing : PidSetView} {terminals : Terminals} (s : State) (pids : Pids) (places : Places) (asked after : PidSetView) (alarmed : PidSetView) (tick p : ℕ) (w : Own)
+    → IsSome (process s p) → IsMachine s pids places asked alarmed tick losing terminals → after.pids ≡ asking p s.order asked.pids → after.room ≡ asked.room
+    → IsMachine (change s p (give_own w)) pids places after alarmed tick losing terminals
+machine_lent s pids places asked after alarmed tick p w here i put room = record {
   sound = sound_change p (give_own w) s (keeps_give_own w) pids places i.sound;
   listed = listed_change s p (give_own w) asked after i.listed (unseen_give_own w).pid (touches_unseen s p (give_own w) (unseen_give_own w)) here put room;
-  reported = reported_unseen s.world.pidmax p (give_own w) (unseen_give_own w) s.processes reporting here i.reported;
   timed = timed_change s.world.pidmax p (give_own w) (untimed_give_own w) s.processes alarmed tick here i.timed;
   noted = i.noted;
   fresh = λ e. fresh_changed p (give_own w) (λ r. refl) (λ r. refl) s.processes s.consoles (i.fresh e);

@@ -6,7 +6,6 @@ use Rattle.posix.specs.Processes.{Process}
 use Rattle.posix.specs.Tables.{lookup, at, changed}
 use Rattle.posix.specs.States.{State, process, change}
 use Rattle.posix.specs.Regular.{IsRegular}
-use Rattle.posix.specs.Waits.{has_report}
 use Rattle.posix.specs.GroupCalls.{named, move_to, in_group, in_session}
 use Rattle.posix.proofs.MapLemmas.{at_pid, at_keeps, lookup_on}
 use Rattle.posix.proofs.MemberLemmas.{each}
@@ -20,30 +19,27 @@ use Rattle.pidalloc.specs.Tallies.{IsTallied}
 use Rattle.pidalloc.proofs.MoveLemmas.{CanMove, CanLead, moved_in, led_in, tallied_moved, tallied_led, pids_moved, pids_led, greatest_moved, greatest_led, can_move, can_lead}
 use Rattle.sched.specs.Places.{Places}
 use Rattle.pidset.specs.Numbers.{PidSetView, with_number}
-use Rattle.pidset.specs.Children.{ChildSetView}
 use Rattle.proctable.specs.declared.facts.Facts.{Facts}
 use Rattle.proctable.specs.Body.{facts_of}
 use Rattle.life.specs.Machines.{IsKept, IsSound, IsMachine, Terminals}
 use Rattle.life.specs.Asking.{asking_changed, with_parent}
 use Rattle.life.proofs.ParentLemmas.{parents_map}
 use Rattle.life.proofs.SoundLemmas.{facts_are, found_in, is_there, none_read, not_many}
-use Rattle.life.proofs.ReportedLemmas.{reported_change}
 use Rattle.life.proofs.TimedLemmas.{Untimed, timed_change}
 use Rattle.life.proofs.StopLemmas.{listed_changed, nobody_0, parent_there}
 
 -- a change that may give a process another group and session, and keeps the rest
 pub record Regroups (f : Process → Process) : Type 0 where
   pub parent : (r : Process) → (f r).parent ≡ r.parent
-  pub report : (r : Process) → has_report (f r) ≡ has_report r
   pub rest : Untimed f
 
 regroups_in_group : (group : ℕ) → Regroups (in_group group)
-unfolding in_group has_report
-regroups_in_group group = record { parent = λ r. refl; report = λ r. refl; rest = record { pid = λ r. refl; alarm = λ r. refl; zombie = λ r. refl } }
+unfolding in_group
+regroups_in_group group = record { parent = λ r. refl; rest = record { pid = λ r. refl; alarm = λ r. refl; zombie = λ r. refl } }
 
 regroups_in_session : Regroups in_session
-unfolding in_session has_report
-regroups_in_session = record { parent = λ r. refl; report = λ r. refl; rest = record { pid = λ r. refl; alarm = λ r. refl; zombie = λ r. refl } }
+unfolding in_session
+regroups_in_session = record { parent = λ r. refl; rest = record { pid = λ r. refl; alarm = λ r. refl; zombie = λ r. refl } }
 
 -- ---- the parts
 
@@ -61,10 +57,10 @@ sound_regrouped s p f pids now places k regular same table tallied i = record {
 }
 
 -- both the process and its parent are asked, as either may wait for the members of a group
-machine_regrouped : {losing : PidSetView} {terminals : Terminals} (s : State) (pids now : Pids) (places : Places) (asked after : PidSetView) (reporting : ChildSetView) (alarmed : PidSetView) (tick p : ℕ) (f : Process → Process) (me : Process)
-    → Regroups f → lookup p s.processes ≡ Some me → IsRegular (change s p f) → now.pidmax ≡ pids.pidmax → IsPids now → IsTallied now (changed p f s.processes) → IsMachine s pids places asked reporting alarmed tick losing terminals
-    → after.pids ≡ asking_changed me asked.pids → after.room ≡ asked.room → IsMachine (change s p f) now places after reporting alarmed tick losing (record { readers = terminals.readers; stale = true })
-machine_regrouped s pids now places asked after reporting alarmed tick p f me k found regular same table tallied i is room =
+machine_regrouped : {losing : PidSetView} {terminals : Terminals} (s : State) (pids now : Pids) (places : Places) (asked after : PidSetView) (alarmed : PidSetView) (tick p : ℕ) (f : Process → Process) (me : Process)
+    → Regroups f → lookup p s.processes ≡ Some me → IsRegular (change s p f) → now.pidmax ≡ pids.pidmax → IsPids now → IsTallied now (changed p f s.processes) → IsMachine s pids places asked alarmed tick losing terminals
+    → after.pids ≡ asking_changed me asked.pids → after.room ≡ asked.room → IsMachine (change s p f) now places after alarmed tick losing (record { readers = terminals.readers; stale = true })
+machine_regrouped s pids now places asked after alarmed tick p f me k found regular same table tallied i is room =
     let rs = s.processes in
     let pid = k.rest.pid in
     let here = is_there (lookup p rs) me found in
@@ -74,16 +70,15 @@ machine_regrouped s pids now places asked after reporting alarmed tick p f me k 
           (λ q e. some_changed p q f pid rs e) (some_changed p p f pid rs here) (λ some. some_changed p me.parent f pid rs (parent_there s pids places i.sound p me found some)) (absent_changed p f pid 0 rs (nobody_0 s i.sound.regular))
           (λ q e. each (λ q. (q ≡ p) ⊎ (q ≡ me.parent)) (p ∷ me.parent ∷ []) (inl refl, (inr refl, tt)) q e)
           (subst (λ n. after.pids ≡ asking_changed (record me { pid = n }) asked.pids) (pid_looked p rs me found) is) room;
-      reported = reported_change s.world.pidmax p f pid k.parent rs reporting reporting me found i.reported (λ q c ne. refl) (i.reported.each p me found ∙ sym (k.report me)) i.reported.once refl;
       timed = timed_change s.world.pidmax p f k.rest rs alarmed tick here i.timed;
       noted = i.noted;
       fresh = λ e. absurd (cc);
     }
 
 -- the number that was given last is the same
-pub machine_numbered : {losing : PidSetView} {terminals : Terminals} (t : State) (pids : Pids) (places : Places) (asked : PidSetView) (reporting : ChildSetView) (alarmed : PidSetView) (tick last : ℕ) → t.last_pid ≡ last
-    → IsMachine t pids places asked reporting alarmed tick losing terminals → IsMachine (record t { last_pid = last }) pids places asked reporting alarmed tick losing terminals
-machine_numbered {losing = losing} {terminals = terminals} t pids places asked reporting alarmed tick last same i = subst (λ n. IsMachine (record t { last_pid = n }) pids places asked reporting alarmed tick losing terminals) same i
+pub machine_numbered : {losing : PidSetView} {terminals : Terminals} (t : State) (pids : Pids) (places : Places) (asked : PidSetView) (alarmed : PidSetView) (tick last : ℕ) → t.last_pid ≡ last
+    → IsMachine t pids places asked alarmed tick losing terminals → IsMachine (record t { last_pid = last }) pids places asked alarmed tick losing terminals
+machine_numbered {losing = losing} {terminals = terminals} t pids places asked alarmed tick last same i = subst (λ n. IsMachine (record t { last_pid = n }) pids places asked alarmed tick losing terminals) same i
 
 -- ---- a process that moves
 
@@ -104,12 +99,12 @@ room_to_move s pids places i p to me found regular =
     let most = i.kept.greatest in
     can_move pids p to me s.processes i.kept.table i.kept.tallied (omega (arith, l)) found (omega (arith, b, most)) (group_range s pids places i p to me found regular)
 
-pub machine_moved : {losing : PidSetView} {terminals : Terminals} (s : State) (pids now : Pids) (places : Places) (asked after : PidSetView) (reporting : ChildSetView) (alarmed : PidSetView) (tick p to : ℕ) (me : Process)
-    → lookup p s.processes ≡ Some me → IsRegular (change s p (in_group to)) → now ≡ moved_in pids me.group to → IsMachine s pids places asked reporting alarmed tick losing terminals
-    → after.pids ≡ asking_changed me asked.pids → after.room ≡ asked.room → IsMachine (change s p (in_group to)) now places after reporting alarmed tick losing (record { readers = terminals.readers; stale = true })
-machine_moved s pids now places asked after reporting alarmed tick p to me found regular moved i =
+pub machine_moved : {losing : PidSetView} {terminals : Terminals} (s : State) (pids now : Pids) (places : Places) (asked after : PidSetView) (alarmed : PidSetView) (tick p to : ℕ) (me : Process)
+    → lookup p s.processes ≡ Some me → IsRegular (change s p (in_group to)) → now ≡ moved_in pids me.group to → IsMachine s pids places asked alarmed tick losing terminals
+    → after.pids ≡ asking_changed me asked.pids → after.room ≡ asked.room → IsMachine (change s p (in_group to)) now places after alarmed tick losing (record { readers = terminals.readers; stale = true })
+machine_moved s pids now places asked after alarmed tick p to me found regular moved i =
     let table = i.sound.kept.table in
-    machine_regrouped s pids now places asked after reporting alarmed tick p (in_group to) me (regroups_in_group to) found regular (ap (λ (n : Pids). n.pidmax) moved ∙ greatest_moved pids me.group to)
+    machine_regrouped s pids now places asked after alarmed tick p (in_group to) me (regroups_in_group to) found regular (ap (λ (n : Pids). n.pidmax) moved ∙ greatest_moved pids me.group to)
     (subst IsPids (sym moved) (pids_moved pids me.group to table))
     (subst (λ n. IsTallied n (changed p (in_group to) s.processes)) (sym moved) (tallied_moved pids p to me s.processes table i.sound.regular.rising i.sound.kept.tallied found)) i
 
@@ -126,12 +121,12 @@ room_to_lead s pids places i p me found =
     let most = i.kept.greatest in
     can_lead pids p p me s.processes i.kept.table i.kept.tallied (omega (arith, l)) found (omega (arith, pid, named, most)) (omega (arith, group, most)) (omega (arith, session, most))
 
-pub machine_led : {losing : PidSetView} {terminals : Terminals} (s : State) (pids now : Pids) (places : Places) (asked after : PidSetView) (reporting : ChildSetView) (alarmed : PidSetView) (tick p : ℕ) (me : Process)
-    → lookup p s.processes ≡ Some me → IsRegular (change s p in_session) → now ≡ led_in pids p me.group me.session → IsMachine s pids places asked reporting alarmed tick losing terminals
-    → after.pids ≡ asking_changed me asked.pids → after.room ≡ asked.room → IsMachine (change s p in_session) now places after reporting alarmed tick losing (record { readers = terminals.readers; stale = true })
-machine_led s pids now places asked after reporting alarmed tick p me found regular led i =
+pub machine_led : {losing : PidSetView} {terminals : Terminals} (s : State) (pids now : Pids) (places : Places) (asked after : PidSetView) (alarmed : PidSetView) (tick p : ℕ) (me : Process)
+    → lookup p s.processes ≡ Some me → IsRegular (change s p in_session) → now ≡ led_in pids p me.group me.session → IsMachine s pids places asked alarmed tick losing terminals
+    → after.pids ≡ asking_changed me asked.pids → after.room ≡ asked.room → IsMachine (change s p in_session) now places after alarmed tick losing (record { readers = terminals.readers; stale = true })
+machine_led s pids now places asked after alarmed tick p me found regular led i =
     let table = i.sound.kept.table in
-    machine_regrouped s pids now places asked after reporting alarmed tick p in_session me regroups_in_session found regular (ap (λ (n : Pids). n.pidmax) led ∙ greatest_led pids p me.group me.session)
+    machine_regrouped s pids now places asked after alarmed tick p in_session me regroups_in_session found regular (ap (λ (n : Pids). n.pidmax) led ∙ greatest_led pids p me.group me.session)
     (subst IsPids (sym led) (pids_led pids p me.group me.session table))
     (subst (λ n. IsTallied n (changed p in_session s.processes)) (sym led) (tallied_led pids p me s.processes table i.sound.regular.rising i.sound.kept.tallied found)) i
 

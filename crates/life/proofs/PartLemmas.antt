@@ -45,7 +45,7 @@ can_go s p places c r i found dead other =
     }
 
 -- and still can after a change of each record that keeps its numbers
-pub can_go_map : (g : Process → Process) → ((r : Process) → (g r).pid ≡ r.pid) → ((r : Process) → (g r).parent ≡ r.parent) → ((r : Process) → (g r).group ≡ r.group) → ((r : Process) → (g r).session ≡ r.session)
+can_go_map : (g : Process → Process) → ((r : Process) → (g r).pid ≡ r.pid) → ((r : Process) → (g r).parent ≡ r.parent) → ((r : Process) → (g r).group ≡ r.group) → ((r : Process) → (g r).session ≡ r.session)
     → (rs : List Process) (p : Pids) (c : ℕ) → CanGo rs p c → CanGo (map g rs) p c
 can_go_map g kp kq kg ks rs p c h = record {
   what = g h.what;

@@ -3,7 +3,7 @@ use Rattle.std.proofs.Common.{◌≡◌, ℕ, ◌+◌, ◌<◌, ◌≤◌, Bool,
 use Rattle.std.specs.Option.{IsSome}
 use Rattle.std.proofs.lemmas.List.{length-map, length-replicate}
 use Rattle.posix.specs.Processes.{Process, is_zombie, first_process}
-use Rattle.posix.specs.Tables.{at, lookup, changed, inserted, adopted, reparented}
+use Rattle.posix.specs.Tables.{at, children_in, lookup, changed, inserted, adopted, reparented}
 use Rattle.posix.specs.Consoles.{Console, unused_console}
 use Rattle.posix.specs.States.{World, State, boot, process, next_pid}
 use Rattle.posix.specs.NextPid.{is_free, next_free}
@@ -11,7 +11,7 @@ use Rattle.posix.specs.Regular.{IsRegular, IsPlaced, CanInherit}
 use Rattle.posix.specs.Ends.{made_zombie, ended}
 use Rattle.posix.proofs.NextLemmas.{IsNew, new_number}
 use Rattle.posix.proofs.RegularLemmas.{Keeps, keeps_at, regular_as, regular_map, regular_inserted, regular_first}
-use Rattle.posix.proofs.MapLemmas.{at_pid, some_map}
+use Rattle.posix.proofs.MapLemmas.{at_pid, some_map, children_map}
 use Rattle.posix.proofs.WalkLemmas.{all_looked}
 use Rattle.pidalloc.specs.Rows.{Pids, IsPids, is_free_in, unborne_table, born_in}
 use Rattle.pidalloc.specs.Tallies.{IsTallied}
@@ -91,6 +91,11 @@ kept_halted w m rs pids a b e k = kept_map (at 1 (ended w)) (λ r. grind arith) 
 pub there_made_zombie : (p w q : ℕ) (rs : List Process) → IsSome (lookup q rs) → IsSome (lookup q (changed p (made_zombie w) rs))
 unfolding changed made_zombie
 there_made_zombie p w q rs there = some_map (at p (made_zombie w)) (at_pid p (made_zombie w) (λ r. refl)) q rs there
+
+-- and everybody has as many children
+pub kids_made_zombie : (p w q : ℕ) (rs : List Process) → length (children_in q (changed p (made_zombie w) rs)) ≡ length (children_in q rs)
+unfolding changed made_zombie
+kids_made_zombie p w q rs = ap length (children_map (at p (made_zombie w)) (λ r. grind arith) q rs) ∙ length-map (children_in q rs) (at p (made_zombie w))
 
 -- who is there keeps a parent that is there, at an end
 pub parents_departed : (p heir w : ℕ) (rs : List Process) → IsSome (lookup heir rs) → HaveParents rs → HaveParents (adopted p heir (changed p (made_zombie w) rs))

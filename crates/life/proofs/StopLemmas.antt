@@ -1,5 +1,5 @@
 -- A process that is stopped or continued, and its parent that gets notice of it, in the parts of a machine.
-use Rattle.std.proofs.Common.{◌≡◌, ◌≢◌, ℕ, ◌≤◌, true, false, ◌||◌, ◌&&◌, refl, ap, sym, ◌∙◌, arith, subst, List, [], ◌∷◌, ◌++◌, Some, None, ◌==◌, inl, inr, ◌⊎◌, ⊎_elim}
+use Rattle.std.proofs.Common.{◌≡◌, ◌≢◌, ℕ, ◌≤◌, true, false, refl, ap, sym, ◌∙◌, arith, subst, List, [], ◌∷◌, ◌++◌, Some, None, ◌==◌, inl, inr, ◌⊎◌, ⊎_elim}
 use Rattle.std.specs.Option.{IsSome}
 use Rattle.std.proofs.lemmas.Bool.{eq-eqb, ne_eqb, cases_eq, cond_both, or_left, or_right}
 use Rattle.posix.specs.declared.process.PendingSignal.{PendingSignal}
@@ -9,7 +9,6 @@ use Rattle.posix.specs.States.{State, process, change, is_in, lose_place}
 use Rattle.posix.specs.Regular.{IsRegular}
 use Rattle.posix.specs.Notices.{ignores_stops, noticed_of_change, child_signal}
 use Rattle.posix.specs.Generation.{signalled}
-use Rattle.posix.specs.Waits.{has_report}
 use Rattle.posix.proofs.TableLemmas.{changed_absent, pid_looked}
 use Rattle.posix.proofs.MemberLemmas.{each}
 use Rattle.posix.proofs.RegularLemmas.{regular_lose, keeps_signalled}
@@ -18,16 +17,14 @@ use Rattle.posix.proofs.TouchLemmas.{Touches, touches_both, touches_shown, touch
 use Rattle.pidalloc.specs.Rows.{Pids}
 use Rattle.sched.specs.Places.{Places}
 use Rattle.pidset.specs.Numbers.{PidSetView, with_number}
-use Rattle.pidset.specs.Children.{ArePairs, ChildSetView, is_child_in}
 use Rattle.pidset.proofs.NumberLemmas.{in_with}
 use Rattle.jobs.proofs.NumberLemmas.{absent_changed}
-use Rattle.life.specs.Machines.{IsSound, IsListed, IsReported, IsTimed, IsMachine, Terminals}
+use Rattle.life.specs.Machines.{IsSound, IsListed, IsTimed, IsMachine, Terminals}
 use Rattle.life.specs.Asking.{with_numbers, with_parent, asking}
 use Rattle.life.proofs.SoundLemmas.{sound_change, kept_order}
 use Rattle.posix.proofs.FreshLemmas.{fresh_changed}
 use Rattle.posix.proofs.ReportLemmas.{some_changed}
 use Rattle.life.proofs.AskLemmas.{IsBeside, listed_with, listed_same, listed_change}
-use Rattle.life.proofs.ReportedLemmas.{reported_change, reported_unseen, elsewhere_put, here_put}
 use Rattle.life.proofs.TimedLemmas.{Untimed, timed_change, untimed_signalled}
 
 -- ---- the parent
@@ -82,13 +79,12 @@ untimed_among f k =
     }
 
 -- a signal was generated for a process that is there, and has done nothing else yet
-pub machine_signalled : {losing : PidSetView} {terminals : Terminals} (s : State) (pids : Pids) (places : Places) (asked after : PidSetView) (reporting : ChildSetView) (alarmed : PidSetView) (tick p : ℕ) (signal : PendingSignal)
-    → IsSome (process s p) → IsMachine s pids places asked reporting alarmed tick losing terminals → after.pids ≡ asking p s.order asked.pids → after.room ≡ asked.room
-    → IsMachine (change s p (signalled signal)) pids places after reporting alarmed tick losing terminals
-machine_signalled s pids places asked after reporting alarmed tick p signal here i put room = record {
+pub machine_signalled : {losing : PidSetView} {terminals : Terminals} (s : State) (pids : Pids) (places : Places) (asked after : PidSetView) (alarmed : PidSetView) (tick p : ℕ) (signal : PendingSignal)
+    → IsSome (process s p) → IsMachine s pids places asked alarmed tick losing terminals → after.pids ≡ asking p s.order asked.pids → after.room ≡ asked.room
+    → IsMachine (change s p (signalled signal)) pids places after alarmed tick losing terminals
+machine_signalled s pids places asked after alarmed tick p signal here i put room = record {
   sound = sound_change p (signalled signal) s (keeps_signalled signal) pids places i.sound;
   listed = listed_change s p (signalled signal) asked after i.listed (unseen_signalled signal).pid (touches_unseen s p (signalled signal) (unseen_signalled signal)) here put room;
-  reported = reported_unseen s.world.pidmax p (signalled signal) (unseen_signalled signal) s.processes reporting here i.reported;
   timed = timed_change s.world.pidmax p (signalled signal) (untimed_signalled signal) s.processes alarmed tick here i.timed;
   noted = i.noted;
   fresh = λ e. fresh_changed p (signalled signal) (keeps_signalled {now = 0} signal).group (keeps_signalled {now = 0} signal).session s.processes s.consoles (i.fresh e);
@@ -109,22 +105,12 @@ listed_changed s t p parent before after touched h touches most stay here up non
           (is ∙ rw (ne_eqb parent 0 some) refl) same
     ]
 
--- the set of those that have something to report: the process has
-reported_news : (m p status : ℕ) (f : Process → Process) → Lives f → (rs : List Process) (before after : ChildSetView) (me : Process) → lookup p rs ≡ Some me → has_report (f me) ≡ true → IsReported m rs before
-    → ((q c : ℕ) → is_child_in q c after.pairs ≡ (q == me.parent && c == p || is_child_in q c before.pairs)) → ArePairs after.pairs → after.room ≡ before.room
-    → IsReported m (changed me.parent (noticed_of_change (child_signal p status)) (changed p f rs)) after
-reported_news m p status f k rs before after me found news h put once room =
-    let now = reported_change m p f k.pid k.parent rs before after me found h (elsewhere_put me.parent p before after put) (here_put me.parent p before after put ∙ sym news) once room in
-    if_there (λ rs. IsReported m rs after) me.parent (noticed_of_change (child_signal p status)) (changed p f rs) now
-    (λ there. reported_unseen m me.parent _ (unseen_noticed_of_change _) (changed p f rs) after there now)
-
-machine_changed : {losing : PidSetView} {terminals : Terminals} (s : State) (pids : Pids) (places : Places) (asked after : PidSetView) (reporting reported : ChildSetView) (alarmed : PidSetView) (tick p status : ℕ) (f : Process → Process) (me : Process)
-    → Lives f → has_report (f me) ≡ true → lookup p s.processes ≡ Some me → is_zombie me.life ≡ false → IsMachine s pids places asked reporting alarmed tick losing terminals
+machine_changed : {losing : PidSetView} {terminals : Terminals} (s : State) (pids : Pids) (places : Places) (asked after : PidSetView) (alarmed : PidSetView) (tick p status : ℕ) (f : Process → Process) (me : Process)
+    → Lives f → lookup p s.processes ≡ Some me → is_zombie me.life ≡ false → IsMachine s pids places asked alarmed tick losing terminals
     → after.pids ≡ with_parent me.parent (with_number p asked.pids) → after.room ≡ asked.room
-    → ((q c : ℕ) → is_child_in q c reported.pairs ≡ (q == me.parent && c == p || is_child_in q c reporting.pairs)) → ArePairs reported.pairs → reported.room ≡ reporting.room
-    → IsMachine (record s { processes = changed me.parent (noticed_of_change (child_signal p status)) (changed p f s.processes) }) pids places after reported alarmed tick losing terminals
+    → IsMachine (record s { processes = changed me.parent (noticed_of_change (child_signal p status)) (changed p f s.processes) }) pids places after alarmed tick losing terminals
 unfolding is_in
-machine_changed s pids places asked after reporting reported alarmed tick p status f me k news found living i is same put once room =
+machine_changed s pids places asked after alarmed tick p status f me k found living i is same =
     let rs = s.processes in
     let rising = i.sound.regular.rising in
     let notice = noticed_of_change (child_signal p status) in
@@ -145,7 +131,6 @@ machine_changed s pids places asked after reporting reported alarmed tick p stat
           (absent_changed me.parent notice u.pid 0 (changed p f rs) (absent_changed p f k.pid 0 rs (nobody_0 s i.sound.regular)))
           (λ q e. each (λ q. (q ≡ p) ⊎ (q ≡ me.parent)) (me.parent ∷ p ∷ me.parent ∷ []) (inr refl, (inl refl, (inr refl, tt))) q e)
           is same;
-      reported = reported_news s.world.pidmax p status f k rs reporting reported me found news i.reported put once room;
       timed =
           let now : IsTimed s.world.pidmax (changed p g rs) alarmed tick = timed_change s.world.pidmax p g (untimed_among f k) rs alarmed tick here i.timed in
           subst (λ qs. IsTimed s.world.pidmax (changed me.parent notice qs) alarmed tick) (sym as_living)
@@ -155,16 +140,14 @@ machine_changed s pids places asked after reporting reported alarmed tick p stat
     }
 
 -- A living process changed, and lives, with something to report; its parent has notice of it.
-pub machine_told : {losing : PidSetView} {terminals : Terminals} (s : State) (pids : Pids) (places : Places) (asked after : PidSetView) (reporting reported : ChildSetView) (alarmed : PidSetView) (tick p parent status : ℕ) (f : Process → Process) (me : Process)
-    → Lives f → has_report (f me) ≡ true → lookup p s.processes ≡ Some me → is_zombie me.life ≡ false → parent ≡ me.parent → IsMachine s pids places asked reporting alarmed tick losing terminals
+pub machine_told : {losing : PidSetView} {terminals : Terminals} (s : State) (pids : Pids) (places : Places) (asked after : PidSetView) (alarmed : PidSetView) (tick p parent status : ℕ) (f : Process → Process) (me : Process)
+    → Lives f → lookup p s.processes ≡ Some me → is_zombie me.life ≡ false → parent ≡ me.parent → IsMachine s pids places asked alarmed tick losing terminals
     → after.pids ≡ with_parent parent (with_number p asked.pids) → after.room ≡ asked.room
-    → ((q c : ℕ) → is_child_in q c reported.pairs ≡ (q == parent && c == p || is_child_in q c reporting.pairs)) → ArePairs reported.pairs → reported.room ≡ reporting.room
-    → IsMachine (record s { processes = changed parent (noticed_of_change (child_signal p status)) (changed p f s.processes) }) pids places after reported alarmed tick losing terminals
-machine_told {losing = losing} {terminals = terminals} s pids places asked after reporting reported alarmed tick p parent status f me k news found living its i =
+    → IsMachine (record s { processes = changed parent (noticed_of_change (child_signal p status)) (changed p f s.processes) }) pids places after alarmed tick losing terminals
+machine_told {losing = losing} {terminals = terminals} s pids places asked after alarmed tick p parent status f me k found living its i =
     subst (λ n. after.pids ≡ with_parent n (with_number p asked.pids) → after.room ≡ asked.room
-    → ((q c : ℕ) → is_child_in q c reported.pairs ≡ (q == n && c == p || is_child_in q c reporting.pairs)) → ArePairs reported.pairs → reported.room ≡ reporting.room
-    → IsMachine (record s { processes = changed n (noticed_of_change (child_signal p status)) (changed p f s.processes) }) pids places after reported alarmed tick losing terminals)
-    (sym its) (machine_changed s pids places asked after reporting reported alarmed tick p status f me k news found living i)
+    → IsMachine (record s { processes = changed n (noticed_of_change (child_signal p status)) (changed p f s.processes) }) pids places after alarmed tick losing terminals)
+    (sym its) (machine_changed s pids places asked after alarmed tick p status f me k found living i)
 
 -- its parent is there after the change, if it is another than number 0
 pub parent_after : (s : State) (pids : Pids) (places : Places) → IsSound s pids places → (p parent : ℕ) (f : Process → Process) → Lives f → (me : Process) → lookup p s.processes ≡ Some me → parent ≡ me.parent → parent ≢ 0 → IsSome (lookup parent (changed p f s.processes))
@@ -176,12 +159,11 @@ pub nobody_after : (s : State) → IsRegular s → (p parent : ℕ) (f : Process
 nobody_after s i p parent f k e = subst (λ n. lookup n (changed p f s.processes) ≡ None) (sym e) (absent_changed p f k.pid 0 s.processes (nobody_0 s i))
 
 -- who is asked may lose its place
-pub machine_left : {losing : PidSetView} {terminals : Terminals} (s : State) (pids : Pids) (places left : Places) (asked : PidSetView) (reporting : ChildSetView) (alarmed : PidSetView) (tick p : ℕ) → places.room ≤ left.room → is_in p asked.pids ≡ true
-    → IsMachine s pids places asked reporting alarmed tick losing terminals → IsMachine (lose_place s p) pids left asked reporting alarmed tick losing terminals
-machine_left s pids places left asked reporting alarmed tick p room on i = record {
+pub machine_left : {losing : PidSetView} {terminals : Terminals} (s : State) (pids : Pids) (places left : Places) (asked : PidSetView) (alarmed : PidSetView) (tick p : ℕ) → places.room ≤ left.room → is_in p asked.pids ≡ true
+    → IsMachine s pids places asked alarmed tick losing terminals → IsMachine (lose_place s p) pids left asked alarmed tick losing terminals
+machine_left s pids places left asked alarmed tick p room on i = record {
   sound = record { regular = regular_lose p s i.sound.regular; parents = i.sound.parents; counted = i.sound.counted; kept = kept_order _ _ _ _ _ room i.sound.kept };
   listed = listed_same s (lose_place s p) asked (p ∷ []) i.listed (touches_lost s p) (refl, refl) (λ q e. e) (λ q theirs e. each (λ q. is_in q asked.pids ≡ true) (p ∷ []) (on, tt) q e);
-  reported = i.reported;
   timed = i.timed;
   noted = i.noted;
   fresh = i.fresh;

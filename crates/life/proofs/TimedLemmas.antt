@@ -20,12 +20,15 @@ use Rattle.pidset.specs.Numbers.{PidSetView, Rises, with_number, numbers_above}
 use Rattle.pidset.proofs.NumberLemmas.{in_with, rises_with, rises_without, IsLeastAbove, next_is}
 use Rattle.proctable.specs.declared.own.Own.{Own}
 use Rattle.proctable.specs.Body.{give_own}
-use Rattle.life.proofs.ReportedLemmas.{one_of}
 use Rattle.life.specs.Machines.{IsClocked, IsTimed}
 use Rattle.life.proofs.SoundLemmas.{there}
 use Rattle.life.proofs.AskLemmas.{room_for, next_known}
 use Rattle.std.specs.List.{list_any, AllByRecursion}
 use Rattle.posix.proofs.WalkLemmas.{all_looked}
+
+-- what is found once is all that is found
+one_of : {A : Type 0} {x y : A} (o : Option A) → o ≡ Some x → o ≡ Some y → x ≡ y
+one_of o a b = let both = sym a ∙ b in cc
 
 -- ---- one process
 

@@ -1,5 +1,5 @@
--- Who is to be asked whether it can act, and who has something to report.
-use Rattle.std.specs.Prelude.{◌≡◌, ℕ, ◌==◌, ◌&&◌, not, if◌then◌else◌, List, [], ◌∷◌, Option, Some, None}
+-- Who is to be asked whether it can act.
+use Rattle.std.specs.Prelude.{ℕ, ◌==◌, if◌then◌else◌, List, [], ◌∷◌, Option, Some, None}
 use Rattle.posix.specs.declared.process.Effect.{Effect}
 use Rattle.posix.specs.declared.process.Effect.TheVariants as effect
 use Rattle.posix.specs.declared.process.PendingSignal.{PendingSignal}
@@ -12,7 +12,6 @@ use Rattle.posix.specs.Generation.{effect_of}
 use Rattle.posix.specs.Notices.{generated_for}
 use Rattle.posix.specs.Sends.{permitted, sent_by}
 use Rattle.pidset.specs.Numbers.{with_number}
-use Rattle.pidset.specs.Children.{ArePairs, ChildSetView, is_child_in}
 
 -- these numbers put in
 unfoldable pub with_numbers : List ℕ → List ℕ → List ℕ
@@ -67,8 +66,3 @@ slots_of_send (Some n) = slots_of_signal n
 abbrev pub without_gone : ℕ → Option ℕ → List ℕ → List ℕ
 without_gone p None ns = ns
 without_gone p (Some parent) ns = without p (with_number parent ns)
-
--- where the record of a child has gone, whose parent this was, the child reports nothing more, and all others what they did
-abbrev pub IsForgotten : ℕ → Option ℕ → ChildSetView → ChildSetView → Type 0
-IsForgotten child None old new = new ≡ old
-IsForgotten child (Some parent) old new = ArePairs new.pairs × ((p c : ℕ) → is_child_in p c new.pairs ≡ (not (p == parent && c == child) && is_child_in p c old.pairs))

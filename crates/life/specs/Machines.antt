@@ -9,12 +9,10 @@ use Rattle.std.specs.List.{AllByRecursion}
 use Rattle.posix.specs.Consoles.{Console}
 use Rattle.posix.specs.Settle.{Covers, AreFresh}
 use Rattle.posix.specs.Terminals.{is_reader}
-use Rattle.posix.specs.Waits.{has_report}
 use Rattle.pidalloc.specs.Rows.{Pids, IsPids, row, gone_from}
 use Rattle.pidalloc.specs.Tallies.{IsTallied}
 use Rattle.sched.specs.Places.{Places}
 use Rattle.pidset.specs.Numbers.{PidSetView, Rises}
-use Rattle.pidset.specs.Children.{ArePairs, ChildSetView, is_child_in}
 
 abbrev pub state_of : World → List Process → List Console → Pids → Places → ℕ → ℕ → ℕ → Bool → State
 state_of world processes consoles pids places births ticks dropped halted = record (boot world) {
@@ -81,13 +79,6 @@ pub record IsListed (s : State) (asked : PidSetView) (readers : List PidSetView)
   pub room : s.world.pidmax < asked.room
   pub watched : IsWatched s asked.pids readers
 
--- The children that have something to report are known by their parents, and there is room for all numbers.
-pub record IsReported (pidmax : ℕ) (rs : List Process) (set : ChildSetView) : Type 0 where
-  pub each : (p : ℕ) (r : Process) → lookup p rs ≡ Some r → is_child_in r.parent p set.pairs ≡ has_report r
-  pub only : (q p : ℕ) → is_child_in q p set.pairs ≡ true → (r : Process) × (lookup p rs ≡ Some r) × (r.parent ≡ q)
-  pub once : ArePairs set.pairs
-  pub room : pidmax < set.room
-
 -- It is known of a process whether it has an alarm; that isn't due before this tick, and a zombie other than
 -- process 1 has none.
 pub record IsClocked (alarmed : List ℕ) (tick p : ℕ) (r : Process) : Type 0 where
@@ -115,10 +106,9 @@ pub record Terminals : Type 0 where
   pub stale : Bool
 
 -- what the type of a machine keeps
-pub record IsMachine (s : State) (pids : Pids) (places : Places) (asked : PidSetView) (reporting : ChildSetView) (alarmed : PidSetView) (tick : ℕ) (losing : PidSetView) (terminals : Terminals) : Type 0 where
+pub record IsMachine (s : State) (pids : Pids) (places : Places) (asked : PidSetView) (alarmed : PidSetView) (tick : ℕ) (losing : PidSetView) (terminals : Terminals) : Type 0 where
   pub sound : IsSound s pids places
   pub listed : IsListed s asked terminals.readers
-  pub reported : IsReported s.world.pidmax s.processes reporting
   pub timed : IsTimed s.world.pidmax s.processes alarmed tick
   pub noted : IsNoted s.world.pidmax losing
   pub fresh : terminals.stale ≡ false → AreFresh s

@@ -1,10 +1,10 @@
-//! Who is to be asked whether it can act, and who has something to report.
+//! Who is to be asked whether it can act.
 
 ghost use Rattle.std.specs.Prelude.{◌≡◌, ◌<◌, ◌==◌, ◌&&◌, length};
 ghost use Rattle.posix.specs.States.{is_in, without};
-ghost use Rattle.life.specs.Asking.{IsForgotten, asking, without_gone};
+ghost use Rattle.life.specs.Asking.{asking, without_gone};
 
-use pidset::{ChildSet, PidSet};
+use pidset::PidSet;
 use posix::Pid;
 use sched::Order;
 
@@ -39,17 +39,14 @@ pub(crate) fn take_off(to_ask: &mut PidSet, pid: Pid)
 }
 
 /// Where the record of a process has gone, of which this is the parent: the parent is to be asked, and the
-/// process no more, which has nothing to report any more.
-pub(crate) fn forget(to_ask: &mut PidSet, reporting: &mut ChildSet, pid: Pid, parent: Option<Pid>)
+/// process no more.
+pub(crate) fn forget(to_ask: &mut PidSet, pid: Pid, parent: Option<Pid>)
     requires { length to_ask.old.pids < to_ask.old.room }
     ensures pids { to_ask.new.pids ≡ without_gone pid parent to_ask.old.pids }
     ensures room { to_ask.new.room ≡ to_ask.old.room }
-    ensures reporting { IsForgotten pid parent reporting.old reporting.new }
-    ensures fits { reporting.new.room ≡ reporting.old.room }
 {
     if let Some(parent) = parent {
         to_ask.insert(parent);
         to_ask.remove(pid);
-        reporting.remove(parent, pid);
     }
 }

@@ -1,10 +1,10 @@
 //! Ends.
 
-ghost use Rattle.std.specs.Prelude.{◌≡◌, ◌≢◌, ◌≤◌, ◌<◌, ◌+◌, ◌*◌, ◌^◌, length, IsSome, Some, None, true, false, if◌then◌else◌};
+ghost use Rattle.std.specs.Prelude.{◌≡◌, ◌≢◌, ℕ, ◌≤◌, ◌<◌, ◌+◌, ◌*◌, ◌^◌, length, IsSome, Some, None, true, false, if◌then◌else◌};
 ghost use Rattle.posix.specs.Processes.{Process, is_zombie};
 ghost use Rattle.posix.specs.Tables.{lookup, changed, removed, children_in};
 ghost use Rattle.posix.specs.Groups.{some_stopped};
-ghost use Rattle.posix.specs.Regular.{CanInherit};
+ghost use Rattle.posix.specs.Regular.{CanInherit, IsRegular};
 ghost use Rattle.posix.specs.States.{process};
 ghost use Rattle.posix.specs.Ends.{depart as departing, halt as halting, end_with_heir, notice_of_end as noticing_end, tell_of_all, zombies_of, is_dropping};
 ghost use Rattle.posix.specs.Notices.{child_signal as child_signal_of, noticed};
@@ -21,58 +21,90 @@ use posix::{Carried, Life, PendingSignal, Pid, Sig, Status};
 use proctable::Kin;
 
 impl<K: Kin> Machine<K> {
-    /// The process, whose parent this is, is a zombie and loses its place, and its children become those of
-    /// its heir, which gets notice of the ends of the zombies among them, in rising order. No number of a
-    /// child is to be had once they are the heir's, so it gets notice on the way.
-    pub(crate) fn depart(&mut self, pid: Pid, parent: Pid, heir: Pid, status: Status)
+    /// The heir of a process gets notice of the ends of the zombies among its children, in rising order. No
+    /// number of a child is to be had once they are the heir's, so it gets notice before.
+    fn tell_heir(&mut self, pid: Pid, heir: Pid)
         requires there { IsSome (process self.old.state pid) }
         requires other { pid ≢ 1 }
-        requires parent { (me : Process) → process self.old.state pid ≡ Some me → parent ≡ me.parent }
         requires heir { CanInherit self.old.state.processes pid heir }
-        ensures state { self.new.state ≡ tell_of_all (departing self.old.state pid heir status) heir (zombies_of pid self.old.state.processes) }
+        ensures state { self.new.state ≡ tell_of_all self.old.state heir (zombies_of pid self.old.state.processes) }
+        ensures mine { process self.new.state pid ≡ process self.old.state pid }
+        ensures heir { CanInherit self.new.state.processes pid heir }
+        ensures fewer { (q : ℕ) → length (children_in q self.new.state.processes) ≤ length (children_in q self.old.state.processes) }
+        ensures losing { self.new.losing ≡ self.old.losing }
+        ensures reads { self.new.reads ≤ self.old.reads + 1 + 8 * length (children_in pid self.old.state.processes) }
+    {
+        let mut next = self.first_child(pid);
+        while let Some(child) = next {
+            let life = self.life(child);
+            next = self.next_sibling(child);
+            if let Life::Zombie(ended) = life {
+                self.notice_of_end(heir, child, ended);
+            }
+        }
+    }
+
+    /// The process is a zombie and loses its place, and its children become those of its heir. Its parent.
+    fn leave(&mut self, pid: Pid, heir: Pid, status: Status) -> Pid
+        requires there { IsSome (process self.old.state pid) }
+        requires other { pid ≢ 1 }
+        requires heir { CanInherit self.old.state.processes pid heir }
+        ensures state { self.new.state ≡ departing self.old.state pid heir status }
+        ensures is { (me : Process) → process self.old.state pid ≡ Some me → result ≡ me.parent }
         ensures parent { (me : Process) → process self.old.state pid ≡ Some me → IsSome (process self.new.state me.parent) }
         ensures zombie { (it : Process) × (process self.new.state pid ≡ Some it) × (is_zombie it.life ≡ true) }
         ensures losing { self.new.losing ≡ self.old.losing }
-        ensures reads { self.new.reads ≤ self.old.reads + 3 + 16 * length (children_in pid self.old.state.processes) + length (children_in heir self.old.state.processes) }
+        ensures reads { self.new.reads ≤ self.old.reads + 3 + 8 * length (children_in pid self.old.state.processes) + length (children_in heir self.old.state.processes) }
     {
         self.to_ask.insert(pid);
         self.to_ask.insert(heir);
-        self.table.make_zombie(pid, status);
-        self.order.drop_place(pid);
-        let mut next = self.table.first_child(pid);
-        while let Some(child) = next {
-            next = self.table.next_sibling(child);
-            let life = life(&mut self.table, child);
-            if child != pid {
-                if let Life::Zombie(ended) = life {
-                    let gone = notify_of_end(
-                        &mut self.table,
-                        &mut self.pids,
-                        &mut self.dropped,
-                        heir,
-                        child,
-                        ended,
-                    );
-                    forget(&mut self.to_ask, &mut self.reporting, child, gone);
-                }
-            }
-        }
+        let parent = self.table.make_zombie(pid, status);
         self.to_ask.insert(parent);
-        self.reporting.insert(parent, pid);
-        self.reporting.move_children(pid, heir);
         self.alarmed.remove(pid);
         self.table.adopt(pid, heir);
+        self.order.drop_place(pid);
         self.stale = true;
+        parent
+    }
+
+    /// The heir of a process gets notice of the ends of the zombies among its children, and then the process
+    /// is a zombie and loses its place, and its children become those of its heir. Its parent.
+    pub(crate) fn depart(&mut self, pid: Pid, heir: Pid, status: Status) -> Pid
+        requires there { IsSome (process self.old.state pid) }
+        requires other { pid ≢ 1 }
+        requires heir { CanInherit self.old.state.processes pid heir }
+        ensures state { self.new.state ≡ tell_of_all (departing self.old.state pid heir status) heir (zombies_of pid self.old.state.processes) }
+        ensures is { (me : Process) → process self.old.state pid ≡ Some me → result ≡ me.parent }
+        ensures parent { (me : Process) → process self.old.state pid ≡ Some me → IsSome (process self.new.state me.parent) }
+        ensures zombie { (it : Process) × (process self.new.state pid ≡ Some it) × (is_zombie it.life ≡ true) }
+        ensures losing { self.new.losing ≡ self.old.losing }
+        ensures reads { self.new.reads ≤ self.old.reads + 4 + 16 * length (children_in pid self.old.state.processes) + length (children_in heir self.old.state.processes) }
+    {
+        self.tell_heir(pid, heir);
+        self.leave(pid, heir, status)
+    }
+
+    /// Whether a process that is there runs, is stopped or has ended.
+    fn life(&mut self, pid: Pid) -> Life
+        ensures value { (it : Process) → process self.old.state pid ≡ Some it → result ≡ it.life }
+        ensures same { self.new.state ≡ self.old.state }
+        ensures losing { self.new.losing ≡ self.old.losing }
+        ensures reads { self.new.reads ≤ self.old.reads + 1 }
+        ensures regular { IsRegular self.old.state }
+    {
+        match self.facts(pid) {
+            Some(facts) => facts.life,
+            None => Life::Running,
+        }
     }
 
     /// Process 1 is a zombie and loses its place, and the machine halts.
     fn halt(&mut self, status: Status)
         ensures state { self.new.state ≡ halting self.old.state status }
-        ensures reads { self.new.reads ≤ self.old.reads + 1 }
+        ensures reads { self.new.reads ≤ self.old.reads + 2 }
         ensures asked { self.new.asked ≡ with_number 1 self.old.asked }
     {
         self.to_ask.insert(Pid::INIT);
-        self.reporting.insert(Pid::NONE, Pid::INIT);
         self.table.end(Pid::INIT, status);
         self.order.drop_place(Pid::INIT);
         self.halted = true;
@@ -86,6 +118,7 @@ impl<K: Kin> Machine<K> {
         requires zombie { (it : Process) × (process self.old.state child ≡ Some it) × (is_zombie it.life ≡ true) }
         ensures state { self.new.state ≡ noticing_end self.old.state parent child status }
         ensures reads { self.new.reads ≤ self.old.reads + 6 }
+        ensures losing { self.new.losing ≡ self.old.losing }
         ensures asked { (it : Process) → process self.old.state child ≡ Some it → self.new.asked ≡ without_gone child (if is_dropping parent self.old.state.processes then Some it.parent else None) (with_number parent self.old.asked) }
     {
         self.to_ask.insert(parent);
@@ -97,7 +130,7 @@ impl<K: Kin> Machine<K> {
             child,
             status,
         );
-        forget(&mut self.to_ask, &mut self.reporting, child, gone);
+        forget(&mut self.to_ask, child, gone);
         self.stale = true;
     }
 
@@ -116,8 +149,7 @@ impl<K: Kin> Machine<K> {
         if pid == Pid::INIT {
             self.halt(status);
         } else {
-            let parent = self.parent(pid);
-            self.depart_and_rouse(pid, parent, heir, status);
+            let parent = self.depart_and_rouse(pid, heir, status);
             self.notice_of_end(parent, pid, status);
         }
     }
@@ -167,19 +199,6 @@ fn drop_child<K: Kin>(
     let parent = discard(table, pids, child);
     *dropped += 1;
     parent
-}
-
-/// Whether a process that is there runs, is stopped or has ended.
-fn life<K: Kin>(table: &mut JobTable<K>, pid: Pid) -> Life
-    requires { IsSome (lookup pid table.old.processes) }
-    ensures value { (it : Process) → lookup pid table.old.processes ≡ Some it → result ≡ it.life }
-    ensures processes { table.new.processes ≡ table.old.processes }
-    ensures reads { table.new.reads ≤ table.old.reads + 1 }
-{
-    match table.get(pid) {
-        Some(facts) => facts.life,
-        None => Life::Running,
-    }
 }
 
 /// Notice that a child ended, was stopped or was continued, as a signal (XSH _exit, sigaction).

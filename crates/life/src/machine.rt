@@ -19,7 +19,7 @@ use crate::consoles::{no_readers, unused};
 use crate::noted_bursts::{Notes, run_with_notes};
 use jobs::JobTable;
 use pidalloc::PidTable;
-use pidset::{ChildSet, PidSet};
+use pidset::PidSet;
 use posix::{Pid, Sig, Trap};
 use proctable::{Body, Facts, Kin, Own};
 use sched::Order;
@@ -37,8 +37,6 @@ pub struct Machine<K: Kin> {
     pub(crate) order: Order,
     /// Those who are to be asked whether they can act. Whoever has to be given a place is among them.
     pub(crate) to_ask: PidSet,
-    /// The children that have something to report, by their parents.
-    pub(crate) reporting: ChildSet,
     /// The processes that have an alarm.
     pub(crate) alarmed: PidSet,
     /// A tick before which no alarm is due.
@@ -64,7 +62,7 @@ impl<K: Kin> Model for Machine<K> {
 
     ghost view = { λ m. record { state = state_of m.world (m.table.processes) m.consoles.items m.pids m.order m.births m.ticks m.dropped m.halted; reads = m.table.reads; asked = m.to_ask.pids; losing = m.losing.pids; stale = m.stale; readers = m.readers.items } };
 
-    ghost invariant = { λ m. IsMachine (state_of m.world (m.table.processes) m.consoles.items m.pids m.order m.births m.ticks m.dropped m.halted) m.pids m.order m.to_ask m.reporting m.alarmed m.next_alarm m.losing (record { readers = m.readers.items; stale = m.stale }) };
+    ghost invariant = { λ m. IsMachine (state_of m.world (m.table.processes) m.consoles.items m.pids m.order m.births m.ticks m.dropped m.halted) m.pids m.order m.to_ask m.alarmed m.next_alarm m.losing (record { readers = m.readers.items; stale = m.stale }) };
 }
 
 impl<K: Kin> Machine<K> {
@@ -83,8 +81,6 @@ impl<K: Kin> Machine<K> {
         let mut order = Order::new(alloc, world.pidmax())?;
         let mut to_ask = PidSet::new(alloc);
         to_ask.reserve(world.pidmax() as usize + 1)?;
-        let mut reporting = ChildSet::new(alloc);
-        reporting.reserve(world.pidmax() as usize + 1)?;
         let mut alarmed = PidSet::new(alloc);
         alarmed.reserve(world.pidmax() as usize + 1)?;
         let mut losing = PidSet::new(alloc);
@@ -101,7 +97,6 @@ impl<K: Kin> Machine<K> {
             pids,
             order,
             to_ask,
-            reporting,
             alarmed,
             next_alarm: u64::MAX,
             losing,

@@ -30,7 +30,7 @@ impl<K: Kin> Machine<K> {
         ensures ok { IfOk result (λ g. (it r : Process) → process self.old.state me.now.pid ≡ Some it → named_by it me.now.r1 self.old.state.processes ≡ Some r → self.new.state ≡ change self.old.state r.pid (in_group g)) }
         ensures asked { OnOk result ((it r : Process) → process self.old.state me.now.pid ≡ Some it → named_by it me.now.r1 self.old.state.processes ≡ Some r → self.new.asked ≡ asking_changed r self.old.asked) }
         ensures asked_at_error { OnErr result (self.new.asked ≡ self.old.asked) }
-        ensures reads { self.new.reads ≤ self.old.reads + 5 + 2 * length self.old.state.processes }
+        ensures reads { self.new.reads ≤ self.old.reads + 6 + 2 * length self.old.state.processes }
     {
         let target = self.named(me.pid, me.r1);
         let group = self.table.move_group(me.pid, me.r1, me.r2)?;
@@ -51,7 +51,7 @@ impl<K: Kin> Machine<K> {
         ensures leads { (me : Process) → process self.old.state pid ≡ Some me → (me.group == me.pid || is_group_of_others me self.old.state.processes) ≡ false → (result ≡ Ok tt) × (self.new.state ≡ change self.old.state pid in_session) }
         ensures asked { OnOk result ((me : Process) → process self.old.state pid ≡ Some me → self.new.asked ≡ asking_changed me self.old.asked) }
         ensures asked_at_error { OnErr result (self.new.asked ≡ self.old.asked) }
-        ensures reads { self.new.reads ≤ self.old.reads + 7 + 4 * length self.old.state.processes }
+        ensures reads { self.new.reads ≤ self.old.reads + 8 + 4 * length self.old.state.processes }
     {
         let Some(it) = self.table.get(pid) else {
             unreachable!()

@@ -113,24 +113,24 @@ impl<K: Kin> Machine<K> {
 
     /// The process departs, as [`Machine::depart`] says, and then each member of a process group that was not
     /// orphaned before, is now, and has a stopped member, gets HUP, and then CONT: of these groups one after
-    /// another, in rising order.
-    pub(crate) fn depart_and_rouse(&mut self, pid: Pid, parent: Pid, heir: Pid, status: Status)
+    /// another, in rising order. Its parent.
+    pub(crate) fn depart_and_rouse(&mut self, pid: Pid, heir: Pid, status: Status) -> Pid
         requires there { IsSome (process self.old.state pid) }
         requires other { pid ≢ 1 }
-        requires parent { (me : Process) → process self.old.state pid ≡ Some me → parent ≡ me.parent }
         requires heir { CanInherit self.old.state.processes pid heir }
         ensures state { self.new.state ≡ rouse_orphans self.old.state.processes (tell_of_all (departing self.old.state pid heir status) heir (zombies_of pid self.old.state.processes)) }
+        ensures is { (me : Process) → process self.old.state pid ≡ Some me → result ≡ me.parent }
         ensures parent { (me : Process) → process self.old.state pid ≡ Some me → IsSome (process self.new.state me.parent) }
         ensures zombie { (it : Process) × (process self.new.state pid ≡ Some it) × (is_zombie it.life ≡ true) }
-        ensures reads { some_stopped self.old.state.processes ≡ false → self.new.reads ≤ self.old.reads + 3 + 16 * length (children_in pid self.old.state.processes) + length (children_in heir self.old.state.processes) }
+        ensures reads { some_stopped self.old.state.processes ≡ false → self.new.reads ≤ self.old.reads + 4 + 16 * length (children_in pid self.old.state.processes) + length (children_in heir self.old.state.processes) }
     {
         if self.nobody_stopped() {
-            self.depart(pid, parent, heir, status);
-            return;
+            return self.depart(pid, heir, status);
         }
         self.note_losing(pid);
-        self.depart(pid, parent, heir, status);
+        let parent = self.depart(pid, heir, status);
         self.keep_rousable();
         self.rouse_all();
+        parent
     }
 }

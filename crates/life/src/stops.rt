@@ -26,11 +26,9 @@ impl<K: Kin> Machine<K> {
         ensures reads { self.new.reads ≤ self.old.reads + 3 }
         ensures asked { (me : Process) → process self.old.state pid ≡ Some me → self.new.asked ≡ asking_changed me self.old.asked }
     {
-        let parent = self.parent(pid);
         self.to_ask.insert(pid);
-        self.table.stop(pid, sig);
+        let parent = self.table.stop(pid, sig);
         self.order.drop_place(pid);
-        self.reporting.insert(parent, pid);
         tell_parent(
             &mut self.table,
             &mut self.to_ask,
@@ -49,10 +47,8 @@ impl<K: Kin> Machine<K> {
         ensures asked { (me : Process) → process self.old.state pid ≡ Some me → self.new.asked ≡ asking_changed me self.old.asked }
         ensures losing { self.new.losing ≡ self.old.losing }
     {
-        let parent = self.parent(pid);
         self.to_ask.insert(pid);
-        self.table.resume(pid);
-        self.reporting.insert(parent, pid);
+        let parent = self.table.resume(pid);
         tell_parent(
             &mut self.table,
             &mut self.to_ask,

@@ -184,7 +184,7 @@ impl<K: Kin> Machine<K> {
         ensures asked { (child : Process) → process self.old.state pid ≡ Some child → self.new.asked ≡ without_gone pid (Some child.parent) self.old.asked }
     {
         let parent = discard(&mut self.table, &mut self.pids, pid);
-        forget(&mut self.to_ask, &mut self.reporting, pid, Some(parent));
+        forget(&mut self.to_ask, pid, Some(parent));
         self.stale = true;
     }
 
@@ -196,12 +196,6 @@ impl<K: Kin> Machine<K> {
         ensures asked { self.new.asked ≡ asking pid self.old.state.order self.old.asked }
     {
         ask(&mut self.to_ask, &self.order, pid);
-        let Some(facts) = self.table.get(pid) else {
-            unreachable!()
-        };
         self.table.tell_news(pid);
-        if let Life::Running | Life::Stopped = facts.life {
-            self.reporting.remove(facts.parent, pid);
-        }
     }
 }

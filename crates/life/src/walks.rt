@@ -58,7 +58,7 @@ impl<K: Kin> Machine<K> {
         ensures value { result ≡ first_pid (above after (reporting_in parent self.now.state.processes)) }
         ensures regular { IsRegular self.now.state }
     {
-        self.reporting.next_child(parent, after)
+        self.table.next_reporting(parent, after)
     }
 
     /// Who is to be asked first whether it can act: nobody with a lower number has to be given a place, and where

@@ -1,3 +1,5 @@
 pub mod NumberLemmas
 pub mod ItemLemmas
 pub mod PairLemmas
+pub mod IndexLemmas
+pub mod AnchorLemmas

@@ -1,11 +1,11 @@
-//! Sets of process numbers and of children, and items that have numbers.
+//! Sets of process numbers, indexes of processes by keys, and items that have numbers.
 #![tactic(auto)]
 
-pub mod child_set;
+pub mod index;
 pub mod numbered;
 pub mod pid_set;
 
-pub use child_set::ChildSet;
+pub use index::Index;
 pub use numbered::Numbered;
 pub use pid_set::PidSet;
 pub use posix::Pid;

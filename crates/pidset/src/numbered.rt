@@ -12,16 +12,16 @@ pub trait Numbered: Drop {
     ghost number: { Self → ℕ };
 
     /// The number.
-    fn number(&self) -> u64
+    fn number(&self) -> u128
         ensures { result ≡ number self.now };
 }
 
 impl Numbered for Pid {
     ghost number = { λ p. p };
 
-    fn number(&self) -> u64 {
+    fn number(&self) -> u128 {
         let pid = *self;
-        u64::from(pid.number())
+        u128::from(pid.number())
     }
 }
 
@@ -78,7 +78,7 @@ pub fn search_near<T: Numbered, K: Numbered>(
 }
 
 /// Whether an item stands at an index, and has this number.
-fn stands_at<T: Numbered>(items: &[T], at: usize, number: u64) -> bool
+fn stands_at<T: Numbered>(items: &[T], at: usize, number: u128) -> bool
     ensures { result ≡ option_map_or (λ item. T.number item == number) (slice_get items.now at) false }
 {
     match items.get(at) {

@@ -2,7 +2,7 @@
 
 ghost use Rattle.std.specs.Prelude.{◌≡◌};
 
-use crate::{ChildSet, Pid, PidSet};
+use crate::{Index, Pid, PidSet};
 use std::process::Abort;
 
 fn pid(rt: &impl Abort, number: u32) -> Pid
@@ -47,25 +47,25 @@ fn numbers_go_in_and_out(rt: HostRuntime) {
     assert!(rt; set.is_empty());
 }
 
-/// The number of the next child of a process; 0 where there is none.
-fn next(rt: &impl Abort, set: &ChildSet, parent: u32, after: u32) -> u32 {
-    let child = set.next_child(pid(rt, parent), pid(rt, after));
-    child.unwrap_or(Pid::NONE).number()
+/// The number of the next process under a key; 0 where there is none.
+fn next(rt: &impl Abort, index: &Index, key: u64, after: u32) -> u32 {
+    let found = index.next(key, pid(rt, after));
+    found.unwrap_or(Pid::NONE).number()
 }
 
 #[test]
-fn children_go_in_over_and_out(rt: HostRuntime) {
-    let mut set = ChildSet::new(rt.alloc());
-    set.reserve(1).expect(&rt, "memory");
-    set.insert(pid(&rt, 2), Pid::INIT);
-    assert_eq!(rt; next(&rt, &set, 2, 0), 1);
-    assert_eq!(rt; next(&rt, &set, 2, 1), 0);
-    assert_eq!(rt; next(&rt, &set, 1, 0), 0);
+fn processes_go_in_over_and_out(rt: HostRuntime) {
+    let mut index = Index::new(rt.alloc());
+    index.reserve(1).expect(&rt, "memory");
+    index.insert(2, Pid::INIT);
+    assert_eq!(rt; next(&rt, &index, 2, 0), 1);
+    assert_eq!(rt; next(&rt, &index, 2, 1), 0);
+    assert_eq!(rt; next(&rt, &index, 1, 0), 0);
 
-    set.move_children(pid(&rt, 2), pid(&rt, 3));
-    assert_eq!(rt; next(&rt, &set, 2, 0), 0);
-    assert_eq!(rt; next(&rt, &set, 3, 0), 1);
+    index.rekey(2, u64::MAX);
+    assert_eq!(rt; next(&rt, &index, 2, 0), 0);
+    assert_eq!(rt; next(&rt, &index, u64::MAX, 0), 1);
 
-    set.remove(pid(&rt, 3), Pid::INIT);
-    assert_eq!(rt; next(&rt, &set, 3, 0), 0);
+    index.remove(u64::MAX, Pid::INIT);
+    assert_eq!(rt; next(&rt, &index, u64::MAX, 0), 0);
 }

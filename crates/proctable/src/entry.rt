@@ -20,9 +20,9 @@ pub struct Entry {
 impl Numbered for Entry {
     ghost number = { λ e. e.pid };
 
-    fn number(&self) -> u64 {
+    fn number(&self) -> u128 {
         let pid = self.pid;
-        u64::from(pid.number())
+        u128::from(pid.number())
     }
 }
 

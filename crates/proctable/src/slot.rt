@@ -34,9 +34,9 @@ impl Model for Slot {
 impl Numbered for Slot {
     ghost number = { λ s. s.pid };
 
-    fn number(&self) -> u64 {
+    fn number(&self) -> u128 {
         let pid = self.pid;
-        u64::from(pid.number())
+        u128::from(pid.number())
     }
 }
 

@@ -1,11 +1,11 @@
 use Rattle.std.proofs.Common.{◌∙◌, refl}
 use Rattle.proctable.proofs.Bodies.{same_body}
-use Rattle.jobs.proofs.KeptLemmas.{kept_body}
+use Rattle.jobs.proofs.KeptLemmas.{kept_unseen}
 use Rattle.jobs.proofs.LoanLemmas.{own_at}
 use Rattle.jobs.proofs.job_table.JobTable.look.Goals as goal
 
 pub invariant_of-self : goal.invariant_of-self
-invariant_of-self g c = kept_body _ _ _ c.update-seen.ensures.rising c.args.pid c.update-seen.result.now c.update-seen.result.now c.update-seen.ensures.value (g.met.K.Kin.puts _ _ _) refl c.self.invariant
+invariant_of-self g c = kept_unseen _ _ _ c.args.pid c.update-seen.result.now c.update-seen.result.now _ c.update-seen.ensures.value (g.met.K.Kin.puts _ _ _) refl c.self.invariant
 
 pub returns : goal.returns
 returns g c =

@@ -1,11 +1,11 @@
 use Rattle.std.proofs.Common.{refl}
 use Rattle.proctable.proofs.Bodies.{own_body}
-use Rattle.jobs.proofs.KeptLemmas.{kept_body}
+use Rattle.jobs.proofs.KeptLemmas.{kept_unseen}
 use Rattle.jobs.proofs.LoanLemmas.{own_at}
 use Rattle.jobs.proofs.job_table.JobTable.own.Goals as goal
 
 pub invariant_of-self-lent : goal.invariant_of-self-lent
-invariant_of-self-lent g c = λ w. kept_body _ _ _ c.update-body.ensures.rising c.args.pid c.update-body.result.now (record (c.update-body.result.now) { own = w }) c.update-body.ensures.value (g.met.K.Kin.puts _ _ _) refl c.self.invariant
+invariant_of-self-lent g c = λ w. kept_unseen _ _ _ c.args.pid c.update-body.result.now (record (c.update-body.result.now) { own = w }) _ c.update-body.ensures.value (g.met.K.Kin.puts _ _ _) refl c.self.invariant
 
 pub returns : goal.returns
 returns g c = (

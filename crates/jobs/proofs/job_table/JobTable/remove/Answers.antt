@@ -1,29 +1,32 @@
-use Rattle.std.proofs.Common.{◌+◌, ◌∙◌, ap, sym, arith}
-use Rattle.posix.specs.Processes.{is_stopped}
+use Rattle.std.proofs.Common.{◌∙◌, ap, sym, subst, Some}
 use Rattle.posix.specs.Tables.{removed}
 use Rattle.posix.proofs.TableLemmas.{remove_none}
 use Rattle.proctable.specs.declared.facts.Facts.{Facts}
+use Rattle.jobs.specs.Books.{CanMove}
 use Rattle.jobs.proofs.FactLemmas.{none_read, some_read, facts_are}
-use Rattle.jobs.proofs.KeptLemmas.{one, few_stopped, some_stopped, kept_removed}
+use Rattle.jobs.proofs.BookLemmas.{can_move, sees}
+use Rattle.jobs.proofs.KeptLemmas.{some_there, kept_removed}
 use Rattle.jobs.proofs.job_table.JobTable.remove.Goals as goal
 
 pub returns-in_default-clause-processes : goal.returns-in_default-clause-processes
 returns-in_default-clause-processes g c = rw (← c.self.view_is) (c.get.ensures.contents ∙ sym (remove_none c.args.pid _ (none_read _ (sym c.in_default.is ∙ c.get.ensures.value))))
 
-pub recount-self-inside-requires-clause-some : goal.recount-self-inside-requires-clause-some
-recount-self-inside-requires-clause-some g c = λ e.
+pub moved-requires-clause-can : goal.moved-requires-clause-can
+moved-requires-clause-can g c =
+    let rs = g.K.Kin.contents c.self.inside.table in
     let read = sym c.in-Some.is ∙ c.get.ensures.value in
     let it = some_read _ c.in-Some.facts read in
     let facts = facts_are _ it.what c.in-Some.facts read it.found in
-    some_stopped _ _ c.args.pid it.what c.self.invariant it.found (sym (ap (λ (f : Facts). is_stopped f.life) facts) ∙ sym c.is_stopped.ensures ∙ e)
+    let can = can_move c.args.pid _ _ rs c.self.inside.books c.get.ensures.rising c.self.invariant.books (sees c.args.pid it.what rs it.found) (λ none. let no = sym none ∙ it.found in absurd (cc)) in
+    rw c.of_facts.ensures (subst (λ (f : Facts). CanMove c.args.pid f.parent (Some (record { group = f.group; life = f.life; news = f.news })) c.self.inside.books) (sym facts) can)
 
-pub recount-self-inside-requires-clause-few : goal.recount-self-inside-requires-clause-few
-recount-self-inside-requires-clause-few g c = let few = few_stopped _ _ c.get.ensures.rising c.self.invariant in omega (arith, few)
+pub overflow_sub-self : goal.overflow_sub-self
+overflow_sub-self g c =
+    let it = some_read _ c.in-Some.facts (sym c.in-Some.is ∙ c.get.ensures.value) in
+    some_there c.self.inside.count c.self.inside.books _ c.args.pid it.what c.get.ensures.rising it.found c.self.invariant
 
 pub invariant_of-self-2 : goal.invariant_of-self-2
 invariant_of-self-2 g c =
-    let read = sym c.in-Some.is ∙ c.get.ensures.value in
-    let it = some_read _ c.in-Some.facts read in
-    let facts = facts_are _ it.what c.in-Some.facts read it.found in
-    kept_removed _ _ _ _ c.get.ensures.rising c.args.pid it.what it.found (c.remove.ensures.contents ∙ ap (removed c.args.pid) c.get.ensures.contents)
-    (ap (λ b. c.recount-self-inside.result + one b) (sym (c.is_stopped.ensures ∙ ap (λ (f : Facts). is_stopped f.life) facts)) ∙ c.recount-self-inside.ensures) c.self.invariant
+    let rs = g.K.Kin.contents c.self.inside.table in
+    let it = some_read _ c.in-Some.facts (sym c.in-Some.is ∙ c.get.ensures.value) in
+    kept_removed c.self.inside.count rs _ c.args.pid c.in-Some.facts.parent it.what c.self.inside.books c.moved.new.self c.get.ensures.rising it.found (c.remove.ensures.contents ∙ ap (removed c.args.pid) c.get.ensures.contents) c.moved.ensures c.self.invariant

@@ -1,14 +1,11 @@
-use Rattle.std.proofs.Common.{◌∙◌, ap}
-use Rattle.posix.specs.Processes.{Process}
-use Rattle.posix.proofs.TouchLemmas.{unseen_ring}
+use Rattle.std.proofs.Common.{rules}
 use Rattle.posix.specs.Alarms.{ring_at}
-use Rattle.proctable.proofs.Bodies.{changed_here}
-use Rattle.jobs.proofs.KeptLemmas.{kept_body}
+use Rattle.posix.proofs.TouchLemmas.{unseen_ring}
+use Rattle.jobs.proofs.RunLemmas.{run_as, unseen_as}
 use Rattle.jobs.proofs.job_table.JobTable.ring_at.Goals as goal
 
-pub invariant_of-self : goal.invariant_of-self
-invariant_of-self g c = kept_body _ _ _ c.update-body.ensures.rising c.args.pid c.update-body.result.now c.ring_at.new.self c.update-body.ensures.value (g.met.K.Kin.puts _ _ _) (ap (λ (r : Process). r.life) (c.ring_at.ensures 0) ∙ (unseen_ring c.args.now).life _) c.self.invariant
+pub change-requires-clause-unseen : goal.change-requires-clause-unseen
+change-requires-clause-unseen g c = unseen_as c.args.pid (ring_at c.args.now) (unseen_ring c.args.now) (λ b d r k q. search rules)
 
 pub returns-clause-processes : goal.returns-clause-processes
-returns-clause-processes g c =
-    rw (← c.self.view_is) (g.met.K.Kin.puts c.self.inside.table c.args.pid c.ring_at.new.self ∙ changed_here _ c.update-body.ensures.rising c.args.pid c.update-body.result.now c.ring_at.new.self (ring_at c.args.now) c.update-body.ensures.value c.ring_at.ensures)
+returns-clause-processes g c = run_as (ring_at c.args.now) c.change.ensures.run c.change.ensures.rising (λ b d r k q. search rules)

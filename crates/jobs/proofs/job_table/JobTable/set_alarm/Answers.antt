@@ -1,14 +1,11 @@
-use Rattle.std.proofs.Common.{◌∙◌, ap}
-use Rattle.posix.specs.Processes.{Process}
+use Rattle.std.proofs.Common.{rules}
 use Rattle.posix.specs.Alarms.{with_alarm}
-use Rattle.proctable.proofs.Bodies.{changed_body}
-use Rattle.jobs.proofs.KeptLemmas.{kept_body}
+use Rattle.posix.proofs.TouchLemmas.{unseen_with_alarm}
+use Rattle.jobs.proofs.RunLemmas.{run_as, unseen_as}
 use Rattle.jobs.proofs.job_table.JobTable.set_alarm.Goals as goal
 
-pub invariant_of-self : goal.invariant_of-self
-unfolding with_alarm
-invariant_of-self g c = kept_body _ _ _ c.update-body.ensures.rising c.args.pid c.update-body.result.now c.set_alarm.new.self c.update-body.ensures.value (g.met.K.Kin.puts _ _ _) (ap (λ (r : Process). r.life) (c.set_alarm.ensures 0 0)) c.self.invariant
+pub change-requires-clause-unseen : goal.change-requires-clause-unseen
+change-requires-clause-unseen g c = unseen_as c.args.pid (with_alarm c.args.due) (unseen_with_alarm c.args.due) (λ b d r k q. search rules)
 
 pub returns-clause-processes : goal.returns-clause-processes
-returns-clause-processes g c =
-    rw (← c.self.view_is) (g.met.K.Kin.puts c.self.inside.table c.args.pid c.set_alarm.new.self ∙ changed_body _ c.update-body.ensures.rising c.args.pid c.update-body.result.now c.set_alarm.new.self (with_alarm c.args.due) c.update-body.ensures.value c.set_alarm.ensures)
+returns-clause-processes g c = run_as (with_alarm c.args.due) c.change.ensures.run c.change.ensures.rising (λ b d r k q. search rules)

@@ -19,13 +19,13 @@ returns-clause-state g c =
     let heir = c.args.heir in
     let status = c.args.status in
     let gone = after_departure s p heir status in
-    let left : c.depart-2.new.self.state ≡ gone = c.depart-2.ensures.state ∙ ap (λ (t : State). after_departure t p heir status) c.note_losing.ensures.same in
+    let left : c.depart-parent.new.self.state ≡ gone = c.depart-parent.ensures.state ∙ ap (λ (t : State). after_departure t p heir status) c.note_losing.ensures.same in
     let me = there _ c.requires.there in
     let gs = c.note_losing.new.self.losing in
-    let up : Rises gs = subst Rises c.depart-2.ensures.losing c.keep_rousable.ensures.rising in
+    let up : Rises gs = subst Rises c.depart-parent.ensures.losing c.keep_rousable.ensures.rising in
     let kept : c.keep_rousable.new.self.losing ≡ newly_orphaned s.processes gone.processes =
-    c.keep_rousable.ensures.losing ∙ ap (λ (t : State). filter (λ g. is_orphaned g t.processes && has_stopped g t.processes) c.depart-2.new.self.losing) left
-    ∙ ap (filter (λ g. is_orphaned g gone.processes && has_stopped g gone.processes)) c.depart-2.ensures.losing
+    c.keep_rousable.ensures.losing ∙ ap (λ (t : State). filter (λ g. is_orphaned g t.processes && has_stopped g t.processes) c.depart-parent.new.self.losing) left
+    ∙ ap (filter (λ g. is_orphaned g gone.processes && has_stopped g gone.processes)) c.depart-parent.ensures.losing
     ∙ sym (orphaned_by_end s c.note_losing.ensures.regular p heir status me.what me.found gs up c.note_losing.ensures.losing) in
     c.rouse_all.ensures.state ∙ ap (λ (t : State). with_processes t (roused_all c.keep_rousable.new.self.losing t.processes)) (c.keep_rousable.ensures.same ∙ left)
     ∙ ap (λ ns. with_processes gone (roused_all ns gone.processes)) kept
@@ -33,13 +33,13 @@ returns-clause-state g c =
 pub returns-clause-parent : goal.returns-clause-parent
 returns-clause-parent g c = λ me e.
     let now = c.keep_rousable.new.self in
-    let here = c.depart-2.ensures.parent me (ap (λ (s : State). process s c.args.pid) c.note_losing.ensures.same ∙ e) in
+    let here = c.depart-parent.ensures.parent me (ap (λ (s : State). process s c.args.pid) c.note_losing.ensures.same ∙ e) in
     rw c.rouse_all.ensures.state (there_roused now.losing now.state.processes c.rouse_all.ensures.regular.rising me.parent (rw c.keep_rousable.ensures.same here))
 
 pub returns-clause-zombie : goal.returns-clause-zombie
 returns-clause-zombie g c =
     let now = c.keep_rousable.new.self in
-    let it = c.depart-2.ensures.zombie in
+    let it = c.depart-parent.ensures.zombie in
     rw c.rouse_all.ensures.state (zombie_roused now.losing now.state.processes c.rouse_all.ensures.regular.rising c.args.pid it.0 (ap (λ (s : State). process s c.args.pid) c.keep_rousable.ensures.same ∙ it.1) it.2)
 
 pub returns-then-nobody_stopped-clause-state : goal.returns-then-nobody_stopped-clause-state

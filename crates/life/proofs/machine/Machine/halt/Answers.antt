@@ -4,15 +4,11 @@ use Rattle.posix.proofs.RegularLemmas.{regular_halt}
 use Rattle.life.proofs.SoundLemmas.{is_there, length_halted, parents_halted, kept_halted}
 use Rattle.life.proofs.AskLemmas.{has_room, listed_halted}
 use Rattle.life.proofs.TimedLemmas.{timed_halted}
-use Rattle.life.proofs.ReportedLemmas.{reported_halted, reported_room}
 use Rattle.posix.proofs.FreshLemmas.{fresh_changed}
 use Rattle.life.proofs.machine.Machine.halt.Goals as goal
 
 pub insert-requires : goal.insert-requires
 insert-requires g c = record { room = λ out. has_room _ _ c.self.invariant.sound.regular c.self.invariant.listed }
-
-pub insert-requires-2 : goal.insert-requires-2
-insert-requires-2 g c = record { room = λ out. reported_room _ _ c.self.invariant.sound.regular c.self.invariant.reported; child = omega arith }
 
 pub end-requires : goal.end-requires
 end-requires g c = is_there _ _ c.self.invariant.sound.regular.first.found
@@ -29,7 +25,6 @@ invariant_of-self g c =
         kept = kept_halted c.args.status _ _ _ _ _ (let r = c.drop_place.ensures.room in omega (arith, r)) c.self.invariant.sound.kept;
       };
       listed = listed_halted _ c.args.status _ _ c.self.invariant.sound.regular c.self.invariant.listed c.insert.ensures.pids c.insert.ensures.room;
-      reported = reported_halted _ c.args.status _ _ _ c.self.invariant.sound.regular.first.what c.self.invariant.sound.regular.first.found c.self.invariant.sound.regular.first.parent c.self.invariant.reported c.insert-2.ensures.pairs c.insert-2.ensures.rising c.insert-2.ensures.room;
       timed = timed_halted _ c.args.status _ _ _ c.self.invariant.sound.regular.first.what c.self.invariant.sound.regular.first.found c.self.invariant.timed;
       noted = c.self.invariant.noted;
       fresh = λ e. fresh_changed 1 (ended c.args.status) (λ r. refl) (λ r. refl) _ _ (c.self.invariant.fresh e);

@@ -76,7 +76,7 @@ invariant_of-self-2 g c =
     let moved = numbers ∙ ap (λ (f : Facts). moved_in c.self.inside.pids f.group c.in_ok-group.group) it.is in
     let last = ap (λ (p : Pids). p.last) numbers ∙ last_moved _ _ _ in
     rw (c.in_ok-group.ensures.ok me.what it.what found it.named)
-    (machine_numbered _ _ _ _ _ _ _ _ (sym last) (machine_moved _ _ _ _ _ _ _ _ _ it.what.pid c.in_ok-group.group it.what it.found it.regular moved c.self.invariant
+    (machine_numbered _ _ _ _ _ _ _ (sym last) (machine_moved _ _ _ _ _ _ _ _ it.what.pid c.in_ok-group.group it.what it.found it.regular moved c.self.invariant
     (c.ask_with_parent.ensures.pids ∙ ap (λ (f : Facts). with_parent f.parent (with_number f.pid c.self.inside.to_ask.pids)) it.is) c.ask_with_parent.ensures.room))
 
 pub returns-clause-ok : goal.returns-clause-ok

@@ -101,7 +101,7 @@ invariant_of-self-2 g c =
     let leads = not-true _ (sym (c.new_session.ensures.test me.what (ap (lookup c.args.pid) before ∙ found)) ∙ ap is_ok c.in_ok-new_session.was) in
     let alone = ap (is_group_of_others me.what) (sym before) ∙ (or_parts _ _ leads).1 in
     rw (c.in_ok-new_session.ensures.ok, c.get.ensures.processes)
-    (machine_numbered _ _ _ _ _ _ _ _ (sym last) (machine_led _ _ _ _ _ _ _ _ _ c.args.pid me.what found (regular_session _ c.self.invariant.sound.regular me.what c.args.pid found alone) led c.self.invariant
+    (machine_numbered _ _ _ _ _ _ _ (sym last) (machine_led _ _ _ _ _ _ _ _ c.args.pid me.what found (regular_session _ c.self.invariant.sound.regular me.what c.args.pid found alone) led c.self.invariant
     (c.ask_with_parent.ensures.pids ∙ asked_of c.args.pid me.what c.in-Some.it _ is (pid_looked c.args.pid _ me.what found)) c.ask_with_parent.ensures.room))
 
 pub returns-clause-leads : goal.returns-clause-leads

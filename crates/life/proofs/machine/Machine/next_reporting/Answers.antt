@@ -1,5 +1,7 @@
-use Rattle.life.proofs.ReportedLemmas.{next_reported}
 use Rattle.life.proofs.machine.Machine.next_reporting.Goals as goal
 
+pub next_reporting-requires : goal.next_reporting-requires
+next_reporting-requires g c = c.self.invariant.sound.regular.rising
+
 pub returns-clause-value : goal.returns-clause-value
-returns-clause-value g c = rw (← c.self.view_is) (next_reported _ _ _ c.args.parent c.args.after c.next_child.result c.self.invariant.sound.regular.rising c.self.invariant.reported c.next_child.ensures.next)
+returns-clause-value g c = rw (← c.self.view_is) c.next_reporting.ensures

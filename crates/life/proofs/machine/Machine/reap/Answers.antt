@@ -1,10 +1,8 @@
-use Rattle.std.proofs.Common.{◌∙◌, ◌==◌, ◌&&◌, not, ap, arith, refl, Some}
+use Rattle.std.proofs.Common.{◌∙◌, ap, arith, refl, Some}
 use Rattle.life.specs.Asking.{without_gone}
 use Rattle.life.proofs.SoundLemmas.{found_in}
 use Rattle.life.proofs.PartLemmas.{can_go, sound_gone}
 use Rattle.life.proofs.AskLemmas.{has_room, listed_removed}
-use Rattle.pidset.specs.Children.{is_child_in}
-use Rattle.life.proofs.ReportedLemmas.{reported_reaped}
 use Rattle.life.proofs.TimedLemmas.{timed_removed}
 use Rattle.life.proofs.ViewLemmas.{state_is}
 use Rattle.life.proofs.machine.Machine.reap.Goals as goal
@@ -27,7 +25,6 @@ invariant_of-self g c =
     rw c.discard-parent.ensures.processes (record {
       sound = sound_gone _ _ _ _ c.args.pid _ _ it.0 c.self.invariant.sound found it.2 c.requires.other gone (omega arith);
       listed = listed_removed _ c.args.pid _ _ it.0 _ _ c.self.invariant.sound.regular c.self.invariant.listed found up (c.forget.ensures.pids ∙ ap (λ n. without_gone c.args.pid (Some n) c.self.inside.to_ask.pids) parent) c.forget.ensures.room;
-      reported = reported_reaped _ c.args.pid _ _ _ it.0 found c.self.invariant.reported (λ q d. c.forget.ensures.reporting.1 q d ∙ ap (λ n. not (q == n && d == c.args.pid) && is_child_in q d c.self.inside.reporting.pairs) parent) c.forget.ensures.reporting.0 c.forget.ensures.fits;
       timed = timed_removed _ c.args.pid _ _ _ it.0 found c.requires.other it.2 c.self.invariant.timed;
       noted = c.self.invariant.noted;
       fresh = λ e. absurd (cc);

@@ -4,7 +4,6 @@ use Rattle.posix.proofs.RegularLemmas.{keeps_ring}
 use Rattle.posix.proofs.TouchLemmas.{touches_unseen, unseen_ring}
 use Rattle.life.proofs.SoundLemmas.{sound_change, here_in, there}
 use Rattle.life.proofs.AskLemmas.{has_room, listed_change}
-use Rattle.life.proofs.ReportedLemmas.{reported_unseen}
 use Rattle.life.proofs.TimedLemmas.{timed_rung, timed_room}
 use Rattle.life.proofs.ViewLemmas.{state_is}
 use Rattle.posix.proofs.FreshLemmas.{fresh_changed}
@@ -27,7 +26,6 @@ invariant_of-self g c =
     rw contents (record {
       sound = sound_change c.args.pid _ _ (keeps_ring now) _ _ c.self.invariant.sound;
       listed = listed_change _ c.args.pid (ring_at now) _ _ c.self.invariant.listed (keeps_ring {now = 0} now).pid (touches_unseen _ c.args.pid (ring_at now) (unseen_ring now)) here c.ask.ensures.pids c.ask.ensures.room;
-      reported = reported_unseen _ c.args.pid _ (unseen_ring now) _ _ here c.self.invariant.reported;
       timed = timed_rung _ now c.args.pid _ _ _ _ _ me.what _ me.found c.self.invariant.timed due c.note_alarm.ensures.pids c.note_alarm.ensures.room c.note_alarm.ensures.earlier c.note_alarm.ensures.before;
       noted = c.self.invariant.noted;
       fresh = λ e. fresh_changed c.args.pid (ring_at now) (keeps_ring {now = 0} now).group (keeps_ring {now = 0} now).session _ _ (c.self.invariant.fresh e);

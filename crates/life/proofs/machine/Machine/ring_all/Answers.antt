@@ -58,7 +58,6 @@ invariant_of-self g c =
     record {
       sound = i.sound;
       listed = i.listed;
-      reported = i.reported;
       timed = timed_least _ (first.ticks + 1) c.loop-next.least _ first.processes _ _ (subst (λ (t : State). IsRinging (first.ticks + 1) c.loop-next.least first.processes t.processes None) (sym (state_is c.self-2.view_is)) ends) i.timed;
       noted = i.noted;
       fresh = i.fresh;

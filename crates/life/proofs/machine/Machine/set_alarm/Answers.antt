@@ -5,7 +5,6 @@ use Rattle.posix.proofs.RegularLemmas.{keeps_with_alarm, due_ahead}
 use Rattle.posix.proofs.TouchLemmas.{touches_unseen, unseen_with_alarm}
 use Rattle.life.proofs.SoundLemmas.{found_in, sound_change, is_there}
 use Rattle.life.proofs.AskLemmas.{has_room, listed_change}
-use Rattle.life.proofs.ReportedLemmas.{reported_unseen}
 use Rattle.life.proofs.TimedLemmas.{timed_set, timed_room}
 use Rattle.life.proofs.ViewLemmas.{state_is}
 use Rattle.posix.proofs.FreshLemmas.{fresh_changed}
@@ -34,7 +33,6 @@ invariant_of-self g c =
     rw contents (record {
       sound = sound_change c.args.pid _ _ (keeps_with_alarm _ (rw c.due_in-due.ensures (due_ahead m.ticks c.args.ticks c.requires.few))) _ _ c.self.invariant.sound;
       listed = listed_change _ c.args.pid _ _ _ c.self.invariant.listed (unseen_with_alarm c.due_in-due.result).pid (touches_unseen _ c.args.pid _ (unseen_with_alarm c.due_in-due.result)) here c.ask.ensures.pids c.ask.ensures.room;
-      reported = reported_unseen _ c.args.pid _ (unseen_with_alarm c.due_in-due.result) _ _ here c.self.invariant.reported;
       timed = timed_set _ c.args.pid _ _ _ _ _ me.what _ found me.living c.self.invariant.timed c.note_alarm.ensures.pids c.note_alarm.ensures.room c.note_alarm.ensures.earlier c.note_alarm.ensures.before;
       noted = c.self.invariant.noted;
       fresh = λ e. fresh_changed c.args.pid (with_alarm c.due_in-due.result) (λ r. refl) (λ r. refl) _ _ (c.self.invariant.fresh e);

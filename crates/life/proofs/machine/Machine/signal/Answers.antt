@@ -21,12 +21,12 @@ ask-requires g c = has_room _ _ c.self.invariant.sound.regular c.self.invariant.
 pub invariant_of-self : goal.invariant_of-self
 invariant_of-self g c =
     let contents = c.signal.ensures.processes in
-    rw contents (machine_signalled _ _ _ _ _ _ _ _ c.args.pid c.args.signal (here_in c.args.pid (state_is c.self.view_is) c.requires) c.self.invariant c.ask.ensures.pids c.ask.ensures.room)
+    rw contents (machine_signalled _ _ _ _ _ _ _ c.args.pid c.args.signal (here_in c.args.pid (state_is c.self.view_is) c.requires) c.self.invariant c.ask.ensures.pids c.ask.ensures.room)
 
 pub invariant_of-self-in-Continued : goal.invariant_of-self-in-Continued
 invariant_of-self-in-Continued g c =
     let contents = c.signal.ensures.processes in
-    rw contents (machine_signalled _ _ _ _ _ _ _ _ c.args.pid c.args.signal (here_in c.args.pid (state_is c.self.view_is) c.requires) c.self.invariant c.ask.ensures.pids c.ask.ensures.room)
+    rw contents (machine_signalled _ _ _ _ _ _ _ c.args.pid c.args.signal (here_in c.args.pid (state_is c.self.view_is) c.requires) c.self.invariant c.ask.ensures.pids c.ask.ensures.room)
 
 pub continue_process-requires : goal.continue_process-requires
 continue_process-requires g c =

@@ -1,0 +1,25 @@
+-- What a closure did that changes a body.
+use Rattle.std.proofs.Common.{◌≡◌, ℕ, refl, ap, ◌∙◌, List, Some}
+use Rattle.std.specs.Borrow.{MutBor}
+use Rattle.std.specs.Fn.{Once, FnOnceReturnsAtMut}
+use Rattle.posix.specs.Processes.{Process}
+use Rattle.posix.specs.Tables.{IsRising, lookup, changed, parent_of}
+use Rattle.proctable.specs.declared.body.Body.{Body}
+use Rattle.proctable.specs.Body.{process_of}
+use Rattle.proctable.proofs.Bodies.{changed_here}
+use Rattle.posix.proofs.TouchLemmas.{Unseen}
+use Rattle.jobs.specs.Books.{seen_of}
+use Rattle.jobs.specs.JobTables.{IsRun, IsUnseen}
+
+-- where it changes each body as f changes its process, it changes that process so
+pub run_as : {F T : Type 0} {g : Once F (MutBor Body × Unit {0}) (T × (MutBor Body × Unit {0}))} {change : F} {rs ts : List Process} {p : ℕ} {r : T} (f : Process → Process) → IsRun g change rs ts p r → IsRising rs
+    → ((b c : Body) (r : T) → FnOnceReturnsAtMut g change b r c → (q : ℕ) → process_of p q c ≡ f (process_of p q b)) → ts ≡ changed p f rs
+run_as {rs = rs} {p = p} {r = r} f k up did = k.is ∙ changed_here rs up p k.before k.after f k.found (did k.before k.after r k.ran)
+
+-- no index sees a change that a parent doesn't see
+pub unseen_as : {F T : Type 0} {g : Once F (MutBor Body × Unit {0}) (T × (MutBor Body × Unit {0}))} {change : F} (p : ℕ) (f : Process → Process) → Unseen f → ((b c : Body) (r : T) → FnOnceReturnsAtMut g change b r c → (q : ℕ) → process_of p q c ≡ f (process_of p q b)) → IsUnseen g change
+unseen_as p f u did b c r k = ap seen_of (did b c r k 0) ∙ rw (u.group (process_of p 0 b), u.life (process_of p 0 b), u.news (process_of p 0 b)) refl
+
+-- the parent that was read is the one in the record
+pub parent_is : (p q : ℕ) (rs : List Process) (me : Process) → q ≡ parent_of p rs → lookup p rs ≡ Some me → q ≡ me.parent
+parent_is p q rs me e found = e ∙ rw found refl

@@ -1,0 +1,68 @@
+-- The indexes that a table of jobs keeps of its processes.
+use Rattle.std.specs.Prelude.{ℕ, ◌-◌, ◌||◌, if◌then◌else◌, nat_le, List, Option, Some, None}
+use Rattle.posix.specs.Processes.{Process, is_zombie, is_stopped}
+use Rattle.posix.specs.Waits.{is_news}
+use Rattle.pidset.specs.Indexes.{CanReplace, IsReplaced, IsIndexed}
+use Rattle.proctable.specs.declared.body.Body.{Body}
+use Rattle.jobs.specs.declared.books.Books.{Books}
+use Rattle.jobs.specs.declared.books.Seen.{Seen}
+
+-- what the indexes see of a process but its parent, by its record and by its body
+abbrev pub seen_of : Process → Seen
+seen_of r = record { group = r.group; life = r.life; news = r.news }
+
+abbrev pub body_seen : Body → Seen
+body_seen b = record { group = b.group; life = b.life; news = b.news }
+
+-- ---- keys
+
+-- one that has something to report stands under its parent
+abbrev pub report_in : ℕ → Option Seen → Option ℕ
+report_in parent None = None
+report_in parent (Some w) = if is_zombie w.life || is_news w.news then Some parent else None
+
+abbrev pub report_key : Process → Option ℕ
+report_key r = report_in r.parent (Some (seen_of r))
+
+-- one that is stopped stands under its process group
+abbrev pub stopped_in : Option Seen → Option ℕ
+stopped_in None = None
+stopped_in (Some w) = if is_stopped w.life then Some w.group else None
+
+abbrev pub stopped_key : Process → Option ℕ
+stopped_key r = stopped_in (Some (seen_of r))
+
+-- each stands under its process group
+abbrev pub member_in : Option Seen → Option ℕ
+member_in None = None
+member_in (Some w) = Some w.group
+
+abbrev pub member_key : Process → Option ℕ
+member_key r = member_in (Some (seen_of r))
+
+-- ---- the indexes
+
+-- what holds of the indexes of these processes
+pub record AreBooks (rs : List Process) (b : Books) : Type 0 where
+  pub reporting : IsIndexed report_key rs b.reporting
+  pub stopped : IsIndexed stopped_key rs b.stopped
+  pub members : IsIndexed member_key rs b.members
+
+-- p with this parent stands in each as it was seen
+pub record CanMove (p parent : ℕ) (it : Option Seen) (b : Books) : Type 0 where
+  pub reporting : CanReplace p (report_in parent it) b.reporting
+  pub stopped : CanReplace p (stopped_in it) b.stopped
+  pub members : CanReplace p (member_in it) b.members
+
+-- and was moved in each
+pub record AreMoved (p parent : ℕ) (it : Option Seen) (old new : Books) : Type 0 where
+  pub reporting : IsReplaced p (report_in parent it) old.reporting new.reporting
+  pub stopped : IsReplaced p (stopped_in it) old.stopped new.stopped
+  pub members : IsReplaced p (member_in it) old.members new.members
+
+abbrev pub lesser : ℕ → ℕ → ℕ
+lesser a b = if nat_le a b then a else b
+
+-- how many processes more they have room for, of this many that there are
+abbrev pub room_in : ℕ → Books → ℕ
+room_in count b = lesser (lesser b.reporting.room b.stopped.room) b.members.room - count

@@ -1,0 +1,167 @@
+//! The indexes that a table of jobs keeps of its processes.
+
+ghost use Rattle.std.specs.Prelude.{◌≡◌, ◌≢◌, ◌<◌, ◌≤◌, ◌^◌, [], OnOk};
+ghost use Rattle.pidset.specs.Indexes.{IsNextPair, IsRekeyed};
+ghost use Rattle.jobs.specs.Books.{AreBooks, report_in, stopped_in, member_in, CanMove, AreMoved};
+
+use pidset::Index;
+use posix::{Life, News, Pid};
+use proctable::{Body, Facts};
+use std::alloc::{AllocError, Global};
+
+/// What the indexes see of a process, but its parent.
+#[derive(Clone, Copy)]
+pub struct Seen {
+    /// Its process group.
+    pub group: Pid,
+    /// Whether it runs, is stopped or has ended.
+    pub life: Life,
+    /// What no wait has reported of it yet.
+    pub news: News,
+}
+
+/// The indexes.
+#[derive(Drop)]
+pub struct Books {
+    /// The children that have something to report, by their parents.
+    pub reporting: Index,
+    /// The processes that are stopped, by their process groups.
+    pub stopped: Index,
+    /// All processes, by their process groups.
+    pub members: Index,
+}
+
+/// What the indexes see of a body.
+pub(crate) fn of_body(body: &Body) -> Seen
+    ensures { result ≡ record { group = body.now.group; life = body.now.life; news = body.now.news } }
+{
+    Seen {
+        group: body.group,
+        life: body.life,
+        news: body.news,
+    }
+}
+
+/// What the indexes see of the process with these fields.
+pub(crate) fn of_facts(facts: &Facts) -> Seen
+    ensures { result ≡ record { group = facts.now.group; life = facts.now.life; news = facts.now.news } }
+{
+    Seen {
+        group: facts.group,
+        life: facts.life,
+        news: facts.news,
+    }
+}
+
+/// A number as a key.
+fn key(pid: Pid) -> u64
+    ensures { result ≡ pid }
+{
+    u64::from(pid.number())
+}
+
+/// The key of a process among those that have something to report.
+fn report_key(parent: Pid, it: &Option<Seen>) -> Option<u64>
+    ensures { result ≡ report_in parent it.now }
+{
+    match it {
+        Some(it) if matches!(it.life, Life::Zombie(_)) || it.news != News::Nothing => {
+            Some(key(parent))
+        }
+        _ => None,
+    }
+}
+
+/// The key of a process among those that are stopped.
+fn stopped_key(it: &Option<Seen>) -> Option<u64>
+    ensures { result ≡ stopped_in it.now }
+{
+    match it {
+        Some(it) if it.life == Life::Stopped => Some(key(it.group)),
+        _ => None,
+    }
+}
+
+/// The key of a process among the members of process groups.
+fn member_key(it: &Option<Seen>) -> Option<u64>
+    ensures { result ≡ member_in it.now }
+{
+    match it {
+        Some(it) => Some(key(it.group)),
+        None => None,
+    }
+}
+
+impl Books {
+    /// Of no processes. They take no memory.
+    pub(crate) fn new(alloc: Global) -> Books
+        ensures { AreBooks [] result }
+    {
+        Books {
+            reporting: Index::new(alloc),
+            stopped: Index::new(alloc),
+            members: Index::new(alloc),
+        }
+    }
+
+    /// Makes room for `most` processes. What the indexes hold stays, also at the error that there is no memory.
+    pub(crate) fn reserve(&mut self, most: usize) -> Result<(), AllocError>
+        requires { most < 2 ^ 63 }
+        ensures reporting { self.new.reporting.pairs ≡ self.old.reporting.pairs }
+        ensures stopped { self.new.stopped.pairs ≡ self.old.stopped.pairs }
+        ensures members { self.new.members.pairs ≡ self.old.members.pairs }
+        ensures grows_reporting { self.old.reporting.room ≤ self.new.reporting.room }
+        ensures grows_stopped { self.old.stopped.room ≤ self.new.stopped.room }
+        ensures grows_members { self.old.members.room ≤ self.new.members.room }
+        ensures ok { OnOk result ((most ≤ self.new.reporting.room) × (most ≤ self.new.stopped.room) × (most ≤ self.new.members.room)) }
+    {
+        self.reporting.reserve(most)?;
+        self.stopped.reserve(most)?;
+        self.members.reserve(most)
+    }
+
+    /// A process with this parent, which the indexes saw so, or which wasn't there, is seen so, or isn't there:
+    /// the one way in which what they hold changes but for adoptions.
+    pub(crate) fn moved(
+        &mut self,
+        pid: Pid,
+        parent: Pid,
+        before: &Option<Seen>,
+        after: &Option<Seen>,
+    )
+        requires can { CanMove pid parent before.now self.old }
+        requires pid { 1 ≤ pid }
+        ensures { AreMoved pid parent after.now self.old self.new }
+    {
+        self.reporting
+            .replace(pid, report_key(parent, before), report_key(parent, after));
+        self.stopped
+            .replace(pid, stopped_key(before), stopped_key(after));
+        self.members
+            .replace(pid, member_key(before), member_key(after));
+    }
+
+    /// The children of one process become those of another.
+    pub(crate) fn adopted(&mut self, from: Pid, to: Pid)
+        requires { from ≢ to }
+        ensures reporting { IsRekeyed from to self.old.reporting self.new.reporting }
+        ensures stopped { self.new.stopped ≡ self.old.stopped }
+        ensures members { self.new.members ≡ self.old.members }
+    {
+        self.reporting.rekey(key(from), key(to));
+    }
+
+    /// The child of a process that has something to report, with the least number above `after`.
+    pub(crate) fn next_reporting(&self, parent: Pid, after: Pid) -> Option<Pid>
+        ensures { IsNextPair parent after self.now.reporting.pairs result }
+    {
+        self.reporting.next(key(parent), after)
+    }
+
+    /// The member of a process group with the least number above `after`.
+    pub(crate) fn next_in_group(&self, group: Pid, after: Pid) -> Option<Pid>
+        ensures { IsNextPair group after self.now.members.pairs result }
+    {
+        self.members.next(key(group), after)
+    }
+}

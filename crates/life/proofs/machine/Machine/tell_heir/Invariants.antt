@@ -1,0 +1,16 @@
+use Rattle.std.proofs.Common.{◌+◌, ◌*◌, ◌≡◌, ◌≤◌, length}
+use Rattle.posix.specs.Tables.{children_in}
+use Rattle.life.proofs.NoticeWalkLemmas.{IsTelling, kids_left}
+use Rattle.life.proofs.machine.Machine.tell_heir.Given as goal
+
+abbrev pub invariant-loop-next : goal.invariant-loop-next
+invariant-loop-next g l =
+    let first = l.fn.self.state in
+    record {
+      telling : IsTelling first l.self.state l.fn.pid l.fn.heir l.next;
+      losing : l.self.losing ≡ l.fn.self.losing;
+      read : l.self.reads + 8 * kids_left l.self.state.processes l.fn.pid l.next ≤ l.fn.self.reads + 1 + 8 * length (children_in l.fn.pid first.processes);
+    }
+
+abbrev pub decreases-loop-next : goal.decreases-loop-next
+decreases-loop-next g l = kids_left l.self.state.processes l.fn.pid l.next

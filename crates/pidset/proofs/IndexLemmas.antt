@@ -1,0 +1,291 @@
+-- What keeps an index right, whatever its key.
+use Rattle.std.proofs.Common.{◌≡◌, ◌≢◌, ℕ, ◌<◌, ◌≤◌, Bool, true, false, cond, not, ◌&&◌, ◌||◌, refl, ap, sym, ◌∙◌, arith, List, [], ◌∷◌, length, map, filter, Option, Some, None, IfSome, option_map, is_some, nat_lt, ◌==◌, inl, inr}
+use Rattle.std.specs.List.{AllByRecursion, list_any}
+use Rattle.std.specs.Option.{IsSome}
+use Rattle.std.specs.Prelude.{option_and_then}
+use Rattle.std.proofs.lemmas.Bool.{eqb-true, eq-eqb, ne_eqb, ltb-true, cases_eq, cases_order, and_parts}
+use Rattle.std.proofs.lemmas.Bool.Decides.{nat_tests}
+use Rattle.std.proofs.lemmas.List.{length-map}
+use Rattle.posix.specs.Processes.{Process}
+use Rattle.posix.specs.Tables.{IsRising, lookup, pids, above, first_pid, changed, inserted, removed, reparented, adopted}
+use Rattle.posix.specs.States.{is_in}
+use Rattle.posix.proofs.TableLemmas.{pid_looked, lookup_changed, pid_reparented, none_found, rising_removed}
+use Rattle.posix.proofs.MapLemmas.{lookup_map}
+use Rattle.posix.proofs.MemberLemmas.{in_first, in_rest, in_none}
+use Rattle.posix.proofs.RegularLemmas.{lookup_new, lookup_inserted, lookup_kept, lookup_removed}
+use Rattle.posix.proofs.PassingLemmas.{filter_at_most}
+use Rattle.posix.proofs.WalkLemmas.{Passes, all_looked, first_passes, none_passes_before, both_pass}
+use Rattle.pidset.specs.declared.index.Pair.{Pair}
+use Rattle.pidset.specs.Numbers.{Rises}
+use Rattle.pidset.specs.Indexes.{ArePairs, IndexView, IsNextPair, IsMoved, IsKeyed, IsIndex, CanReplace, IsReplaced, IsRekeyed, IsIndexed, is_key, key_of, is_pair_in}
+use Rattle.pidset.proofs.NumberLemmas.{AllAbove, in_above}
+use Rattle.pidset.proofs.PairLemmas.{in_order, rises_in_order, key_in_order, length_in_order}
+
+-- ---- one record
+
+-- all records but that of p are the same
+abbrev pub IsElsewhere : ℕ → List Process → List Process → Type 0
+IsElsewhere p rs ts = (q : ℕ) → q ≢ p → lookup q ts ≡ lookup q rs
+
+pub elsewhere_changed : (p : ℕ) (f : Process → Process) → ((r : Process) → (f r).pid ≡ r.pid) → (rs : List Process) → IsElsewhere p rs (changed p f rs)
+elsewhere_changed p f k rs q ne = lookup_changed p q f k rs ∙ rw (ne_eqb q p ne) refl
+
+pub elsewhere_inserted : (new : Process) (rs : List Process) → IsElsewhere new.pid rs (inserted new rs)
+elsewhere_inserted new rs q ne = lookup_inserted new q rs ne
+
+pub elsewhere_removed : (p : ℕ) (rs : List Process) → IsElsewhere p rs (removed p rs)
+elsewhere_removed p rs q ne = lookup_kept p q rs ne
+
+-- its key after a change
+pub key_changed : (key : Process → Option ℕ) (p : ℕ) (f : Process → Process) → ((r : Process) → (f r).pid ≡ r.pid) → (rs : List Process) (me : Process) → lookup p rs ≡ Some me → key_of key p (changed p f rs) ≡ key (f me)
+key_changed key p f k rs me found =
+    let now : lookup p (changed p f rs) ≡ Some (f me) = lookup_changed p p f k rs ∙ rw (eq-eqb p p refl, found) refl in
+    ap (option_and_then key) now
+
+-- as it comes
+pub key_inserted : (key : Process → Option ℕ) (new : Process) (rs : List Process) → lookup new.pid rs ≡ None → key_of key new.pid (inserted new rs) ≡ key new
+key_inserted key new rs fresh = ap (option_and_then key) (lookup_new new rs fresh)
+
+-- and once it has gone
+pub key_removed : (key : Process → Option ℕ) (p : ℕ) (rs : List Process) → key_of key p (removed p rs) ≡ None
+key_removed key p rs = ap (option_and_then key) (lookup_removed p rs)
+
+-- where the keys of all but p stay, and p moves to its key, the index stays right
+pub keyed_moved : (p : ℕ) (keys now : ℕ → Option ℕ) (old new : List Pair) → ((q : ℕ) → q ≢ p → now q ≡ keys q) → IsKeyed keys old → IsMoved p (now p) old new → IsKeyed now new
+keyed_moved p keys now old new same h moved q k = moved k q ∙ elim (cases_eq q p) [
+  | inl e ↦ rw (eq-eqb q p e) (ap (λ n. is_key k (now n)) (sym e))
+  | inr ne ↦ rw (ne_eqb q p ne) (h q k ∙ ap (is_key k) (sym (same q ne)))
+]
+
+-- so where the record of p is changed, comes or goes
+pub index_moved : (key : Process → Option ℕ) (p : ℕ) (rs ts : List Process) (old new : List Pair) → IsElsewhere p rs ts → IsIndex key rs old → IsMoved p (key_of key p ts) old new → IsIndex key ts new
+index_moved key p rs ts old new same h moved = keyed_moved p (λ q. key_of key q rs) (λ q. key_of key q ts) old new (λ q ne. ap (option_and_then key) (same q ne)) h moved
+
+-- where its key stays, nothing moves
+pub unmoved : (key : Process → Option ℕ) (p : ℕ) (rs : List Process) (pairs : List Pair) (k : Option ℕ) → IsIndex key rs pairs → k ≡ key_of key p rs → IsMoved p k pairs pairs
+unmoved key p rs pairs o h same k q = elim (cases_eq q p) [
+  | inl e ↦ rw (eq-eqb q p e, same) (ap (λ n. is_pair_in k n pairs) e ∙ h p k)
+  | inr ne ↦ rw (ne_eqb q p ne) refl
+]
+
+-- a pair that is put in, or taken out, is a process that moves from under no key, or to under none
+pub put_moves : (key p : ℕ) (old new : List Pair) → ((k : ℕ) → k ≢ key → is_pair_in k p old ≡ false) → ((k q : ℕ) → is_pair_in k q new ≡ (k == key && q == p || is_pair_in k q old)) → IsMoved p (Some key) old new
+put_moves key p old new none puts k q = puts k q ∙ elim (cases_eq q p) [
+  | inl e ↦ elim (cases_eq k key) [
+    | inl s ↦ rw (eq-eqb q p e, eq-eqb k key s, eq-eqb key k (sym s)) refl
+    | inr n ↦ rw (eq-eqb q p e, ne_eqb k key n, ne_eqb key k (λ x. n (sym x))) (ap (λ n. is_pair_in k n old) e ∙ none k n)
+  ]
+  | inr ne ↦ elim (cases_eq k key) [ inl s ↦ rw (ne_eqb q p ne, eq-eqb k key s) refl | inr n ↦ rw (ne_eqb q p ne, ne_eqb k key n) refl ]
+]
+
+pub taken_moves : (key p : ℕ) (old new : List Pair) → ((k : ℕ) → k ≢ key → is_pair_in k p old ≡ false) → ((k q : ℕ) → is_pair_in k q new ≡ (not (k == key && q == p) && is_pair_in k q old)) → IsMoved p None old new
+taken_moves key p old new none takes k q = takes k q ∙ elim (cases_eq q p) [
+  | inl e ↦ elim (cases_eq k key) [
+    | inl s ↦ rw (eq-eqb q p e, eq-eqb k key s) refl
+    | inr n ↦ rw (eq-eqb q p e, ne_eqb k key n) (ap (λ n. is_pair_in k n old) e ∙ none k n)
+  ]
+  | inr ne ↦ elim (cases_eq k key) [ inl s ↦ rw (ne_eqb q p ne, eq-eqb k key s) refl | inr n ↦ rw (ne_eqb q p ne, ne_eqb k key n) refl ]
+]
+
+-- who stands under a key stands under no other
+pub no_other : (key : Process → Option ℕ) (p : ℕ) (rs : List Process) (pairs : List Pair) → IsIndex key rs pairs → (n : ℕ) → ((k : ℕ) → key_of key p rs ≡ Some k → k ≡ n) → (k : ℕ) → k ≢ n → is_pair_in k p pairs ≡ false
+no_other key p rs pairs h n one k ne = h p k ∙ elim (key_of key p rs) as (λ o. key_of key p rs ≡ o → is_key k o ≡ false) [
+  | None ↦ λ e. refl
+  | Some m ↦ λ e. ne_eqb m k (λ same. ne (sym same ∙ one m e))
+] refl
+
+-- ---- all records
+
+-- where no key changes, the index stays right
+pub index_same : (key : Process → Option ℕ) (rs ts : List Process) (pairs : List Pair) → ((q : ℕ) → key_of key q ts ≡ key_of key q rs) → IsIndex key rs pairs → IsIndex key ts pairs
+index_same key rs ts pairs same h q k = h q k ∙ ap (is_key k) (sym (same q))
+
+-- so where each record keeps its own
+pub index_map : (key : Process → Option ℕ) (g : Process → Process) → ((r : Process) → (g r).pid ≡ r.pid) → ((r : Process) → key (g r) ≡ key r) → (rs : List Process) (pairs : List Pair) → IsIndex key rs pairs → IsIndex key (map g rs) pairs
+index_map key g named keeps rs pairs h = index_same key rs (map g rs) pairs (λ q. ap (option_and_then key) (lookup_map g named q rs) ∙ elim (lookup q rs) as (λ o. option_and_then key (option_map g o) ≡ option_and_then key o) [ None ↦ refl | Some r ↦ keeps r ]) h
+
+-- all that stand under one key come under another
+abbrev pub rekeyed : ℕ → ℕ → Option ℕ → Option ℕ
+rekeyed from to None = None
+rekeyed from to (Some k) = cond (k == from) (Some to) (Some k)
+
+-- children that get another parent, where the key is the parent
+pub index_adopted : (key : Process → Option ℕ) (from to : ℕ) → from ≢ to → ((r : Process) → key (reparented from to r) ≡ rekeyed from to (key r)) → (rs : List Process) (old new : List Pair) → IsIndex key rs old
+    → ((k p : ℕ) → is_pair_in k p new ≡ (not (k == from) && (is_pair_in k p old || k == to && is_pair_in from p old))) → IsIndex key (adopted from to rs) new
+unfolding adopted
+index_adopted key from to ne moves rs old new h is q k =
+    let now : key_of key q (map (reparented from to) rs) ≡ rekeyed from to (key_of key q rs) =
+    ap (option_and_then key) (lookup_map (reparented from to) (pid_reparented from to) q rs) ∙ elim (lookup q rs) as (λ o. option_and_then key (option_map (reparented from to) o) ≡ rekeyed from to (option_and_then key o)) [ None ↦ refl | Some r ↦ moves r ] in
+    is k q ∙ rw (h q k, h q from) (told (key_of key q rs)) ∙ ap (is_key k) (sym now)
+  where
+    told : (o : Option ℕ) → (not (k == from) && (is_key k o || k == to && is_key from o)) ≡ is_key k (rekeyed from to o)
+    told None = grind arith
+    told (Some n) = grind (arith, eqb-true, eq-eqb, ne_eqb, ne)
+
+-- ---- a walk
+
+-- the next under a key is the next of the processes that have it
+pub next_pair : (key : Process → Option ℕ) (rs : List Process) (pairs : List Pair) (k n : ℕ) (next : Option ℕ) → IsRising rs → IsIndex key rs pairs → IsNextPair k n pairs next → next ≡ first_pid (above n (filter (λ r. is_key k (key r)) rs))
+next_pair key rs pairs k n next up h i = same next (first_pid (filter passes rs)) i (first_passes passes rs up) (none_passes_before passes rs up) ∙ ap first_pid (sym (both_pass (λ r. is_key k (key r)) (λ r. nat_lt n r.pid) rs))
+  where
+    passes : Process → Bool
+    passes r = is_key k (key r) && nat_lt n r.pid
+
+    -- who passes is in the index
+    inside : (p : ℕ) → Passes passes rs p → (n < p) × (is_pair_in k p pairs ≡ true)
+    inside p t =
+        let named = pid_looked p rs t.0 t.1 in
+        let both = and_parts (is_key k (key t.0)) _ t.2 in
+        let high = ltb-true _ _ both.1 in
+        (omega (arith, named, high), h p k ∙ ap (λ (o : Option Process). is_key k (option_and_then key o)) t.1 ∙ both.0)
+
+    -- and who is in the index above n passes
+    outside : (p : ℕ) → n < p → is_pair_in k p pairs ≡ true → Passes passes rs p
+    outside p l e = elim (lookup p rs) as (λ o. lookup p rs ≡ o → Passes passes rs p) [
+      | None ↦ λ t. let no : true ≡ false = sym e ∙ h p k ∙ ap (λ (o : Option Process). is_key k (option_and_then key o)) t in absurd (cc)
+      | Some r ↦ λ t.
+          let has : is_key k (key r) ≡ true = sym (h p k ∙ ap (λ (o : Option Process). is_key k (option_and_then key o)) t) ∙ e in
+          let named = pid_looked p rs r t in
+          let high : nat_lt n r.pid ≡ true = grind (arith, nat_tests, named, l) in
+          (r, t, rw (has, high) refl)
+    ] refl
+
+    same : (a b : Option ℕ) → IsNextPair k n pairs a → IfSome b (Passes passes rs) → ((q : ℕ) (r : Process) → lookup q rs ≡ Some r → passes r ≡ true → IfSome b (λ m. q < m) → ⊥) → a ≡ b
+    same None None i f g = refl
+    same None (Some c) i f g = let t = inside c f in let no = i.least c t.1 t.0 in let both : None ≡ Some no.0 = no.1 in absurd (cc)
+    same (Some m) None i f g = let t = i.there m refl in let k = outside m t.0 t.1 in absurd (g m k.0 k.1 k.2 tt)
+    same (Some m) (Some c) i f g =
+        let t = i.there m refl in
+        let k = outside m t.0 t.1 in
+        let j = inside c f in
+        let l = i.least c j.1 j.0 in
+        let one : Some m ≡ Some l.0 = l.1 in
+        let is : m ≡ l.0 = cc in
+        let low = l.2 in
+        elim (cases_eq m c) [
+          | inl e ↦ ap Some e
+          | inr ne ↦ absurd (g m k.0 k.1 k.2 (grind (arith, is, low, ne)))
+        ]
+
+-- ---- how many there are
+
+-- a rising list whose numbers all stand in another rising list is no longer
+shorter : (ns ms : List ℕ) → Rises ns → Rises ms → ((q : ℕ) → is_in q ns ≡ true → is_in q ms ≡ true) → length ns ≤ length ms
+unfolding Rises
+shorter [] ms a b h = omega arith
+shorter (n ∷ ns) [] a b h = absurd (in_none n (h n (in_first n ns)))
+shorter (n ∷ ns) (m ∷ ms) a b h = elim (cases_order n m) [
+  | inl same ↦ let l = shorter ns ms a.1 b.1 (λ q e. let high = in_above n q ns a.0 e in sym (in_rest q m ms (λ x. omega (arith, high, same, x))) ∙ h q (sym (sym e ∙ sym (in_rest q n ns (λ x. omega (arith, high, x)))))) in omega (arith, l)
+  | inr (inl low) ↦ let l = in_above m n ms b.0 (sym (in_rest n m ms (λ x. omega (arith, low, x))) ∙ h n (in_first n ns)) in absurd (omega (arith, low, l))
+  | inr (inr high) ↦ let l = shorter (n ∷ ns) ms a b.1 (λ q e. sym (in_rest q m ms (λ x. let low = at_least q e in omega (arith, high, low, x))) ∙ h q e) in omega (arith, l)
+]
+  where
+    at_least : (q : ℕ) → is_in q (n ∷ ns) ≡ true → n ≤ q
+    at_least q e = elim (cases_eq n q) [ inl s ↦ omega (arith, s) | inr o ↦ let l = in_above n q ns a.0 (sym (in_rest q n ns o) ∙ e) in omega (arith, l) ]
+
+above_pids : (n : ℕ) (rs : List Process) → AllByRecursion (λ (r : Process). n < r.pid) rs → AllAbove n (pids rs)
+above_pids n [] h = tt
+above_pids n (r ∷ rs) h = (h.0, above_pids n rs h.1)
+
+rises_pids : (rs : List Process) → IsRising rs → Rises (pids rs)
+unfolding IsRising Rises
+rises_pids [] u = tt
+rises_pids (r ∷ rs) u = (above_pids r.pid rs u.0, rises_pids rs u.1)
+
+-- who is found is in the list of numbers
+in_pids : (p : ℕ) (rs : List Process) (r : Process) → lookup p rs ≡ Some r → is_in p (pids rs) ≡ true
+unfolding lookup is_in
+in_pids p [] r e = absurd (cc)
+in_pids p (x ∷ rs) r e = grind (arith, in_pids p rs r)
+
+-- no more pairs than processes
+pub few_pairs : (key : Process → Option ℕ) (rs : List Process) (pairs : List Pair) → IsRising rs → ArePairs pairs → IsIndex key rs pairs → length pairs ≤ length rs
+few_pairs key rs pairs up once h =
+    let long = length_in_order pairs once (λ k m p a b. one k m (key_of key p rs) (sym (h p k) ∙ a) (sym (h p m) ∙ b)) in
+    let least = shorter (in_order pairs) (pids rs) (rises_in_order pairs) (rises_pids rs up) (λ p e. let k = key_in_order pairs p e in here p k.0 (lookup p rs) refl (sym (h p k.0) ∙ k.1)) in
+    let all = length-map rs (λ (r : Process). r.pid) in
+    omega (arith, long, least, all)
+  where
+    one : (k m : ℕ) (o : Option ℕ) → is_key k o ≡ true → is_key m o ≡ true → k ≡ m
+    one k m None a b = absurd (cc)
+    one k m (Some n) a b = sym (eqb-true n k a) ∙ eqb-true n m b
+
+    here : (p k : ℕ) (o : Option Process) → lookup p rs ≡ o → is_key k (option_and_then key o) ≡ true → is_in p (pids rs) ≡ true
+    here p k None e t = absurd (cc)
+    here p k (Some r) e t = in_pids p rs r e
+
+-- ---- an index with its room
+
+-- one record less where one goes
+shorter_removed : (p : ℕ) (rs : List Process) → IsSome (lookup p rs) → length (removed p rs) < length rs
+unfolding lookup removed
+shorter_removed p [] h = absurd (cc)
+shorter_removed p (r ∷ rs) h = elim (r.pid == p) as (λ b. IsSome (cond b (Some r) (lookup p rs)) → length (cond (not b) (r ∷ removed p rs) (removed p rs)) < length (r ∷ rs)) [
+  | true ↦ λ k. let few = filter_at_most (λ r. not (r.pid == p)) rs in omega (arith, few)
+  | false ↦ λ k. let few = shorter_removed p rs k in omega (arith, few)
+] h
+
+-- fewer pairs than processes where p has no key
+few_without : (key : Process → Option ℕ) (p : ℕ) (rs : List Process) (pairs : List Pair) → IsRising rs → ArePairs pairs → IsIndex key rs pairs → key_of key p rs ≡ None → IsSome (lookup p rs) → length pairs < length rs
+few_without key p rs pairs up once h none here =
+    let same : (q : ℕ) → key_of key q (removed p rs) ≡ key_of key q rs = λ q. elim (cases_eq q p) [
+      | inl e ↦ ap (λ n. key_of key n (removed p rs)) e ∙ key_removed key p rs ∙ sym none ∙ ap (λ n. key_of key n rs) (sym e)
+      | inr ne ↦ ap (option_and_then key) (elsewhere_removed p rs q ne)
+    ] in
+    let few = few_pairs key (removed p rs) pairs (rising_removed p rs up) once (index_same key rs (removed p rs) pairs same h) in
+    let less = shorter_removed p rs here in
+    omega (arith, few, less)
+
+pub can_replace : (key : Process → Option ℕ) (p : ℕ) (rs : List Process) (set : IndexView) → IsRising rs → IsIndexed key rs set → (lookup p rs ≡ None → length rs < set.room) → CanReplace p (key_of key p rs) set
+can_replace key p rs set up h free = record { at = h.index p; room = λ none. here none (lookup p rs) refl }
+  where
+    here : key_of key p rs ≡ None → (o : Option Process) → lookup p rs ≡ o → length set.pairs < set.room
+    here none None e = let few = few_pairs key rs set.pairs up h.once h.index in let room = free e in omega (arith, few, room)
+    here none (Some r) e = let few = few_without key p rs set.pairs up h.once h.index none (rw e refl) in let room = h.room in omega (arith, few, room)
+
+pub indexed_moved : (key : Process → Option ℕ) (p : ℕ) (rs ts : List Process) (old new : IndexView) → IsElsewhere p rs ts → length ts ≤ old.room → IsIndexed key rs old → IsReplaced p (key_of key p ts) old new → IsIndexed key ts new
+indexed_moved key p rs ts old new same fits h k = record { index = index_moved key p rs ts old.pairs new.pairs same h.index k.moved; once = k.once; room = let e = k.room in omega (arith, e, fits) }
+
+pub indexed_map : (key : Process → Option ℕ) (g : Process → Process) → ((r : Process) → (g r).pid ≡ r.pid) → ((r : Process) → key (g r) ≡ key r) → (rs : List Process) (set : IndexView) → IsIndexed key rs set → IsIndexed key (map g rs) set
+indexed_map key g named keeps rs set h = record { index = index_map key g named keeps rs set.pairs h.index; once = h.once; room = let long = length-map rs g in let room = h.room in omega (arith, long, room) }
+
+pub indexed_adopted : (key : Process → Option ℕ) (from to : ℕ) → from ≢ to → ((r : Process) → key (reparented from to r) ≡ rekeyed from to (key r)) → (rs : List Process) (old new : IndexView) → IsIndexed key rs old → IsRekeyed from to old new → IsIndexed key (adopted from to rs) new
+unfolding adopted
+indexed_adopted key from to ne moves rs old new h k = record { index = index_adopted key from to ne moves rs old.pairs new.pairs h.index k.pairs; once = k.once; room = let long = length-map rs (reparented from to) in let room = h.room in let e = k.room in omega (arith, long, room, e) }
+
+-- at the start
+pub indexed_none : (key : Process → Option ℕ) (set : IndexView) → set.pairs ≡ [] → ArePairs set.pairs → IsIndexed key [] set
+unfolding lookup is_pair_in
+indexed_none key set none once = record { index = λ p k. ap (is_pair_in k p) none; once = once; room = omega arith }
+
+-- nobody stands in it where nobody has a key
+pub index_empty : (key : Process → Option ℕ) (t : Process → Bool) → ((r : Process) → is_some (key r) ≡ t r) → (rs : List Process) (pairs : List Pair) → IsRising rs → IsIndex key rs pairs → (length pairs == 0) ≡ not (list_any t rs)
+unfolding is_pair_in
+index_empty key t has rs [] up h = ap not (sym (none_any t rs (all_looked (λ r. t r ≡ false) rs up (λ p r e. sym (has r) ∙ none (key r) (λ k. sym (h p k ∙ ap (λ (o : Option Process). is_key k (option_and_then key o)) e))))))
+  where
+    none : (o : Option ℕ) → ((k : ℕ) → is_key k o ≡ false) → is_some o ≡ false
+    none None f = refl
+    none (Some k) f = sym (eq-eqb k k refl) ∙ f k
+
+    none_any : (t : Process → Bool) (rs : List Process) → AllByRecursion (λ r. t r ≡ false) rs → list_any t rs ≡ false
+    none_any t [] a = refl
+    none_any t (r ∷ rs) a = rw a.0 (none_any t rs a.1)
+index_empty key t has rs (x ∷ xs) up h = ne_eqb (length (x ∷ xs)) 0 (λ e. omega (arith, e)) ∙ elim (list_any t rs) as (λ b. list_any t rs ≡ b → false ≡ not b) [
+  | true ↦ λ e. refl
+  | false ↦ λ e. absurd (there (lookup x.pid rs) refl e)
+] refl
+  where
+    here : is_key x.key (key_of key x.pid rs) ≡ true
+    here = sym (h x.pid x.key) ∙ rw (eq-eqb x.key x.key refl, eq-eqb x.pid x.pid refl) refl
+
+    some : (k : ℕ) (o : Option ℕ) → is_key k o ≡ true → is_some o ≡ true
+    some k None f = absurd (cc)
+    some k (Some n) f = refl
+
+    there : (o : Option Process) → lookup x.pid rs ≡ o → list_any t rs ≡ false → ⊥
+    there None e none = let no : false ≡ true = sym (ap (λ (o : Option Process). is_key x.key (option_and_then key o)) e) ∙ here in absurd (cc)
+    there (Some r) e none =
+        let yes = some x.key (key r) (sym (ap (λ (o : Option Process). is_key x.key (option_and_then key o)) e) ∙ here) in
+        let no = none_found t rs none x.pid r e in
+        let both : false ≡ true = sym no ∙ sym (has r) ∙ yes in
+        absurd (cc)

@@ -1,0 +1,97 @@
+-- Indexes of processes: their numbers by a key that each has or hasn't.
+use Rattle.std.specs.Prelude.{◌≡◌, ℕ, ◌+◌, ◌*◌, ◌<◌, ◌≤◌, ◌==◌, Bool, true, false, ◌&&◌, ◌||◌, not, if◌then◌else◌, List, length, map, Option, Some, None, option_and_then}
+use Rattle.std.specs.List.{AllByRecursion, list_any}
+use Rattle.posix.specs.Processes.{Process}
+use Rattle.posix.specs.Tables.{lookup}
+use Rattle.posix.specs.Groups.{is_anchor}
+use Rattle.pidset.specs.declared.index.Pair.{Pair}
+use Rattle.pidset.specs.Numbers.{Rises}
+
+-- a number for each pair, rising by keys and then by numbers
+abbrev pub pair_number : Pair → ℕ
+pair_number x = x.key * 4294967296 + x.pid
+
+abbrev pub IsPair : Pair → Type 0
+IsPair x = (1 ≤ x.pid) × (x.pid < 4294967296)
+
+-- each pair once
+pub record ArePairs (pairs : List Pair) : Type 0 where
+  pub rising : Rises (map pair_number pairs)
+  pub within : AllByRecursion IsPair pairs
+
+abbrev pub is_pair : ℕ → ℕ → Pair → Bool
+is_pair k p x = x.key == k && x.pid == p
+
+-- whether this process stands under this key
+unfoldable pub is_pair_in : ℕ → ℕ → List Pair → Bool
+is_pair_in k p pairs = list_any (is_pair k p) pairs
+
+-- the pairs, and how many there is memory for, with those that are there
+pub record IndexView : Type 0 where
+  pub pairs : List Pair
+  pub room : ℕ
+
+-- Next is the process under k with the least number above n; there is one where some process is under k.
+pub record IsNextPair (k n : ℕ) (pairs : List Pair) (next : Option ℕ) : Type 0 where
+  pub there : (p : ℕ) → next ≡ Some p → (n < p) × (is_pair_in k p pairs ≡ true)
+  pub least : (p : ℕ) → is_pair_in k p pairs ≡ true → n < p → (m : ℕ) × (next ≡ Some m) × (m ≤ p)
+
+-- ---- one process
+
+-- whether this is the key, where there is one
+abbrev pub is_key : ℕ → Option ℕ → Bool
+is_key k None = false
+is_key k (Some n) = n == k
+
+-- p stands under this key alone, or under none
+abbrev pub IsAt : ℕ → Option ℕ → List Pair → Type 0
+IsAt p key pairs = (k : ℕ) → is_pair_in k p pairs ≡ is_key k key
+
+-- it does now, and all others stand where they did
+abbrev pub IsMoved : ℕ → Option ℕ → List Pair → List Pair → Type 0
+IsMoved p key old new = (k q : ℕ) → is_pair_in k q new ≡ (if q == p then is_key k key else is_pair_in k q old)
+
+-- an index in which p stands under this key, with room for p where it stands under none
+pub record CanReplace (p : ℕ) (key : Option ℕ) (set : IndexView) : Type 0 where
+  pub at : IsAt p key set.pairs
+  pub room : key ≡ None → length set.pairs < set.room
+
+-- and one in which it was moved
+pub record IsReplaced (p : ℕ) (key : Option ℕ) (old new : IndexView) : Type 0 where
+  pub moved : IsMoved p key old.pairs new.pairs
+  pub once : ArePairs new.pairs
+  pub room : new.room ≡ old.room
+
+-- all that stood under one key stand under another
+pub record IsRekeyed (from to : ℕ) (old new : IndexView) : Type 0 where
+  pub pairs : (k p : ℕ) → is_pair_in k p new.pairs ≡ (not (k == from) && (is_pair_in k p old.pairs || k == to && is_pair_in from p old.pairs))
+  pub once : ArePairs new.pairs
+  pub room : new.room ≡ old.room
+
+-- ---- all processes
+
+-- the key of the process p, where it is there and has one
+abbrev pub key_of : (Process → Option ℕ) → ℕ → List Process → Option ℕ
+key_of key p rs = option_and_then key (lookup p rs)
+
+-- each number stands under its key, or under none
+abbrev pub IsKeyed : (ℕ → Option ℕ) → List Pair → Type 0
+IsKeyed keys pairs = (p : ℕ) → IsAt p (keys p) pairs
+
+-- What an index is: each process that is there stands under its key, or under none where it has none.
+abbrev pub IsIndex : (Process → Option ℕ) → List Process → List Pair → Type 0
+IsIndex key rs pairs = IsKeyed (λ p. key_of key p rs) pairs
+
+-- a member that keeps its process group from being orphaned stands under that group
+abbrev pub anchor_key : List Process → Process → Option ℕ
+anchor_key rs r = if is_anchor rs r then Some r.group else None
+
+-- an index of these: its key looks at two records, that of the process and that of its parent
+abbrev pub IsAnchorIndex : List Process → List Pair → Type 0
+IsAnchorIndex rs pairs = IsIndex (anchor_key rs) rs pairs
+
+-- an index with room for all processes
+pub record IsIndexed (key : Process → Option ℕ) (rs : List Process) (set : IndexView) : Type 0 where
+  pub index : IsIndex key rs set.pairs
+  pub once : ArePairs set.pairs
+  pub room : length rs ≤ set.room

@@ -1,0 +1,151 @@
+//! An index of processes: their numbers by a key that each has or hasn't.
+
+ghost use Rattle.std.specs.Prelude.{◌≡◌, ◌≢◌, ◌+◌, ◌<◌, ◌≤◌, ◌^◌, ◌==◌, ◌&&◌, ◌||◌, ℕ, not, false, true, [], length, Option, OnOk};
+ghost use Rattle.pidset.specs.Indexes.{ArePairs, IsNextPair, CanReplace, IsReplaced, IsRekeyed, is_pair_in, pair_number};
+
+use crate::numbered::{Numbered, insert_at, next_above, search, take_out};
+use posix::Pid;
+use std::alloc::{AllocError, Global};
+use std::marker::Model;
+
+/// A process under a key.
+#[derive(Clone, Copy, Debug, PartialEq, Eq)]
+pub struct Pair {
+    /// The key.
+    pub key: u64,
+    /// The number of the process.
+    pub pid: Pid,
+}
+
+impl Numbered for Pair {
+    ghost number = { pair_number };
+
+    fn number(&self) -> u128 {
+        u128::from(self.key) * 4_294_967_296 + u128::from(self.pid.number())
+    }
+}
+
+/// This process under this key.
+fn keyed(key: u64, pid: Pid) -> Pair
+    ensures is { result ≡ record { key = key; pid = pid } }
+    ensures range { pid ≤ 2147483647 }
+{
+    Pair { key, pid }
+}
+
+/// Processes by keys, each pair of a key and a number once, by keys and then by numbers. It takes memory in
+/// [`Index::reserve`] alone.
+#[derive(Drop)]
+pub struct Index {
+    pairs: Vec<Pair>,
+}
+
+impl Model for Index {
+    ghost use Rattle.std.specs.Prelude.{vec_capacity};
+    ghost use Rattle.pidset.specs.Indexes.{ArePairs, IndexView};
+
+    ghost Value = { IndexView };
+
+    ghost view = { λ s. record { pairs = s.pairs.items; room = vec_capacity s.pairs } };
+
+    ghost invariant = { λ s. ArePairs s.pairs.items };
+}
+
+impl Index {
+    /// No processes. It takes no memory.
+    pub fn new(alloc: Global) -> Index
+        ensures pairs { result.pairs ≡ [] }
+        ensures rising { ArePairs result.pairs }
+    {
+        Index {
+            pairs: Vec::new(alloc),
+        }
+    }
+
+    /// Makes room for `capacity` pairs, counting those that are there. They stay, and the room never
+    /// falls, also at the error that there is no memory.
+    pub fn reserve(&mut self, capacity: usize) -> Result<(), AllocError>
+        requires { capacity < 2 ^ 63 }
+        ensures room { OnOk result (capacity ≤ self.new.room) }
+        ensures pairs { self.new.pairs ≡ self.old.pairs }
+        ensures grows { self.old.room ≤ self.new.room }
+    {
+        let additional = capacity.saturating_sub(self.pairs.len());
+        self.pairs.reserve(additional)
+    }
+
+    /// The process under a key with the least number above `after`.
+    pub fn next(&self, key: u64, after: Pid) -> Option<Pid>
+        ensures next { IsNextPair key after self.now.pairs result }
+        ensures rising { ArePairs self.now.pairs }
+    {
+        let from = keyed(key, after);
+        match next_above(&self.pairs, &from) {
+            Some(pair) if pair.key == key => Some(pair.pid),
+            _ => None,
+        }
+    }
+
+    /// Puts a process in under a key, unless it is there.
+    pub fn insert(&mut self, key: u64, pid: Pid)
+        requires room { is_pair_in key pid self.old.pairs ≡ false → length self.old.pairs < self.old.room }
+        requires pid { 1 ≤ pid }
+        ensures pairs { (k p : ℕ) → is_pair_in k p self.new.pairs ≡ (k == key && p == pid || is_pair_in k p self.old.pairs) }
+        ensures room { self.new.room ≡ self.old.room }
+        ensures rising { ArePairs self.new.pairs }
+    {
+        let pair = keyed(key, pid);
+        if let Err(at) = search(&self.pairs, &pair) {
+            insert_at(&mut self.pairs, at, pair);
+        }
+    }
+
+    /// Takes a process out under a key, where it is there.
+    pub fn remove(&mut self, key: u64, pid: Pid)
+        ensures pairs { (k p : ℕ) → is_pair_in k p self.new.pairs ≡ (not (k == key && p == pid) && is_pair_in k p self.old.pairs) }
+        ensures room { self.new.room ≡ self.old.room }
+        ensures left { is_pair_in key pid self.old.pairs ≡ true → length self.new.pairs < self.new.room }
+        ensures rising { ArePairs self.new.pairs }
+    {
+        let pair = keyed(key, pid);
+        let _pair = take_out(&mut self.pairs, &pair);
+    }
+
+    /// A process that stood under one key, or under none, stands under another, or under none.
+    pub fn replace(&mut self, pid: Pid, old: Option<u64>, new: Option<u64>)
+        requires can { CanReplace pid old self.old }
+        requires pid { 1 ≤ pid }
+        ensures { IsReplaced pid new self.old self.new }
+    {
+        let _ = &self.pairs;
+        if old == new {
+            return;
+        }
+        if let Some(key) = old {
+            self.remove(key, pid);
+        }
+        if let Some(key) = new {
+            self.insert(key, pid);
+        }
+    }
+
+    /// Whether there are none.
+    pub fn is_empty(&self) -> bool
+        ensures { result ≡ (length self.now.pairs == 0) }
+    {
+        self.pairs.is_empty()
+    }
+
+    /// The processes under one key come under another.
+    pub fn rekey(&mut self, from: u64, to: u64)
+        requires { from ≢ to }
+        ensures { IsRekeyed from to self.old self.new }
+    {
+        let mut next = self.next(from, Pid::NONE);
+        while let Some(pid) = next {
+            self.remove(from, pid);
+            self.insert(to, pid);
+            next = self.next(from, pid);
+        }
+    }
+}
