@@ -118,8 +118,9 @@ fn child() -> Facts {
         chosen: None,
         life: Life::Running,
         news: News::Nothing,
-        blocked: None,
+        alarm: None,
         ran_exec: false,
+        blocked: None,
         program: 0,
     }
 }

@@ -8,14 +8,15 @@ use Rattle.posix.specs.Targets.{greatest_pid}
 use Rattle.posix.proofs.TableLemmas.{Above, pid_looked, lookup_changed, remove_above}
 use Rattle.posix.proofs.RegularLemmas.{lookup_new, lookup_removed}
 use Rattle.posix.proofs.WalkLemmas.{all_looked}
-use Rattle.pidset.specs.Indexes.{IsRekeyed}
-use Rattle.pidset.proofs.IndexLemmas.{elsewhere_changed, elsewhere_inserted, elsewhere_removed}
+use Rattle.pidset.specs.Indexes.{IndexView, IsReplaced, IsRekeyed}
+use Rattle.pidset.proofs.IndexLemmas.{elsewhere_changed, elsewhere_inserted, elsewhere_removed, unmoved}
 use Rattle.proctable.specs.declared.body.Body.{Body}
 use Rattle.proctable.specs.Body.{process_of, give_body, with_body}
 use Rattle.jobs.specs.declared.books.Books.{Books}
-use Rattle.jobs.specs.Books.{AreMoved, body_seen, seen_of}
+use Rattle.jobs.specs.declared.books.Seen.{Seen}
+use Rattle.jobs.specs.Books.{AreMoved, alarm_key, body_seen, seen_of}
 use Rattle.jobs.specs.JobTables.{AreNumbers, IsKept}
-use Rattle.jobs.proofs.BookLemmas.{Fits, sees, sees_none, fits, books_moved, books_unseen, books_adopted}
+use Rattle.jobs.proofs.BookLemmas.{Fits, sees, sees_none, fits, books_moved, books_alarmed, books_adopted}
 use Rattle.jobs.proofs.NumberLemmas.{absent_body, absent_inserted, absent_removed, absent_adopted, least_number, no_more, above_none}
 
 -- ---- counts
@@ -56,7 +57,7 @@ some_there n books rs p r up found k = let count = k.count in let long = length_
 -- ---- another body
 
 -- as many processes are there, and p with it
-length_body : (rs : List Process) (p : ℕ) (c : Body) → length (with_body rs p c) ≡ length rs
+pub length_body : (rs : List Process) (p : ℕ) (c : Body) → length (with_body rs p c) ≡ length rs
 unfolding changed
 length_body rs p c = length-map rs (at p (give_body c))
 
@@ -76,17 +77,25 @@ kept_moved n rs new p b c old now found is moved k =
       books = books_moved p (parent_of p rs) (Some (body_seen c)) rs (with_body rs p c) old now (elsewhere_changed p (give_body c) (λ r. refl) rs) (fits rs _ old k.books long) k.books (sees p (process_of p (parent_of p rs) c) (with_body rs p c) (body_found rs p b c found)) moved;
     })
 
--- or no index sees it
-pub kept_unseen : (count : ℕ) (rs new : List Process) (p : ℕ) (b c : Body) (books : Books) → lookup p rs ≡ Some (process_of p (parent_of p rs) b) → new ≡ with_body rs p c → body_seen c ≡ body_seen b → IsKept count books rs → IsKept count books new
+-- or an index sees at most its alarm, which moves
+pub kept_alarmed : (count : ℕ) (rs new : List Process) (p : ℕ) (b c : Body) (books : Books) (set : IndexView) → lookup p rs ≡ Some (process_of p (parent_of p rs) b) → new ≡ with_body rs p c → record (body_seen c) { alarm = b.alarm } ≡ body_seen b
+    → IsReplaced p c.alarm books.alarmed set → IsKept count books rs → IsKept count (record books { alarmed = set }) new
 unfolding give_body
-kept_unseen n rs new p b c books found is same k =
+kept_alarmed n rs new p b c books set found is same moved k =
     let long = length_body rs p c in
     rw is (record {
       numbers = λ q out. absent_body q rs p c (k.numbers q out);
       count = k.count ∙ sym long;
-      books = books_unseen p (parent_of p rs) (Some (body_seen b)) rs (with_body rs p c) books (elsewhere_changed p (give_body c) (λ r. refl) rs) long k.books (sees p (process_of p (parent_of p rs) b) rs found)
-          (rw (← same) (sees p (process_of p (parent_of p rs) c) (with_body rs p c) (body_found rs p b c found)));
+      books = books_alarmed p (parent_of p rs) (body_seen b) (body_seen c) rs (with_body rs p c) books set (elsewhere_changed p (give_body c) (λ r. refl) rs) long k.books same (sees p (process_of p (parent_of p rs) b) rs found)
+          (sees p (process_of p (parent_of p rs) c) (with_body rs p c) (body_found rs p b c found)) moved;
     })
+
+-- or no index sees it
+pub kept_unseen : (count : ℕ) (rs new : List Process) (p : ℕ) (b c : Body) (books : Books) → lookup p rs ≡ Some (process_of p (parent_of p rs) b) → new ≡ with_body rs p c → body_seen c ≡ body_seen b → IsKept count books rs → IsKept count books new
+kept_unseen n rs new p b c books found is same k =
+    let alarm = ap (λ (w : Seen). w.alarm) same in
+    kept_alarmed n rs new p b c books books.alarmed found is (ap (λ a. record (body_seen c) { alarm = a }) (sym alarm) ∙ same)
+    (record { moved = unmoved alarm_key p rs books.alarmed.pairs c.alarm k.books.alarmed.index (alarm ∙ sym (sees p (process_of p (parent_of p rs) b) rs found).alarmed); once = k.books.alarmed.once; room = refl }) k
 
 -- ---- births, removals and adoptions
 
@@ -107,13 +116,13 @@ kept_removed n rs new p parent r old now up found is moved k =
     rw is (record {
       numbers = λ q out. absent_removed p q rs (k.numbers q out);
       count = omega (arith, long, count);
-      books = books_moved p parent None rs (removed p rs) old now (elsewhere_removed p rs) (let f = fits rs n old k.books count in record { reporting = let e = f.reporting in omega (arith, e, long, count); stopped = let e = f.stopped in omega (arith, e, long, count); members = let e = f.members in omega (arith, e, long, count) }) k.books (sees_none p parent (removed p rs) (lookup_removed p rs)) moved;
+      books = books_moved p parent None rs (removed p rs) old now (elsewhere_removed p rs) (let f = fits rs n old k.books count in record { reporting = let e = f.reporting in omega (arith, e, long, count); stopped = let e = f.stopped in omega (arith, e, long, count); members = let e = f.members in omega (arith, e, long, count); alarmed = let e = f.alarmed in omega (arith, e, long, count) }) k.books (sees_none p parent (removed p rs) (lookup_removed p rs)) moved;
     })
 
-pub kept_adopted : (n : ℕ) (rs new : List Process) (from to : ℕ) (old now : Books) → from ≢ to → new ≡ adopted from to rs → IsRekeyed from to old.reporting now.reporting → now.stopped ≡ old.stopped → now.members ≡ old.members → IsKept n old rs → IsKept n now new
+pub kept_adopted : (n : ℕ) (rs new : List Process) (from to : ℕ) (old now : Books) → from ≢ to → new ≡ adopted from to rs → IsRekeyed from to old.reporting now.reporting → now.stopped ≡ old.stopped → now.members ≡ old.members → now.alarmed ≡ old.alarmed → IsKept n old rs → IsKept n now new
 unfolding adopted
-kept_adopted n rs new from to old now ne is moved same like k = rw is (record {
+kept_adopted n rs new from to old now ne is moved same like still k = rw is (record {
   numbers = λ q out. absent_adopted from to q rs (k.numbers q out);
   count = k.count ∙ sym (length-map rs (reparented from to));
-  books = books_adopted from to ne rs old now k.books moved same like;
+  books = books_adopted from to ne rs old now k.books moved same like still;
 })

@@ -1,7 +1,6 @@
 -- Moves between process groups: which groups there are.
 use Rattle.std.proofs.Common.{◌≡◌, ◌≢◌, ℕ, Bool, true, false, cond, not, ◌&&◌, ◌||◌, ◌==◌, refl, ap, sym, ◌∙◌, arith, subst, List, [], ◌∷◌, filter, Option, Some, None, is_some, option_map, nat_lt, ℤ, Result}
 use Rattle.std.specs.List.{list_any}
-use Rattle.std.specs.Option.{IsSome}
 use Rattle.std.proofs.lemmas.Bool.{eq-eqb, ne_eqb}
 use Rattle.std.proofs.lemmas.Bool.Decides.{nat_tests}
 use Rattle.posix.specs.Processes.{Process}
@@ -10,10 +9,9 @@ use Rattle.posix.specs.declared.errno.Errno.{Errno}
 use Rattle.posix.specs.GroupCalls.{named, move_to, is_group_of_others}
 use Rattle.posix.proofs.TableLemmas.{Above, pid_looked}
 use Rattle.posix.proofs.WalkLemmas.{above_all}
-use Rattle.posix.proofs.MoveLemmas.{named_found}
 use Rattle.proctable.specs.declared.facts.Facts.{Facts}
 use Rattle.proctable.specs.Body.{facts_of}
-use Rattle.jobs.proofs.FactLemmas.{there, is_there, some_read, facts_are}
+use Rattle.jobs.proofs.FactLemmas.{facts_are}
 
 -- ---- whether there is a group
 
@@ -98,14 +96,3 @@ judged p rs ss ts z y group h f o answer me found read same still named_by group
     let facts = facts_are (lookup p rs) me f read found in
     judges me (named me y ss) facts (names me facts) ∙ ap (λ l. move_to me (named me y ss) h l) (still ∙ same) ∙ ap (λ l. move_to me (named me y l) h rs) same
     ∙ ap (λ x. move_to me (named me x rs) h rs) named_by ∙ ap (λ x. move_to me (named me z rs) x rs) grouped
-
--- who is named is there by the facts that were read of it
-pub named_is_there : (p : ℕ) (rs ss ts : List Process) (y : ℤ) (f it : Facts) (o : Option Facts) → IsSome (lookup p rs) → Some f ≡ option_map facts_of (lookup p rs) → ss ≡ rs → ts ≡ rs
-    → ((caller : Process) → f ≡ facts_of caller → o ≡ option_map facts_of (named caller y ss)) → o ≡ Some it → IsSome (lookup it.pid ts)
-named_is_there p rs ss ts y f it o here read same still names is =
-    let me = there (lookup p rs) here in
-    let named_as = sym is ∙ names me.what (facts_are (lookup p rs) me.what f read me.found) in
-    let r = some_read _ it named_as in
-    let found = named_found p ss me.what y r.what (ap (lookup p) same ∙ me.found) r.found in
-    let number = ap (λ (x : Facts). x.pid) (facts_are _ r.what it named_as r.found) in
-    is_there _ r.what (ap (λ l. lookup it.pid l) (still ∙ sym same) ∙ ap (λ n. lookup n ss) number ∙ found)

@@ -16,9 +16,11 @@ pub run_as : {F T : Type 0} {g : Once F (MutBor Body × Unit {0}) (T × (MutBor 
     → ((b c : Body) (r : T) → FnOnceReturnsAtMut g change b r c → (q : ℕ) → process_of p q c ≡ f (process_of p q b)) → ts ≡ changed p f rs
 run_as {rs = rs} {p = p} {r = r} f k up did = k.is ∙ changed_here rs up p k.before k.after f k.found (did k.before k.after r k.ran)
 
--- no index sees a change that a parent doesn't see
-pub unseen_as : {F T : Type 0} {g : Once F (MutBor Body × Unit {0}) (T × (MutBor Body × Unit {0}))} {change : F} (p : ℕ) (f : Process → Process) → Unseen f → ((b c : Body) (r : T) → FnOnceReturnsAtMut g change b r c → (q : ℕ) → process_of p q c ≡ f (process_of p q b)) → IsUnseen g change
-unseen_as p f u did b c r k = ap seen_of (did b c r k 0) ∙ rw (u.group (process_of p 0 b), u.life (process_of p 0 b), u.news (process_of p 0 b)) refl
+-- the indexes see at most an alarm of a change that a parent doesn't see
+pub unseen_as : {F T : Type 0} {g : Once F (MutBor Body × Unit {0}) (T × (MutBor Body × Unit {0}))} {change : F} (p : ℕ) (f : Process → Process) → Unseen f → ((r : Process) → (f r).session ≡ r.session)
+    → ((b c : Body) (r : T) → FnOnceReturnsAtMut g change b r c → (q : ℕ) → process_of p q c ≡ f (process_of p q b)) → IsUnseen g change
+unseen_as p f u session did b c r k =
+    ap (λ (q : Process). record (seen_of q) { alarm = b.alarm }) (did b c r k 0) ∙ rw (u.group (process_of p 0 b), session (process_of p 0 b), u.life (process_of p 0 b), u.news (process_of p 0 b)) refl
 
 -- the parent that was read is the one in the record
 pub parent_is : (p q : ℕ) (rs : List Process) (me : Process) → q ≡ parent_of p rs → lookup p rs ≡ Some me → q ≡ me.parent

@@ -43,9 +43,9 @@ lent more t p o = record t { processes = changed p (give_own o) t.processes; rea
 
 -- ---- closures that change a body
 
--- no index sees what the closure changes
+-- the indexes see at most an alarm of what the closure changes
 abbrev pub IsUnseen : {F T : Type 0} → Once F (MutBor Body × Unit {0}) (T × (MutBor Body × Unit {0})) → F → Type 0
-IsUnseen {T = T} g change = (b c : Body) (r : T) → FnOnceReturnsAtMut g change b r c → body_seen c ≡ body_seen b
+IsUnseen {T = T} g change = (b c : Body) (r : T) → FnOnceReturnsAtMut g change b r c → record (body_seen c) { alarm = b.alarm } ≡ body_seen b
 
 -- the closure ran on the body of p, and gave r
 pub record IsRun {F T : Type 0} (g : Once F (MutBor Body × Unit {0}) (T × (MutBor Body × Unit {0}))) (change : F) (rs ts : List Process) (p : ℕ) (r : T) : Type 0 where

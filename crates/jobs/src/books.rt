@@ -1,8 +1,8 @@
 //! The indexes that a table of jobs keeps of its processes.
 
-ghost use Rattle.std.specs.Prelude.{◌≡◌, ◌≢◌, ◌<◌, ◌≤◌, ◌^◌, [], OnOk};
+ghost use Rattle.std.specs.Prelude.{◌≡◌, ◌≢◌, ◌<◌, ◌≤◌, ◌^◌, [], Some, OnOk};
 ghost use Rattle.pidset.specs.Indexes.{IsNextPair, IsRekeyed};
-ghost use Rattle.jobs.specs.Books.{AreBooks, report_in, stopped_in, member_in, CanMove, AreMoved};
+ghost use Rattle.jobs.specs.Books.{AreBooks, body_seen, facts_seen, report_in, stopped_in, member_in, alarm_in, CanMove, AreMoved};
 
 use pidset::Index;
 use posix::{Life, News, Pid};
@@ -14,10 +14,25 @@ use std::alloc::{AllocError, Global};
 pub struct Seen {
     /// Its process group.
     pub group: Pid,
+    /// Its session, by the number of the leader.
+    pub session: Pid,
     /// Whether it runs, is stopped or has ended.
     pub life: Life,
     /// What no wait has reported of it yet.
     pub news: News,
+    /// The tick at which its alarm is due.
+    pub alarm: Option<u64>,
+}
+
+/// A change of a process, as its parent and the indexes see it.
+#[derive(Clone, Copy)]
+pub struct Change {
+    /// The parent of the process; number 0 for none.
+    pub parent: Pid,
+    /// What was seen of the process before.
+    pub before: Seen,
+    /// What is seen of it afterwards.
+    pub after: Seen,
 }
 
 /// The indexes.
@@ -29,27 +44,33 @@ pub struct Books {
     pub stopped: Index,
     /// All processes, by their process groups.
     pub members: Index,
+    /// The processes whose alarm is set, by the tick at which it is due.
+    pub alarmed: Index,
 }
 
 /// What the indexes see of a body.
 pub(crate) fn of_body(body: &Body) -> Seen
-    ensures { result ≡ record { group = body.now.group; life = body.now.life; news = body.now.news } }
+    ensures { result ≡ body_seen body.now }
 {
     Seen {
         group: body.group,
+        session: body.session,
         life: body.life,
         news: body.news,
+        alarm: body.alarm,
     }
 }
 
 /// What the indexes see of the process with these fields.
 pub(crate) fn of_facts(facts: &Facts) -> Seen
-    ensures { result ≡ record { group = facts.now.group; life = facts.now.life; news = facts.now.news } }
+    ensures { result ≡ facts_seen facts.now }
 {
     Seen {
         group: facts.group,
+        session: facts.session,
         life: facts.life,
         news: facts.news,
+        alarm: facts.alarm,
     }
 }
 
@@ -92,6 +113,16 @@ fn member_key(it: &Option<Seen>) -> Option<u64>
     }
 }
 
+/// The key of a process among those whose alarm is set.
+fn alarm_key(it: &Option<Seen>) -> Option<u64>
+    ensures { result ≡ alarm_in it.now }
+{
+    match it {
+        Some(it) => it.alarm,
+        None => None,
+    }
+}
+
 impl Books {
     /// Of no processes. They take no memory.
     pub(crate) fn new(alloc: Global) -> Books
@@ -101,6 +132,7 @@ impl Books {
             reporting: Index::new(alloc),
             stopped: Index::new(alloc),
             members: Index::new(alloc),
+            alarmed: Index::new(alloc),
         }
     }
 
@@ -110,14 +142,17 @@ impl Books {
         ensures reporting { self.new.reporting.pairs ≡ self.old.reporting.pairs }
         ensures stopped { self.new.stopped.pairs ≡ self.old.stopped.pairs }
         ensures members { self.new.members.pairs ≡ self.old.members.pairs }
+        ensures alarmed { self.new.alarmed.pairs ≡ self.old.alarmed.pairs }
         ensures grows_reporting { self.old.reporting.room ≤ self.new.reporting.room }
         ensures grows_stopped { self.old.stopped.room ≤ self.new.stopped.room }
         ensures grows_members { self.old.members.room ≤ self.new.members.room }
-        ensures ok { OnOk result ((most ≤ self.new.reporting.room) × (most ≤ self.new.stopped.room) × (most ≤ self.new.members.room)) }
+        ensures grows_alarmed { self.old.alarmed.room ≤ self.new.alarmed.room }
+        ensures ok { OnOk result ((most ≤ self.new.reporting.room) × (most ≤ self.new.stopped.room) × (most ≤ self.new.members.room) × (most ≤ self.new.alarmed.room)) }
     {
         self.reporting.reserve(most)?;
         self.stopped.reserve(most)?;
-        self.members.reserve(most)
+        self.members.reserve(most)?;
+        self.alarmed.reserve(most)
     }
 
     /// A process with this parent, which the indexes saw so, or which wasn't there, is seen so, or isn't there:
@@ -139,6 +174,22 @@ impl Books {
             .replace(pid, stopped_key(before), stopped_key(after));
         self.members
             .replace(pid, member_key(before), member_key(after));
+        self.alarmed
+            .replace(pid, alarm_key(before), alarm_key(after));
+    }
+
+    /// A process that is there was changed so.
+    pub(crate) fn changed(&mut self, pid: Pid, change: &Change)
+        requires can { CanMove pid change.now.parent (Some change.now.before) self.old }
+        requires pid { 1 ≤ pid }
+        ensures { AreMoved pid change.now.parent (Some change.now.after) self.old self.new }
+    {
+        self.moved(
+            pid,
+            change.parent,
+            &Some(change.before),
+            &Some(change.after),
+        );
     }
 
     /// The children of one process become those of another.
@@ -147,6 +198,7 @@ impl Books {
         ensures reporting { IsRekeyed from to self.old.reporting self.new.reporting }
         ensures stopped { self.new.stopped ≡ self.old.stopped }
         ensures members { self.new.members ≡ self.old.members }
+        ensures alarmed { self.new.alarmed ≡ self.old.alarmed }
     {
         self.reporting.rekey(key(from), key(to));
     }
@@ -163,5 +215,12 @@ impl Books {
         ensures { IsNextPair group after self.now.members.pairs result }
     {
         self.members.next(key(group), after)
+    }
+
+    /// The process whose alarm is due at a tick, with the least number above `after`.
+    pub(crate) fn next_due(&self, tick: u64, after: Pid) -> Option<Pid>
+        ensures { IsNextPair tick after self.now.alarmed.pairs result }
+    {
+        self.alarmed.next(tick, after)
     }
 }

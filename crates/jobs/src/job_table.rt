@@ -1,17 +1,20 @@
 //! The table: who is there.
 
-ghost use Rattle.std.specs.Prelude.{◌≡◌, ◌≢◌, ◌+◌, ◌*◌, ◌<◌, ◌≤◌, ◌^◌, ◌⊎◌, [], ⊤, IfSome, IsSome, OnOk, None, true, not, if◌then◌else◌, length, option_map};
+ghost use Rattle.std.specs.Prelude.{◌≡◌, ◌≢◌, ◌+◌, ◌*◌, ◌<◌, ◌≤◌, ◌^◌, ◌⊎◌, [], ⊤, ℕ, Some, IfOk, IfSome, IsSome, OnOk, None, true, not, if◌then◌else◌, length, filter, option_map};
 ghost use mathlib.Core.Option.{none};
 ghost use Rattle.std.specs.Borrow.{sem, Lends, follows_so};
 ghost use Rattle.std.specs.List.{list_any};
-ghost use Rattle.posix.specs.Processes.{is_stopped as is_stopped_by};
+ghost use Rattle.posix.specs.Processes.{Process, is_stopped as is_stopped_by};
 ghost use Rattle.posix.specs.Tables.{IsRising, lookup, inserted, removed, children_in, first_pid, next_above, next_sibling as next_sibling_of, adopted, above, members_in, parent_of};
+ghost use Rattle.posix.specs.Alarms.{is_due};
+ghost use Rattle.posix.specs.Births.{child_of};
 ghost use Rattle.posix.specs.Waits.{reporting_in};
 ghost use Rattle.proctable.specs.Body.{process_of, facts_of, own_of, own_row};
 ghost use Rattle.jobs.specs.contracts.job_table.JobTable.{the_row as jobs_row};
+ghost use Rattle.jobs.specs.Books.{seen_of};
 ghost use Rattle.jobs.specs.JobTables.{AreNumbers, IsRun, IsUnseen, lent, looked};
 
-use crate::books::{Books, of_body, of_facts};
+use crate::books::{Books, Change, of_body, of_facts};
 use posix::Pid;
 use proctable::{Body, Facts, Kin, Own};
 use std::alloc::{AllocError, Global};
@@ -192,10 +195,34 @@ impl<K: Kin> JobTable<K> {
         self.books.next_in_group(group, after)
     }
 
+    /// The process whose alarm is due at a tick, with the least number above `after`. No slot is read.
+    pub fn next_due(&self, tick: u64, after: Pid) -> Option<Pid>
+        requires { IsRising self.now.processes }
+        ensures { result ≡ first_pid (above after (filter (λ r. is_due tick r.alarm) self.now.processes)) }
+    {
+        self.books.next_due(tick, after)
+    }
+
     // ---- changes
 
-    /// Changes of a process that is there what no index sees. Each such change goes by this.
-    pub(crate) fn change<T, F: FnOnce(&mut Body) -> T>(&mut self, pid: Pid, change: F) -> T
+    /// What a child of a process that is there would be, with this birth number (XSH fork). The processes are
+    /// unchanged. An error where the host has no memory for it.
+    pub fn newborn(&mut self, pid: Pid, birth: u64) -> Result<Body, AllocError>
+        requires { IsSome (lookup pid self.old.processes) }
+        ensures child { IfOk result (λ b. (me : Process) → lookup pid self.old.processes ≡ Some me → (n : ℕ) → process_of n pid b ≡ child_of birth me n) }
+        ensures groups { IfOk result (λ b. (me : Process) → lookup pid self.old.processes ≡ Some me → (b.group ≡ me.group) × (b.session ≡ me.session)) }
+        ensures processes { self.new.processes ≡ self.old.processes }
+        ensures rising { IsRising self.old.processes }
+        ensures room { self.new.room ≡ self.old.room }
+        ensures reads { self.new.reads ≤ self.old.reads + 1 }
+    {
+        let spare = self.table.spare();
+        self.table.update(pid).fork(birth, spare)
+    }
+
+    /// Changes a process that is there in what its parent doesn't see; its alarm moves in the index. Each such
+    /// change goes by this, but a loan.
+    pub fn change<T, F: FnOnce(&mut Body) -> T>(&mut self, pid: Pid, change: F) -> T
         requires there { IsSome (lookup pid self.old.processes) }
         requires callable { F.IsAlwaysCallable change }
         requires unseen { IsUnseen F.FnOnce change }
@@ -204,27 +231,39 @@ impl<K: Kin> JobTable<K> {
         ensures room { self.new.room ≡ self.old.room }
         ensures reads { self.new.reads ≤ self.old.reads + 1 }
     {
-        change(self.table.update(pid))
+        let it = self.table.update(pid);
+        let before = it.alarm;
+        let result = change(it);
+        let after = it.alarm;
+        self.books.alarmed.replace(pid, before, after);
+        result
     }
 
-    /// Changes a process that is there, and moves it in the indexes. Each change that these see goes by this. The
-    /// parent of the process, which sees the change too.
-    pub(crate) fn change_seen<F: FnOnce(&mut Body)>(&mut self, pid: Pid, change: F) -> Pid
+    /// Changes a process that is there, and moves it in the indexes. Each change goes by this that the parent of
+    /// the process sees. What was seen of it before and after.
+    pub fn change_seen<F: FnOnce(&mut Body)>(&mut self, pid: Pid, change: F) -> Change
         requires there { IsSome (lookup pid self.old.processes) }
         requires callable { F.IsAlwaysCallable change }
         ensures run { IsRun F.FnOnce change self.old.processes self.new.processes pid tt }
-        ensures parent { result ≡ parent_of pid self.old.processes }
+        ensures parent { result.parent ≡ parent_of pid self.old.processes }
+        ensures before { option_map seen_of (lookup pid self.old.processes) ≡ Some result.before }
+        ensures after { option_map seen_of (lookup pid self.new.processes) ≡ Some result.after }
         ensures rising { IsRising self.old.processes }
         ensures room { self.new.room ≡ self.old.room }
         ensures reads { self.new.reads ≤ self.old.reads + 2 }
     {
         let parent = parent_in(&mut self.table, pid);
         let it = self.table.update(pid);
-        let before = Some(of_body(it));
+        let before = of_body(it);
         change(it);
-        let after = Some(of_body(it));
-        self.books.moved(pid, parent, &before, &after);
-        parent
+        let after = of_body(it);
+        let seen = Change {
+            parent,
+            before,
+            after,
+        };
+        self.books.changed(pid, &seen);
+        seen
     }
 
     // ---- loans

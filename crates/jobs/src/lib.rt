@@ -6,11 +6,11 @@
 #![tactic(auto)]
 
 pub mod books;
-pub mod changes;
 pub mod groups;
 pub mod job_table;
 pub mod moves;
 #[cfg(test)]
 mod tests;
 
+pub use books::{Change, Seen};
 pub use job_table::JobTable;

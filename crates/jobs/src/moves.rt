@@ -1,10 +1,10 @@
-//! Moves from one process group to another, and new sessions (XSH setpgid, setsid).
+//! Who may move from one process group to another, or lead a session (XSH setpgid, setsid).
 
-ghost use Rattle.std.specs.Prelude.{◌≡◌, ◌+◌, ◌*◌, ◌≤◌, ◌==◌, ◌&&◌, ◌||◌, not, if◌then◌else◌, Option, Some, None, IsSome, IfOk, IfErr, OnOk, OnErr, is_ok, length, option_map};
+ghost use Rattle.std.specs.Prelude.{◌≡◌, ◌+◌, ◌*◌, ◌≤◌, ◌==◌, ◌&&◌, ◌||◌, not, if◌then◌else◌, Option, Some, None, IsSome, IfErr, is_ok, length, option_map};
 ghost use Rattle.posix.specs.declared.errno.Errno.TheVariants.{EPERM};
 ghost use Rattle.posix.specs.Processes.{Process};
-ghost use Rattle.posix.specs.Tables.{IsRising, lookup, changed};
-ghost use Rattle.posix.specs.GroupCalls.{named as named_by, is_group_of, group_meant as group_meant_by, can_join as can_join_by, can_move as can_move_by, move_to, in_group, is_group_of_others as is_group_of_others_by, in_session};
+ghost use Rattle.posix.specs.Tables.{lookup};
+ghost use Rattle.posix.specs.GroupCalls.{named as named_by, is_group_of, group_meant as group_meant_by, can_join as can_join_by, can_move as can_move_by, move_to, is_group_of_others as is_group_of_others_by};
 ghost use Rattle.proctable.specs.Body.{facts_of};
 ghost use Rattle.jobs.specs.JobTables.{pid_in as pid_in_register};
 
@@ -138,52 +138,21 @@ impl<K: Kin> JobTable<K> {
         }
     }
 
-    /// A process that is there is in this process group.
-    fn set_group(&mut self, pid: Pid, group: Pid)
-        requires { IsSome (lookup pid self.old.processes) }
-        ensures processes { self.new.processes ≡ changed pid (in_group group) self.old.processes }
-        ensures room { self.new.room ≡ self.old.room }
-        ensures reads { self.new.reads ≤ self.old.reads + 2 }
-    {
-        self.change_seen(pid, |body| body.group = group);
-    }
-
-    /// A process that is there leads a session and a process group of its own.
-    fn set_session(&mut self, pid: Pid)
-        requires { IsSome (lookup pid self.old.processes) }
-        ensures processes { self.new.processes ≡ changed pid in_session self.old.processes }
-        ensures room { self.new.room ≡ self.old.room }
-        ensures reads { self.new.reads ≤ self.old.reads + 2 }
-    {
-        self.change_seen(pid, |body| {
-            body.session = pid;
-            body.group = pid;
-        });
-    }
-
-    /// The process that a caller names moves to the process group that is named; 0 stands for the caller, and
-    /// for the number of the process itself. The number of the group. At an error the caller may not move it,
-    /// or it or the group isn't there, and nothing changes (XSH setpgid).
-    pub fn move_group(&mut self, me: Pid, target: i64, group: i64) -> Result<Pid, Errno>
+    /// Which process group the process that a caller names would move to; 0 stands for the caller, and for the
+    /// number of the process itself. At an error the caller may not move it, or it or the group isn't there (XSH
+    /// setpgid).
+    pub fn group_to_join(&mut self, me: Pid, target: i64, group: i64) -> Result<Pid, Errno>
         requires { IsSome (lookup me self.old.processes) }
         ensures value { (caller : Process) → lookup me self.old.processes ≡ Some caller → result ≡ move_to caller (named_by caller target self.old.processes) group self.old.processes }
-        ensures ok { IfOk result (λ to. (caller r : Process) → lookup me self.old.processes ≡ Some caller → named_by caller target self.old.processes ≡ Some r → self.new.processes ≡ changed r.pid (in_group to) self.old.processes) }
-        ensures err { OnErr result (self.new.processes ≡ self.old.processes) }
-        ensures rising { IsRising self.old.processes }
+        ensures processes { self.new.processes ≡ self.old.processes }
         ensures room { self.new.room ≡ self.old.room }
-        ensures reads { self.new.reads ≤ self.old.reads + 5 + 2 * length self.old.processes }
+        ensures reads { self.new.reads ≤ self.old.reads + 3 + 2 * length self.old.processes }
     {
         let Some(caller) = self.get(me) else {
             unreachable!()
         };
         let target = self.named(&caller, target);
-        let answer = self.judge(&caller, &target, group);
-        if let Some(it) = target {
-            if let Ok(group) = answer {
-                self.set_group(it.pid, group);
-            }
-        }
-        answer
+        self.judge(&caller, &target, group)
     }
 
     /// Whether a process is there in the process group with the number of another, zombies included.
@@ -199,16 +168,15 @@ impl<K: Kin> JobTable<K> {
         first != pid || self.next_member(pid, pid).is_some()
     }
 
-    /// A process that is there leads a session and a process group of its own. EPERM, and nothing changes,
-    /// where it leads a process group, or another process is in one with its number (XSH setsid).
-    pub fn new_session(&mut self, me: Pid) -> Result<(), Errno>
+    /// Whether a process that is there may lead a session of its own. EPERM where it leads a process group, or
+    /// another process is in one with its number (XSH setsid).
+    pub fn can_lead(&mut self, me: Pid) -> Result<(), Errno>
         requires { IsSome (lookup me self.old.processes) }
         ensures test { (caller : Process) → lookup me self.old.processes ≡ Some caller → is_ok result ≡ not (caller.group == caller.pid || is_group_of_others_by caller self.old.processes) }
-        ensures ok { OnOk result (self.new.processes ≡ changed me in_session self.old.processes) }
-        ensures err { IfErr result (λ why. (why ≡ EPERM) × (self.new.processes ≡ self.old.processes)) }
-        ensures rising { IsRising self.old.processes }
+        ensures why { IfErr result (λ why. why ≡ EPERM) }
+        ensures processes { self.new.processes ≡ self.old.processes }
         ensures room { self.new.room ≡ self.old.room }
-        ensures reads { self.new.reads ≤ self.old.reads + 7 + 4 * length self.old.processes }
+        ensures reads { self.new.reads ≤ self.old.reads + 5 + 4 * length self.old.processes }
     {
         let Some(caller) = self.get(me) else {
             unreachable!()
@@ -216,7 +184,6 @@ impl<K: Kin> JobTable<K> {
         if caller.group == me || self.is_group_of_others(me) {
             return Err(Errno::EPERM);
         }
-        self.set_session(me);
         Ok(())
     }
 }

@@ -9,12 +9,11 @@ use Rattle.posix.specs.Tables.{IsNext, lookup, at, changed, inserted, removed, r
 use Rattle.posix.specs.States.{World, State, boot, process, is_in, change, lose_place, without}
 use Rattle.posix.specs.Regular.{IsRegular}
 use Rattle.posix.specs.Settle.{can_act, wakes}
-use Rattle.posix.specs.Ends.{made_zombie, ended, halt, depart, is_dropping, drop_child, notice_of_end}
-use Rattle.posix.specs.Notices.{noticed, child_signal}
+use Rattle.posix.specs.Ends.{made_zombie, depart}
 use Rattle.posix.proofs.TableLemmas.{pid_looked, pid_reparented}
-use Rattle.posix.proofs.MapLemmas.{at_pid, lookup_on, lookup_back, some_map}
-use Rattle.posix.proofs.RegularLemmas.{lookup_new, some_inserted, lookup_kept, lookup_removed, keeps_at, keeps_noticed, regular_map}
-use Rattle.posix.proofs.TouchLemmas.{Touches, goes_on, touches_born, touches_both, touches_none, touches_shown, touches_lost, touches_adopted, touches_unseen, touches_removed, unseen_noticed}
+use Rattle.posix.proofs.MapLemmas.{at_pid, some_map}
+use Rattle.posix.proofs.RegularLemmas.{lookup_new, some_inserted, lookup_kept, lookup_removed}
+use Rattle.posix.proofs.TouchLemmas.{Touches, goes_on, touches_born, touches_both, touches_none, touches_shown, touches_lost, touches_adopted, touches_removed}
 use Rattle.posix.proofs.MemberLemmas.{each, in_none, in_one, is_other, others_stay}
 use Rattle.posix.proofs.OrderLemmas.{without_absent}
 use Rattle.posix.proofs.UnseenLemmas.{covers_none}
@@ -252,29 +251,6 @@ listed_removed s c last dropped it before after i h found parent is same =
 
 -- ---- ends
 
--- a parent that is on the list has notice of an end, and the child goes where it drops its children
-pub listed_told : {readers : List PidSetView} (s : State) (parent c v : ℕ) (it : Process) (before after : PidSetView) → IsRegular s → IsListed s before readers → is_in parent before.pids ≡ true → lookup c s.processes ≡ Some it → IsSome (process s it.parent)
-    → after.pids ≡ without_gone c (cond (is_dropping parent s.processes) (Some it.parent) None) before.pids → after.room ≡ before.room → IsListed (notice_of_end s parent c v) after readers
-unfolding notice_of_end changed with_numbers
-listed_told {readers = readers} s parent c v it before after i h mine found up is same =
-    let signal = child_signal c v in
-    let k = keeps_noticed {now = s.ticks} signal in
-    let told = change s parent (noticed signal) in
-    let stay = some_map (at parent (noticed signal)) (at_pid parent (noticed signal) k.pid) in
-    let now : IsListed told before readers = listed_same s told before (parent ∷ []) h (touches_unseen s parent (noticed signal) (unseen_noticed signal)) (refl, refl) (λ q e. stay q s.processes e) (λ q theirs e. subst (λ n. is_in n before.pids ≡ true) (sym (in_one q parent e)) mine) in
-    let x = at parent (noticed signal) it in
-    let same_parent : x.parent ≡ it.parent = (keeps_at parent (noticed signal) k).parent it in
-    elim (is_dropping parent s.processes) as (λ b. after.pids ≡ without_gone c (cond b (Some it.parent) None) before.pids → IsListed (cond {A = State} b (drop_child told c) told) after readers) [
-      | true ↦ λ e. listed_removed told c s.last_pid (s.dropped + 1) x before after (regular_map (at parent (noticed signal)) s (keeps_at parent (noticed signal) k) i) now
-          (lookup_on (at parent (noticed signal)) (at_pid parent (noticed signal) k.pid) c s.processes it found) (stay x.parent s.processes (rw same_parent up)) (rw same_parent e) same
-      | false ↦ λ e. listed_more told before after [] now tt e same
-    ] is
-
--- who is on the list is, unless its own record goes
-pub stays_asked : (q c : ℕ) (gone : Option ℕ) (ns : List ℕ) → q ≢ c → is_in q ns ≡ true → is_in q (without_gone c gone ns) ≡ true
-stays_asked q c None ns ne e = e
-stays_asked q c (Some parent) ns ne e = others_stay c q _ ne ∙ in_with q parent ns ∙ or_right (parent == q) _ e
-
 -- a departure touches the process, its heir and its parent
 pub listed_departed : {readers : List PidSetView} (s : State) (p heir w : ℕ) (me : Process) (before after : PidSetView) → IsRegular s → IsListed s before readers → lookup p s.processes ≡ Some me → IsSome (process s me.parent)
     → is_in p before.pids ≡ true → is_in heir before.pids ≡ true → after.pids ≡ with_number me.parent before.pids → after.room ≡ before.room → IsListed (depart s p heir w) after readers
@@ -291,28 +267,6 @@ listed_departed s p heir w me before after i h found up mine its put room =
     listed_same s (depart s p heir w) after ((p ∷ heir ∷ []) ++ (p ∷ []) ++ (p ∷ me.parent ∷ [])) (listed_more s before after (me.parent ∷ []) h (up, tt) put room) touches (refl, refl)
     (λ q e. some_map (reparented p heir) (pid_reparented p heir) q _ (some_map (at p (made_zombie w)) (at_pid p (made_zombie w) (λ r. refl)) q s.processes e))
     (λ q theirs e. each (λ q. is_in q after.pids ≡ true) (p ∷ heir ∷ p ∷ p ∷ me.parent ∷ []) (on p mine, (on heir its, (on p mine, (on p mine, (its_parent, tt))))) q e)
-
--- the end of process 1
-pub listed_halted : {readers : List PidSetView} (s : State) (w : ℕ) (before after : PidSetView) → IsRegular s → IsListed s before readers → after.pids ≡ with_number 1 before.pids → after.room ≡ before.room → IsListed (halt s w) after readers
-unfolding changed ended with_numbers is_in
-listed_halted s w before after i h is same =
-    let first = i.first in
-    let gone = change s 1 (ended w) in
-    let stay = some_map (at 1 (ended w)) (at_pid 1 (ended w) (λ r. refl)) in
-    let touches : Touches s (halt s w) ([] ++ (1 ∷ []) ++ (1 ∷ 0 ∷ [])) =
-    touches_both s (lose_place gone 1) (halt s w) ((1 ∷ []) ++ (1 ∷ 0 ∷ [])) []
-    (touches_both s gone (lose_place gone 1) (1 ∷ 0 ∷ []) (1 ∷ []) (subst (λ n. Touches s gone (1 ∷ n ∷ [])) first.parent (touches_shown s 1 (ended w) (λ r. refl) (λ r. refl) i.rising first.what first.found)) (touches_lost gone 1))
-    (touches_none (lose_place gone 1) (halt s w) refl refl refl) in
-    listed_with s (halt s w) before after (1 ∷ []) ([] ++ (1 ∷ []) ++ (1 ∷ 0 ∷ [])) h touches (refl, refl) (λ q e. stay q s.processes e) (stay 1 s.processes (rw first.found refl), tt)
-    (λ q theirs e. each (λ q. IsSome (process (halt s w) q) → is_in q (1 ∷ []) ≡ true) (1 ∷ 1 ∷ 0 ∷ []) (λ t. refl, (λ t. refl, (λ t. absurd (none t), tt))) q e theirs) is same
-  where
-    none : IsSome (lookup 0 (changed 1 (ended w) s.processes)) → ⊥
-    none some =
-        let r = there (lookup 0 (changed 1 (ended w) s.processes)) some in
-        let b = lookup_back (at 1 (ended w)) (at_pid 1 (ended w) (λ r. refl)) 0 s.processes r.what r.found in
-        let named = pid_looked 0 s.processes b.what b.found in
-        let least = (i.bounded 0 b.what b.found).least in
-        omega (arith, named, least)
 
 -- ---- births
 

@@ -71,10 +71,10 @@ listed_put {readers = readers} s l k d h can = record {
 }
 
 -- the machine stays one
-pub machine_put : (s : State) (pids : Pids) (places : Places) (asked : PidSetView) (alarmed : PidSetView) (tick : ℕ) (losing : PidSetView) (readers : List PidSetView) (before after : Bool) (k : ℕ) (d : Console)
-    → IsMachine s pids places asked alarmed tick losing (record { readers = readers; stale = before }) → CanPut s asked.pids readers k d → (after ≡ false → AreFresh (put s k d))
-    → IsMachine (put s k d) pids places asked alarmed tick losing (record { readers = readers; stale = after })
-machine_put s pids places asked alarmed tick losing readers before after k d h can fresh = record {
+pub machine_put : (s : State) (pids : Pids) (places : Places) (asked : PidSetView) (losing : PidSetView) (readers : List PidSetView) (before after : Bool) (k : ℕ) (d : Console)
+    → IsMachine s pids places asked losing (record { readers = readers; stale = before }) → CanPut s asked.pids readers k d → (after ≡ false → AreFresh (put s k d))
+    → IsMachine (put s k d) pids places asked losing (record { readers = readers; stale = after })
+machine_put s pids places asked losing readers before after k d h can fresh = record {
   sound = record {
     regular = regular_consoles s _ h.sound.regular can.apart;
     parents = h.sound.parents;
@@ -82,7 +82,6 @@ machine_put s pids places asked alarmed tick losing readers before after k d h c
     kept = h.sound.kept;
   };
   listed = listed_put s asked k d h.listed can;
-  timed = h.timed;
   noted = h.noted;
   fresh = fresh;
 }

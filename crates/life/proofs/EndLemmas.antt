@@ -5,13 +5,14 @@ use Rattle.std.proofs.lemmas.Bool.{eq-eqb, ne_eqb}
 use Rattle.posix.specs.declared.process.PendingSignal.{PendingSignal}
 use Rattle.posix.specs.Processes.{Process, is_zombie}
 use Rattle.posix.specs.Tables.{lookup, at, changed, removed, reparented, adopted}
-use Rattle.posix.specs.States.{State, process, change, without}
+use Rattle.posix.specs.States.{State, process, change, lose_place, without}
+use Rattle.posix.specs.Regular.{IsRegular}
 use Rattle.posix.specs.Generation.{signalled}
-use Rattle.posix.specs.Ends.{made_zombie, depart, drops_children, is_dropping, drop_child, notice_of_end, status_of, zombies_of, tell_of_all, rouse_orphans, end_with_heir}
+use Rattle.posix.specs.Ends.{made_zombie, ended, depart, drops_children, is_dropping, drop_child, notice_of_end, status_of, zombies_of, tell_of_all, rouse_orphans, end_with_heir}
 use Rattle.posix.specs.Notices.{child_signal, ignores_children, noticed}
 use Rattle.posix.proofs.TableLemmas.{pid_looked, pid_reparented, lookup_changed}
 use Rattle.posix.proofs.MapLemmas.{at_pid, lookup_map, lookup_on, some_map, removed_map, changed_changed, adopted_changed}
-use Rattle.posix.proofs.RegularLemmas.{keeps_noticed}
+use Rattle.posix.proofs.RegularLemmas.{keeps_noticed, regular_leave}
 
 -- a notice and an adoption of one record may come in either order
 noticed_reparented : (signal : PendingSignal) (p q : ℕ) (r : Process) → noticed signal (reparented p q r) ≡ reparented p q (noticed signal r)
@@ -123,3 +124,8 @@ zombie_after s p heir w me e =
       lookup_on (reparented p heir) (pid_reparented p heir) p (map (at p (made_zombie w)) s.processes) (made_zombie w me) here,
       elim (me.parent == p) as (λ b. is_zombie (cond b (record (made_zombie w me) { parent = heir }) (made_zombie w me)).life ≡ true) [ true ↦ refl | false ↦ refl ],
     )
+
+-- process 1 may end once it has lost its place
+pub regular_ended : (w : ℕ) (s : State) → IsRegular s → IsRegular (change (lose_place s 1) 1 (ended w))
+unfolding ended
+regular_ended w s i = regular_leave 1 (ended w) (λ r. refl) (λ r. refl) (λ r. refl) (λ r. refl) s (λ r h. h) i (λ ne. absurd (ne refl))

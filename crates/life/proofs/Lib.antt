@@ -1,7 +1,7 @@
 pub mod SoundLemmas
 pub mod ReaderLemmas
-pub mod TimedLemmas
-pub mod StopLemmas
+pub mod FunnelLemmas
+pub mod RingLemmas
 pub mod EndLemmas
 pub mod NoticeWalkLemmas
 pub mod ParentLemmas

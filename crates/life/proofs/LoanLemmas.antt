@@ -9,8 +9,8 @@ use Rattle.posix.specs.Execute.{StaysUnlessRun}
 use Rattle.posix.specs.Step.{set_cpu}
 use Rattle.posix.specs.States.{State, process, change}
 use Rattle.posix.specs.Regular.{IsRegular}
-use Rattle.posix.proofs.RegularLemmas.{Keeps}
-use Rattle.posix.proofs.TouchLemmas.{Unseen, touches_unseen}
+use Rattle.posix.proofs.RegularLemmas.{Keeps, regular_change}
+use Rattle.posix.proofs.TouchLemmas.{Unseen}
 use Rattle.pidalloc.specs.Rows.{Pids}
 use Rattle.sched.specs.Places.{Places}
 use Rattle.pidset.specs.Numbers.{PidSetView}
@@ -19,10 +19,7 @@ use Rattle.proctable.specs.Body.{own_of, give_own}
 use Rattle.jobs.proofs.LoanLemmas.{own_found, read_at, written_at}
 use Rattle.life.specs.Machines.{IsMachine, Terminals}
 use Rattle.life.specs.Asking.{asking}
-use Rattle.life.proofs.SoundLemmas.{sound_change}
-use Rattle.life.proofs.AskLemmas.{listed_change}
-use Rattle.life.proofs.TimedLemmas.{timed_change, untimed_give_own}
-use Rattle.posix.proofs.FreshLemmas.{fresh_changed}
+use Rattle.life.proofs.FunnelLemmas.{machine_unseen}
 
 -- it is nothing that the shape of a machine depends on
 pub keeps_give_own : {now : ℕ} (o : Own) → Keeps now (give_own o)
@@ -71,13 +68,8 @@ cpu_stays (trap.Fault sig) rs up p o c h stays = ap (λ x. changed p (give_own (
 -- ---- a machine
 
 -- whatever was written through a loan, the machine keeps
-pub machine_lent : {losing : PidSetView} {terminals : Terminals} (s : State) (pids : Pids) (places : Places) (asked after : PidSetView) (alarmed : PidSetView) (tick p : ℕ) (w : Own)
-    → IsSome (process s p) → IsMachine s pids places asked alarmed tick losing terminals → after.pids ≡ asking p s.order asked.pids → after.room ≡ asked.room
-    → IsMachine (change s p (give_own w)) pids places after alarmed tick losing terminals
-machine_lent s pids places asked after alarmed tick p w here i put room = record {
-  sound = sound_change p (give_own w) s (keeps_give_own w) pids places i.sound;
-  listed = listed_change s p (give_own w) asked after i.listed (unseen_give_own w).pid (touches_unseen s p (give_own w) (unseen_give_own w)) here put room;
-  timed = timed_change s.world.pidmax p (give_own w) (untimed_give_own w) s.processes alarmed tick here i.timed;
-  noted = i.noted;
-  fresh = λ e. fresh_changed p (give_own w) (λ r. refl) (λ r. refl) s.processes s.consoles (i.fresh e);
-}
+pub machine_lent : {losing : PidSetView} {terminals : Terminals} (s : State) (pids : Pids) (places : Places) (asked after : PidSetView) (p : ℕ) (w : Own)
+    → IsSome (process s p) → IsMachine s pids places asked losing terminals → after.pids ≡ asking p s.order asked.pids → after.room ≡ asked.room
+    → IsMachine (change s p (give_own w)) pids places after losing terminals
+machine_lent s pids places asked after p w here i put room =
+    machine_unseen s pids places asked after p (give_own w) (unseen_give_own w) (λ r. refl) (regular_change p (give_own w) s (keeps_give_own w) i.sound.regular) here i put room

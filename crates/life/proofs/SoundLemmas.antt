@@ -8,9 +8,9 @@ use Rattle.posix.specs.Consoles.{Console, unused_console}
 use Rattle.posix.specs.States.{World, State, boot, process, next_pid}
 use Rattle.posix.specs.NextPid.{is_free, next_free}
 use Rattle.posix.specs.Regular.{IsRegular, IsPlaced, CanInherit}
-use Rattle.posix.specs.Ends.{made_zombie, ended}
+use Rattle.posix.specs.Ends.{made_zombie}
 use Rattle.posix.proofs.NextLemmas.{IsNew, new_number}
-use Rattle.posix.proofs.RegularLemmas.{Keeps, keeps_at, regular_as, regular_map, regular_inserted, regular_first}
+use Rattle.posix.proofs.RegularLemmas.{regular_as, regular_inserted, regular_first}
 use Rattle.posix.proofs.MapLemmas.{at_pid, some_map, children_map}
 use Rattle.posix.proofs.WalkLemmas.{all_looked}
 use Rattle.pidalloc.specs.Rows.{Pids, IsPids, is_free_in, unborne_table, born_in}
@@ -50,20 +50,6 @@ kept_map g kp kg ks m rs p a b e k = record {
 pub kept_order : (m : ℕ) (rs : List Process) (p : Pids) (a b : Places) → a.room ≤ b.room → IsKept m rs p a → IsKept m rs p b
 kept_order m rs p a b e k = record { greatest = k.greatest; table = k.table; tallied = k.tallied; room = let r = k.room in omega (arith, r, e) }
 
--- a change of each record that keeps its numbers, its life and its parent
-pub sound_map : (g : Process → Process) (s : State) → Keeps s.ticks g → (pids : Pids) (places : Places) → IsSound s pids places → IsSound (record s { processes = map g s.processes }) pids places
-sound_map g s k pids places i = record {
-  regular = regular_map g s k i.regular;
-  parents = parents_map g k.pid k.parent s.processes i.parents;
-  counted = let c = i.counted in let same = length-map s.processes g in omega (arith, c, same);
-  kept = kept_map g k.pid k.group k.session s.world.pidmax s.processes pids places places (omega arith) i.kept;
-}
-
--- and of one record
-pub sound_change : (p : ℕ) (f : Process → Process) (s : State) → Keeps s.ticks f → (pids : Pids) (places : Places) → IsSound s pids places → IsSound (record s { processes = changed p f s.processes }) pids places
-unfolding changed
-sound_change p f s k pids places i = sound_map (at p f) s (keeps_at p f k) pids places i
-
 -- ---- ends
 
 -- as many processes are there
@@ -71,21 +57,12 @@ pub length_departed : (p heir w : ℕ) (rs : List Process) → length (adopted p
 unfolding changed adopted
 length_departed p heir w rs = length-map (map (at p (made_zombie w)) rs) (reparented p heir) ∙ length-map rs (at p (made_zombie w))
 
-pub length_halted : (w : ℕ) (rs : List Process) → length (changed 1 (ended w) rs) ≡ length rs
-unfolding changed
-length_halted w rs = length-map rs (at 1 (ended w))
-
 -- no number changes at an end
 pub kept_departed : (p heir w m : ℕ) (rs : List Process) (pids : Pids) (a b : Places) → a.room ≤ b.room → IsKept m rs pids a → IsKept m (adopted p heir (changed p (made_zombie w) rs)) pids b
 unfolding changed adopted made_zombie
 kept_departed p heir w m rs pids a b e k =
     kept_map (reparented p heir) (λ r. grind arith) (λ r. grind arith) (λ r. grind arith) m _ pids a b e
     (kept_map (at p (made_zombie w)) (λ r. grind arith) (λ r. grind arith) (λ r. grind arith) m rs pids a a (omega arith) k)
-
--- nor at the end of process 1
-pub kept_halted : (w m : ℕ) (rs : List Process) (pids : Pids) (a b : Places) → a.room ≤ b.room → IsKept m rs pids a → IsKept m (changed 1 (ended w) rs) pids b
-unfolding changed ended
-kept_halted w m rs pids a b e k = kept_map (at 1 (ended w)) (λ r. grind arith) (λ r. grind arith) (λ r. grind arith) m rs pids a b e k
 
 -- who is there is still there where a process was made a zombie
 pub there_made_zombie : (p w q : ℕ) (rs : List Process) → IsSome (lookup q rs) → IsSome (lookup q (changed p (made_zombie w) rs))
@@ -102,11 +79,6 @@ pub parents_departed : (p heir w : ℕ) (rs : List Process) → IsSome (lookup h
 unfolding changed made_zombie
 parents_departed p heir w rs there h =
     parents_adopted p heir (map (at p (made_zombie w)) rs) (there_made_zombie p w heir rs there) (parents_map (at p (made_zombie w)) (at_pid p (made_zombie w) (λ r. refl)) (λ r. grind arith) rs h)
-
--- and at the end of process 1
-pub parents_halted : (w : ℕ) (rs : List Process) → HaveParents rs → HaveParents (changed 1 (ended w) rs)
-unfolding changed ended
-parents_halted w rs h = parents_map (at 1 (ended w)) (λ r. grind arith) (λ r. grind arith) rs h
 
 -- ---- numbers
 

@@ -6,3 +6,4 @@ pub mod Asking
 pub mod Waits
 pub mod Consoles
 pub mod NotedBursts
+pub mod Changes

@@ -1,6 +1,6 @@
 -- The parts of a machine as a state, and what holds of them.
-use Rattle.std.specs.Prelude.{◌≡◌, ◌≢◌, ℕ, ◌+◌, ◌<◌, ◌≤◌, Bool, true, false, List, [], length, slice_get, is_some, Some, None, IsSome, IfSome}
-use Rattle.posix.specs.Processes.{Process, is_zombie}
+use Rattle.std.specs.Prelude.{◌≡◌, ◌≢◌, ℕ, ◌+◌, ◌<◌, ◌≤◌, Bool, true, false, List, [], length, slice_get, Some, IsSome}
+use Rattle.posix.specs.Processes.{Process}
 use Rattle.posix.specs.Tables.{lookup, children_in}
 use Rattle.posix.specs.States.{World, State, boot, process, is_in}
 use Rattle.posix.specs.Regular.{IsRegular}
@@ -79,20 +79,6 @@ pub record IsListed (s : State) (asked : PidSetView) (readers : List PidSetView)
   pub room : s.world.pidmax < asked.room
   pub watched : IsWatched s asked.pids readers
 
--- It is known of a process whether it has an alarm; that isn't due before this tick, and a zombie other than
--- process 1 has none.
-pub record IsClocked (alarmed : List ℕ) (tick p : ℕ) (r : Process) : Type 0 where
-  pub known : is_in p alarmed ≡ is_some r.alarm
-  pub later : IfSome r.alarm (λ due. tick ≤ due)
-  pub dead : p ≢ 1 → is_zombie r.life ≡ true → r.alarm ≡ None
-
--- It is known which processes have an alarm, and a tick before which none is due; there is room for all numbers.
-pub record IsTimed (pidmax : ℕ) (rs : List Process) (alarmed : PidSetView) (tick : ℕ) : Type 0 where
-  pub each : (p : ℕ) (r : Process) → lookup p rs ≡ Some r → IsClocked alarmed.pids tick p r
-  pub there : (p : ℕ) → is_in p alarmed.pids ≡ true → IsSome (lookup p rs)
-  pub rising : Rises alarmed.pids
-  pub room : pidmax < alarmed.room
-
 -- Groups are noted in rising order, and there is room for all numbers, 0 too.
 pub record IsNoted (pidmax : ℕ) (losing : PidSetView) : Type 0 where
   pub rising : Rises losing.pids
@@ -106,10 +92,9 @@ pub record Terminals : Type 0 where
   pub stale : Bool
 
 -- what the type of a machine keeps
-pub record IsMachine (s : State) (pids : Pids) (places : Places) (asked : PidSetView) (alarmed : PidSetView) (tick : ℕ) (losing : PidSetView) (terminals : Terminals) : Type 0 where
+pub record IsMachine (s : State) (pids : Pids) (places : Places) (asked losing : PidSetView) (terminals : Terminals) : Type 0 where
   pub sound : IsSound s pids places
   pub listed : IsListed s asked terminals.readers
-  pub timed : IsTimed s.world.pidmax s.processes alarmed tick
   pub noted : IsNoted s.world.pidmax losing
   pub fresh : terminals.stale ≡ false → AreFresh s
 
@@ -133,8 +118,3 @@ pub record IsGone (old new : Pids) (pid : ℕ) (it : Process) : Type 0 where
   pub greatest : new.pidmax ≡ old.pidmax
   pub last : new.last ≡ old.last
   pub table : IsPids new
-
--- and where it goes by a notice of its end, or stays
-abbrev pub IsCounted : Bool → Pids → Pids → ℕ → ℕ → ℕ → Process → Type 0
-IsCounted true old new dropped now pid it = IsGone old new pid it × (now ≡ dropped + 1)
-IsCounted false old new dropped now pid it = (new ≡ old) × (now ≡ dropped)

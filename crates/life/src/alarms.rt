@@ -1,17 +1,14 @@
 //! Alarms, and the time (XSH alarm).
 
-ghost use Rattle.std.specs.Prelude.{◌≡◌, ◌+◌, ◌<◌, ◌≤◌, ◌^◌, IsSome, IfSome, Some, None, false, is_some, if◌then◌else◌, length};
+ghost use Rattle.std.specs.Prelude.{◌≡◌, ◌+◌, ◌<◌, ◌≤◌, ◌^◌, IsSome, Some, None, false};
 ghost use Rattle.posix.specs.Processes.{Process};
-ghost use Rattle.posix.specs.States.{process, change, without};
+ghost use Rattle.posix.specs.States.{process, change};
 ghost use Rattle.posix.specs.Tables.{IsNext};
 ghost use Rattle.posix.specs.Regular.{IsPlaced, IsRegular, IsAhead};
-ghost use Rattle.posix.specs.Alarms.{most_ticks, ticks_left as ticks_left_of, due_in as due_in_ticks, with_alarm, ring_at, ring_all, has_alarms, pass_time as passing_time};
-ghost use Rattle.pidset.specs.Numbers.{with_number};
+ghost use Rattle.posix.specs.Alarms.{most_ticks, ticks_left as ticks_left_of, due_in as due_in_ticks, with_alarm, is_due, ring_at, ring_all, has_alarms, pass_time as passing_time};
 ghost use Rattle.life.specs.Asking.{asking};
 
-use crate::asking::ask;
 use crate::machine::Machine;
-use pidset::PidSet;
 use posix::Pid;
 use proctable::Kin;
 
@@ -29,27 +26,24 @@ impl<K: Kin> Machine<K> {
         ensures asked { self.new.asked ≡ asking pid self.old.state.order self.old.asked }
     {
         let due = due_in(self.ticks, ticks);
-        ask(&mut self.to_ask, &self.order, pid);
-        let before = self.table.set_alarm(pid, due);
-        let left = ticks_left(self.ticks, before);
-        note_alarm(&mut self.alarmed, &mut self.next_alarm, pid, due);
-        left
+        let before = self.change(pid, |body| {
+            let before = body.alarm;
+            body.set_alarm(due);
+            before
+        });
+        ticks_left(self.ticks, before)
     }
 
-    /// The alarm of a process that is there rings if it is due at the next tick. The tick at which it is due
-    /// where it is still set.
-    fn ring(&mut self, pid: Pid) -> Option<u64>
+    /// The alarm of a process that is there rings if it is due at the next tick.
+    fn ring(&mut self, pid: Pid)
         requires there { IsSome (process self.old.state pid) }
         requires time { self.old.state.ticks + 1 < 2 ^ 64 }
-        ensures due { (me : Process) → process self.old.state pid ≡ Some me → result ≡ (ring_at (self.old.state.ticks + 1) me).alarm }
         ensures state { self.new.state ≡ change self.old.state pid (ring_at (self.old.state.ticks + 1)) }
         ensures asked { self.new.asked ≡ asking pid self.old.state.order self.old.asked }
         ensures reads { self.new.reads ≤ self.old.reads + 1 }
     {
-        ask(&mut self.to_ask, &self.order, pid);
-        let due = self.table.ring_at(pid, self.ticks + 1);
-        note_alarm(&mut self.alarmed, &mut self.next_alarm, pid, due);
-        due
+        let now = self.ticks + 1;
+        self.change(pid, |body| body.ring_at(pid, now));
     }
 
     /// Each alarm that is due at the next tick rings.
@@ -59,26 +53,21 @@ impl<K: Kin> Machine<K> {
         ensures quiet { has_alarms self.old.state ≡ false → self.new ≡ self.old }
         ensures regular { IsRegular self.old.state }
     {
-        if self.next_alarm > self.ticks + 1 {
-            return;
-        }
-        let mut least = u64::MAX;
-        let mut next = self.next_alarmed(Pid::NONE);
+        let mut next = self.next_due(Pid::NONE);
         while let Some(pid) = next {
-            let due = self.ring(pid);
-            least = least.min(due.unwrap_or(u64::MAX));
-            next = self.next_alarmed(pid);
+            self.ring(pid);
+            next = self.next_due(pid);
         }
-        self.next_alarm = least;
     }
 
-    /// The process with an alarm that has the least number above `after`.
-    fn next_alarmed(&self, after: Pid) -> Option<Pid>
-        ensures next { IsNext (λ r. is_some r.alarm) after self.now.state.processes result }
+    /// The process whose alarm is due at the next tick that has the least number above `after`.
+    fn next_due(&self, after: Pid) -> Option<Pid>
+        requires { self.now.state.ticks + 1 < 2 ^ 64 }
+        ensures next { IsNext (λ r. is_due (self.now.state.ticks + 1) r.alarm) after self.now.state.processes result }
         ensures quiet { has_alarms self.now.state ≡ false → result ≡ None }
         ensures regular { IsRegular self.now.state }
     {
-        self.alarmed.next_above(after)
+        self.table.next_due(self.ticks + 1, after)
     }
 
     /// The time goes on by one tick: each alarm that is due rings. Where no process has an alarm, no slot is
@@ -112,22 +101,5 @@ fn ticks_left(now: u64, alarm: Option<u64>) -> u64
     match alarm {
         Some(due) => due - now,
         None => 0,
-    }
-}
-
-/// The alarm of a process is set to a tick, or cleared.
-fn note_alarm(alarmed: &mut PidSet, next_alarm: &mut u64, pid: Pid, due: Option<u64>)
-    requires { length alarmed.old.pids < alarmed.old.room }
-    ensures pids { alarmed.new.pids ≡ (if is_some due then with_number pid alarmed.old.pids else without pid alarmed.old.pids) }
-    ensures room { alarmed.new.room ≡ alarmed.old.room }
-    ensures earlier { next_alarm.new ≤ next_alarm.old }
-    ensures before { IfSome due (λ due. next_alarm.new ≤ due) }
-{
-    match due {
-        Some(due) => {
-            alarmed.insert(pid);
-            *next_alarm = (*next_alarm).min(due);
-        }
-        None => alarmed.remove(pid),
     }
 }

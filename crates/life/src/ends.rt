@@ -1,22 +1,17 @@
 //! Ends.
 
-ghost use Rattle.std.specs.Prelude.{◌≡◌, ◌≢◌, ℕ, ◌≤◌, ◌<◌, ◌+◌, ◌*◌, ◌^◌, length, IsSome, Some, None, true, false, if◌then◌else◌};
+ghost use Rattle.std.specs.Prelude.{◌≡◌, ◌≢◌, ℕ, ◌≤◌, ◌+◌, ◌*◌, length, IsSome, Some, true, false};
 ghost use Rattle.posix.specs.Processes.{Process, is_zombie};
-ghost use Rattle.posix.specs.Tables.{lookup, changed, removed, children_in};
+ghost use Rattle.posix.specs.Tables.{children_in};
 ghost use Rattle.posix.specs.Groups.{some_stopped};
 ghost use Rattle.posix.specs.Regular.{CanInherit, IsRegular};
 ghost use Rattle.posix.specs.States.{process};
-ghost use Rattle.posix.specs.Ends.{depart as departing, halt as halting, end_with_heir, notice_of_end as noticing_end, tell_of_all, zombies_of, is_dropping};
-ghost use Rattle.posix.specs.Notices.{child_signal as child_signal_of, noticed};
-ghost use Rattle.life.specs.Machines.{CanGo, IsGone, IsCounted};
-ghost use Rattle.life.specs.Asking.{without_gone};
+ghost use Rattle.posix.specs.Ends.{depart as departing, halt as halting, end_with_heir, notice_of_end as noticing_end, drop_child as dropping_child, tell_of_all, zombies_of};
+ghost use Rattle.posix.specs.Notices.{child_signal as child_signal_of};
 ghost use Rattle.pidset.specs.Numbers.{with_number};
 
-use crate::asking::forget;
 use crate::machine::Machine;
-use crate::waits::discard;
-use jobs::JobTable;
-use pidalloc::PidTable;
+use jobs::Change;
 use posix::{Carried, Life, PendingSignal, Pid, Sig, Status};
 use proctable::Kin;
 
@@ -58,9 +53,8 @@ impl<K: Kin> Machine<K> {
     {
         self.to_ask.insert(pid);
         self.to_ask.insert(heir);
-        let parent = self.table.make_zombie(pid, status);
+        let Change { parent, .. } = self.table.change_seen(pid, |body| body.make_zombie(status));
         self.to_ask.insert(parent);
-        self.alarmed.remove(pid);
         self.table.adopt(pid, heir);
         self.order.drop_place(pid);
         self.stale = true;
@@ -104,9 +98,8 @@ impl<K: Kin> Machine<K> {
         ensures reads { self.new.reads ≤ self.old.reads + 2 }
         ensures asked { self.new.asked ≡ with_number 1 self.old.asked }
     {
-        self.to_ask.insert(Pid::INIT);
-        self.table.end(Pid::INIT, status);
-        self.order.drop_place(Pid::INIT);
+        self.lose_place(Pid::INIT);
+        self.change_seen(Pid::INIT, |body| body.end(status));
         self.halted = true;
     }
 
@@ -119,19 +112,28 @@ impl<K: Kin> Machine<K> {
         ensures state { self.new.state ≡ noticing_end self.old.state parent child status }
         ensures reads { self.new.reads ≤ self.old.reads + 6 }
         ensures losing { self.new.losing ≡ self.old.losing }
-        ensures asked { (it : Process) → process self.old.state child ≡ Some it → self.new.asked ≡ without_gone child (if is_dropping parent self.old.state.processes then Some it.parent else None) (with_number parent self.old.asked) }
     {
-        self.to_ask.insert(parent);
-        let gone = notify_of_end(
-            &mut self.table,
-            &mut self.pids,
-            &mut self.dropped,
-            parent,
-            child,
-            status,
-        );
-        forget(&mut self.to_ask, child, gone);
-        self.stale = true;
+        let signal = child_signal(child, status);
+        let drops = self.change(parent, |body| {
+            let drops = body.own.signals.drops_children();
+            body.notice(parent, signal);
+            drops
+        });
+        if drops {
+            self.drop_child(child);
+        }
+    }
+
+    /// A zombie that isn't process 1 is dropped: its record goes without a report, and it is counted.
+    fn drop_child(&mut self, child: Pid)
+        requires other { child ≢ 1 }
+        requires zombie { (it : Process) × (process self.old.state child ≡ Some it) × (is_zombie it.life ≡ true) }
+        ensures state { self.new.state ≡ dropping_child self.old.state child }
+        ensures reads { self.new.reads ≤ self.old.reads + 5 }
+        ensures losing { self.new.losing ≡ self.old.losing }
+    {
+        self.reap(child);
+        self.dropped += 1;
     }
 
     /// A process that is there ends with this status. At the end of process 1 the machine halts. Any other
@@ -153,52 +155,6 @@ impl<K: Kin> Machine<K> {
             self.notice_of_end(parent, pid, status);
         }
     }
-}
-
-/// The parent gets notice that a child ended with this status, and the child is dropped where the parent
-/// drops its children (XSH _exit), in the parts of a machine. The parent in the child's record where it went.
-fn notify_of_end<K: Kin>(
-    table: &mut JobTable<K>,
-    pids: &mut PidTable,
-    dropped: &mut u64,
-    parent: Pid,
-    child: Pid,
-    status: Status,
-) -> Option<Pid>
-    requires parent { IsSome (lookup parent table.old.processes) }
-    requires child { CanGo table.old.processes pids.old child }
-    requires count { dropped.old + 1 < 2 ^ 64 }
-    ensures gone { (it : Process) → lookup child table.old.processes ≡ Some it → result ≡ (if is_dropping parent table.old.processes then Some it.parent else None) }
-    ensures processes { table.new.processes ≡ (let told = changed parent (noticed (child_signal_of child status)) table.old.processes in if is_dropping parent table.old.processes then removed child told else told) }
-    ensures counts { (it : Process) → lookup child table.old.processes ≡ Some it → IsCounted (is_dropping parent table.old.processes) pids.old pids.new dropped.old dropped.new child it }
-    ensures reads { table.new.reads ≤ table.old.reads + 6 }
-{
-    let drops = table.notice(parent, child_signal(child, status));
-    if drops {
-        Some(drop_child(table, pids, dropped, child))
-    } else {
-        None
-    }
-}
-
-/// A child is dropped: its record goes without a report, and it is counted. Its parent.
-fn drop_child<K: Kin>(
-    table: &mut JobTable<K>,
-    pids: &mut PidTable,
-    dropped: &mut u64,
-    child: Pid,
-) -> Pid
-    requires child { CanGo table.old.processes pids.old child }
-    requires count { dropped.old + 1 < 2 ^ 64 }
-    ensures parent { (it : Process) → lookup child table.old.processes ≡ Some it → result ≡ it.parent }
-    ensures processes { table.new.processes ≡ removed child table.old.processes }
-    ensures counts { (it : Process) → lookup child table.old.processes ≡ Some it → IsGone pids.old pids.new child it }
-    ensures dropped { dropped.new ≡ dropped.old + 1 }
-    ensures reads { table.new.reads ≤ table.old.reads + 5 }
-{
-    let parent = discard(table, pids, child);
-    *dropped += 1;
-    parent
 }
 
 /// Notice that a child ended, was stopped or was continued, as a signal (XSH _exit, sigaction).

@@ -9,6 +9,7 @@ mod asking;
 mod births;
 pub mod caller;
 pub mod census;
+mod changes;
 pub mod consoles;
 mod ends;
 mod groups;

@@ -37,10 +37,6 @@ pub struct Machine<K: Kin> {
     pub(crate) order: Order,
     /// Those who are to be asked whether they can act. Whoever has to be given a place is among them.
     pub(crate) to_ask: PidSet,
-    /// The processes that have an alarm.
-    pub(crate) alarmed: PidSet,
-    /// A tick before which no alarm is due.
-    pub(crate) next_alarm: u64,
     /// While a process ends: the process groups that it and its children kept from being orphaned.
     pub(crate) losing: PidSet,
     pub(crate) consoles: Vec<Console>,
@@ -62,7 +58,7 @@ impl<K: Kin> Model for Machine<K> {
 
     ghost view = { λ m. record { state = state_of m.world (m.table.processes) m.consoles.items m.pids m.order m.births m.ticks m.dropped m.halted; reads = m.table.reads; asked = m.to_ask.pids; losing = m.losing.pids; stale = m.stale; readers = m.readers.items } };
 
-    ghost invariant = { λ m. IsMachine (state_of m.world (m.table.processes) m.consoles.items m.pids m.order m.births m.ticks m.dropped m.halted) m.pids m.order m.to_ask m.alarmed m.next_alarm m.losing (record { readers = m.readers.items; stale = m.stale }) };
+    ghost invariant = { λ m. IsMachine (state_of m.world (m.table.processes) m.consoles.items m.pids m.order m.births m.ticks m.dropped m.halted) m.pids m.order m.to_ask m.losing (record { readers = m.readers.items; stale = m.stale }) };
 }
 
 impl<K: Kin> Machine<K> {
@@ -81,8 +77,6 @@ impl<K: Kin> Machine<K> {
         let mut order = Order::new(alloc, world.pidmax())?;
         let mut to_ask = PidSet::new(alloc);
         to_ask.reserve(world.pidmax() as usize + 1)?;
-        let mut alarmed = PidSet::new(alloc);
-        alarmed.reserve(world.pidmax() as usize + 1)?;
         let mut losing = PidSet::new(alloc);
         losing.reserve(world.pidmax() as usize + 2)?;
         let consoles = unused(alloc, world.consoles())?;
@@ -97,8 +91,6 @@ impl<K: Kin> Machine<K> {
             pids,
             order,
             to_ask,
-            alarmed,
-            next_alarm: u64::MAX,
             losing,
             consoles,
             readers,
@@ -294,6 +286,8 @@ impl<K: Kin> Machine<K> {
         ensures state { self.new.state ≡ losing_place self.old.state pid }
         ensures reads { self.new.reads ≡ self.old.reads }
         ensures asked { self.new.asked ≡ (if has_place_in self.old.state pid then with_number pid self.old.asked else self.old.asked) }
+        ensures losing { self.new.losing ≡ self.old.losing }
+        ensures regular { IsRegular self.old.state }
         ensures stale { self.new.stale ≡ self.old.stale }
     {
         if self.order.has(pid) {

@@ -1,19 +1,16 @@
 //! Moves from one process group to another, and new sessions (XSH setpgid, setsid).
 
-ghost use Rattle.std.specs.Prelude.{◌≡◌, ◌==◌, ◌||◌, ◌+◌, ◌*◌, ◌≤◌, ◌<◌, length, Some, Ok, Err, true, false, IfOk, OnErr, OnOk};
+ghost use Rattle.std.specs.Prelude.{◌≡◌, ◌==◌, ◌||◌, ◌+◌, ◌*◌, ◌≤◌, length, Some, Ok, Err, true, false, IfOk, OnErr, OnOk};
 ghost use Rattle.posix.specs.declared.errno.Errno.TheVariants.{EPERM};
 ghost use Rattle.posix.specs.Processes.{Process};
 ghost use Rattle.posix.specs.States.{process, change};
 ghost use Rattle.posix.specs.Regular.{IsPlaced};
 ghost use Rattle.posix.specs.GroupCalls.{named as named_by, move_to, in_group, in_session, is_group_of_others};
 ghost use Rattle.life.specs.Callers.{caller_of};
-ghost use Rattle.life.specs.Asking.{asking_changed, with_parent};
-ghost use Rattle.pidset.specs.Numbers.{with_number};
+ghost use Rattle.life.specs.Asking.{asking_changed};
 
 use crate::caller::Caller;
 use crate::machine::Machine;
-use pidalloc::Role;
-use pidset::PidSet;
 use posix::{Errno, Pid};
 use proctable::Kin;
 
@@ -33,12 +30,9 @@ impl<K: Kin> Machine<K> {
         ensures reads { self.new.reads ≤ self.old.reads + 6 + 2 * length self.old.state.processes }
     {
         let target = self.named(me.pid, me.r1);
-        let group = self.table.move_group(me.pid, me.r1, me.r2)?;
+        let group = self.table.group_to_join(me.pid, me.r1, me.r2)?;
         let Some(it) = target else { unreachable!() };
-        self.pids.bear(group, Role::Group);
-        self.pids.give_up(it.group, Role::Group);
-        ask_with_parent(&mut self.to_ask, it.pid, it.parent);
-        self.stale = true;
+        self.change_seen(it.pid, |body| body.group = group);
         Ok(group)
     }
 
@@ -53,29 +47,11 @@ impl<K: Kin> Machine<K> {
         ensures asked_at_error { OnErr result (self.new.asked ≡ self.old.asked) }
         ensures reads { self.new.reads ≤ self.old.reads + 8 + 4 * length self.old.state.processes }
     {
-        let Some(it) = self.table.get(pid) else {
-            unreachable!()
-        };
-        self.table.new_session(pid)?;
-        self.pids.bear(pid, Role::Group);
-        self.pids.bear(pid, Role::Session);
-        self.pids.give_up(it.group, Role::Group);
-        self.pids.give_up(it.session, Role::Session);
-        ask_with_parent(&mut self.to_ask, pid, it.parent);
-        self.stale = true;
+        self.table.can_lead(pid)?;
+        self.change_seen(pid, |body| {
+            body.session = pid;
+            body.group = pid;
+        });
         Ok(())
-    }
-}
-
-/// A process is to be asked, and so is its parent. Number 0 is nobody's.
-fn ask_with_parent(to_ask: &mut PidSet, pid: Pid, parent: Pid)
-    requires few { length to_ask.old.pids < to_ask.old.room }
-    requires fits { length (with_number pid to_ask.old.pids) < to_ask.old.room }
-    ensures pids { to_ask.new.pids ≡ with_parent parent (with_number pid to_ask.old.pids) }
-    ensures room { to_ask.new.room ≡ to_ask.old.room }
-{
-    to_ask.insert(pid);
-    if parent != Pid::NONE {
-        to_ask.insert(parent);
     }
 }

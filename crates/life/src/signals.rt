@@ -5,7 +5,6 @@ ghost use Rattle.posix.specs.States.{process};
 ghost use Rattle.posix.specs.Notices.{generated_for};
 ghost use Rattle.life.specs.Asking.{asking_generated, slots_of_signal};
 
-use crate::asking::ask;
 use crate::machine::Machine;
 use posix::{Effect, PendingSignal, Pid};
 use proctable::Kin;
@@ -20,8 +19,7 @@ impl<K: Kin> Machine<K> {
         ensures asked { self.new.asked ≡ asking_generated signal (process self.old.state pid) self.old.state.order self.old.asked }
         ensures losing { self.new.losing ≡ self.old.losing }
     {
-        ask(&mut self.to_ask, &self.order, pid);
-        match self.table.signal(pid, signal) {
+        match self.change(pid, |body| body.signal(pid, signal)) {
             Effect::Nothing => {}
             Effect::Continued => self.continue_process(pid),
         }

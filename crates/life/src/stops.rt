@@ -1,19 +1,17 @@
 //! Stops and continuations.
 
-ghost use Rattle.std.specs.Prelude.{◌≡◌, ◌≢◌, ◌+◌, ◌<◌, ◌≤◌, length, None, Some, IsSome};
+ghost use Rattle.std.specs.Prelude.{◌≡◌, ◌≢◌, ◌+◌, ◌≤◌, ◌==◌, if◌then◌else◌, Some, IsSome};
 ghost use Rattle.posix.specs.Processes.{Process};
 ghost use Rattle.posix.specs.Statuses.{continued};
-ghost use Rattle.posix.specs.Tables.{lookup, changed};
-ghost use Rattle.posix.specs.States.{process};
+ghost use Rattle.posix.specs.Tables.{changed};
+ghost use Rattle.posix.specs.States.{process, change};
 ghost use Rattle.posix.specs.Regular.{IsPlaced};
 ghost use Rattle.posix.specs.Notices.{noticed_of_change, child_signal as child_signal_of, told_of_change, resumed};
 ghost use Rattle.posix.specs.Delivery.{stop_process as stopping};
-ghost use Rattle.life.specs.Asking.{asking_changed, with_parent};
+ghost use Rattle.life.specs.Asking.{asking, asking_changed};
 
 use crate::ends::child_signal;
 use crate::machine::Machine;
-use jobs::JobTable;
-use pidset::PidSet;
 use posix::{Pid, Sig, Status};
 use proctable::Kin;
 
@@ -26,16 +24,9 @@ impl<K: Kin> Machine<K> {
         ensures reads { self.new.reads ≤ self.old.reads + 3 }
         ensures asked { (me : Process) → process self.old.state pid ≡ Some me → self.new.asked ≡ asking_changed me self.old.asked }
     {
-        self.to_ask.insert(pid);
-        let parent = self.table.stop(pid, sig);
-        self.order.drop_place(pid);
-        tell_parent(
-            &mut self.table,
-            &mut self.to_ask,
-            pid,
-            parent,
-            Status::stopped(sig),
-        );
+        self.lose_place(pid);
+        let parent = self.change_seen(pid, |body| body.stop(sig));
+        self.tell_parent(pid, parent, Status::stopped(sig));
     }
 
     /// A process that is there and no zombie runs again: that it was continued is to be reported, and its
@@ -47,38 +38,21 @@ impl<K: Kin> Machine<K> {
         ensures asked { (me : Process) → process self.old.state pid ≡ Some me → self.new.asked ≡ asking_changed me self.old.asked }
         ensures losing { self.new.losing ≡ self.old.losing }
     {
-        self.to_ask.insert(pid);
-        let parent = self.table.resume(pid);
-        tell_parent(
-            &mut self.table,
-            &mut self.to_ask,
-            pid,
-            parent,
-            Status::continued(),
-        );
+        let parent = self.change_seen(pid, |body| body.resume());
+        self.tell_parent(pid, parent, Status::continued());
     }
-}
 
-/// The parent of a child that was stopped or continued gets notice of it by this status, and is to be asked,
-/// in the parts of a machine. Number 0 is nobody's.
-fn tell_parent<K: Kin>(
-    table: &mut JobTable<K>,
-    to_ask: &mut PidSet,
-    child: Pid,
-    parent: Pid,
-    status: Status,
-)
-    requires there { parent ≢ 0 → IsSome (lookup parent table.old.processes) }
-    requires none { parent ≡ 0 → lookup parent table.old.processes ≡ None }
-    requires few { length to_ask.old.pids < to_ask.old.room }
-    ensures processes { table.new.processes ≡ changed parent (noticed_of_change (child_signal_of child status)) table.old.processes }
-    ensures room { table.new.room ≡ table.old.room }
-    ensures reads { table.new.reads ≤ table.old.reads + 1 }
-    ensures pids { to_ask.new.pids ≡ with_parent parent to_ask.old.pids }
-    ensures fits { to_ask.new.room ≡ to_ask.old.room }
-{
-    if parent != Pid::NONE {
-        to_ask.insert(parent);
-        table.notice_of_change(parent, child_signal(child, status));
+    /// The parent of a child that was stopped or continued gets notice of it by this status. Number 0 is nobody's.
+    fn tell_parent(&mut self, child: Pid, parent: Pid, status: Status)
+        requires { parent ≢ 0 → IsSome (process self.old.state parent) }
+        ensures state { self.new.state ≡ (if parent == 0 then self.old.state else change self.old.state parent (noticed_of_change (child_signal_of child status))) }
+        ensures asked { self.new.asked ≡ (if parent == 0 then self.old.asked else asking parent self.old.state.order self.old.asked) }
+        ensures losing { self.new.losing ≡ self.old.losing }
+        ensures reads { self.new.reads ≤ self.old.reads + 1 }
+    {
+        if parent != Pid::NONE {
+            let signal = child_signal(child, status);
+            self.change(parent, |body| body.notice_of_change(parent, signal));
+        }
     }
 }

@@ -9,9 +9,9 @@ ghost use Rattle.posix.specs.Waits.{look as look_of, report, report_change as re
 ghost use Rattle.life.specs.Waits.{slots_of_wait};
 ghost use Rattle.proctable.specs.Body.{facts_of};
 ghost use Rattle.life.specs.Machines.{CanGo, IsGone};
-ghost use Rattle.life.specs.Asking.{asking, without_gone};
+ghost use Rattle.life.specs.Asking.{asking_changed, without_gone};
 
-use crate::asking::{ask, forget};
+use crate::asking::forget;
 use crate::caller::Caller;
 use crate::machine::Machine;
 use bitflags::Flags;
@@ -180,7 +180,9 @@ impl<K: Kin> Machine<K> {
         requires other { pid ≢ 1 }
         requires zombie { (child : Process) × (process self.old.state pid ≡ Some child) × (is_zombie child.life ≡ true) }
         ensures state { self.new.state ≡ record (self.old.state) { processes = removed pid self.old.state.processes } }
+        ensures born { self.new.state.dropped + length self.new.state.processes < self.new.state.births }
         ensures reads { self.new.reads ≤ self.old.reads + 5 }
+        ensures losing { self.new.losing ≡ self.old.losing }
         ensures asked { (child : Process) → process self.old.state pid ≡ Some child → self.new.asked ≡ without_gone pid (Some child.parent) self.old.asked }
     {
         let parent = discard(&mut self.table, &mut self.pids, pid);
@@ -193,9 +195,8 @@ impl<K: Kin> Machine<K> {
         requires { IsSome (process self.old.state pid) }
         ensures state { self.new.state ≡ change self.old.state pid news_told }
         ensures reads { self.new.reads ≤ self.old.reads + 2 }
-        ensures asked { self.new.asked ≡ asking pid self.old.state.order self.old.asked }
+        ensures asked { (child : Process) → process self.old.state pid ≡ Some child → self.new.asked ≡ asking_changed child self.old.asked }
     {
-        ask(&mut self.to_ask, &self.order, pid);
-        self.table.tell_news(pid);
+        self.change_seen(pid, |body| body.tell_news());
     }
 }

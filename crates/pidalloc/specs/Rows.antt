@@ -74,3 +74,7 @@ born_in p n group session = borne (borne (borne p n Process) group Group) sessio
 -- a process that had these numbers is gone
 unfoldable pub gone_from : Pids → ℕ → ℕ → ℕ → Pids
 gone_from p n group session = given_up (given_up (given_up p n Process) group Group) session Session
+
+-- a process that was in one group and session is in others
+unfoldable pub regrouped : Pids → ℕ → ℕ → ℕ → ℕ → Pids
+regrouped p group session to_group to_session = given_up (given_up (borne (borne p to_group Group) to_session Session) group Group) session Session

@@ -2,7 +2,7 @@
 
 ghost use Rattle.std.specs.Prelude.{◌≡◌, ◌+◌, ◌-◌, ◌<◌, ◌≤◌, IfOk};
 ghost use Rattle.posix.specs.NextPid.{next_free, first_free};
-ghost use Rattle.pidalloc.specs.Rows.{IsPids, unborne_table, row, is_free_in, count_of, borne, given_up, born_in, gone_from};
+ghost use Rattle.pidalloc.specs.Rows.{IsPids, unborne_table, row, is_free_in, count_of, borne, given_up, born_in, gone_from, regrouped};
 
 use crate::row::{Role, Row};
 use posix::Pid;
@@ -151,6 +151,29 @@ impl PidTable {
         ensures kept { IsPids self.new }
     {
         self.give_up(pid, Role::Process);
+        self.give_up(group, Role::Group);
+        self.give_up(session, Role::Session);
+    }
+
+    /// A process that was in one process group and session is in others: it bears their numbers, and gives up
+    /// the two that it bore. The number given last stays.
+    #[tactic(auto, unfolding(crate::specs::Rows::borne, crate::specs::Rows::given_up, crate::specs::Rows::regrouped))]
+    pub fn regroup(&mut self, group: Pid, session: Pid, to_group: Pid, to_session: Pid)
+        requires group_range { group ≤ self.old.pidmax }
+        requires session_range { session ≤ self.old.pidmax }
+        requires to_group_range { to_group ≤ self.old.pidmax }
+        requires to_session_range { to_session ≤ self.old.pidmax }
+        requires group_count { 1 ≤ (row self.old.rows group).group }
+        requires session_count { 1 ≤ (row self.old.rows session).session }
+        requires to_group_count { (row self.old.rows to_group).group < 4294967295 }
+        requires to_session_count { (row self.old.rows to_session).session < 4294967295 }
+        ensures value { self.new ≡ regrouped self.old group session to_group to_session }
+        ensures last { self.new.last ≡ self.old.last }
+        ensures pidmax { self.new.pidmax ≡ self.old.pidmax }
+        ensures kept { IsPids self.new }
+    {
+        self.bear(to_group, Role::Group);
+        self.bear(to_session, Role::Session);
         self.give_up(group, Role::Group);
         self.give_up(session, Role::Session);
     }

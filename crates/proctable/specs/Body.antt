@@ -66,6 +66,7 @@ facts_of r = record {
   chosen = chosen r.life r.signals;
   life = r.life;
   news = r.news;
+  alarm = r.alarm;
   ran_exec = r.ran_exec;
   blocked = r.blocked;
   program = r.program;

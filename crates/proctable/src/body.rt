@@ -82,6 +82,7 @@ impl Body {
             chosen: self.own.signals.choose(self.life),
             life: self.life,
             news: self.news,
+            alarm: self.alarm,
             ran_exec: self.own.ran_exec,
             blocked: self.own.blocked,
             program: self.own.program,

@@ -22,6 +22,8 @@ pub struct Facts {
     pub life: Life,
     /// What no wait has reported of it yet (XSH waitpid).
     pub news: News,
+    /// The tick at which its alarm is due (XSH alarm).
+    pub alarm: Option<u64>,
     /// Whether it has run exec since its birth (XSH setpgid).
     pub ran_exec: bool,
     /// The call that it waits in.

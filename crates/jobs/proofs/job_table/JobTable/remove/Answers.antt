@@ -2,7 +2,7 @@ use Rattle.std.proofs.Common.{◌∙◌, ap, sym, subst, Some}
 use Rattle.posix.specs.Tables.{removed}
 use Rattle.posix.proofs.TableLemmas.{remove_none}
 use Rattle.proctable.specs.declared.facts.Facts.{Facts}
-use Rattle.jobs.specs.Books.{CanMove}
+use Rattle.jobs.specs.Books.{CanMove, facts_seen}
 use Rattle.jobs.proofs.FactLemmas.{none_read, some_read, facts_are}
 use Rattle.jobs.proofs.BookLemmas.{can_move, sees}
 use Rattle.jobs.proofs.KeptLemmas.{some_there, kept_removed}
@@ -18,7 +18,7 @@ moved-requires-clause-can g c =
     let it = some_read _ c.in-Some.facts read in
     let facts = facts_are _ it.what c.in-Some.facts read it.found in
     let can = can_move c.args.pid _ _ rs c.self.inside.books c.get.ensures.rising c.self.invariant.books (sees c.args.pid it.what rs it.found) (λ none. let no = sym none ∙ it.found in absurd (cc)) in
-    rw c.of_facts.ensures (subst (λ (f : Facts). CanMove c.args.pid f.parent (Some (record { group = f.group; life = f.life; news = f.news })) c.self.inside.books) (sym facts) can)
+    rw c.of_facts.ensures (subst (λ (f : Facts). CanMove c.args.pid f.parent (Some (facts_seen f)) c.self.inside.books) (sym facts) can)
 
 pub overflow_sub-self : goal.overflow_sub-self
 overflow_sub-self g c =

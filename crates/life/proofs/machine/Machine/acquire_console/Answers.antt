@@ -16,7 +16,7 @@ invariant_of-self g c =
     let same = state_is c.self.view_is ∙ c.ask_readers.ensures.state in
     let free = subst (λ o. IfSome o (λ c. c.session ≡ 0)) at (subst (λ (s : State). IfSome (slice_get s.consoles place) (λ c. c.session ≡ 0)) (sym same) c.requires.free) in
     let none = ap (λ (s : State). console_of c.args.session s.consoles) same ∙ c.requires.none in
-    rw c.acquire.ensures (machine_put _ _ _ _ _ _ _ _ _ _ place (acquired c.args.session c.args.group it) c.self.invariant
+    rw c.acquire.ensures (machine_put _ _ _ _ _ _ _ _ place (acquired c.args.session c.args.group it) c.self.invariant
     (put_acquired _ _ place it (acquired c.args.session c.args.group it) c.self.invariant.sound.regular c.self.invariant.listed at free none) (λ e. absurd (cc)))
 
 pub returns-in-Some : goal.returns-in-Some

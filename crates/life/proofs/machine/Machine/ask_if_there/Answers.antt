@@ -18,7 +18,6 @@ invariant_of-self g c =
     rw c.get.ensures.processes (record {
       sound = i.sound;
       listed = listed_asking _ c.args.pid _ _ i.listed (is_there _ read.what read.found) c.ask.ensures.pids c.ask.ensures.room;
-      timed = i.timed;
       noted = i.noted;
       fresh = i.fresh;
     })

@@ -24,7 +24,6 @@ invariant_of-self g c =
       sound = i.sound;
       listed = listed_asked _ c.args.pid _ _ _ i.listed (λ r e. ap (λ (s : State). wakes s r) same ∙ c.requires r (subst (λ (s : State). process s c.args.pid ≡ Some r) same e)) c.take_off.ensures.pids c.take_off.ensures.room
           (watched_known _ c.args.pid c.reads_from-place.result _ _ i.sound.regular i.listed.watched c.take_off.ensures.pids c.know.ensures (λ ne. subst (λ (s : State). IsSome (process s c.args.pid)) (sym same) (c.reads_from-place.ensures.there (some_place _ ne))) (λ r e b out. subst (λ (s : State). IsPlaceOf r.session s.consoles c.reads_from-place.result) (sym same) (c.reads_from-place.ensures.value r (subst (λ (s : State). process s c.args.pid ≡ Some r) same e) b (ap (λ (s : State). has_place s c.args.pid) (sym same) ∙ out))));
-      timed = i.timed;
       noted = i.noted;
       fresh = i.fresh;
     }

@@ -12,7 +12,6 @@ use Rattle.sched.specs.Places.{Places}
 use Rattle.jobs.proofs.NumberLemmas.{nobody_there}
 use Rattle.life.proofs.SoundLemmas.{sound_first, first_is_boot}
 use Rattle.pidset.specs.Numbers.{Rises}
-use Rattle.life.proofs.TimedLemmas.{timed_first}
 use Rattle.life.proofs.machine.Machine.boot.Goals as goal
 
 pub insert-requires-clause-fresh : goal.insert-requires-clause-fresh
@@ -35,10 +34,9 @@ invariant_of-result g c =
     rw (c.insert.ensures.processes, c.in_ok-reserve.ensures.processes, c.empty-table.ensures.processes, c.in_ok-first.ensures)
     (record {
       sound = sound_first _ _ _ _ unused (omega (arith, least, c.pidmax.ensures.value)) bore pidmax c.bear_all.ensures.kept order (omega (arith, room, all, c.pidmax-2.ensures.value));
-      listed = listed_first _ _ _ _ (first_is_boot _ _ c.bear_all.new.self c.place.new.self unused c.bear_all.ensures.last order) (c.in_ok-reserve-2.ensures.pids ∙ c.new-to_ask.ensures) c.pidmax-3.ensures.value c.in_ok-reserve-2.ensures.room (subst (λ n. AllByRecursion (IsReaders n) c.in_ok-readers.readers.items) c.pidmax-6.ensures.value c.in_ok-readers.ensures.each) (c.in_ok-readers.ensures.many ∙ c.consoles-2.ensures.value);
-      timed = timed_first _ c.in_ok-world.world _ _ _ (first_is_boot c.in_ok-world.world _ c.bear_all.new.self c.place.new.self unused c.bear_all.ensures.last order) (c.in_ok-reserve-3.ensures.pids ∙ c.new-alarmed.ensures) c.pidmax-4.ensures.value c.in_ok-reserve-3.ensures.room;
+      listed = listed_first _ _ _ _ (first_is_boot _ _ c.bear_all.new.self c.place.new.self unused c.bear_all.ensures.last order) (c.in_ok-reserve-2.ensures.pids ∙ c.new-to_ask.ensures) c.pidmax-3.ensures.value c.in_ok-reserve-2.ensures.room (subst (λ n. AllByRecursion (IsReaders n) c.in_ok-readers.readers.items) c.pidmax-5.ensures.value c.in_ok-readers.ensures.each) (c.in_ok-readers.ensures.many ∙ c.consoles-2.ensures.value);
       fresh = λ e. subst AreFresh (sym (first_is_boot c.in_ok-world.world _ c.bear_all.new.self c.place.new.self unused c.bear_all.ensures.last order)) (first_fresh c.in_ok-world.world);
-      noted = record { rising = rw (c.in_ok-reserve-4.ensures.pids ∙ c.new-losing.ensures) tt; within = λ q e. absurd (let none = ap (is_in q) (c.in_ok-reserve-4.ensures.pids ∙ c.new-losing.ensures) in cc); room = let few = c.pidmax-5.ensures.value in let all = c.in_ok-reserve-4.ensures.room in omega (arith, few, all) };
+      noted = record { rising = rw (c.in_ok-reserve-3.ensures.pids ∙ c.new-losing.ensures) tt; within = λ q e. absurd (let none = ap (is_in q) (c.in_ok-reserve-3.ensures.pids ∙ c.new-losing.ensures) in cc); room = let few = c.pidmax-4.ensures.value in let all = c.in_ok-reserve-3.ensures.room in omega (arith, few, all) };
     })
 
 pub returns-clause-state : goal.returns-clause-state

@@ -18,7 +18,6 @@ invariant_of-self g c =
     rw (c.refresh_all.ensures.consoles, c.refresh_all.ensures.processes) (record {
       sound = record { regular = regular_cleared _ i.sound.regular; parents = i.sound.parents; counted = i.sound.counted; kept = i.sound.kept };
       listed = listed_cleared _ _ i.sound.regular i.listed;
-      timed = i.timed;
       noted = i.noted;
       fresh = λ e. fresh_cleared (state_of m.world m.table.processes m.consoles.items m.pids m.order m.births m.ticks m.dropped m.halted);
     })

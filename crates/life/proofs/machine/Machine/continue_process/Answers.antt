@@ -1,73 +1,43 @@
-use Rattle.std.proofs.Common.{◌∙◌, ap, sym, [], ◌∷◌, ℕ}
+use Rattle.std.proofs.Common.{ℕ, ◌∙◌, ap, sym, rules, cond, ◌==◌}
+use Rattle.posix.specs.Statuses.{continued}
 use Rattle.posix.specs.Tables.{changed}
 use Rattle.posix.specs.States.{State}
-use Rattle.posix.specs.Statuses.{continued}
-use Rattle.posix.specs.Waits.{has_report}
 use Rattle.posix.specs.Notices.{noticed_of_change, child_signal, told_of_change, resumed}
 use Rattle.posix.proofs.TableLemmas.{pid_looked}
-use Rattle.pidset.specs.Numbers.{with_number}
 use Rattle.posix.proofs.ChangeLemmas.{lives_resumed}
-use Rattle.life.specs.Machines.{MachineView}
-use Rattle.life.specs.Asking.{with_numbers, with_parent}
-use Rattle.life.proofs.SoundLemmas.{found_in, is_there}
-use Rattle.life.proofs.AskLemmas.{has_room, room_after}
-use Rattle.life.proofs.StopLemmas.{machine_told, parent_after, nobody_after}
-use Rattle.life.proofs.ViewLemmas.{state_is}
+use Rattle.pidset.specs.Numbers.{with_number}
+use Rattle.jobs.proofs.NumberLemmas.{absent_changed}
+use Rattle.jobs.proofs.RunLemmas.{run_as, parent_is}
+use Rattle.life.specs.Asking.{asking, asking_changed}
+use Rattle.life.proofs.FunnelLemmas.{stays_living, told_or_none, parent_twice, nobody_0}
+use Rattle.life.proofs.SendLemmas.{with_processes}
 use Rattle.life.proofs.machine.Machine.continue_process.Goals as goal
 
-pub insert-requires : goal.insert-requires
-insert-requires g c = record { room = λ out. has_room _ _ c.self.invariant.sound.regular c.self.invariant.listed }
-
-pub tell_parent-requires-clause-there : goal.tell_parent-requires-clause-there
-unfolding resumed
-tell_parent-requires-clause-there g c =
-    let same = state_is c.self.view_is in
-    let me = c.requires in
-    let contents = c.resume-parent.ensures.processes in
-    rw contents (parent_after _ _ _ c.self.invariant.sound c.args.pid _ resumed lives_resumed me.what (found_in _ _ same c.args.pid me.what me.found) (c.resume-parent.ensures.parent me.what (found_in _ _ same c.args.pid me.what me.found)))
-
-pub tell_parent-requires-clause-none : goal.tell_parent-requires-clause-none
-tell_parent-requires-clause-none g c =
-    let contents = c.resume-parent.ensures.processes in
-    rw contents (nobody_after _ c.self.invariant.sound.regular c.args.pid _ resumed lives_resumed)
-
-pub tell_parent-requires-clause-few : goal.tell_parent-requires-clause-few
-unfolding with_numbers
-tell_parent-requires-clause-few g c =
-    let same = state_is c.self.view_is in
-    let me = c.requires in
-    let here = is_there _ me.what (found_in _ _ same c.args.pid me.what me.found) in
-    room_after _ _ c.insert.new.self (c.args.pid ∷ []) c.self.invariant.sound.regular c.self.invariant.listed (here, tt) c.insert.ensures.pids c.insert.ensures.room
-
-pub invariant_of-self : goal.invariant_of-self
-unfolding resumed has_report
-invariant_of-self g c =
-    let same = state_is c.self.view_is in
-    let me = c.requires in
-    let contents = c.resume-parent.ensures.processes in
-    let told = c.tell_parent.ensures.processes ∙ ap (λ w. changed c.resume-parent.result (noticed_of_change (child_signal c.args.pid w)) c.resume-parent.new.self.processes) c.continued.ensures
-    ∙ ap (changed c.resume-parent.result (noticed_of_change (child_signal c.args.pid continued))) contents in
-    rw told (machine_told _ _ _ _ _ _ _ c.args.pid _ continued resumed me.what lives_resumed (found_in _ _ same c.args.pid me.what me.found) me.living (c.resume-parent.ensures.parent me.what (found_in _ _ same c.args.pid me.what me.found)) c.self.invariant
-    (c.tell_parent.ensures.pids ∙ ap (with_parent c.resume-parent.result) c.insert.ensures.pids) (c.tell_parent.ensures.fits ∙ c.insert.ensures.room))
+pub change_seen-parent-requires-clause-regular : goal.change_seen-parent-requires-clause-regular
+change_seen-parent-requires-clause-regular g c = stays_living c.args.pid resumed c.args.self.now.state lives_resumed c.requires (λ b d r k q. search rules)
 
 pub returns-clause-state : goal.returns-clause-state
 unfolding told_of_change
 returns-clause-state g c = λ me found.
-    let same = state_is c.self.view_is in
-    let contents = c.resume-parent.ensures.processes in
-    let told = c.tell_parent.ensures.processes ∙ ap (λ w. changed c.resume-parent.result (noticed_of_change (child_signal c.args.pid w)) c.resume-parent.new.self.processes) c.continued.ensures
-    ∙ ap (changed c.resume-parent.result (noticed_of_change (child_signal c.args.pid continued))) contents in
-    let named = pid_looked c.args.pid c.args.self.now.state.processes me found in
-    let after = λ (n p : ℕ) (s : State). record s { processes = changed n (noticed_of_change (child_signal p continued)) (changed c.args.pid resumed s.processes) } in
-    rw told (ap (after c.resume-parent.result c.args.pid) same ∙ ap (λ n. after n c.args.pid c.args.self.now.state) (c.resume-parent.ensures.parent me (found_in _ _ (state_is c.self.view_is) c.args.pid me found)) ∙ ap (λ p. after me.parent p c.args.self.now.state) (sym named))
+    let s = c.args.self.now.state in
+    let p = c.args.pid in
+    let parent = c.change_seen-parent.result in
+    let regular = c.change_seen-parent.ensures.regular in
+    let is = c.change_seen-parent.ensures.rest ∙ ap (with_processes s) (run_as resumed c.change_seen-parent.ensures.run regular.rising (λ b d r k q. search rules)) in
+    let told = λ (n w : ℕ) (t : State). record t { processes = changed n (noticed_of_change (child_signal p w)) t.processes } in
+    c.tell_parent.ensures.state ∙ ap (λ w. cond (parent == 0) c.change_seen-parent.new.self.state (told parent w c.change_seen-parent.new.self.state)) c.continued.ensures
+    ∙ ap (λ (t : State). cond (parent == 0) t (told parent continued t)) is
+    ∙ told_or_none parent (record s { processes = changed p resumed s.processes }) (noticed_of_change (child_signal p continued)) (absent_changed p resumed lives_resumed.pid 0 s.processes (nobody_0 s regular))
+    ∙ ap (λ n. told n continued (record s { processes = changed p resumed s.processes })) (parent_is p parent s.processes me c.change_seen-parent.ensures.parent found)
+    ∙ ap (λ n. record s { processes = changed me.parent (noticed_of_change (child_signal n continued)) (changed p resumed s.processes) }) (sym (pid_looked p s.processes me found))
 
 pub returns-clause-asked : goal.returns-clause-asked
 returns-clause-asked g c = λ me found.
-    let old = c.args.self.now.asked in
-    let asked = ap (λ (m : MachineView). m.asked) c.self.view_is in
-    let named = pid_looked c.args.pid c.args.self.now.state.processes me found in
-    c.tell_parent.ensures.pids ∙ ap (with_parent c.resume-parent.result) (c.insert.ensures.pids ∙ ap (with_number c.args.pid) asked)
-    ∙ ap (λ n. with_parent n (with_number c.args.pid old)) (c.resume-parent.ensures.parent me (found_in _ _ (state_is c.self.view_is) c.args.pid me found)) ∙ ap (λ p. with_parent me.parent (with_number p old)) (sym named)
-
-pub returns-clause-losing : goal.returns-clause-losing
-returns-clause-losing g c = ap (λ (m : MachineView). m.losing) c.self.view_is
+    let s = c.args.self.now.state in
+    let parent = c.change_seen-parent.result in
+    let order = ap (λ (t : State). t.order) c.change_seen-parent.ensures.rest in
+    let its = parent_is c.args.pid parent s.processes me c.change_seen-parent.ensures.parent found in
+    c.tell_parent.ensures.asked ∙ ap (λ o. cond (parent == 0) c.change_seen-parent.new.self.asked (asking parent o c.change_seen-parent.new.self.asked)) order
+    ∙ ap (λ ns. cond (parent == 0) ns (asking parent s.order ns)) (c.change_seen-parent.ensures.asked me found)
+    ∙ ap (λ n. cond (n == 0) (asking_changed me c.args.self.now.asked) (asking n s.order (asking_changed me c.args.self.now.asked))) its
+    ∙ parent_twice me.parent s.order (with_number me.pid c.args.self.now.asked)

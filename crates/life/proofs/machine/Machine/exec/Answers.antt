@@ -12,7 +12,7 @@ pub ask-requires : goal.ask-requires
 ask-requires g c = has_room _ _ c.self.invariant.sound.regular c.self.invariant.listed
 
 pub invariant_of-self : goal.invariant_of-self
-invariant_of-self g c = machine_lent _ _ _ _ _ _ _ c.args.pid c.exec.new.self (here_in c.args.pid (state_is c.self.view_is) c.requires) c.self.invariant c.ask.ensures.pids c.ask.ensures.room
+invariant_of-self g c = machine_lent _ _ _ _ _ c.args.pid c.exec.new.self (here_in c.args.pid (state_is c.self.view_is) c.requires) c.self.invariant c.ask.ensures.pids c.ask.ensures.room
 
 pub returns-in-Some-clause-done : goal.returns-in-Some-clause-done
 returns-in-Some-clause-done g c = λ program e.

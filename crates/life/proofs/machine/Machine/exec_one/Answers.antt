@@ -16,7 +16,7 @@ pub ask-requires : goal.ask-requires
 ask-requires g c = has_room _ _ c.self.invariant.sound.regular c.self.invariant.listed
 
 pub invariant_of-self : goal.invariant_of-self
-invariant_of-self g c = machine_lent _ _ _ _ _ _ _ c.args.pid (record (c.own.result.now) { cpu = c.exec_one.new.self }) (here_in c.args.pid (state_is c.self.view_is) c.requires.there) c.self.invariant c.ask.ensures.pids c.ask.ensures.room
+invariant_of-self g c = machine_lent _ _ _ _ _ c.args.pid (record (c.own.result.now) { cpu = c.exec_one.new.self }) (here_in c.args.pid (state_is c.self.view_is) c.requires.there) c.self.invariant c.ask.ensures.pids c.ask.ensures.room
 
 pub returns-in-Some-clause-trap : goal.returns-in-Some-clause-trap
 returns-in-Some-clause-trap g c = λ me e.

@@ -11,7 +11,6 @@ invariant_of-self g c =
     record {
       sound = i.sound;
       listed = record { covers = l.covers; rising = l.rising; there = l.there; room = l.room; watched = watched_forgotten _ c.args.place _ l.watched (subst (λ (m : MachineView). AreReaders m.state c.args.place m.asked) (sym c.self.view_is) c.requires) c.forget_at.ensures };
-      timed = i.timed;
       noted = i.noted;
       fresh = i.fresh;
     }

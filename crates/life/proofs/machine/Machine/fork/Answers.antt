@@ -9,7 +9,6 @@ use Rattle.life.proofs.AskLemmas.{has_room, room_after, listed_born}
 use Rattle.life.proofs.SoundLemmas.{is_there, found_in, next_is_new, room_to_bear, sound_born}
 use Rattle.posix.specs.Waits.{has_report}
 use Rattle.proctable.specs.Body.{process_of}
-use Rattle.life.proofs.TimedLemmas.{timed_inserted}
 use Rattle.life.proofs.ViewLemmas.{state_is}
 use Rattle.posix.proofs.FreshLemmas.{fresh_inserted}
 use Rattle.life.proofs.machine.Machine.fork.Goals as goal
@@ -59,7 +58,6 @@ invariant_of-self-2 g c =
     (record {
       sound = sound_born _ _ _ _ _ _ _ _ _ _ _ me.what c.self.invariant.sound (next_is_new _ _ _ _ c.args.child (state_is c.self.view_is) c.self.invariant.sound c.requires.child) found me.living groups.0 groups.1 (ap (λ (r : Process). r.life) child) (ap (λ (r : Process). r.alarm) child) c.bear_all.ensures.value c.bear_all.ensures.pidmax c.bear_all.ensures.kept;
       listed = listed_born _ _ _ _ _ _ c.self.invariant.listed (next_is_new _ _ _ _ c.args.child (state_is c.self.view_is) c.self.invariant.sound c.requires.child).fresh (is_there _ me.what found) (c.insert-3.ensures.pids ∙ ap (with_number c.args.child) c.insert-2.ensures.pids) (c.insert-3.ensures.room ∙ c.insert-2.ensures.room);
-      timed = timed_inserted _ (process_of c.args.child c.args.parent c.in_ok-body.body) _ _ _ (next_is_new _ _ _ _ c.args.child (state_is c.self.view_is) c.self.invariant.sound c.requires.child).fresh (ap (λ (r : Process). r.alarm) child) c.self.invariant.timed;
       noted = c.self.invariant.noted;
       fresh = λ e. fresh_inserted (process_of c.args.child c.args.parent c.in_ok-body.body) _ _ (c.self.invariant.fresh e);
     })

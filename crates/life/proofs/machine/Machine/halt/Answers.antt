@@ -1,39 +1,50 @@
+use Rattle.std.proofs.Common.{◌∙◌, ap, sym, refl, [], rules, subst, true}
 use Rattle.posix.specs.Ends.{ended}
-use Rattle.std.proofs.Common.{arith, refl}
-use Rattle.posix.proofs.RegularLemmas.{regular_halt}
-use Rattle.life.proofs.SoundLemmas.{is_there, length_halted, parents_halted, kept_halted}
-use Rattle.life.proofs.AskLemmas.{has_room, listed_halted}
-use Rattle.life.proofs.TimedLemmas.{timed_halted}
-use Rattle.posix.proofs.FreshLemmas.{fresh_changed}
+use Rattle.posix.specs.Regular.{IsRegular}
+use Rattle.posix.specs.States.{State, process, is_in}
+use Rattle.posix.specs.States.{change as change_of}
+use Rattle.posix.proofs.MemberLemmas.{in_none}
+use Rattle.posix.proofs.RegularLemmas.{regular_as}
+use Rattle.posix.proofs.TableLemmas.{pid_looked}
+use Rattle.posix.proofs.TouchLemmas.{touches_none}
+use Rattle.pidset.specs.Numbers.{with_number}
+use Rattle.jobs.proofs.RunLemmas.{run_as}
+use Rattle.life.specs.Asking.{with_parent}
+use Rattle.life.specs.Machines.{MachineView}
+use Rattle.life.proofs.AskLemmas.{listed_same}
+use Rattle.life.proofs.EndLemmas.{regular_ended}
+use Rattle.life.proofs.FunnelLemmas.{stays_so, with_lost}
+use Rattle.life.proofs.SendLemmas.{with_processes}
+use Rattle.life.proofs.SoundLemmas.{is_there}
+use Rattle.life.proofs.ViewLemmas.{state_is}
 use Rattle.life.proofs.machine.Machine.halt.Goals as goal
 
-pub insert-requires : goal.insert-requires
-insert-requires g c = record { room = λ out. has_room _ _ c.self.invariant.sound.regular c.self.invariant.listed }
+pub change_seen-requires-clause-there : goal.change_seen-requires-clause-there
+change_seen-requires-clause-there g c = let first = c.lose_place.ensures.regular.first in is_there _ first.what (ap (λ (s : State). process s 1) c.lose_place.ensures.state ∙ first.found)
 
-pub end-requires : goal.end-requires
-end-requires g c = is_there _ _ c.self.invariant.sound.regular.first.found
+pub change_seen-requires-clause-regular : goal.change_seen-requires-clause-regular
+change_seen-requires-clause-regular g c =
+    stays_so 1 (ended c.args.status) c.lose_place.new.self.state (λ i. subst (λ (t : State). IsRegular (change_of t 1 (ended c.args.status))) (sym c.lose_place.ensures.state) (regular_ended c.args.status c.args.self.now.state c.lose_place.ensures.regular)) (λ b d r k q. search rules)
 
 pub invariant_of-self : goal.invariant_of-self
-unfolding ended
 invariant_of-self g c =
-    let contents = c.end.ensures.processes in
-    rw (contents, c.drop_place.ensures.pids) record {
-      sound = record {
-        regular = regular_halt c.args.status _ c.self.invariant.sound.regular;
-        parents = parents_halted c.args.status _ c.self.invariant.sound.parents;
-        counted = let n = c.self.invariant.sound.counted in let same = length_halted c.args.status c.self.inside.table.processes in omega (arith, n, same);
-        kept = kept_halted c.args.status _ _ _ _ _ (let r = c.drop_place.ensures.room in omega (arith, r)) c.self.invariant.sound.kept;
-      };
-      listed = listed_halted _ c.args.status _ _ c.self.invariant.sound.regular c.self.invariant.listed c.insert.ensures.pids c.insert.ensures.room;
-      timed = timed_halted _ c.args.status _ _ _ c.self.invariant.sound.regular.first.what c.self.invariant.sound.regular.first.found c.self.invariant.timed;
-      noted = c.self.invariant.noted;
-      fresh = λ e. fresh_changed 1 (ended c.args.status) (λ r. refl) (λ r. refl) _ _ (c.self.invariant.fresh e);
+    let i = c.self.invariant in
+    record {
+      sound = record { regular = regular_as _ _ refl refl refl refl refl i.sound.regular; parents = i.sound.parents; counted = i.sound.counted; kept = i.sound.kept };
+      listed = listed_same _ _ _ [] i.listed (touches_none _ _ refl refl refl) (refl, refl) (λ q e. e) (λ q there e. absurd (in_none q e));
+      noted = i.noted;
+      fresh = i.fresh;
     }
 
 pub returns-clause-state : goal.returns-clause-state
 returns-clause-state g c =
-    let contents = c.end.ensures.processes in
-    rw (contents, c.drop_place.ensures.pids, ← c.self.view_is) refl
+    let s = c.lose_place.new.self.state in
+    let is = c.change_seen.ensures.rest ∙ ap (with_processes s) (run_as (ended c.args.status) c.change_seen.ensures.run c.change_seen.ensures.regular.rising (λ b d r k q. search rules)) in
+    ap (λ (t : State). record t { halted = true }) (state_is c.self.view_is ∙ is ∙ ap (λ (t : State). change_of t 1 (ended c.args.status)) c.lose_place.ensures.state)
 
-pub returns-clause-reads : goal.returns-clause-reads
-returns-clause-reads g c = rw (← c.self.view_is) c.end.ensures.reads
+pub returns-clause-asked : goal.returns-clause-asked
+returns-clause-asked g c =
+    let first = c.change_seen.ensures.regular.first in
+    let t = c.lose_place.new.self.state in
+    ap (λ (m : MachineView). m.asked) c.self.view_is ∙ c.change_seen.ensures.asked first.what first.found ∙ ap (λ q. with_parent q (with_number first.what.pid c.lose_place.new.self.asked)) first.parent
+    ∙ ap (λ q. with_number q c.lose_place.new.self.asked) (pid_looked 1 t.processes first.what first.found) ∙ ap (with_number 1) c.lose_place.ensures.asked ∙ with_lost (is_in 1 c.args.self.now.state.order) 1 c.args.self.now.asked

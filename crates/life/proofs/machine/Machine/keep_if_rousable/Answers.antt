@@ -5,7 +5,6 @@ pub invariant_of-self : goal.invariant_of-self
 invariant_of-self g c = record {
   sound = c.self.invariant.sound;
   listed = c.self.invariant.listed;
-  timed = c.self.invariant.timed;
   noted = noted_without _ c.args.group _ _ c.self.invariant.noted c.remove.ensures.pids c.remove.ensures.room;
   fresh = c.self.invariant.fresh;
 }

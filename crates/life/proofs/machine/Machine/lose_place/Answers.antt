@@ -22,7 +22,6 @@ invariant_of-self g c =
         kept = kept_order _ _ _ _ _ (let r = c.drop_place.ensures.room in omega (arith, r)) c.self.invariant.sound.kept;
       };
       listed = listed_with _ _ _ _ (c.args.pid ∷ []) (c.args.pid ∷ []) c.self.invariant.listed (touches_lost _ c.args.pid) (refl, refl) (λ q e. e) (here, tt) (λ q there e. e) c.insert.ensures.pids c.insert.ensures.room;
-      timed = c.self.invariant.timed;
       noted = c.self.invariant.noted;
       fresh = c.self.invariant.fresh;
     }

@@ -1,15 +1,17 @@
-use Rattle.std.proofs.Common.{rules, w64, to_z, of_z, ◌≡◌, ◌≤◌, ◌∙◌, ap, sym, subst, refl, [], ◌∷◌}
-use Rattle.posix.specs.States.{State, change}
-use Rattle.posix.specs.GroupCalls.{named as named_by, in_group}
-use Rattle.pidalloc.specs.declared.row.Role.TheVariants.{Group}
-use Rattle.pidalloc.specs.Rows.{Pids, row, given_up}
-use Rattle.pidalloc.proofs.MoveLemmas.{moved_in, last_moved}
-use Rattle.pidset.specs.Numbers.{with_number}
+use Rattle.std.proofs.Common.{rules, w64, to_z, of_z, ◌≡◌, ◌∙◌, ap, sym, Some, option_map}
+use Rattle.posix.specs.Tables.{lookup}
+use Rattle.posix.specs.States.{State}
+use Rattle.posix.specs.States.{change as change_of}
+use Rattle.posix.specs.GroupCalls.{named as named_by, in_group, move_to}
 use Rattle.proctable.specs.declared.facts.Facts.{Facts}
-use Rattle.life.specs.Asking.{with_numbers, with_parent}
-use Rattle.life.proofs.SoundLemmas.{found_in, is_there}
-use Rattle.life.proofs.AskLemmas.{has_room, room_after}
-use Rattle.life.proofs.MoveLemmas.{is_moving, none_moves, facts_to_move, machine_moved, machine_numbered}
+use Rattle.proctable.specs.Body.{facts_of}
+use Rattle.jobs.proofs.RunLemmas.{run_as}
+use Rattle.life.specs.Machines.{MachineView, state_of}
+use Rattle.life.specs.Asking.{asking_changed}
+use Rattle.life.proofs.FunnelLemmas.{stays_so}
+use Rattle.life.proofs.MoveLemmas.{is_moving, none_moves, err_is}
+use Rattle.life.proofs.SendLemmas.{with_processes}
+use Rattle.life.proofs.SoundLemmas.{facts_are, found_in, is_there}
 use Rattle.life.proofs.ViewLemmas.{state_is}
 use Rattle.life.proofs.machine.Machine.move_group.Goals as goal
 
@@ -17,73 +19,64 @@ pub unreachable-requires : goal.unreachable-requires
 unreachable-requires g c =
     let me = c.requires.there in
     let same = state_is c.self.view_is ∙ c.named-target.ensures.same in
-    let moves = sym (c.move_group.ensures.value me.what (found_in _ _ same c.args.me.now.pid me.what me.found)) ∙ c.in_ok-group.was in
+    let moves = sym (c.group_to_join.ensures.value me.what (found_in _ _ same c.args.me.now.pid me.what me.found)) ∙ c.in_ok-group.was in
     none_moves _ _ same me.what _ _ c.in_ok-group.group moves (sym c.in_default.is ∙ c.named-target.ensures.value me.what me.found)
 
-pub bear-requires-clause-range : goal.bear-requires-clause-range
-bear-requires-clause-range g c =
+pub change_seen-requires-clause-there : goal.change_seen-requires-clause-there
+change_seen-requires-clause-there g c =
     let me = c.requires.there in
     let same = state_is c.self.view_is ∙ c.named-target.ensures.same in
-    let moves = sym (c.move_group.ensures.value me.what (found_in _ _ same c.args.me.now.pid me.what me.found)) ∙ c.in_ok-group.was in
+    let moves = sym (c.group_to_join.ensures.value me.what (found_in _ _ same c.args.me.now.pid me.what me.found)) ∙ c.in_ok-group.was in
     let it = is_moving _ _ same c.self.invariant.sound.regular c.args.me.now.pid me.what _ _ c.in_ok-group.group c.in-Some.it me.found moves (sym c.in-Some.is ∙ c.named-target.ensures.value me.what me.found) in
-    (facts_to_move _ _ _ c.self.invariant.sound me.what _ c.in_ok-group.group c.in-Some.it it).range
+    is_there _ it.what (ap (λ rs. lookup c.in-Some.it.pid rs) c.group_to_join.ensures.processes ∙ ap (λ (f : Facts). lookup f.pid c.self.inside.table.processes) it.is ∙ it.found)
 
-pub bear-requires-clause-count : goal.bear-requires-clause-count
-bear-requires-clause-count g c =
+pub change_seen-requires-clause-regular : goal.change_seen-requires-clause-regular
+unfolding in_group
+change_seen-requires-clause-regular g c =
+    let m = c.self.inside in
+    let t = state_of m.world c.group_to_join.new.self.processes m.consoles.items m.pids m.order m.births m.ticks m.dropped m.halted in
     let me = c.requires.there in
     let same = state_is c.self.view_is ∙ c.named-target.ensures.same in
-    let moves = sym (c.move_group.ensures.value me.what (found_in _ _ same c.args.me.now.pid me.what me.found)) ∙ c.in_ok-group.was in
+    let moves = sym (c.group_to_join.ensures.value me.what (found_in _ _ same c.args.me.now.pid me.what me.found)) ∙ c.in_ok-group.was in
     let it = is_moving _ _ same c.self.invariant.sound.regular c.args.me.now.pid me.what _ _ c.in_ok-group.group c.in-Some.it me.found moves (sym c.in-Some.is ∙ c.named-target.ensures.value me.what me.found) in
-    (facts_to_move _ _ _ c.self.invariant.sound me.what _ c.in_ok-group.group c.in-Some.it it).count
+    stays_so c.in-Some.it.pid (in_group c.in_ok-group.group) t (λ i. rw (c.group_to_join.ensures.processes, ap (λ (f : Facts). f.pid) it.is) it.regular) (λ b d r k q. search rules)
 
-pub give_up-requires-clause-range : goal.give_up-requires-clause-range
-give_up-requires-clause-range g c =
-    let me = c.requires.there in
+pub returns-in_err-group-clause-value : goal.returns-in_err-group-clause-value
+returns-in_err-group-clause-value g c = λ me found.
     let same = state_is c.self.view_is ∙ c.named-target.ensures.same in
-    let moves = sym (c.move_group.ensures.value me.what (found_in _ _ same c.args.me.now.pid me.what me.found)) ∙ c.in_ok-group.was in
-    let it = is_moving _ _ same c.self.invariant.sound.regular c.args.me.now.pid me.what _ _ c.in_ok-group.group c.in-Some.it me.found moves (sym c.in-Some.is ∙ c.named-target.ensures.value me.what me.found) in
-    subst (λ (p : Pids). c.in-Some.it.group ≤ p.pidmax) (sym c.bear.ensures.value) (facts_to_move _ _ _ c.self.invariant.sound me.what _ c.in_ok-group.group c.in-Some.it it).from_range
+    let rs = c.self.inside.table.processes in
+    let word : to_z w64 (of_z w64 c.args.me.now.r1) ≡ c.args.me.now.r1 = search rules in
+    let to : to_z w64 (of_z w64 c.args.me.now.r2) ≡ c.args.me.now.r2 = search rules in
+    let value = c.group_to_join.ensures.value me (found_in _ _ same c.args.me.now.pid me found) ∙ ap (λ z. move_to me (named_by me z rs) (to_z w64 (of_z w64 c.args.me.now.r2)) rs) word ∙ ap (λ z. move_to me (named_by me c.args.me.now.r1 rs) z rs) to
+    ∙ ap (λ (s : State). move_to me (named_by me c.args.me.now.r1 s.processes) c.args.me.now.r2 s.processes) same in
+    err_is c.from_residual.result _ c.from_residual.ensures.1 ∙ sym (c.in_err-group.was) ∙ value
 
-pub give_up-requires-clause-count : goal.give_up-requires-clause-count
-give_up-requires-clause-count g c =
-    let me = c.requires.there in
+pub returns-clause-value : goal.returns-clause-value
+returns-clause-value g c = λ me found.
     let same = state_is c.self.view_is ∙ c.named-target.ensures.same in
-    let moves = sym (c.move_group.ensures.value me.what (found_in _ _ same c.args.me.now.pid me.what me.found)) ∙ c.in_ok-group.was in
-    let it = is_moving _ _ same c.self.invariant.sound.regular c.args.me.now.pid me.what _ _ c.in_ok-group.group c.in-Some.it me.found moves (sym c.in-Some.is ∙ c.named-target.ensures.value me.what me.found) in
-    subst (λ (p : Pids). 1 ≤ (row p.rows c.in-Some.it.group).group) (sym c.bear.ensures.value) (facts_to_move _ _ _ c.self.invariant.sound me.what _ c.in_ok-group.group c.in-Some.it it).from_count
-
-pub ask_with_parent-requires-clause-few : goal.ask_with_parent-requires-clause-few
-ask_with_parent-requires-clause-few g c = has_room _ _ c.self.invariant.sound.regular c.self.invariant.listed
-
-pub ask_with_parent-requires-clause-fits : goal.ask_with_parent-requires-clause-fits
-unfolding with_numbers
-ask_with_parent-requires-clause-fits g c =
-    let me = c.requires.there in
-    let same = state_is c.self.view_is ∙ c.named-target.ensures.same in
-    let moves = sym (c.move_group.ensures.value me.what (found_in _ _ same c.args.me.now.pid me.what me.found)) ∙ c.in_ok-group.was in
-    let it = is_moving _ _ same c.self.invariant.sound.regular c.args.me.now.pid me.what _ _ c.in_ok-group.group c.in-Some.it me.found moves (sym c.in-Some.is ∙ c.named-target.ensures.value me.what me.found) in
-    let set = c.self.inside.to_ask in
-    rw (ap (λ (f : Facts). f.pid) it.is) (room_after _ _ (record set { pids = with_number it.what.pid set.pids }) (it.what.pid ∷ []) c.self.invariant.sound.regular c.self.invariant.listed (is_there _ it.what it.found, tt) refl refl)
-
-pub invariant_of-self-2 : goal.invariant_of-self-2
-invariant_of-self-2 g c =
-    let me = c.requires.there in
-    let same = state_is c.self.view_is ∙ c.named-target.ensures.same in
-    let found = found_in _ _ same c.args.me.now.pid me.what me.found in
-    let moves = sym (c.move_group.ensures.value me.what found) ∙ c.in_ok-group.was in
-    let it = is_moving _ _ same c.self.invariant.sound.regular c.args.me.now.pid me.what _ _ c.in_ok-group.group c.in-Some.it me.found moves (sym c.in-Some.is ∙ c.named-target.ensures.value me.what me.found) in
-    let numbers = c.give_up.ensures.value ∙ ap (λ p. given_up p c.in-Some.it.group Group) c.bear.ensures.value in
-    let moved = numbers ∙ ap (λ (f : Facts). moved_in c.self.inside.pids f.group c.in_ok-group.group) it.is in
-    let last = ap (λ (p : Pids). p.last) numbers ∙ last_moved _ _ _ in
-    rw (c.in_ok-group.ensures.ok me.what it.what found it.named)
-    (machine_numbered _ _ _ _ _ _ _ (sym last) (machine_moved _ _ _ _ _ _ _ _ it.what.pid c.in_ok-group.group it.what it.found it.regular moved c.self.invariant
-    (c.ask_with_parent.ensures.pids ∙ ap (λ (f : Facts). with_parent f.parent (with_number f.pid c.self.inside.to_ask.pids)) it.is) c.ask_with_parent.ensures.room))
+    let rs = c.self.inside.table.processes in
+    let word : to_z w64 (of_z w64 c.args.me.now.r1) ≡ c.args.me.now.r1 = search rules in
+    let to : to_z w64 (of_z w64 c.args.me.now.r2) ≡ c.args.me.now.r2 = search rules in
+    sym c.in_ok-group.was ∙ c.group_to_join.ensures.value me (found_in _ _ same c.args.me.now.pid me found) ∙ ap (λ z. move_to me (named_by me z rs) (to_z w64 (of_z w64 c.args.me.now.r2)) rs) word ∙ ap (λ z. move_to me (named_by me c.args.me.now.r1 rs) z rs) to
+    ∙ ap (λ (s : State). move_to me (named_by me c.args.me.now.r1 s.processes) c.args.me.now.r2 s.processes) same
 
 pub returns-clause-ok : goal.returns-clause-ok
-returns-clause-ok g c = λ me r there named.
-    let same = state_is c.self.view_is ∙ c.named-target.ensures.same in
+unfolding in_group
+returns-clause-ok g c = λ me r found named.
+    let m = c.self.inside in
+    let t = state_of m.world c.group_to_join.new.self.processes m.consoles.items m.pids m.order m.births m.ticks m.dropped m.halted in
+    let before = ap (with_processes t) c.group_to_join.ensures.processes ∙ state_is c.self.view_is ∙ c.named-target.ensures.same in
+    let is = c.change_seen.ensures.rest ∙ ap (with_processes t) (run_as (in_group c.in_ok-group.group) c.change_seen.ensures.run c.change_seen.ensures.regular.rising (λ b d r k q. search rules)) in
     let word : to_z w64 (of_z w64 c.args.me.now.r1) ≡ c.args.me.now.r1 = search rules in
-    let here = ap (λ z. named_by me z c.self.inside.table.processes) word ∙ ap (λ (s : State). named_by me c.args.me.now.r1 s.processes) same ∙ named in
-    let numbers = c.give_up.ensures.value ∙ ap (λ p. given_up p c.in-Some.it.group Group) c.bear.ensures.value in
-    let last = ap (λ (p : Pids). p.last) numbers ∙ last_moved _ _ _ in
-    rw (last, c.in_ok-group.ensures.ok me r (found_in _ _ same c.args.me.now.pid me there) here) (ap (λ (s : State). change s r.pid (in_group c.in_ok-group.group)) same)
+    let who = facts_are (named_by me c.args.me.now.r1 c.args.self.now.state.processes) r c.in-Some.it (sym c.in-Some.is ∙ c.named-target.ensures.value me found ∙ ap (λ z. option_map facts_of (named_by me z c.args.self.now.state.processes)) word) named in
+    is ∙ ap (λ (s : State). change_of s c.in-Some.it.pid (in_group c.in_ok-group.group)) before ∙ ap (λ (f : Facts). change_of c.args.self.now.state f.pid (in_group c.in_ok-group.group)) who
+
+pub returns-clause-asked : goal.returns-clause-asked
+returns-clause-asked g c = λ me r found named.
+    let same = state_is c.self.view_is ∙ c.named-target.ensures.same in
+    let moves = sym (c.group_to_join.ensures.value me (found_in _ _ same c.args.me.now.pid me found)) ∙ c.in_ok-group.was in
+    let it = is_moving _ _ same c.self.invariant.sound.regular c.args.me.now.pid me _ _ c.in_ok-group.group c.in-Some.it found moves (sym c.in-Some.is ∙ c.named-target.ensures.value me found) in
+    let word : to_z w64 (of_z w64 c.args.me.now.r1) ≡ c.args.me.now.r1 = search rules in
+    let one : it.what ≡ r = let both : Some it.what ≡ Some r = sym it.named ∙ ap (λ z. named_by me z c.self.inside.table.processes) word ∙ ap (λ (s : State). named_by me c.args.me.now.r1 s.processes) same ∙ named in cc in
+    let here = ap (lookup c.in-Some.it.pid) c.group_to_join.ensures.processes ∙ ap (λ (f : Facts). lookup f.pid c.self.inside.table.processes) it.is ∙ it.found ∙ ap Some one in
+    c.change_seen.ensures.asked r here ∙ ap (asking_changed r) (ap (λ (v : MachineView). v.asked) c.self.view_is ∙ c.named-target.ensures.asked)

@@ -23,7 +23,6 @@ invariant_of-self g c =
     record {
       sound = c.self.invariant.sound;
       listed = c.self.invariant.listed;
-      timed = c.self.invariant.timed;
       noted = noted_with _ c.in-Some.it.group _ _ c.self.invariant.noted (omega (arith, group, most, world)) c.insert.ensures.pids c.insert.ensures.room;
       fresh = c.self.invariant.fresh;
     }

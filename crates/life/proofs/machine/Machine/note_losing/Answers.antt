@@ -17,7 +17,6 @@ pub invariant_of-self : goal.invariant_of-self
 invariant_of-self g c = record {
   sound = c.self.invariant.sound;
   listed = c.self.invariant.listed;
-  timed = c.self.invariant.timed;
   noted = noted_cleared _ _ _ c.self.invariant.noted c.clear.ensures.pids c.clear.ensures.room;
   fresh = c.self.invariant.fresh;
 }

@@ -1,62 +1,48 @@
-use Rattle.std.proofs.Common.{◌∙◌, ◌∷◌, [], refl, arith, ap, sym, subst, true}
-use Rattle.std.proofs.lemmas.Bool.{eq-eqb}
-use Rattle.posix.specs.States.{State, is_in}
-use Rattle.posix.specs.Ends.{notice_of_end}
-use Rattle.pidset.proofs.NumberLemmas.{in_with}
-use Rattle.posix.proofs.NoticeLemmas.{only_notice}
-use Rattle.life.specs.Machines.{IsMachine, IsTimed, IsNoted, state_of}
-use Rattle.life.specs.Asking.{with_numbers, without_gone}
-use Rattle.life.proofs.SoundLemmas.{found_in, here_in}
-use Rattle.life.proofs.AskLemmas.{has_room, room_after, listed_more, listed_told}
-use Rattle.life.proofs.PartLemmas.{can_go, room_to_count, told_state, sound_told}
-use Rattle.life.proofs.TimedLemmas.{timed_told}
-use Rattle.life.proofs.ViewLemmas.{state_is}
+use Rattle.std.proofs.Common.{◌≡◌, Bool, true, false, ◌∙◌, ap, sym, rules}
+use Rattle.posix.specs.declared.process.PendingSignal.{PendingSignal}
+use Rattle.posix.specs.Processes.{Process}
+use Rattle.posix.specs.States.{State, change}
+use Rattle.posix.specs.Notices.{noticed}
+use Rattle.posix.specs.Ends.{drops_children, drop_child}
+use Rattle.posix.proofs.RegularLemmas.{keeps_noticed}
+use Rattle.posix.proofs.TouchLemmas.{unseen_noticed}
+use Rattle.jobs.proofs.RunLemmas.{run_as, unseen_as}
+use Rattle.life.proofs.FunnelLemmas.{stays_regular, result_as}
+use Rattle.life.proofs.PartLemmas.{drops_is, zombie_noticed, notice_by}
+use Rattle.life.proofs.SendLemmas.{with_processes}
 use Rattle.life.proofs.machine.Machine.notice_of_end.Goals as goal
 
-pub insert-requires : goal.insert-requires
-insert-requires g c = record { room = λ out. has_room _ _ c.self.invariant.sound.regular c.self.invariant.listed }
+pub change-drops-requires-clause-unseen : goal.change-drops-requires-clause-unseen
+change-drops-requires-clause-unseen g c =
+    let signal = c.child_signal-signal.result in
+    unseen_as c.args.parent (noticed signal) (unseen_noticed signal) (keeps_noticed {now = 0} signal).session (λ b d r k q. search rules)
 
-pub notify_of_end-gone-requires-clause-child : goal.notify_of_end-gone-requires-clause-child
-notify_of_end-gone-requires-clause-child g c =
+pub change-drops-requires-clause-regular : goal.change-drops-requires-clause-regular
+change-drops-requires-clause-regular g c =
+    let signal = c.child_signal-signal.result in
+    stays_regular c.args.parent (noticed signal) c.args.self.now.state (keeps_noticed signal) (λ b d r k q. search rules)
+
+pub drop_child-requires-clause-zombie : goal.drop_child-requires-clause-zombie
+drop_child-requires-clause-zombie g c =
+    let rs = c.args.self.now.state.processes in
+    let signal = c.child_signal-signal.result in
     let it = c.requires.zombie in
-    can_go _ _ _ c.args.child it.0 c.self.invariant.sound (found_in _ _ (state_is c.self.view_is) c.args.child it.0 it.1) it.2 c.requires.other
+    rw (run_as (noticed signal) c.change-drops.ensures.run c.change-drops.ensures.regular.rising (λ b d r k q. search rules)) (zombie_noticed c.args.parent signal c.args.child rs it.0 it.1 it.2)
 
-pub notify_of_end-gone-requires-clause-count : goal.notify_of_end-gone-requires-clause-count
-notify_of_end-gone-requires-clause-count g c =
-    let it = c.requires.zombie in
-    let few = c.self.ranges in
-    room_to_count _ _ _ c.args.child _ c.self.invariant.sound (can_go _ _ _ c.args.child it.0 c.self.invariant.sound (found_in _ _ (state_is c.self.view_is) c.args.child it.0 it.1) it.2 c.requires.other) (omega (arith, few))
+pub returns-then-drops-clause-state : goal.returns-then-drops-clause-state
+returns-then-drops-clause-state g c =
+    let s = c.args.self.now.state in
+    let signal = c.child_signal-signal.result in
+    let is = c.change-drops.ensures.rest ∙ ap (with_processes s) (run_as (noticed signal) c.change-drops.ensures.run c.change-drops.ensures.regular.rising (λ b d r k q. search rules))
+    ∙ ap (λ (w : PendingSignal). change s c.args.parent (noticed w)) c.child_signal-signal.ensures in
+    let drops = drops_is c.args.parent s.processes c.change-drops.result c.requires.parent (result_as (λ (q : Process) (b : Bool). b ≡ drops_children q.signals) c.change-drops.ensures.run (λ b d r k q. search rules)) in
+    c.drop_child.ensures.state ∙ ap (λ (t : State). drop_child t c.args.child) is ∙ sym (notice_by true s c.args.parent c.args.child c.args.status (sym drops ∙ c.if-drops.true))
 
-pub forget-requires : goal.forget-requires
-unfolding with_numbers
-forget-requires g c =
-    let first = here_in c.args.parent (state_is c.self.view_is) c.requires.parent in
-    room_after _ _ c.insert.new.self (c.args.parent ∷ []) c.self.invariant.sound.regular c.self.invariant.listed (first, tt) c.insert.ensures.pids c.insert.ensures.room
-
-pub invariant_of-self : goal.invariant_of-self
-unfolding with_numbers
-invariant_of-self g c =
-    let m = c.self.inside in
-    let old = state_of m.world m.table.processes m.consoles.items m.pids m.order m.births m.ticks m.dropped m.halted in
-    let it = c.requires.zombie in
-    let found = found_in _ _ (state_is c.self.view_is) c.args.child it.0 it.1 in
-    let counts = c.notify_of_end-gone.ensures.counts it.0 found in
-    let up = c.self.invariant.sound.parents c.args.child it.0 c.requires.other found in
-    let asked = c.insert.new.self in
-    let first = here_in c.args.parent (state_is c.self.view_is) c.requires.parent in
-    let now = listed_more _ _ asked (c.args.parent ∷ []) c.self.invariant.listed (first, tt) c.insert.ensures.pids c.insert.ensures.room in
-    subst (λ (s : State). IsMachine s c.notify_of_end-gone.new.pids c.self.inside.order c.forget.new.to_ask c.self.inside.alarmed c.self.inside.next_alarm c.self.inside.losing (record { readers = c.self.inside.readers.items; stale = true })) (sym (told_state _ _ _ _ _ _ c.self.inside.order _ _ _ _ _ c.args.parent c.args.child c.args.status it.0 c.notify_of_end-gone.ensures.processes counts))
-    (record {
-      sound = sound_told _ _ _ _ _ c.args.parent c.args.child c.args.status it.0 c.self.invariant.sound found it.2 c.requires.other counts;
-      listed = listed_told _ c.args.parent c.args.child c.args.status it.0 asked _ c.self.invariant.sound.regular now (ap (is_in c.args.parent) c.insert.ensures.pids ∙ in_with c.args.parent c.args.parent _ ∙ rw (eq-eqb c.args.parent c.args.parent refl) refl) found up (c.forget.ensures.pids ∙ ap (λ o. without_gone c.args.child o asked.pids) (c.notify_of_end-gone.ensures.gone it.0 found)) c.forget.ensures.room;
-      timed = subst (λ n. IsTimed n (notice_of_end old c.args.parent c.args.child c.args.status).processes c.self.inside.alarmed c.self.inside.next_alarm) (sym (ap (λ (s : State). s.world.pidmax) (only_notice old c.args.parent c.args.child c.args.status))) (timed_told _ old c.args.parent c.args.child c.args.status it.0 _ _ first found c.requires.other it.2 c.self.invariant.timed);
-      noted = subst (λ n. IsNoted n c.self.inside.losing) (sym (ap (λ (s : State). s.world.pidmax) (only_notice old c.args.parent c.args.child c.args.status))) c.self.invariant.noted;
-      fresh = λ e. absurd (cc);
-    })
-
-pub returns-clause-state : goal.returns-clause-state
-returns-clause-state g c =
-    let it = c.requires.zombie in
-    let found = found_in _ _ (state_is c.self.view_is) c.args.child it.0 it.1 in
-    told_state _ _ _ _ _ _ c.self.inside.order _ _ _ _ _ c.args.parent c.args.child c.args.status it.0 c.notify_of_end-gone.ensures.processes (c.notify_of_end-gone.ensures.counts it.0 found)
-    ∙ ap (λ (s : State). notice_of_end s c.args.parent c.args.child c.args.status) (state_is c.self.view_is)
+pub returns-else-drops-clause-state : goal.returns-else-drops-clause-state
+returns-else-drops-clause-state g c =
+    let s = c.args.self.now.state in
+    let signal = c.child_signal-signal.result in
+    let is = c.change-drops.ensures.rest ∙ ap (with_processes s) (run_as (noticed signal) c.change-drops.ensures.run c.change-drops.ensures.regular.rising (λ b d r k q. search rules))
+    ∙ ap (λ (w : PendingSignal). change s c.args.parent (noticed w)) c.child_signal-signal.ensures in
+    let drops = drops_is c.args.parent s.processes c.change-drops.result c.requires.parent (result_as (λ (q : Process) (b : Bool). b ≡ drops_children q.signals) c.change-drops.ensures.run (λ b d r k q. search rules)) in
+    is ∙ sym (notice_by false s c.args.parent c.args.child c.args.status (sym drops ∙ c.if-drops.false))

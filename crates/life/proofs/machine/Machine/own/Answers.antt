@@ -9,7 +9,7 @@ pub ask-requires : goal.ask-requires
 ask-requires g c = has_room _ _ c.self.invariant.sound.regular c.self.invariant.listed
 
 pub invariant_of-self-lent : goal.invariant_of-self-lent
-invariant_of-self-lent g c = λ w. machine_lent _ _ _ _ _ _ _ c.args.pid w (here_in c.args.pid (state_is c.self.view_is) c.requires) c.self.invariant c.ask.ensures.pids c.ask.ensures.room
+invariant_of-self-lent g c = λ w. machine_lent _ _ _ _ _ c.args.pid w (here_in c.args.pid (state_is c.self.view_is) c.requires) c.self.invariant c.ask.ensures.pids c.ask.ensures.room
 
 pub returns : goal.returns
 returns g c = (

@@ -16,7 +16,6 @@ invariant_of-self g c =
     record {
       sound = record { regular = subst IsRegular (sym is) (regular_pass old c.ring_all.ensures.regular); parents = i.sound.parents; counted = i.sound.counted; kept = i.sound.kept };
       listed = listed_same _ _ _ [] i.listed (touches_none _ _ refl refl refl) (refl, refl) (λ q e. e) (λ q there e. absurd (in_none q e));
-      timed = i.timed;
       noted = i.noted;
       fresh = i.fresh;
     }

@@ -33,7 +33,6 @@ invariant_of-self g c =
         kept = kept_order _ _ _ _ _ (let r = c.place.ensures.room in omega (arith, r)) c.self.invariant.sound.kept;
       };
       listed = listed_same _ _ _ [] c.self.invariant.listed (touches_placed _ c.args.pid) (refl, refl) (λ q e. e) (λ q there e. absurd (in_none q e));
-      timed = c.self.invariant.timed;
       noted = c.self.invariant.noted;
       fresh = c.self.invariant.fresh;
     }

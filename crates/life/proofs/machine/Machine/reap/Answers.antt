@@ -1,9 +1,10 @@
-use Rattle.std.proofs.Common.{◌∙◌, ap, arith, refl, Some}
+use Rattle.std.proofs.Common.{◌∙◌, ap, arith, refl, Some, List, length}
+use Rattle.posix.specs.Processes.{Process}
+use Rattle.pidalloc.proofs.TallyLemmas.{length_removed}
 use Rattle.life.specs.Asking.{without_gone}
 use Rattle.life.proofs.SoundLemmas.{found_in}
 use Rattle.life.proofs.PartLemmas.{can_go, sound_gone}
 use Rattle.life.proofs.AskLemmas.{has_room, listed_removed}
-use Rattle.life.proofs.TimedLemmas.{timed_removed}
 use Rattle.life.proofs.ViewLemmas.{state_is}
 use Rattle.life.proofs.machine.Machine.reap.Goals as goal
 
@@ -25,7 +26,6 @@ invariant_of-self g c =
     rw c.discard-parent.ensures.processes (record {
       sound = sound_gone _ _ _ _ c.args.pid _ _ it.0 c.self.invariant.sound found it.2 c.requires.other gone (omega arith);
       listed = listed_removed _ c.args.pid _ _ it.0 _ _ c.self.invariant.sound.regular c.self.invariant.listed found up (c.forget.ensures.pids ∙ ap (λ n. without_gone c.args.pid (Some n) c.self.inside.to_ask.pids) parent) c.forget.ensures.room;
-      timed = timed_removed _ c.args.pid _ _ _ it.0 found c.requires.other it.2 c.self.invariant.timed;
       noted = c.self.invariant.noted;
       fresh = λ e. absurd (cc);
     })
@@ -35,3 +35,13 @@ returns-clause-state g c =
     let it = c.requires.zombie in
     let found = found_in _ _ (state_is c.self.view_is) c.args.pid it.0 it.1 in
     rw (c.discard-parent.ensures.processes, (c.discard-parent.ensures.counts it.0 found).last, ← c.self.view_is) refl
+
+pub returns-clause-born : goal.returns-clause-born
+returns-clause-born g c =
+    let it = c.requires.zombie in
+    let rs = c.self.inside.table.processes in
+    let found = found_in _ _ (state_is c.self.view_is) c.args.pid it.0 it.1 in
+    let one = length_removed c.args.pid it.0 rs c.self.invariant.sound.regular.rising found in
+    let left = ap (λ (l : List Process). length l) c.discard-parent.ensures.processes in
+    let all = c.self.invariant.sound.counted in
+    omega (arith, one, left, all)

@@ -20,7 +20,7 @@ invariant_of-self g c = elim c.match-get_mut.branch [
       let asked = ap (λ (m : MachineView). m.asked) c.self.view_is in
       let readers = subst (λ ns. AreReaders c.args.self.now.state place ns) (sym asked) c.ask_readers.ensures.asked in
       let theirs = subst (λ (s : State). AreReaders s place c.self.inside.to_ask.pids) (sym same) readers in
-      rw (w.self-inside-is, w.release.ensures) (machine_put _ _ _ _ _ _ _ _ _ _ place (released it) c.self.invariant
+      rw (w.self-inside-is, w.release.ensures) (machine_put _ _ _ _ _ _ _ _ place (released it) c.self.invariant
       (put_asked _ _ place it (released it) c.self.invariant.sound.regular c.self.invariant.listed at theirs (inr refl))
       (λ e. fresh_put _ _ place (released it) (c.self.invariant.fresh e) refl))
   | in_default w ↦ rw w.self-inside-is c.self.invariant

@@ -1,9 +1,9 @@
 use Rattle.std.proofs.Common.{◌≡◌, ◌+◌, false, None}
 use Rattle.std.specs.Option.{IfSome, IsSome}
-use Rattle.posix.specs.Tables.{lookup}
+use Rattle.posix.specs.Tables.{IsRising, lookup}
 use Rattle.posix.specs.Alarms.{has_alarms}
 use Rattle.posix.proofs.WalkLemmas.{numbers_left}
-use Rattle.life.proofs.TimedLemmas.{IsRinging}
+use Rattle.life.proofs.RingLemmas.{IsRinging}
 use Rattle.life.proofs.machine.Machine.ring_all.Given as goal
 
 -- those below the next one have rung
@@ -12,7 +12,8 @@ invariant-loop-next g l =
     let now = l.self.state in let first = l.fn.self.state in
     record {
       there : IfSome l.next (λ p. IsSome (lookup p now.processes));
-      ringing : IsRinging (first.ticks + 1) l.least first.processes now.processes l.next;
+      ringing : IsRinging (first.ticks + 1) first.processes now.processes l.next;
+      rising : IsRising now.processes;
       rest : now ≡ record first { processes = now.processes };
       quiet : has_alarms first ≡ false → (l.next ≡ None) × (l.self ≡ l.fn.self);
     }

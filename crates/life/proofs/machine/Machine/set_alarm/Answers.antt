@@ -1,45 +1,43 @@
-use Rattle.posix.specs.Alarms.{with_alarm}
-use Rattle.std.proofs.Common.{sym, refl, subst}
+use Rattle.std.proofs.Common.{◌≡◌, ◌∙◌, ap, rules, sym, subst, Option, ℕ}
+use Rattle.posix.specs.Processes.{Process}
+use Rattle.posix.specs.Tables.{changed}
+use Rattle.posix.specs.States.{State}
 use Rattle.posix.specs.Regular.{IsAhead}
+use Rattle.posix.specs.Alarms.{with_alarm, due_in, ticks_left}
 use Rattle.posix.proofs.RegularLemmas.{keeps_with_alarm, due_ahead}
-use Rattle.posix.proofs.TouchLemmas.{touches_unseen, unseen_with_alarm}
-use Rattle.life.proofs.SoundLemmas.{found_in, sound_change, is_there}
-use Rattle.life.proofs.AskLemmas.{has_room, listed_change}
-use Rattle.life.proofs.TimedLemmas.{timed_set, timed_room}
+use Rattle.posix.proofs.TouchLemmas.{unseen_with_alarm}
+use Rattle.jobs.proofs.RunLemmas.{run_as, unseen_as}
+use Rattle.life.proofs.FunnelLemmas.{stays_regular, result_as}
+use Rattle.life.proofs.SendLemmas.{with_processes}
 use Rattle.life.proofs.ViewLemmas.{state_is}
-use Rattle.posix.proofs.FreshLemmas.{fresh_changed}
 use Rattle.life.proofs.machine.Machine.set_alarm.Goals as goal
 
-pub ask-requires : goal.ask-requires
-ask-requires g c = has_room _ _ c.self.invariant.sound.regular c.self.invariant.listed
+pub change-before-requires-clause-unseen : goal.change-before-requires-clause-unseen
+change-before-requires-clause-unseen g c =
+    let due = c.due_in-due.ensures ∙ ap (λ (s : State). due_in s.ticks c.args.ticks) (state_is c.self.view_is) in
+    let k = keeps_with_alarm c.due_in-due.result (subst (IsAhead c.args.self.now.state.ticks) (sym due) (due_ahead c.args.self.now.state.ticks c.args.ticks c.requires.few)) in
+    unseen_as c.args.pid (with_alarm c.due_in-due.result) (unseen_with_alarm c.due_in-due.result) k.session (λ b d r k q. search rules)
 
-pub note_alarm-requires : goal.note_alarm-requires
-note_alarm-requires g c = timed_room _ _ _ c.self.invariant.sound.regular c.self.invariant.timed
+pub change-before-requires-clause-regular : goal.change-before-requires-clause-regular
+change-before-requires-clause-regular g c =
+    let due = c.due_in-due.ensures ∙ ap (λ (s : State). due_in s.ticks c.args.ticks) (state_is c.self.view_is) in
+    stays_regular c.args.pid (with_alarm c.due_in-due.result) c.args.self.now.state (keeps_with_alarm c.due_in-due.result (subst (IsAhead c.args.self.now.state.ticks) (sym due) (due_ahead c.args.self.now.state.ticks c.args.ticks c.requires.few))) (λ b d r k q. search rules)
 
-pub ticks_left-left-requires : goal.ticks_left-left-requires
-ticks_left-left-requires g c =
-    let found = found_in _ _ (state_is c.self.view_is) c.args.pid c.requires.there.what c.requires.there.found in
-    let is = c.set_alarm-before.ensures.before c.requires.there.what found in
-    subst (IsAhead c.self.inside.ticks) (sym is) (c.self.invariant.sound.regular.alarms c.args.pid c.requires.there.what found)
-
-pub invariant_of-self : goal.invariant_of-self
-unfolding with_alarm
-invariant_of-self g c =
-    let m = c.self.inside in
+pub ticks_left-requires : goal.ticks_left-requires
+ticks_left-requires g c =
     let me = c.requires.there in
-    let found = found_in _ _ (state_is c.self.view_is) c.args.pid me.what me.found in
-    let here = is_there _ me.what found in
-    let contents = c.set_alarm-before.ensures.processes in
-    rw contents (record {
-      sound = sound_change c.args.pid _ _ (keeps_with_alarm _ (rw c.due_in-due.ensures (due_ahead m.ticks c.args.ticks c.requires.few))) _ _ c.self.invariant.sound;
-      listed = listed_change _ c.args.pid _ _ _ c.self.invariant.listed (unseen_with_alarm c.due_in-due.result).pid (touches_unseen _ c.args.pid _ (unseen_with_alarm c.due_in-due.result)) here c.ask.ensures.pids c.ask.ensures.room;
-      timed = timed_set _ c.args.pid _ _ _ _ _ me.what _ found me.living c.self.invariant.timed c.note_alarm.ensures.pids c.note_alarm.ensures.room c.note_alarm.ensures.earlier c.note_alarm.ensures.before;
-      noted = c.self.invariant.noted;
-      fresh = λ e. fresh_changed c.args.pid (with_alarm c.due_in-due.result) (λ r. refl) (λ r. refl) _ _ (c.self.invariant.fresh e);
-    })
+    let now = ap (λ (s : State). s.ticks) (state_is c.self-2.view_is ∙ c.change-before.ensures.rest) in
+    let before = result_as (λ (q : Process) (a : Option ℕ). a ≡ q.alarm) c.change-before.ensures.run (λ b d r k q. search rules) me.what me.found in
+    subst (λ n. IsAhead n c.change-before.result) (sym now) (subst (IsAhead c.args.self.now.state.ticks) (sym before) (c.change-before.ensures.regular.alarms c.args.pid me.what me.found))
+
+pub returns-clause-left : goal.returns-clause-left
+returns-clause-left g c = λ me found.
+    let now = ap (λ (s : State). s.ticks) (state_is c.self-2.view_is ∙ c.change-before.ensures.rest) in
+    let before = result_as (λ (q : Process) (a : Option ℕ). a ≡ q.alarm) c.change-before.ensures.run (λ b d r k q. search rules) me found in
+    c.ticks_left.ensures.left ∙ ap (λ n. ticks_left n c.change-before.result) now ∙ ap (ticks_left c.args.self.now.state.ticks) before
 
 pub returns-clause-state : goal.returns-clause-state
 returns-clause-state g c =
-    let m = c.self.inside in
-    let contents = c.set_alarm-before.ensures.processes in
-    rw (contents, c.due_in-due.ensures, ← c.self.view_is) refl
+    let due = c.due_in-due.ensures ∙ ap (λ (s : State). due_in s.ticks c.args.ticks) (state_is c.self.view_is) in
+    c.change-before.ensures.rest ∙ ap (with_processes c.args.self.now.state) (run_as (with_alarm c.due_in-due.result) c.change-before.ensures.run c.change-before.ensures.regular.rising (λ b d r k q. search rules))
+    ∙ ap (λ (a : Option ℕ). record (c.args.self.now.state) { processes = changed c.args.pid (with_alarm a) c.args.self.now.state.processes }) due

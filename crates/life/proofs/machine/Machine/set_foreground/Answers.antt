@@ -22,7 +22,7 @@ invariant_of-self g c =
     let asked = ap (λ (m : MachineView). m.asked) o.view_is in
     let readers = subst (λ ns. AreReaders c.args.self.now.state place ns) (sym asked) c.ask_readers.ensures.asked in
     let theirs = subst (λ (s : State). AreReaders s place o.inside.to_ask.pids) (sym same) readers in
-    rw (c.set_foreground.ensures, is) (machine_put _ _ _ _ _ _ _ _ _ _ place (with_foreground c.args.group it.0) o.invariant
+    rw (c.set_foreground.ensures, is) (machine_put _ _ _ _ _ _ _ _ place (with_foreground c.args.group it.0) o.invariant
     (put_asked _ _ place it.0 (with_foreground c.args.group it.0) o.invariant.sound.regular o.invariant.listed at theirs (inl refl)) (λ e. absurd (cc)))
 
 pub returns-in-Some : goal.returns-in-Some

@@ -13,7 +13,7 @@ invariant_of-self g c =
     let cs = c.self.inside.consoles.items in
     let at : slice_get cs c.in-Some.place ≡ Some it.0 = ap (λ cs. slice_get cs c.in-Some.place) (sym c.deref.ensures.value) ∙ it.1 in
     let is = c.index_mut.ensures.value ∙ get_or_from_slice_get cs c.in-Some.place it.0 _ at in
-    rw (c.set_tostop.ensures, is) (machine_put _ _ _ _ _ _ _ _ _ _ c.in-Some.place (with_tostop c.args.tostop it.0) c.self.invariant
+    rw (c.set_tostop.ensures, is) (machine_put _ _ _ _ _ _ _ _ c.in-Some.place (with_tostop c.args.tostop it.0) c.self.invariant
     (put_unread _ _ c.in-Some.place it.0 _ c.self.invariant.sound.regular c.self.invariant.listed at refl refl (λ e. e))
     (λ e. fresh_alike _ _ c.in-Some.place it.0 _ at refl refl (c.self.invariant.fresh e)))
 

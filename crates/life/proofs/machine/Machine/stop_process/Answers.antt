@@ -1,73 +1,56 @@
-use Rattle.std.proofs.Common.{◌∙◌, ap, sym, arith, [], ◌∷◌, ℕ}
-use Rattle.posix.specs.Tables.{changed}
-use Rattle.posix.specs.States.{State, lose_place, is_in}
+use Rattle.std.proofs.Common.{ℕ, ◌∙◌, ap, sym, rules, cond, subst, ◌==◌}
 use Rattle.posix.specs.Statuses.{stopped}
-use Rattle.posix.specs.Waits.{has_report}
-use Rattle.posix.specs.Notices.{noticed_of_change, child_signal, told_of_change, stopped_by}
 use Rattle.posix.specs.Delivery.{stop_process}
+use Rattle.posix.specs.Regular.{IsPlaced}
+use Rattle.posix.specs.Tables.{lookup, changed}
+use Rattle.posix.specs.States.{State, process, lose_place, is_in}
+use Rattle.posix.specs.Notices.{noticed_of_change, child_signal, told_of_change, stopped_by}
 use Rattle.posix.proofs.TableLemmas.{pid_looked}
-use Rattle.pidset.specs.Numbers.{with_number}
 use Rattle.posix.proofs.ChangeLemmas.{lives_stopped}
-use Rattle.life.specs.Machines.{MachineView}
-use Rattle.life.specs.Asking.{with_numbers, with_parent}
-use Rattle.life.proofs.SoundLemmas.{found_in, is_there}
-use Rattle.life.proofs.AskLemmas.{has_room, room_after}
-use Rattle.life.proofs.StopLemmas.{machine_told, parent_after, nobody_after, machine_left, on_list}
-use Rattle.life.proofs.ViewLemmas.{state_is}
+use Rattle.pidset.specs.Numbers.{with_number}
+use Rattle.jobs.proofs.NumberLemmas.{absent_changed}
+use Rattle.jobs.proofs.RunLemmas.{run_as, parent_is}
+use Rattle.life.specs.Asking.{asking, asking_changed, with_parent}
+use Rattle.life.proofs.FunnelLemmas.{stays_living, told_or_none, parent_twice, with_lost, nobody_0}
+use Rattle.life.proofs.SendLemmas.{with_processes}
 use Rattle.life.proofs.machine.Machine.stop_process.Goals as goal
 
-pub insert-requires : goal.insert-requires
-insert-requires g c = record { room = λ out. has_room _ _ c.self.invariant.sound.regular c.self.invariant.listed }
-
-pub tell_parent-requires-clause-there : goal.tell_parent-requires-clause-there
-unfolding stopped_by
-tell_parent-requires-clause-there g c =
-    let same = state_is c.self.view_is in
-    let me = c.requires in
-    let contents = c.stop-parent.ensures.processes in
-    rw contents (parent_after _ _ _ c.self.invariant.sound c.args.pid _ (stopped_by c.args.sig) (lives_stopped c.args.sig) me.what (found_in _ _ same c.args.pid me.what me.found) (c.stop-parent.ensures.parent me.what (found_in _ _ same c.args.pid me.what me.found)))
-
-pub tell_parent-requires-clause-none : goal.tell_parent-requires-clause-none
-tell_parent-requires-clause-none g c =
-    let contents = c.stop-parent.ensures.processes in
-    rw contents (nobody_after _ c.self.invariant.sound.regular c.args.pid _ (stopped_by c.args.sig) (lives_stopped c.args.sig))
-
-pub tell_parent-requires-clause-few : goal.tell_parent-requires-clause-few
-unfolding with_numbers
-tell_parent-requires-clause-few g c =
-    let same = state_is c.self.view_is in
-    let me = c.requires in
-    let here = is_there _ me.what (found_in _ _ same c.args.pid me.what me.found) in
-    room_after _ _ c.insert.new.self (c.args.pid ∷ []) c.self.invariant.sound.regular c.self.invariant.listed (here, tt) c.insert.ensures.pids c.insert.ensures.room
-
-pub invariant_of-self : goal.invariant_of-self
-unfolding stopped_by has_report
-invariant_of-self g c =
-    let same = state_is c.self.view_is in
-    let me = c.requires in
-    let contents = c.stop-parent.ensures.processes in
-    let told = c.tell_parent.ensures.processes ∙ ap (λ w. changed c.stop-parent.result (noticed_of_change (child_signal c.args.pid w)) c.stop-parent.new.self.processes) c.stopped.ensures
-    ∙ ap (changed c.stop-parent.result (noticed_of_change (child_signal c.args.pid (stopped c.args.sig)))) contents in
-    let asked = c.tell_parent.ensures.pids ∙ ap (with_parent c.stop-parent.result) c.insert.ensures.pids in
-    rw (told, c.drop_place.ensures.pids) (machine_left _ _ _ _ c.tell_parent.new.to_ask _ _ c.args.pid (let room = c.drop_place.ensures.room in omega (arith, room)) (ap (is_in c.args.pid) asked ∙ on_list c.args.pid c.stop-parent.result _)
-    (machine_told _ _ _ _ _ _ _ c.args.pid _ (stopped c.args.sig) (stopped_by c.args.sig) me.what (lives_stopped c.args.sig) (found_in _ _ same c.args.pid me.what me.found) me.living (c.stop-parent.ensures.parent me.what (found_in _ _ same c.args.pid me.what me.found)) c.self.invariant
-    asked (c.tell_parent.ensures.fits ∙ c.insert.ensures.room)))
+pub change_seen-parent-requires-clause-regular : goal.change_seen-parent-requires-clause-regular
+change_seen-parent-requires-clause-regular g c =
+    stays_living c.args.pid (stopped_by c.args.sig) c.lose_place.new.self.state (lives_stopped c.args.sig) (subst (λ (t : State). IsPlaced t.processes c.args.pid) (sym c.lose_place.ensures.state) c.requires) (λ b d r k q. search rules)
 
 pub returns-clause-state : goal.returns-clause-state
 unfolding told_of_change stop_process
 returns-clause-state g c = λ me found.
-    let same = state_is c.self.view_is in
-    let contents = c.stop-parent.ensures.processes in
-    let told = c.tell_parent.ensures.processes ∙ ap (λ w. changed c.stop-parent.result (noticed_of_change (child_signal c.args.pid w)) c.stop-parent.new.self.processes) c.stopped.ensures
-    ∙ ap (changed c.stop-parent.result (noticed_of_change (child_signal c.args.pid (stopped c.args.sig)))) contents in
-    let named = pid_looked c.args.pid c.args.self.now.state.processes me found in
-    let after = λ (n p : ℕ) (s : State). record (lose_place s p) { processes = changed n (noticed_of_change (child_signal p (stopped c.args.sig))) (changed p (stopped_by c.args.sig) s.processes) } in
-    rw (told, c.drop_place.ensures.pids) (ap (after c.stop-parent.result c.args.pid) same ∙ ap (λ n. after n c.args.pid c.args.self.now.state) (c.stop-parent.ensures.parent me (found_in _ _ (state_is c.self.view_is) c.args.pid me found)) ∙ ap (λ p. after me.parent p c.args.self.now.state) (sym named))
+    let s = c.args.self.now.state in
+    let p = c.args.pid in
+    let n = c.args.sig in
+    let parent = c.change_seen-parent.result in
+    let left = lose_place s p in
+    let lost = c.lose_place.ensures.state in
+    let regular = c.change_seen-parent.ensures.regular in
+    let is = c.change_seen-parent.ensures.rest ∙ ap (with_processes c.lose_place.new.self.state) (run_as (stopped_by n) c.change_seen-parent.ensures.run regular.rising (λ b d r k q. search rules))
+    ∙ ap (λ (t : State). record t { processes = changed p (stopped_by n) t.processes }) lost in
+    let told = λ (q w : ℕ) (t : State). record t { processes = changed q (noticed_of_change (child_signal p w)) t.processes } in
+    let here = ap (λ (t : State). process t p) lost ∙ found in
+    c.tell_parent.ensures.state ∙ ap (λ w. cond (parent == 0) c.change_seen-parent.new.self.state (told parent w c.change_seen-parent.new.self.state)) c.stopped.ensures
+    ∙ ap (λ (t : State). cond (parent == 0) t (told parent (stopped n) t)) is
+    ∙ told_or_none parent (record left { processes = changed p (stopped_by n) s.processes }) (noticed_of_change (child_signal p (stopped n))) (absent_changed p (stopped_by n) (lives_stopped n).pid 0 s.processes (ap (λ (t : State). lookup 0 t.processes) (sym lost) ∙ nobody_0 c.lose_place.new.self.state regular))
+    ∙ ap (λ q. told q (stopped n) (record left { processes = changed p (stopped_by n) s.processes })) (parent_is p parent c.lose_place.new.self.state.processes me c.change_seen-parent.ensures.parent here)
+    ∙ ap (λ q. record (lose_place s q) { processes = changed me.parent (noticed_of_change (child_signal q (stopped n))) (changed q (stopped_by n) s.processes) }) (sym (pid_looked p s.processes me found))
 
 pub returns-clause-asked : goal.returns-clause-asked
 returns-clause-asked g c = λ me found.
-    let old = c.args.self.now.asked in
-    let asked = ap (λ (m : MachineView). m.asked) c.self.view_is in
-    let named = pid_looked c.args.pid c.args.self.now.state.processes me found in
-    c.tell_parent.ensures.pids ∙ ap (with_parent c.stop-parent.result) (c.insert.ensures.pids ∙ ap (with_number c.args.pid) asked)
-    ∙ ap (λ n. with_parent n (with_number c.args.pid old)) (c.stop-parent.ensures.parent me (found_in _ _ (state_is c.self.view_is) c.args.pid me found)) ∙ ap (λ p. with_parent me.parent (with_number p old)) (sym named)
+    let s = c.args.self.now.state in
+    let ns = c.args.self.now.asked in
+    let parent = c.change_seen-parent.result in
+    let lost = c.lose_place.ensures.state in
+    let order = ap (λ (t : State). t.order) c.change_seen-parent.ensures.rest in
+    let here = ap (λ (t : State). process t c.args.pid) lost ∙ found in
+    let named = pid_looked c.args.pid s.processes me found in
+    let its = parent_is c.args.pid parent c.lose_place.new.self.state.processes me c.change_seen-parent.ensures.parent here in
+    let put = c.change_seen-parent.ensures.asked me here ∙ ap (asking_changed me) c.lose_place.ensures.asked ∙ ap (λ l. with_parent me.parent l) (ap (λ q. with_number q (cond (is_in c.args.pid s.order) (with_number c.args.pid ns) ns)) named ∙ with_lost (is_in c.args.pid s.order) c.args.pid ns ∙ ap (λ q. with_number q ns) (sym named)) in
+    c.tell_parent.ensures.asked ∙ ap (λ o. cond (parent == 0) c.change_seen-parent.new.self.asked (asking parent o c.change_seen-parent.new.self.asked)) order
+    ∙ ap (λ l. cond (parent == 0) l (asking parent c.lose_place.new.self.state.order l)) put
+    ∙ ap (λ q. cond (q == 0) (asking_changed me ns) (asking q c.lose_place.new.self.state.order (asking_changed me ns))) its
+    ∙ parent_twice me.parent c.lose_place.new.self.state.order (with_number me.pid ns)

@@ -27,7 +27,7 @@ invariant_of-self g c =
     let cs = c.self.inside.consoles.items in
     let at : slice_get cs place ≡ Some it.0 = ap (λ cs. slice_get cs place) (sym c.deref.ensures.value) ∙ it.1 in
     let is = c.index_mut.ensures.value ∙ get_or_from_slice_get cs place it.0 _ at in
-    rw (c.take.ensures.console, is) (machine_put _ _ _ _ _ _ _ _ _ _ place (line_taken (length c.args.out.now) it.0) c.self.invariant
+    rw (c.take.ensures.console, is) (machine_put _ _ _ _ _ _ _ _ place (line_taken (length c.args.out.now) it.0) c.self.invariant
     (put_unread _ _ place it.0 _ c.self.invariant.sound.regular c.self.invariant.listed at refl refl (λ e. ap (lines_left (length c.args.out.now)) e))
     (λ e. fresh_alike _ _ place it.0 _ at refl refl (c.self.invariant.fresh e)))
 

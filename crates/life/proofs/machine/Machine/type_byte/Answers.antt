@@ -23,12 +23,12 @@ invariant_of-self-2 g c =
           let asked = ap (λ (m : MachineView). m.asked) (c.self.view_is ∙ w.self-is) in
           let readers = subst (λ ns. AreReaders c.args.self.now.state place ns) (sym asked) w.ask_readers.ensures.asked in
           let theirs = subst (λ (s : State). AreReaders s place c.self.inside.to_ask.pids) (sym same) readers in
-          rw c.key.ensures.console (machine_put _ _ _ _ _ _ _ _ _ _ place (keyed byte it) c.self.invariant
+          rw c.key.ensures.console (machine_put _ _ _ _ _ _ _ _ place (keyed byte it) c.self.invariant
           (put_asked _ _ place it (keyed byte it) c.self.invariant.sound.regular c.self.invariant.listed at theirs (inl (session_keyed byte it)))
           (λ e. fresh_alike _ _ place it (keyed byte it) at (session_keyed byte it) (foreground_keyed byte it) (c.self.invariant.fresh e)))
       | else-ends_line w ↦
           let quiet = or_parts (byte == 10) (byte == 4) (sym c.ends_line.ensures ∙ w.if-ends_line.false) in
-          rw c.key.ensures.console (machine_put _ _ _ _ _ _ _ _ _ _ place (keyed byte it) c.self.invariant
+          rw c.key.ensures.console (machine_put _ _ _ _ _ _ _ _ place (keyed byte it) c.self.invariant
           (put_unread _ _ place it (keyed byte it) c.self.invariant.sound.regular c.self.invariant.listed at (session_keyed byte it) (foreground_keyed byte it) (lines_keyed byte it quiet.0 quiet.1))
           (λ e. fresh_alike _ _ place it (keyed byte it) at (session_keyed byte it) (foreground_keyed byte it) (c.self.invariant.fresh e)))
     ]

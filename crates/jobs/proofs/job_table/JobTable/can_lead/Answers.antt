@@ -2,8 +2,8 @@ use Rattle.std.proofs.Common.{◌≡◌, ◌==◌, not, true, false, refl, ap, s
 use Rattle.posix.specs.Tables.{lookup}
 use Rattle.posix.specs.GroupCalls.{is_group_of_others}
 use Rattle.jobs.proofs.MoveLemmas.{leads_by}
-use Rattle.jobs.proofs.job_table.JobTable.new_session.Goals as goal
-use Rattle.jobs.proofs.job_table.JobTable.new_session.Goals.{then-eq-via-then-eq, then-eq-via-else-eq+then-is_group_of_others}
+use Rattle.jobs.proofs.job_table.JobTable.can_lead.Goals as goal
+use Rattle.jobs.proofs.job_table.JobTable.can_lead.Goals.{then-eq-via-then-eq, then-eq-via-else-eq+then-is_group_of_others}
 
 pub returns-then-eq-clause-test : goal.returns-then-eq-clause-test
 returns-then-eq-clause-test g c = λ me found.

@@ -1,0 +1,89 @@
+-- Alarms that ring, one process after another.
+use Rattle.std.proofs.Common.{◌≡◌, ℕ, ◌<◌, ◌≤◌, true, false, cond, refl, ap, sym, ◌∙◌, arith, List, [], ◌∷◌, map, filter, Option, Some, None, ◌==◌, inl, inr, nat_lt, is_some}
+use Rattle.std.specs.List.{list_any, AllByRecursion}
+use Rattle.std.specs.Option.{IfSome}
+use Rattle.std.proofs.lemmas.Bool.{eq-eqb, ne_eqb, cases_eq, ltb-true, ltb-false, or_parts}
+use Rattle.posix.specs.Processes.{Process}
+use Rattle.posix.specs.Tables.{lookup, at, changed, first_pid, above, IsRising, IsNext}
+use Rattle.posix.specs.Alarms.{is_due, with_alarm, rung, ring_at, ring_all}
+use Rattle.posix.proofs.TableLemmas.{pid_looked}
+use Rattle.posix.proofs.MapLemmas.{at_pid, lookup_back}
+use Rattle.posix.proofs.RegularLemmas.{keeps_ring}
+use Rattle.posix.proofs.WalkLemmas.{all_looked}
+
+-- those below the next one aren't due any more, and all ring as they did at the beginning
+pub record IsRinging (now : ℕ) (old rs : List Process) (next : Option ℕ) : Type 0 where
+  pub all : ring_all now rs ≡ ring_all now old
+  pub done : (p : ℕ) (r : Process) → lookup p rs ≡ Some r → IfSome next (λ q. p < q) → is_due now r.alarm ≡ false
+
+-- what has rung doesn't ring again
+rings_once : (now : ℕ) (r : Process) → is_due now (ring_at now r).alarm ≡ false
+unfolding rung with_alarm
+rings_once now r = elim (is_due now r.alarm) as (λ b. is_due now r.alarm ≡ b → is_due now (cond b (rung r) r).alarm ≡ false) [ true ↦ λ e. refl | false ↦ λ e. e ] refl
+
+-- where none is due, none rings
+rings_not : (now : ℕ) (r : Process) → is_due now r.alarm ≡ false → ring_at now r ≡ r
+rings_not now r e = rw e refl
+
+-- once the alarm of p has rung, all ring as they would have
+rung_first : (now p : ℕ) (rs : List Process) → ring_all now (changed p (ring_at now) rs) ≡ ring_all now rs
+unfolding ring_all changed
+rung_first now p [] = refl
+rung_first now p (r ∷ rs) = elim (r.pid == p) as (λ b. ring_at now (cond b (ring_at now r) r) ∷ map (ring_at now) (map (at p (ring_at now)) rs) ≡ ring_at now r ∷ map (ring_at now) rs) [
+  | true ↦ let once = rings_not now (ring_at now r) (rings_once now r) in rw once (ap (λ qs. ring_at now r ∷ qs) (rung_first now p rs))
+  | false ↦ ap (λ qs. ring_at now r ∷ qs) (rung_first now p rs)
+]
+
+-- at the beginning none is due below the first one
+pub ringing_begins : (now : ℕ) (rs : List Process) (next : Option ℕ) → ((p : ℕ) (r : Process) → lookup p rs ≡ Some r → 1 ≤ r.pid) → IsNext (λ r. is_due now r.alarm) 0 rs next → IsRinging now rs rs next
+ringing_begins now rs next low i = record {
+  all = refl;
+  done = λ p r e before. let l = low p r e in let named = pid_looked p rs r e in i.between p r e (omega (arith, l, named)) before;
+}
+
+-- one more
+pub ringing_on : (now p : ℕ) (old rs : List Process) (after : Option ℕ) (me : Process) → lookup p rs ≡ Some me → IsNext (λ r. is_due now r.alarm) p (changed p (ring_at now) rs) after → IsRinging now old rs (Some p) → IsRinging now old (changed p (ring_at now) rs) after
+unfolding changed
+ringing_on now p old rs after me found i h = record {
+  all = rung_first now p rs ∙ h.all;
+  done = λ q r e before.
+      let keeps = keeps_ring {now = 0} now in
+      let b = lookup_back (at p (ring_at now)) (at_pid p (ring_at now) keeps.pid) q rs r e in
+      elim (cases_eq q p) [
+        | inl same ↦
+            let both : Some b.what ≡ Some me = sym b.found ∙ ap (λ n. lookup n rs) same ∙ found in
+            let my : b.what ≡ me = cc in
+            let is : r ≡ ring_at now me = b.is ∙ ap (at p (ring_at now)) my ∙ rw (eq-eqb me.pid p (pid_looked p rs me found)) refl in
+            ap (λ (x : Process). is_due now x.alarm) is ∙ rings_once now me
+        | inr other ↦
+            let is : r ≡ b.what = b.is ∙ rw (ne_eqb b.what.pid p (λ x. other (sym (pid_looked q rs b.what b.found) ∙ x))) refl in
+            elim (nat_lt q p) as (λ t. nat_lt q p ≡ t → is_due now r.alarm ≡ false) [
+              | true ↦ λ t. ap (λ (x : Process). is_due now x.alarm) is ∙ h.done q b.what b.found (ltb-true _ _ t)
+              | false ↦ λ t. let high = ltb-false _ _ t in i.between q r e (omega (arith, high, other)) before
+            ] refl
+      ];
+}
+
+-- at the end none is due any more
+pub ringing_ends : (now : ℕ) (old rs : List Process) → IsRising rs → IsRinging now old rs None → rs ≡ ring_all now old
+unfolding ring_all
+ringing_ends now old rs up h = sym (none rs (all_looked (λ r. is_due now r.alarm ≡ false) rs up (λ p r e. h.done p r e tt))) ∙ h.all
+  where
+    none : (rs : List Process) → AllByRecursion (λ (r : Process). is_due now r.alarm ≡ false) rs → map (ring_at now) rs ≡ rs
+    none [] a = refl
+    none (r ∷ rs) a = rw (rings_not now r a.0, none rs a.1) refl
+
+-- ---- nobody has an alarm
+
+-- so none is due
+none_due : (now : ℕ) (a : Option ℕ) → is_some a ≡ false → is_due now a ≡ false
+none_due now None e = refl
+none_due now (Some due) e = absurd (cc)
+
+-- and nobody comes next
+pub quiet_next : (now n : ℕ) (rs : List Process) → list_any (λ r. is_some r.alarm) rs ≡ false → first_pid (above n (filter (λ r. is_due now r.alarm) rs)) ≡ None
+quiet_next now n rs quiet = ap (λ l. first_pid (above n l)) (none rs quiet)
+  where
+    none : (rs : List Process) → list_any (λ (r : Process). is_some r.alarm) rs ≡ false → filter (λ (r : Process). is_due now r.alarm) rs ≡ []
+    none [] e = refl
+    none (r ∷ rs) e = let both = or_parts (is_some r.alarm) (list_any (λ (r : Process). is_some r.alarm) rs) e in rw (none_due now r.alarm both.0) (none rs both.1)

@@ -1,0 +1,19 @@
+use Rattle.std.proofs.Common.{◌+◌, ◌∙◌, ap, sym, subst}
+use Rattle.posix.specs.Processes.{Process}
+use Rattle.posix.specs.States.{State}
+use Rattle.posix.specs.Tables.{IsNext}
+use Rattle.posix.specs.Alarms.{is_due, has_alarms}
+use Rattle.posix.proofs.WalkLemmas.{passing_is_next}
+use Rattle.life.proofs.RingLemmas.{quiet_next}
+use Rattle.life.proofs.ViewLemmas.{state_is}
+use Rattle.life.proofs.machine.Machine.next_due.Goals as goal
+
+pub returns-clause-next : goal.returns-clause-next
+returns-clause-next g c =
+    let rs = c.self.inside.table.processes in
+    let tick = c.self.inside.ticks + 1 in
+    subst (λ (s : State). IsNext (λ (r : Process). is_due (s.ticks + 1) r.alarm) c.args.after s.processes c.next_due.result) (state_is c.self.view_is)
+    (subst (IsNext (λ (r : Process). is_due tick r.alarm) c.args.after rs) (sym c.next_due.ensures) (passing_is_next (λ r. is_due tick r.alarm) c.args.after rs c.self.invariant.sound.regular.rising))
+
+pub returns-clause-quiet : goal.returns-clause-quiet
+returns-clause-quiet g c = λ quiet. c.next_due.ensures ∙ quiet_next (c.self.inside.ticks + 1) c.args.after c.self.inside.table.processes (ap has_alarms (state_is c.self.view_is) ∙ quiet)

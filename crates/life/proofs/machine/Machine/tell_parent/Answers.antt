@@ -1,0 +1,29 @@
+use Rattle.std.proofs.Common.{◌≡◌, ◌==◌, ◌∙◌, ap, false, rules, sym}
+use Rattle.std.proofs.lemmas.Bool.{ne_eqb}
+use Rattle.posix.specs.declared.process.PendingSignal.{PendingSignal}
+use Rattle.posix.specs.Notices.{noticed_of_change}
+use Rattle.posix.specs.States.{change}
+use Rattle.posix.proofs.ChangeLemmas.{keeps_noticed_of_change, unseen_noticed_of_change}
+use Rattle.jobs.proofs.FactLemmas.{differs}
+use Rattle.jobs.proofs.RunLemmas.{run_as, unseen_as}
+use Rattle.life.proofs.FunnelLemmas.{stays_regular}
+use Rattle.life.proofs.SendLemmas.{with_processes}
+use Rattle.life.proofs.machine.Machine.tell_parent.Goals as goal
+
+pub change-requires-clause-unseen : goal.change-requires-clause-unseen
+change-requires-clause-unseen g c =
+    let signal = c.child_signal-signal.result in
+    unseen_as c.args.parent (noticed_of_change signal) (unseen_noticed_of_change signal) (keeps_noticed_of_change {now = 0} signal).session (λ b d r k q. search rules)
+
+pub change-requires-clause-regular : goal.change-requires-clause-regular
+change-requires-clause-regular g c =
+    let signal = c.child_signal-signal.result in
+    stays_regular c.args.parent (noticed_of_change signal) c.args.self.now.state (keeps_noticed_of_change signal) (λ b d r k q. search rules)
+
+pub returns-then-ne-clause-state : goal.returns-then-ne-clause-state
+returns-then-ne-clause-state g c =
+    let s = c.args.self.now.state in
+    let signal = c.child_signal-signal.result in
+    let other : (c.args.parent == 0) ≡ false = ne_eqb c.args.parent 0 (differs c.args.parent 0 (sym c.ne.ensures ∙ c.if-ne.true)) in
+    rw other (c.change.ensures.rest ∙ ap (with_processes s) (run_as (noticed_of_change signal) c.change.ensures.run c.change.ensures.regular.rising (λ b d r k q. search rules))
+    ∙ ap (λ (w : PendingSignal). change s c.args.parent (noticed_of_change w)) c.child_signal-signal.ensures)

@@ -1,0 +1,31 @@
+-- Changes of one process, and what is kept beside its record.
+use Rattle.std.specs.Prelude.{◌≡◌, ℕ, ◌<◌, ◌≤◌, ◌==◌, ◌||◌, Bool, not, Some}
+use Rattle.std.specs.Borrow.{MutBor}
+use Rattle.std.specs.Fn.{Once, FnOnceReturnsAtMut}
+use Rattle.posix.specs.Tables.{lookup, parent_of}
+use Rattle.posix.specs.States.{State}
+use Rattle.posix.specs.Regular.{IsRegular}
+use Rattle.pidalloc.specs.Rows.{Pids, row}
+use Rattle.proctable.specs.declared.body.Body.{Body}
+use Rattle.proctable.specs.Body.{process_of, with_body}
+use Rattle.jobs.specs.declared.books.Seen.{Seen}
+
+-- whatever the closure does to the body of p, a regular state stays so
+abbrev pub StaysRegular : {F T : Type 0} → Once F (MutBor Body × Unit {0}) (T × (MutBor Body × Unit {0})) → F → State → ℕ → Type 0
+StaysRegular {T = T} g change s p =
+    IsRegular s → (b c : Body) (r : T) → lookup p s.processes ≡ Some (process_of p (parent_of p s.processes) b) → FnOnceReturnsAtMut g change b r c → IsRegular (record s { processes = with_body s.processes p c })
+
+-- it has another process group or session
+abbrev pub has_moved : Seen → Seen → Bool
+has_moved old new = not (old.group == new.group) || not (old.session == new.session)
+
+-- the rows hold the numbers that it bears, and can hold those that it comes to bear
+pub record CanMoveNumbers (p : Pids) (old new : Seen) : Type 0 where
+  pub group_range : old.group ≤ p.pidmax
+  pub session_range : old.session ≤ p.pidmax
+  pub to_group_range : new.group ≤ p.pidmax
+  pub to_session_range : new.session ≤ p.pidmax
+  pub group_count : 1 ≤ (row p.rows old.group).group
+  pub session_count : 1 ≤ (row p.rows old.session).session
+  pub to_group_count : (row p.rows new.group).group < 4294967295
+  pub to_session_count : (row p.rows new.session).session < 4294967295
