@@ -44,6 +44,8 @@ const NOTE_AND_EXIT: &[u8] =
 
 const OFF_THE_END: &[u8] = b"pidmax 40\nconsoles 1\nprogram init\nset r1, 7\nend\n";
 
+const GREATEST: &[u8] = b"pidmax 32768\nconsoles 8\nprogram init\nsys fork\nsys exit\nend\n";
+
 const UNKNOWN_WORD: &[u8] = b"pidmax 40\nconsoles 1\nprogram init\nfly away\nend\n";
 
 const UNKNOWN_NAME: &[u8] = b"pidmax 40\nconsoles 1\nprogram init\njmp away\nend\n";
@@ -121,6 +123,18 @@ fn texts_are_run(rt: HostRuntime) {
         OFF_THE_END,
         b"step 2\n",
         b"2 end 1 11\n2 halt\n",
+        b"",
+        0,
+    );
+}
+
+#[test]
+fn a_world_of_the_greatest_limits_is_run(rt: HostRuntime) {
+    expect_run(
+        &rt,
+        GREATEST,
+        b"step 2\n",
+        b"1 call 1 fork = 2\n2 end 1 0\n2 halt\n",
         b"",
         0,
     );

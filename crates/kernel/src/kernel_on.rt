@@ -9,6 +9,7 @@ ghost use Rattle.posix.specs.NextPid.{is_free};
 ghost use Rattle.posix.specs.Runs.{RunsFrom};
 ghost use Rattle.posix.specs.Step.{IsStep};
 ghost use Rattle.posix.specs.Regular.{IsRegular};
+ghost use Rattle.posix.specs.Settle.{IsSettled};
 ghost use Rattle.text.specs.EventTexts.{most_events};
 ghost use Rattle.kernel.specs.Steps.{event_changes_one, last_given, noted_lines};
 ghost use Rattle.kernel.specs.Views.{KernelView};
@@ -53,13 +54,14 @@ impl<K: Kin> Model for KernelOn<K> {
 }
 
 impl<K: Kin> KernelOn<K> {
-    /// The machine at its start; an error where there is no memory for it. No lines agree with its state, and in
-    /// a world whose numbers are within their ranges the state is orderly (`laws::lines_tell_of_states`).
+    /// The machine at its start; an error where there is no memory for it. The empty trace agrees with its state, and
+    /// in a world whose numbers are within their ranges the state is orderly (`laws::lines_tell_of_states`).
     pub fn boot(alloc: Global, world: &World) -> Result<Self, AllocError>
         ensures state { IfOk result (λ k. k.state ≡ boot_of world.now) }
         ensures events { IfOk result (λ k. k.events ≡ 0) }
         ensures reads { IfOk result (λ k. k.reads ≤ 6) }
         ensures regular { IfOk result (λ k. IsRegular k.state) }
+        ensures settled { IfOk result (λ k. IsSettled k.state) }
         ensures orderly { IfOk result (λ k. IsWorld world.now → IsOrderly k.state) }
         ensures agrees { IfOk result (λ k. Agree [] 0 k.state) }
     {
@@ -96,6 +98,9 @@ impl<K: Kin> KernelOn<K> {
     /// was refused; so there is no error. After a halt the state stays, nothing is shown, and the event is
     /// counted.
     ///
+    /// Nothing is left to settle after an event, as at the boot, so no wake-up is lost (`laws::no_wake_is_lost`), and
+    /// the law of refused calls (`laws::refusals_change_little`) holds of the event that comes next.
+    ///
     /// Lines that agree with the state before agree, with those of the event, with the state after it, so what
     /// is shown from the boot on keeps the laws of a trace (`laws::traces_keep_laws`). From an orderly state, and
     /// by a key of a byte, each line has its form. Who is born has a number that was free.
@@ -105,6 +110,7 @@ impl<K: Kin> KernelOn<K> {
         ensures events { self.new.events ≡ self.old.events + 1 }
         ensures halted { self.old.state.halted ≡ true → (result.items ≡ []) × (self.new.state ≡ self.old.state) }
         ensures regular { IsRegular self.new.state }
+        ensures settled { IsSettled self.new.state }
         ensures orderly { IsEvent event → IsOrderly self.old.state → IsOrderly self.new.state }
         ensures forms { IsEvent event → IsOrderly self.old.state → list_all is_line (numbered self.new.events result.items) ≡ true }
         ensures agrees { (lines : List Line) → Agree lines self.old.events self.old.state → Agree (lines ++ numbered self.new.events result.items) self.new.events self.new.state }
@@ -119,8 +125,8 @@ impl<K: Kin> KernelOn<K> {
     /// Events `Step`, at least one, up to the one with number `last`: as many as the current process runs plain
     /// instructions and such as give a note, until there are 32 notes, or with the one after them where that is a
     /// call or a machine fault. The notes, and what the last event shows besides, are added to lists that are
-    /// empty. Whose notes they are, where there are any. Of all these lines holds what [`KernelOn::event`] says of
-    /// its lines.
+    /// empty. Whose notes they are, where there are any. Of all these lines, and of the state after them, holds what
+    /// [`KernelOn::event`] says of its own.
     #[inline]
     pub fn steps(&mut self, last: u64, notes: &mut Notes, entries: &mut Entries) -> Pid
         requires few { last ≤ most_events }
@@ -132,6 +138,7 @@ impl<K: Kin> KernelOn<K> {
         ensures within { self.new.events ≤ last }
         ensures runs { RunsFrom (self.old.events + 1) self.old.state (replicate (self.new.events - self.old.events) Event.Step) (noted_lines result notes.new.items ++ numbered self.new.events entries.new.items) self.new.state }
         ensures regular { IsRegular self.new.state }
+        ensures settled { IsSettled self.new.state }
         ensures orderly { IsOrderly self.old.state → IsOrderly self.new.state }
         ensures forms { IsOrderly self.old.state → list_all is_line (noted_lines result notes.new.items ++ numbered self.new.events entries.new.items) ≡ true }
         ensures agrees { (lines : List Line) → Agree lines self.old.events self.old.state → Agree (lines ++ (noted_lines result notes.new.items ++ numbered self.new.events entries.new.items)) self.new.events self.new.state }
@@ -169,6 +176,7 @@ impl<K: Kin> KernelOn<K> {
         ensures events { self.new.events ≡ self.old.events + 1 }
         ensures halted { self.old.state.halted ≡ true → (entries.new.items ≡ []) × (self.new.state ≡ self.old.state) }
         ensures regular { IsRegular self.new.state }
+        ensures settled { IsSettled self.new.state }
         ensures orderly { IsEvent event → IsOrderly self.old.state → IsOrderly self.new.state }
         ensures forms { IsEvent event → IsOrderly self.old.state → list_all is_line (numbered self.new.events entries.new.items) ≡ true }
         ensures agrees { (lines : List Line) → Agree lines self.old.events self.old.state → Agree (lines ++ numbered self.new.events entries.new.items) self.new.events self.new.state }

@@ -1,7 +1,7 @@
 //! A run, from two texts to a printed trace.
 
-ghost use Rattle.std.specs.Prelude.{IfOk};
-ghost use Rattle.kernel.specs.Headline.{Headline};
+ghost use Rattle.std.specs.Prelude.{◌≡◌, IfOk};
+ghost use Rattle.kernel.specs.Headline.{Headline, refused};
 ghost use Rattle.kernel.specs.Accounts.{Accounts};
 
 use crate::kernel_on::KernelOn;
@@ -30,6 +30,26 @@ pub enum RunError {
     Write,
 }
 
+/// What a run answers where its world text is refused. Want of memory is no fault of the text.
+fn world_error(fault: TextFault) -> RunError
+    ensures { result ≡ refused fault.reason (RunError.World fault) }
+{
+    match fault.reason {
+        Reason::Memory => RunError::Memory,
+        _ => RunError::World(fault),
+    }
+}
+
+/// What it answers where its event text is refused.
+fn events_error(fault: TextFault) -> RunError
+    ensures { result ≡ refused fault.reason (RunError.Events fault) }
+{
+    match fault.reason {
+        Reason::Memory => RunError::Memory,
+        _ => RunError::Events(fault),
+    }
+}
+
 /// Runs the events of a text in the world of another, on a table of processes, and puts the printed
 /// trace into a sink.
 ///
@@ -47,16 +67,8 @@ pub fn run_on<K: Kin, S: Sink>(
     ensures headline { Headline world.now events.now out.old out.new (S.seen out.old) (S.seen out.new) result }
     ensures accounts { IfOk result (λ summary. Accounts (S.seen out.old) (S.seen out.new) summary) }
 {
-    let world = read_world(alloc, world).map_err(|fault| match fault.reason {
-        Reason::Memory => RunError::Memory,
-        _ => RunError::World(fault),
-    })?;
-    let events = read_events(alloc, world.consoles(), events).map_err(
-        |fault| match fault.reason {
-            Reason::Memory => RunError::Memory,
-            _ => RunError::Events(fault),
-        },
-    )?;
+    let world = read_world(alloc, world).map_err(world_error)?;
+    let events = read_events(alloc, world.consoles(), events).map_err(events_error)?;
     let mut kernel = KernelOn::<K>::boot(alloc, &world).map_err(|_| RunError::Memory)?;
     match write_trace(&mut kernel, &events, out) {
         Ok(ends) => Ok(kernel.summary(ends)),

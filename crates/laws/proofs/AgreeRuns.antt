@@ -109,7 +109,7 @@ first_turns w = record { turns = λ p r e found stops. one p r (1 == p) found st
     one p r true found stops = let same : first_process ≡ r = cc in let no : false ≡ true = ap (λ (r : Process). is_stopped r.life) same ∙ stops in absurd (cc)
     one p r false found stops = absurd (cc)
 
--- no lines agree with the start
+-- the empty trace agrees with the start
 pub first_agrees : (w : World) → Agree [] 0 (boot w)
 unfolding kept_of newest_life lookup
 first_agrees w = record { laws = laws_none; number = omega arith; records = λ p. one p (cases_eq p 1); born = refl; counts = refl; phase = refl }
@@ -120,7 +120,7 @@ first_agrees w = record { laws = laws_none; number = omega arith; records = λ p
 
 -- ---- traces
 
--- the start is orderly, and no lines are its trace
+-- the start is orderly, and the empty trace is its trace
 pub first_orderly : (w : World) → IsWorld w → IsOrderly (boot w)
 first_orderly w h = record { turns = first_turns w; kinds = first_kinds w h }
 

@@ -196,7 +196,7 @@ pub fn traces_keep_laws()
 /// dropped; and where the state is halted exactly where the last line is `halt`. A regular state is orderly
 /// where who has a place while it is stopped is to be killed, and all parts are of their kinds.
 ///
-/// The start is orderly, and no lines are its trace. An event from a regular and orderly state leads to an
+/// The start is orderly, and the empty trace is its trace. An event from a regular and orderly state leads to an
 /// orderly one, and the lines so far with those of the event are the trace of that. Whoever is born has a
 /// number that no process, process group or session had in the state before. So the lines of a run are the
 /// trace of its last state, and in any world they agree with it.

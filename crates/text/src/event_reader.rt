@@ -1,6 +1,6 @@
 //! Event texts, read in pieces.
 
-ghost use Rattle.std.specs.Prelude.{◌≡◌, ◌-◌, ◌≤◌, [], ◌∷◌, ◌++◌, length, List, ℕ, Some, None, Ok, Err, MatchResult, IfOk, IfErr, IfSome, IsSome};
+ghost use Rattle.std.specs.Prelude.{◌≡◌, ◌≢◌, ◌-◌, ◌^◌, ◌<◌, ◌≤◌, [], ◌∷◌, ◌++◌, length, List, ℕ, Some, None, Ok, Err, MatchResult, IfOk, IfErr, IfSome, IsOk, IsSome};
 ghost use Rattle.text.specs.Words.{words};
 ghost use Rattle.text.specs.Reading.{Answers, IsFaultOf};
 ghost use Rattle.text.specs.EventTexts.{Adds, EndsLine, Meets, HasRead, event_line as event_line_of, counted as counted_of, keys as keys_of, bytes_within as bytes_within_of, event_text, most_events};
@@ -25,6 +25,7 @@ fn add_counted(list: &mut EventList, event: Event, line: &[u8]) -> Result<(), Re
     requires { length list.old ≤ most_events }
     ensures adds { Adds list.old list.new result (counted_of (most_events - length list.old) event (words line.now)) }
     ensures within { length list.new ≤ most_events }
+    ensures some { counted_of (most_events - length list.old) event (words line.now) ≢ Ok [] }
 {
     let (word, rest) = first_word(line)?;
     let count = u64::from(number_in(1, 1_000_000, word)?);
@@ -69,6 +70,7 @@ fn add_keys(list: &mut EventList, consoles: u8, line: &[u8]) -> Result<(), Reaso
     requires short { length line.now ≤ 200 }
     ensures adds { Adds list.old list.new result (keys_of consoles (most_events - length list.old) (words line.now)) }
     ensures within { length list.new ≤ most_events }
+    ensures some { keys_of consoles (most_events - length list.old) (words line.now) ≢ Ok [] }
 {
     let (word, rest) = first_word(line)?;
     let console = number_in(1, u32::from(consoles), word)? as u8;
@@ -80,11 +82,13 @@ fn add_keys(list: &mut EventList, consoles: u8, line: &[u8]) -> Result<(), Reaso
     Ok(())
 }
 
-/// Adds the events of a line in a world of so many consoles. After an error the list is unchanged.
+/// Adds the events of a line in a world of so many consoles. After an error the list is unchanged. A line that
+/// stands for no events takes no memory, so it has no error.
 fn add_line(list: &mut EventList, consoles: u8, line: &[u8]) -> Result<(), Reason>
     requires { length list.old ≤ most_events }
     ensures adds { Adds list.old list.new result (event_line_of consoles (most_events - length list.old) line.now) }
     ensures within { length list.new ≤ most_events }
+    ensures none { event_line_of consoles (most_events - length list.old) line.now ≡ Ok [] → IsOk result }
 {
     let Some((word, rest)) = next_word(words_within(line)?) else {
         return Ok(());
@@ -147,11 +151,13 @@ impl EventReader {
         self.consoles
     }
 
-    /// Judges the line that has come.
+    /// Judges the line that has come. One that stands for no events has no fault, while the lines are fewer than
+    /// 64 bits count.
     fn end_line(&mut self)
         requires { self.old.reading.fault ≡ None }
         ensures ends { EndsLine self.old self.new }
         ensures consoles { self.new.consoles ≡ self.old.consoles }
+        ensures none { self.old.reading.lines < 2 ^ 64 - 1 → event_line_of self.old.consoles (most_events - length self.old.reading.events) self.old.partial ≡ Ok [] → self.new.reading.fault ≡ None }
     {
         if self.lines == u64::MAX {
             self.fault = Some(TextFault {

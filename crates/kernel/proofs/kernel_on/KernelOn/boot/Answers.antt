@@ -18,6 +18,9 @@ invariant_of-result g c =
       subst AreTurns (sym is) (first_turns c.args.world.now),
     )
 
+pub returns-clause-settled : goal.returns-clause-settled
+returns-clause-settled g c = subst IsSettled (sym c.in_ok-boot.ensures.state) (first_settled c.args.world.now)
+
 pub returns-clause-orderly : goal.returns-clause-orderly
 returns-clause-orderly g c = λ ranges. subst IsOrderly (sym c.in_ok-boot.ensures.state) (first_orderly c.args.world.now ranges)
 

@@ -30,6 +30,9 @@ returns-clause-halted g c = λ e.
     let o = sym c.next.ensures.step.comes ∙ next_halted c.next.ensures.step.granted c.self.inside.machine.state c.args.event halted in
     (ap (λ (o : Outcome). o.entries) o, ap (λ (o : Outcome). o.state) o ∙ ap (λ (k : KernelView). k.state) c.self.view_is)
 
+pub returns-clause-settled : goal.returns-clause-settled
+returns-clause-settled g c = settled_stays c.self.inside.machine.state c.next.new.machine.state c.args.event _ c.next.ensures.step c.self.invariant.2
+
 pub returns-clause-orderly : goal.returns-clause-orderly
 returns-clause-orderly g c = λ ranges old.
     step_orderly c.self.inside.machine.state c.next.new.machine.state c.args.event _ c.next.ensures.step ranges c.self.invariant.3 (subst (λ (k : KernelView). IsOrderly k.state) (sym c.self.view_is) old)

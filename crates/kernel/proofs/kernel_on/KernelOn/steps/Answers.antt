@@ -50,6 +50,7 @@ returns-in_default g c =
       runs = step_after c.args.self.now.events b.result.last _ _ _ _ _ _ _ _ (subst (λ (n : ℕ). Bursts c.self.inside.machine.state n b.result.last b.result.pid b.new.notes.items b.new.machine.state) events b.ensures.runs) (omega (arith, b.ensures.from, events)) now c.event_into-in_default.ensures.step
           c.event_into-in_default.ensures.events;
       regular = c.event_into-in_default.ensures.regular;
+      settled = c.event_into-in_default.ensures.settled;
       orderly = told.orderly;
       forms = told.forms;
       agrees = told.agrees (subst (λ (k : KernelView). AreTurns k.state) c.self.view_is c.self.invariant.6);
@@ -78,6 +79,12 @@ invariant_of-self-in_default g c =
     let b = c.burst-done in
     let k = burst_keeps c.self.inside.events b.result.last b.result.pid c.self.inside.machine.state b.new.machine.state b.new.notes.items b.ensures.runs b.ensures.from old.0 old.1 old.3 old.6 in
     (k.0, k.1, b.ensures.runs.settled, b.ensures.regular, b.ensures.asked ∙ old.4, b.ensures.stale ∙ old.5, k.2)
+
+pub returns-then-not-is_followed_by_step-clause-settled : goal.returns-then-not-is_followed_by_step-clause-settled
+returns-then-not-is_followed_by_step-clause-settled g c = c.burst-done.ensures.runs.settled
+
+pub returns-clause-settled : goal.returns-clause-settled
+returns-clause-settled g c = settled_stays c.burst-done.new.machine.state c.call_next.new.machine.state Step _ c.call_next.ensures.step c.burst-done.ensures.runs.settled
 
 -- what the lines tell where no step follows the burst
 told_alone : (g : Over) (c : goal.Then-not-is_followed_by_step g)
