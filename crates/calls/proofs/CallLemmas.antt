@@ -48,11 +48,11 @@ again_is s (outcome.Block b) xs ys n h = absurd h
 again_is s (outcome.Again t) xs ys n h = (ap outcome.Again (sym h.1), h.0)
 
 -- a call that gives z in t: the code gave v in b, and these are the same
-pub gives_is : (s t b n : State) (a : outcome.Attempted) (p : ℕ) (call : Call) (v z : ℤ) (xs ys : List Entry) (r : Attempt) → a ≡ outcome.gives t p call z
+pub gives_is : (s t b n : State) (a : outcome.Attempted) (p : ℕ) (call : Call) (v z : ℤ) (xs ys : List Entry) (r : Attempt) → a ≡ outcome.finish_with t p call z
     → r ≡ came.Done → n ≡ outcome.finish b p ((0, v) ∷ []) → b ≡ t → ys ≡ xs ++ Called p call v ∷ [] → v ≡ z → Comes s a r xs ys n
 gives_is s t b n a p call v z xs ys r is done state before shown same =
     subst (λ x. Comes s x r xs ys n) (sym is)
-    (subst (λ q. Comes s (outcome.gives t p call z) q xs ys n) (sym done)
+    (subst (λ q. Comes s (outcome.finish_with t p call z) q xs ys n) (sym done)
     (shown ∙ ap (λ w. xs ++ Called p call w ∷ []) same, state ∙ ap (λ (u : State). outcome.finish u p ((0, v) ∷ [])) before ∙ ap (λ w. outcome.finish t p ((0, w) ∷ [])) same))
 
 -- one change of a process after another
@@ -65,7 +65,7 @@ changed_then p f g keeps (r ∷ rs) = elim (r.pid == p) as (λ b. (r.pid == p) �
 ] refl
 
 -- a call that gives z, and changes its process before that
-pub answers_then : (s : State) (p : ℕ) (call : Call) (z : ℤ) (g : Process → Process) → ((r : Process) → (g r).pid ≡ r.pid) → outcome.answers s p call (record { value = z; changes = g }) ≡ outcome.gives (change s p g) p call z
+pub answers_then : (s : State) (p : ℕ) (call : Call) (z : ℤ) (g : Process → Process) → ((r : Process) → (g r).pid ≡ r.pid) → outcome.finish_call s p call (record { value = z; changes = g }) ≡ outcome.finish_with (change s p g) p call z
 answers_then s p call z g keeps = ap (λ rs. outcome.Done (outcome_of (record s { processes = rs }) (Called p call z ∷ []))) (sym (changed_then p (outcome.finished ((0, z) ∷ [])) g keeps s.processes))
 
 -- a call that reports a child in t: the code did so in b, which is the same

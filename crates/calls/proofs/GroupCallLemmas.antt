@@ -31,13 +31,13 @@ abbrev pub is_session_refused : State → Process → Bool
 is_session_refused s me = me.group == me.pid || is_group_of_others me s.processes
 
 abbrev setsid_if : State → Process → Bool → outcome.Attempted
-setsid_if s me b = cond b (outcome.refused s me.pid Setsid EPERM) (outcome.gives (change s me.pid in_session) me.pid Setsid (pos me.pid))
+setsid_if s me b = cond b (outcome.refused s me.pid Setsid EPERM) (outcome.finish_with (change s me.pid in_session) me.pid Setsid (pos me.pid))
 
 pub session_refused : (s : State) (me : Process) → is_session_refused s me ≡ true → setsid s me ≡ outcome.refused s me.pid Setsid EPERM
 unfolding setsid
 session_refused s me e = ap (setsid_if s me) e
 
-pub session_led : (s : State) (me : Process) → is_session_refused s me ≡ false → setsid s me ≡ outcome.gives (change s me.pid in_session) me.pid Setsid (pos me.pid)
+pub session_led : (s : State) (me : Process) → is_session_refused s me ≡ false → setsid s me ≡ outcome.finish_with (change s me.pid in_session) me.pid Setsid (pos me.pid)
 unfolding setsid
 session_led s me e = ap (setsid_if s me) e
 

@@ -8,7 +8,7 @@ use Rattle.posix.specs.Processes.{Process}
 use Rattle.posix.specs.Consoles.{Console, console_of, with_foreground}
 use Rattle.posix.specs.States.{State, process}
 use Rattle.posix.specs.Regular.{IsRegular}
-use Rattle.posix.specs.Outcomes.{Attempted, gives, refused}
+use Rattle.posix.specs.Outcomes.{Attempted, finish_with, refused}
 use Rattle.posix.specs.GroupCalls.{is_group_of}
 use Rattle.posix.specs.Terminals.{change_console, may_acquire, put_foreground}
 use Rattle.life.specs.declared.caller.Caller.{Caller}
@@ -60,7 +60,7 @@ acquirable s r c e = elim (console_of r.session s.consoles) as (λ o. (r.session
 
 -- which process group becomes the foreground one where a register names one
 abbrev pub foreground_or : State → Process → ℕ → Bool → Attempted
-foreground_or s r g b = cond b (gives (change_console s r.session (with_foreground g)) r.pid Tcsetpgrp (pos 0)) (refused s r.pid Tcsetpgrp EPERM)
+foreground_or s r g b = cond b (finish_with (change_console s r.session (with_foreground g)) r.pid Tcsetpgrp (pos 0)) (refused s r.pid Tcsetpgrp EPERM)
 
 -- a number that is not negative is that of a group, which may have a member in the session
 pub names_group : (s : State) (r : Process) (z : ℤ) (g : ℕ) (b : Bool) → natural_in z ≡ Some g → is_group_of r.session g s.processes ≡ b → put_foreground s r z ≡ foreground_or s r g b

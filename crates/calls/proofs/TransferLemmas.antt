@@ -12,7 +12,7 @@ use Rattle.posix.specs.Consoles.{Console, console_of, changed_console, lines_lef
 use Rattle.posix.specs.States.{State, change}
 use Rattle.posix.specs.Regular.{AreConsoles}
 use Rattle.posix.specs.Outcomes as outcome
-use Rattle.posix.specs.Terminals.{change_console, moved, with_bytes, read_from}
+use Rattle.posix.specs.Terminals.{change_console, finish_moved, with_bytes, read_from}
 use Rattle.posix.proofs.ConsoleLemmas.{place_of, changed_at_place}
 use Rattle.tty.specs.Lines.{TakesLine}
 use Rattle.calls.specs.declared.outcome.Attempt.{Attempt}
@@ -33,12 +33,12 @@ console_there (Some c) h = record { what = c; found = refl }
 
 -- at least one was moved, and shown
 pub moved_is : (s n : State) (p : ℕ) (call : Call) (bytes : List ℕ) (z : ℤ) (xs ys : List Entry) → length bytes ≢ 0 → z ≡ pos (length bytes) → n ≡ outcome.finish s p ((0, z) ∷ [])
-    → ys ≡ xs ++ Moved p call bytes ∷ [] → Comes s (moved s p call bytes) came.Done xs ys n
+    → ys ≡ xs ++ Moved p call bytes ∷ [] → Comes s (finish_moved s p call bytes) came.Done xs ys n
 moved_is s n p call [] z xs ys some value state shown = absurd (some refl)
 moved_is s n p call (b ∷ bs) z xs ys some value state shown = (shown, state ∙ ap (λ x. outcome.finish s p ((0, x) ∷ [])) value)
 
 -- it is done, whatever state that began in
-pub moved_since : (s t u : State) (p : ℕ) (call : Call) (bytes : List ℕ) (r : Attempt) (xs ys : List Entry) (n : State) → Comes t (moved u p call bytes) r xs ys n → Comes s (moved u p call bytes) r xs ys n
+pub moved_since : (s t u : State) (p : ℕ) (call : Call) (bytes : List ℕ) (r : Attempt) (xs ys : List Entry) (n : State) → Comes t (finish_moved u p call bytes) r xs ys n → Comes s (finish_moved u p call bytes) r xs ys n
 moved_since s t u p call [] came.Done xs ys n h = h
 moved_since s t u p call [] came.Again xs ys n h = absurd h
 moved_since s t u p call [] (came.Block b) xs ys n h = absurd h
@@ -68,7 +68,7 @@ after_read s r span bytes = change (change_console s r.session (line_taken span.
 
 -- else it moves bytes of the first
 pub read_some : (s : State) (r : Process) (span : Span) (lines : List (List ℕ)) (bytes : List ℕ) → first_bytes span.count lines ≡ Some bytes
-    → read_from s r span lines ≡ moved (after_read s r span bytes) r.pid Read bytes
+    → read_from s r span lines ≡ finish_moved (after_read s r span bytes) r.pid Read bytes
 read_some s r span [] bytes e = absurd (cc)
 read_some s r span (line ∷ rest) bytes e = let same : take span.count line ≡ bytes = cc in rw same refl
 

@@ -6,14 +6,14 @@ use Rattle.posix.specs.States.{State}
 use Rattle.posix.specs.Consoles.{Console}
 use Rattle.posix.specs.Outcomes.{Attempted}
 use Rattle.posix.specs.Groups.{is_orphaned}
-use Rattle.posix.specs.Terminals.{is_in_background, spurns}
+use Rattle.posix.specs.Terminals.{is_in_background, blocks_or_ignores}
 use Rattle.calls.specs.declared.background.Access.{Access}
 use Rattle.calls.specs.declared.background.Access.TheVariants.{Allowed, Refused, Signalled}
 
 -- to change it or write to it
 abbrev pub change_access_of : State → Process → Console → Access
 change_access_of s me c =
-    if not (is_in_background me c) || spurns me TTOU then Allowed
+    if not (is_in_background me c) || blocks_or_ignores me TTOU then Allowed
     else if is_orphaned me.group s.processes then Refused
     else Signalled
 
@@ -21,7 +21,7 @@ change_access_of s me c =
 abbrev pub read_access_of : State → Process → Console → Access
 read_access_of s me c =
     if not (is_in_background me c) then Allowed
-    else if spurns me TTIN || is_orphaned me.group s.processes then Refused
+    else if blocks_or_ignores me TTIN || is_orphaned me.group s.processes then Refused
     else Signalled
 
 -- to write to it: only where TOSTOP is set does it matter who writes

@@ -10,18 +10,18 @@ use Rattle.posix.specs.States.{State, process, has_place}
 use Rattle.posix.specs.Regular.{IsPlaced}
 use Rattle.posix.specs.Outcomes as outcome
 use Rattle.posix.specs.Attempts.{attempt}
-use Rattle.proctable.specs.declared.own.Own.{Own}
-use Rattle.proctable.specs.Body.{give_own}
+use Rattle.proctable.specs.declared.own_part.OwnPart.{OwnPart}
+use Rattle.proctable.specs.Records.{give_own}
 use Rattle.life.specs.Machines.{MachineView}
 use Rattle.calls.specs.declared.outcome.Attempt.{Attempt}
 use Rattle.calls.specs.declared.outcome.Attempt.TheVariants as came
 
--- At most so many slots were read, nobody was put on the list of those to ask, and whether a foreground process group
+-- At most so many slots were read, nobody was put on the list of those to recheck, and whether a foreground process group
 -- may have lost its members is as before.
 pub record CostsAtMost (most : ℕ) (old new : MachineView) : Type 0 where
-  pub reads : new.reads ≤ old.reads + most
-  pub asked : new.asked ≡ old.asked
-  pub stale : new.stale ≡ old.stale
+  pub visits : new.visits ≤ old.visits + most
+  pub to_recheck : new.to_recheck ≡ old.to_recheck
+  pub foregrounds_unchecked : new.foregrounds_unchecked ≡ old.foregrounds_unchecked
 
 -- ---- attempts
 
@@ -48,34 +48,34 @@ pub record IsActing (s : State) (p : ℕ) : Type 0 where
   pub place : has_place s p ≡ true
 
 -- the process p, whose own part this is
-abbrev pub with_own : ℕ → Own → Process → Process
+abbrev pub with_own : ℕ → OwnPart → Process → Process
 with_own p o r = record (give_own o r) { pid = p }
 
 -- ---- calls that change their process alone
 
-abbrev pub is_own : Call → Bool
-is_own Exit = false
-is_own Fork = false
-is_own Waitpid = false
-is_own Pause = false
-is_own SchedYield = false
-is_own Getppid = false
-is_own Kill = false
-is_own Sigsuspend = false
-is_own Sigreturn = false
-is_own Alarm = false
-is_own Exec = false
-is_own Getpgid = false
-is_own Getsid = false
-is_own Setpgid = false
-is_own Setsid = false
-is_own Setctty = false
-is_own Tcgetpgrp = false
-is_own Tcsetpgrp = false
-is_own Settostop = false
-is_own Read = false
-is_own Write = false
-is_own call = true
+abbrev pub changes_caller_alone : Call → Bool
+changes_caller_alone Exit = false
+changes_caller_alone Fork = false
+changes_caller_alone Waitpid = false
+changes_caller_alone Pause = false
+changes_caller_alone SchedYield = false
+changes_caller_alone Getppid = false
+changes_caller_alone Kill = false
+changes_caller_alone Sigsuspend = false
+changes_caller_alone Sigreturn = false
+changes_caller_alone Alarm = false
+changes_caller_alone Exec = false
+changes_caller_alone Getpgid = false
+changes_caller_alone Getsid = false
+changes_caller_alone Setpgid = false
+changes_caller_alone Setsid = false
+changes_caller_alone Setctty = false
+changes_caller_alone Tcgetpgrp = false
+changes_caller_alone Tcsetpgrp = false
+changes_caller_alone Settostop = false
+changes_caller_alone Read = false
+changes_caller_alone Write = false
+changes_caller_alone call = true
 
 -- what a call gives that is done, or refused
 abbrev pub value_of : Result (Unit {0}) Errno → ℤ
@@ -83,19 +83,19 @@ value_of (Ok done) = pos 0
 value_of (Err why) = outcome.refusal why
 
 -- The reply was given, and its changes were made.
-pub record Replies (reply : outcome.Reply) (value : ℤ) (old new : Own) : Type 0 where
+pub record Replies (reply : outcome.Reply) (value : ℤ) (old new : OwnPart) : Type 0 where
   pub given : value ≡ reply.value
   pub changed : (r : Process) → give_own new r ≡ reply.changes (give_own old r)
 
 -- The call of the process me has this reply, and so it was done.
-pub record RepliesTo (me : Process) (call : Call) (value : ℤ) (old new : Own) : Type 0 where
+pub record RepliesTo (me : Process) (call : Call) (value : ℤ) (old new : OwnPart) : Type 0 where
   pub reply : outcome.Reply
-  pub attempts : (granted : Bool) (s : State) → attempt granted s me call ≡ outcome.answers s me.pid call reply
+  pub attempts : (granted : Bool) (s : State) → attempt granted s me call ≡ outcome.finish_call s me.pid call reply
   pub replies : Replies reply value old new
 
 -- It was answered, and is shown.
-pub record Answers (me : Process) (call : Call) (old new : Own) (before after : List Entry) : Type 0 where
+pub record Answers (me : Process) (call : Call) (old new : OwnPart) (before after : List Entry) : Type 0 where
   pub reply : outcome.Reply
-  pub attempts : (granted : Bool) (s : State) → attempt granted s me call ≡ outcome.answers s me.pid call reply
+  pub attempts : (granted : Bool) (s : State) → attempt granted s me call ≡ outcome.finish_call s me.pid call reply
   pub left : (r : Process) → give_own new r ≡ outcome.finished ((0, reply.value) ∷ []) (reply.changes (give_own old r))
   pub shown : after ≡ before ++ Called me.pid call reply.value ∷ []

@@ -4,7 +4,7 @@ use Rattle.posix.specs.declared.call.Call.TheVariants.{Settostop}
 use Rattle.posix.specs.Processes.{Process, argument}
 use Rattle.posix.specs.States.{State}
 use Rattle.posix.specs.Consoles.{with_tostop}
-use Rattle.posix.specs.Outcomes.{Attempted, gives}
+use Rattle.posix.specs.Outcomes.{Attempted, finish_with}
 use Rattle.posix.specs.Terminals.{change_console, is_nonzero}
 
 -- the number in a register, unless it is negative
@@ -14,7 +14,7 @@ natural_in (negsuc n) = None
 
 -- TOSTOP of its terminal is set where r1 isn't 0
 abbrev pub putting_tostop : State → Process → Attempted
-putting_tostop s me = gives (change_console s me.session (with_tostop (is_nonzero (argument me 1)))) me.pid Settostop (pos 0)
+putting_tostop s me = finish_with (change_console s me.session (with_tostop (is_nonzero (argument me 1)))) me.pid Settostop (pos 0)
 
 -- at most n bytes of the first line, if there is one
 abbrev pub first_bytes : ℕ → List (List ℕ) → Option (List ℕ)

@@ -8,7 +8,7 @@ ghost use Rattle.posix.specs.Regular.{IsPlaced};
 ghost use Rattle.posix.specs.Outcomes.{finish, refusal as refusal_of};
 ghost use Rattle.posix.specs.Alarms.{most_ticks, ticks_in as ticks_in_word};
 ghost use Rattle.posix.specs.Attempts.{attempt_again as attempting_again};
-ghost use Rattle.calls.specs.Outcomes.{Comes, Attempts, IsActing, CostsAtMost, is_own};
+ghost use Rattle.calls.specs.Outcomes.{Comes, Attempts, IsActing, CostsAtMost, changes_caller_alone};
 
 use crate::delivery::{end, return_from_handler};
 use crate::entries::Entries;
@@ -16,7 +16,7 @@ use crate::groups::{getpgid, getsid, setpgid, setsid};
 use crate::kills::kill;
 use crate::outcome::Attempt;
 use crate::programs::exec;
-use crate::replies::{answer, own_call, refusal};
+use crate::replies::{finish_call, own_call, refusal};
 use crate::terminals::{setctty, settostop, tcgetpgrp, tcsetpgrp};
 use crate::transfers::{read, write};
 use crate::waits::wait;
@@ -25,7 +25,7 @@ use posix::{Blocked, Call, Entry, Errno, Pid, Register, Status};
 use proctable::Kin;
 
 /// The call of a process that is there gives a value.
-pub fn gives<K: Kin>(
+pub fn finish_with<K: Kin>(
     machine: &mut Machine<K>,
     pid: Pid,
     call: Call,
@@ -38,7 +38,7 @@ pub fn gives<K: Kin>(
     ensures state { machine.new.state ≡ finish machine.old.state pid ((0, value) ∷ []) }
     ensures shown { entries.new.items ≡ entries.old.items ++ Called pid call value ∷ [] }
 {
-    answer(machine.own(pid), pid, call, value, entries);
+    finish_call(machine.own(pid), pid, call, value, entries);
     Attempt::Done
 }
 
@@ -56,7 +56,7 @@ pub fn refuse<K: Kin>(
     ensures state { machine.new.state ≡ finish machine.old.state pid ((0, refusal_of errno) ∷ []) }
     ensures shown { entries.new.items ≡ entries.old.items ++ Called pid call (refusal_of errno) ∷ [] }
 {
-    gives(machine, pid, call, refusal(errno), entries)
+    finish_with(machine, pid, call, refusal(errno), entries)
 }
 
 /// The number of the caller's parent (XSH getppid).
@@ -67,7 +67,7 @@ fn getppid<K: Kin>(machine: &mut Machine<K>, pid: Pid, entries: &mut Entries) ->
     ensures { Attempts machine.old.state pid Call.Getppid result entries.old.items entries.new.items machine.new.state }
 {
     let parent = machine.parent(pid);
-    gives(
+    finish_with(
         machine,
         pid,
         Call::Getppid,
@@ -84,7 +84,7 @@ fn sched_yield<K: Kin>(machine: &mut Machine<K>, pid: Pid, entries: &mut Entries
     ensures { Attempts machine.old.state pid Call.SchedYield result entries.old.items entries.new.items machine.new.state }
 {
     machine.go_last(pid);
-    gives(machine, pid, Call::SchedYield, 0, entries)
+    finish_with(machine, pid, Call::SchedYield, 0, entries)
 }
 
 /// A child like the caller is born (XSH fork).
@@ -99,7 +99,7 @@ fn fork<K: Kin>(machine: &mut Machine<K>, pid: Pid, entries: &mut Entries) -> At
         return refuse(machine, pid, Call::Fork, Errno::EAGAIN, entries);
     };
     match machine.fork(pid, child) {
-        Ok(()) => gives(machine, pid, Call::Fork, i64::from(child.number()), entries),
+        Ok(()) => finish_with(machine, pid, Call::Fork, i64::from(child.number()), entries),
         Err(_) => {
             machine.own(pid).finish(refusal(Errno::EAGAIN));
             entries.push(Entry::NoMemory {
@@ -157,7 +157,7 @@ fn alarm<K: Kin>(machine: &mut Machine<K>, pid: Pid, entries: &mut Entries) -> A
         return refuse(machine, pid, Call::Alarm, Errno::EINVAL, entries);
     };
     let left = machine.set_alarm(pid, ticks);
-    gives(machine, pid, Call::Alarm, left as i64, entries)
+    finish_with(machine, pid, Call::Alarm, left as i64, entries)
 }
 
 /// A process that has a place attempts a call. Where it has to wait nothing has changed, and the call that
@@ -175,7 +175,7 @@ pub fn attempt<K: Kin>(
     requires time { machine.old.state.ticks + most_ticks < 2 ^ 64 }
     requires none { entries.old.items ≡ [] }
     ensures attempts { Attempts machine.old.state pid call result entries.old.items entries.new.items machine.new.state }
-    ensures own { is_own call ≡ true → (result ≡ Attempt.Done) × CostsAtMost 1 machine.old machine.new }
+    ensures own { changes_caller_alone call ≡ true → (result ≡ Attempt.Done) × CostsAtMost 1 machine.old machine.new }
 {
     match call {
         Call::Exit => exit(machine, pid, entries),

@@ -5,7 +5,7 @@ ghost use Rattle.posix.specs.Processes.{Process};
 ghost use Rattle.posix.specs.Consoles.{Console};
 ghost use Rattle.posix.specs.States.{process};
 ghost use Rattle.posix.specs.Generation.{is_ignored as is_ignored_by};
-ghost use Rattle.posix.specs.Terminals.{is_in_background as is_in_background_of, spurns as spurns_signal};
+ghost use Rattle.posix.specs.Terminals.{is_in_background as is_in_background_of, blocks_or_ignores as blocks_or_ignores_signal};
 ghost use Rattle.posix.specs.Ends.{signalled_group};
 ghost use Rattle.life.specs.Callers.{caller_of};
 ghost use Rattle.life.specs.Consoles.{terminal_of};
@@ -43,9 +43,9 @@ fn is_in_background(me: &Caller, terminal: &Terminal) -> bool
 }
 
 /// Whether a process that is there blocks or ignores a signal. Nothing changes.
-fn spurns<K: Kin>(machine: &mut Machine<K>, pid: Pid, sig: Sig) -> bool
+fn blocks_or_ignores<K: Kin>(machine: &mut Machine<K>, pid: Pid, sig: Sig) -> bool
     requires { IsSome (process machine.old.state pid) }
-    ensures value { (me : Process) → process machine.old.state pid ≡ Some me → result ≡ spurns_signal me sig }
+    ensures value { (me : Process) → process machine.old.state pid ≡ Some me → result ≡ blocks_or_ignores_signal me sig }
     ensures same { machine.new.state ≡ machine.old.state }
 {
     let signals = &machine.look(pid).signals;
@@ -63,7 +63,7 @@ pub(crate) fn change_access<K: Kin>(
     ensures value { (r : Process) (c : Console) → process machine.old.state me.now.pid ≡ Some r → me.now ≡ caller_of r → terminal.now ≡ terminal_of c → result ≡ change_access_of machine.old.state r c }
     ensures same { machine.new.state ≡ machine.old.state }
 {
-    if !is_in_background(me, terminal) || spurns(machine, me.pid, Sig::TTOU) {
+    if !is_in_background(me, terminal) || blocks_or_ignores(machine, me.pid, Sig::TTOU) {
         return Access::Allowed;
     }
     if machine.is_orphaned(me.group) {
@@ -87,7 +87,7 @@ pub(crate) fn read_access<K: Kin>(
     if !is_in_background(me, terminal) {
         return Access::Allowed;
     }
-    if spurns(machine, me.pid, Sig::TTIN) || machine.is_orphaned(me.group) {
+    if blocks_or_ignores(machine, me.pid, Sig::TTIN) || machine.is_orphaned(me.group) {
         Access::Refused
     } else {
         Access::Signalled

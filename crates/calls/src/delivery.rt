@@ -105,8 +105,8 @@ fn is_stop_discarded<K: Kin>(machine: &mut Machine<K>, pid: Pid, sig: Sig) -> bo
     if sig == Sig::STOP {
         return false;
     }
-    match machine.facts(pid) {
-        Some(facts) => machine.is_orphaned(facts.group),
+    match machine.snapshot(pid) {
+        Some(snapshot) => machine.is_orphaned(snapshot.group),
         None => false,
     }
 }

@@ -5,21 +5,21 @@ ghost use Rattle.posix.specs.Processes.{Process, argument};
 ghost use Rattle.posix.specs.States.{process};
 ghost use Rattle.posix.specs.Regular.{IsPlaced};
 ghost use Rattle.posix.specs.GroupCalls.{named as named_by};
-ghost use Rattle.proctable.specs.Body.{facts_of};
+ghost use Rattle.proctable.specs.Records.{snapshot_of};
 ghost use Rattle.calls.specs.Outcomes.{Attempts};
 
-use crate::attempts::{gives, refuse};
+use crate::attempts::{finish_with, refuse};
 use crate::entries::Entries;
 use crate::outcome::Attempt;
 use life::Machine;
 use posix::{Call, Errno, Pid, Register};
-use proctable::{Facts, Kin};
+use proctable::{Kin, Snapshot};
 
 /// The small fields of the process that the first argument of a caller that is there names, 0 being the
 /// caller; none where no process has that number. Nothing changes.
-fn named<K: Kin>(machine: &mut Machine<K>, pid: Pid) -> Option<Facts>
+fn named<K: Kin>(machine: &mut Machine<K>, pid: Pid) -> Option<Snapshot>
     requires { IsSome (process machine.old.state pid) }
-    ensures value { (me : Process) → process machine.old.state pid ≡ Some me → result ≡ option_map facts_of (named_by me (argument me 1) machine.old.state.processes) }
+    ensures value { (me : Process) → process machine.old.state pid ≡ Some me → result ≡ option_map snapshot_of (named_by me (argument me 1) machine.old.state.processes) }
     ensures same { machine.new.state ≡ machine.old.state }
 {
     let word = machine.look(pid).cpu.register(Register::FIRST_ARGUMENT);
@@ -36,7 +36,7 @@ pub fn getpgid<K: Kin>(machine: &mut Machine<K>, pid: Pid, entries: &mut Entries
     let Some(it) = named(machine, pid) else {
         return refuse(machine, pid, Call::Getpgid, Errno::ESRCH, entries);
     };
-    gives(
+    finish_with(
         machine,
         pid,
         Call::Getpgid,
@@ -55,7 +55,7 @@ pub fn getsid<K: Kin>(machine: &mut Machine<K>, pid: Pid, entries: &mut Entries)
     let Some(it) = named(machine, pid) else {
         return refuse(machine, pid, Call::Getsid, Errno::ESRCH, entries);
     };
-    gives(
+    finish_with(
         machine,
         pid,
         Call::Getsid,
@@ -73,7 +73,7 @@ pub fn setpgid<K: Kin>(machine: &mut Machine<K>, pid: Pid, entries: &mut Entries
 {
     let me = machine.caller(pid);
     match machine.move_group(&me) {
-        Ok(_) => gives(machine, pid, Call::Setpgid, 0, entries),
+        Ok(_) => finish_with(machine, pid, Call::Setpgid, 0, entries),
         Err(errno) => refuse(machine, pid, Call::Setpgid, errno, entries),
     }
 }
@@ -86,7 +86,7 @@ pub fn setsid<K: Kin>(machine: &mut Machine<K>, pid: Pid, entries: &mut Entries)
     ensures { Attempts machine.old.state pid Call.Setsid result entries.old.items entries.new.items machine.new.state }
 {
     match machine.new_session(pid) {
-        Ok(()) => gives(machine, pid, Call::Setsid, i64::from(pid.number()), entries),
+        Ok(()) => finish_with(machine, pid, Call::Setsid, i64::from(pid.number()), entries),
         Err(errno) => refuse(machine, pid, Call::Setsid, errno, entries),
     }
 }

@@ -6,7 +6,7 @@ ghost use Rattle.posix.specs.States.{process};
 ghost use Rattle.life.specs.Callers.{process_like};
 ghost use Rattle.calls.specs.Outcomes.{Attempts, Comes};
 
-use crate::attempts::{gives, refuse};
+use crate::attempts::{finish_with, refuse};
 use crate::entries::Entries;
 use crate::outcome::Attempt;
 use crate::replies::signal_in;
@@ -41,7 +41,7 @@ fn kill_as<K: Kin>(machine: &mut Machine<K>, me: &Caller, entries: &mut Entries)
     match machine.send(me, me.target(), sig) {
         Sending::NobodyFound => refuse(machine, me.pid, Call::Kill, Errno::ESRCH, entries),
         Sending::NobodyPermitted => refuse(machine, me.pid, Call::Kill, Errno::EPERM, entries),
-        Sending::Permitted => gives(machine, me.pid, Call::Kill, 0, entries),
+        Sending::Permitted => finish_with(machine, me.pid, Call::Kill, 0, entries),
     }
 }
 

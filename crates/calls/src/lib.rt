@@ -16,4 +16,5 @@ pub mod waits;
 
 pub use attempts::{attempt, attempt_again};
 pub use entries::Entries;
+pub use transfers::has_to_read;
 pub use waits::has_to_wait;

@@ -7,14 +7,14 @@ ghost use Rattle.posix.specs.Processes.{Process, argument};
 ghost use Rattle.posix.specs.Outcomes.{finished, refusal as refusal_of};
 ghost use Rattle.posix.specs.Sends.{signal_in as signal_number_in};
 ghost use Rattle.posix.specs.SignalCalls.{handler_word as handler_word_of, handler_in as handler_held_in, is_question as is_question_in, are_flags, action_in as action_held_in, sigaction as sigaction_of, sigprocmask as sigprocmask_of, sigpending as sigpending_of, holding};
-ghost use Rattle.proctable.specs.Body.{give_own};
-ghost use Rattle.calls.specs.Outcomes.{Replies, RepliesTo, Answers, is_own, value_of, with_own};
+ghost use Rattle.proctable.specs.Records.{give_own};
+ghost use Rattle.calls.specs.Outcomes.{Replies, RepliesTo, Answers, changes_caller_alone, value_of, with_own};
 
 use crate::entries::Entries;
 use crate::outcome::Attempt;
 use bitflags::Flags;
 use posix::{Action, Call, Entry, Errno, Handler, How, Pid, Register, SaFlags, Sig, SigSet};
-use proctable::Own;
+use proctable::OwnPart;
 
 // ---- results
 
@@ -36,7 +36,7 @@ fn word_of(done: Result<(), Errno>) -> i64
 }
 
 /// The call of a process, with this of its own, gives a value, and the process leaves it.
-pub fn answer(own: &mut Own, pid: Pid, call: Call, value: i64, entries: &mut Entries)
+pub fn finish_call(own: &mut OwnPart, pid: Pid, call: Call, value: i64, entries: &mut Entries)
     requires { length entries.old.items ≤ 3 }
     ensures left { (r : Process) → give_own own.new r ≡ finished ((0, value) ∷ []) (give_own own.old r) }
     ensures shown { entries.new.items ≡ entries.old.items ++ Called pid call value ∷ [] }
@@ -101,7 +101,7 @@ fn flags_in(word: i64) -> Option<SaFlags>
 
 /// The action in r2, r3 and r4 of a process with this of its own; none where r4 has a bit that is no
 /// flag's.
-fn action_in(own: &Own) -> Option<Action>
+fn action_in(own: &OwnPart) -> Option<Action>
     ensures known { (r : Process) → is_some result ≡ are_flags (cast_unsigned w64 (argument (give_own own.now r) 4)) }
     ensures value { (r : Process) → IfSome result (λ a. a ≡ action_held_in (give_own own.now r)) }
 {
@@ -119,7 +119,7 @@ fn action_in(own: &Own) -> Option<Action>
 
 /// Shows an action in r2, r3 and r4.
 #[tactic(auto, unfolding(posix::specs::Outcomes::written))]
-fn hold(own: &mut Own, action: &Action)
+fn show_action_in_registers(own: &mut OwnPart, action: &Action)
     ensures { (r : Process) → give_own own.new r ≡ holding action.now (give_own own.old r) }
 {
     let cpu = &mut own.cpu;
@@ -130,7 +130,7 @@ fn hold(own: &mut Own, action: &Action)
 
 /// Asks for the action for a signal, or sets it (XSH sigaction).
 #[tactic(auto, unfolding(posix::specs::SignalCalls::sigaction, posix::specs::SignalCalls::give_signals))]
-fn sigaction(own: &mut Own) -> Result<(), Errno>
+fn sigaction(own: &mut OwnPart) -> Result<(), Errno>
     ensures { (r : Process) → Replies (sigaction_of (give_own own.old r)) (value_of result) own.old own.new }
 {
     let Some(sig) = signal_in(own.cpu.register(Register::FIRST_ARGUMENT)) else {
@@ -138,7 +138,7 @@ fn sigaction(own: &mut Own) -> Result<(), Errno>
     };
     let old = own.signals.action(sig);
     if is_question(own.cpu.register(Register::SECOND_ARGUMENT)) {
-        hold(own, &old);
+        show_action_in_registers(own, &old);
         return Ok(());
     }
     let Some(action) = action_in(own) else {
@@ -146,7 +146,7 @@ fn sigaction(own: &mut Own) -> Result<(), Errno>
     };
     match own.signals.set_action(sig, action) {
         Ok(()) => {
-            hold(own, &old);
+            show_action_in_registers(own, &old);
             Ok(())
         }
         Err(errno) => Err(errno),
@@ -155,7 +155,7 @@ fn sigaction(own: &mut Own) -> Result<(), Errno>
 
 /// Changes the signal mask (XSH sigprocmask).
 #[tactic(auto, unfolding(posix::specs::SignalCalls::sigprocmask, posix::specs::SignalCalls::give_signals, posix::specs::Outcomes::written))]
-fn sigprocmask(own: &mut Own) -> Result<(), Errno>
+fn sigprocmask(own: &mut OwnPart) -> Result<(), Errno>
     ensures { (r : Process) → Replies (sigprocmask_of (give_own own.old r)) (value_of result) own.old own.new }
 {
     let Some(how) = How::from_word(own.cpu.register(Register::FIRST_ARGUMENT)) else {
@@ -170,7 +170,7 @@ fn sigprocmask(own: &mut Own) -> Result<(), Errno>
 
 /// The set of pending signals (XSH sigpending).
 #[tactic(auto, unfolding(posix::specs::SignalCalls::sigpending, posix::specs::Outcomes::written))]
-fn sigpending(own: &mut Own) -> Result<(), Errno>
+fn sigpending(own: &mut OwnPart) -> Result<(), Errno>
     ensures { (r : Process) → Replies (sigpending_of (give_own own.old r)) (value_of result) own.old own.new }
 {
     own.cpu
@@ -180,8 +180,8 @@ fn sigpending(own: &mut Own) -> Result<(), Errno>
 
 /// What a call of a process, with this of its own, gives, that changes the process alone.
 #[tactic(auto, unfolding(posix::specs::Attempts::attempt, posix::specs::SignalCalls::give_credentials))]
-fn reply(own: &mut Own, pid: Pid, call: Call) -> i64
-    requires { is_own call ≡ true }
+fn reply(own: &mut OwnPart, pid: Pid, call: Call) -> i64
+    requires { changes_caller_alone call ≡ true }
     ensures { (r : Process) → RepliesTo (with_own pid own.old r) call result own.old own.new }
 {
     let argument = own.cpu.register(Register::FIRST_ARGUMENT);
@@ -203,13 +203,13 @@ fn reply(own: &mut Own, pid: Pid, call: Call) -> i64
 }
 
 /// A call of a process, with this of its own, that changes the process alone.
-pub fn own_call(own: &mut Own, pid: Pid, call: Call, entries: &mut Entries) -> Attempt
-    requires own { is_own call ≡ true }
+pub fn own_call(own: &mut OwnPart, pid: Pid, call: Call, entries: &mut Entries) -> Attempt
+    requires own { changes_caller_alone call ≡ true }
     requires room { length entries.old.items ≤ 3 }
     ensures done { result ≡ Attempt.Done }
     ensures answers { (r : Process) → Answers (with_own pid own.old r) call own.old own.new entries.old.items entries.new.items }
 {
     let value = reply(own, pid, call);
-    answer(own, pid, call, value, entries);
+    finish_call(own, pid, call, value, entries);
     Attempt::Done
 }

@@ -6,13 +6,13 @@ ghost use Rattle.posix.specs.Processes.{Process, argument};
 ghost use Rattle.posix.specs.Consoles.{Console};
 ghost use Rattle.posix.specs.States.{process};
 ghost use Rattle.posix.specs.Regular.{IsRegular};
-ghost use Rattle.posix.specs.Terminals.{place_named as place_named_by, setctty_of, may_acquire as may_acquire_by, foreground_told as foreground_told_of, put_foreground as putting_foreground, tcsetpgrp_on as tcsetpgrp_of, settostop_on as settostop_of};
+ghost use Rattle.posix.specs.Terminals.{console_named as console_named_by, setctty_of, may_acquire as may_acquire_by, foreground_told as foreground_told_of, put_foreground as putting_foreground, tcsetpgrp_on as tcsetpgrp_of, settostop_on as settostop_of};
 ghost use Rattle.life.specs.Callers.{caller_of};
 ghost use Rattle.life.specs.Consoles.{terminal_of};
 ghost use Rattle.calls.specs.Outcomes.{Attempts, Comes};
 ghost use Rattle.calls.specs.Terminals.{natural_in as natural_number_in, putting_tostop};
 
-use crate::attempts::{gives, refuse};
+use crate::attempts::{finish_with, refuse};
 use crate::background::{Access, change_access, signal_own_group};
 use crate::entries::Entries;
 use crate::outcome::Attempt;
@@ -22,9 +22,9 @@ use proctable::Kin;
 
 // ---- setctty
 
-/// The place of the console that a register names: consoles count from 1.
-fn place_named(word: i64) -> Option<usize>
-    ensures { result ≡ place_named_by word }
+/// The index of the console that a register names: consoles count from 1.
+fn console_named(word: i64) -> Option<usize>
+    ensures { result ≡ console_named_by word }
 {
     usize::try_from(word).ok()?.checked_sub(1)
 }
@@ -36,25 +36,25 @@ fn may_acquire<K: Kin>(machine: &Machine<K>, me: &Caller, session: Pid) -> bool
     me.session == me.pid && machine.terminal(me.session).is_none() && session == Pid::NONE
 }
 
-/// A caller that is there asks for the console in a place, which is the terminal of this session; number 0 is nobody's.
+/// A caller that is there asks for the console with this index, the terminal of this session; number 0 is nobody's.
 fn acquire<K: Kin>(
     machine: &mut Machine<K>,
     me: &Caller,
-    place: usize,
+    console_index: usize,
     session: Pid,
     entries: &mut Entries,
 ) -> Attempt
     requires there { IsSome (process machine.old.state me.now.pid) }
     requires caller { (r : Process) → process machine.old.state me.now.pid ≡ Some r → me.now ≡ caller_of r }
-    requires place { Some session ≡ option_map (λ (c : Console). c.session) (slice_get machine.old.state.consoles place) }
+    requires console_index { Some session ≡ option_map (λ (c : Console). c.session) (slice_get machine.old.state.consoles console_index) }
     requires room { length entries.old.items ≤ 1 }
-    ensures { (r : Process) (c : Console) → process machine.old.state me.now.pid ≡ Some r → slice_get machine.old.state.consoles place ≡ Some c → Comes machine.old.state (setctty_of machine.old.state r place (Some c)) result entries.old.items entries.new.items machine.new.state }
+    ensures { (r : Process) (c : Console) → process machine.old.state me.now.pid ≡ Some r → slice_get machine.old.state.consoles console_index ≡ Some c → Comes machine.old.state (setctty_of machine.old.state r console_index (Some c)) result entries.old.items entries.new.items machine.new.state }
 {
     if !may_acquire(machine, me, session) {
         return refuse(machine, me.pid, Call::Setctty, Errno::EPERM, entries);
     }
-    machine.acquire_console(place, me.session, me.group);
-    gives(machine, me.pid, Call::Setctty, 0, entries)
+    machine.acquire_console(console_index, me.session, me.group);
+    finish_with(machine, me.pid, Call::Setctty, 0, entries)
 }
 
 /// The console in r1 becomes the controlling terminal of the session that the caller leads, with the caller's process
@@ -68,13 +68,13 @@ pub fn setctty<K: Kin>(machine: &mut Machine<K>, pid: Pid, entries: &mut Entries
     ensures { Attempts machine.old.state pid Call.Setctty result entries.old.items entries.new.items machine.new.state }
 {
     let me = machine.caller(pid);
-    let Some(place) = place_named(me.r1) else {
+    let Some(console_index) = console_named(me.r1) else {
         return refuse(machine, pid, Call::Setctty, Errno::ENOENT, entries);
     };
-    let Some(session) = machine.session_at(place) else {
+    let Some(session) = machine.session_at(console_index) else {
         return refuse(machine, pid, Call::Setctty, Errno::ENOENT, entries);
     };
-    acquire(machine, &me, place, session, entries)
+    acquire(machine, &me, console_index, session, entries)
 }
 
 // ---- tcgetpgrp
@@ -103,7 +103,7 @@ pub fn tcgetpgrp<K: Kin>(machine: &mut Machine<K>, pid: Pid, entries: &mut Entri
         return refuse(machine, pid, Call::Tcgetpgrp, Errno::ENOTTY, entries);
     };
     let told = foreground_told(machine.pidmax(), terminal.foreground);
-    gives(machine, pid, Call::Tcgetpgrp, told, entries)
+    finish_with(machine, pid, Call::Tcgetpgrp, told, entries)
 }
 
 // ---- tcsetpgrp
@@ -131,7 +131,7 @@ fn put_foreground<K: Kin>(machine: &mut Machine<K>, me: &Caller, entries: &mut E
         return refuse(machine, me.pid, Call::Tcsetpgrp, Errno::EPERM, entries);
     };
     machine.set_foreground(me.session, group);
-    gives(machine, me.pid, Call::Tcsetpgrp, 0, entries)
+    finish_with(machine, me.pid, Call::Tcsetpgrp, 0, entries)
 }
 
 /// The same by a caller that has this terminal, where the rule for the background allows it.
@@ -182,7 +182,7 @@ fn put_tostop<K: Kin>(machine: &mut Machine<K>, me: &Caller, entries: &mut Entri
     ensures { (r : Process) → process machine.old.state me.now.pid ≡ Some r → Comes machine.old.state (putting_tostop machine.old.state r) result entries.old.items entries.new.items machine.new.state }
 {
     machine.set_tostop(me.session, me.r1 != 0);
-    gives(machine, me.pid, Call::Settostop, 0, entries)
+    finish_with(machine, me.pid, Call::Settostop, 0, entries)
 }
 
 /// The same by a caller that has this terminal, where the rule for the background allows it.

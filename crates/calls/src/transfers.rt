@@ -1,27 +1,28 @@
 //! Bytes between a process and its terminal (XSH read, write).
 
-ghost use Rattle.std.specs.Prelude.{◌≡◌, ◌≢◌, ◌+◌, ◌≤◌, length, IsSome, Some, Ok};
+ghost use Rattle.std.specs.Prelude.{◌≡◌, ◌≢◌, ◌+◌, ◌≤◌, length, IsSome, Some, Ok, option_map};
 ghost use Rattle.posix.specs.Processes.{Process};
 ghost use Rattle.posix.specs.Consoles.{Console, console_of, line_taken};
 ghost use Rattle.posix.specs.States.{process, change};
 ghost use Rattle.posix.specs.Regular.{IsRegular};
-ghost use Rattle.posix.specs.Terminals.{change_console, moved as moved_by, with_bytes, read as reading, read_in, read_from, write as writing, write_in};
+ghost use Rattle.posix.specs.Terminals.{change_console, finish_moved as finish_moved_of, with_bytes, read as reading, read_in, read_from, write as writing, write_in, waits_to_read};
+ghost use Rattle.proctable.specs.Records.{snapshot_of};
 ghost use Rattle.life.specs.Callers.{caller_of};
 ghost use Rattle.life.specs.Consoles.{terminal_of};
 ghost use Rattle.calls.specs.Outcomes.{Comes};
 ghost use Rattle.calls.specs.Terminals.{first_bytes};
 
-use crate::attempts::{gives, refuse};
+use crate::attempts::{finish_with, refuse};
 use crate::background::{Access, read_access, signal_own_group, write_access};
 use crate::entries::Entries;
 use crate::outcome::Attempt;
 use life::{Caller, Machine, Terminal};
-use posix::{Blocked, Bytes, Call, Entry, Errno, Pid, Sig, Span};
-use proctable::Kin;
+use posix::{Blocked, Bytes, Call, Entry, Errno, Pid, Register, Sig, Span};
+use proctable::{Kin, Snapshot};
 
 /// The call of a process that is there moved these bytes, and gives their number; where there are none it shows no
 /// more than that.
-fn moved<K: Kin>(
+fn finish_moved<K: Kin>(
     machine: &mut Machine<K>,
     pid: Pid,
     call: Call,
@@ -30,11 +31,11 @@ fn moved<K: Kin>(
 ) -> Attempt
     requires there { IsSome (process machine.old.state pid) }
     requires room { length entries.old.items ≤ 3 }
-    ensures { Comes machine.old.state (moved_by machine.old.state pid call bytes) result entries.old.items entries.new.items machine.new.state }
+    ensures { Comes machine.old.state (finish_moved_of machine.old.state pid call bytes) result entries.old.items entries.new.items machine.new.state }
 {
     let count = bytes.as_slice().len();
     if count == 0 {
-        return gives(machine, pid, call, 0, entries);
+        return finish_with(machine, pid, call, 0, entries);
     }
     machine.own(pid).finish(count as i64);
     entries.push(Entry::Moved { pid, call, bytes });
@@ -89,7 +90,7 @@ fn read_line<K: Kin>(
         return Attempt::Block(Blocked::Read);
     };
     store(machine, me.pid, span.address, bytes.as_slice());
-    moved(machine, me.pid, Call::Read, bytes, entries)
+    finish_moved(machine, me.pid, Call::Read, bytes, entries)
 }
 
 /// A read into the words of a span by a caller that is there, with this terminal. A count of 0 takes nothing.
@@ -110,7 +111,7 @@ fn read_span<K: Kin>(
     ensures { (r : Process) (c : Console) → process machine.old.state me.now.pid ≡ Some r → console_of r.session machine.old.state.consoles ≡ Some c → terminal.now ≡ terminal_of c → Comes machine.old.state (read_in machine.old.state r c (Ok span)) result entries.old.items entries.new.items machine.new.state }
 {
     match read_access(machine, me, terminal) {
-        Access::Allowed if span.count == 0 => gives(machine, me.pid, Call::Read, 0, entries),
+        Access::Allowed if span.count == 0 => finish_with(machine, me.pid, Call::Read, 0, entries),
         Access::Allowed => read_line(machine, me, span, entries),
         Access::Refused => refuse(machine, me.pid, Call::Read, Errno::EIO, entries),
         Access::Signalled => signal_own_group(machine, me, Sig::TTIN),
@@ -138,6 +139,30 @@ pub fn read<K: Kin>(machine: &mut Machine<K>, pid: Pid, entries: &mut Entries) -
     }
 }
 
+/// Whether a read of a process that is there, with this snapshot, would have to wait: its process group is the
+/// foreground one of its controlling terminal, it asks for bytes, and no line is finished (XBD 11.1.4,
+/// 11.1.6).
+#[tactic(auto, unfolding(posix::specs::Terminals::waits_to_read))]
+pub fn has_to_read<K: Kin>(machine: &mut Machine<K>, pid: Pid, snapshot: Snapshot) -> bool
+    requires there { IsSome (process machine.old.state pid) }
+    requires snapshot { Some snapshot ≡ option_map snapshot_of (process machine.old.state pid) }
+    ensures value { (me : Process) → process machine.old.state pid ≡ Some me → result ≡ waits_to_read machine.old.state.consoles me }
+    ensures same { machine.new.state ≡ machine.old.state }
+    ensures to_recheck { machine.new.to_recheck ≡ machine.old.to_recheck }
+    ensures foregrounds_unchecked { machine.new.foregrounds_unchecked ≡ machine.old.foregrounds_unchecked }
+{
+    let Some(terminal) = machine.terminal(snapshot.session) else {
+        return false;
+    };
+    let cpu = &machine.look(pid).cpu;
+    let address = cpu.register(Register::FIRST_ARGUMENT);
+    let count = cpu.register(Register::SECOND_ARGUMENT);
+    match Span::from_words(address, count) {
+        Ok(span) => snapshot.group == terminal.foreground && span.count != 0 && !terminal.has_line,
+        Err(_) => false,
+    }
+}
+
 // ---- write
 
 /// A write of the words of a span by a caller that is there, with this terminal.
@@ -158,7 +183,7 @@ fn write_span<K: Kin>(
     match write_access(machine, me, terminal) {
         Access::Allowed => {
             let bytes = machine.look(me.pid).cpu.bytes(span);
-            moved(machine, me.pid, Call::Write, bytes, entries)
+            finish_moved(machine, me.pid, Call::Write, bytes, entries)
         }
         Access::Refused => refuse(machine, me.pid, Call::Write, Errno::EIO, entries),
         Access::Signalled => signal_own_group(machine, me, Sig::TTOU),

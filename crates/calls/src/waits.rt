@@ -11,7 +11,7 @@ ghost use Rattle.posix.specs.Settle.{is_block};
 ghost use Rattle.life.specs.Callers.{process_like};
 ghost use Rattle.calls.specs.Outcomes.{Comes};
 
-use crate::attempts::{gives, refuse};
+use crate::attempts::{finish_with, refuse};
 use crate::entries::Entries;
 use crate::outcome::Attempt;
 use bitflags::Flags;
@@ -62,7 +62,7 @@ fn wait_as<K: Kin>(machine: &mut Machine<K>, me: &Caller, entries: &mut Entries)
         Report::NoChild => refuse(machine, me.pid, Call::Waitpid, Errno::ECHILD, entries),
         Report::Nothing => {
             if options.contains(WaitOptions::WNOHANG) {
-                gives(machine, me.pid, Call::Waitpid, 0, entries)
+                finish_with(machine, me.pid, Call::Waitpid, 0, entries)
             } else {
                 Attempt::Block(Blocked::Waitpid)
             }
@@ -95,8 +95,8 @@ fn would_wait<K: Kin>(machine: &mut Machine<K>, me: &Caller) -> bool
     requires { IsSome (process machine.old.state me.now.pid) }
     ensures value { result ≡ is_block (waiting machine.old.state (process_like me.now)) }
     ensures same { machine.new.state ≡ machine.old.state }
-    ensures asked { machine.new.asked ≡ machine.old.asked }
-    ensures stale { machine.new.stale ≡ machine.old.stale }
+    ensures to_recheck { machine.new.to_recheck ≡ machine.old.to_recheck }
+    ensures foregrounds_unchecked { machine.new.foregrounds_unchecked ≡ machine.old.foregrounds_unchecked }
 {
     let Some(options) = options_of(me) else {
         return false;
@@ -112,8 +112,8 @@ pub fn has_to_wait<K: Kin>(machine: &mut Machine<K>, pid: Pid) -> bool
     requires { IsSome (process machine.old.state pid) }
     ensures value { (me : Process) → process machine.old.state pid ≡ Some me → result ≡ is_block (waiting machine.old.state me) }
     ensures same { machine.new.state ≡ machine.old.state }
-    ensures asked { machine.new.asked ≡ machine.old.asked }
-    ensures stale { machine.new.stale ≡ machine.old.stale }
+    ensures to_recheck { machine.new.to_recheck ≡ machine.old.to_recheck }
+    ensures foregrounds_unchecked { machine.new.foregrounds_unchecked ≡ machine.old.foregrounds_unchecked }
 {
     let me = machine.caller(pid);
     would_wait(machine, &me)

@@ -8,7 +8,7 @@ use creds::Creds;
 use life::Machine;
 use pidalloc::{PidTable, Role};
 use posix::{Life, News, Pid, Register, Report, Status, Target, WaitOptions};
-use proctable::{Body, Facts, Kin, ProcTable, ScanTable};
+use proctable::{Kin, ProcTable, Record, ScanTable, Snapshot};
 use sched::Order;
 use std::alloc::{AllocError, Global};
 use std::process::Abort;
@@ -98,7 +98,7 @@ fn family<K: Kin>(alloc: Global) -> Result<K, AllocError>
     ensures childless { IfOk result (λ t. children_in 2 (K.contents t) ≡ []) }
 {
     let mut table = K::empty(alloc);
-    let first = Body::first(alloc)?;
+    let first = Record::first(alloc)?;
     let child = first.fork(2, None)?;
     table.reserve()?;
     table.insert(Pid::INIT, Pid::NONE, first);
@@ -108,8 +108,8 @@ fn family<K: Kin>(alloc: Global) -> Result<K, AllocError>
 }
 
 /// The small fields of process 2 in such a table.
-fn child() -> Facts {
-    Facts {
+fn child() -> Snapshot {
+    Snapshot {
         pid: pid(2),
         parent: Pid::INIT,
         group: Pid::INIT,
@@ -142,14 +142,14 @@ fn change_family<K: Kin, R: Abort + AllocGlobal>(rt: &R) -> Result<(), Fail> {
     let two = pid(2);
     table.adopt(Pid::INIT, two);
     let parent = two;
-    assert!(rt; table.get(two) == Some(Facts { parent, ..child() }));
+    assert!(rt; table.get(two) == Some(Snapshot { parent, ..child() }));
     let mut table = family::<K>(rt.alloc())?;
     table.remove(two);
     assert!(rt; table.get(two) == None);
     let mut table = family::<K>(rt.alloc())?;
     table.update(two).make_zombie(Status::exited(7));
     let life = Life::Zombie(Status::exited(7));
-    assert!(rt; table.get(two) == Some(Facts { life, ..child() }));
+    assert!(rt; table.get(two) == Some(Snapshot { life, ..child() }));
     Ok(())
 }
 
@@ -173,9 +173,9 @@ fn a_machine_has_births_and_ends(rt: HostRuntime) -> Result<(), Fail> {
     let child = pid(2);
     assert!(rt; machine.next_pid() == Some(child));
     machine.fork(Pid::INIT, child)?;
-    assert!(rt; machine.facts(child).is_some());
+    assert!(rt; machine.snapshot(child).is_some());
     machine.end(child, Pid::INIT, Status::exited(5));
-    assert!(rt; machine.facts(Pid::INIT).is_some());
+    assert!(rt; machine.snapshot(Pid::INIT).is_some());
     let parent = machine.caller(Pid::INIT);
     let report = machine.wait_attempt(&parent, Target::All, WaitOptions::WNOHANG);
     assert_eq!(rt; report, Report::End(child, Status::exited(5)));

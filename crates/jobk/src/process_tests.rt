@@ -2,12 +2,12 @@
 
 ghost use Rattle.std.specs.Prelude.{◌≡◌, refl};
 ghost use Rattle.std.proofs.Common.{arith};
-ghost use Rattle.proctable.specs.ScanTable.{scan_with_body};
+ghost use Rattle.proctable.specs.ScanTable.{scan_with_record};
 
 use crate::tests::{expect_run, expect_run_on};
 use kernel::{KernelOn, RunError, Summary, WriteSink, run, run_on};
 use posix::{Event, Pid};
-use proctable::{Body, Facts, Kin, ProcTable, ScanTable, Spare};
+use proctable::{Kin, ProcTable, Record, ScanTable, Snapshot, Spare};
 use std::alloc::{AllocError, Global};
 use std::process::Abort;
 use std::test::Fail;
@@ -298,11 +298,11 @@ impl<const REFUSED: usize> Kin for RefusingTable<REFUSED> {
 
     ghost room = { λ t. t.table.room };
 
-    ghost reads = { λ t. 0 };
+    ghost visits = { λ t. 0 };
 
     ghost one_more = { λ n. n };
 
-    ghost put = { λ t p b. record t { table = scan_with_body t.table p b } };
+    ghost put = { λ t p b. record t { table = scan_with_record t.table p b } };
 
     ghost puts = { λ t p b. refl };
 
@@ -328,15 +328,15 @@ impl<const REFUSED: usize> Kin for RefusingTable<REFUSED> {
         made
     }
 
-    fn insert(&mut self, pid: Pid, parent: Pid, body: Body) {
-        self.table.insert(pid, parent, body);
+    fn insert(&mut self, pid: Pid, parent: Pid, fields: Record) {
+        self.table.insert(pid, parent, fields);
     }
 
-    fn get(&mut self, pid: Pid) -> Option<Facts> {
+    fn get(&mut self, pid: Pid) -> Option<Snapshot> {
         self.table.get(pid)
     }
 
-    fn update(&mut self, pid: Pid) -> &mut Body {
+    fn update(&mut self, pid: Pid) -> &mut Record {
         self.table.update(pid)
     }
 

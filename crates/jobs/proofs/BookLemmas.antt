@@ -4,7 +4,7 @@ use Rattle.std.specs.Prelude.{option_and_then}
 use Rattle.std.specs.List.{list_any}
 use Rattle.std.proofs.lemmas.Bool.Decides.{nat_tests}
 use Rattle.posix.specs.Processes.{Process, is_zombie, is_stopped}
-use Rattle.posix.specs.Tables.{IsRising, lookup, adopted, reparented, above, first_pid, is_child, children_in, members_in}
+use Rattle.posix.specs.Tables.{IsRising, lookup, adopted, reparented, above, first_pid, is_child, children_in}
 use Rattle.posix.specs.Waits.{is_news, has_report, reporting_in}
 use Rattle.posix.specs.Alarms.{is_due}
 use Rattle.pidset.specs.Indexes.{ArePairs, IndexView, IsReplaced, IsRekeyed, IsNextPair, is_key, key_of}
@@ -12,7 +12,7 @@ use Rattle.pidset.proofs.IndexLemmas.{IsElsewhere, can_replace, indexed_moved, i
 use Rattle.posix.proofs.TableLemmas.{pid_reparented}
 use Rattle.jobs.specs.declared.books.Books.{Books}
 use Rattle.jobs.specs.declared.books.Seen.{Seen}
-use Rattle.jobs.specs.Books.{AreBooks, CanMove, AreMoved, lesser, room_in, seen_of, report_in, report_key, stopped_in, stopped_key, member_in, member_key, alarm_in, alarm_key}
+use Rattle.jobs.specs.Books.{AreBooks, CanMove, AreMoved, lesser, room_in, seen_of, report_in, report_key, stopped_in, stopped_key, alarm_in, alarm_key}
 
 -- ---- one process
 
@@ -20,43 +20,39 @@ use Rattle.jobs.specs.Books.{AreBooks, CanMove, AreMoved, lesser, room_in, seen_
 pub record Sees (p parent : ℕ) (it : Option Seen) (rs : List Process) : Type 0 where
   pub reporting : key_of report_key p rs ≡ report_in parent it
   pub stopped : key_of stopped_key p rs ≡ stopped_in it
-  pub members : key_of member_key p rs ≡ member_in it
   pub alarmed : key_of alarm_key p rs ≡ alarm_in it
 
 pub sees : (p : ℕ) (r : Process) (rs : List Process) → lookup p rs ≡ Some r → Sees p r.parent (Some (seen_of r)) rs
-sees p r rs e = record { reporting = ap (option_and_then report_key) e; stopped = ap (option_and_then stopped_key) e; members = ap (option_and_then member_key) e; alarmed = ap (option_and_then alarm_key) e }
+sees p r rs e = record { reporting = ap (option_and_then report_key) e; stopped = ap (option_and_then stopped_key) e; alarmed = ap (option_and_then alarm_key) e }
 
 pub sees_none : (p parent : ℕ) (rs : List Process) → lookup p rs ≡ None → Sees p parent None rs
-sees_none p parent rs e = record { reporting = ap (option_and_then report_key) e; stopped = ap (option_and_then stopped_key) e; members = ap (option_and_then member_key) e; alarmed = ap (option_and_then alarm_key) e }
+sees_none p parent rs e = record { reporting = ap (option_and_then report_key) e; stopped = ap (option_and_then stopped_key) e; alarmed = ap (option_and_then alarm_key) e }
 
 -- so many processes have room in each
 pub record Fits (n : ℕ) (b : Books) : Type 0 where
   pub reporting : n ≤ b.reporting.room
   pub stopped : n ≤ b.stopped.room
-  pub members : n ≤ b.members.room
   pub alarmed : n ≤ b.alarmed.room
 
 pub can_move : (p parent : ℕ) (it : Option Seen) (rs : List Process) (b : Books) → IsRising rs → AreBooks rs b → Sees p parent it rs → (lookup p rs ≡ None → Fits (length rs + 1) b) → CanMove p parent it b
 can_move p parent it rs b up h s free = record {
   reporting = rw (← s.reporting) (can_replace report_key p rs b.reporting up h.reporting (λ e. let k = (free e).reporting in omega (arith, k)));
   stopped = rw (← s.stopped) (can_replace stopped_key p rs b.stopped up h.stopped (λ e. let k = (free e).stopped in omega (arith, k)));
-  members = rw (← s.members) (can_replace member_key p rs b.members up h.members (λ e. let k = (free e).members in omega (arith, k)));
   alarmed = rw (← s.alarmed) (can_replace alarm_key p rs b.alarmed up h.alarmed (λ e. let k = (free e).alarmed in omega (arith, k)));
 }
 
 pub fits : (rs : List Process) (n : ℕ) (b : Books) → AreBooks rs b → n ≡ length rs → Fits n b
-fits rs n b h e = rw e (record { reporting = h.reporting.room; stopped = h.stopped.room; members = h.members.room; alarmed = h.alarmed.room })
+fits rs n b h e = rw e (record { reporting = h.reporting.room; stopped = h.stopped.room; alarmed = h.alarmed.room })
 
 -- where there is room for one more, one more has room in each
 pub fits_more : (k n : ℕ) (b : Books) → 0 < lesser k (room_in n b) → Fits (n + 1) b
-fits_more k n b h = record { reporting = grind (arith, nat_tests, h); stopped = grind (arith, nat_tests, h); members = grind (arith, nat_tests, h); alarmed = grind (arith, nat_tests, h) }
+fits_more k n b h = record { reporting = grind (arith, nat_tests, h); stopped = grind (arith, nat_tests, h); alarmed = grind (arith, nat_tests, h) }
 
 -- the record of p is changed, comes or goes, and p moves
 pub books_moved : (p parent : ℕ) (it : Option Seen) (rs ts : List Process) (old new : Books) → IsElsewhere p rs ts → Fits (length ts) old → AreBooks rs old → Sees p parent it ts → AreMoved p parent it old new → AreBooks ts new
 books_moved p parent it rs ts old new same fits h s k = record {
   reporting = indexed_moved report_key p rs ts old.reporting new.reporting same fits.reporting h.reporting (rw s.reporting k.reporting);
   stopped = indexed_moved stopped_key p rs ts old.stopped new.stopped same fits.stopped h.stopped (rw s.stopped k.stopped);
-  members = indexed_moved member_key p rs ts old.members new.members same fits.members h.members (rw s.members k.members);
   alarmed = indexed_moved alarm_key p rs ts old.alarmed new.alarmed same fits.alarmed h.alarmed (rw s.alarmed k.alarmed);
 }
 
@@ -66,18 +62,16 @@ pub books_alarmed : (p parent : ℕ) (it now : Seen) (rs ts : List Process) (b :
 books_alarmed p parent it now rs ts b set same long h like s t k = books_moved p parent (Some now) rs ts b (record b { alarmed = set }) same (fits rs (length ts) b h long) h t (record {
   reporting = record { moved = unmoved report_key p rs b.reporting.pairs (report_in parent (Some now)) h.reporting.index (ap (λ w. report_in parent (Some w)) like ∙ sym s.reporting); once = h.reporting.once; room = refl };
   stopped = record { moved = unmoved stopped_key p rs b.stopped.pairs (stopped_in (Some now)) h.stopped.index (ap (λ w. stopped_in (Some w)) like ∙ sym s.stopped); once = h.stopped.once; room = refl };
-  members = record { moved = unmoved member_key p rs b.members.pairs (member_in (Some now)) h.members.index (ap (λ w. member_in (Some w)) like ∙ sym s.members); once = h.members.once; room = refl };
   alarmed = k;
 })
 
 -- ---- all processes
 
-pub books_adopted : (from to : ℕ) → from ≢ to → (rs : List Process) (old new : Books) → AreBooks rs old → IsRekeyed from to old.reporting new.reporting → new.stopped ≡ old.stopped → new.members ≡ old.members → new.alarmed ≡ old.alarmed → AreBooks (adopted from to rs) new
+pub books_adopted : (from to : ℕ) → from ≢ to → (rs : List Process) (old new : Books) → AreBooks rs old → IsRekeyed from to old.reporting new.reporting → new.stopped ≡ old.stopped → new.alarmed ≡ old.alarmed → AreBooks (adopted from to rs) new
 unfolding adopted
-books_adopted from to ne rs old new h k e f g = record {
+books_adopted from to ne rs old new h k e g = record {
   reporting = indexed_adopted report_key from to ne reports rs old.reporting new.reporting h.reporting k;
   stopped = rw e (indexed_map stopped_key (reparented from to) (pid_reparented from to) stops rs old.stopped h.stopped);
-  members = rw f (indexed_map member_key (reparented from to) (pid_reparented from to) groups rs old.members h.members);
   alarmed = rw g (indexed_map alarm_key (reparented from to) (pid_reparented from to) alarms rs old.alarmed h.alarmed);
 }
   where
@@ -90,15 +84,12 @@ books_adopted from to ne rs old new h k e f g = record {
     stops : (r : Process) → stopped_key (reparented from to r) ≡ stopped_key r
     stops r = elim (r.parent == from) as (λ b. stopped_key (cond b (record r { parent = to }) r) ≡ stopped_key r) [ true ↦ refl | false ↦ refl ]
 
-    groups : (r : Process) → member_key (reparented from to r) ≡ member_key r
-    groups r = elim (r.parent == from) as (λ b. member_key (cond b (record r { parent = to }) r) ≡ member_key r) [ true ↦ refl | false ↦ refl ]
-
     alarms : (r : Process) → alarm_key (reparented from to r) ≡ alarm_key r
     alarms r = elim (r.parent == from) as (λ b. alarm_key (cond b (record r { parent = to }) r) ≡ alarm_key r) [ true ↦ refl | false ↦ refl ]
 
 -- at the start
-pub books_none : (b : Books) → b.reporting.pairs ≡ [] → b.stopped.pairs ≡ [] → b.members.pairs ≡ [] → b.alarmed.pairs ≡ [] → ArePairs b.reporting.pairs → ArePairs b.stopped.pairs → ArePairs b.members.pairs → ArePairs b.alarmed.pairs → AreBooks [] b
-books_none b e f g h r s t u = record { reporting = indexed_none report_key b.reporting e r; stopped = indexed_none stopped_key b.stopped f s; members = indexed_none member_key b.members g t; alarmed = indexed_none alarm_key b.alarmed h u }
+pub books_none : (b : Books) → b.reporting.pairs ≡ [] → b.stopped.pairs ≡ [] → b.alarmed.pairs ≡ [] → ArePairs b.reporting.pairs → ArePairs b.stopped.pairs → ArePairs b.alarmed.pairs → AreBooks [] b
+books_none b e f h r s u = record { reporting = indexed_none report_key b.reporting e r; stopped = indexed_none stopped_key b.stopped f s; alarmed = indexed_none alarm_key b.alarmed h u }
 
 -- ---- reading
 
@@ -117,11 +108,6 @@ none_stopped rs b up h = index_empty stopped_key (λ r. is_stopped r.life) has r
   where
     has : (r : Process) → is_some (stopped_key r) ≡ is_stopped r.life
     has r = elim (is_stopped r.life) as (λ s. is_some (cond s (Some r.group) None) ≡ s) [ true ↦ refl | false ↦ refl ]
-
--- the next member of a process group
-pub next_in_group : (group n : ℕ) (rs : List Process) (b : Books) (next : Option ℕ) → IsRising rs → AreBooks rs b → IsNextPair group n b.members.pairs next → next ≡ first_pid (above n (members_in group rs))
-unfolding members_in
-next_in_group group n rs b next up h i = next_pair member_key rs b.members.pairs group n next up h.members.index i
 
 -- the next of those whose alarm is due at a tick
 pub next_due : (tick n : ℕ) (rs : List Process) (b : Books) (next : Option ℕ) → IsRising rs → AreBooks rs b → IsNextPair tick n b.alarmed.pairs next → next ≡ first_pid (above n (filter (λ r. is_due tick r.alarm) rs))

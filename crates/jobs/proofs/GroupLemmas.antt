@@ -8,31 +8,31 @@ use Rattle.posix.specs.Groups.{is_anchor, is_outside}
 use Rattle.posix.proofs.TableLemmas.{rising_filter}
 use Rattle.posix.proofs.WalkLemmas.{here, in_filter, head_above, head_left_of, left_of_head, above_all, all_looked, filters_commute}
 use Rattle.posix.proofs.PassingLemmas.{filter_at_most}
-use Rattle.proctable.specs.declared.facts.Facts.{Facts}
-use Rattle.proctable.specs.Body.{facts_of}
-use Rattle.jobs.proofs.FactLemmas.{some_read, facts_are}
+use Rattle.proctable.specs.declared.snapshot.Snapshot.{Snapshot}
+use Rattle.proctable.specs.Records.{snapshot_of}
+use Rattle.jobs.proofs.SnapshotLemmas.{some_read, snapshot_are}
 
 -- ---- one process
 
--- whether a parent with these facts is in another group of the same session
-abbrev pub is_outside_by : Facts → Facts → Bool
+-- whether a parent with this snapshot is in another group of the same session
+abbrev pub is_outside_by : Snapshot → Snapshot → Bool
 is_outside_by it parent = parent.session == it.session && not (parent.group == it.group)
 
--- it is by the records where it is by their facts
-outside_read : (r : Process) (o : Option Process) → option_map_or (is_outside r) o false ≡ option_map_or (is_outside_by (facts_of r)) (option_map facts_of o) false
+-- it is by the records where it is by their snapshots
+outside_read : (r : Process) (o : Option Process) → option_map_or (is_outside r) o false ≡ option_map_or (is_outside_by (snapshot_of r)) (option_map snapshot_of o) false
 outside_read r None = refl
 outside_read r (Some parent) = refl
 
-anchor_by_facts : (rs : List Process) (r : Process) (it : Facts) → it ≡ facts_of r → is_anchor rs r ≡ (not (is_zombie it.life) && option_map_or (is_outside_by it) (option_map facts_of (lookup it.parent rs)) false)
+anchor_by_snapshot : (rs : List Process) (r : Process) (it : Snapshot) → it ≡ snapshot_of r → is_anchor rs r ≡ (not (is_zombie it.life) && option_map_or (is_outside_by it) (option_map snapshot_of (lookup it.parent rs)) false)
 unfolding is_anchor
-anchor_by_facts rs r it e = rw e (ap (λ b. not (is_zombie r.life) && b) (outside_read r (lookup r.parent rs)))
+anchor_by_snapshot rs r it e = rw e (ap (λ b. not (is_zombie r.life) && b) (outside_read r (lookup r.parent rs)))
 
--- whether a process keeps its group from being orphaned, by the facts that were read of it and of its parent
-pub anchor_read : (rs : List Process) (p : ℕ) (it : Facts) → Some it ≡ option_map facts_of (lookup p rs) → (dead : Bool) → is_zombie it.life ≡ dead → (parent : Option Facts) → parent ≡ option_map facts_of (lookup it.parent rs)
+-- whether a process keeps its group from being orphaned, by the snapshot that was read of it and of its parent
+pub anchor_read : (rs : List Process) (p : ℕ) (it : Snapshot) → Some it ≡ option_map snapshot_of (lookup p rs) → (dead : Bool) → is_zombie it.life ≡ dead → (parent : Option Snapshot) → parent ≡ option_map snapshot_of (lookup it.parent rs)
     → (not dead && option_map_or (is_outside_by it) parent false) ≡ option_map_or (is_anchor rs) (lookup p rs) false
 anchor_read rs p it e dead d parent q =
     let i = some_read _ it e in
-    rw (← d, q) (sym (ap (λ o. option_map_or (is_anchor rs) o false) i.found ∙ anchor_by_facts rs i.what it (facts_are _ i.what it e i.found)))
+    rw (← d, q) (sym (ap (λ o. option_map_or (is_anchor rs) o false) i.found ∙ anchor_by_snapshot rs i.what it (snapshot_are _ i.what it e i.found)))
 
 -- ---- the walk
 

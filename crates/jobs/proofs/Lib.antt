@@ -1,5 +1,5 @@
 pub mod NumberLemmas
-pub mod FactLemmas
+pub mod SnapshotLemmas
 pub mod LoanLemmas
 pub mod ReadLemmas
 pub mod GroupLemmas

@@ -4,26 +4,26 @@ use Rattle.std.specs.Option.{IfSome}
 use Rattle.posix.specs.Processes.{Process}
 use Rattle.posix.specs.Tables.{IsRising, lookup, changed}
 use Rattle.posix.proofs.TableLemmas.{changed_absent}
-use Rattle.proctable.specs.declared.own.Own.{Own}
-use Rattle.proctable.specs.declared.body.Body.{Body}
-use Rattle.proctable.specs.Body.{process_of, own_of, give_own}
-use Rattle.proctable.proofs.Bodies.{lent, unchanged}
+use Rattle.proctable.specs.declared.own_part.OwnPart.{OwnPart}
+use Rattle.proctable.specs.declared.records.Record.{Record}
+use Rattle.proctable.specs.Records.{process_of, own_of, give_own}
+use Rattle.proctable.proofs.RecordLemmas.{lent, unchanged}
 
 -- what was read is that of the process that is there
-pub own_at : (p q : ℕ) (b : Body) (rs : List Process) → lookup p rs ≡ Some (process_of p q b) → IfSome (lookup p rs) (λ me. b.own ≡ own_of me)
+pub own_at : (p q : ℕ) (b : Record) (rs : List Process) → lookup p rs ≡ Some (process_of p q b) → IfSome (lookup p rs) (λ me. b.own ≡ own_of me)
 own_at p q b rs e = rw e refl
 
 -- the value of a loan, said of the record that is there
-pub own_found : (rs : List Process) (p : ℕ) (o : Own) (me : Process) → IfSome (lookup p rs) (λ r. o ≡ own_of r) → lookup p rs ≡ Some me → o ≡ own_of me
+pub own_found : (rs : List Process) (p : ℕ) (o : OwnPart) (me : Process) → IfSome (lookup p rs) (λ r. o ≡ own_of r) → lookup p rs ≡ Some me → o ≡ own_of me
 own_found rs p o me h e = subst (λ x. IfSome x (λ r. o ≡ own_of r)) e h
 
 -- a loan through which nothing was written
-pub read_at : (rs : List Process) (up : IsRising rs) (p : ℕ) (o : Own) (found : Option Process) → lookup p rs ≡ found → IfSome found (λ r. o ≡ own_of r) → changed p (give_own o) rs ≡ rs
+pub read_at : (rs : List Process) (up : IsRising rs) (p : ℕ) (o : OwnPart) (found : Option Process) → lookup p rs ≡ found → IfSome found (λ r. o ≡ own_of r) → changed p (give_own o) rs ≡ rs
 read_at rs up p o None e h = changed_absent p (give_own o) rs e
 read_at rs up p o (Some me) e h = unchanged rs up p me o o e h refl
 
 -- a loan through which was written what f does
-pub written_at : (rs : List Process) (up : IsRising rs) (p : ℕ) (o w : Own) (f : Process → Process) (found : Option Process) → lookup p rs ≡ found → IfSome found (λ r. o ≡ own_of r)
+pub written_at : (rs : List Process) (up : IsRising rs) (p : ℕ) (o w : OwnPart) (f : Process → Process) (found : Option Process) → lookup p rs ≡ found → IfSome found (λ r. o ≡ own_of r)
     → ((r : Process) → give_own w r ≡ f (give_own o r)) → changed p (give_own w) rs ≡ changed p f rs
 written_at rs up p o w f None e h did = changed_absent p (give_own w) rs e ∙ sym (changed_absent p f rs e)
 written_at rs up p o w f (Some me) e h did = lent rs up p me o w f e h (did me)

@@ -1,17 +1,16 @@
 -- Moves between process groups: which groups there are.
-use Rattle.std.proofs.Common.{◌≡◌, ◌≢◌, ℕ, Bool, true, false, cond, not, ◌&&◌, ◌||◌, ◌==◌, refl, ap, sym, ◌∙◌, arith, subst, List, [], ◌∷◌, filter, Option, Some, None, is_some, option_map, nat_lt, ℤ, Result}
+use Rattle.std.proofs.Common.{◌≡◌, ◌≢◌, ℕ, Bool, true, false, cond, not, ◌&&◌, ◌||◌, ◌==◌, refl, ap, sym, ◌∙◌, arith, subst, List, [], ◌∷◌, filter, Option, Some, None, is_some, option_map, nat_lt}
 use Rattle.std.specs.List.{list_any}
 use Rattle.std.proofs.lemmas.Bool.{eq-eqb, ne_eqb}
 use Rattle.std.proofs.lemmas.Bool.Decides.{nat_tests}
 use Rattle.posix.specs.Processes.{Process}
 use Rattle.posix.specs.Tables.{IsRising, lookup, members_in, first_pid, above}
-use Rattle.posix.specs.declared.errno.Errno.{Errno}
-use Rattle.posix.specs.GroupCalls.{named, move_to, is_group_of_others}
+use Rattle.posix.specs.GroupCalls.{is_group_of_others}
 use Rattle.posix.proofs.TableLemmas.{Above, pid_looked}
 use Rattle.posix.proofs.WalkLemmas.{above_all}
-use Rattle.proctable.specs.declared.facts.Facts.{Facts}
-use Rattle.proctable.specs.Body.{facts_of}
-use Rattle.jobs.proofs.FactLemmas.{facts_are}
+use Rattle.proctable.specs.declared.snapshot.Snapshot.{Snapshot}
+use Rattle.proctable.specs.Records.{snapshot_of}
+use Rattle.jobs.proofs.SnapshotLemmas.{snapshot_are}
 
 -- ---- whether there is a group
 
@@ -80,19 +79,7 @@ others_of p rs me found = ap (λ n. list_any (λ r. r.group == n && not (r.pid =
 
 -- ---- a new session
 
--- whether a process leads a process group, by its facts
-pub leads_by : (p : ℕ) (rs : List Process) (me : Process) (f : Facts) → lookup p rs ≡ Some me → Some f ≡ option_map facts_of (lookup p rs) → (f.group == p) ≡ (me.group == me.pid)
+-- whether a process leads a process group, by its snapshot
+pub leads_by : (p : ℕ) (rs : List Process) (me : Process) (f : Snapshot) → lookup p rs ≡ Some me → Some f ≡ option_map snapshot_of (lookup p rs) → (f.group == p) ≡ (me.group == me.pid)
 leads_by p rs me f found read =
-    ap (λ (x : Facts). x.group == p) (facts_are (lookup p rs) me f read found) ∙ ap (λ n. me.group == n) (sym (pid_looked p rs me found))
-
--- ---- a move
-
--- what was judged by facts is what the definition says
-pub judged : (p : ℕ) (rs ss ts : List Process) (z y group h : ℤ) (f : Facts) (o : Option Facts) (answer : Result ℕ Errno) (me : Process) → lookup p rs ≡ Some me → Some f ≡ option_map facts_of (lookup p rs) → ss ≡ rs → ts ≡ ss → y ≡ z → h ≡ group
-    → ((caller : Process) → f ≡ facts_of caller → o ≡ option_map facts_of (named caller y ss))
-    → ((caller : Process) (target : Option Process) → f ≡ facts_of caller → o ≡ option_map facts_of target → answer ≡ move_to caller target h ts)
-    → answer ≡ move_to me (named me z rs) group rs
-judged p rs ss ts z y group h f o answer me found read same still named_by grouped names judges =
-    let facts = facts_are (lookup p rs) me f read found in
-    judges me (named me y ss) facts (names me facts) ∙ ap (λ l. move_to me (named me y ss) h l) (still ∙ same) ∙ ap (λ l. move_to me (named me y l) h rs) same
-    ∙ ap (λ x. move_to me (named me x rs) h rs) named_by ∙ ap (λ x. move_to me (named me z rs) x rs) grouped
+    ap (λ (x : Snapshot). x.group == p) (snapshot_are (lookup p rs) me f read found) ∙ ap (λ n. me.group == n) (sym (pid_looked p rs me found))

@@ -6,8 +6,8 @@ use Rattle.posix.specs.Tables.{IsRising, lookup, at, changed, inserted, removed,
 use Rattle.posix.proofs.TableLemmas.{Above, pid_looked, pid_reparented}
 use Rattle.posix.proofs.MapLemmas.{at_pid, lookup_map}
 use Rattle.posix.proofs.RegularLemmas.{lookup_inserted, lookup_left}
-use Rattle.proctable.specs.declared.body.Body.{Body}
-use Rattle.proctable.specs.Body.{give_body, with_body}
+use Rattle.proctable.specs.declared.records.Record.{Record}
+use Rattle.proctable.specs.Records.{give_record, with_record}
 
 -- nobody is there at the start
 pub nobody_there : (p : ℕ) → lookup p [] ≡ None
@@ -22,10 +22,10 @@ pub absent_changed : (p : ℕ) (f : Process → Process) → ((r : Process) → 
 unfolding changed
 absent_changed p f k q rs e = absent_map (at p f) (at_pid p f k) q rs e
 
--- another body is one
-pub absent_body : (q : ℕ) (rs : List Process) (p : ℕ) (b : Body) → lookup q rs ≡ None → lookup q (with_body rs p b) ≡ None
-unfolding give_body
-absent_body q rs p b e = absent_changed p (give_body b) (λ r. refl) q rs e
+-- another record is one
+pub absent_record : (q : ℕ) (rs : List Process) (p : ℕ) (b : Record) → lookup q rs ≡ None → lookup q (with_record rs p b) ≡ None
+unfolding give_record
+absent_record q rs p b e = absent_changed p (give_record b) (λ r. refl) q rs e
 
 -- so is another parent
 pub absent_adopted : (from to q : ℕ) (rs : List Process) → lookup q rs ≡ None → lookup q (adopted from to rs) ≡ None

@@ -1,11 +1,32 @@
--- How many processes a walk has still to read.
-use Rattle.std.proofs.Common.{◌≡◌, ℕ, ◌+◌, ◌*◌, ◌<◌, ◌≤◌, arith, List, [], ◌∷◌, length, Option, Some, None}
+-- What looks come to, one after another, and how many processes a walk has still to read.
+use Rattle.std.proofs.Common.{◌≡◌, ◌∙◌, ℕ, ◌+◌, ◌*◌, ◌<◌, ◌≤◌, arith, List, [], ◌∷◌, length, Option, Some, None}
 use Rattle.std.proofs.Math.Nat.{mul-le-mul_left}
 use Rattle.std.specs.Option.{IfSome}
 use Rattle.std.proofs.lemmas.Bool.{eqb-true}
 use Rattle.std.proofs.lemmas.Bool.Decides.{nat_tests}
 use Rattle.posix.specs.Processes.{Process}
 use Rattle.posix.specs.Tables.{above, left_of, lookup}
+use Rattle.jobs.specs.JobTables.{JobsView, Looks}
+
+-- one look, and then another
+pub looks_then : {m n : ℕ} {s t u : JobsView} → Looks m s t → Looks n t u → Looks (m + n) s u
+looks_then a b = record {
+  processes = b.processes ∙ a.processes;
+  room = b.room ∙ a.room;
+  visits = let first = a.visits in let then = b.visits in omega (arith, first, then);
+  rising = a.rising;
+  numbers = a.numbers;
+}
+
+-- a look that may read more
+pub read_more : {m n : ℕ} {s t : JobsView} → Looks m s t → m ≤ n → Looks n s t
+read_more a le = record {
+  processes = a.processes;
+  room = a.room;
+  visits = let first = a.visits in omega (arith, first, le);
+  rising = a.rising;
+  numbers = a.numbers;
+}
 
 -- of those above n, no more are left from one of them on
 pub left_above : (next : Option ℕ) (n : ℕ) (rs : List Process) → IfSome next (λ q. n < q) → length (left_of next rs) ≤ length (above n rs)

@@ -3,20 +3,20 @@ use Rattle.std.specs.Prelude.{ℕ, ◌-◌, ◌||◌, if◌then◌else◌, nat_l
 use Rattle.posix.specs.Processes.{Process, is_zombie, is_stopped}
 use Rattle.posix.specs.Waits.{is_news}
 use Rattle.pidset.specs.Indexes.{CanReplace, IsReplaced, IsIndexed}
-use Rattle.proctable.specs.declared.body.Body.{Body}
-use Rattle.proctable.specs.declared.facts.Facts.{Facts}
+use Rattle.proctable.specs.declared.records.Record.{Record}
+use Rattle.proctable.specs.declared.snapshot.Snapshot.{Snapshot}
 use Rattle.jobs.specs.declared.books.Books.{Books}
 use Rattle.jobs.specs.declared.books.Seen.{Seen}
 
--- what the indexes see of a process but its parent, by its record, by its body and by its facts
+-- what the indexes see of a process but its parent, as it is, by its record and by its snapshot
 abbrev pub seen_of : Process → Seen
 seen_of r = record { group = r.group; session = r.session; life = r.life; news = r.news; alarm = r.alarm }
 
-abbrev pub body_seen : Body → Seen
-body_seen b = record { group = b.group; session = b.session; life = b.life; news = b.news; alarm = b.alarm }
+abbrev pub record_seen : Record → Seen
+record_seen b = record { group = b.group; session = b.session; life = b.life; news = b.news; alarm = b.alarm }
 
-abbrev pub facts_seen : Facts → Seen
-facts_seen f = record { group = f.group; session = f.session; life = f.life; news = f.news; alarm = f.alarm }
+abbrev pub snapshot_seen : Snapshot → Seen
+snapshot_seen f = record { group = f.group; session = f.session; life = f.life; news = f.news; alarm = f.alarm }
 
 -- ---- keys
 
@@ -36,14 +36,6 @@ stopped_in (Some w) = if is_stopped w.life then Some w.group else None
 abbrev pub stopped_key : Process → Option ℕ
 stopped_key r = stopped_in (Some (seen_of r))
 
--- each stands under its process group
-abbrev pub member_in : Option Seen → Option ℕ
-member_in None = None
-member_in (Some w) = Some w.group
-
-abbrev pub member_key : Process → Option ℕ
-member_key r = member_in (Some (seen_of r))
-
 -- one whose alarm is set stands under the tick at which it is due
 abbrev pub alarm_in : Option Seen → Option ℕ
 alarm_in None = None
@@ -58,21 +50,18 @@ alarm_key r = alarm_in (Some (seen_of r))
 pub record AreBooks (rs : List Process) (b : Books) : Type 0 where
   pub reporting : IsIndexed report_key rs b.reporting
   pub stopped : IsIndexed stopped_key rs b.stopped
-  pub members : IsIndexed member_key rs b.members
   pub alarmed : IsIndexed alarm_key rs b.alarmed
 
 -- p with this parent stands in each as it was seen
 pub record CanMove (p parent : ℕ) (it : Option Seen) (b : Books) : Type 0 where
   pub reporting : CanReplace p (report_in parent it) b.reporting
   pub stopped : CanReplace p (stopped_in it) b.stopped
-  pub members : CanReplace p (member_in it) b.members
   pub alarmed : CanReplace p (alarm_in it) b.alarmed
 
 -- and was moved in each
 pub record AreMoved (p parent : ℕ) (it : Option Seen) (old new : Books) : Type 0 where
   pub reporting : IsReplaced p (report_in parent it) old.reporting new.reporting
   pub stopped : IsReplaced p (stopped_in it) old.stopped new.stopped
-  pub members : IsReplaced p (member_in it) old.members new.members
   pub alarmed : IsReplaced p (alarm_in it) old.alarmed new.alarmed
 
 abbrev pub lesser : ℕ → ℕ → ℕ
@@ -80,4 +69,4 @@ lesser a b = if nat_le a b then a else b
 
 -- how many processes more they have room for, of this many that there are
 abbrev pub room_in : ℕ → Books → ℕ
-room_in count b = lesser (lesser (lesser b.reporting.room b.stopped.room) b.members.room) b.alarmed.room - count
+room_in count b = lesser (lesser b.reporting.room b.stopped.room) b.alarmed.room - count

@@ -1,56 +1,61 @@
 -- What a table of jobs is worth.
-use Rattle.std.specs.Prelude.{◌≡◌, ℕ, ◌<◌, ◌⊎◌, nat_le, if◌then◌else◌, List, length, Option, Some, None, ℤ, pos, negsuc}
+use Rattle.std.specs.Prelude.{◌≡◌, ℕ, ◌+◌, ◌<◌, ◌≤◌, ◌⊎◌, List, length, Some, None}
 use Rattle.std.specs.Borrow.{MutBor}
 use Rattle.std.specs.Fn.{Once, FnOnceReturnsAtMut}
 use Rattle.posix.specs.Processes.{Process}
-use Rattle.posix.specs.Tables.{lookup, changed, parent_of}
+use Rattle.posix.specs.Tables.{IsRising, lookup, changed, parent_of}
 use Rattle.posix.specs.Targets.{greatest_pid}
-use Rattle.proctable.specs.declared.body.Body.{Body}
-use Rattle.proctable.specs.declared.own.Own.{Own}
-use Rattle.proctable.specs.Body.{give_own, process_of, with_body}
+use Rattle.proctable.specs.declared.records.Record.{Record}
+use Rattle.proctable.specs.declared.own_part.OwnPart.{OwnPart}
+use Rattle.proctable.specs.Records.{give_own, process_of, with_record}
 use Rattle.jobs.specs.declared.books.Books.{Books}
-use Rattle.jobs.specs.Books.{AreBooks, body_seen}
+use Rattle.jobs.specs.Books.{AreBooks, record_seen}
 
 -- the processes in rising order of their numbers, how many more can be put in without memory, and how many slots have
 -- been read
 pub record JobsView : Type 0 where
   pub processes : List Process
   pub room : ℕ
-  pub reads : ℕ
+  pub visits : ℕ
 
 -- nobody has number 0, or one above the greatest
 abbrev pub AreNumbers : List Process → Type 0
 AreNumbers rs = (p : ℕ) → (p ≡ 0) ⊎ (greatest_pid < p) → lookup p rs ≡ None
 
--- it is known how many there are, and their indexes are right
+-- their numbers rise, it is known how many there are, and their indexes are right
 pub record IsKept (n : ℕ) (b : Books) (rs : List Process) : Type 0 where
+  pub rising : IsRising rs
   pub numbers : AreNumbers rs
   pub count : n ≡ length rs
   pub books : AreBooks rs b
 
--- the number of a process that a register holds
-abbrev pub pid_in : ℤ → Option ℕ
-pid_in (pos n) = if nat_le n greatest_pid then Some n else None
-pid_in (negsuc n) = None
+-- Whoever only looks leaves the processes and the room as they are, and reads at most n slots. From each look it is known
+-- that the numbers rise, and which there are.
+pub record Looks (n : ℕ) (old new : JobsView) : Type 0 where
+  pub processes : new.processes ≡ old.processes
+  pub room : new.room ≡ old.room
+  pub visits : new.visits ≤ old.visits + n
+  pub rising : IsRising old.processes
+  pub numbers : AreNumbers old.processes
 
 -- one more slot was read
 abbrev pub looked : (ℕ → ℕ) → JobsView → JobsView
-looked more t = record t { reads = more t.reads }
+looked more t = record t { visits = more t.visits }
 
 -- and the process has this in its place
-abbrev pub lent : (ℕ → ℕ) → JobsView → ℕ → Own → JobsView
-lent more t p o = record t { processes = changed p (give_own o) t.processes; reads = more t.reads }
+abbrev pub lent : (ℕ → ℕ) → JobsView → ℕ → OwnPart → JobsView
+lent more t p o = record t { processes = changed p (give_own o) t.processes; visits = more t.visits }
 
--- ---- closures that change a body
+-- ---- closures that change a record
 
 -- the indexes see at most an alarm of what the closure changes
-abbrev pub IsUnseen : {F T : Type 0} → Once F (MutBor Body × Unit {0}) (T × (MutBor Body × Unit {0})) → F → Type 0
-IsUnseen {T = T} g change = (b c : Body) (r : T) → FnOnceReturnsAtMut g change b r c → record (body_seen c) { alarm = b.alarm } ≡ body_seen b
+abbrev pub IsUnseen : {F T : Type 0} → Once F (MutBor Record × Unit {0}) (T × (MutBor Record × Unit {0})) → F → Type 0
+IsUnseen {T = T} g change = (b c : Record) (r : T) → FnOnceReturnsAtMut g change b r c → record (record_seen c) { alarm = b.alarm } ≡ record_seen b
 
--- the closure ran on the body of p, and gave r
-pub record IsRun {F T : Type 0} (g : Once F (MutBor Body × Unit {0}) (T × (MutBor Body × Unit {0}))) (change : F) (rs ts : List Process) (p : ℕ) (r : T) : Type 0 where
-  pub before : Body
-  pub after : Body
+-- the closure ran on the record of p, and gave r
+pub record IsRun {F T : Type 0} (g : Once F (MutBor Record × Unit {0}) (T × (MutBor Record × Unit {0}))) (change : F) (rs ts : List Process) (p : ℕ) (r : T) : Type 0 where
+  pub before : Record
+  pub after : Record
   pub found : lookup p rs ≡ Some (process_of p (parent_of p rs) before)
   pub ran : FnOnceReturnsAtMut g change before r after
-  pub is : ts ≡ with_body rs p after
+  pub is : ts ≡ with_record rs p after

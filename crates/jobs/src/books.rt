@@ -2,11 +2,11 @@
 
 ghost use Rattle.std.specs.Prelude.{◌≡◌, ◌≢◌, ◌<◌, ◌≤◌, ◌^◌, [], Some, OnOk};
 ghost use Rattle.pidset.specs.Indexes.{IsNextPair, IsRekeyed};
-ghost use Rattle.jobs.specs.Books.{AreBooks, body_seen, facts_seen, report_in, stopped_in, member_in, alarm_in, CanMove, AreMoved};
+ghost use Rattle.jobs.specs.Books.{AreBooks, record_seen, snapshot_seen, report_in, stopped_in, alarm_in, CanMove, AreMoved};
 
 use pidset::Index;
 use posix::{Life, News, Pid};
-use proctable::{Body, Facts};
+use proctable::{Record, Snapshot};
 use std::alloc::{AllocError, Global};
 
 /// What the indexes see of a process, but its parent.
@@ -42,39 +42,39 @@ pub struct Books {
     pub reporting: Index,
     /// The processes that are stopped, by their process groups.
     pub stopped: Index,
-    /// All processes, by their process groups.
-    pub members: Index,
     /// The processes whose alarm is set, by the tick at which it is due.
     pub alarmed: Index,
 }
 
-/// What the indexes see of a body.
-pub(crate) fn of_body(body: &Body) -> Seen
-    ensures { result ≡ body_seen body.now }
+/// What the indexes see of a record.
+#[inline]
+pub(crate) fn of_record(fields: &Record) -> Seen
+    ensures { result ≡ record_seen fields.now }
 {
     Seen {
-        group: body.group,
-        session: body.session,
-        life: body.life,
-        news: body.news,
-        alarm: body.alarm,
+        group: fields.group,
+        session: fields.session,
+        life: fields.life,
+        news: fields.news,
+        alarm: fields.alarm,
     }
 }
 
 /// What the indexes see of the process with these fields.
-pub(crate) fn of_facts(facts: &Facts) -> Seen
-    ensures { result ≡ facts_seen facts.now }
+pub(crate) fn of_snapshot(snapshot: &Snapshot) -> Seen
+    ensures { result ≡ snapshot_seen snapshot.now }
 {
     Seen {
-        group: facts.group,
-        session: facts.session,
-        life: facts.life,
-        news: facts.news,
-        alarm: facts.alarm,
+        group: snapshot.group,
+        session: snapshot.session,
+        life: snapshot.life,
+        news: snapshot.news,
+        alarm: snapshot.alarm,
     }
 }
 
 /// A number as a key.
+#[inline]
 fn key(pid: Pid) -> u64
     ensures { result ≡ pid }
 {
@@ -82,6 +82,7 @@ fn key(pid: Pid) -> u64
 }
 
 /// The key of a process among those that have something to report.
+#[inline]
 fn report_key(parent: Pid, it: &Option<Seen>) -> Option<u64>
     ensures { result ≡ report_in parent it.now }
 {
@@ -94,6 +95,7 @@ fn report_key(parent: Pid, it: &Option<Seen>) -> Option<u64>
 }
 
 /// The key of a process among those that are stopped.
+#[inline]
 fn stopped_key(it: &Option<Seen>) -> Option<u64>
     ensures { result ≡ stopped_in it.now }
 {
@@ -103,17 +105,8 @@ fn stopped_key(it: &Option<Seen>) -> Option<u64>
     }
 }
 
-/// The key of a process among the members of process groups.
-fn member_key(it: &Option<Seen>) -> Option<u64>
-    ensures { result ≡ member_in it.now }
-{
-    match it {
-        Some(it) => Some(key(it.group)),
-        None => None,
-    }
-}
-
 /// The key of a process among those whose alarm is set.
+#[inline]
 fn alarm_key(it: &Option<Seen>) -> Option<u64>
     ensures { result ≡ alarm_in it.now }
 {
@@ -131,7 +124,6 @@ impl Books {
         Books {
             reporting: Index::new(alloc),
             stopped: Index::new(alloc),
-            members: Index::new(alloc),
             alarmed: Index::new(alloc),
         }
     }
@@ -141,23 +133,21 @@ impl Books {
         requires { most < 2 ^ 63 }
         ensures reporting { self.new.reporting.pairs ≡ self.old.reporting.pairs }
         ensures stopped { self.new.stopped.pairs ≡ self.old.stopped.pairs }
-        ensures members { self.new.members.pairs ≡ self.old.members.pairs }
         ensures alarmed { self.new.alarmed.pairs ≡ self.old.alarmed.pairs }
         ensures grows_reporting { self.old.reporting.room ≤ self.new.reporting.room }
         ensures grows_stopped { self.old.stopped.room ≤ self.new.stopped.room }
-        ensures grows_members { self.old.members.room ≤ self.new.members.room }
         ensures grows_alarmed { self.old.alarmed.room ≤ self.new.alarmed.room }
-        ensures ok { OnOk result ((most ≤ self.new.reporting.room) × (most ≤ self.new.stopped.room) × (most ≤ self.new.members.room) × (most ≤ self.new.alarmed.room)) }
+        ensures ok { OnOk result ((most ≤ self.new.reporting.room) × (most ≤ self.new.stopped.room) × (most ≤ self.new.alarmed.room)) }
     {
         self.reporting.reserve(most)?;
         self.stopped.reserve(most)?;
-        self.members.reserve(most)?;
         self.alarmed.reserve(most)
     }
 
     /// A process with this parent, which the indexes saw so, or which wasn't there, is seen so, or isn't there:
     /// the one way in which what they hold changes but for adoptions.
-    pub(crate) fn moved(
+    #[inline]
+    pub(crate) fn reindex(
         &mut self,
         pid: Pid,
         parent: Pid,
@@ -172,19 +162,18 @@ impl Books {
             .replace(pid, report_key(parent, before), report_key(parent, after));
         self.stopped
             .replace(pid, stopped_key(before), stopped_key(after));
-        self.members
-            .replace(pid, member_key(before), member_key(after));
         self.alarmed
             .replace(pid, alarm_key(before), alarm_key(after));
     }
 
     /// A process that is there was changed so.
-    pub(crate) fn changed(&mut self, pid: Pid, change: &Change)
+    #[inline]
+    pub(crate) fn reindex_change(&mut self, pid: Pid, change: &Change)
         requires can { CanMove pid change.now.parent (Some change.now.before) self.old }
         requires pid { 1 ≤ pid }
         ensures { AreMoved pid change.now.parent (Some change.now.after) self.old self.new }
     {
-        self.moved(
+        self.reindex(
             pid,
             change.parent,
             &Some(change.before),
@@ -193,31 +182,25 @@ impl Books {
     }
 
     /// The children of one process become those of another.
-    pub(crate) fn adopted(&mut self, from: Pid, to: Pid)
+    pub(crate) fn reparent(&mut self, from: Pid, to: Pid)
         requires { from ≢ to }
         ensures reporting { IsRekeyed from to self.old.reporting self.new.reporting }
         ensures stopped { self.new.stopped ≡ self.old.stopped }
-        ensures members { self.new.members ≡ self.old.members }
         ensures alarmed { self.new.alarmed ≡ self.old.alarmed }
     {
         self.reporting.rekey(key(from), key(to));
     }
 
     /// The child of a process that has something to report, with the least number above `after`.
+    #[inline]
     pub(crate) fn next_reporting(&self, parent: Pid, after: Pid) -> Option<Pid>
         ensures { IsNextPair parent after self.now.reporting.pairs result }
     {
         self.reporting.next(key(parent), after)
     }
 
-    /// The member of a process group with the least number above `after`.
-    pub(crate) fn next_in_group(&self, group: Pid, after: Pid) -> Option<Pid>
-        ensures { IsNextPair group after self.now.members.pairs result }
-    {
-        self.members.next(key(group), after)
-    }
-
     /// The process whose alarm is due at a tick, with the least number above `after`.
+    #[inline]
     pub(crate) fn next_due(&self, tick: u64, after: Pid) -> Option<Pid>
         ensures { IsNextPair tick after self.now.alarmed.pairs result }
     {

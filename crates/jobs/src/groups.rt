@@ -5,7 +5,7 @@ ghost use Rattle.std.specs.Prelude.{◌≡◌, ◌+◌, ◌≤◌, ◌<◌, ◌*
 ghost use Rattle.std.specs.Option.{option_map_or};
 ghost use Rattle.posix.specs.Processes.{Process, is_stopped as is_stopped_of};
 ghost use Rattle.posix.specs.Tables.{IsRising, lookup, first_pid, above, left_of, is_member as is_member_of, members_in};
-ghost use Rattle.jobs.specs.JobTables.{AreNumbers};
+ghost use Rattle.jobs.specs.JobTables.{AreNumbers, Looks};
 ghost use Rattle.posix.specs.Groups.{is_anchor as is_anchor_of, is_orphaned as is_orphaned_of};
 
 use crate::job_table::JobTable;
@@ -16,12 +16,10 @@ impl<K: Kin> JobTable<K> {
     /// Whether a process is in this process group.
     fn is_member(&mut self, pid: Pid, group: Pid) -> bool
         ensures value { (it : Process) → lookup pid self.old.processes ≡ Some it → result ≡ is_member_of group it }
-        ensures processes { self.new.processes ≡ self.old.processes }
-        ensures room { self.new.room ≡ self.old.room }
-        ensures reads { self.new.reads ≤ self.old.reads + 1 }
+        ensures looks { Looks 1 self.old self.new }
     {
         match self.get(pid) {
-            Some(facts) => facts.group == group,
+            Some(snapshot) => snapshot.group == group,
             None => false,
         }
     }
@@ -30,11 +28,8 @@ impl<K: Kin> JobTable<K> {
     /// Group). Its first is that after number 0. At most two slots are read of each process up to it, and two more.
     pub fn next_member(&mut self, group: Pid, after: Pid) -> Option<Pid>
         ensures value { result ≡ first_pid (above after (members_in group self.old.processes)) }
-        ensures rising { IsRising self.old.processes }
-        ensures numbers { AreNumbers self.old.processes }
-        ensures processes { self.new.processes ≡ self.old.processes }
-        ensures room { self.new.room ≡ self.old.room }
-        ensures reads { self.new.reads + 2 * length (left_of result self.old.processes) ≤ self.old.reads + 2 + 2 * length (above after self.old.processes) }
+        ensures visits { self.new.visits + 2 * length (left_of result self.old.processes) ≤ self.old.visits + 2 + 2 * length (above after self.old.processes) }
+        ensures looks { Looks (2 + 2 * length (above after self.old.processes)) self.old self.new }
     {
         let mut next = self.next_after(after);
         while let Some(pid) = next {
@@ -49,10 +44,7 @@ impl<K: Kin> JobTable<K> {
     /// Whether a process is there, lives, and has a parent in another group of the same session.
     pub fn is_anchor(&mut self, pid: Pid) -> bool
         ensures value { result ≡ option_map_or (is_anchor_of self.old.processes) (lookup pid self.old.processes) false }
-        ensures size { length self.old.processes < 2 ^ 63 }
-        ensures processes { self.new.processes ≡ self.old.processes }
-        ensures room { self.new.room ≡ self.old.room }
-        ensures reads { self.new.reads ≤ self.old.reads + 2 }
+        ensures looks { Looks 2 self.old self.new }
     {
         let Some(it) = self.get(pid) else {
             return false;
@@ -70,10 +62,7 @@ impl<K: Kin> JobTable<K> {
     /// session (XBD 3 Orphaned Process Group).
     pub fn is_orphaned(&mut self, group: Pid) -> bool
         ensures value { result ≡ is_orphaned_of group self.old.processes }
-        ensures rising { IsRising self.old.processes }
-        ensures processes { self.new.processes ≡ self.old.processes }
-        ensures room { self.new.room ≡ self.old.room }
-        ensures reads { self.new.reads ≤ self.old.reads + 2 + 4 * length self.old.processes }
+        ensures looks { Looks (2 + 4 * length self.old.processes) self.old self.new }
     {
         let mut next = self.next_member(group, Pid::NONE);
         while let Some(pid) = next {
@@ -88,10 +77,7 @@ impl<K: Kin> JobTable<K> {
     /// How many members of a process group live and have a parent in another group of the same session.
     pub fn anchors(&mut self, group: Pid) -> usize
         ensures value { result ≡ length (filter (is_anchor_of self.old.processes) (members_in group self.old.processes)) }
-        ensures rising { IsRising self.old.processes }
-        ensures processes { self.new.processes ≡ self.old.processes }
-        ensures room { self.new.room ≡ self.old.room }
-        ensures reads { self.new.reads ≤ self.old.reads + 2 + 4 * length self.old.processes }
+        ensures looks { Looks (2 + 4 * length self.old.processes) self.old self.new }
     {
         let mut count = 0;
         let mut next = self.next_member(group, Pid::NONE);
@@ -107,13 +93,10 @@ impl<K: Kin> JobTable<K> {
     /// Whether a process is there and stopped.
     fn is_stopped(&mut self, pid: Pid) -> bool
         ensures value { result ≡ option_map_or (λ r. is_stopped_of r.life) (lookup pid self.old.processes) false }
-        ensures size { length self.old.processes < 2 ^ 63 }
-        ensures processes { self.new.processes ≡ self.old.processes }
-        ensures room { self.new.room ≡ self.old.room }
-        ensures reads { self.new.reads ≤ self.old.reads + 1 }
+        ensures looks { Looks 1 self.old self.new }
     {
         match self.get(pid) {
-            Some(facts) => facts.life == Life::Stopped,
+            Some(snapshot) => snapshot.life == Life::Stopped,
             None => false,
         }
     }
@@ -121,10 +104,7 @@ impl<K: Kin> JobTable<K> {
     /// How many members of a process group are stopped.
     pub fn stopped_in(&mut self, group: Pid) -> usize
         ensures value { result ≡ length (filter (λ r. is_stopped_of r.life) (members_in group self.old.processes)) }
-        ensures rising { IsRising self.old.processes }
-        ensures processes { self.new.processes ≡ self.old.processes }
-        ensures room { self.new.room ≡ self.old.room }
-        ensures reads { self.new.reads ≤ self.old.reads + 2 + 3 * length self.old.processes }
+        ensures looks { Looks (2 + 3 * length self.old.processes) self.old self.new }
     {
         let mut count = 0;
         let mut next = self.next_member(group, Pid::NONE);

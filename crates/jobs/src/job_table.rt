@@ -5,18 +5,18 @@ ghost use mathlib.Core.Option.{none};
 ghost use Rattle.std.specs.Borrow.{sem, Lends, follows_so};
 ghost use Rattle.std.specs.List.{list_any};
 ghost use Rattle.posix.specs.Processes.{Process, is_stopped as is_stopped_by};
-ghost use Rattle.posix.specs.Tables.{IsRising, lookup, inserted, removed, children_in, first_pid, next_above, next_sibling as next_sibling_of, adopted, above, members_in, parent_of};
+ghost use Rattle.posix.specs.Tables.{IsRising, lookup, inserted, removed, children_in, first_pid, next_above, next_sibling as next_sibling_of, adopted, above, parent_of};
 ghost use Rattle.posix.specs.Alarms.{is_due};
 ghost use Rattle.posix.specs.Births.{child_of};
 ghost use Rattle.posix.specs.Waits.{reporting_in};
-ghost use Rattle.proctable.specs.Body.{process_of, facts_of, own_of, own_row};
+ghost use Rattle.proctable.specs.Records.{process_of, snapshot_of, own_of, own_row};
 ghost use Rattle.jobs.specs.contracts.job_table.JobTable.{the_row as jobs_row};
 ghost use Rattle.jobs.specs.Books.{seen_of};
-ghost use Rattle.jobs.specs.JobTables.{AreNumbers, IsRun, IsUnseen, lent, looked};
+ghost use Rattle.jobs.specs.JobTables.{AreNumbers, IsRun, IsUnseen, lent, looked, Looks};
 
-use crate::books::{Books, Change, of_body, of_facts};
+use crate::books::{Books, Change, of_record, of_snapshot};
 use posix::Pid;
-use proctable::{Body, Facts, Kin, Own};
+use proctable::{Kin, OwnPart, Record, Snapshot};
 use std::alloc::{AllocError, Global};
 use std::marker::Model;
 
@@ -38,7 +38,7 @@ impl<K: Kin> Model for JobTable<K> {
 
     ghost Value = { JobsView };
 
-    ghost view = { λ t. record { processes = K.contents t.table; room = lesser (K.room t.table) (room_in t.count t.books); reads = K.reads t.table } };
+    ghost view = { λ t. record { processes = K.contents t.table; room = lesser (K.room t.table) (room_in t.count t.books); visits = K.visits t.table } };
 
     ghost invariant = { λ t. IsKept t.count t.books (K.contents t.table) };
 }
@@ -47,7 +47,7 @@ impl<K: Kin> JobTable<K> {
     /// A table without processes. It takes no memory.
     pub fn empty(alloc: Global) -> Self
         ensures processes { result.processes ≡ [] }
-        ensures reads { result.reads ≡ 0 }
+        ensures visits { result.visits ≡ 0 }
     {
         JobTable {
             table: K::empty(alloc),
@@ -60,10 +60,9 @@ impl<K: Kin> JobTable<K> {
     /// unchanged.
     pub fn reserve(&mut self) -> Result<(), AllocError>
         ensures ok { OnOk result (0 < self.new.room) }
-        ensures rising { IsRising self.old.processes }
         ensures room { self.old.room ≤ self.new.room }
         ensures processes { self.new.processes ≡ self.old.processes }
-        ensures reads { self.new.reads ≡ self.old.reads }
+        ensures visits { self.new.visits ≡ self.old.visits }
     {
         self.table.reserve()?;
         self.books.reserve(self.count + 1)
@@ -71,53 +70,47 @@ impl<K: Kin> JobTable<K> {
 
     /// Puts in a process that isn't there, where there is room for one. Its number isn't 0, and its parent is
     /// there, or number 0. The others are unchanged.
-    pub fn insert(&mut self, pid: Pid, parent: Pid, body: Body)
+    pub fn insert(&mut self, pid: Pid, parent: Pid, fields: Record)
         requires room { 0 < self.old.room }
         requires number { pid ≢ 0 }
         requires fresh { lookup pid self.old.processes ≡ None }
         requires parent { (parent ≡ 0) ⊎ IsSome (lookup parent self.old.processes) }
-        ensures rising { IsRising self.old.processes }
-        ensures processes { self.new.processes ≡ inserted (process_of pid parent body) self.old.processes }
+        ensures processes { self.new.processes ≡ inserted (process_of pid parent fields) self.old.processes }
         ensures room { self.old.room ≤ self.new.room + 1 }
-        ensures reads { self.new.reads ≤ self.old.reads + 5 + length (children_in parent self.old.processes) }
+        ensures visits { self.new.visits ≤ self.old.visits + 5 + length (children_in parent self.old.processes) }
     {
-        let after = Some(of_body(&body));
-        self.table.insert(pid, parent, body);
-        self.books.moved(pid, parent, &None, &after);
+        let after = Some(of_record(&fields));
+        self.table.insert(pid, parent, fields);
+        self.books.reindex(pid, parent, &None, &after);
         self.count += 1;
     }
 
     /// The small fields of a process; none where it isn't there.
     #[inline(always)]
-    pub fn get(&mut self, pid: Pid) -> Option<Facts>
-        ensures value { result ≡ option_map facts_of (lookup pid self.old.processes) }
-        ensures rising { IsRising self.old.processes }
+    pub fn get(&mut self, pid: Pid) -> Option<Snapshot>
+        ensures value { result ≡ option_map snapshot_of (lookup pid self.old.processes) }
         ensures size { length self.old.processes < 2 ^ 63 }
-        ensures numbers { AreNumbers self.old.processes }
-        ensures processes { self.new.processes ≡ self.old.processes }
-        ensures room { self.new.room ≡ self.old.room }
-        ensures reads { self.new.reads ≤ self.old.reads + 1 }
+        ensures looks { Looks 1 self.old self.new }
     {
         self.table.get(pid)
     }
 
     /// Takes out a process without children. Its small fields; none, and nothing changes, where it isn't there.
-    pub fn remove(&mut self, pid: Pid) -> Option<Facts>
+    pub fn remove(&mut self, pid: Pid) -> Option<Snapshot>
         requires { children_in pid self.old.processes ≡ [] }
-        ensures value { result ≡ option_map facts_of (lookup pid self.old.processes) }
-        ensures rising { IsRising self.old.processes }
+        ensures value { result ≡ option_map snapshot_of (lookup pid self.old.processes) }
         ensures processes { self.new.processes ≡ removed pid self.old.processes }
         ensures room { self.old.room ≤ self.new.room }
-        ensures reads { self.new.reads ≤ self.old.reads + 5 }
+        ensures visits { self.new.visits ≤ self.old.visits + 5 }
     {
-        let Some(facts) = self.table.get(pid) else {
+        let Some(snapshot) = self.table.get(pid) else {
             return None;
         };
         self.table.remove(pid);
-        let before = Some(of_facts(&facts));
-        self.books.moved(pid, facts.parent, &before, &None);
+        let before = Some(of_snapshot(&snapshot));
+        self.books.reindex(pid, snapshot.parent, &before, &None);
         self.count -= 1;
-        Some(facts)
+        Some(snapshot)
     }
 
     /// The child with the least number of a process that is there, zombies included; none where it has no
@@ -125,10 +118,7 @@ impl<K: Kin> JobTable<K> {
     pub fn first_child(&mut self, pid: Pid) -> Option<Pid>
         requires { IsSome (lookup pid self.old.processes) }
         ensures value { result ≡ first_pid (children_in pid self.old.processes) }
-        ensures rising { IsRising self.old.processes }
-        ensures processes { self.new.processes ≡ self.old.processes }
-        ensures room { self.new.room ≡ self.old.room }
-        ensures reads { self.new.reads ≤ self.old.reads + 1 }
+        ensures looks { Looks 1 self.old self.new }
     {
         self.table.first_child(pid)
     }
@@ -138,10 +128,7 @@ impl<K: Kin> JobTable<K> {
     pub fn next_sibling(&mut self, pid: Pid) -> Option<Pid>
         requires { IsSome (lookup pid self.old.processes) }
         ensures value { result ≡ next_sibling_of pid self.old.processes }
-        ensures rising { IsRising self.old.processes }
-        ensures processes { self.new.processes ≡ self.old.processes }
-        ensures room { self.new.room ≡ self.old.room }
-        ensures reads { self.new.reads ≤ self.old.reads + 1 }
+        ensures looks { Looks 1 self.old self.new }
     {
         self.table.next_sibling(pid)
     }
@@ -149,11 +136,7 @@ impl<K: Kin> JobTable<K> {
     /// The process with the least number above `pid`, which need not be there; none where there is none.
     pub fn next_after(&mut self, pid: Pid) -> Option<Pid>
         ensures value { result ≡ next_above pid self.old.processes }
-        ensures rising { IsRising self.old.processes }
-        ensures numbers { AreNumbers self.old.processes }
-        ensures processes { self.new.processes ≡ self.old.processes }
-        ensures room { self.new.room ≡ self.old.room }
-        ensures reads { self.new.reads ≤ self.old.reads + 1 }
+        ensures looks { Looks 1 self.old self.new }
     {
         self.table.next_after(pid)
     }
@@ -162,18 +145,16 @@ impl<K: Kin> JobTable<K> {
     pub fn adopt(&mut self, from: Pid, to: Pid)
         requires there { IsSome (lookup to self.old.processes) }
         requires apart { from ≢ to }
-        ensures rising { IsRising self.old.processes }
         ensures processes { self.new.processes ≡ adopted from to self.old.processes }
         ensures room { self.new.room ≡ self.old.room }
-        ensures reads { self.new.reads ≤ self.old.reads + 1 + 8 * length (children_in from self.old.processes) + length (children_in to self.old.processes) }
+        ensures visits { self.new.visits ≤ self.old.visits + 1 + 8 * length (children_in from self.old.processes) + length (children_in to self.old.processes) }
     {
         self.table.adopt(from, to);
-        self.books.adopted(from, to);
+        self.books.reparent(from, to);
     }
 
     /// Whether no process is stopped. No slot is read.
     pub fn nobody_stopped(&self) -> bool
-        requires { IsRising self.now.processes }
         ensures { result ≡ not (list_any (λ r. is_stopped_by r.life) self.now.processes) }
     {
         self.books.stopped.is_empty()
@@ -181,23 +162,13 @@ impl<K: Kin> JobTable<K> {
 
     /// The child of a process that has something to report, with the least number above `after`.
     pub fn next_reporting(&self, parent: Pid, after: Pid) -> Option<Pid>
-        requires { IsRising self.now.processes }
         ensures { result ≡ first_pid (above after (reporting_in parent self.now.processes)) }
     {
         self.books.next_reporting(parent, after)
     }
 
-    /// The member of a process group with the least number above `after`, zombies included. No slot is read.
-    pub fn next_in_group(&self, group: Pid, after: Pid) -> Option<Pid>
-        requires { IsRising self.now.processes }
-        ensures { result ≡ first_pid (above after (members_in group self.now.processes)) }
-    {
-        self.books.next_in_group(group, after)
-    }
-
     /// The process whose alarm is due at a tick, with the least number above `after`. No slot is read.
     pub fn next_due(&self, tick: u64, after: Pid) -> Option<Pid>
-        requires { IsRising self.now.processes }
         ensures { result ≡ first_pid (above after (filter (λ r. is_due tick r.alarm) self.now.processes)) }
     {
         self.books.next_due(tick, after)
@@ -207,14 +178,11 @@ impl<K: Kin> JobTable<K> {
 
     /// What a child of a process that is there would be, with this birth number (XSH fork). The processes are
     /// unchanged. An error where the host has no memory for it.
-    pub fn newborn(&mut self, pid: Pid, birth: u64) -> Result<Body, AllocError>
+    pub fn newborn(&mut self, pid: Pid, birth: u64) -> Result<Record, AllocError>
         requires { IsSome (lookup pid self.old.processes) }
         ensures child { IfOk result (λ b. (me : Process) → lookup pid self.old.processes ≡ Some me → (n : ℕ) → process_of n pid b ≡ child_of birth me n) }
         ensures groups { IfOk result (λ b. (me : Process) → lookup pid self.old.processes ≡ Some me → (b.group ≡ me.group) × (b.session ≡ me.session)) }
-        ensures processes { self.new.processes ≡ self.old.processes }
-        ensures rising { IsRising self.old.processes }
-        ensures room { self.new.room ≡ self.old.room }
-        ensures reads { self.new.reads ≤ self.old.reads + 1 }
+        ensures looks { Looks 1 self.old self.new }
     {
         let spare = self.table.spare();
         self.table.update(pid).fork(birth, spare)
@@ -222,14 +190,13 @@ impl<K: Kin> JobTable<K> {
 
     /// Changes a process that is there in what its parent doesn't see; its alarm moves in the index. Each such
     /// change goes by this, but a loan.
-    pub fn change<T, F: FnOnce(&mut Body) -> T>(&mut self, pid: Pid, change: F) -> T
+    pub fn change<T, F: FnOnce(&mut Record) -> T>(&mut self, pid: Pid, change: F) -> T
         requires there { IsSome (lookup pid self.old.processes) }
         requires callable { F.IsAlwaysCallable change }
         requires unseen { IsUnseen F.FnOnce change }
         ensures run { IsRun F.FnOnce change self.old.processes self.new.processes pid result }
-        ensures rising { IsRising self.old.processes }
         ensures room { self.new.room ≡ self.old.room }
-        ensures reads { self.new.reads ≤ self.old.reads + 1 }
+        ensures visits { self.new.visits ≤ self.old.visits + 1 }
     {
         let it = self.table.update(pid);
         let before = it.alarm;
@@ -241,28 +208,27 @@ impl<K: Kin> JobTable<K> {
 
     /// Changes a process that is there, and moves it in the indexes. Each change goes by this that the parent of
     /// the process sees. What was seen of it before and after.
-    pub fn change_seen<F: FnOnce(&mut Body)>(&mut self, pid: Pid, change: F) -> Change
+    pub fn change_seen<F: FnOnce(&mut Record)>(&mut self, pid: Pid, change: F) -> Change
         requires there { IsSome (lookup pid self.old.processes) }
         requires callable { F.IsAlwaysCallable change }
         ensures run { IsRun F.FnOnce change self.old.processes self.new.processes pid tt }
         ensures parent { result.parent ≡ parent_of pid self.old.processes }
         ensures before { option_map seen_of (lookup pid self.old.processes) ≡ Some result.before }
         ensures after { option_map seen_of (lookup pid self.new.processes) ≡ Some result.after }
-        ensures rising { IsRising self.old.processes }
         ensures room { self.new.room ≡ self.old.room }
-        ensures reads { self.new.reads ≤ self.old.reads + 2 }
+        ensures visits { self.new.visits ≤ self.old.visits + 2 }
     {
         let parent = parent_in(&mut self.table, pid);
         let it = self.table.update(pid);
-        let before = of_body(it);
+        let before = of_record(it);
         change(it);
-        let after = of_body(it);
+        let after = of_record(it);
         let seen = Change {
             parent,
             before,
             after,
         };
-        self.books.changed(pid, &seen);
+        self.books.reindex_change(pid, &seen);
         seen
     }
 
@@ -270,29 +236,27 @@ impl<K: Kin> JobTable<K> {
 
     /// How many slots have been read, up to the greatest u128; 0 over a table that doesn't count them.
     pub fn visits(&self) -> u128
-        ensures { result ≡ self.now.reads }
+        ensures { result ≡ self.now.visits }
     {
         self.table.visits()
     }
 
     /// Lends what a process that is there may change of itself. Nothing else changes.
     #[inline]
-    pub fn own(&mut self, pid: Pid) -> &mut Own
+    pub fn own(&mut self, pid: Pid) -> &mut OwnPart
         requires { IsSome (lookup pid self.old.processes) }
         ensures* lends { sem 𝓛 (Lends (jobs_row K.row K.Kin) own_row self.entry result (lent K.one_more self.old pid)) }
         ensures value { IfSome (lookup pid self.old.processes) (λ me. result.now ≡ own_of me) }
-        ensures rising { IsRising self.old.processes }
     {
-        let body = self.table.update(pid);
-        &mut body.own
+        let fields = self.table.update(pid);
+        &mut fields.own
     }
 
     /// Shows what a process that is there may change of itself. Nothing changes.
-    pub fn look(&mut self, pid: Pid) -> &Own
+    pub fn look(&mut self, pid: Pid) -> &OwnPart
         requires { IsSome (lookup pid self.old.processes) }
         ensures* lends { sem 𝓛 (follows_so (jobs_row K.row K.Kin) (jobs_row K.row K.Kin) self.entry.ghost_name none (λ _ _. ⊤) (λ n. n ≡ looked K.one_more self.old)) }
         ensures value { IfSome (lookup pid self.old.processes) (λ me. result.now ≡ own_of me) }
-        ensures rising { IsRising self.old.processes }
     {
         let seen = self.table.update(pid);
         &seen.own
@@ -306,10 +270,10 @@ fn parent_in<K: Kin>(table: &mut K, pid: Pid) -> Pid
     ensures contents { K.contents table.new ≡ K.contents table.old }
     ensures rising { IsRising (K.contents table.old) }
     ensures room { K.room table.new ≡ K.room table.old }
-    ensures reads { K.reads table.new ≤ K.reads table.old + 1 }
+    ensures visits { K.visits table.new ≤ K.visits table.old + 1 }
 {
     match table.get(pid) {
-        Some(facts) => facts.parent,
+        Some(snapshot) => snapshot.parent,
         None => Pid::NONE,
     }
 }

@@ -4,24 +4,17 @@ ghost use Rattle.std.specs.Prelude.{◌≡◌, ◌+◌, ◌*◌, ◌≤◌, ◌=
 ghost use Rattle.posix.specs.declared.errno.Errno.TheVariants.{EPERM};
 ghost use Rattle.posix.specs.Processes.{Process};
 ghost use Rattle.posix.specs.Tables.{lookup};
-ghost use Rattle.posix.specs.GroupCalls.{named as named_by, is_group_of, group_meant as group_meant_by, can_join as can_join_by, can_move as can_move_by, move_to, is_group_of_others as is_group_of_others_by};
-ghost use Rattle.proctable.specs.Body.{facts_of};
-ghost use Rattle.jobs.specs.JobTables.{pid_in as pid_in_register};
+ghost use Rattle.posix.specs.GroupCalls.{is_group_of, group_meant as group_meant_by, can_join as can_join_by, can_move as can_move_by, move_to, is_group_of_others as is_group_of_others_by};
+ghost use Rattle.proctable.specs.Records.{snapshot_of};
+ghost use Rattle.jobs.specs.JobTables.{Looks};
 
 use crate::job_table::JobTable;
 use posix::{Errno, Pid};
-use proctable::{Facts, Kin};
-
-/// The number of a process that a register holds; none where no process can have it.
-fn pid_in(number: i64) -> Option<Pid>
-    ensures { result ≡ pid_in_register number }
-{
-    Pid::new(u32::try_from(number).ok()?)
-}
+use proctable::{Kin, Snapshot};
 
 /// The process group that is meant by a number: 0 stands for that of the process itself.
-fn group_meant(it: &Facts, group: u64) -> u64
-    ensures { (r : Process) → it.now ≡ facts_of r → result ≡ group_meant_by r group }
+fn group_meant(it: &Snapshot, group: u64) -> u64
+    ensures { (r : Process) → it.now ≡ snapshot_of r → result ≡ group_meant_by r group }
 {
     if group == 0 {
         u64::from(it.pid.number())
@@ -31,30 +24,14 @@ fn group_meant(it: &Facts, group: u64) -> u64
 }
 
 impl<K: Kin> JobTable<K> {
-    /// The process that a register names: 0 is the caller.
-    fn named(&mut self, me: &Facts, number: i64) -> Option<Facts>
-        ensures value { (caller : Process) → me.now ≡ facts_of caller → result ≡ option_map facts_of (named_by caller number self.old.processes) }
-        ensures processes { self.new.processes ≡ self.old.processes }
-        ensures room { self.new.room ≡ self.old.room }
-        ensures reads { self.new.reads ≤ self.old.reads + 1 }
-    {
-        if number == 0 {
-            Some(*me)
-        } else {
-            self.get(pid_in(number).unwrap_or(Pid::NONE))
-        }
-    }
-
     /// The process group of a process, where it has this number and is one of this session.
     fn group_at(&mut self, pid: Pid, session: Pid, group: u64) -> Option<Pid>
         ensures value { (it : Process) → lookup pid self.old.processes ≡ Some it → result ≡ (if it.session == session && it.group == group then Some group else None) }
-        ensures processes { self.new.processes ≡ self.old.processes }
-        ensures room { self.new.room ≡ self.old.room }
-        ensures reads { self.new.reads ≤ self.old.reads + 1 }
+        ensures looks { Looks 1 self.old self.new }
     {
-        let facts = self.get(pid)?;
-        if facts.session == session && u64::from(facts.group.number()) == group {
-            Some(facts.group)
+        let snapshot = self.get(pid)?;
+        if snapshot.session == session && u64::from(snapshot.group.number()) == group {
+            Some(snapshot.group)
         } else {
             None
         }
@@ -63,9 +40,7 @@ impl<K: Kin> JobTable<K> {
     /// The process group with this number, where it is one of this session, zombies being members.
     pub fn group_of(&mut self, session: Pid, group: u64) -> Option<Pid>
         ensures value { result ≡ (if is_group_of session group self.old.processes then Some group else None) }
-        ensures processes { self.new.processes ≡ self.old.processes }
-        ensures room { self.new.room ≡ self.old.room }
-        ensures reads { self.new.reads ≤ self.old.reads + 1 + 2 * length self.old.processes }
+        ensures looks { Looks (1 + 2 * length self.old.processes) self.old self.new }
     {
         let mut next = self.next_after(Pid::NONE);
         while let Some(pid) = next {
@@ -79,12 +54,11 @@ impl<K: Kin> JobTable<K> {
 
     /// Which process group a process would join, or why not, for a caller of this session: one of its own
     /// number, or one of that session, unless it leads a session or is in another one.
-    fn can_join(&mut self, me: &Facts, it: &Facts, group: u64) -> Result<Pid, Errno>
-        ensures value { (caller r : Process) → me.now ≡ facts_of caller → it.now ≡ facts_of r → result ≡ can_join_by caller r group self.old.processes }
-        ensures processes { self.new.processes ≡ self.old.processes }
-        ensures room { self.new.room ≡ self.old.room }
-        ensures reads { self.new.reads ≤ self.old.reads + 1 + 2 * length self.old.processes }
+    fn can_join(&mut self, me: &Snapshot, it: &Snapshot, group: u64) -> Result<Pid, Errno>
+        ensures value { (caller r : Process) → me.now ≡ snapshot_of caller → it.now ≡ snapshot_of r → result ≡ can_join_by caller r group self.old.processes }
+        ensures looks { Looks (1 + 2 * length self.old.processes) self.old self.new }
     {
+        let _ = &self.table;
         if it.session != me.session || it.session == it.pid {
             return Err(Errno::EPERM);
         }
@@ -99,12 +73,11 @@ impl<K: Kin> JobTable<K> {
 
     /// Which process group a process would move to for a caller, or why not: the caller may move itself, and a
     /// child of its session that hasn't run exec since its birth.
-    fn can_move(&mut self, me: &Facts, it: &Facts, group: u64) -> Result<Pid, Errno>
-        ensures value { (caller r : Process) → me.now ≡ facts_of caller → it.now ≡ facts_of r → result ≡ can_move_by caller r group self.old.processes }
-        ensures processes { self.new.processes ≡ self.old.processes }
-        ensures room { self.new.room ≡ self.old.room }
-        ensures reads { self.new.reads ≤ self.old.reads + 1 + 2 * length self.old.processes }
+    fn can_move(&mut self, me: &Snapshot, it: &Snapshot, group: u64) -> Result<Pid, Errno>
+        ensures value { (caller r : Process) → me.now ≡ snapshot_of caller → it.now ≡ snapshot_of r → result ≡ can_move_by caller r group self.old.processes }
+        ensures looks { Looks (1 + 2 * length self.old.processes) self.old self.new }
     {
+        let _ = &self.table;
         if it.pid != me.pid {
             if it.parent != me.pid {
                 return Err(Errno::ESRCH);
@@ -120,12 +93,11 @@ impl<K: Kin> JobTable<K> {
     }
 
     /// Which process group the process that a caller named would move to, or why not.
-    fn judge(&mut self, me: &Facts, target: &Option<Facts>, group: i64) -> Result<Pid, Errno>
-        ensures value { (caller : Process) (named : Option Process) → me.now ≡ facts_of caller → target.now ≡ option_map facts_of named → result ≡ move_to caller named group self.old.processes }
-        ensures processes { self.new.processes ≡ self.old.processes }
-        ensures room { self.new.room ≡ self.old.room }
-        ensures reads { self.new.reads ≤ self.old.reads + 1 + 2 * length self.old.processes }
+    fn judge(&mut self, me: &Snapshot, target: &Option<Snapshot>, group: i64) -> Result<Pid, Errno>
+        ensures value { (caller : Process) (named : Option Process) → me.now ≡ snapshot_of caller → target.now ≡ option_map snapshot_of named → result ≡ move_to caller named group self.old.processes }
+        ensures looks { Looks (1 + 2 * length self.old.processes) self.old self.new }
     {
+        let _ = &self.table;
         let Ok(group) = u64::try_from(group) else {
             return Err(Errno::EINVAL);
         };
@@ -138,29 +110,29 @@ impl<K: Kin> JobTable<K> {
         }
     }
 
-    /// Which process group the process that a caller names would move to; 0 stands for the caller, and for the
-    /// number of the process itself. At an error the caller may not move it, or it or the group isn't there (XSH
-    /// setpgid).
-    pub fn group_to_join(&mut self, me: Pid, target: i64, group: i64) -> Result<Pid, Errno>
+    /// Which process group the process that a caller names would move to, or none where nobody has that number; 0 as
+    /// the group stands for the number of the process itself. At an error the caller may not move it, or it or the
+    /// group isn't there (XSH setpgid).
+    pub fn group_to_join(
+        &mut self,
+        me: Pid,
+        target: &Option<Snapshot>,
+        group: i64,
+    ) -> Result<Pid, Errno>
         requires { IsSome (lookup me self.old.processes) }
-        ensures value { (caller : Process) → lookup me self.old.processes ≡ Some caller → result ≡ move_to caller (named_by caller target self.old.processes) group self.old.processes }
-        ensures processes { self.new.processes ≡ self.old.processes }
-        ensures room { self.new.room ≡ self.old.room }
-        ensures reads { self.new.reads ≤ self.old.reads + 3 + 2 * length self.old.processes }
+        ensures value { (caller : Process) (named : Option Process) → lookup me self.old.processes ≡ Some caller → target.now ≡ option_map snapshot_of named → result ≡ move_to caller named group self.old.processes }
+        ensures looks { Looks (2 + 2 * length self.old.processes) self.old self.new }
     {
         let Some(caller) = self.get(me) else {
             unreachable!()
         };
-        let target = self.named(&caller, target);
-        self.judge(&caller, &target, group)
+        self.judge(&caller, target, group)
     }
 
     /// Whether a process is there in the process group with the number of another, zombies included.
     fn is_group_of_others(&mut self, pid: Pid) -> bool
         ensures value { (it : Process) → lookup pid self.old.processes ≡ Some it → result ≡ is_group_of_others_by it self.old.processes }
-        ensures processes { self.new.processes ≡ self.old.processes }
-        ensures room { self.new.room ≡ self.old.room }
-        ensures reads { self.new.reads ≤ self.old.reads + 4 + 4 * length self.old.processes }
+        ensures looks { Looks (4 + 4 * length self.old.processes) self.old self.new }
     {
         let Some(first) = self.next_member(pid, Pid::NONE) else {
             return false;
@@ -174,9 +146,7 @@ impl<K: Kin> JobTable<K> {
         requires { IsSome (lookup me self.old.processes) }
         ensures test { (caller : Process) → lookup me self.old.processes ≡ Some caller → is_ok result ≡ not (caller.group == caller.pid || is_group_of_others_by caller self.old.processes) }
         ensures why { IfErr result (λ why. why ≡ EPERM) }
-        ensures processes { self.new.processes ≡ self.old.processes }
-        ensures room { self.new.room ≡ self.old.room }
-        ensures reads { self.new.reads ≤ self.old.reads + 5 + 4 * length self.old.processes }
+        ensures looks { Looks (5 + 4 * length self.old.processes) self.old self.new }
     {
         let Some(caller) = self.get(me) else {
             unreachable!()

@@ -2,7 +2,7 @@
 
 use crate::JobTable;
 use posix::Pid;
-use proctable::{Body, Kin, ProcTable, ScanTable};
+use proctable::{Kin, ProcTable, Record, ScanTable};
 use std::process::Abort;
 use std::test::Fail;
 
@@ -10,7 +10,7 @@ use std::test::Fail;
 #[tactic(auto, unfolding(posix::specs::Tables::lookup))]
 fn put_first<K: Kin, R: Abort + AllocGlobal>(rt: &R) -> Result<(), Fail> {
     let mut table = JobTable::<K>::empty(rt.alloc());
-    let first = Body::first(rt.alloc())?;
+    let first = Record::first(rt.alloc())?;
     table.reserve()?;
     table.insert(Pid::INIT, Pid::NONE, first);
     assert!(rt; table.get(Pid::INIT).is_some());

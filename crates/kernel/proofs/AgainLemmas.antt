@@ -18,7 +18,7 @@ use Rattle.posix.specs.Targets.{target_in}
 use Rattle.posix.specs.Groups.{is_orphaned}
 use Rattle.posix.specs.Ends.{signalled_group}
 use Rattle.posix.specs.Waits.{wait, wait_with, report, options_in, are_known, has_option}
-use Rattle.posix.specs.Terminals.{terminal, is_in_background, spurns, moved, read, read_from, read_in, read_on}
+use Rattle.posix.specs.Terminals.{terminal, is_in_background, blocks_or_ignores, finish_moved, read, read_from, read_in, read_on}
 use Rattle.posix.specs.Attempts.{attempt_again}
 use Rattle.posix.specs.Regular.{IsPlaced, IsRegular}
 use Rattle.posix.proofs.ConsoleLemmas.{regular_signalled_group}
@@ -50,7 +50,7 @@ signals_wait s me =
 
 -- ---- a read
 
-signals_moved : (s t : State) (p : ℕ) (call : Call) (bytes : List ℕ) → Signals s (moved t p call bytes)
+signals_moved : (s t : State) (p : ℕ) (call : Call) (bytes : List ℕ) → Signals s (finish_moved t p call bytes)
 signals_moved s t p call [] = tt
 signals_moved s t p call (b ∷ bs) = tt
 
@@ -61,7 +61,7 @@ signals_from s me span (line ∷ rest) = signals_moved s _ me.pid Read _
 signals_in : (s : State) (me : Process) (c : Console) (span : Result Span Errno) → Signals s (read_in s me c span)
 signals_in s me c (Err why) = tt
 signals_in s me c (Ok span) =
-    signals_if s (is_in_background me c) _ _ (signals_if s (spurns me TTIN || is_orphaned me.group s.processes) _ _ tt (TTIN, me.group, refl))
+    signals_if s (is_in_background me c) _ _ (signals_if s (blocks_or_ignores me TTIN || is_orphaned me.group s.processes) _ _ tt (TTIN, me.group, refl))
     (signals_if s (span.count == 0) _ _ tt (signals_from s me span c.lines))
 
 signals_on : (s : State) (me : Process) (o : Option Console) → Signals s (read_on s me o)

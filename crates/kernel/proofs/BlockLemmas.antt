@@ -18,7 +18,7 @@ use Rattle.posix.specs.Step.{enter}
 use Rattle.posix.proofs.SeeLemmas.{can_act_alike}
 use Rattle.posix.proofs.TouchLemmas.{Unseen, sees_unseen}
 use Rattle.calls.proofs.ChosenLemmas.{changed_there, no_kill_chosen}
-use Rattle.kernel.proofs.AskedLemmas.{still_rests}
+use Rattle.kernel.proofs.RecheckedLemmas.{still_rests}
 
 -- ---- a wait blocks in a wait
 

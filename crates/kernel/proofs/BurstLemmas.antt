@@ -27,8 +27,8 @@ use Rattle.posix.specs.Regular.{IsRegular}
 use Rattle.posix.proofs.TableLemmas.{pid_looked, rising_changed, changed_id}
 use Rattle.posix.proofs.WakeLemmas.{next_settled}
 use Rattle.posix.proofs.OrderLemmas.{first_in}
-use Rattle.proctable.specs.declared.facts.Facts.{Facts}
-use Rattle.proctable.specs.Body.{facts_of}
+use Rattle.proctable.specs.declared.snapshot.Snapshot.{Snapshot}
+use Rattle.proctable.specs.Records.{snapshot_of}
 use Rattle.umach.specs.Bursts.{Burst, then_rest, exec_until}
 use Rattle.umach.proofs.BurstLemmas.{stops_at}
 use Rattle.life.specs.declared.noted_bursts.Note.{Note}
@@ -233,14 +233,14 @@ pub record Readies (s : State) (p : ℕ) : Type 0 where
   pub me : Process
   pub ready : IsReady s p me
 
-pub readies : (s : State) (p : ℕ) (f : Facts) → s.halted ≡ false → IsSettled s → IsRegular s → current s ≡ Some p → Some f ≡ option_map facts_of (process s p) → is_some f.chosen ≡ false
+pub readies : (s : State) (p : ℕ) (f : Snapshot) → s.halted ≡ false → IsSettled s → IsRegular s → current s ≡ Some p → Some f ≡ option_map snapshot_of (process s p) → is_some f.chosen ≡ false
     → is_some f.blocked ≡ false → Readies s p
 readies s p f going settled regular now read none free =
     let place = first_in p s.order now in
     let placed = regular.placed p place in
     let me = placed.what in
-    let told : Some f ≡ Some (facts_of me) = read ∙ ap (option_map facts_of) placed.found in
-    let is : f ≡ facts_of me = cc in
+    let told : Some f ≡ Some (snapshot_of me) = read ∙ ap (option_map snapshot_of) placed.found in
+    let is : f ≡ snapshot_of me = cc in
     record {
       me = me;
       ready = record {
@@ -251,8 +251,8 @@ readies s p f going settled regular now read none free =
         now = now;
         here = placed.found;
         living = placed.living;
-        free = ap (λ (g : Facts). g.blocked) (sym is) ∙ none_of f.blocked free;
-        none = ap (λ (g : Facts). g.chosen) (sym is) ∙ none_of f.chosen none;
+        free = ap (λ (g : Snapshot). g.blocked) (sym is) ∙ none_of f.blocked free;
+        none = ap (λ (g : Snapshot). g.chosen) (sym is) ∙ none_of f.chosen none;
       };
     }
 

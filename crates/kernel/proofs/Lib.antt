@@ -3,7 +3,7 @@ pub mod EventLemmas
 pub mod HeadlineLemmas
 pub mod PlainLemmas
 pub mod BurstLemmas
-pub mod AskedLemmas
+pub mod RecheckedLemmas
 pub mod AgainLemmas
 pub mod BlockLemmas
 pub mod AgreeLemmas

@@ -19,7 +19,7 @@ use Rattle.posix.specs.Settle.{IsSettled}
 use Rattle.posix.specs.Step.{code_of, begin_call, after_trap, act, step, happens}
 use Rattle.life.specs.declared.noted_bursts.Note.{Note}
 use Rattle.life.specs.NotedBursts.{StepsTaken, most_notes, exec_with_notes}
-use Rattle.calls.specs.Outcomes.{IsActing, is_own}
+use Rattle.calls.specs.Outcomes.{IsActing, changes_caller_alone}
 
 -- No signal is chosen for p.
 abbrev pub NoneChosen : State → ℕ → Type 0
@@ -53,7 +53,7 @@ Happens old event entries new = (granted : Bool) × (happens granted old event �
 abbrev pub changes_one : Trap → Bool
 changes_one trap.Next = true
 changes_one (trap.Note z) = true
-changes_one (trap.Call call) = is_own call
+changes_one (trap.Call call) = changes_caller_alone call
 changes_one (trap.Fault sig) = false
 
 -- a signal is chosen for the process, or it is in a call: it runs no instruction next

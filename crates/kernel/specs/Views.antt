@@ -6,4 +6,4 @@ use Rattle.posix.specs.States.{State}
 pub record KernelView : Type 0 where
   pub state : State
   pub events : ℕ
-  pub reads : ℕ
+  pub visits : ℕ

@@ -48,9 +48,9 @@ impl<K: Kin> Model for KernelOn<K> {
 
     ghost Value = { KernelView };
 
-    ghost view = { λ k. record { state = k.machine.state; events = k.events; reads = k.machine.reads } };
+    ghost view = { λ k. record { state = k.machine.state; events = k.events; visits = k.machine.visits } };
 
-    ghost invariant = { λ k. (k.machine.state.births ≤ k.events + 1) × (k.machine.state.ticks ≤ k.events) × IsSettled k.machine.state × IsRegular k.machine.state × (k.machine.asked ≡ []) × (k.machine.stale ≡ false) × AreTurns k.machine.state };
+    ghost invariant = { λ k. (k.machine.state.births ≤ k.events + 1) × (k.machine.state.ticks ≤ k.events) × IsSettled k.machine.state × IsRegular k.machine.state × (k.machine.to_recheck ≡ []) × (k.machine.foregrounds_unchecked ≡ false) × AreTurns k.machine.state };
 }
 
 impl<K: Kin> KernelOn<K> {
@@ -59,7 +59,7 @@ impl<K: Kin> KernelOn<K> {
     pub fn boot(alloc: Global, world: &World) -> Result<Self, AllocError>
         ensures state { IfOk result (λ k. k.state ≡ boot_of world.now) }
         ensures events { IfOk result (λ k. k.events ≡ 0) }
-        ensures reads { IfOk result (λ k. k.reads ≤ 6) }
+        ensures visits { IfOk result (λ k. k.visits ≤ 6) }
         ensures regular { IfOk result (λ k. IsRegular k.state) }
         ensures settled { IfOk result (λ k. IsSettled k.state) }
         ensures orderly { IfOk result (λ k. IsWorld world.now → IsOrderly k.state) }
@@ -81,7 +81,7 @@ impl<K: Kin> KernelOn<K> {
     /// How many slots of the table of processes have been read, up to the greatest u128; 0 over a table
     /// that doesn't count them.
     pub fn visits(&self) -> u128
-        ensures { result ≡ self.now.reads }
+        ensures { result ≡ self.now.visits }
     {
         self.machine.visits()
     }
@@ -115,7 +115,7 @@ impl<K: Kin> KernelOn<K> {
         ensures forms { IsEvent event → IsOrderly self.old.state → list_all is_line (numbered self.new.events result.items) ≡ true }
         ensures agrees { (lines : List Line) → Agree lines self.old.events self.old.state → Agree (lines ++ numbered self.new.events result.items) self.new.events self.new.state }
         ensures no_number_is_given_out_twice { (e : Entry) (n : ℕ) → Contains result.items e → born_by e ≡ Some n → is_free self.old.state.processes n ≡ true }
-        ensures reads { event_changes_one event self.old.state ≡ true → self.new.reads ≤ self.old.reads + 3 }
+        ensures visits { event_changes_one event self.old.state ≡ true → self.new.visits ≤ self.old.visits + 3 }
     {
         let mut entries = ArrayVec::new();
         self.event_into(event, &mut entries);
@@ -181,7 +181,7 @@ impl<K: Kin> KernelOn<K> {
         ensures forms { IsEvent event → IsOrderly self.old.state → list_all is_line (numbered self.new.events entries.new.items) ≡ true }
         ensures agrees { (lines : List Line) → Agree lines self.old.events self.old.state → Agree (lines ++ numbered self.new.events entries.new.items) self.new.events self.new.state }
         ensures no_number_is_given_out_twice { (e : Entry) (n : ℕ) → Contains entries.new.items e → born_by e ≡ Some n → is_free self.old.state.processes n ≡ true }
-        ensures reads { event_changes_one event self.old.state ≡ true → self.new.reads ≤ self.old.reads + 3 }
+        ensures visits { event_changes_one event self.old.state ≡ true → self.new.visits ≤ self.old.visits + 3 }
     {
         self.events += 1;
         next(&mut self.machine, event, entries);

@@ -75,7 +75,7 @@ fn write_notes<S: Sink>(
 /// Gives the kernel one event as often as can be at once, up to the one with this number. The notes, and what
 /// the last one shows besides, are added to lists that are empty. Whose notes they are, where there are any.
 #[inline]
-fn give<K: Kin>(
+fn feed<K: Kin>(
     kernel: &mut KernelOn<K>,
     event: Event,
     last: u64,
@@ -122,7 +122,7 @@ fn run_some<K: Kin, S: Sink>(
 {
     notes.clear();
     entries.clear();
-    let pid = give(kernel, event, last, notes, entries);
+    let pid = feed(kernel, event, last, notes, entries);
     write_notes(pid, notes.as_slice(), pending, out)?;
     write_entries(kernel.events(), entries.as_slice(), pending, out)
 }

@@ -15,8 +15,8 @@ ghost use Rattle.posix.specs.Alarms.{most_ticks, has_alarms};
 ghost use Rattle.posix.specs.Attempts.{attempt_again};
 ghost use Rattle.posix.specs.Regular.{IsPlaced, IsRegular};
 ghost use Rattle.posix.specs.Settle.{IsSettled};
-ghost use Rattle.proctable.specs.Body.{facts_of};
-ghost use Rattle.calls.specs.Outcomes.{IsActing, CostsAtMost, is_own};
+ghost use Rattle.proctable.specs.Records.{snapshot_of};
+ghost use Rattle.calls.specs.Outcomes.{IsActing, CostsAtMost, changes_caller_alone};
 ghost use Rattle.kernel.specs.Steps.{ActsAs, Begins, Bursts, ComesTo, Happens, NoneChosen, RunsInstruction, Steps, next_changes_one, changes_one, event_changes_one, is_followed_by_step, runner, taken_at_once};
 
 use crate::settle::settle;
@@ -25,7 +25,7 @@ use calls::outcome::Attempt;
 use calls::{Entries, attempt, attempt_again};
 use life::{Machine, Notes};
 use posix::{Blocked, Call, Entry, Event, Pid, Sig, Status, Trap};
-use proctable::{Facts, Kin};
+use proctable::{Kin, Snapshot};
 
 /// A process that is there is blocked in a call, and loses its place.
 fn enter_call<K: Kin>(machine: &mut Machine<K>, pid: Pid, blocked: Blocked)
@@ -43,11 +43,11 @@ fn block<K: Kin>(machine: &mut Machine<K>, pid: Pid, call: Call, blocked: Blocke
     requires none_chosen { NoneChosen machine.old.state pid }
     requires waits { (me : Process) → process machine.old.state pid ≡ Some me → call ≡ Call.Waitpid → wait machine.old.state me ≡ Block blocked }
     ensures state { machine.new.state ≡ losing_place (change machine.old.state pid (entered blocked)) pid }
-    ensures asked { call ≡ Call.Waitpid → is_in pid machine.new.asked ≡ false }
+    ensures to_recheck { call ≡ Call.Waitpid → is_in pid machine.new.to_recheck ≡ false }
 {
     enter_call(machine, pid, blocked);
     if let Call::Waitpid = call {
-        machine.asked(pid);
+        machine.rechecked(pid);
     }
 }
 
@@ -61,7 +61,7 @@ fn begin_call<K: Kin>(machine: &mut Machine<K>, pid: Pid, call: Call, entries: &
     requires time { machine.old.state.ticks + most_ticks < 2 ^ 64 }
     requires none { entries.old.items ≡ [] }
     ensures begins { Begins machine.old.state pid call entries.new.items machine.new.state }
-    ensures own { is_own call ≡ true → CostsAtMost 1 machine.old machine.new }
+    ensures own { changes_caller_alone call ≡ true → CostsAtMost 1 machine.old machine.new }
 {
     match attempt(machine, pid, call, entries) {
         Attempt::Done | Attempt::Again => {}
@@ -117,25 +117,25 @@ fn run_instruction<K: Kin>(machine: &mut Machine<K>, pid: Pid, program: u8, entr
     }
 }
 
-/// A process that has a place, with these facts, acts: KILL ends it; it takes up its call; a signal is
+/// A process that has a place, with this snapshot, acts: KILL ends it; it takes up its call; a signal is
 /// delivered to it; or it runs an instruction.
 #[tactic(auto, unfolding(posix::specs::Step::act, posix::specs::Step::act_in))]
-fn act<K: Kin>(machine: &mut Machine<K>, pid: Pid, facts: Facts, entries: &mut Entries)
+fn act<K: Kin>(machine: &mut Machine<K>, pid: Pid, snapshot: Snapshot, entries: &mut Entries)
     requires acting { IsActing machine.old.state pid }
     requires regular { IsRegular machine.old.state }
-    requires facts { Some facts ≡ option_map facts_of (process machine.old.state pid) }
+    requires snapshot { Some snapshot ≡ option_map snapshot_of (process machine.old.state pid) }
     requires births { machine.old.state.births + 1 < 2 ^ 64 }
     requires time { machine.old.state.ticks + most_ticks < 2 ^ 64 }
     requires none { entries.old.items ≡ [] }
     ensures acts { ActsAs machine.old.state pid entries.new.items machine.new.state }
     ensures cost { next_changes_one machine.old.state (process machine.old.state pid) ≡ true → CostsAtMost 2 machine.old machine.new }
 {
-    let Facts {
+    let Snapshot {
         chosen,
         blocked,
         program,
         ..
-    } = facts;
+    } = snapshot;
     if chosen == Some(Sig::KILL) {
         return end(machine, pid, Status::killed(Sig::KILL), entries);
     }
@@ -160,10 +160,10 @@ fn step<K: Kin>(machine: &mut Machine<K>, entries: &mut Entries)
     let Some(pid) = machine.current() else {
         return;
     };
-    let Some(facts) = machine.facts(pid) else {
+    let Some(snapshot) = machine.snapshot(pid) else {
         return;
     };
-    act(machine, pid, facts, entries);
+    act(machine, pid, snapshot, entries);
 }
 
 /// The time goes on by one, alarms that are due ring, and the current process goes to the end of the order.
@@ -229,8 +229,8 @@ pub fn burst<K: Kin>(
     ensures within { result.last ≤ last }
     ensures short { result.trap ≢ Trap.Next → result.last < last }
     ensures call { (call : CallValue) → result.trap ≡ Trap.Call call → ComesTo machine.new.state result.pid call }
-    ensures asked { machine.new.asked ≡ machine.old.asked }
-    ensures stale { machine.new.stale ≡ machine.old.stale }
+    ensures to_recheck { machine.new.to_recheck ≡ machine.old.to_recheck }
+    ensures foregrounds_unchecked { machine.new.foregrounds_unchecked ≡ machine.old.foregrounds_unchecked }
     ensures regular { IsRegular machine.new.state }
     ensures numbers { (n : ℕ) → is_free machine.new.state.processes n ≡ is_free machine.old.state.processes n }
 {
@@ -242,13 +242,13 @@ pub fn burst<K: Kin>(
     let Some(pid) = machine.current() else {
         return nothing;
     };
-    let Some(facts) = machine.facts(pid) else {
+    let Some(snapshot) = machine.snapshot(pid) else {
         return nothing;
     };
-    if facts.chosen.is_some() || facts.blocked.is_some() {
+    if snapshot.chosen.is_some() || snapshot.blocked.is_some() {
         return nothing;
     }
-    let (last, trap) = machine.run_with_notes(pid, facts.program, before, last, notes);
+    let (last, trap) = machine.run_with_notes(pid, snapshot.program, before, last, notes);
     BurstEnd { last, pid, trap }
 }
 
@@ -271,8 +271,8 @@ pub fn call_next<K: Kin>(machine: &mut Machine<K>, pid: Pid, call: Call, entries
     requires none { entries.old.items ≡ [] }
     ensures step { IsStep machine.old.state Event.Step entries.new.items machine.new.state }
     ensures regular { IsRegular machine.new.state }
-    ensures asked { machine.new.asked ≡ [] }
-    ensures stale { machine.new.stale ≡ false }
+    ensures to_recheck { machine.new.to_recheck ≡ [] }
+    ensures foregrounds_unchecked { machine.new.foregrounds_unchecked ≡ false }
 {
     begin_call(machine, pid, call, entries);
     settle(machine);
@@ -286,9 +286,9 @@ pub fn next<K: Kin>(machine: &mut Machine<K>, event: Event, entries: &mut Entrie
     requires none { entries.old.items ≡ [] }
     ensures step { IsStep machine.old.state event entries.new.items machine.new.state }
     ensures regular { IsRegular machine.new.state }
-    ensures asked { machine.old.asked ≡ [] → machine.new.asked ≡ [] }
-    ensures stale { machine.old.stale ≡ false → machine.new.stale ≡ false }
-    ensures reads { machine.old.asked ≡ [] → machine.old.stale ≡ false → event_changes_one event machine.old.state ≡ true → machine.new.reads ≤ machine.old.reads + 3 }
+    ensures to_recheck { machine.old.to_recheck ≡ [] → machine.new.to_recheck ≡ [] }
+    ensures foregrounds_unchecked { machine.old.foregrounds_unchecked ≡ false → machine.new.foregrounds_unchecked ≡ false }
+    ensures visits { machine.old.to_recheck ≡ [] → machine.old.foregrounds_unchecked ≡ false → event_changes_one event machine.old.state ≡ true → machine.new.visits ≤ machine.old.visits + 3 }
 {
     if machine.is_halted() {
         return;

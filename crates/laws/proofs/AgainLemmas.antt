@@ -24,7 +24,7 @@ use Rattle.posix.specs.Waits.{wait, wait_with, report, options_in, are_known, ha
 use Rattle.posix.specs.Sends.{sending, send_with, signal_or_none, kill_with, kill}
 use Rattle.posix.specs.Programs.{exec_as, exec_of, exec}
 use Rattle.posix.specs.GroupCalls.{named, tells, getpgid, getsid, move_of, setpgid_with, setpgid_to, setpgid, is_group_of, is_group_of_others, setsid}
-use Rattle.posix.specs.Terminals.{terminal, is_in_background, spurns, if_allowed, place_named, may_acquire, setctty_of, setctty_at, setctty, tcgetpgrp_on, tcgetpgrp, put_foreground, tcsetpgrp_on, tcsetpgrp, settostop_on, settostop, moved, read_from, read_in, read_on, read, write_in, write_on, write}
+use Rattle.posix.specs.Terminals.{terminal, is_in_background, blocks_or_ignores, if_allowed, console_named, may_acquire, setctty_of, setctty_at, setctty, tcgetpgrp_on, tcgetpgrp, put_foreground, tcsetpgrp_on, tcsetpgrp, settostop_on, settostop, finish_moved, read_from, read_in, read_on, read, write_in, write_on, write}
 use Rattle.posix.specs.Attempts.{attempt, attempt_again}
 use Rattle.posix.specs.Step.{begin_call, go_on, out_of_call}
 use Rattle.laws.specs.Background.{HasSignalledItsGroup}
@@ -125,7 +125,7 @@ signalled_setctty_at s me (Some k) = signalled_setctty_of s me k (slice_get s.co
 
 signalled_setctty : (s : State) (me : Process) → SignalledIf s me (setctty s me)
 unfolding setctty
-signalled_setctty s me = signalled_setctty_at s me (place_named (argument me 1))
+signalled_setctty s me = signalled_setctty_at s me (console_named (argument me 1))
 
 signalled_tcgetpgrp_on : (s : State) (me : Process) (c : Option Console) → SignalledIf s me (tcgetpgrp_on s me c)
 signalled_tcgetpgrp_on s me None = tt
@@ -138,7 +138,7 @@ signalled_tcgetpgrp s me = signalled_tcgetpgrp_on s me (terminal s me)
 -- by the rule for the background
 signalled_allowed : (s : State) (me : Process) (call : Call) (c : Console) (allowed : Attempted) → SignalledIf s me allowed → SignalledIf s me (if_allowed s me call c allowed)
 signalled_allowed s me call c allowed h =
-    signalled_if s me (not (is_in_background me c) || spurns me TTOU) _ _ h (signalled_if s me (is_orphaned me.group s.processes) _ _ tt (inr refl))
+    signalled_if s me (not (is_in_background me c) || blocks_or_ignores me TTOU) _ _ h (signalled_if s me (is_orphaned me.group s.processes) _ _ tt (inr refl))
 
 signalled_foreground : (s : State) (me : Process) (z : ℤ) → SignalledIf s me (put_foreground s me z)
 signalled_foreground s me (negsuc n) = tt
@@ -161,7 +161,7 @@ unfolding settostop
 signalled_settostop s me = signalled_settostop_on s me (terminal s me)
 
 -- bytes that are moved
-signalled_moved : (s t : State) (me : Process) (call : Call) (bytes : List ℕ) → SignalledIf s me (moved t me.pid call bytes)
+signalled_moved : (s t : State) (me : Process) (call : Call) (bytes : List ℕ) → SignalledIf s me (finish_moved t me.pid call bytes)
 signalled_moved s t me call [] = tt
 signalled_moved s t me call (b ∷ bs) = tt
 
@@ -172,7 +172,7 @@ signalled_read_from s me span (line ∷ rest) = signalled_moved s _ me Read (tak
 signalled_read_in : (s : State) (me : Process) (c : Console) (span : Result Span Errno) → SignalledIf s me (read_in s me c span)
 signalled_read_in s me c (Err why) = tt
 signalled_read_in s me c (Ok span) =
-    signalled_if s me (is_in_background me c) _ _ (signalled_if s me (spurns me TTIN || is_orphaned me.group s.processes) _ _ tt (inl refl))
+    signalled_if s me (is_in_background me c) _ _ (signalled_if s me (blocks_or_ignores me TTIN || is_orphaned me.group s.processes) _ _ tt (inl refl))
     (signalled_if s me (span.count == 0) _ _ tt (signalled_read_from s me span c.lines))
 
 signalled_read_on : (s : State) (me : Process) (c : Option Console) → SignalledIf s me (read_on s me c)

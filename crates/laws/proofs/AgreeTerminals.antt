@@ -14,10 +14,10 @@ use Rattle.posix.specs.Tables.{IsRising, lookup}
 use Rattle.posix.specs.States.{State, is_in, change}
 use Rattle.posix.specs.Consoles.{Console, acquired, with_foreground, with_tostop, line_taken}
 use Rattle.posix.specs.Transfers.{span_in, bytes_in}
-use Rattle.posix.specs.Outcomes.{Attempted, Done, Block, Again, Reply, answers, gives, finished, refusal}
+use Rattle.posix.specs.Outcomes.{Attempted, Done, Block, Again, Reply, finish_call, finish_with, finished, refusal}
 use Rattle.posix.specs.Groups.{is_orphaned}
 use Rattle.posix.specs.GroupCalls.{is_group_of}
-use Rattle.posix.specs.Terminals.{terminal, change_console, is_in_background, spurns, if_allowed, place_named, may_acquire, setctty_of, setctty_at, setctty, foreground_told, tcgetpgrp_on, tcgetpgrp, put_foreground, tcsetpgrp_on, tcsetpgrp, settostop_on, settostop, moved, with_bytes, read_from, read_in, read_on, read, write_in, write_on, write}
+use Rattle.posix.specs.Terminals.{terminal, change_console, is_in_background, blocks_or_ignores, if_allowed, console_named, may_acquire, setctty_of, setctty_at, setctty, foreground_told, tcgetpgrp_on, tcgetpgrp, put_foreground, tcsetpgrp_on, tcsetpgrp, settostop_on, settostop, finish_moved, with_bytes, read_from, read_in, read_on, read, write_in, write_on, write}
 use Rattle.laws.proofs.QuietLemmas.{Quiet, quiet_same, quiet_then, quiet_as, Untold, untold_then, quiet_change, IsRunning, quiet_own}
 use Rattle.laws.proofs.QuietOperations.{quiet_group}
 use Rattle.laws.proofs.ToldLines.{is_plain, IsLiving}
@@ -53,16 +53,16 @@ unfolding finished
 quiet_finished s p results = quiet_change s p (finished results) (untold_finished results) (λ r e. e)
 
 -- a call that gives a value
-pub tells_gives : (s t : State) (me : Process) (call : Call) (z : ℤ) → IsTaking s me → Quiet s t → is_plain (Called me.pid call z) ≡ true → TellsIf s (gives t me.pid call z)
+pub tells_gives : (s t : State) (me : Process) (call : Call) (z : ℤ) → IsTaking s me → Quiet s t → is_plain (Called me.pid call z) ≡ true → TellsIf s (finish_with t me.pid call z)
 tells_gives s t me call z c q silent =
     told_line s (change t me.pid (finished ((0, z) ∷ []))) me.pid (Called me.pid call z) c.awake (taking_living s me c) refl silent (quiet_then s t _ q (quiet_finished t me.pid ((0, z) ∷ [])))
 
 -- and changes nothing else
-pub tells_plain : (s : State) (me : Process) (call : Call) (z : ℤ) → IsTaking s me → is_plain (Called me.pid call z) ≡ true → TellsIf s (gives s me.pid call z)
+pub tells_plain : (s : State) (me : Process) (call : Call) (z : ℤ) → IsTaking s me → is_plain (Called me.pid call z) ≡ true → TellsIf s (finish_with s me.pid call z)
 tells_plain s me call z c silent = tells_gives s s me call z c (quiet_same s) silent
 
 -- a call that changes its process alone
-pub tells_answers : (s : State) (me : Process) (call : Call) (reply : Reply) → IsTaking s me → Untold reply.changes → is_plain (Called me.pid call reply.value) ≡ true → TellsIf s (answers s me.pid call reply)
+pub tells_answers : (s : State) (me : Process) (call : Call) (reply : Reply) → IsTaking s me → Untold reply.changes → is_plain (Called me.pid call reply.value) ≡ true → TellsIf s (finish_call s me.pid call reply)
 tells_answers s me call reply c u silent =
     told_line s (change s me.pid (λ r. finished ((0, reply.value) ∷ []) (reply.changes r))) me.pid (Called me.pid call reply.value) c.awake (taking_living s me c) refl silent
     (quiet_own s me.pid (λ r. finished ((0, reply.value) ∷ []) (reply.changes r)) (untold_then reply.changes (finished ((0, reply.value) ∷ [])) u (untold_finished ((0, reply.value) ∷ []))) (taking_running s me c))
@@ -72,7 +72,7 @@ tells_answers s me call reply c u silent =
 -- a call that is judged by the rule for the background
 tells_allowed : (s : State) (me : Process) (call : Call) (c : Console) (allowed : Attempted) → IsTaking s me → is_plain (Called me.pid call (refusal EIO)) ≡ true → TellsIf s allowed → TellsIf s (if_allowed s me call c allowed)
 tells_allowed s me call c allowed i silent h =
-    cond_both (not (is_in_background me c) || spurns me TTOU) _ _ (TellsIf s) (λ t. h)
+    cond_both (not (is_in_background me c) || blocks_or_ignores me TTOU) _ _ (TellsIf s) (λ t. h)
     (λ t. cond_both (is_orphaned me.group s.processes) _ _ (TellsIf s) (λ u. tells_plain s me call (refusal EIO) i silent) (λ u. quiet_group TTOU me.group s))
 
 -- consoles that change
@@ -94,7 +94,7 @@ tells_setctty_at s me (Some k) i = tells_setctty_of s me k (slice_get s.consoles
 
 pub tells_setctty : (s : State) (me : Process) → IsTaking s me → TellsIf s (setctty s me)
 unfolding setctty
-tells_setctty s me i = tells_setctty_at s me (place_named (argument me 1)) i
+tells_setctty s me i = tells_setctty_at s me (console_named (argument me 1)) i
 
 -- ---- the foreground
 
@@ -135,7 +135,7 @@ tells_settostop s me i = tells_settostop_on s me (terminal s me) i
 -- ---- read and write
 
 -- bytes that are moved
-tells_moved : (s t : State) (me : Process) (call : Call) (bytes : List ℕ) → IsTaking s me → Quiet s t → is_plain (Called me.pid call (pos 0)) ≡ true → TellsIf s (moved t me.pid call bytes)
+tells_moved : (s t : State) (me : Process) (call : Call) (bytes : List ℕ) → IsTaking s me → Quiet s t → is_plain (Called me.pid call (pos 0)) ≡ true → TellsIf s (finish_moved t me.pid call bytes)
 tells_moved s t me call [] i q silent = tells_gives s t me call (pos 0) i q silent
 tells_moved s t me call (b ∷ bs) i q silent =
     told_line s _ me.pid (Moved me.pid call (b ∷ bs)) i.awake (taking_living s me i) refl refl (quiet_then s t _ q (quiet_finished t me.pid ((0, pos (length (b ∷ bs))) ∷ [])))
@@ -156,7 +156,7 @@ tells_read_in : (s : State) (me : Process) (c : Console) (span : Result Span Err
 tells_read_in s me c (Err why) i = tells_plain s me Read (refusal why) i refl
 tells_read_in s me c (Ok span) i =
     cond_both (is_in_background me c) _ _ (TellsIf s)
-    (λ t. cond_both (spurns me TTIN || is_orphaned me.group s.processes) _ _ (TellsIf s) (λ u. tells_plain s me Read (refusal EIO) i refl) (λ u. quiet_group TTIN me.group s))
+    (λ t. cond_both (blocks_or_ignores me TTIN || is_orphaned me.group s.processes) _ _ (TellsIf s) (λ u. tells_plain s me Read (refusal EIO) i refl) (λ u. quiet_group TTIN me.group s))
     (λ t. cond_both (span.count == 0) _ _ (TellsIf s) (λ u. tells_plain s me Read (pos 0) i refl) (λ u. tells_read_from s me span c.lines i))
 
 tells_read_on : (s : State) (me : Process) (c : Option Console) → IsTaking s me → TellsIf s (read_on s me c)

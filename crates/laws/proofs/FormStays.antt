@@ -33,7 +33,7 @@ use Rattle.posix.specs.Statuses.{exited, killed, stopped, continued}
 use Rattle.posix.specs.Processes.{Process, Signals, Credentials, Cpu, argument, zero_registers, zero_memory, first_process, default_actions, nothing_pending}
 use Rattle.posix.specs.Tables.{IsRising, lookup, removed, pids}
 use Rattle.posix.specs.States.{Program, State, change, lose_place, go_last, current, next_pid, process, World, boot}
-use Rattle.posix.specs.Outcomes.{Outcome, silent, Attempted, Done, Block, Again, Reply, finished, refusal, refusing, gives, answers}
+use Rattle.posix.specs.Outcomes.{Outcome, silent, Attempted, Done, Block, Again, Reply, finished, refusal, refusing, finish_with, finish_call}
 use Rattle.posix.specs.Credentials.{setuid, seteuid, setgid, setegid}
 use Rattle.posix.specs.Generation.{action, is_pending}
 use Rattle.posix.specs.Groups.{is_orphaned}
@@ -352,7 +352,7 @@ reply_alarm : (s : State) (me : Process) → IsAhead s.ticks me.alarm → IsRepl
 unfolding alarm
 reply_alarm s me h = reply_alarm_in s.ticks me (ticks_in (argument me 1)) h
 
-form_reply : (s : State) (me : Process) (call : Call) (reply : Reply) → IsSaying s me → Untold reply.changes → IsReply reply → is_result call reply.value ≡ true → FormsIf (answers s me.pid call reply)
+form_reply : (s : State) (me : Process) (call : Call) (reply : Reply) → IsSaying s me → Untold reply.changes → IsReply reply → is_result call reply.value ≡ true → FormsIf (finish_call s me.pid call reply)
 form_reply s me call reply c u k r = form_answers s me call reply c u k.keeps k.value r
 
 form_exec_as : (s : State) (me : Process) (n : ℕ) (program : Option Program) → slice_get s.world.programs n ≡ program → IsSaying s me → FormsIf (exec_as s me n program)
@@ -417,7 +417,7 @@ form_setsid s me c =
 kinds_last : (s : State) (p : ℕ) → AreKinds s → AreKinds (go_last s p)
 kinds_last s p h = kinds_as s (go_last s p) refl refl h.records h
 
-form_id : (s : State) (me : Process) (call : Call) (n : ℕ) → IsSaying s me → is_id n ≡ true → is_result call (pos n) ≡ true → FormsIf (gives s me.pid call (pos n))
+form_id : (s : State) (me : Process) (call : Call) (n : ℕ) → IsSaying s me → is_id n ≡ true → is_result call (pos n) ≡ true → FormsIf (finish_with s me.pid call (pos n))
 form_id s me call n c k r = form_plain s me call (pos n) c (id_i64 n k) r
 
 real_id : (i : Ids ℕ) → are_ids i ≡ true → is_id i.real ≡ true

@@ -17,11 +17,11 @@ use Rattle.posix.specs.Tables.{lookup}
 use Rattle.posix.specs.States.{State, change}
 use Rattle.posix.specs.Consoles.{Console, acquired, with_foreground, with_tostop, line_taken}
 use Rattle.posix.specs.Transfers.{span_at, span_in, bytes_in, stored, low_byte}
-use Rattle.posix.specs.Outcomes.{Outcome, Attempted, Done, Block, Again, Reply, answers, gives, finished, refusal}
+use Rattle.posix.specs.Outcomes.{Outcome, Attempted, Done, Block, Again, Reply, finish_call, finish_with, finished, refusal}
 use Rattle.posix.specs.Groups.{is_orphaned}
 use Rattle.posix.specs.GroupCalls.{is_group_of}
 use Rattle.posix.specs.Regular.{IsRegular}
-use Rattle.posix.specs.Terminals.{terminal, change_console, is_in_background, spurns, if_allowed, place_named, may_acquire, setctty_of, setctty_at, setctty, foreground_told, tcgetpgrp_on, tcgetpgrp, put_foreground, tcsetpgrp_on, tcsetpgrp, is_nonzero, settostop_on, settostop, moved, with_bytes, read_from, read_in, read_on, read, write_in, write_on, write}
+use Rattle.posix.specs.Terminals.{terminal, change_console, is_in_background, blocks_or_ignores, if_allowed, console_named, may_acquire, setctty_of, setctty_at, setctty, foreground_told, tcgetpgrp_on, tcgetpgrp, put_foreground, tcsetpgrp_on, tcsetpgrp, is_nonzero, settostop_on, settostop, finish_moved, with_bytes, read_from, read_in, read_on, read, write_in, write_on, write}
 use Rattle.laws.specs.TraceLines.{is_number, is_i64, is_result, is_entry, moves_bytes}
 use Rattle.laws.specs.Kinds.{is_id, is_byte, is_console, IsKind, AreKinds}
 use Rattle.posix.proofs.WalkLemmas.{some_looked}
@@ -102,13 +102,13 @@ pub kinds_finished : (s : State) (p : ℕ) (ws : List (ℕ × ℤ)) → are_resu
 kinds_finished s p ws k h = kinds_change s p (finished ws) (untold_finished ws).pid (kind_finished ws k) h
 
 -- of a call from a state in which p is there to another
-pub form_gives : (s t : State) (me : Process) (call : Call) (z : ℤ) → IsSaying s me → AreKinds t → is_i64 z ≡ true → is_result call z ≡ true → FormsIf (gives t me.pid call z)
+pub form_gives : (s t : State) (me : Process) (call : Call) (z : ℤ) → IsSaying s me → AreKinds t → is_i64 z ≡ true → is_result call z ≡ true → FormsIf (finish_with t me.pid call z)
 form_gives s t me call z c h k r = record { entries = form_called me.pid call z (saying_number s me c) k r; kinds = kinds_finished t me.pid ((0, z) ∷ []) (and_both (is_i64 z) true k refl) h }
 
-pub form_plain : (s : State) (me : Process) (call : Call) (z : ℤ) → IsSaying s me → is_i64 z ≡ true → is_result call z ≡ true → FormsIf (gives s me.pid call z)
+pub form_plain : (s : State) (me : Process) (call : Call) (z : ℤ) → IsSaying s me → is_i64 z ≡ true → is_result call z ≡ true → FormsIf (finish_with s me.pid call z)
 form_plain s me call z c k r = form_gives s s me call z c c.kinds k r
 
-pub form_answers : (s : State) (me : Process) (call : Call) (reply : Reply) → IsSaying s me → Untold reply.changes → KeepsKind reply.changes → is_i64 reply.value ≡ true → is_result call reply.value ≡ true → FormsIf (answers s me.pid call reply)
+pub form_answers : (s : State) (me : Process) (call : Call) (reply : Reply) → IsSaying s me → Untold reply.changes → KeepsKind reply.changes → is_i64 reply.value ≡ true → is_result call reply.value ≡ true → FormsIf (finish_call s me.pid call reply)
 form_answers s me call reply c u keeps k r = record {
   entries = form_called me.pid call reply.value (saying_number s me c) k r;
   kinds = kinds_change s me.pid (λ r. finished ((0, reply.value) ∷ []) (reply.changes r)) (λ r. (untold_finished ((0, reply.value) ∷ [])).pid (reply.changes r) ∙ u.pid r)
@@ -122,7 +122,7 @@ kinds_again s n group h = kinds_as s _ refl refl (kinds_group n group s.processe
 
 form_allowed : (s : State) (me : Process) (call : Call) (c : Console) (allowed : Attempted) → IsSaying s me → is_result call (refusal EIO) ≡ true → FormsIf allowed → FormsIf (if_allowed s me call c allowed)
 form_allowed s me call c allowed i r h =
-    cond_both (not (is_in_background me c) || spurns me TTOU) _ _ FormsIf (λ t. h)
+    cond_both (not (is_in_background me c) || blocks_or_ignores me TTOU) _ _ FormsIf (λ t. h)
     (λ t. cond_both (is_orphaned me.group s.processes) _ _ FormsIf (λ u. form_plain s me call (refusal EIO) i refl r) (λ u. kinds_again s TTOU me.group i.kinds))
 
 with_consoles : (s : State) (cs : List Console) → list_all is_console cs ≡ true → AreKinds s → AreKinds (record s { consoles = cs })
@@ -146,7 +146,7 @@ form_setctty_at s me (Some k) i = form_setctty_of s me k (slice_get s.consoles k
 
 pub form_setctty : (s : State) (me : Process) → IsSaying s me → FormsIf (setctty s me)
 unfolding setctty
-form_setctty s me i = form_setctty_at s me (place_named (argument me 1)) i
+form_setctty s me i = form_setctty_at s me (console_named (argument me 1)) i
 
 -- ---- the foreground
 
@@ -223,7 +223,7 @@ form_bytes p call bytes n m low high all =
     let b : nat_le (length bytes) 16 ≡ true = grind (arith, nat_tests, high) in
     and_both (is_entry (Moved p call bytes)) true (and_both _ (list_all is_byte bytes) (and_both _ (nat_le (length bytes) 16) (and_both _ (nat_le 1 (length bytes)) (and_both (is_number p) (moves_bytes call) n m) a) b) all) refl
 
-form_moved : (s t : State) (me : Process) (call : Call) (bytes : List ℕ) → IsSaying s me → AreKinds t → moves_bytes call ≡ true → is_result call (pos 0) ≡ true → length bytes ≤ 16 → list_all is_byte bytes ≡ true → FormsIf (moved t me.pid call bytes)
+form_moved : (s t : State) (me : Process) (call : Call) (bytes : List ℕ) → IsSaying s me → AreKinds t → moves_bytes call ≡ true → is_result call (pos 0) ≡ true → length bytes ≤ 16 → list_all is_byte bytes ≡ true → FormsIf (finish_moved t me.pid call bytes)
 form_moved s t me call [] i h m r few all = form_gives s t me call (pos 0) i h refl r
 form_moved s t me call (b ∷ bs) i h m r few all = record {
   entries = form_bytes me.pid call (b ∷ bs) (saying_number s me i) m (omega arith) few all;
@@ -266,7 +266,7 @@ form_read_in s me c (Err why) k e i = form_plain s me Read (refusal why) i (refu
 form_read_in s me c (Ok span) k e i =
     let p = and_parts (is_id c.foreground) (list_all (list_all is_byte) c.lines && list_all is_byte c.edited) k in
     cond_both (is_in_background me c) _ _ FormsIf
-    (λ t. cond_both (spurns me TTIN || is_orphaned me.group s.processes) _ _ FormsIf (λ u. form_plain s me Read (refusal EIO) i refl refl) (λ u. kinds_again s TTIN me.group i.kinds))
+    (λ t. cond_both (blocks_or_ignores me TTIN || is_orphaned me.group s.processes) _ _ FormsIf (λ u. form_plain s me Read (refusal EIO) i refl refl) (λ u. kinds_again s TTIN me.group i.kinds))
     (λ t. cond_both (span.count == 0) _ _ FormsIf (λ u. form_plain s me Read (pos 0) i refl refl)
     (λ u. form_read_from s me span c.lines (and_parts (list_all (list_all is_byte) c.lines) (list_all is_byte c.edited) p.1).0 (span_few (argument me 1) (argument me 2) span e) i))
 

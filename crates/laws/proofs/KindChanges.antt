@@ -26,7 +26,7 @@ use Rattle.posix.specs.States.{Program}
 use Rattle.posix.specs.Execute.{set_register, move_on}
 use Rattle.posix.specs.Outcomes.{write_registers, finished, written, refusal}
 use Rattle.posix.specs.Credentials.{is_privileged, id_in, is_own, all_ids_set, effective_id_set, with_user, with_group, setuid, seteuid, setgid, setegid, ids_on_exec}
-use Rattle.posix.specs.Generation.{action, is_pending, with_pending, make_pending, is_deaf, keeps, without_stops, after_discards, generated, signalled, has_flag, does_nothing, SA_SIGINFO, SA_RESETHAND}
+use Rattle.posix.specs.Generation.{action, is_pending, with_pending, make_pending, gets_no_signals, keeps, without_stops, after_discards, generated, signalled, has_flag, does_nothing, SA_SIGINFO, SA_RESETHAND}
 use Rattle.posix.specs.Choice.{taken}
 use Rattle.posix.specs.Notices.{ignores_children, noticed, ignores_stops, noticed_of_change, stopped_by, resumed}
 use Rattle.posix.specs.Handlers.{leave_call, is_interrupted, entered, handler_arguments, at_handler, after_entry, handles, is_full, newest_frame, returned, give_action, set_action, set_mask}
@@ -73,7 +73,7 @@ kind_signalled signal k r h =
     let x = after_discards signal.sig g in
     let kept = kind_discards signal.sig g h.signals in
     kind_with r (generated r.pid r.life signal g)
-    (cond_both (is_deaf r.pid r.life g signal.sig) g (cond (keeps g signal.sig) (make_pending signal x) x) AreSignals (λ t. h.signals)
+    (cond_both (gets_no_signals r.pid r.life g signal.sig) g (cond (keeps g signal.sig) (make_pending signal x) x) AreSignals (λ t. h.signals)
     (λ t. cond_both (keeps g signal.sig) (make_pending signal x) x AreSignals (λ u. kind_made signal x k kept) (λ u. kept))) h
 
 pub kind_noticed : (signal : PendingSignal) → is_carried signal.carried ≡ true → KeepsKind (noticed signal)

@@ -21,7 +21,7 @@ use Rattle.posix.specs.Generation.{effect_of, signalled}
 use Rattle.posix.specs.Choice.{from_kernel}
 use Rattle.posix.specs.Notices.{child_signal, noticed, noticed_of_change, told_of_change, resumed, acted_upon, generated_for, signalled_all}
 use Rattle.posix.specs.Groups.{newly_orphaned}
-use Rattle.posix.specs.Ends.{ended, made_zombie, halt, depart, zombies_of, tell_of_all, status_of, is_dropping, drop_child, notice_of_end, signalled_members, signalled_group, roused, roused_all, rouse_orphans, hung_up, hang_up, end_process}
+use Rattle.posix.specs.Ends.{ended, made_zombie, halt, leave_children_and_die, zombies_of, tell_of_all, status_of, is_dropping, drop_child, notice_of_end, signalled_members, signalled_group, hup_and_cont, hup_and_cont_all, hup_and_cont_orphans, hung_up, hang_up, end_process}
 use Rattle.posix.specs.Alarms.{ring_at, ring_all, pass_time}
 use Rattle.posix.specs.Settle.{is_fresh, refreshed, give_places, clear_foregrounds, settle}
 use Rattle.posix.specs.Step.{signalled_from, key_on, key, rotate, tick}
@@ -99,10 +99,10 @@ kinds_members n group rs h = kinds_signalled (record { sig = n; carried = from_k
 pub kinds_group : (n group : ℕ) (rs : List Process) → AllKind rs → AllKind (signalled_group n group rs)
 kinds_group n group rs h = cond_both (group == 0) rs _ AllKind (λ t. h) (λ t. kinds_members n group rs h)
 
-kinds_roused : (gs : List ℕ) (rs : List Process) → AllKind rs → AllKind (roused_all gs rs)
-unfolding roused_all
-kinds_roused [] rs h = h
-kinds_roused (g ∷ gs) rs h = kinds_roused gs (roused g rs) (kinds_members CONT g _ (kinds_members HUP g rs h))
+kinds_hup_and_cont : (gs : List ℕ) (rs : List Process) → AllKind rs → AllKind (hup_and_cont_all gs rs)
+unfolding hup_and_cont_all
+kinds_hup_and_cont [] rs h = h
+kinds_hup_and_cont (g ∷ gs) rs h = kinds_hup_and_cont gs (hup_and_cont g rs) (kinds_members CONT g _ (kinds_members HUP g rs h))
 
 -- ---- ends
 
@@ -147,7 +147,7 @@ zombies_kind s p up h =
     let b = in_filter (is_child p) s.processes up c z a.found in
     h c z b.found)
 
-kinds_departed : (s : State) (p w : ℕ) → is_end_word w ≡ true → AllKind s.processes → AllKind (depart s p 1 w).processes
+kinds_departed : (s : State) (p w : ℕ) → is_end_word w ≡ true → AllKind s.processes → AllKind (leave_children_and_die s p 1 w).processes
 unfolding adopted made_zombie
 kinds_departed s p w word h = kinds_map (reparented p 1) (pid_reparented p 1) (kind_reparented p 1 refl) _ (kinds_changed p (made_zombie w) (λ r. refl) (kind_made_zombie w word) s.processes h)
 
@@ -187,13 +187,13 @@ kinds_hung_up s r h = cond_both (not (r.pid == 1) && r.session == r.pid) _ _ Are
     of (Some c) = record { world = h.world; records = kinds_group HUP c.foreground s.processes h.records; consoles = kind_consoles r.session released kind_released s.consoles h.consoles }
 
 kinds_gone : (s : State) (p parent w : ℕ) → IsRising s.processes → is_id p ≡ true → is_end_word w ≡ true → AreKinds s
-    → AllKind (notice_of_end (rouse_orphans s.processes (tell_of_all (depart s p 1 w) 1 (zombies_of p s.processes))) parent p w).processes
+    → AllKind (notice_of_end (hup_and_cont_orphans s.processes (tell_of_all (leave_children_and_die s p 1 w) 1 (zombies_of p s.processes))) parent p w).processes
 kinds_gone s p parent w up k word h =
-    let gone = depart s p 1 w in
+    let gone = leave_children_and_die s p 1 w in
     let told = tell_of_all gone 1 (zombies_of p s.processes) in
     let small = end_small w word in
-    kinds_notice (rouse_orphans s.processes told) parent p w k (omega (arith, small))
-    (kinds_roused (newly_orphaned s.processes told.processes) told.processes (kinds_told gone 1 (zombies_of p s.processes) (zombies_kind s p up h.records) (kinds_departed s p w word h.records)))
+    kinds_notice (hup_and_cont_orphans s.processes told) parent p w k (omega (arith, small))
+    (kinds_hup_and_cont (newly_orphaned s.processes told.processes) told.processes (kinds_told gone 1 (zombies_of p s.processes) (zombies_kind s p up h.records) (kinds_departed s p w word h.records)))
 
 -- an end
 pub kinds_end : (s : State) (r : Process) (w : ℕ) → IsRising s.processes → is_id r.pid ≡ true → is_end_word w ≡ true → AreKinds s → AreKinds (end_process s r w).state
@@ -207,13 +207,13 @@ kinds_end s r w up k word h =
     up_hung : (s : State) (r : Process) → IsRising s.processes → IsRising (hang_up s r).processes
     up_hung s r up = (quiet_hung_up s r).rising up
 
-    kinds_gone_state : (t : State) → IsRising t.processes → AreKinds t → AreKinds (notice_of_end (rouse_orphans t.processes (tell_of_all (depart t r.pid 1 w) 1 (zombies_of r.pid t.processes))) r.parent r.pid w)
+    kinds_gone_state : (t : State) → IsRising t.processes → AreKinds t → AreKinds (notice_of_end (hup_and_cont_orphans t.processes (tell_of_all (leave_children_and_die t r.pid 1 w) 1 (zombies_of r.pid t.processes))) r.parent r.pid w)
     kinds_gone_state t up kt =
-        let gone = depart t r.pid 1 w in
+        let gone = leave_children_and_die t r.pid 1 w in
         let told = tell_of_all gone 1 (zombies_of r.pid t.processes) in
-        let roused = rouse_orphans t.processes told in
+        let given = hup_and_cont_orphans t.processes told in
         let only_a = only_told gone 1 (zombies_of r.pid t.processes) in
-        let only_b = only_notice roused r.parent r.pid w in
+        let only_b = only_notice given r.parent r.pid w in
         kinds_as t _ (ap (λ (u : State). u.world) only_b ∙ ap (λ (u : State). u.world) only_a) (ap (λ (u : State). u.consoles) only_b ∙ ap (λ (u : State). u.consoles) only_a)
         (kinds_gone t r.pid r.parent w up k word kt) kt
 

@@ -14,10 +14,10 @@ use Rattle.posix.specs.Processes.{Process, Signals, is_zombie, is_running, is_st
 use Rattle.posix.specs.Tables.{IsRising, lookup, changed, pids, members_in}
 use Rattle.posix.specs.States.{State, change, is_in, without, lose_place, go_last, current}
 use Rattle.posix.specs.Consoles.{Console, console_at, console_of, key_signal}
-use Rattle.posix.specs.Generation.{is_pending, with_pending, make_pending, is_deaf, keeps, without_stops, after_discards, generated, effect_of, signalled}
+use Rattle.posix.specs.Generation.{is_pending, with_pending, make_pending, gets_no_signals, keeps, without_stops, after_discards, generated, effect_of, signalled}
 use Rattle.posix.specs.Choice.{from_kernel, chosen}
 use Rattle.posix.specs.Notices.{child_signal, ignores_children, noticed, ignores_stops, noticed_of_change, told_of_change, resumed, acted_upon, generated_for, signalled_all}
-use Rattle.posix.specs.Ends.{signalled_members, signalled_group, roused, roused_all, hung_up, hang_up, is_dropping, drop_child, notice_of_end, tell_of_all, status_of}
+use Rattle.posix.specs.Ends.{signalled_members, signalled_group, hup_and_cont, hup_and_cont_all, hung_up, hang_up, is_dropping, drop_child, notice_of_end, tell_of_all, status_of}
 use Rattle.posix.specs.Alarms.{is_due, with_alarm, rung, ring_at, ring_all, pass_time}
 use Rattle.posix.specs.Settle.{can_go_on, can_act, wakes, give_places, clear_foregrounds, settle}
 use Rattle.posix.specs.Step.{signalled_from, key_on, key, rotate, tick}
@@ -64,7 +64,7 @@ kill_signalled signal r e =
     let g = r.signals in
     let h = after_discards signal.sig g in
     let kept = kill_discards signal.sig g e in
-    cond_both (is_deaf r.pid r.life g signal.sig) g (cond (keeps g signal.sig) (make_pending signal h) h) (λ x. is_pending x KILL ≡ true) (λ t. e)
+    cond_both (gets_no_signals r.pid r.life g signal.sig) g (cond (keeps g signal.sig) (make_pending signal h) h) (λ x. is_pending x KILL ≡ true) (λ t. e)
     (λ t. cond_both (keeps g signal.sig) (make_pending signal h) h (λ x. is_pending x KILL ≡ true) (λ u. kill_made signal h kept) (λ u. kept))
 
 kill_same : KeepsKill (λ r. r)
@@ -125,14 +125,14 @@ quiet_group n group s =
     cond_both (group == 0) s.processes (signalled_members (record { sig = n; carried = from_kernel }) group s.processes) (λ rs. Quiet s (record s { processes = rs })) (λ e. quiet_same s)
     (λ e. quiet_members (record { sig = n; carried = from_kernel }) group s)
 
--- groups that are roused
-pub quiet_roused : (gs : List ℕ) (s : State) → Quiet s (record s { processes = roused_all gs s.processes })
-unfolding roused_all
-quiet_roused [] s = quiet_same s
-quiet_roused (g ∷ gs) s =
+-- groups that get HUP and CONT
+pub quiet_hup_and_cont : (gs : List ℕ) (s : State) → Quiet s (record s { processes = hup_and_cont_all gs s.processes })
+unfolding hup_and_cont_all
+quiet_hup_and_cont [] s = quiet_same s
+quiet_hup_and_cont (g ∷ gs) s =
     let hung = record s { processes = signalled_members (record { sig = HUP; carried = from_kernel }) g s.processes } in
-    let one = record s { processes = roused g s.processes } in
-    quiet_then s one _ (quiet_then s hung one (quiet_members (record { sig = HUP; carried = from_kernel }) g s) (quiet_members (record { sig = CONT; carried = from_kernel }) g hung)) (quiet_roused gs one)
+    let one = record s { processes = hup_and_cont g s.processes } in
+    quiet_then s one _ (quiet_then s hung one (quiet_members (record { sig = HUP; carried = from_kernel }) g s) (quiet_members (record { sig = CONT; carried = from_kernel }) g hung)) (quiet_hup_and_cont gs one)
 
 -- a terminal that is hung up
 pub quiet_hung_up : (s : State) (r : Process) → Quiet s (hang_up s r)

@@ -34,7 +34,7 @@ use Rattle.posix.specs.Processes.{Process, Signals, Credentials, Cpu, argument}
 use Rattle.posix.specs.Tables.{IsRising, lookup}
 use Rattle.posix.specs.States.{Program, State, is_in, change, current, next_pid, process}
 use Rattle.posix.specs.Execute.{exec_one}
-use Rattle.posix.specs.Outcomes.{Outcome, Attempted, Done, Block, Again, finish, finished, refusal, Reply, answers}
+use Rattle.posix.specs.Outcomes.{Outcome, Attempted, Done, Block, Again, finish, finished, refusal, Reply, finish_call}
 use Rattle.posix.specs.Credentials.{setuid, seteuid, setgid, setegid}
 use Rattle.posix.specs.Generation.{action, is_pending}
 use Rattle.posix.specs.Groups.{is_orphaned}
@@ -90,7 +90,7 @@ explained_fork C false want s me (Some n) is = ((want refl, refl, refl), tt)
 
 -- a reply that is a refusal changes nothing else
 abbrev IsExplained : Reply → Type 1
-IsExplained reply = (C : Terms) (s : State) (p : ℕ) (call : Call) → is_fork call ≡ false → ExplainedIf C s p (answers s p call reply)
+IsExplained reply = (C : Terms) (s : State) (p : ℕ) (call : Call) → is_fork call ≡ false → ExplainedIf C s p (finish_call s p call reply)
 
 -- both sides of a test
 explained_replies : (b : Bool) (x y : Reply) → IsExplained x → IsExplained y → IsExplained (cond b x y)

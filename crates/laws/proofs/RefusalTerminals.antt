@@ -18,7 +18,7 @@ use Rattle.posix.specs.Outcomes.{Outcome, Attempted, Done, Block, Again, finish,
 use Rattle.posix.specs.Groups.{is_orphaned}
 use Rattle.posix.specs.GroupCalls.{is_group_of}
 use Rattle.laws.specs.Lives.{is_fork}
-use Rattle.posix.specs.Terminals.{terminal, is_in_background, spurns, if_allowed, place_named, may_acquire, setctty_of, setctty_at, setctty, tcgetpgrp_on, tcgetpgrp, put_foreground, tcsetpgrp_on, tcsetpgrp, settostop_on, settostop, moved, read_from, read_in, read_on, read, write_in, write_on, write}
+use Rattle.posix.specs.Terminals.{terminal, is_in_background, blocks_or_ignores, if_allowed, console_named, may_acquire, setctty_of, setctty_at, setctty, tcgetpgrp_on, tcgetpgrp, put_foreground, tcsetpgrp_on, tcsetpgrp, settostop_on, settostop, finish_moved, read_from, read_in, read_on, read, write_in, write_on, write}
 
 -- ---- what entries tell of the states
 
@@ -100,7 +100,7 @@ explained_refused C s p call ENOTTY = (λ c. (refl, refl), tt)
 -- a call that is judged by the rule for the background
 explained_allowed : (C : Terms) (s : State) (me : Process) (call : Call) (c : Console) (allowed : Attempted) → ExplainedIf C s me.pid allowed → ExplainedIf C s me.pid (if_allowed s me call c allowed)
 explained_allowed C s me call c allowed h =
-    explained_if C s me.pid (not (is_in_background me c) || spurns me TTOU) _ _ h
+    explained_if C s me.pid (not (is_in_background me c) || blocks_or_ignores me TTOU) _ _ h
     (explained_if C s me.pid (is_orphaned me.group s.processes) _ _ (explained_refused C s me.pid call EIO) tt)
 
 explained_setctty_of : (C : Terms) (s : State) (me : Process) (k : ℕ) (c : Option Console) → ExplainedIf C s me.pid (setctty_of s me k c)
@@ -113,7 +113,7 @@ explained_setctty_at C s me (Some k) = explained_setctty_of C s me k (slice_get 
 
 pub explained_setctty : (C : Terms) (s : State) (me : Process) → ExplainedIf C s me.pid (setctty s me)
 unfolding setctty
-explained_setctty C s me = explained_setctty_at C s me (place_named (argument me 1))
+explained_setctty C s me = explained_setctty_at C s me (console_named (argument me 1))
 
 explained_tcgetpgrp_on : (C : Terms) (s : State) (me : Process) (c : Option Console) → ExplainedIf C s me.pid (tcgetpgrp_on s me c)
 explained_tcgetpgrp_on C s me None = explained_refused C s me.pid Tcgetpgrp ENOTTY
@@ -144,7 +144,7 @@ unfolding settostop
 explained_settostop C s me = explained_settostop_on C s me (terminal s me)
 
 -- bytes that are moved
-explained_moved : (C : Terms) (s t : State) (p : ℕ) (call : Call) (bytes : List ℕ) → is_fork call ≡ false → ExplainedIf C s p (moved t p call bytes)
+explained_moved : (C : Terms) (s t : State) (p : ℕ) (call : Call) (bytes : List ℕ) → is_fork call ≡ false → ExplainedIf C s p (finish_moved t p call bytes)
 explained_moved C s t p call [] other = (gives_other s call 0 other, tt)
 explained_moved C s t p call (b ∷ bs) other = (tt, tt)
 
@@ -156,7 +156,7 @@ explained_read_in : (C : Terms) (s : State) (me : Process) (c : Console) (span :
 explained_read_in C s me c (Err why) = explained_refused C s me.pid Read why
 explained_read_in C s me c (Ok span) =
     explained_if C s me.pid (is_in_background me c) _ _
-    (explained_if C s me.pid (spurns me TTIN || is_orphaned me.group s.processes) _ _ (explained_refused C s me.pid Read EIO) tt)
+    (explained_if C s me.pid (blocks_or_ignores me TTIN || is_orphaned me.group s.processes) _ _ (explained_refused C s me.pid Read EIO) tt)
     (explained_if C s me.pid (span.count == 0) _ _ (tt, tt) (explained_read_from C s me span c.lines))
 
 explained_read_on : (C : Terms) (s : State) (me : Process) (c : Option Console) → ExplainedIf C s me.pid (read_on s me c)

@@ -42,7 +42,7 @@ use Rattle.posix.specs.Groups.{is_orphaned, newly_orphaned}
 use Rattle.posix.specs.Choice.{chosen, carried_by, from_kernel}
 use Rattle.posix.specs.Handlers.{handles, is_full, newest_frame, returned, set_action}
 use Rattle.posix.specs.Births.{born, child_of, fork_as}
-use Rattle.posix.specs.Ends.{made_zombie, depart, is_dropping, drop_child, notice_of_end, zombies_of, tell_of_all, status_of, rouse_orphans, hang_up, end_with_heir, end_process}
+use Rattle.posix.specs.Ends.{made_zombie, leave_children_and_die, is_dropping, drop_child, notice_of_end, zombies_of, tell_of_all, status_of, hup_and_cont_orphans, hang_up, end_with_heir, end_process}
 use Rattle.posix.specs.Targets.{target_in}
 use Rattle.posix.specs.Waits.{wait, wait_with, report, options_in, are_known, has_option, WNOHANG, news_told}
 use Rattle.posix.specs.Delivery.{handle, act_by_default, act_on, take_out, deliver, fault_with, fault, return_to, return_from_handler}
@@ -60,7 +60,7 @@ use Rattle.posix.proofs.MapLemmas.{at_pid, lookup_back}
 use Rattle.posix.proofs.MemberLemmas.{in_append, in_first, apart_rest}
 use Rattle.posix.proofs.RegularLemmas.{Keeps, keeps_none, keeps_at, keeps_set_cpu, keeps_news_told, keeps_handles, keeps_take_out, keeps_noticed, keeps_with_alarm, due_ahead, lookup_left, placed_least, regular_as, regular_change, regular_lose, regular_depart, regular_halt, regular_inserted, regular_removed, regular_pass}
 use Rattle.posix.proofs.ChangeLemmas.{regular_stop, regular_signalled}
-use Rattle.posix.proofs.RouseLemmas.{lasts_roused_all, was_there, regular_rouse}
+use Rattle.posix.proofs.HupAndContLemmas.{lasts_hup_and_cont_all, was_there, regular_hup_and_cont_orphans}
 use Rattle.posix.proofs.GroupLemmas.{regular_move, regular_session, keeps_executed}
 use Rattle.posix.proofs.OrderLemmas.{regular_last, first_in}
 use Rattle.posix.proofs.WalkLemmas.{all_looked, in_filter}
@@ -183,14 +183,14 @@ zombie_reparented : (p heir : ℕ) (r : Process) → is_zombie r.life ≡ true �
 zombie_reparented p heir r z = cond_both (r.parent == p) (record r { parent = heir }) r (λ (q : Process). is_zombie q.life ≡ true) (λ e. z) (λ e. z)
 
 -- after a departure who was dead is dead
-dead_departed : (s : State) (p heir w c : ℕ) → IsDead s.processes c → IsDead (depart s p heir w).processes c
+dead_departed : (s : State) (p heir w c : ℕ) → IsDead s.processes c → IsDead (leave_children_and_die s p heir w).processes c
 unfolding adopted changed made_zombie
 dead_departed s p heir w c h =
     dead_map (reparented p heir) (pid_reparented p heir) (zombie_reparented p heir) (map (at p (made_zombie w)) s.processes) c
     (dead_map (at p (made_zombie w)) (at_pid p (made_zombie w) (λ r. refl)) (λ r z. cond_both (r.pid == p) (made_zombie w r) r (λ (q : Process). is_zombie q.life ≡ true) (λ e. refl) (λ e. z)) s.processes c h)
 
 -- and so is who departs
-departed_dead : (s : State) (p heir w : ℕ) → p ≢ 1 → IsDead (depart s p heir w).processes p
+departed_dead : (s : State) (p heir w : ℕ) → p ≢ 1 → IsDead (leave_children_and_die s p heir w).processes p
 unfolding adopted changed made_zombie
 departed_dead s p heir w ne = dead_map (reparented p heir) (pid_reparented p heir) (zombie_reparented p heir) (map (at p (made_zombie w)) s.processes) p (record {
   other = ne;
@@ -200,11 +200,11 @@ departed_dead s p heir w ne = dead_map (reparented p heir) (pid_reparented p hei
       ap (λ (r : Process). is_zombie r.life) b.is ∙ rw named refl;
 })
 
--- and who was dead is dead where groups are roused
-dead_roused : (before : List Process) (s : State) (c : ℕ) → IsRising s.processes → IsDead s.processes c → IsDead (rouse_orphans before s).processes c
-dead_roused before s c up h = record {
+-- and who was dead is dead where groups get HUP and CONT
+dead_hup_and_cont : (before : List Process) (s : State) (c : ℕ) → IsRising s.processes → IsDead s.processes c → IsDead (hup_and_cont_orphans before s).processes c
+dead_hup_and_cont before s c up h = record {
   other = h.other;
-  dead = λ r e. let was = was_there c s.processes _ (lasts_roused_all (newly_orphaned before s.processes) s.processes up).same r e in sym was.zombie ∙ h.dead was.what was.found;
+  dead = λ r e. let was = was_there c s.processes _ (lasts_hup_and_cont_all (newly_orphaned before s.processes) s.processes up).same r e in sym was.zombie ∙ h.dead was.what was.found;
 }
 
 -- so are the zombies among the children of a process
@@ -225,13 +225,13 @@ children_dead s i p least =
 
 -- the end of a process other than process 1
 regular_gone : (s : State) (p parent heir w : ℕ) → 1 ≤ p → p ≢ 1 → CanInherit s.processes p heir → IsRegular s
-    → IsRegular (notice_of_end (rouse_orphans s.processes (tell_of_all (depart s p heir w) heir (zombies_of p s.processes))) parent p w)
+    → IsRegular (notice_of_end (hup_and_cont_orphans s.processes (tell_of_all (leave_children_and_die s p heir w) heir (zombies_of p s.processes))) parent p w)
 regular_gone s p parent heir w least other inherits i =
-    let gone = depart s p heir w in
+    let gone = leave_children_and_die s p heir w in
     let zs = zombies_of p s.processes in
     let told = regular_told gone heir zs (regular_depart p heir w least other s i inherits) (still_dead s.processes gone.processes (dead_departed s p heir w) zs (children_dead s i p least)) in
     let dead = dead_told gone heir zs p (departed_dead s p heir w other) in
-    regular_noticed (rouse_orphans s.processes (tell_of_all gone heir zs)) parent p w (regular_rouse s.processes (tell_of_all gone heir zs) told) (dead_roused s.processes (tell_of_all gone heir zs) p told.rising dead)
+    regular_noticed (hup_and_cont_orphans s.processes (tell_of_all gone heir zs)) parent p w (regular_hup_and_cont_orphans s.processes (tell_of_all gone heir zs) told) (dead_hup_and_cont s.processes (tell_of_all gone heir zs) p told.rising dead)
 
 -- an end, of process 1 too
 regular_ends : (s : State) (r : Process) (status : ℕ) → 1 ≤ r.pid → IsRegular s → IsRegular (end_with_heir s r 1 status).state

@@ -11,10 +11,10 @@ use Rattle.posix.specs.Processes.{Process, argument}
 use Rattle.posix.specs.States.{State}
 use Rattle.posix.specs.Consoles.{Console, console_of, acquired, with_foreground, with_tostop, line_taken}
 use Rattle.posix.specs.Transfers.{span_in, bytes_in}
-use Rattle.posix.specs.Outcomes.{Attempted, Done, Block, Again, Reply, answers, finished, refusal, plain}
+use Rattle.posix.specs.Outcomes.{Attempted, Done, Block, Again, Reply, finish_call, finished, refusal, plain}
 use Rattle.posix.specs.Groups.{is_orphaned}
 use Rattle.posix.specs.GroupCalls.{is_group_of}
-use Rattle.posix.specs.Terminals.{terminal, change_console, is_in_background, spurns, if_allowed, place_named, may_acquire, setctty_of, setctty_at, setctty, foreground_told, tcgetpgrp_on, tcgetpgrp, put_foreground, tcsetpgrp_on, tcsetpgrp, is_nonzero, settostop_on, settostop, moved, with_bytes, read_from, read_in, read_on, read, write_in, write_on, write}
+use Rattle.posix.specs.Terminals.{terminal, change_console, is_in_background, blocks_or_ignores, if_allowed, console_named, may_acquire, setctty_of, setctty_at, setctty, foreground_told, tcgetpgrp_on, tcgetpgrp, put_foreground, tcsetpgrp_on, tcsetpgrp, is_nonzero, settostop_on, settostop, finish_moved, with_bytes, read_from, read_in, read_on, read, write_in, write_on, write}
 use Rattle.posix.specs.Regular.{IsRegular}
 use Rattle.posix.proofs.RegularLemmas.{Keeps, keeps_none, keeps_then, regular_change}
 use Rattle.posix.proofs.ConsoleLemmas.{consoles_acquired, regular_consoles, regular_change_console, regular_signalled_group}
@@ -33,12 +33,12 @@ unfolding finished
 keeps_finished results = record { pid = λ r. refl; parent = λ r. refl; group = λ r. refl; session = λ r. refl; zombie = λ r. refl; alarm = λ r h. h }
 
 -- a call that changes its process alone
-pub regular_answers : (s : State) (p : ℕ) (call : Call) (reply : Reply) → Keeps s.ticks reply.changes → IsRegular s → RegularIf (answers s p call reply)
+pub regular_answers : (s : State) (p : ℕ) (call : Call) (reply : Reply) → Keeps s.ticks reply.changes → IsRegular s → RegularIf (finish_call s p call reply)
 regular_answers s p call reply k i =
     regular_change p (λ r. finished ((0, reply.value) ∷ []) (reply.changes r)) s (keeps_then reply.changes (finished ((0, reply.value) ∷ [])) k (keeps_finished ((0, reply.value) ∷ []))) i
 
 -- a call that gives a value and changes nothing else
-pub regular_gives : (s : State) (p : ℕ) (call : Call) (z : ℤ) → IsRegular s → RegularIf (answers s p call (plain z))
+pub regular_gives : (s : State) (p : ℕ) (call : Call) (z : ℤ) → IsRegular s → RegularIf (finish_call s p call (plain z))
 regular_gives s p call z i = regular_answers s p call (plain z) keeps_none i
 
 -- ---- the background
@@ -46,7 +46,7 @@ regular_gives s p call z i = regular_answers s p call (plain z) keeps_none i
 -- a call that is judged by the rule for the background
 regular_allowed : (s : State) (me : Process) (call : Call) (c : Console) (allowed : Attempted) → IsRegular s → RegularIf allowed → RegularIf (if_allowed s me call c allowed)
 regular_allowed s me call c allowed i h =
-    cond_both (not (is_in_background me c) || spurns me TTOU) _ _ RegularIf (λ t. h)
+    cond_both (not (is_in_background me c) || blocks_or_ignores me TTOU) _ _ RegularIf (λ t. h)
     (λ t. cond_both (is_orphaned me.group s.processes) _ _ RegularIf (λ u. regular_gives s me.pid call (refusal EIO) i) (λ u. regular_signalled_group TTOU me.group s i))
 
 -- ---- setctty
@@ -75,7 +75,7 @@ regular_setctty_at s me (Some k) i = regular_setctty_of s me k (slice_get s.cons
 
 pub regular_setctty : (s : State) (me : Process) → IsRegular s → RegularIf (setctty s me)
 unfolding setctty
-regular_setctty s me i = regular_setctty_at s me (place_named (argument me 1)) i
+regular_setctty s me i = regular_setctty_at s me (console_named (argument me 1)) i
 
 -- ---- the foreground
 
@@ -124,7 +124,7 @@ unfolding with_bytes
 keeps_bytes address bytes = record { pid = λ r. refl; parent = λ r. refl; group = λ r. refl; session = λ r. refl; zombie = λ r. refl; alarm = λ r h. h }
 
 -- bytes that are moved
-regular_bytes : (s : State) (p : ℕ) (call : Call) (bytes : List ℕ) → IsRegular s → RegularIf (moved s p call bytes)
+regular_bytes : (s : State) (p : ℕ) (call : Call) (bytes : List ℕ) → IsRegular s → RegularIf (finish_moved s p call bytes)
 regular_bytes s p call [] i = regular_gives s p call (pos 0) i
 regular_bytes s p call (b ∷ bs) i = regular_change p (finished ((0, pos (length (b ∷ bs))) ∷ [])) s (keeps_finished _) i
 
@@ -140,7 +140,7 @@ regular_read_in : (s : State) (me : Process) (c : Console) (span : Result Span E
 regular_read_in s me c (Err why) i = regular_gives s me.pid Read (refusal why) i
 regular_read_in s me c (Ok span) i =
     cond_both (is_in_background me c) _ _ RegularIf
-    (λ t. cond_both (spurns me TTIN || is_orphaned me.group s.processes) _ _ RegularIf (λ u. regular_gives s me.pid Read (refusal EIO) i) (λ u. regular_signalled_group TTIN me.group s i))
+    (λ t. cond_both (blocks_or_ignores me TTIN || is_orphaned me.group s.processes) _ _ RegularIf (λ u. regular_gives s me.pid Read (refusal EIO) i) (λ u. regular_signalled_group TTIN me.group s i))
     (λ t. cond_both (span.count == 0) _ _ RegularIf (λ u. regular_gives s me.pid Read (pos 0) i) (λ u. regular_read_from s me span c.lines i))
 
 regular_read_on : (s : State) (me : Process) (c : Option Console) → IsRegular s → RegularIf (read_on s me c)

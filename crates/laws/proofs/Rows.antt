@@ -29,7 +29,7 @@ use Rattle.posix.specs.Delivery.{handle, stop_process, take_out, deliver, fault,
 use Rattle.posix.specs.Sends.{targets, permitted, sending, sent_among, sent, kill}
 use Rattle.posix.specs.SignalCalls.{give_credentials, give_signals, sigaction, sigprocmask, set_of, sigpending}
 use Rattle.posix.specs.Births.{child_of, fork_as}
-use Rattle.posix.specs.Ends.{ended, made_zombie, notice_of_end, zombies_of, tell_of_all, signalled_members, roused_all, hang_up, end_process}
+use Rattle.posix.specs.Ends.{ended, made_zombie, notice_of_end, zombies_of, tell_of_all, signalled_members, hup_and_cont_all, hang_up, end_process}
 use Rattle.posix.specs.Waits.{report_of, report, news_told, wait}
 use Rattle.posix.specs.Alarms.{with_alarm, alarm, rung, ring_all}
 use Rattle.posix.specs.Programs.{executed, exec}
@@ -58,7 +58,7 @@ trace w events = trace_from 1 (boot w) (λ k. true) events
 
 -- opens every definition of an operation
 unfoldable pub everything : Unit {0}
-unfolding nothing_pending default_actions zero_registers zero_memory exec_one digits lookup changed inserted removed children_in adopted members_in is_free next_free is_in without finished written setuid seteuid setgid setegid without_stops generated effect_of signalled noticed_of_change told_of_change stopped_by resumed signalled_all with_number is_anchor is_orphaned group_numbers has_stopped is_newly_orphaned newly_orphaned least_ready chosen taken entered at_handler handles returned set_action set_mask child_of fork_as ended made_zombie noticed notice_of_end zombies_of tell_of_all signalled_members roused_all hang_up end_process report_of report news_told wait handle stop_process take_out deliver fault return_from_handler targets permitted sending sent_among sent kill give_credentials give_signals sigaction sigprocmask set_of sigpending attempt attempt_again can_act give_places clear_foregrounds settle set_cpu enter after_trap out_of_call act_in act step with_alarm rung ring_all alarm executed exec is_group_of getpgid getsid in_group setpgid in_session setsid waiting has_room finish_line erased with_byte edit key_signal flushed keyed line_taken acquired released with_foreground with_tostop console_of changed_console stored bytes_in setctty tcgetpgrp tcsetpgrp settostop with_bytes read write tick key happens next hex
+unfolding nothing_pending default_actions zero_registers zero_memory exec_one digits lookup changed inserted removed children_in adopted members_in is_free next_free is_in without finished written setuid seteuid setgid setegid without_stops generated effect_of signalled noticed_of_change told_of_change stopped_by resumed signalled_all with_number is_anchor is_orphaned group_numbers has_stopped is_newly_orphaned newly_orphaned least_ready chosen taken entered at_handler handles returned set_action set_mask child_of fork_as ended made_zombie noticed notice_of_end zombies_of tell_of_all signalled_members hup_and_cont_all hang_up end_process report_of report news_told wait handle stop_process take_out deliver fault return_from_handler targets permitted sending sent_among sent kill give_credentials give_signals sigaction sigprocmask set_of sigpending attempt attempt_again can_act give_places clear_foregrounds settle set_cpu enter after_trap out_of_call act_in act step with_alarm rung ring_all alarm executed exec is_group_of getpgid getsid in_group setpgid in_session setsid waiting has_room finish_line erased with_byte edit key_signal flushed keyed line_taken acquired released with_foreground with_tostop console_of changed_console stored bytes_in setctty tcgetpgrp tcsetpgrp settostop with_bytes read write tick key happens next hex
 everything = tt
 
 abbrev pub note_and_exit : World

@@ -15,7 +15,7 @@ use Rattle.posix.specs.States.{State, process, change}
 use Rattle.posix.specs.Entries.{Line, line, reports_end}
 use Rattle.posix.specs.Outcomes.{finished}
 use Rattle.posix.specs.Births.{child_of, born}
-use Rattle.posix.specs.Ends.{ended, made_zombie, halt, depart}
+use Rattle.posix.specs.Ends.{ended, made_zombie, halt, leave_children_and_die}
 use Rattle.posix.specs.Notices.{stopped_by}
 use Rattle.posix.specs.Waits.{news_told}
 use Rattle.laws.specs.TraceLines.{is_end_word}
@@ -24,7 +24,7 @@ use Rattle.laws.specs.Keeping.{Alive, Kept, NeverBorn, Lives, Died, Phase, Going
 use Rattle.laws.specs.Agree.{NewsAgree, AgreeOn, AgreeIn}
 use Rattle.laws.proofs.KeptLemmas.{and_true}
 use Rattle.laws.proofs.NextLineLemmas.{lives_kept, free_kept, agree_says}
-use Rattle.posix.proofs.TableLemmas.{lookup_changed, pid_looked, pid_reparented}
+use Rattle.posix.proofs.TableLemmas.{lookup_changed, pid_looked, pid_reparented, length_inserted}
 use Rattle.posix.proofs.MapLemmas.{lookup_map}
 use Rattle.std.proofs.lemmas.List.{length-map}
 use Rattle.posix.proofs.RegularLemmas.{lookup_kept, lookup_removed, lookup_inserted, lookup_new}
@@ -149,21 +149,21 @@ agree_made p heir w (Lives a) r word lives h = record {
 }
 agree_made p heir w (Died d) r word lives h = let no : true ≡ false = sym (ap is_zombie h.life) ∙ lives in absurd (cc)
 
-pub departed : (s : State) (p heir w c : ℕ) → process (depart s p heir w) c ≡ option_map (reparented p heir) (cond (c == p) (option_map (made_zombie w) (process s c)) (process s c))
+pub departed : (s : State) (p heir w c : ℕ) → process (leave_children_and_die s p heir w) c ≡ option_map (reparented p heir) (cond (c == p) (option_map (made_zombie w) (process s c)) (process s c))
 unfolding adopted made_zombie
 departed s p heir w c = lookup_map (reparented p heir) (pid_reparented p heir) c (changed p (made_zombie w) s.processes) ∙ ap (option_map (reparented p heir)) (lookup_changed p c (made_zombie w) (λ r. refl) s.processes)
 
-length_departed : (s : State) (p heir w : ℕ) → length (depart s p heir w).processes ≡ length s.processes
+length_departed : (s : State) (p heir w : ℕ) → length (leave_children_and_die s p heir w).processes ≡ length s.processes
 unfolding adopted
 length_departed s p heir w = length-map (changed p (made_zombie w) s.processes) (reparented p heir) ∙ length_changed p (made_zombie w) s.processes
 
 -- the end of a process other than process 1
-pub agree_ended : (lines : List Line) (k : ℕ) (s : State) (p w : ℕ) → AgreeIn Going lines k s → IsLiving s p → p ≢ 1 → is_end_word w ≡ true → AgreeIn Going (lines ++ line k (Ended p w) ∷ []) k (depart s p 1 w)
+pub agree_ended : (lines : List Line) (k : ℕ) (s : State) (p w : ℕ) → AgreeIn Going lines k s → IsLiving s p → p ≢ 1 → is_end_word w ≡ true → AgreeIn Going (lines ++ line k (Ended p w) ∷ []) k (leave_children_and_die s p 1 w)
 unfolding kept_after
 agree_ended lines k s p w h me other word =
     let kept = kept_of lines in
     let going : phase_after (Ended p w) ≡ Going = rw (ne_eqb p 1 other) refl in
-    subst (λ phase. AgreeIn phase (lines ++ line k (Ended p w) ∷ []) k (depart s p 1 w)) going (agree_says Going lines k (Ended p w) s (depart s p 1 w) h (record {
+    subst (λ phase. AgreeIn phase (lines ++ line k (Ended p w) ∷ []) k (leave_children_and_die s p 1 w)) going (agree_says Going lines k (Ended p w) s (leave_children_and_die s p 1 w) h (record {
       place = may_say kept p (Ended p w) (in_life Going lines k s p h me) refl;
       birth = refl;
       report = refl;
@@ -419,11 +419,6 @@ agree_reported lines k s p c w r h me found parent lives what =
     by agrees (inr x) = subst (λ v. ToldAs p v (kept_of lines c) r) (sym x.1) (continue_told p (kept_of lines c) r (sound_kept lines c) lives parent x.0 agrees)
 
 -- ---- births
-
-length_inserted : (new : Process) (rs : List Process) → length (inserted new rs) ≡ length rs + 1
-unfolding inserted
-length_inserted new [] = refl
-length_inserted new (r ∷ rs) = let rest = length_inserted new rs in grind (arith, rest)
 
 pub pid_child : (birth : ℕ) (me : Process) (n : ℕ) → (child_of birth me n).pid ≡ n
 unfolding child_of finished

@@ -18,7 +18,7 @@ use Rattle.posix.specs.Outcomes.{Outcome, silent}
 use Rattle.posix.specs.Generation.{is_pending}
 use Rattle.posix.specs.Births.{child_of, born}
 use Rattle.posix.specs.Groups.{newly_orphaned}
-use Rattle.posix.specs.Ends.{ended, made_zombie, halt, depart, zombies_of, tell_of_all, rouse_orphans, roused_all, notice_of_end, signalled_members, signalled_group, hung_up, hang_up, end_with_heir, end_process}
+use Rattle.posix.specs.Ends.{ended, made_zombie, halt, leave_children_and_die, zombies_of, tell_of_all, hup_and_cont_orphans, hup_and_cont_all, notice_of_end, signalled_members, signalled_group, hung_up, hang_up, end_with_heir, end_process}
 use Rattle.posix.specs.Notices.{stopped_by}
 use Rattle.posix.specs.Delivery.{stop_process}
 use Rattle.posix.specs.Waits.{news_told}
@@ -30,11 +30,11 @@ use Rattle.posix.proofs.MemberLemmas.{is_other}
 use Rattle.posix.proofs.TableLemmas.{lookup_changed, pid_looked, rising_changed, rising_adopted, rising_filter}
 use Rattle.posix.proofs.WalkLemmas.{all_looked, in_filter, pid_found}
 use Rattle.posix.proofs.RegularLemmas.{lookup_left, lookup_inserted, lookup_new}
-use Rattle.posix.proofs.RouseLemmas.{lasts_members, lasts_roused_all, still_there}
+use Rattle.posix.proofs.HupAndContLemmas.{lasts_members, lasts_hup_and_cont_all, still_there}
 use Rattle.posix.proofs.OrphanLemmas.{lasting_told}
 use Rattle.laws.proofs.NextLineLemmas.{counted_all}
 use Rattle.laws.proofs.QuietLemmas.{Quiet, quiet_then, IsRunning, runs_on}
-use Rattle.laws.proofs.QuietOperations.{quiet_roused, quiet_hung_up, IsGone, AllGone, quiet_notice, quiet_told, quiet_told_of_change}
+use Rattle.laws.proofs.QuietOperations.{quiet_hup_and_cont, quiet_hung_up, IsGone, AllGone, quiet_notice, quiet_told, quiet_told_of_change}
 use Rattle.laws.proofs.NewsLemmas.{IsNewsOf}
 use Rattle.laws.proofs.ToldLines.{is_plain, IsLiving, agree_plain, departed, agree_ended, agree_halted, agree_stopped, agree_reaped, agree_reported, agree_born, pid_child, life_child}
 
@@ -95,7 +95,7 @@ told_one s t e awake h turns = record { agree = λ lines k a. subst (λ b. Agree
 -- ---- ends
 
 -- the departed are gone
-gone_departed : (s : State) (p heir w : ℕ) → IsLiving s p → IsGone (depart s p heir w).processes p
+gone_departed : (s : State) (p heir w : ℕ) → IsLiving s p → IsGone (leave_children_and_die s p heir w).processes p
 unfolding made_zombie
 gone_departed s p heir w me = record {
   what = reparented p heir (made_zombie w me.what);
@@ -104,19 +104,19 @@ gone_departed s p heir w me = record {
 }
 
 -- so are those that were
-gone_before : (s : State) (p heir w c : ℕ) → IsGone s.processes c → IsGone (depart s p heir w).processes c
+gone_before : (s : State) (p heir w c : ℕ) → IsGone s.processes c → IsGone (leave_children_and_die s p heir w).processes c
 unfolding made_zombie
 gone_before s p heir w c g = by (c == p) refl
   where
     zombie : (q : Process) → is_zombie q.life ≡ true → is_zombie (reparented p heir q).life ≡ true
     zombie q z = cond_both (q.parent == p) _ _ (λ (q : Process). is_zombie q.life ≡ true) (λ e. z) (λ e. z)
 
-    by : (b : Bool) → (c == p) ≡ b → IsGone (depart s p heir w).processes c
+    by : (b : Bool) → (c == p) ≡ b → IsGone (leave_children_and_die s p heir w).processes c
     by true t = record { what = reparented p heir (made_zombie w g.what); found = departed s p heir w c ∙ rw (t, g.found) refl; dead = zombie (made_zombie w g.what) refl }
     by false t = record { what = reparented p heir g.what; found = departed s p heir w c ∙ rw (t, g.found) refl; dead = zombie g.what g.dead }
 
 -- zombies among the children are gone
-children_gone : (s : State) (p heir w : ℕ) → IsRising s.processes → AllGone (depart s p heir w).processes (zombies_of p s.processes)
+children_gone : (s : State) (p heir w : ℕ) → IsRising s.processes → AllGone (leave_children_and_die s p heir w).processes (zombies_of p s.processes)
 unfolding zombies_of children_in
 children_gone s p heir w up =
     let kids = filter (is_child p) s.processes in
@@ -146,18 +146,18 @@ not_among s p q up me = false_from_ne_true _ (λ k.
 gone_told : (s : State) (heir : ℕ) (zs : List Process) (c : ℕ) → is_in c (pids zs) ≡ false → IsGone s.processes c → IsGone (tell_of_all s heir zs).processes c
 gone_told s heir zs c out g = let l = lasting_told s heir zs c g.what g.found out in record { what = l.what; found = l.found; dead = l.zombie ∙ g.dead }
 
--- and while groups are roused
-gone_roused : (gs : List ℕ) (s : State) (c : ℕ) → IsRising s.processes → IsGone s.processes c → IsGone (roused_all gs s.processes) c
-gone_roused gs s c up g = let l = still_there c s.processes _ (lasts_roused_all gs s.processes up).same g.what g.found in record { what = l.what; found = l.found; dead = l.zombie ∙ g.dead }
+-- and while groups get HUP and CONT
+gone_hup_and_cont : (gs : List ℕ) (s : State) (c : ℕ) → IsRising s.processes → IsGone s.processes c → IsGone (hup_and_cont_all gs s.processes) c
+gone_hup_and_cont gs s c up g = let l = still_there c s.processes _ (lasts_hup_and_cont_all gs s.processes up).same g.what g.found in record { what = l.what; found = l.found; dead = l.zombie ∙ g.dead }
 
-rising_departed : (s : State) (p heir w : ℕ) → IsRising s.processes → IsRising (depart s p heir w).processes
+rising_departed : (s : State) (p heir w : ℕ) → IsRising s.processes → IsRising (leave_children_and_die s p heir w).processes
 unfolding made_zombie
 rising_departed s p heir w up = rising_adopted p heir (changed p (made_zombie w) s.processes) (rising_changed p (made_zombie w) (λ r. refl) s.processes up)
 
-turns_departed : (s : State) (p heir w : ℕ) → AreTurns s → AreTurns (depart s p heir w)
+turns_departed : (s : State) (p heir w : ℕ) → AreTurns s → AreTurns (leave_children_and_die s p heir w)
 turns_departed s p heir w a = record { turns = λ q r e found stops. let other = is_other p q s.order e in by q r other.among (lookup q s.processes) refl (there q other.apart ∙ found) stops }
   where
-    there : (q : ℕ) → q ≢ p → option_map (reparented p heir) (lookup q s.processes) ≡ lookup q (depart s p heir w).processes
+    there : (q : ℕ) → q ≢ p → option_map (reparented p heir) (lookup q s.processes) ≡ lookup q (leave_children_and_die s p heir w).processes
     there q ne = sym (departed s p heir w q ∙ rw (ne_eqb q p ne) refl)
 
     life : (x : Process) → is_stopped (reparented p heir x).life ≡ is_stopped x.life
@@ -174,19 +174,19 @@ turns_departed s p heir w a = record { turns = λ q r e found stops. let other =
 
 -- the end of a process other than process 1
 told_gone : (s : State) (p parent w : ℕ) → s.halted ≡ false → IsRising s.processes → IsLiving s p → p ≢ 1 → is_end_word w ≡ true
-    → IsTold s (record { state = notice_of_end (rouse_orphans s.processes (tell_of_all (depart s p 1 w) 1 (zombies_of p s.processes))) parent p w; entries = Ended p w ∷ [] })
+    → IsTold s (record { state = notice_of_end (hup_and_cont_orphans s.processes (tell_of_all (leave_children_and_die s p 1 w) 1 (zombies_of p s.processes))) parent p w; entries = Ended p w ∷ [] })
 told_gone s p parent w awake up me other word =
-    let gone = depart s p 1 w in
+    let gone = leave_children_and_die s p 1 w in
     let zs = zombies_of p s.processes in
     let told = tell_of_all gone 1 zs in
     let gs = newly_orphaned s.processes told.processes in
-    let roused = rouse_orphans s.processes told in
+    let given = hup_and_cont_orphans s.processes told in
     let left = told_one s gone (Ended p w) awake (λ lines k a. agree_ended lines k s p w a me other word) (turns_departed s p 1 w) in
     let one : Quiet gone told = quiet_told gone 1 zs (rising_departed s p 1 w up) (zombies_rise s p up) (children_gone s p 1 w up) in
-    let two : Quiet told roused = quiet_roused gs told in
+    let two : Quiet told given = quiet_hup_and_cont gs told in
     let told_up = one.rising (rising_departed s p 1 w up) in
-    let here : IsGone roused.processes p = gone_roused gs told p told_up (gone_told gone 1 zs p (not_among s p p up me) (gone_departed s p 1 w me)) in
-    told_before s gone _ (Ended p w ∷ []) left (quiet_then gone roused _ (quiet_then gone told roused one two) (quiet_notice roused parent p w (two.rising told_up) here))
+    let here : IsGone given.processes p = gone_hup_and_cont gs told p told_up (gone_told gone 1 zs p (not_among s p p up me) (gone_departed s p 1 w me)) in
+    told_before s gone _ (Ended p w ∷ []) left (quiet_then gone given _ (quiet_then gone told given one two) (quiet_notice given parent p w (two.rising told_up) here))
 
 -- the end of process 1
 told_halt : (s : State) (w : ℕ) → IsLiving s 1 → is_end_word w ≡ true → IsTold s (record { state = halt s w; entries = Ended 1 w ∷ Halted ∷ [] })

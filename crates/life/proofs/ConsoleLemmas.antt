@@ -23,7 +23,7 @@ use Rattle.pidalloc.specs.Rows.{Pids}
 use Rattle.sched.specs.Places.{Places}
 use Rattle.pidset.specs.Numbers.{PidSetView}
 use Rattle.life.specs.Machines.{IsListed, IsMachine, readers_at}
-use Rattle.proctable.specs.Body.{facts_of}
+use Rattle.proctable.specs.Records.{snapshot_of}
 use Rattle.life.specs.Consoles.{AreReaders, hangs_up}
 use Rattle.posix.proofs.FreshLemmas.{AllFresh}
 
@@ -31,12 +31,12 @@ use Rattle.posix.proofs.FreshLemmas.{AllFresh}
 abbrev pub put : State → ℕ → Console → State
 put s k d = record s { consoles = slice_set s.consoles k d }
 
--- It can be put there: a session has one console at most, nobody can act for it who isn't asked and has no place, and
+-- It can be put there: a session has one console at most, nobody can act for it who isn't rechecked and has no place, and
 -- whoever waits to read from it is known.
-pub record CanPut (s : State) (asked : List ℕ) (readers : List PidSetView) (k : ℕ) (d : Console) : Type 0 where
+pub record CanPut (s : State) (to_recheck : List ℕ) (readers : List PidSetView) (k : ℕ) (d : Console) : Type 0 where
   pub apart : AreConsoles s.world.consoles (slice_set s.consoles k d)
-  pub acts : (p : ℕ) (r : Process) → process s p ≡ Some r → has_place s p ≡ false → is_in p asked ≡ false → can_act (put s k d) r ≡ true → can_act s r ≡ true
-  pub known : (p : ℕ) (r : Process) → process s p ≡ Some r → is_reader d.session r ≡ true → has_place s p ≡ false → is_in p asked ≡ false → is_in p (readers_at k readers) ≡ true
+  pub acts : (p : ℕ) (r : Process) → process s p ≡ Some r → has_place s p ≡ false → is_in p to_recheck ≡ false → can_act (put s k d) r ≡ true → can_act s r ≡ true
+  pub known : (p : ℕ) (r : Process) → process s p ≡ Some r → is_reader d.session r ≡ true → has_place s p ≡ false → is_in p to_recheck ≡ false → is_in p (readers_at k readers) ≡ true
 
 -- ---- the machine
 
@@ -59,11 +59,11 @@ listed_put {readers = readers} s l k d h can = record {
   there = h.there;
   room = h.room;
   watched = record {
-    known = λ j p c r at found reads out unasked. ⊎_elim
+    known = λ j p c r at found visits out unasked. ⊎_elim
         (λ here.
-        let mine : is_reader d.session r ≡ true = ap (λ (c : Console). is_reader c.session r) here.1 ∙ reads in
+        let mine : is_reader d.session r ≡ true = ap (λ (c : Console). is_reader c.session r) here.1 ∙ visits in
         ap (λ i. is_in p (readers_at i readers)) here.0 ∙ can.known p r found mine out unasked)
-        (λ other. h.watched.known j p c r other.1 found reads out unasked)
+        (λ other. h.watched.known j p c r other.1 found visits out unasked)
         (found_put s.consoles k j d c at);
     each = h.watched.each;
     many = h.watched.many;
@@ -71,17 +71,17 @@ listed_put {readers = readers} s l k d h can = record {
 }
 
 -- the machine stays one
-pub machine_put : (s : State) (pids : Pids) (places : Places) (asked : PidSetView) (losing : PidSetView) (readers : List PidSetView) (before after : Bool) (k : ℕ) (d : Console)
-    → IsMachine s pids places asked losing (record { readers = readers; stale = before }) → CanPut s asked.pids readers k d → (after ≡ false → AreFresh (put s k d))
-    → IsMachine (put s k d) pids places asked losing (record { readers = readers; stale = after })
-machine_put s pids places asked losing readers before after k d h can fresh = record {
+pub machine_put : (s : State) (pids : Pids) (places : Places) (to_recheck : PidSetView) (groups_at_risk : PidSetView) (readers : List PidSetView) (before after : Bool) (k : ℕ) (d : Console)
+    → IsMachine s pids places to_recheck groups_at_risk (record { readers = readers; foregrounds_unchecked = before }) → CanPut s to_recheck.pids readers k d → (after ≡ false → AreFresh (put s k d))
+    → IsMachine (put s k d) pids places to_recheck groups_at_risk (record { readers = readers; foregrounds_unchecked = after })
+machine_put s pids places to_recheck groups_at_risk readers before after k d h can fresh = record {
   sound = record {
     regular = regular_consoles s _ h.sound.regular can.apart;
     parents = h.sound.parents;
     counted = h.sound.counted;
     kept = h.sound.kept;
   };
-  listed = listed_put s asked k d h.listed can;
+  listed = listed_put s to_recheck k d h.listed can;
   noted = h.noted;
   fresh = fresh;
 }
@@ -91,14 +91,14 @@ machine_put s pids places asked losing readers before after k d h can fresh = re
 -- what a test of a reader says
 record IsReading (session : ℕ) (r : Process) : Type 0 where
   runs : is_running r.life ≡ true
-  reads : is_in_read r.blocked ≡ true
+  visits : is_in_read r.blocked ≡ true
   own : r.session ≡ session
 
 reader_is : (session : ℕ) (r : Process) → is_reader session r ≡ true → IsReading session r
 reader_is session r h =
     let a = and_parts (is_running r.life) (is_in_read r.blocked && r.session == session) h in
     let b = and_parts (is_in_read r.blocked) (r.session == session) a.1 in
-    record { runs = a.0; reads = b.0; own = eqb-true r.session session b.1 }
+    record { runs = a.0; visits = b.0; own = eqb-true r.session session b.1 }
 
 -- one with the same session and foreground process group, and no line where there was none
 pub put_unread : {readers : List PidSetView} (s : State) (l : PidSetView) (k : ℕ) (c d : Console) → IsRegular s → IsListed s l readers → slice_get s.consoles k ≡ Some c
@@ -111,23 +111,23 @@ put_unread s l k c d i h at owner foreground lines = record {
       let was = u.found in
       let same : u.old ≡ r = cc in
       ap (can_act s) (sym same) ∙ u.acts acts;
-  known = λ p r found reads out unasked. h.watched.known k p c r at found (ap (λ n. is_reader n r) (sym owner) ∙ reads) out unasked;
+  known = λ p r found visits out unasked. h.watched.known k p c r at found (ap (λ n. is_reader n r) (sym owner) ∙ visits) out unasked;
 }
 
--- where whoever waits to read from it is asked, one with the same session, or nobody's
-pub put_asked : {readers : List PidSetView} (s : State) (l : PidSetView) (k : ℕ) (c d : Console) → IsRegular s → IsListed s l readers → slice_get s.consoles k ≡ Some c
+-- where whoever waits to read from it is rechecked, one with the same session, or nobody's
+pub put_rechecked : {readers : List PidSetView} (s : State) (l : PidSetView) (k : ℕ) (c d : Console) → IsRegular s → IsListed s l readers → slice_get s.consoles k ≡ Some c
     → AreReaders s k l.pids → IsOfOrFree c.session d → CanPut s l.pids readers k d
 unfolding waits_to_read
-put_asked {readers = readers} s l k c d i h at asked kind = record {
+put_rechecked {readers = readers} s l k c d i h at to_recheck kind = record {
   apart = ⊎_elim (λ same. consoles_set s.world.consoles s.consoles k c d at same i.consoles) (λ free. consoles_freed s.world.consoles s.consoles k d free i.consoles) kind;
-  acts = λ p r found out unasked acts. acts_reading s (put s k d) r refl (λ runs reads w.
+  acts = λ p r found out unasked acts. acts_reading s (put s k d) r refl (λ runs visits w.
       elim (r.session == c.session) as (λ b. (r.session == c.session) ≡ b → waits_to_read (slice_set s.consoles k d) r ≡ true) [
-        | true ↦ λ e. absurd (let reader : is_reader c.session r ≡ true = rw (runs, reads, e) refl in both_ways _ unasked (asked p c r at found reader out))
+        | true ↦ λ e. absurd (let reader : is_reader c.session r ≡ true = rw (runs, visits, e) refl in both_ways _ unasked (to_recheck p c r at found reader out))
         | false ↦ λ e. ap (waits_on r) (console_of_set r.session k c d s.consoles at (λ same. eqb-false _ _ e (sym same)) (others r d (i.bounded p r found).session_least (eqb-false _ _ e) kind)) ∙ w
       ] refl) acts;
-  known = λ p r found reads out unasked. ⊎_elim
-      (λ same. h.watched.known k p c r at found (ap (λ n. is_reader n r) (sym same) ∙ reads) out unasked)
-      (λ free. absurd (nobody r d (i.bounded p r found).session_least free reads))
+  known = λ p r found visits out unasked. ⊎_elim
+      (λ same. h.watched.known k p c r at found (ap (λ n. is_reader n r) (sym same) ∙ visits) out unasked)
+      (λ free. absurd (nobody r d (i.bounded p r found).session_least free visits))
       kind;
 }
   where
@@ -136,15 +136,15 @@ put_asked {readers = readers} s l k c d i h at asked kind = record {
     others r d least ne (inr h) same = omega (arith, h, same, least)
 
     nobody : (r : Process) (d : Console) → 1 ≤ r.session → d.session ≡ 0 → is_reader d.session r ≡ true → ⊥
-    nobody r d least free reads =
-        let own = (reader_is d.session r reads).own in
+    nobody r d least free visits =
+        let own = (reader_is d.session r visits).own in
         omega (arith, least, free, own)
 
 -- who reads where there is no line to wait for can act
 reads_on : (s : State) (r : Process) → is_running r.life ≡ true → is_in_read r.blocked ≡ true → waits_to_read s.consoles r ≡ false → can_act s r ≡ true
 unfolding can_act attempt_again
-reads_on s r runs reads none =
-    let on : (is_running r.life && (can_go_on s r r.blocked || is_some (chosen r.life r.signals))) ≡ true = rw (runs, goes r.blocked reads) refl in
+reads_on s r runs visits none =
+    let on : (is_running r.life && (can_go_on s r r.blocked || is_some (chosen r.life r.signals))) ≡ true = rw (runs, goes r.blocked visits) refl in
     or_right _ _ on
   where
     goes : (b : Option Blocked) → is_in_read b ≡ true → can_go_on s r b ≡ true
@@ -160,14 +160,14 @@ pub put_acquired : {readers : List PidSetView} (s : State) (l : PidSetView) (k :
 unfolding waits_to_read
 put_acquired {readers = readers} s l k c d i h at free none = record {
   apart = consoles_acquired s.world.consoles s.consoles k d none i.consoles;
-  acts = λ p r found out unasked acts. acts_reading s (put s k d) r refl (λ runs reads w.
+  acts = λ p r found out unasked acts. acts_reading s (put s k d) r refl (λ runs visits w.
       elim (r.session == d.session) as (λ b. (r.session == d.session) ≡ b → waits_to_read (slice_set s.consoles k d) r ≡ true) [
         | true ↦ λ e. absurd (both_ways _ (no_wait r (eqb-true _ _ e)) w)
         | false ↦ λ e. ap (waits_on r) (console_of_set r.session k c d s.consoles at (nobody r (i.bounded p r found).session_least) (λ same. eqb-false _ _ e (sym same))) ∙ w
       ] refl) acts;
-  known = λ p r found reads out unasked.
-      let it = reader_is d.session r reads in
-      absurd (both_ways _ unasked (on_list s l p r h found out (reads_on s r it.runs it.reads (no_wait r it.own))));
+  known = λ p r found visits out unasked.
+      let it = reader_is d.session r visits in
+      absurd (both_ways _ unasked (on_list s l p r h found out (reads_on s r it.runs it.visits (no_wait r it.own))));
 }
   where
     no_wait : (r : Process) → r.session ≡ d.session → waits_to_read s.consoles r ≡ false
@@ -258,7 +258,7 @@ key_on_it s console k byte c signal group number found same foreground = rw (num
 -- ---- hangups
 
 -- process 1 hangs up nothing, nor does another that leads no session, or one without a terminal
-pub others_stay : (s : State) (me : Process) → hangs_up (facts_of me) ≡ false → s ≡ hang_up s me
+pub others_stay : (s : State) (me : Process) → hangs_up (snapshot_of me) ≡ false → s ≡ hang_up s me
 unfolding hang_up
 others_stay s me e = ap (λ b. cond b (hung_up s me.session (console_of me.session s.consoles)) s) (sym e)
 
@@ -267,7 +267,7 @@ unfolding hang_up
 none_stays s me none = rw none (sym (cond_both (not (me.pid == 1) && me.session == me.pid) s s (λ t. t ≡ s) (λ e. refl) (λ e. refl)))
 
 -- the leader of a session that has one
-pub leader_hangs_up : (s : State) (k p : ℕ) (me : Process) (c : Console) → IsRegular s → process s p ≡ Some me → hangs_up (facts_of me) ≡ true → slice_get s.consoles k ≡ Some c → c.session ≡ me.session
+pub leader_hangs_up : (s : State) (k p : ℕ) (me : Process) (c : Console) → IsRegular s → process s p ≡ Some me → hangs_up (snapshot_of me) ≡ true → slice_get s.consoles k ≡ Some c → c.session ≡ me.session
     → put (record s { processes = signalled_group HUP c.foreground s.processes }) k (released c) ≡ hang_up s me
 unfolding hang_up
 leader_hangs_up s k p me c i found leads at own =

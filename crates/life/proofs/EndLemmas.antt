@@ -8,7 +8,7 @@ use Rattle.posix.specs.Tables.{lookup, at, changed, removed, reparented, adopted
 use Rattle.posix.specs.States.{State, process, change, lose_place, without}
 use Rattle.posix.specs.Regular.{IsRegular}
 use Rattle.posix.specs.Generation.{signalled}
-use Rattle.posix.specs.Ends.{made_zombie, ended, depart, drops_children, is_dropping, drop_child, notice_of_end, status_of, zombies_of, tell_of_all, rouse_orphans, end_with_heir}
+use Rattle.posix.specs.Ends.{made_zombie, ended, leave_children_and_die, drops_children, is_dropping, drop_child, notice_of_end, status_of, zombies_of, tell_of_all, hup_and_cont_orphans, end_with_heir}
 use Rattle.posix.specs.Notices.{child_signal, ignores_children, noticed}
 use Rattle.posix.proofs.TableLemmas.{pid_looked, pid_reparented, lookup_changed}
 use Rattle.posix.proofs.MapLemmas.{at_pid, lookup_map, lookup_on, some_map, removed_map, changed_changed, adopted_changed}
@@ -92,11 +92,11 @@ notice_left s p heir w c v ne =
     ])
 
 -- so may it and the departure
-notice_after : (s : State) (p heir w c v : ℕ) → heir ≢ p → notice_of_end (depart s p heir w) heir c v ≡ depart (notice_of_end s heir c v) p heir w
+notice_after : (s : State) (p heir w c v : ℕ) → heir ≢ p → notice_of_end (leave_children_and_die s p heir w) heir c v ≡ leave_children_and_die (notice_of_end s heir c v) p heir w
 notice_after s p heir w c v ne = notice_given (leave p w s) p heir c v ∙ ap (given p heir) (notice_left s p heir w c v ne)
 
 -- so may several
-pub tell_after : (s : State) (p heir w : ℕ) → heir ≢ p → (zs : List Process) → tell_of_all (depart s p heir w) heir zs ≡ depart (tell_of_all s heir zs) p heir w
+pub tell_after : (s : State) (p heir w : ℕ) → heir ≢ p → (zs : List Process) → tell_of_all (leave_children_and_die s p heir w) heir zs ≡ leave_children_and_die (tell_of_all s heir zs) p heir w
 unfolding tell_of_all
 tell_after s p heir w ne [] = refl
 tell_after s p heir w ne (z ∷ zs) =
@@ -104,18 +104,18 @@ tell_after s p heir w ne (z ∷ zs) =
 
 -- the end of a process other than process 1
 pub end_is : (s : State) (me : Process) (p heir w : ℕ) → process s p ≡ Some me → p ≢ 1
-    → (end_with_heir s me heir w).state ≡ notice_of_end (rouse_orphans s.processes (tell_of_all (depart s p heir w) heir (zombies_of p s.processes))) me.parent p w
+    → (end_with_heir s me heir w).state ≡ notice_of_end (hup_and_cont_orphans s.processes (tell_of_all (leave_children_and_die s p heir w) heir (zombies_of p s.processes))) me.parent p w
 end_is s me p heir w e other =
     let named : me.pid ≡ p = pid_looked p s.processes me e in
     rw (named, ne_eqb p 1 other) refl
 
 -- who is there is there after a departure
-pub there_after : (s : State) (p heir w q : ℕ) → IsSome (process s q) → IsSome (process (depart s p heir w) q)
+pub there_after : (s : State) (p heir w q : ℕ) → IsSome (process s q) → IsSome (process (leave_children_and_die s p heir w) q)
 unfolding adopted changed made_zombie
 there_after s p heir w q h = some_map (reparented p heir) (pid_reparented p heir) q (map (at p (made_zombie w)) s.processes) (some_map (at p (made_zombie w)) (at_pid p (made_zombie w) (λ r. refl)) q s.processes h)
 
 -- who departs is a zombie
-pub zombie_after : (s : State) (p heir w : ℕ) (me : Process) → process s p ≡ Some me → (x : Process) × (process (depart s p heir w) p ≡ Some x) × (is_zombie x.life ≡ true)
+pub zombie_after : (s : State) (p heir w : ℕ) (me : Process) → process s p ≡ Some me → (x : Process) × (process (leave_children_and_die s p heir w) p ≡ Some x) × (is_zombie x.life ≡ true)
 unfolding adopted changed made_zombie
 zombie_after s p heir w me e =
     let named : (me.pid == p) ≡ true = eq-eqb _ _ (pid_looked p s.processes me e) in

@@ -25,21 +25,21 @@ use Rattle.pidalloc.specs.Rows.{Pids, regrouped}
 use Rattle.pidalloc.proofs.MoveLemmas.{tallied_regrouped, pids_regrouped, greatest_regrouped, CanRegroup, can_regroup}
 use Rattle.sched.specs.Places.{Places}
 use Rattle.pidset.specs.Numbers.{PidSetView, with_number}
-use Rattle.proctable.specs.declared.body.Body.{Body}
-use Rattle.proctable.specs.Body.{process_of, give_body, with_body}
-use Rattle.proctable.proofs.Bodies.{changed_here}
+use Rattle.proctable.specs.declared.records.Record.{Record}
+use Rattle.proctable.specs.Records.{process_of, give_record, with_record}
+use Rattle.proctable.proofs.RecordLemmas.{changed_here}
 use Rattle.jobs.specs.declared.books.Seen.{Seen}
-use Rattle.jobs.specs.Books.{body_seen, seen_of}
+use Rattle.jobs.specs.Books.{record_seen, seen_of}
 use Rattle.jobs.specs.JobTables.{IsRun}
 use Rattle.jobs.proofs.NumberLemmas.{absent_changed}
-use Rattle.jobs.proofs.FactLemmas.{equals}
-use Rattle.jobs.proofs.KeptLemmas.{body_found, length_body}
+use Rattle.jobs.proofs.SnapshotLemmas.{equals}
+use Rattle.jobs.proofs.KeptLemmas.{record_found, length_record}
 use Rattle.life.specs.Machines.{HaveParents, IsKept, IsSound, IsListed, IsMachine, Terminals}
-use Rattle.life.specs.Asking.{with_numbers, with_parent, asking, asking_changed}
+use Rattle.life.specs.Rechecks.{with_numbers, with_parent, rechecking, rechecking_changed}
 use Rattle.life.specs.Changes.{has_moved, CanMoveNumbers, StaysRegular}
 use Rattle.life.proofs.ParentLemmas.{parents_map}
 use Rattle.life.proofs.SoundLemmas.{kept_map, not_many}
-use Rattle.life.proofs.AskLemmas.{IsBeside, listed_with, listed_change}
+use Rattle.life.proofs.RecheckLemmas.{IsBeside, listed_with, listed_change}
 
 -- ---- the parent
 
@@ -63,31 +63,31 @@ parent_there s pids places i p me found some = elim (cases_eq p 1) [
 
 -- ---- a change that its parent doesn't see
 
-pub machine_unseen : {losing : PidSetView} {terminals : Terminals} (s : State) (pids : Pids) (places : Places) (asked after : PidSetView) (p : ℕ) (f : Process → Process) → Unseen f → ((r : Process) → (f r).session ≡ r.session)
-    → IsRegular (change s p f) → IsSome (process s p) → IsMachine s pids places asked losing terminals → after.pids ≡ asking p s.order asked.pids → after.room ≡ asked.room → IsMachine (change s p f) pids places after losing terminals
+pub machine_unseen : {groups_at_risk : PidSetView} {terminals : Terminals} (s : State) (pids : Pids) (places : Places) (to_recheck after : PidSetView) (p : ℕ) (f : Process → Process) → Unseen f → ((r : Process) → (f r).session ≡ r.session)
+    → IsRegular (change s p f) → IsSome (process s p) → IsMachine s pids places to_recheck groups_at_risk terminals → after.pids ≡ rechecking p s.order to_recheck.pids → after.room ≡ to_recheck.room → IsMachine (change s p f) pids places after groups_at_risk terminals
 unfolding changed
-machine_unseen s pids places asked after p f u session regular here i put room = record {
+machine_unseen s pids places to_recheck after p f u session regular here i put room = record {
   sound = record {
     regular = regular;
     parents = parents_map (at p f) (at_pid p f u.pid) (at_keeps (λ r. r.parent) p f u.parent) s.processes i.sound.parents;
     counted = let c = i.sound.counted in let l = length-map s.processes (at p f) in omega (arith, c, l);
     kept = kept_map (at p f) (at_pid p f u.pid) (at_keeps (λ r. r.group) p f u.group) (at_keeps (λ r. r.session) p f session) s.world.pidmax s.processes pids places places (omega arith) i.sound.kept;
   };
-  listed = listed_change s p f asked after i.listed u.pid (touches_unseen s p f u) here put room;
+  listed = listed_change s p f to_recheck after i.listed u.pid (touches_unseen s p f u) here put room;
   noted = i.noted;
   fresh = λ e. fresh_changed p f u.group session s.processes s.consoles (i.fresh e);
 }
 
--- another body, in which all but its alarm is seen as before
-abbrev keep_seen : Body → Process → Process
-keep_seen c r = record (give_body c r) { group = r.group; session = r.session; life = r.life; news = r.news }
+-- another record, in which all but its alarm is seen as before
+abbrev keep_seen : Record → Process → Process
+keep_seen c r = record (give_record c r) { group = r.group; session = r.session; life = r.life; news = r.news }
 
-unseen_kept : (c : Body) → Unseen (keep_seen c)
-unfolding give_body
+unseen_kept : (c : Record) → Unseen (keep_seen c)
+unfolding give_record
 unseen_kept c = record { pid = λ r. refl; parent = λ r. refl; group = λ r. refl; life = λ r. refl; news = λ r. refl }
 
-seen_as : (rs : List Process) → IsRising rs → (p : ℕ) (b c : Body) → lookup p rs ≡ Some (process_of p (parent_of p rs) b) → record (body_seen c) { alarm = b.alarm } ≡ body_seen b → with_body rs p c ≡ changed p (keep_seen c) rs
-unfolding give_body
+seen_as : (rs : List Process) → IsRising rs → (p : ℕ) (b c : Record) → lookup p rs ≡ Some (process_of p (parent_of p rs) b) → record (record_seen c) { alarm = b.alarm } ≡ record_seen b → with_record rs p c ≡ changed p (keep_seen c) rs
+unfolding give_record
 seen_as rs up p b c found same =
     let group : c.group ≡ b.group = ap (λ (w : Seen). w.group) same in
     let session : c.session ≡ b.session = ap (λ (w : Seen). w.session) same in
@@ -95,22 +95,22 @@ seen_as rs up p b c found same =
     let news : c.news ≡ b.news = ap (λ (w : Seen). w.news) same in
     changed_here rs up p b c (keep_seen c) found (λ q. rw (← group, ← session, ← life, ← news) refl)
 
-pub machine_run : {losing : PidSetView} {terminals : Terminals} (s : State) (pids : Pids) (places : Places) (asked after : PidSetView) (p : ℕ) (b c : Body) (ts : List Process)
-    → lookup p s.processes ≡ Some (process_of p (parent_of p s.processes) b) → ts ≡ with_body s.processes p c → record (body_seen c) { alarm = b.alarm } ≡ body_seen b → IsRegular (record s { processes = with_body s.processes p c })
-    → IsMachine s pids places asked losing terminals → after.pids ≡ asking p s.order asked.pids → after.room ≡ asked.room → IsMachine (record s { processes = ts }) pids places after losing terminals
-machine_run {losing = losing} {terminals = terminals} s pids places asked after p b c ts found is same regular i put room =
+pub machine_run : {groups_at_risk : PidSetView} {terminals : Terminals} (s : State) (pids : Pids) (places : Places) (to_recheck after : PidSetView) (p : ℕ) (b c : Record) (ts : List Process)
+    → lookup p s.processes ≡ Some (process_of p (parent_of p s.processes) b) → ts ≡ with_record s.processes p c → record (record_seen c) { alarm = b.alarm } ≡ record_seen b → IsRegular (record s { processes = with_record s.processes p c })
+    → IsMachine s pids places to_recheck groups_at_risk terminals → after.pids ≡ rechecking p s.order to_recheck.pids → after.room ≡ to_recheck.room → IsMachine (record s { processes = ts }) pids places after groups_at_risk terminals
+machine_run {groups_at_risk = groups_at_risk} {terminals = terminals} s pids places to_recheck after p b c ts found is same regular i put room =
     let became = seen_as s.processes i.sound.regular.rising p b c found same in
-    subst (λ rs. IsMachine (record s { processes = rs }) pids places after losing terminals) (sym (is ∙ became))
-    (machine_unseen s pids places asked after p (keep_seen c) (unseen_kept c) (λ r. refl) (subst (λ rs. IsRegular (record s { processes = rs })) became regular) (rw found refl) i put room)
+    subst (λ rs. IsMachine (record s { processes = rs }) pids places after groups_at_risk terminals) (sym (is ∙ became))
+    (machine_unseen s pids places to_recheck after p (keep_seen c) (unseen_kept c) (λ r. refl) (subst (λ rs. IsRegular (record s { processes = rs })) became regular) (rw found refl) i put room)
 
 -- ---- a change that its parent sees
 
--- another body, in the same group and session
-abbrev keep_numbers : Body → Process → Process
-keep_numbers c r = record (give_body c r) { group = r.group; session = r.session }
+-- another record, in the same group and session
+abbrev keep_numbers : Record → Process → Process
+keep_numbers c r = record (give_record c r) { group = r.group; session = r.session }
 
-numbers_as : (rs : List Process) → IsRising rs → (p : ℕ) (b c : Body) → lookup p rs ≡ Some (process_of p (parent_of p rs) b) → has_moved (body_seen b) (body_seen c) ≡ false → with_body rs p c ≡ changed p (keep_numbers c) rs
-unfolding give_body
+numbers_as : (rs : List Process) → IsRising rs → (p : ℕ) (b c : Record) → lookup p rs ≡ Some (process_of p (parent_of p rs) b) → has_moved (record_seen b) (record_seen c) ≡ false → with_record rs p c ≡ changed p (keep_numbers c) rs
+unfolding give_record
 numbers_as rs up p b c found still =
     let apart = or_parts (not (b.group == c.group)) (not (b.session == c.session)) still in
     let group = equals b.group c.group apart.0 in
@@ -118,21 +118,21 @@ numbers_as rs up p b c found still =
     changed_here rs up p b c (keep_numbers c) found (λ q. rw (group, session) refl)
 
 -- the rows count the records with it, where the numbers that it bears move with it
-numbers_kept : (m p : ℕ) (b c : Body) (rs : List Process) (pids now : Pids) (places : Places) → IsRising rs → lookup p rs ≡ Some (process_of p (parent_of p rs) b)
-    → now ≡ cond (has_moved (body_seen b) (body_seen c)) (regrouped pids b.group b.session c.group c.session) pids → IsKept m rs pids places → IsKept m (with_body rs p c) now places
-unfolding give_body changed
-numbers_kept m p b c rs pids now places up found is k = by (has_moved (body_seen b) (body_seen c)) refl is
+numbers_kept : (m p : ℕ) (b c : Record) (rs : List Process) (pids now : Pids) (places : Places) → IsRising rs → lookup p rs ≡ Some (process_of p (parent_of p rs) b)
+    → now ≡ cond (has_moved (record_seen b) (record_seen c)) (regrouped pids b.group b.session c.group c.session) pids → IsKept m rs pids places → IsKept m (with_record rs p c) now places
+unfolding give_record changed
+numbers_kept m p b c rs pids now places up found is k = by (has_moved (record_seen b) (record_seen c)) refl is
   where
-    by : (t : Bool) → has_moved (body_seen b) (body_seen c) ≡ t → now ≡ cond t (regrouped pids b.group b.session c.group c.session) pids → IsKept m (with_body rs p c) now places
+    by : (t : Bool) → has_moved (record_seen b) (record_seen c) ≡ t → now ≡ cond t (regrouped pids b.group b.session c.group c.session) pids → IsKept m (with_record rs p c) now places
     by true e moved = rw moved (record {
       greatest = greatest_regrouped pids b.group b.session c.group c.session ∙ k.greatest;
       table = pids_regrouped pids b.group b.session c.group c.session k.table;
-      tallied = tallied_regrouped pids p (give_body c) (λ r. refl) (process_of p (parent_of p rs) b) rs k.table up k.tallied found;
+      tallied = tallied_regrouped pids p (give_record c) (λ r. refl) (process_of p (parent_of p rs) b) rs k.table up k.tallied found;
       room = k.room;
     })
     by false e still = rw (still, numbers_as rs up p b c found e) (kept_map (at p (keep_numbers c)) (at_pid p (keep_numbers c) (λ r. refl)) (at_keeps (λ r. r.group) p (keep_numbers c) (λ r. refl)) (at_keeps (λ r. r.session) p (keep_numbers c) (λ r. refl)) m rs pids places places (omega arith) k)
 
--- those who are asked: the process, and its parent if it has one that is there
+-- those who are rechecked: the process, and its parent if it has one that is there
 pub listed_changed : {readers : List PidSetView} (s t : State) (p parent : ℕ) (before after : PidSetView) (touched : List ℕ) → IsListed s before readers → Touches s t touched → IsBeside s t → ((q : ℕ) → IsSome (process s q) → IsSome (process t q))
     → IsSome (process t p) → (parent ≢ 0 → IsSome (process t parent)) → process t 0 ≡ None → ((q : ℕ) → is_in q touched ≡ true → (q ≡ p) ⊎ (q ≡ parent))
     → after.pids ≡ with_parent parent (with_number p before.pids) → after.room ≡ before.room → IsListed t after readers
@@ -148,56 +148,56 @@ listed_changed s t p parent before after touched h touches most stay here up non
     ]
 
 -- the number that was given last is the same
-pub machine_numbered : {losing : PidSetView} {terminals : Terminals} (t : State) (pids : Pids) (places : Places) (asked : PidSetView) (last : ℕ) → t.last_pid ≡ last
-    → IsMachine t pids places asked losing terminals → IsMachine (record t { last_pid = last }) pids places asked losing terminals
-machine_numbered {losing = losing} {terminals = terminals} t pids places asked last same i = subst (λ n. IsMachine (record t { last_pid = n }) pids places asked losing terminals) same i
+pub machine_numbered : {groups_at_risk : PidSetView} {terminals : Terminals} (t : State) (pids : Pids) (places : Places) (to_recheck : PidSetView) (last : ℕ) → t.last_pid ≡ last
+    → IsMachine t pids places to_recheck groups_at_risk terminals → IsMachine (record t { last_pid = last }) pids places to_recheck groups_at_risk terminals
+machine_numbered {groups_at_risk = groups_at_risk} {terminals = terminals} t pids places to_recheck last same i = subst (λ n. IsMachine (record t { last_pid = n }) pids places to_recheck groups_at_risk terminals) same i
 
 -- everybody else has the parent that it had
-parents_body : (rs : List Process) (p : ℕ) (c : Body) → HaveParents rs → HaveParents (with_body rs p c)
-unfolding give_body changed
-parents_body rs p c h = parents_map (at p (give_body c)) (at_pid p (give_body c) (λ r. refl)) (at_keeps (λ r. r.parent) p (give_body c) (λ r. refl)) rs h
+parents_record : (rs : List Process) (p : ℕ) (c : Record) → HaveParents rs → HaveParents (with_record rs p c)
+unfolding give_record changed
+parents_record rs p c h = parents_map (at p (give_record c)) (at_pid p (give_record c) (λ r. refl)) (at_keeps (λ r. r.parent) p (give_record c) (λ r. refl)) rs h
 
 -- and who was there is
-pub there_body : (rs : List Process) (p : ℕ) (c : Body) (q : ℕ) → IsSome (lookup q rs) → IsSome (lookup q (with_body rs p c))
-unfolding give_body
-there_body rs p c q there = some_changed p q (give_body c) (λ r. refl) rs there
+pub there_record : (rs : List Process) (p : ℕ) (c : Record) (q : ℕ) → IsSome (lookup q rs) → IsSome (lookup q (with_record rs p c))
+unfolding give_record
+there_record rs p c q there = some_changed p q (give_record c) (λ r. refl) rs there
 
-pub machine_shown : {losing : PidSetView} {terminals : Terminals} (s : State) (pids now : Pids) (places : Places) (asked after : PidSetView) (p parent : ℕ) (b c : Body) (ts : List Process) (stale : Bool)
-    → lookup p s.processes ≡ Some (process_of p (parent_of p s.processes) b) → ts ≡ with_body s.processes p c → IsRegular (record s { processes = with_body s.processes p c }) → parent ≡ parent_of p s.processes
-    → now ≡ cond (has_moved (body_seen b) (body_seen c)) (regrouped pids b.group b.session c.group c.session) pids → stale ≡ (has_moved (body_seen b) (body_seen c) || terminals.stale) → s.last_pid ≡ now.last
-    → IsMachine s pids places asked losing terminals → after.pids ≡ with_parent parent (with_number p asked.pids) → after.room ≡ asked.room
-    → IsMachine (record s { processes = ts; last_pid = now.last }) now places after losing (record { readers = terminals.readers; stale = stale })
-unfolding give_body
-machine_shown {terminals = terminals} s pids now places asked after p parent b c ts stale found is regular its moved mark given i put room =
+pub machine_shown : {groups_at_risk : PidSetView} {terminals : Terminals} (s : State) (pids now : Pids) (places : Places) (to_recheck after : PidSetView) (p parent : ℕ) (b c : Record) (ts : List Process) (foregrounds_unchecked : Bool)
+    → lookup p s.processes ≡ Some (process_of p (parent_of p s.processes) b) → ts ≡ with_record s.processes p c → IsRegular (record s { processes = with_record s.processes p c }) → parent ≡ parent_of p s.processes
+    → now ≡ cond (has_moved (record_seen b) (record_seen c)) (regrouped pids b.group b.session c.group c.session) pids → foregrounds_unchecked ≡ (has_moved (record_seen b) (record_seen c) || terminals.foregrounds_unchecked) → s.last_pid ≡ now.last
+    → IsMachine s pids places to_recheck groups_at_risk terminals → after.pids ≡ with_parent parent (with_number p to_recheck.pids) → after.room ≡ to_recheck.room
+    → IsMachine (record s { processes = ts; last_pid = now.last }) now places after groups_at_risk (record { readers = terminals.readers; foregrounds_unchecked = foregrounds_unchecked })
+unfolding give_record
+machine_shown {terminals = terminals} s pids now places to_recheck after p parent b c ts foregrounds_unchecked found is regular its moved mark given i put room =
     let rs = s.processes in
-    let f = give_body c in
+    let f = give_record c in
     let up = i.sound.regular.rising in
     let me = process_of p (parent_of p rs) b in
     let t = change s p f in
     rw is (machine_numbered t now places after now.last given (record {
       sound = record {
         regular = regular;
-        parents = parents_body rs p c i.sound.parents;
-        counted = let n = i.sound.counted in let l = length_body rs p c in omega (arith, n, l);
+        parents = parents_record rs p c i.sound.parents;
+        counted = let n = i.sound.counted in let l = length_record rs p c in omega (arith, n, l);
         kept = numbers_kept s.world.pidmax p b c rs pids now places up found moved i.sound.kept;
       };
-      listed = listed_changed s t p (parent_of p rs) asked after (p ∷ parent_of p rs ∷ []) i.listed (touches_shown s p f (λ r. refl) (λ r. refl) up me found) (refl, refl)
+      listed = listed_changed s t p (parent_of p rs) to_recheck after (p ∷ parent_of p rs ∷ []) i.listed (touches_shown s p f (λ r. refl) (λ r. refl) up me found) (refl, refl)
           (λ q e. some_changed p q f (λ r. refl) rs e) (some_changed p p f (λ r. refl) rs (rw found refl)) (λ some. some_changed p (parent_of p rs) f (λ r. refl) rs (parent_there s pids places i.sound p me found some)) (absent_changed p f (λ r. refl) 0 rs (nobody_0 s i.sound.regular))
           (λ q e. each (λ q. (q ≡ p) ⊎ (q ≡ parent_of p rs)) (p ∷ parent_of p rs ∷ []) (inl refl, (inr refl, tt)) q e)
-          (subst (λ q. after.pids ≡ with_parent q (with_number p asked.pids)) its put) room;
+          (subst (λ q. after.pids ≡ with_parent q (with_number p to_recheck.pids)) its put) room;
       noted = i.noted;
       fresh = λ e.
-          let both = or_parts (has_moved (body_seen b) (body_seen c)) terminals.stale (sym mark ∙ e) in
+          let both = or_parts (has_moved (record_seen b) (record_seen c)) terminals.foregrounds_unchecked (sym mark ∙ e) in
           rw (numbers_as rs up p b c found both.0) (fresh_changed p (keep_numbers c) (λ r. refl) (λ r. refl) rs s.consoles (i.fresh both.1));
     }))
 
 -- what the rows need for it
-pub can_move_numbers : (s : State) (pids : Pids) (places : Places) → IsSound s pids places → (p : ℕ) (b c : Body) → lookup p s.processes ≡ Some (process_of p (parent_of p s.processes) b) → IsRegular (record s { processes = with_body s.processes p c })
-    → CanMoveNumbers pids (body_seen b) (body_seen c)
+pub can_move_numbers : (s : State) (pids : Pids) (places : Places) → IsSound s pids places → (p : ℕ) (b c : Record) → lookup p s.processes ≡ Some (process_of p (parent_of p s.processes) b) → IsRegular (record s { processes = with_record s.processes p c })
+    → CanMoveNumbers pids (record_seen b) (record_seen c)
 can_move_numbers s pids places i p b c found regular =
     let most = i.kept.greatest in
     let old = i.regular.bounded p (process_of p (parent_of p s.processes) b) found in
-    let new = regular.bounded p (process_of p (parent_of p s.processes) c) (body_found s.processes p b c found) in
+    let new = regular.bounded p (process_of p (parent_of p s.processes) c) (record_found s.processes p b c found) in
     let group = old.group in
     let session = old.session in
     let to_group = new.group in
@@ -222,29 +222,29 @@ pub seen_is : (o : Option Process) (r : Process) (w : Seen) → option_map seen_
 seen_is o r w e found = let both : Some (seen_of r) ≡ Some w = sym (ap (option_map seen_of) found) ∙ e in cc
 
 -- what its result says of the process
-pub result_as : {F T : Type 0} {g : Once F (MutBor Body × Unit {0}) (T × (MutBor Body × Unit {0}))} {change : F} {rs ts : List Process} {p : ℕ} {r : T} (P : Process → T → Type 0) → IsRun g change rs ts p r
-    → ((b c : Body) (r : T) → FnOnceReturnsAtMut g change b r c → (q : ℕ) → P (process_of p q b) r) → (me : Process) → lookup p rs ≡ Some me → P me r
+pub result_as : {F T : Type 0} {g : Once F (MutBor Record × Unit {0}) (T × (MutBor Record × Unit {0}))} {change : F} {rs ts : List Process} {p : ℕ} {r : T} (P : Process → T → Type 0) → IsRun g change rs ts p r
+    → ((b c : Record) (r : T) → FnOnceReturnsAtMut g change b r c → (q : ℕ) → P (process_of p q b) r) → (me : Process) → lookup p rs ≡ Some me → P me r
 result_as {rs = rs} {p = p} {r = r} P k did me found =
     let both : Some (process_of p (parent_of p rs) k.before) ≡ Some me = sym k.found ∙ found in
     let same : process_of p (parent_of p rs) k.before ≡ me = cc in
     subst (λ m. P m r) same (did k.before k.after r k.ran (parent_of p rs))
 
 -- a regular state stays so where the process is changed so that it does
-pub stays_so : {F T : Type 0} {g : Once F (MutBor Body × Unit {0}) (T × (MutBor Body × Unit {0}))} {change : F} (p : ℕ) (f : Process → Process) (s : State) → (IsRegular s → IsRegular (change_of s p f))
-    → ((b c : Body) (r : T) → FnOnceReturnsAtMut g change b r c → (q : ℕ) → process_of p q c ≡ f (process_of p q b)) → StaysRegular g change s p
+pub stays_so : {F T : Type 0} {g : Once F (MutBor Record × Unit {0}) (T × (MutBor Record × Unit {0}))} {change : F} (p : ℕ) (f : Process → Process) (s : State) → (IsRegular s → IsRegular (change_of s p f))
+    → ((b c : Record) (r : T) → FnOnceReturnsAtMut g change b r c → (q : ℕ) → process_of p q c ≡ f (process_of p q b)) → StaysRegular g change s p
 stays_so p f s k did i b c r found ran = subst (λ rs. IsRegular (record s { processes = rs })) (sym (changed_here s.processes i.rising p b c f found (did b c r ran))) (k i)
 
 -- so where all of it stays that regularity asks for
-pub stays_regular : {F T : Type 0} {g : Once F (MutBor Body × Unit {0}) (T × (MutBor Body × Unit {0}))} {change : F} (p : ℕ) (f : Process → Process) (s : State) → Keeps s.ticks f
-    → ((b c : Body) (r : T) → FnOnceReturnsAtMut g change b r c → (q : ℕ) → process_of p q c ≡ f (process_of p q b)) → StaysRegular g change s p
+pub stays_regular : {F T : Type 0} {g : Once F (MutBor Record × Unit {0}) (T × (MutBor Record × Unit {0}))} {change : F} (p : ℕ) (f : Process → Process) (s : State) → Keeps s.ticks f
+    → ((b c : Record) (r : T) → FnOnceReturnsAtMut g change b r c → (q : ℕ) → process_of p q c ≡ f (process_of p q b)) → StaysRegular g change s p
 stays_regular p f s k did = stays_so p f s (regular_change p f s k) did
 
 -- and where it lives and goes on to live
-pub stays_living : {F T : Type 0} {g : Once F (MutBor Body × Unit {0}) (T × (MutBor Body × Unit {0}))} {change : F} (p : ℕ) (f : Process → Process) (s : State) → Lives f → IsPlaced s.processes p
-    → ((b c : Body) (r : T) → FnOnceReturnsAtMut g change b r c → (q : ℕ) → process_of p q c ≡ f (process_of p q b)) → StaysRegular g change s p
+pub stays_living : {F T : Type 0} {g : Once F (MutBor Record × Unit {0}) (T × (MutBor Record × Unit {0}))} {change : F} (p : ℕ) (f : Process → Process) (s : State) → Lives f → IsPlaced s.processes p
+    → ((b c : Record) (r : T) → FnOnceReturnsAtMut g change b r c → (q : ℕ) → process_of p q c ≡ f (process_of p q b)) → StaysRegular g change s p
 stays_living p f s k me did = stays_so p f s (regular_lives p f k s me.what me.found me.living) did
 
--- ---- the list of those to ask
+-- ---- the list of those to recheck
 
 -- one that was put in is put in once
 pub with_twice : (n : ℕ) (ns : List ℕ) → with_number n (with_number n ns) ≡ with_number n ns
@@ -253,18 +253,18 @@ with_twice n [] = grind (arith)
 with_twice n (m ∷ ns) = grind (arith, with_twice n ns)
 
 -- also where it is only put in where it has no place, or lost it
-pub asking_twice : (p : ℕ) (order ns : List ℕ) → asking p order (with_number p ns) ≡ with_number p ns
-asking_twice p order ns = cond_both (is_in p order) (with_number p ns) (with_number p (with_number p ns)) (λ l. l ≡ with_number p ns) (λ e. refl) (λ e. with_twice p ns)
+pub rechecking_twice : (p : ℕ) (order ns : List ℕ) → rechecking p order (with_number p ns) ≡ with_number p ns
+rechecking_twice p order ns = cond_both (is_in p order) (with_number p ns) (with_number p (with_number p ns)) (λ l. l ≡ with_number p ns) (λ e. refl) (λ e. with_twice p ns)
 
 pub with_lost : (t : Bool) (p : ℕ) (ns : List ℕ) → with_number p (cond t (with_number p ns) ns) ≡ with_number p ns
 with_lost true p ns = with_twice p ns
 with_lost false p ns = refl
 
--- a parent that was asked with its child is asked once
-pub parent_twice : (parent : ℕ) (order ns : List ℕ) → cond (parent == 0) (with_parent parent ns) (asking parent order (with_parent parent ns)) ≡ with_parent parent ns
-parent_twice parent order ns = elim (parent == 0) as (λ b. cond b (cond b ns (with_number parent ns)) (asking parent order (cond b ns (with_number parent ns))) ≡ cond b ns (with_number parent ns)) [
+-- a parent that was rechecked with its child is rechecked once
+pub parent_twice : (parent : ℕ) (order ns : List ℕ) → cond (parent == 0) (with_parent parent ns) (rechecking parent order (with_parent parent ns)) ≡ with_parent parent ns
+parent_twice parent order ns = elim (parent == 0) as (λ b. cond b (cond b ns (with_number parent ns)) (rechecking parent order (cond b ns (with_number parent ns))) ≡ cond b ns (with_number parent ns)) [
   | true ↦ refl
-  | false ↦ asking_twice parent order ns
+  | false ↦ rechecking_twice parent order ns
 ]
 
 -- a change of number 0 changes nobody
@@ -274,11 +274,11 @@ told_or_none parent s f none = elim (parent == 0) as (λ b. (parent == 0) ≡ b 
   | false ↦ λ e. refl
 ] refl
 
--- a signal that was generated changes neither whom a change is told nor who is asked
+-- a signal that was generated changes neither whom a change is told nor who is rechecked
 pub told_signalled : (w : ℕ) (signal : PendingSignal) (r : Process) (rs : List Process) → told_of_change w (signalled signal r) rs ≡ told_of_change w r rs
 unfolding told_of_change signalled
 told_signalled w signal r rs = refl
 
-pub asking_signalled : (signal : PendingSignal) (r : Process) (ns : List ℕ) → asking_changed (signalled signal r) ns ≡ asking_changed r ns
+pub rechecking_signalled : (signal : PendingSignal) (r : Process) (ns : List ℕ) → rechecking_changed (signalled signal r) ns ≡ rechecking_changed r ns
 unfolding signalled
-asking_signalled signal r ns = refl
+rechecking_signalled signal r ns = refl

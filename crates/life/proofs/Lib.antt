@@ -13,8 +13,8 @@ pub mod LoanLemmas
 pub mod ViewLemmas
 pub mod PartLemmas
 pub mod CensusLemmas
-pub mod AskLemmas
-pub mod RousingLemmas
+pub mod RecheckLemmas
+pub mod AtRiskLemmas
 pub mod OrphanLemmas
 pub mod MoveLemmas
 pub mod NameLemmas

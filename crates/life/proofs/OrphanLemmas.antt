@@ -1,4 +1,4 @@
--- Which process groups an end has to rouse, where those are known that lose an anchor by it.
+-- Which process groups an end has to signal, where those are known that lose an anchor by it.
 use Rattle.std.proofs.Common.{◌≡◌, ℕ, ◌==◌, Bool, true, false, not, ◌&&◌, ◌||◌, refl, ap, sym, ◌∙◌, arith, List, [], ◌∷◌, filter, Some}
 use Rattle.std.specs.List.{list_any}
 use Rattle.posix.specs.Processes.{Process, is_stopped}

@@ -7,12 +7,12 @@ use Rattle.posix.specs.Tables.{lookup, at, changed, removed}
 use Rattle.posix.specs.States.{State, change}
 use Rattle.posix.specs.Ends.{drops_children, is_dropping, drop_child, notice_of_end}
 use Rattle.posix.specs.Notices.{child_signal, noticed}
-use Rattle.posix.proofs.TableLemmas.{pid_looked}
+use Rattle.posix.proofs.TableLemmas.{pid_looked, length_removed}
 use Rattle.posix.proofs.MapLemmas.{lookup_on}
 use Rattle.posix.proofs.RegularLemmas.{keeps_at, keeps_noticed, regular_as, regular_removed}
 use Rattle.pidalloc.specs.Rows.{Pids}
 use Rattle.pidalloc.specs.Tallies.{IsTallied}
-use Rattle.pidalloc.proofs.TallyLemmas.{can_give_up, tallied_gone, length_removed}
+use Rattle.pidalloc.proofs.TallyLemmas.{can_give_up, tallied_gone}
 use Rattle.sched.specs.Places.{Places}
 use Rattle.life.specs.Machines.{IsSound, CanGo, IsGone}
 use Rattle.life.proofs.SoundLemmas.{there}
@@ -74,6 +74,13 @@ unfolding changed
 zombie_noticed parent signal c rs it found dead =
     let k = keeps_at parent (noticed signal) (keeps_noticed {now = 0} signal) in
     (at parent (noticed signal) it, lookup_on (at parent (noticed signal)) k.pid c rs it found, k.zombie it ∙ dead)
+
+-- and whose child it is stays
+pub child_noticed : (parent : ℕ) (signal : PendingSignal) (c : ℕ) (rs : List Process) (it : Process) → lookup c rs ≡ Some it → (x : Process) × (lookup c (changed parent (noticed signal) rs) ≡ Some x) × (x.parent ≡ it.parent)
+unfolding changed
+child_noticed parent signal c rs it found =
+    let k = keeps_at parent (noticed signal) (keeps_noticed {now = 0} signal) in
+    (at parent (noticed signal) it, lookup_on (at parent (noticed signal)) k.pid c rs it found, k.parent it)
 
 -- a notice of an end, by whether the parent drops its children
 pub notice_by : (b : Bool) (s : State) (parent c v : ℕ) → is_dropping parent s.processes ≡ b → notice_of_end s parent c v ≡ cond {A = State} b (drop_child (change s parent (noticed (child_signal c v))) c) (change s parent (noticed (child_signal c v)))

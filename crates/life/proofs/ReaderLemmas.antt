@@ -18,10 +18,10 @@ use Rattle.posix.proofs.ConsoleLemmas.{none_of}
 use Rattle.pidset.specs.Numbers.{PidSetView, Rises, with_number, numbers_above}
 use Rattle.pidset.proofs.NumberLemmas.{few, rises_with, in_with}
 use Rattle.life.specs.Machines.{IsReaders, IsWatched, readers_at}
-use Rattle.life.specs.Asking.{asking}
-use Rattle.life.specs.Consoles.{IsPlaceOf, IsKnownBy, IsForgottenAt, AreReaders}
+use Rattle.life.specs.Rechecks.{rechecking}
+use Rattle.life.specs.Consoles.{IsTerminalIndex, IsKnownBy, IsForgottenAt, AreReaders}
 use Rattle.life.proofs.SoundLemmas.{there}
-use Rattle.life.proofs.AskLemmas.{none_between}
+use Rattle.life.proofs.RecheckLemmas.{none_between}
 
 -- ---- the place of a session's terminal
 
@@ -109,7 +109,7 @@ readers_with m p set now h range is same = record {
   room = let room = h.room in omega (arith, room, same);
 }
 
--- ---- one who was asked
+-- ---- one who was rechecked
 
 -- who is in a read is blocked in it
 in_read : (b : Option Blocked) → is_in_read b ≡ true → b ≡ Some blocked.Read
@@ -131,12 +131,12 @@ reads_are session r e =
     record { blocked = in_read r.blocked k.0; session_is = eqb-true r.session session k.1 }
 
 -- the place is that of the console with the session
-place_is : (many session : ℕ) (cs : List Console) (place : Option ℕ) (k : ℕ) (c : Console) → AreConsoles many cs → session ≢ 0 → slice_get cs k ≡ Some c → c.session ≡ session → IsPlaceOf session cs place → place ≡ Some k
+place_is : (many session : ℕ) (cs : List Console) (console_index : Option ℕ) (k : ℕ) (c : Console) → AreConsoles many cs → session ≢ 0 → slice_get cs k ≡ Some c → c.session ≡ session → IsTerminalIndex session cs console_index → console_index ≡ Some k
 place_is many session cs None k c h some at same is = absurd (none_of session cs is k c at same)
 place_is many session cs (Some j) k c h some at same is = ap Some (h.apart j k is.0 c is.1 at (λ z. some (sym is.3 ∙ z)) (is.3 ∙ sym same))
 
 -- who is put into a set is in it, and who was in one still is
-known_still : (k : ℕ) (place : Option ℕ) (p q : ℕ) (old new : List PidSetView) → IsKnownBy place p old new → is_in q (readers_at k old) ≡ true → is_in q (readers_at k new) ≡ true
+known_still : (k : ℕ) (console_index : Option ℕ) (p q : ℕ) (old new : List PidSetView) → IsKnownBy console_index p old new → is_in q (readers_at k old) ≡ true → is_in q (readers_at k new) ≡ true
 known_still k None p q old new is e = ap (λ sets. is_in q (readers_at k sets)) is ∙ e
 known_still k (Some j) p q old new is e = by (slice_get old j) refl is
   where
@@ -159,7 +159,7 @@ known_now k p old new fits is = by (slice_get old k) refl is
     by (Some set) at m = ap (λ sets. is_in p (readers_at k sets)) m.1 ∙ ap (λ o. is_in p (option_map_or (λ (x : PidSetView). x.pids) o [])) (set_same old k set m.0 at) ∙ ap (is_in p) m.2 ∙ in_with p p set.pids ∙ or_left _ _ (eq-eqb p p refl)
 
 -- the sets stay sets
-known_each : (m : ℕ) (place : Option ℕ) (p : ℕ) (old new : List PidSetView) → AllByRecursion (IsReaders m) old → (place ≢ None → (1 ≤ p) × (p ≤ m)) → IsKnownBy place p old new → AllByRecursion (IsReaders m) new × (length new ≡ length old)
+known_each : (m : ℕ) (console_index : Option ℕ) (p : ℕ) (old new : List PidSetView) → AllByRecursion (IsReaders m) old → (console_index ≢ None → (1 ≤ p) × (p ≤ m)) → IsKnownBy console_index p old new → AllByRecursion (IsReaders m) new × (length new ≡ length old)
 known_each m None p old new h range is = (subst (AllByRecursion (IsReaders m)) (sym is) h, ap length is)
 known_each m (Some j) p old new h range is = by (slice_get old j) refl is
   where
@@ -169,29 +169,29 @@ known_each m (Some j) p old new h range is = by (slice_get old j) refl is
         let one = readers_with m p set k.0 (readers_at_place m old j set h at) (range (λ e. absurd (cc))) k.2 k.3 in
         (subst (AllByRecursion (IsReaders m)) (sym k.1) (readers_set m old j k.0 h one), ap length k.1 ∙ length-set old j k.0)
 
--- who was asked and needn't be any more is known where it waits to read
-pub watched_known : {readers sets : List PidSetView} (s : State) (p : ℕ) (place : Option ℕ) (before after : List ℕ) → IsRegular s → IsWatched s before readers → after ≡ without p before → IsKnownBy place p readers sets
-    → (place ≢ None → IsSome (process s p)) → ((r : Process) → process s p ≡ Some r → r.blocked ≡ Some blocked.Read → has_place s p ≡ false → IsPlaceOf r.session s.consoles place) → IsWatched s after sets
-watched_known {readers = readers} {sets = sets} s p place before after i h is known here placed = record {
-  known = λ k q c r at found reads out unasked.
+-- who was rechecked and needn't be any more is known where it waits to read
+pub watched_known : {readers sets : List PidSetView} (s : State) (p : ℕ) (console_index : Option ℕ) (before after : List ℕ) → IsRegular s → IsWatched s before readers → after ≡ without p before → IsKnownBy console_index p readers sets
+    → (console_index ≢ None → IsSome (process s p)) → ((r : Process) → process s p ≡ Some r → r.blocked ≡ Some blocked.Read → has_place s p ≡ false → IsTerminalIndex r.session s.consoles console_index) → IsWatched s after sets
+watched_known {readers = readers} {sets = sets} s p console_index before after i h is known here placed = record {
+  known = λ k q c r at found visits out unasked.
       elim (q == p) as (λ b. (q == p) ≡ b → is_in q (readers_at k sets) ≡ true) [
         | true ↦ λ e.
             let same : q ≡ p = eqb-true q p e in
             let mine : process s p ≡ Some r = subst (λ n. process s n ≡ Some r) same found in
-            let it = reads_are c.session r reads in
+            let it = reads_are c.session r visits in
             let some = i.bounded p r mine in
             let least = some.session_least in
-            let at_k : place ≡ Some k = place_is s.world.consoles r.session s.consoles place k c i.consoles (λ z. absurd (omega (arith, z, least))) at (sym it.session_is) (placed r mine it.blocked (ap (λ n. has_place s n) (sym same) ∙ out)) in
+            let at_k : console_index ≡ Some k = place_is s.world.consoles r.session s.consoles console_index k c i.consoles (λ z. absurd (omega (arith, z, least))) at (sym it.session_is) (placed r mine it.blocked (ap (λ n. has_place s n) (sym same) ∙ out)) in
             let fits : k < length readers = subst (λ n. k < n) (i.consoles.count ∙ sym h.many) (slice_get_within s.consoles k c at) in
             subst (λ n. is_in n (readers_at k sets) ≡ true) (sym same) (known_now k p readers sets fits (subst (λ o. IsKnownBy o p readers sets) at_k known))
         | false ↦ λ e.
-            known_still k place p q readers sets known (h.known k q c r at found reads out (sym (others_stay p q before (eqb-false q p e)) ∙ sym (ap (is_in q) is) ∙ unasked))
+            known_still k console_index p q readers sets known (h.known k q c r at found visits out (sym (others_stay p q before (eqb-false q p e)) ∙ sym (ap (is_in q) is) ∙ unasked))
       ] refl;
-  each = (known_each s.world.pidmax place p readers sets h.each range known).0;
-  many = (known_each s.world.pidmax place p readers sets h.each range known).1 ∙ h.many;
+  each = (known_each s.world.pidmax console_index p readers sets h.each range known).0;
+  many = (known_each s.world.pidmax console_index p readers sets h.each range known).1 ∙ h.many;
 }
   where
-    range : place ≢ None → (1 ≤ p) × (p ≤ s.world.pidmax)
+    range : console_index ≢ None → (1 ≤ p) × (p ≤ s.world.pidmax)
     range ne =
         let r = there (process s p) (here ne) in
         let b = i.bounded p r.what r.found in
@@ -200,50 +200,50 @@ watched_known {readers = readers} {sets = sets} s p place before after i h is kn
         let high = b.pid in
         (omega (arith, named, low), omega (arith, named, high))
 
--- ---- who is to be asked
+-- ---- who is to be rechecked
 
--- one without a place that was asked is
-pub asked_now : (p : ℕ) (order before after : List ℕ) → after ≡ asking p order before → is_in p order ≡ false → is_in p after ≡ true
-asked_now p order before after is out = ap (is_in p) is ∙ ap (λ b. is_in p (cond b before (with_number p before))) out ∙ in_with p p before ∙ or_left _ _ (eq-eqb p p refl)
+-- one without a place that was rechecked is
+pub rechecked_now : (p : ℕ) (order before after : List ℕ) → after ≡ rechecking p order before → is_in p order ≡ false → is_in p after ≡ true
+rechecked_now p order before after is out = ap (is_in p) is ∙ ap (λ b. is_in p (cond b before (with_number p before))) out ∙ in_with p p before ∙ or_left _ _ (eq-eqb p p refl)
 
 -- and all who were
-pub asked_still : (p q : ℕ) (order before after : List ℕ) → after ≡ asking p order before → is_in q before ≡ true → is_in q after ≡ true
-asked_still p q order before after is on =
+pub rechecked_still : (p q : ℕ) (order before after : List ℕ) → after ≡ rechecking p order before → is_in q before ≡ true → is_in q after ≡ true
+rechecked_still p q order before after is on =
     ap (is_in q) is ∙ elim (is_in p order) as (λ b. is_in q (cond b before (with_number p before)) ≡ true) [
       | true ↦ on
       | false ↦ in_with q p before ∙ or_right (p == q) _ on
     ]
 
--- ---- all are asked who may wait to read from a console
+-- ---- all are rechecked who may wait to read from a console
 
 -- the readers of a console come in rising order
-pub watched_rises : {readers : List PidSetView} (s : State) (asked : List ℕ) (k : ℕ) → IsWatched s asked readers → Rises (readers_at k readers)
+pub watched_rises : {readers : List PidSetView} (s : State) (to_recheck : List ℕ) (k : ℕ) → IsWatched s to_recheck readers → Rises (readers_at k readers)
 unfolding Rises
-watched_rises {readers = readers} s asked k w = by (slice_get readers k) refl
+watched_rises {readers = readers} s to_recheck k w = by (slice_get readers k) refl
   where
     by : (o : Option PidSetView) → slice_get readers k ≡ o → Rises (option_map_or (λ (x : PidSetView). x.pids) o [])
     by None at = tt
     by (Some set) at = (readers_at_place s.world.pidmax readers k set w.each at).rising
 
 -- from 1 on
-pub watched_least : {readers : List PidSetView} (s : State) (asked : List ℕ) (k : ℕ) → IsWatched s asked readers → (q : ℕ) → is_in q (readers_at k readers) ≡ true → 1 ≤ q
+pub watched_least : {readers : List PidSetView} (s : State) (to_recheck : List ℕ) (k : ℕ) → IsWatched s to_recheck readers → (q : ℕ) → is_in q (readers_at k readers) ≡ true → 1 ≤ q
 unfolding is_in
-watched_least {readers = readers} s asked k w q = by (slice_get readers k) refl
+watched_least {readers = readers} s to_recheck k w q = by (slice_get readers k) refl
   where
     by : (o : Option PidSetView) → slice_get readers k ≡ o → is_in q (option_map_or (λ (x : PidSetView). x.pids) o []) ≡ true → 1 ≤ q
     by None at e = absurd (cc)
     by (Some set) at e = ((readers_at_place s.world.pidmax readers k set w.each at).within q e).0
 
--- those of a set who are there and have no place, up to the one that comes next, are to be asked
-pub record IsAsking (s : State) (set : List ℕ) (asked : List ℕ) (next : Option ℕ) : Type 0 where
-  pub before : (q : ℕ) → is_in q set ≡ true → IfSome next (λ n. q < n) → IsSome (process s q) → has_place s q ≡ false → is_in q asked ≡ true
+-- those of a set who are there and have no place, up to the one that comes next, are to be rechecked
+pub record IsRechecking (s : State) (set : List ℕ) (to_recheck : List ℕ) (next : Option ℕ) : Type 0 where
+  pub before : (q : ℕ) → is_in q set ≡ true → IfSome next (λ n. q < n) → IsSome (process s q) → has_place s q ≡ false → is_in q to_recheck ≡ true
 
-pub asking_starts : (s : State) (set asked : List ℕ) (next : Option ℕ) → Rises set → ((q : ℕ) → is_in q set ≡ true → 1 ≤ q) → next ≡ slice_get (numbers_above 0 set) 0 → IsAsking s set asked next
-asking_starts s set asked next up least is = record { before = λ q on low here out. absurd (none_between 0 q set next up is on (let l = least q on in omega (arith, l)) low) }
+pub rechecking_starts : (s : State) (set to_recheck : List ℕ) (next : Option ℕ) → Rises set → ((q : ℕ) → is_in q set ≡ true → 1 ≤ q) → next ≡ slice_get (numbers_above 0 set) 0 → IsRechecking s set to_recheck next
+rechecking_starts s set to_recheck next up least is = record { before = λ q on low here out. absurd (none_between 0 q set next up is on (let l = least q on in omega (arith, l)) low) }
 
-pub asking_proceeds : (s : State) (set asked after : List ℕ) (n : ℕ) (next : Option ℕ) → Rises set → next ≡ slice_get (numbers_above n set) 0 → IsAsking s set asked (Some n)
-    → (IsSome (process s n) → has_place s n ≡ false → is_in n after ≡ true) → ((q : ℕ) → is_in q asked ≡ true → is_in q after ≡ true) → IsAsking s set after next
-asking_proceeds s set asked after n next up is h it others = record {
+pub rechecking_proceeds : (s : State) (set to_recheck after : List ℕ) (n : ℕ) (next : Option ℕ) → Rises set → next ≡ slice_get (numbers_above n set) 0 → IsRechecking s set to_recheck (Some n)
+    → (IsSome (process s n) → has_place s n ≡ false → is_in n after ≡ true) → ((q : ℕ) → is_in q to_recheck ≡ true → is_in q after ≡ true) → IsRechecking s set after next
+rechecking_proceeds s set to_recheck after n next up is h it others = record {
   before = λ q on low here out.
       elim (nat_lt q n) as (λ b. nat_lt q n ≡ b → is_in q after ≡ true) [
         | true ↦ λ e. others q (h.before q on (ltb-true q n e) here out)
@@ -255,11 +255,11 @@ asking_proceeds s set asked after n next up is h it others = record {
 }
 
 -- at the end it is all who wait to read
-pub asking_is_over : {readers : List PidSetView} (s : State) (k : ℕ) (old asked : List ℕ) → IsWatched s old readers → IsAsking s (readers_at k readers) asked None → ((q : ℕ) → is_in q old ≡ true → is_in q asked ≡ true) → AreReaders s k asked
-asking_is_over s k old asked w h others p c r at found reads out =
-    elim (is_in p old) as (λ b. is_in p old ≡ b → is_in p asked ≡ true) [
+pub rechecking_is_over : {readers : List PidSetView} (s : State) (k : ℕ) (old to_recheck : List ℕ) → IsWatched s old readers → IsRechecking s (readers_at k readers) to_recheck None → ((q : ℕ) → is_in q old ≡ true → is_in q to_recheck ≡ true) → AreReaders s k to_recheck
+rechecking_is_over s k old to_recheck w h others p c r at found visits out =
+    elim (is_in p old) as (λ b. is_in p old ≡ b → is_in p to_recheck ≡ true) [
       | true ↦ λ on. others p on
-      | false ↦ λ off. h.before p (w.known k p c r at found reads out off) tt (rw found refl) out
+      | false ↦ λ off. h.before p (w.known k p c r at found visits out off) tt (rw found refl) out
     ] refl
 
 -- nobody is known by a console whose set has become empty
@@ -271,11 +271,11 @@ none_known k old new gone = by_set (slice_get old k) refl gone
     by_set (Some set) at m = ap (readers_at k) m.1 ∙ ap (λ o. option_map_or (λ (x : PidSetView). x.pids) o []) (set_same old k set m.0 at) ∙ m.2
 
 -- and then nobody has to be known
-pub watched_forgotten : {readers sets : List PidSetView} (s : State) (k : ℕ) (asked : List ℕ) → IsWatched s asked readers → AreReaders s k asked → IsForgottenAt k readers sets → IsWatched s asked sets
-watched_forgotten {readers = readers} {sets = sets} s k asked w all gone = record {
-  known = λ j p c r at found reads out unasked. elim (j == k) as (λ b. (j == k) ≡ b → is_in p (readers_at j sets) ≡ true) [
-    | true ↦ λ e. absurd (both_ways (is_in p asked) unasked (all p c r (subst (λ n. slice_get s.consoles n ≡ Some c) (eqb-true j k e) at) found reads out))
-    | false ↦ λ e. elsewhere j p (eqb-false j k e) (w.known j p c r at found reads out unasked) (slice_get readers k) refl gone
+pub watched_forgotten : {readers sets : List PidSetView} (s : State) (k : ℕ) (to_recheck : List ℕ) → IsWatched s to_recheck readers → AreReaders s k to_recheck → IsForgottenAt k readers sets → IsWatched s to_recheck sets
+watched_forgotten {readers = readers} {sets = sets} s k to_recheck w all gone = record {
+  known = λ j p c r at found visits out unasked. elim (j == k) as (λ b. (j == k) ≡ b → is_in p (readers_at j sets) ≡ true) [
+    | true ↦ λ e. absurd (both_ways (is_in p to_recheck) unasked (all p c r (subst (λ n. slice_get s.consoles n ≡ Some c) (eqb-true j k e) at) found visits out))
+    | false ↦ λ e. elsewhere j p (eqb-false j k e) (w.known j p c r at found visits out unasked) (slice_get readers k) refl gone
   ] refl;
   each = (emptied (slice_get readers k) refl gone).0;
   many = (emptied (slice_get readers k) refl gone).1 ∙ w.many;

@@ -22,9 +22,9 @@ use Rattle.posix.specs.Sends.{is_target, targets, permitted, sending_permitted, 
 use Rattle.posix.proofs.MapLemmas.{at_keeps, filter_map}
 use Rattle.posix.proofs.WalkLemmas.{numbered, numbered_one, numbered_none, rest_of_walk, walk_splits}
 use Rattle.posix.specs.States.{State}
-use Rattle.proctable.specs.declared.facts.Facts.{Facts}
-use Rattle.proctable.specs.Body.{facts_of}
-use Rattle.life.specs.Asking.{asking_generated, asking_all, asking_signalled}
+use Rattle.proctable.specs.declared.snapshot.Snapshot.{Snapshot}
+use Rattle.proctable.specs.Records.{snapshot_of}
+use Rattle.life.specs.Rechecks.{rechecking_generated, rechecking_all, rechecking_signalled}
 
 -- the state with these processes
 abbrev pub with_processes : State → List Process → State
@@ -76,10 +76,10 @@ same_sent me None xs ys rs e = refl
 same_sent me (Some n) xs ys rs e = ap (λ ps. signalled_all (sent_by me.pid n) ps rs) (same_permitted me (Some n) xs ys e)
 
 -- asks the same
-same_asked : (me : Process) (s : Option ℕ) (xs ys rs : List Process) (order ns : List ℕ) → map blank xs ≡ map blank ys → asking_signalled me s xs rs order ns ≡ asking_signalled me s ys rs order ns
-unfolding asking_signalled
-same_asked me None xs ys rs order ns e = refl
-same_asked me (Some n) xs ys rs order ns e = ap (λ ps. asking_all (sent_by me.pid n) ps rs order ns) (same_permitted me (Some n) xs ys e)
+same_rechecked : (me : Process) (s : Option ℕ) (xs ys rs : List Process) (order ns : List ℕ) → map blank xs ≡ map blank ys → rechecking_signalled me s xs rs order ns ≡ rechecking_signalled me s ys rs order ns
+unfolding rechecking_signalled
+same_rechecked me None xs ys rs order ns e = refl
+same_rechecked me (Some n) xs ys rs order ns e = ap (λ ps. rechecking_all (sent_by me.pid n) ps rs order ns) (same_permitted me (Some n) xs ys e)
 
 -- and finds the same
 found_blank : (me : Process) (s : Option ℕ) (rs : List Process) → sending_found me s (map blank rs) ≡ sending_found me s rs
@@ -160,20 +160,20 @@ sent_append me (Some n) xs ys rs =
     ∙ signalled_append (sent_by me.pid n) (pids (permitted me (Some n) xs)) (pids (permitted me (Some n) ys)) rs
 
 -- some are asked and then others
-asking_append : (signal : PendingSignal) (ps qs : List ℕ) (rs : List Process) (order ns : List ℕ)
-    → asking_all signal (ps ++ qs) rs order ns ≡ asking_all signal qs (signalled_all signal ps rs) order (asking_all signal ps rs order ns)
-unfolding asking_all signalled_all
-asking_append signal [] qs rs order ns = refl
-asking_append signal (p ∷ ps) qs rs order ns = asking_append signal ps qs (generated_for signal (lookup p rs) rs) order (asking_generated signal (lookup p rs) order ns)
+rechecking_append : (signal : PendingSignal) (ps qs : List ℕ) (rs : List Process) (order ns : List ℕ)
+    → rechecking_all signal (ps ++ qs) rs order ns ≡ rechecking_all signal qs (signalled_all signal ps rs) order (rechecking_all signal ps rs order ns)
+unfolding rechecking_all signalled_all
+rechecking_append signal [] qs rs order ns = refl
+rechecking_append signal (p ∷ ps) qs rs order ns = rechecking_append signal ps qs (generated_for signal (lookup p rs) rs) order (rechecking_generated signal (lookup p rs) order ns)
 
 -- so are those who get a signal
-asked_append : (me : Process) (s : Option ℕ) (xs ys rs : List Process) (order ns : List ℕ)
-    → asking_signalled me s (xs ++ ys) rs order ns ≡ asking_signalled me s ys (sent_among me s xs rs) order (asking_signalled me s xs rs order ns)
-unfolding asking_signalled sent_among
-asked_append me None xs ys rs order ns = refl
-asked_append me (Some n) xs ys rs order ns =
-    ap (λ ps. asking_all (sent_by me.pid n) ps rs order ns) (permitted_append me (Some n) xs ys)
-    ∙ asking_append (sent_by me.pid n) (pids (permitted me (Some n) xs)) (pids (permitted me (Some n) ys)) rs order ns
+rechecked_append : (me : Process) (s : Option ℕ) (xs ys rs : List Process) (order ns : List ℕ)
+    → rechecking_signalled me s (xs ++ ys) rs order ns ≡ rechecking_signalled me s ys (sent_among me s xs rs) order (rechecking_signalled me s xs rs order ns)
+unfolding rechecking_signalled sent_among
+rechecked_append me None xs ys rs order ns = refl
+rechecked_append me (Some n) xs ys rs order ns =
+    ap (λ ps. rechecking_all (sent_by me.pid n) ps rs order ns) (permitted_append me (Some n) xs ys)
+    ∙ rechecking_append (sent_by me.pid n) (pids (permitted me (Some n) xs)) (pids (permitted me (Some n) ys)) rs order ns
 
 -- whom a signal to some and then to others finds
 abbrev pub joined : Sending → Sending → Sending
@@ -262,14 +262,14 @@ sent_step me target s p rs now next i =
     ∙ ap (λ qs. sent_among me s qs rs) (sym (targets_split me target p rs i.rising))
 
 -- asked are the same as before
-pub asked_step : (me : Process) (target : Target) (s : Option ℕ) (p : ℕ) (rs now : List Process) (next : Option ℕ) → IsSent me target s p rs now next → (order ns : List ℕ)
-    → asking_signalled me s (targets me target (left_of next now)) now order (asking_signalled me s (targets me target (numbered p rs)) rs order ns) ≡ asking_signalled me s (targets me target (left_of (Some p) rs)) rs order ns
-asked_step me target s p rs now next i order ns =
-    let asked = asking_signalled me s (targets me target (numbered p rs)) rs order ns in
-    same_asked me s _ _ now order asked (left_same me target s p rs now next i)
-    ∙ ap (λ now. asking_signalled me s (targets me target (above p rs)) now order asked) i.sent
-    ∙ sym (asked_append me s (targets me target (numbered p rs)) (targets me target (above p rs)) rs order ns)
-    ∙ ap (λ qs. asking_signalled me s qs rs order ns) (sym (targets_split me target p rs i.rising))
+pub rechecked_step : (me : Process) (target : Target) (s : Option ℕ) (p : ℕ) (rs now : List Process) (next : Option ℕ) → IsSent me target s p rs now next → (order ns : List ℕ)
+    → rechecking_signalled me s (targets me target (left_of next now)) now order (rechecking_signalled me s (targets me target (numbered p rs)) rs order ns) ≡ rechecking_signalled me s (targets me target (left_of (Some p) rs)) rs order ns
+rechecked_step me target s p rs now next i order ns =
+    let to_recheck = rechecking_signalled me s (targets me target (numbered p rs)) rs order ns in
+    same_rechecked me s _ _ now order to_recheck (left_same me target s p rs now next i)
+    ∙ ap (λ now. rechecking_signalled me s (targets me target (above p rs)) now order to_recheck) i.sent
+    ∙ sym (rechecked_append me s (targets me target (numbered p rs)) (targets me target (above p rs)) rs order ns)
+    ∙ ap (λ qs. rechecking_signalled me s qs rs order ns) (sym (targets_split me target p rs i.rising))
 
 -- and finds with those found by now what it found before
 pub sending_step : (me : Process) (target : Target) (s : Option ℕ) (p : ℕ) (rs now : List Process) (next : Option ℕ) → IsSent me target s p rs now next
@@ -284,16 +284,16 @@ sending_step me target s p rs now next i a b e =
 
 -- ---- one number
 
--- these are the facts of the record that is there
-pub record IsRead (o : Option Process) (f : Facts) : Type 0 where
+-- this is the snapshot of the record that is there
+pub record IsRead (o : Option Process) (f : Snapshot) : Type 0 where
   pub what : Process
   pub found : o ≡ Some what
-  pub facts : f ≡ facts_of what
+  pub snapshot : f ≡ snapshot_of what
 
 -- what was read are those of a record
-pub is_read : (o : Option Process) (f : Facts) → Some f ≡ option_map facts_of o → IsRead o f
+pub is_read : (o : Option Process) (f : Snapshot) → Some f ≡ option_map snapshot_of o → IsRead o f
 is_read None f e = absurd (cc)
-is_read (Some r) f e = record { what = r; found = refl; facts = cc }
+is_read (Some r) f e = record { what = r; found = refl; snapshot = cc }
 
 -- who is there and is meant is the target with its number
 pub target_one : (me : Process) (target : Target) (p : ℕ) (rs : List Process) → IsRising rs → (q : Process) → lookup p rs ≡ Some q → is_target me target q ≡ true → targets me target (numbered p rs) ≡ q ∷ []
@@ -364,45 +364,45 @@ sent_one : (me : Process) (n : ℕ) (q : Process) (rs : List Process) → may me
 unfolding sent_among permitted signalled_all
 sent_one me n q rs e = rw e refl
 
--- the same of its facts
-pub signal_one : (it : Facts) (r q : Process) (s : Option ℕ) (n : ℕ) (signal : PendingSignal) (rs : List Process) → it ≡ facts_of q → s ≡ Some n → signal ≡ sent_by r.pid n → may r s q ≡ true
+-- the same of its snapshot
+pub signal_one : (it : Snapshot) (r q : Process) (s : Option ℕ) (n : ℕ) (signal : PendingSignal) (rs : List Process) → it ≡ snapshot_of q → s ≡ Some n → signal ≡ sent_by r.pid n → may r s q ≡ true
     → generated_for signal (lookup it.pid rs) rs ≡ sent_among r s (q ∷ []) rs
 signal_one it r q s n signal rs f some is allowed =
     ap (λ x. generated_for x (lookup it.pid rs) rs) is
-    ∙ ap (λ (f : Facts). generated_for (sent_by r.pid n) (lookup f.pid rs) rs) f
+    ∙ ap (λ (f : Snapshot). generated_for (sent_by r.pid n) (lookup f.pid rs) rs) f
     ∙ sym (sent_one r n q rs (ap (λ s. may r s q) (sym some) ∙ allowed))
     ∙ ap (λ s. sent_among r s (q ∷ []) rs) (sym some)
 
 -- nobody is asked where nobody is meant
-pub asked_nobody : (me : Process) (s : Option ℕ) (rs : List Process) (order ns : List ℕ) → asking_signalled me s [] rs order ns ≡ ns
-unfolding asking_signalled permitted asking_all
-asked_nobody me None rs order ns = refl
-asked_nobody me (Some n) rs order ns = refl
+pub rechecked_nobody : (me : Process) (s : Option ℕ) (rs : List Process) (order ns : List ℕ) → rechecking_signalled me s [] rs order ns ≡ ns
+unfolding rechecking_signalled permitted rechecking_all
+rechecked_nobody me None rs order ns = refl
+rechecked_nobody me (Some n) rs order ns = refl
 
 -- nor for signal 0
-pub asked_none : (me : Process) (qs rs : List Process) (order ns : List ℕ) → asking_signalled me None qs rs order ns ≡ ns
-unfolding asking_signalled
-asked_none me qs rs order ns = refl
+pub rechecked_none : (me : Process) (qs rs : List Process) (order ns : List ℕ) → rechecking_signalled me None qs rs order ns ≡ ns
+unfolding rechecking_signalled
+rechecked_none me qs rs order ns = refl
 
 -- nor who may not be signalled
-pub asked_refused : (me : Process) (s : Option ℕ) (q : Process) (rs : List Process) (order ns : List ℕ) → may me s q ≡ false → asking_signalled me s (q ∷ []) rs order ns ≡ ns
-unfolding asking_signalled permitted asking_all
-asked_refused me None q rs order ns e = refl
-asked_refused me (Some n) q rs order ns e = rw e refl
+pub rechecked_refused : (me : Process) (s : Option ℕ) (q : Process) (rs : List Process) (order ns : List ℕ) → may me s q ≡ false → rechecking_signalled me s (q ∷ []) rs order ns ≡ ns
+unfolding rechecking_signalled permitted rechecking_all
+rechecked_refused me None q rs order ns e = refl
+rechecked_refused me (Some n) q rs order ns e = rw e refl
 
 -- who may be is
-asking_one : (me : Process) (n : ℕ) (q : Process) (rs : List Process) (order ns : List ℕ) → may me (Some n) q ≡ true → asking_signalled me (Some n) (q ∷ []) rs order ns ≡ asking_generated (sent_by me.pid n) (lookup q.pid rs) order ns
-unfolding asking_signalled permitted asking_all
-asking_one me n q rs order ns e = rw e refl
+rechecking_one : (me : Process) (n : ℕ) (q : Process) (rs : List Process) (order ns : List ℕ) → may me (Some n) q ≡ true → rechecking_signalled me (Some n) (q ∷ []) rs order ns ≡ rechecking_generated (sent_by me.pid n) (lookup q.pid rs) order ns
+unfolding rechecking_signalled permitted rechecking_all
+rechecking_one me n q rs order ns e = rw e refl
 
--- the same of its facts
-pub asked_one : (it : Facts) (me q : Process) (s : Option ℕ) (n : ℕ) (signal : PendingSignal) (rs : List Process) (order ns : List ℕ) → it ≡ facts_of q → s ≡ Some n → signal ≡ sent_by me.pid n → may me s q ≡ true
-    → asking_generated signal (lookup it.pid rs) order ns ≡ asking_signalled me s (q ∷ []) rs order ns
-asked_one it me q s n signal rs order ns f some is allowed =
-    ap (λ x. asking_generated x (lookup it.pid rs) order ns) is
-    ∙ ap (λ (f : Facts). asking_generated (sent_by me.pid n) (lookup f.pid rs) order ns) f
-    ∙ sym (asking_one me n q rs order ns (ap (λ s. may me s q) (sym some) ∙ allowed))
-    ∙ ap (λ s. asking_signalled me s (q ∷ []) rs order ns) (sym some)
+-- the same of its snapshot
+pub rechecked_one : (it : Snapshot) (me q : Process) (s : Option ℕ) (n : ℕ) (signal : PendingSignal) (rs : List Process) (order ns : List ℕ) → it ≡ snapshot_of q → s ≡ Some n → signal ≡ sent_by me.pid n → may me s q ≡ true
+    → rechecking_generated signal (lookup it.pid rs) order ns ≡ rechecking_signalled me s (q ∷ []) rs order ns
+rechecked_one it me q s n signal rs order ns f some is allowed =
+    ap (λ x. rechecking_generated x (lookup it.pid rs) order ns) is
+    ∙ ap (λ (f : Snapshot). rechecking_generated (sent_by me.pid n) (lookup f.pid rs) order ns) f
+    ∙ sym (rechecking_one me n q rs order ns (ap (λ s. may me s q) (sym some) ∙ allowed))
+    ∙ ap (λ s. rechecking_signalled me s (q ∷ []) rs order ns) (sym some)
 
 -- whether it may be decides what is found
 pub sending_one : (me : Process) (s : Option ℕ) (q : Process) (b : Bool) → may me s q ≡ b → sending_permitted (permitted me s (q ∷ [])) ≡ cond b found.Permitted found.NobodyPermitted

@@ -11,15 +11,16 @@ use Rattle.posix.specs.Regular.{IsRegular, IsPlaced, CanInherit}
 use Rattle.posix.specs.Ends.{made_zombie}
 use Rattle.posix.proofs.NextLemmas.{IsNew, new_number}
 use Rattle.posix.proofs.RegularLemmas.{regular_as, regular_inserted, regular_first}
+use Rattle.posix.proofs.TableLemmas.{length_inserted}
 use Rattle.posix.proofs.MapLemmas.{at_pid, some_map, children_map}
 use Rattle.posix.proofs.WalkLemmas.{all_looked}
 use Rattle.pidalloc.specs.Rows.{Pids, IsPids, is_free_in, unborne_table, born_in}
 use Rattle.pidalloc.specs.Tallies.{IsTallied}
-use Rattle.pidalloc.proofs.TallyLemmas.{CanBear, can_bear, next_same, tallied_unborne, tallied_born, tallied_map, length_inserted}
+use Rattle.pidalloc.proofs.TallyLemmas.{CanBear, can_bear, next_same, tallied_unborne, tallied_born, tallied_map}
 use Rattle.sched.specs.Places.{Places}
 use Rattle.life.specs.Machines.{IsKept, HaveParents, IsSound, state_of}
 use Rattle.jobs.proofs.NumberLemmas.{no_more, above_none}
-pub use Rattle.jobs.proofs.FactLemmas.{There, there, is_there, facts_are, some_read, none_read}
+pub use Rattle.jobs.proofs.SnapshotLemmas.{There, there, is_there, snapshot_are, some_read, none_read}
 use Rattle.life.proofs.ParentLemmas.{parents_map, parents_adopted, parents_inserted, parents_first}
 
 -- what the value of a machine says of a process, its parts say

@@ -1,7 +1,30 @@
--- The state that a machine stands for.
-use Rattle.std.proofs.Common.{◌≡◌, ap}
-use Rattle.life.specs.Machines.{MachineView}
+-- The state that a machine stands for, and what looks at it come to, one after another.
+use Rattle.std.proofs.Common.{◌≡◌, ◌∙◌, ◌+◌, ◌≤◌, ℕ, ap, arith, refl}
+use Rattle.posix.specs.Regular.{IsRegular}
+use Rattle.life.specs.Machines.{MachineView, AreSame, Looks}
 
 -- equal views, equal states
 pub state_is : {a b : MachineView} → a ≡ b → a.state ≡ b.state
 state_is e = ap (λ (m : MachineView). m.state) e
+
+-- what nothing was done to is as it was
+pub same_refl : {m : MachineView} → AreSame m m
+same_refl = record { state = refl; to_recheck = refl; groups_at_risk = refl; foregrounds_unchecked = refl; readers = refl }
+
+-- and what stays twice stays
+pub same_then : {a b c : MachineView} → AreSame a b → AreSame b c → AreSame a c
+same_then h k = record {
+  state = k.state ∙ h.state;
+  to_recheck = k.to_recheck ∙ h.to_recheck;
+  groups_at_risk = k.groups_at_risk ∙ h.groups_at_risk;
+  foregrounds_unchecked = k.foregrounds_unchecked ∙ h.foregrounds_unchecked;
+  readers = k.readers ∙ h.readers;
+}
+
+-- so many slots were read in all
+pub looks_within : {n : ℕ} {a b : MachineView} → AreSame a b → b.visits ≤ a.visits + n → IsRegular a.state → Looks n a b
+looks_within same few regular = record { same = same; visits = few; regular = regular }
+
+-- a look that may read more
+pub read_more : {m n : ℕ} {a b : MachineView} → Looks m a b → m ≤ n → Looks n a b
+read_more h le = record { same = h.same; visits = let few = h.visits in omega (arith, few, le); regular = h.regular }

@@ -6,7 +6,6 @@ use Rattle.life.specs.declared.caller.Caller.{Caller}
 abbrev pub caller_of : Process → Caller
 caller_of r = record {
   pid = r.pid;
-  parent = r.parent;
   group = r.group;
   session = r.session;
   creds = r.credentials;
@@ -18,7 +17,6 @@ caller_of r = record {
 abbrev pub process_like : Caller → Process
 process_like c = record first_process {
   pid = c.pid;
-  parent = c.parent;
   group = c.group;
   session = c.session;
   credentials = c.creds;

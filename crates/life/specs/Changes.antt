@@ -6,14 +6,14 @@ use Rattle.posix.specs.Tables.{lookup, parent_of}
 use Rattle.posix.specs.States.{State}
 use Rattle.posix.specs.Regular.{IsRegular}
 use Rattle.pidalloc.specs.Rows.{Pids, row}
-use Rattle.proctable.specs.declared.body.Body.{Body}
-use Rattle.proctable.specs.Body.{process_of, with_body}
+use Rattle.proctable.specs.declared.records.Record.{Record}
+use Rattle.proctable.specs.Records.{process_of, with_record}
 use Rattle.jobs.specs.declared.books.Seen.{Seen}
 
--- whatever the closure does to the body of p, a regular state stays so
-abbrev pub StaysRegular : {F T : Type 0} → Once F (MutBor Body × Unit {0}) (T × (MutBor Body × Unit {0})) → F → State → ℕ → Type 0
+-- whatever the closure does to the record of p, a regular state stays so
+abbrev pub StaysRegular : {F T : Type 0} → Once F (MutBor Record × Unit {0}) (T × (MutBor Record × Unit {0})) → F → State → ℕ → Type 0
 StaysRegular {T = T} g change s p =
-    IsRegular s → (b c : Body) (r : T) → lookup p s.processes ≡ Some (process_of p (parent_of p s.processes) b) → FnOnceReturnsAtMut g change b r c → IsRegular (record s { processes = with_body s.processes p c })
+    IsRegular s → (b c : Record) (r : T) → lookup p s.processes ≡ Some (process_of p (parent_of p s.processes) b) → FnOnceReturnsAtMut g change b r c → IsRegular (record s { processes = with_record s.processes p c })
 
 -- it has another process group or session
 abbrev pub has_moved : Seen → Seen → Bool

@@ -5,24 +5,24 @@ use Rattle.posix.specs.Consoles.{Console, console_of}
 use Rattle.posix.specs.States.{State, process, is_in, has_place}
 use Rattle.posix.specs.Terminals.{is_reader}
 use Rattle.pidset.specs.Numbers.{PidSetView, with_number}
-use Rattle.proctable.specs.declared.facts.Facts.{Facts}
+use Rattle.proctable.specs.declared.snapshot.Snapshot.{Snapshot}
 use Rattle.life.specs.declared.consoles.Terminal.{Terminal}
 
 abbrev pub terminal_of : Console → Terminal
 terminal_of c = record { foreground = c.foreground; tostop = c.tostop; has_line = not (length c.lines == 0) }
 
 -- a process other than process 1 that leads its session hangs its terminal up as it ends
-abbrev pub hangs_up : Facts → Bool
+abbrev pub hangs_up : Snapshot → Bool
 hangs_up f = not (f.pid == 1) && f.session == f.pid
 
 -- the place of the console that is a session's terminal
-abbrev pub IsPlaceOf : ℕ → List Console → Option ℕ → Type 0
-IsPlaceOf session cs None = console_of session cs ≡ None
-IsPlaceOf session cs (Some k) = (c : Console) × (slice_get cs k ≡ Some c) × (console_of session cs ≡ Some c) × (c.session ≡ session)
+abbrev pub IsTerminalIndex : ℕ → List Console → Option ℕ → Type 0
+IsTerminalIndex session cs None = console_of session cs ≡ None
+IsTerminalIndex session cs (Some k) = (c : Console) × (slice_get cs k ≡ Some c) × (console_of session cs ≡ Some c) × (c.session ≡ session)
 
--- whoever waits to read from the console in a place, and has no place in the order, is to be asked
+-- whoever waits to read from the console with this index, and has no place in the order, is to be rechecked
 abbrev pub AreReaders : State → ℕ → List ℕ → Type 0
-AreReaders s k asked = (p : ℕ) (c : Console) (r : Process) → slice_get s.consoles k ≡ Some c → process s p ≡ Some r → is_reader c.session r ≡ true → has_place s p ≡ false → is_in p asked ≡ true
+AreReaders s k to_recheck = (p : ℕ) (c : Console) (r : Process) → slice_get s.consoles k ≡ Some c → process s p ≡ Some r → is_reader c.session r ≡ true → has_place s p ≡ false → is_in p to_recheck ≡ true
 
 -- p is put into one set more, where there is one in that place
 abbrev pub IsKnownBy : Option ℕ → ℕ → List PidSetView → List PidSetView → Type 0

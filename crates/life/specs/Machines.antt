@@ -26,16 +26,37 @@ state_of world processes consoles pids places births ticks dropped halted = reco
   halted = halted;
 }
 
--- The state of a machine, how many slots of its table have been read, who is on the list of those to ask, which
+-- The state of a machine, how many slots of its table have been read, who is to be rechecked, which
 -- process groups were noted as those that an end may orphan, whether a foreground process group may have lost its
 -- members, and who may wait to read from each console.
 pub record MachineView : Type 0 where
   pub state : State
-  pub reads : ℕ
-  pub asked : List ℕ
-  pub losing : List ℕ
-  pub stale : Bool
+  pub visits : ℕ
+  pub to_recheck : List ℕ
+  pub groups_at_risk : List ℕ
+  pub foregrounds_unchecked : Bool
   pub readers : List PidSetView
+
+-- all but the number of slots that have been read is as it was
+pub record AreSame (old new : MachineView) : Type 0 where
+  pub state : new.state ≡ old.state
+  pub to_recheck : new.to_recheck ≡ old.to_recheck
+  pub groups_at_risk : new.groups_at_risk ≡ old.groups_at_risk
+  pub foregrounds_unchecked : new.foregrounds_unchecked ≡ old.foregrounds_unchecked
+  pub readers : new.readers ≡ old.readers
+
+-- Whoever only looks changes nothing, and reads at most n slots. From each look it is known that the state is regular.
+pub record Looks (n : ℕ) (old new : MachineView) : Type 0 where
+  pub same : AreSame old new
+  pub visits : new.visits ≤ old.visits + n
+  pub regular : IsRegular old.state
+
+-- A change that reads at most n slots, and notes no group as one that may be orphaned. From each it is known that the
+-- state was regular.
+pub record Costs (n : ℕ) (old new : MachineView) : Type 0 where
+  pub visits : new.visits ≤ old.visits + n
+  pub groups_at_risk : new.groups_at_risk ≡ old.groups_at_risk
+  pub regular : IsRegular old.state
 
 -- The rows count which numbers the processes bear, and each number can be given a place.
 pub record IsKept (pidmax : ℕ) (rs : List Process) (pids : Pids) (places : Places) : Type 0 where
@@ -54,7 +75,7 @@ pub record IsSound (s : State) (pids : Pids) (places : Places) : Type 0 where
   pub counted : s.dropped + length s.processes ≤ s.births  -- each was born
   pub kept : IsKept s.world.pidmax s.processes pids places
 
--- those who may wait to read from the console in a place
+-- those who may wait to read from the console with this index
 abbrev pub readers_at : ℕ → List PidSetView → List ℕ
 readers_at k readers = option_map_or (λ set. set.pids) (slice_get readers k) []
 
@@ -64,39 +85,39 @@ pub record IsReaders (pidmax : ℕ) (set : PidSetView) : Type 0 where
   pub within : (p : ℕ) → is_in p set.pids ≡ true → (1 ≤ p) × (p ≤ pidmax)
   pub room : pidmax < set.room
 
--- Whoever waits to read from a console is known by it, or is to be asked.
-pub record IsWatched (s : State) (asked : List ℕ) (readers : List PidSetView) : Type 0 where
-  pub known : (k p : ℕ) (c : Console) (r : Process) → slice_get s.consoles k ≡ Some c → process s p ≡ Some r → is_reader c.session r ≡ true → is_in p s.order ≡ false → is_in p asked ≡ false → is_in p (readers_at k readers) ≡ true
+-- Whoever waits to read from a console is known by it, or is to be rechecked.
+pub record IsWatched (s : State) (to_recheck : List ℕ) (readers : List PidSetView) : Type 0 where
+  pub known : (k p : ℕ) (c : Console) (r : Process) → slice_get s.consoles k ≡ Some c → process s p ≡ Some r → is_reader c.session r ≡ true → is_in p s.order ≡ false → is_in p to_recheck ≡ false → is_in p (readers_at k readers) ≡ true
   pub each : AllByRecursion (IsReaders s.world.pidmax) readers
   pub many : length readers ≡ s.world.consoles
 
--- Whoever has to be given a place is to be asked, each of those is there, and there is room for all numbers; and
+-- Whoever has to be given a place is to be rechecked, each of those is there, and there is room for all numbers; and
 -- whoever waits to read is known.
-pub record IsListed (s : State) (asked : PidSetView) (readers : List PidSetView) : Type 0 where
-  pub covers : Covers s asked.pids
-  pub rising : Rises asked.pids
-  pub there : (p : ℕ) → is_in p asked.pids ≡ true → IsSome (process s p)
-  pub room : s.world.pidmax < asked.room
-  pub watched : IsWatched s asked.pids readers
+pub record IsListed (s : State) (to_recheck : PidSetView) (readers : List PidSetView) : Type 0 where
+  pub covers : Covers s to_recheck.pids
+  pub rising : Rises to_recheck.pids
+  pub there : (p : ℕ) → is_in p to_recheck.pids ≡ true → IsSome (process s p)
+  pub room : s.world.pidmax < to_recheck.room
+  pub watched : IsWatched s to_recheck.pids readers
 
 -- Groups are noted in rising order, and there is room for all numbers, 0 too.
-pub record IsNoted (pidmax : ℕ) (losing : PidSetView) : Type 0 where
-  pub rising : Rises losing.pids
-  pub within : (g : ℕ) → is_in g losing.pids ≡ true → g ≤ pidmax
-  pub room : pidmax + 1 < losing.room
+pub record IsNoted (pidmax : ℕ) (groups_at_risk : PidSetView) : Type 0 where
+  pub rising : Rises groups_at_risk.pids
+  pub within : (g : ℕ) → is_in g groups_at_risk.pids ≡ true → g ≤ pidmax
+  pub room : pidmax + 1 < groups_at_risk.room
 
 -- what a machine keeps of its consoles beside them: who may wait to read from each, and whether a foreground
 -- process group may have lost its members
 pub record Terminals : Type 0 where
   pub readers : List PidSetView
-  pub stale : Bool
+  pub foregrounds_unchecked : Bool
 
 -- what the type of a machine keeps
-pub record IsMachine (s : State) (pids : Pids) (places : Places) (asked losing : PidSetView) (terminals : Terminals) : Type 0 where
+pub record IsMachine (s : State) (pids : Pids) (places : Places) (to_recheck groups_at_risk : PidSetView) (terminals : Terminals) : Type 0 where
   pub sound : IsSound s pids places
-  pub listed : IsListed s asked terminals.readers
-  pub noted : IsNoted s.world.pidmax losing
-  pub fresh : terminals.stale ≡ false → AreFresh s
+  pub listed : IsListed s to_recheck terminals.readers
+  pub noted : IsNoted s.world.pidmax groups_at_risk
+  pub fresh : terminals.foregrounds_unchecked ≡ false → AreFresh s
 
 -- ---- one record that goes
 

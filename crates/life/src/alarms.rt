@@ -6,7 +6,8 @@ ghost use Rattle.posix.specs.States.{process, change};
 ghost use Rattle.posix.specs.Tables.{IsNext};
 ghost use Rattle.posix.specs.Regular.{IsPlaced, IsRegular, IsAhead};
 ghost use Rattle.posix.specs.Alarms.{most_ticks, ticks_left as ticks_left_of, due_in as due_in_ticks, with_alarm, is_due, ring_at, ring_all, has_alarms, pass_time as passing_time};
-ghost use Rattle.life.specs.Asking.{asking};
+ghost use Rattle.life.specs.Rechecks.{rechecking};
+ghost use Rattle.life.specs.Machines.{Costs};
 
 use crate::machine::Machine;
 use posix::Pid;
@@ -22,13 +23,13 @@ impl<K: Kin> Machine<K> {
         ensures left { (me : Process) → process self.old.state pid ≡ Some me → result ≡ ticks_left_of self.old.state.ticks me.alarm }
         ensures few { result ≤ most_ticks }
         ensures state { self.new.state ≡ change self.old.state pid (with_alarm (due_in_ticks self.old.state.ticks ticks)) }
-        ensures reads { self.new.reads ≤ self.old.reads + 1 }
-        ensures asked { self.new.asked ≡ asking pid self.old.state.order self.old.asked }
+        ensures to_recheck { self.new.to_recheck ≡ rechecking pid self.old.state.order self.old.to_recheck }
+        ensures costs { Costs 1 self.old self.new }
     {
         let due = due_in(self.ticks, ticks);
-        let before = self.change(pid, |body| {
-            let before = body.alarm;
-            body.set_alarm(due);
+        let before = self.change(pid, |fields| {
+            let before = fields.alarm;
+            fields.set_alarm(due);
             before
         });
         ticks_left(self.ticks, before)
@@ -39,11 +40,11 @@ impl<K: Kin> Machine<K> {
         requires there { IsSome (process self.old.state pid) }
         requires time { self.old.state.ticks + 1 < 2 ^ 64 }
         ensures state { self.new.state ≡ change self.old.state pid (ring_at (self.old.state.ticks + 1)) }
-        ensures asked { self.new.asked ≡ asking pid self.old.state.order self.old.asked }
-        ensures reads { self.new.reads ≤ self.old.reads + 1 }
+        ensures to_recheck { self.new.to_recheck ≡ rechecking pid self.old.state.order self.old.to_recheck }
+        ensures costs { Costs 1 self.old self.new }
     {
         let now = self.ticks + 1;
-        self.change(pid, |body| body.ring_at(pid, now));
+        self.change(pid, |fields| fields.ring_at(pid, now));
     }
 
     /// Each alarm that is due at the next tick rings.
@@ -75,9 +76,9 @@ impl<K: Kin> Machine<K> {
     pub fn pass_time(&mut self)
         requires { self.old.state.ticks + 1 < 2 ^ 64 }
         ensures state { self.new.state ≡ passing_time self.old.state }
-        ensures reads { has_alarms self.old.state ≡ false → self.new.reads ≡ self.old.reads }
-        ensures asked { has_alarms self.old.state ≡ false → self.new.asked ≡ self.old.asked }
-        ensures stale { has_alarms self.old.state ≡ false → self.new.stale ≡ self.old.stale }
+        ensures visits { has_alarms self.old.state ≡ false → self.new.visits ≡ self.old.visits }
+        ensures to_recheck { has_alarms self.old.state ≡ false → self.new.to_recheck ≡ self.old.to_recheck }
+        ensures foregrounds_unchecked { has_alarms self.old.state ≡ false → self.new.foregrounds_unchecked ≡ self.old.foregrounds_unchecked }
     {
         self.ring_all();
         self.ticks += 1;

@@ -7,6 +7,7 @@ ghost use Rattle.posix.specs.Births.{born};
 ghost use Rattle.posix.specs.Tables.{children_in};
 ghost use Rattle.posix.specs.Regular.{IsPlaced};
 ghost use Rattle.pidset.specs.Numbers.{with_number};
+ghost use Rattle.life.specs.Machines.{Costs};
 
 use crate::machine::Machine;
 use posix::Pid;
@@ -30,16 +31,16 @@ impl<K: Kin> Machine<K> {
         requires births { self.old.state.births + 1 < 2 ^ 64 }
         ensures ok { OnOk result ((me : Process) → process self.old.state parent ≡ Some me → self.new.state ≡ born self.old.state me child) }
         ensures err { OnErr result (self.new.state ≡ self.old.state) }
-        ensures asked { OnOk result (self.new.asked ≡ with_number child (with_number parent self.old.asked)) }
-        ensures asked_at_error { OnErr result (self.new.asked ≡ self.old.asked) }
-        ensures reads { self.new.reads ≤ self.old.reads + 6 + length (children_in parent self.old.state.processes) }
+        ensures to_recheck { OnOk result (self.new.to_recheck ≡ with_number child (with_number parent self.old.to_recheck)) }
+        ensures rechecked_at_error { OnErr result (self.new.to_recheck ≡ self.old.to_recheck) }
+        ensures costs { Costs (6 + length (children_in parent self.old.state.processes)) self.old self.new }
     {
         self.table.reserve()?;
-        let body = self.table.newborn(parent, self.births + 1)?;
-        self.pids.bear_all(child, body.group, body.session);
-        self.table.insert(child, parent, body);
-        self.to_ask.insert(parent);
-        self.to_ask.insert(child);
+        let fields = self.table.newborn(parent, self.births + 1)?;
+        self.pids.bear_all(child, fields.group, fields.session);
+        self.table.insert(child, parent, fields);
+        self.to_recheck.insert(parent);
+        self.to_recheck.insert(child);
         self.births += 1;
         Ok(())
     }

@@ -5,21 +5,20 @@ ghost use Rattle.posix.specs.Processes.{Process, root as root_credentials};
 ghost use Rattle.posix.specs.States.{process};
 ghost use Rattle.posix.specs.Regular.{IsRegular};
 ghost use Rattle.posix.specs.Targets.{target_in};
-ghost use Rattle.proctable.specs.Body.{facts_of, own_of};
+ghost use Rattle.proctable.specs.Records.{snapshot_of, own_of};
 ghost use Rattle.life.specs.Callers.{caller_of};
+ghost use Rattle.life.specs.Machines.{Looks};
 
 use crate::machine::Machine;
 use creds::Creds;
 use posix::{Pid, Register, Target};
-use proctable::{Facts, Kin, Own};
+use proctable::{Kin, OwnPart, Snapshot};
 
 /// What a call that concerns others reads of the process that makes it.
 #[derive(Clone, Copy, Debug, PartialEq, Eq)]
 pub struct Caller {
     /// Its own number.
     pub pid: Pid,
-    /// Its parent's number; 0 for process 1.
-    pub parent: Pid,
     /// Its process group (XBD 3 Process Group ID).
     pub group: Pid,
     /// Its session, by the number of the leader (XBD 3 Session).
@@ -40,7 +39,6 @@ impl Caller {
     {
         Caller {
             pid: Pid::NONE,
-            parent: Pid::NONE,
             group: Pid::NONE,
             session: Pid::NONE,
             creds: Creds::root(),
@@ -63,29 +61,24 @@ impl<K: Kin> Machine<K> {
         requires { IsSome (process self.old.state pid) }
         ensures pid { result.pid ≡ pid }
         ensures value { IfSome (process self.old.state pid) (λ me. result ≡ caller_of me) }
-        ensures same { self.new.state ≡ self.old.state }
-        ensures reads { self.new.reads ≤ self.old.reads + 2 }
-        ensures asked { self.new.asked ≡ self.old.asked }
-        ensures stale { self.new.stale ≡ self.old.stale }
-        ensures regular { IsRegular self.old.state }
+        ensures looks { Looks 2 self.old self.new }
     {
-        let Some(facts) = self.table.get(pid) else {
+        let Some(snapshot) = self.table.get(pid) else {
             unreachable!()
         };
-        caller_by(facts, self.table.look(pid))
+        caller_by(snapshot, self.table.look(pid))
     }
 }
 
-/// The caller, by its facts and by what it may change of itself.
-fn caller_by(facts: Facts, own: &Own) -> Caller
-    ensures { (r : Process) → facts ≡ facts_of r → own.now ≡ own_of r → result ≡ caller_of r }
+/// The caller, by its snapshot and by what it may change of itself.
+fn caller_by(snapshot: Snapshot, own: &OwnPart) -> Caller
+    ensures { (r : Process) → snapshot ≡ snapshot_of r → own.now ≡ own_of r → result ≡ caller_of r }
 {
     Caller {
-        pid: facts.pid,
-        parent: facts.parent,
-        group: facts.group,
-        session: facts.session,
-        creds: facts.creds,
+        pid: snapshot.pid,
+        group: snapshot.group,
+        session: snapshot.session,
+        creds: snapshot.creds,
         r1: own.cpu.register(Register::FIRST_ARGUMENT),
         r2: own.cpu.register(Register::SECOND_ARGUMENT),
     }

@@ -5,6 +5,7 @@ ghost use Rattle.posix.specs.Processes.{Process, is_zombie as is_zombie_of};
 ghost use Rattle.posix.specs.States.{process};
 ghost use Rattle.posix.specs.Regular.{IsRegular};
 ghost use Rattle.life.specs.Censuses.{census_of};
+ghost use Rattle.life.specs.Machines.{Looks};
 
 use crate::machine::Machine;
 use posix::{Life, Pid};
@@ -29,10 +30,7 @@ impl<K: Kin> Machine<K> {
     /// Counts the processes. Nothing changes.
     pub fn census(&mut self) -> Census
         ensures value { result ≡ census_of self.old.state }
-        ensures same { self.new.state ≡ self.old.state }
-        ensures asked { self.new.asked ≡ self.old.asked }
-        ensures stale { self.new.stale ≡ self.old.stale }
-        ensures reads { self.new.reads ≤ self.old.reads + 1 + 2 * length self.old.state.processes }
+        ensures looks { Looks (1 + 2 * length self.old.state.processes) self.old self.new }
     {
         let mut living = 0;
         let mut zombies = 0;
@@ -57,16 +55,12 @@ impl<K: Kin> Machine<K> {
     /// Whether a process is a zombie.
     fn is_zombie(&mut self, pid: Pid) -> bool
         ensures value { (it : Process) → process self.old.state pid ≡ Some it → result ≡ is_zombie_of it.life }
-        ensures same { self.new.state ≡ self.old.state }
-        ensures asked { self.new.asked ≡ self.old.asked }
-        ensures stale { self.new.stale ≡ self.old.stale }
-        ensures reads { self.new.reads ≤ self.old.reads + 1 }
-        ensures regular { IsRegular self.old.state }
         ensures size { length self.old.state.processes < 2 ^ 63 }
+        ensures looks { Looks 1 self.old self.new }
     {
-        let Some(facts) = self.facts(pid) else {
+        let Some(snapshot) = self.snapshot(pid) else {
             return false;
         };
-        matches!(facts.life, Life::Zombie(_))
+        matches!(snapshot.life, Life::Zombie(_))
     }
 }

@@ -13,21 +13,21 @@ ghost use Rattle.posix.specs.Settle.{wakes, refreshed, clear_foregrounds as clea
 ghost use Rattle.posix.specs.Step.{key as keying};
 ghost use Rattle.posix.specs.Regular.{IsRegular};
 ghost use Rattle.pidset.specs.Numbers.{numbers_above};
-ghost use Rattle.life.specs.Machines.{IsReaders, IsWatched, readers_at};
-ghost use Rattle.life.specs.Asking.{asking_members};
+ghost use Rattle.life.specs.Machines.{IsReaders, IsWatched, readers_at, Looks, Costs};
+ghost use Rattle.life.specs.Rechecks.{rechecking_members};
 ghost use Rattle.pidset.specs.Numbers.{PidSetView};
 ghost use Rattle.posix.specs.declared.process.Blocked.TheVariants as blocked;
-ghost use Rattle.life.specs.Consoles.{terminal_of, hangs_up as hangs_up_with, IsPlaceOf, IsKnownBy, IsForgottenAt, AreReaders};
+ghost use Rattle.life.specs.Consoles.{terminal_of, hangs_up as hangs_up_with, IsTerminalIndex, IsKnownBy, IsForgottenAt, AreReaders};
 ghost use Rattle.tty.specs.Lines.{Takes};
 
-use crate::asking::{ask, take_off};
 use crate::machine::Machine;
+use crate::rechecks::{recheck_later, take_off};
 use jobs::JobTable;
 use pidset::PidSet;
 use posix::{Blocked, Pid, Sig};
-use proctable::{Facts, Kin};
+use proctable::{Kin, Snapshot};
 use std::alloc::{AllocError, Global};
-use tty::{Console, KeyEffect};
+use tty::{Console, KeyEffect, ends_line};
 
 /// The controlling terminal of a session, as its processes see it (XBD 11.1.3).
 #[derive(Clone, Copy, Debug, PartialEq, Eq)]
@@ -69,41 +69,43 @@ pub(crate) fn no_readers(alloc: Global, count: u8, pidmax: u32) -> Result<Vec<Pi
     Ok(sets)
 }
 
-/// The place of the console that is a session's terminal.
-fn place_of(consoles: &[Console], session: Pid) -> Option<usize>
-    ensures { IsPlaceOf session consoles.now result }
+/// The index of the console that is a session's terminal.
+fn terminal_index(consoles: &[Console], session: Pid) -> Option<usize>
+    ensures { IsTerminalIndex session consoles.now result }
 {
-    for place in 0..consoles.len() {
-        if consoles[place].session() == session {
-            return Some(place);
+    for console_index in 0..consoles.len() {
+        if consoles[console_index].session() == session {
+            return Some(console_index);
         }
     }
     None
 }
 
-/// A process is among those who may wait to read from the console in a place; nobody is new where there is none.
-fn know(readers: &mut Vec<PidSet>, place: Option<usize>, pid: Pid)
+/// A process is among those who may wait to read from the console with this index; nobody is new where there is none.
+fn add_reader(readers: &mut Vec<PidSet>, console_index: Option<usize>, pid: Pid)
     requires { (k : ℕ) (set : PidSetView) → slice_get readers.old.items k ≡ Some set → length set.pids < set.room }
-    ensures { IsKnownBy place pid readers.old.items readers.new.items }
+    ensures { IsKnownBy console_index pid readers.old.items readers.new.items }
 {
-    let Some(place) = place else { return };
-    if let Some(set) = readers.get_mut(place) {
+    let Some(console_index) = console_index else {
+        return
+    };
+    if let Some(set) = readers.get_mut(console_index) {
         set.insert(pid);
     }
 }
 
-/// Whether a process with these facts hangs its terminal up as it ends: it leads its session, and isn't process 1.
-fn hangs_up(facts: &Facts) -> bool
-    ensures { result ≡ hangs_up_with facts.now }
+/// Whether a process with this snapshot hangs its terminal up as it ends: it leads its session, and isn't process 1.
+fn hangs_up(snapshot: &Snapshot) -> bool
+    ensures { result ≡ hangs_up_with snapshot.now }
 {
-    facts.pid != Pid::INIT && facts.session == facts.pid
+    snapshot.pid != Pid::INIT && snapshot.session == snapshot.pid
 }
 
-/// Nobody is known any more to wait to read from the console in a place, if there is one.
-fn forget_at(readers: &mut Vec<PidSet>, place: usize)
-    ensures { IsForgottenAt place readers.old.items readers.new.items }
+/// Nobody is known any more to wait to read from the console with this index, if there is one.
+fn clear_readers(readers: &mut Vec<PidSet>, console_index: usize)
+    ensures { IsForgottenAt console_index readers.old.items readers.new.items }
 {
-    if let Some(set) = readers.get_mut(place) {
+    if let Some(set) = readers.get_mut(console_index) {
         set.clear();
     }
 }
@@ -128,16 +130,9 @@ fn refresh_all<K: Kin>(consoles: &mut Vec<Console>, table: &mut JobTable<K>)
     ensures consoles { consoles.new.items ≡ map (refreshed table.old.processes) consoles.old.items }
     ensures processes { table.new.processes ≡ table.old.processes }
 {
-    for place in 0..consoles.len() {
-        refresh(&mut consoles[place], table);
+    for console_index in 0..consoles.len() {
+        refresh(&mut consoles[console_index], table);
     }
-}
-
-/// Whether a byte ends the line that is edited: NL and EOF do (XBD 11.1.9).
-fn ends_line(byte: u8) -> bool
-    ensures { result ≡ (byte == 10 || byte == 4) }
-{
-    byte == b'\n' || byte == 0x04
 }
 
 impl<K: Kin> Machine<K> {
@@ -146,10 +141,9 @@ impl<K: Kin> Machine<K> {
     /// The controlling terminal of a session; none where it has none.
     pub fn terminal(&self, session: Pid) -> Option<Terminal>
         ensures value { result ≡ option_map terminal_of (console_of session self.now.state.consoles) }
-        ensures regular { IsRegular self.now.state }
     {
-        let place = place_of(&self.consoles, session)?;
-        let console = &self.consoles[place];
+        let console_index = terminal_index(&self.consoles, session)?;
+        let console = &self.consoles[console_index];
         Some(Terminal {
             foreground: console.foreground(),
             tostop: console.tostop(),
@@ -157,12 +151,11 @@ impl<K: Kin> Machine<K> {
         })
     }
 
-    /// Whose controlling terminal the console in a place is, number 0 for nobody's; none where there is no console.
-    pub fn session_at(&self, place: usize) -> Option<Pid>
-        ensures value { result ≡ option_map (λ (c : ConsoleValue). c.session) (slice_get self.now.state.consoles place) }
-        ensures regular { IsRegular self.now.state }
+    /// Whose controlling terminal the console with this index is, number 0 for nobody's; none where there is no console.
+    pub fn session_at(&self, console_index: usize) -> Option<Pid>
+        ensures value { result ≡ option_map (λ (c : ConsoleValue). c.session) (slice_get self.now.state.consoles console_index) }
     {
-        Some(self.consoles.get(place)?.session())
+        Some(self.consoles.get(console_index)?.session())
     }
 
     /// The greatest number of a process.
@@ -175,121 +168,102 @@ impl<K: Kin> Machine<K> {
     /// The process group with this number, where a process of the session is in it, zombies being members.
     pub fn group_of(&mut self, session: Pid, group: u64) -> Option<Pid>
         ensures value { result ≡ (if is_group_of session group self.old.state.processes then Some group else None) }
-        ensures same { self.new.state ≡ self.old.state }
-        ensures asked { self.new.asked ≡ self.old.asked }
-        ensures losing { self.new.losing ≡ self.old.losing }
-        ensures stale { self.new.stale ≡ self.old.stale }
-        ensures reads { self.new.reads ≤ self.old.reads + 1 + 2 * length self.old.state.processes }
+        ensures looks { Looks (1 + 2 * length self.old.state.processes) self.old self.new }
     {
         self.table.group_of(session, group)
     }
 
     // ---- who waits to read
 
-    /// The place of the console that a process without a place reads from, where it is in a read and its session has
+    /// The index of the console that a process without a place reads from, where it is in a read and its session has
     /// a terminal.
     fn reads_from(&mut self, pid: Pid) -> Option<usize>
-        ensures value { (r : Process) → process self.old.state pid ≡ Some r → r.blocked ≡ Some blocked.Read → has_place_in self.old.state pid ≡ false → IsPlaceOf r.session self.old.state.consoles result }
-        ensures same { self.new.state ≡ self.old.state }
-        ensures asked { self.new.asked ≡ self.old.asked }
-        ensures losing { self.new.losing ≡ self.old.losing }
-        ensures stale { self.new.stale ≡ self.old.stale }
+        ensures value { (r : Process) → process self.old.state pid ≡ Some r → r.blocked ≡ Some blocked.Read → has_place_in self.old.state pid ≡ false → IsTerminalIndex r.session self.old.state.consoles result }
         ensures there { IsSome result → IsSome (process self.old.state pid) }
-        ensures reads { self.new.reads ≤ self.old.reads + 1 }
+        ensures looks { Looks 1 self.old self.new }
     {
+        let _ = &self.table;
         if self.has_place(pid) {
             return None;
         }
-        let facts = self.facts(pid)?;
-        if facts.blocked == Some(Blocked::Read) {
-            place_of(&self.consoles, facts.session)
+        let snapshot = self.snapshot(pid)?;
+        if snapshot.blocked == Some(Blocked::Read) {
+            terminal_index(&self.consoles, snapshot.session)
         } else {
             None
         }
     }
 
-    /// A process that needn't be given a place has been asked, and isn't to be asked any more. Where it is in a read
-    /// it is known by its terminal from now on.
-    pub fn asked(&mut self, pid: Pid)
+    /// A process that needn't be given a place has been rechecked, and isn't to be rechecked any more. Where it is
+    /// in a read it is known by its terminal from now on.
+    pub fn rechecked(&mut self, pid: Pid)
         requires { (r : Process) → process self.old.state pid ≡ Some r → wakes self.old.state r ≡ false }
-        ensures state { self.new.state ≡ self.old.state }
-        ensures asked { self.new.asked ≡ without pid self.old.asked }
-        ensures losing { self.new.losing ≡ self.old.losing }
-        ensures stale { self.new.stale ≡ self.old.stale }
-        ensures reads { self.new.reads ≤ self.old.reads + 1 }
-        ensures regular { IsRegular self.new.state }
+        ensures rest { self.new ≡ record (self.old) { to_recheck = without pid self.old.to_recheck; readers = self.new.readers; visits = self.new.visits } }
+        ensures costs { Costs 1 self.old self.new }
     {
-        let place = self.reads_from(pid);
-        know(&mut self.readers, place, pid);
-        take_off(&mut self.to_ask, pid);
+        let console_index = self.reads_from(pid);
+        add_reader(&mut self.readers, console_index, pid);
+        take_off(&mut self.to_recheck, pid);
     }
 
-    /// A process is to be asked where it is there and has no place.
-    fn ask_if_there(&mut self, pid: Pid)
-        ensures state { self.new.state ≡ self.old.state }
-        ensures it { IsSome (process self.old.state pid) → has_place_in self.old.state pid ≡ false → is_in pid self.new.asked ≡ true }
-        ensures others { (q : ℕ) → is_in q self.old.asked ≡ true → is_in q self.new.asked ≡ true }
-        ensures losing { self.new.losing ≡ self.old.losing }
-        ensures stale { self.new.stale ≡ self.old.stale }
-        ensures readers { self.new.readers ≡ self.old.readers }
+    /// A process is to be rechecked where it is there and has no place.
+    fn recheck_if_there(&mut self, pid: Pid)
+        ensures rest { self.new ≡ record (self.old) { to_recheck = self.new.to_recheck; visits = self.new.visits } }
+        ensures it { IsSome (process self.old.state pid) → has_place_in self.old.state pid ≡ false → is_in pid self.new.to_recheck ≡ true }
+        ensures others { (q : ℕ) → is_in q self.old.to_recheck ≡ true → is_in q self.new.to_recheck ≡ true }
     {
         if let Some(_) = self.table.get(pid) {
-            ask(&mut self.to_ask, &self.order, pid);
+            recheck_later(&mut self.to_recheck, &self.order, pid);
         }
     }
 
-    /// Whoever waits to read from the console in a place is to be asked, and isn't known by it any more.
-    fn ask_readers(&mut self, place: usize)
-        ensures state { self.new.state ≡ self.old.state }
-        ensures asked { AreReaders self.old.state place self.new.asked }
-        ensures losing { self.new.losing ≡ self.old.losing }
-        ensures stale { self.new.stale ≡ self.old.stale }
-        ensures readers { readers_at place self.new.readers ≡ [] }
+    /// Whoever waits to read from the console with this index is to be rechecked, and isn't known by it any more.
+    fn recheck_readers(&mut self, console_index: usize)
+        ensures rest { self.new ≡ record (self.old) { to_recheck = self.new.to_recheck; readers = self.new.readers; visits = self.new.visits } }
+        ensures to_recheck { AreReaders self.old.state console_index self.new.to_recheck }
+        ensures readers { readers_at console_index self.new.readers ≡ [] }
     {
-        let mut next = self.next_reader(place, Pid::NONE);
+        let mut next = self.next_reader(console_index, Pid::NONE);
         while let Some(pid) = next {
-            self.ask_if_there(pid);
-            next = self.next_reader(place, pid);
+            self.recheck_if_there(pid);
+            next = self.next_reader(console_index, pid);
         }
-        self.forget_readers(place);
+        self.forget_readers(console_index);
     }
 
-    /// Who may wait to read from the console in a place, with the least number above another.
-    fn next_reader(&self, place: usize, after: Pid) -> Option<Pid>
-        ensures is { result ≡ slice_get (numbers_above after (readers_at place self.now.readers)) 0 }
-        ensures watched { IsWatched self.now.state self.now.asked self.now.readers }
+    /// Who may wait to read from the console with this index, with the least number above another.
+    fn next_reader(&self, console_index: usize, after: Pid) -> Option<Pid>
+        ensures is { result ≡ slice_get (numbers_above after (readers_at console_index self.now.readers)) 0 }
+        ensures watched { IsWatched self.now.state self.now.to_recheck self.now.readers }
     {
-        match self.readers.get(place) {
+        match self.readers.get(console_index) {
             Some(readers) => readers.next_above(after),
             None => None,
         }
     }
 
-    /// Nobody is known any more to wait to read from the console in a place; all who do are to be asked.
-    fn forget_readers(&mut self, place: usize)
-        requires { AreReaders self.old.state place self.old.asked }
-        ensures state { self.new.state ≡ self.old.state }
-        ensures asked { self.new.asked ≡ self.old.asked }
-        ensures losing { self.new.losing ≡ self.old.losing }
-        ensures stale { self.new.stale ≡ self.old.stale }
-        ensures readers { readers_at place self.new.readers ≡ [] }
+    /// Nobody is known any more to wait to read from the console with this index; all who do are to be rechecked.
+    fn forget_readers(&mut self, console_index: usize)
+        requires { AreReaders self.old.state console_index self.old.to_recheck }
+        ensures rest { self.new ≡ record (self.old) { readers = self.new.readers } }
+        ensures readers { readers_at console_index self.new.readers ≡ [] }
     {
-        forget_at(&mut self.readers, place);
+        clear_readers(&mut self.readers, console_index);
     }
 
     // ---- whose terminal it is
 
-    /// The console in a place, which is nobody's terminal, becomes that of a session that has none, with a foreground
+    /// The console with this index, nobody's terminal, becomes that of a session that has none, with a foreground
     /// process group; what was typed before stays.
-    pub fn acquire_console(&mut self, place: usize, session: Pid, group: Pid)
-        requires free { IfSome (slice_get self.old.state.consoles place) (λ c. c.session ≡ 0) }
+    pub fn acquire_console(&mut self, console_index: usize, session: Pid, group: Pid)
+        requires free { IfSome (slice_get self.old.state.consoles console_index) (λ c. c.session ≡ 0) }
         requires none { console_of session self.old.state.consoles ≡ None }
-        ensures { (c : ConsoleValue) → slice_get self.old.state.consoles place ≡ Some c → self.new.state ≡ record (self.old.state) { consoles = slice_set self.old.state.consoles place (acquired session group c) } }
+        ensures { (c : ConsoleValue) → slice_get self.old.state.consoles console_index ≡ Some c → self.new.state ≡ record (self.old.state) { consoles = slice_set self.old.state.consoles console_index (acquired session group c) } }
     {
-        self.ask_readers(place);
-        if let Some(console) = self.consoles.get_mut(place) {
+        self.recheck_readers(console_index);
+        if let Some(console) = self.consoles.get_mut(console_index) {
             console.acquire(session, group);
-            self.stale = true;
+            self.foregrounds_unchecked = true;
         }
     }
 
@@ -298,10 +272,10 @@ impl<K: Kin> Machine<K> {
         requires { session ≢ 0 }
         ensures { self.new.state ≡ record (self.old.state) { consoles = changed_console session (with_foreground group) self.old.state.consoles } }
     {
-        if let Some(place) = place_of(&self.consoles, session) {
-            self.ask_readers(place);
-            self.consoles[place].set_foreground(group);
-            self.stale = true;
+        if let Some(console_index) = terminal_index(&self.consoles, session) {
+            self.recheck_readers(console_index);
+            self.consoles[console_index].set_foreground(group);
+            self.foregrounds_unchecked = true;
         }
     }
 
@@ -309,10 +283,10 @@ impl<K: Kin> Machine<K> {
     pub fn set_tostop(&mut self, session: Pid, tostop: bool)
         requires { session ≢ 0 }
         ensures state { self.new.state ≡ record (self.old.state) { consoles = changed_console session (with_tostop tostop) self.old.state.consoles } }
-        ensures asked { self.new.asked ≡ self.old.asked }
+        ensures to_recheck { self.new.to_recheck ≡ self.old.to_recheck }
     {
-        if let Some(place) = place_of(&self.consoles, session) {
-            self.consoles[place].set_tostop(tostop);
+        if let Some(console_index) = terminal_index(&self.consoles, session) {
+            self.consoles[console_index].set_tostop(tostop);
         }
     }
 
@@ -323,10 +297,10 @@ impl<K: Kin> Machine<K> {
         requires { session ≢ 0 }
         ensures taken { (c : ConsoleValue) → console_of session self.old.state.consoles ≡ Some c → Takes c.lines out.old out.new result }
         ensures state { self.new.state ≡ record (self.old.state) { consoles = changed_console session (line_taken (length out.old)) self.old.state.consoles } }
-        ensures asked { self.new.asked ≡ self.old.asked }
+        ensures to_recheck { self.new.to_recheck ≡ self.old.to_recheck }
     {
-        let place = place_of(&self.consoles, session)?;
-        self.consoles[place].take(out)
+        let console_index = terminal_index(&self.consoles, session)?;
+        self.consoles[console_index].take(out)
     }
 
     // ---- signals
@@ -335,7 +309,7 @@ impl<K: Kin> Machine<K> {
     /// number 0 is no group's.
     pub fn signal_group(&mut self, group: Pid, sig: Sig)
         ensures state { self.new.state ≡ record (self.old.state) { processes = signalled_group sig group self.old.state.processes } }
-        ensures asked { self.new.asked ≡ (if group == 0 then self.old.asked else asking_members sig group self.old.state.processes self.old.state.order self.old.asked) }
+        ensures to_recheck { self.new.to_recheck ≡ (if group == 0 then self.old.to_recheck else rechecking_members sig group self.old.state.processes self.old.state.order self.old.to_recheck) }
     {
         if group != Pid::NONE {
             self.signal_members(group, sig);
@@ -344,16 +318,16 @@ impl<K: Kin> Machine<K> {
 
     // ---- keys, hangups, foregrounds
 
-    /// A byte comes on the console in a place.
-    fn type_byte(&mut self, place: usize, byte: u8) -> Option<KeyEffect>
-        ensures none { slice_get self.old.state.consoles place ≡ None → (result ≡ None) × (self.new.state ≡ self.old.state) }
-        ensures state { (c : ConsoleValue) → slice_get self.old.state.consoles place ≡ Some c → self.new.state ≡ record (self.old.state) { consoles = slice_set self.old.state.consoles place (keyed byte c) } }
-        ensures signal { MatchOption result (slice_get self.old.state.consoles place ≡ None) (λ e. e.signal ≡ key_signal byte) }
+    /// A byte comes on the console with this index.
+    fn type_byte(&mut self, console_index: usize, byte: u8) -> Option<KeyEffect>
+        ensures none { slice_get self.old.state.consoles console_index ≡ None → (result ≡ None) × (self.new.state ≡ self.old.state) }
+        ensures state { (c : ConsoleValue) → slice_get self.old.state.consoles console_index ≡ Some c → self.new.state ≡ record (self.old.state) { consoles = slice_set self.old.state.consoles console_index (keyed byte c) } }
+        ensures signal { MatchOption result (slice_get self.old.state.consoles console_index ≡ None) (λ e. e.signal ≡ key_signal byte) }
     {
         if ends_line(byte) {
-            self.ask_readers(place);
+            self.recheck_readers(console_index);
         }
-        Some(self.consoles.get_mut(place)?.key(byte))
+        Some(self.consoles.get_mut(console_index)?.key(byte))
     }
 
     /// A byte comes on a console, which counts from 1. INTR, QUIT and SUSP discard all input, and each member of the
@@ -362,14 +336,14 @@ impl<K: Kin> Machine<K> {
     pub fn key(&mut self, console: u8, byte: u8)
         ensures { self.new.state ≡ keying self.old.state console byte }
     {
-        let Some(place) = usize::from(console).checked_sub(1) else {
+        let Some(console_index) = usize::from(console).checked_sub(1) else {
             return;
         };
-        let foreground = match self.consoles.get(place) {
+        let foreground = match self.consoles.get(console_index) {
             Some(console) => console.foreground(),
             None => return,
         };
-        let Some(effect) = self.type_byte(place, byte) else {
+        let Some(effect) = self.type_byte(console_index, byte) else {
             return;
         };
         if let Some(sig) = effect.signal {
@@ -383,26 +357,26 @@ impl<K: Kin> Machine<K> {
         requires { IsSome (process self.old.state pid) }
         ensures { (me : Process) → process self.old.state pid ≡ Some me → self.new.state ≡ hanging_up self.old.state me }
     {
-        let Some(facts) = self.facts(pid) else {
+        let Some(snapshot) = self.snapshot(pid) else {
             return;
         };
-        if !hangs_up(&facts) {
+        if !hangs_up(&snapshot) {
             return;
         }
-        let Some(place) = place_of(&self.consoles, facts.session) else {
+        let Some(console_index) = terminal_index(&self.consoles, snapshot.session) else {
             return;
         };
-        let foreground = self.consoles[place].foreground();
+        let foreground = self.consoles[console_index].foreground();
         self.signal_group(foreground, Sig::HUP);
-        self.release(place);
+        self.release(console_index);
     }
 
-    /// The console in a place is nobody's terminal any more; what was typed stays.
-    fn release(&mut self, place: usize)
-        ensures { (c : ConsoleValue) → slice_get self.old.state.consoles place ≡ Some c → self.new.state ≡ record (self.old.state) { consoles = slice_set self.old.state.consoles place (released c) } }
+    /// The console with this index is nobody's terminal any more; what was typed stays.
+    fn release(&mut self, console_index: usize)
+        ensures { (c : ConsoleValue) → slice_get self.old.state.consoles console_index ≡ Some c → self.new.state ≡ record (self.old.state) { consoles = slice_set self.old.state.consoles console_index (released c) } }
     {
-        self.ask_readers(place);
-        if let Some(console) = self.consoles.get_mut(place) {
+        self.recheck_readers(console_index);
+        if let Some(console) = self.consoles.get_mut(console_index) {
             console.release();
         }
     }
@@ -411,14 +385,14 @@ impl<K: Kin> Machine<K> {
     /// none can have lost its members since the last time, nothing is looked at.
     pub fn clear_foregrounds(&mut self)
         ensures state { self.new.state ≡ clearing_foregrounds self.old.state }
-        ensures asked { self.new.asked ≡ self.old.asked }
-        ensures stale { self.new.stale ≡ false }
-        ensures reads { self.old.stale ≡ false → self.new.reads ≡ self.old.reads }
+        ensures to_recheck { self.new.to_recheck ≡ self.old.to_recheck }
+        ensures foregrounds_unchecked { self.new.foregrounds_unchecked ≡ false }
+        ensures visits { self.old.foregrounds_unchecked ≡ false → self.new.visits ≡ self.old.visits }
     {
-        if !self.stale {
+        if !self.foregrounds_unchecked {
             return;
         }
         refresh_all(&mut self.consoles, &mut self.table);
-        self.stale = false;
+        self.foregrounds_unchecked = false;
     }
 }

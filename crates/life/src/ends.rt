@@ -1,14 +1,16 @@
 //! Ends.
 
-ghost use Rattle.std.specs.Prelude.{◌≡◌, ◌≢◌, ℕ, ◌≤◌, ◌+◌, ◌*◌, length, IsSome, Some, true, false};
+ghost use Rattle.std.specs.Prelude.{◌≡◌, ◌≢◌, ℕ, ◌≤◌, ◌+◌, ◌*◌, length, IsSome, Some, None, true, false, if◌then◌else◌};
 ghost use Rattle.posix.specs.Processes.{Process, is_zombie};
 ghost use Rattle.posix.specs.Tables.{children_in};
 ghost use Rattle.posix.specs.Groups.{some_stopped};
 ghost use Rattle.posix.specs.Regular.{CanInherit, IsRegular};
 ghost use Rattle.posix.specs.States.{process};
-ghost use Rattle.posix.specs.Ends.{depart as departing, halt as halting, end_with_heir, notice_of_end as noticing_end, drop_child as dropping_child, tell_of_all, zombies_of};
+ghost use Rattle.posix.specs.Ends.{leave_children_and_die as departing, halt as halting, end_with_heir, notice_of_end as noticing_end, drop_child as dropping_child, is_dropping, tell_of_all, zombies_of};
 ghost use Rattle.posix.specs.Notices.{child_signal as child_signal_of};
 ghost use Rattle.pidset.specs.Numbers.{with_number};
+ghost use Rattle.life.specs.Rechecks.{rechecking, without_gone};
+ghost use Rattle.life.specs.Machines.{Looks, Costs};
 
 use crate::machine::Machine;
 use jobs::Change;
@@ -26,8 +28,7 @@ impl<K: Kin> Machine<K> {
         ensures mine { process self.new.state pid ≡ process self.old.state pid }
         ensures heir { CanInherit self.new.state.processes pid heir }
         ensures fewer { (q : ℕ) → length (children_in q self.new.state.processes) ≤ length (children_in q self.old.state.processes) }
-        ensures losing { self.new.losing ≡ self.old.losing }
-        ensures reads { self.new.reads ≤ self.old.reads + 1 + 8 * length (children_in pid self.old.state.processes) }
+        ensures costs { Costs (1 + 8 * length (children_in pid self.old.state.processes)) self.old self.new }
     {
         let mut next = self.first_child(pid);
         while let Some(child) = next {
@@ -48,22 +49,23 @@ impl<K: Kin> Machine<K> {
         ensures is { (me : Process) → process self.old.state pid ≡ Some me → result ≡ me.parent }
         ensures parent { (me : Process) → process self.old.state pid ≡ Some me → IsSome (process self.new.state me.parent) }
         ensures zombie { (it : Process) × (process self.new.state pid ≡ Some it) × (is_zombie it.life ≡ true) }
-        ensures losing { self.new.losing ≡ self.old.losing }
-        ensures reads { self.new.reads ≤ self.old.reads + 3 + 8 * length (children_in pid self.old.state.processes) + length (children_in heir self.old.state.processes) }
+        ensures costs { Costs (3 + 8 * length (children_in pid self.old.state.processes) + length (children_in heir self.old.state.processes)) self.old self.new }
     {
-        self.to_ask.insert(pid);
-        self.to_ask.insert(heir);
-        let Change { parent, .. } = self.table.change_seen(pid, |body| body.make_zombie(status));
-        self.to_ask.insert(parent);
+        self.to_recheck.insert(pid);
+        self.to_recheck.insert(heir);
+        let Change { parent, .. } = self
+            .table
+            .change_seen(pid, |fields| fields.make_zombie(status));
+        self.to_recheck.insert(parent);
         self.table.adopt(pid, heir);
         self.order.drop_place(pid);
-        self.stale = true;
+        self.foregrounds_unchecked = true;
         parent
     }
 
     /// The heir of a process gets notice of the ends of the zombies among its children, and then the process
     /// is a zombie and loses its place, and its children become those of its heir. Its parent.
-    pub(crate) fn depart(&mut self, pid: Pid, heir: Pid, status: Status) -> Pid
+    pub(crate) fn leave_children_and_die(&mut self, pid: Pid, heir: Pid, status: Status) -> Pid
         requires there { IsSome (process self.old.state pid) }
         requires other { pid ≢ 1 }
         requires heir { CanInherit self.old.state.processes pid heir }
@@ -71,8 +73,7 @@ impl<K: Kin> Machine<K> {
         ensures is { (me : Process) → process self.old.state pid ≡ Some me → result ≡ me.parent }
         ensures parent { (me : Process) → process self.old.state pid ≡ Some me → IsSome (process self.new.state me.parent) }
         ensures zombie { (it : Process) × (process self.new.state pid ≡ Some it) × (is_zombie it.life ≡ true) }
-        ensures losing { self.new.losing ≡ self.old.losing }
-        ensures reads { self.new.reads ≤ self.old.reads + 4 + 16 * length (children_in pid self.old.state.processes) + length (children_in heir self.old.state.processes) }
+        ensures costs { Costs (4 + 16 * length (children_in pid self.old.state.processes) + length (children_in heir self.old.state.processes)) self.old self.new }
     {
         self.tell_heir(pid, heir);
         self.leave(pid, heir, status)
@@ -81,13 +82,10 @@ impl<K: Kin> Machine<K> {
     /// Whether a process that is there runs, is stopped or has ended.
     fn life(&mut self, pid: Pid) -> Life
         ensures value { (it : Process) → process self.old.state pid ≡ Some it → result ≡ it.life }
-        ensures same { self.new.state ≡ self.old.state }
-        ensures losing { self.new.losing ≡ self.old.losing }
-        ensures reads { self.new.reads ≤ self.old.reads + 1 }
-        ensures regular { IsRegular self.old.state }
+        ensures looks { Looks 1 self.old self.new }
     {
-        match self.facts(pid) {
-            Some(facts) => facts.life,
+        match self.snapshot(pid) {
+            Some(snapshot) => snapshot.life,
             None => Life::Running,
         }
     }
@@ -95,11 +93,11 @@ impl<K: Kin> Machine<K> {
     /// Process 1 is a zombie and loses its place, and the machine halts.
     fn halt(&mut self, status: Status)
         ensures state { self.new.state ≡ halting self.old.state status }
-        ensures reads { self.new.reads ≤ self.old.reads + 2 }
-        ensures asked { self.new.asked ≡ with_number 1 self.old.asked }
+        ensures to_recheck { self.new.to_recheck ≡ with_number 1 self.old.to_recheck }
+        ensures costs { Costs 2 self.old self.new }
     {
         self.lose_place(Pid::INIT);
-        self.change_seen(Pid::INIT, |body| body.end(status));
+        self.change_seen(Pid::INIT, |fields| fields.end(status));
         self.halted = true;
     }
 
@@ -110,13 +108,13 @@ impl<K: Kin> Machine<K> {
         requires other { child ≢ 1 }
         requires zombie { (it : Process) × (process self.old.state child ≡ Some it) × (is_zombie it.life ≡ true) }
         ensures state { self.new.state ≡ noticing_end self.old.state parent child status }
-        ensures reads { self.new.reads ≤ self.old.reads + 6 }
-        ensures losing { self.new.losing ≡ self.old.losing }
+        ensures to_recheck { (it : Process) → process self.old.state child ≡ Some it → self.new.to_recheck ≡ without_gone child (if is_dropping parent self.old.state.processes then Some it.parent else None) (rechecking parent self.old.state.order self.old.to_recheck) }
+        ensures costs { Costs 6 self.old self.new }
     {
         let signal = child_signal(child, status);
-        let drops = self.change(parent, |body| {
-            let drops = body.own.signals.drops_children();
-            body.notice(parent, signal);
+        let drops = self.change(parent, |fields| {
+            let drops = fields.own.signals.drops_children();
+            fields.notice(parent, signal);
             drops
         });
         if drops {
@@ -129,8 +127,8 @@ impl<K: Kin> Machine<K> {
         requires other { child ≢ 1 }
         requires zombie { (it : Process) × (process self.old.state child ≡ Some it) × (is_zombie it.life ≡ true) }
         ensures state { self.new.state ≡ dropping_child self.old.state child }
-        ensures reads { self.new.reads ≤ self.old.reads + 5 }
-        ensures losing { self.new.losing ≡ self.old.losing }
+        ensures to_recheck { (it : Process) → process self.old.state child ≡ Some it → self.new.to_recheck ≡ without_gone child (Some it.parent) self.old.to_recheck }
+        ensures costs { Costs 5 self.old self.new }
     {
         self.reap(child);
         self.dropped += 1;
@@ -145,13 +143,13 @@ impl<K: Kin> Machine<K> {
         requires there { IsSome (process self.old.state pid) }
         requires heir { pid ≢ 1 → CanInherit self.old.state.processes pid heir }
         ensures state { (me : Process) → process self.old.state pid ≡ Some me → self.new.state ≡ (end_with_heir self.old.state me heir status).state }
-        ensures asked { pid ≡ 1 → self.new.asked ≡ with_number 1 self.old.asked }
-        ensures reads { some_stopped self.old.state.processes ≡ false → self.new.reads ≤ self.old.reads + 10 + 16 * length (children_in pid self.old.state.processes) + length (children_in heir self.old.state.processes) }
+        ensures to_recheck { pid ≡ 1 → self.new.to_recheck ≡ with_number 1 self.old.to_recheck }
+        ensures visits { some_stopped self.old.state.processes ≡ false → self.new.visits ≤ self.old.visits + 10 + 16 * length (children_in pid self.old.state.processes) + length (children_in heir self.old.state.processes) }
     {
         if pid == Pid::INIT {
             self.halt(status);
         } else {
-            let parent = self.depart_and_rouse(pid, heir, status);
+            let parent = self.die_and_hup_orphans(pid, heir, status);
             self.notice_of_end(parent, pid, status);
         }
     }

@@ -6,6 +6,7 @@ ghost use Rattle.posix.specs.Groups.{is_anchor as is_anchor_of, is_orphaned as i
 ghost use Rattle.std.specs.Option.{option_map_or};
 ghost use Rattle.posix.specs.States.{process};
 ghost use Rattle.posix.specs.Regular.{IsRegular};
+ghost use Rattle.life.specs.Machines.{Looks};
 
 use crate::machine::Machine;
 use posix::Pid;
@@ -16,11 +17,8 @@ impl<K: Kin> Machine<K> {
     /// Group). Its first is that after number 0. At most two slots are read of each process up to it, and two more.
     pub(crate) fn next_member(&mut self, group: Pid, after: Pid) -> Option<Pid>
         ensures value { result ≡ first_pid (above after (members_in group self.old.state.processes)) }
-        ensures same { self.new.state ≡ self.old.state }
-        ensures asked { self.new.asked ≡ self.old.asked }
-        ensures losing { self.new.losing ≡ self.old.losing }
-        ensures reads { self.new.reads + 2 * length (left_of result self.old.state.processes) ≤ self.old.reads + 2 + 2 * length (above after self.old.state.processes) }
-        ensures regular { IsRegular self.old.state }
+        ensures visits { self.new.visits + 2 * length (left_of result self.old.state.processes) ≤ self.old.visits + 2 + 2 * length (above after self.old.state.processes) }
+        ensures looks { Looks (2 + 2 * length (above after self.old.state.processes)) self.old self.new }
     {
         self.table.next_member(group, after)
     }
@@ -29,10 +27,7 @@ impl<K: Kin> Machine<K> {
     /// session (XBD 3 Orphaned Process Group).
     pub fn is_orphaned(&mut self, group: Pid) -> bool
         ensures value { result ≡ is_orphaned_of group self.old.state.processes }
-        ensures same { self.new.state ≡ self.old.state }
-        ensures asked { self.new.asked ≡ self.old.asked }
-        ensures losing { self.new.losing ≡ self.old.losing }
-        ensures reads { self.new.reads ≤ self.old.reads + 2 + 4 * length self.old.state.processes }
+        ensures looks { Looks (2 + 4 * length self.old.state.processes) self.old self.new }
     {
         self.table.is_orphaned(group)
     }
@@ -41,10 +36,7 @@ impl<K: Kin> Machine<K> {
     /// another group of the same session.
     pub(crate) fn is_anchor(&mut self, pid: Pid) -> bool
         ensures value { result ≡ option_map_or (is_anchor_of self.old.state.processes) (process self.old.state pid) false }
-        ensures same { self.new.state ≡ self.old.state }
-        ensures asked { self.new.asked ≡ self.old.asked }
-        ensures losing { self.new.losing ≡ self.old.losing }
-        ensures reads { self.new.reads ≤ self.old.reads + 2 }
+        ensures looks { Looks 2 self.old self.new }
     {
         self.table.is_anchor(pid)
     }
@@ -59,9 +51,7 @@ impl<K: Kin> Machine<K> {
     /// Whether a member of a process group is stopped.
     pub(crate) fn has_stopped(&mut self, group: Pid) -> bool
         ensures value { result ≡ has_stopped_of group self.old.state.processes }
-        ensures same { self.new.state ≡ self.old.state }
-        ensures asked { self.new.asked ≡ self.old.asked }
-        ensures losing { self.new.losing ≡ self.old.losing }
+        ensures looks { Looks (2 + 3 * length self.old.state.processes) self.old self.new }
     {
         self.table.stopped_in(group) > 0
     }

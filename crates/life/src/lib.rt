@@ -5,7 +5,6 @@
 #![tactic(auto)]
 
 mod alarms;
-mod asking;
 mod births;
 pub mod caller;
 pub mod census;
@@ -17,8 +16,9 @@ pub mod machine;
 mod moves;
 mod names;
 pub mod noted_bursts;
+mod orphans;
 pub mod programs;
-mod rousing;
+mod rechecks;
 pub mod sends;
 pub mod signals;
 pub mod stops;

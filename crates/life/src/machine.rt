@@ -8,20 +8,21 @@ ghost use Rattle.posix.specs.States.{boot as boot_of, process, change, current a
 ghost use Rattle.posix.specs.Regular.{IsRegular, IsPlaced};
 ghost use Rattle.posix.specs.Execute.{exec_one as executed, StaysUnlessRun};
 ghost use Rattle.posix.specs.Step.{code_of, set_cpu};
-ghost use Rattle.proctable.specs.Body.{facts_of, own_of, own_row};
+ghost use Rattle.proctable.specs.Records.{snapshot_of, own_of, own_row};
 ghost use Rattle.life.specs.contracts.machine.Machine.{the_row as machine_row};
 ghost use Rattle.life.specs.Loans.{lent, looked};
+ghost use Rattle.life.specs.Machines.{Looks, Costs};
 ghost use Rattle.life.specs.NotedBursts.{most_notes, exec_with_notes};
 ghost use Rattle.pidset.specs.Numbers.{with_number};
 
-use crate::asking::ask;
 use crate::consoles::{no_readers, unused};
 use crate::noted_bursts::{Notes, run_with_notes};
+use crate::rechecks::recheck_later;
 use jobs::JobTable;
 use pidalloc::PidTable;
 use pidset::PidSet;
 use posix::{Pid, Sig, Trap};
-use proctable::{Body, Facts, Kin, Own};
+use proctable::{Kin, OwnPart, Record, Snapshot};
 use sched::Order;
 use std::alloc::{AllocError, Global};
 use std::marker::Model;
@@ -35,16 +36,17 @@ pub struct Machine<K: Kin> {
     pub(crate) table: JobTable<K>,
     pub(crate) pids: PidTable,
     pub(crate) order: Order,
-    /// Those who are to be asked whether they can act. Whoever has to be given a place is among them.
-    pub(crate) to_ask: PidSet,
+    /// Those who are to be rechecked: asked after this event whether they can act. Whoever has to be given a place is
+    /// among them.
+    pub(crate) to_recheck: PidSet,
     /// While a process ends: the process groups that it and its children kept from being orphaned.
-    pub(crate) losing: PidSet,
+    pub(crate) groups_at_risk: PidSet,
     pub(crate) consoles: Vec<Console>,
-    /// Who may wait to read from each console. Whoever does is among them, or is to be asked.
+    /// Who may wait to read from each console. Whoever does is among them, or is to be rechecked.
     pub(crate) readers: Vec<PidSet>,
     /// Whether a foreground process group may have lost its members: it is set where a record goes, where
     /// one changes its process group or session, and where a foreground is set.
-    pub(crate) stale: bool,
+    pub(crate) foregrounds_unchecked: bool,
     pub(crate) births: u64,
     pub(crate) ticks: u64,
     pub(crate) dropped: u64,
@@ -56,18 +58,18 @@ impl<K: Kin> Model for Machine<K> {
 
     ghost Value = { MachineView };
 
-    ghost view = { λ m. record { state = state_of m.world (m.table.processes) m.consoles.items m.pids m.order m.births m.ticks m.dropped m.halted; reads = m.table.reads; asked = m.to_ask.pids; losing = m.losing.pids; stale = m.stale; readers = m.readers.items } };
+    ghost view = { λ m. record { state = state_of m.world (m.table.processes) m.consoles.items m.pids m.order m.births m.ticks m.dropped m.halted; visits = m.table.visits; to_recheck = m.to_recheck.pids; groups_at_risk = m.groups_at_risk.pids; foregrounds_unchecked = m.foregrounds_unchecked; readers = m.readers.items } };
 
-    ghost invariant = { λ m. IsMachine (state_of m.world (m.table.processes) m.consoles.items m.pids m.order m.births m.ticks m.dropped m.halted) m.pids m.order m.to_ask m.losing (record { readers = m.readers.items; stale = m.stale }) };
+    ghost invariant = { λ m. IsMachine (state_of m.world (m.table.processes) m.consoles.items m.pids m.order m.births m.ticks m.dropped m.halted) m.pids m.order m.to_recheck m.groups_at_risk (record { readers = m.readers.items; foregrounds_unchecked = m.foregrounds_unchecked }) };
 }
 
 impl<K: Kin> Machine<K> {
     /// The machine at its start; an error where the host has no memory for it.
     pub fn boot(alloc: Global, world: &World) -> Result<Self, AllocError>
         ensures state { IfOk result (λ m. m.state ≡ boot_of world.now) }
-        ensures reads { IfOk result (λ m. m.reads ≤ 6) }
-        ensures asked { IfOk result (λ m. m.asked ≡ []) }
-        ensures stale { IfOk result (λ m. m.stale ≡ false) }
+        ensures visits { IfOk result (λ m. m.visits ≤ 6) }
+        ensures to_recheck { IfOk result (λ m. m.to_recheck ≡ []) }
+        ensures foregrounds_unchecked { IfOk result (λ m. m.foregrounds_unchecked ≡ false) }
         ensures regular { IfOk result (λ m. IsRegular m.state) }
     {
         let world = world.try_clone(alloc)?;
@@ -75,13 +77,13 @@ impl<K: Kin> Machine<K> {
         let mut table = JobTable::empty(alloc);
         table.reserve()?;
         let mut order = Order::new(alloc, world.pidmax())?;
-        let mut to_ask = PidSet::new(alloc);
-        to_ask.reserve(world.pidmax() as usize + 1)?;
-        let mut losing = PidSet::new(alloc);
-        losing.reserve(world.pidmax() as usize + 2)?;
+        let mut to_recheck = PidSet::new(alloc);
+        to_recheck.reserve(world.pidmax() as usize + 1)?;
+        let mut groups_at_risk = PidSet::new(alloc);
+        groups_at_risk.reserve(world.pidmax() as usize + 2)?;
         let consoles = unused(alloc, world.consoles())?;
         let readers = no_readers(alloc, world.consoles(), world.pidmax())?;
-        let first = Body::first(alloc)?;
+        let first = Record::first(alloc)?;
         table.insert(Pid::INIT, Pid::NONE, first);
         pids.bear_all(Pid::INIT, Pid::INIT, Pid::INIT);
         order.place(Pid::INIT);
@@ -90,11 +92,11 @@ impl<K: Kin> Machine<K> {
             table,
             pids,
             order,
-            to_ask,
-            losing,
+            to_recheck,
+            groups_at_risk,
             consoles,
             readers,
-            stale: false,
+            foregrounds_unchecked: false,
             births: 1,
             ticks: 0,
             dropped: 0,
@@ -107,7 +109,7 @@ impl<K: Kin> Machine<K> {
     /// How many slots of the table have been read, up to the greatest u128; 0 over a table that doesn't
     /// count them.
     pub fn visits(&self) -> u128
-        ensures { result ≡ self.now.reads }
+        ensures { result ≡ self.now.visits }
     {
         self.table.visits()
     }
@@ -157,15 +159,10 @@ impl<K: Kin> Machine<K> {
 
     /// The small fields of a process; none where it isn't there.
     #[inline(always)]
-    pub fn facts(&mut self, pid: Pid) -> Option<Facts>
-        ensures value { result ≡ option_map facts_of (process self.old.state pid) }
-        ensures same { self.new.state ≡ self.old.state }
-        ensures reads { self.new.reads ≤ self.old.reads + 1 }
-        ensures asked { self.new.asked ≡ self.old.asked }
-        ensures losing { self.new.losing ≡ self.old.losing }
-        ensures stale { self.new.stale ≡ self.old.stale }
-        ensures regular { IsRegular self.old.state }
+    pub fn snapshot(&mut self, pid: Pid) -> Option<Snapshot>
+        ensures value { result ≡ option_map snapshot_of (process self.old.state pid) }
         ensures size { length self.old.state.processes < 2 ^ 63 }
+        ensures looks { Looks 1 self.old self.new }
     {
         self.table.get(pid)
     }
@@ -175,14 +172,10 @@ impl<K: Kin> Machine<K> {
         requires { IsSome (process self.old.state pid) }
         ensures value { (me : Process) → process self.old.state pid ≡ Some me → result ≡ me.parent }
         ensures there { pid ≢ 1 → IsSome (process self.old.state result) }
-        ensures same { self.new.state ≡ self.old.state }
-        ensures reads { self.new.reads ≤ self.old.reads + 1 }
-        ensures asked { self.new.asked ≡ self.old.asked }
-        ensures losing { self.new.losing ≡ self.old.losing }
-        ensures stale { self.new.stale ≡ self.old.stale }
+        ensures looks { Looks 1 self.old self.new }
     {
         match self.table.get(pid) {
-            Some(facts) => facts.parent,
+            Some(snapshot) => snapshot.parent,
             None => Pid::NONE,
         }
     }
@@ -190,13 +183,13 @@ impl<K: Kin> Machine<K> {
     // ---- one process
 
     /// Lends what a process that is there may change of itself. Nothing else changes.
-    pub fn own(&mut self, pid: Pid) -> &mut Own
+    pub fn own(&mut self, pid: Pid) -> &mut OwnPart
         requires { IsSome (process self.old.state pid) }
         ensures* lends { sem 𝓛 (Lends (machine_row K.row K.Kin) own_row self.entry result (lent K.one_more self.old pid)) }
         ensures value { IfSome (process self.old.state pid) (λ me. result.now ≡ own_of me) }
         ensures regular { IsRegular self.old.state }
     {
-        ask(&mut self.to_ask, &self.order, pid);
+        recheck_later(&mut self.to_recheck, &self.order, pid);
         self.table.own(pid)
     }
 
@@ -208,13 +201,13 @@ impl<K: Kin> Machine<K> {
         ensures trap { (me : Process) → process self.old.state pid ≡ Some me → result ≡ (executed (code_of self.old.state me) me.cpu).trap }
         ensures state { (me : Process) → process self.old.state pid ≡ Some me → self.new.state ≡ change self.old.state pid (set_cpu (executed (code_of self.old.state me) me.cpu).cpu) }
         ensures stays { StaysUnlessRun result self.old.state self.new.state }
-        ensures reads { self.new.reads ≤ self.old.reads + 1 }
-        ensures asked { has_place_in self.old.state pid ≡ true → self.new.asked ≡ self.old.asked }
-        ensures stale { self.new.stale ≡ self.old.stale }
+        ensures to_recheck { has_place_in self.old.state pid ≡ true → self.new.to_recheck ≡ self.old.to_recheck }
+        ensures foregrounds_unchecked { self.new.foregrounds_unchecked ≡ self.old.foregrounds_unchecked }
+        ensures costs { Costs 1 self.old self.new }
     {
         match self.world.programs().get(usize::from(program)) {
             Some(program) => {
-                ask(&mut self.to_ask, &self.order, pid);
+                recheck_later(&mut self.to_recheck, &self.order, pid);
                 self.table.own(pid).cpu.exec_one(program)
             }
             None => Trap::Fault(Sig::SEGV),
@@ -244,13 +237,13 @@ impl<K: Kin> Machine<K> {
         ensures within { result.0 ≤ last }
         ensures short { result.1 ≢ Trap.Next → result.0 < last }
         ensures regular { IsRegular self.new.state }
-        ensures reads { self.new.reads ≤ self.old.reads + 1 }
-        ensures asked { has_place_in self.old.state pid ≡ true → self.new.asked ≡ self.old.asked }
-        ensures stale { self.new.stale ≡ self.old.stale }
+        ensures to_recheck { has_place_in self.old.state pid ≡ true → self.new.to_recheck ≡ self.old.to_recheck }
+        ensures foregrounds_unchecked { self.new.foregrounds_unchecked ≡ self.old.foregrounds_unchecked }
+        ensures costs { Costs 1 self.old self.new }
     {
         match self.world.programs().get(usize::from(program)) {
             Some(program) => {
-                ask(&mut self.to_ask, &self.order, pid);
+                recheck_later(&mut self.to_recheck, &self.order, pid);
                 run_with_notes(&mut self.table.own(pid).cpu, program, before, last, notes)
             }
             None => (before, Trap::Fault(Sig::SEGV)),
@@ -258,7 +251,7 @@ impl<K: Kin> Machine<K> {
     }
 
     /// Shows what a process that is there may change of itself. Nothing changes.
-    pub fn look(&mut self, pid: Pid) -> &Own
+    pub fn look(&mut self, pid: Pid) -> &OwnPart
         requires { IsSome (process self.old.state pid) }
         ensures* lends { sem 𝓛 (follows_so (machine_row K.row K.Kin) (machine_row K.row K.Kin) self.entry.ghost_name none (λ _ _. ⊤) (λ n. n ≡ looked K.one_more self.old)) }
         ensures value { IfSome (process self.old.state pid) (λ me. result.now ≡ own_of me) }
@@ -273,25 +266,21 @@ impl<K: Kin> Machine<K> {
     pub fn place(&mut self, pid: Pid)
         requires there { IsPlaced self.old.state.processes pid }
         requires none { has_place_in self.old.state pid ≡ false }
+        ensures rest { self.new ≡ record (self.old) { state = self.new.state } }
         ensures state { self.new.state ≡ record (self.old.state) { order = self.old.state.order ++ pid ∷ [] } }
-        ensures reads { self.new.reads ≡ self.old.reads }
-        ensures asked { self.new.asked ≡ self.old.asked }
-        ensures stale { self.new.stale ≡ self.old.stale }
     {
         self.order.place(pid);
     }
 
     /// A process loses its place, if it has one.
     pub fn lose_place(&mut self, pid: Pid)
+        ensures rest { self.new ≡ record (self.old) { state = self.new.state; to_recheck = self.new.to_recheck } }
         ensures state { self.new.state ≡ losing_place self.old.state pid }
-        ensures reads { self.new.reads ≡ self.old.reads }
-        ensures asked { self.new.asked ≡ (if has_place_in self.old.state pid then with_number pid self.old.asked else self.old.asked) }
-        ensures losing { self.new.losing ≡ self.old.losing }
+        ensures to_recheck { self.new.to_recheck ≡ (if has_place_in self.old.state pid then with_number pid self.old.to_recheck else self.old.to_recheck) }
         ensures regular { IsRegular self.old.state }
-        ensures stale { self.new.stale ≡ self.old.stale }
     {
         if self.order.has(pid) {
-            self.to_ask.insert(pid);
+            self.to_recheck.insert(pid);
             self.order.drop_place(pid);
         }
     }
@@ -299,10 +288,8 @@ impl<K: Kin> Machine<K> {
     /// A process that has a place gets the last one.
     pub fn go_last(&mut self, pid: Pid)
         requires { has_place_in self.old.state pid ≡ true }
+        ensures rest { self.new ≡ record (self.old) { state = self.new.state } }
         ensures state { self.new.state ≡ going_last self.old.state pid }
-        ensures reads { self.new.reads ≡ self.old.reads }
-        ensures asked { self.new.asked ≡ self.old.asked }
-        ensures stale { self.new.stale ≡ self.old.stale }
     {
         self.order.go_last(pid);
     }

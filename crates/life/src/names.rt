@@ -6,31 +6,29 @@ ghost use Rattle.posix.specs.States.{Program, process, change};
 ghost use Rattle.posix.specs.GroupCalls.{named as named_by};
 ghost use Rattle.posix.specs.Programs.{executed};
 ghost use Rattle.posix.specs.Regular.{IsRegular};
-ghost use Rattle.proctable.specs.Body.{facts_of};
-ghost use Rattle.life.specs.Asking.{asking};
+ghost use Rattle.proctable.specs.Records.{snapshot_of};
+ghost use Rattle.life.specs.Rechecks.{rechecking};
+ghost use Rattle.life.specs.Machines.{Looks, Costs};
 
 use crate::machine::Machine;
 use posix::Pid;
-use proctable::{Facts, Kin};
+use proctable::{Kin, Snapshot};
 
 impl<K: Kin> Machine<K> {
     /// The small fields of the process that a word names to a caller that is there: 0 is the caller itself.
     /// None where no process has that number, a negative one too (XSH getpgid, getsid). Nothing changes.
-    pub fn named(&mut self, me: Pid, word: i64) -> Option<Facts>
+    pub fn named(&mut self, me: Pid, word: i64) -> Option<Snapshot>
         requires { IsSome (process self.old.state me) }
-        ensures value { (it : Process) → process self.old.state me ≡ Some it → result ≡ option_map facts_of (named_by it word self.old.state.processes) }
-        ensures same { self.new.state ≡ self.old.state }
-        ensures reads { self.new.reads ≤ self.old.reads + 1 }
-        ensures asked { self.new.asked ≡ self.old.asked }
-        ensures regular { IsRegular self.old.state }
+        ensures value { (it : Process) → process self.old.state me ≡ Some it → result ≡ option_map snapshot_of (named_by it word self.old.state.processes) }
+        ensures looks { Looks 1 self.old self.new }
     {
         if word == 0 {
-            return self.facts(me);
+            return self.snapshot(me);
         }
         if word < 0 || word > i64::from(self.world.pidmax()) {
             return None;
         }
-        self.facts(Pid::new(word as u32)?)
+        self.snapshot(Pid::new(word as u32)?)
     }
 
     /// A process that is there runs the program that a word names in place of its own, and true is the answer;
@@ -39,8 +37,8 @@ impl<K: Kin> Machine<K> {
         requires { IsSome (process self.old.state pid) }
         ensures done { (n : ℕ) (program : Program) → word ≡ pos n → slice_get self.old.state.world.programs n ≡ Some program → (result ≡ true) × (self.new.state ≡ change self.old.state pid (executed n program)) }
         ensures none { ((n : ℕ) → word ≡ pos n → slice_get self.old.state.world.programs n ≡ None) → (result ≡ false) × (self.new.state ≡ self.old.state) }
-        ensures asked { self.new.asked ≡ (if result then asking pid self.old.state.order self.old.asked else self.old.asked) }
-        ensures reads { self.new.reads ≤ self.old.reads + 1 }
+        ensures to_recheck { self.new.to_recheck ≡ (if result then rechecking pid self.old.state.order self.old.to_recheck else self.old.to_recheck) }
+        ensures costs { Costs 1 self.old self.new }
     {
         if word < 0 || word >= self.world.programs().len() as i64 {
             return false;

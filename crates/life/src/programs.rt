@@ -3,10 +3,11 @@
 ghost use Rattle.std.specs.Prelude.{◌≡◌, ◌+◌, ◌≤◌, IsSome, Some, None, true, false, if◌then◌else◌, slice_get};
 ghost use Rattle.posix.specs.States.{Program, process, change};
 ghost use Rattle.posix.specs.Programs.{executed};
-ghost use Rattle.life.specs.Asking.{asking};
+ghost use Rattle.life.specs.Rechecks.{rechecking};
+ghost use Rattle.life.specs.Machines.{Costs};
 
-use crate::asking::ask;
 use crate::machine::Machine;
+use crate::rechecks::recheck_later;
 use posix::Pid;
 use proctable::Kin;
 
@@ -17,12 +18,12 @@ impl<K: Kin> Machine<K> {
         requires { IsSome (process self.old.state pid) }
         ensures done { (program : Program) → slice_get self.old.state.world.programs number ≡ Some program → (result ≡ true) × (self.new.state ≡ change self.old.state pid (executed number program)) }
         ensures none { slice_get self.old.state.world.programs number ≡ None → (result ≡ false) × (self.new.state ≡ self.old.state) }
-        ensures asked { self.new.asked ≡ (if result then asking pid self.old.state.order self.old.asked else self.old.asked) }
-        ensures reads { self.new.reads ≤ self.old.reads + 1 }
+        ensures to_recheck { self.new.to_recheck ≡ (if result then rechecking pid self.old.state.order self.old.to_recheck else self.old.to_recheck) }
+        ensures costs { Costs 1 self.old self.new }
     {
         match self.world.programs().get(usize::from(number)) {
             Some(program) => {
-                ask(&mut self.to_ask, &self.order, pid);
+                recheck_later(&mut self.to_recheck, &self.order, pid);
                 self.table
                     .own(pid)
                     .exec(number, program.setuid(), program.setgid());

@@ -7,18 +7,19 @@ ghost use Rattle.posix.specs.States.{process};
 ghost use Rattle.posix.specs.Regular.{IsRegular};
 ghost use Rattle.posix.specs.Credentials.{may};
 ghost use Rattle.posix.specs.Sends.{is_target as is_target_of, targets, permitted, sending_permitted, sending as sending_of, sent_among, sent as sent_to, sent_by};
-ghost use Rattle.proctable.specs.Body.{facts_of};
+ghost use Rattle.proctable.specs.Records.{snapshot_of};
 ghost use Rattle.life.specs.Callers.{process_like};
-ghost use Rattle.life.specs.Asking.{asking_signalled, slots_of_send};
+ghost use Rattle.life.specs.Rechecks.{rechecking_signalled, slots_of_send};
+ghost use Rattle.life.specs.Machines.{Looks, Costs};
 
 use crate::caller::Caller;
 use crate::machine::Machine;
 use posix::{Carried, PendingSignal, Pid, Sending, Sig, Target};
-use proctable::{Facts, Kin};
+use proctable::{Kin, Snapshot};
 
 /// Whether a sender means a process by a target; all are those but the sender and process 1 (XSH kill).
-fn is_target(me: &Caller, target: &Target, it: &Facts) -> bool
-    ensures { (q : Process) → it.now ≡ facts_of q → result ≡ is_target_of (process_like me.now) target.now q }
+fn is_target(me: &Caller, target: &Target, it: &Snapshot) -> bool
+    ensures { (q : Process) → it.now ≡ snapshot_of q → result ≡ is_target_of (process_like me.now) target.now q }
 {
     match *target {
         Target::Process(pid) => it.pid == pid,
@@ -30,8 +31,8 @@ fn is_target(me: &Caller, target: &Target, it: &Facts) -> bool
 }
 
 /// Whether a sender may signal a process (XSH kill).
-fn may_signal(me: &Caller, sig: Option<Sig>, it: &Facts) -> bool
-    ensures { (q : Process) → it.now ≡ facts_of q → result ≡ may (process_like me.now) sig q }
+fn may_signal(me: &Caller, sig: Option<Sig>, it: &Snapshot) -> bool
+    ensures { (q : Process) → it.now ≡ snapshot_of q → result ≡ may (process_like me.now) sig q }
 {
     me.creds
         .may_signal(&it.creds, sig, me.session == it.session)
@@ -48,16 +49,16 @@ fn sent(sender: Pid, sig: Sig) -> PendingSignal
 }
 
 impl<K: Kin> Machine<K> {
-    /// Sends a signal to a process that is there, with these facts, where the sender may; `None` only
+    /// Sends a signal to a process that is there, with this snapshot, where the sender may; `None` only
     /// checks.
-    fn send_to(&mut self, me: &Caller, sig: &Option<Sig>, it: &Facts) -> Sending
+    fn send_to(&mut self, me: &Caller, sig: &Option<Sig>, it: &Snapshot) -> Sending
         requires { IsSome (process self.old.state it.now.pid) }
-        ensures sending { (q : Process) → it.now ≡ facts_of q → result ≡ sending_permitted (permitted (process_like me.now) sig.now (q ∷ [])) }
-        ensures state { (q : Process) → it.now ≡ facts_of q → self.new.state ≡ record (self.old.state) { processes = sent_among (process_like me.now) sig.now (q ∷ []) self.old.state.processes } }
-        ensures asked { (q : Process) → it.now ≡ facts_of q → self.new.asked ≡ asking_signalled (process_like me.now) sig.now (q ∷ []) self.old.state.processes self.old.state.order self.old.asked }
-        ensures losing { self.new.losing ≡ self.old.losing }
-        ensures reads { self.new.reads ≤ self.old.reads + slots_of_send sig.now }
+        ensures sending { (q : Process) → it.now ≡ snapshot_of q → result ≡ sending_permitted (permitted (process_like me.now) sig.now (q ∷ [])) }
+        ensures state { (q : Process) → it.now ≡ snapshot_of q → self.new.state ≡ record (self.old.state) { processes = sent_among (process_like me.now) sig.now (q ∷ []) self.old.state.processes } }
+        ensures to_recheck { (q : Process) → it.now ≡ snapshot_of q → self.new.to_recheck ≡ rechecking_signalled (process_like me.now) sig.now (q ∷ []) self.old.state.processes self.old.state.order self.old.to_recheck }
+        ensures costs { Costs (slots_of_send sig.now) self.old self.new }
     {
+        let _ = &self.table;
         if !may_signal(me, *sig, it) {
             return Sending::NobodyPermitted;
         }
@@ -71,12 +72,10 @@ impl<K: Kin> Machine<K> {
     fn send_to_one(&mut self, me: &Caller, sig: &Option<Sig>, target: &Target, pid: Pid) -> Sending
         ensures sending { result ≡ sending_of (process_like me.now) target.now sig.now (filter (has_pid pid) self.old.state.processes) }
         ensures state { self.new.state ≡ record (self.old.state) { processes = sent_among (process_like me.now) sig.now (targets (process_like me.now) target.now (filter (has_pid pid) self.old.state.processes)) self.old.state.processes } }
-        ensures asked { self.new.asked ≡ asking_signalled (process_like me.now) sig.now (targets (process_like me.now) target.now (filter (has_pid pid) self.old.state.processes)) self.old.state.processes self.old.state.order self.old.asked }
-        ensures losing { self.new.losing ≡ self.old.losing }
-        ensures reads { self.new.reads ≤ self.old.reads + 1 + slots_of_send sig.now }
-        ensures regular { IsRegular self.old.state }
+        ensures to_recheck { self.new.to_recheck ≡ rechecking_signalled (process_like me.now) sig.now (targets (process_like me.now) target.now (filter (has_pid pid) self.old.state.processes)) self.old.state.processes self.old.state.order self.old.to_recheck }
+        ensures costs { Costs (1 + slots_of_send sig.now) self.old self.new }
     {
-        match self.facts(pid) {
+        match self.snapshot(pid) {
             Some(it) if is_target(me, target, &it) => self.send_to(me, sig, &it),
             _ => Sending::NobodyFound,
         }
@@ -86,11 +85,8 @@ impl<K: Kin> Machine<K> {
     /// doesn't mean.
     fn next_target(&mut self, me: &Caller, target: &Target, after: Pid) -> Option<Pid>
         ensures next { IsNext (is_target_of (process_like me.now) target.now) after self.old.state.processes result }
-        ensures same { self.new.state ≡ self.old.state }
-        ensures asked { self.new.asked ≡ self.old.asked }
-        ensures losing { self.new.losing ≡ self.old.losing }
-        ensures reads { self.new.reads + 2 * length (left_of result self.old.state.processes) ≤ self.old.reads + 2 + 2 * length (above after self.old.state.processes) }
-        ensures regular { IsRegular self.old.state }
+        ensures visits { self.new.visits + 2 * length (left_of result self.old.state.processes) ≤ self.old.visits + 2 + 2 * length (above after self.old.state.processes) }
+        ensures looks { Looks (2 + 2 * length (above after self.old.state.processes)) self.old self.new }
     {
         match *target {
             Target::OwnGroup => self.next_member(me.group, after),
@@ -103,9 +99,8 @@ impl<K: Kin> Machine<K> {
     fn send_to_all(&mut self, me: &Caller, sig: &Option<Sig>, target: &Target) -> Sending
         ensures sending { result ≡ sending_of (process_like me.now) target.now sig.now self.old.state.processes }
         ensures state { self.new.state ≡ record (self.old.state) { processes = sent_to (process_like me.now) target.now sig.now self.old.state.processes } }
-        ensures asked { self.new.asked ≡ asking_signalled (process_like me.now) sig.now (targets (process_like me.now) target.now self.old.state.processes) self.old.state.processes self.old.state.order self.old.asked }
-        ensures losing { self.new.losing ≡ self.old.losing }
-        ensures reads { self.new.reads ≤ self.old.reads + 2 + (3 + slots_of_send sig.now) * length self.old.state.processes }
+        ensures to_recheck { self.new.to_recheck ≡ rechecking_signalled (process_like me.now) sig.now (targets (process_like me.now) target.now self.old.state.processes) self.old.state.processes self.old.state.order self.old.to_recheck }
+        ensures costs { Costs (2 + (3 + slots_of_send sig.now) * length self.old.state.processes) self.old self.new }
     {
         let mut sending = Sending::NobodyFound;
         let mut next = self.next_target(me, target, Pid::NONE);
@@ -121,11 +116,11 @@ impl<K: Kin> Machine<K> {
     pub fn send(&mut self, me: &Caller, target: Target, sig: Option<Sig>) -> Sending
         ensures sending { result ≡ sending_of (process_like me.now) target sig self.old.state.processes }
         ensures state { self.new.state ≡ record (self.old.state) { processes = sent_to (process_like me.now) target sig self.old.state.processes } }
-        ensures asked { self.new.asked ≡ asking_signalled (process_like me.now) sig (targets (process_like me.now) target self.old.state.processes) self.old.state.processes self.old.state.order self.old.asked }
-        ensures losing { self.new.losing ≡ self.old.losing }
-        ensures reads_of_all { self.new.reads ≤ self.old.reads + 2 + (3 + slots_of_send sig) * length self.old.state.processes }
-        ensures reads { (p : ℕ) → target ≡ Target.Process p → self.new.reads ≤ self.old.reads + 1 + slots_of_send sig }
+        ensures to_recheck { self.new.to_recheck ≡ rechecking_signalled (process_like me.now) sig (targets (process_like me.now) target self.old.state.processes) self.old.state.processes self.old.state.order self.old.to_recheck }
+        ensures costs { Costs (2 + (3 + slots_of_send sig) * length self.old.state.processes) self.old self.new }
+        ensures visits { (p : ℕ) → target ≡ Target.Process p → self.new.visits ≤ self.old.visits + 1 + slots_of_send sig }
     {
+        let _ = &self.table;
         match target {
             Target::Process(pid) => self.send_to_one(me, &sig, &target, pid),
             Target::OwnGroup | Target::Group(_) | Target::All => {

@@ -3,7 +3,8 @@
 ghost use Rattle.std.specs.Prelude.{◌≡◌, ◌+◌, ◌≤◌, IsSome};
 ghost use Rattle.posix.specs.States.{process};
 ghost use Rattle.posix.specs.Notices.{generated_for};
-ghost use Rattle.life.specs.Asking.{asking_generated, slots_of_signal};
+ghost use Rattle.life.specs.Rechecks.{rechecking_generated, slots_of_signal};
+ghost use Rattle.life.specs.Machines.{Costs};
 
 use crate::machine::Machine;
 use posix::{Effect, PendingSignal, Pid};
@@ -15,11 +16,10 @@ impl<K: Kin> Machine<K> {
     pub fn signal(&mut self, pid: Pid, signal: PendingSignal)
         requires { IsSome (process self.old.state pid) }
         ensures state { self.new.state ≡ record (self.old.state) { processes = generated_for signal (process self.old.state pid) self.old.state.processes } }
-        ensures reads { self.new.reads ≤ self.old.reads + slots_of_signal signal.sig }
-        ensures asked { self.new.asked ≡ asking_generated signal (process self.old.state pid) self.old.state.order self.old.asked }
-        ensures losing { self.new.losing ≡ self.old.losing }
+        ensures to_recheck { self.new.to_recheck ≡ rechecking_generated signal (process self.old.state pid) self.old.state.order self.old.to_recheck }
+        ensures costs { Costs (slots_of_signal signal.sig) self.old self.new }
     {
-        match self.change(pid, |body| body.signal(pid, signal)) {
+        match self.change(pid, |fields| fields.signal(pid, signal)) {
             Effect::Nothing => {}
             Effect::Continued => self.continue_process(pid),
         }

@@ -8,7 +8,8 @@ ghost use Rattle.posix.specs.States.{process, change};
 ghost use Rattle.posix.specs.Regular.{IsPlaced};
 ghost use Rattle.posix.specs.Notices.{noticed_of_change, child_signal as child_signal_of, told_of_change, resumed};
 ghost use Rattle.posix.specs.Delivery.{stop_process as stopping};
-ghost use Rattle.life.specs.Asking.{asking, asking_changed};
+ghost use Rattle.life.specs.Rechecks.{rechecking, rechecking_changed};
+ghost use Rattle.life.specs.Machines.{Costs};
 
 use crate::ends::child_signal;
 use crate::machine::Machine;
@@ -21,11 +22,11 @@ impl<K: Kin> Machine<K> {
     pub fn stop_process(&mut self, pid: Pid, sig: Sig)
         requires { IsPlaced self.old.state.processes pid }
         ensures state { (me : Process) → process self.old.state pid ≡ Some me → self.new.state ≡ (stopping self.old.state me sig).state }
-        ensures reads { self.new.reads ≤ self.old.reads + 3 }
-        ensures asked { (me : Process) → process self.old.state pid ≡ Some me → self.new.asked ≡ asking_changed me self.old.asked }
+        ensures to_recheck { (me : Process) → process self.old.state pid ≡ Some me → self.new.to_recheck ≡ rechecking_changed me self.old.to_recheck }
+        ensures costs { Costs 3 self.old self.new }
     {
         self.lose_place(pid);
-        let parent = self.change_seen(pid, |body| body.stop(sig));
+        let parent = self.change_seen(pid, |fields| fields.stop(sig));
         self.tell_parent(pid, parent, Status::stopped(sig));
     }
 
@@ -34,11 +35,10 @@ impl<K: Kin> Machine<K> {
     pub(crate) fn continue_process(&mut self, pid: Pid)
         requires { IsPlaced self.old.state.processes pid }
         ensures state { (me : Process) → process self.old.state pid ≡ Some me → self.new.state ≡ record (self.old.state) { processes = told_of_change continued me (changed pid resumed self.old.state.processes) } }
-        ensures reads { self.new.reads ≤ self.old.reads + 3 }
-        ensures asked { (me : Process) → process self.old.state pid ≡ Some me → self.new.asked ≡ asking_changed me self.old.asked }
-        ensures losing { self.new.losing ≡ self.old.losing }
+        ensures to_recheck { (me : Process) → process self.old.state pid ≡ Some me → self.new.to_recheck ≡ rechecking_changed me self.old.to_recheck }
+        ensures costs { Costs 3 self.old self.new }
     {
-        let parent = self.change_seen(pid, |body| body.resume());
+        let parent = self.change_seen(pid, |fields| fields.resume());
         self.tell_parent(pid, parent, Status::continued());
     }
 
@@ -46,13 +46,13 @@ impl<K: Kin> Machine<K> {
     fn tell_parent(&mut self, child: Pid, parent: Pid, status: Status)
         requires { parent ≢ 0 → IsSome (process self.old.state parent) }
         ensures state { self.new.state ≡ (if parent == 0 then self.old.state else change self.old.state parent (noticed_of_change (child_signal_of child status))) }
-        ensures asked { self.new.asked ≡ (if parent == 0 then self.old.asked else asking parent self.old.state.order self.old.asked) }
-        ensures losing { self.new.losing ≡ self.old.losing }
-        ensures reads { self.new.reads ≤ self.old.reads + 1 }
+        ensures to_recheck { self.new.to_recheck ≡ (if parent == 0 then self.old.to_recheck else rechecking parent self.old.state.order self.old.to_recheck) }
+        ensures costs { Costs 1 self.old self.new }
     {
+        let _ = &self.table;
         if parent != Pid::NONE {
             let signal = child_signal(child, status);
-            self.change(parent, |body| body.notice_of_change(parent, signal));
+            self.change(parent, |fields| fields.notice_of_change(parent, signal));
         }
     }
 }

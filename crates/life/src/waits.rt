@@ -7,18 +7,18 @@ ghost use Rattle.posix.specs.States.{process, change};
 ghost use Rattle.posix.specs.declared.target.Target.TheVariants as whom;
 ghost use Rattle.posix.specs.Waits.{look as look_of, report, report_change as report_change_of, report_life as report_life_of, report_of as report_of_child, reporting_in, news_told};
 ghost use Rattle.life.specs.Waits.{slots_of_wait};
-ghost use Rattle.proctable.specs.Body.{facts_of};
-ghost use Rattle.life.specs.Machines.{CanGo, IsGone};
-ghost use Rattle.life.specs.Asking.{asking_changed, without_gone};
+ghost use Rattle.proctable.specs.Records.{snapshot_of};
+ghost use Rattle.life.specs.Machines.{CanGo, IsGone, Looks, Costs};
+ghost use Rattle.life.specs.Rechecks.{rechecking_changed, without_gone};
 
-use crate::asking::forget;
 use crate::caller::Caller;
 use crate::machine::Machine;
+use crate::rechecks::forget;
 use bitflags::Flags;
 use jobs::JobTable;
 use pidalloc::PidTable;
 use posix::{Life, News, Pid, Report, Status, Target, WaitOptions};
-use proctable::{Facts, Kin};
+use proctable::{Kin, Snapshot};
 
 /// What the news of a process are for a wait.
 fn report_change(options: WaitOptions, pid: Pid, news: News) -> Report
@@ -48,8 +48,8 @@ fn report_life(options: WaitOptions, pid: Pid, life: Life, news: News) -> Report
 /// What a wait for the children in a process group learns from one child: `NoChild` where it isn't in the
 /// group.
 #[tactic(auto, unfolding(posix::specs::Waits::report_of, posix::specs::Waits::look))]
-fn look(group: Pid, options: WaitOptions, child: Facts) -> Report
-    ensures { (own : ℕ) (r : Process) → child ≡ facts_of r → result ≡ look_of own (whom.Group group) options.0 r }
+fn look(group: Pid, options: WaitOptions, child: Snapshot) -> Report
+    ensures { (own : ℕ) (r : Process) → child ≡ snapshot_of r → result ≡ look_of own (whom.Group group) options.0 r }
 {
     if child.group == group {
         report_life(options, child.pid, child.life, child.news)
@@ -65,27 +65,24 @@ pub(crate) fn discard<K: Kin>(table: &mut JobTable<K>, pids: &mut PidTable, pid:
     ensures parent { (it : Process) → lookup pid table.old.processes ≡ Some it → result ≡ it.parent }
     ensures processes { table.new.processes ≡ removed pid table.old.processes }
     ensures counts { (it : Process) → lookup pid table.old.processes ≡ Some it → IsGone pids.old pids.new pid it }
-    ensures reads { table.new.reads ≤ table.old.reads + 5 }
+    ensures visits { table.new.visits ≤ table.old.visits + 5 }
 {
-    let Some(facts) = table.remove(pid) else {
+    let Some(snapshot) = table.remove(pid) else {
         return Pid::NONE;
     };
-    pids.give_up_all(pid, facts.group, facts.session);
-    facts.parent
+    pids.give_up_all(pid, snapshot.group, snapshot.session);
+    snapshot.parent
 }
 
 impl<K: Kin> Machine<K> {
     /// What a wait for one process has to report: `NoChild` where that isn't a child of the caller.
     fn report_of_one(&mut self, parent: Pid, child: Pid, options: WaitOptions) -> Report
         ensures value { (own : ℕ) → result ≡ report self.old.state.processes parent own (whom.Process child) options.0 }
-        ensures same { self.new.state ≡ self.old.state }
-        ensures asked { self.new.asked ≡ self.old.asked }
-        ensures stale { self.new.stale ≡ self.old.stale }
-        ensures reads { self.new.reads ≤ self.old.reads + 1 }
+        ensures looks { Looks 1 self.old self.new }
     {
-        if let Some(facts) = self.facts(child) {
-            if facts.parent == parent {
-                return report_life(options, child, facts.life, facts.news);
+        if let Some(snapshot) = self.snapshot(child) {
+            if snapshot.parent == parent {
+                return report_life(options, child, snapshot.life, snapshot.news);
             }
         }
         Report::NoChild
@@ -95,13 +92,10 @@ impl<K: Kin> Machine<K> {
     fn report_of(&mut self, child: Pid, options: WaitOptions) -> Report
         requires { IsSome (process self.old.state child) }
         ensures value { (it : Process) → process self.old.state child ≡ Some it → result ≡ report_of_child options.0 it }
-        ensures same { self.new.state ≡ self.old.state }
-        ensures asked { self.new.asked ≡ self.old.asked }
-        ensures stale { self.new.stale ≡ self.old.stale }
-        ensures reads { self.new.reads ≤ self.old.reads + 1 }
+        ensures looks { Looks 1 self.old self.new }
     {
-        match self.facts(child) {
-            Some(facts) => report_life(options, child, facts.life, facts.news),
+        match self.snapshot(child) {
+            Some(snapshot) => report_life(options, child, snapshot.life, snapshot.news),
             None => Report::Nothing,
         }
     }
@@ -111,10 +105,7 @@ impl<K: Kin> Machine<K> {
     fn report_of_any(&mut self, parent: Pid, options: WaitOptions) -> Report
         requires { IsSome (process self.old.state parent) }
         ensures value { (own : ℕ) → result ≡ report self.old.state.processes parent own whom.All options.0 }
-        ensures same { self.new.state ≡ self.old.state }
-        ensures asked { self.new.asked ≡ self.old.asked }
-        ensures stale { self.new.stale ≡ self.old.stale }
-        ensures reads { self.new.reads ≤ self.old.reads + 1 + length (reporting_in parent self.old.state.processes) }
+        ensures looks { Looks (1 + length (reporting_in parent self.old.state.processes)) self.old self.new }
     {
         let mut next = self.next_reporting(parent, Pid::NONE);
         while let Some(child) = next {
@@ -134,18 +125,15 @@ impl<K: Kin> Machine<K> {
     fn report_of_members(&mut self, parent: Pid, group: Pid, options: WaitOptions) -> Report
         requires { IsSome (process self.old.state parent) }
         ensures value { (own : ℕ) → result ≡ report self.old.state.processes parent own (whom.Group group) options.0 }
-        ensures same { self.new.state ≡ self.old.state }
-        ensures asked { self.new.asked ≡ self.old.asked }
-        ensures stale { self.new.stale ≡ self.old.stale }
-        ensures reads { self.new.reads ≤ self.old.reads + 1 + 2 * length (children_in parent self.old.state.processes) }
+        ensures looks { Looks (1 + 2 * length (children_in parent self.old.state.processes)) self.old self.new }
     {
         let mut found = Report::NoChild;
         let mut next = self.first_child(parent);
         while let Some(child) = next {
-            let Some(facts) = self.facts(child) else {
+            let Some(snapshot) = self.snapshot(child) else {
                 return found;
             };
-            match look(group, options, facts) {
+            match look(group, options, snapshot) {
                 Report::NoChild => {}
                 Report::Nothing => found = Report::Nothing,
                 report => return report,
@@ -160,11 +148,9 @@ impl<K: Kin> Machine<K> {
     pub fn wait_attempt(&mut self, me: &Caller, target: Target, options: WaitOptions) -> Report
         requires { IsSome (process self.old.state me.now.pid) }
         ensures value { result ≡ report self.old.state.processes me.now.pid me.now.group target options.0 }
-        ensures same { self.new.state ≡ self.old.state }
-        ensures asked { self.new.asked ≡ self.old.asked }
-        ensures stale { self.new.stale ≡ self.old.stale }
-        ensures reads { self.new.reads ≤ self.old.reads + 1 + slots_of_wait target me.now.pid self.old.state.processes }
+        ensures looks { Looks (1 + slots_of_wait target me.now.pid self.old.state.processes) self.old self.new }
     {
+        let _ = &self.table;
         match target {
             Target::Process(pid) => self.report_of_one(me.pid, pid, options),
             Target::All => self.report_of_any(me.pid, options),
@@ -181,22 +167,21 @@ impl<K: Kin> Machine<K> {
         requires zombie { (child : Process) × (process self.old.state pid ≡ Some child) × (is_zombie child.life ≡ true) }
         ensures state { self.new.state ≡ record (self.old.state) { processes = removed pid self.old.state.processes } }
         ensures born { self.new.state.dropped + length self.new.state.processes < self.new.state.births }
-        ensures reads { self.new.reads ≤ self.old.reads + 5 }
-        ensures losing { self.new.losing ≡ self.old.losing }
-        ensures asked { (child : Process) → process self.old.state pid ≡ Some child → self.new.asked ≡ without_gone pid (Some child.parent) self.old.asked }
+        ensures to_recheck { (child : Process) → process self.old.state pid ≡ Some child → self.new.to_recheck ≡ without_gone pid (Some child.parent) self.old.to_recheck }
+        ensures costs { Costs 5 self.old self.new }
     {
         let parent = discard(&mut self.table, &mut self.pids, pid);
-        forget(&mut self.to_ask, pid, Some(parent));
-        self.stale = true;
+        forget(&mut self.to_recheck, pid, Some(parent));
+        self.foregrounds_unchecked = true;
     }
 
     /// A wait has reported the news of a process that is there: they become none.
     pub fn tell_news(&mut self, pid: Pid)
         requires { IsSome (process self.old.state pid) }
         ensures state { self.new.state ≡ change self.old.state pid news_told }
-        ensures reads { self.new.reads ≤ self.old.reads + 2 }
-        ensures asked { (child : Process) → process self.old.state pid ≡ Some child → self.new.asked ≡ asking_changed child self.old.asked }
+        ensures to_recheck { (child : Process) → process self.old.state pid ≡ Some child → self.new.to_recheck ≡ rechecking_changed child self.old.to_recheck }
+        ensures costs { Costs 2 self.old self.new }
     {
-        self.change_seen(pid, |body| body.tell_news());
+        self.change_seen(pid, |fields| fields.tell_news());
     }
 }

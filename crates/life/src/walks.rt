@@ -7,6 +7,7 @@ ghost use Rattle.posix.specs.States.{process};
 ghost use Rattle.posix.specs.Regular.{IsRegular};
 ghost use Rattle.posix.specs.Settle.{wakes, NoWakeIsLost};
 ghost use Rattle.posix.specs.Waits.{reporting_in};
+ghost use Rattle.life.specs.Machines.{Looks};
 
 use crate::machine::Machine;
 use posix::Pid;
@@ -16,12 +17,7 @@ impl<K: Kin> Machine<K> {
     /// The process with the least number above `pid`.
     pub(crate) fn next_after(&mut self, pid: Pid) -> Option<Pid>
         ensures value { result ≡ next_above pid self.old.state.processes }
-        ensures same { self.new.state ≡ self.old.state }
-        ensures asked { self.new.asked ≡ self.old.asked }
-        ensures stale { self.new.stale ≡ self.old.stale }
-        ensures losing { self.new.losing ≡ self.old.losing }
-        ensures reads { self.new.reads ≤ self.old.reads + 1 }
-        ensures regular { IsRegular self.old.state }
+        ensures looks { Looks 1 self.old self.new }
     {
         self.table.next_after(pid)
     }
@@ -30,12 +26,7 @@ impl<K: Kin> Machine<K> {
     pub(crate) fn first_child(&mut self, pid: Pid) -> Option<Pid>
         requires { IsSome (process self.old.state pid) }
         ensures value { result ≡ first_pid (children_in pid self.old.state.processes) }
-        ensures same { self.new.state ≡ self.old.state }
-        ensures asked { self.new.asked ≡ self.old.asked }
-        ensures stale { self.new.stale ≡ self.old.stale }
-        ensures losing { self.new.losing ≡ self.old.losing }
-        ensures reads { self.new.reads ≤ self.old.reads + 1 }
-        ensures regular { IsRegular self.old.state }
+        ensures looks { Looks 1 self.old self.new }
     {
         self.table.first_child(pid)
     }
@@ -44,11 +35,7 @@ impl<K: Kin> Machine<K> {
     pub(crate) fn next_sibling(&mut self, pid: Pid) -> Option<Pid>
         requires { IsSome (process self.old.state pid) }
         ensures value { result ≡ next_sibling_of pid self.old.state.processes }
-        ensures same { self.new.state ≡ self.old.state }
-        ensures asked { self.new.asked ≡ self.old.asked }
-        ensures stale { self.new.stale ≡ self.old.stale }
-        ensures losing { self.new.losing ≡ self.old.losing }
-        ensures reads { self.new.reads ≤ self.old.reads + 1 }
+        ensures looks { Looks 1 self.old self.new }
     {
         self.table.next_sibling(pid)
     }
@@ -61,13 +48,13 @@ impl<K: Kin> Machine<K> {
         self.table.next_reporting(parent, after)
     }
 
-    /// Who is to be asked first whether it can act: nobody with a lower number has to be given a place, and where
-    /// nobody is to be asked nobody has.
-    pub fn first_to_ask(&self) -> Option<Pid>
+    /// Who is to be rechecked first: nobody with a lower number has to be given a place, and where
+    /// nobody is to be rechecked nobody has.
+    pub fn first_to_recheck(&self) -> Option<Pid>
         ensures next { IsNext (wakes self.now.state) 0 self.now.state.processes result }
-        ensures value { result ≡ slice_get self.now.asked 0 }
+        ensures value { result ≡ slice_get self.now.to_recheck 0 }
         ensures regular { IsRegular self.now.state }
     {
-        self.to_ask.first()
+        self.to_recheck.first()
     }
 }

@@ -41,21 +41,6 @@ pub next_same : (p : Pids) (rs : List Process) → IsTallied p rs → next_free 
 unfolding is_free_in
 next_same p rs t = next_free_same _ _ p.last p.pidmax (λ k l. ap is_free_row (t k l) ∙ free_row rs k)
 
--- ---- counts of records
-
--- a test that all pass counts them all
-all_counted : (rs : List Process) → length (filter (λ r. true) rs) ≡ length rs
-all_counted [] = refl
-all_counted (r ∷ rs) = ap suc (all_counted rs)
-
--- a record that comes in makes one more
-pub length_inserted : (new : Process) (rs : List Process) → length (inserted new rs) ≡ length rs + 1
-length_inserted new rs = let e = counted_inserted (λ r. true) new rs in let f = all_counted (inserted new rs) in let g = all_counted rs in omega (arith, e, f, g)
-
--- a record that goes makes one less
-pub length_removed : (p : ℕ) (r : Process) (rs : List Process) → IsRising rs → lookup p rs ≡ Some r → length rs ≡ length (removed p rs) + 1
-length_removed p r rs up e = let h = counted_removed (λ r. true) p r rs up e in let f = all_counted rs in let g = all_counted (removed p rs) in omega (arith, h, f, g)
-
 -- ---- tallies
 
 -- the numbers of a record in front are borne once more

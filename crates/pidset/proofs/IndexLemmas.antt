@@ -36,16 +36,6 @@ elsewhere_inserted new rs q ne = lookup_inserted new q rs ne
 pub elsewhere_removed : (p : ℕ) (rs : List Process) → IsElsewhere p rs (removed p rs)
 elsewhere_removed p rs q ne = lookup_kept p q rs ne
 
--- its key after a change
-pub key_changed : (key : Process → Option ℕ) (p : ℕ) (f : Process → Process) → ((r : Process) → (f r).pid ≡ r.pid) → (rs : List Process) (me : Process) → lookup p rs ≡ Some me → key_of key p (changed p f rs) ≡ key (f me)
-key_changed key p f k rs me found =
-    let now : lookup p (changed p f rs) ≡ Some (f me) = lookup_changed p p f k rs ∙ rw (eq-eqb p p refl, found) refl in
-    ap (option_and_then key) now
-
--- as it comes
-pub key_inserted : (key : Process → Option ℕ) (new : Process) (rs : List Process) → lookup new.pid rs ≡ None → key_of key new.pid (inserted new rs) ≡ key new
-key_inserted key new rs fresh = ap (option_and_then key) (lookup_new new rs fresh)
-
 -- and once it has gone
 pub key_removed : (key : Process → Option ℕ) (p : ℕ) (rs : List Process) → key_of key p (removed p rs) ≡ None
 key_removed key p rs = ap (option_and_then key) (lookup_removed p rs)
@@ -67,32 +57,6 @@ unmoved key p rs pairs o h same k q = elim (cases_eq q p) [
   | inl e ↦ rw (eq-eqb q p e, same) (ap (λ n. is_pair_in k n pairs) e ∙ h p k)
   | inr ne ↦ rw (ne_eqb q p ne) refl
 ]
-
--- a pair that is put in, or taken out, is a process that moves from under no key, or to under none
-pub put_moves : (key p : ℕ) (old new : List Pair) → ((k : ℕ) → k ≢ key → is_pair_in k p old ≡ false) → ((k q : ℕ) → is_pair_in k q new ≡ (k == key && q == p || is_pair_in k q old)) → IsMoved p (Some key) old new
-put_moves key p old new none puts k q = puts k q ∙ elim (cases_eq q p) [
-  | inl e ↦ elim (cases_eq k key) [
-    | inl s ↦ rw (eq-eqb q p e, eq-eqb k key s, eq-eqb key k (sym s)) refl
-    | inr n ↦ rw (eq-eqb q p e, ne_eqb k key n, ne_eqb key k (λ x. n (sym x))) (ap (λ n. is_pair_in k n old) e ∙ none k n)
-  ]
-  | inr ne ↦ elim (cases_eq k key) [ inl s ↦ rw (ne_eqb q p ne, eq-eqb k key s) refl | inr n ↦ rw (ne_eqb q p ne, ne_eqb k key n) refl ]
-]
-
-pub taken_moves : (key p : ℕ) (old new : List Pair) → ((k : ℕ) → k ≢ key → is_pair_in k p old ≡ false) → ((k q : ℕ) → is_pair_in k q new ≡ (not (k == key && q == p) && is_pair_in k q old)) → IsMoved p None old new
-taken_moves key p old new none takes k q = takes k q ∙ elim (cases_eq q p) [
-  | inl e ↦ elim (cases_eq k key) [
-    | inl s ↦ rw (eq-eqb q p e, eq-eqb k key s) refl
-    | inr n ↦ rw (eq-eqb q p e, ne_eqb k key n) (ap (λ n. is_pair_in k n old) e ∙ none k n)
-  ]
-  | inr ne ↦ elim (cases_eq k key) [ inl s ↦ rw (ne_eqb q p ne, eq-eqb k key s) refl | inr n ↦ rw (ne_eqb q p ne, ne_eqb k key n) refl ]
-]
-
--- who stands under a key stands under no other
-pub no_other : (key : Process → Option ℕ) (p : ℕ) (rs : List Process) (pairs : List Pair) → IsIndex key rs pairs → (n : ℕ) → ((k : ℕ) → key_of key p rs ≡ Some k → k ≡ n) → (k : ℕ) → k ≢ n → is_pair_in k p pairs ≡ false
-no_other key p rs pairs h n one k ne = h p k ∙ elim (key_of key p rs) as (λ o. key_of key p rs ≡ o → is_key k o ≡ false) [
-  | None ↦ λ e. refl
-  | Some m ↦ λ e. ne_eqb m k (λ same. ne (sym same ∙ one m e))
-] refl
 
 -- ---- all records
 

@@ -239,13 +239,6 @@ length_in_order (x ∷ xs) h once =
     let l = length_with x.pid (in_order xs) new in
     omega (arith, l, rest)
 
--- so children up to m, of one parent each, are no more than m
-pub few_children : (m : ℕ) (xs : List Pair) → ArePairs xs → ((p c : ℕ) → is_pair_in p c xs ≡ true → c ≤ m) → ((p q c : ℕ) → is_pair_in p c xs ≡ true → is_pair_in q c xs ≡ true → p ≡ q) → length xs ≤ m
-few_children m xs h most once =
-    let l = few m (in_order xs) (rises_in_order xs) (λ c e. let k = key_in_order xs c e in ((child_range xs h.within k.0 c k.1).0, most k.0 c k.1)) in
-    let same = length_in_order xs h once in
-    omega (arith, l, same)
-
 -- what is said where there is one
 pub on_some : {X : Type 0} {P : Type 0} (o : Option X) → IsSome o → OnSome o P → P
 on_some None e h = absurd (cc)

@@ -75,6 +75,7 @@ impl Index {
     }
 
     /// The process under a key with the least number above `after`.
+    #[inline]
     pub fn next(&self, key: u64, after: Pid) -> Option<Pid>
         ensures next { IsNextPair key after self.now.pairs result }
         ensures rising { ArePairs self.now.pairs }
@@ -112,6 +113,7 @@ impl Index {
     }
 
     /// A process that stood under one key, or under none, stands under another, or under none.
+    #[inline]
     pub fn replace(&mut self, pid: Pid, old: Option<u64>, new: Option<u64>)
         requires can { CanReplace pid old self.old }
         requires pid { 1 ≤ pid }
@@ -130,6 +132,7 @@ impl Index {
     }
 
     /// Whether there are none.
+    #[inline]
     pub fn is_empty(&self) -> bool
         ensures { result ≡ (length self.now.pairs == 0) }
     {

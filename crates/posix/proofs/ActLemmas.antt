@@ -27,7 +27,7 @@ use Rattle.posix.specs.Processes.{Process, Cpu, argument}
 use Rattle.posix.specs.States.{State, Program, without, change, next_pid}
 use Rattle.posix.specs.Consoles.{Console}
 use Rattle.posix.specs.Execute.{exec_one}
-use Rattle.posix.specs.Outcomes.{Outcome, Attempted, Done, Block, Again, Reply, answers}
+use Rattle.posix.specs.Outcomes.{Outcome, Attempted, Done, Block, Again, Reply, finish_call}
 use Rattle.posix.specs.Credentials.{setuid, seteuid, setgid, setegid}
 use Rattle.posix.specs.Generation.{action, is_pending}
 use Rattle.posix.specs.Groups.{is_orphaned}
@@ -43,7 +43,7 @@ use Rattle.posix.specs.Alarms.{alarm}
 use Rattle.posix.specs.Programs.{exec_as, exec_of, exec}
 use Rattle.posix.specs.GroupCalls.{named, tells, getpgid, getsid, move_of, setpgid_with, setpgid_to, setpgid, is_group_of, is_group_of_others, setsid}
 use Rattle.posix.specs.Transfers.{span_in, bytes_in}
-use Rattle.posix.specs.Terminals.{terminal, is_in_background, spurns, if_allowed, place_named, may_acquire, setctty_of, setctty_at, setctty, tcgetpgrp_on, tcgetpgrp, put_foreground, tcsetpgrp_on, tcsetpgrp, settostop_on, settostop, moved, read_from, read_in, read_on, read, write_in, write_on, write}
+use Rattle.posix.specs.Terminals.{terminal, is_in_background, blocks_or_ignores, if_allowed, console_named, may_acquire, setctty_of, setctty_at, setctty, tcgetpgrp_on, tcgetpgrp, put_foreground, tcsetpgrp_on, tcsetpgrp, settostop_on, settostop, finish_moved, read_from, read_in, read_on, read, write_in, write_on, write}
 use Rattle.posix.specs.SignalCalls.{set_credentials, sigaction, sigprocmask, sigpending}
 use Rattle.posix.specs.Attempts.{attempt, attempt_again}
 use Rattle.posix.specs.Step.{act, act_in, after_trap, begin_call, deliver_or, go_on, code_of}
@@ -186,7 +186,7 @@ acted_wait s me =
     (stays me.pid s _ refl refl refl)
 
 -- a call that changes its process alone
-acted_answers : (s : State) (p : ℕ) (call : Call) (reply : Reply) → ActedIf p s (answers s p call reply)
+acted_answers : (s : State) (p : ℕ) (call : Call) (reply : Reply) → ActedIf p s (finish_call s p call reply)
 acted_answers s p call reply = stays p s _ refl refl refl
 
 -- a signal that is sent, by whom it finds
@@ -254,11 +254,11 @@ acted_setsid s me = acted_if me.pid s (me.group == me.pid || is_group_of_others 
 -- a call that is judged by the rule for the background
 acted_allowed : (s : State) (me : Process) (call : Call) (c : Console) (allowed : Attempted) → ActedIf me.pid s allowed → ActedIf me.pid s (if_allowed s me call c allowed)
 acted_allowed s me call c allowed h =
-    acted_if me.pid s (not (is_in_background me c) || spurns me TTOU) _ _ h
+    acted_if me.pid s (not (is_in_background me c) || blocks_or_ignores me TTOU) _ _ h
     (acted_if me.pid s (is_orphaned me.group s.processes) _ _ (stays me.pid s _ refl refl refl) (stays me.pid s _ refl refl refl))
 
 -- bytes that are moved
-acted_moved : (p : ℕ) (s t : State) (call : Call) (bytes : List ℕ) → t.births ≡ s.births → t.ticks ≡ s.ticks → t.order ≡ s.order → ActedIf p s (moved t p call bytes)
+acted_moved : (p : ℕ) (s t : State) (call : Call) (bytes : List ℕ) → t.births ≡ s.births → t.ticks ≡ s.ticks → t.order ≡ s.order → ActedIf p s (finish_moved t p call bytes)
 acted_moved p s t call [] b k o = stays p s _ b k o
 acted_moved p s t call (x ∷ xs) b k o = stays p s _ b k o
 
@@ -272,7 +272,7 @@ acted_setctty_at s me (Some k) = acted_setctty_of s me k (slice_get s.consoles k
 
 acted_setctty : (s : State) (me : Process) → ActedIf me.pid s (setctty s me)
 unfolding setctty
-acted_setctty s me = acted_setctty_at s me (place_named (argument me 1))
+acted_setctty s me = acted_setctty_at s me (console_named (argument me 1))
 
 acted_tcgetpgrp_on : (s : State) (me : Process) (c : Option Console) → ActedIf me.pid s (tcgetpgrp_on s me c)
 acted_tcgetpgrp_on s me None = stays me.pid s _ refl refl refl
@@ -310,7 +310,7 @@ acted_read_in : (s : State) (me : Process) (c : Console) (span : Result Span Err
 acted_read_in s me c (Err why) = stays me.pid s _ refl refl refl
 acted_read_in s me c (Ok span) =
     acted_if me.pid s (is_in_background me c) _ _
-    (acted_if me.pid s (spurns me TTIN || is_orphaned me.group s.processes) _ _ (stays me.pid s _ refl refl refl) (stays me.pid s _ refl refl refl))
+    (acted_if me.pid s (blocks_or_ignores me TTIN || is_orphaned me.group s.processes) _ _ (stays me.pid s _ refl refl refl) (stays me.pid s _ refl refl refl))
     (acted_if me.pid s (span.count == 0) _ _ (stays me.pid s _ refl refl refl) (acted_read_from s me span c.lines))
 
 acted_read_on : (s : State) (me : Process) (c : Option Console) → ActedIf me.pid s (read_on s me c)

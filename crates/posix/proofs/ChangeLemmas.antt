@@ -12,7 +12,7 @@ use Rattle.posix.specs.Tables.{IsRising, lookup, at, changed}
 use Rattle.posix.specs.States.{State, change}
 use Rattle.posix.specs.Statuses.{continued, stopped}
 use Rattle.posix.specs.Regular.{IsRegular, IsAhead}
-use Rattle.posix.specs.Generation.{signalled, effect_of, is_deaf}
+use Rattle.posix.specs.Generation.{signalled, effect_of, gets_no_signals}
 use Rattle.posix.specs.Notices.{ignores_stops, noticed_of_change, child_signal, told_of_change, stopped_by, resumed, acted_upon, generated_for, signalled_all}
 use Rattle.posix.specs.Delivery.{stop_process}
 use Rattle.posix.proofs.TableLemmas.{changed_same, pid_looked}
@@ -100,7 +100,7 @@ regular_stop s r me n e living i =
 -- who is continued was stopped
 pub continued_stopped : (p : ℕ) (signal : PendingSignal) (r : Process) → effect_of p r.life signal r.signals ≡ effect.Continued → is_stopped r.life ≡ true
 unfolding effect_of
-continued_stopped p signal r e = was (signal.sig == CONT) (is_stopped r.life) (not (is_deaf p r.life r.signals signal.sig)) e
+continued_stopped p signal r e = was (signal.sig == CONT) (is_stopped r.life) (not (gets_no_signals p r.life r.signals signal.sig)) e
   where
     was : (a b c : Bool) → cond (a && (b && c)) effect.Continued effect.Nothing ≡ effect.Continued → b ≡ true
     was true true c e = refl
@@ -110,7 +110,7 @@ continued_stopped p signal r e = was (signal.sig == CONT) (is_stopped r.life) (n
 -- by CONT
 pub continued_cont : (p : ℕ) (signal : PendingSignal) (r : Process) → effect_of p r.life signal r.signals ≡ effect.Continued → (signal.sig == CONT) ≡ true
 unfolding effect_of
-continued_cont p signal r e = was (signal.sig == CONT) (is_stopped r.life && not (is_deaf p r.life r.signals signal.sig)) e
+continued_cont p signal r e = was (signal.sig == CONT) (is_stopped r.life && not (gets_no_signals p r.life r.signals signal.sig)) e
   where
     was : (a b : Bool) → cond (a && b) effect.Continued effect.Nothing ≡ effect.Continued → a ≡ true
     was true b e = refl

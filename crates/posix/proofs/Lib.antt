@@ -24,8 +24,7 @@ pub mod WakeLemmas
 pub mod UnseenLemmas
 pub mod TouchLemmas
 pub mod ReaderLemmas
-pub mod NewsLemmas
-pub mod RouseLemmas
+pub mod HupAndContLemmas
 pub mod OrphanLemmas
 pub mod MoveLemmas
 pub mod QuietLemmas

@@ -3,7 +3,7 @@ use Rattle.std.proofs.Common.{◌≡◌, ℕ, Bool, true, false, cond, not, ◌&
 use Rattle.posix.specs.Processes.{Process}
 use Rattle.posix.specs.States.{State, change}
 use Rattle.posix.specs.Consoles.{Console, console_of}
-use Rattle.posix.specs.Ends.{is_dropping, drop_child, notice_of_end, status_of, zombies_of, tell_of_all, rouse_orphans, halt, depart, end_with_heir, hung_up, hang_up}
+use Rattle.posix.specs.Ends.{is_dropping, drop_child, notice_of_end, status_of, zombies_of, tell_of_all, hup_and_cont_orphans, halt, leave_children_and_die, end_with_heir, hung_up, hang_up}
 use Rattle.posix.specs.Notices.{noticed, child_signal}
 
 -- only the records, and the count of those dropped, may have changed
@@ -38,13 +38,13 @@ pub end_first : (s : State) (r : Process) (heir status : ℕ) → (r.pid == 1) �
 end_first s r heir status t = rw t refl
 
 -- the end of another is its departure, and then the notices
-pub end_other : (s : State) (r : Process) (heir status : ℕ) → (r.pid == 1) ≡ false → OnlyRecords (depart s r.pid heir status) (end_with_heir s r heir status).state
+pub end_other : (s : State) (r : Process) (heir status : ℕ) → (r.pid == 1) ≡ false → OnlyRecords (leave_children_and_die s r.pid heir status) (end_with_heir s r heir status).state
 end_other s r heir status t =
-    let gone = depart s r.pid heir status in
+    let gone = leave_children_and_die s r.pid heir status in
     let told = tell_of_all gone heir (zombies_of r.pid s.processes) in
-    let roused = rouse_orphans s.processes told in
-    let before = only_after gone told roused (only_told gone heir (zombies_of r.pid s.processes)) refl in
-    rw t (only_after gone roused (notice_of_end roused r.parent r.pid status) before (only_notice roused r.parent r.pid status))
+    let given = hup_and_cont_orphans s.processes told in
+    let before = only_after gone told given (only_told gone heir (zombies_of r.pid s.processes)) refl in
+    rw t (only_after gone given (notice_of_end given r.parent r.pid status) before (only_notice given r.parent r.pid status))
 
 -- to hang up changes the records and the consoles, and nothing else of a state
 pub only_hung_up : (s : State) (r : Process) → hang_up s r ≡ record s { processes = (hang_up s r).processes; consoles = (hang_up s r).consoles }

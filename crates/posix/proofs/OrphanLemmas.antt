@@ -10,14 +10,14 @@ use Rattle.posix.specs.States.{State, process, is_in, change}
 use Rattle.posix.specs.Generation.{signalled}
 use Rattle.posix.specs.Notices.{child_signal, ignores_children, noticed}
 use Rattle.posix.specs.Groups.{is_outside, is_anchor, is_orphaned, loses_anchor}
-use Rattle.posix.specs.Ends.{made_zombie, depart, is_dropping, drop_child, notice_of_end, status_of, zombies_of, tell_of_all}
+use Rattle.posix.specs.Ends.{made_zombie, leave_children_and_die, is_dropping, drop_child, notice_of_end, status_of, zombies_of, tell_of_all}
 use Rattle.posix.specs.Regular.{IsRegular}
 use Rattle.posix.proofs.MemberLemmas.{apart_first, apart_rest}
 use Rattle.posix.proofs.TableLemmas.{pid_looked, pid_reparented, rising_filter}
 use Rattle.posix.proofs.MapLemmas.{at_keeps, lookup_on}
 use Rattle.posix.proofs.WalkLemmas.{in_filter, any_looked, some_looked, any_filter, pid_found, none_passes_before}
 use Rattle.posix.proofs.RegularLemmas.{keeps_at, keeps_noticed, lookup_other, lookup_kept}
-use Rattle.posix.proofs.RouseLemmas.{lasting, IsLasting, lasting_one}
+use Rattle.posix.proofs.HupAndContLemmas.{lasting, IsLasting, lasting_one}
 
 -- ---- what an end leaves of another process
 
@@ -62,7 +62,7 @@ not_told s i p q r e other = false_from_ne_true _ (λ k.
 
 -- the state once the process is a zombie, and its heir was told of those of its children
 abbrev pub after_departure : State → ℕ → ℕ → ℕ → State
-after_departure s p heir status = tell_of_all (depart s p heir status) heir (zombies_of p s.processes)
+after_departure s p heir status = tell_of_all (leave_children_and_die s p heir status) heir (zombies_of p s.processes)
 
 -- r is there, with its group and its session, and with its parent unless that was p
 pub record Remains (p : ℕ) (o : Option Process) (r : Process) : Type 0 where
@@ -78,9 +78,9 @@ pub remains : (s : State) → IsRegular s → (p heir status q : ℕ) (r : Proce
 unfolding adopted made_zombie
 remains s i p heir status q r e ne other =
     let given = reparented p heir r in
-    let gone : process (depart s p heir status) q ≡ Some given =
+    let gone : process (leave_children_and_die s p heir status) q ≡ Some given =
     lookup_on (reparented p heir) (pid_reparented p heir) q (changed p (made_zombie status) s.processes) r (lookup_other p q (made_zombie status) (λ r. refl) ne s.processes r e) in
-    let k = lasting_told (depart s p heir status) heir (zombies_of p s.processes) q given gone (not_told s i p q r e other) in
+    let k = lasting_told (leave_children_and_die s p heir status) heir (zombies_of p s.processes) q given gone (not_told s i p q r e other) in
     record {
       what = k.what;
       found = k.found;

@@ -1,13 +1,13 @@
 -- How many records of a list pass a test.
 use Rattle.std.proofs.Common.{◌≡◌, ℕ, suc, ◌≤◌, Bool, true, false, cond, not, refl, ap, sym, ◌∙◌, arith, subst, List, [], ◌∷◌, length, map, filter, find, Some, ◌==◌, Option, None, nat_le}
 use Rattle.std.specs.List.{list_any}
-use Rattle.std.proofs.lemmas.Bool.{eqb-true, eq-eqb, ne_eqb}
+use Rattle.std.proofs.lemmas.Bool.{eqb-true, ne_eqb}
 use Rattle.std.proofs.lemmas.List.{length-map}
 use Rattle.std.proofs.lemmas.List.Sums.{length-filter, count_by-le-length}
 use Rattle.posix.specs.Processes.{Process}
-use Rattle.posix.specs.Tables.{IsRising, lookup, has_pid, at, changed, inserted, removed, left_of}
-use Rattle.posix.proofs.MapLemmas.{at_pid, filter_map, lookup_on}
-use Rattle.posix.proofs.TableLemmas.{Above, remove_above, rising_changed, pid_looked}
+use Rattle.posix.specs.Tables.{IsRising, lookup, has_pid, changed, inserted, removed, left_of}
+use Rattle.posix.proofs.MapLemmas.{filter_map}
+use Rattle.posix.proofs.TableLemmas.{Above, remove_above}
 
 -- no records are counted where none passes the test
 pub none_counted : (t : Process → Bool) (rs : List Process) → (length (filter t rs) == 0) ≡ not (list_any t rs)
@@ -68,11 +68,3 @@ pub removed_changed : (c : ℕ) (f : Process → Process) → ((r : Process) →
 unfolding removed changed
 removed_changed c f keeps [] = refl
 removed_changed c f keeps (r ∷ rs) = grind (arith, keeps r, removed_changed c f keeps rs)
-
--- a record that changes counts as if it came in front changed, where it was
-pub counted_changed : (t : Process → Bool) (p : ℕ) (f : Process → Process) → ((r : Process) → (f r).pid ≡ r.pid) → (r : Process) (rs : List Process) → IsRising rs → lookup p rs ≡ Some r
-    → length (filter t (changed p f rs)) ≡ length (filter t (f r ∷ removed p rs))
-unfolding changed
-counted_changed t p f keeps r rs up e =
-    let found : lookup p (changed p f rs) ≡ Some (f r) = lookup_on (at p f) (at_pid p f keeps) p rs r e ∙ ap Some (rw (eq-eqb r.pid p (pid_looked p rs r e)) refl) in
-    counted_removed t p (f r) (changed p f rs) (rising_changed p f keeps rs up) found ∙ ap (λ l. length (filter t (f r ∷ l))) (removed_changed p f keeps rs)

@@ -1,4 +1,4 @@
--- Where no process is stopped an end rouses no process group.
+-- Where no process is stopped no process group gets HUP and CONT at an end.
 use Rattle.std.proofs.Common.{◌≡◌, ℕ, Bool, true, false, cond, not, ◌&&◌, ◌==◌, refl, arith, List, [], ◌∷◌, map, filter}
 use Rattle.std.proofs.lemmas.Bool.{cond_both}
 use Rattle.posix.specs.Processes.{Process, is_stopped}
@@ -7,7 +7,7 @@ use Rattle.posix.specs.States.{State, change}
 use Rattle.posix.specs.Generation.{signalled}
 use Rattle.posix.specs.Notices.{ignores_children, noticed, child_signal}
 use Rattle.posix.specs.Groups.{some_stopped, has_stopped, is_orphaned, is_newly_orphaned, newly_orphaned, group_numbers}
-use Rattle.posix.specs.Ends.{made_zombie, depart, is_dropping, drop_child, notice_of_end, tell_of_all, status_of, zombies_of}
+use Rattle.posix.specs.Ends.{made_zombie, leave_children_and_die, is_dropping, drop_child, notice_of_end, tell_of_all, status_of, zombies_of}
 use Rattle.posix.proofs.OrphanLemmas.{after_departure}
 
 -- nobody is stopped among some of them
@@ -55,16 +55,16 @@ unfolding adopted changed made_zombie
 none_departed s p heir status e =
     let dead = none_map (at p (made_zombie status)) (stops_at p (made_zombie status) (λ r. refl)) s.processes e in
     let moved = none_map (reparented p heir) (λ r. cond_both (r.parent == p) (record r { parent = heir }) r (λ q. (is_stopped q.life && not (is_stopped r.life)) ≡ false) (λ k. stays_so (is_stopped r.life)) (λ k. stays_so (is_stopped r.life))) _ dead in
-    none_told (depart s p heir status) heir (zombies_of p s.processes) moved
+    none_told (leave_children_and_die s p heir status) heir (zombies_of p s.processes) moved
 
 none_pass : (t : ℕ → Bool) → ((n : ℕ) → t n ≡ false) → (ns : List ℕ) → filter t ns ≡ []
 none_pass t h [] = refl
 none_pass t h (n ∷ ns) = rw (h n) (none_pass t h ns)
 
 -- and no process group has a stopped member then
-pub none_roused : (s : State) (p heir status : ℕ) → some_stopped s.processes ≡ false → newly_orphaned s.processes (after_departure s p heir status).processes ≡ []
+pub none_hup_and_cont : (s : State) (p heir status : ℕ) → some_stopped s.processes ≡ false → newly_orphaned s.processes (after_departure s p heir status).processes ≡ []
 unfolding newly_orphaned is_newly_orphaned has_stopped members_in
-none_roused s p heir status e =
+none_hup_and_cont s p heir status e =
     let now = (after_departure s p heir status).processes in
     none_pass (is_newly_orphaned s.processes now) (λ g. none (is_orphaned g s.processes) (is_orphaned g now) _ (none_filter (λ r. r.group == g) now (none_departed s p heir status e))) (group_numbers now)
   where

@@ -12,7 +12,7 @@ use Rattle.posix.specs.States.{World, State, boot, is_in, without, change, lose_
 use Rattle.posix.specs.Regular.{IsRegular, IsBounded, IsPlaced, CanInherit, IsDistinct, IsAhead, AreGrouped, AreConsoles}
 use Rattle.posix.specs.Generation.{signalled}
 use Rattle.posix.specs.Handlers.{handles, is_full}
-use Rattle.posix.specs.Ends.{ended, made_zombie, halt, depart}
+use Rattle.posix.specs.Ends.{ended, made_zombie, halt, leave_children_and_die}
 use Rattle.posix.specs.Notices.{noticed, ignores_children}
 use Rattle.posix.specs.Waits.{news_told}
 use Rattle.posix.specs.Delivery.{take_out}
@@ -304,7 +304,7 @@ unfolding made_zombie
 commutes p heir w r = elim (r.parent == p) as (λ b. made_zombie w (cond b (record r { parent = heir }) r) ≡ cond b (record (made_zombie w r) { parent = heir }) (made_zombie w r)) [ true ↦ refl | false ↦ refl ]
 
 -- a state stays regular where a process other than process 1 departs
-pub regular_depart : (p heir w : ℕ) → 1 ≤ p → p ≢ 1 → (s : State) → IsRegular s → CanInherit s.processes p heir → IsRegular (depart s p heir w)
+pub regular_depart : (p heir w : ℕ) → 1 ≤ p → p ≢ 1 → (s : State) → IsRegular s → CanInherit s.processes p heir → IsRegular (leave_children_and_die s p heir w)
 unfolding made_zombie
 regular_depart p heir w least ne s i h =
     let given = record s { processes = adopted p heir s.processes } in

@@ -1,5 +1,5 @@
 -- Facts on the table of processes as a list in rising pid order.
-use Rattle.std.proofs.Common.{◌≡◌, ℕ, zero, suc, ◌<◌, Bool, true, false, cond, refl, arith, subst, List, [], ◌∷◌, map, filter, slice_get, slice_set, Some, None, option_map, ◌==◌, nat_lt}
+use Rattle.std.proofs.Common.{◌≡◌, ℕ, zero, suc, ◌+◌, ◌<◌, Bool, true, false, cond, refl, ap, arith, subst, List, [], ◌∷◌, length, map, filter, slice_get, slice_set, Some, None, option_map, ◌==◌, nat_lt}
 use Rattle.std.specs.List.{AllByRecursion, list_any}
 use Rattle.std.proofs.lemmas.Bool.{eqb-true, eqb-false, eq-eqb, ne_eqb}
 use Rattle.std.proofs.lemmas.Bool.Decides.{nat_tests}
@@ -46,6 +46,20 @@ remove_none p (r ∷ rs) e = grind (arith, remove_none p rs)
 -- where all lie above p, it does nothing
 pub remove_above : (p : ℕ) (rs : List Process) → Above p rs → removed p rs ≡ rs
 remove_above p rs h = remove_none p rs (lookup_above p rs h)
+
+-- ---- how many there are
+
+-- one more where a record comes in
+pub length_inserted : (r : Process) (rs : List Process) → length (inserted r rs) ≡ length rs + 1
+unfolding inserted
+length_inserted r [] = refl
+length_inserted r (x ∷ xs) = let rest = length_inserted r xs in grind (arith, rest)
+
+-- one less where a record goes
+pub length_removed : (p : ℕ) (r : Process) (rs : List Process) → IsRising rs → lookup p rs ≡ Some r → length rs ≡ length (removed p rs) + 1
+unfolding removed lookup IsRising
+length_removed p r [] up e = absurd (cc)
+length_removed p r (x ∷ xs) up e = grind (arith, λ (i : x.pid ≡ p). ap length (remove_above p xs (subst (λ n. Above n xs) i up.0)), length_removed p r xs up.1, eqb-true x.pid p)
 
 -- ---- at the place of a process
 

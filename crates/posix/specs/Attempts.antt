@@ -7,7 +7,7 @@ use Rattle.posix.specs.declared.process.Blocked.TheVariants as blocked
 use Rattle.posix.specs.Statuses.{exited}
 use Rattle.posix.specs.Processes.{Process, argument}
 use Rattle.posix.specs.States.{State, go_last, next_pid}
-use Rattle.posix.specs.Outcomes.{Attempted, Done, Block, answers, gives}
+use Rattle.posix.specs.Outcomes.{Attempted, Done, Block, finish_call, finish_with}
 use Rattle.posix.specs.Births.{fork_as}
 use Rattle.posix.specs.Ends.{end_process}
 use Rattle.posix.specs.Waits.{wait}
@@ -27,24 +27,24 @@ attempt granted s me Exit = Done (end_process s me (exited (argument me 1)))
 attempt granted s me Fork = fork_as granted s me (next_pid s)
 attempt granted s me Waitpid = wait s me
 attempt granted s me Pause = Block blocked.Pause
-attempt granted s me SchedYield = gives (go_last s me.pid) me.pid SchedYield (pos 0)
-attempt granted s me Getpid = gives s me.pid Getpid (pos me.pid)
-attempt granted s me Getppid = gives s me.pid Getppid (pos me.parent)
-attempt granted s me Getuid = gives s me.pid Getuid (pos me.credentials.user.real)
-attempt granted s me Geteuid = gives s me.pid Geteuid (pos me.credentials.user.effective)
-attempt granted s me Getgid = gives s me.pid Getgid (pos me.credentials.group.real)
-attempt granted s me Getegid = gives s me.pid Getegid (pos me.credentials.group.effective)
-attempt granted s me Setuid = answers s me.pid Setuid (set_credentials (setuid me.credentials (argument me 1)))
-attempt granted s me Seteuid = answers s me.pid Seteuid (set_credentials (seteuid me.credentials (argument me 1)))
-attempt granted s me Setgid = answers s me.pid Setgid (set_credentials (setgid me.credentials (argument me 1)))
-attempt granted s me Setegid = answers s me.pid Setegid (set_credentials (setegid me.credentials (argument me 1)))
+attempt granted s me SchedYield = finish_with (go_last s me.pid) me.pid SchedYield (pos 0)
+attempt granted s me Getpid = finish_with s me.pid Getpid (pos me.pid)
+attempt granted s me Getppid = finish_with s me.pid Getppid (pos me.parent)
+attempt granted s me Getuid = finish_with s me.pid Getuid (pos me.credentials.user.real)
+attempt granted s me Geteuid = finish_with s me.pid Geteuid (pos me.credentials.user.effective)
+attempt granted s me Getgid = finish_with s me.pid Getgid (pos me.credentials.group.real)
+attempt granted s me Getegid = finish_with s me.pid Getegid (pos me.credentials.group.effective)
+attempt granted s me Setuid = finish_call s me.pid Setuid (set_credentials (setuid me.credentials (argument me 1)))
+attempt granted s me Seteuid = finish_call s me.pid Seteuid (set_credentials (seteuid me.credentials (argument me 1)))
+attempt granted s me Setgid = finish_call s me.pid Setgid (set_credentials (setgid me.credentials (argument me 1)))
+attempt granted s me Setegid = finish_call s me.pid Setegid (set_credentials (setegid me.credentials (argument me 1)))
 attempt granted s me Kill = kill s me
-attempt granted s me Sigaction = answers s me.pid Sigaction (sigaction me)
-attempt granted s me Sigprocmask = answers s me.pid Sigprocmask (sigprocmask me)
-attempt granted s me Sigpending = answers s me.pid Sigpending (sigpending me)
+attempt granted s me Sigaction = finish_call s me.pid Sigaction (sigaction me)
+attempt granted s me Sigprocmask = finish_call s me.pid Sigprocmask (sigprocmask me)
+attempt granted s me Sigpending = finish_call s me.pid Sigpending (sigpending me)
 attempt granted s me Sigsuspend = Block (blocked.Sigsuspend me.signals.mask)
 attempt granted s me Sigreturn = Done (return_from_handler s me)
-attempt granted s me Alarm = answers s me.pid Alarm (alarm s me)
+attempt granted s me Alarm = finish_call s me.pid Alarm (alarm s me)
 attempt granted s me Exec = exec s me
 attempt granted s me Getpgid = getpgid s me
 attempt granted s me Getsid = getsid s me

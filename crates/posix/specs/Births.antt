@@ -6,7 +6,7 @@ use Rattle.posix.specs.declared.process.News.TheVariants as news
 use Rattle.posix.specs.Processes.{Process, nothing_pending}
 use Rattle.posix.specs.Tables.{inserted}
 use Rattle.posix.specs.States.{State}
-use Rattle.posix.specs.Outcomes.{Attempted, gives, refused, no_memory, finished}
+use Rattle.posix.specs.Outcomes.{Attempted, finish_with, refused, no_memory, finished}
 
 -- The child with the number n is like its parent, but for its numbers; nothing is pending for it, it has
 -- no alarm, no exec mark and no news, and its call gave 0.
@@ -31,4 +31,4 @@ born s me n = record s {
 -- granted: whether the host has the memory
 unfoldable pub fork_as : Bool → State → Process → Option ℕ → Attempted
 fork_as granted s me None = refused s me.pid Fork EAGAIN
-fork_as granted s me (Some n) = if granted then gives (born s me n) me.pid Fork (pos n) else no_memory s me.pid Fork
+fork_as granted s me (Some n) = if granted then finish_with (born s me n) me.pid Fork (pos n) else no_memory s me.pid Fork

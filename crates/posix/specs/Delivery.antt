@@ -48,11 +48,12 @@ handle s r signal address =
     if is_full r.signals then (let o = end_process t r (killed SEGV) in record { state = o.state; entries = first ++ o.entries })
     else record { state = t; entries = first ++ Handled r.pid signal.sig signal.carried.value signal.carried.sender ∷ [] }
 
--- the signal has no effect
+-- The signal has no effect. A call that the process is blocked in stays (own).
 abbrev pub discard : State → ℕ → ℕ → Outcome
 discard s p n = record { state = s; entries = Discarded p n ∷ [] }
 
--- The process is stopped and loses its place, and its parent gets notice. A call that it is blocked in stays.
+-- The process is stopped and loses its place, and its parent gets notice. A call that it is blocked in
+-- stays (own).
 unfoldable pub stop_process : State → Process → ℕ → Outcome
 stop_process s r n = record {
   state = record (lose_place s r.pid) { processes = told_of_change (stopped n) r (changed r.pid (stopped_by n) s.processes) };

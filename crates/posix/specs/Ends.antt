@@ -42,8 +42,8 @@ halt s status = record (lose_place (change s 1 (ended status)) 1) { halted = tru
 
 -- The process is a zombie with its status and loses its place, and its children, zombies included, become
 -- those of its heir; which process that is, XSH _exit leaves to the system.
-abbrev pub depart : State → ℕ → ℕ → ℕ → State
-depart s p heir status = record s { processes = adopted p heir (changed p (made_zombie status) s.processes); order = without p s.order }
+abbrev pub leave_children_and_die : State → ℕ → ℕ → ℕ → State
+leave_children_and_die s p heir status = record s { processes = adopted p heir (changed p (made_zombie status) s.processes); order = without p s.order }
 
 -- ---- notice of an end
 
@@ -89,17 +89,17 @@ abbrev pub signalled_group : ℕ → ℕ → List Process → List Process
 signalled_group n group rs = if group == 0 then rs else signalled_members (record { sig = n; carried = from_kernel }) group rs
 
 -- HUP to each member of a process group, then CONT to each, XSH _exit
-abbrev pub roused : ℕ → List Process → List Process
-roused group rs = signalled_members (record { sig = CONT; carried = from_kernel }) group (signalled_members (record { sig = HUP; carried = from_kernel }) group rs)
+abbrev pub hup_and_cont : ℕ → List Process → List Process
+hup_and_cont group rs = signalled_members (record { sig = CONT; carried = from_kernel }) group (signalled_members (record { sig = HUP; carried = from_kernel }) group rs)
 
 -- to those of each of several groups, one after another
-unfoldable pub roused_all : List ℕ → List Process → List Process
-roused_all [] rs = rs
-roused_all (g ∷ gs) rs = roused_all gs (roused g rs)
+unfoldable pub hup_and_cont_all : List ℕ → List Process → List Process
+hup_and_cont_all [] rs = rs
+hup_and_cont_all (g ∷ gs) rs = hup_and_cont_all gs (hup_and_cont g rs)
 
 -- to those of the groups that have become orphaned and have a stopped member
-abbrev pub rouse_orphans : List Process → State → State
-rouse_orphans before s = record s { processes = roused_all (newly_orphaned before s.processes) s.processes }
+abbrev pub hup_and_cont_orphans : List Process → State → State
+hup_and_cont_orphans before s = record s { processes = hup_and_cont_all (newly_orphaned before s.processes) s.processes }
 
 -- ---- the terminal of a session
 
@@ -124,7 +124,7 @@ abbrev pub end_with_heir : State → Process → ℕ → ℕ → Outcome
 end_with_heir s r heir status =
     if r.pid == 1 then record { state = halt s status; entries = Ended r.pid status ∷ Halted ∷ [] }
     else record {
-      state = notice_of_end (rouse_orphans s.processes (tell_of_all (depart s r.pid heir status) heir (zombies_of r.pid s.processes))) r.parent r.pid status;
+      state = notice_of_end (hup_and_cont_orphans s.processes (tell_of_all (leave_children_and_die s r.pid heir status) heir (zombies_of r.pid s.processes))) r.parent r.pid status;
       entries = Ended r.pid status ∷ [];
     }
 

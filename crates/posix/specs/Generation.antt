@@ -80,8 +80,8 @@ make_pending signal g = if is_pending g signal.sig then g else with_pending sign
 
 -- Nothing is generated for a zombie, nor for process 1 where it has no handler for the signal, kill(2);
 -- Linux keeps one that process 1 blocks.
-abbrev pub is_deaf : ℕ → Life → Signals → ℕ → Bool
-is_deaf p life g s = is_zombie life || (p == 1 && not (is_caught (action g s).handler))
+abbrev pub gets_no_signals : ℕ → Life → Signals → ℕ → Bool
+gets_no_signals p life g s = is_zombie life || (p == 1 && not (is_caught (action g s).handler))
 
 -- the signal is kept: it is blocked, also if it is ignored, or its action does something
 abbrev pub keeps : Signals → ℕ → Bool
@@ -103,14 +103,14 @@ after_discards s g =
 -- itself isn't kept.
 unfoldable pub generated : ℕ → Life → PendingSignal → Signals → Signals
 generated p life signal g =
-    if is_deaf p life g signal.sig then g
+    if gets_no_signals p life g signal.sig then g
     else (let h = after_discards signal.sig g in if keeps g signal.sig then make_pending signal h else h)
 
 -- What a signal that is generated does at once: CONT continues a process that is stopped, also where it is
 -- blocked or ignored, XSH 2.4.1 and 2.4.3.
 unfoldable pub effect_of : ℕ → Life → PendingSignal → Signals → Effect
 effect_of p life signal g =
-    if signal.sig == CONT && (is_stopped life && not (is_deaf p life g signal.sig)) then effect.Continued else effect.Nothing
+    if signal.sig == CONT && (is_stopped life && not (gets_no_signals p life g signal.sig)) then effect.Continued else effect.Nothing
 
 -- the process with a signal generated for it, but for what that does at once
 unfoldable pub signalled : PendingSignal → Process → Process

@@ -8,7 +8,7 @@ use Rattle.posix.specs.declared.errno.Errno.TheVariants.{EPERM, ESRCH, EACCES, E
 use Rattle.posix.specs.Processes.{Process, argument}
 use Rattle.posix.specs.Tables.{lookup}
 use Rattle.posix.specs.States.{State, change}
-use Rattle.posix.specs.Outcomes.{Attempted, gives, refused}
+use Rattle.posix.specs.Outcomes.{Attempted, finish_with, refused}
 
 -- the process that a register names: 0 is the caller
 abbrev pub named : Process → ℤ → List Process → Option Process
@@ -20,7 +20,7 @@ named me (negsuc n) rs = None
 
 abbrev pub tells : State → Process → Call → (Process → ℕ) → Option Process → Attempted
 tells s me call field None = refused s me.pid call ESRCH
-tells s me call field (Some r) = gives s me.pid call (pos (field r))
+tells s me call field (Some r) = finish_with s me.pid call (pos (field r))
 
 unfoldable pub getpgid : State → Process → Attempted
 getpgid s me = tells s me Getpgid (λ r. r.group) (named me (argument me 1) s.processes)
@@ -71,7 +71,7 @@ in_group group r = record r { group = group }
 abbrev pub setpgid_with : State → Process → Option Process → Result ℕ Errno → Attempted
 setpgid_with s me target (Err why) = refused s me.pid Setpgid why
 setpgid_with s me None (Ok group) = refused s me.pid Setpgid ESRCH
-setpgid_with s me (Some r) (Ok group) = gives (change s r.pid (in_group group)) me.pid Setpgid (pos 0)
+setpgid_with s me (Some r) (Ok group) = finish_with (change s r.pid (in_group group)) me.pid Setpgid (pos 0)
 
 abbrev pub setpgid_to : State → Process → Option Process → ℤ → Attempted
 setpgid_to s me target group = setpgid_with s me target (move_to me target group s.processes)
@@ -93,4 +93,4 @@ in_session r = record r { session = r.pid; group = r.pid }
 unfoldable pub setsid : State → Process → Attempted
 setsid s me =
     if me.group == me.pid || is_group_of_others me s.processes then refused s me.pid Setsid EPERM
-    else gives (change s me.pid in_session) me.pid Setsid (pos me.pid)
+    else finish_with (change s me.pid in_session) me.pid Setsid (pos me.pid)

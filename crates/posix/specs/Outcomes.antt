@@ -54,15 +54,15 @@ abbrev pub plain : ℤ → Reply
 plain z = record { value = z; changes = λ r. r }
 
 -- the call of p comes to this
-abbrev pub answers : State → ℕ → Call → Reply → Attempted
-answers s p call reply = Done (record {
+abbrev pub finish_call : State → ℕ → Call → Reply → Attempted
+finish_call s p call reply = Done (record {
   state = change s p (λ r. finished ((0, reply.value) ∷ []) (reply.changes r));
   entries = Called p call reply.value ∷ [];
 })
 
 -- the call of p gives z in r0
-abbrev pub gives : State → ℕ → Call → ℤ → Attempted
-gives s p call z = answers s p call (plain z)
+abbrev pub finish_with : State → ℕ → Call → ℤ → Attempted
+finish_with s p call z = finish_call s p call (plain z)
 
 abbrev pub minus : ℕ → ℤ
 minus zero = pos 0
@@ -76,7 +76,7 @@ abbrev pub refusing : Errno → Reply
 refusing errno = plain (refusal errno)
 
 abbrev pub refused : State → ℕ → Call → Errno → Attempted
-refused s p call errno = gives s p call (refusal errno)
+refused s p call errno = finish_with s p call (refusal errno)
 
 -- the host has no memory for what the call asks
 abbrev pub no_memory : State → ℕ → Call → Attempted

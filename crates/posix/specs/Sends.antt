@@ -13,7 +13,7 @@ use Rattle.posix.specs.Processes.{Process, argument}
 use Rattle.posix.specs.Tables.{pids}
 use Rattle.posix.specs.Targets.{target_in}
 use Rattle.posix.specs.States.{State}
-use Rattle.posix.specs.Outcomes.{Attempted, gives, refused}
+use Rattle.posix.specs.Outcomes.{Attempted, finish_with, refused}
 use Rattle.posix.specs.Credentials.{may}
 use Rattle.posix.specs.Notices.{signalled_all}
 
@@ -61,7 +61,7 @@ sent me target s rs = sent_among me s (targets me target rs) rs
 abbrev pub send_with : State → Process → Target → Option ℕ → Sending → Attempted
 send_with s me target sig found.NobodyFound = refused s me.pid Kill ESRCH
 send_with s me target sig found.NobodyPermitted = refused s me.pid Kill EPERM
-send_with s me target sig found.Permitted = gives (record s { processes = sent me target sig s.processes }) me.pid Kill (pos 0)
+send_with s me target sig found.Permitted = finish_with (record s { processes = sent me target sig s.processes }) me.pid Kill (pos 0)
 
 -- the signal that a register names, of the signals that kill and sigaction know: the standard ones, as yet
 abbrev pub signal_in : ℤ → Option ℕ

@@ -15,7 +15,7 @@ use Rattle.posix.specs.Processes.{Process, is_running, argument}
 use Rattle.posix.specs.States.{State, change}
 use Rattle.posix.specs.Consoles.{Console, console_of, changed_console, acquired, with_foreground, with_tostop, line_taken}
 use Rattle.posix.specs.Transfers.{span_in, stored, bytes_in}
-use Rattle.posix.specs.Outcomes.{Attempted, Done, Block, Again, gives, refused, finish}
+use Rattle.posix.specs.Outcomes.{Attempted, Done, Block, Again, finish_with, refused, finish}
 use Rattle.posix.specs.Generation.{action, is_ignored}
 use Rattle.posix.specs.Groups.{is_orphaned}
 use Rattle.posix.specs.GroupCalls.{is_group_of}
@@ -34,8 +34,8 @@ abbrev pub is_in_background : Process → Console → Bool
 is_in_background me c = not (me.group == c.foreground)
 
 -- it blocks the signal or ignores it, XBD 11.1.4
-abbrev pub spurns : Process → ℕ → Bool
-spurns me n = has me.signals.mask n || is_ignored (action me.signals n).handler
+abbrev pub blocks_or_ignores : Process → ℕ → Bool
+blocks_or_ignores me n = has me.signals.mask n || is_ignored (action me.signals n).handler
 
 -- A signal of the kernel is generated for each member of the caller's process group, and the call begins again,
 -- whatever SA_RESTART says (own); in Linux one that is caught gives EINTR without SA_RESTART.
@@ -46,17 +46,17 @@ signal_own_group s me n = Again (record s { processes = signalled_group n me.gro
 -- tcsetpgrp Linux gives ENOTTY in place of EIO.
 abbrev pub if_allowed : State → Process → Call → Console → Attempted → Attempted
 if_allowed s me call c allowed =
-    if not (is_in_background me c) || spurns me TTOU then allowed
+    if not (is_in_background me c) || blocks_or_ignores me TTOU then allowed
     else if is_orphaned me.group s.processes then refused s me.pid call EIO
     else signal_own_group s me TTOU
 
 -- ---- setctty
 
 -- the place of the console that a register names; they count from 1
-abbrev pub place_named : ℤ → Option ℕ
-place_named (pos zero) = None
-place_named (pos (suc k)) = Some k
-place_named (negsuc n) = None
+abbrev pub console_named : ℤ → Option ℕ
+console_named (pos zero) = None
+console_named (pos (suc k)) = Some k
+console_named (negsuc n) = None
 
 -- The leader of a session that has none may acquire a terminal that is nobody's; in Linux its own one again, too.
 abbrev pub may_acquire : State → Process → Console → Bool
@@ -65,7 +65,7 @@ may_acquire s me c = me.session == me.pid && (not (is_some (terminal s me)) && c
 abbrev pub setctty_of : State → Process → ℕ → Option Console → Attempted
 setctty_of s me k None = refused s me.pid Setctty ENOENT
 setctty_of s me k (Some c) =
-    if may_acquire s me c then gives (record s { consoles = slice_set s.consoles k (acquired me.session me.group c) }) me.pid Setctty (pos 0)
+    if may_acquire s me c then finish_with (record s { consoles = slice_set s.consoles k (acquired me.session me.group c) }) me.pid Setctty (pos 0)
     else refused s me.pid Setctty EPERM
 
 abbrev pub setctty_at : State → Process → Option ℕ → Attempted
@@ -74,7 +74,7 @@ setctty_at s me (Some k) = setctty_of s me k (slice_get s.consoles k)
 
 -- the number of the console is in r1
 unfoldable pub setctty : State → Process → Attempted
-setctty s me = setctty_at s me (place_named (argument me 1))
+setctty s me = setctty_at s me (console_named (argument me 1))
 
 -- ---- tcgetpgrp
 
@@ -84,7 +84,7 @@ foreground_told pidmax group = if group == 0 then pidmax + 1 else group
 
 abbrev pub tcgetpgrp_on : State → Process → Option Console → Attempted
 tcgetpgrp_on s me None = refused s me.pid Tcgetpgrp ENOTTY
-tcgetpgrp_on s me (Some c) = gives s me.pid Tcgetpgrp (pos (foreground_told s.world.pidmax c.foreground))
+tcgetpgrp_on s me (Some c) = finish_with s me.pid Tcgetpgrp (pos (foreground_told s.world.pidmax c.foreground))
 
 unfoldable pub tcgetpgrp : State → Process → Attempted
 tcgetpgrp s me = tcgetpgrp_on s me (terminal s me)
@@ -96,7 +96,7 @@ tcgetpgrp s me = tcgetpgrp_on s me (terminal s me)
 abbrev pub put_foreground : State → Process → ℤ → Attempted
 put_foreground s me (negsuc n) = refused s me.pid Tcsetpgrp EINVAL
 put_foreground s me (pos g) =
-    if is_group_of me.session g s.processes then gives (change_console s me.session (with_foreground g)) me.pid Tcsetpgrp (pos 0)
+    if is_group_of me.session g s.processes then finish_with (change_console s me.session (with_foreground g)) me.pid Tcsetpgrp (pos 0)
     else refused s me.pid Tcsetpgrp EPERM
 
 abbrev pub tcsetpgrp_on : State → Process → Option Console → Attempted
@@ -116,7 +116,7 @@ is_nonzero (negsuc n) = true
 abbrev pub settostop_on : State → Process → Option Console → Attempted
 settostop_on s me None = refused s me.pid Settostop ENOTTY
 settostop_on s me (Some c) =
-    if_allowed s me Settostop c (gives (change_console s me.session (with_tostop (is_nonzero (argument me 1)))) me.pid Settostop (pos 0))
+    if_allowed s me Settostop c (finish_with (change_console s me.session (with_tostop (is_nonzero (argument me 1)))) me.pid Settostop (pos 0))
 
 -- TOSTOP is set where r1 isn't 0
 unfoldable pub settostop : State → Process → Attempted
@@ -125,9 +125,9 @@ settostop s me = settostop_on s me (terminal s me)
 -- ---- read and write
 
 -- the call of p moved these bytes
-abbrev pub moved : State → ℕ → Call → List ℕ → Attempted
-moved s p call [] = gives s p call (pos 0)
-moved s p call (b ∷ bs) = Done (record {
+abbrev pub finish_moved : State → ℕ → Call → List ℕ → Attempted
+finish_moved s p call [] = finish_with s p call (pos 0)
+finish_moved s p call (b ∷ bs) = Done (record {
   state = finish s p ((0, pos (length (b ∷ bs))) ∷ []);
   entries = Moved p call (b ∷ bs) ∷ [];
 })
@@ -140,16 +140,16 @@ with_bytes address bytes r = record r { cpu = record (r.cpu) { memory = stored a
 abbrev pub read_from : State → Process → Span → List (List ℕ) → Attempted
 read_from s me span [] = Block blocked.Read
 read_from s me span (line ∷ rest) =
-    moved (change (change_console s me.session (line_taken span.count)) me.pid (with_bytes span.address (take span.count line))) me.pid Read (take span.count line)
+    finish_moved (change (change_console s me.session (line_taken span.count)) me.pid (with_bytes span.address (take span.count line))) me.pid Read (take span.count line)
 
 -- A read from the background, XBD 11.1.4; a count of 0 takes nothing.
 abbrev pub read_in : State → Process → Console → Result Span Errno → Attempted
 read_in s me c (Err why) = refused s me.pid Read why
 read_in s me c (Ok span) =
     if is_in_background me c then (
-    if spurns me TTIN || is_orphaned me.group s.processes then refused s me.pid Read EIO
+    if blocks_or_ignores me TTIN || is_orphaned me.group s.processes then refused s me.pid Read EIO
     else signal_own_group s me TTIN)
-    else if span.count == 0 then gives s me.pid Read (pos 0)
+    else if span.count == 0 then finish_with s me.pid Read (pos 0)
     else read_from s me span c.lines
 
 abbrev pub read_on : State → Process → Option Console → Attempted
@@ -187,7 +187,7 @@ is_reader session r = is_running r.life && (is_in_read r.blocked && r.session ==
 abbrev pub write_in : State → Process → Console → Result Span Errno → Attempted
 write_in s me c (Err why) = refused s me.pid Write why
 write_in s me c (Ok span) =
-    let written = moved s me.pid Write (bytes_in span me.cpu.memory) in
+    let written = finish_moved s me.pid Write (bytes_in span me.cpu.memory) in
     if c.tostop then if_allowed s me Write c written else written
 
 abbrev pub write_on : State → Process → Option Console → Attempted

@@ -18,7 +18,7 @@ use Rattle.posix.specs.Processes.{Process, is_zombie, argument}
 use Rattle.posix.specs.Tables.{removed, children_in}
 use Rattle.posix.specs.States.{State, change}
 use Rattle.posix.specs.Targets.{target_in}
-use Rattle.posix.specs.Outcomes.{Attempted, Done, Block, gives, refused, finish}
+use Rattle.posix.specs.Outcomes.{Attempted, Done, Block, finish_with, refused, finish}
 
 -- ---- options
 
@@ -43,7 +43,8 @@ has_option options option = bit_and options option == option
 
 -- ---- what there is to report
 
--- whether a caller in this process group names a child
+-- Whether a caller in this process group names a child. The caller's own group is the one that it has at the attempt,
+-- not at the call (own). The least number names nobody, which is ECHILD (own): Linux answers ESRCH.
 abbrev pub is_named : ℕ → Target → Process → Bool
 is_named group (whom.Process p) r = r.pid == p
 is_named group whom.OwnGroup r = r.group == group
@@ -78,7 +79,7 @@ abbrev pub report_found : ℕ → Option Process → Report
 report_found options None = found.Nothing
 report_found options (Some r) = report_of options r
 
--- of the named children the least that has something to report
+-- of the named children the least that has something to report (own)
 abbrev pub report_among : ℕ → List Process → Report
 report_among options [] = found.NoChild
 report_among options (r ∷ rs) = report_found options (find (reports options) (r ∷ rs))
@@ -119,7 +120,7 @@ gives_report s p child status = Done (record {
 -- The record of a child that ended goes; of another one the news become none.
 abbrev pub wait_with : State → ℕ → ℕ → Report → Attempted
 wait_with s p options found.NoChild = refused s p Waitpid ECHILD
-wait_with s p options found.Nothing = if has_option options WNOHANG then gives s p Waitpid (pos 0) else Block blocked.Waitpid
+wait_with s p options found.Nothing = if has_option options WNOHANG then finish_with s p Waitpid (pos 0) else Block blocked.Waitpid
 wait_with s p options (found.End child status) = gives_report (record s { processes = removed child s.processes }) p child status
 wait_with s p options (found.Change child status) = gives_report (change s child news_told) p child status
 

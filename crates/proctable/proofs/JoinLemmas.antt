@@ -7,26 +7,26 @@ use Rattle.posix.specs.Processes.{Process}
 use Rattle.posix.specs.Tables.{IsRising, lookup, at, changed, inserted, above, first_pid, is_child, children_in, parent_of, next_sibling}
 use Rattle.posix.proofs.TableLemmas.{above_less, above_filter, pid_looked}
 use Rattle.posix.proofs.MapLemmas.{children_map, filter_map, first_map, lookup_back, some_map}
-use Rattle.proctable.specs.declared.body.Body.{Body}
-use Rattle.proctable.specs.Body.{process_of, with_body, give_body}
+use Rattle.proctable.specs.declared.records.Record.{Record}
+use Rattle.proctable.specs.Records.{process_of, with_record, give_record}
 use Rattle.proctable.specs.declared.node.Node.{Node}
 use Rattle.proctable.specs.declared.node.Ends.{Ends}
 use Rattle.proctable.specs.declared.node.Links.{Links}
 use Rattle.proctable.specs.Nodes.{no_ends, record_of, records, find_node, at_node, changed_node}
 use Rattle.proctable.specs.Cells as cells
 use Rattle.proctable.specs.Joined.{IsJoined, HaveParents, IsTable, last_below, last_pid, ends_in, next_in, prev_in}
-use Rattle.proctable.proofs.Bodies.{body_rises}
+use Rattle.proctable.proofs.RecordLemmas.{record_rises}
 use Rattle.proctable.proofs.CellLemmas.{lookup_records}
 use Rattle.proctable.proofs.KidLemmas.{Absent, absent_tail, at_front}
 
 -- ---- nodes and processes
 
-pub records_changed : (p : ℕ) (b : Body) (ns : List Node) → records (changed_node p (cells.give_body b) ns) ≡ with_body (records ns) p b
-unfolding records changed_node changed give_body
+pub records_changed : (p : ℕ) (b : Record) (ns : List Node) → records (changed_node p (cells.give_record b) ns) ≡ with_record (records ns) p b
+unfolding records changed_node changed give_record
 records_changed p b [] = refl
 records_changed p b (n ∷ ns) =
-    let one : record_of (at_node p (cells.give_body b) n) ≡ at p (give_body b) (record_of n) = elim (n.pid == p) as (λ t. record_of (cond t (cells.give_body b n) n) ≡ cond t (give_body b (record_of n)) (record_of n)) [ true ↦ refl | false ↦ refl ] in
-    rw one (ap (λ l. at p (give_body b) (record_of n) ∷ l) (records_changed p b ns))
+    let one : record_of (at_node p (cells.give_record b) n) ≡ at p (give_record b) (record_of n) = elim (n.pid == p) as (λ t. record_of (cond t (cells.give_record b n) n) ≡ cond t (give_record b (record_of n)) (record_of n)) [ true ↦ refl | false ↦ refl ] in
+    rw one (ap (λ l. at p (give_record b) (record_of n) ∷ l) (records_changed p b ns))
 
 pub find_map : (g : Node → Node) → ((n : Node) → (g n).pid ≡ n.pid) → (q : ℕ) (ns : List Node) → find_node q (map g ns) ≡ option_map g (find_node q ns)
 unfolding find_node
@@ -145,43 +145,43 @@ parents_kept g rs keeps h p r e =
       | inr s ↦ inr (subst (λ n. IsSome (lookup n (map g rs))) (sym q) (some_map g keeps.pid b.what.parent rs s))
     ]
 
--- ---- another body
+-- ---- another record
 
-given : (p : ℕ) (b : Body) → Keeps (at p (give_body b))
-unfolding give_body
+given : (p : ℕ) (b : Record) → Keeps (at p (give_record b))
+unfolding give_record
 given p b = record {
   pid = λ r. elim (r.pid == p) as (λ t. (cond t (process_of r.pid r.parent b) r).pid ≡ r.pid) [ true ↦ refl | false ↦ refl ];
   parent = λ r. elim (r.pid == p) as (λ t. (cond t (process_of r.pid r.parent b) r).parent ≡ r.parent) [ true ↦ refl | false ↦ refl ];
 }
 
-left : (p : ℕ) (b : Body) → Leaves (at_node p (cells.give_body b))
+left : (p : ℕ) (b : Record) → Leaves (at_node p (cells.give_record b))
 left p b = record {
-  pid = λ n. elim (n.pid == p) as (λ t. (cond t (cells.give_body b n) n).pid ≡ n.pid) [ true ↦ refl | false ↦ refl ];
-  links = λ n. elim (n.pid == p) as (λ t. (cond t (cells.give_body b n) n).links ≡ n.links) [ true ↦ refl | false ↦ refl ];
+  pid = λ n. elim (n.pid == p) as (λ t. (cond t (cells.give_record b n) n).pid ≡ n.pid) [ true ↦ refl | false ↦ refl ];
+  links = λ n. elim (n.pid == p) as (λ t. (cond t (cells.give_record b n) n).links ≡ n.links) [ true ↦ refl | false ↦ refl ];
 }
 
-pub table_body : (ns : List Node) (roots : Ends) (p : ℕ) (b : Body) → IsTable ns roots → IsTable (changed_node p (cells.give_body b) ns) roots
-unfolding changed_node changed give_body
-table_body ns roots p b t = record {
-  rising = subst IsRising (sym (records_changed p b ns)) (body_rises (records ns) t.rising p b);
-  parents = subst HaveParents (sym (records_changed p b ns)) (parents_kept (at p (give_body b)) (records ns) (given p b) t.parents);
-  joined = subst (λ ks. IsJoined ks (map (at_node p (cells.give_body b)) ns) roots) (sym (records_changed p b ns)) (joined_kept (at p (give_body b)) (at_node p (cells.give_body b)) (records ns) ns roots (given p b) (left p b) t.joined);
+pub table_record : (ns : List Node) (roots : Ends) (p : ℕ) (b : Record) → IsTable ns roots → IsTable (changed_node p (cells.give_record b) ns) roots
+unfolding changed_node changed give_record
+table_record ns roots p b t = record {
+  rising = subst IsRising (sym (records_changed p b ns)) (record_rises (records ns) t.rising p b);
+  parents = subst HaveParents (sym (records_changed p b ns)) (parents_kept (at p (give_record b)) (records ns) (given p b) t.parents);
+  joined = subst (λ ks. IsJoined ks (map (at_node p (cells.give_record b)) ns) roots) (sym (records_changed p b ns)) (joined_kept (at p (give_record b)) (at_node p (cells.give_record b)) (records ns) ns roots (given p b) (left p b) t.joined);
 }
 
 -- the process that was read
-pub body_read : (ns : List Node) (p : ℕ) (b : Body) → IsSome (lookup p (records ns)) → (IsRising (records ns)) → option_map (λ (n : Node). n.body) (find_node p ns) ≡ Some b
+pub record_read : (ns : List Node) (p : ℕ) (b : Record) → IsSome (lookup p (records ns)) → (IsRising (records ns)) → option_map (λ (n : Node). n.fields) (find_node p ns) ≡ Some b
     → lookup p (records ns) ≡ Some (process_of p (parent_of p (records ns)) b)
-body_read ns p b h up e =
+record_read ns p b h up e =
     elim (lookup p (records ns)) as (λ o. lookup p (records ns) ≡ o → IsSome o → o ≡ Some (process_of p (option_map_or (λ (r : Process). r.parent) o 0) b)) [
       | None ↦ λ w h. absurd (cc)
       | Some r ↦ λ w h.
           let n = node_of ns p r w in
           let named : r.pid ≡ p = pid_looked p (records ns) r w in
-          let k : Some n.what.body ≡ Some b = sym (ap (option_map (λ (n : Node). n.body)) n.found) ∙ e in
-          let same : n.what.body ≡ b = cc in
+          let k : Some n.what.fields ≡ Some b = sym (ap (option_map (λ (n : Node). n.fields)) n.found) ∙ e in
+          let same : n.what.fields ≡ b = cc in
           let pid : n.what.pid ≡ p = ap (λ (r : Process). r.pid) (sym n.is) ∙ named in
           let parent : n.what.links.parent ≡ r.parent = ap (λ (r : Process). r.parent) (sym n.is) in
-          ap Some (n.is ∙ ap (λ q. process_of q n.what.links.parent n.what.body) pid ∙ ap (λ q. process_of p q n.what.body) parent ∙ ap (process_of p r.parent) same)
+          ap Some (n.is ∙ ap (λ q. process_of q n.what.links.parent n.what.fields) pid ∙ ap (λ q. process_of p q n.what.fields) parent ∙ ap (process_of p r.parent) same)
     ] refl h
 
 pub no_table : (ns : List Node) (roots : Ends) → ns ≡ [] → roots ≡ no_ends → IsTable ns roots

@@ -1,4 +1,4 @@
-pub mod Bodies
+pub mod RecordLemmas
 pub mod ScanLemmas
 pub mod CellLemmas
 pub mod KidLemmas

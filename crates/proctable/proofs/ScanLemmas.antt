@@ -9,9 +9,9 @@ use Rattle.posix.proofs.WalkLemmas.{filters_commute}
 use Rattle.pidset.specs.Numbers.{Rises, IsNumberAt, inserted_in_order}
 use Rattle.pidset.proofs.NumberLemmas.{AllAbove}
 use Rattle.pidset.proofs.ItemLemmas.{above_at, read_at as item_read}
-use Rattle.proctable.specs.declared.body.Body.{Body}
-use Rattle.proctable.specs.Body.{process_of, give_body, with_body}
-use Rattle.proctable.proofs.Bodies.{body_rises}
+use Rattle.proctable.specs.declared.records.Record.{Record}
+use Rattle.proctable.specs.Records.{process_of, give_record, with_record}
+use Rattle.proctable.proofs.RecordLemmas.{record_rises}
 
 -- ---- records as rows
 
@@ -68,18 +68,18 @@ sibling_is rs up p i r a is =
     let q : parent_of p rs ≡ r.parent = rw (read_at rs up p i r a is).looked refl in
     rw (above_at (λ (r : Process). r.pid) rs (rises_pids rs up) p i a) (ap first_pid (filters_commute (is_child r.parent) (λ r. nat_lt p r.pid) rs) ∙ ap (λ n. first_pid (above p (filter (is_child n) rs))) (sym q))
 
--- ---- another body at an index
+-- ---- another record at an index
 
--- another body put at the index is another body of the process
-pub set_is : (rs : List Process) → IsRising rs → (p i : ℕ) (r : Process) (b : Body) → Read rs p i r → slice_set rs i (give_body b r) ≡ with_body rs p b
-set_is rs up p i r b a = sym (changed_at rs up p i r (give_body b) a.at a.here)
+-- another record put at the index is another record of the process
+pub set_is : (rs : List Process) → IsRising rs → (p i : ℕ) (r : Process) (b : Record) → Read rs p i r → slice_set rs i (give_record b r) ≡ with_record rs p b
+set_is rs up p i r b a = sym (changed_at rs up p i r (give_record b) a.at a.here)
 
--- another body put at the index keeps the order
-pub set_rises : (rs : List Process) → IsRising rs → (p i : ℕ) (r : Process) (b : Body) → Read rs p i r → IsRising (slice_set rs i (give_body b r))
-set_rises rs up p i r b a = subst IsRising (changed_at rs up p i r (give_body b) a.at a.here) (body_rises rs up p b)
+-- another record put at the index keeps the order
+pub set_rises : (rs : List Process) → IsRising rs → (p i : ℕ) (r : Process) (b : Record) → Read rs p i r → IsRising (slice_set rs i (give_record b r))
+set_rises rs up p i r b a = subst IsRising (changed_at rs up p i r (give_record b) a.at a.here) (record_rises rs up p b)
 
--- a process is its pid, its parent and the body that was read
-pub value_is : (rs : List Process) (p i : ℕ) (r : Process) (b : Body) → Read rs p i r → r ≡ process_of r.pid r.parent b → lookup p rs ≡ Some (process_of p (parent_of p rs) b)
+-- a process is its pid, its parent and the record that was read
+pub value_is : (rs : List Process) (p i : ℕ) (r : Process) (b : Record) → Read rs p i r → r ≡ process_of r.pid r.parent b → lookup p rs ≡ Some (process_of p (parent_of p rs) b)
 value_is rs p i r b a e =
     let q : parent_of p rs ≡ r.parent = rw a.looked refl in
     a.looked ∙ ap Some (e ∙ ap (λ n. process_of n r.parent b) a.here ∙ ap (λ q. process_of p q b) (sym q))

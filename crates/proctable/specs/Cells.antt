@@ -4,7 +4,7 @@ use Rattle.std.specs.List.{AllByRecursion}
 use Rattle.std.specs.Borrow.{MutBor}
 use Rattle.std.specs.Fn.{Once, FnOnceReturnsAtMut}
 use Rattle.slab.specs.Slab.{Slab, get, slab_len}
-use Rattle.proctable.specs.declared.body.Body.{Body}
+use Rattle.proctable.specs.declared.records.Record.{Record}
 use Rattle.proctable.specs.declared.entry.Entry.{Entry}
 use Rattle.proctable.specs.declared.node.Links.{Links}
 use Rattle.proctable.specs.declared.node.Node.{Node}
@@ -16,7 +16,7 @@ use Rattle.proctable.specs.NodeSlots.{one_more}
 pub record CellsView : Type 0 where
   pub nodes : List Node
   pub room : ℕ
-  pub reads : ℕ
+  pub visits : ℕ
 
 -- the entry of a process
 abbrev pub entry_of : ℕ → List Entry → Option Entry
@@ -40,8 +40,8 @@ pub record IsIndexed (es : List Entry) (slab : Slab Node) : Type 0 where
   pub standing : AllByRecursion (Stands slab) es
   pub counted : slab_len slab ≡ length es
 
-abbrev pub give_body : Body → Node → Node
-give_body b n = record n { body = b }
+abbrev pub give_record : Record → Node → Node
+give_record b n = record n { fields = b }
 
 -- the links changed as f does
 abbrev pub with_links : (Links → Links) → Node → Node
@@ -66,5 +66,5 @@ with_prev o n = with_links (λ l. record l { prev = o }) n
 abbrev pub with_next : Option ℕ → Node → Node
 with_next o n = with_links (λ l. record l { next = o }) n
 
-abbrev pub cells_with_body : CellsView → ℕ → Body → CellsView
-cells_with_body c p b = record c { nodes = changed_node p (give_body b) c.nodes; reads = one_more c.reads }
+abbrev pub cells_with_record : CellsView → ℕ → Record → CellsView
+cells_with_record c p b = record c { nodes = changed_node p (give_record b) c.nodes; visits = one_more c.visits }

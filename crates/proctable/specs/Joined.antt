@@ -3,8 +3,8 @@ use Rattle.std.specs.Prelude.{◌≡◌, ◌≢◌, ℕ, ◌<◌, ◌==◌, Bool
 use Rattle.std.specs.Option.{option_and_then, option_map_or}
 use Rattle.posix.specs.Processes.{Process}
 use Rattle.posix.specs.Tables.{IsRising, lookup, above, children_in, first_pid}
-use Rattle.proctable.specs.declared.body.Body.{Body}
-use Rattle.proctable.specs.Body.{with_body}
+use Rattle.proctable.specs.declared.records.Record.{Record}
+use Rattle.proctable.specs.Records.{with_record}
 use Rattle.proctable.specs.declared.node.Ends.{Ends}
 use Rattle.proctable.specs.declared.node.Node.{Node}
 use Rattle.proctable.specs.Nodes.{no_ends, records, find_node, at_node}
@@ -44,10 +44,10 @@ pub record IsTable (ns : List Node) (roots : Ends) : Type 0 where
 pub record TableView : Type 0 where
   pub processes : List Process
   pub room : ℕ
-  pub reads : ℕ
+  pub visits : ℕ
 
-abbrev pub table_with_body : TableView → ℕ → Body → TableView
-table_with_body t p b = record t { processes = with_body t.processes p b; reads = one_more t.reads }
+abbrev pub table_with_record : TableView → ℕ → Record → TableView
+table_with_record t p b = record t { processes = with_record t.processes p b; visits = one_more t.visits }
 
 -- ---- links written
 

@@ -1,4 +1,4 @@
-pub mod Body
+pub mod Records
 pub mod ScanTable
 pub mod NodeSlots
 pub mod Nodes

@@ -8,7 +8,7 @@ use Rattle.proctable.specs.contracts.node.Node.{the_row as the_node_row}
 -- the nodes by slot, and how many slots were read
 pub record NodeSlotsView : Type 0 where
   pub nodes : Slab Node
-  pub reads : ℕ
+  pub visits : ℕ
 
 abbrev pub node_row : RattleType
 node_row = the_node_row
@@ -19,4 +19,4 @@ one_more n = min (n + 1) (2 ^ 128 - 1)
 
 -- the slots with another node in a slot that was read once
 abbrev pub with_node : NodeSlotsView → ℕ → Node → NodeSlotsView
-with_node s slot n = record { nodes = with_value s.nodes slot n; reads = one_more s.reads }
+with_node s slot n = record { nodes = with_value s.nodes slot n; visits = one_more s.visits }

@@ -2,20 +2,20 @@
 use Rattle.std.specs.Prelude.{ℕ, ◌==◌, not, if◌then◌else◌, List, map, filter, find, Option, None}
 use Rattle.posix.specs.Processes.{Process}
 use Rattle.pidset.specs.Numbers.{inserted_in_order}
-use Rattle.proctable.specs.declared.facts.Facts.{Facts}
-use Rattle.proctable.specs.Body.{process_of, facts_of}
+use Rattle.proctable.specs.declared.snapshot.Snapshot.{Snapshot}
+use Rattle.proctable.specs.Records.{process_of, snapshot_of}
 use Rattle.proctable.specs.declared.node.Ends.{Ends}
 use Rattle.proctable.specs.declared.node.Node.{Node}
 
 abbrev pub record_of : Node → Process
-record_of n = process_of n.pid n.links.parent n.body
+record_of n = process_of n.pid n.links.parent n.fields
 
 -- of a list without children
 abbrev pub no_ends : Ends
 no_ends = record { first = None; last = None }
 
-abbrev pub facts_at : Node → Facts
-facts_at n = facts_of (record_of n)
+abbrev pub snapshot_at : Node → Snapshot
+snapshot_at n = snapshot_of (record_of n)
 
 unfoldable pub records : List Node → List Process
 records ns = map record_of ns

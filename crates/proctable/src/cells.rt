@@ -3,16 +3,16 @@
 ghost use Rattle.std.specs.Prelude.{◌≡◌, ◌+◌, ◌-◌, ◌<◌, ◌≤◌, ◌^◌, [], min, length, None, Some, IsSome, OnOk, option_map};
 ghost use Rattle.std.specs.Borrow.{sem, Lends};
 ghost use Rattle.posix.specs.Tables.{IsRising, lookup, next_above};
-ghost use Rattle.proctable.specs.Body.{body_row, facts_of};
+ghost use Rattle.proctable.specs.Records.{record_row, snapshot_of};
 ghost use Rattle.proctable.specs.Nodes.{find_node, changed_node, inserted_node, removed_node, records};
-ghost use Rattle.proctable.specs.Cells.{cells_with_body, with_links, ChangesLinksAs};
+ghost use Rattle.proctable.specs.Cells.{cells_with_record, with_links, ChangesLinksAs};
 ghost use Rattle.proctable.specs.contracts.cells.Cells.{the_row as cells_row};
 
-use crate::body::Body;
 use crate::entry::{Entry, found, slot_of};
-use crate::facts::Facts;
 use crate::node::{Links, Node};
 use crate::node_slots::NodeSlots;
+use crate::records::Record;
+use crate::snapshot::Snapshot;
 use pidset::numbered::{next_above_near, put_in, take_out};
 use posix::Pid;
 use std::alloc::{AllocError, Global};
@@ -36,7 +36,7 @@ impl Model for Cells {
 
     ghost Value = { CellsView };
 
-    ghost view = { λ c. record { nodes = nodes_of c.index.items c.slots.nodes; room = min (vec_capacity c.index - vec_len c.index) (c.slots.nodes.capacity - slab_len c.slots.nodes); reads = c.slots.reads } };
+    ghost view = { λ c. record { nodes = nodes_of c.index.items c.slots.nodes; room = min (vec_capacity c.index - vec_len c.index) (c.slots.nodes.capacity - slab_len c.slots.nodes); visits = c.slots.visits } };
 
     ghost invariant = { λ c. IsIndexed c.index.items c.slots.nodes };
 }
@@ -45,7 +45,7 @@ impl Cells {
     /// No nodes. It takes no memory.
     pub fn new(alloc: Global) -> Cells
         ensures nodes { result.nodes ≡ [] }
-        ensures reads { result.reads ≡ 0 }
+        ensures visits { result.visits ≡ 0 }
     {
         Cells {
             index: Vec::new(alloc),
@@ -59,7 +59,7 @@ impl Cells {
         ensures ok { OnOk result (0 < self.new.room) }
         ensures room { self.old.room ≤ self.new.room }
         ensures nodes { self.new.nodes ≡ self.old.nodes }
-        ensures reads { self.new.reads ≡ self.old.reads }
+        ensures visits { self.new.visits ≡ self.old.visits }
     {
         self.index.reserve(1)?;
         self.slots.reserve()
@@ -70,7 +70,7 @@ impl Cells {
         ensures value { result ≡ option_map (λ n. n.links) (find_node pid self.old.nodes) }
         ensures nodes { self.new.nodes ≡ self.old.nodes }
         ensures room { self.new.room ≡ self.old.room }
-        ensures reads { self.new.reads ≤ self.old.reads + 1 }
+        ensures visits { self.new.visits ≤ self.old.visits + 1 }
     {
         match slot_of(&self.index, &mut self.recent, pid) {
             Some(slot) => Some(self.slots.links(slot)),
@@ -80,15 +80,15 @@ impl Cells {
 
     /// The small fields of a process; none where it isn't there.
     #[inline(always)]
-    pub fn facts(&mut self, pid: Pid) -> Option<Facts>
-        ensures value { result ≡ option_map facts_of (lookup pid (records self.old.nodes)) }
+    pub fn snapshot(&mut self, pid: Pid) -> Option<Snapshot>
+        ensures value { result ≡ option_map snapshot_of (lookup pid (records self.old.nodes)) }
         ensures size { length self.old.nodes < 2 ^ 63 }
         ensures nodes { self.new.nodes ≡ self.old.nodes }
         ensures room { self.new.room ≡ self.old.room }
-        ensures reads { self.new.reads ≤ self.old.reads + 1 }
+        ensures visits { self.new.visits ≤ self.old.visits + 1 }
     {
         match slot_of(&self.index, &mut self.recent, pid) {
-            Some(slot) => Some(self.slots.facts(slot)),
+            Some(slot) => Some(self.slots.snapshot(slot)),
             None => None,
         }
     }
@@ -98,7 +98,7 @@ impl Cells {
         requires { F.IsAlwaysCallable change }
         ensures nodes { (f : _) → ChangesLinksAs F.FnOnce change f → self.new.nodes ≡ changed_node pid (with_links f) self.old.nodes }
         ensures room { self.new.room ≡ self.old.room }
-        ensures reads { self.new.reads ≤ self.old.reads + 1 }
+        ensures visits { self.new.visits ≤ self.old.visits + 1 }
     {
         if let Some(slot) = slot_of(&self.index, &mut self.recent, pid) {
             let node = self.slots.node(slot);
@@ -106,16 +106,16 @@ impl Cells {
         }
     }
 
-    /// The body of a process that is there, for the caller to change.
+    /// The record of a process that is there, for the caller to change.
     #[inline]
-    pub fn body_mut(&mut self, pid: Pid) -> &mut Body
+    pub fn record_mut(&mut self, pid: Pid) -> &mut Record
         requires { IsSome (find_node pid self.old.nodes) }
-        ensures* lends { sem 𝓛 (Lends cells_row body_row self.entry result (cells_with_body self.old pid)) }
-        ensures value { option_map (λ n. n.body) (find_node pid self.old.nodes) ≡ Some result.now }
+        ensures* lends { sem 𝓛 (Lends cells_row record_row self.entry result (cells_with_record self.old pid)) }
+        ensures value { option_map (λ n. n.fields) (find_node pid self.old.nodes) ≡ Some result.now }
     {
         let slot = found(&self.index, &mut self.recent, pid);
         let node = self.slots.node(slot);
-        &mut node.body
+        &mut node.fields
     }
 
     /// Puts in a node of a process that isn't there, where there is room.
@@ -124,7 +124,7 @@ impl Cells {
         requires absent { find_node node.pid self.old.nodes ≡ None }
         ensures nodes { self.new.nodes ≡ inserted_node node self.old.nodes }
         ensures room { self.old.room ≤ self.new.room + 1 }
-        ensures reads { self.new.reads ≤ self.old.reads + 1 }
+        ensures visits { self.new.visits ≤ self.old.visits + 1 }
     {
         let pid = node.pid;
         let slot = self.slots.insert(node);
@@ -136,7 +136,7 @@ impl Cells {
         ensures value { result ≡ find_node pid self.old.nodes }
         ensures nodes { self.new.nodes ≡ removed_node pid self.old.nodes }
         ensures room { self.old.room ≤ self.new.room }
-        ensures reads { self.new.reads ≤ self.old.reads + 1 }
+        ensures visits { self.new.visits ≤ self.old.visits + 1 }
     {
         match take_out(&mut self.index, &pid) {
             Some(entry) => Some(self.slots.remove(entry.slot)),
@@ -165,9 +165,9 @@ impl Cells {
     }
 
     /// How many slots were read, up to the greatest u128. No slot is read.
-    pub fn reads(&self) -> u128
-        ensures { result ≡ self.now.reads }
+    pub fn visits(&self) -> u128
+        ensures { result ≡ self.now.visits }
     {
-        self.slots.reads()
+        self.slots.visits()
     }
 }

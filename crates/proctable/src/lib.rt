@@ -2,24 +2,24 @@
 //! with linked children and one that scans.
 #![tactic(auto)]
 
-pub mod body;
 mod cells;
 mod entry;
-pub mod facts;
 pub mod kin;
 mod links;
 mod node;
 mod node_slots;
-pub mod own;
+pub mod own_part;
 pub mod proc_table;
+pub mod records;
 pub mod scan;
 mod slot;
+pub mod snapshot;
 pub mod spare;
 
-pub use body::Body;
-pub use facts::Facts;
 pub use kin::Kin;
-pub use own::Own;
+pub use own_part::OwnPart;
 pub use proc_table::ProcTable;
+pub use records::Record;
 pub use scan::ScanTable;
+pub use snapshot::Snapshot;
 pub use spare::Spare;

@@ -16,7 +16,7 @@ pub fn ends_of(cells: &mut Cells, roots: Ends, pid: Pid) -> Ends
     ensures value { result ≡ ends_in cells.old.nodes roots pid }
     ensures nodes { cells.new.nodes ≡ cells.old.nodes }
     ensures room { cells.new.room ≡ cells.old.room }
-    ensures reads { cells.new.reads ≤ cells.old.reads + 1 }
+    ensures visits { cells.new.visits ≤ cells.old.visits + 1 }
 {
     if pid == Pid::NONE {
         return roots;
@@ -32,7 +32,7 @@ pub fn next_of(cells: &mut Cells, pid: Pid) -> Option<Pid>
     ensures value { result ≡ next_in cells.old.nodes pid }
     ensures nodes { cells.new.nodes ≡ cells.old.nodes }
     ensures room { cells.new.room ≡ cells.old.room }
-    ensures reads { cells.new.reads ≤ cells.old.reads + 1 }
+    ensures visits { cells.new.visits ≤ cells.old.visits + 1 }
 {
     match cells.links(pid) {
         Some(links) => links.next,
@@ -45,7 +45,7 @@ fn prev_of(cells: &mut Cells, pid: Pid) -> Option<Pid>
     ensures value { result ≡ prev_in cells.old.nodes pid }
     ensures nodes { cells.new.nodes ≡ cells.old.nodes }
     ensures room { cells.new.room ≡ cells.old.room }
-    ensures reads { cells.new.reads ≤ cells.old.reads + 1 }
+    ensures visits { cells.new.visits ≤ cells.old.visits + 1 }
 {
     match cells.links(pid) {
         Some(links) => links.prev,
@@ -58,7 +58,7 @@ fn child_before(cells: &mut Cells, roots: Ends, parent: Pid, next: Option<Pid>) 
     ensures value { result ≡ before_in cells.old.nodes roots parent next }
     ensures nodes { cells.new.nodes ≡ cells.old.nodes }
     ensures room { cells.new.room ≡ cells.old.room }
-    ensures reads { cells.new.reads ≤ cells.old.reads + 1 }
+    ensures visits { cells.new.visits ≤ cells.old.visits + 1 }
 {
     match next {
         Some(sibling) => prev_of(cells, sibling),
@@ -82,7 +82,7 @@ fn rejoin(
     ensures nodes { cells.new.nodes ≡ rejoined parent prev next after before cells.old.nodes }
     ensures roots { result ≡ roots_after parent prev next after before roots }
     ensures room { cells.new.room ≡ cells.old.room }
-    ensures reads { cells.new.reads ≤ cells.old.reads + 2 }
+    ensures visits { cells.new.visits ≤ cells.old.visits + 2 }
 {
     let first = follow(cells, roots.first, parent, prev, after);
     let last = precede(cells, roots.last, parent, next, before);
@@ -101,7 +101,7 @@ fn follow(
     ensures nodes { cells.new.nodes ≡ map (set_after parent prev after) cells.old.nodes }
     ensures first { result ≡ end_after parent prev after first }
     ensures room { cells.new.room ≡ cells.old.room }
-    ensures reads { cells.new.reads ≤ cells.old.reads + 1 }
+    ensures visits { cells.new.visits ≤ cells.old.visits + 1 }
 {
     match prev {
         Some(sibling) => cells.relink(sibling, |links| links.next = after),
@@ -127,7 +127,7 @@ fn precede(
     ensures nodes { cells.new.nodes ≡ map (set_before parent next before) cells.old.nodes }
     ensures last { result ≡ end_after parent next before last }
     ensures room { cells.new.room ≡ cells.old.room }
-    ensures reads { cells.new.reads ≤ cells.old.reads + 1 }
+    ensures visits { cells.new.visits ≤ cells.old.visits + 1 }
 {
     match next {
         Some(sibling) => cells.relink(sibling, |links| links.prev = before),
@@ -158,7 +158,7 @@ fn neighbours(
     ensures next { result.1 ≡ first_pid (spec.above pid (children_in parent (removed pid (records cells.old.nodes)))) }
     ensures nodes { cells.new.nodes ≡ cells.old.nodes }
     ensures room { cells.new.room ≡ cells.old.room }
-    ensures reads { cells.new.reads ≤ cells.old.reads + 1 + length (between pid above (children_in parent (removed pid (records cells.old.nodes)))) }
+    ensures visits { cells.new.visits ≤ cells.old.visits + 1 + length (between pid above (children_in parent (removed pid (records cells.old.nodes)))) }
 {
     let mut next = above;
     let mut prev = child_before(cells, roots, parent, above);
@@ -183,7 +183,7 @@ pub fn link(cells: &mut Cells, roots: Ends, parent: Pid, pid: Pid, above: Option
     ensures processes { records cells.new.nodes ≡ changed pid (moved parent) (records cells.old.nodes) }
     ensures joined { IsJoined (records cells.new.nodes) cells.new.nodes result }
     ensures room { cells.new.room ≡ cells.old.room }
-    ensures reads { cells.new.reads ≤ cells.old.reads + 4 + length (between pid above (children_in parent (removed pid (records cells.old.nodes)))) }
+    ensures visits { cells.new.visits ≤ cells.old.visits + 4 + length (between pid above (children_in parent (removed pid (records cells.old.nodes)))) }
 {
     let top = roots;
     let (before, after) = neighbours(cells, roots, parent, pid, above);
@@ -204,7 +204,7 @@ pub fn unlink(cells: &mut Cells, roots: Ends, pid: Pid) -> Ends
     ensures processes { records cells.new.nodes ≡ records cells.old.nodes }
     ensures joined { IsJoined (removed pid (records cells.new.nodes)) cells.new.nodes result }
     ensures room { cells.new.room ≡ cells.old.room }
-    ensures reads { cells.new.reads ≤ cells.old.reads + 3 }
+    ensures visits { cells.new.visits ≤ cells.old.visits + 3 }
 {
     match cells.links(pid) {
         Some(links) => {
@@ -235,7 +235,7 @@ pub fn adopt_all(cells: &mut Cells, roots: Ends, from: Pid, to: Pid) -> Ends
     ensures processes { records cells.new.nodes ≡ adopted from to (records cells.old.nodes) }
     ensures table { IsTable cells.new.nodes result }
     ensures room { cells.new.room ≡ cells.old.room }
-    ensures reads { cells.new.reads ≤ cells.old.reads + 1 + 8 * length (children_in from (records cells.old.nodes)) + length (children_in to (records cells.old.nodes)) }
+    ensures visits { cells.new.visits ≤ cells.old.visits + 1 + 8 * length (children_in from (records cells.old.nodes)) + length (children_in to (records cells.old.nodes)) }
 {
     let mut top = roots;
     let mut above = None;

@@ -3,7 +3,7 @@
 ghost use Rattle.std.specs.Prelude.{◌≡◌};
 ghost use Rattle.proctable.specs.Nodes.{no_ends};
 
-use crate::body::Body;
+use crate::records::Record;
 use posix::Pid;
 
 /// The ends of a list of children, which is linked in rising order of their numbers.
@@ -45,7 +45,7 @@ pub struct Links {
 #[derive(Drop)]
 pub struct Node {
     /// All but its number and where it stands.
-    pub body: Body,
+    pub fields: Record,
     /// Its number.
     pub pid: Pid,
     /// Where it stands.

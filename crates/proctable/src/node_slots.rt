@@ -4,11 +4,11 @@ ghost use Rattle.std.specs.Prelude.{◌≡◌, ◌+◌, ◌-◌, ◌<◌, ◌≤
 ghost use Rattle.std.specs.Borrow.{sem, Lends};
 ghost use Rattle.slab.specs.Slab.{get, ContainsKey, HasRoomFor, Updates, slab_len};
 ghost use Rattle.proctable.specs.contracts.node_slots.NodeSlots.{the_row as node_slots_row};
-ghost use Rattle.proctable.specs.Nodes.{facts_at};
+ghost use Rattle.proctable.specs.Nodes.{snapshot_at};
 ghost use Rattle.proctable.specs.NodeSlots.{one_more, with_node, node_row};
 
-use crate::facts::Facts;
 use crate::node::{Links, Node};
+use crate::snapshot::Snapshot;
 use slab::Slab;
 use std::alloc::{AllocError, Global};
 use std::marker::Model;
@@ -19,7 +19,7 @@ use std::marker::Model;
 pub struct NodeSlots {
     nodes: Slab<Node>,
     /// Up to the greatest u128, at which it stays.
-    reads: u128,
+    visits: u128,
 }
 
 impl Model for NodeSlots {
@@ -27,18 +27,18 @@ impl Model for NodeSlots {
 
     ghost Value = { NodeSlotsView };
 
-    ghost view = { λ s. record { nodes = s.nodes; reads = s.reads } };
+    ghost view = { λ s. record { nodes = s.nodes; visits = s.visits } };
 }
 
 impl NodeSlots {
     /// No slots. It takes no memory.
     pub fn new(alloc: Global) -> NodeSlots
         ensures nodes { result.nodes.slots ≡ [] }
-        ensures reads { result.reads ≡ 0 }
+        ensures visits { result.visits ≡ 0 }
     {
         NodeSlots {
             nodes: Slab::new(alloc),
-            reads: 0,
+            visits: 0,
         }
     }
 
@@ -47,16 +47,16 @@ impl NodeSlots {
         ensures ok { OnOk result (HasRoomFor self.new.nodes 1) }
         ensures slots { self.new.nodes.slots ≡ self.old.nodes.slots }
         ensures capacity { self.old.nodes.capacity ≤ self.new.nodes.capacity }
-        ensures reads { self.new.reads ≡ self.old.reads }
+        ensures visits { self.new.visits ≡ self.old.visits }
     {
         self.nodes.reserve(1)
     }
 
     /// A slot is reached.
     fn count(&mut self)
-        ensures { self.new ≡ record self.old { reads = one_more self.old.reads } }
+        ensures { self.new ≡ record self.old { visits = one_more self.old.visits } }
     {
-        self.reads = self.reads.saturating_add(1);
+        self.visits = self.visits.saturating_add(1);
     }
 
     /// The links of the process in a slot.
@@ -64,7 +64,7 @@ impl NodeSlots {
         requires { ContainsKey self.old.nodes slot }
         ensures value { option_map (λ n. n.links) (get self.old.nodes slot) ≡ Some result }
         ensures nodes { self.new.nodes ≡ self.old.nodes }
-        ensures reads { self.new.reads ≡ one_more self.old.reads }
+        ensures visits { self.new.visits ≡ one_more self.old.visits }
     {
         self.count();
         let node = &self.nodes[slot];
@@ -73,15 +73,15 @@ impl NodeSlots {
 
     /// The small fields of the process in a slot.
     #[inline(always)]
-    pub fn facts(&mut self, slot: usize) -> Facts
+    pub fn snapshot(&mut self, slot: usize) -> Snapshot
         requires { ContainsKey self.old.nodes slot }
-        ensures value { option_map facts_at (get self.old.nodes slot) ≡ Some result }
+        ensures value { option_map snapshot_at (get self.old.nodes slot) ≡ Some result }
         ensures nodes { self.new.nodes ≡ self.old.nodes }
-        ensures reads { self.new.reads ≡ one_more self.old.reads }
+        ensures visits { self.new.visits ≡ one_more self.old.visits }
     {
         self.count();
         let node = &self.nodes[slot];
-        node.body.facts(node.pid, node.links.parent)
+        node.fields.snapshot(node.pid, node.links.parent)
     }
 
     /// The node in a slot, for the caller to change.
@@ -101,7 +101,7 @@ impl NodeSlots {
         ensures updates { Updates self.old.nodes self.new.nodes result (Some node) }
         ensures len { slab_len self.new.nodes ≡ slab_len self.old.nodes + 1 }
         ensures capacity { self.new.nodes.capacity ≡ self.old.nodes.capacity }
-        ensures reads { self.new.reads ≡ one_more self.old.reads }
+        ensures visits { self.new.visits ≡ one_more self.old.visits }
     {
         self.count();
         self.nodes.insert_reserved(node)
@@ -114,16 +114,16 @@ impl NodeSlots {
         ensures updates { Updates self.old.nodes self.new.nodes slot None }
         ensures len { slab_len self.new.nodes + 1 ≡ slab_len self.old.nodes }
         ensures capacity { self.new.nodes.capacity ≡ self.old.nodes.capacity }
-        ensures reads { self.new.reads ≡ one_more self.old.reads }
+        ensures visits { self.new.visits ≡ one_more self.old.visits }
     {
         self.count();
         self.nodes.remove(slot)
     }
 
     /// How many slots were read or written, up to the greatest u128. No slot is read.
-    pub fn reads(&self) -> u128
-        ensures { result ≡ self.now.reads }
+    pub fn visits(&self) -> u128
+        ensures { result ≡ self.now.visits }
     {
-        self.reads
+        self.visits
     }
 }

@@ -2,14 +2,14 @@
 
 ghost use Rattle.std.specs.Prelude.{refl};
 ghost use Rattle.proctable.specs.NodeSlots.{one_more};
-ghost use Rattle.proctable.specs.Joined.{table_with_body};
+ghost use Rattle.proctable.specs.Joined.{table_with_record};
 
-use crate::body::Body;
 use crate::cells::Cells;
-use crate::facts::Facts;
 use crate::kin::Kin;
 use crate::links::{adopt_all, ends_of, link, next_of, unlink};
 use crate::node::{Ends, Links, Node};
+use crate::records::Record;
+use crate::snapshot::Snapshot;
 use crate::spare::{Spare, Spares};
 use posix::Pid;
 use std::alloc::{AllocError, Global};
@@ -39,7 +39,7 @@ impl Model for ProcTable {
 
     ghost Value = { TableView };
 
-    ghost view = { λ t. record { processes = records t.cells.nodes; room = t.cells.room; reads = t.cells.reads } };
+    ghost view = { λ t. record { processes = records t.cells.nodes; room = t.cells.room; visits = t.cells.visits } };
 
     ghost invariant = { λ t. IsTable t.cells.nodes t.roots };
 }
@@ -49,11 +49,11 @@ impl Kin for ProcTable {
 
     ghost room = { λ t. t.room };
 
-    ghost reads = { λ t. t.reads };
+    ghost visits = { λ t. t.visits };
 
     ghost one_more = { one_more };
 
-    ghost put = { table_with_body };
+    ghost put = { table_with_record };
 
     ghost puts = { λ t p b. refl };
 
@@ -79,25 +79,25 @@ impl Kin for ProcTable {
         self.cells.reserve()
     }
 
-    fn insert(&mut self, pid: Pid, parent: Pid, body: Body) {
+    fn insert(&mut self, pid: Pid, parent: Pid, fields: Record) {
         let links = Links {
             parent,
             children: Ends::none(),
             prev: None,
             next: None,
         };
-        self.cells.insert(Node { pid, links, body });
+        self.cells.insert(Node { pid, links, fields });
         self.roots = link(&mut self.cells, self.roots, parent, pid, None);
     }
 
     #[inline(always)]
-    fn get(&mut self, pid: Pid) -> Option<Facts> {
-        self.cells.facts(pid)
+    fn get(&mut self, pid: Pid) -> Option<Snapshot> {
+        self.cells.snapshot(pid)
     }
 
     #[inline]
-    fn update(&mut self, pid: Pid) -> &mut Body {
-        self.cells.body_mut(pid)
+    fn update(&mut self, pid: Pid) -> &mut Record {
+        self.cells.record_mut(pid)
     }
 
     fn spare(&mut self) -> Option<Spare> {
@@ -108,7 +108,7 @@ impl Kin for ProcTable {
         self.roots = unlink(&mut self.cells, self.roots, pid);
         let gone = self.cells.remove(pid);
         self.spares
-            .keep(gone.map(|node| node.body.own.into_spare()));
+            .keep(gone.map(|node| node.fields.own.into_spare()));
     }
 
     fn first_child(&mut self, pid: Pid) -> Option<Pid> {
@@ -130,6 +130,6 @@ impl Kin for ProcTable {
     }
 
     fn visits(&self) -> u128 {
-        self.cells.reads()
+        self.cells.visits()
     }
 }

@@ -3,12 +3,12 @@
 ghost use Rattle.std.specs.Prelude.{◌≡◌, map, refl, option_map, find, IsSome};
 ghost use Rattle.std.proofs.Common.{arith};
 ghost use Rattle.posix.specs.Tables.{IsRising, lookup, is_child, next_sibling, reparented};
-ghost use Rattle.proctable.specs.ScanTable.{scan_with_body};
+ghost use Rattle.proctable.specs.ScanTable.{scan_with_record};
 
-use crate::body::Body;
-use crate::facts::Facts;
 use crate::kin::Kin;
+use crate::records::Record;
 use crate::slot::Slot;
+use crate::snapshot::Snapshot;
 use crate::spare::{Spare, Spares};
 use pidset::Numbered;
 use pidset::numbered::{found, item_of, next_above, put_in, take_out};
@@ -42,11 +42,11 @@ impl Kin for ScanTable {
 
     ghost room = { λ t. t.room };
 
-    ghost reads = { λ t. 0 };
+    ghost visits = { λ t. 0 };
 
     ghost one_more = { λ n. n };
 
-    ghost put = { scan_with_body };
+    ghost put = { scan_with_record };
 
     ghost puts = { λ t p b. refl };
 
@@ -68,21 +68,21 @@ impl Kin for ScanTable {
         self.slots.reserve(1)
     }
 
-    fn insert(&mut self, pid: Pid, parent: Pid, body: Body) {
-        put_in(&mut self.slots, Slot::new(pid, parent, body));
+    fn insert(&mut self, pid: Pid, parent: Pid, fields: Record) {
+        put_in(&mut self.slots, Slot::new(pid, parent, fields));
     }
 
-    fn get(&mut self, pid: Pid) -> Option<Facts> {
+    fn get(&mut self, pid: Pid) -> Option<Snapshot> {
         let Some(slot) = item_of(&self.slots, &pid) else {
             return None;
         };
-        Some(slot.facts())
+        Some(slot.snapshot())
     }
 
-    fn update(&mut self, pid: Pid) -> &mut Body {
+    fn update(&mut self, pid: Pid) -> &mut Record {
         let at = found(&self.slots, &pid);
         let slot = &mut self.slots[at];
-        slot.body_mut()
+        slot.record_mut()
     }
 
     fn spare(&mut self) -> Option<Spare> {

@@ -3,11 +3,11 @@
 ghost use Rattle.std.specs.Prelude.{◌≡◌};
 ghost use Rattle.std.specs.Borrow.{sem, Lends};
 ghost use Rattle.posix.specs.Tables.{reparented};
-ghost use Rattle.proctable.specs.Body.{facts_of, process_of, give_body, body_row};
+ghost use Rattle.proctable.specs.Records.{snapshot_of, process_of, give_record, record_row};
 ghost use Rattle.proctable.specs.contracts.slot.Slot.{the_row as slot_row};
 
-use crate::body::Body;
-use crate::facts::Facts;
+use crate::records::Record;
+use crate::snapshot::Snapshot;
 use crate::spare::Spare;
 use pidset::Numbered;
 use posix::Pid;
@@ -18,7 +18,7 @@ use std::marker::Model;
 pub struct Slot {
     pid: Pid,
     parent: Pid,
-    body: Body,
+    fields: Record,
 }
 
 impl Model for Slot {
@@ -26,9 +26,9 @@ impl Model for Slot {
 
     ghost Value = { Process };
 
-    ghost use Rattle.proctable.specs.Body.{process_of};
+    ghost use Rattle.proctable.specs.Records.{process_of};
 
-    ghost view = { λ s. process_of s.pid s.parent s.body };
+    ghost view = { λ s. process_of s.pid s.parent s.fields };
 }
 
 impl Numbered for Slot {
@@ -49,15 +49,19 @@ impl Slot {
     }
 
     /// A process of these parts.
-    pub fn new(pid: Pid, parent: Pid, body: Body) -> Slot
-        ensures { result ≡ process_of pid parent body }
+    pub fn new(pid: Pid, parent: Pid, fields: Record) -> Slot
+        ensures { result ≡ process_of pid parent fields }
     {
-        Slot { pid, parent, body }
+        Slot {
+            pid,
+            parent,
+            fields,
+        }
     }
 
     /// The memory of a process that was taken out.
     pub fn into_spare(self) -> Spare {
-        self.body.own.into_spare()
+        self.fields.own.into_spare()
     }
 
     /// Its parent's number.
@@ -68,10 +72,10 @@ impl Slot {
     }
 
     /// Its small fields.
-    pub fn facts(&self) -> Facts
-        ensures { result ≡ facts_of self.now }
+    pub fn snapshot(&self) -> Snapshot
+        ensures { result ≡ snapshot_of self.now }
     {
-        self.body.facts(self.pid, self.parent)
+        self.fields.snapshot(self.pid, self.parent)
     }
 
     /// If it is a child of `from`, it becomes one of `to`.
@@ -84,11 +88,11 @@ impl Slot {
     }
 
     /// All of it but the numbers.
-    #[tactic(auto, unfolding(crate::specs::Body::give_body))]
-    pub fn body_mut(&mut self) -> &mut Body
-        ensures* lends { sem 𝓛 (Lends slot_row body_row self.entry result (λ b. give_body b self.old)) }
+    #[tactic(auto, unfolding(crate::specs::Records::give_record))]
+    pub fn record_mut(&mut self) -> &mut Record
+        ensures* lends { sem 𝓛 (Lends slot_row record_row self.entry result (λ b. give_record b self.old)) }
         ensures value { self.old ≡ process_of self.old.pid self.old.parent result.now }
     {
-        &mut self.body
+        &mut self.fields
     }
 }

@@ -36,11 +36,11 @@ impl Actions {
         requires { AreFields self.now }
         ensures { result ≡ slice_index_or (actions_of self.now) (sig - 1) initial_action }
     {
-        let place = place(sig);
+        let row = row_of(sig);
         Action {
-            handler: handler(self.dispositions[place], self.addresses[place]),
-            mask: self.masks[place],
-            flags: self.flags[place],
+            handler: handler(self.dispositions[row], self.addresses[row]),
+            mask: self.masks[row],
+            flags: self.flags[row],
         }
     }
 
@@ -50,12 +50,12 @@ impl Actions {
         ensures action { actions_of self.new ≡ slice_set (actions_of self.old) (sig - 1) action }
         ensures fields { AreFields self.new }
     {
-        let place = place(sig);
+        let row = row_of(sig);
         let (disposition, address) = parts(action.handler);
-        self.dispositions[place] = disposition;
-        self.addresses[place] = address;
-        self.masks[place] = action.mask;
-        self.flags[place] = action.flags;
+        self.dispositions[row] = disposition;
+        self.addresses[row] = address;
+        self.masks[row] = action.mask;
+        self.flags[row] = action.flags;
     }
 
     /// What another program leaves of them: caught signals go to the default, masks and flags go (XSH exec).
@@ -91,7 +91,7 @@ pub fn keep_actions(kept: &mut Vec<Actions, Arena>)
 }
 
 /// Where a signal stands in a table.
-pub fn place(sig: Sig) -> usize
+pub fn row_of(sig: Sig) -> usize
     ensures value { result ≡ sig - 1 }
     ensures within { result < 64 }
 {

@@ -4,7 +4,7 @@ ghost use Rattle.std.specs.Prelude.{◌≡◌, [], true, false, None, Some, Ok, 
 ghost use Rattle.posix.specs.Processes.{initial_signals, nothing_pending};
 ghost use Rattle.posix.specs.Ends.{forgotten, drops_children as drops_children_of};
 ghost use Rattle.posix.specs.Notices.{ignores_children as ignores_children_of, ignores_stops as ignores_stops_of};
-ghost use Rattle.posix.specs.Generation.{action as action_of, is_pending as is_pending_of, with_pending, without_stops, after_discards, is_deaf as is_deaf_to, keeps as keeps_of, generated, effect_of};
+ghost use Rattle.posix.specs.Generation.{action as action_of, is_pending as is_pending_of, with_pending, without_stops, after_discards, gets_no_signals as gets_no_signals_of, keeps as keeps_of, generated, effect_of};
 ghost use Rattle.posix.specs.Choice.{chosen, least_ready as least_ready_of, carried_by, taken};
 ghost use Rattle.posix.specs.Handlers.{is_full as is_full_of, handler_mask as handler_mask_of, entered, at_handler, after_entry as after_entry_of, handler_arguments, newest_frame, left, restore, set_action as set_action_of, set_mask as set_mask_of, give_mask};
 ghost use Rattle.posix.specs.Programs.{signals_on_exec};
@@ -169,8 +169,8 @@ impl Signals {
     // ---- generation and choice
 
     /// Whether nothing is generated: for a zombie, and for process 1 where it has no handler (kill(2)).
-    fn is_deaf(&self, pid: Pid, life: Life, sig: Sig) -> bool
-        ensures { result ≡ is_deaf_to pid life self.now sig }
+    fn gets_no_signals(&self, pid: Pid, life: Life, sig: Sig) -> bool
+        ensures { result ≡ gets_no_signals_of pid life self.now sig }
     {
         matches!(life, Life::Zombie(_))
             || (pid == Pid::INIT && !is_caught(self.action(sig).handler))
@@ -220,7 +220,7 @@ impl Signals {
     {
         let sig = signal.sig;
         let continues = sig == Sig::CONT && matches!(life, Life::Stopped);
-        if self.is_deaf(pid, life, sig) {
+        if self.gets_no_signals(pid, life, sig) {
             return Effect::Nothing;
         }
         let is_kept = self.keeps(sig);

@@ -7,7 +7,7 @@ ghost use Rattle.posix.specs.Handlers.{most_frames};
 ghost use Rattle.posix.specs.Programs.{action_on_exec};
 ghost use Rattle.signal.specs.SignalTables.{initial_tables, nothing_carried, carried_or_blank};
 
-use crate::action_fields::{Actions, keep_actions, place};
+use crate::action_fields::{Actions, keep_actions, row_of};
 use arena::{Arena, refill};
 use bitflags::Flags;
 use posix::{Action, Carried, Frame, Handler, SaFlags, Sig, SigSet};
@@ -126,7 +126,7 @@ impl LazyTables {
             return Carried::FROM_KERNEL;
         }
         if sig.number() <= 31 {
-            self.carried[0][place(sig)]
+            self.carried[0][row_of(sig)]
         } else {
             Carried::FROM_KERNEL
         }
@@ -138,7 +138,7 @@ impl LazyTables {
         ensures { self.new ≡ record self.old { carried = slice_set self.old.carried (sig - 1) carried } }
     {
         keep_carried(&mut self.carried);
-        self.carried[0][place(sig)] = carried;
+        self.carried[0][row_of(sig)] = carried;
     }
 
     // ---- frames

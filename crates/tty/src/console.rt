@@ -1,6 +1,6 @@
 //! A console: the keys that are typed at it, the lines that they make, and whose terminal it is.
 
-ghost use Rattle.std.specs.Prelude.{◌≡◌, ◌≤◌, ◌==◌, ◌++◌, not, length, IfOk};
+ghost use Rattle.std.specs.Prelude.{◌≡◌, ◌≤◌, ◌==◌, ◌||◌, ◌++◌, not, length, IfOk};
 ghost use Rattle.posix.specs.Consoles.{unused_console, keyed, key_signal, edit as edited_by, finishes, finish_line, has_room, flushed, erased, with_byte, line_taken, acquired, released, with_foreground, with_tostop};
 ghost use Rattle.tty.specs.Limits.{IsWithinLimits};
 ghost use Rattle.tty.specs.Lines.{Takes};
@@ -31,6 +31,13 @@ const QUIT: u8 = 0x1c;
 
 /// ERASE, the key DEL.
 const ERASE: u8 = 0x7f;
+
+/// Whether a key ends the line that is edited: NL and EOF do (XBD 11.1.9).
+pub fn ends_line(key: u8) -> bool
+    ensures { result ≡ (key == 10 || key == 4) }
+{
+    key == NL || key == EOF
+}
 
 /// What a key did.
 #[derive(Clone, Copy, Debug, PartialEq, Eq)]

@@ -6,5 +6,5 @@ pub mod lines;
 #[cfg(test)]
 mod tests;
 
-pub use console::{Console, KeyEffect};
+pub use console::{Console, KeyEffect, ends_line};
 pub use posix::{Pid, Sig};

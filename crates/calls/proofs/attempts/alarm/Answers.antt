@@ -6,7 +6,7 @@ use Rattle.posix.specs.declared.errno.Errno.TheVariants.{EINVAL}
 use Rattle.posix.specs.Processes.{argument}
 use Rattle.posix.specs.States.{State, process, change}
 use Rattle.posix.specs.Execute.{register}
-use Rattle.posix.specs.Outcomes.{answers, gives, refusal}
+use Rattle.posix.specs.Outcomes.{finish_call, finish_with, refusal}
 use Rattle.posix.specs.Alarms.{alarm, alarm_in, ticks_in, ticks_left, due_in, with_alarm}
 use Rattle.posix.specs.Attempts.{attempt}
 use Rattle.posix.proofs.TableLemmas.{pid_looked}
@@ -30,12 +30,12 @@ returns-in_default g c = λ me e.
     let word : to_z w64 (of_z w64 c.register-word.result) ≡ argument me 1 = kept ∙ c.register-word.ensures ∙ ap (λ o. register o.cpu 1) is in
     let none : ticks_in (argument me 1) ≡ None = ap ticks_in (sym word) ∙ sym c.ticks_in.ensures ∙ c.in_default.is in (
       true,
-      gives_is s s _ _ _ p Alarm (refusal EINVAL) (refusal EINVAL) _ _ _ (ap (λ o. answers s me.pid Alarm (alarm_in s.ticks me o)) none ∙ ap (λ q. gives s q Alarm (refusal EINVAL)) named)
+      gives_is s s _ _ _ p Alarm (refusal EINVAL) (refusal EINVAL) _ _ _ (ap (λ o. finish_call s me.pid Alarm (alarm_in s.ticks me o)) none ∙ ap (λ q. finish_with s q Alarm (refusal EINVAL)) named)
           c.refuse.ensures.done c.refuse.ensures.state same c.refuse.ensures.shown refl,
     )
 
-pub gives-requires-clause-there : goal.gives-requires-clause-there
-gives-requires-clause-there g c =
+pub finish_with-requires-clause-there : goal.finish_with-requires-clause-there
+finish_with-requires-clause-there g c =
     let same = state_is c.look.follows.holds-at-none in
     let here = subst (λ (t : State). IsSome (process t c.args.pid)) (sym same) (placed_some _ c.args.pid c.requires.acting.placed) in
     subst (λ (t : State). IsSome (process t c.args.pid)) (sym c.set_alarm-left.ensures.state) (some_changed c.args.pid c.args.pid (with_alarm _) (unseen_with_alarm _).pid _ here)
@@ -56,6 +56,6 @@ returns g c = λ me e.
     let few = c.set_alarm-left.ensures.few in
     let value = to_z_pos w64 c.set_alarm-left.result (omega (arith, few)) ∙ ap pos (c.set_alarm-left.ensures.left me (ap (λ (t : State). process t p) same ∙ e) ∙ ap (λ (t : State). ticks_left t.ticks me.alarm) same) in (
       true,
-      gives_is s (change s p (with_alarm due)) _ _ _ p Alarm _ left _ _ _ (ap (λ o. answers s me.pid Alarm (alarm_in s.ticks me o)) some ∙ ap (λ q. answers s q Alarm (alarm_in s.ticks me (Some c.in-Some.ticks))) named ∙ answers_then s p Alarm left (with_alarm due) (unseen_with_alarm due).pid)
-          c.gives.ensures.done c.gives.ensures.state (c.set_alarm-left.ensures.state ∙ ap (λ (t : State). change t p (with_alarm (due_in t.ticks c.in-Some.ticks))) same) c.gives.ensures.shown value,
+      gives_is s (change s p (with_alarm due)) _ _ _ p Alarm _ left _ _ _ (ap (λ o. finish_call s me.pid Alarm (alarm_in s.ticks me o)) some ∙ ap (λ q. finish_call s q Alarm (alarm_in s.ticks me (Some c.in-Some.ticks))) named ∙ answers_then s p Alarm left (with_alarm due) (unseen_with_alarm due).pid)
+          c.finish_with.ensures.done c.finish_with.ensures.state (c.set_alarm-left.ensures.state ∙ ap (λ (t : State). change t p (with_alarm (due_in t.ticks c.in-Some.ticks))) same) c.finish_with.ensures.shown value,
     )

@@ -1,7 +1,7 @@
 use Rattle.std.proofs.Common.{sym, subst, true}
 use Rattle.posix.specs.States.{change}
 use Rattle.posix.specs.Attempts.{attempt}
-use Rattle.proctable.specs.Body.{give_own}
+use Rattle.proctable.specs.Records.{give_own}
 use Rattle.calls.specs.Outcomes.{Comes}
 use Rattle.calls.proofs.OwnLemmas.{answered}
 use Rattle.calls.proofs.attempts.attempt.Goals as goal

@@ -3,12 +3,12 @@ use Rattle.std.specs.Option.{IsSome}
 use Rattle.posix.specs.declared.call.Call.TheVariants.{Fork}
 use Rattle.posix.specs.declared.errno.Errno.TheVariants.{EAGAIN}
 use Rattle.posix.specs.States.{State, process, next_pid, change}
-use Rattle.posix.specs.Outcomes.{refusal, finish, finished, gives, no_memory}
+use Rattle.posix.specs.Outcomes.{refusal, finish, finished, finish_with, no_memory}
 use Rattle.posix.specs.Births.{fork_as, born, child_of}
 use Rattle.posix.specs.Attempts.{attempt}
 use Rattle.posix.proofs.OrderLemmas.{placed_some}
 use Rattle.posix.proofs.TableLemmas.{pid_looked}
-use Rattle.proctable.specs.Body.{give_own}
+use Rattle.proctable.specs.Records.{give_own}
 use Rattle.life.proofs.LoanLemmas.{was_written}
 use Rattle.calls.specs.declared.outcome.Attempt.TheVariants as came
 use Rattle.calls.specs.Outcomes.{Comes}
@@ -23,12 +23,12 @@ returns-in_default g c = λ me e.
     let named = pid_looked c.args.pid s.processes me e in
     let none : next_pid s ≡ None = sym c.next_pid.ensures ∙ c.in_default.is in (
       true,
-      gives_is s s _ _ _ c.args.pid Fork (refusal EAGAIN) (refusal EAGAIN) _ _ _ (ap (fork_as true s me) none ∙ ap (λ q. gives s q Fork (refusal EAGAIN)) named)
+      gives_is s s _ _ _ c.args.pid Fork (refusal EAGAIN) (refusal EAGAIN) _ _ _ (ap (fork_as true s me) none ∙ ap (λ q. finish_with s q Fork (refusal EAGAIN)) named)
           c.refuse.ensures.done c.refuse.ensures.state refl c.refuse.ensures.shown refl,
     )
 
-pub gives-requires-clause-there : goal.gives-requires-clause-there
-gives-requires-clause-there g c =
+pub finish_with-requires-clause-there : goal.finish_with-requires-clause-there
+finish_with-requires-clause-there g c =
     let s = c.args.machine.now.state in
     let me = c.requires.acting.placed in
     subst (λ (t : State). IsSome (process t c.args.pid)) (sym (c.in-Ok.ensures.ok me.what me.found))
@@ -45,8 +45,8 @@ returns-in-Ok g c = λ me e.
     let kept : to_z w64 (of_z w64 c.from.result) ≡ c.from.result = search rules in
     let value = kept ∙ c.from.ensures ∙ ap pos c.number.ensures.value in (
       true,
-      gives_is s (born s me child) _ _ _ p Fork (to_z w64 (of_z w64 c.from.result)) (pos child) _ _ _ (ap (fork_as true s me) some ∙ ap (λ q. gives (born s me child) q Fork (pos child)) named)
-          c.gives.ensures.done c.gives.ensures.state (c.in-Ok.ensures.ok me e) c.gives.ensures.shown value,
+      gives_is s (born s me child) _ _ _ p Fork (to_z w64 (of_z w64 c.from.result)) (pos child) _ _ _ (ap (fork_as true s me) some ∙ ap (λ q. finish_with (born s me child) q Fork (pos child)) named)
+          c.finish_with.ensures.done c.finish_with.ensures.state (c.in-Ok.ensures.ok me e) c.finish_with.ensures.shown value,
     )
 
 pub own-requires : goal.own-requires

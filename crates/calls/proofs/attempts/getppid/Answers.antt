@@ -1,6 +1,6 @@
 use Rattle.std.proofs.Common.{◌≡◌, ◌∙◌, ap, true, pos, rules, to_z, of_z, w64}
 use Rattle.posix.specs.declared.call.Call.TheVariants.{Getppid}
-use Rattle.posix.specs.Outcomes.{gives}
+use Rattle.posix.specs.Outcomes.{finish_with}
 use Rattle.posix.specs.Attempts.{attempt}
 use Rattle.posix.proofs.TableLemmas.{pid_looked}
 use Rattle.calls.proofs.CallLemmas.{gives_is}
@@ -14,6 +14,6 @@ returns g c = λ me e.
     let value = kept ∙ c.from.ensures ∙ ap pos (c.number.ensures.value ∙ c.parent-parent.ensures.value me e) in
     let named = pid_looked c.args.pid s.processes me e in (
       true,
-      gives_is s s _ _ _ c.args.pid Getppid (to_z w64 (of_z w64 c.from.result)) (pos me.parent) _ _ _ (ap (λ p. gives s p Getppid (pos me.parent)) named)
-          c.gives.ensures.done c.gives.ensures.state c.parent-parent.ensures.same c.gives.ensures.shown value,
+      gives_is s s _ _ _ c.args.pid Getppid (to_z w64 (of_z w64 c.from.result)) (pos me.parent) _ _ _ (ap (λ p. finish_with s p Getppid (pos me.parent)) named)
+          c.finish_with.ensures.done c.finish_with.ensures.state c.parent-parent.ensures.looks.same.state c.finish_with.ensures.shown value,
     )

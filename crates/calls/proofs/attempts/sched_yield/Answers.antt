@@ -2,15 +2,15 @@ use Rattle.std.proofs.Common.{ap, sym, subst, refl, true, pos}
 use Rattle.std.specs.Option.{IsSome}
 use Rattle.posix.specs.declared.call.Call.TheVariants.{SchedYield}
 use Rattle.posix.specs.States.{State, process, go_last}
-use Rattle.posix.specs.Outcomes.{gives}
+use Rattle.posix.specs.Outcomes.{finish_with}
 use Rattle.posix.specs.Attempts.{attempt}
 use Rattle.posix.proofs.TableLemmas.{pid_looked}
 use Rattle.posix.proofs.OrderLemmas.{placed_some}
 use Rattle.calls.proofs.CallLemmas.{gives_is}
 use Rattle.calls.proofs.attempts.sched_yield.Goals as goal
 
-pub gives-requires-clause-there : goal.gives-requires-clause-there
-gives-requires-clause-there g c =
+pub finish_with-requires-clause-there : goal.finish_with-requires-clause-there
+finish_with-requires-clause-there g c =
     let s = c.args.machine.now.state in
     subst (λ (t : State). IsSome (process t c.args.pid)) (sym c.go_last.ensures.state) (placed_some s.processes c.args.pid c.requires.acting.placed)
 
@@ -21,6 +21,6 @@ returns g c = λ me e.
     let p = c.args.pid in
     let named = pid_looked p s.processes me e in (
       true,
-      gives_is s (go_last s p) _ _ _ p SchedYield (pos 0) (pos 0) _ _ _ (ap (λ q. gives (go_last s q) q SchedYield (pos 0)) named)
-          c.gives.ensures.done c.gives.ensures.state c.go_last.ensures.state c.gives.ensures.shown refl,
+      gives_is s (go_last s p) _ _ _ p SchedYield (pos 0) (pos 0) _ _ _ (ap (λ q. finish_with (go_last s q) q SchedYield (pos 0)) named)
+          c.finish_with.ensures.done c.finish_with.ensures.state c.go_last.ensures.state c.finish_with.ensures.shown refl,
     )

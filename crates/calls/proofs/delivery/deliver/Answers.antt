@@ -2,7 +2,7 @@ use Rattle.std.proofs.Common.{rules, ◌≡◌, ◌∙◌, ap, sym, of_z, to_z, 
 use Rattle.posix.specs.States.{change}
 use Rattle.posix.specs.Delivery.{deliver, handle, take_out}
 use Rattle.posix.proofs.RegularLemmas.{keeps_take_out}
-use Rattle.proctable.specs.Body.{give_own}
+use Rattle.proctable.specs.Records.{give_own}
 use Rattle.life.proofs.LoanLemmas.{was_written}
 use Rattle.life.proofs.SoundLemmas.{is_there}
 use Rattle.calls.proofs.CallLemmas.{outcome_of}
@@ -30,11 +30,11 @@ returns-in-At g c = λ me e.
     let w = record o { signals = c.take-carried.new.self } in
     let t = change s p (give_own w) in
     let changed = was_written s p o w (take_out c.args.sig) c.own-own.ensures.regular c.own-own.ensures.value (λ r. ap (λ h. give_own (record o { signals = h }) r) c.take-carried.ensures.state) in
-    let reads : Reads s x c.args.sig t c.action-action.result = record { action_is = c.action-action.ensures; state_is = changed } in
+    let visits : Reads s x c.args.sig t c.action-action.result = record { action_is = c.action-action.ensures; state_is = changed } in
     let after = there_then s t p (take_out c.args.sig) (keeps_take_out {now = 0} c.args.sig).pid changed x (own_there s p o me c.own-own.ensures.value e) in
     let kept : to_z w64 (of_z w64 c.in-At.address) ≡ c.in-At.address = search rules in
     of_own (λ x. deliver s x c.args.sig ≡ outcome_of c.handle.new.machine.state c.handle.new.entries.items) s p o me c.own-own.ensures.value e
-    (deliver_at s x c.args.sig t c.action-action.result c.in-At.address c.take-carried.result reads c.in-At.is c.take-carried.ensures.value
+    (deliver_at s x c.args.sig t c.action-action.result c.in-At.address c.take-carried.result visits c.in-At.is c.take-carried.ensures.value
     ∙ ap (handle t (take_out c.args.sig x) (record { sig = c.args.sig; carried = c.take-carried.result })) (sym kept)
     ∙ c.handle.ensures (take_out c.args.sig x) after)
 
@@ -48,9 +48,9 @@ returns-in-Ignore g c = λ me e.
     let w = record o { signals = c.take-carried.new.self } in
     let t = change s p (give_own w) in
     let changed = was_written s p o w (take_out c.args.sig) c.own-own.ensures.regular c.own-own.ensures.value (λ r. ap (λ h. give_own (record o { signals = h }) r) c.take-carried.ensures.state) in
-    let reads : Reads s x c.args.sig t c.action-action.result = record { action_is = c.action-action.ensures; state_is = changed } in
+    let visits : Reads s x c.args.sig t c.action-action.result = record { action_is = c.action-action.ensures; state_is = changed } in
     of_own (λ x. deliver s x c.args.sig ≡ outcome_of t c.push.new.self.items) s p o me c.own-own.ensures.value e
-    (deliver_ignored s x c.args.sig t c.action-action.result reads c.in-Ignore.is ∙ ap (outcome_of t) (shown_alone _ _ _ c.requires.none c.push.ensures.items))
+    (deliver_ignored s x c.args.sig t c.action-action.result visits c.in-Ignore.is ∙ ap (outcome_of t) (shown_alone _ _ _ c.requires.none c.push.ensures.items))
 
 pub returns-in-Default : goal.returns-in-Default
 unfolding take_out
@@ -62,7 +62,7 @@ returns-in-Default g c = λ me e.
     let w = record o { signals = c.take-carried.new.self } in
     let t = change s p (give_own w) in
     let changed = was_written s p o w (take_out c.args.sig) c.own-own.ensures.regular c.own-own.ensures.value (λ r. ap (λ h. give_own (record o { signals = h }) r) c.take-carried.ensures.state) in
-    let reads : Reads s x c.args.sig t c.action-action.result = record { action_is = c.action-action.ensures; state_is = changed } in
+    let visits : Reads s x c.args.sig t c.action-action.result = record { action_is = c.action-action.ensures; state_is = changed } in
     let after = there_then s t p (take_out c.args.sig) (keeps_take_out {now = 0} c.args.sig).pid changed x (own_there s p o me c.own-own.ensures.value e) in
     of_own (λ x. deliver s x c.args.sig ≡ outcome_of c.act_by_default.new.machine.state c.act_by_default.new.entries.items) s p o me c.own-own.ensures.value e
-    (deliver_default s x c.args.sig t c.action-action.result reads c.in-Default.is ∙ c.act_by_default.ensures (take_out c.args.sig x) after)
+    (deliver_default s x c.args.sig t c.action-action.result visits c.in-Default.is ∙ c.act_by_default.ensures (take_out c.args.sig x) after)

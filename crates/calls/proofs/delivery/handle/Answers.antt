@@ -8,7 +8,7 @@ use Rattle.posix.specs.Ends.{end_process}
 use Rattle.posix.specs.Handlers.{handles}
 use Rattle.posix.specs.Delivery.{handle, interruption}
 use Rattle.posix.proofs.RegularLemmas.{keeps_handles}
-use Rattle.proctable.specs.Body.{give_own}
+use Rattle.proctable.specs.Records.{give_own}
 use Rattle.life.proofs.LoanLemmas.{was_written}
 use Rattle.calls.proofs.CallLemmas.{outcome_of}
 use Rattle.calls.proofs.DeliveryLemmas.{handle_room, handle_full, there_then}

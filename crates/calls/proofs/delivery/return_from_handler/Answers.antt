@@ -3,7 +3,7 @@ use Rattle.posix.specs.States.{State, process, change}
 use Rattle.posix.specs.Handlers.{returned}
 use Rattle.posix.specs.Delivery.{return_from_handler, return_to, fault}
 use Rattle.posix.specs.SignalNumbers.{SEGV}
-use Rattle.proctable.specs.Body.{give_own}
+use Rattle.proctable.specs.Records.{give_own}
 use Rattle.life.proofs.LoanLemmas.{was_written, only_read}
 use Rattle.calls.proofs.CallLemmas.{outcome_of}
 use Rattle.calls.proofs.DeliveryLemmas.{return_is, shown_alone}

@@ -3,7 +3,7 @@ use Rattle.posix.specs.Processes.{argument}
 use Rattle.posix.specs.States.{State, process}
 use Rattle.posix.specs.Execute.{register}
 use Rattle.posix.specs.GroupCalls.{named}
-use Rattle.proctable.specs.Body.{facts_of}
+use Rattle.proctable.specs.Records.{snapshot_of}
 use Rattle.life.proofs.LoanLemmas.{own_is}
 use Rattle.life.proofs.ViewLemmas.{state_is}
 use Rattle.calls.proofs.groups.named.Goals as goal
@@ -16,4 +16,4 @@ returns-clause-value g c = λ me e.
     let kept : to_z w64 (of_z w64 c.register-word.result) ≡ c.register-word.result = search rules in
     let word : to_z w64 (of_z w64 c.register-word.result) ≡ argument me 1 = kept ∙ c.register-word.ensures ∙ ap (λ o. register o.cpu 1) is in
     c.named.ensures.value me (ap (λ (t : State). process t c.args.pid) same ∙ e)
-    ∙ ap (λ (t : State). option_map facts_of (named me (to_z w64 (of_z w64 c.register-word.result)) t.processes)) same ∙ ap (λ z. option_map facts_of (named me z s.processes)) word
+    ∙ ap (λ (t : State). option_map snapshot_of (named me (to_z w64 (of_z w64 c.register-word.result)) t.processes)) same ∙ ap (λ z. option_map snapshot_of (named me z s.processes)) word

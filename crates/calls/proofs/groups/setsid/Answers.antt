@@ -2,7 +2,7 @@ use Rattle.std.proofs.Common.{◌≡◌, ◌∙◌, ap, sym, subst, refl, true, 
 use Rattle.std.specs.Option.{IsSome}
 use Rattle.posix.specs.declared.call.Call.TheVariants.{Setsid}
 use Rattle.posix.specs.States.{State, process, change}
-use Rattle.posix.specs.Outcomes.{gives, refused, refusal}
+use Rattle.posix.specs.Outcomes.{finish_with, refused, refusal}
 use Rattle.posix.specs.GroupCalls.{in_session}
 use Rattle.posix.specs.Attempts.{attempt}
 use Rattle.posix.proofs.TableLemmas.{pid_looked}
@@ -11,8 +11,8 @@ use Rattle.calls.proofs.CallLemmas.{gives_is}
 use Rattle.calls.proofs.GroupCallLemmas.{has_led, has_not_led, session_led, session_refused, there_led}
 use Rattle.calls.proofs.groups.setsid.Goals as goal
 
-pub gives-requires-clause-there : goal.gives-requires-clause-there
-gives-requires-clause-there g c =
+pub finish_with-requires-clause-there : goal.finish_with-requires-clause-there
+finish_with-requires-clause-there g c =
     let s = c.args.machine.now.state in
     let p = c.args.pid in
     let me = c.requires.placed in
@@ -36,8 +36,8 @@ returns-in-Ok g c = λ me e.
     let led = has_led s _ p me _ _ c.in-Ok.is (c.new_session.ensures.refused me e) (c.new_session.ensures.leads me e) in
     let kept : to_z w64 (of_z w64 c.from.result) ≡ c.from.result = search rules in (
       true,
-      gives_is s (change s p in_session) _ _ _ p Setsid _ (pos p) _ _ _ (session_led s me led.may ∙ ap (λ q. gives (change s q in_session) q Setsid (pos q)) named)
-          c.gives.ensures.done c.gives.ensures.state led.state c.gives.ensures.shown (kept ∙ c.from.ensures ∙ ap pos c.number.ensures.value),
+      gives_is s (change s p in_session) _ _ _ p Setsid _ (pos p) _ _ _ (session_led s me led.may ∙ ap (λ q. finish_with (change s q in_session) q Setsid (pos q)) named)
+          c.finish_with.ensures.done c.finish_with.ensures.state led.state c.finish_with.ensures.shown (kept ∙ c.from.ensures ∙ ap pos c.number.ensures.value),
     )
 
 pub returns-in-Err : goal.returns-in-Err

@@ -41,8 +41,8 @@ returns-in-NobodyPermitted g c =
     let r = c.refuse-in-NobodyPermitted in
     gives_is s s _ _ _ me.pid Kill (refusal EPERM) (refusal EPERM) _ _ _ is r.ensures.done r.ensures.state same r.ensures.shown refl
 
-pub gives-requires-clause-there : goal.gives-requires-clause-there
-gives-requires-clause-there g c = there_sent c.args.machine.now.state _ (process_like c.args.me.now) _ c.in-Ok.sig c.args.me.now.pid c.send.ensures.state c.requires.there
+pub finish_with-requires-clause-there : goal.finish_with-requires-clause-there
+finish_with-requires-clause-there g c = there_sent c.args.machine.now.state _ (process_like c.args.me.now) _ c.in-Ok.sig c.args.me.now.pid c.send.ensures.state c.requires.there
 
 pub returns-in-Permitted : goal.returns-in-Permitted
 returns-in-Permitted g c =
@@ -50,4 +50,4 @@ returns-in-Permitted g c =
     let me = c.args.me.now in
     let x = process_like me in
     let is = kill_finds s x _ _ c.in-Ok.sig _ found.Permitted c.signal_or_none.ensures c.in-Ok.is c.target.ensures c.send.ensures.sending c.in-Permitted.is in
-    gives_is s (sent_in s x c.target.result c.in-Ok.sig) _ _ _ me.pid Kill (pos 0) (pos 0) _ _ _ is c.gives.ensures.done c.gives.ensures.state c.send.ensures.state c.gives.ensures.shown refl
+    gives_is s (sent_in s x c.target.result c.in-Ok.sig) _ _ _ me.pid Kill (pos 0) (pos 0) _ _ _ is c.finish_with.ensures.done c.finish_with.ensures.state c.send.ensures.state c.finish_with.ensures.shown refl

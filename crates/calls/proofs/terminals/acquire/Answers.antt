@@ -11,7 +11,7 @@ pub acquire_console-requires-clause-free : goal.acquire_console-requires-clause-
 acquire_console-requires-clause-free g c =
     let s = c.args.machine.now.state in
     let it = there (process s c.args.me.now.pid) c.requires.there in
-    let console = session_read _ c.args.session c.requires.place in
+    let console = session_read _ c.args.session c.requires.console_index in
     let caller = c.requires.caller it.what it.found in
     let may = sym (c.may_acquire.ensures it.what console.what caller console.session_is) ∙ c.if-not-may_acquire.false in
     subst (λ o. IfSome o (λ (d : Console). d.session ≡ 0)) (sym console.found) (acquirable s it.what console.what may).1
@@ -20,12 +20,12 @@ pub acquire_console-requires-clause-none : goal.acquire_console-requires-clause-
 acquire_console-requires-clause-none g c =
     let s = c.args.machine.now.state in
     let it = there (process s c.args.me.now.pid) c.requires.there in
-    let console = session_read _ c.args.session c.requires.place in
+    let console = session_read _ c.args.session c.requires.console_index in
     let caller = c.requires.caller it.what it.found in
     let may = sym (c.may_acquire.ensures it.what console.what caller console.session_is) ∙ c.if-not-may_acquire.false in
     ap (λ (k : Caller). console_of k.session s.consoles) caller ∙ (acquirable s it.what console.what may).0
 
-pub gives-requires-clause-there : goal.gives-requires-clause-there
-gives-requires-clause-there g c =
-    let console = session_read _ c.args.session c.requires.place in
+pub finish_with-requires-clause-there : goal.finish_with-requires-clause-there
+finish_with-requires-clause-there g c =
+    let console = session_read _ c.args.session c.requires.console_index in
     subst (λ (t : State). IsSome (process t c.args.me.now.pid)) (sym (c.acquire_console.ensures console.what console.found)) c.requires.there

@@ -5,7 +5,7 @@ use Rattle.posix.specs.declared.errno.Errno.TheVariants.{EPERM}
 use Rattle.posix.specs.Consoles.{with_foreground}
 use Rattle.posix.specs.Processes.{argument}
 use Rattle.posix.specs.States.{State}
-use Rattle.posix.specs.Outcomes.{refusal, gives, refused}
+use Rattle.posix.specs.Outcomes.{refusal, finish_with, refused}
 use Rattle.posix.specs.GroupCalls.{is_group_of}
 use Rattle.posix.specs.Terminals.{change_console}
 use Rattle.life.specs.declared.caller.Caller.{Caller}
@@ -26,7 +26,7 @@ returns-in_default-group_of g c = λ r e.
     ap (λ n. is_group_of n group s.processes) (sym (ap (λ (k : Caller). k.session) caller)) ∙ none_found _ group (sym c.group_of.ensures.value ∙ c.in_default-group_of.is) in
     let is = names_group s r (argument r 1) group false some none ∙ ap (λ (q : ℕ). refused s q Tcsetpgrp EPERM) (sym (ap (λ (k : Caller). k.pid) caller)) in
     let last = c.refuse-in_default-group_of.ensures in
-    gives_is s s _ _ _ me.pid Tcsetpgrp (refusal EPERM) (refusal EPERM) _ _ _ is last.done last.state c.group_of.ensures.same last.shown refl
+    gives_is s s _ _ _ me.pid Tcsetpgrp (refusal EPERM) (refusal EPERM) _ _ _ is last.done last.state c.group_of.ensures.looks.same.state last.shown refl
 
 pub set_foreground-requires : goal.set_foreground-requires
 set_foreground-requires g c = in_session c.args.machine.now.state c.args.me.now.pid c.args.me.now c.requires.regular c.requires.there c.requires.caller
@@ -43,9 +43,9 @@ returns g c = λ r e.
     let found = cond_some (is_group_of me.session group s.processes) group c.in-Some-group_of.group (sym c.group_of.ensures.value ∙ c.in-Some-group_of.is) in
     let member : is_group_of r.session group s.processes ≡ true = ap (λ n. is_group_of n group s.processes) (sym session) ∙ found.0 in
     let now = change_console s r.session (with_foreground group) in
-    let is = names_group s r (argument r 1) group true some member ∙ ap (λ (q : ℕ). gives now q Tcsetpgrp (pos 0)) (sym (ap (λ (k : Caller). k.pid) caller)) in
+    let is = names_group s r (argument r 1) group true some member ∙ ap (λ (q : ℕ). finish_with now q Tcsetpgrp (pos 0)) (sym (ap (λ (k : Caller). k.pid) caller)) in
     let state = c.set_foreground.ensures
-    ∙ ap (λ (t : State). change_console t me.session (with_foreground c.in-Some-group_of.group)) c.group_of.ensures.same
+    ∙ ap (λ (t : State). change_console t me.session (with_foreground c.in-Some-group_of.group)) c.group_of.ensures.looks.same.state
     ∙ ap (λ (n : ℕ). change_console s n (with_foreground c.in-Some-group_of.group)) session
     ∙ ap (λ (n : ℕ). change_console s r.session (with_foreground n)) (sym found.1) in
-    gives_is s now _ _ _ me.pid Tcsetpgrp (pos 0) (pos 0) _ _ _ is c.gives.ensures.done c.gives.ensures.state state c.gives.ensures.shown refl
+    gives_is s now _ _ _ me.pid Tcsetpgrp (pos 0) (pos 0) _ _ _ is c.finish_with.ensures.done c.finish_with.ensures.state state c.finish_with.ensures.shown refl

@@ -4,7 +4,7 @@ use Rattle.posix.specs.declared.call.Call.TheVariants.{Read}
 use Rattle.posix.specs.declared.process.Blocked.TheVariants as blocked
 use Rattle.posix.specs.Consoles.{Console, console_of, line_taken}
 use Rattle.posix.specs.States.{State, process, change}
-use Rattle.posix.specs.Terminals.{change_console, moved, with_bytes}
+use Rattle.posix.specs.Terminals.{change_console, finish_moved, with_bytes}
 use Rattle.posix.proofs.ReportLemmas.{some_changed}
 use Rattle.life.specs.declared.caller.Caller.{Caller}
 use Rattle.calls.specs.declared.outcome.Attempt.TheVariants as came
@@ -37,8 +37,8 @@ store-requires-clause-within g c =
     let within = c.requires.within in
     omega (arith, few, same, within)
 
-pub moved-requires-clause-there : goal.moved-requires-clause-there
-moved-requires-clause-there g c =
+pub finish_moved-requires-clause-there : goal.finish_moved-requires-clause-there
+finish_moved-requires-clause-there g c =
     let p = c.args.me.now.pid in
     let here = subst (λ (t : State). IsSome (process t p)) (sym c.take_bytes.ensures.state) c.requires.there in
     subst (λ (t : State). IsSome (process t p)) (sym c.store.ensures) (some_changed p p (with_bytes _ _) (pid_with_bytes _ _) _ here)
@@ -59,9 +59,9 @@ returns g c = λ r k e f.
     ∙ ap (λ (t : State). change t me.pid (put bytes)) c.take_bytes.ensures.state
     ∙ ap (λ (q : Caller). change (change_console s q.session (line_taken span.count)) q.pid (put bytes)) caller in
     let xs = c.args.entries.now.items in
-    let ys = c.moved.new.entries.items in
-    let n = c.moved.new.machine.state in
-    let there = subst (λ (t : State). Comes c.store.new.machine.state (moved t me.pid Read bytes) c.moved.result xs ys n) state c.moved.ensures in
-    let named = subst (λ (q : ℕ). Comes c.store.new.machine.state (moved (after_read s r span bytes) q Read bytes) c.moved.result xs ys n) (ap (λ (q : Caller). q.pid) caller) there in
-    subst (λ a. Comes s a c.moved.result xs ys n) (sym (read_some s r span k.lines bytes some))
-    (moved_since s c.store.new.machine.state (after_read s r span bytes) r.pid Read bytes c.moved.result xs ys n named)
+    let ys = c.finish_moved.new.entries.items in
+    let n = c.finish_moved.new.machine.state in
+    let there = subst (λ (t : State). Comes c.store.new.machine.state (finish_moved t me.pid Read bytes) c.finish_moved.result xs ys n) state c.finish_moved.ensures in
+    let named = subst (λ (q : ℕ). Comes c.store.new.machine.state (finish_moved (after_read s r span bytes) q Read bytes) c.finish_moved.result xs ys n) (ap (λ (q : Caller). q.pid) caller) there in
+    subst (λ a. Comes s a c.finish_moved.result xs ys n) (sym (read_some s r span k.lines bytes some))
+    (moved_since s c.store.new.machine.state (after_read s r span bytes) r.pid Read bytes c.finish_moved.result xs ys n named)

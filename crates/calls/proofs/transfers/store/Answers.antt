@@ -1,7 +1,7 @@
 use Rattle.std.proofs.Common.{ap}
 use Rattle.posix.specs.Processes.{Cpu}
 use Rattle.posix.specs.Terminals.{with_bytes}
-use Rattle.proctable.specs.Body.{give_own}
+use Rattle.proctable.specs.Records.{give_own}
 use Rattle.life.proofs.LoanLemmas.{was_written}
 use Rattle.calls.proofs.transfers.store.Goals as goal
 

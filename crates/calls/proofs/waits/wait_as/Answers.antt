@@ -6,7 +6,7 @@ use Rattle.posix.specs.declared.process.Blocked.TheVariants as blocked
 use Rattle.posix.specs.declared.process.Report.TheVariants as found
 use Rattle.posix.specs.Tables.{removed}
 use Rattle.posix.specs.States.{State, process, change}
-use Rattle.posix.specs.Outcomes.{Block, gives, refusal}
+use Rattle.posix.specs.Outcomes.{Block, finish_with, refusal}
 use Rattle.posix.specs.Waits.{WNOHANG, has_option, news_told}
 use Rattle.posix.proofs.OrderLemmas.{placed_some}
 use Rattle.posix.proofs.RegularLemmas.{keeps_news_told, placed_least}
@@ -36,14 +36,14 @@ reap-requires-clause-zombie g c =
     let s = c.args.machine.now.state in
     let me = c.args.me.now in
     let child = reported s.processes c.requires.regular.rising me.pid me.group _ _ (found.End c.in-End.child c.in-End.status) c.in-End.child (sym c.wait_attempt.ensures.value ∙ c.in-End.is) refl in
-    (child.what, ap (λ (t : State). process t c.in-End.child) c.wait_attempt.ensures.same ∙ child.found, child.dead)
+    (child.what, ap (λ (t : State). process t c.in-End.child) c.wait_attempt.ensures.looks.same.state ∙ child.found, child.dead)
 
 pub report-requires-clause-there : goal.report-requires-clause-there
 report-requires-clause-there g c =
     let s = c.args.machine.now.state in
     let me = c.args.me.now in
     let child = reported s.processes c.requires.regular.rising me.pid me.group _ _ (found.End c.in-End.child c.in-End.status) c.in-End.child (sym c.wait_attempt.ensures.value ∙ c.in-End.is) refl in
-    let gone = c.reap.ensures.state ∙ ap (λ (t : State). record t { processes = removed c.in-End.child t.processes }) c.wait_attempt.ensures.same in
+    let gone = c.reap.ensures.state ∙ ap (λ (t : State). record t { processes = removed c.in-End.child t.processes }) c.wait_attempt.ensures.looks.same.state in
     subst (λ (t : State). IsSome (process t me.pid)) (sym gone) (caller_stays s.processes me.pid c.in-End.child c.requires.placed child)
 
 pub tell_news-requires : goal.tell_news-requires
@@ -51,13 +51,13 @@ tell_news-requires g c =
     let s = c.args.machine.now.state in
     let me = c.args.me.now in
     let child = reported s.processes c.requires.regular.rising me.pid me.group _ _ (found.Change c.in-Change.child c.in-Change.status) c.in-Change.child (sym c.wait_attempt.ensures.value ∙ c.in-Change.is) refl in
-    subst (λ (t : State). IsSome (process t c.in-Change.child)) (sym c.wait_attempt.ensures.same) (subst IsSome (sym child.found) refl)
+    subst (λ (t : State). IsSome (process t c.in-Change.child)) (sym c.wait_attempt.ensures.looks.same.state) (subst IsSome (sym child.found) refl)
 
 pub report-requires-in-Change-clause-there : goal.report-requires-in-Change-clause-there
 report-requires-in-Change-clause-there g c =
     let s = c.args.machine.now.state in
     let me = c.args.me.now in
-    let told = c.tell_news.ensures.state ∙ ap (λ (t : State). change t c.in-Change.child news_told) c.wait_attempt.ensures.same in
+    let told = c.tell_news.ensures.state ∙ ap (λ (t : State). change t c.in-Change.child news_told) c.wait_attempt.ensures.looks.same.state in
     subst (λ (t : State). IsSome (process t me.pid)) (sym told) (some_changed c.in-Change.child me.pid news_told (keeps_news_told {now = 0}).pid s.processes (placed_some s.processes me.pid c.requires.placed))
 
 pub returns-in-NoChild : goal.returns-in-NoChild
@@ -66,7 +66,7 @@ returns-in-NoChild g c =
     let me = c.args.me.now in
     let is = wait_finds s (process_like me) _ _ c.in-Some.options _ found.NoChild c.options_of.ensures.known c.in-Some.is c.in-Some.ensures.value c.target.ensures c.wait_attempt.ensures.value c.in-NoChild.is in
     let r = c.refuse-in-NoChild in
-    gives_is s s _ _ _ me.pid Waitpid (refusal ECHILD) (refusal ECHILD) _ _ _ is r.ensures.done r.ensures.state c.wait_attempt.ensures.same r.ensures.shown refl
+    gives_is s s _ _ _ me.pid Waitpid (refusal ECHILD) (refusal ECHILD) _ _ _ is r.ensures.done r.ensures.state c.wait_attempt.ensures.looks.same.state r.ensures.shown refl
 
 pub returns-then-contains : goal.returns-then-contains
 returns-then-contains g c =
@@ -74,8 +74,8 @@ returns-then-contains g c =
     let me = c.args.me.now in
     let is = wait_finds s (process_like me) _ _ c.in-Some.options _ found.Nothing c.options_of.ensures.known c.in-Some.is c.in-Some.ensures.value c.target.ensures c.wait_attempt.ensures.value c.in-Nothing.is in
     let at_once : has_option c.in-Some.options.0 WNOHANG ≡ true = sym {b = has_option c.in-Some.options.0 WNOHANG} (c.contains.ensures tt) ∙ c.if-contains.true in
-    let value = is ∙ ap (λ b. cond b (gives s me.pid Waitpid (pos 0)) (Block blocked.Waitpid)) at_once in
-    gives_is s s _ _ _ me.pid Waitpid (pos 0) (pos 0) _ _ _ value c.gives.ensures.done c.gives.ensures.state c.wait_attempt.ensures.same c.gives.ensures.shown refl
+    let value = is ∙ ap (λ b. cond b (finish_with s me.pid Waitpid (pos 0)) (Block blocked.Waitpid)) at_once in
+    gives_is s s _ _ _ me.pid Waitpid (pos 0) (pos 0) _ _ _ value c.finish_with.ensures.done c.finish_with.ensures.state c.wait_attempt.ensures.looks.same.state c.finish_with.ensures.shown refl
 
 pub returns-else-contains : goal.returns-else-contains
 returns-else-contains g c =
@@ -83,15 +83,15 @@ returns-else-contains g c =
     let me = c.args.me.now in
     let is = wait_finds s (process_like me) _ _ c.in-Some.options _ found.Nothing c.options_of.ensures.known c.in-Some.is c.in-Some.ensures.value c.target.ensures c.wait_attempt.ensures.value c.in-Nothing.is in
     let hangs : has_option c.in-Some.options.0 WNOHANG ≡ false = sym {b = has_option c.in-Some.options.0 WNOHANG} (c.contains.ensures tt) ∙ c.if-contains.false in
-    let value = is ∙ ap (λ b. cond b (gives s me.pid Waitpid (pos 0)) (Block blocked.Waitpid)) hangs in
-    subst (λ a. Comes s a (came.Block blocked.Waitpid) c.args.entries.now.items c.args.entries.now.items c.wait_attempt.new.self.state) (sym value) (refl, refl, c.wait_attempt.ensures.same)
+    let value = is ∙ ap (λ b. cond b (finish_with s me.pid Waitpid (pos 0)) (Block blocked.Waitpid)) hangs in
+    subst (λ a. Comes s a (came.Block blocked.Waitpid) c.args.entries.now.items c.args.entries.now.items c.wait_attempt.new.self.state) (sym value) (refl, refl, c.wait_attempt.ensures.looks.same.state)
 
 pub returns-in-End : goal.returns-in-End
 returns-in-End g c =
     let s = c.args.machine.now.state in
     let me = c.args.me.now in
     let is = wait_finds s (process_like me) _ _ c.in-Some.options _ (found.End c.in-End.child c.in-End.status) c.options_of.ensures.known c.in-Some.is c.in-Some.ensures.value c.target.ensures c.wait_attempt.ensures.value c.in-End.is in
-    let gone = c.reap.ensures.state ∙ ap (λ (t : State). record t { processes = removed c.in-End.child t.processes }) c.wait_attempt.ensures.same in
+    let gone = c.reap.ensures.state ∙ ap (λ (t : State). record t { processes = removed c.in-End.child t.processes }) c.wait_attempt.ensures.looks.same.state in
     reports_is s (record s { processes = removed c.in-End.child s.processes }) _ _ _ me.pid c.in-End.child c.in-End.status _ _ _ is c.report.ensures.done c.report.ensures.state gone c.report.ensures.shown
 
 pub returns-in-Change : goal.returns-in-Change
@@ -99,6 +99,6 @@ returns-in-Change g c =
     let s = c.args.machine.now.state in
     let me = c.args.me.now in
     let is = wait_finds s (process_like me) _ _ c.in-Some.options _ (found.Change c.in-Change.child c.in-Change.status) c.options_of.ensures.known c.in-Some.is c.in-Some.ensures.value c.target.ensures c.wait_attempt.ensures.value c.in-Change.is in
-    let told = c.tell_news.ensures.state ∙ ap (λ (t : State). change t c.in-Change.child news_told) c.wait_attempt.ensures.same in
+    let told = c.tell_news.ensures.state ∙ ap (λ (t : State). change t c.in-Change.child news_told) c.wait_attempt.ensures.looks.same.state in
     let r = c.report-in-Change in
     reports_is s (change s c.in-Change.child news_told) _ _ _ me.pid c.in-Change.child c.in-Change.status _ _ _ is r.ensures.done r.ensures.state told r.ensures.shown

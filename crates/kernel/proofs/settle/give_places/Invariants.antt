@@ -6,11 +6,11 @@ use Rattle.kernel.proofs.settle.give_places.Given as goal
 -- the same places are left to give
 pub record IsGiving (old now : MachineView) : Type 0 where
   pub places : give_places now.state ≡ give_places old.state
-  pub stale : now.stale ≡ old.stale
-  pub none : old.asked ≡ [] → (now.asked ≡ []) × (now.reads ≡ old.reads)
+  pub foregrounds_unchecked : now.foregrounds_unchecked ≡ old.foregrounds_unchecked
+  pub none : old.to_recheck ≡ [] → (now.to_recheck ≡ []) × (now.visits ≡ old.visits)
 
 abbrev pub invariant-loop-pid : goal.invariant-loop-pid
 invariant-loop-pid g l = IsGiving l.fn.machine l.machine
 
 abbrev pub decreases-loop-pid : goal.decreases-loop-pid
-decreases-loop-pid g l = length l.machine.asked
+decreases-loop-pid g l = length l.machine.to_recheck

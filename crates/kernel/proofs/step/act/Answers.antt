@@ -4,8 +4,8 @@ use Rattle.posix.specs.SignalNumbers.{KILL}
 use Rattle.posix.specs.Statuses.{killed}
 use Rattle.posix.specs.Choice.{chosen}
 use Rattle.posix.specs.Ends.{end_process}
-use Rattle.proctable.specs.declared.facts.Facts.{Facts}
-use Rattle.proctable.specs.Body.{facts_of}
+use Rattle.proctable.specs.declared.snapshot.Snapshot.{Snapshot}
+use Rattle.proctable.specs.Records.{snapshot_of}
 use Rattle.calls.proofs.CallLemmas.{same_outcome}
 use Rattle.calls.proofs.ChosenLemmas.{act_killed, act_blocked, act_delivers, act_runs, kill_chosen, no_kill_chosen, chosen_is, chosen_not}
 use Rattle.kernel.proofs.step.act.Goals as goal
@@ -13,9 +13,9 @@ use Rattle.kernel.proofs.step.act.Goals as goal
 pub returns-then-eq-clause-acts : goal.returns-then-eq-clause-acts
 returns-then-eq-clause-acts g c = λ me e.
     let s = c.args.machine.now.state in
-    let told : Some c.args.facts ≡ Some (facts_of me) = c.requires.facts ∙ ap (option_map facts_of) e in
-    let is : c.args.facts ≡ facts_of me = cc in
-    let takes : chosen me.life me.signals ≡ Some KILL = ap (λ (f : Facts). f.chosen) (sym is) ∙ chosen_is c.args.facts.chosen KILL (sym c.eq.ensures ∙ c.if-eq.true) in (
+    let told : Some c.args.snapshot ≡ Some (snapshot_of me) = c.requires.snapshot ∙ ap (option_map snapshot_of) e in
+    let is : c.args.snapshot ≡ snapshot_of me = cc in
+    let takes : chosen me.life me.signals ≡ Some KILL = ap (λ (f : Snapshot). f.chosen) (sym is) ∙ chosen_is c.args.snapshot.chosen KILL (sym c.eq.ensures ∙ c.if-eq.true) in (
       true,
       act_killed true s me (kill_chosen me.life me.signals takes)
           ∙ same_outcome (end_process s me (killed KILL)).state c.end.new.machine.state (end_process s me (killed KILL)).entries c.end.new.entries.items
@@ -26,29 +26,29 @@ returns-then-eq-clause-acts g c = λ me e.
 pub returns-in-Some-clause-acts : goal.returns-in-Some-clause-acts
 returns-in-Some-clause-acts g c = λ me e.
     let s = c.args.machine.now.state in
-    let told : Some c.args.facts ≡ Some (facts_of me) = c.requires.facts ∙ ap (option_map facts_of) e in
-    let is : c.args.facts ≡ facts_of me = cc in
-    let other : chosen me.life me.signals ≢ Some KILL = λ k. chosen_not c.args.facts.chosen KILL (sym c.eq.ensures ∙ c.if-eq.false) (ap (λ (f : Facts). f.chosen) is ∙ k) in
-    let in_call : me.blocked ≡ Some c.in-Some.blocked = ap (λ (f : Facts). f.blocked) (sym is) ∙ c.in-Some.is in
+    let told : Some c.args.snapshot ≡ Some (snapshot_of me) = c.requires.snapshot ∙ ap (option_map snapshot_of) e in
+    let is : c.args.snapshot ≡ snapshot_of me = cc in
+    let other : chosen me.life me.signals ≢ Some KILL = λ k. chosen_not c.args.snapshot.chosen KILL (sym c.eq.ensures ∙ c.if-eq.false) (ap (λ (f : Snapshot). f.chosen) is ∙ k) in
+    let in_call : me.blocked ≡ Some c.in-Some.blocked = ap (λ (f : Snapshot). f.blocked) (sym is) ∙ c.in-Some.is in
     (true, act_blocked true s me c.in-Some.blocked (no_kill_chosen me.life me.signals other) in_call ∙ c.go_on.ensures me e)
 
 pub returns-in-Some-chosen-clause-acts : goal.returns-in-Some-chosen-clause-acts
 returns-in-Some-chosen-clause-acts g c = λ me e.
     let s = c.args.machine.now.state in
-    let told : Some c.args.facts ≡ Some (facts_of me) = c.requires.facts ∙ ap (option_map facts_of) e in
-    let is : c.args.facts ≡ facts_of me = cc in
-    let other : chosen me.life me.signals ≢ Some KILL = λ k. chosen_not c.args.facts.chosen KILL (sym c.eq.ensures ∙ c.if-eq.false) (ap (λ (f : Facts). f.chosen) is ∙ k) in
-    let free : me.blocked ≡ None = ap (λ (f : Facts). f.blocked) (sym is) ∙ c.in_default.is in
-    let takes : chosen me.life me.signals ≡ Some c.in-Some-chosen.sig = ap (λ (f : Facts). f.chosen) (sym is) ∙ c.in-Some-chosen.is in
+    let told : Some c.args.snapshot ≡ Some (snapshot_of me) = c.requires.snapshot ∙ ap (option_map snapshot_of) e in
+    let is : c.args.snapshot ≡ snapshot_of me = cc in
+    let other : chosen me.life me.signals ≢ Some KILL = λ k. chosen_not c.args.snapshot.chosen KILL (sym c.eq.ensures ∙ c.if-eq.false) (ap (λ (f : Snapshot). f.chosen) is ∙ k) in
+    let free : me.blocked ≡ None = ap (λ (f : Snapshot). f.blocked) (sym is) ∙ c.in_default.is in
+    let takes : chosen me.life me.signals ≡ Some c.in-Some-chosen.sig = ap (λ (f : Snapshot). f.chosen) (sym is) ∙ c.in-Some-chosen.is in
     (true, act_delivers true s me c.in-Some-chosen.sig (no_kill_chosen me.life me.signals other) free takes ∙ c.deliver.ensures me e)
 
 pub returns-in-None-clause-acts : goal.returns-in-None-clause-acts
 returns-in-None-clause-acts g c = λ me e.
     let s = c.args.machine.now.state in
-    let told : Some c.args.facts ≡ Some (facts_of me) = c.requires.facts ∙ ap (option_map facts_of) e in
-    let is : c.args.facts ≡ facts_of me = cc in
-    let other : chosen me.life me.signals ≢ Some KILL = λ k. chosen_not c.args.facts.chosen KILL (sym c.eq.ensures ∙ c.if-eq.false) (ap (λ (f : Facts). f.chosen) is ∙ k) in
-    let free : me.blocked ≡ None = ap (λ (f : Facts). f.blocked) (sym is) ∙ c.in_default.is in
-    let none : chosen me.life me.signals ≡ None = ap (λ (f : Facts). f.chosen) (sym is) ∙ c.in-None.is in
+    let told : Some c.args.snapshot ≡ Some (snapshot_of me) = c.requires.snapshot ∙ ap (option_map snapshot_of) e in
+    let is : c.args.snapshot ≡ snapshot_of me = cc in
+    let other : chosen me.life me.signals ≢ Some KILL = λ k. chosen_not c.args.snapshot.chosen KILL (sym c.eq.ensures ∙ c.if-eq.false) (ap (λ (f : Snapshot). f.chosen) is ∙ k) in
+    let free : me.blocked ≡ None = ap (λ (f : Snapshot). f.blocked) (sym is) ∙ c.in_default.is in
+    let none : chosen me.life me.signals ≡ None = ap (λ (f : Snapshot). f.chosen) (sym is) ∙ c.in-None.is in
     let ran = c.run_instruction.ensures.runs me e in
     (ran.0, act_runs ran.0 s me (no_kill_chosen me.life me.signals other) free none ∙ ran.1)

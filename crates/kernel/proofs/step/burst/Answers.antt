@@ -7,11 +7,11 @@ returns g c =
     let s = c.args.machine.now.state in
     let p = c.in-Some.pid in
     let now = sym c.current.ensures ∙ c.in-Some.is in
-    let ready = readies s p c.in-Some-facts.facts c.requires.going c.requires.settled c.facts.ensures.regular now (sym c.in-Some-facts.is ∙ c.facts.ensures.value) (sym c.is_some.ensures ∙ c.if-is_some.false)
+    let ready = readies s p c.in-Some-snapshot.snapshot c.requires.going c.requires.settled c.snapshot.ensures.looks.regular now (sym c.in-Some-snapshot.is ∙ c.snapshot.ensures.value) (sym c.is_some.ensures ∙ c.if-is_some.false)
     (sym c.is_some-else-is_some.ensures ∙ c.if-is_some-2.false) in
     let r = c.run_with_notes-last in
     let e = r.ensures in
-    let shown = shows s c.facts.new.self.state p ready c.facts.ensures.same c.args.before c.args.last (record { last = r.result.0; notes = r.new.notes.items; trap = r.result.1 }) r.new.self.state e.taken e.state in
+    let shown = shows s c.snapshot.new.self.state p ready c.snapshot.ensures.looks.same.state c.args.before c.args.last (record { last = r.result.0; notes = r.new.notes.items; trap = r.result.1 }) r.new.self.state e.taken e.state in
     record {
       runs = shown.runs;
       taken = shown.exact;
@@ -21,7 +21,7 @@ returns g c =
       short = e.short;
       call = shown.call;
       numbers = shown.numbers;
-      asked = e.asked (placed_now s _ p c.facts.ensures.same now) ∙ c.facts.ensures.asked;
-      stale = e.stale ∙ c.facts.ensures.stale;
+      to_recheck = e.to_recheck (placed_now s _ p c.snapshot.ensures.looks.same.state now) ∙ c.snapshot.ensures.looks.same.to_recheck;
+      foregrounds_unchecked = e.foregrounds_unchecked ∙ c.snapshot.ensures.looks.same.foregrounds_unchecked;
       regular = e.regular;
     }

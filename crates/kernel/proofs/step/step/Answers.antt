@@ -8,5 +8,5 @@ pub act-requires-clause-acting : goal.act-requires-clause-acting
 act-requires-clause-acting g c =
     let s = c.args.machine.now.state in
     let place = first_in c.in-Some.pid s.order (sym c.current.ensures ∙ c.in-Some.is) in
-    subst (λ (t : State). IsActing t c.in-Some.pid) (sym c.facts.ensures.same)
-    (record { placed = c.facts.ensures.regular.placed c.in-Some.pid place; place = place })
+    subst (λ (t : State). IsActing t c.in-Some.pid) (sym c.snapshot.ensures.looks.same.state)
+    (record { placed = c.snapshot.ensures.looks.regular.placed c.in-Some.pid place; place = place })

@@ -24,7 +24,7 @@ loop-next-init c =
       from = refl;
       to = refl;
       room = c.ends_of.ensures.room;
-      reads = omega (arith, from, to, length-filter all kids, count_by-le-length all kids, c.ends_of.ensures.reads);
+      visits = omega (arith, from, to, length-filter all kids, count_by-le-length all kids, c.ends_of.ensures.visits);
       beside = beside_start c.args.to (records c.ends_of.new.cells.nodes) c.ends_of.result.last;
       adopting = subst (λ (l : List Node). IsAdopting ns c.args.from c.args.to l c.args.roots c.ends_of.result.last) (sym c.ends_of.ensures.nodes) start;
     }
@@ -71,7 +71,7 @@ loop-next-preserved c =
     record {
       from = refl;
       to = refl;
-      reads = omega (arith, from, to, fewer, walked, c.ends_of-in-Some.ensures.reads, c.link-joined.ensures.reads, c.unlink-apart.ensures.reads, c.loop-next.invariant.reads);
+      visits = omega (arith, from, to, fewer, walked, c.ends_of-in-Some.ensures.visits, c.link-joined.ensures.visits, c.unlink-apart.ensures.visits, c.loop-next.invariant.visits);
       beside = subst (λ (l : List Node). IsBeside c.args.to (records l) c.ends_of-in-Some.result.last (Some c.in-Some.child)) (sym same) beside;
       room = c.ends_of-in-Some.ensures.room ∙ c.link-joined.ensures.room ∙ c.unlink-apart.ensures.room ∙ c.loop-next.invariant.room;
       adopting = subst (λ (l : List Node). IsAdopting c.args.cells.now.nodes c.args.from c.args.to l c.link-joined.result c.ends_of-in-Some.result.last) (sym same) step.0;
@@ -83,5 +83,5 @@ returns-clause-processes c = adopting_end _ _ _ _ _ _ c.loop-next.invariant.adop
 pub returns-clause-table : goal.returns-clause-table
 returns-clause-table c = table_adopted _ _ _ _ c.loop-next.top _ _ c.loop-next.invariant.adopting c.in_default.is
 
-pub returns-clause-reads : goal.returns-clause-reads
-returns-clause-reads c = omega (arith, c.loop-next.invariant.reads)
+pub returns-clause-visits : goal.returns-clause-visits
+returns-clause-visits c = omega (arith, c.loop-next.invariant.visits)

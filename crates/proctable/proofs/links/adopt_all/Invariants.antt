@@ -10,8 +10,8 @@ invariant-loop-next l = record {
   from : l.from ≡ l.fn.from;
   to : l.to ≡ l.fn.to;
   room : l.cells.room ≡ l.fn.cells.room;
-  reads : l.cells.reads + 8 * length (children_in l.fn.from (records l.cells.nodes)) + length (left_before l.above (children_in l.fn.to (records l.cells.nodes)))
-      ≤ l.fn.cells.reads + 1 + 8 * length (children_in l.fn.from (records l.fn.cells.nodes)) + length (children_in l.fn.to (records l.fn.cells.nodes));
+  visits : l.cells.visits + 8 * length (children_in l.fn.from (records l.cells.nodes)) + length (left_before l.above (children_in l.fn.to (records l.cells.nodes)))
+      ≤ l.fn.cells.visits + 1 + 8 * length (children_in l.fn.from (records l.fn.cells.nodes)) + length (children_in l.fn.to (records l.fn.cells.nodes));
   beside : IsBeside l.fn.to (records l.cells.nodes) l.next l.above;
   adopting : IsAdopting l.fn.cells.nodes l.fn.from l.fn.to l.cells.nodes l.top l.next;
 }

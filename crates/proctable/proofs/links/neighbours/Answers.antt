@@ -13,7 +13,7 @@ loop-prev-init c = record {
   nodes = c.child_before-prev.ensures.nodes;
   room = c.child_before-prev.ensures.room;
   pid = refl;
-  reads = omega (arith, c.child_before-prev.ensures.reads);
+  visits = omega (arith, c.child_before-prev.ensures.visits);
   past = past_start c.args.cells.now.nodes c.args.roots c.args.pid c.args.parent c.child_before-prev.result c.args.above c.requires.rising c.requires.joined c.requires.parent c.requires.above c.child_before-prev.ensures.value;
 }
 
@@ -53,12 +53,12 @@ loop-prev-preserved c =
       nodes = c.prev_of-prev.ensures.nodes ∙ c.loop-prev.invariant.nodes;
       room = c.prev_of-prev.ensures.room ∙ c.loop-prev.invariant.room;
       pid = refl;
-      reads = omega (arith, less, c.prev_of-prev.ensures.reads, c.loop-prev.invariant.reads);
+      visits = omega (arith, less, c.prev_of-prev.ensures.visits, c.loop-prev.invariant.visits);
       past = past_step ks c.args.pid c.in-Some.sibling c.loop-prev.prev c.loop-prev.next c.prev_of-prev.result c.loop-prev.invariant.past c.in-Some.is high value;
     }
 
-pub returns-then-number-clause-reads : goal.returns-then-number-clause-reads
-returns-then-number-clause-reads c = omega (arith, c.loop-prev.invariant.reads)
+pub returns-then-number-clause-visits : goal.returns-then-number-clause-visits
+returns-then-number-clause-visits c = omega (arith, c.loop-prev.invariant.visits)
 
 pub returns-clause-prev : goal.returns-clause-prev
 returns-clause-prev c =
@@ -72,5 +72,5 @@ returns-clause-next c =
     let up = rising_kids c.args.parent all (rising_removed c.args.pid (records c.args.cells.now.nodes) c.requires.rising) in
     (past_end (children_in c.args.parent all) c.args.pid c.loop-prev.prev c.loop-prev.next up c.loop-prev.invariant.past (rw c.in_default.is tt)).1
 
-pub returns-clause-reads : goal.returns-clause-reads
-returns-clause-reads c = omega (arith, c.loop-prev.invariant.reads)
+pub returns-clause-visits : goal.returns-clause-visits
+returns-clause-visits c = omega (arith, c.loop-prev.invariant.visits)

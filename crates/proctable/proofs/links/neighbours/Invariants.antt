@@ -12,7 +12,7 @@ invariant-loop-prev l =
       nodes : l.cells.nodes ≡ l.fn.cells.nodes;
       room : l.cells.room ≡ l.fn.cells.room;
       pid : l.pid ≡ l.fn.pid;
-      reads : l.cells.reads + length (between l.fn.pid l.next ks) ≤ l.fn.cells.reads + 1 + length (between l.fn.pid l.fn.above ks);
+      visits : l.cells.visits + length (between l.fn.pid l.next ks) ≤ l.fn.cells.visits + 1 + length (between l.fn.pid l.fn.above ks);
       past : IsPast ks l.fn.pid l.prev l.next;
     }
 

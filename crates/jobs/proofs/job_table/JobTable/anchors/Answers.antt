@@ -5,6 +5,7 @@ use Rattle.posix.specs.Groups.{is_anchor}
 use Rattle.posix.specs.Processes.{Process}
 use Rattle.posix.proofs.PassingLemmas.{filter_at_most, left_at_most}
 use Rattle.jobs.proofs.NumberLemmas.{least_number}
+use Rattle.jobs.proofs.KeptLemmas.{size_of}
 use Rattle.jobs.proofs.ReadLemmas.{left_above, above_less}
 use Rattle.jobs.proofs.GroupLemmas.{members_begin, next_begins, next_lies_above, member_here, fewer_members, counted_here, counted_few}
 use Rattle.jobs.proofs.job_table.JobTable.anchors.Goals as goal
@@ -15,16 +16,16 @@ loop-next-init g c =
     let group = c.args.group in
     let rs = c.args.self.now.processes in
     let next = c.next_member-next.result in
-    let up = c.next_member-next.ensures.rising in
-    let least = least_number rs (c.next_member-next.ensures.numbers 0 (inl refl)) in
+    let up = c.next_member-next.ensures.looks.rising in
+    let least = least_number rs (c.next_member-next.ensures.looks.numbers 0 (inl refl)) in
     let value = c.next_member-next.ensures.value in
     record {
-      same = c.next_member-next.ensures.processes;
-      room = c.next_member-next.ensures.room;
+      same = c.next_member-next.ensures.looks.processes;
+      room = c.next_member-next.ensures.looks.room;
       read =
           let less = left_at_most next rs in
           let all = filter_at_most (λ r. nat_lt 0 r.pid) rs in
-          omega (arith, less, all, c.next_member-next.ensures.reads);
+          omega (arith, less, all, c.next_member-next.ensures.visits);
       begins = next_begins group 0 rs next value;
       counted = let all = ap (λ ms. length (filter (is_anchor rs) ms)) (members_begin group rs next up least value) in omega (arith, all);
     }
@@ -34,9 +35,9 @@ loop-next-smaller g c =
     let group = c.args.group in
     let rs = c.args.self.now.processes in
     let p = c.in-Some.pid in
-    let at = member_here group p rs c.loop-next.next c.next_member-next.ensures.rising c.in-Some.is c.loop-next.invariant.begins in
+    let at = member_here group p rs c.loop-next.next c.next_member-next.ensures.looks.rising c.in-Some.is c.loop-next.invariant.begins in
     let next = c.next_member-next-in-Some.result in
-    let value = subst (λ (l : List Process). next ≡ first_pid (above p (members_in group l))) (c.is_anchor.ensures.processes ∙ c.loop-next.invariant.same) c.next_member-next-in-Some.ensures.value in
+    let value = subst (λ (l : List Process). next ≡ first_pid (above p (members_in group l))) (c.is_anchor.ensures.looks.processes ∙ c.loop-next.invariant.same) c.next_member-next-in-Some.ensures.value in
     fewer_members group p rs c.loop-next.next next at c.in-Some.is value
 
 pub loop-next-preserved : goal.loop-next-preserved
@@ -45,19 +46,19 @@ loop-next-preserved g c =
     let rs = c.args.self.now.processes in
     let p = c.in-Some.pid in
     let next = c.next_member-next-in-Some.result in
-    let at = member_here group p rs c.loop-next.next c.next_member-next.ensures.rising c.in-Some.is c.loop-next.invariant.begins in
-    let value = subst (λ (l : List Process). next ≡ first_pid (above p (members_in group l))) (c.is_anchor.ensures.processes ∙ c.loop-next.invariant.same) c.next_member-next-in-Some.ensures.value in
+    let at = member_here group p rs c.loop-next.next c.next_member-next.ensures.looks.rising c.in-Some.is c.loop-next.invariant.begins in
+    let value = subst (λ (l : List Process). next ≡ first_pid (above p (members_in group l))) (c.is_anchor.ensures.looks.processes ∙ c.loop-next.invariant.same) c.next_member-next-in-Some.ensures.value in
     let is = subst (λ (l : List Process). c.is_anchor.result ≡ option_map_or (is_anchor l) (lookup p l) false) c.loop-next.invariant.same c.is_anchor.ensures.value in
     record {
-      same = c.next_member-next-in-Some.ensures.processes ∙ c.is_anchor.ensures.processes ∙ c.loop-next.invariant.same;
-      room = c.next_member-next-in-Some.ensures.room ∙ c.is_anchor.ensures.room ∙ c.loop-next.invariant.room;
+      same = c.next_member-next-in-Some.ensures.looks.processes ∙ c.is_anchor.ensures.looks.processes ∙ c.loop-next.invariant.same;
+      room = c.next_member-next-in-Some.ensures.looks.room ∙ c.is_anchor.ensures.looks.room ∙ c.loop-next.invariant.room;
       read =
           let fewer = above_less p rs at.what at.found in
           let less = left_above next p rs (next_lies_above group p rs next value) in
           let now = ap (λ (o : Option ℕ). length (left_of o rs)) c.in-Some.is in
-          let then = ap (λ (l : List Process). 2 * length (left_of next l)) (c.is_anchor.ensures.processes ∙ c.loop-next.invariant.same) in
-          let up = ap (λ (l : List Process). 2 * length (above p l)) (c.is_anchor.ensures.processes ∙ c.loop-next.invariant.same) in
-          omega (arith, fewer, less, now, then, up, c.loop-next.invariant.read, c.is_anchor.ensures.reads, c.next_member-next-in-Some.ensures.reads);
+          let then = ap (λ (l : List Process). 2 * length (left_of next l)) (c.is_anchor.ensures.looks.processes ∙ c.loop-next.invariant.same) in
+          let up = ap (λ (l : List Process). 2 * length (above p l)) (c.is_anchor.ensures.looks.processes ∙ c.loop-next.invariant.same) in
+          omega (arith, fewer, less, now, then, up, c.loop-next.invariant.read, c.is_anchor.ensures.looks.visits, c.next_member-next-in-Some.ensures.visits);
       begins = next_begins group p rs next value;
       counted = elim c.if-is_anchor.branch [
         | then-is_anchor w ↦ let here = counted_here (is_anchor rs) group p rs c.loop-next.next next at c.in-Some.is value true (sym is ∙ w.if-is_anchor.true) in rw w.count-is (omega (arith, here, c.loop-next.invariant.counted))
@@ -69,6 +70,5 @@ pub overflow_add-count : goal.overflow_add-count
 overflow_add-count g c =
     let rs = c.args.self.now.processes in
     let few = counted_few (is_anchor rs) c.args.group rs in
-    let size = c.is_anchor.ensures.size in
-    let same = ap length c.loop-next.invariant.same in
-    omega (arith, few, size, same, c.loop-next.invariant.counted)
+    let size = size_of rs c.next_member-next.ensures.looks.rising c.next_member-next.ensures.looks.numbers in
+    omega (arith, few, size, c.loop-next.invariant.counted)

@@ -2,7 +2,7 @@ use Rattle.std.proofs.Common.{refl, sym, ◌∙◌}
 use Rattle.std.specs.Fn.{FnOnceReturnsAtMut}
 use Rattle.posix.specs.Tables.{parent_of}
 use Rattle.pidset.proofs.IndexLemmas.{can_replace}
-use Rattle.proctable.specs.Body.{process_of}
+use Rattle.proctable.specs.Records.{process_of}
 use Rattle.jobs.specs.Books.{alarm_key}
 use Rattle.jobs.proofs.BookLemmas.{sees}
 use Rattle.jobs.proofs.KeptLemmas.{kept_alarmed}
@@ -13,7 +13,7 @@ replace-requires-clause-can g c =
     let rs = g.K.Kin.contents c.self.inside.table in
     let b = c.update-it.result.now in
     let s = sees c.args.pid (process_of c.args.pid (parent_of c.args.pid rs) b) rs c.update-it.ensures.value in
-    rw (← s.alarmed) (can_replace alarm_key c.args.pid rs c.self.inside.books.alarmed c.update-it.ensures.rising c.self.invariant.books.alarmed (λ none. let no = sym none ∙ c.update-it.ensures.value in absurd (cc)))
+    rw (← s.alarmed) (can_replace alarm_key c.args.pid rs c.self.inside.books.alarmed c.self.invariant.rising c.self.invariant.books.alarmed (λ none. let no = sym none ∙ c.update-it.ensures.value in absurd (cc)))
 
 pub invariant_of-self : goal.invariant_of-self
 invariant_of-self g c =

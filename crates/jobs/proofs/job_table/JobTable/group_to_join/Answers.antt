@@ -1,9 +1,10 @@
-use Rattle.std.proofs.Common.{◌≡◌, sym, ◌∙◌, rules, to_z, of_z, w64}
-use Rattle.jobs.proofs.MoveLemmas.{judged}
+use Rattle.std.proofs.Common.{◌≡◌, ap, sym, ◌∙◌, rules, to_z, of_z, w64}
+use Rattle.posix.specs.GroupCalls.{move_to}
+use Rattle.jobs.proofs.SnapshotLemmas.{snapshot_are}
 use Rattle.jobs.proofs.job_table.JobTable.group_to_join.Goals as goal
 
 pub returns-clause-value : goal.returns-clause-value
-returns-clause-value g c = λ me found.
-    let given : to_z w64 (of_z w64 c.args.target) ≡ c.args.target = search rules in
+returns-clause-value g c = λ me named found target.
     let meant : to_z w64 (of_z w64 c.args.group) ≡ c.args.group = search rules in
-    judged c.args.me _ _ _ c.args.target _ c.args.group _ c.in-Some.caller c.named-target.result c.judge.result me found (sym c.in-Some.is ∙ c.get.ensures.value) c.get.ensures.processes c.named-target.ensures.processes given meant c.named-target.ensures.value c.judge.ensures.value
+    let it = snapshot_are _ me c.in-Some.caller (sym c.in-Some.is ∙ c.get.ensures.value) found in
+    c.judge.ensures.value me named it target ∙ ap (λ z. move_to me named z c.get.new.self.processes) meant ∙ ap (move_to me named c.args.group) c.get.ensures.looks.processes

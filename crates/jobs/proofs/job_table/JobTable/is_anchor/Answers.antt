@@ -1,8 +1,8 @@
 use Rattle.std.proofs.Common.{◌≡◌, ◌==◌, true, false, not, ◌&&◌, refl, ap, sym, ◌∙◌, option_map}
 use Rattle.posix.specs.Processes.{is_zombie}
 use Rattle.posix.specs.Tables.{lookup}
-use Rattle.proctable.specs.Body.{facts_of}
-use Rattle.jobs.proofs.FactLemmas.{lives}
+use Rattle.proctable.specs.Records.{snapshot_of}
+use Rattle.jobs.proofs.SnapshotLemmas.{lives}
 use Rattle.jobs.proofs.GroupLemmas.{anchor_read}
 use Rattle.jobs.proofs.job_table.JobTable.is_anchor.Goals as goal
 use Rattle.jobs.proofs.job_table.JobTable.is_anchor.Goals.{in-Zombie, in_default-matches}
@@ -21,7 +21,7 @@ returns-then-eq-clause-value g c =
       | in-Zombie w ↦ let no = sym w.matches-is ∙ c.if-matches.false in absurd (cc)
       | in_default-matches w ↦ lives _ _ refl w.in_default-matches.not-Zombie
     ] in
-    let read = sym c.in-Some-get.is ∙ c.get-2.ensures.value ∙ ap (λ rs. option_map facts_of (lookup c.in-Some.it.parent rs)) c.get.ensures.processes in
+    let read = sym c.in-Some-get.is ∙ c.get-2.ensures.value ∙ ap (λ rs. option_map snapshot_of (lookup c.in-Some.it.parent rs)) c.get.ensures.looks.processes in
     c.ne.ensures ∙ ap (λ b. b && not (c.in-Some-get.parent.group == c.in-Some.it.group)) (sym c.if-eq.true ∙ c.eq.ensures)
     ∙ anchor_read _ c.args.pid _ (sym c.in-Some.is ∙ c.get.ensures.value) false living _ read
 
@@ -31,7 +31,7 @@ returns-else-eq-clause-value g c =
       | in-Zombie w ↦ let no = sym w.matches-is ∙ c.if-matches.false in absurd (cc)
       | in_default-matches w ↦ lives _ _ refl w.in_default-matches.not-Zombie
     ] in
-    let read = sym c.in-Some-get.is ∙ c.get-2.ensures.value ∙ ap (λ rs. option_map facts_of (lookup c.in-Some.it.parent rs)) c.get.ensures.processes in
+    let read = sym c.in-Some-get.is ∙ c.get-2.ensures.value ∙ ap (λ rs. option_map snapshot_of (lookup c.in-Some.it.parent rs)) c.get.ensures.looks.processes in
     c.if-eq.false ∙ ap (λ b. b && not (c.in-Some-get.parent.group == c.in-Some.it.group)) (sym c.if-eq.false ∙ c.eq.ensures)
     ∙ anchor_read _ c.args.pid _ (sym c.in-Some.is ∙ c.get.ensures.value) false living _ read
 
@@ -41,5 +41,5 @@ returns-in-None-clause-value g c =
       | in-Zombie w ↦ let no = sym w.matches-is ∙ c.if-matches.false in absurd (cc)
       | in_default-matches w ↦ lives _ _ refl w.in_default-matches.not-Zombie
     ] in
-    let read = sym c.in-None.is ∙ c.get-2.ensures.value ∙ ap (λ rs. option_map facts_of (lookup c.in-Some.it.parent rs)) c.get.ensures.processes in
+    let read = sym c.in-None.is ∙ c.get-2.ensures.value ∙ ap (λ rs. option_map snapshot_of (lookup c.in-Some.it.parent rs)) c.get.ensures.looks.processes in
     anchor_read _ c.args.pid _ (sym c.in-Some.is ∙ c.get.ensures.value) false living _ read

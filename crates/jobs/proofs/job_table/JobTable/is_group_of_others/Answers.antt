@@ -3,15 +3,16 @@ use Rattle.posix.specs.Tables.{first_pid, above, members_in}
 use Rattle.posix.proofs.PassingLemmas.{filter_at_most}
 use Rattle.jobs.proofs.NumberLemmas.{least_number}
 use Rattle.jobs.proofs.GroupLemmas.{members_rise, members_above}
-use Rattle.jobs.proofs.FactLemmas.{differs, equals}
+use Rattle.jobs.proofs.SnapshotLemmas.{differs, equals}
 use Rattle.jobs.proofs.MoveLemmas.{others_of, other_none, other_first, other_behind}
+use Rattle.jobs.proofs.ReadLemmas.{read_more, looks_then}
 use Rattle.jobs.proofs.job_table.JobTable.is_group_of_others.Goals as goal
 
 pub returns-in_default-clause-value : goal.returns-in_default-clause-value
 returns-in_default-clause-value g c = λ it found.
     let p = c.args.pid in
     let rs = c.args.self.now.processes in
-    let all = members_above p rs c.next_member.ensures.rising (least_number rs (c.next_member.ensures.numbers 0 (inl refl))) in
+    let all = members_above p rs c.next_member.ensures.looks.rising (least_number rs (c.next_member.ensures.looks.numbers 0 (inl refl))) in
     let none = ap first_pid (sym all) ∙ sym c.next_member.ensures.value ∙ c.in_default.is in
     sym (others_of p rs it found ∙ other_none p (members_in p rs) none)
 
@@ -19,7 +20,7 @@ pub returns-then-ne-clause-value : goal.returns-then-ne-clause-value
 returns-then-ne-clause-value g c = λ it found.
     let p = c.args.pid in
     let rs = c.args.self.now.processes in
-    let all = members_above p rs c.next_member.ensures.rising (least_number rs (c.next_member.ensures.numbers 0 (inl refl))) in
+    let all = members_above p rs c.next_member.ensures.looks.rising (least_number rs (c.next_member.ensures.looks.numbers 0 (inl refl))) in
     let first = ap first_pid (sym all) ∙ sym c.next_member.ensures.value ∙ c.in-Some.is in
     c.if-ne.true ∙ sym (others_of p rs it found ∙ other_first p c.in-Some.first (members_in p rs) first (differs _ _ (sym c.ne.ensures ∙ c.if-ne.true)))
 
@@ -27,23 +28,23 @@ pub returns-else-ne-clause-value : goal.returns-else-ne-clause-value
 returns-else-ne-clause-value g c = λ it found.
     let p = c.args.pid in
     let rs = c.args.self.now.processes in
-    let up = c.next_member.ensures.rising in
-    let all = members_above p rs up (least_number rs (c.next_member.ensures.numbers 0 (inl refl))) in
+    let up = c.next_member.ensures.looks.rising in
+    let all = members_above p rs up (least_number rs (c.next_member.ensures.looks.numbers 0 (inl refl))) in
     let same = equals _ _ (sym c.ne.ensures ∙ c.if-ne.false) in
     let first = ap first_pid (sym all) ∙ sym c.next_member.ensures.value ∙ c.in-Some.is ∙ ap Some same in
-    let behind = c.next_member-else-ne.ensures.value ∙ ap (λ l. first_pid (above p (members_in p l))) c.next_member.ensures.processes in
+    let behind = c.next_member-else-ne.ensures.value ∙ ap (λ l. first_pid (above p (members_in p l))) c.next_member.ensures.looks.processes in
     c.is_some.ensures ∙ ap is_some behind ∙ sym (others_of p rs it found ∙ other_behind p (members_in p rs) (members_rise p rs up) first)
 
-pub returns-in_default-clause-reads : goal.returns-in_default-clause-reads
-returns-in_default-clause-reads g c = let most = filter_at_most (λ r. nat_lt 0 r.pid) c.args.self.now.processes in omega (arith, most, c.next_member.ensures.reads)
+pub returns-in_default-clause-looks : goal.returns-in_default-clause-looks
+returns-in_default-clause-looks g c = let most = filter_at_most (λ r. nat_lt 0 r.pid) c.args.self.now.processes in read_more c.next_member.ensures.looks (omega (arith, most))
 
-pub returns-then-ne-clause-reads : goal.returns-then-ne-clause-reads
-returns-then-ne-clause-reads g c = let most = filter_at_most (λ r. nat_lt 0 r.pid) c.args.self.now.processes in omega (arith, most, c.next_member.ensures.reads)
+pub returns-then-ne-clause-looks : goal.returns-then-ne-clause-looks
+returns-then-ne-clause-looks g c = let most = filter_at_most (λ r. nat_lt 0 r.pid) c.args.self.now.processes in read_more c.next_member.ensures.looks (omega (arith, most))
 
-pub returns-else-ne-clause-reads : goal.returns-else-ne-clause-reads
-returns-else-ne-clause-reads g c =
+pub returns-else-ne-clause-looks : goal.returns-else-ne-clause-looks
+returns-else-ne-clause-looks g c =
     let rs = c.args.self.now.processes in
     let most = filter_at_most (λ r. nat_lt 0 r.pid) rs in
     let behind = filter_at_most (λ r. nat_lt c.args.pid r.pid) rs in
-    let same = ap (λ l. length (above c.args.pid l)) c.next_member.ensures.processes in
-    omega (arith, most, behind, same, c.next_member.ensures.reads, c.next_member-else-ne.ensures.reads)
+    let same = ap (λ l. length (above c.args.pid l)) c.next_member.ensures.looks.processes in
+    read_more (looks_then c.next_member.ensures.looks c.next_member-else-ne.ensures.looks) (omega (arith, most, behind, same))

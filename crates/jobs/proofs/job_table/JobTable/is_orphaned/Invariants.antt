@@ -11,7 +11,7 @@ invariant-loop-next g l =
     record {
       same : l.self.processes ≡ l.fn.self.processes;
       room : l.self.room ≡ l.fn.self.room;
-      read : l.self.reads + 4 * length (left_of l.next rs) ≤ l.fn.self.reads + 2 + 4 * length rs;
+      read : l.self.visits + 4 * length (left_of l.next rs) ≤ l.fn.self.visits + 2 + 4 * length rs;
       begins : first_pid (left_of l.next (members_in l.group rs)) ≡ l.next;
       rest : not (is_anchored l.group rs l.next) ≡ is_orphaned l.group rs;
     }

@@ -1,5 +1,5 @@
 use Rattle.std.proofs.Common.{◌∙◌, refl}
-use Rattle.proctable.proofs.Bodies.{same_body}
+use Rattle.proctable.proofs.RecordLemmas.{same_record}
 use Rattle.jobs.proofs.KeptLemmas.{kept_unseen}
 use Rattle.jobs.proofs.LoanLemmas.{own_at}
 use Rattle.jobs.proofs.job_table.JobTable.look.Goals as goal
@@ -10,7 +10,7 @@ invariant_of-self g c = kept_unseen _ _ _ c.args.pid c.update-seen.result.now c.
 pub returns : goal.returns
 returns g c =
     let b = c.update-seen.result.now in
-    let same = g.met.K.Kin.puts c.self.inside.table c.args.pid b ∙ same_body _ c.update-seen.ensures.rising c.args.pid b c.update-seen.ensures.value in (
+    let same = g.met.K.Kin.puts c.self.inside.table c.args.pid b ∙ same_record _ c.self.invariant.rising c.args.pid b c.update-seen.ensures.value in (
       (refl, λ _. tt, rw (← c.self.view_is, same, g.met.K.Kin.put_reads c.self.inside.table c.args.pid b, g.met.K.Kin.keeps_room c.self.inside.table c.args.pid b) refl),
-      record { lends = tt; value = rw (← c.self.view_is) (own_at c.args.pid _ b _ c.update-seen.ensures.value); rising = rw (← c.self.view_is) c.update-seen.ensures.rising },
+      record { lends = tt; value = rw (← c.self.view_is) (own_at c.args.pid _ b _ c.update-seen.ensures.value) },
     )

@@ -1,6 +1,7 @@
-use Rattle.std.proofs.Common.{◌∙◌, refl, sym, subst}
+use Rattle.std.proofs.Common.{◌∙◌, refl, ap, sym, subst}
 use Rattle.std.proofs.lemmas.Result.{IfOk-weaker}
-use Rattle.proctable.proofs.Bodies.{same_body, child_groups}
+use Rattle.proctable.proofs.RecordLemmas.{same_record, child_groups}
+use Rattle.jobs.specs.Books.{lesser, room_in}
 use Rattle.jobs.specs.JobTables.{IsKept}
 use Rattle.jobs.proofs.KeptLemmas.{kept_unseen}
 use Rattle.jobs.proofs.job_table.JobTable.newborn.Goals as goal
@@ -14,5 +15,11 @@ pub returns-clause-groups : goal.returns-clause-groups
 returns-clause-groups g c =
     rw (← c.self.view_is, ← c.spare-spare.ensures.contents) (IfOk-weaker c.fork.result _ _ (λ b child. child_groups _ c.args.pid c.args.birth c.update.result.now b c.update.ensures.value child) c.fork.ensures)
 
-pub returns-clause-processes : goal.returns-clause-processes
-returns-clause-processes g c = rw (← c.self.view_is) (g.met.K.Kin.puts _ _ _ ∙ same_body _ c.update.ensures.rising c.args.pid c.update.result.now c.update.ensures.value ∙ c.spare-spare.ensures.contents)
+pub returns-clause-looks : goal.returns-clause-looks
+returns-clause-looks g c = rw (← c.self.view_is) (record {
+  processes = g.met.K.Kin.puts _ _ _ ∙ same_record _ c.update.ensures.rising c.args.pid c.update.result.now c.update.ensures.value ∙ c.spare-spare.ensures.contents;
+  room = ap (λ n. lesser n (room_in c.self.inside.count c.self.inside.books)) (g.met.K.Kin.keeps_room _ _ _ ∙ c.spare-spare.ensures.room);
+  visits = rw (g.met.K.Kin.put_reads c.spare-spare.new.self c.args.pid c.update.result.now, c.spare-spare.ensures.visits) (g.met.K.Kin.at_most_one _);
+  rising = c.self.invariant.rising;
+  numbers = c.self.invariant.numbers;
+})

@@ -11,7 +11,7 @@ invariant-loop-next g l =
     record {
       same : l.self.processes ≡ l.fn.self.processes;
       room : l.self.room ≡ l.fn.self.room;
-      read : l.self.reads + 2 * length (left_of l.next rs) ≤ l.fn.self.reads + 1 + 2 * length (above l.fn.after rs);
+      read : l.self.visits + 2 * length (left_of l.next rs) ≤ l.fn.self.visits + 1 + 2 * length (above l.fn.after rs);
       there : IfSome l.next (λ p. IsSome (lookup p rs));
       rest : first_pid (filter (is_member l.group) (left_of l.next rs)) ≡ first_pid (above l.fn.after (members_in l.group rs));
     }

@@ -1,5 +1,5 @@
-use Rattle.std.proofs.Common.{◌∙◌, ap, sym, subst}
-use Rattle.posix.specs.Tables.{IsRising, above, first_pid}
+use Rattle.std.proofs.Common.{◌∙◌, ap}
+use Rattle.posix.specs.Tables.{above, first_pid}
 use Rattle.posix.specs.Waits.{reporting_in}
 use Rattle.jobs.specs.JobTables.{JobsView}
 use Rattle.jobs.proofs.BookLemmas.{next_report}
@@ -7,5 +7,5 @@ use Rattle.jobs.proofs.job_table.JobTable.next_reporting.Goals as goal
 
 pub returns : goal.returns
 returns g c =
-    next_report c.args.parent c.args.after (g.K.Kin.contents c.self.inside.table) c.self.inside.books _ (subst (λ (t : JobsView). IsRising t.processes) (sym c.self.view_is) c.requires) c.self.invariant.books c.next_reporting.ensures
+    next_report c.args.parent c.args.after (g.K.Kin.contents c.self.inside.table) c.self.inside.books _ c.self.invariant.rising c.self.invariant.books c.next_reporting.ensures
     ∙ ap (λ (t : JobsView). first_pid (above c.args.after (reporting_in c.args.parent t.processes))) c.self.view_is

@@ -1,14 +1,14 @@
 use Rattle.std.proofs.Common.{refl}
-use Rattle.proctable.proofs.Bodies.{own_body}
+use Rattle.proctable.proofs.RecordLemmas.{own_record}
 use Rattle.jobs.proofs.KeptLemmas.{kept_unseen}
 use Rattle.jobs.proofs.LoanLemmas.{own_at}
 use Rattle.jobs.proofs.job_table.JobTable.own.Goals as goal
 
 pub invariant_of-self-lent : goal.invariant_of-self-lent
-invariant_of-self-lent g c = λ w. kept_unseen _ _ _ c.args.pid c.update-body.result.now (record (c.update-body.result.now) { own = w }) _ c.update-body.ensures.value (g.met.K.Kin.puts _ _ _) refl c.self.invariant
+invariant_of-self-lent g c = λ w. kept_unseen _ _ _ c.args.pid c.update-fields.result.now (record (c.update-fields.result.now) { own = w }) _ c.update-fields.ensures.value (g.met.K.Kin.puts _ _ _) refl c.self.invariant
 
 pub returns : goal.returns
 returns g c = (
-  (refl, λ w. rw (← c.self.view_is, g.met.K.Kin.puts c.self.inside.table c.args.pid (record (c.update-body.result.now) { own = w }), own_body _ c.update-body.ensures.rising c.args.pid c.update-body.result.now w c.update-body.ensures.value, g.met.K.Kin.put_reads c.self.inside.table c.args.pid (record (c.update-body.result.now) { own = w }), g.met.K.Kin.keeps_room c.self.inside.table c.args.pid (record (c.update-body.result.now) { own = w })) refl),
-  record { lends = tt; value = rw (← c.self.view_is) (own_at c.args.pid _ c.update-body.result.now _ c.update-body.ensures.value); rising = rw (← c.self.view_is) c.update-body.ensures.rising },
+  (refl, λ w. rw (← c.self.view_is, g.met.K.Kin.puts c.self.inside.table c.args.pid (record (c.update-fields.result.now) { own = w }), own_record _ c.self.invariant.rising c.args.pid c.update-fields.result.now w c.update-fields.ensures.value, g.met.K.Kin.put_reads c.self.inside.table c.args.pid (record (c.update-fields.result.now) { own = w }), g.met.K.Kin.keeps_room c.self.inside.table c.args.pid (record (c.update-fields.result.now) { own = w })) refl),
+  record { lends = tt; value = rw (← c.self.view_is) (own_at c.args.pid _ c.update-fields.result.now _ c.update-fields.ensures.value) },
 )

@@ -10,7 +10,7 @@ invariant-loop-next g l =
     record {
       same : l.self.processes ≡ l.fn.self.processes;
       room : l.self.room ≡ l.fn.self.room;
-      read : l.self.reads + 3 * length (left_of l.next rs) ≤ l.fn.self.reads + 2 + 3 * length rs;
+      read : l.self.visits + 3 * length (left_of l.next rs) ≤ l.fn.self.visits + 2 + 3 * length rs;
       begins : first_pid (left_of l.next (members_in l.group rs)) ≡ l.next;
       counted : l.count + length (filter (λ r. is_stopped r.life) (left_of l.next (members_in l.group rs))) ≡ length (filter (λ r. is_stopped r.life) (members_in l.group rs));
     }

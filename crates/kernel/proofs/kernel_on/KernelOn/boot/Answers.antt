@@ -13,8 +13,8 @@ invariant_of-result g c =
       subst (λ (s : State). s.ticks ≤ 0) (sym is) (omega arith),
       subst IsSettled (sym is) (first_settled c.args.world.now),
       c.in_ok-boot.ensures.regular,
-      c.in_ok-boot.ensures.asked,
-      c.in_ok-boot.ensures.stale,
+      c.in_ok-boot.ensures.to_recheck,
+      c.in_ok-boot.ensures.foregrounds_unchecked,
       subst AreTurns (sym is) (first_turns c.args.world.now),
     )
 

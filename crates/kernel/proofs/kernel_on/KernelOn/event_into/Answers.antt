@@ -19,8 +19,8 @@ invariant_of-self g c =
       counts.1,
       settled_stays c.self.inside.machine.state c.next.new.machine.state c.args.event _ c.next.ensures.step old.2,
       c.next.ensures.regular,
-      c.next.ensures.asked old.4,
-      c.next.ensures.stale old.5,
+      c.next.ensures.to_recheck old.4,
+      c.next.ensures.foregrounds_unchecked old.5,
       step_turns c.self.inside.machine.state c.next.new.machine.state c.args.event _ c.next.ensures.step old.3 old.6,
     )
 

@@ -25,8 +25,8 @@ invariant_of-self-2 g c =
       counts.1,
       settled_stays b.new.machine.state c.call_next.new.machine.state Step _ c.call_next.ensures.step b.ensures.runs.settled,
       c.call_next.ensures.regular,
-      c.call_next.ensures.asked,
-      c.call_next.ensures.stale,
+      c.call_next.ensures.to_recheck,
+      c.call_next.ensures.foregrounds_unchecked,
       step_turns b.new.machine.state c.call_next.new.machine.state Step _ c.call_next.ensures.step b.ensures.regular k.2,
     )
 
@@ -71,14 +71,14 @@ invariant_of-self g c =
     let old = c.self.invariant in
     let b = c.burst-done in
     let k = burst_keeps c.self.inside.events b.result.last b.result.pid c.self.inside.machine.state b.new.machine.state b.new.notes.items b.ensures.runs b.ensures.from old.0 old.1 old.3 old.6 in
-    (k.0, k.1, b.ensures.runs.settled, b.ensures.regular, b.ensures.asked ∙ old.4, b.ensures.stale ∙ old.5, k.2)
+    (k.0, k.1, b.ensures.runs.settled, b.ensures.regular, b.ensures.to_recheck ∙ old.4, b.ensures.foregrounds_unchecked ∙ old.5, k.2)
 
 pub invariant_of-self-in_default : goal.invariant_of-self-in_default
 invariant_of-self-in_default g c =
     let old = c.self.invariant in
     let b = c.burst-done in
     let k = burst_keeps c.self.inside.events b.result.last b.result.pid c.self.inside.machine.state b.new.machine.state b.new.notes.items b.ensures.runs b.ensures.from old.0 old.1 old.3 old.6 in
-    (k.0, k.1, b.ensures.runs.settled, b.ensures.regular, b.ensures.asked ∙ old.4, b.ensures.stale ∙ old.5, k.2)
+    (k.0, k.1, b.ensures.runs.settled, b.ensures.regular, b.ensures.to_recheck ∙ old.4, b.ensures.foregrounds_unchecked ∙ old.5, k.2)
 
 pub returns-then-not-is_followed_by_step-clause-settled : goal.returns-then-not-is_followed_by_step-clause-settled
 returns-then-not-is_followed_by_step-clause-settled g c = c.burst-done.ensures.runs.settled

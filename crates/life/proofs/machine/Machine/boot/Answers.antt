@@ -7,7 +7,7 @@ use Rattle.posix.proofs.FreshLemmas.{first_fresh}
 use Rattle.posix.specs.Tables.{lookup, children_in}
 use Rattle.posix.specs.States.{boot, is_in}
 use Rattle.pidalloc.specs.Rows.{Pids, born_in, unborne_table}
-use Rattle.life.proofs.AskLemmas.{listed_first}
+use Rattle.life.proofs.RecheckLemmas.{listed_first}
 use Rattle.sched.specs.Places.{Places}
 use Rattle.jobs.proofs.NumberLemmas.{nobody_there}
 use Rattle.life.proofs.SoundLemmas.{sound_first, first_is_boot}
@@ -34,9 +34,9 @@ invariant_of-result g c =
     rw (c.insert.ensures.processes, c.in_ok-reserve.ensures.processes, c.empty-table.ensures.processes, c.in_ok-first.ensures)
     (record {
       sound = sound_first _ _ _ _ unused (omega (arith, least, c.pidmax.ensures.value)) bore pidmax c.bear_all.ensures.kept order (omega (arith, room, all, c.pidmax-2.ensures.value));
-      listed = listed_first _ _ _ _ (first_is_boot _ _ c.bear_all.new.self c.place.new.self unused c.bear_all.ensures.last order) (c.in_ok-reserve-2.ensures.pids ∙ c.new-to_ask.ensures) c.pidmax-3.ensures.value c.in_ok-reserve-2.ensures.room (subst (λ n. AllByRecursion (IsReaders n) c.in_ok-readers.readers.items) c.pidmax-5.ensures.value c.in_ok-readers.ensures.each) (c.in_ok-readers.ensures.many ∙ c.consoles-2.ensures.value);
+      listed = listed_first _ _ _ _ (first_is_boot _ _ c.bear_all.new.self c.place.new.self unused c.bear_all.ensures.last order) (c.in_ok-reserve-2.ensures.pids ∙ c.new-to_recheck.ensures) c.pidmax-3.ensures.value c.in_ok-reserve-2.ensures.room (subst (λ n. AllByRecursion (IsReaders n) c.in_ok-readers.readers.items) c.pidmax-5.ensures.value c.in_ok-readers.ensures.each) (c.in_ok-readers.ensures.many ∙ c.consoles-2.ensures.value);
       fresh = λ e. subst AreFresh (sym (first_is_boot c.in_ok-world.world _ c.bear_all.new.self c.place.new.self unused c.bear_all.ensures.last order)) (first_fresh c.in_ok-world.world);
-      noted = record { rising = rw (c.in_ok-reserve-3.ensures.pids ∙ c.new-losing.ensures) tt; within = λ q e. absurd (let none = ap (is_in q) (c.in_ok-reserve-3.ensures.pids ∙ c.new-losing.ensures) in cc); room = let few = c.pidmax-4.ensures.value in let all = c.in_ok-reserve-3.ensures.room in omega (arith, few, all) };
+      noted = record { rising = rw (c.in_ok-reserve-3.ensures.pids ∙ c.new-groups_at_risk.ensures) tt; within = λ q e. absurd (let none = ap (is_in q) (c.in_ok-reserve-3.ensures.pids ∙ c.new-groups_at_risk.ensures) in cc); room = let few = c.pidmax-4.ensures.value in let all = c.in_ok-reserve-3.ensures.room in omega (arith, few, all) };
     })
 
 pub returns-clause-state : goal.returns-clause-state
@@ -46,12 +46,12 @@ returns-clause-state g c =
     rw (c.insert.ensures.processes, c.in_ok-reserve.ensures.processes, c.empty-table.ensures.processes, c.in_ok-first.ensures)
     (first_is_boot _ _ c.bear_all.new.self c.place.new.self unused c.bear_all.ensures.last order ∙ ap boot c.in_ok-world.ensures)
 
-pub returns-clause-reads : goal.returns-clause-reads
+pub returns-clause-visits : goal.returns-clause-visits
 unfolding children_in
-returns-clause-reads g c =
+returns-clause-visits g c =
     let none = ap (λ rs. length (children_in 0 rs)) (c.in_ok-reserve.ensures.processes ∙ c.empty-table.ensures.processes) in
-    let all = c.insert.ensures.reads in
-    let reserved = c.in_ok-reserve.ensures.reads ∙ c.empty-table.ensures.reads in
+    let all = c.insert.ensures.visits in
+    let reserved = c.in_ok-reserve.ensures.visits ∙ c.empty-table.ensures.visits in
     omega (arith, none, all, reserved)
 
 pub returns-clause-regular : goal.returns-clause-regular

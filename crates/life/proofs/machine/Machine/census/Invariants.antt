@@ -4,6 +4,7 @@ use Rattle.std.specs.Option.{IfSome, IsSome}
 use Rattle.posix.specs.Processes.{is_living, is_zombie}
 use Rattle.posix.specs.Tables.{left_of, lookup}
 use Rattle.posix.proofs.WalkLemmas.{numbers_left}
+use Rattle.life.specs.Machines.{AreSame}
 use Rattle.life.proofs.machine.Machine.census.Given as goal
 
 -- those that were counted, and those that are left, are all
@@ -11,10 +12,8 @@ abbrev pub invariant-loop-next : goal.invariant-loop-next
 invariant-loop-next g l =
     let rs = l.fn.self.state.processes in
     record {
-      same : l.self.state ≡ l.fn.self.state;
-      asked : l.self.asked ≡ l.fn.self.asked;
-      stale : l.self.stale ≡ l.fn.self.stale;
-      read : l.self.reads + 2 * length (left_of l.next rs) ≤ l.fn.self.reads + 1 + 2 * length rs;
+      same : AreSame l.fn.self l.self;
+      read : l.self.visits + 2 * length (left_of l.next rs) ≤ l.fn.self.visits + 1 + 2 * length rs;
       there : IfSome l.next (λ p. IsSome (lookup p rs));
       living : l.living + count_by is_living (left_of l.next rs) ≡ count_by is_living rs;
       zombies : l.zombies + count_by (λ r. is_zombie r.life) (left_of l.next rs) ≡ count_by (λ r. is_zombie r.life) rs;

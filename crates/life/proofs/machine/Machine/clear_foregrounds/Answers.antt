@@ -3,7 +3,7 @@ use Rattle.posix.specs.Settle.{AreFresh, clear_foregrounds}
 use Rattle.life.specs.Machines.{state_of}
 use Rattle.posix.proofs.FreshLemmas.{cleared_none, fresh_cleared}
 use Rattle.posix.proofs.ConsoleLemmas.{regular_cleared}
-use Rattle.life.proofs.AskLemmas.{listed_cleared}
+use Rattle.life.proofs.RecheckLemmas.{listed_cleared}
 use Rattle.life.proofs.ViewLemmas.{state_is}
 use Rattle.life.proofs.machine.Machine.clear_foregrounds.Goals as goal
 

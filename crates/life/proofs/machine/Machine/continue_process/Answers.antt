@@ -8,7 +8,7 @@ use Rattle.posix.proofs.ChangeLemmas.{lives_resumed}
 use Rattle.pidset.specs.Numbers.{with_number}
 use Rattle.jobs.proofs.NumberLemmas.{absent_changed}
 use Rattle.jobs.proofs.RunLemmas.{run_as, parent_is}
-use Rattle.life.specs.Asking.{asking, asking_changed}
+use Rattle.life.specs.Rechecks.{rechecking, rechecking_changed}
 use Rattle.life.proofs.FunnelLemmas.{stays_living, told_or_none, parent_twice, nobody_0}
 use Rattle.life.proofs.SendLemmas.{with_processes}
 use Rattle.life.proofs.machine.Machine.continue_process.Goals as goal
@@ -22,7 +22,7 @@ returns-clause-state g c = λ me found.
     let s = c.args.self.now.state in
     let p = c.args.pid in
     let parent = c.change_seen-parent.result in
-    let regular = c.change_seen-parent.ensures.regular in
+    let regular = c.change_seen-parent.ensures.costs.regular in
     let is = c.change_seen-parent.ensures.rest ∙ ap (with_processes s) (run_as resumed c.change_seen-parent.ensures.run regular.rising (λ b d r k q. search rules)) in
     let told = λ (n w : ℕ) (t : State). record t { processes = changed n (noticed_of_change (child_signal p w)) t.processes } in
     c.tell_parent.ensures.state ∙ ap (λ w. cond (parent == 0) c.change_seen-parent.new.self.state (told parent w c.change_seen-parent.new.self.state)) c.continued.ensures
@@ -31,13 +31,13 @@ returns-clause-state g c = λ me found.
     ∙ ap (λ n. told n continued (record s { processes = changed p resumed s.processes })) (parent_is p parent s.processes me c.change_seen-parent.ensures.parent found)
     ∙ ap (λ n. record s { processes = changed me.parent (noticed_of_change (child_signal n continued)) (changed p resumed s.processes) }) (sym (pid_looked p s.processes me found))
 
-pub returns-clause-asked : goal.returns-clause-asked
-returns-clause-asked g c = λ me found.
+pub returns-clause-to_recheck : goal.returns-clause-to_recheck
+returns-clause-to_recheck g c = λ me found.
     let s = c.args.self.now.state in
     let parent = c.change_seen-parent.result in
     let order = ap (λ (t : State). t.order) c.change_seen-parent.ensures.rest in
     let its = parent_is c.args.pid parent s.processes me c.change_seen-parent.ensures.parent found in
-    c.tell_parent.ensures.asked ∙ ap (λ o. cond (parent == 0) c.change_seen-parent.new.self.asked (asking parent o c.change_seen-parent.new.self.asked)) order
-    ∙ ap (λ ns. cond (parent == 0) ns (asking parent s.order ns)) (c.change_seen-parent.ensures.asked me found)
-    ∙ ap (λ n. cond (n == 0) (asking_changed me c.args.self.now.asked) (asking n s.order (asking_changed me c.args.self.now.asked))) its
-    ∙ parent_twice me.parent s.order (with_number me.pid c.args.self.now.asked)
+    c.tell_parent.ensures.to_recheck ∙ ap (λ o. cond (parent == 0) c.change_seen-parent.new.self.to_recheck (rechecking parent o c.change_seen-parent.new.self.to_recheck)) order
+    ∙ ap (λ ns. cond (parent == 0) ns (rechecking parent s.order ns)) (c.change_seen-parent.ensures.to_recheck me found)
+    ∙ ap (λ n. cond (n == 0) (rechecking_changed me c.args.self.now.to_recheck) (rechecking n s.order (rechecking_changed me c.args.self.now.to_recheck))) its
+    ∙ parent_twice me.parent s.order (with_number me.pid c.args.self.now.to_recheck)

@@ -1,9 +1,10 @@
-use Rattle.std.proofs.Common.{refl, [], arith, ap, length}
+use Rattle.std.proofs.Common.{refl, ◌∙◌, [], arith, ap, length}
 use Rattle.posix.specs.States.{State}
 use Rattle.posix.proofs.MemberLemmas.{in_none}
 use Rattle.posix.proofs.RegularLemmas.{regular_as}
 use Rattle.posix.proofs.TouchLemmas.{touches_none}
-use Rattle.life.proofs.AskLemmas.{listed_same}
+use Rattle.life.proofs.RecheckLemmas.{listed_same}
+use Rattle.life.specs.Machines.{MachineView}
 use Rattle.life.proofs.ViewLemmas.{state_is}
 use Rattle.life.proofs.machine.Machine.drop_child.Goals as goal
 
@@ -20,3 +21,6 @@ invariant_of-self g c =
       noted = i.noted;
       fresh = i.fresh;
     }
+
+pub returns-clause-to_recheck : goal.returns-clause-to_recheck
+returns-clause-to_recheck g c = λ it found. ap (λ (m : MachineView). m.to_recheck) c.self.view_is ∙ c.reap.ensures.to_recheck it found

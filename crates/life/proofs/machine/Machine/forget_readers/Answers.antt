@@ -10,10 +10,10 @@ invariant_of-self g c =
     let l = i.listed in
     record {
       sound = i.sound;
-      listed = record { covers = l.covers; rising = l.rising; there = l.there; room = l.room; watched = watched_forgotten _ c.args.place _ l.watched (subst (λ (m : MachineView). AreReaders m.state c.args.place m.asked) (sym c.self.view_is) c.requires) c.forget_at.ensures };
+      listed = record { covers = l.covers; rising = l.rising; there = l.there; room = l.room; watched = watched_forgotten _ c.args.console_index _ l.watched (subst (λ (m : MachineView). AreReaders m.state c.args.console_index m.to_recheck) (sym c.self.view_is) c.requires) c.clear_readers.ensures };
       noted = i.noted;
       fresh = i.fresh;
     }
 
 pub returns-clause-readers : goal.returns-clause-readers
-returns-clause-readers g c = none_known c.args.place _ _ c.forget_at.ensures
+returns-clause-readers g c = none_known c.args.console_index _ _ c.clear_readers.ensures

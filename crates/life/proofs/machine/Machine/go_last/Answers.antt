@@ -4,7 +4,7 @@ use Rattle.posix.proofs.OrderLemmas.{regular_last}
 use Rattle.posix.proofs.MemberLemmas.{in_none}
 use Rattle.posix.proofs.TouchLemmas.{touches_last}
 use Rattle.life.proofs.SoundLemmas.{kept_order}
-use Rattle.life.proofs.AskLemmas.{listed_same}
+use Rattle.life.proofs.RecheckLemmas.{listed_same}
 use Rattle.life.proofs.ViewLemmas.{state_is}
 use Rattle.life.proofs.machine.Machine.go_last.Goals as goal
 

@@ -9,9 +9,9 @@ use Rattle.posix.proofs.TableLemmas.{pid_looked}
 use Rattle.posix.proofs.TouchLemmas.{touches_none}
 use Rattle.pidset.specs.Numbers.{with_number}
 use Rattle.jobs.proofs.RunLemmas.{run_as}
-use Rattle.life.specs.Asking.{with_parent}
+use Rattle.life.specs.Rechecks.{with_parent}
 use Rattle.life.specs.Machines.{MachineView}
-use Rattle.life.proofs.AskLemmas.{listed_same}
+use Rattle.life.proofs.RecheckLemmas.{listed_same}
 use Rattle.life.proofs.EndLemmas.{regular_ended}
 use Rattle.life.proofs.FunnelLemmas.{stays_so, with_lost}
 use Rattle.life.proofs.SendLemmas.{with_processes}
@@ -39,12 +39,12 @@ invariant_of-self g c =
 pub returns-clause-state : goal.returns-clause-state
 returns-clause-state g c =
     let s = c.lose_place.new.self.state in
-    let is = c.change_seen.ensures.rest ∙ ap (with_processes s) (run_as (ended c.args.status) c.change_seen.ensures.run c.change_seen.ensures.regular.rising (λ b d r k q. search rules)) in
+    let is = c.change_seen.ensures.rest ∙ ap (with_processes s) (run_as (ended c.args.status) c.change_seen.ensures.run c.change_seen.ensures.costs.regular.rising (λ b d r k q. search rules)) in
     ap (λ (t : State). record t { halted = true }) (state_is c.self.view_is ∙ is ∙ ap (λ (t : State). change_of t 1 (ended c.args.status)) c.lose_place.ensures.state)
 
-pub returns-clause-asked : goal.returns-clause-asked
-returns-clause-asked g c =
-    let first = c.change_seen.ensures.regular.first in
+pub returns-clause-to_recheck : goal.returns-clause-to_recheck
+returns-clause-to_recheck g c =
+    let first = c.change_seen.ensures.costs.regular.first in
     let t = c.lose_place.new.self.state in
-    ap (λ (m : MachineView). m.asked) c.self.view_is ∙ c.change_seen.ensures.asked first.what first.found ∙ ap (λ q. with_parent q (with_number first.what.pid c.lose_place.new.self.asked)) first.parent
-    ∙ ap (λ q. with_number q c.lose_place.new.self.asked) (pid_looked 1 t.processes first.what first.found) ∙ ap (with_number 1) c.lose_place.ensures.asked ∙ with_lost (is_in 1 c.args.self.now.state.order) 1 c.args.self.now.asked
+    ap (λ (m : MachineView). m.to_recheck) c.self.view_is ∙ c.change_seen.ensures.to_recheck first.what first.found ∙ ap (λ q. with_parent q (with_number first.what.pid c.lose_place.new.self.to_recheck)) first.parent
+    ∙ ap (λ q. with_number q c.lose_place.new.self.to_recheck) (pid_looked 1 t.processes first.what first.found) ∙ ap (with_number 1) c.lose_place.ensures.to_recheck ∙ with_lost (is_in 1 c.args.self.now.state.order) 1 c.args.self.now.to_recheck

@@ -1,49 +1,49 @@
 use Rattle.std.proofs.Common.{◌≡◌, ap, sym, ◌∙◌, arith, Some, slice_get}
 use Rattle.std.proofs.lemmas.Option.{get_or_from_slice_get, slice_get_within}
-use Rattle.proctable.specs.declared.facts.Facts.{Facts}
+use Rattle.proctable.specs.declared.snapshot.Snapshot.{Snapshot}
 use Rattle.posix.specs.SignalNumbers.{HUP}
 use Rattle.posix.specs.Consoles.{Console, console_of, released}
 use Rattle.posix.specs.States.{State}
 use Rattle.posix.specs.Ends.{signalled_group}
 use Rattle.life.specs.Consoles.{hangs_up}
-use Rattle.life.proofs.SoundLemmas.{facts_are}
+use Rattle.life.proofs.SoundLemmas.{snapshot_are}
 use Rattle.life.proofs.ConsoleLemmas.{put, others_stay, none_stays, leader_hangs_up}
 use Rattle.life.proofs.ViewLemmas.{state_is}
 use Rattle.life.proofs.machine.Machine.hang_up.Goals as goal
 
 pub returns-then-not-hangs_up : goal.returns-then-not-hangs_up
 returns-then-not-hangs_up g c = λ me found.
-    c.facts.ensures.same ∙ others_stay c.args.self.now.state me (ap hangs_up (sym (facts_are _ me c.in-Some.facts c.in-Some.ensures.value found)) ∙ sym c.hangs_up.ensures ∙ c.if-not-hangs_up.true)
+    c.snapshot.ensures.looks.same.state ∙ others_stay c.args.self.now.state me (ap hangs_up (sym (snapshot_are _ me c.in-Some.snapshot c.in-Some.ensures.value found)) ∙ sym c.hangs_up.ensures ∙ c.if-not-hangs_up.true)
 
-pub returns-in_default-place_of : goal.returns-in_default-place_of
-returns-in_default-place_of g c = λ me found.
+pub returns-in_default-terminal_index : goal.returns-in_default-terminal_index
+returns-in_default-terminal_index g c = λ me found.
     let now = c.args.self.now.state in
-    let session = ap (λ (f : Facts). f.session) (facts_are _ me c.in-Some.facts c.in-Some.ensures.value found) in
-    let same = state_is c.self.view_is ∙ c.facts.ensures.same in
+    let session = ap (λ (f : Snapshot). f.session) (snapshot_are _ me c.in-Some.snapshot c.in-Some.ensures.value found) in
+    let same = state_is c.self.view_is ∙ c.snapshot.ensures.looks.same.state in
     let consoles = c.deref.ensures.value ∙ ap (λ (s : State). s.consoles) same in
-    c.facts.ensures.same ∙ none_stays now me (ap (λ n. console_of n now.consoles) (sym session) ∙ ap (console_of c.in-Some.facts.session) (sym consoles) ∙ c.in_default-place_of.ensures)
+    c.snapshot.ensures.looks.same.state ∙ none_stays now me (ap (λ n. console_of n now.consoles) (sym session) ∙ ap (console_of c.in-Some.snapshot.session) (sym consoles) ∙ c.in_default-terminal_index.ensures)
 
 pub index-requires : goal.index-requires
 index-requires g c =
-    let it = c.in-Some-place_of.ensures in
-    let within = slice_get_within c.deref.result.now c.in-Some-place_of.place it.0 it.1 in
+    let it = c.in-Some-terminal_index.ensures in
+    let within = slice_get_within c.deref.result.now c.in-Some-terminal_index.console_index it.0 it.1 in
     let len = c.deref.ensures.len in
     omega (arith, within, len)
 
 pub returns : goal.returns
 returns g c = λ me found.
     let now = c.args.self.now.state in
-    let place = c.in-Some-place_of.place in
-    let it = c.in-Some-place_of.ensures in
+    let console_index = c.in-Some-terminal_index.console_index in
+    let it = c.in-Some-terminal_index.ensures in
     let cs = c.self.inside.consoles.items in
-    let is = facts_are _ me c.in-Some.facts c.in-Some.ensures.value found in
+    let is = snapshot_are _ me c.in-Some.snapshot c.in-Some.ensures.value found in
     let leads = ap hangs_up (sym is) ∙ sym c.hangs_up.ensures ∙ c.if-not-hangs_up.false in
-    let same = state_is c.self.view_is ∙ c.facts.ensures.same in
-    let inside : slice_get cs place ≡ Some it.0 = ap (λ cs. slice_get cs place) (sym c.deref.ensures.value) ∙ it.1 in
-    let at : slice_get now.consoles place ≡ Some it.0 = ap (λ (s : State). slice_get s.consoles place) (sym same) ∙ inside in
-    let foreground = c.foreground-foreground.ensures.is ∙ ap (λ (x : Console). x.foreground) (c.index.ensures ∙ get_or_from_slice_get cs place it.0 _ inside) in
+    let same = state_is c.self.view_is ∙ c.snapshot.ensures.looks.same.state in
+    let inside : slice_get cs console_index ≡ Some it.0 = ap (λ cs. slice_get cs console_index) (sym c.deref.ensures.value) ∙ it.1 in
+    let at : slice_get now.consoles console_index ≡ Some it.0 = ap (λ (s : State). slice_get s.consoles console_index) (sym same) ∙ inside in
+    let foreground = c.foreground-foreground.ensures.is ∙ ap (λ (x : Console). x.foreground) (c.index.ensures ∙ get_or_from_slice_get cs console_index it.0 _ inside) in
     let signalled : c.signal_group.new.self.state ≡ record now { processes = signalled_group HUP it.0.foreground now.processes } =
-    c.signal_group.ensures.state ∙ ap (λ (s : State). record s { processes = signalled_group HUP c.foreground-foreground.result s.processes }) c.facts.ensures.same
+    c.signal_group.ensures.state ∙ ap (λ (s : State). record s { processes = signalled_group HUP c.foreground-foreground.result s.processes }) c.snapshot.ensures.looks.same.state
     ∙ ap (λ n. record now { processes = signalled_group HUP n now.processes }) foreground in
-    c.release.ensures it.0 (ap (λ (s : State). slice_get s.consoles place) signalled ∙ at) ∙ ap (λ (s : State). put s place (released it.0)) signalled
-    ∙ leader_hangs_up now place c.args.pid me it.0 c.facts.ensures.regular found leads at (it.3 ∙ ap (λ (f : Facts). f.session) is)
+    c.release.ensures it.0 (ap (λ (s : State). slice_get s.consoles console_index) signalled ∙ at) ∙ ap (λ (s : State). put s console_index (released it.0)) signalled
+    ∙ leader_hangs_up now console_index c.args.pid me it.0 c.snapshot.ensures.looks.regular found leads at (it.3 ∙ ap (λ (f : Snapshot). f.session) is)

@@ -4,7 +4,7 @@ use Rattle.std.specs.List.{list_any}
 use Rattle.posix.specs.States.{State}
 use Rattle.posix.specs.Tables.{members_in}
 use Rattle.posix.specs.Groups.{has_stopped}
-use Rattle.life.proofs.RousingLemmas.{some_pass}
+use Rattle.life.proofs.AtRiskLemmas.{some_pass}
 use Rattle.life.proofs.ViewLemmas.{state_is}
 use Rattle.life.proofs.machine.Machine.has_stopped.Goals as goal
 

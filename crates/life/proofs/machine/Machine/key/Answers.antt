@@ -14,42 +14,42 @@ returns-in_default g c =
 
 pub returns-in-None : goal.returns-in-None
 returns-in-None g c =
-    let place = c.in-Some.place in
+    let console_index = c.in-Some.console_index in
     let was = c.in-Some.ensures in
     let from = c.from.ensures in
     let consoles = sym (c.deref.ensures.value ∙ ap (λ (s : State). s.consoles) (state_is c.self.view_is)) in
-    let none = ap (λ cs. slice_get cs place) consoles ∙ past_none c.deref.result.now place c.in-None.ensures.lookup.0 in
-    key_past c.args.self.now.state c.args.console place c.args.byte (omega (arith, was, from)) none
+    let none = ap (λ cs. slice_get cs console_index) consoles ∙ past_none c.deref.result.now console_index c.in-None.ensures.lookup.0 in
+    key_past c.args.self.now.state c.args.console console_index c.args.byte (omega (arith, was, from)) none
 
 pub returns-in_default-type_byte : goal.returns-in_default-type_byte
 returns-in_default-type_byte g c =
-    let place = c.in-Some.place in
+    let console_index = c.in-Some.console_index in
     let it = c.in-Some-get.console.now in
     let consoles = sym (c.deref.ensures.value ∙ ap (λ (s : State). s.consoles) (state_is c.self.view_is)) in
-    let found = ap (λ cs. slice_get cs place) consoles ∙ lent_at c.deref.result.now place it c.in-Some-get.ensures.lookup.0 c.in-Some-get.ensures.lookup.1 in
+    let found = ap (λ cs. slice_get cs console_index) consoles ∙ lent_at c.deref.result.now console_index it c.in-Some-get.ensures.lookup.0 c.in-Some-get.ensures.lookup.1 in
     absurd (not_both _ it found c.in_default-type_byte.ensures.signal)
 
 pub returns-in-Some-signal : goal.returns-in-Some-signal
 returns-in-Some-signal g c =
-    let place = c.in-Some.place in
+    let console_index = c.in-Some.console_index in
     let was = c.in-Some.ensures in
     let from = c.from.ensures in
     let it = c.in-Some-get.console.now in
     let now = c.args.self.now.state in
     let consoles = sym (c.deref.ensures.value ∙ ap (λ (s : State). s.consoles) (state_is c.self.view_is)) in
-    let found = ap (λ cs. slice_get cs place) consoles ∙ lent_at c.deref.result.now place it c.in-Some-get.ensures.lookup.0 c.in-Some-get.ensures.lookup.1 in
+    let found = ap (λ cs. slice_get cs console_index) consoles ∙ lent_at c.deref.result.now console_index it c.in-Some-get.ensures.lookup.0 c.in-Some-get.ensures.lookup.1 in
     let signal = sym c.in-Some-signal.is ∙ c.in-Some-type_byte.ensures.signal in
     c.signal_group.ensures.state ∙ ap (λ (s : State). record s { processes = signalled_from (Some c.in-Some-signal.sig) c.foreground-foreground.result s.processes }) (c.type_byte.ensures.state it found)
-    ∙ key_on_it now c.args.console place c.args.byte it (Some c.in-Some-signal.sig) c.foreground-foreground.result (omega (arith, was, from)) found signal c.foreground-foreground.ensures.is
+    ∙ key_on_it now c.args.console console_index c.args.byte it (Some c.in-Some-signal.sig) c.foreground-foreground.result (omega (arith, was, from)) found signal c.foreground-foreground.ensures.is
 
 pub returns-in_default-signal : goal.returns-in_default-signal
 returns-in_default-signal g c =
-    let place = c.in-Some.place in
+    let console_index = c.in-Some.console_index in
     let was = c.in-Some.ensures in
     let from = c.from.ensures in
     let it = c.in-Some-get.console.now in
     let now = c.args.self.now.state in
     let consoles = sym (c.deref.ensures.value ∙ ap (λ (s : State). s.consoles) (state_is c.self.view_is)) in
-    let found = ap (λ cs. slice_get cs place) consoles ∙ lent_at c.deref.result.now place it c.in-Some-get.ensures.lookup.0 c.in-Some-get.ensures.lookup.1 in
+    let found = ap (λ cs. slice_get cs console_index) consoles ∙ lent_at c.deref.result.now console_index it c.in-Some-get.ensures.lookup.0 c.in-Some-get.ensures.lookup.1 in
     let signal = sym c.in_default-signal.is ∙ c.in-Some-type_byte.ensures.signal in
-    c.type_byte.ensures.state it found ∙ key_on_it now c.args.console place c.args.byte it None c.foreground-foreground.result (omega (arith, was, from)) found signal c.foreground-foreground.ensures.is
+    c.type_byte.ensures.state it found ∙ key_on_it now c.args.console console_index c.args.byte it None c.foreground-foreground.result (omega (arith, was, from)) found signal c.foreground-foreground.ensures.is

@@ -5,14 +5,15 @@ use Rattle.posix.specs.Ends.{made_zombie}
 use Rattle.posix.specs.States.{State, is_in}
 use Rattle.pidset.specs.Numbers.{with_number}
 use Rattle.life.specs.Machines.{MachineView, state_of}
-use Rattle.life.specs.Asking.{with_numbers}
+use Rattle.life.specs.Rechecks.{with_numbers}
 use Rattle.posix.proofs.RegularLemmas.{heir_other, heir_there, regular_depart}
 use Rattle.posix.proofs.TableLemmas.{pid_looked}
 use Rattle.jobs.proofs.RunLemmas.{run_as, parent_is}
 use Rattle.life.proofs.EndLemmas.{there_after, zombie_after}
-use Rattle.life.proofs.AskLemmas.{has_room, room_after, listed_more, listed_departed, in_numbers}
+use Rattle.life.proofs.RecheckLemmas.{has_room, room_after, listed_more, listed_departed, in_numbers}
 use Rattle.life.proofs.SoundLemmas.{there, here_in, heir_in, found_in, kept_departed, kids_made_zombie, length_departed, parents_departed, there_made_zombie}
 use Rattle.life.proofs.ViewLemmas.{state_is}
+use Rattle.posix.specs.Regular.{IsRegular}
 use Rattle.life.proofs.machine.Machine.leave.Goals as goal
 
 pub insert-requires : goal.insert-requires
@@ -33,7 +34,7 @@ insert-requires-3 g c =
 pub adopt-requires-clause-there : goal.adopt-requires-clause-there
 adopt-requires-clause-there g c =
     let theirs = heir_there _ c.args.pid c.args.heir c.self.invariant.sound.regular (heir_in (state_is c.self.view_is) c.requires.heir) in
-    rw (run_as (made_zombie c.args.status) c.change_seen-parent.ensures.run c.change_seen-parent.ensures.rising (λ b d r k q. search rules)) (there_made_zombie c.args.pid c.args.status c.args.heir _ theirs)
+    rw (run_as (made_zombie c.args.status) c.change_seen-parent.ensures.run c.self.invariant.sound.regular.rising (λ b d r k q. search rules)) (there_made_zombie c.args.pid c.args.status c.args.heir _ theirs)
 
 pub adopt-requires-clause-apart : goal.adopt-requires-clause-apart
 adopt-requires-clause-apart g c = λ same. heir_other _ c.args.pid c.args.heir c.requires.other c.requires.heir (sym same)
@@ -54,13 +55,13 @@ invariant_of-self g c =
     let found = found_in s _ old p me.what me.found in
     let named = pid_looked p s.processes me.what found in
     let low = (i.sound.regular.bounded p me.what found).least in
-    let made = run_as (made_zombie c.args.status) c.change_seen-parent.ensures.run c.change_seen-parent.ensures.rising (λ b d r k q. search rules) in
+    let made = run_as (made_zombie c.args.status) c.change_seen-parent.ensures.run c.self.invariant.sound.regular.rising (λ b d r k q. search rules) in
     let up = parent_is p c.change_seen-parent.result.parent s.processes me.what c.change_seen-parent.ensures.parent found in
-    let asked = c.insert-2.ensures.pids ∙ ap (with_number heir) c.insert.ensures.pids in
+    let to_recheck = c.insert-2.ensures.pids ∙ ap (with_number heir) c.insert.ensures.pids in
     let room = c.insert-2.ensures.room ∙ c.insert.ensures.room in
-    let now = listed_more s m.to_ask c.insert-2.new.self (heir ∷ p ∷ []) i.listed (theirs, (here_in p old c.requires.there, tt)) asked room in
-    let mine : is_in p c.insert-2.new.self.pids ≡ true = ap (is_in p) asked ∙ in_numbers p (heir ∷ p ∷ []) m.to_ask.pids ∙ rw (eq-eqb p p refl) (ap (λ b. b || is_in p m.to_ask.pids) (or_right (heir == p) true refl)) in
-    let its : is_in heir c.insert-2.new.self.pids ≡ true = ap (is_in heir) asked ∙ in_numbers heir (heir ∷ p ∷ []) m.to_ask.pids ∙ rw (eq-eqb heir heir refl) refl in
+    let now = listed_more s m.to_recheck c.insert-2.new.self (heir ∷ p ∷ []) i.listed (theirs, (here_in p old c.requires.there, tt)) to_recheck room in
+    let mine : is_in p c.insert-2.new.self.pids ≡ true = ap (is_in p) to_recheck ∙ in_numbers p (heir ∷ p ∷ []) m.to_recheck.pids ∙ rw (eq-eqb p p refl) (ap (λ b. b || is_in p m.to_recheck.pids) (or_right (heir == p) true refl)) in
+    let its : is_in heir c.insert-2.new.self.pids ≡ true = ap (is_in heir) to_recheck ∙ in_numbers heir (heir ∷ p ∷ []) m.to_recheck.pids ∙ rw (eq-eqb heir heir refl) refl in
     rw (c.adopt.ensures.processes, made, c.drop_place.ensures.pids) record {
       sound = record {
         regular = regular_depart p heir w (omega (arith, named, low)) c.requires.other s i.sound.regular h;
@@ -78,27 +79,31 @@ returns-clause-parent g c = λ me e.
     let m = c.self.inside in
     let s = state_of m.world m.table.processes m.consoles.items m.pids m.order m.births m.ticks m.dropped m.halted in
     let found = found_in s _ (state_is c.self.view_is) c.args.pid me e in
-    rw (c.adopt.ensures.processes, run_as (made_zombie c.args.status) c.change_seen-parent.ensures.run c.change_seen-parent.ensures.rising (λ b d r k q. search rules)) (there_after s c.args.pid c.args.heir c.args.status me.parent (c.self.invariant.sound.parents c.args.pid me c.requires.other found))
+    rw (c.adopt.ensures.processes, run_as (made_zombie c.args.status) c.change_seen-parent.ensures.run c.self.invariant.sound.regular.rising (λ b d r k q. search rules)) (there_after s c.args.pid c.args.heir c.args.status me.parent (c.self.invariant.sound.parents c.args.pid me c.requires.other found))
 
 pub returns-clause-zombie : goal.returns-clause-zombie
 returns-clause-zombie g c =
     let m = c.self.inside in
     let s = state_of m.world m.table.processes m.consoles.items m.pids m.order m.births m.ticks m.dropped m.halted in
     let me = there _ (here_in {s = s} c.args.pid (state_is c.self.view_is) c.requires.there) in
-    rw (c.adopt.ensures.processes, run_as (made_zombie c.args.status) c.change_seen-parent.ensures.run c.change_seen-parent.ensures.rising (λ b d r k q. search rules)) (zombie_after s c.args.pid c.args.heir c.args.status me.what me.found)
+    rw (c.adopt.ensures.processes, run_as (made_zombie c.args.status) c.change_seen-parent.ensures.run c.self.invariant.sound.regular.rising (λ b d r k q. search rules)) (zombie_after s c.args.pid c.args.heir c.args.status me.what me.found)
 
-pub returns-clause-reads : goal.returns-clause-reads
-returns-clause-reads g c =
+pub returns-clause-costs : goal.returns-clause-costs
+returns-clause-costs g c =
     let rs = c.args.self.now.state.processes in
-    let old = ap (λ (m : MachineView). m.reads) c.self.view_is in
-    let made = run_as (made_zombie c.args.status) c.change_seen-parent.ensures.run c.change_seen-parent.ensures.rising (λ b d r k q. search rules) ∙ ap (λ (s : State). changed c.args.pid (made_zombie c.args.status) s.processes) (state_is c.self.view_is) in
+    let old = ap (λ (m : MachineView). m.visits) c.self.view_is in
+    let made = run_as (made_zombie c.args.status) c.change_seen-parent.ensures.run c.self.invariant.sound.regular.rising (λ b d r k q. search rules) ∙ ap (λ (s : State). changed c.args.pid (made_zombie c.args.status) s.processes) (state_is c.self.view_is) in
     let mine = kids_made_zombie c.args.pid c.args.status c.args.pid rs in
     let theirs = kids_made_zombie c.args.pid c.args.status c.args.heir rs in
-    let adopts = subst (λ ts. c.adopt.new.self.reads ≤ c.change_seen-parent.new.self.reads + 1 + 8 * length (children_in c.args.pid ts) + length (children_in c.args.heir ts)) made c.adopt.ensures.reads in
-    omega (arith, old, mine, theirs, adopts, c.change_seen-parent.ensures.reads)
+    let adopts = subst (λ ts. c.adopt.new.self.visits ≤ c.change_seen-parent.new.self.visits + 1 + 8 * length (children_in c.args.pid ts) + length (children_in c.args.heir ts)) made c.adopt.ensures.visits in
+    record {
+      visits = omega (arith, old, mine, theirs, adopts, c.change_seen-parent.ensures.visits);
+      groups_at_risk = ap (λ (m : MachineView). m.groups_at_risk) c.self.view_is;
+      regular = subst IsRegular (state_is c.self.view_is) c.self.invariant.sound.regular;
+    }
 
 pub returns-clause-state : goal.returns-clause-state
-returns-clause-state g c = rw (c.adopt.ensures.processes, run_as (made_zombie c.args.status) c.change_seen-parent.ensures.run c.change_seen-parent.ensures.rising (λ b d r k q. search rules), c.drop_place.ensures.pids, ← c.self.view_is) refl
+returns-clause-state g c = rw (c.adopt.ensures.processes, run_as (made_zombie c.args.status) c.change_seen-parent.ensures.run c.self.invariant.sound.regular.rising (λ b d r k q. search rules), c.drop_place.ensures.pids, ← c.self.view_is) refl
 
 pub returns-clause-is : goal.returns-clause-is
 returns-clause-is g c = λ me e. parent_is c.args.pid c.change_seen-parent.result.parent _ me c.change_seen-parent.ensures.parent (found_in _ _ (state_is c.self.view_is) c.args.pid me e)

@@ -1,10 +1,10 @@
 use Rattle.std.proofs.Common.{◌∙◌, refl, sym, arith, [], ◌∷◌}
 use Rattle.posix.proofs.RegularLemmas.{regular_lose}
 use Rattle.posix.proofs.OrderLemmas.{placed_some}
-use Rattle.life.specs.Asking.{with_numbers}
+use Rattle.life.specs.Rechecks.{with_numbers}
 use Rattle.posix.proofs.TouchLemmas.{touches_lost}
 use Rattle.life.proofs.SoundLemmas.{kept_order}
-use Rattle.life.proofs.AskLemmas.{has_room, listed_with, loses_none}
+use Rattle.life.proofs.RecheckLemmas.{has_room, listed_with, loses_none}
 use Rattle.life.proofs.machine.Machine.lose_place.Goals as goal
 
 pub insert-requires : goal.insert-requires

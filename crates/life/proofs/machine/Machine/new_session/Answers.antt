@@ -21,14 +21,14 @@ change_seen-requires-clause-regular g c =
     let me = c.requires.there in
     let found = found_in _ _ (state_is c.self.view_is) c.args.pid me.what me.found in
     let leads = not-true _ (sym (c.can_lead.ensures.test me.what found) ∙ ap is_ok c.in_ok-can_lead.was) in
-    let alone = ap (is_group_of_others me.what) c.can_lead.ensures.processes ∙ (or_parts _ _ leads).1 in
-    stays_so c.args.pid in_session t (λ i. regular_session t i me.what c.args.pid (ap (lookup c.args.pid) c.can_lead.ensures.processes ∙ found) alone) (λ b d r k q. search rules)
+    let alone = ap (is_group_of_others me.what) c.can_lead.ensures.looks.processes ∙ (or_parts _ _ leads).1 in
+    stays_so c.args.pid in_session t (λ i. regular_session t i me.what c.args.pid (ap (lookup c.args.pid) c.can_lead.ensures.looks.processes ∙ found) alone) (λ b d r k q. search rules)
 
 pub returns-clause-leads : goal.returns-clause-leads
 unfolding in_session
 returns-clause-leads g c = λ me found none.
     let m = c.self.inside in
     let t = state_of m.world c.can_lead.new.self.processes m.consoles.items m.pids m.order m.births m.ticks m.dropped m.halted in
-    let is = c.change_seen.ensures.rest ∙ ap (with_processes t) (run_as in_session c.change_seen.ensures.run c.change_seen.ensures.regular.rising (λ b d r k q. search rules)) in
-    let same = ap (with_processes t) c.can_lead.ensures.processes ∙ state_is c.self.view_is in
+    let is = c.change_seen.ensures.rest ∙ ap (with_processes t) (run_as in_session c.change_seen.ensures.run c.change_seen.ensures.costs.regular.rising (λ b d r k q. search rules)) in
+    let same = ap (with_processes t) c.can_lead.ensures.looks.processes ∙ state_is c.self.view_is in
     (refl, is ∙ ap (λ (s : State). change_of s c.args.pid in_session) same)

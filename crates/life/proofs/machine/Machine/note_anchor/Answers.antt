@@ -1,8 +1,8 @@
 use Rattle.std.proofs.Common.{arith, ap, sym, ◌∙◌}
 use Rattle.posix.specs.States.{State}
-use Rattle.proctable.specs.declared.facts.Facts.{Facts}
-use Rattle.life.proofs.SoundLemmas.{some_read, facts_are}
-use Rattle.life.proofs.RousingLemmas.{few_noted, noted_with}
+use Rattle.proctable.specs.declared.snapshot.Snapshot.{Snapshot}
+use Rattle.life.proofs.SoundLemmas.{some_read, snapshot_are}
+use Rattle.life.proofs.AtRiskLemmas.{few_noted, noted_with}
 use Rattle.life.proofs.ViewLemmas.{state_is}
 use Rattle.life.proofs.machine.Machine.note_anchor.Goals as goal
 
@@ -15,10 +15,10 @@ insert-requires g c =
 
 pub invariant_of-self : goal.invariant_of-self
 invariant_of-self g c =
-    let read = some_read _ c.in-Some.it (sym c.in-Some.is ∙ c.facts.ensures.value) in
-    let group = ap (λ (f : Facts). f.group) (facts_are _ read.what c.in-Some.it (sym c.in-Some.is ∙ c.facts.ensures.value) read.found) in
-    let same = state_is c.self.view_is ∙ c.facts.ensures.same in
-    let most = (c.facts.ensures.regular.bounded c.args.pid read.what read.found).group in
+    let read = some_read _ c.in-Some.it (sym c.in-Some.is ∙ c.snapshot.ensures.value) in
+    let group = ap (λ (f : Snapshot). f.group) (snapshot_are _ read.what c.in-Some.it (sym c.in-Some.is ∙ c.snapshot.ensures.value) read.found) in
+    let same = state_is c.self.view_is ∙ c.snapshot.ensures.looks.same.state in
+    let most = (c.snapshot.ensures.looks.regular.bounded c.args.pid read.what read.found).group in
     let world = ap (λ (s : State). s.world.pidmax) same in
     record {
       sound = c.self.invariant.sound;

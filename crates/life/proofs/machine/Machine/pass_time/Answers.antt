@@ -4,7 +4,7 @@ use Rattle.posix.specs.Regular.{IsRegular}
 use Rattle.posix.proofs.MemberLemmas.{in_none}
 use Rattle.posix.proofs.RegularLemmas.{regular_pass}
 use Rattle.posix.proofs.TouchLemmas.{touches_none}
-use Rattle.life.proofs.AskLemmas.{listed_same}
+use Rattle.life.proofs.RecheckLemmas.{listed_same}
 use Rattle.life.proofs.ViewLemmas.{state_is}
 use Rattle.life.proofs.machine.Machine.pass_time.Goals as goal
 

@@ -6,7 +6,7 @@ use Rattle.posix.proofs.TableLemmas.{pid_looked}
 use Rattle.posix.proofs.MemberLemmas.{in_none}
 use Rattle.posix.proofs.TouchLemmas.{touches_placed}
 use Rattle.life.proofs.SoundLemmas.{kept_order}
-use Rattle.life.proofs.AskLemmas.{listed_same}
+use Rattle.life.proofs.RecheckLemmas.{listed_same}
 use Rattle.life.proofs.ViewLemmas.{state_is}
 use Rattle.life.proofs.machine.Machine.place.Goals as goal
 

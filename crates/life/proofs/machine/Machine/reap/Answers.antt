@@ -1,10 +1,10 @@
 use Rattle.std.proofs.Common.{◌∙◌, ap, arith, refl, Some, List, length}
 use Rattle.posix.specs.Processes.{Process}
-use Rattle.pidalloc.proofs.TallyLemmas.{length_removed}
-use Rattle.life.specs.Asking.{without_gone}
+use Rattle.posix.proofs.TableLemmas.{length_removed}
+use Rattle.life.specs.Rechecks.{without_gone}
 use Rattle.life.proofs.SoundLemmas.{found_in}
 use Rattle.life.proofs.PartLemmas.{can_go, sound_gone}
-use Rattle.life.proofs.AskLemmas.{has_room, listed_removed}
+use Rattle.life.proofs.RecheckLemmas.{has_room, listed_removed}
 use Rattle.life.proofs.ViewLemmas.{state_is}
 use Rattle.life.proofs.machine.Machine.reap.Goals as goal
 
@@ -25,7 +25,7 @@ invariant_of-self g c =
     let parent = c.discard-parent.ensures.parent it.0 found in
     rw c.discard-parent.ensures.processes (record {
       sound = sound_gone _ _ _ _ c.args.pid _ _ it.0 c.self.invariant.sound found it.2 c.requires.other gone (omega arith);
-      listed = listed_removed _ c.args.pid _ _ it.0 _ _ c.self.invariant.sound.regular c.self.invariant.listed found up (c.forget.ensures.pids ∙ ap (λ n. without_gone c.args.pid (Some n) c.self.inside.to_ask.pids) parent) c.forget.ensures.room;
+      listed = listed_removed _ c.args.pid _ _ it.0 _ _ c.self.invariant.sound.regular c.self.invariant.listed found up (c.forget.ensures.pids ∙ ap (λ n. without_gone c.args.pid (Some n) c.self.inside.to_recheck.pids) parent) c.forget.ensures.room;
       noted = c.self.invariant.noted;
       fresh = λ e. absurd (cc);
     })

@@ -14,4 +14,4 @@ pub change-requires-clause-regular : goal.change-requires-clause-regular
 change-requires-clause-regular g c = let now = c.args.self.now.state.ticks + 1 in stays_regular c.args.pid (ring_at now) c.args.self.now.state (keeps_ring now) (λ b d r k q. search rules)
 
 pub returns-clause-state : goal.returns-clause-state
-returns-clause-state g c = c.change.ensures.rest ∙ ap (with_processes c.args.self.now.state) (run_as (ring_at (c.args.self.now.state.ticks + 1)) c.change.ensures.run c.change.ensures.regular.rising (λ b d r k q. search rules))
+returns-clause-state g c = c.change.ensures.rest ∙ ap (with_processes c.args.self.now.state) (run_as (ring_at (c.args.self.now.state.ticks + 1)) c.change.ensures.run c.change.ensures.costs.regular.rising (λ b d r k q. search rules))

@@ -5,7 +5,7 @@ use Rattle.posix.specs.Tables.{IsRising}
 use Rattle.posix.specs.Step.{set_cpu}
 use Rattle.life.specs.NotedBursts.{NotedBurst, most_notes, exec_with_notes}
 use Rattle.life.proofs.SoundLemmas.{found_in, here_in}
-use Rattle.life.proofs.AskLemmas.{has_room}
+use Rattle.life.proofs.RecheckLemmas.{has_room}
 use Rattle.life.proofs.CodeLemmas.{code_is, get_some, past_none, same_cpu}
 use Rattle.life.proofs.NotedBurstLemmas.{no_notes}
 use Rattle.jobs.proofs.LoanLemmas.{own_found}
@@ -13,11 +13,11 @@ use Rattle.life.proofs.LoanLemmas.{machine_lent, cpu_ran}
 use Rattle.life.proofs.ViewLemmas.{state_is}
 use Rattle.life.proofs.machine.Machine.run_with_notes.Goals as goal
 
-pub ask-requires : goal.ask-requires
-ask-requires g c = has_room _ _ c.self.invariant.sound.regular c.self.invariant.listed
+pub recheck_later-requires : goal.recheck_later-requires
+recheck_later-requires g c = has_room _ _ c.self.invariant.sound.regular c.self.invariant.listed
 
 pub invariant_of-self : goal.invariant_of-self
-invariant_of-self g c = machine_lent _ _ _ _ _ c.args.pid (record (c.own.result.now) { cpu = c.run_with_notes.new.cpu }) (here_in c.args.pid (state_is c.self.view_is) c.requires.there) c.self.invariant c.ask.ensures.pids c.ask.ensures.room
+invariant_of-self g c = machine_lent _ _ _ _ _ c.args.pid (record (c.own.result.now) { cpu = c.run_with_notes.new.cpu }) (here_in c.args.pid (state_is c.self.view_is) c.requires.there) c.self.invariant c.recheck_later.ensures.pids c.recheck_later.ensures.room
 
 pub returns-in-Some-clause-taken : goal.returns-in-Some-clause-taken
 returns-in-Some-clause-taken g c = λ me e.
@@ -31,7 +31,7 @@ pub returns-in-Some-clause-state : goal.returns-in-Some-clause-state
 returns-in-Some-clause-state g c = λ me e.
     let found = found_in _ _ (state_is c.self.view_is) c.args.pid me e in
     let code = code_is c.args.self.now.state me _ _ _ (c.programs.ensures.value ∙ ap (λ (s : State). s.world.programs) (state_is c.self.view_is)) (c.from.ensures ∙ sym (c.requires.program me e)) (get_some _ _ _ (c.in-Some.ensures.lookup.0, c.in-Some.ensures.lookup.1)) in
-    let contents = cpu_ran _ c.own.ensures.rising c.args.pid c.own.result.now c.own.ensures.value (λ x. (exec_with_notes c.in-Some.program.now.instructions most_notes c.args.before c.args.last x).cpu) c.run_with_notes.new.cpu (sym (ap (λ (b : NotedBurst). b.cpu) c.run_with_notes.ensures.taken)) me found in
+    let contents = cpu_ran _ c.self.invariant.sound.regular.rising c.args.pid c.own.result.now c.own.ensures.value (λ x. (exec_with_notes c.in-Some.program.now.instructions most_notes c.args.before c.args.last x).cpu) c.run_with_notes.new.cpu (sym (ap (λ (b : NotedBurst). b.cpu) c.run_with_notes.ensures.taken)) me found in
     rw (code, ← c.self.view_is, contents) refl
 
 pub returns-in-None-clause-taken : goal.returns-in-None-clause-taken
@@ -46,8 +46,8 @@ returns-in-None-clause-state g c = λ me e.
     let rising = subst (λ (s : State). IsRising s.processes) (state_is c.self.view_is) c.self.invariant.sound.regular.rising in
     same_cpu c.args.self.now.state c.args.pid me rising e ∙ ap (λ (b : NotedBurst). change c.args.self.now.state c.args.pid (set_cpu b.cpu)) (sym (no_notes c.args.self.now.state me c.args.before c.args.last code c.requires.some))
 
-pub returns-in-Some-clause-reads : goal.returns-in-Some-clause-reads
-returns-in-Some-clause-reads g c = rw (← c.self.view_is) (g.met.K.Kin.at_most_one _)
+pub returns-in-Some-clause-costs : goal.returns-in-Some-clause-costs
+returns-in-Some-clause-costs g c = rw (← c.self.view_is) (record { visits = g.met.K.Kin.at_most_one _; groups_at_risk = refl; regular = c.self.invariant.sound.regular })
 
 pub returns-in-Some-clause-regular : goal.returns-in-Some-clause-regular
 returns-in-Some-clause-regular g c = (invariant_of-self g c).sound.regular

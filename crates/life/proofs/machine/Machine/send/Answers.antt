@@ -2,10 +2,10 @@ use Rattle.std.proofs.Common.{ap, sym, ◌∙◌, ◌+◌, ◌≤◌, arith, len
 use Rattle.std.proofs.Math.Nat.{mul-le-mul_left}
 use Rattle.posix.specs.Sends.{targets, sending, sent, sent_among, sending_found}
 use Rattle.posix.proofs.PassingLemmas.{left_at_most}
-use Rattle.life.specs.Asking.{asking_signalled, slots_of_send}
+use Rattle.life.specs.Rechecks.{rechecking_signalled, slots_of_send}
 use Rattle.life.specs.Callers.{process_like}
 use Rattle.jobs.proofs.ReadLemmas.{above_less}
-use Rattle.life.proofs.SendLemmas.{with_processes, targets_numbered, targets_nobody, sent_nobody, asked_nobody}
+use Rattle.life.proofs.SendLemmas.{with_processes, targets_numbered, targets_nobody, sent_nobody, rechecked_nobody}
 use Rattle.life.proofs.machine.Machine.send.Goals as goal
 
 pub returns-in-Process-clause-sending : goal.returns-in-Process-clause-sending
@@ -42,29 +42,29 @@ returns-in-Nobody-clause-state g c =
     ∙ ap (λ qs. with_processes s (sent_among me c.args.sig qs s.processes)) (targets_nobody me s.processes)
     ∙ ap (with_processes s) (sent_nobody me c.args.sig s.processes))
 
-pub returns-in-Process-clause-asked : goal.returns-in-Process-clause-asked
-returns-in-Process-clause-asked g c =
+pub returns-in-Process-clause-to_recheck : goal.returns-in-Process-clause-to_recheck
+returns-in-Process-clause-to_recheck g c =
     let m = c.args.self.now in
     let me = process_like c.args.me.now in
-    c.send_to_one.ensures.asked
-    ∙ ap (λ qs. asking_signalled me c.args.sig qs m.state.processes m.state.order m.asked) (targets_numbered me c.in-Process.pid m.state.processes)
-    ∙ ap (λ x. asking_signalled me c.args.sig (targets me x m.state.processes) m.state.processes m.state.order m.asked) (sym c.in-Process.is)
+    c.send_to_one.ensures.to_recheck
+    ∙ ap (λ qs. rechecking_signalled me c.args.sig qs m.state.processes m.state.order m.to_recheck) (targets_numbered me c.in-Process.pid m.state.processes)
+    ∙ ap (λ x. rechecking_signalled me c.args.sig (targets me x m.state.processes) m.state.processes m.state.order m.to_recheck) (sym c.in-Process.is)
 
-pub returns-in-Nobody-clause-asked : goal.returns-in-Nobody-clause-asked
-returns-in-Nobody-clause-asked g c =
+pub returns-in-Nobody-clause-to_recheck : goal.returns-in-Nobody-clause-to_recheck
+returns-in-Nobody-clause-to_recheck g c =
     let m = c.args.self.now in
     let me = process_like c.args.me.now in
-    sym (ap (λ x. asking_signalled me c.args.sig (targets me x m.state.processes) m.state.processes m.state.order m.asked) c.in-Nobody.is
-    ∙ ap (λ qs. asking_signalled me c.args.sig qs m.state.processes m.state.order m.asked) (targets_nobody me m.state.processes)
-    ∙ asked_nobody me c.args.sig m.state.processes m.state.order m.asked)
+    sym (ap (λ x. rechecking_signalled me c.args.sig (targets me x m.state.processes) m.state.processes m.state.order m.to_recheck) c.in-Nobody.is
+    ∙ ap (λ qs. rechecking_signalled me c.args.sig qs m.state.processes m.state.order m.to_recheck) (targets_nobody me m.state.processes)
+    ∙ rechecked_nobody me c.args.sig m.state.processes m.state.order m.to_recheck)
 
 -- process 1 is there
-pub returns-in-Process-clause-reads_of_all : goal.returns-in-Process-clause-reads_of_all
-returns-in-Process-clause-reads_of_all g c =
+pub returns-in-Process-clause-costs : goal.returns-in-Process-clause-costs
+returns-in-Process-clause-costs g c =
     let rs = c.args.self.now.state.processes in
-    let first = c.send_to_one.ensures.regular.first in
+    let first = c.send_to_one.ensures.costs.regular.first in
     let some = above_less 1 rs first.what first.found in
     let all = left_at_most (Some 1) rs in
     let least : 1 ≤ length rs = omega (arith, some, all) in
     let product = mul-le-mul_left (3 + slots_of_send c.args.sig) least in
-    omega (arith, product, c.send_to_one.ensures.reads)
+    record { visits = omega (arith, product, c.send_to_one.ensures.costs.visits); groups_at_risk = c.send_to_one.ensures.costs.groups_at_risk; regular = c.send_to_one.ensures.costs.regular }

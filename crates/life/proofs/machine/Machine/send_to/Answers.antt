@@ -1,6 +1,6 @@
 use Rattle.std.proofs.Common.{◌≡◌, sym, ◌∙◌, arith, true, false, ap}
 use Rattle.life.specs.Callers.{process_like}
-use Rattle.life.proofs.SendLemmas.{with_processes, sent_refused, sent_none, signal_one, sending_one, asked_none, asked_refused, asked_one}
+use Rattle.life.proofs.SendLemmas.{with_processes, sent_refused, sent_none, signal_one, sending_one, rechecked_none, rechecked_refused, rechecked_one}
 use Rattle.life.proofs.machine.Machine.send_to.Goals as goal
 
 pub returns-then-not-may_signal-clause-sending : goal.returns-then-not-may_signal-clause-sending
@@ -38,15 +38,15 @@ returns-in_default-clause-sending g c = λ q f.
 pub returns-in_default-clause-state : goal.returns-in_default-clause-state
 returns-in_default-clause-state g c = λ q f. rw c.in_default.is (ap (with_processes c.args.self.now.state) (sym (sent_none (process_like c.args.me.now) _ _)))
 
-pub returns-then-not-may_signal-clause-asked : goal.returns-then-not-may_signal-clause-asked
-returns-then-not-may_signal-clause-asked g c = λ q f.
+pub returns-then-not-may_signal-clause-to_recheck : goal.returns-then-not-may_signal-clause-to_recheck
+returns-then-not-may_signal-clause-to_recheck g c = λ q f.
     let no : c.may_signal.result ≡ false = grind arith in
-    sym (asked_refused (process_like c.args.me.now) c.args.sig.now q _ _ _ (sym (c.may_signal.ensures q f) ∙ no))
+    sym (rechecked_refused (process_like c.args.me.now) c.args.sig.now q _ _ _ (sym (c.may_signal.ensures q f) ∙ no))
 
-pub returns-in-Some-clause-asked : goal.returns-in-Some-clause-asked
-returns-in-Some-clause-asked g c = λ q f.
+pub returns-in-Some-clause-to_recheck : goal.returns-in-Some-clause-to_recheck
+returns-in-Some-clause-to_recheck g c = λ q f.
     let yes : c.may_signal.result ≡ true = grind arith in
-    c.signal.ensures.asked ∙ asked_one c.args.it.now (process_like c.args.me.now) q c.args.sig.now c.in-Some.sig c.sent.result _ _ _ f c.in-Some.is c.sent.ensures (sym (c.may_signal.ensures q f) ∙ yes)
+    c.signal.ensures.to_recheck ∙ rechecked_one c.args.it.now (process_like c.args.me.now) q c.args.sig.now c.in-Some.sig c.sent.result _ _ _ f c.in-Some.is c.sent.ensures (sym (c.may_signal.ensures q f) ∙ yes)
 
-pub returns-in_default-clause-asked : goal.returns-in_default-clause-asked
-returns-in_default-clause-asked g c = λ q f. rw c.in_default.is (sym (asked_none (process_like c.args.me.now) _ _ _ _))
+pub returns-in_default-clause-to_recheck : goal.returns-in_default-clause-to_recheck
+returns-in_default-clause-to_recheck g c = λ q f. rw c.in_default.is (sym (rechecked_none (process_like c.args.me.now) _ _ _ _))

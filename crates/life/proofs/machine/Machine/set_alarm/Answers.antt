@@ -28,7 +28,7 @@ ticks_left-requires g c =
     let me = c.requires.there in
     let now = ap (λ (s : State). s.ticks) (state_is c.self-2.view_is ∙ c.change-before.ensures.rest) in
     let before = result_as (λ (q : Process) (a : Option ℕ). a ≡ q.alarm) c.change-before.ensures.run (λ b d r k q. search rules) me.what me.found in
-    subst (λ n. IsAhead n c.change-before.result) (sym now) (subst (IsAhead c.args.self.now.state.ticks) (sym before) (c.change-before.ensures.regular.alarms c.args.pid me.what me.found))
+    subst (λ n. IsAhead n c.change-before.result) (sym now) (subst (IsAhead c.args.self.now.state.ticks) (sym before) (c.change-before.ensures.costs.regular.alarms c.args.pid me.what me.found))
 
 pub returns-clause-left : goal.returns-clause-left
 returns-clause-left g c = λ me found.
@@ -39,5 +39,5 @@ returns-clause-left g c = λ me found.
 pub returns-clause-state : goal.returns-clause-state
 returns-clause-state g c =
     let due = c.due_in-due.ensures ∙ ap (λ (s : State). due_in s.ticks c.args.ticks) (state_is c.self.view_is) in
-    c.change-before.ensures.rest ∙ ap (with_processes c.args.self.now.state) (run_as (with_alarm c.due_in-due.result) c.change-before.ensures.run c.change-before.ensures.regular.rising (λ b d r k q. search rules))
+    c.change-before.ensures.rest ∙ ap (with_processes c.args.self.now.state) (run_as (with_alarm c.due_in-due.result) c.change-before.ensures.run c.change-before.ensures.costs.regular.rising (λ b d r k q. search rules))
     ∙ ap (λ (a : Option ℕ). record (c.args.self.now.state) { processes = changed c.args.pid (with_alarm a) c.args.self.now.state.processes }) due

@@ -11,19 +11,19 @@ unfolding with_tostop
 invariant_of-self g c =
     let it = c.in-Some.ensures in
     let cs = c.self.inside.consoles.items in
-    let at : slice_get cs c.in-Some.place ≡ Some it.0 = ap (λ cs. slice_get cs c.in-Some.place) (sym c.deref.ensures.value) ∙ it.1 in
-    let is = c.index_mut.ensures.value ∙ get_or_from_slice_get cs c.in-Some.place it.0 _ at in
-    rw (c.set_tostop.ensures, is) (machine_put _ _ _ _ _ _ _ _ c.in-Some.place (with_tostop c.args.tostop it.0) c.self.invariant
-    (put_unread _ _ c.in-Some.place it.0 _ c.self.invariant.sound.regular c.self.invariant.listed at refl refl (λ e. e))
-    (λ e. fresh_alike _ _ c.in-Some.place it.0 _ at refl refl (c.self.invariant.fresh e)))
+    let at : slice_get cs c.in-Some.console_index ≡ Some it.0 = ap (λ cs. slice_get cs c.in-Some.console_index) (sym c.deref.ensures.value) ∙ it.1 in
+    let is = c.index_mut.ensures.value ∙ get_or_from_slice_get cs c.in-Some.console_index it.0 _ at in
+    rw (c.set_tostop.ensures, is) (machine_put _ _ _ _ _ _ _ _ c.in-Some.console_index (with_tostop c.args.tostop it.0) c.self.invariant
+    (put_unread _ _ c.in-Some.console_index it.0 _ c.self.invariant.sound.regular c.self.invariant.listed at refl refl (λ e. e))
+    (λ e. fresh_alike _ _ c.in-Some.console_index it.0 _ at refl refl (c.self.invariant.fresh e)))
 
 pub returns-in-Some-clause-state : goal.returns-in-Some-clause-state
 returns-in-Some-clause-state g c =
     let it = c.in-Some.ensures in
     let cs = c.self.inside.consoles.items in
-    let at : slice_get cs c.in-Some.place ≡ Some it.0 = ap (λ cs. slice_get cs c.in-Some.place) (sym c.deref.ensures.value) ∙ it.1 in
-    let is = c.index_mut.ensures.value ∙ get_or_from_slice_get cs c.in-Some.place it.0 _ at in
-    rw (c.set_tostop.ensures, is, ← c.self.view_is) (put_changed _ c.in-Some.place c.args.session it.0 (with_tostop c.args.tostop) c.self.invariant.sound.regular at it.3 c.requires)
+    let at : slice_get cs c.in-Some.console_index ≡ Some it.0 = ap (λ cs. slice_get cs c.in-Some.console_index) (sym c.deref.ensures.value) ∙ it.1 in
+    let is = c.index_mut.ensures.value ∙ get_or_from_slice_get cs c.in-Some.console_index it.0 _ at in
+    rw (c.set_tostop.ensures, is, ← c.self.view_is) (put_changed _ c.in-Some.console_index c.args.session it.0 (with_tostop c.args.tostop) c.self.invariant.sound.regular at it.3 c.requires)
 
 pub returns-in_default-clause-state : goal.returns-in_default-clause-state
 returns-in_default-clause-state g c =

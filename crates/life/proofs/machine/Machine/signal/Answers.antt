@@ -10,10 +10,10 @@ use Rattle.posix.specs.Statuses.{continued}
 use Rattle.posix.proofs.RegularLemmas.{keeps_signalled}
 use Rattle.posix.proofs.TouchLemmas.{unseen_signalled}
 use Rattle.posix.proofs.ChangeLemmas.{lookup_signalled, life_signalled, stopped_living, continued_stopped, continued_cont, generated_as}
-use Rattle.life.specs.Asking.{asking, asking_effect, asking_changed, asking_generated}
-use Rattle.jobs.proofs.FactLemmas.{named_there}
+use Rattle.life.specs.Rechecks.{rechecking, rechecking_effect, rechecking_changed, rechecking_generated}
+use Rattle.jobs.proofs.SnapshotLemmas.{named_there}
 use Rattle.jobs.proofs.RunLemmas.{run_as, unseen_as}
-use Rattle.life.proofs.FunnelLemmas.{stays_regular, result_as, told_signalled, asking_signalled}
+use Rattle.life.proofs.FunnelLemmas.{stays_regular, result_as, told_signalled, rechecking_signalled}
 use Rattle.life.proofs.SendLemmas.{with_processes}
 use Rattle.life.proofs.machine.Machine.signal.Goals as goal
 
@@ -28,7 +28,7 @@ continue_process-requires g c =
     let s = c.args.self.now.state in
     let me = named_there c.args.pid s.processes c.requires in
     let it = record (me.what) { pid = c.args.pid } in
-    let is = run_as (signalled c.args.signal) c.change.ensures.run c.change.ensures.regular.rising (λ b d r k q. search rules) in
+    let is = run_as (signalled c.args.signal) c.change.ensures.run c.change.ensures.costs.regular.rising (λ b d r k q. search rules) in
     let effect_is = result_as (λ (q : Process) (e : Effect). e ≡ effect_of c.args.pid q.life c.args.signal q.signals) c.change.ensures.run (λ b d r k q. search rules) it me.found in
     rw is (record {
       what = signalled c.args.signal it;
@@ -41,7 +41,7 @@ returns-in-Nothing-clause-state g c =
     let s = c.args.self.now.state in
     let me = named_there c.args.pid s.processes c.requires in
     let it = record (me.what) { pid = c.args.pid } in
-    let is = run_as (signalled c.args.signal) c.change.ensures.run c.change.ensures.regular.rising (λ b d r k q. search rules) in
+    let is = run_as (signalled c.args.signal) c.change.ensures.run c.change.ensures.costs.regular.rising (λ b d r k q. search rules) in
     let effect_is = result_as (λ (q : Process) (e : Effect). e ≡ effect_of c.args.pid q.life c.args.signal q.signals) c.change.ensures.run (λ b d r k q. search rules) it me.found in
     c.change.ensures.rest ∙ ap (with_processes s) (is ∙ sym (generated_as c.args.signal c.args.pid s.processes it effect.Nothing me.found (sym effect_is ∙ c.in-Nothing.is)))
 
@@ -50,7 +50,7 @@ returns-in-Continued-clause-state g c =
     let s = c.args.self.now.state in
     let me = named_there c.args.pid s.processes c.requires in
     let it = record (me.what) { pid = c.args.pid } in
-    let is = run_as (signalled c.args.signal) c.change.ensures.run c.change.ensures.regular.rising (λ b d r k q. search rules) in
+    let is = run_as (signalled c.args.signal) c.change.ensures.run c.change.ensures.costs.regular.rising (λ b d r k q. search rules) in
     let effect_is = result_as (λ (q : Process) (e : Effect). e ≡ effect_of c.args.pid q.life c.args.signal q.signals) c.change.ensures.run (λ b d r k q. search rules) it me.found in
     let found = ap (lookup c.args.pid) is ∙ lookup_signalled c.args.signal it c.args.pid s.processes me.found in
     c.continue_process.ensures.state (signalled c.args.signal it) found
@@ -58,31 +58,35 @@ returns-in-Continued-clause-state g c =
     ∙ ap (with_processes s) (told_signalled continued c.args.signal it (changed c.args.pid resumed (changed c.args.pid (signalled c.args.signal) s.processes)))
     ∙ ap (with_processes s) (sym (generated_as c.args.signal c.args.pid s.processes it effect.Continued me.found (sym effect_is ∙ c.in-Continued.is)))
 
-pub returns-in-Continued-clause-reads : goal.returns-in-Continued-clause-reads
-returns-in-Continued-clause-reads g c =
+pub returns-in-Continued-clause-costs : goal.returns-in-Continued-clause-costs
+returns-in-Continued-clause-costs g c =
     let me = named_there c.args.pid c.args.self.now.state.processes c.requires in
     let it = record (me.what) { pid = c.args.pid } in
     let effect_is = result_as (λ (q : Process) (e : Effect). e ≡ effect_of c.args.pid q.life c.args.signal q.signals) c.change.ensures.run (λ b d r k q. search rules) it me.found in
     let cont : (c.args.signal.sig == 18) ≡ true = continued_cont c.args.pid c.args.signal it (sym effect_is ∙ c.in-Continued.is) in
-    rw cont (omega (arith, c.change.ensures.reads, c.continue_process.ensures.reads))
+    record {
+      visits = rw cont (omega (arith, c.change.ensures.costs.visits, c.continue_process.ensures.costs.visits));
+      groups_at_risk = c.continue_process.ensures.costs.groups_at_risk ∙ c.change.ensures.costs.groups_at_risk;
+      regular = c.change.ensures.costs.regular;
+    }
 
-pub returns-in-Continued-clause-asked : goal.returns-in-Continued-clause-asked
-returns-in-Continued-clause-asked g c =
+pub returns-in-Continued-clause-to_recheck : goal.returns-in-Continued-clause-to_recheck
+returns-in-Continued-clause-to_recheck g c =
     let s = c.args.self.now.state in
     let me = named_there c.args.pid s.processes c.requires in
     let it = record (me.what) { pid = c.args.pid } in
-    let is = run_as (signalled c.args.signal) c.change.ensures.run c.change.ensures.regular.rising (λ b d r k q. search rules) in
+    let is = run_as (signalled c.args.signal) c.change.ensures.run c.change.ensures.costs.regular.rising (λ b d r k q. search rules) in
     let effect_is = result_as (λ (q : Process) (e : Effect). e ≡ effect_of c.args.pid q.life c.args.signal q.signals) c.change.ensures.run (λ b d r k q. search rules) it me.found in
     let found = ap (lookup c.args.pid) is ∙ lookup_signalled c.args.signal it c.args.pid s.processes me.found in
-    c.continue_process.ensures.asked (signalled c.args.signal it) found ∙ asking_signalled c.args.signal it c.change.new.self.asked ∙ ap (asking_changed it) c.change.ensures.asked
-    ∙ ap (λ w. asking_effect w it (asking c.args.pid s.order c.args.self.now.asked)) (sym c.in-Continued.is ∙ effect_is)
-    ∙ ap (λ o. asking_generated c.args.signal o s.order c.args.self.now.asked) (sym me.found)
+    c.continue_process.ensures.to_recheck (signalled c.args.signal it) found ∙ rechecking_signalled c.args.signal it c.change.new.self.to_recheck ∙ ap (rechecking_changed it) c.change.ensures.to_recheck
+    ∙ ap (λ w. rechecking_effect w it (rechecking c.args.pid s.order c.args.self.now.to_recheck)) (sym c.in-Continued.is ∙ effect_is)
+    ∙ ap (λ o. rechecking_generated c.args.signal o s.order c.args.self.now.to_recheck) (sym me.found)
 
-pub returns-in-Nothing-clause-asked : goal.returns-in-Nothing-clause-asked
-returns-in-Nothing-clause-asked g c =
+pub returns-in-Nothing-clause-to_recheck : goal.returns-in-Nothing-clause-to_recheck
+returns-in-Nothing-clause-to_recheck g c =
     let s = c.args.self.now.state in
     let me = named_there c.args.pid s.processes c.requires in
     let it = record (me.what) { pid = c.args.pid } in
     let effect_is = result_as (λ (q : Process) (e : Effect). e ≡ effect_of c.args.pid q.life c.args.signal q.signals) c.change.ensures.run (λ b d r k q. search rules) it me.found in
-    c.change.ensures.asked ∙ ap (λ w. asking_effect w it (asking c.args.pid s.order c.args.self.now.asked)) (sym c.in-Nothing.is ∙ effect_is)
-    ∙ ap (λ o. asking_generated c.args.signal o s.order c.args.self.now.asked) (sym me.found)
+    c.change.ensures.to_recheck ∙ ap (λ w. rechecking_effect w it (rechecking c.args.pid s.order c.args.self.now.to_recheck)) (sym c.in-Nothing.is ∙ effect_is)
+    ∙ ap (λ o. rechecking_generated c.args.signal o s.order c.args.self.now.to_recheck) (sym me.found)

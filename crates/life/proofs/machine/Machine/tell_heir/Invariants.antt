@@ -8,8 +8,8 @@ invariant-loop-next g l =
     let first = l.fn.self.state in
     record {
       telling : IsTelling first l.self.state l.fn.pid l.fn.heir l.next;
-      losing : l.self.losing ≡ l.fn.self.losing;
-      read : l.self.reads + 8 * kids_left l.self.state.processes l.fn.pid l.next ≤ l.fn.self.reads + 1 + 8 * length (children_in l.fn.pid first.processes);
+      groups_at_risk : l.self.groups_at_risk ≡ l.fn.self.groups_at_risk;
+      read : l.self.visits + 8 * kids_left l.self.state.processes l.fn.pid l.next ≤ l.fn.self.visits + 1 + 8 * length (children_in l.fn.pid first.processes);
     }
 
 abbrev pub decreases-loop-next : goal.decreases-loop-next

@@ -10,4 +10,4 @@ pub change_seen-requires-clause-regular : goal.change_seen-requires-clause-regul
 change_seen-requires-clause-regular g c = stays_regular c.args.pid news_told c.args.self.now.state keeps_news_told (λ b d r k q. search rules)
 
 pub returns-clause-state : goal.returns-clause-state
-returns-clause-state g c = c.change_seen.ensures.rest ∙ ap (with_processes c.args.self.now.state) (run_as news_told c.change_seen.ensures.run c.change_seen.ensures.regular.rising (λ b d r k q. search rules))
+returns-clause-state g c = c.change_seen.ensures.rest ∙ ap (with_processes c.args.self.now.state) (run_as news_told c.change_seen.ensures.run c.change_seen.ensures.costs.regular.rising (λ b d r k q. search rules))

@@ -4,7 +4,7 @@ use Rattle.posix.specs.declared.process.PendingSignal.{PendingSignal}
 use Rattle.posix.specs.Notices.{noticed_of_change}
 use Rattle.posix.specs.States.{change}
 use Rattle.posix.proofs.ChangeLemmas.{keeps_noticed_of_change, unseen_noticed_of_change}
-use Rattle.jobs.proofs.FactLemmas.{differs}
+use Rattle.jobs.proofs.SnapshotLemmas.{differs}
 use Rattle.jobs.proofs.RunLemmas.{run_as, unseen_as}
 use Rattle.life.proofs.FunnelLemmas.{stays_regular}
 use Rattle.life.proofs.SendLemmas.{with_processes}
@@ -25,5 +25,5 @@ returns-then-ne-clause-state g c =
     let s = c.args.self.now.state in
     let signal = c.child_signal-signal.result in
     let other : (c.args.parent == 0) ≡ false = ne_eqb c.args.parent 0 (differs c.args.parent 0 (sym c.ne.ensures ∙ c.if-ne.true)) in
-    rw other (c.change.ensures.rest ∙ ap (with_processes s) (run_as (noticed_of_change signal) c.change.ensures.run c.change.ensures.regular.rising (λ b d r k q. search rules))
+    rw other (c.change.ensures.rest ∙ ap (with_processes s) (run_as (noticed_of_change signal) c.change.ensures.run c.change.ensures.costs.regular.rising (λ b d r k q. search rules))
     ∙ ap (λ (w : PendingSignal). change s c.args.parent (noticed_of_change w)) c.child_signal-signal.ensures)

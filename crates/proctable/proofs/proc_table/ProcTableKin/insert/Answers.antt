@@ -44,11 +44,11 @@ returns-clause-contents c =
     let ns = c.self.inside.cells.nodes in
     rw (← c.self.view_is) (table_inserted ns _ _ c.self.inside.roots _ _ c.self.invariant (rw (← c.self.view_is) at c.requires.fresh) (rw (← c.self.view_is) at c.requires.parent) c.insert.ensures.nodes c.link-self-inside.ensures.processes c.link-self-inside.ensures.joined).0
 
-pub returns-clause-reads : goal.returns-clause-reads
-returns-clause-reads c =
+pub returns-clause-visits : goal.returns-clause-visits
+returns-clause-visits c =
     let ns = c.self.inside.cells.nodes in
     let others = ap (λ (l : List Node). removed c.args.pid (records l)) c.insert.ensures.nodes ∙ without_new ns _ (rw (← c.self.view_is) at c.requires.fresh) in
     let many = ap (λ rs. length (between c.args.pid None (children_in c.args.parent rs))) others in
     let greater = λ (r : Process). nat_lt c.args.pid r.pid && true in
     let kids = children_in c.args.parent (records ns) in
-    rw (← c.self.view_is) (omega (arith, many, length-filter greater kids, count_by-le-length greater kids, c.link-self-inside.ensures.reads, c.insert.ensures.reads))
+    rw (← c.self.view_is) (omega (arith, many, length-filter greater kids, count_by-le-length greater kids, c.link-self-inside.ensures.visits, c.insert.ensures.visits))

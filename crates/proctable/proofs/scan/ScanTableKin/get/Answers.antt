@@ -1,7 +1,7 @@
 use Rattle.std.proofs.Common.{sym, ap, ◌∙◌}
 use Rattle.std.specs.Option.{option_map, option_copied}
 use Rattle.posix.specs.Tables.{lookup}
-use Rattle.proctable.specs.Body.{facts_of}
+use Rattle.proctable.specs.Records.{snapshot_of}
 use Rattle.proctable.proofs.ScanLemmas.{rises_pids}
 use Rattle.proctable.proofs.scan.ScanTableKin.get.Goals as goal
 
@@ -12,10 +12,10 @@ pub returns-in_default-clause-value : goal.returns-in_default-clause-value
 unfolding lookup
 returns-in_default-clause-value c =
     let kept = c.deref.ensures.value ∙ ap (λ v. v.processes) c.self.view_is in
-    ap (option_map facts_of) (sym (ap option_copied c.in_default.is) ∙ c.item_of.ensures ∙ ap (lookup c.args.pid) kept)
+    ap (option_map snapshot_of) (sym (ap option_copied c.in_default.is) ∙ c.item_of.ensures ∙ ap (lookup c.args.pid) kept)
 
 pub returns-clause-value : goal.returns-clause-value
 unfolding lookup
 returns-clause-value c =
     let kept = c.deref.ensures.value ∙ ap (λ v. v.processes) c.self.view_is in
-    rw c.facts.ensures (ap (option_map facts_of) (sym (ap option_copied c.in-Some.is) ∙ c.item_of.ensures ∙ ap (lookup c.args.pid) kept))
+    rw c.snapshot.ensures (ap (option_map snapshot_of) (sym (ap option_copied c.in-Some.is) ∙ c.item_of.ensures ∙ ap (lookup c.args.pid) kept))

@@ -1,7 +1,7 @@
 use Rattle.std.proofs.Common.{sym, ap, ◌∙◌, subst}
 use Rattle.posix.specs.Tables.{IsRising, lookup, inserted}
 use Rattle.posix.proofs.TableLemmas.{rising_inserted}
-use Rattle.proctable.specs.Body.{process_of}
+use Rattle.proctable.specs.Records.{process_of}
 use Rattle.proctable.proofs.ScanLemmas.{rises_pids, inserted_same}
 use Rattle.proctable.proofs.scan.ScanTableKin.insert.Goals as goal
 
@@ -17,11 +17,11 @@ put_in-requires-clause-absent c =
 pub invariant_of-self : goal.invariant_of-self
 invariant_of-self c =
     let rs = c.self.inside.slots.items in
-    let new = process_of c.args.pid c.args.parent c.args.body in
+    let new = process_of c.args.pid c.args.parent c.args.fields in
     let absent = ap (λ v. lookup c.args.pid v.processes) c.self.view_is ∙ c.requires.fresh in
     subst IsRising (sym (c.put_in.ensures.items ∙ inserted_same c.new.result rs ∙ ap (λ r. inserted r rs) c.new.ensures)) (rising_inserted new rs c.self.invariant absent)
 
 pub returns-clause-contents : goal.returns-clause-contents
 returns-clause-contents c =
     let rs = c.self.inside.slots.items in
-    c.put_in.ensures.items ∙ inserted_same c.new.result rs ∙ ap (λ r. inserted r rs) c.new.ensures ∙ ap (λ v. inserted (process_of c.args.pid c.args.parent c.args.body) v.processes) c.self.view_is
+    c.put_in.ensures.items ∙ inserted_same c.new.result rs ∙ ap (λ r. inserted r rs) c.new.ensures ∙ ap (λ v. inserted (process_of c.args.pid c.args.parent c.args.fields) v.processes) c.self.view_is

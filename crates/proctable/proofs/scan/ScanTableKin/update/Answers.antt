@@ -27,5 +27,5 @@ returns c =
     let a = subst (λ xs. IsNumberAt (pids xs) c.args.pid i) c.deref.ensures.value c.found-at.ensures in
     let r = read_at rs c.self.invariant c.args.pid i c.index_mut-slot.result.now a c.index_mut-slot.ensures.value in (
       (refl, λ w. rw (set_is rs c.self.invariant c.args.pid i c.index_mut-slot.result.now w r, ← c.self.view_is) refl),
-      record { lends = tt; rising = rw (← c.self.view_is) c.self.invariant; value = rw (← c.self.view_is) (value_is rs c.args.pid i c.index_mut-slot.result.now c.body_mut.result.now r c.body_mut.ensures.value) },
+      record { lends = tt; rising = rw (← c.self.view_is) c.self.invariant; value = rw (← c.self.view_is) (value_is rs c.args.pid i c.index_mut-slot.result.now c.record_mut.result.now r c.record_mut.ensures.value) },
     )

@@ -8,8 +8,8 @@ use Rattle.signal.proofs.action_fields.Actions.action.Goals as goal
 pub returns : goal.returns
 returns c =
     let a = c.args.self.now in
-    let i = c.place-place.result in
+    let i = c.row_of-row.result in
     let address : to_z w64 (of_z w64 (get_or a.addresses i (pos 0))) ≡ get_or a.addresses i (pos 0) = search rules in
-    action_read a i disposition.Default (pos 0) c.index-self-place.result no_flags c.handler.result c.requires c.place-place.ensures.within
+    action_read a i disposition.Default (pos 0) c.index-self-row.result no_flags c.handler.result c.requires c.row_of-row.ensures.within
     (c.handler.ensures ∙ ap (handler_from (get_or a.dispositions i disposition.Default)) address)
-    ∙ ap (λ n. get_or (actions_of a) n initial_action) c.place-place.ensures.value
+    ∙ ap (λ n. get_or (actions_of a) n initial_action) c.row_of-row.ensures.value

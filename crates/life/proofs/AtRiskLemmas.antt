@@ -1,0 +1,307 @@
+-- The process groups that an end may orphan: how they are noted, and how they are gone through.
+use Rattle.std.proofs.Common.{◌≡◌, ℕ, ◌+◌, ◌<◌, ◌≤◌, Bool, true, false, cond, ◌&&◌, ◌||◌, ◌==◌, refl, ap, sym, ◌∙◌, arith, subst, List, [], ◌∷◌, ◌++◌, filter, length, nat_lt, Option, Some, None, slice_get, append_assoc, ⊎_elim}
+use Rattle.std.specs.List.{list_any}
+use Rattle.std.specs.Option.{IfSome, IsSome}
+use Rattle.std.proofs.lemmas.Bool.{eqb-true, eq-eqb, ne_eqb, and_parts, or_cases, or_right}
+use Rattle.std.proofs.lemmas.Option.{IfSome_then}
+use Rattle.posix.specs.Processes.{Process, root, is_zombie}
+use Rattle.posix.specs.Numbers.{with_number}
+use Rattle.posix.specs.Tables.{IsRising, lookup, has_pid, is_child, members_in, pids, children_in, left_of, next_sibling}
+use Rattle.posix.specs.States.{is_in, without}
+use Rattle.posix.specs.Choice.{from_kernel}
+use Rattle.posix.specs.Groups.{is_anchor, loses_anchor}
+use Rattle.posix.specs.Notices.{signalled_all}
+use Rattle.posix.specs.Ends.{signalled_members, hup_and_cont, hup_and_cont_all}
+use Rattle.posix.specs.declared.target.Target.TheVariants as whom
+use Rattle.posix.specs.Credentials.{may}
+use Rattle.posix.specs.Sends.{targets, permitted, sent_by, sent_among, sent}
+use Rattle.posix.proofs.WalkLemmas.{numbered, numbered_one, AtChild}
+use Rattle.posix.proofs.HupAndContLemmas.{still_there, lasts_hup_and_cont_all}
+use Rattle.life.proofs.SoundLemmas.{there, is_there}
+use Rattle.pidset.specs.Numbers.{PidSetView, Rises, numbers_above}
+use Rattle.pidset.proofs.NumberLemmas.{AllAbove, in_above, rises_with, rises_without, in_with, few, IsLeastAbove, next_is}
+use Rattle.posix.proofs.MemberLemmas.{in_first, in_without}
+use Rattle.life.specs.declared.caller.Caller.{Caller}
+use Rattle.life.specs.Callers.{process_like}
+use Rattle.life.specs.Machines.{IsNoted}
+use Rattle.life.specs.Rechecks.{rechecking_all, rechecking_signalled, rechecking_members}
+
+-- ---- the list of those that are noted
+
+-- there are no more than the numbers from 0 on
+pub few_noted : (m : ℕ) (ns : List ℕ) → Rises ns → ((q : ℕ) → is_in q ns ≡ true → q ≤ m) → length ns ≤ m + 1
+unfolding Rises is_in
+few_noted m [] up all = omega arith
+few_noted m (n ∷ ns) up all = let rest = few m ns up.1 (λ q e. (let above = in_above n q ns up.0 e in omega (arith, above), all q (or_right (n == q) _ e))) in omega (arith, rest)
+
+-- one more is noted
+pub noted_with : (m g : ℕ) (groups_at_risk after : PidSetView) → IsNoted m groups_at_risk → g ≤ m → after.pids ≡ with_number g groups_at_risk.pids → after.room ≡ groups_at_risk.room → IsNoted m after
+noted_with m g groups_at_risk after i most put same = record {
+  rising = subst Rises (sym put) (rises_with g groups_at_risk.pids i.rising);
+  within = λ q e. ⊎_elim (λ t. let is = eqb-true g q t in omega (arith, is, most)) (i.within q) (or_cases _ _ (sym (in_with q g groups_at_risk.pids) ∙ ap (is_in q) (sym put) ∙ e));
+  room = let room = i.room in omega (arith, room, same);
+}
+
+-- none is
+pub noted_cleared : (m : ℕ) (groups_at_risk after : PidSetView) → IsNoted m groups_at_risk → after.pids ≡ [] → after.room ≡ groups_at_risk.room → IsNoted m after
+unfolding Rises is_in
+noted_cleared m groups_at_risk after i none same = record {
+  rising = rw none tt;
+  within = λ q e. let nobody : is_in q after.pids ≡ false = ap (is_in q) none in absurd (cc);
+  room = let room = i.room in omega (arith, room, same);
+}
+
+-- one no longer is
+pub noted_without : (m g : ℕ) (groups_at_risk after : PidSetView) → IsNoted m groups_at_risk → after.pids ≡ without g groups_at_risk.pids → after.room ≡ groups_at_risk.room → IsNoted m after
+noted_without m g groups_at_risk after i out same = record {
+  rising = subst Rises (sym out) (rises_without g groups_at_risk.pids i.rising);
+  within = λ q e. i.within q (and_parts _ _ (sym (in_without q g groups_at_risk.pids) ∙ ap (is_in q) (sym out) ∙ e)).1;
+  room = let room = i.room in omega (arith, room, same);
+}
+
+-- ---- noting
+
+-- r keeps this group from being orphaned
+abbrev pub keeps : List Process → ℕ → Process → Bool
+keeps rs g r = is_anchor rs r && r.group == g
+
+-- one of those that pass one of two tests is one of those that pass the first, or the second
+any_of_both : (a b t : Process → Bool) (rs : List Process) → list_any (λ r. (a r || b r) && t r) rs ≡ (list_any t (filter a rs) || list_any t (filter b rs))
+any_of_both a b t [] = refl
+any_of_both a b t (r ∷ rs) = grind (arith, any_of_both a b t rs)
+
+-- who keeps a group so is the process, or a child of it
+loses_split : (p : ℕ) (rs : List Process) (g : ℕ) → loses_anchor p rs g ≡ (list_any (keeps rs g) (numbered p rs) || list_any (keeps rs g) (children_in p rs))
+unfolding loses_anchor children_in
+loses_split p rs g = any_of_both (has_pid p) (is_child p) (keeps rs g) rs
+
+-- what is noted once a process was asked
+noted_one : (anchor : Bool) (g n : ℕ) (ns : List ℕ) → is_in n (cond anchor (with_number g ns) ns) ≡ (anchor && g == n || is_in n ns)
+noted_one true g n ns = in_with n g ns
+noted_one false g n ns = refl
+
+-- it begins with the process itself
+pub begin_noted : (rs : List Process) → IsRising rs → (p : ℕ) (me : Process) → lookup p rs ≡ Some me → (none ns : List ℕ) → none ≡ [] → ns ≡ cond (is_anchor rs me) (with_number me.group none) none
+    → (n : ℕ) → (is_in n ns || list_any (keeps rs n) (children_in p rs)) ≡ loses_anchor p rs n
+unfolding is_in
+begin_noted rs up p me e none ns empty is n =
+    let one : is_in n ns ≡ (keeps rs n me || is_in n none) = ap (is_in n) is ∙ noted_one (is_anchor rs me) me.group n none in
+    let nothing : is_in n none ≡ false = ap (is_in n) empty in
+    rw (one, nothing) (sym (loses_split p rs n ∙ ap (λ qs. list_any (keeps rs n) qs || list_any (keeps rs n) (children_in p rs)) (numbered_one p rs up me e)))
+
+-- and goes on from child to child
+pub step_noted : (rs : List Process) (p c : ℕ) (next after : Option ℕ) (at : AtChild rs p c) → next ≡ Some c → after ≡ next_sibling c rs → (ns noted : List ℕ) → noted ≡ cond (is_anchor rs at.what) (with_number at.what.group ns) ns
+    → (n : ℕ) → (is_in n noted || list_any (keeps rs n) (left_of after (children_in p rs))) ≡ (is_in n ns || list_any (keeps rs n) (left_of next (children_in p rs)))
+step_noted rs p c next after at comes e ns noted is n =
+    let one : is_in n noted ≡ (keeps rs n at.what || is_in n ns) = ap (is_in n) is ∙ noted_one (is_anchor rs at.what) at.what.group n ns in
+    rw (one, comes, e, at.left) (swap (keeps rs n at.what) (is_in n ns) (list_any (keeps rs n) (left_of (next_sibling c rs) (children_in p rs))))
+  where
+    swap : (a b c : Bool) → ((a || b) || c) ≡ (b || (a || c))
+    swap true true c = refl
+    swap true false c = refl
+    swap false true c = refl
+    swap false false c = refl
+
+-- ---- going through them
+
+-- all lie above n
+pub all_above : (n : ℕ) (ns : List ℕ) → AllAbove n ns → numbers_above n ns ≡ ns
+all_above n [] a = refl
+all_above n (m ∷ ms) a = let less = a.0 in let rest = all_above n ms a.1 in grind (arith, less, rest)
+
+-- none of them is n
+none_out : (n : ℕ) (ns : List ℕ) → AllAbove n ns → without n ns ≡ ns
+unfolding without
+none_out n [] a = refl
+none_out n (m ∷ ms) a = rw (ne_eqb m n (λ e. let less = a.0 in omega (arith, e, less))) (ap (λ ns. m ∷ ns) (none_out n ms a.1))
+
+in_middle : (before : List ℕ) (g : ℕ) (rest : List ℕ) → is_in g (before ++ g ∷ rest) ≡ true
+unfolding is_in
+in_middle [] g rest = in_first g rest
+in_middle (b ∷ before) g rest = or_right (b == g) _ (in_middle before g rest)
+
+-- in rising numbers those above one are those behind it
+pub above_rest : (before : List ℕ) (g : ℕ) (rest : List ℕ) → Rises (before ++ g ∷ rest) → numbers_above g (before ++ g ∷ rest) ≡ rest
+unfolding Rises
+above_rest [] g rest up = let all = all_above g rest up.0 in grind (arith, all)
+above_rest (b ∷ before) g rest up =
+    let less = in_above b g (before ++ g ∷ rest) up.0 (in_middle before g rest) in
+    let behind = above_rest before g rest up.1 in
+    grind (arith, less, behind)
+
+-- and once it has gone
+pub above_gone : (before : List ℕ) (g : ℕ) (rest : List ℕ) → Rises (before ++ g ∷ rest) → numbers_above g (before ++ rest) ≡ rest
+unfolding Rises
+above_gone [] g rest up = all_above g rest up.0
+above_gone (b ∷ before) g rest up =
+    let less = in_above b g (before ++ g ∷ rest) up.0 (in_middle before g rest) in
+    let behind = above_gone before g rest up.1 in
+    grind (arith, less, behind)
+
+-- where it goes the others stay
+pub without_one : (before : List ℕ) (g : ℕ) (rest : List ℕ) → Rises (before ++ g ∷ rest) → without g (before ++ g ∷ rest) ≡ before ++ rest
+unfolding Rises without
+without_one [] g rest up = rw (eq-eqb g g refl) (none_out g rest up.0)
+without_one (b ∷ before) g rest up =
+    let less = in_above b g (before ++ g ∷ rest) up.0 (in_middle before g rest) in
+    rw (ne_eqb b g (λ e. omega (arith, e, less))) (ap (λ ns. b ∷ ns) (without_one before g rest up.1))
+
+-- what a walk over noted groups knows: those done with, and those left, of which the first comes next
+pub record IsWalking (ns done left : List ℕ) (next : Option ℕ) : Type 0 where
+  pub rising : Rises ns
+  pub parts : done ++ left ≡ ns
+  pub comes : next ≡ slice_get left 0
+
+-- the one that comes next is the first of those left
+pub record AtGroup (left : List ℕ) (g : ℕ) : Type 0 where
+  pub rest : List ℕ
+  pub is : left ≡ g ∷ rest
+
+at_group : (left : List ℕ) (g : ℕ) → slice_get left 0 ≡ Some g → AtGroup left g
+at_group [] g e = absurd (cc)
+at_group (n ∷ ns) g e = record { rest = ns; is = let same : n ≡ g = cc in ap (λ k. k ∷ ns) same }
+
+-- it begins with all of them
+pub walk_of : (ns : List ℕ) (next : Option ℕ) → Rises ns → next ≡ slice_get ns 0 → IsWalking ns [] ns next
+walk_of ns next up e = record { rising = up; parts = refl; comes = e }
+
+-- nothing is left where none comes next
+pub none_left : (left : List ℕ) → slice_get left 0 ≡ None → left ≡ []
+none_left [] e = refl
+none_left (n ∷ ns) e = absurd (cc)
+
+-- ---- those are kept that pass a test
+
+-- of those noted first the test is still to be made of those left
+pub record IsKeeping (t : ℕ → Bool) (first ns : List ℕ) (next : Option ℕ) : Type 0 where
+  pub done : List ℕ
+  pub left : List ℕ
+  pub walk : IsWalking ns done left next
+  pub kept : done ++ filter t left ≡ filter t first
+
+-- one that passes stays
+keeping_stays : (t : ℕ → Bool) (first ns : List ℕ) (next after : Option ℕ) (g : ℕ) → IsKeeping t first ns next → next ≡ Some g → t g ≡ true → after ≡ slice_get (numbers_above g ns) 0 → IsKeeping t first ns after
+keeping_stays t first ns next after g k comes pass e =
+    let at = at_group k.left g (sym k.walk.comes ∙ comes) in
+    let parts : k.done ++ g ∷ at.rest ≡ ns = ap (λ left. k.done ++ left) (sym at.is) ∙ k.walk.parts in
+    record {
+      done = k.done ++ g ∷ [];
+      left = at.rest;
+      walk = record { rising = k.walk.rising; parts = append_assoc k.done (g ∷ []) at.rest ∙ parts; comes = e ∙ ap (λ ms. slice_get ms 0) (ap (numbers_above g) (sym parts) ∙ above_rest k.done g at.rest (subst Rises (sym parts) k.walk.rising)) };
+      kept =
+          let here : filter t (g ∷ at.rest) ≡ g ∷ filter t at.rest = rw pass refl in
+          append_assoc k.done (g ∷ []) (filter t at.rest) ∙ ap (λ ms. k.done ++ ms) (sym here) ∙ ap (λ left. k.done ++ filter t left) (sym at.is) ∙ k.kept;
+    }
+
+-- one that fails goes
+keeping_goes : (t : ℕ → Bool) (first ns now : List ℕ) (next after : Option ℕ) (g : ℕ) → IsKeeping t first ns next → next ≡ Some g → t g ≡ false → now ≡ without g ns → after ≡ slice_get (numbers_above g now) 0 → IsKeeping t first now after
+keeping_goes t first ns now next after g k comes fail gone e =
+    let at = at_group k.left g (sym k.walk.comes ∙ comes) in
+    let parts : k.done ++ g ∷ at.rest ≡ ns = ap (λ left. k.done ++ left) (sym at.is) ∙ k.walk.parts in
+    let up = subst Rises (sym parts) k.walk.rising in
+    let others : now ≡ k.done ++ at.rest = gone ∙ ap (without g) (sym parts) ∙ without_one k.done g at.rest up in
+    record {
+      done = k.done;
+      left = at.rest;
+      walk = record { rising = subst Rises (sym gone) (rises_without g ns k.walk.rising); parts = sym others; comes = e ∙ ap (λ ms. slice_get ms 0) (ap (numbers_above g) others ∙ above_gone k.done g at.rest up) };
+      kept =
+          let here : filter t (g ∷ at.rest) ≡ filter t at.rest = rw fail refl in
+          ap (λ ms. k.done ++ ms) (sym here) ∙ ap (λ left. k.done ++ filter t left) (sym at.is) ∙ k.kept;
+    }
+
+-- so it goes on
+pub keeping_goes_on : (t : ℕ → Bool) (first ns now : List ℕ) (next after : Option ℕ) (g : ℕ) → IsKeeping t first ns next → next ≡ Some g → now ≡ cond (t g) ns (without g ns) → after ≡ slice_get (numbers_above g now) 0 → IsKeeping t first now after
+keeping_goes_on t first ns now next after g k comes is e = elim (t g) as (λ b. t g ≡ b → now ≡ cond b ns (without g ns) → IsKeeping t first now after) [
+  | true ↦ λ pass same. subst (λ ms. IsKeeping t first ms after) (sym same) (keeping_stays t first ns next after g k comes pass (e ∙ ap (λ ms. slice_get (numbers_above g ms) 0) same))
+  | false ↦ λ fail gone. keeping_goes t first ns now next after g k comes fail gone e
+] refl is
+
+-- at its end those are noted that pass
+pub keeping_ends : (t : ℕ → Bool) (first ns : List ℕ) (next : Option ℕ) → IsKeeping t first ns next → next ≡ None → ns ≡ filter t first
+keeping_ends t first ns next k comes =
+    let none = none_left k.left (sym k.walk.comes ∙ comes) in
+    sym k.walk.parts ∙ ap (λ left. k.done ++ left) none ∙ sym (ap (λ left. k.done ++ filter t left) none) ∙ k.kept
+
+-- ---- all get HUP and CONT
+
+pub record IsSignalling (first ns : List ℕ) (before now : List Process) (next : Option ℕ) : Type 0 where
+  pub done : List ℕ
+  pub left : List ℕ
+  pub walk : IsWalking ns done left next
+  pub todo : hup_and_cont_all left now ≡ hup_and_cont_all first before
+
+pub risk_begins : (ns : List ℕ) (rs : List Process) (next : Option ℕ) → Rises ns → next ≡ slice_get ns 0 → IsSignalling ns ns rs rs next
+risk_begins ns rs next up e = record { done = []; left = ns; walk = walk_of ns next up e; todo = refl }
+
+pub risk_goes_on : (first ns : List ℕ) (before now then : List Process) (next after : Option ℕ) (g : ℕ) → IsSignalling first ns before now next → next ≡ Some g → then ≡ hup_and_cont g now → after ≡ slice_get (numbers_above g ns) 0 → IsSignalling first ns before then after
+unfolding hup_and_cont_all
+risk_goes_on first ns before now then next after g k comes is e =
+    let at = at_group k.left g (sym k.walk.comes ∙ comes) in
+    let parts : k.done ++ g ∷ at.rest ≡ ns = ap (λ left. k.done ++ left) (sym at.is) ∙ k.walk.parts in
+    record {
+      done = k.done ++ g ∷ [];
+      left = at.rest;
+      walk = record { rising = k.walk.rising; parts = append_assoc k.done (g ∷ []) at.rest ∙ parts; comes = e ∙ ap (λ ms. slice_get ms 0) (ap (numbers_above g) (sym parts) ∙ above_rest k.done g at.rest (subst Rises (sym parts) k.walk.rising)) };
+      todo = ap (hup_and_cont_all at.rest) is ∙ ap (λ left. hup_and_cont_all left now) (sym at.is) ∙ k.todo;
+    }
+
+pub risk_ends : (first ns : List ℕ) (before now : List Process) (next : Option ℕ) → IsSignalling first ns before now next → next ≡ None → now ≡ hup_and_cont_all first before
+unfolding hup_and_cont_all
+risk_ends first ns before now next k comes = sym (ap (λ left. hup_and_cont_all left now) (none_left k.left (sym k.walk.comes ∙ comes))) ∙ k.todo
+
+-- what comes next lies above
+pub lies_above : (g : ℕ) (ns : List ℕ) (after : Option ℕ) → Rises ns → after ≡ slice_get (numbers_above g ns) 0 → IfSome after (λ q. g < q)
+lies_above g ns after up e = rw e (IfSome_then _ {P = IsLeastAbove g ns} (next_is g ns up) (λ q h. h.above))
+
+-- who is there is there when groups get HUP and CONT
+pub there_hup_and_cont : (gs : List ℕ) (rs : List Process) → IsRising rs → (p : ℕ) → IsSome (lookup p rs) → IsSome (lookup p (hup_and_cont_all gs rs))
+there_hup_and_cont gs rs up p here =
+    let r = there (lookup p rs) here in
+    let q = still_there p rs (hup_and_cont_all gs rs) (lasts_hup_and_cont_all gs rs up).same r.what r.found in
+    is_there _ q.what q.found
+
+-- and a zombie is one
+pub zombie_hup_and_cont : (gs : List ℕ) (rs : List Process) → IsRising rs → (p : ℕ) (r : Process) → lookup p rs ≡ Some r → is_zombie r.life ≡ true → (x : Process) × (lookup p (hup_and_cont_all gs rs) ≡ Some x) × (is_zombie x.life ≡ true)
+zombie_hup_and_cont gs rs up p r found dead =
+    let q = still_there p rs (hup_and_cont_all gs rs) (lasts_hup_and_cont_all gs rs up).same r found in
+    (q.what, q.found, q.zombie ∙ dead)
+
+-- some pass a test where they are more than none
+pub some_pass : (t : Process → Bool) (rs : List Process) → nat_lt 0 (length (filter t rs)) ≡ list_any t rs
+some_pass t [] = refl
+some_pass t (r ∷ rs) = grind (arith, some_pass t rs)
+
+-- ---- signals of the kernel
+
+-- whoever may signal all may signal these
+may_signal_all : (r : Process) (s : Option ℕ) (q : Process) → r.credentials ≡ root → may r s q ≡ true
+may_signal_all r s q e = rw e (some (0 == q.credentials.user.real) (0 == q.credentials.user.saved) _)
+  where
+    some : (a b e : Bool) → (a || b || a || b || true || e) ≡ true
+    some true b e = refl
+    some false true e = refl
+    some false false e = refl
+
+-- so who is meant by a signal of the kernel to a group are all its members
+members_meant : (c : Caller) → c.creds ≡ root → (n group : ℕ) (rs : List Process) → permitted (process_like c) (Some n) (targets (process_like c) (whom.Group group) rs) ≡ members_in group rs
+unfolding permitted targets members_in
+members_meant c all n group rs = all_pass (may (process_like c) (Some n)) (λ q. may_signal_all (process_like c) (Some n) q all) (members_in group rs)
+  where
+    all_pass : (t : Process → Bool) → ((r : Process) → t r ≡ true) → (rs : List Process) → filter t rs ≡ rs
+    all_pass t h [] = refl
+    all_pass t h (r ∷ rs) = rw (h r) (ap (λ qs. r ∷ qs) (all_pass t h rs))
+
+-- it is generated for each of them
+pub members_sent : (c : Caller) → c.pid ≡ 0 → c.creds ≡ root → (n group : ℕ) (rs : List Process) → sent (process_like c) (whom.Group group) (Some n) rs ≡ signalled_members (record { sig = n; carried = from_kernel }) group rs
+unfolding sent sent_among signalled_members
+members_sent c none all n group rs =
+    ap (λ p. signalled_all (sent_by p n) (pids (permitted (process_like c) (Some n) (targets (process_like c) (whom.Group group) rs))) rs) none
+    ∙ ap (λ qs. signalled_all (record { sig = n; carried = from_kernel }) (pids qs) rs) (members_meant c all n group rs)
+
+-- and they are asked
+pub members_rechecked : (c : Caller) → c.pid ≡ 0 → c.creds ≡ root → (n group : ℕ) (rs : List Process) (order ns : List ℕ)
+    → rechecking_signalled (process_like c) (Some n) (targets (process_like c) (whom.Group group) rs) rs order ns ≡ rechecking_members n group rs order ns
+unfolding rechecking_signalled
+members_rechecked c none all n group rs order ns =
+    ap (λ p. rechecking_all (sent_by p n) (pids (permitted (process_like c) (Some n) (targets (process_like c) (whom.Group group) rs))) rs order ns) none
+    ∙ ap (λ qs. rechecking_all (record { sig = n; carried = from_kernel }) (pids qs) rs order ns) (members_meant c all n group rs)

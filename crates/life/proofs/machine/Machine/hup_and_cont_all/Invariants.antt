@@ -1,0 +1,14 @@
+use Rattle.std.proofs.Common.{◌≡◌}
+use Rattle.posix.proofs.WalkLemmas.{numbers_left}
+use Rattle.life.proofs.SendLemmas.{with_processes}
+use Rattle.life.proofs.AtRiskLemmas.{IsSignalling}
+use Rattle.life.proofs.machine.Machine.hup_and_cont_all.Given as goal
+
+abbrev pub invariant-loop-next : goal.invariant-loop-next
+invariant-loop-next g l = record {
+  others : l.self.state ≡ with_processes l.fn.self.state l.self.state.processes;
+  signalling : IsSignalling l.fn.self.groups_at_risk l.self.groups_at_risk l.fn.self.state.processes l.self.state.processes l.next;
+}
+
+abbrev pub decreases-loop-next : goal.decreases-loop-next
+decreases-loop-next g l = numbers_left 2147483648 l.next

@@ -1,0 +1,23 @@
+use Rattle.std.proofs.Common.{◌≡◌, ◌+◌, ◌*◌, ◌≤◌, ◌||◌, ℕ, length}
+use Rattle.std.specs.List.{list_any}
+use Rattle.posix.specs.States.{is_in}
+use Rattle.posix.specs.Tables.{children_in, first_pid, left_of}
+use Rattle.posix.specs.Groups.{loses_anchor}
+use Rattle.life.proofs.AtRiskLemmas.{keeps}
+use Rattle.life.proofs.machine.Machine.note_groups_at_risk.Given as goal
+
+-- a group is noted, or one of the children that are left keeps it from being orphaned
+abbrev pub invariant-loop-next : goal.invariant-loop-next
+invariant-loop-next g l =
+    let rs = l.fn.self.state.processes in
+    let kids = children_in l.fn.pid rs in
+    record {
+      same : l.self.state ≡ l.fn.self.state;
+      to_recheck : l.self.to_recheck ≡ l.fn.self.to_recheck;
+      here : first_pid (left_of l.next kids) ≡ l.next;
+      todo : (n : ℕ) → (is_in n l.self.groups_at_risk || list_any (keeps rs n) (left_of l.next kids)) ≡ loses_anchor l.fn.pid rs n;
+      read : l.self.visits + 4 * length (left_of l.next kids) ≤ l.fn.self.visits + 4 + 4 * length kids;
+    }
+
+abbrev pub decreases-loop-next : goal.decreases-loop-next
+decreases-loop-next g l = length (left_of l.next (children_in l.fn.pid l.fn.self.state.processes))

@@ -1,0 +1,68 @@
+-- Who is to be rechecked: asked after this event whether it can act.
+use Rattle.std.specs.Prelude.{ℕ, ◌==◌, if◌then◌else◌, List, [], ◌∷◌, Option, Some, None}
+use Rattle.posix.specs.declared.process.Effect.{Effect}
+use Rattle.posix.specs.declared.process.Effect.TheVariants as effect
+use Rattle.posix.specs.declared.process.PendingSignal.{PendingSignal}
+use Rattle.posix.specs.SignalNumbers.{CONT}
+use Rattle.posix.specs.Processes.{Process}
+use Rattle.posix.specs.Tables.{lookup, pids, members_in}
+use Rattle.posix.specs.Choice.{from_kernel}
+use Rattle.posix.specs.States.{is_in, without}
+use Rattle.posix.specs.Generation.{effect_of}
+use Rattle.posix.specs.Notices.{generated_for}
+use Rattle.posix.specs.Sends.{permitted, sent_by}
+use Rattle.pidset.specs.Numbers.{with_number}
+
+-- these numbers put in
+unfoldable pub with_numbers : List ℕ → List ℕ → List ℕ
+with_numbers [] ns = ns
+with_numbers (p ∷ ps) ns = with_number p (with_numbers ps ns)
+
+-- p has changed, but not its place: it is rechecked where it has none
+abbrev pub rechecking : ℕ → List ℕ → List ℕ → List ℕ
+rechecking p order ns = if is_in p order then ns else with_number p ns
+
+-- a parent that is there has to be rechecked; number 0 is nobody's
+abbrev pub with_parent : ℕ → List ℕ → List ℕ
+with_parent parent ns = if parent == 0 then ns else with_number parent ns
+
+-- a child was stopped or continued: both are rechecked
+abbrev pub rechecking_changed : Process → List ℕ → List ℕ
+rechecking_changed r ns = with_parent r.parent (with_number r.pid ns)
+
+abbrev pub rechecking_effect : Effect → Process → List ℕ → List ℕ
+rechecking_effect effect.Nothing r ns = ns
+rechecking_effect effect.Continued r ns = rechecking_changed r ns
+
+-- a signal was generated for a process that is there
+abbrev pub rechecking_generated : PendingSignal → Option Process → List ℕ → List ℕ → List ℕ
+rechecking_generated signal None order ns = ns
+rechecking_generated signal (Some r) order ns = rechecking_effect (effect_of r.pid r.life signal r.signals) r (rechecking r.pid order ns)
+
+-- and for several of these processes, one after another
+unfoldable pub rechecking_all : PendingSignal → List ℕ → List Process → List ℕ → List ℕ → List ℕ
+rechecking_all signal [] rs order ns = ns
+rechecking_all signal (p ∷ ps) rs order ns = rechecking_all signal ps (generated_for signal (lookup p rs) rs) order (rechecking_generated signal (lookup p rs) order ns)
+
+-- a signal was sent to those who may be signalled; signal 0 only checks
+unfoldable pub rechecking_signalled : Process → Option ℕ → List Process → List Process → List ℕ → List ℕ → List ℕ
+rechecking_signalled me None qs rs order ns = ns
+rechecking_signalled me (Some n) qs rs order ns = rechecking_all (sent_by me.pid n) (pids (permitted me (Some n) qs)) rs order ns
+
+-- a signal of the kernel was generated for the members of a process group
+abbrev pub rechecking_members : ℕ → ℕ → List Process → List ℕ → List ℕ → List ℕ
+rechecking_members n group rs order ns = rechecking_all (record { sig = n; carried = from_kernel }) (pids (members_in group rs)) rs order ns
+
+-- how many slots are read where a signal is generated: CONT may continue its process, whose parent gets notice
+abbrev pub slots_of_signal : ℕ → ℕ
+slots_of_signal n = if n == CONT then 4 else 1
+
+-- for signal 0 none
+abbrev pub slots_of_send : Option ℕ → ℕ
+slots_of_send None = 0
+slots_of_send (Some n) = slots_of_signal n
+
+-- where the record of p has gone, whose parent this was, the parent is rechecked, and p no more
+abbrev pub without_gone : ℕ → Option ℕ → List ℕ → List ℕ
+without_gone p None ns = ns
+without_gone p (Some parent) ns = without p (with_number parent ns)

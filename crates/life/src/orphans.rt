@@ -1,0 +1,135 @@
+//! Process groups that an end orphans (XSH _exit, Consequences of Process Termination).
+
+ghost use Rattle.std.specs.Prelude.{◌≡◌, ◌≢◌, ◌+◌, ◌*◌, ◌≤◌, ◌&&◌, ℕ, IsSome, Some, true, false, if◌then◌else◌, filter, length};
+ghost use Rattle.posix.specs.Processes.{Process, is_zombie};
+ghost use Rattle.posix.specs.Numbers.{with_number};
+ghost use Rattle.posix.specs.States.{process, is_in, without};
+ghost use Rattle.posix.specs.Tables.{children_in};
+ghost use Rattle.posix.specs.Choice.{from_kernel};
+ghost use Rattle.posix.specs.Groups.{is_anchor as is_anchor_of, is_orphaned as is_orphaned_of, has_stopped as has_stopped_of, some_stopped, loses_anchor};
+ghost use Rattle.posix.specs.Ends.{signalled_members, hup_and_cont as hup_and_cont_of, hup_and_cont_all as hup_and_cont_all_of, hup_and_cont_orphans, leave_children_and_die as departing, tell_of_all, zombies_of};
+ghost use Rattle.pidset.specs.Numbers.{Rises};
+ghost use Rattle.life.specs.Rechecks.{rechecking_members};
+ghost use Rattle.posix.specs.Regular.{IsRegular, CanInherit};
+
+use crate::caller::Caller;
+use crate::machine::Machine;
+use posix::{Pid, Sig, Status, Target};
+use proctable::Kin;
+
+impl<K: Kin> Machine<K> {
+    // ---- before the end
+
+    /// The group of a process that is there is noted where the process keeps it from being orphaned.
+    fn note_anchor(&mut self, pid: Pid)
+        ensures rest { self.new ≡ record (self.old) { groups_at_risk = self.new.groups_at_risk; visits = self.new.visits } }
+        ensures visits { self.new.visits ≤ self.old.visits + 3 }
+        ensures groups_at_risk { (it : Process) → process self.old.state pid ≡ Some it → self.new.groups_at_risk ≡ (if is_anchor_of self.old.state.processes it then with_number it.group self.old.groups_at_risk else self.old.groups_at_risk) }
+    {
+        if self.is_anchor(pid) {
+            if let Some(it) = self.snapshot(pid) {
+                self.groups_at_risk.insert(it.group);
+            }
+        }
+    }
+
+    /// The groups are noted that a process that is there and its children keep from being orphaned: no
+    /// others can be orphaned by its end.
+    fn note_groups_at_risk(&mut self, pid: Pid)
+        requires { IsSome (process self.old.state pid) }
+        ensures same { self.new.state ≡ self.old.state }
+        ensures to_recheck { self.new.to_recheck ≡ self.old.to_recheck }
+        ensures groups_at_risk { (g : ℕ) → is_in g self.new.groups_at_risk ≡ loses_anchor pid self.old.state.processes g }
+        ensures regular { IsRegular self.old.state }
+        ensures visits { self.new.visits ≤ self.old.visits + 4 + 4 * length (children_in pid self.old.state.processes) }
+    {
+        self.groups_at_risk.clear();
+        self.note_anchor(pid);
+        let mut next = self.first_child(pid);
+        while let Some(child) = next {
+            self.note_anchor(child);
+            next = self.next_sibling(child);
+        }
+    }
+
+    // ---- after it
+
+    /// A group stays noted only where it is orphaned and has a stopped member.
+    fn keep_orphan_with_stopped(&mut self, group: Pid)
+        ensures groups_at_risk { self.new.groups_at_risk ≡ (if is_orphaned_of group self.old.state.processes && has_stopped_of group self.old.state.processes then self.old.groups_at_risk else without group self.old.groups_at_risk) }
+        ensures same { self.new.state ≡ self.old.state }
+    {
+        if !(self.is_orphaned(group) && self.has_stopped(group)) {
+            self.groups_at_risk.remove(group);
+        }
+    }
+
+    /// Of the noted groups those stay noted that are orphaned and have a stopped member.
+    fn keep_orphans_with_stopped(&mut self)
+        ensures groups_at_risk { self.new.groups_at_risk ≡ filter (λ g. is_orphaned_of g self.old.state.processes && has_stopped_of g self.old.state.processes) self.old.groups_at_risk }
+        ensures rising { Rises self.old.groups_at_risk }
+        ensures same { self.new.state ≡ self.old.state }
+    {
+        let mut next = self.groups_at_risk.first();
+        while let Some(group) = next {
+            self.keep_orphan_with_stopped(group);
+            next = self.groups_at_risk.next_above(group);
+        }
+    }
+
+    /// A signal of the kernel is generated for each member of a process group, zombies included, in rising
+    /// order.
+    pub(crate) fn signal_members(&mut self, group: Pid, sig: Sig)
+        ensures state { self.new.state ≡ record (self.old.state) { processes = signalled_members (record { sig = sig; carried = from_kernel }) group self.old.state.processes } }
+        ensures to_recheck { self.new.to_recheck ≡ rechecking_members sig group self.old.state.processes self.old.state.order self.old.to_recheck }
+        ensures groups_at_risk { self.new.groups_at_risk ≡ self.old.groups_at_risk }
+    {
+        self.send(&Caller::kernel(), Target::Group(group), Some(sig));
+    }
+
+    /// Each member of a process group gets HUP, and then each gets CONT.
+    fn hup_and_cont(&mut self, group: Pid)
+        ensures state { self.new.state ≡ record (self.old.state) { processes = hup_and_cont_of group self.old.state.processes } }
+        ensures groups_at_risk { self.new.groups_at_risk ≡ self.old.groups_at_risk }
+    {
+        self.signal_members(group, Sig::HUP);
+        self.signal_members(group, Sig::CONT);
+    }
+
+    /// Each noted group gets HUP and CONT.
+    fn hup_and_cont_all(&mut self)
+        ensures state { self.new.state ≡ record (self.old.state) { processes = hup_and_cont_all_of self.old.groups_at_risk self.old.state.processes } }
+        ensures regular { IsRegular self.old.state }
+    {
+        let mut next = self.groups_at_risk.first();
+        while let Some(group) = next {
+            self.hup_and_cont(group);
+            next = self.groups_at_risk.next_above(group);
+        }
+    }
+
+    // ---- the end
+
+    /// The process becomes a zombie, as [`Machine::leave_children_and_die`] says, and then each member of a process
+    /// group that was not orphaned before, is now, and has a stopped member, gets HUP, and then CONT: of these
+    /// groups one after another, in rising order. Its parent.
+    pub(crate) fn die_and_hup_orphans(&mut self, pid: Pid, heir: Pid, status: Status) -> Pid
+        requires there { IsSome (process self.old.state pid) }
+        requires other { pid ≢ 1 }
+        requires heir { CanInherit self.old.state.processes pid heir }
+        ensures state { self.new.state ≡ hup_and_cont_orphans self.old.state.processes (tell_of_all (departing self.old.state pid heir status) heir (zombies_of pid self.old.state.processes)) }
+        ensures is { (me : Process) → process self.old.state pid ≡ Some me → result ≡ me.parent }
+        ensures parent { (me : Process) → process self.old.state pid ≡ Some me → IsSome (process self.new.state me.parent) }
+        ensures zombie { (it : Process) × (process self.new.state pid ≡ Some it) × (is_zombie it.life ≡ true) }
+        ensures visits { some_stopped self.old.state.processes ≡ false → self.new.visits ≤ self.old.visits + 4 + 16 * length (children_in pid self.old.state.processes) + length (children_in heir self.old.state.processes) }
+    {
+        if self.nobody_stopped() {
+            return self.leave_children_and_die(pid, heir, status);
+        }
+        self.note_groups_at_risk(pid);
+        let parent = self.leave_children_and_die(pid, heir, status);
+        self.keep_orphans_with_stopped();
+        self.hup_and_cont_all();
+        parent
+    }
+}

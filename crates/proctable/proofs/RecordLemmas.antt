@@ -1,0 +1,63 @@
+-- What another record for a process changes.
+use Rattle.std.proofs.Common.{◌≡◌, ℕ, refl, ap, ◌∙◌, List, Some}
+use Rattle.posix.specs.Processes.{Process}
+use Rattle.posix.specs.Births.{child_of}
+use Rattle.posix.specs.Outcomes.{finished}
+use Rattle.posix.specs.Tables.{IsRising, lookup, changed, parent_of}
+use Rattle.posix.proofs.TableLemmas.{changed_same, changed_id, rising_changed}
+use Rattle.proctable.specs.declared.own_part.OwnPart.{OwnPart}
+use Rattle.proctable.specs.declared.records.Record.{Record}
+use Rattle.proctable.specs.Records.{process_of, with_record, give_record, give_own, own_of}
+
+-- a record that was changed as f does where the number is p
+pub changed_here : (rs : List Process) → IsRising rs → (p : ℕ) (b b' : Record) (f : Process → Process) → lookup p rs ≡ Some (process_of p (parent_of p rs) b)
+    → ((q : ℕ) → process_of p q b' ≡ f (process_of p q b)) → with_record rs p b' ≡ changed p f rs
+unfolding give_record
+changed_here rs up p b b' f e same = changed_same p (give_record b') f rs up (process_of p (parent_of p rs) b) e (same (parent_of p rs))
+
+-- a record that was changed as f does
+pub changed_record : (rs : List Process) → IsRising rs → (p : ℕ) (b b' : Record) (f : Process → Process) → lookup p rs ≡ Some (process_of p (parent_of p rs) b)
+    → ((p q : ℕ) → process_of p q b' ≡ f (process_of p q b)) → with_record rs p b' ≡ changed p f rs
+changed_record rs up p b b' f e same = changed_here rs up p b b' f e (same p)
+
+-- a record that was only read
+pub same_record : (rs : List Process) → IsRising rs → (p : ℕ) (b : Record) → lookup p rs ≡ Some (process_of p (parent_of p rs) b) → with_record rs p b ≡ rs
+unfolding give_record
+same_record rs up p b e = changed_id p (give_record b) rs up (process_of p (parent_of p rs) b) e refl
+
+-- another record keeps the order
+pub record_rises : (rs : List Process) → IsRising rs → (p : ℕ) (b : Record) → IsRising (with_record rs p b)
+unfolding give_record
+record_rises rs up p b = rising_changed p (give_record b) (λ r. refl) rs up
+
+-- the process that was read is the one that is there
+pub read_record : (rs : List Process) (p : ℕ) (b : Record) (me : Process) → lookup p rs ≡ Some (process_of p (parent_of p rs) b) → lookup p rs ≡ Some me → process_of p (parent_of p rs) b ≡ me
+read_record rs p b me e here = cc
+
+-- ---- a loan
+
+-- another own part in the record is another own part of the process
+pub own_record : (rs : List Process) → IsRising rs → (p : ℕ) (b : Record) (o : OwnPart) → lookup p rs ≡ Some (process_of p (parent_of p rs) b)
+    → with_record rs p (record b { own = o }) ≡ changed p (give_own o) rs
+own_record rs up p b o e = changed_record rs up p b (record b { own = o }) (give_own o) e (λ p q. refl)
+
+-- What was lent of a process, and given back changed as f does, is the change f of the process.
+pub lent : (rs : List Process) → IsRising rs → (p : ℕ) (me : Process) (o w : OwnPart) (f : Process → Process) → lookup p rs ≡ Some me → o ≡ own_of me
+    → give_own w me ≡ f (give_own o me) → changed p (give_own w) rs ≡ changed p f rs
+lent rs up p me o w f e is did = changed_same p (give_own w) f rs up me e (did ∙ ap (λ x. f (give_own x me)) is)
+
+-- What was lent and given back as it was changes nothing.
+pub unchanged : (rs : List Process) → IsRising rs → (p : ℕ) (me : Process) (o w : OwnPart) → lookup p rs ≡ Some me → o ≡ own_of me → w ≡ o → changed p (give_own w) rs ≡ rs
+unchanged rs up p me o w e is same = changed_id p (give_own w) rs up me e (ap (λ x. give_own x me) (same ∙ is))
+
+-- ---- a birth
+
+-- a child is in the groups of its parent
+pub child_groups : (rs : List Process) (p birth : ℕ) (mine b : Record) → lookup p rs ≡ Some (process_of p (parent_of p rs) mine)
+    → ((q r n : ℕ) → process_of n q b ≡ child_of birth (process_of q r mine) n)
+    → (me : Process) → lookup p rs ≡ Some me → (b.group ≡ me.group) × (b.session ≡ me.session)
+unfolding child_of finished
+child_groups rs p birth mine b e child me here =
+    let same = read_record rs p mine me e here in
+    let born = child p (parent_of p rs) 0 in
+    (ap (λ (r : Process). r.group) born ∙ ap (λ (r : Process). r.group) same, ap (λ (r : Process). r.session) born ∙ ap (λ (r : Process). r.session) same)

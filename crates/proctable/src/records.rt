@@ -1,0 +1,196 @@
+//! What a table keeps of a process beside its number and its parent's.
+
+ghost use Rattle.std.specs.Prelude.{◌≡◌, IfOk, ℕ};
+ghost use Rattle.posix.specs.Processes.{first_process};
+ghost use Rattle.posix.specs.Births.{child_of};
+ghost use Rattle.posix.specs.Ends.{made_zombie, ended};
+ghost use Rattle.posix.specs.Notices.{noticed, noticed_of_change, stopped_by, resumed};
+ghost use Rattle.posix.specs.Generation.{signalled, effect_of};
+ghost use Rattle.posix.specs.Waits.{news_told};
+ghost use Rattle.posix.specs.Alarms.{ring_at as ring_at_tick, with_alarm};
+ghost use Rattle.proctable.specs.Records.{process_of, snapshot_of};
+
+use crate::own_part::OwnPart;
+use crate::snapshot::Snapshot;
+use crate::spare::Spare;
+use posix::{Carried, Effect, Life, News, PendingSignal, Pid, Sig, Status};
+use std::alloc::{AllocError, Global};
+
+/// A process without its number and its parent.
+#[derive(Drop)]
+pub struct Record {
+    /// What it may change of itself.
+    pub own: OwnPart,
+    /// Whether it runs, is stopped or has ended.
+    pub life: Life,
+    /// What no wait has reported of it yet (XSH waitpid).
+    pub news: News,
+    /// Its process group (XBD 3 Process Group ID).
+    pub group: Pid,
+    /// Its session, by the number of the leader (XBD 3 Session).
+    pub session: Pid,
+    /// The tick at which its alarm is due (XSH alarm).
+    pub alarm: Option<u64>,
+    /// 1 for process 1, 2 for the next one born, and so on.
+    pub birth: u64,
+}
+
+impl Record {
+    /// Process 1 at boot. An error where the host has no memory for it.
+    pub fn first(alloc: Global) -> Result<Record, AllocError>
+        ensures { IfOk result (λ b. process_of 1 0 b ≡ first_process) }
+    {
+        Ok(Record {
+            birth: 1,
+            group: Pid::INIT,
+            session: Pid::INIT,
+            life: Life::Running,
+            news: News::Nothing,
+            alarm: None,
+            own: OwnPart::first(alloc)?,
+        })
+    }
+
+    /// The child of a fork, with this birth number: like the caller, but nothing is pending for it and
+    /// there is no news of it, and its call gave 0 (XSH fork). It is filled in where `spare` is, if there is
+    /// one; without it an error where the host has no memory for it.
+    #[tactic(auto, unfolding(posix::specs::Births::child_of, posix::specs::Outcomes::finished))]
+    pub fn fork(&self, birth: u64, spare: Option<Spare>) -> Result<Record, AllocError>
+        ensures { IfOk result (λ b. (p q n : ℕ) → process_of n p b ≡ child_of birth (process_of p q self.now) n) }
+    {
+        Ok(Record {
+            birth,
+            group: self.group,
+            session: self.session,
+            life: self.life,
+            news: News::Nothing,
+            alarm: None,
+            own: self.own.fork(spare)?,
+        })
+    }
+
+    /// The small fields of the process with this number and this parent.
+    pub fn snapshot(&self, pid: Pid, parent: Pid) -> Snapshot
+        ensures { result ≡ snapshot_of (process_of pid parent self.now) }
+    {
+        Snapshot {
+            pid,
+            parent,
+            group: self.group,
+            session: self.session,
+            creds: self.own.creds,
+            chosen: self.own.signals.choose(self.life),
+            life: self.life,
+            news: self.news,
+            alarm: self.alarm,
+            ran_exec: self.own.ran_exec,
+            blocked: self.own.blocked,
+            program: self.own.program,
+        }
+    }
+
+    /// The process has ended with this status, and nothing is pending for it, and it is in no call (XSH
+    /// _exit).
+    #[tactic(auto, unfolding(posix::specs::Ends::made_zombie))]
+    pub fn make_zombie(&mut self, status: Status)
+        ensures { (p q : ℕ) → process_of p q self.new ≡ made_zombie status (process_of p q self.old) }
+    {
+        self.life = Life::Zombie(status);
+        self.own.signals.forget();
+        self.news = News::Nothing;
+        self.alarm = None;
+        self.own.blocked = None;
+    }
+
+    /// The process has ended with this status, and keeps all else: the end of process 1.
+    #[tactic(auto, unfolding(posix::specs::Ends::ended))]
+    pub fn end(&mut self, status: Status)
+        ensures { (p q : ℕ) → process_of p q self.new ≡ ended status (process_of p q self.old) }
+    {
+        self.life = Life::Zombie(status);
+    }
+
+    /// A wait has reported what happened to the process.
+    #[tactic(auto, unfolding(posix::specs::Waits::news_told))]
+    pub fn tell_news(&mut self)
+        ensures { (p q : ℕ) → process_of p q self.new ≡ news_told (process_of p q self.old) }
+    {
+        self.news = News::Nothing;
+    }
+
+    /// A signal is generated for the process, whose number this is (XSH 2.4.1). The effect is what it does
+    /// at once, which isn't done here.
+    #[tactic(auto, unfolding(posix::specs::Generation::signalled))]
+    pub fn signal(&mut self, pid: Pid, signal: PendingSignal) -> Effect
+        ensures state { (q : ℕ) → process_of pid q self.new ≡ signalled signal (process_of pid q self.old) }
+        ensures effect { result ≡ effect_of pid self.old.life signal self.old.own.signals }
+    {
+        self.own.signals.generate(pid, self.life, signal)
+    }
+
+    /// A signal has stopped the process (XSH 2.4.3).
+    #[tactic(auto, unfolding(posix::specs::Notices::stopped_by))]
+    pub fn stop(&mut self, sig: Sig)
+        ensures { (p q : ℕ) → process_of p q self.new ≡ stopped_by sig (process_of p q self.old) }
+    {
+        self.life = Life::Stopped;
+        self.news = News::StoppedBy(sig);
+    }
+
+    /// The process runs again (XSH 2.4.3). News of a stop that no wait has reported go.
+    #[tactic(auto, unfolding(posix::specs::Notices::resumed))]
+    pub fn resume(&mut self)
+        ensures { (p q : ℕ) → process_of p q self.new ≡ resumed (process_of p q self.old) }
+    {
+        self.life = Life::Running;
+        self.news = News::Continued;
+    }
+
+    /// The alarm of the process, whose number this is, rings if it is due at this tick, and isn't set any more
+    /// then (XSH alarm).
+    #[tactic(auto, unfolding(posix::specs::Alarms::rung, posix::specs::Alarms::with_alarm))]
+    pub fn ring_at(&mut self, pid: Pid, now: u64)
+        ensures { (q : ℕ) → process_of pid q self.new ≡ ring_at_tick now (process_of pid q self.old) }
+    {
+        if let Some(due) = self.alarm {
+            if due == now {
+                let signal = PendingSignal {
+                    sig: Sig::ALRM,
+                    carried: Carried::FROM_KERNEL,
+                };
+                self.signal(pid, signal);
+                self.alarm = None;
+            }
+        }
+    }
+
+    /// The alarm is set to a tick, or cleared (XSH alarm).
+    #[tactic(auto, unfolding(posix::specs::Alarms::with_alarm))]
+    pub fn set_alarm(&mut self, due: Option<u64>)
+        ensures { (p q : ℕ) → process_of p q self.new ≡ with_alarm due (process_of p q self.old) }
+    {
+        self.alarm = due;
+    }
+
+    /// The process, whose number this is, gets notice of a child by a signal, unless it ignores CHLD (XSH
+    /// _exit).
+    #[tactic(auto, unfolding(posix::specs::Notices::noticed))]
+    pub fn notice(&mut self, pid: Pid, signal: PendingSignal)
+        ensures { (q : ℕ) → process_of pid q self.new ≡ noticed signal (process_of pid q self.old) }
+    {
+        if !self.own.signals.ignores_children() {
+            self.signal(pid, signal);
+        }
+    }
+
+    /// The process, whose number this is, gets notice that a child was stopped or continued by a signal,
+    /// unless it ignores CHLD or has SA_NOCLDSTOP (XSH sigaction).
+    #[tactic(auto, unfolding(posix::specs::Notices::noticed_of_change))]
+    pub fn notice_of_change(&mut self, pid: Pid, signal: PendingSignal)
+        ensures { (q : ℕ) → process_of pid q self.new ≡ noticed_of_change signal (process_of pid q self.old) }
+    {
+        if !self.own.signals.ignores_stops() {
+            self.signal(pid, signal);
+        }
+    }
+}
