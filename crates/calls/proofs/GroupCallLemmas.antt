@@ -1,13 +1,13 @@
 -- Calls on process groups, sessions and programs.
 use Rattle.std.proofs.Common.{◌≡◌, ℕ, Bool, true, false, cond, refl, ap, sym, ◌∙◌, subst, List, Option, Some, None, Result, Ok, Err, ℤ, pos, negsuc, ◌==◌, ◌||◌, slice_get}
 use Rattle.std.specs.Option.{IsSome}
-use Rattle.posix.specs.declared.call.Call.TheVariants.{Exec, Setsid}
+use Rattle.posix.specs.declared.call.Call.TheVariants.{Exec, Setpgid, Setsid}
 use Rattle.posix.specs.declared.errno.Errno.{Errno}
 use Rattle.posix.specs.declared.errno.Errno.TheVariants.{EPERM, ENOENT}
 use Rattle.posix.specs.Processes.{Process, argument}
 use Rattle.posix.specs.States.{State, Program, process, change}
 use Rattle.posix.specs.Outcomes as outcome
-use Rattle.posix.specs.GroupCalls.{move_to, in_group, in_session, is_group_of_others, setsid}
+use Rattle.posix.specs.GroupCalls.{named, move_to, in_group, in_session, is_group_of_others, setpgid, setpgid_with, setsid}
 use Rattle.posix.specs.Programs.{executed, exec_as, exec_of, exec}
 use Rattle.posix.proofs.ReportLemmas.{some_changed}
 use Rattle.life.proofs.SoundLemmas.{There}
@@ -24,6 +24,12 @@ who_moves me (Some r) z rs g e = record { what = r; found = refl }
 pub there_moved : (s : State) (p q g : ℕ) → IsSome (process s p) → IsSome (process (change s q (in_group g)) p)
 unfolding in_group
 there_moved s p q g h = some_changed q p (in_group g) (λ r. refl) s.processes h
+
+-- what setpgid comes to where it moves somebody
+pub setpgid_moves : (s : State) (me r : Process) (group : ℕ) → named me (argument me 1) s.processes ≡ Some r → move_to me (named me (argument me 1) s.processes) (argument me 2) s.processes ≡ Ok group
+    → setpgid s me ≡ outcome.finish_with (change s r.pid (in_group group)) me.pid Setpgid (pos 0)
+unfolding setpgid
+setpgid_moves s me r group who moves = ap (setpgid_with s me (named me (argument me 1) s.processes)) moves ∙ ap (λ o. setpgid_with s me o (Ok group)) who
 
 -- ---- setsid
 

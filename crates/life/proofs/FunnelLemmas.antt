@@ -24,7 +24,7 @@ use Rattle.posix.proofs.FreshLemmas.{fresh_changed}
 use Rattle.pidalloc.specs.Rows.{Pids, regrouped}
 use Rattle.pidalloc.proofs.MoveLemmas.{tallied_regrouped, pids_regrouped, greatest_regrouped, CanRegroup, can_regroup}
 use Rattle.sched.specs.Places.{Places}
-use Rattle.pidset.specs.Numbers.{PidSetView, with_number}
+use Rattle.pidset.specs.Numbers.{Rises, PidSetView, with_number}
 use Rattle.proctable.specs.declared.records.Record.{Record}
 use Rattle.proctable.specs.Records.{process_of, give_record, with_record}
 use Rattle.proctable.proofs.RecordLemmas.{changed_here}
@@ -39,7 +39,8 @@ use Rattle.life.specs.Rechecks.{with_numbers, with_parent, rechecking, recheckin
 use Rattle.life.specs.Changes.{has_moved, CanMoveNumbers, StaysRegular}
 use Rattle.life.proofs.ParentLemmas.{parents_map}
 use Rattle.life.proofs.SoundLemmas.{kept_map, not_many}
-use Rattle.life.proofs.RecheckLemmas.{IsBeside, listed_with, listed_change}
+use Rattle.life.proofs.RecheckLemmas.{IsBeside, listed_with, listed_less, listed_change}
+use Rattle.pidset.proofs.NumberLemmas.{rises_with}
 
 -- ---- the parent
 
@@ -135,17 +136,24 @@ numbers_kept m p b c rs pids now places up found is k = by (has_moved (record_se
 -- those who are rechecked: the process, and its parent if it has one that is there
 pub listed_changed : {readers : List PidSetView} (s t : State) (p parent : ℕ) (before after : PidSetView) (touched : List ℕ) → IsListed s before readers → Touches s t touched → IsBeside s t → ((q : ℕ) → IsSome (process s q) → IsSome (process t q))
     → IsSome (process t p) → (parent ≢ 0 → IsSome (process t parent)) → process t 0 ≡ None → ((q : ℕ) → is_in q touched ≡ true → (q ≡ p) ⊎ (q ≡ parent))
-    → after.pids ≡ with_parent parent (with_number p before.pids) → after.room ≡ before.room → IsListed t after readers
+    → after.pids ≡ with_parent parent t.order (with_number p before.pids) → after.room ≡ before.room → IsListed t after readers
 unfolding with_numbers is_in
-listed_changed s t p parent before after touched h touches most stay here up none among is same =
+listed_changed {readers = readers} s t p parent before after touched h touches most stay here up none among is same =
     elim (cases_eq parent 0) [
       | inl root ↦ listed_with s t before after (p ∷ []) touched h touches most stay (here, tt)
           (λ q theirs e. ⊎_elim (λ k. or_left _ _ (eq-eqb p q (sym k))) (λ k. let no = subst (λ n. IsSome (process t n)) (k ∙ root) theirs in let nobody = rw none at no in absurd (cc)) (among q e))
           (is ∙ rw (eq-eqb parent 0 root) refl) same
-      | inr some ↦ listed_with s t before after (parent ∷ p ∷ []) touched h touches most stay (up some, (here, tt))
-          (λ q theirs e. ⊎_elim (λ k. or_right (parent == q) _ (or_left _ _ (eq-eqb p q (sym k)))) (λ k. or_left _ _ (eq-eqb parent q (sym k))) (among q e))
-          (is ∙ rw (ne_eqb parent 0 some) refl) same
+      | inr some ↦ elim (is_in parent t.order) as (λ b. is_in parent t.order ≡ b → after.pids ≡ cond b (with_number p before.pids) (with_number parent (with_number p before.pids)) → IsListed t after readers) [
+        | true ↦ λ placed e.
+            let all = record after { pids = with_number parent after.pids } in
+            listed_less t after all parent (both some all (ap (with_number parent) e) same) refl (subst Rises (sym e) (rises_with p before.pids h.rising)) refl placed
+        | false ↦ λ out e. both some after e same
+      ] refl (is ∙ rw (ne_eqb parent 0 some) refl)
     ]
+  where
+    both : parent ≢ 0 → (all : PidSetView) → all.pids ≡ with_number parent (with_number p before.pids) → all.room ≡ before.room → IsListed t all readers
+    both some all e room = listed_with s t before all (parent ∷ p ∷ []) touched h touches most stay (up some, (here, tt))
+        (λ q theirs e. ⊎_elim (λ k. or_right (parent == q) _ (or_left _ _ (eq-eqb p q (sym k)))) (λ k. or_left _ _ (eq-eqb parent q (sym k))) (among q e)) e room
 
 -- the number that was given last is the same
 pub machine_numbered : {groups_at_risk : PidSetView} {terminals : Terminals} (t : State) (pids : Pids) (places : Places) (to_recheck : PidSetView) (last : ℕ) → t.last_pid ≡ last
@@ -165,7 +173,7 @@ there_record rs p c q there = some_changed p q (give_record c) (λ r. refl) rs t
 pub machine_shown : {groups_at_risk : PidSetView} {terminals : Terminals} (s : State) (pids now : Pids) (places : Places) (to_recheck after : PidSetView) (p parent : ℕ) (b c : Record) (ts : List Process) (foregrounds_unchecked : Bool)
     → lookup p s.processes ≡ Some (process_of p (parent_of p s.processes) b) → ts ≡ with_record s.processes p c → IsRegular (record s { processes = with_record s.processes p c }) → parent ≡ parent_of p s.processes
     → now ≡ cond (has_moved (record_seen b) (record_seen c)) (regrouped pids b.group b.session c.group c.session) pids → foregrounds_unchecked ≡ (has_moved (record_seen b) (record_seen c) || terminals.foregrounds_unchecked) → s.last_pid ≡ now.last
-    → IsMachine s pids places to_recheck groups_at_risk terminals → after.pids ≡ with_parent parent (with_number p to_recheck.pids) → after.room ≡ to_recheck.room
+    → IsMachine s pids places to_recheck groups_at_risk terminals → after.pids ≡ with_parent parent s.order (with_number p to_recheck.pids) → after.room ≡ to_recheck.room
     → IsMachine (record s { processes = ts; last_pid = now.last }) now places after groups_at_risk (record { readers = terminals.readers; foregrounds_unchecked = foregrounds_unchecked })
 unfolding give_record
 machine_shown {terminals = terminals} s pids now places to_recheck after p parent b c ts foregrounds_unchecked found is regular its moved mark given i put room =
@@ -184,7 +192,7 @@ machine_shown {terminals = terminals} s pids now places to_recheck after p paren
       listed = listed_changed s t p (parent_of p rs) to_recheck after (p ∷ parent_of p rs ∷ []) i.listed (touches_shown s p f (λ r. refl) (λ r. refl) up me found) (refl, refl)
           (λ q e. some_changed p q f (λ r. refl) rs e) (some_changed p p f (λ r. refl) rs (rw found refl)) (λ some. some_changed p (parent_of p rs) f (λ r. refl) rs (parent_there s pids places i.sound p me found some)) (absent_changed p f (λ r. refl) 0 rs (nobody_0 s i.sound.regular))
           (λ q e. each (λ q. (q ≡ p) ⊎ (q ≡ parent_of p rs)) (p ∷ parent_of p rs ∷ []) (inl refl, (inr refl, tt)) q e)
-          (subst (λ q. after.pids ≡ with_parent q (with_number p to_recheck.pids)) its put) room;
+          (subst (λ q. after.pids ≡ with_parent q s.order (with_number p to_recheck.pids)) its put) room;
       noted = i.noted;
       fresh = λ e.
           let both = or_parts (has_moved (record_seen b) (record_seen c)) terminals.foregrounds_unchecked (sym mark ∙ e) in
@@ -261,10 +269,10 @@ with_lost true p ns = with_twice p ns
 with_lost false p ns = refl
 
 -- a parent that was rechecked with its child is rechecked once
-pub parent_twice : (parent : ℕ) (order ns : List ℕ) → cond (parent == 0) (with_parent parent ns) (rechecking parent order (with_parent parent ns)) ≡ with_parent parent ns
-parent_twice parent order ns = elim (parent == 0) as (λ b. cond b (cond b ns (with_number parent ns)) (rechecking parent order (cond b ns (with_number parent ns))) ≡ cond b ns (with_number parent ns)) [
+pub parent_twice : (parent : ℕ) (order ns : List ℕ) → cond (parent == 0) (with_parent parent order ns) (rechecking parent order (with_parent parent order ns)) ≡ with_parent parent order ns
+parent_twice parent order ns = elim (parent == 0) as (λ b. cond b (cond b ns (rechecking parent order ns)) (rechecking parent order (cond b ns (rechecking parent order ns))) ≡ cond b ns (rechecking parent order ns)) [
   | true ↦ refl
-  | false ↦ rechecking_twice parent order ns
+  | false ↦ elim (is_in parent order) as (λ b. cond b (cond b ns (with_number parent ns)) (with_number parent (cond b ns (with_number parent ns))) ≡ cond b ns (with_number parent ns)) [ true ↦ refl | false ↦ with_twice parent ns ]
 ]
 
 -- a change of number 0 changes nobody
@@ -279,6 +287,6 @@ pub told_signalled : (w : ℕ) (signal : PendingSignal) (r : Process) (rs : List
 unfolding told_of_change signalled
 told_signalled w signal r rs = refl
 
-pub rechecking_signalled : (signal : PendingSignal) (r : Process) (ns : List ℕ) → rechecking_changed (signalled signal r) ns ≡ rechecking_changed r ns
+pub rechecking_signalled : (signal : PendingSignal) (r : Process) (order ns : List ℕ) → rechecking_changed (signalled signal r) order ns ≡ rechecking_changed r order ns
 unfolding signalled
-rechecking_signalled signal r ns = refl
+rechecking_signalled signal r order ns = refl

@@ -134,35 +134,35 @@ listed_with s t before after ps touched h touches most stay theirs among is same
     inside : (q : ℕ) → is_in q after.pids ≡ (is_in q ps || is_in q before.pids)
     inside q = ap (is_in q) is ∙ in_numbers q ps before.pids
 
--- where who is touched has a place, and so needn't be rechecked
-listed_placed : {readers : List PidSetView} (s t : State) (l : PidSetView) (p : ℕ) → IsListed s l readers → Touches s t (p ∷ []) → IsBeside s t → ((q : ℕ) → IsSome (process s q) → IsSome (process t q)) → is_in p t.order ≡ true → IsListed t l readers
-listed_placed {readers = readers} s t l p h touches most stay placed = record {
-  covers = λ q r e w. ⊎_elim (λ same. absurd (waits q r e w (eqb-true p q same))) (λ k. k) (or_cases _ _ (sym (in_with q p l.pids) ∙ on_longer q r e w));
-  rising = h.rising;
-  there = λ q e. stay q (h.there q e);
-  room = let room = h.room in let size = ap (λ (w : World). w.pidmax) most.0 in omega (arith, room, size);
+-- who has a place needn't be on it
+pub listed_less : {readers : List PidSetView} (t : State) (l m : PidSetView) (p : ℕ) → IsListed t m readers → m.pids ≡ with_number p l.pids → Rises l.pids → m.room ≡ l.room → is_in p t.order ≡ true → IsListed t l readers
+listed_less t l m p h is rises same placed = record {
+  covers = λ q r e w. ⊎_elim (λ same. absurd (waits q r e w (eqb-true p q same))) (λ k. k) (or_cases _ _ (sym (inside q) ∙ h.covers q r e w));
+  rising = rises;
+  there = λ q e. h.there q (inside q ∙ or_right _ _ e);
+  room = let room = h.room in omega (arith, room, same);
   watched = record {
-    known = λ k q c r at found visits out unasked. watches.known k q c r at found visits out (in_with q p l.pids ∙ ap (λ b. b || is_in q l.pids) (ne_eqb p q (λ same. both_ways (is_in q t.order) out (subst (λ n. is_in n t.order ≡ true) same placed))) ∙ unasked);
-    each = watches.each;
-    many = watches.many;
+    known = λ k q c r at found visits out unasked. h.watched.known k q c r at found visits out (inside q ∙ ap (λ b. b || is_in q l.pids) (ne_eqb p q (λ same. both_ways (is_in q t.order) out (subst (λ n. is_in n t.order ≡ true) same placed))) ∙ unasked);
+    each = h.watched.each;
+    many = h.watched.many;
   };
 }
   where
-    watches : IsWatched t (with_number p l.pids) readers
-    watches = watched_on s t l.pids (with_number p l.pids) (p ∷ []) h.watched touches most
-        (λ q theirs e. in_with q p l.pids ∙ or_left _ _ (eq-eqb p q (sym (in_one q p e))))
-        (λ q theirs e. in_with q p l.pids ∙ or_right (p == q) _ e)
-
-    on_longer : (q : ℕ) (r : Process) → process t q ≡ Some r → wakes t r ≡ true → is_in q (with_number p l.pids) ≡ true
-    on_longer = goes_on s t l.pids (with_number p l.pids) (p ∷ []) h.covers touches
-        (λ q theirs e. in_with q p l.pids ∙ or_left _ _ (eq-eqb p q (sym (in_one q p e))))
-        (λ q theirs e. in_with q p l.pids ∙ or_right (p == q) _ e)
+    inside : (q : ℕ) → is_in q m.pids ≡ (p == q || is_in q l.pids)
+    inside q = ap (is_in q) is ∙ in_with q p l.pids
 
     waits : (q : ℕ) (r : Process) → process t q ≡ Some r → wakes t r ≡ true → p ≡ q → ⊥
     waits q r e w same =
         let has : is_in r.pid t.order ≡ true = ap (λ n. is_in n t.order) (pid_looked q t.processes r e ∙ sym same) ∙ placed in
         let none : false ≡ true = sym (ap (λ b. not b && can_act t r) has) ∙ w in
         absurd (cc)
+
+-- where who is touched has a place, and so needn't be rechecked
+listed_placed : {readers : List PidSetView} (s t : State) (l : PidSetView) (p : ℕ) → IsListed s l readers → Touches s t (p ∷ []) → IsBeside s t → IsSome (process t p) → ((q : ℕ) → IsSome (process s q) → IsSome (process t q)) → is_in p t.order ≡ true → IsListed t l readers
+unfolding with_numbers
+listed_placed s t l p h touches most here stay placed =
+    let m = record l { pids = with_number p l.pids } in
+    listed_less t l m p (listed_with s t l m (p ∷ []) (p ∷ []) h touches most stay (here, tt) (λ q theirs k. k) refl refl) refl h.rising refl placed
 
 -- one record that changed and keeps its number
 pub listed_change : {readers : List PidSetView} (s : State) (p : ℕ) (f : Process → Process) (before after : PidSetView) → IsListed s before readers → ((r : Process) → (f r).pid ≡ r.pid) → Touches s (change s p f) (p ∷ []) → IsSome (process s p)
@@ -171,7 +171,7 @@ unfolding with_numbers changed
 listed_change {readers = readers} s p f before after h keeps touches here is same =
     let stay = some_map (at p f) (at_pid p f keeps) in
     elim (is_in p s.order) as (λ b. is_in p s.order ≡ b → after.pids ≡ cond b before.pids (with_number p before.pids) → IsListed (change s p f) after readers) [
-      | true ↦ λ placed e. listed_more (change s p f) before after [] (listed_placed s (change s p f) before p h touches (refl, refl) (λ q k. stay q s.processes k) placed) tt e same
+      | true ↦ λ placed e. listed_more (change s p f) before after [] (listed_placed s (change s p f) before p h touches (refl, refl) (stay p s.processes here) (λ q k. stay q s.processes k) placed) tt e same
       | false ↦ λ out e. listed_with s (change s p f) before after (p ∷ []) (p ∷ []) h touches (refl, refl) (λ q k. stay q s.processes k) (stay p s.processes here, tt) (λ q theirs k. k) e same
     ] refl is
 

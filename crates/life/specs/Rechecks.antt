@@ -22,22 +22,22 @@ with_numbers (p ∷ ps) ns = with_number p (with_numbers ps ns)
 abbrev pub rechecking : ℕ → List ℕ → List ℕ → List ℕ
 rechecking p order ns = if is_in p order then ns else with_number p ns
 
--- a parent that is there has to be rechecked; number 0 is nobody's
-abbrev pub with_parent : ℕ → List ℕ → List ℕ
-with_parent parent ns = if parent == 0 then ns else with_number parent ns
+-- a parent that is there is rechecked where it has no place; number 0 is nobody's
+abbrev pub with_parent : ℕ → List ℕ → List ℕ → List ℕ
+with_parent parent order ns = if parent == 0 then ns else rechecking parent order ns
 
--- a child was stopped or continued: both are rechecked
-abbrev pub rechecking_changed : Process → List ℕ → List ℕ
-rechecking_changed r ns = with_parent r.parent (with_number r.pid ns)
+-- a child has changed in what its parent sees: both are rechecked
+abbrev pub rechecking_changed : Process → List ℕ → List ℕ → List ℕ
+rechecking_changed r order ns = with_parent r.parent order (with_number r.pid ns)
 
-abbrev pub rechecking_effect : Effect → Process → List ℕ → List ℕ
-rechecking_effect effect.Nothing r ns = ns
-rechecking_effect effect.Continued r ns = rechecking_changed r ns
+abbrev pub rechecking_effect : Effect → Process → List ℕ → List ℕ → List ℕ
+rechecking_effect effect.Nothing r order ns = ns
+rechecking_effect effect.Continued r order ns = rechecking_changed r order ns
 
 -- a signal was generated for a process that is there
 abbrev pub rechecking_generated : PendingSignal → Option Process → List ℕ → List ℕ → List ℕ
 rechecking_generated signal None order ns = ns
-rechecking_generated signal (Some r) order ns = rechecking_effect (effect_of r.pid r.life signal r.signals) r (rechecking r.pid order ns)
+rechecking_generated signal (Some r) order ns = rechecking_effect (effect_of r.pid r.life signal r.signals) r order (rechecking r.pid order ns)
 
 -- and for several of these processes, one after another
 unfoldable pub rechecking_all : PendingSignal → List ℕ → List Process → List ℕ → List ℕ → List ℕ

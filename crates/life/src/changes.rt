@@ -20,6 +20,7 @@ use pidalloc::PidTable;
 use pidset::PidSet;
 use posix::Pid;
 use proctable::{Kin, Record};
+use sched::Order;
 
 impl<K: Kin> Machine<K> {
     /// Changes a process that is there in what its parent doesn't see: the process is to be rechecked where it has no
@@ -39,8 +40,9 @@ impl<K: Kin> Machine<K> {
         self.table.change(pid, change)
     }
 
-    /// Changes a process that is there in what its parent sees too: both are to be rechecked. The numbers that it bears
-    /// move with it. Each such change goes by this. The parent; number 0 for none.
+    /// Changes a process that is there in what its parent sees too: both are to be rechecked, the parent where it has
+    /// no place. The numbers that the process bears move with it. Each such change goes by this. The parent; number 0
+    /// for none.
     pub(crate) fn change_seen<F: FnOnce(&mut Record)>(&mut self, pid: Pid, change: F) -> Pid
         requires there { IsSome (process self.old.state pid) }
         requires callable { F.IsAlwaysCallable change }
@@ -49,7 +51,7 @@ impl<K: Kin> Machine<K> {
         ensures rest { self.new.state ≡ record (self.old.state) { processes = self.new.state.processes } }
         ensures parent { result ≡ parent_of pid self.old.state.processes }
         ensures there { result ≢ 0 → IsSome (process self.new.state result) }
-        ensures to_recheck { (me : Process) → process self.old.state pid ≡ Some me → self.new.to_recheck ≡ rechecking_changed me self.old.to_recheck }
+        ensures to_recheck { (me : Process) → process self.old.state pid ≡ Some me → self.new.to_recheck ≡ rechecking_changed me self.old.state.order self.old.to_recheck }
         ensures costs { Costs 2 self.old self.new }
     {
         let Change {
@@ -57,7 +59,7 @@ impl<K: Kin> Machine<K> {
             before,
             after,
         } = self.table.change_seen(pid, change);
-        recheck_with_parent(&mut self.to_recheck, pid, parent);
+        recheck_with_parent(&mut self.to_recheck, &self.order, pid, parent);
         move_numbers(
             &mut self.pids,
             &mut self.foregrounds_unchecked,
@@ -68,16 +70,16 @@ impl<K: Kin> Machine<K> {
     }
 }
 
-/// A process is to be rechecked, and so is its parent. Number 0 is nobody's.
-fn recheck_with_parent(to_recheck: &mut PidSet, pid: Pid, parent: Pid)
+/// A process is to be rechecked, and so is its parent where it has no place. Number 0 is nobody's.
+fn recheck_with_parent(to_recheck: &mut PidSet, order: &Order, pid: Pid, parent: Pid)
     requires few { length to_recheck.old.pids < to_recheck.old.room }
     requires fits { length (with_number pid to_recheck.old.pids) < to_recheck.old.room }
-    ensures pids { to_recheck.new.pids ≡ with_parent parent (with_number pid to_recheck.old.pids) }
+    ensures pids { to_recheck.new.pids ≡ with_parent parent order.now.pids (with_number pid to_recheck.old.pids) }
     ensures room { to_recheck.new.room ≡ to_recheck.old.room }
 {
     to_recheck.insert(pid);
     if parent != Pid::NONE {
-        to_recheck.insert(parent);
+        recheck_later(to_recheck, order, parent);
     }
 }
 

@@ -26,7 +26,7 @@ impl<K: Kin> Machine<K> {
         ensures value { (it : Process) → process self.old.state me.now.pid ≡ Some it → result ≡ move_to it (named_by it me.now.r1 self.old.state.processes) me.now.r2 self.old.state.processes }
         ensures err { OnErr result (self.new.state ≡ self.old.state) }
         ensures ok { IfOk result (λ g. (it r : Process) → process self.old.state me.now.pid ≡ Some it → named_by it me.now.r1 self.old.state.processes ≡ Some r → self.new.state ≡ change self.old.state r.pid (in_group g)) }
-        ensures to_recheck { OnOk result ((it r : Process) → process self.old.state me.now.pid ≡ Some it → named_by it me.now.r1 self.old.state.processes ≡ Some r → self.new.to_recheck ≡ rechecking_changed r self.old.to_recheck) }
+        ensures to_recheck { OnOk result ((it r : Process) → process self.old.state me.now.pid ≡ Some it → named_by it me.now.r1 self.old.state.processes ≡ Some r → self.new.to_recheck ≡ rechecking_changed r self.old.state.order self.old.to_recheck) }
         ensures rechecked_at_error { OnErr result (self.new.to_recheck ≡ self.old.to_recheck) }
         ensures costs { Costs (5 + 2 * length self.old.state.processes) self.old self.new }
     {
@@ -44,7 +44,7 @@ impl<K: Kin> Machine<K> {
         requires there { IsPlaced self.old.state.processes pid }
         ensures refused { (me : Process) → process self.old.state pid ≡ Some me → (me.group == me.pid || is_group_of_others me self.old.state.processes) ≡ true → (result ≡ Err EPERM) × (self.new.state ≡ self.old.state) }
         ensures leads { (me : Process) → process self.old.state pid ≡ Some me → (me.group == me.pid || is_group_of_others me self.old.state.processes) ≡ false → (result ≡ Ok tt) × (self.new.state ≡ change self.old.state pid in_session) }
-        ensures to_recheck { OnOk result ((me : Process) → process self.old.state pid ≡ Some me → self.new.to_recheck ≡ rechecking_changed me self.old.to_recheck) }
+        ensures to_recheck { OnOk result ((me : Process) → process self.old.state pid ≡ Some me → self.new.to_recheck ≡ rechecking_changed me self.old.state.order self.old.to_recheck) }
         ensures rechecked_at_error { OnErr result (self.new.to_recheck ≡ self.old.to_recheck) }
         ensures costs { Costs (8 + 4 * length self.old.state.processes) self.old self.new }
     {

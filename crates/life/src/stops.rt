@@ -4,7 +4,7 @@ ghost use Rattle.std.specs.Prelude.{◌≡◌, ◌≢◌, ◌+◌, ◌≤◌, �
 ghost use Rattle.posix.specs.Processes.{Process};
 ghost use Rattle.posix.specs.Statuses.{continued};
 ghost use Rattle.posix.specs.Tables.{changed};
-ghost use Rattle.posix.specs.States.{process, change};
+ghost use Rattle.posix.specs.States.{process, change, without};
 ghost use Rattle.posix.specs.Regular.{IsPlaced};
 ghost use Rattle.posix.specs.Notices.{noticed_of_change, child_signal as child_signal_of, told_of_change, resumed};
 ghost use Rattle.posix.specs.Delivery.{stop_process as stopping};
@@ -22,7 +22,7 @@ impl<K: Kin> Machine<K> {
     pub fn stop_process(&mut self, pid: Pid, sig: Sig)
         requires { IsPlaced self.old.state.processes pid }
         ensures state { (me : Process) → process self.old.state pid ≡ Some me → self.new.state ≡ (stopping self.old.state me sig).state }
-        ensures to_recheck { (me : Process) → process self.old.state pid ≡ Some me → self.new.to_recheck ≡ rechecking_changed me self.old.to_recheck }
+        ensures to_recheck { (me : Process) → process self.old.state pid ≡ Some me → self.new.to_recheck ≡ rechecking_changed me (without pid self.old.state.order) self.old.to_recheck }
         ensures costs { Costs 3 self.old self.new }
     {
         self.lose_place(pid);
@@ -35,7 +35,7 @@ impl<K: Kin> Machine<K> {
     pub(crate) fn continue_process(&mut self, pid: Pid)
         requires { IsPlaced self.old.state.processes pid }
         ensures state { (me : Process) → process self.old.state pid ≡ Some me → self.new.state ≡ record (self.old.state) { processes = told_of_change continued me (changed pid resumed self.old.state.processes) } }
-        ensures to_recheck { (me : Process) → process self.old.state pid ≡ Some me → self.new.to_recheck ≡ rechecking_changed me self.old.to_recheck }
+        ensures to_recheck { (me : Process) → process self.old.state pid ≡ Some me → self.new.to_recheck ≡ rechecking_changed me self.old.state.order self.old.to_recheck }
         ensures costs { Costs 3 self.old self.new }
     {
         let parent = self.change_seen(pid, |fields| fields.resume());

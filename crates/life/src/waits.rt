@@ -179,7 +179,7 @@ impl<K: Kin> Machine<K> {
     pub fn tell_news(&mut self, pid: Pid)
         requires { IsSome (process self.old.state pid) }
         ensures state { self.new.state ≡ change self.old.state pid news_told }
-        ensures to_recheck { (child : Process) → process self.old.state pid ≡ Some child → self.new.to_recheck ≡ rechecking_changed child self.old.to_recheck }
+        ensures to_recheck { (child : Process) → process self.old.state pid ≡ Some child → self.new.to_recheck ≡ rechecking_changed child self.old.state.order self.old.to_recheck }
         ensures costs { Costs 2 self.old self.new }
     {
         self.change_seen(pid, |fields| fields.tell_news());

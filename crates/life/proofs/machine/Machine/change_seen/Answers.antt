@@ -59,5 +59,5 @@ pub returns-clause-to_recheck : goal.returns-clause-to_recheck
 returns-clause-to_recheck g c = λ me found.
     let its = parent_is c.args.pid _ c.self.inside.table.processes me c.change_seen-parent.ensures.parent (found_in _ _ (state_is c.self.view_is) c.args.pid me found) in
     let named = pid_looked c.args.pid c.args.self.now.state.processes me found in
-    c.recheck_with_parent.ensures.pids ∙ ap (λ (m : MachineView). with_parent c.change_seen-parent.result.parent (with_number c.args.pid m.to_recheck)) c.self.view_is
-    ∙ ap (λ q. with_parent q (with_number c.args.pid c.args.self.now.to_recheck)) its ∙ ap (λ n. with_parent me.parent (with_number n c.args.self.now.to_recheck)) (sym named)
+    c.recheck_with_parent.ensures.pids ∙ ap (λ (m : MachineView). with_parent c.change_seen-parent.result.parent m.state.order (with_number c.args.pid m.to_recheck)) c.self.view_is
+    ∙ ap (λ q. with_parent q c.args.self.now.state.order (with_number c.args.pid c.args.self.now.to_recheck)) its ∙ ap (λ n. with_parent me.parent c.args.self.now.state.order (with_number n c.args.self.now.to_recheck)) (sym named)

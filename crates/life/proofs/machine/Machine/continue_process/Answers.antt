@@ -39,5 +39,5 @@ returns-clause-to_recheck g c = λ me found.
     let its = parent_is c.args.pid parent s.processes me c.change_seen-parent.ensures.parent found in
     c.tell_parent.ensures.to_recheck ∙ ap (λ o. cond (parent == 0) c.change_seen-parent.new.self.to_recheck (rechecking parent o c.change_seen-parent.new.self.to_recheck)) order
     ∙ ap (λ ns. cond (parent == 0) ns (rechecking parent s.order ns)) (c.change_seen-parent.ensures.to_recheck me found)
-    ∙ ap (λ n. cond (n == 0) (rechecking_changed me c.args.self.now.to_recheck) (rechecking n s.order (rechecking_changed me c.args.self.now.to_recheck))) its
+    ∙ ap (λ n. cond (n == 0) (rechecking_changed me s.order c.args.self.now.to_recheck) (rechecking n s.order (rechecking_changed me s.order c.args.self.now.to_recheck))) its
     ∙ parent_twice me.parent s.order (with_number me.pid c.args.self.now.to_recheck)

@@ -46,5 +46,5 @@ pub returns-clause-to_recheck : goal.returns-clause-to_recheck
 returns-clause-to_recheck g c =
     let first = c.change_seen.ensures.costs.regular.first in
     let t = c.lose_place.new.self.state in
-    ap (λ (m : MachineView). m.to_recheck) c.self.view_is ∙ c.change_seen.ensures.to_recheck first.what first.found ∙ ap (λ q. with_parent q (with_number first.what.pid c.lose_place.new.self.to_recheck)) first.parent
+    ap (λ (m : MachineView). m.to_recheck) c.self.view_is ∙ c.change_seen.ensures.to_recheck first.what first.found ∙ ap (λ q. with_parent q c.lose_place.new.self.state.order (with_number first.what.pid c.lose_place.new.self.to_recheck)) first.parent
     ∙ ap (λ q. with_number q c.lose_place.new.self.to_recheck) (pid_looked 1 t.processes first.what first.found) ∙ ap (with_number 1) c.lose_place.ensures.to_recheck ∙ with_lost (is_in 1 c.args.self.now.state.order) 1 c.args.self.now.to_recheck

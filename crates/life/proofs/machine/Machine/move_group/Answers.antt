@@ -79,4 +79,5 @@ returns-clause-to_recheck g c = λ me r found named.
     let word : to_z w64 (of_z w64 c.args.me.now.r1) ≡ c.args.me.now.r1 = search rules in
     let one : it.what ≡ r = let both : Some it.what ≡ Some r = sym it.named ∙ ap (λ z. named_by me z c.self.inside.table.processes) word ∙ ap (λ (s : State). named_by me c.args.me.now.r1 s.processes) same ∙ named in cc in
     let here = ap (lookup c.in-Some.it.pid) c.group_to_join.ensures.looks.processes ∙ ap (λ (f : Snapshot). lookup f.pid c.self.inside.table.processes) it.is ∙ it.found ∙ ap Some one in
-    c.change_seen.ensures.to_recheck r here ∙ ap (rechecking_changed r) (ap (λ (v : MachineView). v.to_recheck) c.self.view_is ∙ c.named-target.ensures.looks.same.to_recheck)
+    c.change_seen.ensures.to_recheck r here ∙ ap (λ (v : MachineView). rechecking_changed r v.state.order v.to_recheck) c.self.view_is
+    ∙ ap (λ (s : State). rechecking_changed r s.order c.named-target.new.self.to_recheck) c.named-target.ensures.looks.same.state ∙ ap (rechecking_changed r c.args.self.now.state.order) c.named-target.ensures.looks.same.to_recheck

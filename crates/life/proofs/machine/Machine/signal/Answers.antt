@@ -78,8 +78,8 @@ returns-in-Continued-clause-to_recheck g c =
     let is = run_as (signalled c.args.signal) c.change.ensures.run c.change.ensures.costs.regular.rising (λ b d r k q. search rules) in
     let effect_is = result_as (λ (q : Process) (e : Effect). e ≡ effect_of c.args.pid q.life c.args.signal q.signals) c.change.ensures.run (λ b d r k q. search rules) it me.found in
     let found = ap (lookup c.args.pid) is ∙ lookup_signalled c.args.signal it c.args.pid s.processes me.found in
-    c.continue_process.ensures.to_recheck (signalled c.args.signal it) found ∙ rechecking_signalled c.args.signal it c.change.new.self.to_recheck ∙ ap (rechecking_changed it) c.change.ensures.to_recheck
-    ∙ ap (λ w. rechecking_effect w it (rechecking c.args.pid s.order c.args.self.now.to_recheck)) (sym c.in-Continued.is ∙ effect_is)
+    c.continue_process.ensures.to_recheck (signalled c.args.signal it) found ∙ ap (λ (t : State). rechecking_changed (signalled c.args.signal it) t.order c.change.new.self.to_recheck) c.change.ensures.rest ∙ rechecking_signalled c.args.signal it s.order c.change.new.self.to_recheck ∙ ap (rechecking_changed it s.order) c.change.ensures.to_recheck
+    ∙ ap (λ w. rechecking_effect w it s.order (rechecking c.args.pid s.order c.args.self.now.to_recheck)) (sym c.in-Continued.is ∙ effect_is)
     ∙ ap (λ o. rechecking_generated c.args.signal o s.order c.args.self.now.to_recheck) (sym me.found)
 
 pub returns-in-Nothing-clause-to_recheck : goal.returns-in-Nothing-clause-to_recheck
@@ -88,5 +88,5 @@ returns-in-Nothing-clause-to_recheck g c =
     let me = named_there c.args.pid s.processes c.requires in
     let it = record (me.what) { pid = c.args.pid } in
     let effect_is = result_as (λ (q : Process) (e : Effect). e ≡ effect_of c.args.pid q.life c.args.signal q.signals) c.change.ensures.run (λ b d r k q. search rules) it me.found in
-    c.change.ensures.to_recheck ∙ ap (λ w. rechecking_effect w it (rechecking c.args.pid s.order c.args.self.now.to_recheck)) (sym c.in-Nothing.is ∙ effect_is)
+    c.change.ensures.to_recheck ∙ ap (λ w. rechecking_effect w it s.order (rechecking c.args.pid s.order c.args.self.now.to_recheck)) (sym c.in-Nothing.is ∙ effect_is)
     ∙ ap (λ o. rechecking_generated c.args.signal o s.order c.args.self.now.to_recheck) (sym me.found)

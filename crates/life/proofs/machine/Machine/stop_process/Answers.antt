@@ -49,8 +49,9 @@ returns-clause-to_recheck g c = λ me found.
     let here = ap (λ (t : State). process t c.args.pid) lost ∙ found in
     let named = pid_looked c.args.pid s.processes me found in
     let its = parent_is c.args.pid parent c.lose_place.new.self.state.processes me c.change_seen-parent.ensures.parent here in
-    let put = c.change_seen-parent.ensures.to_recheck me here ∙ ap (rechecking_changed me) c.lose_place.ensures.to_recheck ∙ ap (λ l. with_parent me.parent l) (ap (λ q. with_number q (cond (is_in c.args.pid s.order) (with_number c.args.pid ns) ns)) named ∙ with_lost (is_in c.args.pid s.order) c.args.pid ns ∙ ap (λ q. with_number q ns) (sym named)) in
+    let put = c.change_seen-parent.ensures.to_recheck me here ∙ ap (rechecking_changed me c.lose_place.new.self.state.order) c.lose_place.ensures.to_recheck ∙ ap (λ l. with_parent me.parent c.lose_place.new.self.state.order l) (ap (λ q. with_number q (cond (is_in c.args.pid s.order) (with_number c.args.pid ns) ns)) named ∙ with_lost (is_in c.args.pid s.order) c.args.pid ns ∙ ap (λ q. with_number q ns) (sym named)) in
     c.tell_parent.ensures.to_recheck ∙ ap (λ o. cond (parent == 0) c.change_seen-parent.new.self.to_recheck (rechecking parent o c.change_seen-parent.new.self.to_recheck)) order
     ∙ ap (λ l. cond (parent == 0) l (rechecking parent c.lose_place.new.self.state.order l)) put
-    ∙ ap (λ q. cond (q == 0) (rechecking_changed me ns) (rechecking q c.lose_place.new.self.state.order (rechecking_changed me ns))) its
+    ∙ ap (λ q. cond (q == 0) (rechecking_changed me c.lose_place.new.self.state.order ns) (rechecking q c.lose_place.new.self.state.order (rechecking_changed me c.lose_place.new.self.state.order ns))) its
     ∙ parent_twice me.parent c.lose_place.new.self.state.order (with_number me.pid ns)
+    ∙ ap (λ (t : State). rechecking_changed me t.order ns) lost
