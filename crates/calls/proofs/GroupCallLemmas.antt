@@ -11,6 +11,7 @@ use Rattle.posix.specs.GroupCalls.{named, move_to, in_group, in_session, is_grou
 use Rattle.posix.specs.Programs.{executed, exec_as, exec_of, exec}
 use Rattle.posix.proofs.ReportLemmas.{some_changed}
 use Rattle.life.proofs.SoundLemmas.{There}
+use Rattle.life.specs.Machines.{MachineView, AreSame}
 
 -- ---- setpgid
 
@@ -57,7 +58,7 @@ pub record HasLed (s now : State) (p : ℕ) (me : Process) : Type 0 where
   pub may : is_session_refused s me ≡ false
   pub state : now ≡ change s p in_session
 
-pub has_led : (s now : State) (p : ℕ) (me : Process) (result : Result (Unit {0}) Errno) (done : Unit {0}) → result ≡ Ok done → (is_session_refused s me ≡ true → (result ≡ Err EPERM) × (now ≡ s))
+pub has_led : {X : Type 0} (s now : State) (p : ℕ) (me : Process) (result : Result (Unit {0}) Errno) (done : Unit {0}) → result ≡ Ok done → (is_session_refused s me ≡ true → (result ≡ Err EPERM) × X)
     → (is_session_refused s me ≡ false → (result ≡ Ok tt) × (now ≡ change s p in_session)) → HasLed s now p me
 has_led s now p me result done ok refuses leads = elim (is_session_refused s me) as (λ b. is_session_refused s me ≡ b → HasLed s now p me) [
   | true ↦ λ t. let no = sym ok ∙ (refuses t).0 in absurd (cc)
@@ -70,10 +71,10 @@ pub record HasNot (s now : State) (me : Process) (why : Errno) : Type 0 where
   pub errno : why ≡ EPERM
   pub state : now ≡ s
 
-pub has_not_led : (s now : State) (p : ℕ) (me : Process) (result : Result (Unit {0}) Errno) (why : Errno) → result ≡ Err why → (is_session_refused s me ≡ true → (result ≡ Err EPERM) × (now ≡ s))
-    → (is_session_refused s me ≡ false → (result ≡ Ok tt) × (now ≡ change s p in_session)) → HasNot s now me why
-has_not_led s now p me result why err refuses leads = elim (is_session_refused s me) as (λ b. is_session_refused s me ≡ b → HasNot s now me why) [
-  | true ↦ λ t. record { refused = t; errno = let both = sym err ∙ (refuses t).0 in cc; state = (refuses t).1 }
+pub has_not_led : (old new : MachineView) (p : ℕ) (me : Process) (result : Result (Unit {0}) Errno) (why : Errno) → result ≡ Err why → (is_session_refused old.state me ≡ true → (result ≡ Err EPERM) × AreSame old new)
+    → (is_session_refused old.state me ≡ false → (result ≡ Ok tt) × (new.state ≡ change old.state p in_session)) → HasNot old.state new.state me why
+has_not_led old new p me result why err refuses leads = elim (is_session_refused old.state me) as (λ b. is_session_refused old.state me ≡ b → HasNot old.state new.state me why) [
+  | true ↦ λ t. record { refused = t; errno = let both = sym err ∙ (refuses t).0 in cc; state = (refuses t).1.state }
   | false ↦ λ t. let no = sym err ∙ (leads t).0 in absurd (cc)
 ] refl
 

@@ -1,5 +1,5 @@
 -- The walk over the members of a process group.
-use Rattle.std.proofs.Common.{◌≡◌, ◌+◌, ◌<◌, ◌≤◌, ◌==◌, ℕ, Bool, true, false, cond, not, ◌&&◌, ◌||◌, refl, ap, sym, ◌∙◌, arith, List, ◌∷◌, filter, length, Option, Some, None, option_map, nat_lt}
+use Rattle.std.proofs.Common.{[], ◌==◌, not, ◌≡◌, ◌+◌, ◌<◌, ◌≤◌, ℕ, Bool, true, false, cond, ◌&&◌, refl, ap, sym, ◌∙◌, arith, List, ◌∷◌, filter, length, Option, Some, None, option_map, nat_lt}
 use Rattle.std.specs.Option.{IfSome, option_map_or}
 use Rattle.std.specs.List.{list_any}
 use Rattle.posix.specs.Processes.{Process, is_zombie}
@@ -81,14 +81,10 @@ pub fewer_members : (group p : ℕ) (rs : List Process) (next after : Option ℕ
     → length (left_of after (members_in group rs)) < length (left_of next (members_in group rs))
 fewer_members group p rs next after at comes e = let l = ap length at.left in rw (comes, e) (omega (arith, l))
 
--- whether one of the members that are left keeps the group from being orphaned
-abbrev pub is_anchored : ℕ → List Process → Option ℕ → Bool
-is_anchored group rs next = list_any (is_anchor rs) (left_of next (members_in group rs))
-
--- the member that comes next does, or one behind it
-pub anchored_here : (group p : ℕ) (rs : List Process) (next after : Option ℕ) → AtMember group p rs → next ≡ Some p → after ≡ first_pid (above p (members_in group rs))
-    → is_anchored group rs next ≡ (option_map_or (is_anchor rs) (lookup p rs) false || is_anchored group rs after)
-anchored_here group p rs next after at comes e = rw (comes, e, at.left, at.found) refl
+-- none pass a test where none are counted
+pub none_pass : (t : Process → Bool) (rs : List Process) → (length (filter t rs) == 0) ≡ not (list_any t rs)
+none_pass t [] = refl
+none_pass t (r ∷ rs) = grind (arith, none_pass t rs)
 
 -- ---- members that pass a test, counted one after another
 

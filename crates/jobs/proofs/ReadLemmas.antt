@@ -1,12 +1,17 @@
 -- What looks come to, one after another, and how many processes a walk has still to read.
-use Rattle.std.proofs.Common.{◌≡◌, ◌∙◌, ℕ, ◌+◌, ◌*◌, ◌<◌, ◌≤◌, arith, List, [], ◌∷◌, length, Option, Some, None}
+use Rattle.std.proofs.Common.{sym, subst, ◌≡◌, ap, ◌∙◌, ℕ, ◌+◌, ◌*◌, ◌<◌, ◌≤◌, arith, List, [], ◌∷◌, length, Option, Some, None}
 use Rattle.std.proofs.Math.Nat.{mul-le-mul_left}
 use Rattle.std.specs.Option.{IfSome}
 use Rattle.std.proofs.lemmas.Bool.{eqb-true}
 use Rattle.std.proofs.lemmas.Bool.Decides.{nat_tests}
 use Rattle.posix.specs.Processes.{Process}
+use Rattle.posix.proofs.WalkLemmas.{numbers_left, fewer_left}
 use Rattle.posix.specs.Tables.{above, left_of, lookup}
 use Rattle.jobs.specs.JobTables.{JobsView, Looks}
+
+-- what a table holds, by what it is
+pub processes_of : {a b : JobsView} → a ≡ b → a.processes ≡ b.processes
+processes_of e = ap (λ (t : JobsView). t.processes) e
 
 -- one look, and then another
 pub looks_then : {m n : ℕ} {s t u : JobsView} → Looks m s t → Looks n t u → Looks (m + n) s u
@@ -46,6 +51,10 @@ above_less p (x ∷ xs) r e = grind (arith, nat_tests, above_left p xs, above_le
 
 pub left_less : (p : ℕ) (rs : List Process) (r : Process) (next : Option ℕ) → lookup p rs ≡ Some r → IfSome next (λ q. p < q) → length (left_of next rs) < length (left_of (Some p) rs)
 left_less p rs r next e h = let a = left_above next p rs h in let b = above_less p rs r e in omega (arith, a, b)
+
+-- behind p, which comes next, fewer numbers are left
+pub fewer_after : (p : ℕ) → p < 2147483648 → (now next : Option ℕ) → now ≡ Some p → IfSome next (λ q. p < q) → numbers_left 2147483648 next < numbers_left 2147483648 now
+fewer_after p low now next comes above = subst (λ o. numbers_left 2147483648 next < numbers_left 2147483648 o) (sym comes) (fewer_left 2147483648 p next low above)
 
 -- ---- a walk that reads 3 + k of each process
 

@@ -38,6 +38,16 @@ pub record Looks (n : ℕ) (old new : JobsView) : Type 0 where
   pub rising : IsRising old.processes
   pub numbers : AreNumbers old.processes
 
+-- an answer of who only looks
+pub record Finds (n : ℕ) (old new : JobsView) (what : Type 0) : Type 0 where
+  pub value : what
+  pub looks : Looks n old new
+
+-- a change that takes no room, and reads at most n slots
+pub record Costs (n : ℕ) (old new : JobsView) : Type 0 where
+  pub room : new.room ≡ old.room
+  pub visits : new.visits ≤ old.visits + n
+
 -- one more slot was read
 abbrev pub looked : (ℕ → ℕ) → JobsView → JobsView
 looked more t = record t { visits = more t.visits }

@@ -1,2 +1,3 @@
 pub mod JobTables
 pub mod Books
+pub mod Counts

@@ -47,7 +47,7 @@ pub struct Books {
 }
 
 /// What the indexes see of a record.
-#[inline]
+#[inline(always)]
 pub(crate) fn of_record(fields: &Record) -> Seen
     ensures { result ≡ record_seen fields.now }
 {
@@ -74,7 +74,7 @@ pub(crate) fn of_snapshot(snapshot: &Snapshot) -> Seen
 }
 
 /// A number as a key.
-#[inline]
+#[inline(always)]
 fn key(pid: Pid) -> u64
     ensures { result ≡ pid }
 {
@@ -82,7 +82,7 @@ fn key(pid: Pid) -> u64
 }
 
 /// The key of a process among those that have something to report.
-#[inline]
+#[inline(always)]
 fn report_key(parent: Pid, it: &Option<Seen>) -> Option<u64>
     ensures { result ≡ report_in parent it.now }
 {
@@ -95,7 +95,7 @@ fn report_key(parent: Pid, it: &Option<Seen>) -> Option<u64>
 }
 
 /// The key of a process among those that are stopped.
-#[inline]
+#[inline(always)]
 fn stopped_key(it: &Option<Seen>) -> Option<u64>
     ensures { result ≡ stopped_in it.now }
 {
@@ -106,7 +106,7 @@ fn stopped_key(it: &Option<Seen>) -> Option<u64>
 }
 
 /// The key of a process among those whose alarm is set.
-#[inline]
+#[inline(always)]
 fn alarm_key(it: &Option<Seen>) -> Option<u64>
     ensures { result ≡ alarm_in it.now }
 {
@@ -146,7 +146,7 @@ impl Books {
 
     /// A process with this parent, which the indexes saw so, or which wasn't there, is seen so, or isn't there:
     /// the one way in which what they hold changes but for adoptions.
-    #[inline]
+    #[inline(always)]
     pub(crate) fn reindex(
         &mut self,
         pid: Pid,
@@ -167,7 +167,7 @@ impl Books {
     }
 
     /// A process that is there was changed so.
-    #[inline]
+    #[inline(always)]
     pub(crate) fn reindex_change(&mut self, pid: Pid, change: &Change)
         requires can { CanMove pid change.now.parent (Some change.now.before) self.old }
         requires pid { 1 ≤ pid }

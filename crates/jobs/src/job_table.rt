@@ -5,14 +5,14 @@ ghost use mathlib.Core.Option.{none};
 ghost use Rattle.std.specs.Borrow.{sem, Lends, follows_so};
 ghost use Rattle.std.specs.List.{list_any};
 ghost use Rattle.posix.specs.Processes.{Process, is_stopped as is_stopped_by};
-ghost use Rattle.posix.specs.Tables.{IsRising, lookup, inserted, removed, children_in, first_pid, next_above, next_sibling as next_sibling_of, adopted, above, parent_of};
+ghost use Rattle.posix.specs.Tables.{lookup, inserted, removed, children_in, first_pid, next_above, next_sibling as next_sibling_of, adopted, above, parent_of};
 ghost use Rattle.posix.specs.Alarms.{is_due};
 ghost use Rattle.posix.specs.Births.{child_of};
 ghost use Rattle.posix.specs.Waits.{reporting_in};
 ghost use Rattle.proctable.specs.Records.{process_of, snapshot_of, own_of, own_row};
 ghost use Rattle.jobs.specs.contracts.job_table.JobTable.{the_row as jobs_row};
 ghost use Rattle.jobs.specs.Books.{seen_of};
-ghost use Rattle.jobs.specs.JobTables.{AreNumbers, IsRun, IsUnseen, lent, looked, Looks};
+ghost use Rattle.jobs.specs.JobTables.{IsRun, IsUnseen, lent, looked, Looks, Finds, Costs};
 
 use crate::books::{Books, Change, of_record, of_snapshot};
 use posix::Pid;
@@ -61,8 +61,7 @@ impl<K: Kin> JobTable<K> {
     pub fn reserve(&mut self) -> Result<(), AllocError>
         ensures ok { OnOk result (0 < self.new.room) }
         ensures room { self.old.room ≤ self.new.room }
-        ensures processes { self.new.processes ≡ self.old.processes }
-        ensures visits { self.new.visits ≡ self.old.visits }
+        ensures rest { self.new ≡ record (self.old) { room = self.new.room } }
     {
         self.table.reserve()?;
         self.books.reserve(self.count + 1)
@@ -88,9 +87,8 @@ impl<K: Kin> JobTable<K> {
     /// The small fields of a process; none where it isn't there.
     #[inline(always)]
     pub fn get(&mut self, pid: Pid) -> Option<Snapshot>
-        ensures value { result ≡ option_map snapshot_of (lookup pid self.old.processes) }
+        ensures finds { Finds 1 self.old self.new (result ≡ option_map snapshot_of (lookup pid self.old.processes)) }
         ensures size { length self.old.processes < 2 ^ 63 }
-        ensures looks { Looks 1 self.old self.new }
     {
         self.table.get(pid)
     }
@@ -117,8 +115,7 @@ impl<K: Kin> JobTable<K> {
     /// child.
     pub fn first_child(&mut self, pid: Pid) -> Option<Pid>
         requires { IsSome (lookup pid self.old.processes) }
-        ensures value { result ≡ first_pid (children_in pid self.old.processes) }
-        ensures looks { Looks 1 self.old self.new }
+        ensures { Finds 1 self.old self.new (result ≡ first_pid (children_in pid self.old.processes)) }
     {
         self.table.first_child(pid)
     }
@@ -127,16 +124,14 @@ impl<K: Kin> JobTable<K> {
     /// there; none where there is no such child.
     pub fn next_sibling(&mut self, pid: Pid) -> Option<Pid>
         requires { IsSome (lookup pid self.old.processes) }
-        ensures value { result ≡ next_sibling_of pid self.old.processes }
-        ensures looks { Looks 1 self.old self.new }
+        ensures { Finds 1 self.old self.new (result ≡ next_sibling_of pid self.old.processes) }
     {
         self.table.next_sibling(pid)
     }
 
     /// The process with the least number above `pid`, which need not be there; none where there is none.
     pub fn next_after(&mut self, pid: Pid) -> Option<Pid>
-        ensures value { result ≡ next_above pid self.old.processes }
-        ensures looks { Looks 1 self.old self.new }
+        ensures { Finds 1 self.old self.new (result ≡ next_above pid self.old.processes) }
     {
         self.table.next_after(pid)
     }
@@ -146,8 +141,7 @@ impl<K: Kin> JobTable<K> {
         requires there { IsSome (lookup to self.old.processes) }
         requires apart { from ≢ to }
         ensures processes { self.new.processes ≡ adopted from to self.old.processes }
-        ensures room { self.new.room ≡ self.old.room }
-        ensures visits { self.new.visits ≤ self.old.visits + 1 + 8 * length (children_in from self.old.processes) + length (children_in to self.old.processes) }
+        ensures costs { Costs (1 + 8 * length (children_in from self.old.processes) + length (children_in to self.old.processes)) self.old self.new }
     {
         self.table.adopt(from, to);
         self.books.reparent(from, to);
@@ -195,8 +189,7 @@ impl<K: Kin> JobTable<K> {
         requires callable { F.IsAlwaysCallable change }
         requires unseen { IsUnseen F.FnOnce change }
         ensures run { IsRun F.FnOnce change self.old.processes self.new.processes pid result }
-        ensures room { self.new.room ≡ self.old.room }
-        ensures visits { self.new.visits ≤ self.old.visits + 1 }
+        ensures costs { Costs 1 self.old self.new }
     {
         let it = self.table.update(pid);
         let before = it.alarm;
@@ -215,8 +208,7 @@ impl<K: Kin> JobTable<K> {
         ensures parent { result.parent ≡ parent_of pid self.old.processes }
         ensures before { option_map seen_of (lookup pid self.old.processes) ≡ Some result.before }
         ensures after { option_map seen_of (lookup pid self.new.processes) ≡ Some result.after }
-        ensures room { self.new.room ≡ self.old.room }
-        ensures visits { self.new.visits ≤ self.old.visits + 2 }
+        ensures costs { Costs 2 self.old self.new }
     {
         let parent = parent_in(&mut self.table, pid);
         let it = self.table.update(pid);
@@ -268,7 +260,6 @@ fn parent_in<K: Kin>(table: &mut K, pid: Pid) -> Pid
     requires { IsSome (lookup pid (K.contents table.old)) }
     ensures value { result ≡ parent_of pid (K.contents table.old) }
     ensures contents { K.contents table.new ≡ K.contents table.old }
-    ensures rising { IsRising (K.contents table.old) }
     ensures room { K.room table.new ≡ K.room table.old }
     ensures visits { K.visits table.new ≤ K.visits table.old + 1 }
 {

@@ -6,7 +6,7 @@ ghost use Rattle.posix.specs.Processes.{Process};
 ghost use Rattle.posix.specs.Tables.{lookup};
 ghost use Rattle.posix.specs.GroupCalls.{is_group_of, group_meant as group_meant_by, can_join as can_join_by, can_move as can_move_by, move_to, is_group_of_others as is_group_of_others_by};
 ghost use Rattle.proctable.specs.Records.{snapshot_of};
-ghost use Rattle.jobs.specs.JobTables.{Looks};
+ghost use Rattle.jobs.specs.JobTables.{Looks, Finds};
 
 use crate::job_table::JobTable;
 use posix::{Errno, Pid};
@@ -26,8 +26,7 @@ fn group_meant(it: &Snapshot, group: u64) -> u64
 impl<K: Kin> JobTable<K> {
     /// The process group of a process, where it has this number and is one of this session.
     fn group_at(&mut self, pid: Pid, session: Pid, group: u64) -> Option<Pid>
-        ensures value { (it : Process) → lookup pid self.old.processes ≡ Some it → result ≡ (if it.session == session && it.group == group then Some group else None) }
-        ensures looks { Looks 1 self.old self.new }
+        ensures { Finds 1 self.old self.new ((it : Process) → lookup pid self.old.processes ≡ Some it → result ≡ (if it.session == session && it.group == group then Some group else None)) }
     {
         let snapshot = self.get(pid)?;
         if snapshot.session == session && u64::from(snapshot.group.number()) == group {
@@ -39,8 +38,7 @@ impl<K: Kin> JobTable<K> {
 
     /// The process group with this number, where it is one of this session, zombies being members.
     pub fn group_of(&mut self, session: Pid, group: u64) -> Option<Pid>
-        ensures value { result ≡ (if is_group_of session group self.old.processes then Some group else None) }
-        ensures looks { Looks (1 + 2 * length self.old.processes) self.old self.new }
+        ensures { Finds (1 + 2 * length self.old.processes) self.old self.new (result ≡ (if is_group_of session group self.old.processes then Some group else None)) }
     {
         let mut next = self.next_after(Pid::NONE);
         while let Some(pid) = next {
@@ -55,8 +53,7 @@ impl<K: Kin> JobTable<K> {
     /// Which process group a process would join, or why not, for a caller of this session: one of its own
     /// number, or one of that session, unless it leads a session or is in another one.
     fn can_join(&mut self, me: &Snapshot, it: &Snapshot, group: u64) -> Result<Pid, Errno>
-        ensures value { (caller r : Process) → me.now ≡ snapshot_of caller → it.now ≡ snapshot_of r → result ≡ can_join_by caller r group self.old.processes }
-        ensures looks { Looks (1 + 2 * length self.old.processes) self.old self.new }
+        ensures { Finds (1 + 2 * length self.old.processes) self.old self.new ((caller r : Process) → me.now ≡ snapshot_of caller → it.now ≡ snapshot_of r → result ≡ can_join_by caller r group self.old.processes) }
     {
         let _ = &self.table;
         if it.session != me.session || it.session == it.pid {
@@ -74,8 +71,7 @@ impl<K: Kin> JobTable<K> {
     /// Which process group a process would move to for a caller, or why not: the caller may move itself, and a
     /// child of its session that hasn't run exec since its birth.
     fn can_move(&mut self, me: &Snapshot, it: &Snapshot, group: u64) -> Result<Pid, Errno>
-        ensures value { (caller r : Process) → me.now ≡ snapshot_of caller → it.now ≡ snapshot_of r → result ≡ can_move_by caller r group self.old.processes }
-        ensures looks { Looks (1 + 2 * length self.old.processes) self.old self.new }
+        ensures { Finds (1 + 2 * length self.old.processes) self.old self.new ((caller r : Process) → me.now ≡ snapshot_of caller → it.now ≡ snapshot_of r → result ≡ can_move_by caller r group self.old.processes) }
     {
         let _ = &self.table;
         if it.pid != me.pid {
@@ -94,8 +90,7 @@ impl<K: Kin> JobTable<K> {
 
     /// Which process group the process that a caller named would move to, or why not.
     fn judge(&mut self, me: &Snapshot, target: &Option<Snapshot>, group: i64) -> Result<Pid, Errno>
-        ensures value { (caller : Process) (named : Option Process) → me.now ≡ snapshot_of caller → target.now ≡ option_map snapshot_of named → result ≡ move_to caller named group self.old.processes }
-        ensures looks { Looks (1 + 2 * length self.old.processes) self.old self.new }
+        ensures { Finds (1 + 2 * length self.old.processes) self.old self.new ((caller : Process) (named : Option Process) → me.now ≡ snapshot_of caller → target.now ≡ option_map snapshot_of named → result ≡ move_to caller named group self.old.processes) }
     {
         let _ = &self.table;
         let Ok(group) = u64::try_from(group) else {
@@ -120,8 +115,7 @@ impl<K: Kin> JobTable<K> {
         group: i64,
     ) -> Result<Pid, Errno>
         requires { IsSome (lookup me self.old.processes) }
-        ensures value { (caller : Process) (named : Option Process) → lookup me self.old.processes ≡ Some caller → target.now ≡ option_map snapshot_of named → result ≡ move_to caller named group self.old.processes }
-        ensures looks { Looks (2 + 2 * length self.old.processes) self.old self.new }
+        ensures { Finds (2 + 2 * length self.old.processes) self.old self.new ((caller : Process) (named : Option Process) → lookup me self.old.processes ≡ Some caller → target.now ≡ option_map snapshot_of named → result ≡ move_to caller named group self.old.processes) }
     {
         let Some(caller) = self.get(me) else {
             unreachable!()
@@ -131,8 +125,7 @@ impl<K: Kin> JobTable<K> {
 
     /// Whether a process is there in the process group with the number of another, zombies included.
     fn is_group_of_others(&mut self, pid: Pid) -> bool
-        ensures value { (it : Process) → lookup pid self.old.processes ≡ Some it → result ≡ is_group_of_others_by it self.old.processes }
-        ensures looks { Looks (4 + 4 * length self.old.processes) self.old self.new }
+        ensures { Finds (4 + 4 * length self.old.processes) self.old self.new ((it : Process) → lookup pid self.old.processes ≡ Some it → result ≡ is_group_of_others_by it self.old.processes) }
     {
         let Some(first) = self.next_member(pid, Pid::NONE) else {
             return false;

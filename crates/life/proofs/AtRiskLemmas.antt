@@ -1,9 +1,8 @@
 -- The process groups that an end may orphan: how they are noted, and how they are gone through.
-use Rattle.std.proofs.Common.{◌≡◌, ℕ, ◌+◌, ◌<◌, ◌≤◌, Bool, true, false, cond, ◌&&◌, ◌||◌, ◌==◌, refl, ap, sym, ◌∙◌, arith, subst, List, [], ◌∷◌, ◌++◌, filter, length, nat_lt, Option, Some, None, slice_get, append_assoc, ⊎_elim}
+use Rattle.std.proofs.Common.{◌≡◌, ℕ, ◌+◌, ◌≤◌, Bool, true, false, cond, ◌&&◌, ◌||◌, ◌==◌, refl, ap, sym, ◌∙◌, arith, subst, List, [], ◌∷◌, ◌++◌, filter, length, nat_lt, Option, Some, None, slice_get, ⊎_elim}
 use Rattle.std.specs.List.{list_any}
-use Rattle.std.specs.Option.{IfSome, IsSome}
-use Rattle.std.proofs.lemmas.Bool.{eqb-true, eq-eqb, ne_eqb, and_parts, or_cases, or_right}
-use Rattle.std.proofs.lemmas.Option.{IfSome_then}
+use Rattle.std.specs.Option.{IsSome}
+use Rattle.std.proofs.lemmas.Bool.{eqb-true, and_parts, or_cases, or_right}
 use Rattle.posix.specs.Processes.{Process, root, is_zombie}
 use Rattle.posix.specs.Numbers.{with_number}
 use Rattle.posix.specs.Tables.{IsRising, lookup, has_pid, is_child, members_in, pids, children_in, left_of, next_sibling}
@@ -18,9 +17,10 @@ use Rattle.posix.specs.Sends.{targets, permitted, sent_by, sent_among, sent}
 use Rattle.posix.proofs.WalkLemmas.{numbered, numbered_one, AtChild}
 use Rattle.posix.proofs.HupAndContLemmas.{still_there, lasts_hup_and_cont_all}
 use Rattle.life.proofs.SoundLemmas.{there, is_there}
+use Rattle.pidset.proofs.WalkLemmas.{IsWalking, walk_of, walk_on, none_left}
 use Rattle.pidset.specs.Numbers.{PidSetView, Rises, numbers_above}
-use Rattle.pidset.proofs.NumberLemmas.{AllAbove, in_above, rises_with, rises_without, in_with, few, IsLeastAbove, next_is}
-use Rattle.posix.proofs.MemberLemmas.{in_first, in_without}
+use Rattle.pidset.proofs.NumberLemmas.{in_above, rises_with, rises_without, in_with, few}
+use Rattle.posix.proofs.MemberLemmas.{in_without}
 use Rattle.life.specs.declared.caller.Caller.{Caller}
 use Rattle.life.specs.Callers.{process_like}
 use Rattle.life.specs.Machines.{IsNoted}
@@ -102,126 +102,6 @@ step_noted rs p c next after at comes e ns noted is n =
     swap false true c = refl
     swap false false c = refl
 
--- ---- going through them
-
--- all lie above n
-pub all_above : (n : ℕ) (ns : List ℕ) → AllAbove n ns → numbers_above n ns ≡ ns
-all_above n [] a = refl
-all_above n (m ∷ ms) a = let less = a.0 in let rest = all_above n ms a.1 in grind (arith, less, rest)
-
--- none of them is n
-none_out : (n : ℕ) (ns : List ℕ) → AllAbove n ns → without n ns ≡ ns
-unfolding without
-none_out n [] a = refl
-none_out n (m ∷ ms) a = rw (ne_eqb m n (λ e. let less = a.0 in omega (arith, e, less))) (ap (λ ns. m ∷ ns) (none_out n ms a.1))
-
-in_middle : (before : List ℕ) (g : ℕ) (rest : List ℕ) → is_in g (before ++ g ∷ rest) ≡ true
-unfolding is_in
-in_middle [] g rest = in_first g rest
-in_middle (b ∷ before) g rest = or_right (b == g) _ (in_middle before g rest)
-
--- in rising numbers those above one are those behind it
-pub above_rest : (before : List ℕ) (g : ℕ) (rest : List ℕ) → Rises (before ++ g ∷ rest) → numbers_above g (before ++ g ∷ rest) ≡ rest
-unfolding Rises
-above_rest [] g rest up = let all = all_above g rest up.0 in grind (arith, all)
-above_rest (b ∷ before) g rest up =
-    let less = in_above b g (before ++ g ∷ rest) up.0 (in_middle before g rest) in
-    let behind = above_rest before g rest up.1 in
-    grind (arith, less, behind)
-
--- and once it has gone
-pub above_gone : (before : List ℕ) (g : ℕ) (rest : List ℕ) → Rises (before ++ g ∷ rest) → numbers_above g (before ++ rest) ≡ rest
-unfolding Rises
-above_gone [] g rest up = all_above g rest up.0
-above_gone (b ∷ before) g rest up =
-    let less = in_above b g (before ++ g ∷ rest) up.0 (in_middle before g rest) in
-    let behind = above_gone before g rest up.1 in
-    grind (arith, less, behind)
-
--- where it goes the others stay
-pub without_one : (before : List ℕ) (g : ℕ) (rest : List ℕ) → Rises (before ++ g ∷ rest) → without g (before ++ g ∷ rest) ≡ before ++ rest
-unfolding Rises without
-without_one [] g rest up = rw (eq-eqb g g refl) (none_out g rest up.0)
-without_one (b ∷ before) g rest up =
-    let less = in_above b g (before ++ g ∷ rest) up.0 (in_middle before g rest) in
-    rw (ne_eqb b g (λ e. omega (arith, e, less))) (ap (λ ns. b ∷ ns) (without_one before g rest up.1))
-
--- what a walk over noted groups knows: those done with, and those left, of which the first comes next
-pub record IsWalking (ns done left : List ℕ) (next : Option ℕ) : Type 0 where
-  pub rising : Rises ns
-  pub parts : done ++ left ≡ ns
-  pub comes : next ≡ slice_get left 0
-
--- the one that comes next is the first of those left
-pub record AtGroup (left : List ℕ) (g : ℕ) : Type 0 where
-  pub rest : List ℕ
-  pub is : left ≡ g ∷ rest
-
-at_group : (left : List ℕ) (g : ℕ) → slice_get left 0 ≡ Some g → AtGroup left g
-at_group [] g e = absurd (cc)
-at_group (n ∷ ns) g e = record { rest = ns; is = let same : n ≡ g = cc in ap (λ k. k ∷ ns) same }
-
--- it begins with all of them
-pub walk_of : (ns : List ℕ) (next : Option ℕ) → Rises ns → next ≡ slice_get ns 0 → IsWalking ns [] ns next
-walk_of ns next up e = record { rising = up; parts = refl; comes = e }
-
--- nothing is left where none comes next
-pub none_left : (left : List ℕ) → slice_get left 0 ≡ None → left ≡ []
-none_left [] e = refl
-none_left (n ∷ ns) e = absurd (cc)
-
--- ---- those are kept that pass a test
-
--- of those noted first the test is still to be made of those left
-pub record IsKeeping (t : ℕ → Bool) (first ns : List ℕ) (next : Option ℕ) : Type 0 where
-  pub done : List ℕ
-  pub left : List ℕ
-  pub walk : IsWalking ns done left next
-  pub kept : done ++ filter t left ≡ filter t first
-
--- one that passes stays
-keeping_stays : (t : ℕ → Bool) (first ns : List ℕ) (next after : Option ℕ) (g : ℕ) → IsKeeping t first ns next → next ≡ Some g → t g ≡ true → after ≡ slice_get (numbers_above g ns) 0 → IsKeeping t first ns after
-keeping_stays t first ns next after g k comes pass e =
-    let at = at_group k.left g (sym k.walk.comes ∙ comes) in
-    let parts : k.done ++ g ∷ at.rest ≡ ns = ap (λ left. k.done ++ left) (sym at.is) ∙ k.walk.parts in
-    record {
-      done = k.done ++ g ∷ [];
-      left = at.rest;
-      walk = record { rising = k.walk.rising; parts = append_assoc k.done (g ∷ []) at.rest ∙ parts; comes = e ∙ ap (λ ms. slice_get ms 0) (ap (numbers_above g) (sym parts) ∙ above_rest k.done g at.rest (subst Rises (sym parts) k.walk.rising)) };
-      kept =
-          let here : filter t (g ∷ at.rest) ≡ g ∷ filter t at.rest = rw pass refl in
-          append_assoc k.done (g ∷ []) (filter t at.rest) ∙ ap (λ ms. k.done ++ ms) (sym here) ∙ ap (λ left. k.done ++ filter t left) (sym at.is) ∙ k.kept;
-    }
-
--- one that fails goes
-keeping_goes : (t : ℕ → Bool) (first ns now : List ℕ) (next after : Option ℕ) (g : ℕ) → IsKeeping t first ns next → next ≡ Some g → t g ≡ false → now ≡ without g ns → after ≡ slice_get (numbers_above g now) 0 → IsKeeping t first now after
-keeping_goes t first ns now next after g k comes fail gone e =
-    let at = at_group k.left g (sym k.walk.comes ∙ comes) in
-    let parts : k.done ++ g ∷ at.rest ≡ ns = ap (λ left. k.done ++ left) (sym at.is) ∙ k.walk.parts in
-    let up = subst Rises (sym parts) k.walk.rising in
-    let others : now ≡ k.done ++ at.rest = gone ∙ ap (without g) (sym parts) ∙ without_one k.done g at.rest up in
-    record {
-      done = k.done;
-      left = at.rest;
-      walk = record { rising = subst Rises (sym gone) (rises_without g ns k.walk.rising); parts = sym others; comes = e ∙ ap (λ ms. slice_get ms 0) (ap (numbers_above g) others ∙ above_gone k.done g at.rest up) };
-      kept =
-          let here : filter t (g ∷ at.rest) ≡ filter t at.rest = rw fail refl in
-          ap (λ ms. k.done ++ ms) (sym here) ∙ ap (λ left. k.done ++ filter t left) (sym at.is) ∙ k.kept;
-    }
-
--- so it goes on
-pub keeping_goes_on : (t : ℕ → Bool) (first ns now : List ℕ) (next after : Option ℕ) (g : ℕ) → IsKeeping t first ns next → next ≡ Some g → now ≡ cond (t g) ns (without g ns) → after ≡ slice_get (numbers_above g now) 0 → IsKeeping t first now after
-keeping_goes_on t first ns now next after g k comes is e = elim (t g) as (λ b. t g ≡ b → now ≡ cond b ns (without g ns) → IsKeeping t first now after) [
-  | true ↦ λ pass same. subst (λ ms. IsKeeping t first ms after) (sym same) (keeping_stays t first ns next after g k comes pass (e ∙ ap (λ ms. slice_get (numbers_above g ms) 0) same))
-  | false ↦ λ fail gone. keeping_goes t first ns now next after g k comes fail gone e
-] refl is
-
--- at its end those are noted that pass
-pub keeping_ends : (t : ℕ → Bool) (first ns : List ℕ) (next : Option ℕ) → IsKeeping t first ns next → next ≡ None → ns ≡ filter t first
-keeping_ends t first ns next k comes =
-    let none = none_left k.left (sym k.walk.comes ∙ comes) in
-    sym k.walk.parts ∙ ap (λ left. k.done ++ left) none ∙ sym (ap (λ left. k.done ++ filter t left) none) ∙ k.kept
-
 -- ---- all get HUP and CONT
 
 pub record IsSignalling (first ns : List ℕ) (before now : List Process) (next : Option ℕ) : Type 0 where
@@ -230,28 +110,18 @@ pub record IsSignalling (first ns : List ℕ) (before now : List Process) (next 
   pub walk : IsWalking ns done left next
   pub todo : hup_and_cont_all left now ≡ hup_and_cont_all first before
 
-pub risk_begins : (ns : List ℕ) (rs : List Process) (next : Option ℕ) → Rises ns → next ≡ slice_get ns 0 → IsSignalling ns ns rs rs next
-risk_begins ns rs next up e = record { done = []; left = ns; walk = walk_of ns next up e; todo = refl }
+pub signalling_begins : (ns : List ℕ) (rs : List Process) (next : Option ℕ) → Rises ns → next ≡ slice_get ns 0 → IsSignalling ns ns rs rs next
+signalling_begins ns rs next up e = record { done = []; left = ns; walk = walk_of ns next up e; todo = refl }
 
-pub risk_goes_on : (first ns : List ℕ) (before now then : List Process) (next after : Option ℕ) (g : ℕ) → IsSignalling first ns before now next → next ≡ Some g → then ≡ hup_and_cont g now → after ≡ slice_get (numbers_above g ns) 0 → IsSignalling first ns before then after
+pub signalling_goes_on : (first ns : List ℕ) (before now then : List Process) (next after : Option ℕ) (g : ℕ) → IsSignalling first ns before now next → next ≡ Some g → then ≡ hup_and_cont g now → after ≡ slice_get (numbers_above g ns) 0 → IsSignalling first ns before then after
 unfolding hup_and_cont_all
-risk_goes_on first ns before now then next after g k comes is e =
-    let at = at_group k.left g (sym k.walk.comes ∙ comes) in
-    let parts : k.done ++ g ∷ at.rest ≡ ns = ap (λ left. k.done ++ left) (sym at.is) ∙ k.walk.parts in
-    record {
-      done = k.done ++ g ∷ [];
-      left = at.rest;
-      walk = record { rising = k.walk.rising; parts = append_assoc k.done (g ∷ []) at.rest ∙ parts; comes = e ∙ ap (λ ms. slice_get ms 0) (ap (numbers_above g) (sym parts) ∙ above_rest k.done g at.rest (subst Rises (sym parts) k.walk.rising)) };
-      todo = ap (hup_and_cont_all at.rest) is ∙ ap (λ left. hup_and_cont_all left now) (sym at.is) ∙ k.todo;
-    }
+signalling_goes_on first ns before now then next after g k comes is e =
+    let on = walk_on ns k.done k.left next after g k.walk comes e in
+    record { done = k.done ++ g ∷ []; left = on.rest; walk = on.walk; todo = ap (hup_and_cont_all on.rest) is ∙ ap (λ left. hup_and_cont_all left now) (sym on.is) ∙ k.todo }
 
-pub risk_ends : (first ns : List ℕ) (before now : List Process) (next : Option ℕ) → IsSignalling first ns before now next → next ≡ None → now ≡ hup_and_cont_all first before
+pub signalling_ends : (first ns : List ℕ) (before now : List Process) (next : Option ℕ) → IsSignalling first ns before now next → next ≡ None → now ≡ hup_and_cont_all first before
 unfolding hup_and_cont_all
-risk_ends first ns before now next k comes = sym (ap (λ left. hup_and_cont_all left now) (none_left k.left (sym k.walk.comes ∙ comes))) ∙ k.todo
-
--- what comes next lies above
-pub lies_above : (g : ℕ) (ns : List ℕ) (after : Option ℕ) → Rises ns → after ≡ slice_get (numbers_above g ns) 0 → IfSome after (λ q. g < q)
-lies_above g ns after up e = rw e (IfSome_then _ {P = IsLeastAbove g ns} (next_is g ns up) (λ q h. h.above))
+signalling_ends first ns before now next k comes = sym (ap (λ left. hup_and_cont_all left now) (none_left k.left (sym k.walk.comes ∙ comes))) ∙ k.todo
 
 -- who is there is there when groups get HUP and CONT
 pub there_hup_and_cont : (gs : List ℕ) (rs : List Process) → IsRising rs → (p : ℕ) → IsSome (lookup p rs) → IsSome (lookup p (hup_and_cont_all gs rs))

@@ -5,9 +5,8 @@ use Rattle.posix.specs.declared.process.Report.TheVariants as found
 use Rattle.posix.specs.declared.target.Target.{Target}
 use Rattle.posix.specs.Processes.{Process}
 use Rattle.posix.specs.Tables.{IsRising, lookup, children_in, first_pid, left_of, next_sibling}
-use Rattle.posix.specs.Waits.{report}
+use Rattle.posix.specs.Waits.{report, look}
 use Rattle.posix.proofs.WalkLemmas.{AtChild, at_child, at_first}
-use Rattle.posix.specs.Waits.{look}
 use Rattle.posix.proofs.WaitLemmas.{scan, scan_is_report, after_look}
 use Rattle.proctable.specs.declared.snapshot.Snapshot.{Snapshot}
 use Rattle.proctable.specs.Records.{snapshot_of}

@@ -3,21 +3,22 @@ use Rattle.std.proofs.Common.{◌≡◌, ◌≢◌, ℕ, Bool, true, false, cond
 use Rattle.std.specs.Option.{IsSome}
 use Rattle.std.specs.Borrow.{MutBor}
 use Rattle.std.specs.Fn.{Once, FnOnceReturnsAtMut}
-use Rattle.std.proofs.lemmas.Bool.{eqb-true, eq-eqb, ne_eqb, cases_eq, cond_both, or_left, or_right, or_parts}
+use Rattle.std.proofs.lemmas.Bool.{eqb-true, eq-eqb, ne_eqb, cases_eq, or_left, or_right, or_parts}
 use Rattle.std.proofs.lemmas.List.{length-map}
 use Rattle.posix.specs.declared.process.PendingSignal.{PendingSignal}
 use Rattle.posix.specs.Processes.{Process}
-use Rattle.posix.specs.Generation.{signalled}
-use Rattle.posix.specs.Notices.{told_of_change}
+use Rattle.posix.specs.declared.process.Effect.TheVariants as effect
+use Rattle.posix.specs.Generation.{signalled, effect_of}
+use Rattle.posix.specs.Statuses.{continued}
+use Rattle.posix.specs.Notices.{told_of_change, noticed_of_change, child_signal, resumed, generated_for}
 use Rattle.posix.specs.Tables.{IsRising, lookup, at, changed, parent_of}
-use Rattle.posix.specs.States.{State, process, change, is_in}
-use Rattle.posix.specs.States.{change as change_of}
+use Rattle.posix.specs.States.{State, process, change, is_in, change as change_of}
 use Rattle.posix.specs.Regular.{IsRegular, IsPlaced}
 use Rattle.posix.proofs.TableLemmas.{pid_looked, changed_absent}
 use Rattle.posix.proofs.MapLemmas.{at_pid, at_keeps}
 use Rattle.posix.proofs.MemberLemmas.{each}
 use Rattle.posix.proofs.RegularLemmas.{Keeps, regular_change}
-use Rattle.posix.proofs.ChangeLemmas.{Lives, regular_lives}
+use Rattle.posix.proofs.ChangeLemmas.{Lives, regular_lives, lookup_signalled, continued_cont, generated_as}
 use Rattle.posix.proofs.TouchLemmas.{Touches, Unseen, touches_shown, touches_unseen}
 use Rattle.posix.proofs.ReportLemmas.{some_changed}
 use Rattle.posix.proofs.FreshLemmas.{fresh_changed}
@@ -32,10 +33,11 @@ use Rattle.jobs.specs.declared.books.Seen.{Seen}
 use Rattle.jobs.specs.Books.{record_seen, seen_of}
 use Rattle.jobs.specs.JobTables.{IsRun}
 use Rattle.jobs.proofs.NumberLemmas.{absent_changed}
-use Rattle.jobs.proofs.SnapshotLemmas.{equals}
+use Rattle.jobs.proofs.RunLemmas.{run_as, parent_is}
+use Rattle.jobs.proofs.SnapshotLemmas.{equals, Named, named_there}
 use Rattle.jobs.proofs.KeptLemmas.{record_found, length_record}
-use Rattle.life.specs.Machines.{HaveParents, IsKept, IsSound, IsListed, IsMachine, Terminals}
-use Rattle.life.specs.Rechecks.{with_numbers, with_parent, rechecking, rechecking_changed}
+use Rattle.life.specs.Machines.{HaveParents, IsKept, IsSound, IsListed, IsMachine, Terminals, MachineView, Costs, Changes, IfThere}
+use Rattle.life.specs.Rechecks.{with_numbers, with_parent, rechecking, rechecking_changed, rechecking_effect, rechecking_generated, slots_of_signal}
 use Rattle.life.specs.Changes.{has_moved, CanMoveNumbers, StaysRegular}
 use Rattle.life.proofs.ParentLemmas.{parents_map}
 use Rattle.life.proofs.SoundLemmas.{kept_map, not_many}
@@ -229,13 +231,19 @@ can_move_numbers s pids places i p b c found regular =
 pub seen_is : (o : Option Process) (r : Process) (w : Seen) → option_map seen_of o ≡ Some w → o ≡ Some r → w ≡ seen_of r
 seen_is o r w e found = let both : Some (seen_of r) ≡ Some w = sym (ap (option_map seen_of) found) ∙ e in cc
 
--- what its result says of the process
-pub result_as : {F T : Type 0} {g : Once F (MutBor Record × Unit {0}) (T × (MutBor Record × Unit {0}))} {change : F} {rs ts : List Process} {p : ℕ} {r : T} (P : Process → T → Type 0) → IsRun g change rs ts p r
-    → ((b c : Record) (r : T) → FnOnceReturnsAtMut g change b r c → (q : ℕ) → P (process_of p q b) r) → (me : Process) → lookup p rs ≡ Some me → P me r
-result_as {rs = rs} {p = p} {r = r} P k did me found =
-    let both : Some (process_of p (parent_of p rs) k.before) ≡ Some me = sym k.found ∙ found in
-    let same : process_of p (parent_of p rs) k.before ≡ me = cc in
-    subst (λ m. P m r) same (did k.before k.after r k.ran (parent_of p rs))
+-- A change was what f does, and its result says this of the process before.
+pub record HasRun {T : Type 0} (f : Process → Process) (P : Process → T → Type 0) (rs ts : List Process) (p : ℕ) (r : T) : Type 0 where
+  pub me : Named p rs
+  pub is : ts ≡ changed p f rs
+  pub says : P (record (me.what) { pid = p }) r
+
+pub has_run : {F T : Type 0} {g : Once F (MutBor Record × Unit {0}) (T × (MutBor Record × Unit {0}))} {change : F} {rs ts : List Process} {p : ℕ} {r : T} (f : Process → Process) (P : Process → T → Type 0) → IsRun g change rs ts p r → IsRising rs → IsSome (lookup p rs)
+    → ((b c : Record) (r : T) → FnOnceReturnsAtMut g change b r c → (q : ℕ) → (process_of p q c ≡ f (process_of p q b)) × P (process_of p q b) r) → HasRun f P rs ts p r
+has_run {rs = rs} {p = p} {r = r} f P k up here did =
+    let me = named_there p rs here in
+    let both : Some (process_of p (parent_of p rs) k.before) ≡ Some (record (me.what) { pid = p }) = sym k.found ∙ me.found in
+    let same : process_of p (parent_of p rs) k.before ≡ record (me.what) { pid = p } = cc in
+    record { me = me; is = run_as f k up (λ b c r ran q. (did b c r ran q).0); says = subst (λ m. P m r) same (did k.before k.after r k.ran (parent_of p rs)).1 }
 
 -- a regular state stays so where the process is changed so that it does
 pub stays_so : {F T : Type 0} {g : Once F (MutBor Record × Unit {0}) (T × (MutBor Record × Unit {0}))} {change : F} (p : ℕ) (f : Process → Process) (s : State) → (IsRegular s → IsRegular (change_of s p f))
@@ -260,10 +268,7 @@ unfolding with_number
 with_twice n [] = grind (arith)
 with_twice n (m ∷ ns) = grind (arith, with_twice n ns)
 
--- also where it is only put in where it has no place, or lost it
-pub rechecking_twice : (p : ℕ) (order ns : List ℕ) → rechecking p order (with_number p ns) ≡ with_number p ns
-rechecking_twice p order ns = cond_both (is_in p order) (with_number p ns) (with_number p (with_number p ns)) (λ l. l ≡ with_number p ns) (λ e. refl) (λ e. with_twice p ns)
-
+-- also where it lost its place
 pub with_lost : (t : Bool) (p : ℕ) (ns : List ℕ) → with_number p (cond t (with_number p ns) ns) ≡ with_number p ns
 with_lost true p ns = with_twice p ns
 with_lost false p ns = refl
@@ -290,3 +295,49 @@ told_signalled w signal r rs = refl
 pub rechecking_signalled : (signal : PendingSignal) (r : Process) (order ns : List ℕ) → rechecking_changed (signalled signal r) order ns ≡ rechecking_changed r order ns
 unfolding signalled
 rechecking_signalled signal r order ns = refl
+
+-- The process p was changed by f, and its parent, if it has one, got notice of it.
+pub told_changed : (p parent w : ℕ) (f : Process → Process) (s mid new : State) (me : Process) → ((r : Process) → (f r).pid ≡ r.pid) → IsRegular s → process s p ≡ Some me → parent ≡ parent_of p s.processes → mid ≡ change s p f
+    → new ≡ cond (parent == 0) mid (change mid parent (noticed_of_change (child_signal p w))) → new ≡ record s { processes = told_of_change w me (changed p f s.processes) }
+unfolding told_of_change
+told_changed p parent w f s mid new me k i found its is told =
+    told ∙ ap (λ (t : State). cond (parent == 0) t (change t parent (noticed_of_change (child_signal p w)))) is
+    ∙ told_or_none parent (change s p f) (noticed_of_change (child_signal p w)) (absent_changed p f k 0 s.processes (nobody_0 s i))
+    ∙ ap (λ q. change (change s p f) q (noticed_of_change (child_signal p w))) (parent_is p parent s.processes me its found)
+    ∙ ap (λ q. change (change s p f) me.parent (noticed_of_change (child_signal q w))) (sym (pid_looked p s.processes me found))
+
+-- so with who is rechecked
+pub rechecked_told : (parent : ℕ) (me : Process) (order ns mid new : List ℕ) → parent ≡ me.parent → mid ≡ rechecking_changed me order ns → new ≡ cond (parent == 0) mid (rechecking parent order mid) → new ≡ rechecking_changed me order ns
+rechecked_told parent me order ns mid new its put told =
+    told ∙ ap (λ l. cond (parent == 0) l (rechecking parent order l)) put
+    ∙ ap (λ q. cond (q == 0) (rechecking_changed me order ns) (rechecking q order (rechecking_changed me order ns))) its
+    ∙ parent_twice me.parent order (with_number me.pid ns)
+
+-- a signal was generated for p, which does nothing more
+pub signal_ends : (signal : PendingSignal) (p : ℕ) (old new : MachineView) (r : Process) → process old.state p ≡ Some (record r { pid = p }) → effect.Nothing ≡ effect_of p r.life signal r.signals → new.state ≡ change old.state p (signalled signal)
+    → new.to_recheck ≡ rechecking p old.state.order old.to_recheck → Costs 1 old new → Changes (slots_of_signal signal.sig) old new (record (old.state) { processes = generated_for signal (process old.state p) old.state.processes }) (rechecking_generated signal (process old.state p) old.state.order old.to_recheck)
+signal_ends signal p old new r found does state list costs = record {
+  state = state ∙ ap (λ rs. record (old.state) { processes = rs }) (sym (generated_as signal p old.state.processes (record r { pid = p }) effect.Nothing found (sym does)));
+  to_recheck = list ∙ ap (λ w. rechecking_effect w (record r { pid = p }) old.state.order (rechecking p old.state.order old.to_recheck)) does ∙ ap (λ o. rechecking_generated signal o old.state.order old.to_recheck) (sym found);
+  costs = record { visits = grind (arith, costs.visits); groups_at_risk = costs.groups_at_risk; regular = costs.regular };
+}
+
+-- or continues it
+pub signal_continues : (signal : PendingSignal) (p : ℕ) (old mid new : MachineView) (r : Process) → process old.state p ≡ Some (record r { pid = p }) → effect.Continued ≡ effect_of p r.life signal r.signals → mid.state ≡ change old.state p (signalled signal)
+    → mid.to_recheck ≡ rechecking p old.state.order old.to_recheck → Costs 1 old mid
+    → IfThere p mid (λ me. Changes 3 mid new (record (mid.state) { processes = told_of_change continued me (changed p resumed mid.state.processes) }) (rechecking_changed me mid.state.order mid.to_recheck))
+    → Changes (slots_of_signal signal.sig) old new (record (old.state) { processes = generated_for signal (process old.state p) old.state.processes }) (rechecking_generated signal (process old.state p) old.state.order old.to_recheck)
+signal_continues signal p old mid new r found does state list costs continues =
+    let s = old.state in
+    let it = record r { pid = p } in
+    let then = continues (signalled signal it) (ap (λ (t : State). process t p) state ∙ lookup_signalled signal it p s.processes found) in
+    let cont : (signal.sig == 18) ≡ true = continued_cont p signal it (sym does) in
+    record {
+      state =
+          then.state ∙ ap (λ (t : State). record t { processes = told_of_change continued (signalled signal it) (changed p resumed t.processes) }) state
+          ∙ ap (λ rs. record s { processes = rs }) (told_signalled continued signal it (changed p resumed (changed p (signalled signal) s.processes)) ∙ sym (generated_as signal p s.processes it effect.Continued found (sym does)));
+      to_recheck =
+          then.to_recheck ∙ ap (λ (t : State). rechecking_changed (signalled signal it) t.order mid.to_recheck) state ∙ rechecking_signalled signal it s.order mid.to_recheck ∙ ap (rechecking_changed it s.order) list
+          ∙ ap (λ w. rechecking_effect w it s.order (rechecking p s.order old.to_recheck)) does ∙ ap (λ o. rechecking_generated signal o s.order old.to_recheck) (sym found);
+      costs = record { visits = rw cont (let one = costs.visits in let more = then.costs.visits in omega (arith, one, more)); groups_at_risk = then.costs.groups_at_risk ∙ costs.groups_at_risk; regular = costs.regular };
+    }

@@ -1,21 +1,20 @@
 -- What a notice of an end, and a record that goes, change in the parts of a machine.
-use Rattle.std.proofs.Common.{◌≡◌, ◌≢◌, ℕ, ◌+◌, ◌≤◌, Bool, true, false, cond, refl, ap, sym, ◌∙◌, arith, subst, List, Option, Some}
-use Rattle.std.specs.Option.{IsSome, option_map_or}
+use Rattle.std.proofs.Common.{◌≡◌, ◌≢◌, ℕ, ◌+◌, ◌≤◌, Bool, true, false, cond, refl, ap, sym, ◌∙◌, arith, subst, List, Option, Some, None, option_map}
+use Rattle.std.specs.Option.{option_map_or}
 use Rattle.posix.specs.declared.process.PendingSignal.{PendingSignal}
 use Rattle.posix.specs.Processes.{Process, is_zombie}
-use Rattle.posix.specs.Tables.{lookup, at, changed, removed}
+use Rattle.posix.specs.Tables.{lookup, at, changed, removed, parent_of}
 use Rattle.posix.specs.States.{State, change}
 use Rattle.posix.specs.Ends.{drops_children, is_dropping, drop_child, notice_of_end}
 use Rattle.posix.specs.Notices.{child_signal, noticed}
 use Rattle.posix.proofs.TableLemmas.{pid_looked, length_removed}
-use Rattle.posix.proofs.MapLemmas.{lookup_on}
+use Rattle.posix.proofs.MapLemmas.{lookup_on, lookup_map}
 use Rattle.posix.proofs.RegularLemmas.{keeps_at, keeps_noticed, regular_as, regular_removed}
 use Rattle.pidalloc.specs.Rows.{Pids}
 use Rattle.pidalloc.specs.Tallies.{IsTallied}
 use Rattle.pidalloc.proofs.TallyLemmas.{can_give_up, tallied_gone}
 use Rattle.sched.specs.Places.{Places}
 use Rattle.life.specs.Machines.{IsSound, CanGo, IsGone}
-use Rattle.life.proofs.SoundLemmas.{there}
 use Rattle.life.proofs.ParentLemmas.{parents_removed}
 
 -- a zombie other than process 1 can go
@@ -65,8 +64,8 @@ sound_gone s p q a c last dropped r i found dead other g most =
     }
 
 -- what was read of the parent says whether it drops the child
-pub drops_is : (parent : ℕ) (rs : List Process) (drops : Bool) → IsSome (lookup parent rs) → ((me : Process) → lookup parent rs ≡ Some me → drops ≡ drops_children me.signals) → drops ≡ is_dropping parent rs
-drops_is parent rs drops some value = let me = there _ some in value me.what me.found ∙ ap (λ (o : Option Process). option_map_or (λ r. drops_children r.signals) o false) (sym me.found)
+pub drops_is : (parent : ℕ) (rs : List Process) (drops : Bool) (me : Process) → lookup parent rs ≡ Some me → drops ≡ drops_children me.signals → drops ≡ is_dropping parent rs
+drops_is parent rs drops me found value = value ∙ ap (λ (o : Option Process). option_map_or (λ r. drops_children r.signals) o false) (sym found)
 
 -- a zombie is one after a notice to another, or to it
 pub zombie_noticed : (parent : ℕ) (signal : PendingSignal) (c : ℕ) (rs : List Process) (it : Process) → lookup c rs ≡ Some it → is_zombie it.life ≡ true → (x : Process) × (lookup c (changed parent (noticed signal) rs) ≡ Some x) × (is_zombie x.life ≡ true)
@@ -76,11 +75,12 @@ zombie_noticed parent signal c rs it found dead =
     (at parent (noticed signal) it, lookup_on (at parent (noticed signal)) k.pid c rs it found, k.zombie it ∙ dead)
 
 -- and whose child it is stays
-pub child_noticed : (parent : ℕ) (signal : PendingSignal) (c : ℕ) (rs : List Process) (it : Process) → lookup c rs ≡ Some it → (x : Process) × (lookup c (changed parent (noticed signal) rs) ≡ Some x) × (x.parent ≡ it.parent)
+pub parent_noticed : (parent : ℕ) (signal : PendingSignal) (c : ℕ) (rs : List Process) → parent_of c (changed parent (noticed signal) rs) ≡ parent_of c rs
 unfolding changed
-child_noticed parent signal c rs it found =
+parent_noticed parent signal c rs =
     let k = keeps_at parent (noticed signal) (keeps_noticed {now = 0} signal) in
-    (at parent (noticed signal) it, lookup_on (at parent (noticed signal)) k.pid c rs it found, k.parent it)
+    ap (λ o. option_map_or (λ (r : Process). r.parent) o 0) (lookup_map (at parent (noticed signal)) k.pid c rs)
+    ∙ elim (lookup c rs) as (λ o. option_map_or (λ (r : Process). r.parent) (option_map (at parent (noticed signal)) o) 0 ≡ option_map_or (λ (r : Process). r.parent) o 0) [ None ↦ refl | Some r ↦ k.parent r ]
 
 -- a notice of an end, by whether the parent drops its children
 pub notice_by : (b : Bool) (s : State) (parent c v : ℕ) → is_dropping parent s.processes ≡ b → notice_of_end s parent c v ≡ cond {A = State} b (drop_child (change s parent (noticed (child_signal c v))) c) (change s parent (noticed (child_signal c v)))

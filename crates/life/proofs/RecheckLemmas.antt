@@ -3,12 +3,12 @@ use Rattle.std.proofs.Common.{◌≡◌, ◌≢◌, ℕ, ◌+◌, ◌<◌, ◌�
 use Rattle.std.specs.List.{AllByRecursion}
 use Rattle.std.specs.Option.{IfSome, IsSome}
 use Rattle.std.proofs.lemmas.Bool.{eqb-true, eq-eqb, ne_eqb, and_parts, or_left, or_right, or_cases, both_ways}
-use Rattle.std.proofs.lemmas.Option.{IfSome_then}
+use Rattle.std.proofs.lemmas.Option.{IfSome_then, same_Some}
 use Rattle.posix.specs.Processes.{Process, first_process}
 use Rattle.posix.specs.Tables.{IsNext, lookup, at, changed, inserted, removed, reparented, adopted}
 use Rattle.posix.specs.States.{World, State, boot, process, is_in, change, lose_place, without}
 use Rattle.posix.specs.Regular.{IsRegular}
-use Rattle.posix.specs.Settle.{can_act, wakes}
+use Rattle.posix.specs.Settle.{can_act, wakes, is_fresh, refreshed, clear_foregrounds}
 use Rattle.posix.specs.Ends.{made_zombie, leave_children_and_die}
 use Rattle.posix.proofs.TableLemmas.{pid_looked, pid_reparented}
 use Rattle.posix.proofs.MapLemmas.{at_pid, some_map}
@@ -20,15 +20,20 @@ use Rattle.posix.proofs.UnseenLemmas.{covers_none}
 use Rattle.posix.proofs.WakeLemmas.{first_has_place}
 use Rattle.pidset.specs.Numbers.{PidSetView, Rises, with_number, numbers_above}
 use Rattle.pidset.proofs.NumberLemmas.{IsLeastAbove, all_in, in_with, rises_with, rises_without, next_is, next_some, few}
-use Rattle.std.proofs.lemmas.Option.{same_Some}
 use Rattle.posix.specs.Terminals.{is_reader}
 use Rattle.posix.specs.Consoles.{Console, with_foreground}
-use Rattle.posix.specs.Settle.{is_fresh, refreshed, clear_foregrounds}
 use Rattle.posix.proofs.ReaderLemmas.{touches_cleared}
 use Rattle.life.specs.Machines.{IsListed, IsWatched, IsReaders, readers_at}
 use Rattle.life.specs.Rechecks.{with_numbers, rechecking, without_gone}
 use Rattle.life.proofs.SoundLemmas.{there}
-use Rattle.life.proofs.AtRiskLemmas.{all_above}
+use Rattle.pidset.proofs.WalkLemmas.{all_above}
+
+-- what a set is, by its parts
+pub pids_of : {a b : PidSetView} → a ≡ b → a.pids ≡ b.pids
+pids_of e = ap (λ (v : PidSetView). v.pids) e
+
+pub room_of : {a b : PidSetView} → a ≡ b → a.room ≡ b.room
+room_of e = ap (λ (v : PidSetView). v.room) e
 
 -- ---- numbers put in
 
@@ -235,7 +240,7 @@ listed_rechecked s p before after sets h asleep is same watched = record {
 -- ---- a record that goes
 
 pub listed_removed : {readers : List PidSetView} (s : State) (c last dropped : ℕ) (it : Process) (before after : PidSetView) → IsRegular s → IsListed s before readers → lookup c s.processes ≡ Some it → IsSome (process s it.parent)
-    → after.pids ≡ without_gone c (Some it.parent) before.pids → after.room ≡ before.room → IsListed (record s { processes = removed c s.processes; last_pid = last; dropped = dropped }) after readers
+    → after.pids ≡ without_gone c it.parent before.pids → after.room ≡ before.room → IsListed (record s { processes = removed c s.processes; last_pid = last; dropped = dropped }) after readers
 listed_removed s c last dropped it before after i h found parent is same =
     let t = record s { processes = removed c s.processes; last_pid = last; dropped = dropped } in
     listed_on s t before after (it.parent ∷ []) h (touches_removed s c it.parent last dropped i.rising (rw found refl)) (refl, refl)

@@ -21,14 +21,9 @@ use Rattle.posix.specs.Notices.{ignores_stops, noticed_of_change, child_signal, 
 use Rattle.posix.specs.Sends.{is_target, targets, permitted, sending_permitted, sending_found, sending, sent_by, sent_among}
 use Rattle.posix.proofs.MapLemmas.{at_keeps, filter_map}
 use Rattle.posix.proofs.WalkLemmas.{numbered, numbered_one, numbered_none, rest_of_walk, walk_splits}
-use Rattle.posix.specs.States.{State}
 use Rattle.proctable.specs.declared.snapshot.Snapshot.{Snapshot}
 use Rattle.proctable.specs.Records.{snapshot_of}
 use Rattle.life.specs.Rechecks.{rechecking_generated, rechecking_all, rechecking_signalled}
-
--- the state with these processes
-abbrev pub with_processes : State → List Process → State
-with_processes s rs = record s { processes = rs }
 
 -- ---- what a sender asks of a process
 

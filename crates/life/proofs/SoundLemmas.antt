@@ -160,18 +160,17 @@ first_alone = refl
 -- a machine with process 1 alone
 pub sound_first : (w : World) (cs : List Console) (q : Pids) (b : Places) → cs ≡ replicate w.consoles unused_console → 2 ≤ w.pidmax → q ≡ born_in (unborne_table w.pidmax) 1 1 1 → q.pidmax ≡ w.pidmax → IsPids q → b.pids ≡ 1 ∷ [] → w.pidmax < b.room
     → IsSound (state_of w (inserted first_process []) cs q b 1 0 0 false) q b
-sound_first w cs q b unused most bore same table order room =
-    record {
-      regular = regular_as (boot w) _ refl first_alone order refl unused (regular_first w (omega (arith, most)));
-      parents = rw first_alone parents_first;
-      counted = rw first_alone (omega arith);
-      kept = record {
-        greatest = same;
-        table = table;
-        tallied = subst (λ x. IsTallied x (inserted first_process [])) (sym bore) (tallied_born (unborne_table w.pidmax) first_process [] (length-replicate _ _) (tallied_unborne w.pidmax));
-        room = room;
-      };
-    }
+sound_first w cs q b unused most bore same table order room = record {
+  regular = regular_as (boot w) _ refl first_alone order refl unused (regular_first w (omega (arith, most)));
+  parents = rw first_alone parents_first;
+  counted = rw first_alone (omega arith);
+  kept = record {
+    greatest = same;
+    table = table;
+    tallied = subst (λ x. IsTallied x (inserted first_process [])) (sym bore) (tallied_born (unborne_table w.pidmax) first_process [] (length-replicate _ _) (tallied_unborne w.pidmax));
+    room = room;
+  };
+}
 
 -- and it is the machine at boot
 pub first_is_boot : (w : World) (cs : List Console) (q : Pids) (b : Places) → cs ≡ replicate w.consoles unused_console → q.last ≡ 1 → b.pids ≡ 1 ∷ [] → state_of w (inserted first_process []) cs q b 1 0 0 false ≡ boot w

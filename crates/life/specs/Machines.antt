@@ -2,7 +2,7 @@
 use Rattle.std.specs.Prelude.{◌≡◌, ◌≢◌, ℕ, ◌+◌, ◌<◌, ◌≤◌, Bool, true, false, List, [], length, slice_get, Some, IsSome}
 use Rattle.posix.specs.Processes.{Process}
 use Rattle.posix.specs.Tables.{lookup, children_in}
-use Rattle.posix.specs.States.{World, State, boot, process, is_in}
+use Rattle.posix.specs.States.{World, State, boot, process, has_place, is_in}
 use Rattle.posix.specs.Regular.{IsRegular}
 use Rattle.std.specs.Option.{option_map_or}
 use Rattle.std.specs.List.{AllByRecursion}
@@ -58,6 +58,51 @@ pub record Costs (n : ℕ) (old new : MachineView) : Type 0 where
   pub groups_at_risk : new.groups_at_risk ≡ old.groups_at_risk
   pub regular : IsRegular old.state
 
+-- an answer of who only looks
+pub record Finds (n : ℕ) (old new : MachineView) (what : Type 0) : Type 0 where
+  pub value : what
+  pub looks : Looks n old new
+
+-- Whoever notes groups as those that an end may orphan changes nothing else, and reads at most n slots.
+pub record Notes (n : ℕ) (old new : MachineView) : Type 0 where
+  pub state : new.state ≡ old.state
+  pub to_recheck : new.to_recheck ≡ old.to_recheck
+  pub foregrounds_unchecked : new.foregrounds_unchecked ≡ old.foregrounds_unchecked
+  pub readers : new.readers ≡ old.readers
+  pub visits : new.visits ≤ old.visits + n
+  pub regular : IsRegular old.state
+
+-- a change after which the state is this, and these are to be rechecked
+pub record Changes (n : ℕ) (old new : MachineView) (s : State) (ns : List ℕ) : Type 0 where
+  pub state : new.state ≡ s
+  pub to_recheck : new.to_recheck ≡ ns
+  pub costs : Costs n old new
+
+-- Instructions were run of p: who is to be rechecked stays where p has a place, and it costs one slot.
+pub record Runs (p : ℕ) (old new : MachineView) : Type 0 where
+  pub to_recheck : has_place old.state p ≡ true → new.to_recheck ≡ old.to_recheck
+  pub foregrounds_unchecked : new.foregrounds_unchecked ≡ old.foregrounds_unchecked
+  pub costs : Costs 1 old new
+
+-- p is there
+abbrev pub IsThere : ℕ → MachineView → Type 0
+IsThere p m = IsSome (process m.state p)
+
+-- where p is there, this holds of its record
+abbrev pub IfThere : ℕ → MachineView → (Process → Type 0) → Type 0
+IfThere p m holds = (r : Process) → process m.state p ≡ Some r → holds r
+
+-- so it is of a console with this index, where there is one
+abbrev pub IfConsole : ℕ → MachineView → (Console → Type 0) → Type 0
+IfConsole k m holds = (c : Console) → slice_get m.state.consoles k ≡ Some c → holds c
+
+-- the state with these processes, and with these consoles
+abbrev pub with_processes : State → List Process → State
+with_processes s rs = record s { processes = rs }
+
+abbrev pub with_consoles : State → List Console → State
+with_consoles s cs = record s { consoles = cs }
+
 -- The rows count which numbers the processes bear, and each number can be given a place.
 pub record IsKept (pidmax : ℕ) (rs : List Process) (pids : Pids) (places : Places) : Type 0 where
   pub greatest : pids.pidmax ≡ pidmax
@@ -90,6 +135,14 @@ pub record IsWatched (s : State) (to_recheck : List ℕ) (readers : List PidSetV
   pub known : (k p : ℕ) (c : Console) (r : Process) → slice_get s.consoles k ≡ Some c → process s p ≡ Some r → is_reader c.session r ≡ true → is_in p s.order ≡ false → is_in p to_recheck ≡ false → is_in p (readers_at k readers) ≡ true
   pub each : AllByRecursion (IsReaders s.world.pidmax) readers
   pub many : length readers ≡ s.world.consoles
+
+-- so it is in a machine
+abbrev pub AreWatched : MachineView → Type 0
+AreWatched m = IsWatched m.state m.to_recheck m.readers
+
+-- there is room for one more in each of these sets
+abbrev pub HaveRoom : List PidSetView → Type 0
+HaveRoom sets = (k : ℕ) (set : PidSetView) → slice_get sets k ≡ Some set → length set.pids < set.room
 
 -- Whoever has to be given a place is to be rechecked, each of those is there, and there is room for all numbers; and
 -- whoever waits to read is known.

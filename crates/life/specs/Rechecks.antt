@@ -12,6 +12,7 @@ use Rattle.posix.specs.Generation.{effect_of}
 use Rattle.posix.specs.Notices.{generated_for}
 use Rattle.posix.specs.Sends.{permitted, sent_by}
 use Rattle.pidset.specs.Numbers.{with_number}
+use Rattle.life.specs.Machines.{MachineView}
 
 -- these numbers put in
 unfoldable pub with_numbers : List ℕ → List ℕ → List ℕ
@@ -29,6 +30,13 @@ with_parent parent order ns = if parent == 0 then ns else rechecking parent orde
 -- a child has changed in what its parent sees: both are rechecked
 abbrev pub rechecking_changed : Process → List ℕ → List ℕ → List ℕ
 rechecking_changed r order ns = with_parent r.parent order (with_number r.pid ns)
+
+-- so in a machine
+abbrev pub rechecks : ℕ → MachineView → List ℕ
+rechecks p m = rechecking p m.state.order m.to_recheck
+
+abbrev pub rechecks_changed : Process → MachineView → List ℕ
+rechecks_changed r m = rechecking_changed r m.state.order m.to_recheck
 
 abbrev pub rechecking_effect : Effect → Process → List ℕ → List ℕ → List ℕ
 rechecking_effect effect.Nothing r order ns = ns
@@ -63,6 +71,5 @@ slots_of_send None = 0
 slots_of_send (Some n) = slots_of_signal n
 
 -- where the record of p has gone, whose parent this was, the parent is rechecked, and p no more
-abbrev pub without_gone : ℕ → Option ℕ → List ℕ → List ℕ
-without_gone p None ns = ns
-without_gone p (Some parent) ns = without p (with_number parent ns)
+abbrev pub without_gone : ℕ → ℕ → List ℕ → List ℕ
+without_gone p parent ns = without p (with_number parent ns)

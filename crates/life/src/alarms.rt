@@ -6,8 +6,8 @@ ghost use Rattle.posix.specs.States.{process, change};
 ghost use Rattle.posix.specs.Tables.{IsNext};
 ghost use Rattle.posix.specs.Regular.{IsPlaced, IsRegular, IsAhead};
 ghost use Rattle.posix.specs.Alarms.{most_ticks, ticks_left as ticks_left_of, due_in as due_in_ticks, with_alarm, is_due, ring_at, ring_all, has_alarms, pass_time as passing_time};
-ghost use Rattle.life.specs.Rechecks.{rechecking};
-ghost use Rattle.life.specs.Machines.{Costs};
+ghost use Rattle.life.specs.Rechecks.{rechecks};
+ghost use Rattle.life.specs.Machines.{Changes, IsThere, IfThere, with_processes};
 
 use crate::machine::Machine;
 use posix::Pid;
@@ -20,11 +20,9 @@ impl<K: Kin> Machine<K> {
         requires there { IsPlaced self.old.state.processes pid }
         requires few { ticks ≤ most_ticks }
         requires time { self.old.state.ticks + most_ticks < 2 ^ 64 }
-        ensures left { (me : Process) → process self.old.state pid ≡ Some me → result ≡ ticks_left_of self.old.state.ticks me.alarm }
+        ensures left { IfThere pid self.old (λ me. result ≡ ticks_left_of self.old.state.ticks me.alarm) }
         ensures few { result ≤ most_ticks }
-        ensures state { self.new.state ≡ change self.old.state pid (with_alarm (due_in_ticks self.old.state.ticks ticks)) }
-        ensures to_recheck { self.new.to_recheck ≡ rechecking pid self.old.state.order self.old.to_recheck }
-        ensures costs { Costs 1 self.old self.new }
+        ensures changes { Changes 1 self.old self.new (change self.old.state pid (with_alarm (due_in_ticks self.old.state.ticks ticks))) (rechecks pid self.old) }
     {
         let due = due_in(self.ticks, ticks);
         let before = self.change(pid, |fields| {
@@ -37,11 +35,9 @@ impl<K: Kin> Machine<K> {
 
     /// The alarm of a process that is there rings if it is due at the next tick.
     fn ring(&mut self, pid: Pid)
-        requires there { IsSome (process self.old.state pid) }
+        requires there { IsThere pid self.old }
         requires time { self.old.state.ticks + 1 < 2 ^ 64 }
-        ensures state { self.new.state ≡ change self.old.state pid (ring_at (self.old.state.ticks + 1)) }
-        ensures to_recheck { self.new.to_recheck ≡ rechecking pid self.old.state.order self.old.to_recheck }
-        ensures costs { Costs 1 self.old self.new }
+        ensures { Changes 1 self.old self.new (change self.old.state pid (ring_at (self.old.state.ticks + 1))) (rechecks pid self.old) }
     {
         let now = self.ticks + 1;
         self.change(pid, |fields| fields.ring_at(pid, now));
@@ -50,7 +46,7 @@ impl<K: Kin> Machine<K> {
     /// Each alarm that is due at the next tick rings.
     fn ring_all(&mut self)
         requires { self.old.state.ticks + 1 < 2 ^ 64 }
-        ensures state { self.new.state ≡ record (self.old.state) { processes = ring_all (self.old.state.ticks + 1) self.old.state.processes } }
+        ensures state { self.new.state ≡ with_processes self.old.state (ring_all (self.old.state.ticks + 1) self.old.state.processes) }
         ensures quiet { has_alarms self.old.state ≡ false → self.new ≡ self.old }
         ensures regular { IsRegular self.old.state }
     {
@@ -76,9 +72,7 @@ impl<K: Kin> Machine<K> {
     pub fn pass_time(&mut self)
         requires { self.old.state.ticks + 1 < 2 ^ 64 }
         ensures state { self.new.state ≡ passing_time self.old.state }
-        ensures visits { has_alarms self.old.state ≡ false → self.new.visits ≡ self.old.visits }
-        ensures to_recheck { has_alarms self.old.state ≡ false → self.new.to_recheck ≡ self.old.to_recheck }
-        ensures foregrounds_unchecked { has_alarms self.old.state ≡ false → self.new.foregrounds_unchecked ≡ self.old.foregrounds_unchecked }
+        ensures quiet { has_alarms self.old.state ≡ false → self.new ≡ record (self.old) { state = self.new.state } }
     {
         self.ring_all();
         self.ticks += 1;

@@ -7,7 +7,7 @@ ghost use Rattle.posix.specs.Births.{born};
 ghost use Rattle.posix.specs.Tables.{children_in};
 ghost use Rattle.posix.specs.Regular.{IsPlaced};
 ghost use Rattle.pidset.specs.Numbers.{with_number};
-ghost use Rattle.life.specs.Machines.{Costs};
+ghost use Rattle.life.specs.Machines.{Costs, AreSame, IfThere};
 
 use crate::machine::Machine;
 use posix::Pid;
@@ -29,10 +29,9 @@ impl<K: Kin> Machine<K> {
         requires parent { IsPlaced self.old.state.processes parent }
         requires child { next_pid_of self.old.state ≡ Some child }
         requires births { self.old.state.births + 1 < 2 ^ 64 }
-        ensures ok { OnOk result ((me : Process) → process self.old.state parent ≡ Some me → self.new.state ≡ born self.old.state me child) }
-        ensures err { OnErr result (self.new.state ≡ self.old.state) }
+        ensures ok { OnOk result (IfThere parent self.old (λ me. self.new.state ≡ born self.old.state me child)) }
+        ensures err { OnErr result (AreSame self.old self.new) }
         ensures to_recheck { OnOk result (self.new.to_recheck ≡ with_number child (with_number parent self.old.to_recheck)) }
-        ensures rechecked_at_error { OnErr result (self.new.to_recheck ≡ self.old.to_recheck) }
         ensures costs { Costs (6 + length (children_in parent self.old.state.processes)) self.old self.new }
     {
         self.table.reserve()?;

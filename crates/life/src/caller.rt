@@ -7,7 +7,7 @@ ghost use Rattle.posix.specs.Regular.{IsRegular};
 ghost use Rattle.posix.specs.Targets.{target_in};
 ghost use Rattle.proctable.specs.Records.{snapshot_of, own_of};
 ghost use Rattle.life.specs.Callers.{caller_of};
-ghost use Rattle.life.specs.Machines.{Looks};
+ghost use Rattle.life.specs.Machines.{Finds, IsThere};
 
 use crate::machine::Machine;
 use creds::Creds;
@@ -58,10 +58,9 @@ impl Caller {
 impl<K: Kin> Machine<K> {
     /// A process that is there as the caller of a call. Nothing changes.
     pub fn caller(&mut self, pid: Pid) -> Caller
-        requires { IsSome (process self.old.state pid) }
+        requires { IsThere pid self.old }
         ensures pid { result.pid ≡ pid }
-        ensures value { IfSome (process self.old.state pid) (λ me. result ≡ caller_of me) }
-        ensures looks { Looks 2 self.old self.new }
+        ensures finds { Finds 2 self.old self.new (IfSome (process self.old.state pid) (λ me. result ≡ caller_of me)) }
     {
         let Some(snapshot) = self.table.get(pid) else {
             unreachable!()

@@ -5,7 +5,7 @@ ghost use Rattle.posix.specs.Processes.{Process, is_zombie as is_zombie_of};
 ghost use Rattle.posix.specs.States.{process};
 ghost use Rattle.posix.specs.Regular.{IsRegular};
 ghost use Rattle.life.specs.Censuses.{census_of};
-ghost use Rattle.life.specs.Machines.{Looks};
+ghost use Rattle.life.specs.Machines.{Finds, IfThere};
 
 use crate::machine::Machine;
 use posix::{Life, Pid};
@@ -29,8 +29,7 @@ pub struct Census {
 impl<K: Kin> Machine<K> {
     /// Counts the processes. Nothing changes.
     pub fn census(&mut self) -> Census
-        ensures value { result ≡ census_of self.old.state }
-        ensures looks { Looks (1 + 2 * length self.old.state.processes) self.old self.new }
+        ensures { Finds (1 + 2 * length self.old.state.processes) self.old self.new (result ≡ census_of self.old.state) }
     {
         let mut living = 0;
         let mut zombies = 0;
@@ -54,11 +53,10 @@ impl<K: Kin> Machine<K> {
 
     /// Whether a process is a zombie.
     fn is_zombie(&mut self, pid: Pid) -> bool
-        ensures value { (it : Process) → process self.old.state pid ≡ Some it → result ≡ is_zombie_of it.life }
+        ensures finds { Finds 1 self.old self.new (IfThere pid self.old (λ it. result ≡ is_zombie_of it.life)) }
         ensures size { length self.old.state.processes < 2 ^ 63 }
-        ensures looks { Looks 1 self.old self.new }
     {
-        let Some(snapshot) = self.snapshot(pid) else {
+        let Some(snapshot) = self.table.get(pid) else {
             return false;
         };
         matches!(snapshot.life, Life::Zombie(_))

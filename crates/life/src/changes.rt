@@ -9,9 +9,9 @@ ghost use Rattle.posix.specs.Regular.{IsRegular};
 ghost use Rattle.pidalloc.specs.Rows.{regrouped};
 ghost use Rattle.pidset.specs.Numbers.{with_number};
 ghost use Rattle.jobs.specs.JobTables.{IsRun, IsUnseen};
-ghost use Rattle.life.specs.Rechecks.{rechecking, rechecking_changed, with_parent};
+ghost use Rattle.life.specs.Rechecks.{rechecks, rechecks_changed, with_parent};
 ghost use Rattle.life.specs.Changes.{StaysRegular, CanMoveNumbers, has_moved};
-ghost use Rattle.life.specs.Machines.{Costs};
+ghost use Rattle.life.specs.Machines.{Costs, Changes, IsThere, IfThere, with_processes};
 
 use crate::machine::Machine;
 use crate::rechecks::recheck_later;
@@ -26,15 +26,13 @@ impl<K: Kin> Machine<K> {
     /// Changes a process that is there in what its parent doesn't see: the process is to be rechecked where it has no
     /// place. Each such change goes by this, but a loan ([`Machine::own`]).
     pub(crate) fn change<T, F: FnOnce(&mut Record) -> T>(&mut self, pid: Pid, change: F) -> T
-        requires there { IsSome (process self.old.state pid) }
+        requires there { IsThere pid self.old }
         requires callable { F.IsAlwaysCallable change }
         requires unseen { IsUnseen F.FnOnce change }
         requires regular { StaysRegular F.FnOnce change self.old.state pid }
         ensures run { IsRun F.FnOnce change self.old.state.processes self.new.state.processes pid result }
-        ensures rest { self.new.state ≡ record (self.old.state) { processes = self.new.state.processes } }
-        ensures to_recheck { self.new.to_recheck ≡ rechecking pid self.old.state.order self.old.to_recheck }
+        ensures changes { Changes 1 self.old self.new (with_processes self.old.state self.new.state.processes) (rechecks pid self.old) }
         ensures foregrounds_unchecked { self.new.foregrounds_unchecked ≡ self.old.foregrounds_unchecked }
-        ensures costs { Costs 1 self.old self.new }
     {
         recheck_later(&mut self.to_recheck, &self.order, pid);
         self.table.change(pid, change)
@@ -44,14 +42,14 @@ impl<K: Kin> Machine<K> {
     /// no place. The numbers that the process bears move with it. Each such change goes by this. The parent; number 0
     /// for none.
     pub(crate) fn change_seen<F: FnOnce(&mut Record)>(&mut self, pid: Pid, change: F) -> Pid
-        requires there { IsSome (process self.old.state pid) }
+        requires there { IsThere pid self.old }
         requires callable { F.IsAlwaysCallable change }
         requires regular { StaysRegular F.FnOnce change self.old.state pid }
         ensures run { IsRun F.FnOnce change self.old.state.processes self.new.state.processes pid tt }
-        ensures rest { self.new.state ≡ record (self.old.state) { processes = self.new.state.processes } }
+        ensures rest { self.new.state ≡ with_processes self.old.state self.new.state.processes }
         ensures parent { result ≡ parent_of pid self.old.state.processes }
-        ensures there { result ≢ 0 → IsSome (process self.new.state result) }
-        ensures to_recheck { (me : Process) → process self.old.state pid ≡ Some me → self.new.to_recheck ≡ rechecking_changed me self.old.state.order self.old.to_recheck }
+        ensures there { result ≢ 0 → IsThere result self.new }
+        ensures to_recheck { IfThere pid self.old (λ me. self.new.to_recheck ≡ rechecks_changed me self.old) }
         ensures costs { Costs 2 self.old self.new }
     {
         let Change {
@@ -74,8 +72,7 @@ impl<K: Kin> Machine<K> {
 fn recheck_with_parent(to_recheck: &mut PidSet, order: &Order, pid: Pid, parent: Pid)
     requires few { length to_recheck.old.pids < to_recheck.old.room }
     requires fits { length (with_number pid to_recheck.old.pids) < to_recheck.old.room }
-    ensures pids { to_recheck.new.pids ≡ with_parent parent order.now.pids (with_number pid to_recheck.old.pids) }
-    ensures room { to_recheck.new.room ≡ to_recheck.old.room }
+    ensures { to_recheck.new ≡ record (to_recheck.old) { pids = with_parent parent order.now.pids (with_number pid to_recheck.old.pids) } }
 {
     to_recheck.insert(pid);
     if parent != Pid::NONE {

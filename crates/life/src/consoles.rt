@@ -13,7 +13,7 @@ ghost use Rattle.posix.specs.Settle.{wakes, refreshed, clear_foregrounds as clea
 ghost use Rattle.posix.specs.Step.{key as keying};
 ghost use Rattle.posix.specs.Regular.{IsRegular};
 ghost use Rattle.pidset.specs.Numbers.{numbers_above};
-ghost use Rattle.life.specs.Machines.{IsReaders, IsWatched, readers_at, Looks, Costs};
+ghost use Rattle.life.specs.Machines.{Costs, Finds, IsThere, IfThere, with_processes, with_consoles, IfConsole, AreWatched, HaveRoom, IsReaders, readers_at};
 ghost use Rattle.life.specs.Rechecks.{rechecking_members};
 ghost use Rattle.pidset.specs.Numbers.{PidSetView};
 ghost use Rattle.posix.specs.declared.process.Blocked.TheVariants as blocked;
@@ -83,7 +83,7 @@ fn terminal_index(consoles: &[Console], session: Pid) -> Option<usize>
 
 /// A process is among those who may wait to read from the console with this index; nobody is new where there is none.
 fn add_reader(readers: &mut Vec<PidSet>, console_index: Option<usize>, pid: Pid)
-    requires { (k : ℕ) (set : PidSetView) → slice_get readers.old.items k ≡ Some set → length set.pids < set.room }
+    requires { HaveRoom readers.old.items }
     ensures { IsKnownBy console_index pid readers.old.items readers.new.items }
 {
     let Some(console_index) = console_index else {
@@ -167,8 +167,7 @@ impl<K: Kin> Machine<K> {
 
     /// The process group with this number, where a process of the session is in it, zombies being members.
     pub fn group_of(&mut self, session: Pid, group: u64) -> Option<Pid>
-        ensures value { result ≡ (if is_group_of session group self.old.state.processes then Some group else None) }
-        ensures looks { Looks (1 + 2 * length self.old.state.processes) self.old self.new }
+        ensures { Finds (1 + 2 * length self.old.state.processes) self.old self.new (result ≡ (if is_group_of session group self.old.state.processes then Some group else None)) }
     {
         self.table.group_of(session, group)
     }
@@ -178,9 +177,8 @@ impl<K: Kin> Machine<K> {
     /// The index of the console that a process without a place reads from, where it is in a read and its session has
     /// a terminal.
     fn reads_from(&mut self, pid: Pid) -> Option<usize>
-        ensures value { (r : Process) → process self.old.state pid ≡ Some r → r.blocked ≡ Some blocked.Read → has_place_in self.old.state pid ≡ false → IsTerminalIndex r.session self.old.state.consoles result }
-        ensures there { IsSome result → IsSome (process self.old.state pid) }
-        ensures looks { Looks 1 self.old self.new }
+        ensures finds { Finds 1 self.old self.new (IfThere pid self.old (λ r. r.blocked ≡ Some blocked.Read → has_place_in self.old.state pid ≡ false → IsTerminalIndex r.session self.old.state.consoles result)) }
+        ensures there { IsSome result → IsThere pid self.old }
     {
         let _ = &self.table;
         if self.has_place(pid) {
@@ -197,7 +195,7 @@ impl<K: Kin> Machine<K> {
     /// A process that needn't be given a place has been rechecked, and isn't to be rechecked any more. Where it is
     /// in a read it is known by its terminal from now on.
     pub fn rechecked(&mut self, pid: Pid)
-        requires { (r : Process) → process self.old.state pid ≡ Some r → wakes self.old.state r ≡ false }
+        requires { IfThere pid self.old (λ r. wakes self.old.state r ≡ false) }
         ensures rest { self.new ≡ record (self.old) { to_recheck = without pid self.old.to_recheck; readers = self.new.readers; visits = self.new.visits } }
         ensures costs { Costs 1 self.old self.new }
     {
@@ -209,7 +207,7 @@ impl<K: Kin> Machine<K> {
     /// A process is to be rechecked where it is there and has no place.
     fn recheck_if_there(&mut self, pid: Pid)
         ensures rest { self.new ≡ record (self.old) { to_recheck = self.new.to_recheck; visits = self.new.visits } }
-        ensures it { IsSome (process self.old.state pid) → has_place_in self.old.state pid ≡ false → is_in pid self.new.to_recheck ≡ true }
+        ensures it { IsThere pid self.old → has_place_in self.old.state pid ≡ false → is_in pid self.new.to_recheck ≡ true }
         ensures others { (q : ℕ) → is_in q self.old.to_recheck ≡ true → is_in q self.new.to_recheck ≡ true }
     {
         if let Some(_) = self.table.get(pid) {
@@ -234,7 +232,7 @@ impl<K: Kin> Machine<K> {
     /// Who may wait to read from the console with this index, with the least number above another.
     fn next_reader(&self, console_index: usize, after: Pid) -> Option<Pid>
         ensures is { result ≡ slice_get (numbers_above after (readers_at console_index self.now.readers)) 0 }
-        ensures watched { IsWatched self.now.state self.now.to_recheck self.now.readers }
+        ensures watched { AreWatched self.now }
     {
         match self.readers.get(console_index) {
             Some(readers) => readers.next_above(after),
@@ -258,7 +256,7 @@ impl<K: Kin> Machine<K> {
     pub fn acquire_console(&mut self, console_index: usize, session: Pid, group: Pid)
         requires free { IfSome (slice_get self.old.state.consoles console_index) (λ c. c.session ≡ 0) }
         requires none { console_of session self.old.state.consoles ≡ None }
-        ensures { (c : ConsoleValue) → slice_get self.old.state.consoles console_index ≡ Some c → self.new.state ≡ record (self.old.state) { consoles = slice_set self.old.state.consoles console_index (acquired session group c) } }
+        ensures { IfConsole console_index self.old (λ c. self.new.state ≡ with_consoles self.old.state (slice_set self.old.state.consoles console_index (acquired session group c))) }
     {
         self.recheck_readers(console_index);
         if let Some(console) = self.consoles.get_mut(console_index) {
@@ -270,7 +268,7 @@ impl<K: Kin> Machine<K> {
     /// A process group becomes the foreground one of a session's terminal.
     pub fn set_foreground(&mut self, session: Pid, group: Pid)
         requires { session ≢ 0 }
-        ensures { self.new.state ≡ record (self.old.state) { consoles = changed_console session (with_foreground group) self.old.state.consoles } }
+        ensures { self.new.state ≡ with_consoles self.old.state (changed_console session (with_foreground group) self.old.state.consoles) }
     {
         if let Some(console_index) = terminal_index(&self.consoles, session) {
             self.recheck_readers(console_index);
@@ -282,8 +280,8 @@ impl<K: Kin> Machine<K> {
     /// TOSTOP of a session's terminal is set or cleared.
     pub fn set_tostop(&mut self, session: Pid, tostop: bool)
         requires { session ≢ 0 }
-        ensures state { self.new.state ≡ record (self.old.state) { consoles = changed_console session (with_tostop tostop) self.old.state.consoles } }
-        ensures to_recheck { self.new.to_recheck ≡ self.old.to_recheck }
+        ensures rest { self.new ≡ record (self.old) { state = self.new.state } }
+        ensures state { self.new.state ≡ with_consoles self.old.state (changed_console session (with_tostop tostop) self.old.state.consoles) }
     {
         if let Some(console_index) = terminal_index(&self.consoles, session) {
             self.consoles[console_index].set_tostop(tostop);
@@ -296,8 +294,8 @@ impl<K: Kin> Machine<K> {
     pub fn take_line(&mut self, session: Pid, out: &mut [u8]) -> Option<usize>
         requires { session ≢ 0 }
         ensures taken { (c : ConsoleValue) → console_of session self.old.state.consoles ≡ Some c → Takes c.lines out.old out.new result }
-        ensures state { self.new.state ≡ record (self.old.state) { consoles = changed_console session (line_taken (length out.old)) self.old.state.consoles } }
-        ensures to_recheck { self.new.to_recheck ≡ self.old.to_recheck }
+        ensures rest { self.new ≡ record (self.old) { state = self.new.state } }
+        ensures state { self.new.state ≡ with_consoles self.old.state (changed_console session (line_taken (length out.old)) self.old.state.consoles) }
     {
         let console_index = terminal_index(&self.consoles, session)?;
         self.consoles[console_index].take(out)
@@ -308,7 +306,7 @@ impl<K: Kin> Machine<K> {
     /// A signal of the kernel is generated for each member of a process group, zombies included, in rising order;
     /// number 0 is no group's.
     pub fn signal_group(&mut self, group: Pid, sig: Sig)
-        ensures state { self.new.state ≡ record (self.old.state) { processes = signalled_group sig group self.old.state.processes } }
+        ensures state { self.new.state ≡ with_processes self.old.state (signalled_group sig group self.old.state.processes) }
         ensures to_recheck { self.new.to_recheck ≡ (if group == 0 then self.old.to_recheck else rechecking_members sig group self.old.state.processes self.old.state.order self.old.to_recheck) }
     {
         if group != Pid::NONE {
@@ -321,7 +319,7 @@ impl<K: Kin> Machine<K> {
     /// A byte comes on the console with this index.
     fn type_byte(&mut self, console_index: usize, byte: u8) -> Option<KeyEffect>
         ensures none { slice_get self.old.state.consoles console_index ≡ None → (result ≡ None) × (self.new.state ≡ self.old.state) }
-        ensures state { (c : ConsoleValue) → slice_get self.old.state.consoles console_index ≡ Some c → self.new.state ≡ record (self.old.state) { consoles = slice_set self.old.state.consoles console_index (keyed byte c) } }
+        ensures state { IfConsole console_index self.old (λ c. self.new.state ≡ with_consoles self.old.state (slice_set self.old.state.consoles console_index (keyed byte c))) }
         ensures signal { MatchOption result (slice_get self.old.state.consoles console_index ≡ None) (λ e. e.signal ≡ key_signal byte) }
     {
         if ends_line(byte) {
@@ -354,8 +352,8 @@ impl<K: Kin> Machine<K> {
     /// Where a process that is there, other than process 1, leads a session with a terminal, each member of the
     /// foreground process group gets HUP, and the terminal is nobody's any more (XSH _exit).
     pub fn hang_up(&mut self, pid: Pid)
-        requires { IsSome (process self.old.state pid) }
-        ensures { (me : Process) → process self.old.state pid ≡ Some me → self.new.state ≡ hanging_up self.old.state me }
+        requires { IsThere pid self.old }
+        ensures { IfThere pid self.old (λ me. self.new.state ≡ hanging_up self.old.state me) }
     {
         let Some(snapshot) = self.snapshot(pid) else {
             return;
@@ -373,7 +371,7 @@ impl<K: Kin> Machine<K> {
 
     /// The console with this index is nobody's terminal any more; what was typed stays.
     fn release(&mut self, console_index: usize)
-        ensures { (c : ConsoleValue) → slice_get self.old.state.consoles console_index ≡ Some c → self.new.state ≡ record (self.old.state) { consoles = slice_set self.old.state.consoles console_index (released c) } }
+        ensures { IfConsole console_index self.old (λ c. self.new.state ≡ with_consoles self.old.state (slice_set self.old.state.consoles console_index (released c))) }
     {
         self.recheck_readers(console_index);
         if let Some(console) = self.consoles.get_mut(console_index) {

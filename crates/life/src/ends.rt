@@ -2,15 +2,15 @@
 
 ghost use Rattle.std.specs.Prelude.{◌≡◌, ◌≢◌, ℕ, ◌≤◌, ◌+◌, ◌*◌, length, IsSome, Some, None, true, false, if◌then◌else◌};
 ghost use Rattle.posix.specs.Processes.{Process, is_zombie};
-ghost use Rattle.posix.specs.Tables.{children_in};
+ghost use Rattle.posix.specs.Tables.{children_in, parent_of};
 ghost use Rattle.posix.specs.Groups.{some_stopped};
 ghost use Rattle.posix.specs.Regular.{CanInherit, IsRegular};
 ghost use Rattle.posix.specs.States.{process};
 ghost use Rattle.posix.specs.Ends.{leave_children_and_die as departing, halt as halting, end_with_heir, notice_of_end as noticing_end, drop_child as dropping_child, is_dropping, tell_of_all, zombies_of};
 ghost use Rattle.posix.specs.Notices.{child_signal as child_signal_of};
 ghost use Rattle.pidset.specs.Numbers.{with_number};
-ghost use Rattle.life.specs.Rechecks.{rechecking, without_gone};
-ghost use Rattle.life.specs.Machines.{Looks, Costs};
+ghost use Rattle.life.specs.Rechecks.{rechecks, without_gone};
+ghost use Rattle.life.specs.Machines.{Costs, Finds, Changes, IsThere, IfThere};
 
 use crate::machine::Machine;
 use jobs::Change;
@@ -21,7 +21,7 @@ impl<K: Kin> Machine<K> {
     /// The heir of a process gets notice of the ends of the zombies among its children, in rising order. No
     /// number of a child is to be had once they are the heir's, so it gets notice before.
     fn tell_heir(&mut self, pid: Pid, heir: Pid)
-        requires there { IsSome (process self.old.state pid) }
+        requires there { IsThere pid self.old }
         requires other { pid ≢ 1 }
         requires heir { CanInherit self.old.state.processes pid heir }
         ensures state { self.new.state ≡ tell_of_all self.old.state heir (zombies_of pid self.old.state.processes) }
@@ -42,12 +42,12 @@ impl<K: Kin> Machine<K> {
 
     /// The process is a zombie and loses its place, and its children become those of its heir. Its parent.
     fn leave(&mut self, pid: Pid, heir: Pid, status: Status) -> Pid
-        requires there { IsSome (process self.old.state pid) }
+        requires there { IsThere pid self.old }
         requires other { pid ≢ 1 }
         requires heir { CanInherit self.old.state.processes pid heir }
         ensures state { self.new.state ≡ departing self.old.state pid heir status }
-        ensures is { (me : Process) → process self.old.state pid ≡ Some me → result ≡ me.parent }
-        ensures parent { (me : Process) → process self.old.state pid ≡ Some me → IsSome (process self.new.state me.parent) }
+        ensures is { IfThere pid self.old (λ me. result ≡ me.parent) }
+        ensures parent { IfThere pid self.old (λ me. IsThere me.parent self.new) }
         ensures zombie { (it : Process) × (process self.new.state pid ≡ Some it) × (is_zombie it.life ≡ true) }
         ensures costs { Costs (3 + 8 * length (children_in pid self.old.state.processes) + length (children_in heir self.old.state.processes)) self.old self.new }
     {
@@ -66,12 +66,12 @@ impl<K: Kin> Machine<K> {
     /// The heir of a process gets notice of the ends of the zombies among its children, and then the process
     /// is a zombie and loses its place, and its children become those of its heir. Its parent.
     pub(crate) fn leave_children_and_die(&mut self, pid: Pid, heir: Pid, status: Status) -> Pid
-        requires there { IsSome (process self.old.state pid) }
+        requires there { IsThere pid self.old }
         requires other { pid ≢ 1 }
         requires heir { CanInherit self.old.state.processes pid heir }
         ensures state { self.new.state ≡ tell_of_all (departing self.old.state pid heir status) heir (zombies_of pid self.old.state.processes) }
-        ensures is { (me : Process) → process self.old.state pid ≡ Some me → result ≡ me.parent }
-        ensures parent { (me : Process) → process self.old.state pid ≡ Some me → IsSome (process self.new.state me.parent) }
+        ensures is { IfThere pid self.old (λ me. result ≡ me.parent) }
+        ensures parent { IfThere pid self.old (λ me. IsThere me.parent self.new) }
         ensures zombie { (it : Process) × (process self.new.state pid ≡ Some it) × (is_zombie it.life ≡ true) }
         ensures costs { Costs (4 + 16 * length (children_in pid self.old.state.processes) + length (children_in heir self.old.state.processes)) self.old self.new }
     {
@@ -81,8 +81,7 @@ impl<K: Kin> Machine<K> {
 
     /// Whether a process that is there runs, is stopped or has ended.
     fn life(&mut self, pid: Pid) -> Life
-        ensures value { (it : Process) → process self.old.state pid ≡ Some it → result ≡ it.life }
-        ensures looks { Looks 1 self.old self.new }
+        ensures { Finds 1 self.old self.new (IfThere pid self.old (λ it. result ≡ it.life)) }
     {
         match self.snapshot(pid) {
             Some(snapshot) => snapshot.life,
@@ -92,9 +91,7 @@ impl<K: Kin> Machine<K> {
 
     /// Process 1 is a zombie and loses its place, and the machine halts.
     fn halt(&mut self, status: Status)
-        ensures state { self.new.state ≡ halting self.old.state status }
-        ensures to_recheck { self.new.to_recheck ≡ with_number 1 self.old.to_recheck }
-        ensures costs { Costs 2 self.old self.new }
+        ensures { Changes 2 self.old self.new (halting self.old.state status) (with_number 1 self.old.to_recheck) }
     {
         self.lose_place(Pid::INIT);
         self.change_seen(Pid::INIT, |fields| fields.end(status));
@@ -104,12 +101,10 @@ impl<K: Kin> Machine<K> {
     /// The parent gets notice that a child, which is a zombie other than process 1, ended with this
     /// status, and the child is dropped where the parent drops its children (XSH _exit).
     fn notice_of_end(&mut self, parent: Pid, child: Pid, status: Status)
-        requires parent { IsSome (process self.old.state parent) }
+        requires parent { IsThere parent self.old }
         requires other { child ≢ 1 }
         requires zombie { (it : Process) × (process self.old.state child ≡ Some it) × (is_zombie it.life ≡ true) }
-        ensures state { self.new.state ≡ noticing_end self.old.state parent child status }
-        ensures to_recheck { (it : Process) → process self.old.state child ≡ Some it → self.new.to_recheck ≡ without_gone child (if is_dropping parent self.old.state.processes then Some it.parent else None) (rechecking parent self.old.state.order self.old.to_recheck) }
-        ensures costs { Costs 6 self.old self.new }
+        ensures { Changes 6 self.old self.new (noticing_end self.old.state parent child status) (if is_dropping parent self.old.state.processes then without_gone child (parent_of child self.old.state.processes) (rechecks parent self.old) else rechecks parent self.old) }
     {
         let signal = child_signal(child, status);
         let drops = self.change(parent, |fields| {
@@ -126,9 +121,7 @@ impl<K: Kin> Machine<K> {
     fn drop_child(&mut self, child: Pid)
         requires other { child ≢ 1 }
         requires zombie { (it : Process) × (process self.old.state child ≡ Some it) × (is_zombie it.life ≡ true) }
-        ensures state { self.new.state ≡ dropping_child self.old.state child }
-        ensures to_recheck { (it : Process) → process self.old.state child ≡ Some it → self.new.to_recheck ≡ without_gone child (Some it.parent) self.old.to_recheck }
-        ensures costs { Costs 5 self.old self.new }
+        ensures { Changes 5 self.old self.new (dropping_child self.old.state child) (without_gone child (parent_of child self.old.state.processes) self.old.to_recheck) }
     {
         self.reap(child);
         self.dropped += 1;
@@ -140,9 +133,9 @@ impl<K: Kin> Machine<K> {
     /// its parent gets notice of its end, and may drop it (XSH _exit, Consequences of Process Termination).
     /// Where no process is stopped no slot is read for the groups.
     pub fn end(&mut self, pid: Pid, heir: Pid, status: Status)
-        requires there { IsSome (process self.old.state pid) }
+        requires there { IsThere pid self.old }
         requires heir { pid ≢ 1 → CanInherit self.old.state.processes pid heir }
-        ensures state { (me : Process) → process self.old.state pid ≡ Some me → self.new.state ≡ (end_with_heir self.old.state me heir status).state }
+        ensures state { IfThere pid self.old (λ me. self.new.state ≡ (end_with_heir self.old.state me heir status).state) }
         ensures to_recheck { pid ≡ 1 → self.new.to_recheck ≡ with_number 1 self.old.to_recheck }
         ensures visits { some_stopped self.old.state.processes ≡ false → self.new.visits ≤ self.old.visits + 10 + 16 * length (children_in pid self.old.state.processes) + length (children_in heir self.old.state.processes) }
     {

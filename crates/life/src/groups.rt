@@ -6,7 +6,7 @@ ghost use Rattle.posix.specs.Groups.{is_anchor as is_anchor_of, is_orphaned as i
 ghost use Rattle.std.specs.Option.{option_map_or};
 ghost use Rattle.posix.specs.States.{process};
 ghost use Rattle.posix.specs.Regular.{IsRegular};
-ghost use Rattle.life.specs.Machines.{Looks};
+ghost use Rattle.life.specs.Machines.{Finds};
 
 use crate::machine::Machine;
 use posix::Pid;
@@ -16,9 +16,8 @@ impl<K: Kin> Machine<K> {
     /// The member of a process group with the least number above `after`, zombies included (XBD 3 Process
     /// Group). Its first is that after number 0. At most two slots are read of each process up to it, and two more.
     pub(crate) fn next_member(&mut self, group: Pid, after: Pid) -> Option<Pid>
-        ensures value { result ≡ first_pid (above after (members_in group self.old.state.processes)) }
+        ensures finds { Finds (2 + 2 * length (above after self.old.state.processes)) self.old self.new (result ≡ first_pid (above after (members_in group self.old.state.processes))) }
         ensures visits { self.new.visits + 2 * length (left_of result self.old.state.processes) ≤ self.old.visits + 2 + 2 * length (above after self.old.state.processes) }
-        ensures looks { Looks (2 + 2 * length (above after self.old.state.processes)) self.old self.new }
     {
         self.table.next_member(group, after)
     }
@@ -26,8 +25,7 @@ impl<K: Kin> Machine<K> {
     /// Whether a process group is orphaned: no living member of it has a parent in another group of the same
     /// session (XBD 3 Orphaned Process Group).
     pub fn is_orphaned(&mut self, group: Pid) -> bool
-        ensures value { result ≡ is_orphaned_of group self.old.state.processes }
-        ensures looks { Looks (2 + 4 * length self.old.state.processes) self.old self.new }
+        ensures { Finds (2 + 4 * length self.old.state.processes) self.old self.new (result ≡ is_orphaned_of group self.old.state.processes) }
     {
         self.table.is_orphaned(group)
     }
@@ -35,8 +33,7 @@ impl<K: Kin> Machine<K> {
     /// Whether a process that is there keeps its process group from being orphaned: it lives, and has a parent in
     /// another group of the same session.
     pub(crate) fn is_anchor(&mut self, pid: Pid) -> bool
-        ensures value { result ≡ option_map_or (is_anchor_of self.old.state.processes) (process self.old.state pid) false }
-        ensures looks { Looks 2 self.old self.new }
+        ensures { Finds 2 self.old self.new (result ≡ option_map_or (is_anchor_of self.old.state.processes) (process self.old.state pid) false) }
     {
         self.table.is_anchor(pid)
     }
@@ -50,8 +47,7 @@ impl<K: Kin> Machine<K> {
 
     /// Whether a member of a process group is stopped.
     pub(crate) fn has_stopped(&mut self, group: Pid) -> bool
-        ensures value { result ≡ has_stopped_of group self.old.state.processes }
-        ensures looks { Looks (2 + 3 * length self.old.state.processes) self.old self.new }
+        ensures { Finds (2 + 3 * length self.old.state.processes) self.old self.new (result ≡ has_stopped_of group self.old.state.processes) }
     {
         self.table.stopped_in(group) > 0
     }

@@ -11,7 +11,7 @@ ghost use Rattle.posix.specs.Step.{code_of, set_cpu};
 ghost use Rattle.proctable.specs.Records.{snapshot_of, own_of, own_row};
 ghost use Rattle.life.specs.contracts.machine.Machine.{the_row as machine_row};
 ghost use Rattle.life.specs.Loans.{lent, looked};
-ghost use Rattle.life.specs.Machines.{Looks, Costs};
+ghost use Rattle.life.specs.Machines.{Finds, Runs, IsThere, IfThere};
 ghost use Rattle.life.specs.NotedBursts.{most_notes, exec_with_notes};
 ghost use Rattle.pidset.specs.Numbers.{with_number};
 
@@ -160,19 +160,16 @@ impl<K: Kin> Machine<K> {
     /// The small fields of a process; none where it isn't there.
     #[inline(always)]
     pub fn snapshot(&mut self, pid: Pid) -> Option<Snapshot>
-        ensures value { result ≡ option_map snapshot_of (process self.old.state pid) }
-        ensures size { length self.old.state.processes < 2 ^ 63 }
-        ensures looks { Looks 1 self.old self.new }
+        ensures { Finds 1 self.old self.new (result ≡ option_map snapshot_of (process self.old.state pid)) }
     {
         self.table.get(pid)
     }
 
     /// The parent of a process that is there; number 0 for process 1.
     pub fn parent(&mut self, pid: Pid) -> Pid
-        requires { IsSome (process self.old.state pid) }
-        ensures value { (me : Process) → process self.old.state pid ≡ Some me → result ≡ me.parent }
-        ensures there { pid ≢ 1 → IsSome (process self.old.state result) }
-        ensures looks { Looks 1 self.old self.new }
+        requires { IsThere pid self.old }
+        ensures finds { Finds 1 self.old self.new (IfThere pid self.old (λ me. result ≡ me.parent)) }
+        ensures there { pid ≢ 1 → IsThere result self.old }
     {
         match self.table.get(pid) {
             Some(snapshot) => snapshot.parent,
@@ -184,7 +181,7 @@ impl<K: Kin> Machine<K> {
 
     /// Lends what a process that is there may change of itself. Nothing else changes.
     pub fn own(&mut self, pid: Pid) -> &mut OwnPart
-        requires { IsSome (process self.old.state pid) }
+        requires { IsThere pid self.old }
         ensures* lends { sem 𝓛 (Lends (machine_row K.row K.Kin) own_row self.entry result (lent K.one_more self.old pid)) }
         ensures value { IfSome (process self.old.state pid) (λ me. result.now ≡ own_of me) }
         ensures regular { IsRegular self.old.state }
@@ -196,14 +193,12 @@ impl<K: Kin> Machine<K> {
     /// Runs the instruction at the pc of a process that is there and runs this program. A call and a
     /// machine fault change nothing.
     pub fn exec_one(&mut self, pid: Pid, program: u8) -> Trap
-        requires there { IsSome (process self.old.state pid) }
-        requires program { (me : Process) → process self.old.state pid ≡ Some me → me.program ≡ program }
-        ensures trap { (me : Process) → process self.old.state pid ≡ Some me → result ≡ (executed (code_of self.old.state me) me.cpu).trap }
-        ensures state { (me : Process) → process self.old.state pid ≡ Some me → self.new.state ≡ change self.old.state pid (set_cpu (executed (code_of self.old.state me) me.cpu).cpu) }
+        requires there { IsThere pid self.old }
+        requires program { IfThere pid self.old (λ me. me.program ≡ program) }
+        ensures trap { IfThere pid self.old (λ me. result ≡ (executed (code_of self.old.state me) me.cpu).trap) }
+        ensures state { IfThere pid self.old (λ me. self.new.state ≡ change self.old.state pid (set_cpu (executed (code_of self.old.state me) me.cpu).cpu)) }
         ensures stays { StaysUnlessRun result self.old.state self.new.state }
-        ensures to_recheck { has_place_in self.old.state pid ≡ true → self.new.to_recheck ≡ self.old.to_recheck }
-        ensures foregrounds_unchecked { self.new.foregrounds_unchecked ≡ self.old.foregrounds_unchecked }
-        ensures costs { Costs 1 self.old self.new }
+        ensures runs { Runs pid self.old self.new }
     {
         match self.world.programs().get(usize::from(program)) {
             Some(program) => {
@@ -227,19 +222,17 @@ impl<K: Kin> Machine<K> {
         last: u64,
         notes: &mut Notes,
     ) -> (u64, Trap)
-        requires there { IsSome (process self.old.state pid) }
-        requires program { (me : Process) → process self.old.state pid ≡ Some me → me.program ≡ program }
+        requires there { IsThere pid self.old }
+        requires program { IfThere pid self.old (λ me. me.program ≡ program) }
         requires some { before < last }
         requires none { notes.old.items ≡ [] }
-        ensures taken { (me : Process) → process self.old.state pid ≡ Some me → (exec_with_notes (code_of self.old.state me) most_notes before last me.cpu).taken ≡ record { last = result.0; notes = notes.new.items; trap = result.1 } }
-        ensures state { (me : Process) → process self.old.state pid ≡ Some me → self.new.state ≡ change self.old.state pid (set_cpu (exec_with_notes (code_of self.old.state me) most_notes before last me.cpu).cpu) }
+        ensures taken { IfThere pid self.old (λ me. (exec_with_notes (code_of self.old.state me) most_notes before last me.cpu).taken ≡ record { last = result.0; notes = notes.new.items; trap = result.1 }) }
+        ensures state { IfThere pid self.old (λ me. self.new.state ≡ change self.old.state pid (set_cpu (exec_with_notes (code_of self.old.state me) most_notes before last me.cpu).cpu)) }
         ensures from { before ≤ result.0 }
         ensures within { result.0 ≤ last }
         ensures short { result.1 ≢ Trap.Next → result.0 < last }
         ensures regular { IsRegular self.new.state }
-        ensures to_recheck { has_place_in self.old.state pid ≡ true → self.new.to_recheck ≡ self.old.to_recheck }
-        ensures foregrounds_unchecked { self.new.foregrounds_unchecked ≡ self.old.foregrounds_unchecked }
-        ensures costs { Costs 1 self.old self.new }
+        ensures runs { Runs pid self.old self.new }
     {
         match self.world.programs().get(usize::from(program)) {
             Some(program) => {
@@ -252,7 +245,7 @@ impl<K: Kin> Machine<K> {
 
     /// Shows what a process that is there may change of itself. Nothing changes.
     pub fn look(&mut self, pid: Pid) -> &OwnPart
-        requires { IsSome (process self.old.state pid) }
+        requires { IsThere pid self.old }
         ensures* lends { sem 𝓛 (follows_so (machine_row K.row K.Kin) (machine_row K.row K.Kin) self.entry.ghost_name none (λ _ _. ⊤) (λ n. n ≡ looked K.one_more self.old)) }
         ensures value { IfSome (process self.old.state pid) (λ me. result.now ≡ own_of me) }
         ensures regular { IsRegular self.old.state }
@@ -266,17 +259,14 @@ impl<K: Kin> Machine<K> {
     pub fn place(&mut self, pid: Pid)
         requires there { IsPlaced self.old.state.processes pid }
         requires none { has_place_in self.old.state pid ≡ false }
-        ensures rest { self.new ≡ record (self.old) { state = self.new.state } }
-        ensures state { self.new.state ≡ record (self.old.state) { order = self.old.state.order ++ pid ∷ [] } }
+        ensures { self.new ≡ record (self.old) { state = record (self.old.state) { order = self.old.state.order ++ pid ∷ [] } } }
     {
         self.order.place(pid);
     }
 
     /// A process loses its place, if it has one.
     pub fn lose_place(&mut self, pid: Pid)
-        ensures rest { self.new ≡ record (self.old) { state = self.new.state; to_recheck = self.new.to_recheck } }
-        ensures state { self.new.state ≡ losing_place self.old.state pid }
-        ensures to_recheck { self.new.to_recheck ≡ (if has_place_in self.old.state pid then with_number pid self.old.to_recheck else self.old.to_recheck) }
+        ensures is { self.new ≡ record (self.old) { state = losing_place self.old.state pid; to_recheck = if has_place_in self.old.state pid then with_number pid self.old.to_recheck else self.old.to_recheck } }
         ensures regular { IsRegular self.old.state }
     {
         if self.order.has(pid) {
@@ -288,8 +278,7 @@ impl<K: Kin> Machine<K> {
     /// A process that has a place gets the last one.
     pub fn go_last(&mut self, pid: Pid)
         requires { has_place_in self.old.state pid ≡ true }
-        ensures rest { self.new ≡ record (self.old) { state = self.new.state } }
-        ensures state { self.new.state ≡ going_last self.old.state pid }
+        ensures { self.new ≡ record (self.old) { state = going_last self.old.state pid } }
     {
         self.order.go_last(pid);
     }

@@ -7,8 +7,8 @@ ghost use Rattle.posix.specs.States.{process, change};
 ghost use Rattle.posix.specs.Regular.{IsPlaced};
 ghost use Rattle.posix.specs.GroupCalls.{named as named_by, move_to, in_group, in_session, is_group_of_others};
 ghost use Rattle.life.specs.Callers.{caller_of};
-ghost use Rattle.life.specs.Rechecks.{rechecking_changed};
-ghost use Rattle.life.specs.Machines.{Costs};
+ghost use Rattle.life.specs.Rechecks.{rechecks_changed};
+ghost use Rattle.life.specs.Machines.{Costs, AreSame, IfThere};
 
 use crate::caller::Caller;
 use crate::machine::Machine;
@@ -22,12 +22,11 @@ impl<K: Kin> Machine<K> {
     /// group isn't there, and nothing changes (XSH setpgid).
     pub fn move_group(&mut self, me: &Caller) -> Result<Pid, Errno>
         requires there { IsPlaced self.old.state.processes me.now.pid }
-        requires caller { (it : Process) → process self.old.state me.now.pid ≡ Some it → me.now ≡ caller_of it }
-        ensures value { (it : Process) → process self.old.state me.now.pid ≡ Some it → result ≡ move_to it (named_by it me.now.r1 self.old.state.processes) me.now.r2 self.old.state.processes }
-        ensures err { OnErr result (self.new.state ≡ self.old.state) }
+        requires caller { IfThere me.now.pid self.old (λ it. me.now ≡ caller_of it) }
+        ensures value { IfThere me.now.pid self.old (λ it. result ≡ move_to it (named_by it me.now.r1 self.old.state.processes) me.now.r2 self.old.state.processes) }
+        ensures err { OnErr result (AreSame self.old self.new) }
         ensures ok { IfOk result (λ g. (it r : Process) → process self.old.state me.now.pid ≡ Some it → named_by it me.now.r1 self.old.state.processes ≡ Some r → self.new.state ≡ change self.old.state r.pid (in_group g)) }
-        ensures to_recheck { OnOk result ((it r : Process) → process self.old.state me.now.pid ≡ Some it → named_by it me.now.r1 self.old.state.processes ≡ Some r → self.new.to_recheck ≡ rechecking_changed r self.old.state.order self.old.to_recheck) }
-        ensures rechecked_at_error { OnErr result (self.new.to_recheck ≡ self.old.to_recheck) }
+        ensures to_recheck { OnOk result ((it r : Process) → process self.old.state me.now.pid ≡ Some it → named_by it me.now.r1 self.old.state.processes ≡ Some r → self.new.to_recheck ≡ rechecks_changed r self.old) }
         ensures costs { Costs (5 + 2 * length self.old.state.processes) self.old self.new }
     {
         let target = self.named(me.pid, me.r1);
@@ -42,10 +41,9 @@ impl<K: Kin> Machine<K> {
     /// process is in one with its number (XSH setsid).
     pub fn new_session(&mut self, pid: Pid) -> Result<(), Errno>
         requires there { IsPlaced self.old.state.processes pid }
-        ensures refused { (me : Process) → process self.old.state pid ≡ Some me → (me.group == me.pid || is_group_of_others me self.old.state.processes) ≡ true → (result ≡ Err EPERM) × (self.new.state ≡ self.old.state) }
-        ensures leads { (me : Process) → process self.old.state pid ≡ Some me → (me.group == me.pid || is_group_of_others me self.old.state.processes) ≡ false → (result ≡ Ok tt) × (self.new.state ≡ change self.old.state pid in_session) }
-        ensures to_recheck { OnOk result ((me : Process) → process self.old.state pid ≡ Some me → self.new.to_recheck ≡ rechecking_changed me self.old.state.order self.old.to_recheck) }
-        ensures rechecked_at_error { OnErr result (self.new.to_recheck ≡ self.old.to_recheck) }
+        ensures refused { IfThere pid self.old (λ me. (me.group == me.pid || is_group_of_others me self.old.state.processes) ≡ true → (result ≡ Err EPERM) × AreSame self.old self.new) }
+        ensures leads { IfThere pid self.old (λ me. (me.group == me.pid || is_group_of_others me self.old.state.processes) ≡ false → (result ≡ Ok tt) × (self.new.state ≡ change self.old.state pid in_session)) }
+        ensures to_recheck { OnOk result (IfThere pid self.old (λ me. self.new.to_recheck ≡ rechecks_changed me self.old)) }
         ensures costs { Costs (8 + 4 * length self.old.state.processes) self.old self.new }
     {
         self.table.can_lead(pid)?;

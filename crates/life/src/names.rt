@@ -7,8 +7,8 @@ ghost use Rattle.posix.specs.GroupCalls.{named as named_by};
 ghost use Rattle.posix.specs.Programs.{executed};
 ghost use Rattle.posix.specs.Regular.{IsRegular};
 ghost use Rattle.proctable.specs.Records.{snapshot_of};
-ghost use Rattle.life.specs.Rechecks.{rechecking};
-ghost use Rattle.life.specs.Machines.{Looks, Costs};
+ghost use Rattle.life.specs.Rechecks.{rechecks};
+ghost use Rattle.life.specs.Machines.{Costs, Finds, IsThere, IfThere};
 
 use crate::machine::Machine;
 use posix::Pid;
@@ -18,9 +18,8 @@ impl<K: Kin> Machine<K> {
     /// The small fields of the process that a word names to a caller that is there: 0 is the caller itself.
     /// None where no process has that number, a negative one too (XSH getpgid, getsid). Nothing changes.
     pub fn named(&mut self, me: Pid, word: i64) -> Option<Snapshot>
-        requires { IsSome (process self.old.state me) }
-        ensures value { (it : Process) → process self.old.state me ≡ Some it → result ≡ option_map snapshot_of (named_by it word self.old.state.processes) }
-        ensures looks { Looks 1 self.old self.new }
+        requires { IsThere me self.old }
+        ensures { Finds 1 self.old self.new (IfThere me self.old (λ it. result ≡ option_map snapshot_of (named_by it word self.old.state.processes))) }
     {
         if word == 0 {
             return self.snapshot(me);
@@ -34,10 +33,10 @@ impl<K: Kin> Machine<K> {
     /// A process that is there runs the program that a word names in place of its own, and true is the answer;
     /// where there is no such program nothing changes, and it is false (XSH exec).
     pub fn exec_named(&mut self, pid: Pid, word: i64) -> bool
-        requires { IsSome (process self.old.state pid) }
+        requires { IsThere pid self.old }
         ensures done { (n : ℕ) (program : Program) → word ≡ pos n → slice_get self.old.state.world.programs n ≡ Some program → (result ≡ true) × (self.new.state ≡ change self.old.state pid (executed n program)) }
         ensures none { ((n : ℕ) → word ≡ pos n → slice_get self.old.state.world.programs n ≡ None) → (result ≡ false) × (self.new.state ≡ self.old.state) }
-        ensures to_recheck { self.new.to_recheck ≡ (if result then rechecking pid self.old.state.order self.old.to_recheck else self.old.to_recheck) }
+        ensures to_recheck { self.new.to_recheck ≡ (if result then rechecks pid self.old else self.old.to_recheck) }
         ensures costs { Costs 1 self.old self.new }
     {
         if word < 0 || word >= self.world.programs().len() as i64 {

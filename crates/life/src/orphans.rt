@@ -11,6 +11,7 @@ ghost use Rattle.posix.specs.Ends.{signalled_members, hup_and_cont as hup_and_co
 ghost use Rattle.pidset.specs.Numbers.{Rises};
 ghost use Rattle.life.specs.Rechecks.{rechecking_members};
 ghost use Rattle.posix.specs.Regular.{IsRegular, CanInherit};
+ghost use Rattle.life.specs.Machines.{Notes, IsThere, IfThere, with_processes};
 
 use crate::caller::Caller;
 use crate::machine::Machine;
@@ -22,9 +23,8 @@ impl<K: Kin> Machine<K> {
 
     /// The group of a process that is there is noted where the process keeps it from being orphaned.
     fn note_anchor(&mut self, pid: Pid)
-        ensures rest { self.new ≡ record (self.old) { groups_at_risk = self.new.groups_at_risk; visits = self.new.visits } }
-        ensures visits { self.new.visits ≤ self.old.visits + 3 }
-        ensures groups_at_risk { (it : Process) → process self.old.state pid ≡ Some it → self.new.groups_at_risk ≡ (if is_anchor_of self.old.state.processes it then with_number it.group self.old.groups_at_risk else self.old.groups_at_risk) }
+        ensures notes { Notes 3 self.old self.new }
+        ensures groups_at_risk { IfThere pid self.old (λ it. self.new.groups_at_risk ≡ (if is_anchor_of self.old.state.processes it then with_number it.group self.old.groups_at_risk else self.old.groups_at_risk)) }
     {
         if self.is_anchor(pid) {
             if let Some(it) = self.snapshot(pid) {
@@ -36,12 +36,9 @@ impl<K: Kin> Machine<K> {
     /// The groups are noted that a process that is there and its children keep from being orphaned: no
     /// others can be orphaned by its end.
     fn note_groups_at_risk(&mut self, pid: Pid)
-        requires { IsSome (process self.old.state pid) }
-        ensures same { self.new.state ≡ self.old.state }
-        ensures to_recheck { self.new.to_recheck ≡ self.old.to_recheck }
+        requires { IsThere pid self.old }
         ensures groups_at_risk { (g : ℕ) → is_in g self.new.groups_at_risk ≡ loses_anchor pid self.old.state.processes g }
-        ensures regular { IsRegular self.old.state }
-        ensures visits { self.new.visits ≤ self.old.visits + 4 + 4 * length (children_in pid self.old.state.processes) }
+        ensures notes { Notes (4 + 4 * length (children_in pid self.old.state.processes)) self.old self.new }
     {
         self.groups_at_risk.clear();
         self.note_anchor(pid);
@@ -80,7 +77,7 @@ impl<K: Kin> Machine<K> {
     /// A signal of the kernel is generated for each member of a process group, zombies included, in rising
     /// order.
     pub(crate) fn signal_members(&mut self, group: Pid, sig: Sig)
-        ensures state { self.new.state ≡ record (self.old.state) { processes = signalled_members (record { sig = sig; carried = from_kernel }) group self.old.state.processes } }
+        ensures state { self.new.state ≡ with_processes self.old.state (signalled_members (record { sig = sig; carried = from_kernel }) group self.old.state.processes) }
         ensures to_recheck { self.new.to_recheck ≡ rechecking_members sig group self.old.state.processes self.old.state.order self.old.to_recheck }
         ensures groups_at_risk { self.new.groups_at_risk ≡ self.old.groups_at_risk }
     {
@@ -89,7 +86,7 @@ impl<K: Kin> Machine<K> {
 
     /// Each member of a process group gets HUP, and then each gets CONT.
     fn hup_and_cont(&mut self, group: Pid)
-        ensures state { self.new.state ≡ record (self.old.state) { processes = hup_and_cont_of group self.old.state.processes } }
+        ensures state { self.new.state ≡ with_processes self.old.state (hup_and_cont_of group self.old.state.processes) }
         ensures groups_at_risk { self.new.groups_at_risk ≡ self.old.groups_at_risk }
     {
         self.signal_members(group, Sig::HUP);
@@ -98,7 +95,7 @@ impl<K: Kin> Machine<K> {
 
     /// Each noted group gets HUP and CONT.
     fn hup_and_cont_all(&mut self)
-        ensures state { self.new.state ≡ record (self.old.state) { processes = hup_and_cont_all_of self.old.groups_at_risk self.old.state.processes } }
+        ensures state { self.new.state ≡ with_processes self.old.state (hup_and_cont_all_of self.old.groups_at_risk self.old.state.processes) }
         ensures regular { IsRegular self.old.state }
     {
         let mut next = self.groups_at_risk.first();
@@ -114,12 +111,12 @@ impl<K: Kin> Machine<K> {
     /// group that was not orphaned before, is now, and has a stopped member, gets HUP, and then CONT: of these
     /// groups one after another, in rising order. Its parent.
     pub(crate) fn die_and_hup_orphans(&mut self, pid: Pid, heir: Pid, status: Status) -> Pid
-        requires there { IsSome (process self.old.state pid) }
+        requires there { IsThere pid self.old }
         requires other { pid ≢ 1 }
         requires heir { CanInherit self.old.state.processes pid heir }
         ensures state { self.new.state ≡ hup_and_cont_orphans self.old.state.processes (tell_of_all (departing self.old.state pid heir status) heir (zombies_of pid self.old.state.processes)) }
-        ensures is { (me : Process) → process self.old.state pid ≡ Some me → result ≡ me.parent }
-        ensures parent { (me : Process) → process self.old.state pid ≡ Some me → IsSome (process self.new.state me.parent) }
+        ensures is { IfThere pid self.old (λ me. result ≡ me.parent) }
+        ensures parent { IfThere pid self.old (λ me. IsThere me.parent self.new) }
         ensures zombie { (it : Process) × (process self.new.state pid ≡ Some it) × (is_zombie it.life ≡ true) }
         ensures visits { some_stopped self.old.state.processes ≡ false → self.new.visits ≤ self.old.visits + 4 + 16 * length (children_in pid self.old.state.processes) + length (children_in heir self.old.state.processes) }
     {

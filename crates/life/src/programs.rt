@@ -3,8 +3,8 @@
 ghost use Rattle.std.specs.Prelude.{◌≡◌, ◌+◌, ◌≤◌, IsSome, Some, None, true, false, if◌then◌else◌, slice_get};
 ghost use Rattle.posix.specs.States.{Program, process, change};
 ghost use Rattle.posix.specs.Programs.{executed};
-ghost use Rattle.life.specs.Rechecks.{rechecking};
-ghost use Rattle.life.specs.Machines.{Costs};
+ghost use Rattle.life.specs.Rechecks.{rechecks};
+ghost use Rattle.life.specs.Machines.{Costs, IsThere};
 
 use crate::machine::Machine;
 use crate::rechecks::recheck_later;
@@ -15,10 +15,10 @@ impl<K: Kin> Machine<K> {
     /// A process that is there runs the program with this number in place of its own, and true is the answer;
     /// where there is no such program nothing changes, and it is false (XSH exec).
     pub fn exec(&mut self, pid: Pid, number: u8) -> bool
-        requires { IsSome (process self.old.state pid) }
+        requires { IsThere pid self.old }
         ensures done { (program : Program) → slice_get self.old.state.world.programs number ≡ Some program → (result ≡ true) × (self.new.state ≡ change self.old.state pid (executed number program)) }
         ensures none { slice_get self.old.state.world.programs number ≡ None → (result ≡ false) × (self.new.state ≡ self.old.state) }
-        ensures to_recheck { self.new.to_recheck ≡ (if result then rechecking pid self.old.state.order self.old.to_recheck else self.old.to_recheck) }
+        ensures to_recheck { self.new.to_recheck ≡ (if result then rechecks pid self.old else self.old.to_recheck) }
         ensures costs { Costs 1 self.old self.new }
     {
         match self.world.programs().get(usize::from(number)) {

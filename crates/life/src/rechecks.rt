@@ -11,8 +11,7 @@ use sched::Order;
 /// A process that is there has changed, but not its place: it is to be rechecked where it has none.
 pub(crate) fn recheck_later(to_recheck: &mut PidSet, order: &Order, pid: Pid)
     requires { length to_recheck.old.pids < to_recheck.old.room }
-    ensures pids { to_recheck.new.pids ≡ rechecking pid order.now.pids to_recheck.old.pids }
-    ensures room { to_recheck.new.room ≡ to_recheck.old.room }
+    ensures { to_recheck.new ≡ record (to_recheck.old) { pids = rechecking pid order.now.pids to_recheck.old.pids } }
 {
     if !order.has(pid) {
         to_recheck.insert(pid);
@@ -28,8 +27,7 @@ fn is_only(to_recheck: &PidSet, pid: Pid) -> bool
 
 /// A process isn't to be rechecked any more. Mostly nobody else is.
 pub(crate) fn take_off(to_recheck: &mut PidSet, pid: Pid)
-    ensures pids { to_recheck.new.pids ≡ without pid to_recheck.old.pids }
-    ensures room { to_recheck.new.room ≡ to_recheck.old.room }
+    ensures { to_recheck.new ≡ record (to_recheck.old) { pids = without pid to_recheck.old.pids } }
 {
     if is_only(to_recheck, pid) {
         to_recheck.clear();
@@ -40,13 +38,10 @@ pub(crate) fn take_off(to_recheck: &mut PidSet, pid: Pid)
 
 /// Where the record of a process has gone, of which this is the parent: the parent is to be rechecked, and the
 /// process no more.
-pub(crate) fn forget(to_recheck: &mut PidSet, pid: Pid, parent: Option<Pid>)
+pub(crate) fn forget(to_recheck: &mut PidSet, pid: Pid, parent: Pid)
     requires { length to_recheck.old.pids < to_recheck.old.room }
-    ensures pids { to_recheck.new.pids ≡ without_gone pid parent to_recheck.old.pids }
-    ensures room { to_recheck.new.room ≡ to_recheck.old.room }
+    ensures { to_recheck.new ≡ record (to_recheck.old) { pids = without_gone pid parent to_recheck.old.pids } }
 {
-    if let Some(parent) = parent {
-        to_recheck.insert(parent);
-        to_recheck.remove(pid);
-    }
+    to_recheck.insert(parent);
+    to_recheck.remove(pid);
 }

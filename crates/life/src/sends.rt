@@ -10,7 +10,7 @@ ghost use Rattle.posix.specs.Sends.{is_target as is_target_of, targets, permitte
 ghost use Rattle.proctable.specs.Records.{snapshot_of};
 ghost use Rattle.life.specs.Callers.{process_like};
 ghost use Rattle.life.specs.Rechecks.{rechecking_signalled, slots_of_send};
-ghost use Rattle.life.specs.Machines.{Looks, Costs};
+ghost use Rattle.life.specs.Machines.{Costs, Finds, Changes, IsThere, with_processes};
 
 use crate::caller::Caller;
 use crate::machine::Machine;
@@ -52,9 +52,9 @@ impl<K: Kin> Machine<K> {
     /// Sends a signal to a process that is there, with this snapshot, where the sender may; `None` only
     /// checks.
     fn send_to(&mut self, me: &Caller, sig: &Option<Sig>, it: &Snapshot) -> Sending
-        requires { IsSome (process self.old.state it.now.pid) }
+        requires { IsThere it.now.pid self.old }
         ensures sending { (q : Process) → it.now ≡ snapshot_of q → result ≡ sending_permitted (permitted (process_like me.now) sig.now (q ∷ [])) }
-        ensures state { (q : Process) → it.now ≡ snapshot_of q → self.new.state ≡ record (self.old.state) { processes = sent_among (process_like me.now) sig.now (q ∷ []) self.old.state.processes } }
+        ensures state { (q : Process) → it.now ≡ snapshot_of q → self.new.state ≡ with_processes self.old.state (sent_among (process_like me.now) sig.now (q ∷ []) self.old.state.processes) }
         ensures to_recheck { (q : Process) → it.now ≡ snapshot_of q → self.new.to_recheck ≡ rechecking_signalled (process_like me.now) sig.now (q ∷ []) self.old.state.processes self.old.state.order self.old.to_recheck }
         ensures costs { Costs (slots_of_send sig.now) self.old self.new }
     {
@@ -71,9 +71,7 @@ impl<K: Kin> Machine<K> {
     /// Sends a signal to the process with a number, if it is there and the sender means it.
     fn send_to_one(&mut self, me: &Caller, sig: &Option<Sig>, target: &Target, pid: Pid) -> Sending
         ensures sending { result ≡ sending_of (process_like me.now) target.now sig.now (filter (has_pid pid) self.old.state.processes) }
-        ensures state { self.new.state ≡ record (self.old.state) { processes = sent_among (process_like me.now) sig.now (targets (process_like me.now) target.now (filter (has_pid pid) self.old.state.processes)) self.old.state.processes } }
-        ensures to_recheck { self.new.to_recheck ≡ rechecking_signalled (process_like me.now) sig.now (targets (process_like me.now) target.now (filter (has_pid pid) self.old.state.processes)) self.old.state.processes self.old.state.order self.old.to_recheck }
-        ensures costs { Costs (1 + slots_of_send sig.now) self.old self.new }
+        ensures changes { Changes (1 + slots_of_send sig.now) self.old self.new (with_processes self.old.state (sent_among (process_like me.now) sig.now (targets (process_like me.now) target.now (filter (has_pid pid) self.old.state.processes)) self.old.state.processes)) (rechecking_signalled (process_like me.now) sig.now (targets (process_like me.now) target.now (filter (has_pid pid) self.old.state.processes)) self.old.state.processes self.old.state.order self.old.to_recheck) }
     {
         match self.snapshot(pid) {
             Some(it) if is_target(me, target, &it) => self.send_to(me, sig, &it),
@@ -84,9 +82,8 @@ impl<K: Kin> Machine<K> {
     /// Who comes next, after the number `after`, of those that a sender means; it may be one that the sender
     /// doesn't mean.
     fn next_target(&mut self, me: &Caller, target: &Target, after: Pid) -> Option<Pid>
-        ensures next { IsNext (is_target_of (process_like me.now) target.now) after self.old.state.processes result }
+        ensures finds { Finds (2 + 2 * length (above after self.old.state.processes)) self.old self.new (IsNext (is_target_of (process_like me.now) target.now) after self.old.state.processes result) }
         ensures visits { self.new.visits + 2 * length (left_of result self.old.state.processes) ≤ self.old.visits + 2 + 2 * length (above after self.old.state.processes) }
-        ensures looks { Looks (2 + 2 * length (above after self.old.state.processes)) self.old self.new }
     {
         match *target {
             Target::OwnGroup => self.next_member(me.group, after),
@@ -98,9 +95,7 @@ impl<K: Kin> Machine<K> {
     /// Sends a signal to all processes that the sender means, in rising order.
     fn send_to_all(&mut self, me: &Caller, sig: &Option<Sig>, target: &Target) -> Sending
         ensures sending { result ≡ sending_of (process_like me.now) target.now sig.now self.old.state.processes }
-        ensures state { self.new.state ≡ record (self.old.state) { processes = sent_to (process_like me.now) target.now sig.now self.old.state.processes } }
-        ensures to_recheck { self.new.to_recheck ≡ rechecking_signalled (process_like me.now) sig.now (targets (process_like me.now) target.now self.old.state.processes) self.old.state.processes self.old.state.order self.old.to_recheck }
-        ensures costs { Costs (2 + (3 + slots_of_send sig.now) * length self.old.state.processes) self.old self.new }
+        ensures changes { Changes (2 + (3 + slots_of_send sig.now) * length self.old.state.processes) self.old self.new (with_processes self.old.state (sent_to (process_like me.now) target.now sig.now self.old.state.processes)) (rechecking_signalled (process_like me.now) sig.now (targets (process_like me.now) target.now self.old.state.processes) self.old.state.processes self.old.state.order self.old.to_recheck) }
     {
         let mut sending = Sending::NobodyFound;
         let mut next = self.next_target(me, target, Pid::NONE);
@@ -115,9 +110,7 @@ impl<K: Kin> Machine<K> {
     /// `None` only checks. Where nobody is found or may be signalled nothing changes (XSH kill).
     pub fn send(&mut self, me: &Caller, target: Target, sig: Option<Sig>) -> Sending
         ensures sending { result ≡ sending_of (process_like me.now) target sig self.old.state.processes }
-        ensures state { self.new.state ≡ record (self.old.state) { processes = sent_to (process_like me.now) target sig self.old.state.processes } }
-        ensures to_recheck { self.new.to_recheck ≡ rechecking_signalled (process_like me.now) sig (targets (process_like me.now) target self.old.state.processes) self.old.state.processes self.old.state.order self.old.to_recheck }
-        ensures costs { Costs (2 + (3 + slots_of_send sig) * length self.old.state.processes) self.old self.new }
+        ensures changes { Changes (2 + (3 + slots_of_send sig) * length self.old.state.processes) self.old self.new (with_processes self.old.state (sent_to (process_like me.now) target sig self.old.state.processes)) (rechecking_signalled (process_like me.now) sig (targets (process_like me.now) target self.old.state.processes) self.old.state.processes self.old.state.order self.old.to_recheck) }
         ensures visits { (p : ℕ) → target ≡ Target.Process p → self.new.visits ≤ self.old.visits + 1 + slots_of_send sig }
     {
         let _ = &self.table;

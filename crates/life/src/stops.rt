@@ -8,8 +8,8 @@ ghost use Rattle.posix.specs.States.{process, change, without};
 ghost use Rattle.posix.specs.Regular.{IsPlaced};
 ghost use Rattle.posix.specs.Notices.{noticed_of_change, child_signal as child_signal_of, told_of_change, resumed};
 ghost use Rattle.posix.specs.Delivery.{stop_process as stopping};
-ghost use Rattle.life.specs.Rechecks.{rechecking, rechecking_changed};
-ghost use Rattle.life.specs.Machines.{Costs};
+ghost use Rattle.life.specs.Rechecks.{rechecking_changed, rechecks, rechecks_changed};
+ghost use Rattle.life.specs.Machines.{Changes, IsThere, IfThere, with_processes};
 
 use crate::ends::child_signal;
 use crate::machine::Machine;
@@ -21,9 +21,7 @@ impl<K: Kin> Machine<K> {
     /// reported, and its parent gets notice of it. A call that it is blocked in stays (XSH 2.4.3).
     pub fn stop_process(&mut self, pid: Pid, sig: Sig)
         requires { IsPlaced self.old.state.processes pid }
-        ensures state { (me : Process) → process self.old.state pid ≡ Some me → self.new.state ≡ (stopping self.old.state me sig).state }
-        ensures to_recheck { (me : Process) → process self.old.state pid ≡ Some me → self.new.to_recheck ≡ rechecking_changed me (without pid self.old.state.order) self.old.to_recheck }
-        ensures costs { Costs 3 self.old self.new }
+        ensures { IfThere pid self.old (λ me. Changes 3 self.old self.new (stopping self.old.state me sig).state (rechecking_changed me (without pid self.old.state.order) self.old.to_recheck)) }
     {
         self.lose_place(pid);
         let parent = self.change_seen(pid, |fields| fields.stop(sig));
@@ -34,9 +32,7 @@ impl<K: Kin> Machine<K> {
     /// parent gets notice of it (XSH 2.4.3).
     pub(crate) fn continue_process(&mut self, pid: Pid)
         requires { IsPlaced self.old.state.processes pid }
-        ensures state { (me : Process) → process self.old.state pid ≡ Some me → self.new.state ≡ record (self.old.state) { processes = told_of_change continued me (changed pid resumed self.old.state.processes) } }
-        ensures to_recheck { (me : Process) → process self.old.state pid ≡ Some me → self.new.to_recheck ≡ rechecking_changed me self.old.state.order self.old.to_recheck }
-        ensures costs { Costs 3 self.old self.new }
+        ensures { IfThere pid self.old (λ me. Changes 3 self.old self.new (with_processes self.old.state (told_of_change continued me (changed pid resumed self.old.state.processes))) (rechecks_changed me self.old)) }
     {
         let parent = self.change_seen(pid, |fields| fields.resume());
         self.tell_parent(pid, parent, Status::continued());
@@ -44,10 +40,8 @@ impl<K: Kin> Machine<K> {
 
     /// The parent of a child that was stopped or continued gets notice of it by this status. Number 0 is nobody's.
     fn tell_parent(&mut self, child: Pid, parent: Pid, status: Status)
-        requires { parent ≢ 0 → IsSome (process self.old.state parent) }
-        ensures state { self.new.state ≡ (if parent == 0 then self.old.state else change self.old.state parent (noticed_of_change (child_signal_of child status))) }
-        ensures to_recheck { self.new.to_recheck ≡ (if parent == 0 then self.old.to_recheck else rechecking parent self.old.state.order self.old.to_recheck) }
-        ensures costs { Costs 1 self.old self.new }
+        requires { parent ≢ 0 → IsThere parent self.old }
+        ensures { Changes 1 self.old self.new (if parent == 0 then self.old.state else change self.old.state parent (noticed_of_change (child_signal_of child status))) (if parent == 0 then self.old.to_recheck else rechecks parent self.old) }
     {
         let _ = &self.table;
         if parent != Pid::NONE {

@@ -2,14 +2,14 @@
 
 ghost use Rattle.std.specs.Prelude.{◌≡◌, ◌≢◌, ◌<◌, ◌≤◌, ◌+◌, ◌*◌, ℕ, length, IsSome, Some, true};
 ghost use Rattle.posix.specs.Processes.{Process, is_zombie};
-ghost use Rattle.posix.specs.Tables.{lookup, removed, children_in};
+ghost use Rattle.posix.specs.Tables.{lookup, removed, children_in, parent_of};
 ghost use Rattle.posix.specs.States.{process, change};
 ghost use Rattle.posix.specs.declared.target.Target.TheVariants as whom;
 ghost use Rattle.posix.specs.Waits.{look as look_of, report, report_change as report_change_of, report_life as report_life_of, report_of as report_of_child, reporting_in, news_told};
 ghost use Rattle.life.specs.Waits.{slots_of_wait};
 ghost use Rattle.proctable.specs.Records.{snapshot_of};
-ghost use Rattle.life.specs.Machines.{CanGo, IsGone, Looks, Costs};
-ghost use Rattle.life.specs.Rechecks.{rechecking_changed, without_gone};
+ghost use Rattle.life.specs.Machines.{Finds, Changes, IsThere, IfThere, with_processes, CanGo, IsGone};
+ghost use Rattle.life.specs.Rechecks.{rechecks_changed, without_gone};
 
 use crate::caller::Caller;
 use crate::machine::Machine;
@@ -62,7 +62,7 @@ fn look(group: Pid, options: WaitOptions, child: Snapshot) -> Report
 /// session's, in the parts of a machine. Its parent.
 pub(crate) fn discard<K: Kin>(table: &mut JobTable<K>, pids: &mut PidTable, pid: Pid) -> Pid
     requires { CanGo table.old.processes pids.old pid }
-    ensures parent { (it : Process) → lookup pid table.old.processes ≡ Some it → result ≡ it.parent }
+    ensures parent { result ≡ parent_of pid table.old.processes }
     ensures processes { table.new.processes ≡ removed pid table.old.processes }
     ensures counts { (it : Process) → lookup pid table.old.processes ≡ Some it → IsGone pids.old pids.new pid it }
     ensures visits { table.new.visits ≤ table.old.visits + 5 }
@@ -77,8 +77,7 @@ pub(crate) fn discard<K: Kin>(table: &mut JobTable<K>, pids: &mut PidTable, pid:
 impl<K: Kin> Machine<K> {
     /// What a wait for one process has to report: `NoChild` where that isn't a child of the caller.
     fn report_of_one(&mut self, parent: Pid, child: Pid, options: WaitOptions) -> Report
-        ensures value { (own : ℕ) → result ≡ report self.old.state.processes parent own (whom.Process child) options.0 }
-        ensures looks { Looks 1 self.old self.new }
+        ensures { Finds 1 self.old self.new ((own : ℕ) → result ≡ report self.old.state.processes parent own (whom.Process child) options.0) }
     {
         if let Some(snapshot) = self.snapshot(child) {
             if snapshot.parent == parent {
@@ -90,9 +89,8 @@ impl<K: Kin> Machine<K> {
 
     /// What a child that is there has to report.
     fn report_of(&mut self, child: Pid, options: WaitOptions) -> Report
-        requires { IsSome (process self.old.state child) }
-        ensures value { (it : Process) → process self.old.state child ≡ Some it → result ≡ report_of_child options.0 it }
-        ensures looks { Looks 1 self.old self.new }
+        requires { IsThere child self.old }
+        ensures { Finds 1 self.old self.new (IfThere child self.old (λ it. result ≡ report_of_child options.0 it)) }
     {
         match self.snapshot(child) {
             Some(snapshot) => report_life(options, child, snapshot.life, snapshot.news),
@@ -103,9 +101,8 @@ impl<K: Kin> Machine<K> {
     /// What a wait for any child has to report. It asks only those that have something to report, and of the
     /// others whether there is one.
     fn report_of_any(&mut self, parent: Pid, options: WaitOptions) -> Report
-        requires { IsSome (process self.old.state parent) }
-        ensures value { (own : ℕ) → result ≡ report self.old.state.processes parent own whom.All options.0 }
-        ensures looks { Looks (1 + length (reporting_in parent self.old.state.processes)) self.old self.new }
+        requires { IsThere parent self.old }
+        ensures { Finds (1 + length (reporting_in parent self.old.state.processes)) self.old self.new ((own : ℕ) → result ≡ report self.old.state.processes parent own whom.All options.0) }
     {
         let mut next = self.next_reporting(parent, Pid::NONE);
         while let Some(child) = next {
@@ -123,9 +120,8 @@ impl<K: Kin> Machine<K> {
 
     /// What a wait for the children in a process group has to report. It looks at each child.
     fn report_of_members(&mut self, parent: Pid, group: Pid, options: WaitOptions) -> Report
-        requires { IsSome (process self.old.state parent) }
-        ensures value { (own : ℕ) → result ≡ report self.old.state.processes parent own (whom.Group group) options.0 }
-        ensures looks { Looks (1 + 2 * length (children_in parent self.old.state.processes)) self.old self.new }
+        requires { IsThere parent self.old }
+        ensures { Finds (1 + 2 * length (children_in parent self.old.state.processes)) self.old self.new ((own : ℕ) → result ≡ report self.old.state.processes parent own (whom.Group group) options.0) }
     {
         let mut found = Report::NoChild;
         let mut next = self.first_child(parent);
@@ -146,9 +142,8 @@ impl<K: Kin> Machine<K> {
     /// What a wait has to report: of the children of a caller that is there which the target means, the one
     /// with the least number that has something to report (XSH waitpid). Nothing changes.
     pub fn wait_attempt(&mut self, me: &Caller, target: Target, options: WaitOptions) -> Report
-        requires { IsSome (process self.old.state me.now.pid) }
-        ensures value { result ≡ report self.old.state.processes me.now.pid me.now.group target options.0 }
-        ensures looks { Looks (1 + slots_of_wait target me.now.pid self.old.state.processes) self.old self.new }
+        requires { IsThere me.now.pid self.old }
+        ensures { Finds (1 + slots_of_wait target me.now.pid self.old.state.processes) self.old self.new (result ≡ report self.old.state.processes me.now.pid me.now.group target options.0) }
     {
         let _ = &self.table;
         match target {
@@ -165,22 +160,18 @@ impl<K: Kin> Machine<K> {
     pub fn reap(&mut self, pid: Pid)
         requires other { pid ≢ 1 }
         requires zombie { (child : Process) × (process self.old.state pid ≡ Some child) × (is_zombie child.life ≡ true) }
-        ensures state { self.new.state ≡ record (self.old.state) { processes = removed pid self.old.state.processes } }
+        ensures changes { Changes 5 self.old self.new (with_processes self.old.state (removed pid self.old.state.processes)) (without_gone pid (parent_of pid self.old.state.processes) self.old.to_recheck) }
         ensures born { self.new.state.dropped + length self.new.state.processes < self.new.state.births }
-        ensures to_recheck { (child : Process) → process self.old.state pid ≡ Some child → self.new.to_recheck ≡ without_gone pid (Some child.parent) self.old.to_recheck }
-        ensures costs { Costs 5 self.old self.new }
     {
         let parent = discard(&mut self.table, &mut self.pids, pid);
-        forget(&mut self.to_recheck, pid, Some(parent));
+        forget(&mut self.to_recheck, pid, parent);
         self.foregrounds_unchecked = true;
     }
 
     /// A wait has reported the news of a process that is there: they become none.
     pub fn tell_news(&mut self, pid: Pid)
-        requires { IsSome (process self.old.state pid) }
-        ensures state { self.new.state ≡ change self.old.state pid news_told }
-        ensures to_recheck { (child : Process) → process self.old.state pid ≡ Some child → self.new.to_recheck ≡ rechecking_changed child self.old.state.order self.old.to_recheck }
-        ensures costs { Costs 2 self.old self.new }
+        requires { IsThere pid self.old }
+        ensures { IfThere pid self.old (λ child. Changes 2 self.old self.new (change self.old.state pid news_told) (rechecks_changed child self.old)) }
     {
         self.change_seen(pid, |fields| fields.tell_news());
     }

@@ -7,7 +7,7 @@ ghost use Rattle.posix.specs.States.{process};
 ghost use Rattle.posix.specs.Regular.{IsRegular};
 ghost use Rattle.posix.specs.Settle.{wakes, NoWakeIsLost};
 ghost use Rattle.posix.specs.Waits.{reporting_in};
-ghost use Rattle.life.specs.Machines.{Looks};
+ghost use Rattle.life.specs.Machines.{Finds, IsThere};
 
 use crate::machine::Machine;
 use posix::Pid;
@@ -16,26 +16,23 @@ use proctable::Kin;
 impl<K: Kin> Machine<K> {
     /// The process with the least number above `pid`.
     pub(crate) fn next_after(&mut self, pid: Pid) -> Option<Pid>
-        ensures value { result ≡ next_above pid self.old.state.processes }
-        ensures looks { Looks 1 self.old self.new }
+        ensures { Finds 1 self.old self.new (result ≡ next_above pid self.old.state.processes) }
     {
         self.table.next_after(pid)
     }
 
     /// The child with the least number of a process that is there, zombies included.
     pub(crate) fn first_child(&mut self, pid: Pid) -> Option<Pid>
-        requires { IsSome (process self.old.state pid) }
-        ensures value { result ≡ first_pid (children_in pid self.old.state.processes) }
-        ensures looks { Looks 1 self.old self.new }
+        requires { IsThere pid self.old }
+        ensures { Finds 1 self.old self.new (result ≡ first_pid (children_in pid self.old.state.processes)) }
     {
         self.table.first_child(pid)
     }
 
     /// The next of the children of the parent of a process that is there.
     pub(crate) fn next_sibling(&mut self, pid: Pid) -> Option<Pid>
-        requires { IsSome (process self.old.state pid) }
-        ensures value { result ≡ next_sibling_of pid self.old.state.processes }
-        ensures looks { Looks 1 self.old self.new }
+        requires { IsThere pid self.old }
+        ensures { Finds 1 self.old self.new (result ≡ next_sibling_of pid self.old.state.processes) }
     {
         self.table.next_sibling(pid)
     }
@@ -52,7 +49,7 @@ impl<K: Kin> Machine<K> {
     /// nobody is to be rechecked nobody has.
     pub fn first_to_recheck(&self) -> Option<Pid>
         ensures next { IsNext (wakes self.now.state) 0 self.now.state.processes result }
-        ensures value { result ≡ slice_get self.now.to_recheck 0 }
+        ensures is { result ≡ slice_get self.now.to_recheck 0 }
         ensures regular { IsRegular self.now.state }
     {
         self.to_recheck.first()

@@ -12,7 +12,7 @@ use Rattle.posix.specs.States.{is_in}
 use Rattle.posix.proofs.TableLemmas.{pid_looked, lookup_changed, pid_reparented, none_found, rising_removed}
 use Rattle.posix.proofs.MapLemmas.{lookup_map}
 use Rattle.posix.proofs.MemberLemmas.{in_first, in_rest, in_none}
-use Rattle.posix.proofs.RegularLemmas.{lookup_new, lookup_inserted, lookup_kept, lookup_removed}
+use Rattle.posix.proofs.RegularLemmas.{lookup_inserted, lookup_kept, lookup_removed}
 use Rattle.posix.proofs.PassingLemmas.{filter_at_most}
 use Rattle.posix.proofs.WalkLemmas.{Passes, all_looked, first_passes, none_passes_before, both_pass}
 use Rattle.pidset.specs.declared.index.Pair.{Pair}

@@ -3,3 +3,4 @@ pub mod ItemLemmas
 pub mod PairLemmas
 pub mod IndexLemmas
 pub mod AnchorLemmas
+pub mod WalkLemmas

@@ -9,7 +9,7 @@ use Rattle.posix.specs.States.{is_in}
 use Rattle.pidset.specs.declared.index.Pair.{Pair}
 use Rattle.pidset.specs.Numbers.{Rises, with_number, inserted_in_order}
 use Rattle.pidset.specs.Indexes.{ArePairs, IsPair, IsNextPair, pair_number, is_pair, is_pair_in}
-use Rattle.pidset.proofs.NumberLemmas.{AllAbove, in_with, in_above, rises_with, few}
+use Rattle.pidset.proofs.NumberLemmas.{AllAbove, in_with, in_above, rises_with}
 use Rattle.pidset.proofs.ItemLemmas.{rises_inserted, rises_passing}
 
 -- ---- the number of a pair
@@ -195,6 +195,12 @@ no_next_child p n pairs x h i other = record {
 
 pub none_next_child : (p n : ℕ) (pairs : List Pair) → ArePairs pairs → slice_get (filter (λ y. nat_lt (p * 4294967296 + n) (pair_number y)) pairs) 0 ≡ None → IsNextPair p n pairs None
 none_next_child p n pairs h none = record { there = λ c e. absurd (cc); least = λ c e l. absurd (none_above (p * 4294967296 + n) pairs h none p c e (omega (arith, l))) }
+
+-- nobody is the next of nobody
+pub next_of_none : (p n : ℕ) (pairs : List Pair) → slice_get pairs 0 ≡ None → IsNextPair p n pairs None
+unfolding is_pair_in
+next_of_none p n [] e = record { there = λ c e. absurd (cc); least = λ c e l. absurd (cc) }
+next_of_none p n (x ∷ xs) e = absurd (cc)
 
 -- ---- how many there are
 

@@ -80,6 +80,8 @@ impl Index {
         ensures next { IsNextPair key after self.now.pairs result }
         ensures rising { ArePairs self.now.pairs }
     {
+        // Mostly nobody stands in it.
+        self.pairs.first()?;
         let from = keyed(key, after);
         match next_above(&self.pairs, &from) {
             Some(pair) if pair.key == key => Some(pair.pid),
@@ -113,7 +115,7 @@ impl Index {
     }
 
     /// A process that stood under one key, or under none, stands under another, or under none.
-    #[inline]
+    #[inline(always)]
     pub fn replace(&mut self, pid: Pid, old: Option<u64>, new: Option<u64>)
         requires can { CanReplace pid old self.old }
         requires pid { 1 ≤ pid }

@@ -38,7 +38,7 @@ pub finish_with-requires-clause-there : goal.finish_with-requires-clause-there
 finish_with-requires-clause-there g c =
     let same = state_is c.look.follows.holds-at-none in
     let here = subst (λ (t : State). IsSome (process t c.args.pid)) (sym same) (placed_some _ c.args.pid c.requires.acting.placed) in
-    subst (λ (t : State). IsSome (process t c.args.pid)) (sym c.set_alarm-left.ensures.state) (some_changed c.args.pid c.args.pid (with_alarm _) (unseen_with_alarm _).pid _ here)
+    subst (λ (t : State). IsSome (process t c.args.pid)) (sym c.set_alarm-left.ensures.changes.state) (some_changed c.args.pid c.args.pid (with_alarm _) (unseen_with_alarm _).pid _ here)
 
 pub returns : goal.returns
 unfolding attempt alarm
@@ -57,5 +57,5 @@ returns g c = λ me e.
     let value = to_z_pos w64 c.set_alarm-left.result (omega (arith, few)) ∙ ap pos (c.set_alarm-left.ensures.left me (ap (λ (t : State). process t p) same ∙ e) ∙ ap (λ (t : State). ticks_left t.ticks me.alarm) same) in (
       true,
       gives_is s (change s p (with_alarm due)) _ _ _ p Alarm _ left _ _ _ (ap (λ o. finish_call s me.pid Alarm (alarm_in s.ticks me o)) some ∙ ap (λ q. finish_call s q Alarm (alarm_in s.ticks me (Some c.in-Some.ticks))) named ∙ answers_then s p Alarm left (with_alarm due) (unseen_with_alarm due).pid)
-          c.finish_with.ensures.done c.finish_with.ensures.state (c.set_alarm-left.ensures.state ∙ ap (λ (t : State). change t p (with_alarm (due_in t.ticks c.in-Some.ticks))) same) c.finish_with.ensures.shown value,
+          c.finish_with.ensures.done c.finish_with.ensures.state (c.set_alarm-left.ensures.changes.state ∙ ap (λ (t : State). change t p (with_alarm (due_in t.ticks c.in-Some.ticks))) same) c.finish_with.ensures.shown value,
     )

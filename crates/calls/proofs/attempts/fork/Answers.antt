@@ -52,7 +52,7 @@ returns-in-Ok g c = λ me e.
 pub own-requires : goal.own-requires
 own-requires g c =
     let s = c.args.machine.now.state in
-    subst (λ (t : State). IsSome (process t c.args.pid)) (sym c.in-Err.ensures.err) (placed_some s.processes c.args.pid c.requires.acting.placed)
+    subst (λ (t : State). IsSome (process t c.args.pid)) (sym c.in-Err.ensures.err.state) (placed_some s.processes c.args.pid c.requires.acting.placed)
 
 pub returns-in-Err : goal.returns-in-Err
 unfolding attempt fork_as
@@ -65,7 +65,7 @@ returns-in-Err g c = λ me e.
     let kept : to_z w64 (of_z w64 c.refusal.result) ≡ c.refusal.result = search rules in
     let value = kept ∙ c.refusal.ensures in
     let state = was_written t p c.own.result.now c.finish.new.self (finished ((0, to_z w64 (of_z w64 c.refusal.result)) ∷ [])) c.own.ensures.regular c.own.ensures.value c.finish.ensures
-    ∙ ap (λ z. finish t p ((0, z) ∷ [])) value ∙ ap (λ (u : State). finish u p ((0, refusal EAGAIN) ∷ [])) c.in-Err.ensures.err in (
+    ∙ ap (λ z. finish t p ((0, z) ∷ [])) value ∙ ap (λ (u : State). finish u p ((0, refusal EAGAIN) ∷ [])) c.in-Err.ensures.err.state in (
       false,
       subst (λ (o : Option ℕ). Comes s (fork_as false s me o) came.Done c.args.entries.now.items c.push.new.self.items (change t p (give_own c.finish.new.self))) (sym some)
           (subst (λ q. Comes s (no_memory s q Fork) came.Done c.args.entries.now.items c.push.new.self.items (change t p (give_own c.finish.new.self))) (sym named)

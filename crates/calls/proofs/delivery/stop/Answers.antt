@@ -26,5 +26,5 @@ returns-else-is_stop_discarded g c = λ me e.
     stop_if s me c.args.sig false (sym (c.is_stop_discarded.ensures.value me e) ∙ c.if-is_stop_discarded.false)
     ∙ ap (λ n. outcome_of (stop_process s me c.args.sig).state (Stopped n c.args.sig ∷ [])) named
     ∙ ap (λ (t : State). outcome_of (stop_process t me c.args.sig).state (Stopped c.args.pid c.args.sig ∷ [])) (sym same)
-    ∙ ap (λ (t : State). outcome_of t (Stopped c.args.pid c.args.sig ∷ [])) (sym (c.stop_process.ensures.state me there))
+    ∙ ap (λ (t : State). outcome_of t (Stopped c.args.pid c.args.sig ∷ [])) (sym (c.stop_process.ensures me there).state)
     ∙ ap (outcome_of c.stop_process.new.self.state) (shown_alone _ _ _ c.requires.none c.push-else-is_stop_discarded.ensures.items)

@@ -18,11 +18,11 @@ pub finish_with-requires-clause-there : goal.finish_with-requires-clause-there
 finish_with-requires-clause-there g c =
     let me = c.requires.placed.what in
     let t = c.caller-me.new.self.state in
-    let found = ap (λ (x : State). process x c.caller-me.result.pid) c.caller-me.ensures.looks.same.state ∙ ap (process c.args.machine.now.state) c.caller-me.ensures.pid ∙ c.requires.placed.found in
+    let found = ap (λ (x : State). process x c.caller-me.result.pid) c.caller-me.ensures.finds.looks.same.state ∙ ap (process c.args.machine.now.state) c.caller-me.ensures.pid ∙ c.requires.placed.found in
     let who = who_moves me _ _ _ _ (sym (c.move_group.ensures.value me found) ∙ c.in-Ok.is) in
     let state = c.in-Ok.ensures.ok me who.what found who.found in
     subst (λ (x : State). IsSome (process x c.args.pid)) (sym state)
-    (there_moved t c.args.pid who.what.pid c.in-Ok.field-0 (subst (λ (x : State). IsSome (process x c.args.pid)) (sym c.caller-me.ensures.looks.same.state) (placed_some _ c.args.pid c.requires.placed)))
+    (there_moved t c.args.pid who.what.pid c.in-Ok.field-0 (subst (λ (x : State). IsSome (process x c.args.pid)) (sym c.caller-me.ensures.finds.looks.same.state) (placed_some _ c.args.pid c.requires.placed)))
 
 pub returns-in-Ok : goal.returns-in-Ok
 unfolding attempt
@@ -30,8 +30,8 @@ returns-in-Ok g c = λ me e.
     let s = c.args.machine.now.state in
     let p = c.args.pid in
     let caller = c.caller-me.result in
-    let same = c.caller-me.ensures.looks.same.state in
-    let is = subst (λ (o : Option Process). IfSome o (λ r. caller ≡ caller_of r)) e c.caller-me.ensures.value in
+    let same = c.caller-me.ensures.finds.looks.same.state in
+    let is = subst (λ (o : Option Process). IfSome o (λ r. caller ≡ caller_of r)) e c.caller-me.ensures.finds.value in
     let found = ap (λ (x : State). process x caller.pid) same ∙ ap (process s) c.caller-me.ensures.pid ∙ e in
     let moves = sym (c.move_group.ensures.value me found) ∙ c.in-Ok.is in
     let who = who_moves me _ _ _ _ moves in

@@ -24,7 +24,7 @@ refuse-requires-clause-there g c =
     let s = c.args.machine.now.state in
     let p = c.args.pid in
     let me = c.requires.placed in
-    let stays = has_not_led s _ p me.what _ _ c.in-Err.is (c.new_session.ensures.refused me.what me.found) (c.new_session.ensures.leads me.what me.found) in
+    let stays = has_not_led c.args.machine.now _ p me.what _ _ c.in-Err.is (c.new_session.ensures.refused me.what me.found) (c.new_session.ensures.leads me.what me.found) in
     subst (λ (t : State). IsSome (process t p)) (sym stays.state) (placed_some s.processes p me)
 
 pub returns-in-Ok : goal.returns-in-Ok
@@ -46,7 +46,7 @@ returns-in-Err g c = λ me e.
     let s = c.args.machine.now.state in
     let p = c.args.pid in
     let named = pid_looked p s.processes me e in
-    let stays = has_not_led s _ p me _ _ c.in-Err.is (c.new_session.ensures.refused me e) (c.new_session.ensures.leads me e) in (
+    let stays = has_not_led c.args.machine.now _ p me _ _ c.in-Err.is (c.new_session.ensures.refused me e) (c.new_session.ensures.leads me e) in (
       true,
       gives_is s s _ _ _ p Setsid (refusal c.in-Err.errno) _ _ _ _ (session_refused s me stays.refused ∙ ap (λ why. refused s me.pid Setsid why) (sym stays.errno) ∙ ap (λ q. refused s q Setsid c.in-Err.errno) named)
           c.refuse.ensures.done c.refuse.ensures.state stays.state c.refuse.ensures.shown refl,

@@ -16,7 +16,7 @@ returns-in-Err g c =
     gives_is s s _ _ _ me.pid Kill (refusal c.in-Err.errno) (refusal c.in-Err.errno) _ _ _ is c.refuse.ensures.done c.refuse.ensures.state refl c.refuse.ensures.shown refl
 
 pub refuse-requires-in-NobodyFound-clause-there : goal.refuse-requires-in-NobodyFound-clause-there
-refuse-requires-in-NobodyFound-clause-there g c = there_sent c.args.machine.now.state _ (process_like c.args.me.now) _ c.in-Ok.sig c.args.me.now.pid c.send.ensures.state c.requires.there
+refuse-requires-in-NobodyFound-clause-there g c = there_sent c.args.machine.now.state _ (process_like c.args.me.now) _ c.in-Ok.sig c.args.me.now.pid c.send.ensures.changes.state c.requires.there
 
 pub returns-in-NobodyFound : goal.returns-in-NobodyFound
 returns-in-NobodyFound g c =
@@ -24,12 +24,12 @@ returns-in-NobodyFound g c =
     let me = c.args.me.now in
     let x = process_like me in
     let is = kill_finds s x _ _ c.in-Ok.sig _ found.NobodyFound c.signal_or_none.ensures c.in-Ok.is c.target.ensures c.send.ensures.sending c.in-NobodyFound.is in
-    let same = sent_same s _ x _ c.in-Ok.sig _ found.NobodyFound c.send.ensures.state c.send.ensures.sending c.in-NobodyFound.is (λ k. absurd (cc)) in
+    let same = sent_same s _ x _ c.in-Ok.sig _ found.NobodyFound c.send.ensures.changes.state c.send.ensures.sending c.in-NobodyFound.is (λ k. absurd (cc)) in
     let r = c.refuse-in-NobodyFound in
     gives_is s s _ _ _ me.pid Kill (refusal ESRCH) (refusal ESRCH) _ _ _ is r.ensures.done r.ensures.state same r.ensures.shown refl
 
 pub refuse-requires-in-NobodyPermitted-clause-there : goal.refuse-requires-in-NobodyPermitted-clause-there
-refuse-requires-in-NobodyPermitted-clause-there g c = there_sent c.args.machine.now.state _ (process_like c.args.me.now) _ c.in-Ok.sig c.args.me.now.pid c.send.ensures.state c.requires.there
+refuse-requires-in-NobodyPermitted-clause-there g c = there_sent c.args.machine.now.state _ (process_like c.args.me.now) _ c.in-Ok.sig c.args.me.now.pid c.send.ensures.changes.state c.requires.there
 
 pub returns-in-NobodyPermitted : goal.returns-in-NobodyPermitted
 returns-in-NobodyPermitted g c =
@@ -37,12 +37,12 @@ returns-in-NobodyPermitted g c =
     let me = c.args.me.now in
     let x = process_like me in
     let is = kill_finds s x _ _ c.in-Ok.sig _ found.NobodyPermitted c.signal_or_none.ensures c.in-Ok.is c.target.ensures c.send.ensures.sending c.in-NobodyPermitted.is in
-    let same = sent_same s _ x _ c.in-Ok.sig _ found.NobodyPermitted c.send.ensures.state c.send.ensures.sending c.in-NobodyPermitted.is (λ k. absurd (cc)) in
+    let same = sent_same s _ x _ c.in-Ok.sig _ found.NobodyPermitted c.send.ensures.changes.state c.send.ensures.sending c.in-NobodyPermitted.is (λ k. absurd (cc)) in
     let r = c.refuse-in-NobodyPermitted in
     gives_is s s _ _ _ me.pid Kill (refusal EPERM) (refusal EPERM) _ _ _ is r.ensures.done r.ensures.state same r.ensures.shown refl
 
 pub finish_with-requires-clause-there : goal.finish_with-requires-clause-there
-finish_with-requires-clause-there g c = there_sent c.args.machine.now.state _ (process_like c.args.me.now) _ c.in-Ok.sig c.args.me.now.pid c.send.ensures.state c.requires.there
+finish_with-requires-clause-there g c = there_sent c.args.machine.now.state _ (process_like c.args.me.now) _ c.in-Ok.sig c.args.me.now.pid c.send.ensures.changes.state c.requires.there
 
 pub returns-in-Permitted : goal.returns-in-Permitted
 returns-in-Permitted g c =
@@ -50,4 +50,4 @@ returns-in-Permitted g c =
     let me = c.args.me.now in
     let x = process_like me in
     let is = kill_finds s x _ _ c.in-Ok.sig _ found.Permitted c.signal_or_none.ensures c.in-Ok.is c.target.ensures c.send.ensures.sending c.in-Permitted.is in
-    gives_is s (sent_in s x c.target.result c.in-Ok.sig) _ _ _ me.pid Kill (pos 0) (pos 0) _ _ _ is c.finish_with.ensures.done c.finish_with.ensures.state c.send.ensures.state c.finish_with.ensures.shown refl
+    gives_is s (sent_in s x c.target.result c.in-Ok.sig) _ _ _ me.pid Kill (pos 0) (pos 0) _ _ _ is c.finish_with.ensures.done c.finish_with.ensures.state c.send.ensures.changes.state c.finish_with.ensures.shown refl

@@ -19,11 +19,11 @@ returns-in_default-session_at g c = λ me e.
     let p = c.args.pid in
     let console_index = c.in-Some.console_index in
     let cr = c.caller-me.result in
-    let caller = caller_is (process s p) me cr c.caller-me.ensures.value e in
+    let caller = caller_is (process s p) me cr c.caller-me.ensures.finds.value e in
     let kept : to_z w64 (of_z w64 cr.r1) ≡ cr.r1 = search rules in
     let some : console_named (argument me 1) ≡ Some console_index = ap console_named (sym (kept ∙ ap (λ (k : Caller). k.r1) caller)) ∙ sym c.console_named.ensures ∙ c.in-Some.is in
     let none : slice_get s.consoles console_index ≡ None =
-    ap (λ (t : State). slice_get t.consoles console_index) (sym c.caller-me.ensures.looks.same.state) ∙ none_read _ (sym c.session_at.ensures.value ∙ c.in_default-session_at.is) in
+    ap (λ (t : State). slice_get t.consoles console_index) (sym c.caller-me.ensures.finds.looks.same.state) ∙ none_read _ (sym c.session_at.ensures.value ∙ c.in_default-session_at.is) in
     let is = ap (setctty_at s me) some ∙ ap (setctty_of s me console_index) none ∙ ap (λ (q : ℕ). refused s q Setctty ENOENT) (pid_looked p s.processes me e) in
     let last = c.refuse-in_default-session_at.ensures in
-    (true, gives_is s s _ _ _ p Setctty (refusal ENOENT) (refusal ENOENT) _ _ _ is last.done last.state c.caller-me.ensures.looks.same.state last.shown refl)
+    (true, gives_is s s _ _ _ p Setctty (refusal ENOENT) (refusal ENOENT) _ _ _ is last.done last.state c.caller-me.ensures.finds.looks.same.state last.shown refl)

@@ -43,7 +43,7 @@ report-requires-clause-there g c =
     let s = c.args.machine.now.state in
     let me = c.args.me.now in
     let child = reported s.processes c.requires.regular.rising me.pid me.group _ _ (found.End c.in-End.child c.in-End.status) c.in-End.child (sym c.wait_attempt.ensures.value ∙ c.in-End.is) refl in
-    let gone = c.reap.ensures.state ∙ ap (λ (t : State). record t { processes = removed c.in-End.child t.processes }) c.wait_attempt.ensures.looks.same.state in
+    let gone = c.reap.ensures.changes.state ∙ ap (λ (t : State). record t { processes = removed c.in-End.child t.processes }) c.wait_attempt.ensures.looks.same.state in
     subst (λ (t : State). IsSome (process t me.pid)) (sym gone) (caller_stays s.processes me.pid c.in-End.child c.requires.placed child)
 
 pub tell_news-requires : goal.tell_news-requires
@@ -57,7 +57,8 @@ pub report-requires-in-Change-clause-there : goal.report-requires-in-Change-clau
 report-requires-in-Change-clause-there g c =
     let s = c.args.machine.now.state in
     let me = c.args.me.now in
-    let told = c.tell_news.ensures.state ∙ ap (λ (t : State). change t c.in-Change.child news_told) c.wait_attempt.ensures.looks.same.state in
+    let child = reported s.processes c.requires.regular.rising me.pid me.group _ _ (found.Change c.in-Change.child c.in-Change.status) c.in-Change.child (sym c.wait_attempt.ensures.value ∙ c.in-Change.is) refl in
+    let told = (c.tell_news.ensures child.what (ap (λ (t : State). process t c.in-Change.child) c.wait_attempt.ensures.looks.same.state ∙ child.found)).state ∙ ap (λ (t : State). change t c.in-Change.child news_told) c.wait_attempt.ensures.looks.same.state in
     subst (λ (t : State). IsSome (process t me.pid)) (sym told) (some_changed c.in-Change.child me.pid news_told (keeps_news_told {now = 0}).pid s.processes (placed_some s.processes me.pid c.requires.placed))
 
 pub returns-in-NoChild : goal.returns-in-NoChild
@@ -91,7 +92,7 @@ returns-in-End g c =
     let s = c.args.machine.now.state in
     let me = c.args.me.now in
     let is = wait_finds s (process_like me) _ _ c.in-Some.options _ (found.End c.in-End.child c.in-End.status) c.options_of.ensures.known c.in-Some.is c.in-Some.ensures.value c.target.ensures c.wait_attempt.ensures.value c.in-End.is in
-    let gone = c.reap.ensures.state ∙ ap (λ (t : State). record t { processes = removed c.in-End.child t.processes }) c.wait_attempt.ensures.looks.same.state in
+    let gone = c.reap.ensures.changes.state ∙ ap (λ (t : State). record t { processes = removed c.in-End.child t.processes }) c.wait_attempt.ensures.looks.same.state in
     reports_is s (record s { processes = removed c.in-End.child s.processes }) _ _ _ me.pid c.in-End.child c.in-End.status _ _ _ is c.report.ensures.done c.report.ensures.state gone c.report.ensures.shown
 
 pub returns-in-Change : goal.returns-in-Change
@@ -99,6 +100,7 @@ returns-in-Change g c =
     let s = c.args.machine.now.state in
     let me = c.args.me.now in
     let is = wait_finds s (process_like me) _ _ c.in-Some.options _ (found.Change c.in-Change.child c.in-Change.status) c.options_of.ensures.known c.in-Some.is c.in-Some.ensures.value c.target.ensures c.wait_attempt.ensures.value c.in-Change.is in
-    let told = c.tell_news.ensures.state ∙ ap (λ (t : State). change t c.in-Change.child news_told) c.wait_attempt.ensures.looks.same.state in
+    let child = reported s.processes c.requires.regular.rising me.pid me.group _ _ (found.Change c.in-Change.child c.in-Change.status) c.in-Change.child (sym c.wait_attempt.ensures.value ∙ c.in-Change.is) refl in
+    let told = (c.tell_news.ensures child.what (ap (λ (t : State). process t c.in-Change.child) c.wait_attempt.ensures.looks.same.state ∙ child.found)).state ∙ ap (λ (t : State). change t c.in-Change.child news_told) c.wait_attempt.ensures.looks.same.state in
     let r = c.report-in-Change in
     reports_is s (change s c.in-Change.child news_told) _ _ _ me.pid c.in-Change.child c.in-Change.status _ _ _ is r.ensures.done r.ensures.state told r.ensures.shown

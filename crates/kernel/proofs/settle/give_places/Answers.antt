@@ -4,7 +4,7 @@ use Rattle.posix.specs.Settle.{give_places, wakes}
 use Rattle.posix.specs.Tables.{IsNext}
 use Rattle.posix.specs.Regular.{IsRegular}
 use Rattle.posix.proofs.SettleLemmas.{asking_begins, asking_ends}
-use Rattle.life.proofs.AtRiskLemmas.{none_left}
+use Rattle.pidset.proofs.WalkLemmas.{none_left}
 use Rattle.kernel.proofs.RecheckedLemmas.{woken_rests, first_woken, without_first}
 use Rattle.life.specs.Machines.{MachineView}
 use Rattle.kernel.proofs.settle.give_places.Goals as goal
@@ -19,7 +19,7 @@ pub loop-pid-smaller : goal.loop-pid-smaller
 loop-pid-smaller g c =
     let pid = c.in-Some.pid in
     let list = (ap (λ (m : MachineView). m.to_recheck) c.rechecked.ensures.rest) ∙ ap (without pid) c.wake.ensures.to_recheck in
-    subst (λ (ns : List ℕ). length ns < length c.loop-pid.machine.to_recheck) (sym list) (without_first c.loop-pid.machine.to_recheck pid (sym c.first_to_recheck.ensures.value ∙ c.in-Some.is))
+    subst (λ (ns : List ℕ). length ns < length c.loop-pid.machine.to_recheck) (sym list) (without_first c.loop-pid.machine.to_recheck pid (sym c.first_to_recheck.ensures.is ∙ c.in-Some.is))
 
 pub loop-pid-preserved : goal.loop-pid-preserved
 loop-pid-preserved g c =
@@ -30,7 +30,7 @@ loop-pid-preserved g c =
     record {
       places = ap give_places same ∙ first_woken s pid c.first_to_recheck.ensures.regular (subst IsRegular c.wake.ensures.state c.rechecked.ensures.costs.regular) first ∙ c.loop-pid.invariant.places;
       foregrounds_unchecked = (ap (λ (m : MachineView). m.foregrounds_unchecked) c.rechecked.ensures.rest) ∙ c.wake.ensures.foregrounds_unchecked ∙ c.loop-pid.invariant.foregrounds_unchecked;
-      none = λ e. let some = sym c.in-Some.is ∙ c.first_to_recheck.ensures.value ∙ ap (λ (ns : List ℕ). slice_get ns 0) (c.loop-pid.invariant.none e).0 in absurd (cc);
+      none = λ e. let some = sym c.in-Some.is ∙ c.first_to_recheck.ensures.is ∙ ap (λ (ns : List ℕ). slice_get ns 0) (c.loop-pid.invariant.none e).0 in absurd (cc);
     }
 
 pub returns-clause-state : goal.returns-clause-state
@@ -39,4 +39,4 @@ returns-clause-state g c =
     sym (asking_ends s) ∙ asking_begins s _ c.first_to_recheck.ensures.regular (subst (IsNext (wakes s) 0 s.processes) c.in_default.is c.first_to_recheck.ensures.next) ∙ c.loop-pid.invariant.places
 
 pub returns-clause-to_recheck : goal.returns-clause-to_recheck
-returns-clause-to_recheck g c = none_left c.loop-pid.machine.to_recheck (sym c.first_to_recheck.ensures.value ∙ c.in_default.is)
+returns-clause-to_recheck g c = none_left c.loop-pid.machine.to_recheck (sym c.first_to_recheck.ensures.is ∙ c.in_default.is)

@@ -21,7 +21,7 @@ returns-then-can_act-clause-state g c =
     let me = there (process s c.args.pid) c.requires in
     let acts = sym (c.can_act.ensures.value me.what me.found) ∙ c.if-can_act.true in
     let none = sym c.has_place.ensures ∙ c.if-not-has_place.true in
-    subst (λ (t : State). c.place.new.self.state ≡ record t { order = t.order ++ c.args.pid ∷ [] }) c.can_act.ensures.same c.place.ensures.state
+    subst (λ (t : State). c.place.new.self.state ≡ record t { order = t.order ++ c.args.pid ∷ [] }) c.can_act.ensures.same (state_is c.place.ensures)
     ∙ sym (woken_is s c.args.pid me.what false true me.found none acts)
 
 pub returns-else-not-has_place-clause-state : goal.returns-else-not-has_place-clause-state

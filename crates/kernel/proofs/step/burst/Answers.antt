@@ -21,7 +21,7 @@ returns g c =
       short = e.short;
       call = shown.call;
       numbers = shown.numbers;
-      to_recheck = e.to_recheck (placed_now s _ p c.snapshot.ensures.looks.same.state now) ∙ c.snapshot.ensures.looks.same.to_recheck;
-      foregrounds_unchecked = e.foregrounds_unchecked ∙ c.snapshot.ensures.looks.same.foregrounds_unchecked;
+      to_recheck = e.runs.to_recheck (placed_now s _ p c.snapshot.ensures.looks.same.state now) ∙ c.snapshot.ensures.looks.same.to_recheck;
+      foregrounds_unchecked = e.runs.foregrounds_unchecked ∙ c.snapshot.ensures.looks.same.foregrounds_unchecked;
       regular = e.regular;
     }

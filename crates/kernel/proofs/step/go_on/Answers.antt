@@ -7,6 +7,7 @@ use Rattle.posix.specs.Step.{go_on, deliver_or, out_of_call}
 use Rattle.posix.proofs.TableLemmas.{pid_looked}
 use Rattle.life.proofs.LoanLemmas.{was_written}
 use Rattle.calls.proofs.CallLemmas.{block_is, again_is, same_outcome}
+use Rattle.life.proofs.ViewLemmas.{state_is}
 use Rattle.kernel.proofs.AgainLemmas.{placed_again}
 use Rattle.kernel.proofs.step.go_on.Goals as goal
 
@@ -50,4 +51,4 @@ returns-in-None g c = λ me e.
     ap (go_on s me) b.0
     ∙ ap (λ o. deliver_or s me o (silent (lose_place s me.pid))) (sym (c.requires.signal me e) ∙ c.in-None.is)
     ∙ same_outcome (lose_place s me.pid) c.lose_place.new.self.state [] c.attempt_again.new.entries.items
-    (ap (lose_place s) named ∙ ap (λ (t : State). lose_place t c.args.pid) (sym b.2) ∙ sym c.lose_place.ensures.state) (sym (b.1 ∙ c.requires.none))
+    (ap (lose_place s) named ∙ ap (λ (t : State). lose_place t c.args.pid) (sym b.2) ∙ sym (state_is c.lose_place.ensures.is)) (sym (b.1 ∙ c.requires.none))

@@ -1,9 +1,8 @@
-use Rattle.std.proofs.Common.{◌∙◌, ◌==◌, ap, sym, refl}
+use Rattle.std.proofs.Common.{◌∙◌, ◌==◌, ap, sym, refl, find}
 use Rattle.std.proofs.lemmas.List.{take_all}
 use Rattle.std.proofs.lemmas.Bool.{eqb-true}
 use Rattle.std.proofs.lemmas.Option.{slice_get_read}
 use Rattle.posix.specs.Consoles.{is_of_session, console_of}
-use Rattle.std.proofs.Common.{find}
 use Rattle.life.proofs.ReaderLemmas.{not_next, is_next}
 use Rattle.life.proofs.consoles.terminal_index.Goals as goal
 

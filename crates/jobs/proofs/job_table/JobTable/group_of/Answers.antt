@@ -1,13 +1,13 @@
-use Rattle.std.proofs.Common.{◌<◌, ◌==◌, ◌&&◌, ap, sym, ◌∙◌, arith, subst, filter, length, Option, Some, ℕ, inl, refl}
+use Rattle.std.proofs.Common.{rules, ◌<◌, ◌==◌, ◌&&◌, ap, sym, ◌∙◌, arith, subst, filter, length, Option, Some, ℕ, inl, refl}
 use Rattle.std.specs.Option.{IfSome, IsSome}
 use Rattle.posix.specs.Processes.{Process}
 use Rattle.posix.specs.Tables.{IsNext, first_pid, left_of, next_above, lookup}
 use Rattle.posix.specs.GroupCalls.{is_group_of}
-use Rattle.posix.proofs.WalkLemmas.{passes_here, fails_here, walk_begins, least_is_next, numbers_left, fewer_left}
+use Rattle.posix.proofs.WalkLemmas.{passes_here, fails_here, walk_begins, least_is_next}
 use Rattle.posix.proofs.PassingLemmas.{left_at_most}
 use Rattle.jobs.proofs.SnapshotLemmas.{there}
 use Rattle.jobs.proofs.NumberLemmas.{least_number}
-use Rattle.jobs.proofs.ReadLemmas.{left_less, above_less}
+use Rattle.jobs.proofs.ReadLemmas.{fewer_after, left_less, above_less}
 use Rattle.jobs.proofs.MoveLemmas.{any_first, chosen, not_chosen}
 use Rattle.jobs.proofs.job_table.JobTable.group_of.Goals as goal
 
@@ -29,12 +29,11 @@ pub loop-next-smaller : goal.loop-next-smaller
 loop-next-smaller g c =
     let above = least_is_next (λ (r : Process). r.session == c.args.session && r.group == c.args.group) c.in-Some.pid _ c.next_after-next-in-Some.ensures.looks.rising in
     let after = subst (λ (o : Option ℕ). IfSome o (λ q. c.in-Some.pid < q)) (sym c.next_after-next-in-Some.ensures.value) above.above in
-    let less = fewer_left 2147483648 c.in-Some.pid c.next_after-next-in-Some.result (omega arith) after in
-    subst (λ (o : Option ℕ). numbers_left 2147483648 c.next_after-next-in-Some.result < numbers_left 2147483648 o) (sym c.in-Some.is) less
+    fewer_after c.in-Some.pid (omega arith) _ _ c.in-Some.is after
 
-pub returns-in-Some-group_at-clause-value : goal.returns-in-Some-group_at-clause-value
+pub returns-in-Some-group_at : goal.returns-in-Some-group_at
 unfolding is_group_of
-returns-in-Some-group_at-clause-value g c =
+returns-in-Some-group_at g c =
     let rs = c.args.self.now.processes in
     let t = λ (r : Process). r.session == c.args.session && r.group == c.args.group in
     let p = c.in-Some.pid in
@@ -42,30 +41,26 @@ returns-in-Some-group_at-clause-value g c =
     let it = there (lookup p rs) (subst (λ (o : Option ℕ). IfSome o (λ q. IsSome (lookup q rs))) c.in-Some.is c.loop-next.invariant.there) in
     let at = chosen (t it.what) c.args.group c.in-Some-group_at.found (sym c.in-Some-group_at.is ∙ c.group_at.ensures.value it.what (ap (lookup p) c.loop-next.invariant.same ∙ it.found)) in
     let first = sym c.loop-next.invariant.rest ∙ ap (λ (o : Option ℕ). first_pid (filter t (left_of o rs))) c.in-Some.is ∙ passes_here t p rs up it.what it.found _ (least_is_next t p rs up) at.test in
-    rw (any_first t rs, first) (ap Some at.is)
-
-pub returns-in-Some-group_at-clause-looks : goal.returns-in-Some-group_at-clause-looks
-returns-in-Some-group_at-clause-looks g c =
-    let rs = c.args.self.now.processes in
-    let p = c.in-Some.pid in
-    let it = there (lookup p rs) (subst (λ (o : Option ℕ). IfSome o (λ q. IsSome (lookup q rs))) c.in-Some.is c.loop-next.invariant.there) in
     let some = above_less p rs it.what it.found in
     let now = ap (λ (o : Option ℕ). length (left_of o rs)) c.in-Some.is in
     record {
-      processes = c.group_at.ensures.looks.processes ∙ c.loop-next.invariant.same;
-      room = c.group_at.ensures.looks.room ∙ c.loop-next.invariant.room;
-      visits = omega (arith, some, now, c.loop-next.invariant.read, c.group_at.ensures.looks.visits);
-      rising = c.next_after-next.ensures.looks.rising;
-      numbers = c.next_after-next.ensures.looks.numbers;
+      value = rw (any_first t rs, first) (ap Some at.is);
+      looks = record {
+        processes = c.group_at.ensures.looks.processes ∙ c.loop-next.invariant.same;
+        room = c.group_at.ensures.looks.room ∙ c.loop-next.invariant.room;
+        visits = omega (arith, some, now, c.loop-next.invariant.read, c.group_at.ensures.looks.visits);
+        rising = c.next_after-next.ensures.looks.rising;
+        numbers = c.next_after-next.ensures.looks.numbers;
+      };
     }
 
-pub returns-clause-value : goal.returns-clause-value
+pub returns : goal.returns
 unfolding is_group_of
-returns-clause-value g c =
+returns g c =
     let rs = c.args.self.now.processes in
     let t = λ (r : Process). r.session == c.args.session && r.group == c.args.group in
     let first = sym c.loop-next.invariant.rest ∙ ap (λ (o : Option ℕ). first_pid (filter t (left_of o rs))) c.in_default.is in
-    rw (any_first t rs, first) refl
+    record { value = rw (any_first t rs, first) refl; looks = search rules }
 
 pub loop-next-preserved : goal.loop-next-preserved
 loop-next-preserved g c =

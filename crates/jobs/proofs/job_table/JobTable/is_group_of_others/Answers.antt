@@ -8,43 +8,43 @@ use Rattle.jobs.proofs.MoveLemmas.{others_of, other_none, other_first, other_beh
 use Rattle.jobs.proofs.ReadLemmas.{read_more, looks_then}
 use Rattle.jobs.proofs.job_table.JobTable.is_group_of_others.Goals as goal
 
-pub returns-in_default-clause-value : goal.returns-in_default-clause-value
-returns-in_default-clause-value g c = λ it found.
-    let p = c.args.pid in
-    let rs = c.args.self.now.processes in
-    let all = members_above p rs c.next_member.ensures.looks.rising (least_number rs (c.next_member.ensures.looks.numbers 0 (inl refl))) in
-    let none = ap first_pid (sym all) ∙ sym c.next_member.ensures.value ∙ c.in_default.is in
-    sym (others_of p rs it found ∙ other_none p (members_in p rs) none)
+pub returns-in_default : goal.returns-in_default
+returns-in_default g c = record {
+  value = λ it found.
+      let p = c.args.pid in
+      let rs = c.args.self.now.processes in
+      let all = members_above p rs c.next_member.ensures.finds.looks.rising (least_number rs (c.next_member.ensures.finds.looks.numbers 0 (inl refl))) in
+      let none = ap first_pid (sym all) ∙ sym c.next_member.ensures.finds.value ∙ c.in_default.is in
+      sym (others_of p rs it found ∙ other_none p (members_in p rs) none);
+  looks = let most = filter_at_most (λ r. nat_lt 0 r.pid) c.args.self.now.processes in read_more c.next_member.ensures.finds.looks (omega (arith, most));
+}
 
-pub returns-then-ne-clause-value : goal.returns-then-ne-clause-value
-returns-then-ne-clause-value g c = λ it found.
-    let p = c.args.pid in
-    let rs = c.args.self.now.processes in
-    let all = members_above p rs c.next_member.ensures.looks.rising (least_number rs (c.next_member.ensures.looks.numbers 0 (inl refl))) in
-    let first = ap first_pid (sym all) ∙ sym c.next_member.ensures.value ∙ c.in-Some.is in
-    c.if-ne.true ∙ sym (others_of p rs it found ∙ other_first p c.in-Some.first (members_in p rs) first (differs _ _ (sym c.ne.ensures ∙ c.if-ne.true)))
+pub returns-then-ne : goal.returns-then-ne
+returns-then-ne g c = record {
+  value = λ it found.
+      let p = c.args.pid in
+      let rs = c.args.self.now.processes in
+      let all = members_above p rs c.next_member.ensures.finds.looks.rising (least_number rs (c.next_member.ensures.finds.looks.numbers 0 (inl refl))) in
+      let first = ap first_pid (sym all) ∙ sym c.next_member.ensures.finds.value ∙ c.in-Some.is in
+      c.if-ne.true ∙ sym (others_of p rs it found ∙ other_first p c.in-Some.first (members_in p rs) first (differs _ _ (sym c.ne.ensures ∙ c.if-ne.true)));
+  looks = let most = filter_at_most (λ r. nat_lt 0 r.pid) c.args.self.now.processes in read_more c.next_member.ensures.finds.looks (omega (arith, most));
+}
 
-pub returns-else-ne-clause-value : goal.returns-else-ne-clause-value
-returns-else-ne-clause-value g c = λ it found.
-    let p = c.args.pid in
-    let rs = c.args.self.now.processes in
-    let up = c.next_member.ensures.looks.rising in
-    let all = members_above p rs up (least_number rs (c.next_member.ensures.looks.numbers 0 (inl refl))) in
-    let same = equals _ _ (sym c.ne.ensures ∙ c.if-ne.false) in
-    let first = ap first_pid (sym all) ∙ sym c.next_member.ensures.value ∙ c.in-Some.is ∙ ap Some same in
-    let behind = c.next_member-else-ne.ensures.value ∙ ap (λ l. first_pid (above p (members_in p l))) c.next_member.ensures.looks.processes in
-    c.is_some.ensures ∙ ap is_some behind ∙ sym (others_of p rs it found ∙ other_behind p (members_in p rs) (members_rise p rs up) first)
-
-pub returns-in_default-clause-looks : goal.returns-in_default-clause-looks
-returns-in_default-clause-looks g c = let most = filter_at_most (λ r. nat_lt 0 r.pid) c.args.self.now.processes in read_more c.next_member.ensures.looks (omega (arith, most))
-
-pub returns-then-ne-clause-looks : goal.returns-then-ne-clause-looks
-returns-then-ne-clause-looks g c = let most = filter_at_most (λ r. nat_lt 0 r.pid) c.args.self.now.processes in read_more c.next_member.ensures.looks (omega (arith, most))
-
-pub returns-else-ne-clause-looks : goal.returns-else-ne-clause-looks
-returns-else-ne-clause-looks g c =
+pub returns-else-ne : goal.returns-else-ne
+returns-else-ne g c =
     let rs = c.args.self.now.processes in
     let most = filter_at_most (λ r. nat_lt 0 r.pid) rs in
     let behind = filter_at_most (λ r. nat_lt c.args.pid r.pid) rs in
-    let same = ap (λ l. length (above c.args.pid l)) c.next_member.ensures.looks.processes in
-    read_more (looks_then c.next_member.ensures.looks c.next_member-else-ne.ensures.looks) (omega (arith, most, behind, same))
+    let same = ap (λ l. length (above c.args.pid l)) c.next_member.ensures.finds.looks.processes in
+    record {
+      value = λ it found.
+          let p = c.args.pid in
+          let rs = c.args.self.now.processes in
+          let up = c.next_member.ensures.finds.looks.rising in
+          let all = members_above p rs up (least_number rs (c.next_member.ensures.finds.looks.numbers 0 (inl refl))) in
+          let same = equals _ _ (sym c.ne.ensures ∙ c.if-ne.false) in
+          let first = ap first_pid (sym all) ∙ sym c.next_member.ensures.finds.value ∙ c.in-Some.is ∙ ap Some same in
+          let behind = c.next_member-else-ne.ensures.finds.value ∙ ap (λ l. first_pid (above p (members_in p l))) c.next_member.ensures.finds.looks.processes in
+          c.is_some.ensures ∙ ap is_some behind ∙ sym (others_of p rs it found ∙ other_behind p (members_in p rs) (members_rise p rs up) first);
+      looks = read_more (looks_then c.next_member.ensures.finds.looks c.next_member-else-ne.ensures.finds.looks) (omega (arith, most, behind, same));
+    }

@@ -1,9 +1,9 @@
-use Rattle.std.proofs.Common.{◌<◌, ap, sym, ◌∙◌, arith, subst, filter, length, Option, ℕ, nat_lt}
+use Rattle.std.proofs.Common.{rules, ◌<◌, ap, sym, ◌∙◌, arith, subst, filter, length, Option, ℕ, nat_lt}
 use Rattle.std.specs.Option.{IfSome, IsSome}
 use Rattle.posix.specs.Tables.{IsNext, is_member, members_in, first_pid, left_of, next_above, lookup}
-use Rattle.posix.proofs.WalkLemmas.{passes_here, fails_here, rest_of_walk, least_is_next, filters_commute, numbers_left, fewer_left}
+use Rattle.posix.proofs.WalkLemmas.{passes_here, fails_here, rest_of_walk, least_is_next, filters_commute}
 use Rattle.jobs.proofs.SnapshotLemmas.{there}
-use Rattle.jobs.proofs.ReadLemmas.{left_above, left_less}
+use Rattle.jobs.proofs.ReadLemmas.{fewer_after, left_above, left_less}
 use Rattle.jobs.proofs.job_table.JobTable.next_member.Goals as goal
 
 pub loop-next-init : goal.loop-next-init
@@ -25,18 +25,17 @@ pub loop-next-smaller : goal.loop-next-smaller
 loop-next-smaller g c =
     let above = least_is_next (is_member c.args.group) c.in-Some.pid _ c.next_after-next-in-Some.ensures.looks.rising in
     let after = subst (λ (o : Option ℕ). IfSome o (λ q. c.in-Some.pid < q)) (sym c.next_after-next-in-Some.ensures.value) above.above in
-    let less = fewer_left 2147483648 c.in-Some.pid c.next_after-next-in-Some.result (omega arith) after in
-    subst (λ (o : Option ℕ). numbers_left 2147483648 c.next_after-next-in-Some.result < numbers_left 2147483648 o) (sym c.in-Some.is) less
+    fewer_after c.in-Some.pid (omega arith) _ _ c.in-Some.is after
 
-pub returns-then-is_member-clause-value : goal.returns-then-is_member-clause-value
-returns-then-is_member-clause-value g c =
+pub returns-then-is_member-clause-finds : goal.returns-then-is_member-clause-finds
+returns-then-is_member-clause-finds g c =
     let rs = c.args.self.now.processes in
     let t = is_member c.args.group in
     let p = c.in-Some.pid in
     let up = c.next_after-next.ensures.looks.rising in
     let it = there (lookup p rs) (subst (λ (o : Option ℕ). IfSome o (λ q. IsSome (lookup q rs))) c.in-Some.is c.loop-next.invariant.there) in
     let passes = sym (c.is_member.ensures.value it.what (ap (lookup p) c.loop-next.invariant.same ∙ it.found)) ∙ c.if-is_member.true in
-    sym (ap (λ (o : Option ℕ). first_pid (filter t (left_of o rs))) c.in-Some.is ∙ passes_here t p rs up it.what it.found _ (least_is_next t p rs up) passes) ∙ c.loop-next.invariant.rest
+    record { value = sym (ap (λ (o : Option ℕ). first_pid (filter t (left_of o rs))) c.in-Some.is ∙ passes_here t p rs up it.what it.found _ (least_is_next t p rs up) passes) ∙ c.loop-next.invariant.rest; looks = search rules }
 
 pub loop-next-preserved : goal.loop-next-preserved
 loop-next-preserved g c =

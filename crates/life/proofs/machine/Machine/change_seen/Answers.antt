@@ -10,7 +10,7 @@ use Rattle.life.specs.Machines.{MachineView}
 use Rattle.life.specs.Rechecks.{with_numbers, with_parent}
 use Rattle.life.specs.Changes.{StaysRegular}
 use Rattle.life.proofs.SoundLemmas.{here_in, found_in}
-use Rattle.life.proofs.RecheckLemmas.{has_room, room_after}
+use Rattle.life.proofs.RecheckLemmas.{has_room, room_after, pids_of, room_of}
 use Rattle.life.proofs.FunnelLemmas.{machine_shown, can_move_numbers, seen_is, parent_there, there_record}
 use Rattle.life.proofs.ViewLemmas.{state_is}
 use Rattle.life.proofs.machine.Machine.change_seen.Goals as goal
@@ -42,7 +42,7 @@ invariant_of-self g c =
     let moved = rw (before, after) at c.move_numbers.ensures.pids in
     let mark = rw (before, after) at c.move_numbers.ensures.foregrounds_unchecked in
     machine_shown _ _ c.move_numbers.new.pids _ _ c.recheck_with_parent.new.to_recheck c.args.pid c.change_seen-parent.result.parent run.before run.after _ c.move_numbers.new.foregrounds_unchecked run.found run.is (stays c.self.invariant.sound.regular _ _ _ run.found run.ran) c.change_seen-parent.ensures.parent
-    moved mark (sym c.move_numbers.ensures.last) c.self.invariant c.recheck_with_parent.ensures.pids c.recheck_with_parent.ensures.room
+    moved mark (sym c.move_numbers.ensures.last) c.self.invariant (pids_of c.recheck_with_parent.ensures) (room_of c.recheck_with_parent.ensures)
 
 pub returns-clause-rest : goal.returns-clause-rest
 returns-clause-rest g c =
@@ -59,5 +59,5 @@ pub returns-clause-to_recheck : goal.returns-clause-to_recheck
 returns-clause-to_recheck g c = λ me found.
     let its = parent_is c.args.pid _ c.self.inside.table.processes me c.change_seen-parent.ensures.parent (found_in _ _ (state_is c.self.view_is) c.args.pid me found) in
     let named = pid_looked c.args.pid c.args.self.now.state.processes me found in
-    c.recheck_with_parent.ensures.pids ∙ ap (λ (m : MachineView). with_parent c.change_seen-parent.result.parent m.state.order (with_number c.args.pid m.to_recheck)) c.self.view_is
+    (pids_of c.recheck_with_parent.ensures) ∙ ap (λ (m : MachineView). with_parent c.change_seen-parent.result.parent m.state.order (with_number c.args.pid m.to_recheck)) c.self.view_is
     ∙ ap (λ q. with_parent q c.args.self.now.state.order (with_number c.args.pid c.args.self.now.to_recheck)) its ∙ ap (λ n. with_parent me.parent c.args.self.now.state.order (with_number n c.args.self.now.to_recheck)) (sym named)

@@ -1,4 +1,4 @@
-use Rattle.std.proofs.Common.{refl, ◌∙◌, [], arith, ap, length}
+use Rattle.std.proofs.Common.{rules, refl, ◌∙◌, [], arith, ap, length}
 use Rattle.posix.specs.States.{State}
 use Rattle.posix.proofs.MemberLemmas.{in_none}
 use Rattle.posix.proofs.RegularLemmas.{regular_as}
@@ -22,5 +22,5 @@ invariant_of-self g c =
       fresh = i.fresh;
     }
 
-pub returns-clause-to_recheck : goal.returns-clause-to_recheck
-returns-clause-to_recheck g c = λ it found. ap (λ (m : MachineView). m.to_recheck) c.self.view_is ∙ c.reap.ensures.to_recheck it found
+pub returns : goal.returns
+returns g c = record { state = search rules; to_recheck = ap (λ (m : MachineView). m.to_recheck) c.self.view_is ∙ c.reap.ensures.changes.to_recheck; costs = search rules }

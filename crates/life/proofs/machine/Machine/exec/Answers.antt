@@ -2,7 +2,7 @@ use Rattle.std.proofs.Common.{◌≡◌, ◌∙◌, ap, sym, refl, Some, None, s
 use Rattle.posix.specs.States.{State, Program, change}
 use Rattle.posix.specs.Programs.{executed}
 use Rattle.life.proofs.SoundLemmas.{here_in}
-use Rattle.life.proofs.RecheckLemmas.{has_room}
+use Rattle.life.proofs.RecheckLemmas.{has_room, pids_of, room_of}
 use Rattle.life.proofs.CodeLemmas.{get_some, past_none}
 use Rattle.life.proofs.LoanLemmas.{machine_lent, was_written}
 use Rattle.life.proofs.ViewLemmas.{state_is}
@@ -12,7 +12,7 @@ pub recheck_later-requires : goal.recheck_later-requires
 recheck_later-requires g c = has_room _ _ c.self.invariant.sound.regular c.self.invariant.listed
 
 pub invariant_of-self : goal.invariant_of-self
-invariant_of-self g c = machine_lent _ _ _ _ _ c.args.pid c.exec.new.self (here_in c.args.pid (state_is c.self.view_is) c.requires) c.self.invariant c.recheck_later.ensures.pids c.recheck_later.ensures.room
+invariant_of-self g c = machine_lent _ _ _ _ _ c.args.pid c.exec.new.self (here_in c.args.pid (state_is c.self.view_is) c.requires) c.self.invariant (pids_of c.recheck_later.ensures) (room_of c.recheck_later.ensures)
 
 pub returns-in-Some-clause-done : goal.returns-in-Some-clause-done
 returns-in-Some-clause-done g c = λ program e.

@@ -4,6 +4,7 @@ use Rattle.posix.specs.Tables.{lookup}
 use Rattle.posix.specs.Outcomes.{finished}
 use Rattle.posix.specs.Births.{child_of}
 use Rattle.pidset.specs.Numbers.{with_number}
+use Rattle.jobs.proofs.ReadLemmas.{processes_of}
 use Rattle.life.specs.Rechecks.{with_numbers}
 use Rattle.life.proofs.RecheckLemmas.{has_room, room_after, listed_born}
 use Rattle.life.proofs.SoundLemmas.{is_there, found_in, next_is_new, room_to_bear, sound_born}
@@ -13,26 +14,20 @@ use Rattle.life.proofs.ViewLemmas.{state_is}
 use Rattle.posix.proofs.FreshLemmas.{fresh_inserted}
 use Rattle.life.proofs.machine.Machine.fork.Goals as goal
 
-pub bear_all-requires-clause-pid_range : goal.bear_all-requires-clause-pid_range
-bear_all-requires-clause-pid_range g c = (next_is_new _ _ _ _ c.args.child (state_is c.self.view_is) c.self.invariant.sound c.requires.child).greatest
-
-pub bear_all-requires-clause-pid_count : goal.bear_all-requires-clause-pid_count
-bear_all-requires-clause-pid_count g c = (room_to_bear _ _ _ _ _ c.args.child c.args.parent _ _ (state_is c.self.view_is) c.in_ok-reserve.ensures.processes c.self.invariant.sound c.requires.child c.requires.parent c.in_ok-fields.ensures.groups).pid_count
-
-pub bear_all-requires-clause-group_count : goal.bear_all-requires-clause-group_count
-bear_all-requires-clause-group_count g c = (room_to_bear _ _ _ _ _ c.args.child c.args.parent _ _ (state_is c.self.view_is) c.in_ok-reserve.ensures.processes c.self.invariant.sound c.requires.child c.requires.parent c.in_ok-fields.ensures.groups).group_count
-
-pub bear_all-requires-clause-session_count : goal.bear_all-requires-clause-session_count
-bear_all-requires-clause-session_count g c = (room_to_bear _ _ _ _ _ c.args.child c.args.parent _ _ (state_is c.self.view_is) c.in_ok-reserve.ensures.processes c.self.invariant.sound c.requires.child c.requires.parent c.in_ok-fields.ensures.groups).session_count
-
-pub bear_all-requires-clause-group_range : goal.bear_all-requires-clause-group_range
-bear_all-requires-clause-group_range g c = (room_to_bear _ _ _ _ _ c.args.child c.args.parent _ _ (state_is c.self.view_is) c.in_ok-reserve.ensures.processes c.self.invariant.sound c.requires.child c.requires.parent c.in_ok-fields.ensures.groups).group_range
-
-pub bear_all-requires-clause-session_range : goal.bear_all-requires-clause-session_range
-bear_all-requires-clause-session_range g c = (room_to_bear _ _ _ _ _ c.args.child c.args.parent _ _ (state_is c.self.view_is) c.in_ok-reserve.ensures.processes c.self.invariant.sound c.requires.child c.requires.parent c.in_ok-fields.ensures.groups).session_range
+pub bear_all-requires : goal.bear_all-requires
+bear_all-requires g c =
+    let bears = room_to_bear _ _ _ _ _ c.args.child c.args.parent _ _ (state_is c.self.view_is) (processes_of c.in_ok-reserve.ensures.rest) c.self.invariant.sound c.requires.child c.requires.parent c.in_ok-fields.ensures.groups in
+    record {
+      pid_range = (next_is_new _ _ _ _ c.args.child (state_is c.self.view_is) c.self.invariant.sound c.requires.child).greatest;
+      pid_count = bears.pid_count;
+      group_range = bears.group_range;
+      group_count = bears.group_count;
+      session_range = bears.session_range;
+      session_count = bears.session_count;
+    }
 
 pub insert-requires-clause-fresh : goal.insert-requires-clause-fresh
-insert-requires-clause-fresh g c = ap (lookup c.args.child) (c.in_ok-fields.ensures.looks.processes ∙ c.in_ok-reserve.ensures.processes) ∙ (next_is_new _ _ _ _ c.args.child (state_is c.self.view_is) c.self.invariant.sound c.requires.child).fresh
+insert-requires-clause-fresh g c = ap (lookup c.args.child) (c.in_ok-fields.ensures.looks.processes ∙ processes_of c.in_ok-reserve.ensures.rest) ∙ (next_is_new _ _ _ _ c.args.child (state_is c.self.view_is) c.self.invariant.sound c.requires.child).fresh
 
 pub insert-requires-clause-number : goal.insert-requires-clause-number
 insert-requires-clause-number g c = λ none. let least = (next_is_new _ _ _ _ c.args.child (state_is c.self.view_is) c.self.invariant.sound c.requires.child).least in absurd (omega (arith, least, none))
@@ -51,10 +46,10 @@ unfolding child_of finished has_report
 invariant_of-self-2 g c =
     let me = c.requires.parent in
     let found = found_in _ _ (state_is c.self.view_is) c.args.parent me.what me.found in
-    let still = ap (lookup c.args.parent) c.in_ok-reserve.ensures.processes ∙ found in
+    let still = ap (lookup c.args.parent) (processes_of c.in_ok-reserve.ensures.rest) ∙ found in
     let child = c.in_ok-fields.ensures.child me.what still c.args.child in
     let groups = c.in_ok-fields.ensures.groups me.what still in
-    rw (c.insert.ensures.processes, c.in_ok-fields.ensures.looks.processes, c.in_ok-reserve.ensures.processes)
+    rw (c.insert.ensures.processes, c.in_ok-fields.ensures.looks.processes, processes_of c.in_ok-reserve.ensures.rest)
     (record {
       sound = sound_born _ _ _ _ _ _ _ _ _ _ _ me.what c.self.invariant.sound (next_is_new _ _ _ _ c.args.child (state_is c.self.view_is) c.self.invariant.sound c.requires.child) found me.living groups.0 groups.1 (ap (λ (r : Process). r.life) child) (ap (λ (r : Process). r.alarm) child) c.bear_all.ensures.value c.bear_all.ensures.pidmax c.bear_all.ensures.kept;
       listed = listed_born _ _ _ _ _ _ c.self.invariant.listed (next_is_new _ _ _ _ c.args.child (state_is c.self.view_is) c.self.invariant.sound c.requires.child).fresh (is_there _ me.what found) (c.insert-3.ensures.pids ∙ ap (with_number c.args.child) c.insert-2.ensures.pids) (c.insert-3.ensures.room ∙ c.insert-2.ensures.room);

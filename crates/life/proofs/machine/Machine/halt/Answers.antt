@@ -1,8 +1,7 @@
-use Rattle.std.proofs.Common.{◌∙◌, ap, sym, refl, [], rules, subst, true}
+use Rattle.std.proofs.Common.{arith, ◌∙◌, ap, sym, refl, [], rules, subst, true}
 use Rattle.posix.specs.Ends.{ended}
 use Rattle.posix.specs.Regular.{IsRegular}
-use Rattle.posix.specs.States.{State, process, is_in}
-use Rattle.posix.specs.States.{change as change_of}
+use Rattle.posix.specs.States.{State, process, is_in, change as change_of}
 use Rattle.posix.proofs.MemberLemmas.{in_none}
 use Rattle.posix.proofs.RegularLemmas.{regular_as}
 use Rattle.posix.proofs.TableLemmas.{pid_looked}
@@ -10,21 +9,20 @@ use Rattle.posix.proofs.TouchLemmas.{touches_none}
 use Rattle.pidset.specs.Numbers.{with_number}
 use Rattle.jobs.proofs.RunLemmas.{run_as}
 use Rattle.life.specs.Rechecks.{with_parent}
-use Rattle.life.specs.Machines.{MachineView}
+use Rattle.life.specs.Machines.{MachineView, with_processes}
 use Rattle.life.proofs.RecheckLemmas.{listed_same}
 use Rattle.life.proofs.EndLemmas.{regular_ended}
 use Rattle.life.proofs.FunnelLemmas.{stays_so, with_lost}
-use Rattle.life.proofs.SendLemmas.{with_processes}
 use Rattle.life.proofs.SoundLemmas.{is_there}
 use Rattle.life.proofs.ViewLemmas.{state_is}
 use Rattle.life.proofs.machine.Machine.halt.Goals as goal
 
 pub change_seen-requires-clause-there : goal.change_seen-requires-clause-there
-change_seen-requires-clause-there g c = let first = c.lose_place.ensures.regular.first in is_there _ first.what (ap (λ (s : State). process s 1) c.lose_place.ensures.state ∙ first.found)
+change_seen-requires-clause-there g c = let first = c.lose_place.ensures.regular.first in is_there _ first.what (ap (λ (m : MachineView). process m.state 1) c.lose_place.ensures.is ∙ first.found)
 
 pub change_seen-requires-clause-regular : goal.change_seen-requires-clause-regular
 change_seen-requires-clause-regular g c =
-    stays_so 1 (ended c.args.status) c.lose_place.new.self.state (λ i. subst (λ (t : State). IsRegular (change_of t 1 (ended c.args.status))) (sym c.lose_place.ensures.state) (regular_ended c.args.status c.args.self.now.state c.lose_place.ensures.regular)) (λ b d r k q. search rules)
+    stays_so 1 (ended c.args.status) c.lose_place.new.self.state (λ i. subst (λ (m : MachineView). IsRegular (change_of m.state 1 (ended c.args.status))) (sym c.lose_place.ensures.is) (regular_ended c.args.status c.args.self.now.state c.lose_place.ensures.regular)) (λ b d r k q. search rules)
 
 pub invariant_of-self : goal.invariant_of-self
 invariant_of-self g c =
@@ -36,15 +34,19 @@ invariant_of-self g c =
       fresh = i.fresh;
     }
 
-pub returns-clause-state : goal.returns-clause-state
-returns-clause-state g c =
+pub returns : goal.returns
+returns g c =
     let s = c.lose_place.new.self.state in
     let is = c.change_seen.ensures.rest ∙ ap (with_processes s) (run_as (ended c.args.status) c.change_seen.ensures.run c.change_seen.ensures.costs.regular.rising (λ b d r k q. search rules)) in
-    ap (λ (t : State). record t { halted = true }) (state_is c.self.view_is ∙ is ∙ ap (λ (t : State). change_of t 1 (ended c.args.status)) c.lose_place.ensures.state)
-
-pub returns-clause-to_recheck : goal.returns-clause-to_recheck
-returns-clause-to_recheck g c =
     let first = c.change_seen.ensures.costs.regular.first in
-    let t = c.lose_place.new.self.state in
-    ap (λ (m : MachineView). m.to_recheck) c.self.view_is ∙ c.change_seen.ensures.to_recheck first.what first.found ∙ ap (λ q. with_parent q c.lose_place.new.self.state.order (with_number first.what.pid c.lose_place.new.self.to_recheck)) first.parent
-    ∙ ap (λ q. with_number q c.lose_place.new.self.to_recheck) (pid_looked 1 t.processes first.what first.found) ∙ ap (with_number 1) c.lose_place.ensures.to_recheck ∙ with_lost (is_in 1 c.args.self.now.state.order) 1 c.args.self.now.to_recheck
+    record {
+      state = ap (λ (t : State). record t { halted = true }) (state_is c.self.view_is ∙ is ∙ ap (λ (m : MachineView). change_of m.state 1 (ended c.args.status)) c.lose_place.ensures.is);
+      to_recheck =
+          ap (λ (m : MachineView). m.to_recheck) c.self.view_is ∙ c.change_seen.ensures.to_recheck first.what first.found ∙ ap (λ q. with_parent q c.lose_place.new.self.state.order (with_number first.what.pid c.lose_place.new.self.to_recheck)) first.parent
+          ∙ ap (λ q. with_number q c.lose_place.new.self.to_recheck) (pid_looked 1 s.processes first.what first.found) ∙ ap (λ (m : MachineView). with_number 1 m.to_recheck) c.lose_place.ensures.is ∙ with_lost (is_in 1 c.args.self.now.state.order) 1 c.args.self.now.to_recheck;
+      costs = record {
+        visits = let lost = ap (λ (m : MachineView). m.visits) c.lose_place.ensures.is in let now = ap (λ (m : MachineView). m.visits) c.self.view_is in omega (arith, lost, now, c.change_seen.ensures.costs.visits);
+        groups_at_risk = ap (λ (m : MachineView). m.groups_at_risk) c.self.view_is ∙ c.change_seen.ensures.costs.groups_at_risk ∙ ap (λ (m : MachineView). m.groups_at_risk) c.lose_place.ensures.is;
+        regular = c.lose_place.ensures.regular;
+      };
+    }

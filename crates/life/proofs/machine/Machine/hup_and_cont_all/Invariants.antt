@@ -1,6 +1,6 @@
 use Rattle.std.proofs.Common.{◌≡◌}
 use Rattle.posix.proofs.WalkLemmas.{numbers_left}
-use Rattle.life.proofs.SendLemmas.{with_processes}
+use Rattle.life.specs.Machines.{with_processes}
 use Rattle.life.proofs.AtRiskLemmas.{IsSignalling}
 use Rattle.life.proofs.machine.Machine.hup_and_cont_all.Given as goal
 

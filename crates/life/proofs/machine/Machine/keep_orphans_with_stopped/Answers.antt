@@ -1,16 +1,14 @@
-use Rattle.std.proofs.Common.{◌&&◌, ◌<◌, ap, sym, ◌∙◌, arith, subst, cond, slice_get, Option, ℕ}
+use Rattle.std.proofs.Common.{◌&&◌, ap, ◌∙◌, arith, subst, cond, slice_get, ℕ}
 use Rattle.posix.specs.States.{State, without}
 use Rattle.posix.specs.Groups.{is_orphaned, has_stopped}
-use Rattle.posix.proofs.WalkLemmas.{numbers_left, fewer_left}
 use Rattle.pidset.specs.Numbers.{Rises, numbers_above}
 use Rattle.life.specs.Machines.{MachineView}
-use Rattle.life.proofs.AtRiskLemmas.{keeping_goes_on, keeping_ends, lies_above}
+use Rattle.pidset.proofs.WalkLemmas.{keeping_goes_on, keeping_ends, lies_above}
 use Rattle.life.proofs.machine.Machine.keep_orphans_with_stopped.Goals as goal
+use Rattle.jobs.proofs.ReadLemmas.{fewer_after}
 
 pub loop-next-smaller : goal.loop-next-smaller
-loop-next-smaller g c =
-    let less = fewer_left 2147483648 c.in-Some.group c.next_above-next.result (omega arith) (lies_above c.in-Some.group _ c.next_above-next.result c.next_above-next.ensures.rising c.next_above-next.ensures.is) in
-    subst (λ (o : Option ℕ). numbers_left 2147483648 c.next_above-next.result < numbers_left 2147483648 o) (sym c.in-Some.is) less
+loop-next-smaller g c = fewer_after c.in-Some.group (omega arith) _ _ c.in-Some.is (lies_above c.in-Some.group _ c.next_above-next.result c.next_above-next.ensures.rising c.next_above-next.ensures.is)
 
 pub loop-next-preserved : goal.loop-next-preserved
 loop-next-preserved g c =

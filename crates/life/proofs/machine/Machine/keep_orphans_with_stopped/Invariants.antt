@@ -1,7 +1,7 @@
 use Rattle.std.proofs.Common.{◌≡◌, ◌&&◌}
 use Rattle.posix.specs.Groups.{is_orphaned, has_stopped}
 use Rattle.posix.proofs.WalkLemmas.{numbers_left}
-use Rattle.life.proofs.AtRiskLemmas.{IsKeeping}
+use Rattle.pidset.proofs.WalkLemmas.{IsKeeping}
 use Rattle.life.proofs.machine.Machine.keep_orphans_with_stopped.Given as goal
 
 abbrev pub invariant-loop-next : goal.invariant-loop-next

@@ -74,36 +74,29 @@ invariant_of-self g c =
       fresh = λ e. absurd (cc);
     }
 
-pub returns-clause-parent : goal.returns-clause-parent
-returns-clause-parent g c = λ me e.
-    let m = c.self.inside in
-    let s = state_of m.world m.table.processes m.consoles.items m.pids m.order m.births m.ticks m.dropped m.halted in
-    let found = found_in s _ (state_is c.self.view_is) c.args.pid me e in
-    rw (c.adopt.ensures.processes, run_as (made_zombie c.args.status) c.change_seen-parent.ensures.run c.self.invariant.sound.regular.rising (λ b d r k q. search rules)) (there_after s c.args.pid c.args.heir c.args.status me.parent (c.self.invariant.sound.parents c.args.pid me c.requires.other found))
-
-pub returns-clause-zombie : goal.returns-clause-zombie
-returns-clause-zombie g c =
+pub returns : goal.returns
+returns g c =
     let m = c.self.inside in
     let s = state_of m.world m.table.processes m.consoles.items m.pids m.order m.births m.ticks m.dropped m.halted in
     let me = there _ (here_in {s = s} c.args.pid (state_is c.self.view_is) c.requires.there) in
-    rw (c.adopt.ensures.processes, run_as (made_zombie c.args.status) c.change_seen-parent.ensures.run c.self.invariant.sound.regular.rising (λ b d r k q. search rules)) (zombie_after s c.args.pid c.args.heir c.args.status me.what me.found)
-
-pub returns-clause-costs : goal.returns-clause-costs
-returns-clause-costs g c =
     let rs = c.args.self.now.state.processes in
     let old = ap (λ (m : MachineView). m.visits) c.self.view_is in
     let made = run_as (made_zombie c.args.status) c.change_seen-parent.ensures.run c.self.invariant.sound.regular.rising (λ b d r k q. search rules) ∙ ap (λ (s : State). changed c.args.pid (made_zombie c.args.status) s.processes) (state_is c.self.view_is) in
     let mine = kids_made_zombie c.args.pid c.args.status c.args.pid rs in
     let theirs = kids_made_zombie c.args.pid c.args.status c.args.heir rs in
-    let adopts = subst (λ ts. c.adopt.new.self.visits ≤ c.change_seen-parent.new.self.visits + 1 + 8 * length (children_in c.args.pid ts) + length (children_in c.args.heir ts)) made c.adopt.ensures.visits in
+    let adopts = subst (λ ts. c.adopt.new.self.visits ≤ c.change_seen-parent.new.self.visits + (1 + 8 * length (children_in c.args.pid ts) + length (children_in c.args.heir ts))) made c.adopt.ensures.costs.visits in
     record {
-      visits = omega (arith, old, mine, theirs, adopts, c.change_seen-parent.ensures.visits);
-      groups_at_risk = ap (λ (m : MachineView). m.groups_at_risk) c.self.view_is;
-      regular = subst IsRegular (state_is c.self.view_is) c.self.invariant.sound.regular;
+      state = rw (c.adopt.ensures.processes, run_as (made_zombie c.args.status) c.change_seen-parent.ensures.run c.self.invariant.sound.regular.rising (λ b d r k q. search rules), c.drop_place.ensures.pids, ← c.self.view_is) refl;
+      is = λ me e. parent_is c.args.pid c.change_seen-parent.result.parent _ me c.change_seen-parent.ensures.parent (found_in _ _ (state_is c.self.view_is) c.args.pid me e);
+      parent = λ me e.
+          let m = c.self.inside in
+          let s = state_of m.world m.table.processes m.consoles.items m.pids m.order m.births m.ticks m.dropped m.halted in
+          let found = found_in s _ (state_is c.self.view_is) c.args.pid me e in
+          rw (c.adopt.ensures.processes, run_as (made_zombie c.args.status) c.change_seen-parent.ensures.run c.self.invariant.sound.regular.rising (λ b d r k q. search rules)) (there_after s c.args.pid c.args.heir c.args.status me.parent (c.self.invariant.sound.parents c.args.pid me c.requires.other found));
+      zombie = rw (c.adopt.ensures.processes, run_as (made_zombie c.args.status) c.change_seen-parent.ensures.run c.self.invariant.sound.regular.rising (λ b d r k q. search rules)) (zombie_after s c.args.pid c.args.heir c.args.status me.what me.found);
+      costs = record {
+        visits = omega (arith, old, mine, theirs, adopts, c.change_seen-parent.ensures.costs.visits);
+        groups_at_risk = ap (λ (m : MachineView). m.groups_at_risk) c.self.view_is;
+        regular = subst IsRegular (state_is c.self.view_is) c.self.invariant.sound.regular;
+      };
     }
-
-pub returns-clause-state : goal.returns-clause-state
-returns-clause-state g c = rw (c.adopt.ensures.processes, run_as (made_zombie c.args.status) c.change_seen-parent.ensures.run c.self.invariant.sound.regular.rising (λ b d r k q. search rules), c.drop_place.ensures.pids, ← c.self.view_is) refl
-
-pub returns-clause-is : goal.returns-clause-is
-returns-clause-is g c = λ me e. parent_is c.args.pid c.change_seen-parent.result.parent _ me c.change_seen-parent.ensures.parent (found_in _ _ (state_is c.self.view_is) c.args.pid me e)

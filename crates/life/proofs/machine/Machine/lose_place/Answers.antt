@@ -1,6 +1,8 @@
-use Rattle.std.proofs.Common.{◌∙◌, refl, sym, arith, [], ◌∷◌}
+use Rattle.std.proofs.Common.{◌≡◌, ap, false, ◌∙◌, refl, sym, arith, [], ◌∷◌}
 use Rattle.posix.proofs.RegularLemmas.{regular_lose}
 use Rattle.posix.proofs.OrderLemmas.{placed_some}
+use Rattle.posix.specs.States.{State, is_in}
+use Rattle.life.specs.Machines.{MachineView}
 use Rattle.life.specs.Rechecks.{with_numbers}
 use Rattle.posix.proofs.TouchLemmas.{touches_lost}
 use Rattle.life.proofs.SoundLemmas.{kept_order}
@@ -26,5 +28,8 @@ invariant_of-self g c =
       fresh = c.self.invariant.fresh;
     }
 
-pub returns-else-has-clause-state : goal.returns-else-has-clause-state
-returns-else-has-clause-state g c = rw (← c.self.view_is) (loses_none _ c.args.pid (sym c.has.ensures ∙ c.if-has.false))
+pub returns-else-has-clause-is : goal.returns-else-has-clause-is
+returns-else-has-clause-is g c =
+    let m = c.args.self.now in
+    let no : is_in c.args.pid m.state.order ≡ false = ap (λ (v : MachineView). is_in c.args.pid v.state.order) (sym c.self.view_is) ∙ sym c.has.ensures ∙ c.if-has.false in
+    rw no (ap (λ (s : State). record m { state = s }) (loses_none m.state c.args.pid no))

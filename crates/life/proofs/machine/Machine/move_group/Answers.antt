@@ -1,16 +1,14 @@
 use Rattle.std.proofs.Common.{rules, w64, to_z, of_z, ◌≡◌, ◌∙◌, ap, sym, Some, option_map}
 use Rattle.posix.specs.Tables.{lookup}
-use Rattle.posix.specs.States.{State}
-use Rattle.posix.specs.States.{change as change_of}
+use Rattle.posix.specs.States.{State, change as change_of}
 use Rattle.posix.specs.GroupCalls.{named as named_by, in_group, move_to}
 use Rattle.proctable.specs.declared.snapshot.Snapshot.{Snapshot}
 use Rattle.proctable.specs.Records.{snapshot_of}
 use Rattle.jobs.proofs.RunLemmas.{run_as}
-use Rattle.life.specs.Machines.{MachineView, state_of}
+use Rattle.life.specs.Machines.{MachineView, state_of, with_processes}
 use Rattle.life.specs.Rechecks.{rechecking_changed}
 use Rattle.life.proofs.FunnelLemmas.{stays_so}
 use Rattle.life.proofs.MoveLemmas.{is_moving, still_named, none_moves, err_is}
-use Rattle.life.proofs.SendLemmas.{with_processes}
 use Rattle.life.proofs.SoundLemmas.{snapshot_are, found_in, is_there}
 use Rattle.life.proofs.ViewLemmas.{state_is}
 use Rattle.life.proofs.machine.Machine.move_group.Goals as goal

@@ -1,14 +1,12 @@
 use Rattle.std.proofs.Common.{◌∙◌, ap, sym, refl, is_ok, rules}
 use Rattle.std.proofs.lemmas.Bool.{not-true, or_parts}
 use Rattle.posix.specs.Tables.{lookup}
-use Rattle.posix.specs.States.{State}
-use Rattle.posix.specs.States.{change as change_of}
+use Rattle.posix.specs.States.{State, change as change_of}
 use Rattle.posix.specs.GroupCalls.{in_session, is_group_of_others}
 use Rattle.posix.proofs.GroupLemmas.{regular_session}
 use Rattle.jobs.proofs.RunLemmas.{run_as}
-use Rattle.life.specs.Machines.{state_of}
+use Rattle.life.specs.Machines.{state_of, with_processes}
 use Rattle.life.proofs.FunnelLemmas.{stays_so}
-use Rattle.life.proofs.SendLemmas.{with_processes}
 use Rattle.life.proofs.SoundLemmas.{found_in}
 use Rattle.life.proofs.ViewLemmas.{state_is}
 use Rattle.life.proofs.machine.Machine.new_session.Goals as goal

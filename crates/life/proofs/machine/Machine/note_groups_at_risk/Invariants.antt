@@ -14,6 +14,8 @@ invariant-loop-next g l =
     record {
       same : l.self.state ≡ l.fn.self.state;
       to_recheck : l.self.to_recheck ≡ l.fn.self.to_recheck;
+      foregrounds_unchecked : l.self.foregrounds_unchecked ≡ l.fn.self.foregrounds_unchecked;
+      readers : l.self.readers ≡ l.fn.self.readers;
       here : first_pid (left_of l.next kids) ≡ l.next;
       todo : (n : ℕ) → (is_in n l.self.groups_at_risk || list_any (keeps rs n) (left_of l.next kids)) ≡ loses_anchor l.fn.pid rs n;
       read : l.self.visits + 4 * length (left_of l.next kids) ≤ l.fn.self.visits + 4 + 4 * length kids;

@@ -1,14 +1,14 @@
-use Rattle.std.proofs.Common.{◌≡◌, ◌∙◌, ◌<◌, ap, sym, subst, refl, arith, slice_get, ℕ, Option, List, false}
+use Rattle.std.proofs.Common.{◌≡◌, ◌∙◌, ap, sym, subst, refl, arith, slice_get, ℕ, Option, List, false}
 use Rattle.std.specs.Option.{IsSome}
 use Rattle.posix.specs.States.{State, process, has_place}
-use Rattle.posix.proofs.WalkLemmas.{numbers_left, fewer_left}
 use Rattle.pidset.specs.Numbers.{PidSetView, Rises, numbers_above}
 use Rattle.life.specs.Machines.{MachineView, readers_at}
 use Rattle.life.specs.Consoles.{AreReaders}
-use Rattle.life.proofs.AtRiskLemmas.{lies_above}
+use Rattle.pidset.proofs.WalkLemmas.{lies_above}
 use Rattle.life.proofs.ViewLemmas.{state_is}
 use Rattle.life.proofs.ReaderLemmas.{IsRechecking, watched_rises, watched_least, rechecking_starts, rechecking_proceeds, rechecking_is_over}
 use Rattle.life.proofs.machine.Machine.recheck_readers.Goals as goal
+use Rattle.jobs.proofs.ReadLemmas.{fewer_after}
 
 pub loop-next-init : goal.loop-next-init
 loop-next-init g c = record {
@@ -18,9 +18,7 @@ loop-next-init g c = record {
 }
 
 pub loop-next-smaller : goal.loop-next-smaller
-loop-next-smaller g c =
-    let less = fewer_left 2147483648 c.in-Some.pid c.next_reader-next-in-Some.result (omega arith) (lies_above c.in-Some.pid _ c.next_reader-next-in-Some.result (watched_rises _ _ c.args.console_index c.next_reader-next-in-Some.ensures.watched) c.next_reader-next-in-Some.ensures.is) in
-    subst (λ (o : Option ℕ). numbers_left 2147483648 c.next_reader-next-in-Some.result < numbers_left 2147483648 o) (sym c.in-Some.is) less
+loop-next-smaller g c = fewer_after c.in-Some.pid (omega arith) _ _ c.in-Some.is (lies_above c.in-Some.pid _ c.next_reader-next-in-Some.result (watched_rises _ _ c.args.console_index c.next_reader-next-in-Some.ensures.watched) c.next_reader-next-in-Some.ensures.is)
 
 pub loop-next-preserved : goal.loop-next-preserved
 loop-next-preserved g c =

@@ -1,4 +1,4 @@
-use Rattle.std.proofs.Common.{◌<◌, refl, arith, length, ap, sym, ◌∙◌, subst}
+use Rattle.std.proofs.Common.{rules, ◌<◌, refl, arith, length, ap, sym, ◌∙◌, subst}
 use Rattle.posix.specs.Tables.{first_pid, above, left_of, children_in}
 use Rattle.posix.specs.States.{State, process}
 use Rattle.posix.specs.Waits.{reporting_in}
@@ -63,14 +63,20 @@ loop-next-preserved g c =
       read = omega (arith, less, left, i.read, c.report_of.ensures.looks.visits);
     }
 
-pub returns-in-Some-first_child-clause-value : goal.returns-in-Some-first_child-clause-value
-returns-in-Some-first_child-clause-value g c = λ own.
-    let i = c.loop-next.invariant in
-    let rs = c.args.self.now.state.processes in
-    let first = sym (c.first_child.ensures.value ∙ ap (λ (s : State). first_pid (children_in c.args.parent s.processes)) i.same.state) ∙ c.in-Some-first_child.is in
-    sym (report_nothing rs c.args.parent own c.args.options.0 (subst (IsReportWalk rs c.args.parent c.args.options.0) c.in_default.is i.walk) c.in-Some-first_child.field-0 first)
+pub returns-in-Some-first_child : goal.returns-in-Some-first_child
+returns-in-Some-first_child g c = record {
+  value = λ own.
+      let i = c.loop-next.invariant in
+      let rs = c.args.self.now.state.processes in
+      let first = sym (c.first_child.ensures.value ∙ ap (λ (s : State). first_pid (children_in c.args.parent s.processes)) i.same.state) ∙ c.in-Some-first_child.is in
+      sym (report_nothing rs c.args.parent own c.args.options.0 (subst (IsReportWalk rs c.args.parent c.args.options.0) c.in_default.is i.walk) c.in-Some-first_child.field-0 first);
+  looks = search rules;
+}
 
-pub returns-in-None-clause-value : goal.returns-in-None-clause-value
-returns-in-None-clause-value g c = λ own.
-    let first = sym (c.first_child.ensures.value ∙ ap (λ (s : State). first_pid (children_in c.args.parent s.processes)) c.loop-next.invariant.same.state) ∙ c.in-None.is in
-    sym (report_childless c.args.self.now.state.processes c.args.parent own c.args.options.0 first)
+pub returns-in-None : goal.returns-in-None
+returns-in-None g c = record {
+  value = λ own.
+      let first = sym (c.first_child.ensures.value ∙ ap (λ (s : State). first_pid (children_in c.args.parent s.processes)) c.loop-next.invariant.same.state) ∙ c.in-None.is in
+      sym (report_childless c.args.self.now.state.processes c.args.parent own c.args.options.0 first);
+  looks = search rules;
+}

@@ -1,4 +1,4 @@
-use Rattle.std.proofs.Common.{refl, arith, length, ap, sym, ◌∙◌}
+use Rattle.std.proofs.Common.{rules, refl, arith, length, ap, sym, ◌∙◌}
 use Rattle.posix.specs.declared.process.Report.TheVariants as found
 use Rattle.posix.specs.declared.target.Target.TheVariants as whom
 use Rattle.posix.specs.Tables.{next_sibling}
@@ -20,17 +20,27 @@ loop-next-init g c =
       read = let all = ap length (first_todo _ up c.args.parent _ c.first_child-next.ensures.value) in omega (arith, all, c.first_child-next.ensures.looks.visits);
     }
 
-pub returns-in_default-snapshot-clause-value : goal.returns-in_default-snapshot-clause-value
+pub returns-in_default-snapshot : goal.returns-in_default-snapshot
 unfolding report
-returns-in_default-snapshot-clause-value g c = λ own. absurd
-    (surely_read _ _ c.args.parent c.in-Some.child _ (record { rising = c.first_child-next.ensures.looks.regular.rising; comes = c.in-Some.is; here = c.loop-next.invariant.here; same = ap (λ (t : State). t.processes) c.loop-next.invariant.same.state })
-    (sym c.in_default-snapshot.is ∙ c.snapshot.ensures.value))
+returns-in_default-snapshot g c =
+    let less = child_less _ _ c.args.parent c.in-Some.child _ _ (record { rising = c.first_child-next.ensures.looks.regular.rising; comes = c.in-Some.is; here = c.loop-next.invariant.here; same = ap (λ (t : State). t.processes) c.loop-next.invariant.same.state }) refl in
+    record {
+      value = λ own. absurd
+          (surely_read _ _ c.args.parent c.in-Some.child _ (record { rising = c.first_child-next.ensures.looks.regular.rising; comes = c.in-Some.is; here = c.loop-next.invariant.here; same = ap (λ (t : State). t.processes) c.loop-next.invariant.same.state })
+          (sym c.in_default-snapshot.is ∙ c.snapshot.ensures.value));
+      looks = looks_within (same_then c.loop-next.invariant.same c.snapshot.ensures.looks.same) (omega (arith, less, c.loop-next.invariant.read, c.snapshot.ensures.looks.visits)) c.first_child-next.ensures.looks.regular;
+    }
 
-pub returns-in_default-look-clause-value : goal.returns-in_default-look-clause-value
+pub returns-in_default-look : goal.returns-in_default-look
 unfolding report
-returns-in_default-look-clause-value g c = λ own. reported_here _ _ c.args.parent c.in-Some.child _ 0 (whom.Group c.args.group) c.args.options.0 _ c.loop-next.found
-    (record { rising = c.first_child-next.ensures.looks.regular.rising; comes = c.in-Some.is; here = c.loop-next.invariant.here; same = ap (λ (t : State). t.processes) c.loop-next.invariant.same.state })
-    (record { snapshot = _; read = c.in-Some-snapshot.ensures.value; said = c.look.ensures 0 }) c.loop-next.invariant.todo c.in_default-look.not-NoChild c.in_default-look.not-Nothing
+returns-in_default-look g c =
+    let less = child_less _ _ c.args.parent c.in-Some.child _ _ (record { rising = c.first_child-next.ensures.looks.regular.rising; comes = c.in-Some.is; here = c.loop-next.invariant.here; same = ap (λ (t : State). t.processes) c.loop-next.invariant.same.state }) refl in
+    record {
+      value = λ own. reported_here _ _ c.args.parent c.in-Some.child _ 0 (whom.Group c.args.group) c.args.options.0 _ c.loop-next.found
+          (record { rising = c.first_child-next.ensures.looks.regular.rising; comes = c.in-Some.is; here = c.loop-next.invariant.here; same = ap (λ (t : State). t.processes) c.loop-next.invariant.same.state })
+          (record { snapshot = _; read = c.in-Some-snapshot.ensures.value; said = c.look.ensures 0 }) c.loop-next.invariant.todo c.in_default-look.not-NoChild c.in_default-look.not-Nothing;
+      looks = looks_within (same_then c.loop-next.invariant.same c.in-Some-snapshot.ensures.looks.same) (omega (arith, less, c.loop-next.invariant.read, c.in-Some-snapshot.ensures.looks.visits)) c.first_child-next.ensures.looks.regular;
+    }
 
 pub loop-next-smaller : goal.loop-next-smaller
 loop-next-smaller g c = child_less _ _ c.args.parent c.in-Some.child _ _
@@ -53,16 +63,6 @@ loop-next-preserved g c =
       read = let less = child_less _ _ c.args.parent c.in-Some.child _ _ walk next in omega (arith, less, c.loop-next.invariant.read, c.in-Some-snapshot.ensures.looks.visits, c.next_sibling-next.ensures.looks.visits);
     }
 
-pub returns-clause-value : goal.returns-clause-value
+pub returns : goal.returns
 unfolding report
-returns-clause-value g c = λ own. none_left _ c.args.parent _ 0 (whom.Group c.args.group) c.args.options.0 c.loop-next.found c.in_default.is c.loop-next.invariant.todo
-
-pub returns-in_default-snapshot-clause-looks : goal.returns-in_default-snapshot-clause-looks
-returns-in_default-snapshot-clause-looks g c =
-    let less = child_less _ _ c.args.parent c.in-Some.child _ _ (record { rising = c.first_child-next.ensures.looks.regular.rising; comes = c.in-Some.is; here = c.loop-next.invariant.here; same = ap (λ (t : State). t.processes) c.loop-next.invariant.same.state }) refl in
-    looks_within (same_then c.loop-next.invariant.same c.snapshot.ensures.looks.same) (omega (arith, less, c.loop-next.invariant.read, c.snapshot.ensures.looks.visits)) c.first_child-next.ensures.looks.regular
-
-pub returns-in_default-look-clause-looks : goal.returns-in_default-look-clause-looks
-returns-in_default-look-clause-looks g c =
-    let less = child_less _ _ c.args.parent c.in-Some.child _ _ (record { rising = c.first_child-next.ensures.looks.regular.rising; comes = c.in-Some.is; here = c.loop-next.invariant.here; same = ap (λ (t : State). t.processes) c.loop-next.invariant.same.state }) refl in
-    looks_within (same_then c.loop-next.invariant.same c.in-Some-snapshot.ensures.looks.same) (omega (arith, less, c.loop-next.invariant.read, c.in-Some-snapshot.ensures.looks.visits)) c.first_child-next.ensures.looks.regular
+returns g c = record { value = λ own. none_left _ c.args.parent _ 0 (whom.Group c.args.group) c.args.options.0 c.loop-next.found c.in_default.is c.loop-next.invariant.todo; looks = search rules }

@@ -4,7 +4,7 @@ use Rattle.posix.proofs.RegularLemmas.{keeps_ring}
 use Rattle.posix.proofs.TouchLemmas.{unseen_ring}
 use Rattle.jobs.proofs.RunLemmas.{run_as, unseen_as}
 use Rattle.life.proofs.FunnelLemmas.{stays_regular}
-use Rattle.life.proofs.SendLemmas.{with_processes}
+use Rattle.life.specs.Machines.{with_processes}
 use Rattle.life.proofs.machine.Machine.ring.Goals as goal
 
 pub change-requires-clause-unseen : goal.change-requires-clause-unseen
@@ -13,5 +13,9 @@ change-requires-clause-unseen g c = let now = c.args.self.now.state.ticks + 1 in
 pub change-requires-clause-regular : goal.change-requires-clause-regular
 change-requires-clause-regular g c = let now = c.args.self.now.state.ticks + 1 in stays_regular c.args.pid (ring_at now) c.args.self.now.state (keeps_ring now) (λ b d r k q. search rules)
 
-pub returns-clause-state : goal.returns-clause-state
-returns-clause-state g c = c.change.ensures.rest ∙ ap (with_processes c.args.self.now.state) (run_as (ring_at (c.args.self.now.state.ticks + 1)) c.change.ensures.run c.change.ensures.costs.regular.rising (λ b d r k q. search rules))
+pub returns : goal.returns
+returns g c = record {
+  state = c.change.ensures.changes.state ∙ ap (with_processes c.args.self.now.state) (run_as (ring_at (c.args.self.now.state.ticks + 1)) c.change.ensures.run c.change.ensures.changes.costs.regular.rising (λ b d r k q. search rules));
+  to_recheck = search rules;
+  costs = search rules;
+}

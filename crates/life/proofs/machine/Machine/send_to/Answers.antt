@@ -1,6 +1,7 @@
 use Rattle.std.proofs.Common.{◌≡◌, sym, ◌∙◌, arith, true, false, ap}
 use Rattle.life.specs.Callers.{process_like}
-use Rattle.life.proofs.SendLemmas.{with_processes, sent_refused, sent_none, signal_one, sending_one, rechecked_none, rechecked_refused, rechecked_one}
+use Rattle.life.proofs.SendLemmas.{sent_refused, sent_none, signal_one, sending_one, rechecked_none, rechecked_refused, rechecked_one}
+use Rattle.life.specs.Machines.{with_processes}
 use Rattle.life.proofs.machine.Machine.send_to.Goals as goal
 
 pub returns-then-not-may_signal-clause-sending : goal.returns-then-not-may_signal-clause-sending

@@ -1,4 +1,4 @@
-use Rattle.std.proofs.Common.{◌≡◌, ◌∙◌, ap, rules, sym, subst, Option, ℕ}
+use Rattle.std.proofs.Common.{option_map, Some, ◌≡◌, ◌∙◌, ap, rules, sym, subst, Option, ℕ}
 use Rattle.posix.specs.Processes.{Process}
 use Rattle.posix.specs.Tables.{changed}
 use Rattle.posix.specs.States.{State}
@@ -7,8 +7,9 @@ use Rattle.posix.specs.Alarms.{with_alarm, due_in, ticks_left}
 use Rattle.posix.proofs.RegularLemmas.{keeps_with_alarm, due_ahead}
 use Rattle.posix.proofs.TouchLemmas.{unseen_with_alarm}
 use Rattle.jobs.proofs.RunLemmas.{run_as, unseen_as}
-use Rattle.life.proofs.FunnelLemmas.{stays_regular, result_as}
-use Rattle.life.proofs.SendLemmas.{with_processes}
+use Rattle.life.proofs.FunnelLemmas.{stays_regular, has_run}
+use Rattle.life.proofs.SoundLemmas.{is_there}
+use Rattle.life.specs.Machines.{with_processes}
 use Rattle.life.proofs.ViewLemmas.{state_is}
 use Rattle.life.proofs.machine.Machine.set_alarm.Goals as goal
 
@@ -23,21 +24,32 @@ change-before-requires-clause-regular g c =
     let due = c.due_in-due.ensures ∙ ap (λ (s : State). due_in s.ticks c.args.ticks) (state_is c.self.view_is) in
     stays_regular c.args.pid (with_alarm c.due_in-due.result) c.args.self.now.state (keeps_with_alarm c.due_in-due.result (subst (IsAhead c.args.self.now.state.ticks) (sym due) (due_ahead c.args.self.now.state.ticks c.args.ticks c.requires.few))) (λ b d r k q. search rules)
 
+-- what the change answers
+abbrev answers : Process → Option ℕ → Type 0
+answers r alarm = alarm ≡ r.alarm
+
 pub ticks_left-requires : goal.ticks_left-requires
 ticks_left-requires g c =
-    let me = c.requires.there in
-    let now = ap (λ (s : State). s.ticks) (state_is c.self-2.view_is ∙ c.change-before.ensures.rest) in
-    let before = result_as (λ (q : Process) (a : Option ℕ). a ≡ q.alarm) c.change-before.ensures.run (λ b d r k q. search rules) me.what me.found in
-    subst (λ n. IsAhead n c.change-before.result) (sym now) (subst (IsAhead c.args.self.now.state.ticks) (sym before) (c.change-before.ensures.costs.regular.alarms c.args.pid me.what me.found))
+    let now = ap (λ (s : State). s.ticks) (state_is c.self-2.view_is ∙ c.change-before.ensures.changes.state) in
+    let regular = c.change-before.ensures.changes.costs.regular in
+    let ran = has_run (with_alarm c.due_in-due.result) answers c.change-before.ensures.run regular.rising (is_there _ _ c.requires.there.found) (λ b d r k q. (search rules, search rules)) in
+    subst (λ n. IsAhead n c.change-before.result) (sym now) (subst (IsAhead c.args.self.now.state.ticks) (sym ran.says) (regular.alarms c.args.pid _ ran.me.found))
 
 pub returns-clause-left : goal.returns-clause-left
 returns-clause-left g c = λ me found.
-    let now = ap (λ (s : State). s.ticks) (state_is c.self-2.view_is ∙ c.change-before.ensures.rest) in
-    let before = result_as (λ (q : Process) (a : Option ℕ). a ≡ q.alarm) c.change-before.ensures.run (λ b d r k q. search rules) me found in
-    c.ticks_left.ensures.left ∙ ap (λ n. ticks_left n c.change-before.result) now ∙ ap (ticks_left c.args.self.now.state.ticks) before
+    let now = ap (λ (s : State). s.ticks) (state_is c.self-2.view_is ∙ c.change-before.ensures.changes.state) in
+    let ran = has_run (with_alarm c.due_in-due.result) answers c.change-before.ensures.run c.change-before.ensures.changes.costs.regular.rising (is_there _ me found) (λ b d r k q. (search rules, search rules)) in
+    let both : Some ran.me.what.alarm ≡ Some me.alarm = ap (option_map (λ (r : Process). r.alarm)) (sym ran.me.found ∙ found) in
+    let same : ran.me.what.alarm ≡ me.alarm = cc in
+    c.ticks_left.ensures.left ∙ ap (λ n. ticks_left n c.change-before.result) now ∙ ap (ticks_left c.args.self.now.state.ticks) (ran.says ∙ same)
 
-pub returns-clause-state : goal.returns-clause-state
-returns-clause-state g c =
+pub returns-clause-changes : goal.returns-clause-changes
+returns-clause-changes g c =
     let due = c.due_in-due.ensures ∙ ap (λ (s : State). due_in s.ticks c.args.ticks) (state_is c.self.view_is) in
-    c.change-before.ensures.rest ∙ ap (with_processes c.args.self.now.state) (run_as (with_alarm c.due_in-due.result) c.change-before.ensures.run c.change-before.ensures.costs.regular.rising (λ b d r k q. search rules))
-    ∙ ap (λ (a : Option ℕ). record (c.args.self.now.state) { processes = changed c.args.pid (with_alarm a) c.args.self.now.state.processes }) due
+    record {
+      state =
+          c.change-before.ensures.changes.state ∙ ap (with_processes c.args.self.now.state) (run_as (with_alarm c.due_in-due.result) c.change-before.ensures.run c.change-before.ensures.changes.costs.regular.rising (λ b d r k q. search rules))
+          ∙ ap (λ (a : Option ℕ). record (c.args.self.now.state) { processes = changed c.args.pid (with_alarm a) c.args.self.now.state.processes }) due;
+      to_recheck = search rules;
+      costs = search rules;
+    }

@@ -84,21 +84,15 @@ loop-next-preserved g c =
       read = rw (c.next_sibling-next.ensures.looks.same.state, c.life-life.ensures.looks.same.state, next) (omega (arith, fewer, c.loop-next.invariant.read, c.next_sibling-next.ensures.looks.visits, c.life-life.ensures.looks.visits));
     }
 
-pub returns-clause-state : goal.returns-clause-state
-returns-clause-state g c = told_of_all c.loop-next.invariant.telling c.in_default.is
-
-pub returns-clause-mine : goal.returns-clause-mine
-returns-clause-mine g c = c.loop-next.invariant.telling.mine
-
-pub returns-clause-heir : goal.returns-clause-heir
-returns-clause-heir g c = c.loop-next.invariant.telling.inherits
-
-pub returns-clause-fewer : goal.returns-clause-fewer
-returns-clause-fewer g c = c.loop-next.invariant.telling.fewer
-
-pub returns-clause-costs : goal.returns-clause-costs
-returns-clause-costs g c = record {
-  visits = let r = c.loop-next.invariant.read in omega (arith, r);
-  groups_at_risk = c.loop-next.invariant.groups_at_risk;
-  regular = c.first_child-next.ensures.looks.regular;
+pub returns : goal.returns
+returns g c = record {
+  state = told_of_all c.loop-next.invariant.telling c.in_default.is;
+  mine = c.loop-next.invariant.telling.mine;
+  heir = c.loop-next.invariant.telling.inherits;
+  fewer = c.loop-next.invariant.telling.fewer;
+  costs = record {
+    visits = let r = c.loop-next.invariant.read in omega (arith, r);
+    groups_at_risk = c.loop-next.invariant.groups_at_risk;
+    regular = c.first_child-next.ensures.looks.regular;
+  };
 }

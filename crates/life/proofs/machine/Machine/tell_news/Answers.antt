@@ -3,11 +3,15 @@ use Rattle.posix.specs.Waits.{news_told}
 use Rattle.posix.proofs.RegularLemmas.{keeps_news_told}
 use Rattle.jobs.proofs.RunLemmas.{run_as}
 use Rattle.life.proofs.FunnelLemmas.{stays_regular}
-use Rattle.life.proofs.SendLemmas.{with_processes}
+use Rattle.life.specs.Machines.{with_processes}
 use Rattle.life.proofs.machine.Machine.tell_news.Goals as goal
 
 pub change_seen-requires-clause-regular : goal.change_seen-requires-clause-regular
 change_seen-requires-clause-regular g c = stays_regular c.args.pid news_told c.args.self.now.state keeps_news_told (λ b d r k q. search rules)
 
-pub returns-clause-state : goal.returns-clause-state
-returns-clause-state g c = c.change_seen.ensures.rest ∙ ap (with_processes c.args.self.now.state) (run_as news_told c.change_seen.ensures.run c.change_seen.ensures.costs.regular.rising (λ b d r k q. search rules))
+pub returns : goal.returns
+returns g c = λ child found. record {
+  state = c.change_seen.ensures.rest ∙ ap (with_processes c.args.self.now.state) (run_as news_told c.change_seen.ensures.run c.change_seen.ensures.costs.regular.rising (λ b d r k q. search rules));
+  to_recheck = c.change_seen.ensures.to_recheck child found;
+  costs = c.change_seen.ensures.costs;
+}

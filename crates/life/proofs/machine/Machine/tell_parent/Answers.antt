@@ -7,7 +7,7 @@ use Rattle.posix.proofs.ChangeLemmas.{keeps_noticed_of_change, unseen_noticed_of
 use Rattle.jobs.proofs.SnapshotLemmas.{differs}
 use Rattle.jobs.proofs.RunLemmas.{run_as, unseen_as}
 use Rattle.life.proofs.FunnelLemmas.{stays_regular}
-use Rattle.life.proofs.SendLemmas.{with_processes}
+use Rattle.life.specs.Machines.{with_processes}
 use Rattle.life.proofs.machine.Machine.tell_parent.Goals as goal
 
 pub change-requires-clause-unseen : goal.change-requires-clause-unseen
@@ -20,10 +20,15 @@ change-requires-clause-regular g c =
     let signal = c.child_signal-signal.result in
     stays_regular c.args.parent (noticed_of_change signal) c.args.self.now.state (keeps_noticed_of_change signal) (λ b d r k q. search rules)
 
-pub returns-then-ne-clause-state : goal.returns-then-ne-clause-state
-returns-then-ne-clause-state g c =
+pub returns-then-ne : goal.returns-then-ne
+returns-then-ne g c =
     let s = c.args.self.now.state in
     let signal = c.child_signal-signal.result in
     let other : (c.args.parent == 0) ≡ false = ne_eqb c.args.parent 0 (differs c.args.parent 0 (sym c.ne.ensures ∙ c.if-ne.true)) in
-    rw other (c.change.ensures.rest ∙ ap (with_processes s) (run_as (noticed_of_change signal) c.change.ensures.run c.change.ensures.costs.regular.rising (λ b d r k q. search rules))
-    ∙ ap (λ (w : PendingSignal). change s c.args.parent (noticed_of_change w)) c.child_signal-signal.ensures)
+    record {
+      state =
+          rw other (c.change.ensures.changes.state ∙ ap (with_processes s) (run_as (noticed_of_change signal) c.change.ensures.run c.change.ensures.changes.costs.regular.rising (λ b d r k q. search rules))
+          ∙ ap (λ (w : PendingSignal). change s c.args.parent (noticed_of_change w)) c.child_signal-signal.ensures);
+      to_recheck = search rules;
+      costs = search rules;
+    }

@@ -1,18 +1,18 @@
 use Rattle.std.proofs.Common.{◌≡◌, ◌+◌, ◌*◌, ◌≤◌, filter, length}
-use Rattle.posix.specs.Processes.{is_stopped}
+use Rattle.jobs.specs.Counts.{is_counted, slots_more}
 use Rattle.posix.specs.Tables.{members_in, first_pid, left_of}
-use Rattle.jobs.proofs.job_table.JobTable.stopped_in.Given as goal
+use Rattle.jobs.proofs.job_table.JobTable.count.Given as goal
 
--- those that were counted, and those that are left, are all that are stopped
+-- those that were counted, and those that are left, are all
 abbrev pub invariant-loop-next : goal.invariant-loop-next
 invariant-loop-next g l =
     let rs = l.fn.self.processes in
     record {
       same : l.self.processes ≡ l.fn.self.processes;
       room : l.self.room ≡ l.fn.self.room;
-      read : l.self.visits + 3 * length (left_of l.next rs) ≤ l.fn.self.visits + 2 + 3 * length rs;
+      read : l.self.visits + (3 + slots_more l.what) * length (left_of l.next rs) ≤ l.fn.self.visits + 2 + (3 + slots_more l.what) * length rs;
       begins : first_pid (left_of l.next (members_in l.group rs)) ≡ l.next;
-      counted : l.count + length (filter (λ r. is_stopped r.life) (left_of l.next (members_in l.group rs))) ≡ length (filter (λ r. is_stopped r.life) (members_in l.group rs));
+      counted : l.count + length (filter (is_counted l.what rs) (left_of l.next (members_in l.group rs))) ≡ length (filter (is_counted l.what rs) (members_in l.group rs));
     }
 
 abbrev pub decreases-loop-next : goal.decreases-loop-next
