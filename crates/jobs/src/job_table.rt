@@ -256,6 +256,7 @@ impl<K: Kin> JobTable<K> {
 }
 
 /// The parent of a process that is there.
+#[inline(always)]
 fn parent_in<K: Kin>(table: &mut K, pid: Pid) -> Pid
     requires { IsSome (lookup pid (K.contents table.old)) }
     ensures value { result ≡ parent_of pid (K.contents table.old) }
