@@ -1,10 +1,15 @@
 -- What the functions of calls come to.
-use Rattle.std.specs.Prelude.{◌≡◌, ℕ, ◌+◌, ◌≤◌, Bool, true, false, List, [], ◌∷◌, ◌++◌, Some, ℤ, pos, Result, Ok, Err}
+use Rattle.std.specs.Prelude.{◌≡◌, ◌&&◌, not, ℕ, ◌+◌, ◌≤◌, Bool, true, false, List, [], ◌∷◌, ◌++◌, Some, ℤ, pos, Result, Ok, Err}
 use Rattle.posix.specs.declared.call.Call.{Call}
 use Rattle.posix.specs.declared.call.Call.TheVariants.{Exit, Fork, Waitpid, Pause, SchedYield, Getppid, Kill, Sigsuspend, Sigreturn, Alarm, Exec, Getpgid, Getsid, Setpgid, Setsid, Setctty, Tcgetpgrp, Tcsetpgrp, Settostop, Read, Write}
 use Rattle.posix.specs.declared.entry.Entry.{Entry}
 use Rattle.posix.specs.declared.entry.Entry.TheVariants.{Called}
 use Rattle.posix.specs.declared.errno.Errno.{Errno}
+use Rattle.posix.specs.declared.process.Handler.{Handler}
+use Rattle.posix.specs.declared.process.Handler.TheVariants as handler
+use Rattle.posix.specs.SignalSets.{has}
+use Rattle.posix.specs.Generation.{action}
+use Rattle.posix.specs.Handlers.{is_full}
 use Rattle.posix.specs.Processes.{Process}
 use Rattle.posix.specs.States.{State, process, has_place}
 use Rattle.posix.specs.Regular.{IsPlaced}
@@ -22,6 +27,15 @@ pub record CostsAtMost (most : ℕ) (old new : MachineView) : Type 0 where
   pub visits : new.visits ≤ old.visits + most
   pub to_recheck : new.to_recheck ≡ old.to_recheck
   pub foregrounds_unchecked : new.foregrounds_unchecked ≡ old.foregrounds_unchecked
+
+abbrev pub is_address : Handler → Bool
+is_address (handler.At address) = true
+is_address handler.Ignore = false
+is_address handler.Default = false
+
+-- a machine fault enters a handler: there is one, which isn't blocked, and there is room for its frame
+abbrev pub enters_handler : Process → ℕ → Bool
+enters_handler me n = is_address (action me.signals n).handler && (not (has me.signals.mask n) && not (is_full me.signals))
 
 -- ---- attempts
 

@@ -1,8 +1,10 @@
 //! Delivery of signals, machine faults, and returns from handlers.
 
-ghost use Rattle.std.specs.Prelude.{◌≡◌, ◌==◌, ◌&&◌, not, ◌≤◌, ◌++◌, [], IsSome, Some, length, if◌then◌else◌};
+ghost use Rattle.std.specs.Prelude.{◌≡◌, ◌==◌, ◌&&◌, not, ◌≤◌, ◌++◌, [], IsSome, Some, false, true, length, if◌then◌else◌};
 ghost use Rattle.posix.specs.Processes.{Process};
-ghost use Rattle.posix.specs.States.{process};
+ghost use Rattle.posix.specs.States.{process, has_place};
+ghost use Rattle.posix.specs.Handlers.{is_full};
+ghost use Rattle.calls.specs.Outcomes.{CostsAtMost, enters_handler};
 ghost use Rattle.posix.specs.Regular.{IsPlaced};
 ghost use Rattle.posix.specs.Groups.{is_orphaned};
 ghost use Rattle.posix.specs.Ends.{end_process};
@@ -79,7 +81,8 @@ fn handle<K: Kin>(
 )
     requires there { IsSome (process machine.old.state pid) }
     requires none { entries.old.items ≡ [] }
-    ensures { (me : Process) → process machine.old.state pid ≡ Some me → handling machine.old.state me signal address ≡ record { state = machine.new.state; entries = entries.new.items } }
+    ensures does { (me : Process) → process machine.old.state pid ≡ Some me → handling machine.old.state me signal address ≡ record { state = machine.new.state; entries = entries.new.items } }
+    ensures costs { has_place machine.old.state pid ≡ true → (me : Process) → process machine.old.state pid ≡ Some me → is_full me.signals ≡ false → CostsAtMost 1 machine.old machine.new }
 {
     let PendingSignal { sig, carried } = signal;
     let own = machine.own(pid);
@@ -172,13 +175,15 @@ pub fn deliver<K: Kin>(machine: &mut Machine<K>, pid: Pid, sig: Sig, entries: &m
 }
 
 /// A machine fault of a process that is there: its handler is entered, if there is one and it isn't
-/// blocked, or else the process ends by the signal, also process 1 (own).
+/// blocked, or else the process ends by the signal, also process 1 (own). Where a handler is entered two slots are
+/// read at most.
 #[tactic(auto, unfolding(posix::specs::Delivery::fault))]
 #[inline(never)]
 pub fn fault<K: Kin>(machine: &mut Machine<K>, pid: Pid, sig: Sig, entries: &mut Entries)
     requires there { IsSome (process machine.old.state pid) }
     requires none { entries.old.items ≡ [] }
-    ensures { (me : Process) → process machine.old.state pid ≡ Some me → faulting machine.old.state me sig ≡ record { state = machine.new.state; entries = entries.new.items } }
+    ensures does { (me : Process) → process machine.old.state pid ≡ Some me → faulting machine.old.state me sig ≡ record { state = machine.new.state; entries = entries.new.items } }
+    ensures costs { has_place machine.old.state pid ≡ true → (me : Process) → process machine.old.state pid ≡ Some me → enters_handler me sig ≡ true → CostsAtMost 2 machine.old machine.new }
 {
     let own = machine.look(pid);
     let action = own.signals.action(sig);

@@ -1,12 +1,96 @@
 //! Runs with consoles: keys, background reads, and the end of a session.
 
-use crate::process_tests::expect_slots;
+use crate::process_tests::{expect_slots, slots_of};
 use crate::tests::expect_run;
 use kernel::Kernel;
 use posix::{Bytes, Call, Entry, Event, Pid};
 use std::process::Abort;
 use std::test::Fail;
 use text::read_world;
+
+/// Beside 300 processes that pause, process 1 puts one child into the foreground, and collects another.
+const COLLECTION_BESIDE_A_FOREGROUND: &[u8] = b"\
+pidmax 1000
+consoles 2
+program init
+sys fork
+jz r0, par
+sys sched_yield
+set r1, 22
+set r2, 1
+set r3, 0
+set r4, 0
+sys sigaction
+set r1, 1
+sys setctty
+sys fork
+jz r0, job
+mov r1, r0
+mov r2, r0
+sys setpgid
+sys tcsetpgrp
+sys fork
+jz r0, die
+set r2, 0
+mov r1, r0
+sys waitpid
+sys getpid
+sys pause
+job:
+sys pause
+die:
+sys exit
+par:
+set r6, 300
+set r7, 1
+more:
+sys fork
+jz r0, kid
+sub r6, r7
+jnz r6, more
+sys pause
+kid:
+sys pause
+end
+";
+
+/// Beside 300 processes that pause, process 1 puts one child into the foreground.
+const FOREGROUND_OF_ONE: &[u8] = b"\
+pidmax 1000
+consoles 2
+program init
+sys fork
+jz r0, par
+sys sched_yield
+set r1, 22
+set r2, 1
+set r3, 0
+set r4, 0
+sys sigaction
+set r1, 1
+sys setctty
+sys fork
+jz r0, job
+mov r1, r0
+mov r2, r0
+sys setpgid
+sys tcsetpgrp
+sys pause
+job:
+sys pause
+par:
+set r6, 300
+set r7, 1
+more:
+sys fork
+jz r0, kid
+sub r6, r7
+jnz r6, more
+sys pause
+kid:
+sys pause
+end
+";
 
 const SHELL_ENDS_WITH_A_STOPPED_JOB: &[u8] = b"\
 pidmax 40
@@ -243,5 +327,44 @@ fn sleeping_readers_are_not_asked(rt: HostRuntime) -> Result<(), Fail> {
     let before = kernel.visits();
     assert_eq!(rt; shown(&rt, &mut kernel, Event::Key { console, byte }), 0);
     assert!(rt; kernel.visits().wrapping_sub(before) >= 901);
+    Ok(())
+}
+
+/// So many steps are taken.
+fn take_steps<R: Abort + AllocGlobal>(rt: &R, kernel: &mut Kernel, count: u64) {
+    for _ in 0..count {
+        shown(rt, kernel, Event::Step);
+    }
+}
+
+#[test]
+fn a_key_is_for_the_foreground_alone(rt: HostRuntime) -> Result<(), Fail> {
+    let world = read_world(rt.alloc(), FOREGROUND_OF_ONE)?;
+    let mut kernel = Kernel::boot(rt.alloc(), &world)?;
+    take_steps(&rt, &mut kernel, 2500);
+    assert_eq!(rt; kernel.census().living, 303);
+    let (console, byte) = (1, b'a');
+    assert_eq!(rt;
+        slots_of(&rt, &mut kernel, Event::Key { console, byte }).1,
+        0
+    );
+    // INT for the one member: 16 slots, and 8 for it.
+    let (console, byte) = (1, 3);
+    let (_, slots) = slots_of(&rt, &mut kernel, Event::Key { console, byte });
+    assert!(rt; 1 <= slots && slots <= 24);
+    Ok(())
+}
+
+#[test]
+fn a_collection_asks_no_sleepers_for_a_foreground(rt: HostRuntime) -> Result<(), Fail> {
+    let world = read_world(rt.alloc(), COLLECTION_BESIDE_A_FOREGROUND)?;
+    let mut kernel = Kernel::boot(rt.alloc(), &world)?;
+    take_steps(&rt, &mut kernel, 1829);
+    assert_eq!(rt; kernel.census().zombies, 1);
+    // A wait with three children, of which it collects one: 16 slots, and 2 for each of them.
+    let (shown, slots) = slots_of(&rt, &mut kernel, Event::Step);
+    assert_eq!(rt; shown, 1);
+    assert!(rt; 1 <= slots && slots <= 22);
+    assert_eq!(rt; kernel.census().zombies, 0);
     Ok(())
 }

@@ -161,6 +161,23 @@ sys pause
 end
 ";
 
+const FAULTS: &[u8] = b"\
+pidmax 40
+consoles 1
+program init
+set r1, 11
+set r2, @handler
+sys sigaction
+set r5, 256
+again:
+ld r0, r5
+jmp again
+handler:
+add r5, r1
+sys sigreturn
+end
+";
+
 const LEAST_CHOICE: &[u8] = b"\
 pidmax 40
 consoles 1
@@ -402,12 +419,21 @@ pub(crate) fn expect_slots<R: Abort + AllocGlobal>(
     event: Event,
     least: u128,
 ) -> usize {
+    let (shown, slots) = slots_of(rt, kernel, event);
+    assert!(rt; least <= slots && slots <= 16);
+    shown
+}
+
+/// How many entries an event shows, and how many slots of the table it reads.
+pub(crate) fn slots_of<R: Abort + AllocGlobal>(
+    rt: &R,
+    kernel: &mut KernelOn<ProcTable>,
+    event: Event,
+) -> (usize, u128) {
     assert!(rt; kernel.events() < 10_000);
     let before = kernel.visits();
     let shown = kernel.event(event).len();
-    let slots = kernel.visits().wrapping_sub(before);
-    assert!(rt; least <= slots && slots <= 16);
-    shown
+    (shown, kernel.visits().wrapping_sub(before))
 }
 
 #[test]
@@ -432,5 +458,21 @@ fn sleepers_are_not_asked(rt: HostRuntime) -> Result<(), Fail> {
     assert_eq!(rt; shown, 70);
     assert_eq!(rt; kernel.census().births, 911);
     assert_eq!(rt; kernel.census().dropped, 10);
+    Ok(())
+}
+
+#[test]
+fn a_fault_that_enters_a_handler_asks_nobody_else(rt: HostRuntime) -> Result<(), Fail> {
+    let world = read_world(rt.alloc(), FAULTS)?;
+    let mut kernel = KernelOn::<ProcTable>::boot(rt.alloc(), &world)?;
+    for _ in 0..4 {
+        expect_slots(&rt, &mut kernel, Event::Step, 1);
+    }
+    let mut shown: usize = 0;
+    for _ in 0..30 {
+        shown = shown.wrapping_add(expect_slots(&rt, &mut kernel, Event::Step, 1));
+    }
+    // Ten rounds of a fault, which is shown as its handler is entered, a sum, and the return.
+    assert_eq!(rt; shown, 20);
     Ok(())
 }

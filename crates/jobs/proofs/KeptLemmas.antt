@@ -1,47 +1,64 @@
 -- What a table keeps of its processes, where one changes, comes or goes.
-use Rattle.std.proofs.Common.{◌≡◌, ℕ, ◌+◌, ◌≤◌, refl, ◌-◌, ◌≢◌, ap, sym, ◌∙◌, arith, List, length, Some, None, ⊎_elim, inl, inr}
-use Rattle.std.proofs.lemmas.Bool.{eq-eqb, cases_lt}
+use Rattle.std.proofs.Common.{◌≡◌, ℕ, ◌+◌, ◌<◌, ◌≤◌, ◌⊎◌, subst, option_map, Option, refl, ◌-◌, ◌≢◌, ap, sym, ◌∙◌, arith, List, length, Some, None, ⊎_elim, inl, inr}
+use Rattle.std.specs.Prelude.{option_and_then}
+use Rattle.std.specs.Option.{IfSome}
+use Rattle.std.proofs.lemmas.Bool.{eqb-true, eq-eqb, cases_eq, cases_lt}
 use Rattle.std.proofs.lemmas.List.{length-map}
 use Rattle.posix.specs.Processes.{Process}
-use Rattle.posix.specs.Tables.{IsRising, lookup, at, changed, inserted, removed, adopted, reparented, parent_of}
+use Rattle.posix.specs.Tables.{IsRising, lookup, at, changed, inserted, removed, adopted, reparented, parent_of, is_member}
 use Rattle.posix.specs.Targets.{greatest_pid}
-use Rattle.posix.proofs.TableLemmas.{pid_looked, lookup_changed, rising_changed, rising_inserted, rising_removed, rising_adopted, length_inserted, length_removed}
+use Rattle.posix.proofs.TableLemmas.{pid_looked, lookup_changed, rising_inserted, rising_removed, rising_adopted, length_inserted, length_removed, pid_reparented}
+use Rattle.posix.proofs.MapLemmas.{lookup_map, lookup_back}
 use Rattle.posix.proofs.RegularLemmas.{lookup_new, lookup_removed}
-use Rattle.posix.proofs.WalkLemmas.{all_looked}
+use Rattle.posix.proofs.WalkLemmas.{all_looked, some_looked}
 use Rattle.pidset.specs.Indexes.{IndexView, IsReplaced, IsRekeyed}
-use Rattle.pidset.proofs.IndexLemmas.{elsewhere_changed, elsewhere_inserted, elsewhere_removed, unmoved}
+use Rattle.pidset.proofs.IndexLemmas.{IsElsewhere, elsewhere_changed, elsewhere_inserted, elsewhere_removed, unmoved}
 use Rattle.proctable.specs.declared.records.Record.{Record}
-use Rattle.proctable.specs.Records.{process_of, give_record, with_record}
+use Rattle.proctable.specs.Records.{process_of, snapshot_of, give_record, with_record}
+use Rattle.proctable.proofs.RecordLemmas.{record_rises}
 use Rattle.jobs.specs.declared.books.Books.{Books}
 use Rattle.jobs.specs.declared.books.Seen.{Seen}
-use Rattle.jobs.specs.Books.{AreMoved, alarm_key, record_seen, seen_of}
-use Rattle.jobs.specs.JobTables.{AreNumbers, IsKept}
-use Rattle.jobs.proofs.BookLemmas.{Fits, sees, sees_none, fits, books_moved, books_alarmed, books_adopted}
-use Rattle.jobs.proofs.NumberLemmas.{absent_record, absent_inserted, absent_removed, absent_adopted, least_number, no_more, above_none}
+use Rattle.jobs.specs.Books.{AreMoved, CanMove, snapshot_seen, IsInside, alarm_key, member_in, member_key, report_in, report_key, stopped_in, stopped_key, record_seen, seen_of}
+use Rattle.jobs.specs.JobTables.{AreNumbers, IsGroupFor, IsKept}
+use Rattle.proctable.specs.declared.snapshot.Snapshot.{Snapshot}
+use Rattle.jobs.proofs.SnapshotLemmas.{some_read, snapshot_are}
+use Rattle.jobs.proofs.BookLemmas.{Fits, Sees, can_move, sees, sees_none, fits, books_moved, books_adopted, unadopted}
+use Rattle.jobs.proofs.NumberLemmas.{least_number, no_more, above_none}
 
 -- ---- few enough to be counted
 
--- no process has a number above the greatest
-most_number : (rs : List Process) → AreNumbers rs → (p : ℕ) (r : Process) → lookup p rs ≡ Some r → r.pid ≤ greatest_pid
-most_number rs numbers p r found = elim (cases_lt greatest_pid r.pid) [
-  | inl above ↦ let named = pid_looked p rs r found in let none = numbers p (inr (omega (arith, above, named))) in absurd (cc)
-  | inr most ↦ most
-]
-
--- so there are no more processes than numbers
+-- there are no more processes than numbers
 pub size_of : (rs : List Process) → IsRising rs → AreNumbers rs → length rs ≤ greatest_pid
 size_of rs up numbers =
     let least = all_looked (λ (r : Process). 1 ≤ r.pid) rs up (least_number rs (numbers 0 (inl refl))) in
-    let most = all_looked (λ (r : Process). r.pid ≤ greatest_pid) rs up (most_number rs numbers) in
+    let most = all_looked (λ (r : Process). r.pid ≤ greatest_pid) rs up (λ p r e. elim (cases_lt greatest_pid r.pid) [ inl above ↦ let none = numbers p (inr (rw (← pid_looked p rs r e) above)) in absurd (cc) | inr low ↦ low ]) in
     let all = no_more 0 greatest_pid rs up (above_none rs least) most (omega arith) in
     omega (arith, all)
 
 pub few_there : (count : ℕ) (books : Books) (rs : List Process) → IsKept count books rs → count ≤ greatest_pid
 few_there n books rs k = let all = size_of rs k.rising k.numbers in let count = k.count in omega (arith, all, count)
 
--- and one at least where one is found
-pub some_there : (n : ℕ) (books : Books) (rs : List Process) (p : ℕ) (r : Process) → lookup p rs ≡ Some r → IsKept n books rs → 1 ≤ n
-some_there n books rs p r found k = let count = k.count in let long = length_removed p r rs k.rising found in omega (arith, count, long)
+-- ---- where one process changes, comes or goes
+
+-- who is there has a number
+is_number : (n : ℕ) (books : Books) (rs : List Process) (p : ℕ) (r : Process) → lookup p rs ≡ Some r → IsKept n books rs → (p ≡ 0) ⊎ (greatest_pid < p) → ⊥
+is_number n books rs p r found k out = let none = k.numbers p out in absurd (cc)
+
+-- where p moves in the indexes, and all others stay, all is kept
+kept_at : (n m p parent : ℕ) (it : Option Seen) (rs ts : List Process) (old now : Books) → IsElsewhere p rs ts → ((p ≡ 0) ⊎ (greatest_pid < p) → ⊥) → IsInside p it old → IsRising ts → m ≡ length ts → Fits m old → Sees p parent it ts → AreMoved p parent it old now → IsKept n old rs → IsKept m now ts
+kept_at n m p parent it rs ts old now same number inside up count free s moved k = record {
+  rising = up;
+  numbers = λ q out. elim (cases_eq q p) [ inl e ↦ absurd (number (subst (λ q. (q ≡ 0) ⊎ (greatest_pid < q)) e out)) | inr ne ↦ same q ne ∙ k.numbers q out ];
+  within = rw moved.numbers (λ q r e. elim (cases_eq q p) [
+    | inl here ↦
+        let group = subst (λ o. IfSome o (λ k. (1 ≤ k) × (k < old.members.numbers))) (sym s.members ∙ ap (option_and_then member_key) (ap (λ q. lookup q ts) (sym here) ∙ e)) inside.1 in
+        (rw (pid_looked q ts r e ∙ here) inside.0, group.0, group.1)
+    | inr ne ↦ k.within q r (sym (same q ne) ∙ e)
+  ]);
+  limit = rw moved.numbers k.limit;
+  count = count;
+  books = books_moved p parent it rs ts old now same (rw (← count) free) k.books s moved;
+}
 
 -- ---- another record
 
@@ -54,32 +71,47 @@ pub record_found : (rs : List Process) (p : ℕ) (b c : Record) → lookup p rs 
 unfolding give_record
 record_found rs p b c e = lookup_changed p p (give_record c) (λ r. refl) rs ∙ rw (eq-eqb p p refl, e) refl
 
+-- there is memory for its number and that of its process group, or of one in which it may be
+pub inside_record : (count p : ℕ) (rs : List Process) (b c : Record) {books : Books} → lookup p rs ≡ Some (process_of p (parent_of p rs) b) → (c.group ≡ b.group) ⊎ IsGroupFor p c.group rs → IsKept count books rs → IsInside p (Some (record_seen c)) books
+inside_record n p rs b c found group k =
+    let w = k.within p _ found in (
+      w.0,
+      ⊎_elim (λ same. rw same (w.1, w.2)) (⊎_elim (λ e. rw e (least_number rs (k.numbers 0 (inl refl)) p _ found, w.0)) (λ e.
+          let it = some_looked (is_member c.group) rs k.rising e in
+          let is = k.within it.0.pid it.0 it.1 in
+          rw (← eqb-true it.0.group c.group it.2) (is.1, is.2))) group,
+    )
+
+-- a process of which this snapshot was read may go
+pub can_leave : (count p : ℕ) (rs : List Process) (f : Snapshot) (books : Books) → Some f ≡ option_map snapshot_of (lookup p rs) → IsKept count books rs → CanMove p f.parent (Some (snapshot_seen f)) books × IsInside p None books × (1 ≤ count)
+can_leave n p rs f books read k =
+    let it = some_read _ f read in
+    let can = can_move p it.what.parent (Some (seen_of it.what)) rs books k.rising k.books (sees p it.what rs it.found) (λ none. let no = sym none ∙ it.found in absurd (cc)) in
+    (rw (snapshot_are _ it.what f read it.found) can, (rw (← pid_looked p rs it.what it.found) (k.within p it.what it.found).0, tt), let count = k.count in let long = length_removed p it.what rs k.rising it.found in omega (arith, count, long))
+
 -- p moves in the indexes
 pub kept_moved : (count : ℕ) (rs new : List Process) (p : ℕ) (b c : Record) (old now : Books) → lookup p rs ≡ Some (process_of p (parent_of p rs) b) → new ≡ with_record rs p c → AreMoved p (parent_of p rs) (Some (record_seen c)) old now
-    → IsKept count old rs → IsKept count now new
+    → (c.group ≡ b.group) ⊎ IsGroupFor p c.group rs → IsKept count old rs → IsKept count now new
 unfolding give_record
-kept_moved n rs new p b c old now found is moved k =
-    let long = length_record rs p c in
-    rw is (record {
-      rising = rising_changed p (give_record c) (λ r. refl) rs k.rising;
-      numbers = λ q out. absent_record q rs p c (k.numbers q out);
-      count = k.count ∙ sym long;
-      books = books_moved p (parent_of p rs) (Some (record_seen c)) rs (with_record rs p c) old now (elsewhere_changed p (give_record c) (λ r. refl) rs) (fits rs _ old k.books long) k.books (sees p (process_of p (parent_of p rs) c) (with_record rs p c) (record_found rs p b c found)) moved;
-    })
+kept_moved n rs new p b c old now found is moved group k =
+    rw is (kept_at n n p (parent_of p rs) (Some (record_seen c)) rs (with_record rs p c) old now (elsewhere_changed p (give_record c) (λ r. refl) rs) (is_number n old rs p _ found k) (inside_record n p rs b c found group k) (record_rises rs k.rising p c)
+    (k.count ∙ sym (length_record rs p c)) (fits rs n old k.books (rw k.count (omega arith))) (sees p (process_of p (parent_of p rs) c) (with_record rs p c) (record_found rs p b c found)) moved k)
 
 -- or an index sees at most its alarm, which moves
 pub kept_alarmed : (count : ℕ) (rs new : List Process) (p : ℕ) (b c : Record) (books : Books) (set : IndexView) → lookup p rs ≡ Some (process_of p (parent_of p rs) b) → new ≡ with_record rs p c → record (record_seen c) { alarm = b.alarm } ≡ record_seen b
     → IsReplaced p c.alarm books.alarmed set → IsKept count books rs → IsKept count (record books { alarmed = set }) new
-unfolding give_record
 kept_alarmed n rs new p b c books set found is same moved k =
-    let long = length_record rs p c in
-    rw is (record {
-      rising = rising_changed p (give_record c) (λ r. refl) rs k.rising;
-      numbers = λ q out. absent_record q rs p c (k.numbers q out);
-      count = k.count ∙ sym long;
-      books = books_alarmed p (parent_of p rs) (record_seen b) (record_seen c) rs (with_record rs p c) books set (elsewhere_changed p (give_record c) (λ r. refl) rs) long k.books same (sees p (process_of p (parent_of p rs) b) rs found)
-          (sees p (process_of p (parent_of p rs) c) (with_record rs p c) (record_found rs p b c found)) moved;
-    })
+    let q = parent_of p rs in
+    let now = Some (record_seen c) in
+    let s = sees p (process_of p q b) rs found in
+    let h = k.books in
+    kept_moved n rs new p b c books (record books { alarmed = set }) found is (record {
+      members = unmoved member_key p rs books.members.pairs (member_in now) h.members (ap (λ w. member_in (Some w)) same ∙ sym s.members);
+      numbers = refl;
+      reporting = record { moved = unmoved report_key p rs books.reporting.pairs (report_in q now) h.reporting.index (ap (λ w. report_in q (Some w)) same ∙ sym s.reporting); once = h.reporting.once; room = refl };
+      stopped = record { moved = unmoved stopped_key p rs books.stopped.pairs (stopped_in now) h.stopped.index (ap (λ w. stopped_in (Some w)) same ∙ sym s.stopped); once = h.stopped.once; room = refl };
+      alarmed = moved;
+    }) (inl (ap (λ (w : Seen). w.group) same)) k
 
 -- or no index sees it
 pub kept_unseen : (count : ℕ) (rs new : List Process) (p : ℕ) (b c : Record) (books : Books) → lookup p rs ≡ Some (process_of p (parent_of p rs) b) → new ≡ with_record rs p c → record_seen c ≡ record_seen b → IsKept count books rs → IsKept count books new
@@ -90,33 +122,27 @@ kept_unseen n rs new p b c books found is same k =
 
 -- ---- births, removals and adoptions
 
-pub kept_inserted : (n : ℕ) (rs new : List Process) (r : Process) (old now : Books) → 1 ≤ r.pid → r.pid ≤ greatest_pid → lookup r.pid rs ≡ None → new ≡ inserted r rs → Fits (n + 1) old → AreMoved r.pid r.parent (Some (seen_of r)) old now → IsKept n old rs → IsKept (n + 1) now new
-kept_inserted n rs new r old now least most fresh is free moved k =
-    let long = length_inserted r rs in
-    let count = k.count in
-    rw is (record {
-      rising = rising_inserted r rs k.rising fresh;
-      numbers = λ q out. absent_inserted r q rs (λ same. ⊎_elim (λ none. absurd (omega (arith, least, same, none))) (λ above. absurd (omega (arith, most, same, above))) out) (k.numbers q out);
-      count = omega (arith, long, count);
-      books = books_moved r.pid r.parent (Some (seen_of r)) rs (inserted r rs) old now (elsewhere_inserted r rs) (rw (long, ← count) free) k.books (sees r.pid r (inserted r rs) (lookup_new r rs fresh)) moved;
-    })
+pub kept_inserted : (n : ℕ) (rs new : List Process) (r : Process) (old now : Books) → 1 ≤ r.pid → r.pid ≤ greatest_pid → IsInside r.pid (Some (seen_of r)) old → lookup r.pid rs ≡ None → new ≡ inserted r rs → Fits (n + 1) old → AreMoved r.pid r.parent (Some (seen_of r)) old now → IsKept n old rs → IsKept (n + 1) now new
+kept_inserted n rs new r old now least most inside fresh is free moved k =
+    let number = ⊎_elim (λ none. omega (arith, least, none)) (λ above. omega (arith, most, above)) in
+    rw is (kept_at n (n + 1) r.pid r.parent (Some (seen_of r)) rs (inserted r rs) old now (elsewhere_inserted r rs) number inside (rising_inserted r rs k.rising fresh) (rw (length_inserted r rs, k.count) refl) free (sees r.pid r (inserted r rs) (lookup_new r rs fresh)) moved k)
 
-pub kept_removed : (n : ℕ) (rs new : List Process) (p parent : ℕ) (r : Process) (old now : Books) → lookup p rs ≡ Some r → new ≡ removed p rs → AreMoved p parent None old now → IsKept n old rs → IsKept (n - 1) now new
-kept_removed n rs new p parent r old now found is moved k =
-    let long = length_removed p r rs k.rising found in
+pub kept_removed : (n : ℕ) (rs new : List Process) (p : ℕ) (f : Snapshot) (old now : Books) → Some f ≡ option_map snapshot_of (lookup p rs) → new ≡ removed p rs → AreMoved p f.parent None old now → IsKept n old rs → IsKept (n - 1) now new
+kept_removed n rs new p f old now read is moved k =
+    let it = some_read _ f read in
+    let long = length_removed p it.what rs k.rising it.found in
     let count = k.count in
-    rw is (record {
-      rising = rising_removed p rs k.rising;
-      numbers = λ q out. absent_removed p q rs (k.numbers q out);
-      count = omega (arith, long, count);
-      books = books_moved p parent None rs (removed p rs) old now (elsewhere_removed p rs) (let f = fits rs n old k.books count in record { reporting = let e = f.reporting in omega (arith, e, long, count); stopped = let e = f.stopped in omega (arith, e, long, count); alarmed = let e = f.alarmed in omega (arith, e, long, count) }) k.books (sees_none p parent (removed p rs) (lookup_removed p rs)) moved;
-    })
+    rw is (kept_at n (n - 1) p f.parent None rs (removed p rs) old now (elsewhere_removed p rs) (is_number n old rs p it.what it.found k) (can_leave n p rs f old read k).1 (rising_removed p rs k.rising) (omega (arith, long, count)) (fits rs (n - 1) old k.books (omega (arith, count))) (sees_none p f.parent (removed p rs) (lookup_removed p rs)) moved k)
 
-pub kept_adopted : (n : ℕ) (rs new : List Process) (from to : ℕ) (old now : Books) → from ≢ to → new ≡ adopted from to rs → IsRekeyed from to old.reporting now.reporting → now.stopped ≡ old.stopped → now.alarmed ≡ old.alarmed → IsKept n old rs → IsKept n now new
+pub kept_adopted : (n : ℕ) (rs new : List Process) (from to : ℕ) (old now : Books) → from ≢ to → new ≡ adopted from to rs → now.members ≡ old.members → IsRekeyed from to old.reporting now.reporting → now.stopped ≡ old.stopped → now.alarmed ≡ old.alarmed → IsKept n old rs → IsKept n now new
 unfolding adopted
-kept_adopted n rs new from to old now ne is moved same still k = rw is (record {
+kept_adopted n rs new from to old now ne is members moved same still k = rw is (record {
   rising = rising_adopted from to rs k.rising;
-  numbers = λ q out. absent_adopted from to q rs (k.numbers q out);
+  numbers = λ q out. lookup_map (reparented from to) (pid_reparented from to) q rs ∙ ap (option_map (reparented from to)) (k.numbers q out);
+  within = rw members (λ q r e.
+      let was = lookup_back (reparented from to) (pid_reparented from to) q rs r e in
+      rw (was.is, pid_reparented from to was.what, unadopted (λ (r : Process). r.group) from to (λ r. refl) was.what) (k.within q was.what was.found));
+  limit = rw members k.limit;
   count = k.count ∙ sym (length-map rs (reparented from to));
-  books = books_adopted from to ne rs old now k.books moved same still;
+  books = books_adopted from to ne rs old now k.books members moved same still;
 })

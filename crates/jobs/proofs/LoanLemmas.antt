@@ -5,13 +5,8 @@ use Rattle.posix.specs.Processes.{Process}
 use Rattle.posix.specs.Tables.{IsRising, lookup, changed}
 use Rattle.posix.proofs.TableLemmas.{changed_absent}
 use Rattle.proctable.specs.declared.own_part.OwnPart.{OwnPart}
-use Rattle.proctable.specs.declared.records.Record.{Record}
-use Rattle.proctable.specs.Records.{process_of, own_of, give_own}
+use Rattle.proctable.specs.Records.{own_of, give_own}
 use Rattle.proctable.proofs.RecordLemmas.{lent, unchanged}
-
--- what was read is that of the process that is there
-pub own_at : (p q : ℕ) (b : Record) (rs : List Process) → lookup p rs ≡ Some (process_of p q b) → IfSome (lookup p rs) (λ me. b.own ≡ own_of me)
-own_at p q b rs e = rw e refl
 
 -- the value of a loan, said of the record that is there
 pub own_found : (rs : List Process) (p : ℕ) (o : OwnPart) (me : Process) → IfSome (lookup p rs) (λ r. o ≡ own_of r) → lookup p rs ≡ Some me → o ≡ own_of me

@@ -1,36 +1,55 @@
 -- Moves between process groups: which groups there are.
-use Rattle.std.proofs.Common.{◌≡◌, ◌≢◌, ℕ, Bool, true, false, cond, not, ◌&&◌, ◌||◌, ◌==◌, refl, ap, sym, ◌∙◌, arith, subst, List, [], ◌∷◌, filter, Option, Some, None, is_some, option_map, nat_lt}
+use Rattle.std.proofs.Common.{◌≡◌, ℕ, ◌<◌, ◌≤◌, Bool, true, false, not, ◌&&◌, ◌||◌, ◌==◌, refl, ap, sym, ◌∙◌, arith, subst, List, [], ◌∷◌, Some, None, is_some, option_map, nat_lt, filter, inl, inr}
 use Rattle.std.specs.List.{list_any}
-use Rattle.std.proofs.lemmas.Bool.{eq-eqb, ne_eqb}
+use Rattle.std.specs.Option.{IfSome, option_map_or}
+use Rattle.std.proofs.lemmas.Bool.{eqb-true, eq-eqb, ne_eqb, cases_eq, and_parts}
 use Rattle.std.proofs.lemmas.Bool.Decides.{nat_tests}
 use Rattle.posix.specs.Processes.{Process}
-use Rattle.posix.specs.Tables.{IsRising, lookup, members_in, first_pid, above}
-use Rattle.posix.specs.GroupCalls.{is_group_of_others}
-use Rattle.posix.proofs.TableLemmas.{Above, pid_looked}
-use Rattle.posix.proofs.WalkLemmas.{above_all}
+use Rattle.posix.specs.Tables.{IsRising, lookup, is_member, members_in, first_pid, above}
+use Rattle.posix.specs.GroupCalls.{is_group_of, is_group_of_others}
+use Rattle.posix.specs.Regular.{AreGrouped}
+use Rattle.posix.proofs.TableLemmas.{Above, pid_looked, rising_filter}
+use Rattle.posix.proofs.WalkLemmas.{Passes, any_filter, above_all, first_passes, any_looked, some_looked}
 use Rattle.proctable.specs.declared.snapshot.Snapshot.{Snapshot}
 use Rattle.proctable.specs.Records.{snapshot_of}
 use Rattle.jobs.proofs.SnapshotLemmas.{snapshot_are}
 
 -- ---- whether there is a group
 
--- one passes a test where there is a first that does
-pub any_first : (t : Process → Bool) (rs : List Process) → list_any t rs ≡ is_some (first_pid (filter t rs))
-any_first t [] = refl
-any_first t (x ∷ xs) = elim (t x) as (λ b. (b || list_any t xs) ≡ is_some (first_pid (cond b (x ∷ filter t xs) (filter t xs)))) [ true ↦ refl | false ↦ any_first t xs ]
+-- where a group has no member it is none of a session
+pub no_first : (session g : ℕ) (rs : List Process) → first_pid (members_in g rs) ≡ None → is_group_of session g rs ≡ false
+unfolding is_group_of members_in
+no_first session g [] e = refl
+no_first session g (x ∷ xs) e = grind (arith, e, no_first session g xs)
 
--- what an answer by a test says of the test
-pub record Chosen (b : Bool) (g f : ℕ) : Type 0 where
-  pub test : b ≡ true
-  pub is : f ≡ g
+-- nor where no member of it is in the session
+no_member : (session g : ℕ) (rs : List Process) → IsRising rs → ((q : ℕ) (r : Process) → lookup q rs ≡ Some r → r.group ≡ g → (r.session == session) ≡ false) → is_group_of session g rs ≡ false
+unfolding is_group_of
+no_member session g rs up h = elim (list_any (λ r. r.session == session && r.group == g) rs) as (λ b. list_any (λ r. r.session == session && r.group == g) rs ≡ b → b ≡ false) [
+  | true ↦ λ e.
+      let i = some_looked _ rs up e in
+      let both = and_parts (i.0.session == session) (i.0.group == g) i.2 in
+      sym both.0 ∙ h i.0.pid i.0 i.1 (eqb-true _ _ both.1)
+  | false ↦ λ e. refl
+] refl
 
-pub chosen : (b : Bool) (g f : ℕ) → Some f ≡ cond b (Some g) None → Chosen b g f
-chosen true g f e = record { test = refl; is = cc }
-chosen false g f e = absurd (cc)
+-- as where no member's group has its number
+pub no_number : (session g n : ℕ) (rs : List Process) → IsRising rs → ((p : ℕ) (r : Process) → lookup p rs ≡ Some r → r.group < n) → n ≤ g → is_group_of session g rs ≡ false
+no_number session g n rs up low high = no_member session g rs up (λ q r f e. let less = low q r f in absurd (omega (arith, e, less, high)))
 
-pub not_chosen : (b : Bool) (g : ℕ) (o : Option ℕ) → o ≡ cond b (Some g) None → ((x : ℕ) → o ≡ Some x → ⊥) → b ≡ false
-not_chosen true g o e h = absurd (h g e)
-not_chosen false g o e h = refl
+-- its first member is there, and the session of that member is the group's
+pub by_first : (session g p : ℕ) (rs : List Process) → IsRising rs → AreGrouped rs → first_pid (members_in g rs) ≡ Some p → (it : Process) × (lookup p rs ≡ Some it) × (is_group_of session g rs ≡ (it.session == session && it.group == g))
+unfolding is_group_of members_in
+by_first session g p rs up k first =
+    let at : Passes (is_member g) rs p = subst (λ o. IfSome o (Passes (is_member g) rs)) first (first_passes (is_member g) rs up) in
+    let here : (at.0.group == g) ≡ true = at.2 in (
+      at.0,
+      at.1,
+      rw here (elim (at.0.session == session) as (λ b. (at.0.session == session) ≡ b → is_group_of session g rs ≡ (b && true)) [
+        | true ↦ λ e. any_looked _ p rs at.0 at.1 (rw (e, here) refl)
+        | false ↦ λ e. no_member session g rs up (λ q r f same. rw (k.one q p r at.0 f at.1 (same ∙ sym (eqb-true _ _ here)), e) refl)
+      ] refl),
+    )
 
 -- ---- others in the process group with the number of a process
 
@@ -38,44 +57,27 @@ not_chosen false g o e h = refl
 abbrev pub has_other : ℕ → List Process → Bool
 has_other p ms = list_any (λ r. not (r.pid == p)) ms
 
--- of all, one is in the group where one of its members is another
-pub others_are_members : (p : ℕ) (rs : List Process) → list_any (λ r. r.group == p && not (r.pid == p)) rs ≡ has_other p (members_in p rs)
-unfolding members_in
-others_are_members p [] = refl
-others_are_members p (x ∷ xs) = elim (x.group == p) as (λ b. ((b && not (x.pid == p)) || list_any (λ r. r.group == p && not (r.pid == p)) xs) ≡ has_other p (cond b (x ∷ members_in p xs) (members_in p xs))) [
-  | true ↦ ap (λ b. not (x.pid == p) || b) (others_are_members p xs)
-  | false ↦ others_are_members p xs
-]
-
--- none where there are none
-pub other_none : (p : ℕ) (ms : List Process) → first_pid ms ≡ None → has_other p ms ≡ false
-other_none p [] e = refl
-other_none p (x ∷ xs) e = absurd (cc)
-
--- the first is another
-pub other_first : (p q : ℕ) (ms : List Process) → first_pid ms ≡ Some q → q ≢ p → has_other p ms ≡ true
-other_first p q [] e ne = absurd (cc)
-other_first p q (x ∷ xs) e ne = let same : x.pid ≡ q = cc in let t : (x.pid == p) ≡ false = ne_eqb x.pid p (λ is. ne (sym same ∙ is)) in rw t refl
-
 -- all above p are others
 above_other : (p : ℕ) (ms : List Process) → Above p ms → has_other p ms ≡ is_some (first_pid ms)
 above_other p [] h = refl
-above_other p (x ∷ xs) h = let t : (x.pid == p) ≡ false = ne_eqb x.pid p (λ is. let above = h.0 in absurd (omega (arith, above, is))) in rw t refl
+above_other p (x ∷ xs) h = rw (ne_eqb x.pid p (λ is. let above = h.0 in absurd (omega (arith, above, is)))) refl
 
--- where p is the first, those behind it
-pub other_behind : (p : ℕ) (ms : List Process) → IsRising ms → first_pid ms ≡ Some p → has_other p ms ≡ is_some (first_pid (above p ms))
+-- the first of the members is another, or one is behind it
+pub other_among : (p : ℕ) (ms : List Process) → IsRising ms → has_other p ms ≡ option_map_or (λ q. not (q == p) || is_some (first_pid (above p ms))) (first_pid ms) false
 unfolding IsRising
-other_behind p [] up e = absurd (cc)
-other_behind p (x ∷ xs) up e =
-    let same : x.pid ≡ p = cc in
-    let itself : (x.pid == p) ≡ true = eq-eqb x.pid p same in
-    let low : nat_lt p x.pid ≡ false = grind (arith, same, nat_tests) in
-    let rest : Above p xs = subst (λ n. Above n xs) same up.0 in
-    rw (itself, low, above_all p xs rest) (above_other p xs rest)
+other_among p [] up = refl
+other_among p (x ∷ xs) up = elim (cases_eq x.pid p) [
+  | inl same ↦
+      let low : nat_lt p x.pid ≡ false = grind (arith, same, nat_tests) in
+      let rest : Above p xs = subst (λ n. Above n xs) same up.0 in
+      rw (eq-eqb x.pid p same, low, above_all p xs rest) (above_other p xs rest)
+  | inr ne ↦ rw (ne_eqb x.pid p ne) refl
+]
 
--- so with who is there with the number p
-pub others_of : (p : ℕ) (rs : List Process) (me : Process) → lookup p rs ≡ Some me → is_group_of_others me rs ≡ has_other p (members_in p rs)
-others_of p rs me found = ap (λ n. list_any (λ r. r.group == n && not (r.pid == n)) rs) (pid_looked p rs me found) ∙ others_are_members p rs
+-- so for who is there with the number p
+pub others_of : (p : ℕ) (rs : List Process) (me : Process) → IsRising rs → lookup p rs ≡ Some me → is_group_of_others me rs ≡ option_map_or (λ q. not (q == p) || is_some (first_pid (above p (members_in p rs)))) (first_pid (members_in p rs)) false
+unfolding members_in
+others_of p rs me up found = rw (pid_looked p rs me found) (sym (any_filter (is_member p) (λ r. not (r.pid == p)) rs) ∙ other_among p (filter (is_member p) rs) (rising_filter (is_member p) rs up))
 
 -- ---- a new session
 

@@ -47,12 +47,9 @@ none_read (Some r) e = absurd (cc)
 
 -- who isn't read as a zombie lives
 pub lives : (life other : Life) → life ≡ other → ((w : ℕ) → life ≡ Zombie w → ⊥) → is_zombie other ≡ false
-lives life other e h = ap is_zombie (sym e) ∙ living life h
-  where
-    living : (l : Life) → ((w : ℕ) → l ≡ Zombie w → ⊥) → is_zombie l ≡ false
-    living Running h = refl
-    living Stopped h = refl
-    living (Zombie w) h = absurd (h w refl)
+lives Running other e h = rw (← e) refl
+lives Stopped other e h = rw (← e) refl
+lives (Zombie w) other e h = absurd (h w refl)
 
 -- ---- numbers that were compared
 

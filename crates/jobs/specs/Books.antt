@@ -1,8 +1,8 @@
 -- The indexes that a table of jobs keeps of its processes.
-use Rattle.std.specs.Prelude.{ℕ, ◌-◌, ◌||◌, if◌then◌else◌, nat_le, List, Option, Some, None}
+use Rattle.std.specs.Prelude.{◌≡◌, ◌<◌, ◌≤◌, IfSome, ℕ, ◌-◌, ◌||◌, if◌then◌else◌, nat_le, List, Option, Some, None}
 use Rattle.posix.specs.Processes.{Process, is_zombie, is_stopped}
 use Rattle.posix.specs.Waits.{is_news}
-use Rattle.pidset.specs.Indexes.{CanReplace, IsReplaced, IsIndexed}
+use Rattle.pidset.specs.Indexes.{CanReplace, IsMoved, IsReplaced, IsIndex, IsIndexed}
 use Rattle.proctable.specs.declared.records.Record.{Record}
 use Rattle.proctable.specs.declared.snapshot.Snapshot.{Snapshot}
 use Rattle.jobs.specs.declared.books.Books.{Books}
@@ -19,6 +19,14 @@ abbrev pub snapshot_seen : Snapshot → Seen
 snapshot_seen f = record { group = f.group; session = f.session; life = f.life; news = f.news; alarm = f.alarm }
 
 -- ---- keys
+
+-- each stands under its process group
+abbrev pub member_in : Option Seen → Option ℕ
+member_in None = None
+member_in (Some w) = Some w.group
+
+abbrev pub member_key : Process → Option ℕ
+member_key r = member_in (Some (seen_of r))
 
 -- one that has something to report stands under its parent
 abbrev pub report_in : ℕ → Option Seen → Option ℕ
@@ -48,6 +56,7 @@ alarm_key r = alarm_in (Some (seen_of r))
 
 -- what holds of the indexes of these processes
 pub record AreBooks (rs : List Process) (b : Books) : Type 0 where
+  pub members : IsIndex member_key rs b.members.pairs
   pub reporting : IsIndexed report_key rs b.reporting
   pub stopped : IsIndexed stopped_key rs b.stopped
   pub alarmed : IsIndexed alarm_key rs b.alarmed
@@ -58,8 +67,14 @@ pub record CanMove (p parent : ℕ) (it : Option Seen) (b : Books) : Type 0 wher
   pub stopped : CanReplace p (stopped_in it) b.stopped
   pub alarmed : CanReplace p (alarm_in it) b.alarmed
 
+-- there is memory for the number p, and for that of its process group
+abbrev pub IsInside : ℕ → Option Seen → Books → Type 0
+IsInside p it b = (p < b.members.numbers) × IfSome (member_in it) (λ k. (1 ≤ k) × (k < b.members.numbers))
+
 -- and was moved in each
 pub record AreMoved (p parent : ℕ) (it : Option Seen) (old new : Books) : Type 0 where
+  pub members : IsMoved p (member_in it) old.members.pairs new.members.pairs
+  pub numbers : new.members.numbers ≡ old.members.numbers
   pub reporting : IsReplaced p (report_in parent it) old.reporting new.reporting
   pub stopped : IsReplaced p (stopped_in it) old.stopped new.stopped
   pub alarmed : IsReplaced p (alarm_in it) old.alarmed new.alarmed

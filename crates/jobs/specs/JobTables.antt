@@ -1,9 +1,10 @@
 -- What a table of jobs is worth.
-use Rattle.std.specs.Prelude.{◌≡◌, ℕ, ◌+◌, ◌<◌, ◌≤◌, ◌⊎◌, List, length, Some, None}
+use Rattle.std.specs.Prelude.{◌≡◌, true, ℕ, ◌+◌, ◌<◌, ◌≤◌, ◌⊎◌, List, length, Some, None}
+use Rattle.std.specs.List.{list_any}
 use Rattle.std.specs.Borrow.{MutBor}
 use Rattle.std.specs.Fn.{Once, FnOnceReturnsAtMut}
 use Rattle.posix.specs.Processes.{Process}
-use Rattle.posix.specs.Tables.{IsRising, lookup, changed, parent_of}
+use Rattle.posix.specs.Tables.{IsRising, lookup, changed, parent_of, is_member}
 use Rattle.posix.specs.Targets.{greatest_pid}
 use Rattle.proctable.specs.declared.records.Record.{Record}
 use Rattle.proctable.specs.declared.own_part.OwnPart.{OwnPart}
@@ -11,21 +12,28 @@ use Rattle.proctable.specs.Records.{give_own, process_of, with_record}
 use Rattle.jobs.specs.declared.books.Books.{Books}
 use Rattle.jobs.specs.Books.{AreBooks, record_seen}
 
--- the processes in rising order of their numbers, how many more can be put in without memory, and how many slots have
--- been read
+-- the processes in rising order of their numbers, how many more can be put in without memory, with numbers below which
+-- limit, and how many slots have been read
 pub record JobsView : Type 0 where
   pub processes : List Process
   pub room : ℕ
+  pub limit : ℕ
   pub visits : ℕ
 
 -- nobody has number 0, or one above the greatest
 abbrev pub AreNumbers : List Process → Type 0
 AreNumbers rs = (p : ℕ) → (p ≡ 0) ⊎ (greatest_pid < p) → lookup p rs ≡ None
 
+-- each number, and that of each process group, is below n, and no group has number 0
+abbrev pub AreWithin : ℕ → List Process → Type 0
+AreWithin n rs = (p : ℕ) (r : Process) → lookup p rs ≡ Some r → (r.pid < n) × (1 ≤ r.group) × (r.group < n)
+
 -- their numbers rise, it is known how many there are, and their indexes are right
 pub record IsKept (n : ℕ) (b : Books) (rs : List Process) : Type 0 where
   pub rising : IsRising rs
   pub numbers : AreNumbers rs
+  pub within : AreWithin b.members.numbers rs
+  pub limit : b.members.numbers ≤ 2147483648
   pub count : n ≡ length rs
   pub books : AreBooks rs b
 
@@ -61,6 +69,14 @@ lent more t p o = record t { processes = changed p (give_own o) t.processes; vis
 -- the indexes see at most an alarm of what the closure changes
 abbrev pub IsUnseen : {F T : Type 0} → Once F (MutBor Record × Unit {0}) (T × (MutBor Record × Unit {0})) → F → Type 0
 IsUnseen {T = T} g change = (b c : Record) (r : T) → FnOnceReturnsAtMut g change b r c → record (record_seen c) { alarm = b.alarm } ≡ record_seen b
+
+-- p may be in the process group g: it has its number, or a member
+abbrev pub IsGroupFor : ℕ → ℕ → List Process → Type 0
+IsGroupFor p g rs = (g ≡ p) ⊎ (list_any (is_member g) rs ≡ true)
+
+-- the closure leaves a process in its process group, or in one in which p may be
+abbrev pub StaysGrouped : {F T : Type 0} → Once F (MutBor Record × Unit {0}) (T × (MutBor Record × Unit {0})) → F → List Process → ℕ → Type 0
+StaysGrouped {T = T} g change rs p = (b c : Record) (r : T) → FnOnceReturnsAtMut g change b r c → (c.group ≡ b.group) ⊎ IsGroupFor p c.group rs
 
 -- the closure ran on the record of p, and gave r
 pub record IsRun {F T : Type 0} (g : Once F (MutBor Record × Unit {0}) (T × (MutBor Record × Unit {0}))) (change : F) (rs ts : List Process) (p : ℕ) (r : T) : Type 0 where

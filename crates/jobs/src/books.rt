@@ -2,9 +2,9 @@
 
 ghost use Rattle.std.specs.Prelude.{◌≡◌, ◌≢◌, ◌<◌, ◌≤◌, ◌^◌, [], Some, OnOk};
 ghost use Rattle.pidset.specs.Indexes.{IsNextPair, IsRekeyed};
-ghost use Rattle.jobs.specs.Books.{AreBooks, record_seen, snapshot_seen, report_in, stopped_in, alarm_in, CanMove, AreMoved};
+ghost use Rattle.jobs.specs.Books.{AreBooks, record_seen, snapshot_seen, member_in, report_in, stopped_in, alarm_in, CanMove, IsInside, AreMoved};
 
-use pidset::Index;
+use pidset::{Index, Lists};
 use posix::{Life, News, Pid};
 use proctable::{Record, Snapshot};
 use std::alloc::{AllocError, Global};
@@ -38,6 +38,8 @@ pub struct Change {
 /// The indexes.
 #[derive(Drop)]
 pub struct Books {
+    /// The processes by their process groups, zombies included.
+    pub members: Lists,
     /// The children that have something to report, by their parents.
     pub reporting: Index,
     /// The processes that are stopped, by their process groups.
@@ -81,6 +83,17 @@ fn key(pid: Pid) -> u64
     u64::from(pid.number())
 }
 
+/// The key of a process among the members of process groups.
+#[inline(always)]
+fn member_key(it: &Option<Seen>) -> Option<Pid>
+    ensures { result ≡ member_in it.now }
+{
+    match it {
+        Some(it) => Some(it.group),
+        None => None,
+    }
+}
+
 /// The key of a process among those that have something to report.
 #[inline(always)]
 fn report_key(parent: Pid, it: &Option<Seen>) -> Option<u64>
@@ -119,26 +132,33 @@ fn alarm_key(it: &Option<Seen>) -> Option<u64>
 impl Books {
     /// Of no processes. They take no memory.
     pub(crate) fn new(alloc: Global) -> Books
-        ensures { AreBooks [] result }
+        ensures books { AreBooks [] result }
+        ensures none { result.members.numbers ≡ 0 }
     {
         Books {
+            members: Lists::new(alloc),
             reporting: Index::new(alloc),
             stopped: Index::new(alloc),
             alarmed: Index::new(alloc),
         }
     }
 
-    /// Makes room for `most` processes. What the indexes hold stays, also at the error that there is no memory.
-    pub(crate) fn reserve(&mut self, most: usize) -> Result<(), AllocError>
+    /// Makes room for `most` processes, with numbers up to `greatest`. What the indexes hold stays, also at the error
+    /// that there is no memory.
+    pub(crate) fn reserve(&mut self, most: usize, greatest: Pid) -> Result<(), AllocError>
         requires { most < 2 ^ 63 }
+        ensures members { self.new.members.pairs ≡ self.old.members.pairs }
         ensures reporting { self.new.reporting.pairs ≡ self.old.reporting.pairs }
         ensures stopped { self.new.stopped.pairs ≡ self.old.stopped.pairs }
         ensures alarmed { self.new.alarmed.pairs ≡ self.old.alarmed.pairs }
+        ensures grows_members { self.old.members.numbers ≤ self.new.members.numbers }
+        ensures most_members { self.old.members.numbers ≤ 2147483648 → self.new.members.numbers ≤ 2147483648 }
         ensures grows_reporting { self.old.reporting.room ≤ self.new.reporting.room }
         ensures grows_stopped { self.old.stopped.room ≤ self.new.stopped.room }
         ensures grows_alarmed { self.old.alarmed.room ≤ self.new.alarmed.room }
-        ensures ok { OnOk result ((most ≤ self.new.reporting.room) × (most ≤ self.new.stopped.room) × (most ≤ self.new.alarmed.room)) }
+        ensures ok { OnOk result ((greatest < self.new.members.numbers) × (most ≤ self.new.reporting.room) × (most ≤ self.new.stopped.room) × (most ≤ self.new.alarmed.room)) }
     {
+        self.members.reserve(greatest)?;
         self.reporting.reserve(most)?;
         self.stopped.reserve(most)?;
         self.alarmed.reserve(most)
@@ -156,8 +176,10 @@ impl Books {
     )
         requires can { CanMove pid parent before.now self.old }
         requires pid { 1 ≤ pid }
+        requires inside { IsInside pid after.now self.old }
         ensures { AreMoved pid parent after.now self.old self.new }
     {
+        self.members.put(pid, member_key(after));
         self.reporting
             .replace(pid, report_key(parent, before), report_key(parent, after));
         self.stopped
@@ -171,6 +193,7 @@ impl Books {
     pub(crate) fn reindex_change(&mut self, pid: Pid, change: &Change)
         requires can { CanMove pid change.now.parent (Some change.now.before) self.old }
         requires pid { 1 ≤ pid }
+        requires inside { IsInside pid (Some change.now.after) self.old }
         ensures { AreMoved pid change.now.parent (Some change.now.after) self.old self.new }
     {
         self.reindex(
@@ -184,11 +207,20 @@ impl Books {
     /// The children of one process become those of another.
     pub(crate) fn reparent(&mut self, from: Pid, to: Pid)
         requires { from ≢ to }
+        ensures members { self.new.members ≡ self.old.members }
         ensures reporting { IsRekeyed from to self.old.reporting self.new.reporting }
         ensures stopped { self.new.stopped ≡ self.old.stopped }
         ensures alarmed { self.new.alarmed ≡ self.old.alarmed }
     {
         self.reporting.rekey(key(from), key(to));
+    }
+
+    /// The member of a process group with the least number above `after`.
+    #[inline]
+    pub(crate) fn next_member(&self, group: Pid, after: Pid) -> Option<Pid>
+        ensures { IsNextPair group after self.now.members.pairs result }
+    {
+        self.members.next(group, after)
     }
 
     /// The child of a process that has something to report, with the least number above `after`.

@@ -11,10 +11,10 @@ ghost use Rattle.posix.specs.Births.{child_of};
 ghost use Rattle.posix.specs.Waits.{reporting_in};
 ghost use Rattle.proctable.specs.Records.{process_of, snapshot_of, own_of, own_row};
 ghost use Rattle.jobs.specs.contracts.job_table.JobTable.{the_row as jobs_row};
-ghost use Rattle.jobs.specs.Books.{seen_of};
-ghost use Rattle.jobs.specs.JobTables.{IsRun, IsUnseen, lent, looked, Looks, Finds, Costs};
+ghost use Rattle.jobs.specs.Books.{record_seen, seen_of};
+ghost use Rattle.jobs.specs.JobTables.{IsRun, IsUnseen, StaysGrouped, lent, looked, Looks, Finds, Costs};
 
-use crate::books::{Books, Change, of_record, of_snapshot};
+use crate::books::{Books, Change, Seen, of_record, of_snapshot};
 use posix::Pid;
 use proctable::{Kin, OwnPart, Record, Snapshot};
 use std::alloc::{AllocError, Global};
@@ -32,13 +32,21 @@ pub struct JobTable<K: Kin> {
     pub(crate) books: Books,
 }
 
+/// What a closure gave, and what the indexes see of the process before and after.
+#[derive(Drop)]
+struct Run<T> {
+    before: Seen,
+    result: T,
+    after: Seen,
+}
+
 impl<K: Kin> Model for JobTable<K> {
     ghost use Rattle.jobs.specs.JobTables.{JobsView, IsKept};
     ghost use Rattle.jobs.specs.Books.{lesser, room_in};
 
     ghost Value = { JobsView };
 
-    ghost view = { λ t. record { processes = K.contents t.table; room = lesser (K.room t.table) (room_in t.count t.books); visits = K.visits t.table } };
+    ghost view = { λ t. record { processes = K.contents t.table; room = lesser (K.room t.table) (room_in t.count t.books); limit = t.books.members.numbers; visits = K.visits t.table } };
 
     ghost invariant = { λ t. IsKept t.count t.books (K.contents t.table) };
 }
@@ -56,22 +64,25 @@ impl<K: Kin> JobTable<K> {
         }
     }
 
-    /// Makes room for one more process. At an error the host has no memory for it, and the processes are
-    /// unchanged.
-    pub fn reserve(&mut self) -> Result<(), AllocError>
+    /// Makes room for one more process, with a number up to `greatest`. At an error the host has no memory for it,
+    /// and the processes are unchanged.
+    pub fn reserve(&mut self, greatest: Pid) -> Result<(), AllocError>
         ensures ok { OnOk result (0 < self.new.room) }
+        ensures limit { OnOk result (greatest < self.new.limit) }
         ensures room { self.old.room ≤ self.new.room }
-        ensures rest { self.new ≡ record (self.old) { room = self.new.room } }
+        ensures rest { self.new ≡ record (self.old) { room = self.new.room; limit = self.new.limit } }
     {
         self.table.reserve()?;
-        self.books.reserve(self.count + 1)
+        self.books.reserve(self.count + 1, greatest)
     }
 
-    /// Puts in a process that isn't there, where there is room for one. Its number isn't 0, and its parent is
-    /// there, or number 0. The others are unchanged.
+    /// Puts in a process that isn't there, where there is room for one with this number. Its number isn't 0, its parent
+    /// is there, or number 0, and there is room for the number of its process group. The others are unchanged.
     pub fn insert(&mut self, pid: Pid, parent: Pid, fields: Record)
         requires room { 0 < self.old.room }
         requires number { pid ≢ 0 }
+        requires limit { pid < self.old.limit }
+        requires group { (1 ≤ fields.group) × (fields.group < self.old.limit) }
         requires fresh { lookup pid self.old.processes ≡ None }
         requires parent { (parent ≡ 0) ⊎ IsSome (lookup parent self.old.processes) }
         ensures processes { self.new.processes ≡ inserted (process_of pid parent fields) self.old.processes }
@@ -176,6 +187,8 @@ impl<K: Kin> JobTable<K> {
         requires { IsSome (lookup pid self.old.processes) }
         ensures child { IfOk result (λ b. (me : Process) → lookup pid self.old.processes ≡ Some me → (n : ℕ) → process_of n pid b ≡ child_of birth me n) }
         ensures groups { IfOk result (λ b. (me : Process) → lookup pid self.old.processes ≡ Some me → (b.group ≡ me.group) × (b.session ≡ me.session)) }
+        ensures within { IfOk result (λ b. (1 ≤ b.group) × (b.group < self.new.limit)) }
+        ensures limit { self.new.limit ≡ self.old.limit }
         ensures looks { Looks 1 self.old self.new }
     {
         let spare = self.table.spare();
@@ -191,10 +204,11 @@ impl<K: Kin> JobTable<K> {
         ensures run { IsRun F.FnOnce change self.old.processes self.new.processes pid result }
         ensures costs { Costs 1 self.old self.new }
     {
-        let it = self.table.update(pid);
-        let before = it.alarm;
-        let result = change(it);
-        let after = it.alarm;
+        let Run {
+            before: Seen { alarm: before, .. },
+            result,
+            after: Seen { alarm: after, .. },
+        } = run_on(&mut self.table, pid, change);
         self.books.alarmed.replace(pid, before, after);
         result
     }
@@ -204,6 +218,7 @@ impl<K: Kin> JobTable<K> {
     pub fn change_seen<F: FnOnce(&mut Record)>(&mut self, pid: Pid, change: F) -> Change
         requires there { IsSome (lookup pid self.old.processes) }
         requires callable { F.IsAlwaysCallable change }
+        requires grouped { StaysGrouped F.FnOnce change self.old.processes pid }
         ensures run { IsRun F.FnOnce change self.old.processes self.new.processes pid tt }
         ensures parent { result.parent ≡ parent_of pid self.old.processes }
         ensures before { option_map seen_of (lookup pid self.old.processes) ≡ Some result.before }
@@ -211,10 +226,7 @@ impl<K: Kin> JobTable<K> {
         ensures costs { Costs 2 self.old self.new }
     {
         let parent = parent_in(&mut self.table, pid);
-        let it = self.table.update(pid);
-        let before = of_record(it);
-        change(it);
-        let after = of_record(it);
+        let Run { before, after, .. } = run_on(&mut self.table, pid, change);
         let seen = Change {
             parent,
             before,
@@ -252,6 +264,26 @@ impl<K: Kin> JobTable<K> {
     {
         let seen = self.table.update(pid);
         &seen.own
+    }
+}
+
+/// Runs a closure on the record of a process that is there.
+#[inline(always)]
+fn run_on<K: Kin, T, F: FnOnce(&mut Record) -> T>(table: &mut K, pid: Pid, change: F) -> Run<T>
+    requires there { IsSome (lookup pid (K.contents table.old)) }
+    requires callable { F.IsAlwaysCallable change }
+    ensures run { (k : IsRun F.FnOnce change (K.contents table.old) (K.contents table.new) pid result.result) × (result.before ≡ record_seen k.before) × (result.after ≡ record_seen k.after) }
+    ensures room { K.room table.new ≡ K.room table.old }
+    ensures visits { K.visits table.new ≤ K.visits table.old + 1 }
+{
+    let it = table.update(pid);
+    let before = of_record(it);
+    let result = change(it);
+    let after = of_record(it);
+    Run {
+        before,
+        result,
+        after,
     }
 }
 

@@ -1,11 +1,12 @@
 //! Who may move from one process group to another, or lead a session (XSH setpgid, setsid).
 
-ghost use Rattle.std.specs.Prelude.{◌≡◌, ◌+◌, ◌*◌, ◌≤◌, ◌==◌, ◌&&◌, ◌||◌, not, if◌then◌else◌, Option, Some, None, IsSome, IfErr, is_ok, length, option_map};
+ghost use Rattle.std.specs.Prelude.{◌≡◌, ◌+◌, ◌*◌, ◌≤◌, ◌==◌, ◌&&◌, ◌||◌, not, if◌then◌else◌, Option, Some, None, IsSome, IfSome, IfErr, ◌<◌, is_ok, length, option_map};
 ghost use Rattle.posix.specs.declared.errno.Errno.TheVariants.{EPERM};
 ghost use Rattle.posix.specs.Processes.{Process};
 ghost use Rattle.posix.specs.Tables.{lookup};
 ghost use Rattle.posix.specs.GroupCalls.{is_group_of, group_meant as group_meant_by, can_join as can_join_by, can_move as can_move_by, move_to, is_group_of_others as is_group_of_others_by};
 ghost use Rattle.proctable.specs.Records.{snapshot_of};
+ghost use Rattle.posix.specs.Regular.{AreGrouped};
 ghost use Rattle.jobs.specs.JobTables.{Looks, Finds};
 
 use crate::job_table::JobTable;
@@ -23,6 +24,17 @@ fn group_meant(it: &Snapshot, group: u64) -> u64
     }
 }
 
+/// A number as that of a process group; none above the greatest.
+fn group_number(group: u64) -> Option<Pid>
+    ensures some { IfSome result (λ g. g ≡ group) }
+    ensures none { result ≡ None → 2147483647 < group }
+{
+    match u32::try_from(group) {
+        Ok(number) => Pid::new(number),
+        Err(_) => None,
+    }
+}
+
 impl<K: Kin> JobTable<K> {
     /// The process group of a process, where it has this number and is one of this session.
     fn group_at(&mut self, pid: Pid, session: Pid, group: u64) -> Option<Pid>
@@ -36,24 +48,23 @@ impl<K: Kin> JobTable<K> {
         }
     }
 
-    /// The process group with this number, where it is one of this session, zombies being members.
+    /// The process group with this number, where it is one of this session, zombies being members: its first
+    /// member decides, as all are in one session.
     pub fn group_of(&mut self, session: Pid, group: u64) -> Option<Pid>
-        ensures { Finds (1 + 2 * length self.old.processes) self.old self.new (result ≡ (if is_group_of session group self.old.processes then Some group else None)) }
+        requires { AreGrouped self.old.processes }
+        ensures { Finds 1 self.old self.new (result ≡ (if is_group_of session group self.old.processes then Some group else None)) }
     {
-        let mut next = self.next_after(Pid::NONE);
-        while let Some(pid) = next {
-            if let Some(found) = self.group_at(pid, session, group) {
-                return Some(found);
-            }
-            next = self.next_after(pid);
-        }
-        None
+        let _ = &self.table;
+        let number = group_number(group)?;
+        let first = self.first_member(number)?;
+        self.group_at(first, session, group)
     }
 
     /// Which process group a process would join, or why not, for a caller of this session: one of its own
     /// number, or one of that session, unless it leads a session or is in another one.
     fn can_join(&mut self, me: &Snapshot, it: &Snapshot, group: u64) -> Result<Pid, Errno>
-        ensures { Finds (1 + 2 * length self.old.processes) self.old self.new ((caller r : Process) → me.now ≡ snapshot_of caller → it.now ≡ snapshot_of r → result ≡ can_join_by caller r group self.old.processes) }
+        requires { AreGrouped self.old.processes }
+        ensures { Finds 1 self.old self.new ((caller r : Process) → me.now ≡ snapshot_of caller → it.now ≡ snapshot_of r → result ≡ can_join_by caller r group self.old.processes) }
     {
         let _ = &self.table;
         if it.session != me.session || it.session == it.pid {
@@ -71,7 +82,8 @@ impl<K: Kin> JobTable<K> {
     /// Which process group a process would move to for a caller, or why not: the caller may move itself, and a
     /// child of its session that hasn't run exec since its birth.
     fn can_move(&mut self, me: &Snapshot, it: &Snapshot, group: u64) -> Result<Pid, Errno>
-        ensures { Finds (1 + 2 * length self.old.processes) self.old self.new ((caller r : Process) → me.now ≡ snapshot_of caller → it.now ≡ snapshot_of r → result ≡ can_move_by caller r group self.old.processes) }
+        requires { AreGrouped self.old.processes }
+        ensures { Finds 1 self.old self.new ((caller r : Process) → me.now ≡ snapshot_of caller → it.now ≡ snapshot_of r → result ≡ can_move_by caller r group self.old.processes) }
     {
         let _ = &self.table;
         if it.pid != me.pid {
@@ -90,7 +102,8 @@ impl<K: Kin> JobTable<K> {
 
     /// Which process group the process that a caller named would move to, or why not.
     fn judge(&mut self, me: &Snapshot, target: &Option<Snapshot>, group: i64) -> Result<Pid, Errno>
-        ensures { Finds (1 + 2 * length self.old.processes) self.old self.new ((caller : Process) (named : Option Process) → me.now ≡ snapshot_of caller → target.now ≡ option_map snapshot_of named → result ≡ move_to caller named group self.old.processes) }
+        requires { AreGrouped self.old.processes }
+        ensures { Finds 1 self.old self.new ((caller : Process) (named : Option Process) → me.now ≡ snapshot_of caller → target.now ≡ option_map snapshot_of named → result ≡ move_to caller named group self.old.processes) }
     {
         let _ = &self.table;
         let Ok(group) = u64::try_from(group) else {
@@ -114,8 +127,9 @@ impl<K: Kin> JobTable<K> {
         target: &Option<Snapshot>,
         group: i64,
     ) -> Result<Pid, Errno>
-        requires { IsSome (lookup me self.old.processes) }
-        ensures { Finds (2 + 2 * length self.old.processes) self.old self.new ((caller : Process) (named : Option Process) → lookup me self.old.processes ≡ Some caller → target.now ≡ option_map snapshot_of named → result ≡ move_to caller named group self.old.processes) }
+        requires there { IsSome (lookup me self.old.processes) }
+        requires grouped { AreGrouped self.old.processes }
+        ensures { Finds 2 self.old self.new ((caller : Process) (named : Option Process) → lookup me self.old.processes ≡ Some caller → target.now ≡ option_map snapshot_of named → result ≡ move_to caller named group self.old.processes) }
     {
         let Some(caller) = self.get(me) else {
             unreachable!()
@@ -123,11 +137,13 @@ impl<K: Kin> JobTable<K> {
         self.judge(&caller, target, group)
     }
 
-    /// Whether a process is there in the process group with the number of another, zombies included.
-    fn is_group_of_others(&mut self, pid: Pid) -> bool
-        ensures { Finds (4 + 4 * length self.old.processes) self.old self.new ((it : Process) → lookup pid self.old.processes ≡ Some it → result ≡ is_group_of_others_by it self.old.processes) }
+    /// Whether a process is there in the process group with the number of another, zombies included. No slot is
+    /// read.
+    fn is_group_of_others(&self, pid: Pid) -> bool
+        ensures { (it : Process) → lookup pid self.now.processes ≡ Some it → result ≡ is_group_of_others_by it self.now.processes }
     {
-        let Some(first) = self.next_member(pid, Pid::NONE) else {
+        let _ = &self.table;
+        let Some(first) = self.first_member(pid) else {
             return false;
         };
         first != pid || self.next_member(pid, pid).is_some()
@@ -135,16 +151,20 @@ impl<K: Kin> JobTable<K> {
 
     /// Whether a process that is there may lead a session of its own. EPERM where it leads a process group, or
     /// another process is in one with its number (XSH setsid).
+    #[tactic(auto, using(crate::proofs::MoveLemmas::leads_by))]
     pub fn can_lead(&mut self, me: Pid) -> Result<(), Errno>
         requires { IsSome (lookup me self.old.processes) }
         ensures test { (caller : Process) → lookup me self.old.processes ≡ Some caller → is_ok result ≡ not (caller.group == caller.pid || is_group_of_others_by caller self.old.processes) }
         ensures why { IfErr result (λ why. why ≡ EPERM) }
-        ensures looks { Looks (5 + 4 * length self.old.processes) self.old self.new }
+        ensures looks { Looks 1 self.old self.new }
     {
         let Some(caller) = self.get(me) else {
             unreachable!()
         };
-        if caller.group == me || self.is_group_of_others(me) {
+        if caller.group == me {
+            return Err(Errno::EPERM);
+        }
+        if self.is_group_of_others(me) {
             return Err(Errno::EPERM);
         }
         Ok(())

@@ -11,7 +11,7 @@ use std::test::Fail;
 fn put_first<K: Kin, R: Abort + AllocGlobal>(rt: &R) -> Result<(), Fail> {
     let mut table = JobTable::<K>::empty(rt.alloc());
     let first = Record::first(rt.alloc())?;
-    table.reserve()?;
+    table.reserve(Pid::INIT)?;
     table.insert(Pid::INIT, Pid::NONE, first);
     assert!(rt; table.get(Pid::INIT).is_some());
     assert!(rt; table.next_after(Pid::INIT).is_none());

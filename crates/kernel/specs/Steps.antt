@@ -19,7 +19,7 @@ use Rattle.posix.specs.Settle.{IsSettled}
 use Rattle.posix.specs.Step.{code_of, begin_call, after_trap, act, step, happens}
 use Rattle.life.specs.declared.noted_bursts.Note.{Note}
 use Rattle.life.specs.NotedBursts.{StepsTaken, most_notes, exec_with_notes}
-use Rattle.calls.specs.Outcomes.{IsActing, changes_caller_alone}
+use Rattle.calls.specs.Outcomes.{IsActing, changes_caller_alone, enters_handler}
 
 -- No signal is chosen for p.
 abbrev pub NoneChosen : State → ℕ → Type 0
@@ -70,6 +70,23 @@ abbrev pub event_changes_one : Event → State → Bool
 event_changes_one Step s = next_changes_one s (current_process s)
 event_changes_one Tick s = not (has_alarms s)
 event_changes_one (Key console byte) s = false
+
+-- an instruction whose machine fault enters a handler: it changes the process alone, too
+abbrev pub enters : Process → Trap → Bool
+enters me trap.Next = false
+enters me (trap.Note z) = false
+enters me (trap.Call call) = false
+enters me (trap.Fault sig) = enters_handler me sig
+
+-- the process comes to such an instruction
+abbrev pub next_enters : State → Option Process → Bool
+next_enters s None = false
+next_enters s (Some me) = if is_held me then false else enters me (exec_one (code_of s me) me.cpu).trap
+
+abbrev pub event_enters : Event → State → Bool
+event_enters Step s = next_enters s (current_process s)
+event_enters Tick s = false
+event_enters (Key console byte) s = false
 
 -- who runs instructions next; 0 where nobody does
 abbrev pub runner : Option Process → ℕ

@@ -11,7 +11,7 @@ ghost use Rattle.posix.specs.Step.{IsStep};
 ghost use Rattle.posix.specs.Regular.{IsRegular};
 ghost use Rattle.posix.specs.Settle.{IsSettled};
 ghost use Rattle.text.specs.EventTexts.{most_events};
-ghost use Rattle.kernel.specs.Steps.{event_changes_one, last_given, noted_lines};
+ghost use Rattle.kernel.specs.Steps.{event_changes_one, event_enters, last_given, noted_lines};
 ghost use Rattle.kernel.specs.Views.{KernelView};
 ghost use Rattle.life.specs.Censuses.{census_of};
 ghost use Rattle.laws.specs.Agree.{Agree, IsOrderly};
@@ -116,6 +116,7 @@ impl<K: Kin> KernelOn<K> {
         ensures agrees { (lines : List Line) → Agree lines self.old.events self.old.state → Agree (lines ++ numbered self.new.events result.items) self.new.events self.new.state }
         ensures no_number_is_given_out_twice { (e : Entry) (n : ℕ) → Contains result.items e → born_by e ≡ Some n → is_free self.old.state.processes n ≡ true }
         ensures visits { event_changes_one event self.old.state ≡ true → self.new.visits ≤ self.old.visits + 3 }
+        ensures visits_of_fault { event_enters event self.old.state ≡ true → self.new.visits ≤ self.old.visits + 4 }
     {
         let mut entries = ArrayVec::new();
         self.event_into(event, &mut entries);
@@ -182,6 +183,7 @@ impl<K: Kin> KernelOn<K> {
         ensures agrees { (lines : List Line) → Agree lines self.old.events self.old.state → Agree (lines ++ numbered self.new.events entries.new.items) self.new.events self.new.state }
         ensures no_number_is_given_out_twice { (e : Entry) (n : ℕ) → Contains entries.new.items e → born_by e ≡ Some n → is_free self.old.state.processes n ≡ true }
         ensures visits { event_changes_one event self.old.state ≡ true → self.new.visits ≤ self.old.visits + 3 }
+        ensures visits_of_fault { event_enters event self.old.state ≡ true → self.new.visits ≤ self.old.visits + 4 }
     {
         self.events += 1;
         next(&mut self.machine, event, entries);

@@ -17,7 +17,7 @@ ghost use Rattle.posix.specs.Regular.{IsPlaced, IsRegular};
 ghost use Rattle.posix.specs.Settle.{IsSettled};
 ghost use Rattle.proctable.specs.Records.{snapshot_of};
 ghost use Rattle.calls.specs.Outcomes.{IsActing, CostsAtMost, changes_caller_alone};
-ghost use Rattle.kernel.specs.Steps.{ActsAs, Begins, Bursts, ComesTo, Happens, NoneChosen, RunsInstruction, Steps, next_changes_one, changes_one, event_changes_one, is_followed_by_step, runner, taken_at_once};
+ghost use Rattle.kernel.specs.Steps.{ActsAs, Begins, Bursts, ComesTo, Happens, NoneChosen, RunsInstruction, Steps, next_changes_one, changes_one, event_changes_one, next_enters, enters, event_enters, is_followed_by_step, runner, taken_at_once};
 
 use crate::settle::settle;
 use calls::delivery::{deliver, end, fault};
@@ -108,6 +108,7 @@ fn run_instruction<K: Kin>(machine: &mut Machine<K>, pid: Pid, program: u8, entr
     requires none { entries.old.items ≡ [] }
     ensures runs { RunsInstruction machine.old.state pid entries.new.items machine.new.state }
     ensures cost { (me : Process) → process machine.old.state pid ≡ Some me → changes_one (exec_one (code_of machine.old.state me) me.cpu).trap ≡ true → CostsAtMost 2 machine.old machine.new }
+    ensures enters { (me : Process) → process machine.old.state pid ≡ Some me → enters me (exec_one (code_of machine.old.state me) me.cpu).trap ≡ true → CostsAtMost 3 machine.old machine.new }
 {
     match machine.exec_one(pid, program) {
         Trap::Next => {}
@@ -129,6 +130,7 @@ fn act<K: Kin>(machine: &mut Machine<K>, pid: Pid, snapshot: Snapshot, entries: 
     requires none { entries.old.items ≡ [] }
     ensures acts { ActsAs machine.old.state pid entries.new.items machine.new.state }
     ensures cost { next_changes_one machine.old.state (process machine.old.state pid) ≡ true → CostsAtMost 2 machine.old machine.new }
+    ensures enters { next_enters machine.old.state (process machine.old.state pid) ≡ true → CostsAtMost 3 machine.old machine.new }
 {
     let Snapshot {
         chosen,
@@ -156,6 +158,7 @@ fn step<K: Kin>(machine: &mut Machine<K>, entries: &mut Entries)
     requires none { entries.old.items ≡ [] }
     ensures steps { Steps machine.old.state entries.new.items machine.new.state }
     ensures cost { next_changes_one machine.old.state (current_process machine.old.state) ≡ true → CostsAtMost 3 machine.old machine.new }
+    ensures enters { next_enters machine.old.state (current_process machine.old.state) ≡ true → CostsAtMost 4 machine.old machine.new }
 {
     let Some(pid) = machine.current() else {
         return;
@@ -188,6 +191,7 @@ fn happen<K: Kin>(machine: &mut Machine<K>, event: Event, entries: &mut Entries)
     requires none { entries.old.items ≡ [] }
     ensures happens { Happens machine.old.state event entries.new.items machine.new.state }
     ensures cost { event_changes_one event machine.old.state ≡ true → CostsAtMost 3 machine.old machine.new }
+    ensures enters { event_enters event machine.old.state ≡ true → CostsAtMost 4 machine.old machine.new }
 {
     match event {
         Event::Step => step(machine, entries),
@@ -289,6 +293,7 @@ pub fn next<K: Kin>(machine: &mut Machine<K>, event: Event, entries: &mut Entrie
     ensures to_recheck { machine.old.to_recheck ≡ [] → machine.new.to_recheck ≡ [] }
     ensures foregrounds_unchecked { machine.old.foregrounds_unchecked ≡ false → machine.new.foregrounds_unchecked ≡ false }
     ensures visits { machine.old.to_recheck ≡ [] → machine.old.foregrounds_unchecked ≡ false → event_changes_one event machine.old.state ≡ true → machine.new.visits ≤ machine.old.visits + 3 }
+    ensures enters { machine.old.to_recheck ≡ [] → machine.old.foregrounds_unchecked ≡ false → event_enters event machine.old.state ≡ true → machine.new.visits ≤ machine.old.visits + 4 }
 {
     if machine.is_halted() {
         return;

@@ -5,18 +5,18 @@ use Rattle.std.specs.Option.{IsSome}
 use Rattle.std.proofs.lemmas.Bool.{eqb-true, and_parts, or_cases, or_right}
 use Rattle.posix.specs.Processes.{Process, root, is_zombie}
 use Rattle.posix.specs.Numbers.{with_number}
-use Rattle.posix.specs.Tables.{IsRising, lookup, has_pid, is_child, members_in, pids, children_in, left_of, next_sibling}
+use Rattle.posix.specs.Tables.{IsRising, lookup, has_pid, is_child, members_in, children_in, left_of, next_sibling}
 use Rattle.posix.specs.States.{is_in, without}
 use Rattle.posix.specs.Choice.{from_kernel}
 use Rattle.posix.specs.Groups.{is_anchor, loses_anchor}
-use Rattle.posix.specs.Notices.{signalled_all}
 use Rattle.posix.specs.Ends.{signalled_members, hup_and_cont, hup_and_cont_all}
 use Rattle.posix.specs.declared.target.Target.TheVariants as whom
 use Rattle.posix.specs.Credentials.{may}
-use Rattle.posix.specs.Sends.{targets, permitted, sent_by, sent_among, sent}
+use Rattle.posix.specs.Sends.{targets, permitted, sent_among, sent}
 use Rattle.posix.proofs.WalkLemmas.{numbered, numbered_one, AtChild}
 use Rattle.posix.proofs.HupAndContLemmas.{still_there, lasts_hup_and_cont_all}
 use Rattle.life.proofs.SoundLemmas.{there, is_there}
+use Rattle.life.proofs.SendLemmas.{all_pass}
 use Rattle.pidset.proofs.WalkLemmas.{IsWalking, walk_of, walk_on, none_left}
 use Rattle.pidset.specs.Numbers.{PidSetView, Rises, numbers_above}
 use Rattle.pidset.proofs.NumberLemmas.{in_above, rises_with, rises_without, in_with, few}
@@ -24,7 +24,7 @@ use Rattle.posix.proofs.MemberLemmas.{in_without}
 use Rattle.life.specs.declared.caller.Caller.{Caller}
 use Rattle.life.specs.Callers.{process_like}
 use Rattle.life.specs.Machines.{IsNoted}
-use Rattle.life.specs.Rechecks.{rechecking_all, rechecking_signalled, rechecking_members}
+use Rattle.life.specs.Rechecks.{rechecking_signalled, rechecking_members}
 
 -- ---- the list of those that are noted
 
@@ -98,9 +98,7 @@ step_noted rs p c next after at comes e ns noted is n =
   where
     swap : (a b c : Bool) → ((a || b) || c) ≡ (b || (a || c))
     swap true true c = refl
-    swap true false c = refl
-    swap false true c = refl
-    swap false false c = refl
+    swap a b c = refl
 
 -- ---- all get HUP and CONT
 
@@ -148,30 +146,16 @@ may_signal_all : (r : Process) (s : Option ℕ) (q : Process) → r.credentials 
 may_signal_all r s q e = rw e (some (0 == q.credentials.user.real) (0 == q.credentials.user.saved) _)
   where
     some : (a b e : Bool) → (a || b || a || b || true || e) ≡ true
-    some true b e = refl
-    some false true e = refl
     some false false e = refl
+    some a b e = refl
 
 -- so who is meant by a signal of the kernel to a group are all its members
 members_meant : (c : Caller) → c.creds ≡ root → (n group : ℕ) (rs : List Process) → permitted (process_like c) (Some n) (targets (process_like c) (whom.Group group) rs) ≡ members_in group rs
 unfolding permitted targets members_in
 members_meant c all n group rs = all_pass (may (process_like c) (Some n)) (λ q. may_signal_all (process_like c) (Some n) q all) (members_in group rs)
-  where
-    all_pass : (t : Process → Bool) → ((r : Process) → t r ≡ true) → (rs : List Process) → filter t rs ≡ rs
-    all_pass t h [] = refl
-    all_pass t h (r ∷ rs) = rw (h r) (ap (λ qs. r ∷ qs) (all_pass t h rs))
 
--- it is generated for each of them
-pub members_sent : (c : Caller) → c.pid ≡ 0 → c.creds ≡ root → (n group : ℕ) (rs : List Process) → sent (process_like c) (whom.Group group) (Some n) rs ≡ signalled_members (record { sig = n; carried = from_kernel }) group rs
-unfolding sent sent_among signalled_members
-members_sent c none all n group rs =
-    ap (λ p. signalled_all (sent_by p n) (pids (permitted (process_like c) (Some n) (targets (process_like c) (whom.Group group) rs))) rs) none
-    ∙ ap (λ qs. signalled_all (record { sig = n; carried = from_kernel }) (pids qs) rs) (members_meant c all n group rs)
-
--- and they are asked
-pub members_rechecked : (c : Caller) → c.pid ≡ 0 → c.creds ≡ root → (n group : ℕ) (rs : List Process) (order ns : List ℕ)
-    → rechecking_signalled (process_like c) (Some n) (targets (process_like c) (whom.Group group) rs) rs order ns ≡ rechecking_members n group rs order ns
-unfolding rechecking_signalled
-members_rechecked c none all n group rs order ns =
-    ap (λ p. rechecking_all (sent_by p n) (pids (permitted (process_like c) (Some n) (targets (process_like c) (whom.Group group) rs))) rs order ns) none
-    ∙ ap (λ qs. rechecking_all (record { sig = n; carried = from_kernel }) (pids qs) rs order ns) (members_meant c all n group rs)
+-- it is generated for each of them, and they are asked
+pub members_get : (c : Caller) → c.pid ≡ 0 → c.creds ≡ root → (n group : ℕ) (rs : List Process) (order ns : List ℕ)
+    → (sent (process_like c) (whom.Group group) (Some n) rs ≡ signalled_members (record { sig = n; carried = from_kernel }) group rs) × (rechecking_signalled (process_like c) (Some n) (targets (process_like c) (whom.Group group) rs) rs order ns ≡ rechecking_members n group rs order ns)
+unfolding sent sent_among signalled_members rechecking_signalled
+members_get c none all n group rs order ns = rw (members_meant c all n group rs, none) (refl, refl)

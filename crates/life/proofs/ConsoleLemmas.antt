@@ -1,10 +1,10 @@
 -- A machine that gets another console in the place of one.
-use Rattle.std.proofs.Common.{◌≡◌, ◌≢◌, ℕ, zero, suc, ◌≤◌, ◌==◌, Bool, true, false, cond, not, ◌&&◌, ◌||◌, refl, ap, sym, ◌∙◌, arith, List, [], ◌∷◌, Option, Some, None, is_some, length, nat_lt, slice_get, slice_set, slice_index_or, inl, inr, ⊎_elim}
+use Rattle.std.proofs.Common.{◌≡◌, ◌≢◌, ℕ, zero, suc, ◌+◌, ◌*◌, ◌≤◌, ◌==◌, Bool, true, false, cond, not, ◌&&◌, ◌||◌, refl, ap, sym, ◌∙◌, arith, List, [], ◌∷◌, Option, Some, None, is_some, length, nat_lt, slice_get, slice_set, slice_index_or, inl, inr, ⊎_elim}
 use Rattle.std.proofs.lemmas.Bool.{eqb-true, eqb-false, and_parts, not-true, or_right, ltb-true, cond_both, both_ways}
-use Rattle.std.proofs.lemmas.Option.{slice_get_read}
+use Rattle.std.proofs.lemmas.Option.{slice_get_read, same_Some}
 use Rattle.posix.specs.declared.process.Blocked.{Blocked}
 use Rattle.posix.specs.declared.process.Blocked.TheVariants as blocked
-use Rattle.posix.specs.SignalNumbers.{HUP}
+use Rattle.posix.specs.SignalNumbers.{HUP, INT, QUIT, TSTP}
 use Rattle.posix.specs.Processes.{Process, is_running}
 use Rattle.posix.specs.States.{State, process, is_in, has_place}
 use Rattle.posix.specs.Consoles.{Console, console_of, changed_console, key_signal, keyed, keyed_by, edit, flushed, finish_line, released}
@@ -22,9 +22,12 @@ use Rattle.posix.proofs.ReaderLemmas.{IsOfOrFree, console_of_set, touches_unread
 use Rattle.pidalloc.specs.Rows.{Pids}
 use Rattle.sched.specs.Places.{Places}
 use Rattle.pidset.specs.Numbers.{PidSetView}
-use Rattle.life.specs.Machines.{IsListed, IsMachine, readers_at}
+use Rattle.life.specs.Machines.{IsListed, IsMachine, MachineView, readers_at}
 use Rattle.proctable.specs.Records.{snapshot_of}
-use Rattle.life.specs.Consoles.{AreReaders, hangs_up}
+use Rattle.life.specs.Consoles.{AreReaders, hangs_up, slots_of_byte, slots_of_key, slots_of_hangup}
+use Rattle.life.specs.Rechecks.{slots_of_signal}
+use Rattle.life.proofs.ReaderLemmas.{of_session}
+use Rattle.posix.specs.Tables.{members_in}
 use Rattle.posix.proofs.FreshLemmas.{AllFresh}
 
 -- the state with another console in a place
@@ -276,3 +279,29 @@ leader_hangs_up s k p me c i found leads at own =
     let is = console_is s.world.consoles s.consoles k me.session c i.consoles at own some in
     rw (leads, is)
     (ap (λ cs. record s { processes = signalled_group HUP c.foreground s.processes; consoles = cs }) (sym (changed_at_place s.world.consoles s.consoles k me.session c released i.consoles at own some)))
+
+-- ---- how many slots are read
+
+-- the signal of a key continues nobody
+key_slots_of : (byte sig : ℕ) → Some sig ≡ key_signal byte → slots_of_signal sig ≡ 1
+unfolding key_signal
+key_slots_of byte sig e = by (byte == 3) (byte == 28) (byte == 26) e
+  where
+    by : (a b c : Bool) → Some sig ≡ cond a (Some INT) (cond b (Some QUIT) (cond c (Some TSTP) None)) → slots_of_signal sig ≡ 1
+    by true b c e = rw (same_Some _ _ e) refl
+    by false true c e = rw (same_Some _ _ e) refl
+    by false false true e = rw (same_Some _ _ e) refl
+    by false false false e = absurd (cc)
+
+-- where a key gives a signal, and where it gives none
+pub slots_of_signalled : (m : MachineView) (console k byte sig group : ℕ) (c : Console) (rs : List Process) → console ≡ suc k → slice_get m.state.consoles k ≡ Some c → Some sig ≡ key_signal byte → group ≡ c.foreground → rs ≡ m.state.processes
+    → slots_of_byte byte k m.readers + (1 + (2 + slots_of_signal sig) * length (members_in group rs)) ≤ slots_of_key console byte m
+slots_of_signalled m console k byte sig group c rs number found signal foreground same = rw (number, found, ← signal, foreground, same, key_slots_of byte sig signal) (omega arith)
+
+pub slots_of_typed : (m : MachineView) (console k byte : ℕ) → console ≡ suc k → slots_of_byte byte k m.readers ≤ slots_of_key console byte m
+slots_of_typed m console k byte number = rw number (omega arith)
+
+-- where a session's terminal hangs up
+pub slots_hung_up : (m : MachineView) (me : Process) (k group : ℕ) (c : Console) (readers : List PidSetView) (rs : List Process) → hangs_up (snapshot_of me) ≡ true → readers ≡ m.readers → rs ≡ m.state.processes → slice_get m.state.consoles k ≡ Some c
+    → c.session ≡ me.session → console_of me.session m.state.consoles ≡ Some c → group ≡ c.foreground → 1 + length (readers_at k readers) + (1 + (2 + slots_of_signal HUP) * length (members_in group rs)) ≤ 1 + slots_of_hangup me m
+slots_hung_up m me k group c readers rs leads known same at own is foreground = let few = of_session me.session k c m.state.consoles m.readers at own in rw (leads, known, same, is, foreground) (omega (arith, few))

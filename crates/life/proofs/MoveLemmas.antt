@@ -1,51 +1,86 @@
--- Whom setpgid moves.
-use Rattle.std.proofs.Common.{◌≡◌, ℕ, refl, ap, sym, ◌∙◌, Option, Some, None, option_map, Ok, Err, Result, ℤ}
+-- Whom setpgid moves, and who stays in its process group.
+use Rattle.std.proofs.Common.{◌≡◌, ◌==◌, ◌||◌, true, ℕ, ℤ, pos, negsuc, inl, inr, arith, List, refl, ap, sym, ◌∙◌, Option, Some, None, option_map, Ok, Err, Result}
 use Rattle.std.specs.Result.{IsErrAnd}
 use Rattle.posix.specs.declared.errno.Errno.{Errno}
 use Rattle.posix.specs.Processes.{Process}
-use Rattle.posix.specs.Tables.{lookup}
+use Rattle.std.proofs.lemmas.Bool.{eqb-true, and_parts, or_cases}
+use Rattle.posix.specs.Tables.{IsRising, lookup, is_member}
+use Rattle.posix.proofs.WalkLemmas.{some_looked, any_looked}
+use Rattle.jobs.specs.JobTables.{IsGroupFor}
 use Rattle.posix.specs.States.{State, process, change}
 use Rattle.posix.specs.Regular.{IsRegular}
-use Rattle.posix.specs.GroupCalls.{named, move_to, in_group}
+use Rattle.posix.specs.Notices.{stopped_by, resumed}
+use Rattle.posix.specs.Ends.{ended, made_zombie}
+use Rattle.posix.specs.Waits.{news_told}
+use Rattle.posix.specs.GroupCalls.{named, move_to, in_group, is_group_of}
 use Rattle.posix.proofs.MoveLemmas.{moves_nobody, regular_move_to, named_found}
 use Rattle.proctable.specs.declared.snapshot.Snapshot.{Snapshot}
 use Rattle.proctable.specs.Records.{snapshot_of}
-use Rattle.life.proofs.SoundLemmas.{snapshot_are, found_in, none_read}
+use Rattle.life.proofs.SoundLemmas.{snapshot_are, found_in, some_read}
+
+-- the group that it moves to has its number, or a member in the caller's session
+joins : (me r : Process) (z : ℤ) (h : ℕ) (rs : List Process) → move_to me (Some r) z rs ≡ Ok h → (h == r.pid || is_group_of me.session h rs) ≡ true
+joins me r (pos g) h rs e = grind (arith, e)
+joins me r (negsuc g) h rs e = absurd (cc)
+
+group_for : (me r : Process) (z : ℤ) (h : ℕ) (rs : List Process) → IsRising rs → move_to me (Some r) z rs ≡ Ok h → IsGroupFor r.pid h rs
+unfolding is_group_of
+group_for me r z h rs up e = elim (or_cases _ _ (joins me r z h rs e)) [
+  | inl same ↦ inl (eqb-true h r.pid same)
+  | inr some ↦ let it = some_looked _ rs up some in inr (any_looked (is_member h) it.0.pid rs it.0 it.1 (and_parts (it.0.session == me.session) (it.0.group == h) it.2).1)
+]
+
+-- what was answered to the process p that asks to move whom target is the snapshot of
+abbrev pub Answers : List Process → ℕ → ℤ → Option Snapshot → Result ℕ Errno → Type 0
+Answers rs p z target answer = (me : Process) (named : Option Process) → lookup p rs ≡ Some me → target ≡ option_map snapshot_of named → answer ≡ move_to me named z rs
 
 -- whom setpgid moves
-pub record IsMoving (s : State) (me : Process) (word : ℤ) (group : ℕ) (it : Snapshot) : Type 0 where
+pub record IsMoving (s : State) (me : Process) (word : ℤ) (group p : ℕ) : Type 0 where
   pub what : Process
   pub named : named me word s.processes ≡ Some what
-  pub found : lookup what.pid s.processes ≡ Some what
-  pub is : it ≡ snapshot_of what
-  pub regular : IsRegular (change s what.pid (in_group group))
+  pub found : lookup p s.processes ≡ Some what
+  pub regular : IsRegular (change s p (in_group group))
+  pub joins : IsGroupFor p group s.processes
 
-pub is_moving : (s t : State) → s ≡ t → IsRegular s → (p : ℕ) (me : Process) (word z : ℤ) (group : ℕ) (it : Snapshot) → process t p ≡ Some me → move_to me (named me word s.processes) z s.processes ≡ Ok group
-    → Some it ≡ option_map snapshot_of (named me word t.processes) → IsMoving s me word group it
-is_moving s t same i p me word z group it here moves read = by (named me word s.processes) refl
-  where
-    by : (o : Option Process) → named me word s.processes ≡ o → IsMoving s me word group it
-    by None e = let none : Some it ≡ None = read ∙ ap (λ (t : State). option_map snapshot_of (named me word t.processes)) (sym same) ∙ ap (option_map snapshot_of) e in absurd (cc)
-    by (Some r) e =
-        let found = named_found p s.processes me word r (found_in s t same p me here) e in
-        record {
-          what = r;
-          named = e;
-          found = found;
-          is = snapshot_are (named me word s.processes) r it (read ∙ ap (λ (t : State). option_map snapshot_of (named me word t.processes)) (sym same)) e;
-          regular = regular_move_to s i me r z group found (ap (λ o. move_to me o z s.processes) (sym e) ∙ moves);
-        }
-
--- who was named in a state is named in one that is the same
-pub still_named : (s t : State) → s ≡ t → (me : Process) (word : ℤ) (it : Option Snapshot) → it ≡ option_map snapshot_of (named me word t.processes) → it ≡ option_map snapshot_of (named me word s.processes)
-still_named s t same me word it read = read ∙ ap (λ (t : State). option_map snapshot_of (named me word t.processes)) (sym same)
+pub is_moving : (s t : State) → s ≡ t → IsRegular s → (p : ℕ) (me : Process) (word z : ℤ) (group : ℕ) (it : Snapshot) (target : Option Snapshot) (answer : Result ℕ Errno) → process t p ≡ Some me → target ≡ option_map snapshot_of (named me word t.processes)
+    → Answers s.processes p z target answer → answer ≡ Ok group → target ≡ Some it → IsMoving s me word group it.pid
+is_moving s t same i p me word z group it target answer here read value was is =
+    let o = named me word s.processes in
+    let here = found_in s t same p me here in
+    let read = read ∙ ap (λ (t : State). option_map snapshot_of (named me word t.processes)) (sym same) in
+    let r = some_read o it (sym is ∙ read) in
+    let found = named_found p s.processes me word r.what here r.found in
+    let moves = ap (λ o. move_to me o z s.processes) (sym r.found) ∙ sym (value me o here read) ∙ was in
+    rw (ap (λ (f : Snapshot). f.pid) (snapshot_are o r.what it (sym is ∙ read) r.found))
+    record { what = r.what; named = r.found; found = found; regular = regular_move_to s i me r.what z group found moves; joins = group_for me r.what z group s.processes i.rising moves }
 
 -- somebody moves
-pub none_moves : (s t : State) → s ≡ t → (me : Process) (word z : ℤ) (group : ℕ) → move_to me (named me word s.processes) z s.processes ≡ Ok group → None ≡ option_map snapshot_of (named me word t.processes) → ⊥
-none_moves s t same me word z group moves read =
-    moves_nobody me z s.processes group (ap (λ o. move_to me o z s.processes) (sym (ap (λ (s : State). named me word s.processes) same ∙ none_read (named me word t.processes) read)) ∙ moves)
+pub none_moves : (s t : State) → s ≡ t → (p : ℕ) (me : Process) (word z : ℤ) (group : ℕ) (answer : Result ℕ Errno) → process t p ≡ Some me → None ≡ option_map snapshot_of (named me word t.processes) → Answers s.processes p z None answer → answer ≡ Ok group → ⊥
+none_moves s t same p me word z group answer here read value was = moves_nobody me z s.processes group (sym (value me None (found_in s t same p me here) refl) ∙ was)
 
 -- the error that is handed on
 pub err_is : (r : Result ℕ Errno) (e : Errno) → IsErrAnd r (λ x. x ≡ e) → r ≡ Err e
 err_is (Ok n) e is = absurd (is)
 err_is (Err x) e is = ap Err is
+
+-- ---- who stays in its process group
+
+pub stopped_stays : (n : ℕ) (r : Process) → (stopped_by n r).group ≡ r.group
+unfolding stopped_by
+stopped_stays n r = refl
+
+pub resumed_stays : (r : Process) → (resumed r).group ≡ r.group
+unfolding resumed
+resumed_stays r = refl
+
+pub ended_stays : (n : ℕ) (r : Process) → (ended n r).group ≡ r.group
+unfolding ended
+ended_stays n r = refl
+
+pub zombie_stays : (n : ℕ) (r : Process) → (made_zombie n r).group ≡ r.group
+unfolding made_zombie
+zombie_stays n r = refl
+
+pub told_stays : (r : Process) → (news_told r).group ≡ r.group
+unfolding news_told
+told_stays r = refl

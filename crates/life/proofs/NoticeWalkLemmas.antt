@@ -1,7 +1,7 @@
 -- The walk over the children of a process that ends, which tells its heir of each zombie.
-use Rattle.std.proofs.Common.{◌≡◌, ◌≢◌, ℕ, ◌<◌, ◌≤◌, true, false, cond, not, refl, ap, sym, ◌∙◌, arith, List, [], ◌∷◌, length, map, filter, Option, Some, None, ◌==◌, nat_le}
+use Rattle.std.proofs.Common.{◌≡◌, ◌≢◌, ℕ, ◌<◌, ◌≤◌, true, false, not, refl, ap, sym, ◌∙◌, arith, List, [], ◌∷◌, length, map, filter, Option, Some, None, ◌==◌, nat_le}
 use Rattle.std.specs.Option.{IfSome, IsSome}
-use Rattle.std.proofs.lemmas.Bool.{eqb-true, ne_eqb}
+use Rattle.std.proofs.lemmas.Bool.{eqb-true, ne_eqb, cond_both}
 use Rattle.std.proofs.lemmas.List.{length-map}
 use Rattle.std.proofs.lemmas.Bool.Decides.{nat_tests}
 use Rattle.posix.specs.declared.process.PendingSignal.{PendingSignal}
@@ -15,7 +15,7 @@ use Rattle.posix.specs.Ends.{is_dropping, drop_child, notice_of_end, status_of, 
 use Rattle.posix.specs.Notices.{child_signal, ignores_children, noticed}
 use Rattle.posix.proofs.TableLemmas.{pid_looked, lookup_changed}
 use Rattle.posix.proofs.WalkLemmas.{children_removed, AtChild, at_child, at_first, head_above}
-use Rattle.posix.proofs.MapLemmas.{filter_map, first_map, children_map}
+use Rattle.posix.proofs.MapLemmas.{at_keeps, filter_map, first_map, children_map}
 use Rattle.posix.proofs.RegularLemmas.{keeps_at, keeps_noticed, lookup_kept, heir_other, heir_living, heir_map, heir_removed}
 use Rattle.posix.proofs.ReportLemmas as report
 use Rattle.posix.proofs.PassingLemmas.{filter_at_most}
@@ -26,17 +26,7 @@ left_without : (o : Option ℕ) (c : ℕ) → IfSome o (λ y. c < y) → (rs : L
 unfolding removed
 left_without None c l rs = refl
 left_without (Some n) c l [] = refl
-left_without (Some n) c l (r ∷ rs) =
-    elim (r.pid == c) as (λ b. (r.pid == c) ≡ b → filter (λ q. nat_le n q.pid) (cond (not b) (r ∷ removed c rs) (removed c rs)) ≡ filter (λ q. nat_le n q.pid) (r ∷ rs)) [
-      | true ↦ λ t.
-          let same : r.pid ≡ c = eqb-true _ _ t in
-          let low : nat_le n r.pid ≡ false = grind (arith, nat_tests, l) in
-          rw low (left_without (Some n) c l rs)
-      | false ↦ λ t. elim (nat_le n r.pid) as (λ b. cond b (r ∷ filter (λ q. nat_le n q.pid) (removed c rs)) (filter (λ q. nat_le n q.pid) (removed c rs)) ≡ cond b (r ∷ filter (λ q. nat_le n q.pid) rs) (filter (λ q. nat_le n q.pid) rs)) [
-        | true ↦ ap (λ y. r ∷ y) (left_without (Some n) c l rs)
-        | false ↦ left_without (Some n) c l rs
-      ]
-    ] refl
+left_without (Some n) c l (r ∷ rs) = grind (arith, nat_tests, eqb-true r.pid c, l, left_without (Some n) c l rs)
 
 -- the next sibling lies above
 sibling_above : (c : ℕ) (rs : List Process) → IfSome (next_sibling c rs) (λ y. c < y)
@@ -58,10 +48,7 @@ same_at : (heir : ℕ) (signal : PendingSignal) → Same (at heir (noticed signa
 unfolding noticed signalled
 same_at heir signal = record {
   pid = (keeps_at heir (noticed signal) (keeps_noticed {now = 0} signal)).pid;
-  life = λ r. elim (r.pid == heir) as (λ b. (cond b (cond (ignores_children r.signals) r (signalled signal r)) r).life ≡ r.life) [
-    | true ↦ elim (ignores_children r.signals) as (λ b. (cond b r (signalled signal r)).life ≡ r.life) [ true ↦ refl | false ↦ refl ]
-    | false ↦ refl
-  ];
+  life = at_keeps (λ q. q.life) heir (noticed signal) (λ r. cond_both (ignores_children r.signals) r (signalled signal r) (λ q. q.life ≡ r.life) (λ e. refl) (λ e. refl));
 }
 
 -- the same are left
@@ -109,46 +96,34 @@ kids_noticed : (signal : PendingSignal) (heir p : ℕ) (rs : List Process) → c
 unfolding changed
 kids_noticed signal heir p rs = children_map (at heir (noticed signal)) (keeps_at heir (noticed signal) (keeps_noticed {now = 0} signal)).parent p rs
 
+-- what holds where the heir has notice, and once the zombie is dropped too, holds after it
+told_of_one : (s : State) (heir c w : ℕ) (P : State → Type 0) → P (change s heir (noticed (child_signal c w))) → (P (change s heir (noticed (child_signal c w))) → P (drop_child (change s heir (noticed (child_signal c w))) c)) → P (notice_of_end s heir c w)
+unfolding notice_of_end
+told_of_one s heir c w P told dropped = cond_both (is_dropping heir s.processes) _ _ P (λ e. dropped told) (λ e. told)
+
 -- behind the zombie the children of p are the same
 left_told : (s : State) (p heir c w : ℕ)
     → left_of (next_sibling c s.processes) (children_in p (notice_of_end s heir c w).processes) ≡ map (at heir (noticed (child_signal c w))) (left_of (next_sibling c s.processes) (children_in p s.processes))
-unfolding notice_of_end
 left_told s p heir c w =
     let after = next_sibling c s.processes in
     let signal = child_signal c w in
-    let told = change s heir (noticed signal) in
-    let kids = kids_noticed signal heir p s.processes in
-    let left = left_map (at heir (noticed signal)) (same_at heir signal).pid after (children_in p s.processes) in
-    elim (is_dropping heir s.processes) as (λ b. left_of after (children_in p (cond {A = State} b (drop_child told c) told).processes) ≡ map (at heir (noticed signal)) (left_of after (children_in p s.processes))) [
-      | true ↦ ap (left_of after) (children_removed p c told.processes ∙ ap (removed c) kids) ∙ left_without after c (sibling_above c s.processes) (map (at heir (noticed signal)) (children_in p s.processes)) ∙ left
-      | false ↦ ap (left_of after) kids ∙ left
-    ]
+    told_of_one s heir c w (λ t. left_of after (children_in p t.processes) ≡ map (at heir (noticed signal)) (left_of after (children_in p s.processes)))
+    (ap (left_of after) (kids_noticed signal heir p s.processes) ∙ left_map (at heir (noticed signal)) (same_at heir signal).pid after (children_in p s.processes))
+    (λ told. ap (left_of after) (children_removed p c _) ∙ left_without after c (sibling_above c s.processes) _ ∙ told)
 
 -- p is as it was
 same_told : (s : State) (p heir c w : ℕ) → IsRegular s → IsToTell s p heir c w → process (notice_of_end s heir c w) p ≡ process s p
-unfolding notice_of_end
 same_told s p heir c w i h =
-    let signal = child_signal c w in
-    let told = change s heir (noticed signal) in
-    let other : p ≢ heir = (λ x. heir_other s.processes p heir h.other h.inherits (sym x)) in
-    let away : lookup p told.processes ≡ lookup p s.processes = lookup_changed heir p (noticed signal) (keeps_noticed {now = 0} signal).pid s.processes ∙ rw (ne_eqb p heir other) refl in
-    elim (is_dropping heir s.processes) as (λ b. lookup p (cond {A = State} b (drop_child told c) told).processes ≡ lookup p s.processes) [
-      | true ↦ lookup_kept c p told.processes (λ e. not_self s p heir c w i h (sym e)) ∙ away
-      | false ↦ away
-    ]
+    let other = ne_eqb p heir (λ x. heir_other s.processes p heir h.other h.inherits (sym x)) in
+    told_of_one s heir c w (λ t. process t p ≡ process s p) (lookup_changed heir p (noticed (child_signal c w)) (keeps_noticed {now = 0} (child_signal c w)).pid s.processes ∙ rw other refl)
+    (λ told. lookup_kept c p _ (λ e. not_self s p heir c w i h (sym e)) ∙ told)
 
 -- and the heir may inherit still
 heir_told : (s : State) (p heir c w : ℕ) → IsRegular s → IsToTell s p heir c w → CanInherit (notice_of_end s heir c w).processes p heir
-unfolding notice_of_end changed
+unfolding changed
 heir_told s p heir c w i h =
-    let signal = child_signal c w in
-    let k = keeps_at heir (noticed signal) (keeps_noticed {now = 0} signal) in
-    let told = change s heir (noticed signal) in
-    let still : CanInherit told.processes p heir = heir_map (at heir (noticed signal)) k.pid k.zombie s.processes p heir h.inherits in
-    elim (is_dropping heir s.processes) as (λ b. CanInherit (cond {A = State} b (drop_child told c) told).processes p heir) [
-      | true ↦ heir_removed c p heir told.processes (not_heir s p heir c w i h) still
-      | false ↦ still
-    ]
+    let k = keeps_at heir (noticed (child_signal c w)) (keeps_noticed {now = 0} (child_signal c w)) in
+    told_of_one s heir c w (λ t. CanInherit t.processes p heir) (heir_map (at heir (noticed (child_signal c w))) k.pid k.zombie s.processes p heir h.inherits) (heir_removed c p heir _ (not_heir s p heir c w i h))
 
 -- what is left to tell of after the zombie comes to the same
 todo_told : (s : State) (p heir c w : ℕ) → IsToTell s p heir c w
@@ -169,20 +144,17 @@ abbrev pub HasFewer : List Process → List Process → Type 0
 HasFewer old new = (q : ℕ) → length (children_in q new) ≤ length (children_in q old)
 
 -- where one is told of an end
-fewer_told : (s : State) (old new : List Process) (heir c v : ℕ) → HasFewer old s.processes → new ≡ (notice_of_end s heir c v).processes → HasFewer old new
-unfolding notice_of_end removed
-fewer_told s old new heir c v h e = λ q.
-    let signal = child_signal c v in
-    let told = change s heir (noticed signal) in
+fewer_told : (s : State) (old : List Process) (heir c v : ℕ) → HasFewer old s.processes → HasFewer old (notice_of_end s heir c v).processes
+unfolding removed
+fewer_told s old heir c v h = λ q.
     let before = h q in
-    let now = ap (λ l. length (children_in q l)) e in
+    let signal = child_signal c v in
     let same = ap length (kids_noticed signal heir q s.processes) ∙ length-map (children_in q s.processes) (at heir (noticed signal)) in
-    let most : length (children_in q (notice_of_end s heir c v).processes) ≤ length (children_in q told.processes) =
-    elim (is_dropping heir s.processes) as (λ b. length (children_in q (cond {A = State} b (drop_child told c) told).processes) ≤ length (children_in q told.processes)) [
-      | true ↦ let less = filter_at_most (λ r. not (r.pid == c)) (children_in q told.processes) in let gone = ap length (children_removed q c told.processes) in omega (arith, less, gone)
-      | false ↦ omega arith
-    ] in
-    omega (arith, before, now, same, most)
+    told_of_one s heir c v (λ t. length (children_in q t.processes) ≤ length (children_in q old)) (omega (arith, before, same)) (λ told.
+    let kids = children_in q (change s heir (noticed signal)).processes in
+    let less = filter_at_most (λ r. not (r.pid == c)) kids in
+    let gone = ap length (children_removed q c (change s heir (noticed signal)).processes) in
+    omega (arith, told, less, gone))
 
 -- ---- the walk
 
@@ -243,7 +215,7 @@ tells {old = old} {now = now} {p = p} {heir = heir} t i c v comes other dead =
       least = t.least;
       inherits = heir_told now p heir c v i h;
       mine = same_told now p heir c v i h ∙ t.mine;
-      fewer = fewer_told now old.processes (notice_of_end now heir c v).processes heir c v t.fewer refl;
+      fewer = fewer_told now old.processes heir c v t.fewer;
       here = ap first_pid (left_told now p heir c v) ∙ first_map (at heir (noticed (child_signal c v))) (same_at heir (child_signal c v)).pid _ ∙ h.child.next;
       todo = todo_told now p heir c v h ∙ ap (λ o. tell_of_all now heir (zombies (left_of o (children_in p now.processes)))) (sym comes) ∙ t.todo;
     }

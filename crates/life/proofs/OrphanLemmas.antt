@@ -42,14 +42,10 @@ stopped_in_groups g rs e = in_groups g rs ∙ any_first (is_member g) (λ r. is_
 -- groups, and of one that is orphaned now whether it has lost an anchor.
 same_test : (before now stopped there lost : Bool) → (stopped ≡ true → there ≡ true) → (before ≡ false → now ≡ true → lost ≡ true) → (lost ≡ true → before ≡ false)
     → ((not before && (now && stopped)) && there) ≡ ((now && stopped) && lost)
-same_test before true true true true a b c = rw (c refl) refl
-same_test true true true true false a b c = refl
 same_test false true true true false a b c = sym (b refl refl)
+same_test true true true true true a b c = let e = c refl in absurd (cc)
 same_test before true true false lost a b c = let e = a refl in absurd (cc)
-same_test true true false there lost a b c = refl
-same_test false true false there lost a b c = refl
-same_test true false stopped there lost a b c = refl
-same_test false false stopped there lost a b c = refl
+same_test before now stopped there lost a b c = refl
 
 -- Of the groups that lose an anchor those have become orphaned, and have a stopped member, that are orphaned now
 -- and have one.

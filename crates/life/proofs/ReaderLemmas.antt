@@ -3,6 +3,7 @@ use Rattle.std.proofs.Common.{◌≡◌, ◌≢◌, ℕ, ◌+◌, ◌<◌, ◌�
 use Rattle.std.specs.Option.{IsSome, IfSome, option_map_or}
 use Rattle.std.specs.List.{AllByRecursion}
 use Rattle.std.proofs.lemmas.Bool.{eqb-true, eqb-false, eq-eqb, ltb-true, ltb-false, or_left, or_right, or_cases, and_parts, both_ways}
+use Rattle.std.proofs.lemmas.Bool.Decides.{nat_tests}
 use Rattle.std.proofs.lemmas.List.{length-set}
 use Rattle.std.proofs.lemmas.Option.{slice_get_within, slice_get_read, same_Some}
 use Rattle.posix.specs.declared.process.Blocked.{Blocked}
@@ -16,10 +17,10 @@ use Rattle.posix.proofs.MemberLemmas.{others_stay}
 use Rattle.posix.proofs.TableLemmas.{pid_looked}
 use Rattle.posix.proofs.ConsoleLemmas.{none_of}
 use Rattle.pidset.specs.Numbers.{PidSetView, Rises, with_number, numbers_above}
-use Rattle.pidset.proofs.NumberLemmas.{few, rises_with, in_with}
+use Rattle.pidset.proofs.NumberLemmas.{few, rises_with, in_with, IsLeastAbove, next_is}
 use Rattle.life.specs.Machines.{IsReaders, IsWatched, readers_at}
 use Rattle.life.specs.Rechecks.{rechecking}
-use Rattle.life.specs.Consoles.{IsTerminalIndex, IsKnownBy, IsForgottenAt, AreReaders}
+use Rattle.life.specs.Consoles.{IsTerminalIndex, IsKnownBy, IsForgottenAt, AreReaders, readers_of}
 use Rattle.life.proofs.SoundLemmas.{there}
 use Rattle.life.proofs.RecheckLemmas.{none_between}
 
@@ -261,6 +262,46 @@ rechecking_is_over s k old to_recheck w h others p c r at found visits out =
       | true ↦ λ on. others p on
       | false ↦ λ off. h.before p (w.known k p c r at found visits out off) tt (rw found refl) out
     ] refl
+
+-- ---- how many of them are left
+
+-- from the one that comes next on
+abbrev pub readers_left : Option ℕ → List ℕ → ℕ
+readers_left None ns = 0
+readers_left (Some n) ns = 1 + length (numbers_above n ns)
+
+above_at_most : (n : ℕ) (ns : List ℕ) → length (numbers_above n ns) ≤ length ns
+above_at_most n [] = omega arith
+above_at_most n (m ∷ ms) = grind (arith, above_at_most n ms)
+
+fewer_above : (n q : ℕ) (ns : List ℕ) → n < q → length (numbers_above q ns) ≤ length (numbers_above n ns)
+fewer_above n q [] l = omega arith
+fewer_above n q (m ∷ ms) l = grind (arith, nat_tests, l, fewer_above n q ms l)
+
+one_fewer : (n q : ℕ) (ns : List ℕ) → n < q → is_in q ns ≡ true → 1 + length (numbers_above q ns) ≤ length (numbers_above n ns)
+unfolding is_in
+one_fewer n q [] l e = absurd (cc)
+one_fewer n q (m ∷ ms) l e = grind (arith, nat_tests, l, e, fewer_above n q ms l, one_fewer n q ms l, eqb-true m q)
+
+-- behind n they are those above it
+pub left_behind : (n : ℕ) (ns : List ℕ) (next : Option ℕ) → Rises ns → next ≡ slice_get (numbers_above n ns) 0 → readers_left next ns ≤ length (numbers_above n ns)
+left_behind n ns next up e = rw e (by (slice_get (numbers_above n ns) 0) (next_is n ns up))
+  where
+    by : (o : Option ℕ) → IfSome o (IsLeastAbove n ns) → readers_left o ns ≤ length (numbers_above n ns)
+    by None h = omega arith
+    by (Some q) h = one_fewer n q ns h.above h.there
+
+-- at the start they are at most all
+pub left_first : (ns : List ℕ) (next : Option ℕ) → Rises ns → next ≡ slice_get (numbers_above 0 ns) 0 → readers_left next ns ≤ length ns
+left_first ns next up e = let first = left_behind 0 ns next up e in let all = above_at_most 0 ns in omega (arith, first, all)
+
+-- those of one console of a session are among those of the session
+pub of_session : (session k : ℕ) (c : Console) (cs : List Console) (sets : List PidSetView) → slice_get cs k ≡ Some c → c.session ≡ session → length (readers_at k sets) ≤ readers_of session cs sets
+unfolding readers_of
+of_session session k c [] sets at e = absurd (cc)
+of_session session k c (d ∷ ds) [] at e = omega arith
+of_session session zero c (d ∷ ds) (set ∷ sets) at e = rw (eq-eqb d.session session (ap (λ (x : Console). x.session) (same_Some _ _ at) ∙ e)) (omega arith)
+of_session session (suc k) c (d ∷ ds) (set ∷ sets) at e = let rest = of_session session k c ds sets at e in omega (arith, rest)
 
 -- nobody is known by a console whose set has become empty
 pub none_known : (k : ℕ) (old new : List PidSetView) → IsForgottenAt k old new → readers_at k new ≡ []

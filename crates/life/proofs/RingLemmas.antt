@@ -1,15 +1,15 @@
 -- Alarms that ring, one process after another.
-use Rattle.std.proofs.Common.{◌≡◌, ℕ, ◌<◌, ◌≤◌, true, false, cond, refl, ap, sym, ◌∙◌, arith, List, [], ◌∷◌, map, filter, Option, Some, None, ◌==◌, inl, inr, nat_lt, is_some}
+use Rattle.std.proofs.Common.{◌≡◌, ℕ, ◌<◌, ◌≤◌, ◌&&◌, Bool, length, subst, true, false, cond, refl, ap, sym, ◌∙◌, arith, List, [], ◌∷◌, map, filter, Option, Some, None, ◌==◌, inl, inr, nat_lt, is_some}
 use Rattle.std.specs.List.{list_any, AllByRecursion}
 use Rattle.std.specs.Option.{IfSome}
-use Rattle.std.proofs.lemmas.Bool.{eq-eqb, ne_eqb, cases_eq, ltb-true, ltb-false, or_parts}
+use Rattle.std.proofs.lemmas.Bool.{eq-eqb, ne_eqb, cases_eq, ltb-true, ltb-false, and_parts, or_parts}
 use Rattle.posix.specs.Processes.{Process}
 use Rattle.posix.specs.Tables.{lookup, at, changed, first_pid, above, IsRising, IsNext}
 use Rattle.posix.specs.Alarms.{is_due, with_alarm, rung, ring_at, ring_all}
 use Rattle.posix.proofs.TableLemmas.{pid_looked}
 use Rattle.posix.proofs.MapLemmas.{at_pid, lookup_back}
 use Rattle.posix.proofs.RegularLemmas.{keeps_ring}
-use Rattle.posix.proofs.WalkLemmas.{all_looked}
+use Rattle.posix.proofs.WalkLemmas.{Passes, all_looked, both_pass, first_passes}
 
 -- those below the next one aren't due any more, and all ring as they did at the beginning
 pub record IsRinging (now : ℕ) (old rs : List Process) (next : Option ℕ) : Type 0 where
@@ -72,6 +72,28 @@ ringing_ends now old rs up h = sym (none rs (all_looked (λ r. is_due now r.alar
     none : (rs : List Process) → AllByRecursion (λ (r : Process). is_due now r.alarm ≡ false) rs → map (ring_at now) rs ≡ rs
     none [] a = refl
     none (r ∷ rs) a = rw (rings_not now r a.0, none rs a.1) refl
+
+-- ---- how many are due
+
+-- who comes next is due
+pub next_is_due : (now n : ℕ) (rs : List Process) (next : Option ℕ) → IsRising rs → next ≡ first_pid (above n (filter (λ r. is_due now r.alarm) rs)) → (p : ℕ) (r : Process) → next ≡ Some p → lookup p rs ≡ Some r → is_due now r.alarm ≡ true
+next_is_due now n rs next up e p r is found =
+    let passes : Process → Bool = λ r. is_due now r.alarm && nat_lt n r.pid in
+    let first = subst (λ o. IfSome o (Passes passes rs)) (sym (ap first_pid (both_pass (λ r. is_due now r.alarm) (λ r. nat_lt n r.pid) rs)) ∙ sym e ∙ is) (first_passes passes rs up) in
+    let same : first.0 ≡ r = (let both = sym first.1 ∙ found in cc) in
+    ap (λ (r : Process). is_due now r.alarm) (sym same) ∙ (and_parts (is_due now first.0.alarm) (nat_lt n first.0.pid) first.2).0
+
+-- no more are due once one has rung
+due_at_most : (now p : ℕ) (rs : List Process) → length (filter (λ r. is_due now r.alarm) (changed p (ring_at now) rs)) ≤ length (filter (λ r. is_due now r.alarm) rs)
+unfolding changed
+due_at_most now p [] = omega arith
+due_at_most now p (r ∷ rs) = grind (arith, due_at_most now p rs, rings_once now r)
+
+-- and one less where it was due
+pub fewer_due : (now p : ℕ) (rs : List Process) (me : Process) → lookup p rs ≡ Some me → is_due now me.alarm ≡ true → length (filter (λ r. is_due now r.alarm) (changed p (ring_at now) rs)) < length (filter (λ r. is_due now r.alarm) rs)
+unfolding lookup changed
+fewer_due now p [] me found due = absurd (cc)
+fewer_due now p (r ∷ rs) me found due = grind (arith, due_at_most now p rs, rings_once now r, fewer_due now p rs me, found, due)
 
 -- ---- nobody has an alarm
 

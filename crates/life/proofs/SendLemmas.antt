@@ -1,19 +1,20 @@
 -- To signal the processes one after another, from the least number on, is to send to all that are meant.
-use Rattle.std.proofs.Common.{◌≡◌, ℕ, Bool, true, false, cond, refl, ap, sym, ◌∙◌, arith, subst, List, [], ◌∷◌, ◌++◌, append-nil, filter, map, length, nat_lt, Option, Some, None, option_map}
+use Rattle.std.proofs.Common.{◌≡◌, ◌⊎◌, inl, inr, ◌+◌, nat_le, ℕ, Bool, true, false, refl, ap, sym, ◌∙◌, arith, List, [], ◌∷◌, ◌++◌, append-nil, filter, map, length, nat_lt, Option, Some, None, option_map}
 use Rattle.std.specs.Ordering.{ord_max}
 use Rattle.std.proofs.lemmas.List.{map-append, length-map}
 use Rattle.std.proofs.lemmas.List.Elements.{filter-append}
 use Rattle.std.proofs.lemmas.Bool.{cond_both}
+use Rattle.std.proofs.lemmas.Simd.{map-map}
 use Rattle.posix.specs.declared.process.Effect.{Effect}
 use Rattle.posix.specs.declared.process.Effect.TheVariants as effect
 use Rattle.posix.specs.declared.process.PendingSignal.{PendingSignal}
 use Rattle.posix.specs.declared.process.Sending.{Sending}
 use Rattle.posix.specs.declared.process.Sending.TheVariants as found
-use Rattle.posix.specs.contracts.process.SendingOrd.TheImpl as order
+use Rattle.posix.specs.contracts.process.SendingOrd.TheImpl as sendings
 use Rattle.posix.specs.declared.target.Target.{Target}
 use Rattle.posix.specs.declared.target.Target.TheVariants as whom
 use Rattle.posix.specs.Processes.{Process, first_process}
-use Rattle.posix.specs.Tables.{IsRising, IsNext, has_pid, lookup, pids, changed, above, left_of}
+use Rattle.posix.specs.Tables.{IsRising, IsNext, has_pid, lookup, pids, changed, above, first_pid, left_of}
 use Rattle.posix.specs.Credentials.{may}
 use Rattle.posix.specs.Statuses.{continued}
 use Rattle.posix.specs.Generation.{signalled, effect_of}
@@ -23,7 +24,8 @@ use Rattle.posix.proofs.MapLemmas.{at_keeps, filter_map}
 use Rattle.posix.proofs.WalkLemmas.{numbered, numbered_one, numbered_none, rest_of_walk, walk_splits}
 use Rattle.proctable.specs.declared.snapshot.Snapshot.{Snapshot}
 use Rattle.proctable.specs.Records.{snapshot_of}
-use Rattle.life.specs.Rechecks.{rechecking_generated, rechecking_all, rechecking_signalled}
+use Rattle.jobs.proofs.GroupLemmas.{AtOne, one_less}
+use Rattle.life.specs.Rechecks.{rechecking_generated, rechecking_all, rechecking_signalled, is_candidate}
 
 -- ---- what a sender asks of a process
 
@@ -31,63 +33,21 @@ use Rattle.life.specs.Rechecks.{rechecking_generated, rechecking_all, rechecking
 abbrev pub blank : Process → Process
 blank r = record first_process { pid = r.pid; group = r.group; session = r.session; credentials = r.credentials }
 
--- whether it is meant
-meant_blank : (me : Process) (target : Target) (r : Process) → is_target me target (blank r) ≡ is_target me target r
-meant_blank me (whom.Process p) r = refl
-meant_blank me whom.OwnGroup r = refl
-meant_blank me (whom.Group p) r = refl
-meant_blank me whom.All r = refl
-meant_blank me whom.Nobody r = refl
+-- where two lists agree on it, so does what asks for nothing else
+same_by : {A : Type 0} (f : List Process → A) → ((rs : List Process) → f (map blank rs) ≡ f rs) → (xs ys : List Process) → map blank xs ≡ map blank ys → f xs ≡ f ys
+same_by f blind xs ys e = sym (blind xs) ∙ ap f e ∙ blind ys
 
--- and whether it may be signalled
-may_blank : (me : Process) (s : Option ℕ) (r : Process) → may me s (blank r) ≡ may me s r
-may_blank me s r = refl
-
--- where two lists agree on it, those in them agree that pass a test that asks for nothing else
+-- and those in them agree that pass a test that asks for nothing else
 same_filter : (t : Process → Bool) → ((r : Process) → t (blank r) ≡ t r) → (xs ys : List Process) → map blank xs ≡ map blank ys → map blank (filter t xs) ≡ map blank (filter t ys)
 same_filter t same xs ys e = sym (filter_map t blank same xs) ∙ ap (filter t) e ∙ filter_map t blank same ys
 
 same_above : (p : ℕ) (xs ys : List Process) → map blank xs ≡ map blank ys → map blank (above p xs) ≡ map blank (above p ys)
 same_above p xs ys e = same_filter (λ r. nat_lt p r.pid) (λ r. refl) xs ys e
 
-same_targets : (me : Process) (target : Target) (xs ys : List Process) → map blank xs ≡ map blank ys → map blank (targets me target xs) ≡ map blank (targets me target ys)
-unfolding targets
-same_targets me target xs ys e = same_filter (is_target me target) (meant_blank me target) xs ys e
-
--- its number stays
-pids_blank : (rs : List Process) → pids (map blank rs) ≡ pids rs
-pids_blank [] = refl
-pids_blank (r ∷ rs) = ap (λ ps. r.pid ∷ ps) (pids_blank rs)
-
--- so of lists that agree the same numbers may be signalled
-same_permitted : (me : Process) (s : Option ℕ) (xs ys : List Process) → map blank xs ≡ map blank ys → pids (permitted me s xs) ≡ pids (permitted me s ys)
-unfolding permitted
-same_permitted me s xs ys e = sym (pids_blank (filter (may me s) xs)) ∙ ap pids (same_filter (may me s) (may_blank me s) xs ys e) ∙ pids_blank (filter (may me s) ys)
-
--- a signal to them does the same
-same_sent : (me : Process) (s : Option ℕ) (xs ys rs : List Process) → map blank xs ≡ map blank ys → sent_among me s xs rs ≡ sent_among me s ys rs
-unfolding sent_among
-same_sent me None xs ys rs e = refl
-same_sent me (Some n) xs ys rs e = ap (λ ps. signalled_all (sent_by me.pid n) ps rs) (same_permitted me (Some n) xs ys e)
-
--- asks the same
-same_rechecked : (me : Process) (s : Option ℕ) (xs ys rs : List Process) (order ns : List ℕ) → map blank xs ≡ map blank ys → rechecking_signalled me s xs rs order ns ≡ rechecking_signalled me s ys rs order ns
-unfolding rechecking_signalled
-same_rechecked me None xs ys rs order ns e = refl
-same_rechecked me (Some n) xs ys rs order ns e = ap (λ ps. rechecking_all (sent_by me.pid n) ps rs order ns) (same_permitted me (Some n) xs ys e)
-
--- and finds the same
-found_blank : (me : Process) (s : Option ℕ) (rs : List Process) → sending_found me s (map blank rs) ≡ sending_found me s rs
-unfolding permitted
-found_blank me s [] = refl
-found_blank me s (r ∷ rs) = ap sending_permitted (filter_map (may me s) blank (may_blank me s) (r ∷ rs)) ∙ some_blank (filter (may me s) (r ∷ rs))
-  where
-    some_blank : (qs : List Process) → sending_permitted (map blank qs) ≡ sending_permitted qs
-    some_blank [] = refl
-    some_blank (q ∷ qs) = refl
-
-same_found : (me : Process) (s : Option ℕ) (xs ys : List Process) → map blank xs ≡ map blank ys → sending_found me s xs ≡ sending_found me s ys
-same_found me s xs ys e = sym (found_blank me s xs) ∙ ap (sending_found me s) e ∙ found_blank me s ys
+-- as whether it is meant
+meant_blank : (me : Process) (target : Target) (r : Process) → is_target me target (blank r) ≡ is_target me target r
+meant_blank me (whom.Process p) r = refl
+meant_blank me target r = refl
 
 -- ---- a signal leaves it as it is
 
@@ -124,87 +84,74 @@ unfolding signalled_all
 blank_signalled_all signal [] rs = refl
 blank_signalled_all signal (p ∷ ps) rs = blank_signalled_all signal ps (generated_for signal (lookup p rs) rs) ∙ blank_generated signal (lookup p rs) rs
 
-blank_sent : (me : Process) (s : Option ℕ) (qs rs : List Process) → map blank (sent_among me s qs rs) ≡ map blank rs
-unfolding sent_among
-blank_sent me None qs rs = refl
-blank_sent me (Some n) qs rs = blank_signalled_all (sent_by me.pid n) _ rs
+-- ---- the candidates that are left
 
--- as many lie above p
-pub above_sent : (me : Process) (s : Option ℕ) (p : ℕ) (qs rs : List Process) → length (above p (sent_among me s qs rs)) ≡ length (above p rs)
-above_sent me s p qs rs = sym (length-map (above p (sent_among me s qs rs)) blank) ∙ ap length (same_above p _ rs (blank_sent me s qs rs)) ∙ length-map (above p rs) blank
+-- a test that all pass leaves all
+pub all_pass : (t : Process → Bool) → ((r : Process) → t r ≡ true) → (rs : List Process) → filter t rs ≡ rs
+all_pass t h [] = refl
+all_pass t h (r ∷ rs) = rw (h r) (ap (λ qs. r ∷ qs) (all_pass t h rs))
+
+-- where no process group is meant all are candidates
+pub all_candidates : (me : Process) (target : Target) (rs : List Process) → ((p : ℕ) × (target ≡ whom.Process p)) ⊎ ((target ≡ whom.All) ⊎ (target ≡ whom.Nobody)) → filter (is_candidate me target) rs ≡ rs
+all_candidates me target rs (inl e) = rw e.1 (all_pass (λ r. true) (λ r. refl) rs)
+all_candidates me target rs (inr (inl e)) = rw e (all_pass (λ r. true) (λ r. refl) rs)
+all_candidates me target rs (inr (inr e)) = rw e (all_pass (λ r. true) (λ r. refl) rs)
+
+-- whether a process is a candidate stays as it is
+candidate_blank : (me : Process) (target : Target) (r : Process) → is_candidate me target (blank r) ≡ is_candidate me target r
+candidate_blank me (whom.Process p) r = refl
+candidate_blank me target r = refl
+
+-- where two lists agree on it, they have the same first, and as many are left
+same_first : (xs ys : List Process) → map blank xs ≡ map blank ys → first_pid xs ≡ first_pid ys
+same_first xs ys e = same_by first_pid first xs ys e
+  where
+    first : (rs : List Process) → first_pid (map blank rs) ≡ first_pid rs
+    first [] = refl
+    first (r ∷ rs) = refl
+
+same_left : (o : Option ℕ) (xs ys : List Process) → map blank xs ≡ map blank ys → length (left_of o xs) ≡ length (left_of o ys)
+same_left None xs ys e = refl
+same_left (Some n) xs ys e = sym (length-map (left_of (Some n) xs) blank) ∙ ap length (same_filter (λ r. nat_le n r.pid) (λ r. refl) xs ys e) ∙ length-map (left_of (Some n) ys) blank
+
+-- one less is left behind p, which was signalled
+pub candidates_less : (me : Process) (target : Target) (p : ℕ) (rs mid : List Process) (next after : Option ℕ) → AtOne (is_candidate me target) p rs → next ≡ Some p → map blank mid ≡ map blank rs → after ≡ first_pid (above p (filter (is_candidate me target) mid))
+    → length (left_of next (filter (is_candidate me target) rs)) ≡ 1 + length (left_of after (filter (is_candidate me target) mid))
+candidates_less me target p rs mid next after at comes e is =
+    let same = same_filter (is_candidate me target) (candidate_blank me target) mid rs e in
+    let first = is ∙ same_first _ _ (same_above p (filter (is_candidate me target) mid) (filter (is_candidate me target) rs) same) in
+    one_less (is_candidate me target) p rs next after at comes first ∙ ap (λ n. 1 + n) (sym (same_left after _ _ same))
 
 -- ---- several, part by part
-
--- some are signalled and then others
-signalled_append : (signal : PendingSignal) (ps qs : List ℕ) (rs : List Process) → signalled_all signal (ps ++ qs) rs ≡ signalled_all signal qs (signalled_all signal ps rs)
-unfolding signalled_all
-signalled_append signal [] qs rs = refl
-signalled_append signal (p ∷ ps) qs rs = signalled_append signal ps qs (generated_for signal (lookup p rs) rs)
 
 -- those of two parts that may be signalled
 permitted_append : (me : Process) (s : Option ℕ) (xs ys : List Process) → pids (permitted me s (xs ++ ys)) ≡ pids (permitted me s xs) ++ pids (permitted me s ys)
 unfolding permitted
 permitted_append me s xs ys = ap pids (filter-append (may me s) xs ys) ∙ map-append (λ r. r.pid) (filter (may me s) xs) (filter (may me s) ys)
 
--- a signal to some and then to others is one to all of them
-sent_append : (me : Process) (s : Option ℕ) (xs ys rs : List Process) → sent_among me s (xs ++ ys) rs ≡ sent_among me s ys (sent_among me s xs rs)
-unfolding sent_among
-sent_append me None xs ys rs = refl
-sent_append me (Some n) xs ys rs =
-    ap (λ ps. signalled_all (sent_by me.pid n) ps rs) (permitted_append me (Some n) xs ys)
-    ∙ signalled_append (sent_by me.pid n) (pids (permitted me (Some n) xs)) (pids (permitted me (Some n) ys)) rs
-
--- some are asked and then others
-rechecking_append : (signal : PendingSignal) (ps qs : List ℕ) (rs : List Process) (order ns : List ℕ)
-    → rechecking_all signal (ps ++ qs) rs order ns ≡ rechecking_all signal qs (signalled_all signal ps rs) order (rechecking_all signal ps rs order ns)
-unfolding rechecking_all signalled_all
-rechecking_append signal [] qs rs order ns = refl
-rechecking_append signal (p ∷ ps) qs rs order ns = rechecking_append signal ps qs (generated_for signal (lookup p rs) rs) order (rechecking_generated signal (lookup p rs) order ns)
-
--- so are those who get a signal
-rechecked_append : (me : Process) (s : Option ℕ) (xs ys rs : List Process) (order ns : List ℕ)
-    → rechecking_signalled me s (xs ++ ys) rs order ns ≡ rechecking_signalled me s ys (sent_among me s xs rs) order (rechecking_signalled me s xs rs order ns)
-unfolding rechecking_signalled sent_among
-rechecked_append me None xs ys rs order ns = refl
-rechecked_append me (Some n) xs ys rs order ns =
-    ap (λ ps. rechecking_all (sent_by me.pid n) ps rs order ns) (permitted_append me (Some n) xs ys)
-    ∙ rechecking_append (sent_by me.pid n) (pids (permitted me (Some n) xs)) (pids (permitted me (Some n) ys)) rs order ns
-
 -- whom a signal to some and then to others finds
 abbrev pub joined : Sending → Sending → Sending
 joined found.NobodyFound b = b
-joined found.NobodyPermitted found.NobodyFound = found.NobodyPermitted
-joined found.NobodyPermitted found.NobodyPermitted = found.NobodyPermitted
-joined found.NobodyPermitted found.Permitted = found.Permitted
 joined found.Permitted b = found.Permitted
+joined found.NobodyPermitted found.Permitted = found.Permitted
+joined found.NobodyPermitted b = found.NobodyPermitted
 
 -- brackets don't count
 joined_twice : (a b c : Sending) → joined (joined a b) c ≡ joined a (joined b c)
-joined_twice found.NobodyFound b c = refl
-joined_twice found.NobodyPermitted found.NobodyFound c = refl
-joined_twice found.NobodyPermitted found.NobodyPermitted found.NobodyFound = refl
-joined_twice found.NobodyPermitted found.NobodyPermitted found.NobodyPermitted = refl
 joined_twice found.NobodyPermitted found.NobodyPermitted found.Permitted = refl
-joined_twice found.NobodyPermitted found.Permitted c = refl
-joined_twice found.Permitted b c = refl
+joined_twice a b c = refl
 
 -- nor does nobody
-pub joined_none : (a : Sending) → joined a found.NobodyFound ≡ a
-joined_none found.NobodyFound = refl
-joined_none found.NobodyPermitted = refl
+joined_none : (a : Sending) → joined a found.NobodyFound ≡ a
 joined_none found.Permitted = refl
+joined_none a = refl
 
 -- it is the greater one
-pub joined_max : (a b : Sending) → ord_max order.cmp-value.it a b ≡ joined a b
-joined_max found.NobodyFound found.NobodyFound = refl
-joined_max found.NobodyFound found.NobodyPermitted = refl
+joined_max : (a b : Sending) → ord_max sendings.cmp-value.it a b ≡ joined a b
 joined_max found.NobodyFound found.Permitted = refl
-joined_max found.NobodyPermitted found.NobodyFound = refl
-joined_max found.NobodyPermitted found.NobodyPermitted = refl
 joined_max found.NobodyPermitted found.Permitted = refl
-joined_max found.Permitted found.NobodyFound = refl
-joined_max found.Permitted found.NobodyPermitted = refl
 joined_max found.Permitted found.Permitted = refl
+joined_max a b = refl
 
 -- among some and then others
 joined_permitted : (xs ys : List Process) → joined (sending_permitted xs) (sending_permitted ys) ≡ sending_permitted (xs ++ ys)
@@ -220,62 +167,98 @@ sending_append me s (x ∷ xs) [] = joined_none _ ∙ ap (λ l. sending_permitte
 sending_append me s (x ∷ xs) (y ∷ ys) =
     joined_permitted (filter (may me s) (x ∷ xs)) (filter (may me s) (y ∷ ys)) ∙ ap sending_permitted (sym (filter-append (may me s) (x ∷ xs) (y ∷ ys)))
 
--- ---- one step of the walk
+-- ---- the walk
 
--- of those left from p on, the targets are p, if it is one, and the targets above
-targets_split : (me : Process) (target : Target) (p : ℕ) (rs : List Process) → IsRising rs → targets me target (left_of (Some p) rs) ≡ targets me target (numbered p rs) ++ targets me target (above p rs)
+-- whom a signal found by now, the table now, and who is to be rechecked
+pub record Sent : Type 0 where
+  pub sending : Sending
+  pub processes : List Process
+  pub to_recheck : List ℕ
+
+-- so it is once the signal found some more, and was generated for those with the numbers ps
+abbrev pub given : Process → Option ℕ → List ℕ → Sending → List ℕ → Sent → Sent
+given me None order more ps k = record k { sending = joined k.sending more }
+given me (Some n) order more ps k = record {
+  sending = joined k.sending more;
+  processes = signalled_all (sent_by me.pid n) ps k.processes;
+  to_recheck = rechecking_all (sent_by me.pid n) ps k.processes order k.to_recheck;
+}
+
+-- once it was sent to the processes qs
+abbrev pub sent_to : Process → Option ℕ → List ℕ → List Process → Sent → Sent
+sent_to me s order qs k = given me s order (sending_found me s qs) (pids (permitted me s qs)) k
+
+sent_is : (me : Process) (s : Option ℕ) (order : List ℕ) (qs : List Process) (k : Sent)
+    → record { sending = joined k.sending (sending_found me s qs); processes = sent_among me s qs k.processes; to_recheck = rechecking_signalled me s qs k.processes order k.to_recheck } ≡ sent_to me s order qs k
+unfolding sent_among rechecking_signalled
+sent_is me None order qs k = refl
+sent_is me (Some n) order qs k = refl
+
+-- to send it to one more
+pub sent_on : (me : Process) (s : Option ℕ) (order : List ℕ) (qs : List Process) (k : Sent) (more now : Sending) (rs : List Process) (ns : List ℕ) → more ≡ sending_found me s qs → now ≡ ord_max sendings.cmp-value.it k.sending more → rs ≡ sent_among me s qs k.processes
+    → ns ≡ rechecking_signalled me s qs k.processes order k.to_recheck → record { sending = now; processes = rs; to_recheck = ns } ≡ sent_to me s order qs k
+sent_on me s order qs k more now rs ns found most rest asked = rw (most ∙ joined_max k.sending more, found, rest, asked) (sent_is me s order qs k)
+
+-- it stays where the processes qs agree with others on what it asks
+sent_blank : (me : Process) (s : Option ℕ) (order : List ℕ) (k : Sent) (qs : List Process) → sent_to me s order (map blank qs) k ≡ sent_to me s order qs k
+unfolding permitted
+sent_blank me s order k qs =
+    ap (λ more. given me s order more (pids (permitted me s (map blank qs))) k) (found_blank qs)
+    ∙ ap (λ ps. given me s order (sending_found me s qs) ps k) (ap pids (filter_map (may me s) blank (λ r. refl) qs) ∙ map-map (λ (r : Process). r.pid) blank (filter (may me s) qs))
+  where
+    some_blank : (qs : List Process) → sending_permitted (map blank qs) ≡ sending_permitted qs
+    some_blank [] = refl
+    some_blank (q ∷ qs) = refl
+
+    found_blank : (qs : List Process) → sending_found me s (map blank qs) ≡ sending_found me s qs
+    found_blank [] = refl
+    found_blank (q ∷ qs) = ap sending_permitted (filter_map (may me s) blank (λ r. refl) (q ∷ qs)) ∙ some_blank (filter (may me s) (q ∷ qs))
+
+-- and the table agrees with what it was
+pub blank_sent : (me : Process) (s : Option ℕ) (order : List ℕ) (qs : List Process) (k l : Sent) → l ≡ sent_to me s order qs k → map blank l.processes ≡ map blank k.processes
+blank_sent me None order qs k l e = ap (λ (l : Sent). map blank l.processes) e
+blank_sent me (Some n) order qs k l e = ap (λ (l : Sent). map blank l.processes) e ∙ blank_signalled_all (sent_by me.pid n) _ k.processes
+
+-- some get it and then others
+given_append : (me : Process) (s : Option ℕ) (order : List ℕ) (a b : Sending) (ps qs : List ℕ) (k : Sent) → given me s order (joined a b) (ps ++ qs) k ≡ given me s order b qs (given me s order a ps k)
+unfolding signalled_all rechecking_all
+given_append me None order a b ps qs k = ap (λ x. record k { sending = x }) (sym (joined_twice k.sending a b))
+given_append me (Some n) order a b [] qs k = ap (λ x. record (given me (Some n) order b qs k) { sending = x }) (sym (joined_twice k.sending a b))
+given_append me (Some n) order a b (p ∷ ps) qs k =
+    given_append me (Some n) order a b ps qs (record {
+      sending = k.sending;
+      processes = generated_for (sent_by me.pid n) (lookup p k.processes) k.processes;
+      to_recheck = rechecking_generated (sent_by me.pid n) (lookup p k.processes) order k.to_recheck;
+    })
+
+-- to send it to some and then to others is to send it to all of them
+sent_append : (me : Process) (s : Option ℕ) (order : List ℕ) (xs ys : List Process) (k : Sent) → sent_to me s order (xs ++ ys) k ≡ sent_to me s order ys (sent_to me s order xs k)
+sent_append me s order xs ys k =
+    ap (λ more. given me s order more (pids (permitted me s (xs ++ ys))) k) (sym (sending_append me s xs ys))
+    ∙ ap (λ ps. given me s order (joined (sending_found me s xs) (sending_found me s ys)) ps k) (permitted_append me s xs ys)
+    ∙ given_append me s order (sending_found me s xs) (sending_found me s ys) (pids (permitted me s xs)) (pids (permitted me s ys)) k
+
+-- What is left to do once p was asked gives what was left before. Now is l, and next comes after p.
+pub sent_step : (me : Process) (target : Target) (s : Option ℕ) (order : List ℕ) (p : ℕ) (next : Option ℕ) (k l : Sent) → IsRising k.processes → IsRising l.processes → l ≡ sent_to me s order (targets me target (numbered p k.processes)) k → IsNext (is_target me target) p l.processes next
+    → sent_to me s order (targets me target (left_of next l.processes)) l ≡ sent_to me s order (targets me target (left_of (Some p) k.processes)) k
 unfolding targets
-targets_split me target p rs up = walk_splits (is_target me target) p rs up
+sent_step me target s order p next k l up up_now sent comes =
+    let t = is_target me target in
+    let same = same_above p l.processes k.processes (blank_sent me s order (filter t (numbered p k.processes)) k l sent) in
+    same_by (λ qs. sent_to me s order qs l) (sent_blank me s order l) _ _ (ap (map blank) (rest_of_walk t p l.processes next up_now comes) ∙ same_filter t (meant_blank me target) _ _ same)
+    ∙ ap (sent_to me s order (filter t (above p k.processes))) sent
+    ∙ sym (sent_append me s order (filter t (numbered p k.processes)) (filter t (above p k.processes)) k)
+    ∙ ap (λ qs. sent_to me s order qs k) (sym (walk_splits t p k.processes up))
 
--- now is the table rs after the signal was sent to p, and next comes after p
-pub record IsSent (me : Process) (target : Target) (s : Option ℕ) (p : ℕ) (rs now : List Process) (next : Option ℕ) : Type 0 where
-  pub rising : IsRising rs
-  pub rising_now : IsRising now
-  pub sent : now ≡ sent_among me s (targets me target (numbered p rs)) rs
-  pub comes : IsNext (is_target me target) p now next
-
--- where the walk goes on
-pub walked : (me : Process) (target : Target) (s : Option ℕ) (p : ℕ) (rs mid now : List Process) (next : Option ℕ) → IsRising rs → mid ≡ sent_among me s (targets me target (numbered p rs)) rs
-    → IsRising mid → now ≡ mid → IsNext (is_target me target) p mid next → IsSent me target s p rs now next
-walked me target s p rs mid now next up e up_mid same comes =
-    record { rising = up; rising_now = subst IsRising (sym same) up_mid; sent = same ∙ e; comes = subst (λ rs. IsNext (is_target me target) p rs next) (sym same) comes }
-
--- a sender asks the same of the targets that are left as it did of those above p
-left_same : (me : Process) (target : Target) (s : Option ℕ) (p : ℕ) (rs now : List Process) (next : Option ℕ) → IsSent me target s p rs now next → map blank (targets me target (left_of next now)) ≡ map blank (targets me target (above p rs))
-unfolding targets
-left_same me target s p rs now next i =
-    ap (map blank) (rest_of_walk (is_target me target) p now next i.rising_now i.comes)
-    ∙ same_targets me target (above p now) (above p rs) (same_above p now rs (ap (map blank) i.sent ∙ blank_sent me s (targets me target (numbered p rs)) rs))
-
--- what is left to do gives what it gave before
-pub sent_step : (me : Process) (target : Target) (s : Option ℕ) (p : ℕ) (rs now : List Process) (next : Option ℕ) → IsSent me target s p rs now next
-    → sent_among me s (targets me target (left_of next now)) now ≡ sent_among me s (targets me target (left_of (Some p) rs)) rs
-sent_step me target s p rs now next i =
-    same_sent me s _ _ now (left_same me target s p rs now next i)
-    ∙ ap (sent_among me s (targets me target (above p rs))) i.sent
-    ∙ sym (sent_append me s (targets me target (numbered p rs)) (targets me target (above p rs)) rs)
-    ∙ ap (λ qs. sent_among me s qs rs) (sym (targets_split me target p rs i.rising))
-
--- asked are the same as before
-pub rechecked_step : (me : Process) (target : Target) (s : Option ℕ) (p : ℕ) (rs now : List Process) (next : Option ℕ) → IsSent me target s p rs now next → (order ns : List ℕ)
-    → rechecking_signalled me s (targets me target (left_of next now)) now order (rechecking_signalled me s (targets me target (numbered p rs)) rs order ns) ≡ rechecking_signalled me s (targets me target (left_of (Some p) rs)) rs order ns
-rechecked_step me target s p rs now next i order ns =
-    let to_recheck = rechecking_signalled me s (targets me target (numbered p rs)) rs order ns in
-    same_rechecked me s _ _ now order to_recheck (left_same me target s p rs now next i)
-    ∙ ap (λ now. rechecking_signalled me s (targets me target (above p rs)) now order to_recheck) i.sent
-    ∙ sym (rechecked_append me s (targets me target (numbered p rs)) (targets me target (above p rs)) rs order ns)
-    ∙ ap (λ qs. rechecking_signalled me s qs rs order ns) (sym (targets_split me target p rs i.rising))
-
--- and finds with those found by now what it found before
-pub sending_step : (me : Process) (target : Target) (s : Option ℕ) (p : ℕ) (rs now : List Process) (next : Option ℕ) → IsSent me target s p rs now next
-    → (a b : Sending) → b ≡ sending me target s (numbered p rs) → joined (joined a b) (sending me target s (left_of next now)) ≡ joined a (sending me target s (left_of (Some p) rs))
-unfolding sending
-sending_step me target s p rs now next i a b e =
-    joined_twice a b (sending_found me s (targets me target (left_of next now)))
-    ∙ ap (joined a) (ap (λ b. joined b (sending_found me s (targets me target (left_of next now)))) e
-    ∙ ap (joined (sending_found me s (targets me target (numbered p rs)))) (same_found me s _ _ (left_same me target s p rs now next i))
-    ∙ sending_append me s (targets me target (numbered p rs)) (targets me target (above p rs))
-    ∙ ap (sending_found me s) (sym (targets_split me target p rs i.rising)))
+-- at the end it was sent to all that it was meant for
+pub sent_ends : (me : Process) (target : Target) (s : Option ℕ) (order : List ℕ) (next : Option ℕ) (k l : Sent) (qs : List Process) → next ≡ None → sent_to me s order (targets me target (left_of next k.processes)) k ≡ sent_to me s order qs l
+    → k ≡ record { sending = joined l.sending (sending_found me s qs); processes = sent_among me s qs l.processes; to_recheck = rechecking_signalled me s qs l.processes order l.to_recheck }
+unfolding targets permitted signalled_all rechecking_all
+sent_ends me target s order next k l qs none todo = sym (nobody s) ∙ ap (λ o. sent_to me s order (filter (is_target me target) (left_of o k.processes)) k) (sym none) ∙ todo ∙ sym (sent_is me s order qs l)
+  where
+    nobody : (s : Option ℕ) → sent_to me s order [] k ≡ k
+    nobody None = ap (λ x. record k { sending = x }) (joined_none k.sending)
+    nobody (Some n) = ap (λ x. record k { sending = x }) (joined_none k.sending)
 
 -- ---- one number
 
@@ -310,15 +293,6 @@ pub sending_targets : (me : Process) (target : Target) (s : Option ℕ) (qs rs :
 unfolding sending
 sending_targets me target s qs rs e = ap (sending_found me s) e
 
--- among nobody there are no targets
-pub targets_none : (me : Process) (target : Target) → targets me target [] ≡ []
-unfolding targets
-targets_none me target = refl
-
--- and nobody is found
-pub sending_none : (me : Process) (target : Target) (s : Option ℕ) → sending me target s [] ≡ found.NobodyFound
-sending_none me target s = sending_targets me target s [] [] (targets_none me target)
-
 -- a test that was passed is passed again
 filter_twice : (t : Process → Bool) (rs : List Process) → filter t (filter t rs) ≡ filter t rs
 filter_twice t [] = refl
@@ -335,72 +309,20 @@ pub targets_numbered : (me : Process) (p : ℕ) (rs : List Process) → targets 
 unfolding targets
 targets_numbered me p rs = filter_twice (has_pid p) rs
 
--- ---- a signal to one process
-
 -- nobody is signalled where nobody is meant
 pub sent_nobody : (me : Process) (s : Option ℕ) (rs : List Process) → sent_among me s [] rs ≡ rs
 unfolding sent_among permitted signalled_all
 sent_nobody me None rs = refl
 sent_nobody me (Some n) rs = refl
 
--- nor by signal 0
-pub sent_none : (me : Process) (qs rs : List Process) → sent_among me None qs rs ≡ rs
-unfolding sent_among
-sent_none me qs rs = refl
-
--- nor who may not be
-pub sent_refused : (me : Process) (s : Option ℕ) (q : Process) (rs : List Process) → may me s q ≡ false → sent_among me s (q ∷ []) rs ≡ rs
-unfolding sent_among permitted signalled_all
-sent_refused me None q rs e = refl
-sent_refused me (Some n) q rs e = rw e refl
-
--- who may be is
-sent_one : (me : Process) (n : ℕ) (q : Process) (rs : List Process) → may me (Some n) q ≡ true → sent_among me (Some n) (q ∷ []) rs ≡ generated_for (sent_by me.pid n) (lookup q.pid rs) rs
-unfolding sent_among permitted signalled_all
-sent_one me n q rs e = rw e refl
-
--- the same of its snapshot
-pub signal_one : (it : Snapshot) (r q : Process) (s : Option ℕ) (n : ℕ) (signal : PendingSignal) (rs : List Process) → it ≡ snapshot_of q → s ≡ Some n → signal ≡ sent_by r.pid n → may r s q ≡ true
-    → generated_for signal (lookup it.pid rs) rs ≡ sent_among r s (q ∷ []) rs
-signal_one it r q s n signal rs f some is allowed =
-    ap (λ x. generated_for x (lookup it.pid rs) rs) is
-    ∙ ap (λ (f : Snapshot). generated_for (sent_by r.pid n) (lookup f.pid rs) rs) f
-    ∙ sym (sent_one r n q rs (ap (λ s. may r s q) (sym some) ∙ allowed))
-    ∙ ap (λ s. sent_among r s (q ∷ []) rs) (sym some)
-
--- nobody is asked where nobody is meant
+-- nor asked
 pub rechecked_nobody : (me : Process) (s : Option ℕ) (rs : List Process) (order ns : List ℕ) → rechecking_signalled me s [] rs order ns ≡ ns
 unfolding rechecking_signalled permitted rechecking_all
 rechecked_nobody me None rs order ns = refl
 rechecked_nobody me (Some n) rs order ns = refl
 
--- nor for signal 0
-pub rechecked_none : (me : Process) (qs rs : List Process) (order ns : List ℕ) → rechecking_signalled me None qs rs order ns ≡ ns
-unfolding rechecking_signalled
-rechecked_none me qs rs order ns = refl
-
--- nor who may not be signalled
-pub rechecked_refused : (me : Process) (s : Option ℕ) (q : Process) (rs : List Process) (order ns : List ℕ) → may me s q ≡ false → rechecking_signalled me s (q ∷ []) rs order ns ≡ ns
-unfolding rechecking_signalled permitted rechecking_all
-rechecked_refused me None q rs order ns e = refl
-rechecked_refused me (Some n) q rs order ns e = rw e refl
-
--- who may be is
-rechecking_one : (me : Process) (n : ℕ) (q : Process) (rs : List Process) (order ns : List ℕ) → may me (Some n) q ≡ true → rechecking_signalled me (Some n) (q ∷ []) rs order ns ≡ rechecking_generated (sent_by me.pid n) (lookup q.pid rs) order ns
-unfolding rechecking_signalled permitted rechecking_all
-rechecking_one me n q rs order ns e = rw e refl
-
--- the same of its snapshot
-pub rechecked_one : (it : Snapshot) (me q : Process) (s : Option ℕ) (n : ℕ) (signal : PendingSignal) (rs : List Process) (order ns : List ℕ) → it ≡ snapshot_of q → s ≡ Some n → signal ≡ sent_by me.pid n → may me s q ≡ true
-    → rechecking_generated signal (lookup it.pid rs) order ns ≡ rechecking_signalled me s (q ∷ []) rs order ns
-rechecked_one it me q s n signal rs order ns f some is allowed =
-    ap (λ x. rechecking_generated x (lookup it.pid rs) order ns) is
-    ∙ ap (λ (f : Snapshot). rechecking_generated (sent_by me.pid n) (lookup f.pid rs) order ns) f
-    ∙ sym (rechecking_one me n q rs order ns (ap (λ s. may me s q) (sym some) ∙ allowed))
-    ∙ ap (λ s. rechecking_signalled me s (q ∷ []) rs order ns) (sym some)
-
--- whether it may be decides what is found
-pub sending_one : (me : Process) (s : Option ℕ) (q : Process) (b : Bool) → may me s q ≡ b → sending_permitted (permitted me s (q ∷ [])) ≡ cond b found.Permitted found.NobodyPermitted
-unfolding permitted
-sending_one me s q true e = rw e refl
-sending_one me s q false e = rw e refl
+-- nor who may not be
+pub not_sent : (me : Process) (s : Option ℕ) (q : Process) (rs : List Process) (order ns : List ℕ) → may me s q ≡ false → (sent_among me s (q ∷ []) rs ≡ rs) × (rechecking_signalled me s (q ∷ []) rs order ns ≡ ns)
+unfolding sent_among permitted signalled_all rechecking_signalled rechecking_all
+not_sent me None q rs order ns e = (refl, refl)
+not_sent me (Some n) q rs order ns e = rw e (refl, refl)

@@ -1,12 +1,15 @@
 -- Consoles as a machine shows them, and who waits to read from one.
-use Rattle.std.specs.Prelude.{◌≡◌, ◌==◌, ◌&&◌, ℕ, Bool, not, true, false, List, [], length, Option, Some, None, slice_get, slice_set, MatchOption}
+use Rattle.std.specs.Prelude.{◌≡◌, ◌+◌, ◌*◌, ◌==◌, ◌&&◌, ◌||◌, ℕ, zero, suc, Bool, not, true, false, if◌then◌else◌, List, [], ◌∷◌, length, Option, Some, None, slice_get, slice_set, MatchOption}
 use Rattle.posix.specs.Processes.{Process}
-use Rattle.posix.specs.Consoles.{Console, console_of}
+use Rattle.posix.specs.Consoles.{Console, console_of, key_signal}
 use Rattle.posix.specs.States.{State, process, is_in, has_place}
+use Rattle.posix.specs.Tables.{members_in}
 use Rattle.posix.specs.Terminals.{is_reader}
 use Rattle.pidset.specs.Numbers.{PidSetView, with_number}
+use Rattle.proctable.specs.Records.{snapshot_of}
 use Rattle.proctable.specs.declared.snapshot.Snapshot.{Snapshot}
 use Rattle.life.specs.declared.consoles.Terminal.{Terminal}
+use Rattle.life.specs.Machines.{MachineView, readers_at}
 
 abbrev pub terminal_of : Console → Terminal
 terminal_of c = record { foreground = c.foreground; tostop = c.tostop; has_line = not (length c.lines == 0) }
@@ -32,3 +35,34 @@ IsKnownBy (Some k) p old new = MatchOption (slice_get old k) (new ≡ old) (λ s
 -- one set has become empty, where there is one in that place
 abbrev pub IsForgottenAt : ℕ → List PidSetView → List PidSetView → Type 0
 IsForgottenAt k old new = MatchOption (slice_get old k) (new ≡ old) (λ set. (now : PidSetView) × (new ≡ slice_set old k now) × (now.pids ≡ []) × (now.room ≡ set.room))
+
+-- ---- how many slots are read
+
+-- how many are known to wait to read from the consoles of a session
+unfoldable pub readers_of : ℕ → List Console → List PidSetView → ℕ
+readers_of session [] sets = 0
+readers_of session (c ∷ cs) [] = 0
+readers_of session (c ∷ cs) (set ∷ sets) = (if c.session == session then length set.pids else 0) + readers_of session cs sets
+
+-- where a byte ends a line, one for each who is known to wait to read it
+abbrev pub slots_of_byte : ℕ → ℕ → List PidSetView → ℕ
+slots_of_byte byte k readers = if byte == 10 || byte == 4 then length (readers_at k readers) else 0
+
+-- where the foreground process group of a console gets a signal of a key or a hangup, one, and three for each member
+abbrev pub slots_of_foreground : Option Console → List Process → ℕ
+slots_of_foreground None rs = 0
+slots_of_foreground (Some c) rs = 1 + 3 * length (members_in c.foreground rs)
+
+-- so it is where a byte gives a signal
+abbrev pub slots_of_signal_key : Option ℕ → Option Console → List Process → ℕ
+slots_of_signal_key None c rs = 0
+slots_of_signal_key (Some sig) c rs = slots_of_foreground c rs
+
+-- a byte on a console with a number: they count from 1
+abbrev pub slots_of_key : ℕ → ℕ → MachineView → ℕ
+slots_of_key zero byte m = 0
+slots_of_key (suc k) byte m = slots_of_byte byte k m.readers + slots_of_signal_key (key_signal byte) (slice_get m.state.consoles k) m.state.processes
+
+-- a process hangs up the terminal of the session that it leads
+abbrev pub slots_of_hangup : Process → MachineView → ℕ
+slots_of_hangup me m = if hangs_up (snapshot_of me) then slots_of_foreground (console_of me.session m.state.consoles) m.state.processes + readers_of me.session m.state.consoles m.readers else 0

@@ -1,8 +1,10 @@
 -- Who is to be rechecked: asked after this event whether it can act.
-use Rattle.std.specs.Prelude.{ℕ, ◌==◌, if◌then◌else◌, List, [], ◌∷◌, Option, Some, None}
+use Rattle.std.specs.Prelude.{ℕ, Bool, true, ◌==◌, if◌then◌else◌, List, [], ◌∷◌, Option, Some, None}
 use Rattle.posix.specs.declared.process.Effect.{Effect}
 use Rattle.posix.specs.declared.process.Effect.TheVariants as effect
 use Rattle.posix.specs.declared.process.PendingSignal.{PendingSignal}
+use Rattle.posix.specs.declared.target.Target.{Target}
+use Rattle.posix.specs.declared.target.Target.TheVariants as whom
 use Rattle.posix.specs.SignalNumbers.{CONT}
 use Rattle.posix.specs.Processes.{Process}
 use Rattle.posix.specs.Tables.{lookup, pids, members_in}
@@ -69,6 +71,14 @@ slots_of_signal n = if n == CONT then 4 else 1
 abbrev pub slots_of_send : Option ℕ → ℕ
 slots_of_send None = 0
 slots_of_send (Some n) = slots_of_signal n
+
+-- whether a sender looks at a process for whom it means: it does at the members of a process group, or else at all
+abbrev pub is_candidate : Process → Target → Process → Bool
+is_candidate me (whom.Process p) r = true
+is_candidate me whom.OwnGroup r = r.group == me.group
+is_candidate me (whom.Group p) r = r.group == p
+is_candidate me whom.All r = true
+is_candidate me whom.Nobody r = true
 
 -- where the record of p has gone, whose parent this was, the parent is rechecked, and p no more
 abbrev pub without_gone : ℕ → ℕ → List ℕ → List ℕ

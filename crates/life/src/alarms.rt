@@ -1,13 +1,13 @@
 //! Alarms, and the time (XSH alarm).
 
-ghost use Rattle.std.specs.Prelude.{◌≡◌, ◌+◌, ◌<◌, ◌≤◌, ◌^◌, IsSome, Some, None, false};
+ghost use Rattle.std.specs.Prelude.{◌≡◌, ◌+◌, ◌<◌, ◌≤◌, ◌^◌, ℕ, IsSome, Some, None, false, true, filter, length};
 ghost use Rattle.posix.specs.Processes.{Process};
 ghost use Rattle.posix.specs.States.{process, change};
 ghost use Rattle.posix.specs.Tables.{IsNext};
 ghost use Rattle.posix.specs.Regular.{IsPlaced, IsRegular, IsAhead};
 ghost use Rattle.posix.specs.Alarms.{most_ticks, ticks_left as ticks_left_of, due_in as due_in_ticks, with_alarm, is_due, ring_at, ring_all, has_alarms, pass_time as passing_time};
 ghost use Rattle.life.specs.Rechecks.{rechecks};
-ghost use Rattle.life.specs.Machines.{Changes, IsThere, IfThere, with_processes};
+ghost use Rattle.life.specs.Machines.{Changes, Costs, IsThere, IfThere, with_processes};
 
 use crate::machine::Machine;
 use posix::Pid;
@@ -43,12 +43,12 @@ impl<K: Kin> Machine<K> {
         self.change(pid, |fields| fields.ring_at(pid, now));
     }
 
-    /// Each alarm that is due at the next tick rings.
+    /// Each alarm that is due at the next tick rings. One slot is read for each.
     fn ring_all(&mut self)
         requires { self.old.state.ticks + 1 < 2 ^ 64 }
         ensures state { self.new.state ≡ with_processes self.old.state (ring_all (self.old.state.ticks + 1) self.old.state.processes) }
         ensures quiet { has_alarms self.old.state ≡ false → self.new ≡ self.old }
-        ensures regular { IsRegular self.old.state }
+        ensures costs { Costs (length (filter (λ r. is_due (self.old.state.ticks + 1) r.alarm) self.old.state.processes)) self.old self.new }
     {
         let mut next = self.next_due(Pid::NONE);
         while let Some(pid) = next {
@@ -61,18 +61,20 @@ impl<K: Kin> Machine<K> {
     fn next_due(&self, after: Pid) -> Option<Pid>
         requires { self.now.state.ticks + 1 < 2 ^ 64 }
         ensures next { IsNext (λ r. is_due (self.now.state.ticks + 1) r.alarm) after self.now.state.processes result }
+        ensures due { (p : ℕ) (r : Process) → result ≡ Some p → process self.now.state p ≡ Some r → is_due (self.now.state.ticks + 1) r.alarm ≡ true }
         ensures quiet { has_alarms self.now.state ≡ false → result ≡ None }
         ensures regular { IsRegular self.now.state }
     {
         self.table.next_due(self.ticks + 1, after)
     }
 
-    /// The time goes on by one tick: each alarm that is due rings. Where no process has an alarm, no slot is
-    /// read.
+    /// The time goes on by one tick: each alarm that is due rings. One slot is read for each of these, and none where
+    /// no process has an alarm.
     pub fn pass_time(&mut self)
         requires { self.old.state.ticks + 1 < 2 ^ 64 }
         ensures state { self.new.state ≡ passing_time self.old.state }
         ensures quiet { has_alarms self.old.state ≡ false → self.new ≡ record (self.old) { state = self.new.state } }
+        ensures costs { Costs (length (filter (λ r. is_due (self.old.state.ticks + 1) r.alarm) self.old.state.processes)) self.old self.new }
     {
         self.ring_all();
         self.ticks += 1;

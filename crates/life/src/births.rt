@@ -34,7 +34,7 @@ impl<K: Kin> Machine<K> {
         ensures to_recheck { OnOk result (self.new.to_recheck ≡ with_number child (with_number parent self.old.to_recheck)) }
         ensures costs { Costs (6 + length (children_in parent self.old.state.processes)) self.old self.new }
     {
-        self.table.reserve()?;
+        self.table.reserve(child)?;
         let fields = self.table.newborn(parent, self.births + 1)?;
         self.pids.bear_all(child, fields.group, fields.session);
         self.table.insert(child, parent, fields);

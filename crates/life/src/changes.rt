@@ -8,7 +8,7 @@ ghost use Rattle.posix.specs.Tables.{parent_of};
 ghost use Rattle.posix.specs.Regular.{IsRegular};
 ghost use Rattle.pidalloc.specs.Rows.{regrouped};
 ghost use Rattle.pidset.specs.Numbers.{with_number};
-ghost use Rattle.jobs.specs.JobTables.{IsRun, IsUnseen};
+ghost use Rattle.jobs.specs.JobTables.{IsRun, IsUnseen, StaysGrouped};
 ghost use Rattle.life.specs.Rechecks.{rechecks, rechecks_changed, with_parent};
 ghost use Rattle.life.specs.Changes.{StaysRegular, CanMoveNumbers, has_moved};
 ghost use Rattle.life.specs.Machines.{Costs, Changes, IsThere, IfThere, with_processes};
@@ -44,6 +44,7 @@ impl<K: Kin> Machine<K> {
     pub(crate) fn change_seen<F: FnOnce(&mut Record)>(&mut self, pid: Pid, change: F) -> Pid
         requires there { IsThere pid self.old }
         requires callable { F.IsAlwaysCallable change }
+        requires grouped { StaysGrouped F.FnOnce change self.old.state.processes pid }
         requires regular { StaysRegular F.FnOnce change self.old.state pid }
         ensures run { IsRun F.FnOnce change self.old.state.processes self.new.state.processes pid tt }
         ensures rest { self.new.state ≡ with_processes self.old.state self.new.state.processes }

@@ -11,13 +11,14 @@ ghost use Rattle.posix.specs.Terminals.{is_reader, is_nonzero};
 ghost use Rattle.posix.specs.Ends.{signalled_group, hang_up as hanging_up};
 ghost use Rattle.posix.specs.Settle.{wakes, refreshed, clear_foregrounds as clearing_foregrounds};
 ghost use Rattle.posix.specs.Step.{key as keying};
-ghost use Rattle.posix.specs.Regular.{IsRegular};
+ghost use Rattle.posix.specs.Regular.{AreGrouped, IsRegular};
+ghost use Rattle.posix.specs.Tables.{members_in};
 ghost use Rattle.pidset.specs.Numbers.{numbers_above};
 ghost use Rattle.life.specs.Machines.{Costs, Finds, IsThere, IfThere, with_processes, with_consoles, IfConsole, AreWatched, HaveRoom, IsReaders, readers_at};
-ghost use Rattle.life.specs.Rechecks.{rechecking_members};
+ghost use Rattle.life.specs.Rechecks.{rechecking_members, slots_of_signal};
 ghost use Rattle.pidset.specs.Numbers.{PidSetView};
 ghost use Rattle.posix.specs.declared.process.Blocked.TheVariants as blocked;
-ghost use Rattle.life.specs.Consoles.{terminal_of, hangs_up as hangs_up_with, IsTerminalIndex, IsKnownBy, IsForgottenAt, AreReaders};
+ghost use Rattle.life.specs.Consoles.{terminal_of, hangs_up as hangs_up_with, IsTerminalIndex, IsKnownBy, IsForgottenAt, AreReaders, readers_of, slots_of_byte, slots_of_key, slots_of_hangup};
 ghost use Rattle.tty.specs.Lines.{Takes};
 
 use crate::machine::Machine;
@@ -112,8 +113,10 @@ fn clear_readers(readers: &mut Vec<PidSet>, console_index: usize)
 
 /// A console has no foreground process group any more, where that has no member in its session.
 fn refresh<K: Kin>(console: &mut Console, table: &mut JobTable<K>)
+    requires { AreGrouped table.old.processes }
     ensures console { console.new ≡ refreshed table.old.processes console.old }
     ensures processes { table.new.processes ≡ table.old.processes }
+    ensures visits { table.new.visits ≤ table.old.visits + 1 }
 {
     let foreground = console.foreground();
     if foreground == Pid::NONE {
@@ -127,8 +130,10 @@ fn refresh<K: Kin>(console: &mut Console, table: &mut JobTable<K>)
 
 /// So it is of each console.
 fn refresh_all<K: Kin>(consoles: &mut Vec<Console>, table: &mut JobTable<K>)
+    requires { AreGrouped table.old.processes }
     ensures consoles { consoles.new.items ≡ map (refreshed table.old.processes) consoles.old.items }
     ensures processes { table.new.processes ≡ table.old.processes }
+    ensures visits { table.new.visits ≤ table.old.visits + length consoles.old.items }
 {
     for console_index in 0..consoles.len() {
         refresh(&mut consoles[console_index], table);
@@ -167,7 +172,7 @@ impl<K: Kin> Machine<K> {
 
     /// The process group with this number, where a process of the session is in it, zombies being members.
     pub fn group_of(&mut self, session: Pid, group: u64) -> Option<Pid>
-        ensures { Finds (1 + 2 * length self.old.state.processes) self.old self.new (result ≡ (if is_group_of session group self.old.state.processes then Some group else None)) }
+        ensures { Finds 1 self.old self.new (result ≡ (if is_group_of session group self.old.state.processes then Some group else None)) }
     {
         self.table.group_of(session, group)
     }
@@ -209,6 +214,7 @@ impl<K: Kin> Machine<K> {
         ensures rest { self.new ≡ record (self.old) { to_recheck = self.new.to_recheck; visits = self.new.visits } }
         ensures it { IsThere pid self.old → has_place_in self.old.state pid ≡ false → is_in pid self.new.to_recheck ≡ true }
         ensures others { (q : ℕ) → is_in q self.old.to_recheck ≡ true → is_in q self.new.to_recheck ≡ true }
+        ensures costs { Costs 1 self.old self.new }
     {
         if let Some(_) = self.table.get(pid) {
             recheck_later(&mut self.to_recheck, &self.order, pid);
@@ -220,6 +226,7 @@ impl<K: Kin> Machine<K> {
         ensures rest { self.new ≡ record (self.old) { to_recheck = self.new.to_recheck; readers = self.new.readers; visits = self.new.visits } }
         ensures to_recheck { AreReaders self.old.state console_index self.new.to_recheck }
         ensures readers { readers_at console_index self.new.readers ≡ [] }
+        ensures costs { Costs (length (readers_at console_index self.old.readers)) self.old self.new }
     {
         let mut next = self.next_reader(console_index, Pid::NONE);
         while let Some(pid) = next {
@@ -233,6 +240,7 @@ impl<K: Kin> Machine<K> {
     fn next_reader(&self, console_index: usize, after: Pid) -> Option<Pid>
         ensures is { result ≡ slice_get (numbers_above after (readers_at console_index self.now.readers)) 0 }
         ensures watched { AreWatched self.now }
+        ensures regular { IsRegular self.now.state }
     {
         match self.readers.get(console_index) {
             Some(readers) => readers.next_above(after),
@@ -252,11 +260,13 @@ impl<K: Kin> Machine<K> {
     // ---- whose terminal it is
 
     /// The console with this index, nobody's terminal, becomes that of a session that has none, with a foreground
-    /// process group; what was typed before stays.
+    /// process group; what was typed before stays. One slot is read for each process that is known to wait to read
+    /// from it.
     pub fn acquire_console(&mut self, console_index: usize, session: Pid, group: Pid)
         requires free { IfSome (slice_get self.old.state.consoles console_index) (λ c. c.session ≡ 0) }
         requires none { console_of session self.old.state.consoles ≡ None }
-        ensures { IfConsole console_index self.old (λ c. self.new.state ≡ with_consoles self.old.state (slice_set self.old.state.consoles console_index (acquired session group c))) }
+        ensures state { IfConsole console_index self.old (λ c. self.new.state ≡ with_consoles self.old.state (slice_set self.old.state.consoles console_index (acquired session group c))) }
+        ensures costs { Costs (length (readers_at console_index self.old.readers)) self.old self.new }
     {
         self.recheck_readers(console_index);
         if let Some(console) = self.consoles.get_mut(console_index) {
@@ -265,10 +275,12 @@ impl<K: Kin> Machine<K> {
         }
     }
 
-    /// A process group becomes the foreground one of a session's terminal.
+    /// A process group becomes the foreground one of a session's terminal. One slot is read for each process that is
+    /// known to wait to read from it.
     pub fn set_foreground(&mut self, session: Pid, group: Pid)
         requires { session ≢ 0 }
-        ensures { self.new.state ≡ with_consoles self.old.state (changed_console session (with_foreground group) self.old.state.consoles) }
+        ensures state { self.new.state ≡ with_consoles self.old.state (changed_console session (with_foreground group) self.old.state.consoles) }
+        ensures costs { Costs (readers_of session self.old.state.consoles self.old.readers) self.old self.new }
     {
         if let Some(console_index) = terminal_index(&self.consoles, session) {
             self.recheck_readers(console_index);
@@ -308,7 +320,9 @@ impl<K: Kin> Machine<K> {
     pub fn signal_group(&mut self, group: Pid, sig: Sig)
         ensures state { self.new.state ≡ with_processes self.old.state (signalled_group sig group self.old.state.processes) }
         ensures to_recheck { self.new.to_recheck ≡ (if group == 0 then self.old.to_recheck else rechecking_members sig group self.old.state.processes self.old.state.order self.old.to_recheck) }
+        ensures costs { Costs (1 + (2 + slots_of_signal sig) * length (members_in group self.old.state.processes)) self.old self.new }
     {
+        let _ = &self.table;
         if group != Pid::NONE {
             self.signal_members(group, sig);
         }
@@ -321,6 +335,7 @@ impl<K: Kin> Machine<K> {
         ensures none { slice_get self.old.state.consoles console_index ≡ None → (result ≡ None) × (self.new.state ≡ self.old.state) }
         ensures state { IfConsole console_index self.old (λ c. self.new.state ≡ with_consoles self.old.state (slice_set self.old.state.consoles console_index (keyed byte c))) }
         ensures signal { MatchOption result (slice_get self.old.state.consoles console_index ≡ None) (λ e. e.signal ≡ key_signal byte) }
+        ensures costs { Costs (slots_of_byte byte console_index self.old.readers) self.old self.new }
     {
         if ends_line(byte) {
             self.recheck_readers(console_index);
@@ -330,10 +345,13 @@ impl<K: Kin> Machine<K> {
 
     /// A byte comes on a console, which counts from 1. INTR, QUIT and SUSP discard all input, and each member of the
     /// foreground process group gets INT, QUIT or TSTP; any other byte is for the line that is edited. On a console
-    /// that isn't there nothing happens (XBD 11.1.9).
+    /// that isn't there nothing happens (XBD 11.1.9). Where the byte ends a line, one slot is read for each process
+    /// that is known to wait to read it; where it gives a signal, one, and three for each member.
     pub fn key(&mut self, console: u8, byte: u8)
-        ensures { self.new.state ≡ keying self.old.state console byte }
+        ensures state { self.new.state ≡ keying self.old.state console byte }
+        ensures costs { Costs (slots_of_key console byte self.old) self.old self.new }
     {
+        let _ = &self.table;
         let Some(console_index) = usize::from(console).checked_sub(1) else {
             return;
         };
@@ -350,10 +368,13 @@ impl<K: Kin> Machine<K> {
     }
 
     /// Where a process that is there, other than process 1, leads a session with a terminal, each member of the
-    /// foreground process group gets HUP, and the terminal is nobody's any more (XSH _exit).
+    /// foreground process group gets HUP, and the terminal is nobody's any more (XSH _exit). One slot is read for the
+    /// process; where it hangs a terminal up, one for each process that is known to wait to read from it, one for the
+    /// signal, and three for each member.
     pub fn hang_up(&mut self, pid: Pid)
         requires { IsThere pid self.old }
-        ensures { IfThere pid self.old (λ me. self.new.state ≡ hanging_up self.old.state me) }
+        ensures state { IfThere pid self.old (λ me. self.new.state ≡ hanging_up self.old.state me) }
+        ensures costs { IfThere pid self.old (λ me. Costs (1 + slots_of_hangup me self.old) self.old self.new) }
     {
         let Some(snapshot) = self.snapshot(pid) else {
             return;
@@ -365,13 +386,14 @@ impl<K: Kin> Machine<K> {
             return;
         };
         let foreground = self.consoles[console_index].foreground();
-        self.signal_group(foreground, Sig::HUP);
         self.release(console_index);
+        self.signal_group(foreground, Sig::HUP);
     }
 
     /// The console with this index is nobody's terminal any more; what was typed stays.
     fn release(&mut self, console_index: usize)
-        ensures { IfConsole console_index self.old (λ c. self.new.state ≡ with_consoles self.old.state (slice_set self.old.state.consoles console_index (released c))) }
+        ensures state { IfConsole console_index self.old (λ c. self.new.state ≡ with_consoles self.old.state (slice_set self.old.state.consoles console_index (released c))) }
+        ensures costs { Costs (length (readers_at console_index self.old.readers)) self.old self.new }
     {
         self.recheck_readers(console_index);
         if let Some(console) = self.consoles.get_mut(console_index) {
@@ -385,7 +407,8 @@ impl<K: Kin> Machine<K> {
         ensures state { self.new.state ≡ clearing_foregrounds self.old.state }
         ensures to_recheck { self.new.to_recheck ≡ self.old.to_recheck }
         ensures foregrounds_unchecked { self.new.foregrounds_unchecked ≡ false }
-        ensures visits { self.old.foregrounds_unchecked ≡ false → self.new.visits ≡ self.old.visits }
+        ensures none { self.old.foregrounds_unchecked ≡ false → self.new.visits ≡ self.old.visits }
+        ensures visits { self.new.visits ≤ self.old.visits + length self.old.state.consoles }
     {
         if !self.foregrounds_unchecked {
             return;

@@ -1,7 +1,7 @@
 //! Process groups: who their members are, one after another, and whether they are orphaned (XBD 3).
 
 ghost use Rattle.std.specs.Prelude.{◌≡◌, ◌+◌, ◌≤◌, ◌*◌, false, not, length};
-ghost use Rattle.posix.specs.Tables.{first_pid, above, left_of, members_in};
+ghost use Rattle.posix.specs.Tables.{first_pid, above, members_in};
 ghost use Rattle.posix.specs.Groups.{is_anchor as is_anchor_of, is_orphaned as is_orphaned_of, has_stopped as has_stopped_of, some_stopped};
 ghost use Rattle.std.specs.Option.{option_map_or};
 ghost use Rattle.posix.specs.States.{process};
@@ -14,10 +14,10 @@ use proctable::Kin;
 
 impl<K: Kin> Machine<K> {
     /// The member of a process group with the least number above `after`, zombies included (XBD 3 Process
-    /// Group). Its first is that after number 0. At most two slots are read of each process up to it, and two more.
-    pub(crate) fn next_member(&mut self, group: Pid, after: Pid) -> Option<Pid>
-        ensures finds { Finds (2 + 2 * length (above after self.old.state.processes)) self.old self.new (result ≡ first_pid (above after (members_in group self.old.state.processes))) }
-        ensures visits { self.new.visits + 2 * length (left_of result self.old.state.processes) ≤ self.old.visits + 2 + 2 * length (above after self.old.state.processes) }
+    /// Group). No slot is read.
+    pub(crate) fn next_member(&self, group: Pid, after: Pid) -> Option<Pid>
+        ensures value { result ≡ first_pid (above after (members_in group self.now.state.processes)) }
+        ensures regular { IsRegular self.now.state }
     {
         self.table.next_member(group, after)
     }
@@ -25,7 +25,7 @@ impl<K: Kin> Machine<K> {
     /// Whether a process group is orphaned: no living member of it has a parent in another group of the same
     /// session (XBD 3 Orphaned Process Group).
     pub fn is_orphaned(&mut self, group: Pid) -> bool
-        ensures { Finds (2 + 4 * length self.old.state.processes) self.old self.new (result ≡ is_orphaned_of group self.old.state.processes) }
+        ensures { Finds (2 * length (members_in group self.old.state.processes)) self.old self.new (result ≡ is_orphaned_of group self.old.state.processes) }
     {
         self.table.is_orphaned(group)
     }
@@ -47,7 +47,7 @@ impl<K: Kin> Machine<K> {
 
     /// Whether a member of a process group is stopped.
     pub(crate) fn has_stopped(&mut self, group: Pid) -> bool
-        ensures { Finds (2 + 3 * length self.old.state.processes) self.old self.new (result ≡ has_stopped_of group self.old.state.processes) }
+        ensures { Finds (length (members_in group self.old.state.processes)) self.old self.new (result ≡ has_stopped_of group self.old.state.processes) }
     {
         self.table.stopped_in(group) > 0
     }

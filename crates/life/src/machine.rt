@@ -75,7 +75,7 @@ impl<K: Kin> Machine<K> {
         let world = world.try_clone(alloc)?;
         let mut pids = PidTable::new(alloc, world.pidmax())?;
         let mut table = JobTable::empty(alloc);
-        table.reserve()?;
+        table.reserve(Pid::INIT)?;
         let mut order = Order::new(alloc, world.pidmax())?;
         let mut to_recheck = PidSet::new(alloc);
         to_recheck.reserve(world.pidmax() as usize + 1)?;

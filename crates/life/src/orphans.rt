@@ -4,14 +4,14 @@ ghost use Rattle.std.specs.Prelude.{◌≡◌, ◌≢◌, ◌+◌, ◌*◌, ◌�
 ghost use Rattle.posix.specs.Processes.{Process, is_zombie};
 ghost use Rattle.posix.specs.Numbers.{with_number};
 ghost use Rattle.posix.specs.States.{process, is_in, without};
-ghost use Rattle.posix.specs.Tables.{children_in};
+ghost use Rattle.posix.specs.Tables.{children_in, members_in};
 ghost use Rattle.posix.specs.Choice.{from_kernel};
 ghost use Rattle.posix.specs.Groups.{is_anchor as is_anchor_of, is_orphaned as is_orphaned_of, has_stopped as has_stopped_of, some_stopped, loses_anchor};
 ghost use Rattle.posix.specs.Ends.{signalled_members, hup_and_cont as hup_and_cont_of, hup_and_cont_all as hup_and_cont_all_of, hup_and_cont_orphans, leave_children_and_die as departing, tell_of_all, zombies_of};
 ghost use Rattle.pidset.specs.Numbers.{Rises};
-ghost use Rattle.life.specs.Rechecks.{rechecking_members};
+ghost use Rattle.life.specs.Rechecks.{rechecking_members, slots_of_signal};
 ghost use Rattle.posix.specs.Regular.{IsRegular, CanInherit};
-ghost use Rattle.life.specs.Machines.{Notes, IsThere, IfThere, with_processes};
+ghost use Rattle.life.specs.Machines.{Costs, Notes, IsThere, IfThere, with_processes};
 
 use crate::caller::Caller;
 use crate::machine::Machine;
@@ -79,7 +79,7 @@ impl<K: Kin> Machine<K> {
     pub(crate) fn signal_members(&mut self, group: Pid, sig: Sig)
         ensures state { self.new.state ≡ with_processes self.old.state (signalled_members (record { sig = sig; carried = from_kernel }) group self.old.state.processes) }
         ensures to_recheck { self.new.to_recheck ≡ rechecking_members sig group self.old.state.processes self.old.state.order self.old.to_recheck }
-        ensures groups_at_risk { self.new.groups_at_risk ≡ self.old.groups_at_risk }
+        ensures costs { Costs (1 + (2 + slots_of_signal sig) * length (members_in group self.old.state.processes)) self.old self.new }
     {
         self.send(&Caller::kernel(), Target::Group(group), Some(sig));
     }

@@ -2,14 +2,14 @@
 
 ghost use Rattle.std.specs.Prelude.{◌≡◌, ℕ, ◌+◌, ◌*◌, ◌≤◌, IsSome, [], ◌∷◌, filter, length};
 ghost use Rattle.posix.specs.Processes.{Process};
-ghost use Rattle.posix.specs.Tables.{IsNext, above, left_of, has_pid};
+ghost use Rattle.posix.specs.Tables.{IsNext, above, first_pid, has_pid};
 ghost use Rattle.posix.specs.States.{process};
 ghost use Rattle.posix.specs.Regular.{IsRegular};
 ghost use Rattle.posix.specs.Credentials.{may};
 ghost use Rattle.posix.specs.Sends.{is_target as is_target_of, targets, permitted, sending_permitted, sending as sending_of, sent_among, sent as sent_to, sent_by};
 ghost use Rattle.proctable.specs.Records.{snapshot_of};
 ghost use Rattle.life.specs.Callers.{process_like};
-ghost use Rattle.life.specs.Rechecks.{rechecking_signalled, slots_of_send};
+ghost use Rattle.life.specs.Rechecks.{rechecking_signalled, slots_of_send, is_candidate};
 ghost use Rattle.life.specs.Machines.{Costs, Finds, Changes, IsThere, with_processes};
 
 use crate::caller::Caller;
@@ -79,11 +79,11 @@ impl<K: Kin> Machine<K> {
         }
     }
 
-    /// Who comes next, after the number `after`, of those that a sender means; it may be one that the sender
-    /// doesn't mean.
+    /// Who comes next, after the number `after`, of the candidates of a sender: of those among whom it finds whom it
+    /// means.
     fn next_target(&mut self, me: &Caller, target: &Target, after: Pid) -> Option<Pid>
-        ensures finds { Finds (2 + 2 * length (above after self.old.state.processes)) self.old self.new (IsNext (is_target_of (process_like me.now) target.now) after self.old.state.processes result) }
-        ensures visits { self.new.visits + 2 * length (left_of result self.old.state.processes) ≤ self.old.visits + 2 + 2 * length (above after self.old.state.processes) }
+        ensures finds { Finds 1 self.old self.new (IsNext (is_target_of (process_like me.now) target.now) after self.old.state.processes result) }
+        ensures is { result ≡ first_pid (above after (filter (is_candidate (process_like me.now) target.now) self.old.state.processes)) }
     {
         match *target {
             Target::OwnGroup => self.next_member(me.group, after),
@@ -95,7 +95,7 @@ impl<K: Kin> Machine<K> {
     /// Sends a signal to all processes that the sender means, in rising order.
     fn send_to_all(&mut self, me: &Caller, sig: &Option<Sig>, target: &Target) -> Sending
         ensures sending { result ≡ sending_of (process_like me.now) target.now sig.now self.old.state.processes }
-        ensures changes { Changes (2 + (3 + slots_of_send sig.now) * length self.old.state.processes) self.old self.new (with_processes self.old.state (sent_to (process_like me.now) target.now sig.now self.old.state.processes)) (rechecking_signalled (process_like me.now) sig.now (targets (process_like me.now) target.now self.old.state.processes) self.old.state.processes self.old.state.order self.old.to_recheck) }
+        ensures changes { Changes (1 + (2 + slots_of_send sig.now) * length (filter (is_candidate (process_like me.now) target.now) self.old.state.processes)) self.old self.new (with_processes self.old.state (sent_to (process_like me.now) target.now sig.now self.old.state.processes)) (rechecking_signalled (process_like me.now) sig.now (targets (process_like me.now) target.now self.old.state.processes) self.old.state.processes self.old.state.order self.old.to_recheck) }
     {
         let mut sending = Sending::NobodyFound;
         let mut next = self.next_target(me, target, Pid::NONE);
@@ -110,7 +110,7 @@ impl<K: Kin> Machine<K> {
     /// `None` only checks. Where nobody is found or may be signalled nothing changes (XSH kill).
     pub fn send(&mut self, me: &Caller, target: Target, sig: Option<Sig>) -> Sending
         ensures sending { result ≡ sending_of (process_like me.now) target sig self.old.state.processes }
-        ensures changes { Changes (2 + (3 + slots_of_send sig) * length self.old.state.processes) self.old self.new (with_processes self.old.state (sent_to (process_like me.now) target sig self.old.state.processes)) (rechecking_signalled (process_like me.now) sig (targets (process_like me.now) target self.old.state.processes) self.old.state.processes self.old.state.order self.old.to_recheck) }
+        ensures changes { Changes (1 + (2 + slots_of_send sig) * length (filter (is_candidate (process_like me.now) target) self.old.state.processes)) self.old self.new (with_processes self.old.state (sent_to (process_like me.now) target sig self.old.state.processes)) (rechecking_signalled (process_like me.now) sig (targets (process_like me.now) target self.old.state.processes) self.old.state.processes self.old.state.order self.old.to_recheck) }
         ensures visits { (p : ℕ) → target ≡ Target.Process p → self.new.visits ≤ self.old.visits + 1 + slots_of_send sig }
     {
         let _ = &self.table;

@@ -4,3 +4,6 @@ pub mod PairLemmas
 pub mod IndexLemmas
 pub mod AnchorLemmas
 pub mod WalkLemmas
+mod NodeLemmas
+mod LinkLemmas
+mod ListLemmas

@@ -2,10 +2,12 @@
 #![tactic(auto)]
 
 pub mod index;
+pub mod lists;
 pub mod numbered;
 pub mod pid_set;
 
 pub use index::Index;
+pub use lists::Lists;
 pub use numbered::Numbered;
 pub use pid_set::PidSet;
 pub use posix::Pid;

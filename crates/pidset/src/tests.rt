@@ -1,8 +1,8 @@
-//! Sets that are filled, walked and emptied.
+//! Sets and lists that are filled, walked and emptied.
 
-ghost use Rattle.std.specs.Prelude.{◌≡◌};
+ghost use Rattle.std.specs.Prelude.{◌≡◌, ◌<◌};
 
-use crate::{Index, Pid, PidSet};
+use crate::{Index, Lists, Pid, PidSet};
 use std::process::Abort;
 
 fn pid(rt: &impl Abort, number: u32) -> Pid
@@ -68,4 +68,44 @@ fn processes_go_in_over_and_out(rt: HostRuntime) {
 
     index.remove(u64::MAX, Pid::INIT);
     assert_eq!(rt; next(&rt, &index, u64::MAX, 0), 0);
+}
+
+/// Lists with room for the numbers up to 9.
+fn lists(rt: &(impl Abort + AllocGlobal)) -> Lists
+    ensures { 9 < result.numbers }
+{
+    let mut lists = Lists::new(rt.alloc());
+    lists.reserve(pid(rt, 9)).expect(rt, "memory");
+    lists
+}
+
+/// Whether those that stand in a list are these, in this order.
+fn are_in(rt: &impl Abort, lists: &Lists, list: u32, numbers: &[u32]) -> bool {
+    let mut at = Pid::NONE;
+    for number in numbers {
+        at = lists.next(pid(rt, list), at).unwrap_or(Pid::NONE);
+        if at.number() != *number {
+            return false;
+        }
+    }
+    lists.next(pid(rt, list), at).is_none()
+}
+
+#[test]
+fn processes_go_from_list_to_list(rt: HostRuntime) {
+    let mut lists = lists(&rt);
+    lists.put(pid(&rt, 7), Some(pid(&rt, 3)));
+    lists.put(pid(&rt, 3), Some(pid(&rt, 3)));
+    lists.put(pid(&rt, 5), Some(pid(&rt, 3)));
+    lists.put(pid(&rt, 9), Some(pid(&rt, 9)));
+    assert!(rt; are_in(&rt, &lists, 3, &[3, 5, 7]));
+    assert_eq!(rt; lists.next(pid(&rt, 3), pid(&rt, 4)), Some(pid(&rt, 5)));
+
+    lists.put(pid(&rt, 5), Some(pid(&rt, 9)));
+    assert!(rt; are_in(&rt, &lists, 3, &[3, 7]));
+    assert!(rt; are_in(&rt, &lists, 9, &[5, 9]));
+
+    lists.put(pid(&rt, 7), None);
+    assert!(rt; are_in(&rt, &lists, 3, &[3]));
+    assert!(rt; are_in(&rt, &lists, 7, &[]));
 }

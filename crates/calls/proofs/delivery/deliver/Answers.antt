@@ -36,7 +36,7 @@ returns-in-At g c = λ me e.
     of_own (λ x. deliver s x c.args.sig ≡ outcome_of c.handle.new.machine.state c.handle.new.entries.items) s p o me c.own-own.ensures.value e
     (deliver_at s x c.args.sig t c.action-action.result c.in-At.address c.take-carried.result visits c.in-At.is c.take-carried.ensures.value
     ∙ ap (handle t (take_out c.args.sig x) (record { sig = c.args.sig; carried = c.take-carried.result })) (sym kept)
-    ∙ c.handle.ensures (take_out c.args.sig x) after)
+    ∙ c.handle.ensures.does (take_out c.args.sig x) after)
 
 pub returns-in-Ignore : goal.returns-in-Ignore
 unfolding take_out

@@ -12,13 +12,13 @@ pub end-requires-clause-there : goal.end-requires-clause-there
 end-requires-clause-there g c =
     let s = c.args.machine.now.state in
     let me = there (process s c.args.pid) c.requires.there in
-    some_hung s c.hang_up.new.self.state me.what c.args.pid me.found (c.hang_up.ensures me.what me.found)
+    some_hung s c.hang_up.new.self.state me.what c.args.pid me.found (c.hang_up.ensures.state me.what me.found)
 
 pub returns-then-eq-clause-state : goal.returns-then-eq-clause-state
-returns-then-eq-clause-state g c = λ me e. end_hung c.args.machine.now.state c.hang_up.new.self.state _ me c.args.pid c.args.status e (c.hang_up.ensures me e) c.end.ensures.state
+returns-then-eq-clause-state g c = λ me e. end_hung c.args.machine.now.state c.hang_up.new.self.state _ me c.args.pid c.args.status e (c.hang_up.ensures.state me e) c.end.ensures.state
 
 pub returns-else-eq-clause-state : goal.returns-else-eq-clause-state
-returns-else-eq-clause-state g c = λ me e. end_hung c.args.machine.now.state c.hang_up.new.self.state _ me c.args.pid c.args.status e (c.hang_up.ensures me e) c.end.ensures.state
+returns-else-eq-clause-state g c = λ me e. end_hung c.args.machine.now.state c.hang_up.new.self.state _ me c.args.pid c.args.status e (c.hang_up.ensures.state me e) c.end.ensures.state
 
 pub returns-then-eq-clause-entries : goal.returns-then-eq-clause-entries
 returns-then-eq-clause-entries g c = λ me e.

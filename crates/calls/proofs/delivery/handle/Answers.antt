@@ -1,11 +1,11 @@
-use Rattle.std.proofs.Common.{rules, ◌≡◌, ◌∙◌, ap, of_z, to_z, w64, ◌++◌, ◌∷◌, [], List}
+use Rattle.std.proofs.Common.{rules, true, false, sym, ◌≡◌, ◌∙◌, ap, of_z, to_z, w64, ◌++◌, ◌∷◌, [], List}
 use Rattle.posix.specs.declared.entry.Entry.{Entry}
 use Rattle.posix.specs.declared.entry.Entry.TheVariants.{Handled}
 use Rattle.posix.specs.States.{change}
 use Rattle.posix.specs.SignalNumbers.{SEGV}
 use Rattle.posix.specs.Statuses.{killed}
 use Rattle.posix.specs.Ends.{end_process}
-use Rattle.posix.specs.Handlers.{handles}
+use Rattle.posix.specs.Handlers.{handles, is_full}
 use Rattle.posix.specs.Delivery.{handle, interruption}
 use Rattle.posix.proofs.RegularLemmas.{keeps_handles}
 use Rattle.proctable.specs.Records.{give_own}
@@ -19,8 +19,8 @@ use Rattle.calls.proofs.delivery.handle.Goals as goal
 pub end-requires-clause-there : goal.end-requires-clause-there
 end-requires-clause-there g c = there_lent c.args.machine.now.state c.args.pid c.handle.new.self c.requires.there
 
-pub returns-in-Ok : goal.returns-in-Ok
-returns-in-Ok g c = λ me e.
+pub returns-in-Ok-clause-does : goal.returns-in-Ok-clause-does
+returns-in-Ok-clause-does g c = λ me e.
     let s = c.args.machine.now.state in
     let p = c.args.pid in
     let o = c.own-own.result.now in
@@ -35,8 +35,8 @@ returns-in-Ok g c = λ me e.
     ∙ ap (λ (l : List Entry). l ++ Handled p c.args.signal.sig c.args.signal.carried.value c.args.signal.carried.sender ∷ []) (c.show_interruption.ensures.items
     ∙ ap (interruption p o.blocked) c.action-action.ensures)))
 
-pub returns-in-Err : goal.returns-in-Err
-returns-in-Err g c = λ me e.
+pub returns-in-Err-clause-does : goal.returns-in-Err-clause-does
+returns-in-Err-clause-does g c = λ me e.
     let s = c.args.machine.now.state in
     let p = c.args.pid in
     let o = c.own-own.result.now in
@@ -54,3 +54,10 @@ returns-in-Err g c = λ me e.
     ∙ ap (λ w. c.show_interruption.new.entries.items ++ (end_process t (handles c.args.signal c.args.address x) w).entries) c.killed.ensures
     ∙ ap (λ (l : List Entry). l ++ (end_process t (handles c.args.signal c.args.address x) (killed SEGV)).entries) (c.show_interruption.ensures.items
     ∙ ap (interruption p o.blocked) c.action-action.ensures)))
+
+pub returns-in-Err-clause-costs : goal.returns-in-Err-clause-costs
+returns-in-Err-clause-costs g c = λ placed me e room.
+    let o = c.own-own.result.now in
+    let full = of_own (λ x. is_full x.signals ≡ true) c.args.machine.now.state c.args.pid o me c.own-own.ensures.value e c.in-Err.ensures.full in
+    let no : false ≡ true = sym room ∙ full in
+    absurd (cc)

@@ -35,4 +35,4 @@ returns-in-Err g c = λ me e.
     of_own (λ x. return_from_handler s x ≡ outcome_of c.fault.new.machine.state c.fault.new.entries.items) s p o me c.own.ensures.value e
     (ap (return_to s (with_own p o me)) c.in-Err.ensures.none
     ∙ subst (λ (u : State). fault u (with_own p o me) SEGV ≡ outcome_of c.fault.new.machine.state c.fault.new.entries.items) same
-    (c.fault.ensures (with_own p o me) (ap (λ (u : State). process u p) same ∙ own_there s p o me c.own.ensures.value e)))
+    (c.fault.ensures.does (with_own p o me) (ap (λ (u : State). process u p) same ∙ own_there s p o me c.own.ensures.value e)))

@@ -28,4 +28,4 @@ acquire_console-requires-clause-none g c =
 pub finish_with-requires-clause-there : goal.finish_with-requires-clause-there
 finish_with-requires-clause-there g c =
     let console = session_read _ c.args.session c.requires.console_index in
-    subst (λ (t : State). IsSome (process t c.args.me.now.pid)) (sym (c.acquire_console.ensures console.what console.found)) c.requires.there
+    subst (λ (t : State). IsSome (process t c.args.me.now.pid)) (sym (c.acquire_console.ensures.state console.what console.found)) c.requires.there

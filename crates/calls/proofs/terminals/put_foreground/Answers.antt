@@ -44,7 +44,7 @@ returns g c = λ r e.
     let member : is_group_of r.session group s.processes ≡ true = ap (λ n. is_group_of n group s.processes) (sym session) ∙ found.0 in
     let now = change_console s r.session (with_foreground group) in
     let is = names_group s r (argument r 1) group true some member ∙ ap (λ (q : ℕ). finish_with now q Tcsetpgrp (pos 0)) (sym (ap (λ (k : Caller). k.pid) caller)) in
-    let state = c.set_foreground.ensures
+    let state = c.set_foreground.ensures.state
     ∙ ap (λ (t : State). change_console t me.session (with_foreground c.in-Some-group_of.group)) c.group_of.ensures.looks.same.state
     ∙ ap (λ (n : ℕ). change_console s n (with_foreground c.in-Some-group_of.group)) session
     ∙ ap (λ (n : ℕ). change_console s r.session (with_foreground n)) (sym found.1) in

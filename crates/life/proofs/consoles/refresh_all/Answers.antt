@@ -5,7 +5,7 @@ use Rattle.life.proofs.ReaderLemmas.{refreshed_to, refreshed_step, refreshed_all
 use Rattle.life.proofs.consoles.refresh_all.Goals as goal
 
 pub loop-console_index-init : goal.loop-console_index-init
-loop-console_index-init g c = record { consoles = refl; processes = refl }
+loop-console_index-init g c = record { consoles = refl; processes = refl; visits = omega arith }
 
 pub loop-console_index-preserved : goal.loop-console_index-preserved
 loop-console_index-preserved g c = record {
@@ -16,7 +16,18 @@ loop-console_index-preserved g c = record {
       ap (slice_set c.loop-console_index.consoles.items c.loop-console_index.console_index) (c.refresh.ensures.console ∙ ap (λ (rs : List Process). refreshed rs c.index_mut.result.now) c.loop-console_index.invariant.processes)
       ∙ refreshed_step (refreshed c.args.table.now.processes) c.loop-console_index.console_index c.index_mut.result.now c.args.consoles.now.items c.loop-console_index.consoles.items c.loop-console_index.invariant.consoles within c.index_mut.ensures.value;
   processes = c.refresh.ensures.processes ∙ c.loop-console_index.invariant.processes;
+  visits = let one = c.refresh.ensures.visits in omega (arith, one, c.loop-console_index.invariant.visits);
 }
+
+pub refresh-requires : goal.refresh-requires
+refresh-requires g c = rw c.loop-console_index.invariant.processes c.requires
+
+pub returns-clause-visits : goal.returns-clause-visits
+returns-clause-visits g c =
+    let high = c.loop-console_index.auto.console_index-end in
+    let all = c.len-console_index-end.ensures in
+    let read = c.loop-console_index.invariant.visits in
+    omega (arith, high, all, read)
 
 pub returns-clause-consoles : goal.returns-clause-consoles
 returns-clause-consoles g c =

@@ -1,4 +1,4 @@
-use Rattle.std.proofs.Common.{◌≡◌}
+use Rattle.std.proofs.Common.{◌≡◌, ◌+◌, ◌≤◌}
 use Rattle.posix.specs.Settle.{refreshed}
 use Rattle.life.proofs.ReaderLemmas.{refreshed_to}
 use Rattle.life.proofs.consoles.refresh_all.Given as goal
@@ -7,4 +7,5 @@ abbrev pub invariant-loop-console_index : goal.invariant-loop-console_index
 invariant-loop-console_index g l = record {
   consoles : l.consoles.items ≡ refreshed_to (refreshed l.fn.table.processes) l.console_index l.fn.consoles.items;
   processes : l.table.processes ≡ l.fn.table.processes;
+  visits : l.table.visits ≤ l.fn.table.visits + l.console_index;
 }

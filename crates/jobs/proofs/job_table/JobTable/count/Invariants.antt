@@ -6,13 +6,13 @@ use Rattle.jobs.proofs.job_table.JobTable.count.Given as goal
 -- those that were counted, and those that are left, are all
 abbrev pub invariant-loop-next : goal.invariant-loop-next
 invariant-loop-next g l =
-    let rs = l.fn.self.processes in
+    let members = members_in l.group l.fn.self.processes in
     record {
       same : l.self.processes ≡ l.fn.self.processes;
       room : l.self.room ≡ l.fn.self.room;
-      read : l.self.visits + (3 + slots_more l.what) * length (left_of l.next rs) ≤ l.fn.self.visits + 2 + (3 + slots_more l.what) * length rs;
-      begins : first_pid (left_of l.next (members_in l.group rs)) ≡ l.next;
-      counted : l.count + length (filter (is_counted l.what rs) (left_of l.next (members_in l.group rs))) ≡ length (filter (is_counted l.what rs) (members_in l.group rs));
+      read : l.self.visits + (1 + slots_more l.what) * length (left_of l.next members) ≤ l.fn.self.visits + (1 + slots_more l.what) * length members;
+      begins : first_pid (left_of l.next members) ≡ l.next;
+      counted : l.count + length (filter (is_counted l.what l.fn.self.processes) (left_of l.next members)) ≡ length (filter (is_counted l.what l.fn.self.processes) members);
     }
 
 abbrev pub decreases-loop-next : goal.decreases-loop-next

@@ -1,7 +1,6 @@
 use Rattle.std.proofs.Common.{◌∙◌, refl}
 use Rattle.proctable.proofs.RecordLemmas.{same_record}
 use Rattle.jobs.proofs.KeptLemmas.{kept_unseen}
-use Rattle.jobs.proofs.LoanLemmas.{own_at}
 use Rattle.jobs.proofs.job_table.JobTable.look.Goals as goal
 
 pub invariant_of-self : goal.invariant_of-self
@@ -12,5 +11,5 @@ returns g c =
     let b = c.update-seen.result.now in
     let same = g.met.K.Kin.puts c.self.inside.table c.args.pid b ∙ same_record _ c.self.invariant.rising c.args.pid b c.update-seen.ensures.value in (
       (refl, λ _. tt, rw (← c.self.view_is, same, g.met.K.Kin.put_reads c.self.inside.table c.args.pid b, g.met.K.Kin.keeps_room c.self.inside.table c.args.pid b) refl),
-      record { lends = tt; value = rw (← c.self.view_is) (own_at c.args.pid _ b _ c.update-seen.ensures.value) },
+      record { lends = tt; value = rw (← c.self.view_is) (rw c.update-seen.ensures.value refl) },
     )

@@ -1,14 +1,13 @@
-use Rattle.std.proofs.Common.{◌∙◌, refl, ap, sym, subst}
+use Rattle.std.proofs.Common.{arith, ◌∙◌, refl, ap}
 use Rattle.std.proofs.lemmas.Result.{IfOk-weaker}
 use Rattle.proctable.proofs.RecordLemmas.{same_record, child_groups}
 use Rattle.jobs.specs.Books.{lesser, room_in}
-use Rattle.jobs.specs.JobTables.{IsKept}
 use Rattle.jobs.proofs.KeptLemmas.{kept_unseen}
 use Rattle.jobs.proofs.job_table.JobTable.newborn.Goals as goal
 
 pub invariant_of-self : goal.invariant_of-self
 invariant_of-self g c =
-    let kept = subst (IsKept c.self.inside.count c.self.inside.books) (sym c.spare-spare.ensures.contents) c.self.invariant in
+    let kept = rw (← c.spare-spare.ensures.contents) at c.self.invariant in
     kept_unseen _ _ _ c.args.pid c.update.result.now c.update.result.now _ c.update.ensures.value (g.met.K.Kin.puts _ _ _) refl kept
 
 pub returns-clause-groups : goal.returns-clause-groups
@@ -23,3 +22,8 @@ returns-clause-looks g c = rw (← c.self.view_is) (record {
   rising = c.self.invariant.rising;
   numbers = c.self.invariant.numbers;
 })
+
+pub returns-clause-within : goal.returns-clause-within
+returns-clause-within g c =
+    let w = c.self.invariant.within c.args.pid _ (rw c.spare-spare.ensures.contents at c.update.ensures.value) in
+    IfOk-weaker c.fork.result _ _ (λ b child. let same = (child_groups _ c.args.pid c.args.birth c.update.result.now b c.update.ensures.value child _ c.update.ensures.value).0 in let low = w.1 in let high = w.2 in (omega (arith, same, low), omega (arith, same, high))) c.fork.ensures

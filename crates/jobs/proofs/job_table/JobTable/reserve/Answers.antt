@@ -1,4 +1,4 @@
-use Rattle.std.proofs.Common.{arith}
+use Rattle.std.proofs.Common.{arith, rules}
 use Rattle.jobs.proofs.KeptLemmas.{few_there}
 use Rattle.jobs.proofs.job_table.JobTable.reserve.Goals as goal
 
@@ -7,3 +7,16 @@ overflow_add-self-inside g c = let few = few_there _ _ _ c.self.invariant in ome
 
 pub reserve-requires-2 : goal.reserve-requires-2
 reserve-requires-2 g c = let few = few_there _ _ _ c.self.invariant in omega (arith, few)
+
+pub invariant_of-self-2 : goal.invariant_of-self-2
+invariant_of-self-2 g c =
+    let k = rw (← c.reserve.ensures.contents) at c.self.invariant in
+    let grows = c.reserve-2.ensures.grows_members in
+    record {
+      rising = k.rising;
+      numbers = k.numbers;
+      within = λ p r e. let w = k.within p r e in let a = w.0 in let b = w.2 in (omega (arith, a, grows), w.1, omega (arith, b, grows));
+      limit = c.reserve-2.ensures.most_members c.self.invariant.limit;
+      count = k.count;
+      books = search rules;
+    }

@@ -19,8 +19,8 @@ invariant_of-self g c =
     rw c.acquire.ensures (machine_put _ _ _ _ _ _ _ _ console_index (acquired c.args.session c.args.group it) c.self.invariant
     (put_acquired _ _ console_index it (acquired c.args.session c.args.group it) c.self.invariant.sound.regular c.self.invariant.listed at free none) (λ e. absurd (cc)))
 
-pub returns-in-Some : goal.returns-in-Some
-returns-in-Some g c = λ its found.
+pub returns-in-Some-clause-state : goal.returns-in-Some-clause-state
+returns-in-Some-clause-state g c = λ its found.
     let it = c.in-Some.console.now in
     let at = lent_at c.self.inside.consoles.items c.args.console_index it c.in-Some.ensures.item.0 c.in-Some.ensures.item.1 in
     rw c.acquire.ensures (put_is _ c.args.self.now.state c.args.console_index it its (acquired c.args.session c.args.group) (state_is c.self.view_is ∙ (state_is c.recheck_readers.ensures.rest)) at found)

@@ -13,6 +13,7 @@ use Rattle.life.proofs.SoundLemmas.{here_in, found_in}
 use Rattle.life.proofs.RecheckLemmas.{has_room, room_after, pids_of, room_of}
 use Rattle.life.proofs.FunnelLemmas.{machine_shown, can_move_numbers, seen_is, parent_there, there_record}
 use Rattle.life.proofs.ViewLemmas.{state_is}
+use Rattle.jobs.specs.JobTables.{StaysGrouped}
 use Rattle.life.proofs.machine.Machine.change_seen.Goals as goal
 
 pub recheck_with_parent-requires-clause-few : goal.recheck_with_parent-requires-clause-few
@@ -61,3 +62,6 @@ returns-clause-to_recheck g c = λ me found.
     let named = pid_looked c.args.pid c.args.self.now.state.processes me found in
     (pids_of c.recheck_with_parent.ensures) ∙ ap (λ (m : MachineView). with_parent c.change_seen-parent.result.parent m.state.order (with_number c.args.pid m.to_recheck)) c.self.view_is
     ∙ ap (λ q. with_parent q c.args.self.now.state.order (with_number c.args.pid c.args.self.now.to_recheck)) its ∙ ap (λ n. with_parent me.parent c.args.self.now.state.order (with_number n c.args.self.now.to_recheck)) (sym named)
+
+pub change_seen-parent-requires-clause-grouped : goal.change_seen-parent-requires-clause-grouped
+change_seen-parent-requires-clause-grouped g c = subst (λ (s : State). StaysGrouped g.F.FnOnce c.args.change s.processes c.args.pid) (sym (state_is c.self.view_is)) c.requires.grouped

@@ -3,10 +3,11 @@ use Rattle.posix.specs.Statuses.{continued}
 use Rattle.posix.specs.States.{State, change}
 use Rattle.posix.specs.Notices.{noticed_of_change, child_signal, resumed}
 use Rattle.posix.proofs.ChangeLemmas.{lives_resumed}
-use Rattle.jobs.proofs.RunLemmas.{run_as, parent_is}
+use Rattle.jobs.proofs.RunLemmas.{run_as, parent_is, grouped_as}
 use Rattle.life.specs.Rechecks.{rechecking}
 use Rattle.life.proofs.FunnelLemmas.{stays_living, told_changed, rechecked_told}
 use Rattle.life.specs.Machines.{with_processes}
+use Rattle.life.proofs.MoveLemmas.{resumed_stays}
 use Rattle.life.proofs.machine.Machine.continue_process.Goals as goal
 
 pub change_seen-parent-requires-clause-regular : goal.change_seen-parent-requires-clause-regular
@@ -26,3 +27,6 @@ returns g c = λ me found.
           (c.tell_parent.ensures.to_recheck ∙ ap (λ (t : State). cond (parent == 0) mid.to_recheck (rechecking parent t.order mid.to_recheck)) c.change_seen-parent.ensures.rest);
       costs = search rules;
     }
+
+pub change_seen-parent-requires-clause-grouped : goal.change_seen-parent-requires-clause-grouped
+change_seen-parent-requires-clause-grouped g c = grouped_as c.args.pid _ resumed resumed_stays (λ b d r k q. search rules)

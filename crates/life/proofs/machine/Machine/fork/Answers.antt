@@ -56,3 +56,6 @@ invariant_of-self-2 g c =
       noted = c.self.invariant.noted;
       fresh = λ e. fresh_inserted (process_of c.args.child c.args.parent c.in_ok-fields.fields) _ _ (c.self.invariant.fresh e);
     })
+
+pub insert-requires-clause-limit : goal.insert-requires-clause-limit
+insert-requires-clause-limit g c = let less = c.in_ok-reserve.ensures.limit in let same = c.in_ok-fields.ensures.limit in omega (arith, less, same)

@@ -7,7 +7,7 @@ use Rattle.posix.proofs.RegularLemmas.{regular_as}
 use Rattle.posix.proofs.TableLemmas.{pid_looked}
 use Rattle.posix.proofs.TouchLemmas.{touches_none}
 use Rattle.pidset.specs.Numbers.{with_number}
-use Rattle.jobs.proofs.RunLemmas.{run_as}
+use Rattle.jobs.proofs.RunLemmas.{run_as, grouped_as}
 use Rattle.life.specs.Rechecks.{with_parent}
 use Rattle.life.specs.Machines.{MachineView, with_processes}
 use Rattle.life.proofs.RecheckLemmas.{listed_same}
@@ -15,6 +15,7 @@ use Rattle.life.proofs.EndLemmas.{regular_ended}
 use Rattle.life.proofs.FunnelLemmas.{stays_so, with_lost}
 use Rattle.life.proofs.SoundLemmas.{is_there}
 use Rattle.life.proofs.ViewLemmas.{state_is}
+use Rattle.life.proofs.MoveLemmas.{ended_stays}
 use Rattle.life.proofs.machine.Machine.halt.Goals as goal
 
 pub change_seen-requires-clause-there : goal.change_seen-requires-clause-there
@@ -50,3 +51,6 @@ returns g c =
         regular = c.lose_place.ensures.regular;
       };
     }
+
+pub change_seen-requires-clause-grouped : goal.change_seen-requires-clause-grouped
+change_seen-requires-clause-grouped g c = grouped_as 1 _ (ended c.args.status) (ended_stays c.args.status) (λ b d r k q. search rules)

@@ -7,16 +7,16 @@ use Rattle.posix.specs.States.{State}
 use Rattle.posix.specs.Ends.{signalled_group}
 use Rattle.life.specs.Consoles.{hangs_up}
 use Rattle.life.proofs.SoundLemmas.{snapshot_are}
-use Rattle.life.proofs.ConsoleLemmas.{put, others_stay, none_stays, leader_hangs_up}
-use Rattle.life.proofs.ViewLemmas.{state_is}
+use Rattle.life.proofs.ConsoleLemmas.{put, others_stay, none_stays, leader_hangs_up, slots_hung_up}
+use Rattle.life.proofs.ViewLemmas.{state_is, looks_cost, costs_then, cost_more}
 use Rattle.life.proofs.machine.Machine.hang_up.Goals as goal
 
-pub returns-then-not-hangs_up : goal.returns-then-not-hangs_up
-returns-then-not-hangs_up g c = λ me found.
+pub returns-then-not-hangs_up-clause-state : goal.returns-then-not-hangs_up-clause-state
+returns-then-not-hangs_up-clause-state g c = λ me found.
     c.snapshot.ensures.looks.same.state ∙ others_stay c.args.self.now.state me (ap hangs_up (sym (snapshot_are _ me c.in-Some.snapshot c.in-Some.ensures.value found)) ∙ sym c.hangs_up.ensures ∙ c.if-not-hangs_up.true)
 
-pub returns-in_default-terminal_index : goal.returns-in_default-terminal_index
-returns-in_default-terminal_index g c = λ me found.
+pub returns-in_default-terminal_index-clause-state : goal.returns-in_default-terminal_index-clause-state
+returns-in_default-terminal_index-clause-state g c = λ me found.
     let now = c.args.self.now.state in
     let session = ap (λ (f : Snapshot). f.session) (snapshot_are _ me c.in-Some.snapshot c.in-Some.ensures.value found) in
     let same = state_is c.self.view_is ∙ c.snapshot.ensures.looks.same.state in
@@ -30,8 +30,8 @@ index-requires g c =
     let len = c.deref.ensures.len in
     omega (arith, within, len)
 
-pub returns : goal.returns
-returns g c = λ me found.
+pub returns-clause-state : goal.returns-clause-state
+returns-clause-state g c = λ me found.
     let now = c.args.self.now.state in
     let console_index = c.in-Some-terminal_index.console_index in
     let it = c.in-Some-terminal_index.ensures in
@@ -42,8 +42,26 @@ returns g c = λ me found.
     let inside : slice_get cs console_index ≡ Some it.0 = ap (λ cs. slice_get cs console_index) (sym c.deref.ensures.value) ∙ it.1 in
     let at : slice_get now.consoles console_index ≡ Some it.0 = ap (λ (s : State). slice_get s.consoles console_index) (sym same) ∙ inside in
     let foreground = c.foreground-foreground.ensures.is ∙ ap (λ (x : Console). x.foreground) (c.index.ensures ∙ get_or_from_slice_get cs console_index it.0 _ inside) in
-    let signalled : c.signal_group.new.self.state ≡ record now { processes = signalled_group HUP it.0.foreground now.processes } =
-    c.signal_group.ensures.state ∙ ap (λ (s : State). record s { processes = signalled_group HUP c.foreground-foreground.result s.processes }) c.snapshot.ensures.looks.same.state
-    ∙ ap (λ n. record now { processes = signalled_group HUP n now.processes }) foreground in
-    c.release.ensures it.0 (ap (λ (s : State). slice_get s.consoles console_index) signalled ∙ at) ∙ ap (λ (s : State). put s console_index (released it.0)) signalled
+    let gone : c.release.new.self.state ≡ put now console_index (released it.0) = c.release.ensures.state it.0 (ap (λ (s : State). slice_get s.consoles console_index) c.snapshot.ensures.looks.same.state ∙ at) ∙ ap (λ (s : State). put s console_index (released it.0)) c.snapshot.ensures.looks.same.state in
+    c.signal_group.ensures.state ∙ ap (λ (s : State). record s { processes = signalled_group HUP c.foreground-foreground.result s.processes }) gone
+    ∙ ap (λ n. record (put now console_index (released it.0)) { processes = signalled_group HUP n now.processes }) foreground
     ∙ leader_hangs_up now console_index c.args.pid me it.0 c.snapshot.ensures.looks.regular found leads at (it.3 ∙ ap (λ (f : Snapshot). f.session) is)
+
+pub returns-clause-costs : goal.returns-clause-costs
+returns-clause-costs g c = λ me found.
+    let now = c.args.self.now.state in
+    let console_index = c.in-Some-terminal_index.console_index in
+    let it = c.in-Some-terminal_index.ensures in
+    let cs = c.self.inside.consoles.items in
+    let are = snapshot_are _ me c.in-Some.snapshot c.in-Some.ensures.value found in
+    let session = ap (λ (f : Snapshot). f.session) are in
+    let leads = ap hangs_up (sym are) ∙ sym c.hangs_up.ensures ∙ c.if-not-hangs_up.false in
+    let looks = c.snapshot.ensures.looks in
+    let same = state_is c.self.view_is ∙ looks.same.state in
+    let all = ap (λ (s : State). s.consoles) (sym same) ∙ sym c.deref.ensures.value in
+    let inside : slice_get cs console_index ≡ Some it.0 = ap (λ cs. slice_get cs console_index) (sym c.deref.ensures.value) ∙ it.1 in
+    let at : slice_get now.consoles console_index ≡ Some it.0 = ap (λ cs. slice_get cs console_index) all ∙ it.1 in
+    let foreground = c.foreground-foreground.ensures.is ∙ ap (λ (x : Console). x.foreground) (c.index.ensures ∙ get_or_from_slice_get cs console_index it.0 _ inside) in
+    let processes = ap (λ (s : State). s.processes) (c.release.ensures.state it.0 (ap (λ (s : State). slice_get s.consoles console_index) looks.same.state ∙ at)) ∙ ap (λ (s : State). s.processes) looks.same.state in
+    cost_more (costs_then (costs_then (looks_cost looks) c.release.ensures.costs) c.signal_group.ensures.costs)
+    (slots_hung_up c.args.self.now me console_index c.foreground-foreground.result it.0 _ _ leads looks.same.readers processes at (it.3 ∙ session) (ap (console_of me.session) all ∙ ap (λ n. console_of n c.deref.result.now) (sym session) ∙ it.2) foreground)

@@ -1,19 +1,19 @@
 use Rattle.std.proofs.Common.{ap, sym, ◌∙◌, arith, Some, None, slice_get}
 use Rattle.posix.specs.States.{State}
 use Rattle.posix.specs.Step.{signalled_from}
-use Rattle.life.proofs.ConsoleLemmas.{lent_at, not_both, key_nowhere, key_past, key_on_it}
-use Rattle.life.proofs.ViewLemmas.{state_is}
+use Rattle.life.proofs.ConsoleLemmas.{lent_at, not_both, key_nowhere, key_past, key_on_it, slots_of_signalled, slots_of_typed}
+use Rattle.life.proofs.ViewLemmas.{state_is, costs_then, cost_more}
 use Rattle.life.proofs.machine.Machine.key.Goals as goal
 use Rattle.life.proofs.CodeLemmas.{past_none}
 
-pub returns-in_default : goal.returns-in_default
-returns-in_default g c =
+pub returns-in_default-clause-state : goal.returns-in_default-clause-state
+returns-in_default-clause-state g c =
     let none = c.in_default.ensures in
     let same = c.from.ensures in
     key_nowhere c.args.self.now.state c.args.console c.args.byte (omega (arith, none, same))
 
-pub returns-in-None : goal.returns-in-None
-returns-in-None g c =
+pub returns-in-None-clause-state : goal.returns-in-None-clause-state
+returns-in-None-clause-state g c =
     let console_index = c.in-Some.console_index in
     let was = c.in-Some.ensures in
     let from = c.from.ensures in
@@ -21,16 +21,16 @@ returns-in-None g c =
     let none = ap (λ cs. slice_get cs console_index) consoles ∙ past_none c.deref.result.now console_index c.in-None.ensures.lookup.0 in
     key_past c.args.self.now.state c.args.console console_index c.args.byte (omega (arith, was, from)) none
 
-pub returns-in_default-type_byte : goal.returns-in_default-type_byte
-returns-in_default-type_byte g c =
+pub returns-in_default-type_byte-clause-state : goal.returns-in_default-type_byte-clause-state
+returns-in_default-type_byte-clause-state g c =
     let console_index = c.in-Some.console_index in
     let it = c.in-Some-get.console.now in
     let consoles = sym (c.deref.ensures.value ∙ ap (λ (s : State). s.consoles) (state_is c.self.view_is)) in
     let found = ap (λ cs. slice_get cs console_index) consoles ∙ lent_at c.deref.result.now console_index it c.in-Some-get.ensures.lookup.0 c.in-Some-get.ensures.lookup.1 in
     absurd (not_both _ it found c.in_default-type_byte.ensures.signal)
 
-pub returns-in-Some-signal : goal.returns-in-Some-signal
-returns-in-Some-signal g c =
+pub returns-in-Some-signal-clause-state : goal.returns-in-Some-signal-clause-state
+returns-in-Some-signal-clause-state g c =
     let console_index = c.in-Some.console_index in
     let was = c.in-Some.ensures in
     let from = c.from.ensures in
@@ -42,8 +42,8 @@ returns-in-Some-signal g c =
     c.signal_group.ensures.state ∙ ap (λ (s : State). record s { processes = signalled_from (Some c.in-Some-signal.sig) c.foreground-foreground.result s.processes }) (c.type_byte.ensures.state it found)
     ∙ key_on_it now c.args.console console_index c.args.byte it (Some c.in-Some-signal.sig) c.foreground-foreground.result (omega (arith, was, from)) found signal c.foreground-foreground.ensures.is
 
-pub returns-in_default-signal : goal.returns-in_default-signal
-returns-in_default-signal g c =
+pub returns-in_default-signal-clause-state : goal.returns-in_default-signal-clause-state
+returns-in_default-signal-clause-state g c =
     let console_index = c.in-Some.console_index in
     let was = c.in-Some.ensures in
     let from = c.from.ensures in
@@ -53,3 +53,18 @@ returns-in_default-signal g c =
     let found = ap (λ cs. slice_get cs console_index) consoles ∙ lent_at c.deref.result.now console_index it c.in-Some-get.ensures.lookup.0 c.in-Some-get.ensures.lookup.1 in
     let signal = sym c.in_default-signal.is ∙ c.in-Some-type_byte.ensures.signal in
     c.type_byte.ensures.state it found ∙ key_on_it now c.args.console console_index c.args.byte it None c.foreground-foreground.result (omega (arith, was, from)) found signal c.foreground-foreground.ensures.is
+
+pub returns-in-Some-signal-clause-costs : goal.returns-in-Some-signal-clause-costs
+returns-in-Some-signal-clause-costs g c =
+    let console_index = c.in-Some.console_index in
+    let was = c.in-Some.ensures in
+    let from = c.from.ensures in
+    let it = c.in-Some-get.console.now in
+    let consoles = sym (c.deref.ensures.value ∙ ap (λ (s : State). s.consoles) (state_is c.self.view_is)) in
+    let found = ap (λ cs. slice_get cs console_index) consoles ∙ lent_at c.deref.result.now console_index it c.in-Some-get.ensures.lookup.0 c.in-Some-get.ensures.lookup.1 in
+    let signal = sym c.in-Some-signal.is ∙ c.in-Some-type_byte.ensures.signal in
+    cost_more (costs_then c.type_byte.ensures.costs c.signal_group.ensures.costs)
+    (slots_of_signalled c.args.self.now c.args.console console_index c.args.byte c.in-Some-signal.sig c.foreground-foreground.result it _ (omega (arith, was, from)) found signal c.foreground-foreground.ensures.is (ap (λ (s : State). s.processes) (c.type_byte.ensures.state it found)))
+
+pub returns-in_default-signal-clause-costs : goal.returns-in_default-signal-clause-costs
+returns-in_default-signal-clause-costs g c = let was = c.in-Some.ensures in let from = c.from.ensures in cost_more c.type_byte.ensures.costs (slots_of_typed c.args.self.now c.args.console c.in-Some.console_index c.args.byte (omega (arith, was, from)))

@@ -8,12 +8,13 @@ use Rattle.life.specs.Machines.{MachineView, state_of}
 use Rattle.life.specs.Rechecks.{with_numbers}
 use Rattle.posix.proofs.RegularLemmas.{heir_other, heir_there, regular_depart}
 use Rattle.posix.proofs.TableLemmas.{pid_looked}
-use Rattle.jobs.proofs.RunLemmas.{run_as, parent_is}
+use Rattle.jobs.proofs.RunLemmas.{run_as, parent_is, grouped_as}
 use Rattle.life.proofs.EndLemmas.{there_after, zombie_after}
 use Rattle.life.proofs.RecheckLemmas.{has_room, room_after, listed_more, listed_departed, in_numbers}
 use Rattle.life.proofs.SoundLemmas.{there, here_in, heir_in, found_in, kept_departed, kids_made_zombie, length_departed, parents_departed, there_made_zombie}
 use Rattle.life.proofs.ViewLemmas.{state_is}
 use Rattle.posix.specs.Regular.{IsRegular}
+use Rattle.life.proofs.MoveLemmas.{zombie_stays}
 use Rattle.life.proofs.machine.Machine.leave.Goals as goal
 
 pub insert-requires : goal.insert-requires
@@ -100,3 +101,6 @@ returns g c =
         regular = subst IsRegular (state_is c.self.view_is) c.self.invariant.sound.regular;
       };
     }
+
+pub change_seen-parent-requires-clause-grouped : goal.change_seen-parent-requires-clause-grouped
+change_seen-parent-requires-clause-grouped g c = grouped_as c.args.pid _ (made_zombie c.args.status) (zombie_stays c.args.status) (λ b d r k q. search rules)

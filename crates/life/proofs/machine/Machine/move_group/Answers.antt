@@ -1,4 +1,4 @@
-use Rattle.std.proofs.Common.{rules, w64, to_z, of_z, ◌≡◌, ◌∙◌, ap, sym, Some, option_map}
+use Rattle.std.proofs.Common.{rules, w64, to_z, of_z, ◌≡◌, ◌∙◌, ap, sym, Some, option_map, inr}
 use Rattle.posix.specs.Tables.{lookup}
 use Rattle.posix.specs.States.{State, change as change_of}
 use Rattle.posix.specs.GroupCalls.{named as named_by, in_group, move_to}
@@ -8,7 +8,7 @@ use Rattle.jobs.proofs.RunLemmas.{run_as}
 use Rattle.life.specs.Machines.{MachineView, state_of, with_processes}
 use Rattle.life.specs.Rechecks.{rechecking_changed}
 use Rattle.life.proofs.FunnelLemmas.{stays_so}
-use Rattle.life.proofs.MoveLemmas.{is_moving, still_named, none_moves, err_is}
+use Rattle.life.proofs.MoveLemmas.{is_moving, none_moves, err_is}
 use Rattle.life.proofs.SoundLemmas.{snapshot_are, found_in, is_there}
 use Rattle.life.proofs.ViewLemmas.{state_is}
 use Rattle.life.proofs.machine.Machine.move_group.Goals as goal
@@ -16,47 +16,38 @@ use Rattle.life.proofs.machine.Machine.move_group.Goals as goal
 pub unreachable-requires : goal.unreachable-requires
 unreachable-requires g c =
     let me = c.requires.there in
-    let same = state_is c.self.view_is ∙ c.named-target.ensures.looks.same.state in
-    let moves = sym (c.group_to_join.ensures.value me.what _ (found_in _ _ same c.args.me.now.pid me.what me.found) (still_named _ _ same me.what _ _ (c.named-target.ensures.value me.what me.found))) ∙ c.in_ok-group.was in
-    none_moves _ _ same me.what _ _ c.in_ok-group.group moves (sym c.in_default.is ∙ c.named-target.ensures.value me.what me.found)
+    none_moves _ _ (state_is c.self.view_is ∙ c.named-target.ensures.looks.same.state) c.args.me.now.pid me.what _ _ c.in_ok-group.group _ me.found (sym c.in_default.is ∙ c.named-target.ensures.value me.what me.found) (rw c.in_default.is at c.group_to_join.ensures.value) c.in_ok-group.was
 
-pub change_seen-requires-clause-there : goal.change_seen-requires-clause-there
-change_seen-requires-clause-there g c =
-    let me = c.requires.there in
-    let same = state_is c.self.view_is ∙ c.named-target.ensures.looks.same.state in
-    let moves = sym (c.group_to_join.ensures.value me.what _ (found_in _ _ same c.args.me.now.pid me.what me.found) (still_named _ _ same me.what _ _ (c.named-target.ensures.value me.what me.found))) ∙ c.in_ok-group.was in
-    let it = is_moving _ _ same c.self.invariant.sound.regular c.args.me.now.pid me.what _ _ c.in_ok-group.group c.in-Some.it me.found moves (sym c.in-Some.is ∙ c.named-target.ensures.value me.what me.found) in
-    is_there _ it.what (ap (λ rs. lookup c.in-Some.it.pid rs) c.group_to_join.ensures.looks.processes ∙ ap (λ (f : Snapshot). lookup f.pid c.self.inside.table.processes) it.is ∙ it.found)
-
-pub change_seen-requires-clause-regular : goal.change_seen-requires-clause-regular
+pub change_seen-requires : goal.change_seen-requires
 unfolding in_group
-change_seen-requires-clause-regular g c =
+change_seen-requires g c =
     let m = c.self.inside in
     let t = state_of m.world c.group_to_join.new.self.processes m.consoles.items m.pids m.order m.births m.ticks m.dropped m.halted in
     let me = c.requires.there in
     let same = state_is c.self.view_is ∙ c.named-target.ensures.looks.same.state in
-    let moves = sym (c.group_to_join.ensures.value me.what _ (found_in _ _ same c.args.me.now.pid me.what me.found) (still_named _ _ same me.what _ _ (c.named-target.ensures.value me.what me.found))) ∙ c.in_ok-group.was in
-    let it = is_moving _ _ same c.self.invariant.sound.regular c.args.me.now.pid me.what _ _ c.in_ok-group.group c.in-Some.it me.found moves (sym c.in-Some.is ∙ c.named-target.ensures.value me.what me.found) in
-    stays_so c.in-Some.it.pid (in_group c.in_ok-group.group) t (λ i. rw (c.group_to_join.ensures.looks.processes, ap (λ (f : Snapshot). f.pid) it.is) it.regular) (λ b d r k q. search rules)
+    let it = is_moving _ _ same c.self.invariant.sound.regular c.args.me.now.pid me.what _ _ c.in_ok-group.group c.in-Some.it _ _ me.found (c.named-target.ensures.value me.what me.found) c.group_to_join.ensures.value c.in_ok-group.was c.in-Some.is in
+    record {
+      there = is_there _ it.what (ap (lookup c.in-Some.it.pid) c.group_to_join.ensures.looks.processes ∙ it.found);
+      callable = search rules;
+      grouped = λ b d r k. inr (rw c.group_to_join.ensures.looks.processes (let is : d.group ≡ c.in_ok-group.group = search rules in rw is it.joins));
+      regular = stays_so c.in-Some.it.pid (in_group c.in_ok-group.group) t (λ i. rw c.group_to_join.ensures.looks.processes it.regular) (λ b d r k q. search rules);
+    }
 
 pub returns-in_err-group-clause-value : goal.returns-in_err-group-clause-value
 returns-in_err-group-clause-value g c = λ me found.
     let same = state_is c.self.view_is ∙ c.named-target.ensures.looks.same.state in
-    let rs = c.self.inside.table.processes in
     let word : to_z w64 (of_z w64 c.args.me.now.r1) ≡ c.args.me.now.r1 = search rules in
     let to : to_z w64 (of_z w64 c.args.me.now.r2) ≡ c.args.me.now.r2 = search rules in
-    let value = c.group_to_join.ensures.value me _ (found_in _ _ same c.args.me.now.pid me found) (still_named _ _ same me _ _ (c.named-target.ensures.value me found)) ∙ ap (λ z. move_to me (named_by me z rs) (to_z w64 (of_z w64 c.args.me.now.r2)) rs) word ∙ ap (λ z. move_to me (named_by me c.args.me.now.r1 rs) z rs) to
-    ∙ ap (λ (s : State). move_to me (named_by me c.args.me.now.r1 s.processes) c.args.me.now.r2 s.processes) same in
-    err_is c.from_residual.result _ c.from_residual.ensures.1 ∙ sym (c.in_err-group.was) ∙ value
+    let value = rw (word, to) at (c.group_to_join.ensures.value me (named_by me (to_z w64 (of_z w64 c.args.me.now.r1)) c.args.self.now.state.processes) (found_in _ _ same c.args.me.now.pid me found) (c.named-target.ensures.value me found)) in
+    err_is c.from_residual.result _ c.from_residual.ensures.1 ∙ sym (c.in_err-group.was) ∙ value ∙ ap (λ (s : State). move_to me (named_by me c.args.me.now.r1 c.args.self.now.state.processes) c.args.me.now.r2 s.processes) same
 
 pub returns-clause-value : goal.returns-clause-value
 returns-clause-value g c = λ me found.
     let same = state_is c.self.view_is ∙ c.named-target.ensures.looks.same.state in
-    let rs = c.self.inside.table.processes in
     let word : to_z w64 (of_z w64 c.args.me.now.r1) ≡ c.args.me.now.r1 = search rules in
     let to : to_z w64 (of_z w64 c.args.me.now.r2) ≡ c.args.me.now.r2 = search rules in
-    sym c.in_ok-group.was ∙ c.group_to_join.ensures.value me _ (found_in _ _ same c.args.me.now.pid me found) (still_named _ _ same me _ _ (c.named-target.ensures.value me found)) ∙ ap (λ z. move_to me (named_by me z rs) (to_z w64 (of_z w64 c.args.me.now.r2)) rs) word ∙ ap (λ z. move_to me (named_by me c.args.me.now.r1 rs) z rs) to
-    ∙ ap (λ (s : State). move_to me (named_by me c.args.me.now.r1 s.processes) c.args.me.now.r2 s.processes) same
+    let value = rw (word, to) at (c.group_to_join.ensures.value me (named_by me (to_z w64 (of_z w64 c.args.me.now.r1)) c.args.self.now.state.processes) (found_in _ _ same c.args.me.now.pid me found) (c.named-target.ensures.value me found)) in
+    sym c.in_ok-group.was ∙ value ∙ ap (λ (s : State). move_to me (named_by me c.args.me.now.r1 c.args.self.now.state.processes) c.args.me.now.r2 s.processes) same
 
 pub returns-clause-ok : goal.returns-clause-ok
 unfolding in_group
@@ -72,10 +63,9 @@ returns-clause-ok g c = λ me r found named.
 pub returns-clause-to_recheck : goal.returns-clause-to_recheck
 returns-clause-to_recheck g c = λ me r found named.
     let same = state_is c.self.view_is ∙ c.named-target.ensures.looks.same.state in
-    let moves = sym (c.group_to_join.ensures.value me _ (found_in _ _ same c.args.me.now.pid me found) (still_named _ _ same me _ _ (c.named-target.ensures.value me found))) ∙ c.in_ok-group.was in
-    let it = is_moving _ _ same c.self.invariant.sound.regular c.args.me.now.pid me _ _ c.in_ok-group.group c.in-Some.it found moves (sym c.in-Some.is ∙ c.named-target.ensures.value me found) in
+    let it = is_moving _ _ same c.self.invariant.sound.regular c.args.me.now.pid me _ _ c.in_ok-group.group c.in-Some.it _ _ found (c.named-target.ensures.value me found) c.group_to_join.ensures.value c.in_ok-group.was c.in-Some.is in
     let word : to_z w64 (of_z w64 c.args.me.now.r1) ≡ c.args.me.now.r1 = search rules in
     let one : it.what ≡ r = let both : Some it.what ≡ Some r = sym it.named ∙ ap (λ z. named_by me z c.self.inside.table.processes) word ∙ ap (λ (s : State). named_by me c.args.me.now.r1 s.processes) same ∙ named in cc in
-    let here = ap (lookup c.in-Some.it.pid) c.group_to_join.ensures.looks.processes ∙ ap (λ (f : Snapshot). lookup f.pid c.self.inside.table.processes) it.is ∙ it.found ∙ ap Some one in
+    let here = ap (lookup c.in-Some.it.pid) c.group_to_join.ensures.looks.processes ∙ it.found ∙ ap Some one in
     c.change_seen.ensures.to_recheck r here ∙ ap (λ (v : MachineView). rechecking_changed r v.state.order v.to_recheck) c.self.view_is
     ∙ ap (λ (s : State). rechecking_changed r s.order c.named-target.new.self.to_recheck) c.named-target.ensures.looks.same.state ∙ ap (rechecking_changed r c.args.self.now.state.order) c.named-target.ensures.looks.same.to_recheck

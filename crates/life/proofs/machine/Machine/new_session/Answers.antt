@@ -1,4 +1,4 @@
-use Rattle.std.proofs.Common.{◌∙◌, ap, sym, refl, is_ok, rules}
+use Rattle.std.proofs.Common.{◌∙◌, ap, sym, refl, is_ok, rules, inl, inr}
 use Rattle.std.proofs.lemmas.Bool.{not-true, or_parts}
 use Rattle.posix.specs.Tables.{lookup}
 use Rattle.posix.specs.States.{State, change as change_of}
@@ -30,3 +30,6 @@ returns-clause-leads g c = λ me found none.
     let is = c.change_seen.ensures.rest ∙ ap (with_processes t) (run_as in_session c.change_seen.ensures.run c.change_seen.ensures.costs.regular.rising (λ b d r k q. search rules)) in
     let same = ap (with_processes t) c.can_lead.ensures.looks.processes ∙ state_is c.self.view_is in
     (refl, is ∙ ap (λ (s : State). change_of s c.args.pid in_session) same)
+
+pub change_seen-requires-clause-grouped : goal.change_seen-requires-clause-grouped
+change_seen-requires-clause-grouped g c = λ b d r k. inr (inl (search rules))

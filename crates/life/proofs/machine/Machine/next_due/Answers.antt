@@ -1,10 +1,10 @@
-use Rattle.std.proofs.Common.{◌+◌, ◌∙◌, ap, sym, subst}
+use Rattle.std.proofs.Common.{◌+◌, ◌∙◌, ◌≡◌, ℕ, Some, true, ap, sym, subst}
 use Rattle.posix.specs.Processes.{Process}
-use Rattle.posix.specs.States.{State}
+use Rattle.posix.specs.States.{State, process}
 use Rattle.posix.specs.Tables.{IsNext}
 use Rattle.posix.specs.Alarms.{is_due, has_alarms}
 use Rattle.posix.proofs.WalkLemmas.{passing_is_next}
-use Rattle.life.proofs.RingLemmas.{quiet_next}
+use Rattle.life.proofs.RingLemmas.{next_is_due, quiet_next}
 use Rattle.life.proofs.ViewLemmas.{state_is}
 use Rattle.life.proofs.machine.Machine.next_due.Goals as goal
 
@@ -17,3 +17,8 @@ returns-clause-next g c =
 
 pub returns-clause-quiet : goal.returns-clause-quiet
 returns-clause-quiet g c = λ quiet. c.next_due.ensures ∙ quiet_next (c.self.inside.ticks + 1) c.args.after c.self.inside.table.processes (ap has_alarms (state_is c.self.view_is) ∙ quiet)
+
+pub returns-clause-due : goal.returns-clause-due
+returns-clause-due g c =
+    subst (λ (s : State). (p : ℕ) (r : Process) → c.next_due.result ≡ Some p → process s p ≡ Some r → is_due (s.ticks + 1) r.alarm ≡ true) (state_is c.self.view_is)
+    (next_is_due (c.self.inside.ticks + 1) c.args.after c.self.inside.table.processes c.next_due.result c.self.invariant.sound.regular.rising c.next_due.ensures)

@@ -1,43 +1,30 @@
-use Rattle.std.proofs.Common.{rules, sym, subst, arith}
-use Rattle.posix.specs.Tables.{IsNext, is_member, members_in}
+use Rattle.std.proofs.Common.{sym, ap, refl}
+use Rattle.posix.specs.Tables.{is_member, members_in, above, first_pid, next_above}
 use Rattle.posix.specs.Sends.{is_target}
 use Rattle.posix.proofs.WalkLemmas.{passing_is_next, least_is_next}
 use Rattle.life.specs.Callers.{process_like}
-use Rattle.jobs.proofs.ReadLemmas.{left_above}
-use Rattle.life.proofs.ViewLemmas.{read_more}
+use Rattle.life.proofs.SendLemmas.{all_candidates}
+use Rattle.life.proofs.ViewLemmas.{none_read}
 use Rattle.life.proofs.machine.Machine.next_target.Goals as goal
 
-pub returns-in-OwnGroup-clause-finds : goal.returns-in-OwnGroup-clause-finds
+pub returns-in-OwnGroup : goal.returns-in-OwnGroup
 unfolding members_in
-returns-in-OwnGroup-clause-finds g c =
-    let r = process_like c.args.me.now in
-    let rs = c.args.self.now.state.processes in
-    record {
-      value =
-          subst (λ t. IsNext (is_target r t) c.args.after rs c.next_member.result) (sym c.in-OwnGroup.is)
-          (subst (IsNext (is_member r.group) c.args.after rs) (sym c.next_member.ensures.finds.value) (passing_is_next (is_member r.group) c.args.after rs c.next_member.ensures.finds.looks.regular.rising));
-      looks = search rules;
-    }
+returns-in-OwnGroup g c =
+    let i = c.next_member.ensures.regular in
+    rw (c.in-OwnGroup.is, c.next_member.ensures.value) record { finds = record { value = passing_is_next (is_member c.args.me.now.group) c.args.after _ i.rising; looks = none_read i }; is = refl }
 
-pub returns-in-Group-clause-finds : goal.returns-in-Group-clause-finds
+pub returns-in-Group : goal.returns-in-Group
 unfolding members_in
-returns-in-Group-clause-finds g c =
-    let r = process_like c.args.me.now in
-    let rs = c.args.self.now.state.processes in
-    let group = c.in-Group.group in
-    record {
-      value =
-          subst (λ t. IsNext (is_target r t) c.args.after rs c.next_member-in-Group.result) (sym c.in-Group.is)
-          (subst (IsNext (is_member group) c.args.after rs) (sym c.next_member-in-Group.ensures.finds.value) (passing_is_next (is_member group) c.args.after rs c.next_member-in-Group.ensures.finds.looks.regular.rising));
-      looks = search rules;
-    }
+returns-in-Group g c =
+    let i = c.next_member-in-Group.ensures.regular in
+    rw (c.in-Group.is, c.next_member-in-Group.ensures.value) record { finds = record { value = passing_is_next (is_member c.in-Group.group) c.args.after _ i.rising; looks = none_read i }; is = refl }
 
 pub returns-in-Process : goal.returns-in-Process
+unfolding next_above
 returns-in-Process g c =
     let r = process_like c.args.me.now in
-    let rs = c.args.self.now.state.processes in
-    let next = subst (IsNext (is_target r c.args.target.now) c.args.after rs) (sym c.next_after.ensures.value) (least_is_next (is_target r c.args.target.now) c.args.after rs c.next_after.ensures.looks.regular.rising) in
-    record {
-      finds = record { value = next; looks = read_more c.next_after.ensures.looks (omega arith) };
-      visits = let less = left_above c.next_after.result c.args.after rs next.above in omega (arith, less, c.next_after.ensures.looks.visits);
+    let looks = c.next_after.ensures.looks in
+    rw c.next_after.ensures.value record {
+      finds = record { value = least_is_next (is_target r c.args.target.now) c.args.after _ looks.regular.rising; looks = looks };
+      is = ap (λ l. first_pid (above c.args.after l)) (sym (all_candidates r c.args.target.now _ c.in-Process.is));
     }

@@ -2,7 +2,7 @@ use Rattle.std.proofs.Common.{◌≡◌, ◌||◌, arith, ap, sym, ◌∙◌, su
 use Rattle.std.proofs.Math.Bool.{or-false}
 use Rattle.std.specs.List.{list_any}
 use Rattle.posix.specs.Numbers.{with_number}
-use Rattle.posix.specs.Tables.{IsRising, children_in, first_pid, left_of, next_sibling}
+use Rattle.posix.specs.Tables.{children_in, first_pid, left_of, next_sibling}
 use Rattle.posix.specs.States.{State, process, is_in}
 use Rattle.posix.specs.Regular.{IsRegular}
 use Rattle.posix.specs.Groups.{is_anchor}
@@ -26,7 +26,8 @@ loop-next-init g c =
     let s = c.args.self.now.state in
     let old = state_is c.self.view_is in
     let same : c.note_anchor.new.self.state ≡ s = c.note_anchor.ensures.notes.state ∙ old in
-    let up = subst (λ (t : State). IsRising t.processes) same c.first_child-next.ensures.looks.regular.rising in
+    let regular = subst IsRegular same c.first_child-next.ensures.looks.regular in
+    let up = regular.rising in
     let next = c.first_child-next.ensures.value ∙ ap (λ (t : State). first_pid (children_in c.args.pid t.processes)) same in
     let me = there _ c.requires in
     let now : c.first_child-next.new.self.groups_at_risk ≡ cond (is_anchor s.processes me.what) (with_number me.what.group c.clear.new.self.pids) c.clear.new.self.pids =
@@ -34,6 +35,7 @@ loop-next-init g c =
     ∙ ap (λ (t : State). cond (is_anchor t.processes me.what) (with_number me.what.group c.clear.new.self.pids) c.clear.new.self.pids) old in
     let all = first_todo s.processes up c.args.pid _ next in
     record {
+      regular = regular;
       same = c.first_child-next.ensures.looks.same.state ∙ same;
       to_recheck = c.first_child-next.ensures.looks.same.to_recheck ∙ c.note_anchor.ensures.notes.to_recheck ∙ ap (λ (m : MachineView). m.to_recheck) c.self.view_is;
       foregrounds_unchecked = c.first_child-next.ensures.looks.same.foregrounds_unchecked ∙ c.note_anchor.ensures.notes.foregrounds_unchecked ∙ ap (λ (m : MachineView). m.foregrounds_unchecked) c.self.view_is;
@@ -46,23 +48,20 @@ loop-next-init g c =
 pub next_sibling-next-requires : goal.next_sibling-next-requires
 next_sibling-next-requires g c =
     let s = c.args.self.now.state in
-    let up = subst (λ (t : State). IsRising t.processes) (c.note_anchor.ensures.notes.state ∙ state_is c.self.view_is) c.first_child-next.ensures.looks.regular.rising in
-    let at = child_here s.processes s.processes c.args.pid c.in-Some.child c.loop-next.next (record { rising = up; comes = c.in-Some.is; here = c.loop-next.invariant.here; same = refl }) in
+    let at = child_here s.processes s.processes c.args.pid c.in-Some.child c.loop-next.next (record { rising = c.loop-next.invariant.regular.rising; comes = c.in-Some.is; here = c.loop-next.invariant.here; same = refl }) in
     rw (c.note_anchor-in-Some.ensures.notes.state ∙ c.loop-next.invariant.same) (is_there _ at.what at.found)
 
 pub loop-next-smaller : goal.loop-next-smaller
 loop-next-smaller g c =
     let s = c.args.self.now.state in
-    let up = subst (λ (t : State). IsRising t.processes) (c.note_anchor.ensures.notes.state ∙ state_is c.self.view_is) c.first_child-next.ensures.looks.regular.rising in
     let next = c.next_sibling-next.ensures.value ∙ ap (λ (t : State). next_sibling c.in-Some.child t.processes) (c.note_anchor-in-Some.ensures.notes.state ∙ c.loop-next.invariant.same) in
-    child_less s.processes s.processes c.args.pid c.in-Some.child _ _ (record { rising = up; comes = c.in-Some.is; here = c.loop-next.invariant.here; same = refl }) next
+    child_less s.processes s.processes c.args.pid c.in-Some.child _ _ (record { rising = c.loop-next.invariant.regular.rising; comes = c.in-Some.is; here = c.loop-next.invariant.here; same = refl }) next
 
 pub loop-next-preserved : goal.loop-next-preserved
 loop-next-preserved g c =
     let s = c.args.self.now.state in
-    let up = subst (λ (t : State). IsRising t.processes) (c.note_anchor.ensures.notes.state ∙ state_is c.self.view_is) c.first_child-next.ensures.looks.regular.rising in
     let same = c.note_anchor-in-Some.ensures.notes.state ∙ c.loop-next.invariant.same in
-    let walk : IsAtChild s.processes s.processes c.args.pid c.in-Some.child c.loop-next.next = record { rising = up; comes = c.in-Some.is; here = c.loop-next.invariant.here; same = refl } in
+    let walk : IsAtChild s.processes s.processes c.args.pid c.in-Some.child c.loop-next.next = record { rising = c.loop-next.invariant.regular.rising; comes = c.in-Some.is; here = c.loop-next.invariant.here; same = refl } in
     let at = child_here s.processes s.processes c.args.pid c.in-Some.child c.loop-next.next walk in
     let next = c.next_sibling-next.ensures.value ∙ ap (λ (t : State). next_sibling c.in-Some.child t.processes) same in
     let old = c.loop-next.invariant.same in
@@ -71,6 +70,7 @@ loop-next-preserved g c =
     c.next_sibling-next.ensures.looks.same.groups_at_risk ∙ c.note_anchor-in-Some.ensures.groups_at_risk at.what (ap (λ (t : State). process t c.in-Some.child) old ∙ at.found)
     ∙ ap (λ (t : State). cond (is_anchor t.processes at.what) (with_number at.what.group ns) ns) old in
     record {
+      regular = c.loop-next.invariant.regular;
       same = c.next_sibling-next.ensures.looks.same.state ∙ same;
       to_recheck = c.next_sibling-next.ensures.looks.same.to_recheck ∙ c.note_anchor-in-Some.ensures.notes.to_recheck ∙ c.loop-next.invariant.to_recheck;
       foregrounds_unchecked = c.next_sibling-next.ensures.looks.same.foregrounds_unchecked ∙ c.note_anchor-in-Some.ensures.notes.foregrounds_unchecked ∙ c.loop-next.invariant.foregrounds_unchecked;
@@ -88,4 +88,4 @@ returns-clause-groups_at_risk g c = λ n.
 pub returns-clause-notes : goal.returns-clause-notes
 returns-clause-notes g c =
     let i = c.loop-next.invariant in
-    record { state = i.same; to_recheck = i.to_recheck; foregrounds_unchecked = i.foregrounds_unchecked; readers = i.readers; visits = let read = i.read in omega (arith, read); regular = subst IsRegular (state_is c.self.view_is) c.self.invariant.sound.regular }
+    record { state = i.same; to_recheck = i.to_recheck; foregrounds_unchecked = i.foregrounds_unchecked; readers = i.readers; visits = let read = i.read in omega (arith, read); regular = i.regular }

@@ -1,6 +1,7 @@
 use Rattle.std.proofs.Common.{◌≡◌, ◌+◌, ◌*◌, ◌≤◌, ◌||◌, ℕ, length}
 use Rattle.std.specs.List.{list_any}
 use Rattle.posix.specs.States.{is_in}
+use Rattle.posix.specs.Regular.{IsRegular}
 use Rattle.posix.specs.Tables.{children_in, first_pid, left_of}
 use Rattle.posix.specs.Groups.{loses_anchor}
 use Rattle.life.proofs.AtRiskLemmas.{keeps}
@@ -12,6 +13,7 @@ invariant-loop-next g l =
     let rs = l.fn.self.state.processes in
     let kids = children_in l.fn.pid rs in
     record {
+      regular : IsRegular l.fn.self.state;
       same : l.self.state ≡ l.fn.self.state;
       to_recheck : l.self.to_recheck ≡ l.fn.self.to_recheck;
       foregrounds_unchecked : l.self.foregrounds_unchecked ≡ l.fn.self.foregrounds_unchecked;

@@ -1,4 +1,4 @@
-use Rattle.std.proofs.Common.{◌≡◌, ◌∙◌, ap, sym, subst, refl, arith, slice_get, ℕ, Option, List, false}
+use Rattle.std.proofs.Common.{◌≡◌, ◌∙◌, ap, sym, subst, refl, arith, slice_get, ℕ, ◌+◌, ◌≤◌, Option, List, length, false}
 use Rattle.std.specs.Option.{IsSome}
 use Rattle.posix.specs.States.{State, process, has_place}
 use Rattle.pidset.specs.Numbers.{PidSetView, Rises, numbers_above}
@@ -6,7 +6,7 @@ use Rattle.life.specs.Machines.{MachineView, readers_at}
 use Rattle.life.specs.Consoles.{AreReaders}
 use Rattle.pidset.proofs.WalkLemmas.{lies_above}
 use Rattle.life.proofs.ViewLemmas.{state_is}
-use Rattle.life.proofs.ReaderLemmas.{IsRechecking, watched_rises, watched_least, rechecking_starts, rechecking_proceeds, rechecking_is_over}
+use Rattle.life.proofs.ReaderLemmas.{IsRechecking, watched_rises, watched_least, rechecking_starts, rechecking_proceeds, rechecking_is_over, readers_left, left_behind, left_first}
 use Rattle.life.proofs.machine.Machine.recheck_readers.Goals as goal
 use Rattle.jobs.proofs.ReadLemmas.{fewer_after}
 
@@ -15,6 +15,7 @@ loop-next-init g c = record {
   rest = refl;
   others = λ q e. e;
   rechecking = rechecking_starts _ _ _ _ (watched_rises _ _ c.args.console_index c.next_reader-next.ensures.watched) (watched_least _ _ c.args.console_index c.next_reader-next.ensures.watched) c.next_reader-next.ensures.is;
+  visits = let all = left_first _ _ (watched_rises _ _ c.args.console_index c.next_reader-next.ensures.watched) c.next_reader-next.ensures.is in omega (arith, all);
 }
 
 pub loop-next-smaller : goal.loop-next-smaller
@@ -27,15 +28,20 @@ loop-next-preserved g c =
     let kept = ap (λ (m : MachineView). m.readers) rest in
     let same = state_is i.rest in
     let first = c.args.self.now.state in
+    let set = readers_at c.args.console_index c.args.self.now.readers in
+    let up : Rises set = subst (λ (sets : List PidSetView). Rises (readers_at c.args.console_index sets)) kept (watched_rises _ _ c.args.console_index c.next_reader-next-in-Some.ensures.watched) in
+    let comes : c.next_reader-next-in-Some.result ≡ slice_get (numbers_above c.in-Some.pid set) 0 = c.next_reader-next-in-Some.ensures.is ∙ ap (λ (sets : List PidSetView). slice_get (numbers_above c.in-Some.pid (readers_at c.args.console_index sets)) 0) kept in
     record {
       rest = rest;
       others = λ q e. c.recheck_if_there.ensures.others q (i.others q e);
-      rechecking = rechecking_proceeds first _ c.loop-next.self.to_recheck _ c.in-Some.pid c.next_reader-next-in-Some.result
-          (subst (λ (sets : List PidSetView). Rises (readers_at c.args.console_index sets)) kept (watched_rises _ _ c.args.console_index c.next_reader-next-in-Some.ensures.watched))
-          (c.next_reader-next-in-Some.ensures.is ∙ ap (λ (sets : List PidSetView). slice_get (numbers_above c.in-Some.pid (readers_at c.args.console_index sets)) 0) kept)
-          (subst (λ (o : Option ℕ). IsRechecking first (readers_at c.args.console_index c.args.self.now.readers) c.loop-next.self.to_recheck o) c.in-Some.is i.rechecking)
+      rechecking = rechecking_proceeds first _ c.loop-next.self.to_recheck _ c.in-Some.pid c.next_reader-next-in-Some.result up comes
+          (subst (λ (o : Option ℕ). IsRechecking first set c.loop-next.self.to_recheck o) c.in-Some.is i.rechecking)
           (λ here out. c.recheck_if_there.ensures.it (subst (λ (s : State). IsSome (process s c.in-Some.pid)) (sym same) here) (subst (λ (s : State). has_place s c.in-Some.pid ≡ false) (sym same) out))
           c.recheck_if_there.ensures.others;
+      visits =
+          let left = left_behind c.in-Some.pid set _ up comes in
+          let read = subst (λ (o : Option ℕ). c.loop-next.self.visits + readers_left o set ≤ c.args.self.now.visits + length set) c.in-Some.is i.visits in
+          omega (arith, left, read, c.recheck_if_there.ensures.costs.visits);
     }
 
 pub forget_readers-requires : goal.forget_readers-requires

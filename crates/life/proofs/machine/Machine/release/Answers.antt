@@ -26,8 +26,8 @@ invariant_of-self g c = elim c.match-get_mut.branch [
   | in_default w ↦ rw w.self-inside-is c.self.invariant
 ]
 
-pub returns : goal.returns
-returns g c = λ its found.
+pub returns-clause-state : goal.returns-clause-state
+returns-clause-state g c = λ its found.
     let same = state_is c.self.view_is ∙ (state_is c.recheck_readers.ensures.rest) in
     elim c.match-get_mut.branch [
       | in-Some w ↦

@@ -1,11 +1,11 @@
-use Rattle.std.proofs.Common.{◌≡◌, ℕ, ◌+◌, ap, sym, ◌∙◌, subst, refl, Option}
+use Rattle.std.proofs.Common.{◌≡◌, ℕ, ◌+◌, ap, sym, ◌∙◌, subst, refl, arith, filter, length, true, Option}
 use Rattle.std.specs.Option.{IfSome, IsSome}
 use Rattle.posix.specs.Processes.{Process}
 use Rattle.posix.specs.Tables.{IsNext, lookup, changed}
 use Rattle.posix.specs.States.{State}
 use Rattle.posix.specs.Alarms.{is_due, ring_at}
 use Rattle.life.proofs.SoundLemmas.{there}
-use Rattle.life.proofs.RingLemmas.{IsRinging, ringing_begins, ringing_on, ringing_ends}
+use Rattle.life.proofs.RingLemmas.{IsRinging, fewer_due, ringing_begins, ringing_on, ringing_ends}
 use Rattle.life.proofs.machine.Machine.ring_all.Goals as goal
 
 pub loop-next-init : goal.loop-next-init
@@ -16,6 +16,9 @@ loop-next-init g c =
       there = n.next.there;
       ringing = ringing_begins (s.ticks + 1) s.processes _ (λ p r e. (n.regular.bounded p r e).least) n.next;
       rising = n.regular.rising;
+      due = n.due;
+      costs = omega arith;
+      groups_at_risk = refl;
       rest = refl;
       quiet = λ q. (n.quiet q, refl);
     }
@@ -40,6 +43,13 @@ loop-next-preserved g c =
           (subst (λ (t : State). IsNext (λ (r : Process). is_due (first.ticks + 1) r.alarm) pid t.processes c.next_due-next-in-Some.result) rung next)
           (subst (λ (o : Option ℕ). IsRinging (first.ticks + 1) first.processes s.processes o) c.in-Some.is h.ringing));
       rising = n.regular.rising;
+      due = λ p r e found. subst (λ k. is_due k r.alarm ≡ true) now (n.due p r e found);
+      costs =
+          let fewer = fewer_due (first.ticks + 1) pid s.processes it.what it.found (h.due pid it.what c.in-Some.is it.found) in
+          let left = ap (λ (t : State). length (filter (λ (r : Process). is_due (first.ticks + 1) r.alarm) t.processes)) rung in
+          let one = c.ring.ensures.costs.visits in
+          omega (arith, fewer, left, one, h.costs);
+      groups_at_risk = c.ring.ensures.costs.groups_at_risk ∙ h.groups_at_risk;
       rest = rung ∙ ap (λ (t : State). record t { processes = changed pid (ring_at (first.ticks + 1)) s.processes }) h.rest ∙ ap (λ rs. record first { processes = rs }) (sym (ap (λ (t : State). t.processes) rung));
       quiet = λ q. let none = sym (h.quiet q).0 ∙ c.in-Some.is in absurd (cc);
     }
@@ -51,3 +61,10 @@ returns-clause-state g c =
     let h = c.loop-next.invariant in
     let ends = subst (λ (o : Option ℕ). IsRinging (first.ticks + 1) first.processes s.processes o) c.in_default.is h.ringing in
     h.rest ∙ ap (λ rs. record first { processes = rs }) (ringing_ends (first.ticks + 1) first.processes s.processes h.rising ends)
+
+pub returns-clause-costs : goal.returns-clause-costs
+returns-clause-costs g c = record {
+  visits = let read = c.loop-next.invariant.costs in omega (arith, read);
+  groups_at_risk = c.loop-next.invariant.groups_at_risk;
+  regular = c.next_due-next.ensures.regular;
+}

@@ -1,7 +1,8 @@
-use Rattle.std.proofs.Common.{◌≡◌, ◌+◌, false, None}
+use Rattle.std.proofs.Common.{◌≡◌, ◌+◌, ◌≤◌, ℕ, true, false, Some, None, filter, length}
 use Rattle.std.specs.Option.{IfSome, IsSome}
+use Rattle.posix.specs.Processes.{Process}
 use Rattle.posix.specs.Tables.{IsRising, lookup}
-use Rattle.posix.specs.Alarms.{has_alarms}
+use Rattle.posix.specs.Alarms.{has_alarms, is_due}
 use Rattle.posix.proofs.WalkLemmas.{numbers_left}
 use Rattle.life.proofs.RingLemmas.{IsRinging}
 use Rattle.life.proofs.machine.Machine.ring_all.Given as goal
@@ -14,6 +15,9 @@ invariant-loop-next g l =
       there : IfSome l.next (λ p. IsSome (lookup p now.processes));
       ringing : IsRinging (first.ticks + 1) first.processes now.processes l.next;
       rising : IsRising now.processes;
+      due : (p : ℕ) (r : Process) → l.next ≡ Some p → lookup p now.processes ≡ Some r → is_due (first.ticks + 1) r.alarm ≡ true;
+      costs : l.self.visits + length (filter (λ r. is_due (first.ticks + 1) r.alarm) now.processes) ≤ l.fn.self.visits + length (filter (λ r. is_due (first.ticks + 1) r.alarm) first.processes);
+      groups_at_risk : l.self.groups_at_risk ≡ l.fn.self.groups_at_risk;
       rest : now ≡ record first { processes = now.processes };
       quiet : has_alarms first ≡ false → (l.next ≡ None) × (l.self ≡ l.fn.self);
     }

@@ -1,11 +1,13 @@
-use Rattle.std.proofs.Common.{◌≡◌, ◌+◌, ◌*◌, ◌≤◌, length}
+use Rattle.std.proofs.Common.{◌≡◌, ◌+◌, ◌*◌, ◌≤◌, filter, length}
 use Rattle.std.specs.Option.{IfSome, IsSome}
-use Rattle.posix.specs.Tables.{left_of, lookup}
-use Rattle.posix.specs.Sends.{targets, sending, sent_among, sent}
+use Rattle.posix.specs.declared.process.Sending.TheVariants.{NobodyFound}
+use Rattle.posix.specs.Tables.{first_pid, left_of, lookup}
+use Rattle.posix.specs.Sends.{targets}
 use Rattle.posix.proofs.WalkLemmas.{numbers_left}
-use Rattle.life.specs.Rechecks.{rechecking_signalled, slots_of_send}
+use Rattle.life.specs.Machines.{with_processes}
+use Rattle.life.specs.Rechecks.{slots_of_send, is_candidate}
 use Rattle.life.specs.Callers.{process_like}
-use Rattle.life.proofs.SendLemmas.{joined}
+use Rattle.life.proofs.SendLemmas.{sent_to}
 use Rattle.life.proofs.machine.Machine.send_to_all.Given as goal
 
 -- what is left to do, after what was done so far, is all that there is to do
@@ -15,10 +17,10 @@ invariant-loop-next g l =
     record {
       groups_at_risk : l.self.groups_at_risk ≡ l.fn.self.groups_at_risk;
       there : IfSome l.next (λ p. IsSome (lookup p now.processes));
-      read : l.self.visits + (3 + slots_of_send l.sig) * length (left_of l.next now.processes) ≤ l.fn.self.visits + 2 + (3 + slots_of_send l.sig) * length first.processes;
-      to_recheck : rechecking_signalled r l.sig (targets r l.target (left_of l.next now.processes)) now.processes first.order l.self.to_recheck ≡ rechecking_signalled r l.sig (targets r l.fn.target first.processes) first.processes first.order l.fn.self.to_recheck;
-      sending : joined l.sending (sending r l.target l.sig (left_of l.next now.processes)) ≡ sending r l.fn.target l.sig first.processes;
-      sent : record now { processes = sent_among r l.sig (targets r l.target (left_of l.next now.processes)) now.processes } ≡ record first { processes = sent r l.fn.target l.sig first.processes };
+      begins : first_pid (left_of l.next (filter (is_candidate r l.target) now.processes)) ≡ l.next;
+      read : l.self.visits + (2 + slots_of_send l.sig) * length (left_of l.next (filter (is_candidate r l.target) now.processes)) ≤ l.fn.self.visits + 1 + (2 + slots_of_send l.sig) * length (filter (is_candidate r l.fn.target) first.processes);
+      rest : with_processes now first.processes ≡ first;
+      todo : sent_to r l.sig first.order (targets r l.target (left_of l.next now.processes)) (record { sending = l.sending; processes = now.processes; to_recheck = l.self.to_recheck }) ≡ sent_to r l.sig first.order (targets r l.fn.target first.processes) (record { sending = NobodyFound; processes = first.processes; to_recheck = l.fn.self.to_recheck });
     }
 
 abbrev pub decreases-loop-next : goal.decreases-loop-next

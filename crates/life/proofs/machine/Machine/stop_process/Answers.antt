@@ -8,10 +8,11 @@ use Rattle.posix.specs.Notices.{noticed_of_change, child_signal, told_of_change,
 use Rattle.posix.proofs.TableLemmas.{pid_looked}
 use Rattle.posix.proofs.ChangeLemmas.{lives_stopped}
 use Rattle.pidset.specs.Numbers.{with_number}
-use Rattle.jobs.proofs.RunLemmas.{run_as, parent_is}
+use Rattle.jobs.proofs.RunLemmas.{run_as, parent_is, grouped_as}
 use Rattle.life.specs.Rechecks.{rechecking, rechecking_changed, with_parent}
 use Rattle.life.proofs.FunnelLemmas.{stays_living, told_changed, rechecked_told, with_lost}
 use Rattle.life.specs.Machines.{MachineView, with_processes}
+use Rattle.life.proofs.MoveLemmas.{stopped_stays}
 use Rattle.life.proofs.machine.Machine.stop_process.Goals as goal
 
 pub change_seen-parent-requires-clause-regular : goal.change_seen-parent-requires-clause-regular
@@ -49,3 +50,6 @@ returns g c = λ me found.
         regular = c.lose_place.ensures.regular;
       };
     }
+
+pub change_seen-parent-requires-clause-grouped : goal.change_seen-parent-requires-clause-grouped
+change_seen-parent-requires-clause-grouped g c = grouped_as c.args.pid _ (stopped_by c.args.sig) (stopped_stays c.args.sig) (λ b d r k q. search rules)

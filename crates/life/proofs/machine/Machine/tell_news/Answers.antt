@@ -1,9 +1,10 @@
 use Rattle.std.proofs.Common.{◌∙◌, ap, rules}
 use Rattle.posix.specs.Waits.{news_told}
 use Rattle.posix.proofs.RegularLemmas.{keeps_news_told}
-use Rattle.jobs.proofs.RunLemmas.{run_as}
+use Rattle.jobs.proofs.RunLemmas.{run_as, grouped_as}
 use Rattle.life.proofs.FunnelLemmas.{stays_regular}
 use Rattle.life.specs.Machines.{with_processes}
+use Rattle.life.proofs.MoveLemmas.{told_stays}
 use Rattle.life.proofs.machine.Machine.tell_news.Goals as goal
 
 pub change_seen-requires-clause-regular : goal.change_seen-requires-clause-regular
@@ -15,3 +16,6 @@ returns g c = λ child found. record {
   to_recheck = c.change_seen.ensures.to_recheck child found;
   costs = c.change_seen.ensures.costs;
 }
+
+pub change_seen-requires-clause-grouped : goal.change_seen-requires-clause-grouped
+change_seen-requires-clause-grouped g c = grouped_as c.args.pid _ news_told told_stays (λ b d r k q. search rules)
