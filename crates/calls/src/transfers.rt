@@ -9,6 +9,7 @@ ghost use Rattle.posix.specs.Terminals.{change_console, finish_moved as finish_m
 ghost use Rattle.proctable.specs.Records.{snapshot_of};
 ghost use Rattle.life.specs.Callers.{caller_of};
 ghost use Rattle.life.specs.Consoles.{terminal_of};
+ghost use Rattle.life.specs.Machines.{AreSame};
 ghost use Rattle.calls.specs.Outcomes.{Comes};
 ghost use Rattle.calls.specs.Terminals.{first_bytes};
 
@@ -147,9 +148,8 @@ pub fn has_to_read<K: Kin>(machine: &mut Machine<K>, pid: Pid, snapshot: Snapsho
     requires there { IsSome (process machine.old.state pid) }
     requires snapshot { Some snapshot ≡ option_map snapshot_of (process machine.old.state pid) }
     ensures value { (me : Process) → process machine.old.state pid ≡ Some me → result ≡ waits_to_read machine.old.state.consoles me }
-    ensures same { machine.new.state ≡ machine.old.state }
-    ensures to_recheck { machine.new.to_recheck ≡ machine.old.to_recheck }
-    ensures foregrounds_unchecked { machine.new.foregrounds_unchecked ≡ machine.old.foregrounds_unchecked }
+    ensures same { AreSame machine.old machine.new }
+    ensures visits { machine.new.visits ≤ machine.old.visits + 1 }
 {
     let Some(terminal) = machine.terminal(snapshot.session) else {
         return false;

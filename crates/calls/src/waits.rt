@@ -1,14 +1,17 @@
 //! Waits for children (XSH waitpid).
 
-ghost use Rattle.std.specs.Prelude.{◌≡◌, ◌≤◌, ◌++◌, ◌∷◌, [], length, pos, IsSome, IfSome, Some, is_some};
+ghost use Rattle.std.specs.Prelude.{◌≡◌, ◌+◌, ◌≤◌, ◌++◌, ◌∷◌, [], length, pos, IsSome, IfSome, Some, is_some};
 ghost use Rattle.posix.specs.declared.entry.Entry.TheVariants.{Reported};
-ghost use Rattle.posix.specs.Processes.{Process};
+ghost use Rattle.posix.specs.Processes.{Process, argument};
+ghost use Rattle.posix.specs.Targets.{target_in};
 ghost use Rattle.posix.specs.States.{process};
 ghost use Rattle.posix.specs.Regular.{IsPlaced, IsRegular};
 ghost use Rattle.posix.specs.Outcomes.{finish};
 ghost use Rattle.posix.specs.Waits.{wait as waiting, are_known, options_in};
 ghost use Rattle.posix.specs.Settle.{is_block};
 ghost use Rattle.life.specs.Callers.{process_like};
+ghost use Rattle.life.specs.Machines.{AreSame};
+ghost use Rattle.life.specs.Waits.{slots_of_wait};
 ghost use Rattle.calls.specs.Outcomes.{Comes};
 
 use crate::attempts::{finish_with, refuse};
@@ -94,9 +97,8 @@ pub fn wait<K: Kin>(machine: &mut Machine<K>, pid: Pid, entries: &mut Entries) -
 fn would_wait<K: Kin>(machine: &mut Machine<K>, me: &Caller) -> bool
     requires { IsSome (process machine.old.state me.now.pid) }
     ensures value { result ≡ is_block (waiting machine.old.state (process_like me.now)) }
-    ensures same { machine.new.state ≡ machine.old.state }
-    ensures to_recheck { machine.new.to_recheck ≡ machine.old.to_recheck }
-    ensures foregrounds_unchecked { machine.new.foregrounds_unchecked ≡ machine.old.foregrounds_unchecked }
+    ensures same { AreSame machine.old machine.new }
+    ensures visits { machine.new.visits ≤ machine.old.visits + 1 + slots_of_wait (target_in me.now.r1) me.now.pid machine.old.state.processes }
 {
     let Some(options) = options_of(me) else {
         return false;
@@ -111,9 +113,8 @@ fn would_wait<K: Kin>(machine: &mut Machine<K>, me: &Caller) -> bool
 pub fn has_to_wait<K: Kin>(machine: &mut Machine<K>, pid: Pid) -> bool
     requires { IsSome (process machine.old.state pid) }
     ensures value { (me : Process) → process machine.old.state pid ≡ Some me → result ≡ is_block (waiting machine.old.state me) }
-    ensures same { machine.new.state ≡ machine.old.state }
-    ensures to_recheck { machine.new.to_recheck ≡ machine.old.to_recheck }
-    ensures foregrounds_unchecked { machine.new.foregrounds_unchecked ≡ machine.old.foregrounds_unchecked }
+    ensures same { AreSame machine.old machine.new }
+    ensures visits { (me : Process) → process machine.old.state pid ≡ Some me → machine.new.visits ≤ machine.old.visits + 3 + slots_of_wait (target_in (argument me 1)) me.pid machine.old.state.processes }
 {
     let me = machine.caller(pid);
     would_wait(machine, &me)

@@ -54,6 +54,53 @@ sys pause
 end
 ";
 
+/// The leader of a session sends its 60 children, which wait to read, a signal with a handler. They leave the read, and
+/// then the foreground, and it waits to read itself.
+const READERS_THAT_LEFT: &[u8] = b"\
+pidmax 100
+consoles 1
+program init
+sys fork
+jz r0, par
+sys pause
+par:
+sys setsid
+set r1, 1
+sys setctty
+set r1, 10
+set r2, @h
+set r3, 0
+set r4, 0
+sys sigaction
+set r6, 60
+set r7, 1
+more:
+sys fork
+jz r0, kid
+sub r6, r7
+jnz r6, more
+sys sched_yield
+set r1, 0
+set r2, 10
+sys kill
+sys sched_yield
+set r1, 0
+set r2, 16
+sys read
+sys pause
+kid:
+set r1, 0
+set r2, 16
+sys read
+set r1, 0
+set r2, 0
+sys setpgid
+sys pause
+h:
+sys sigreturn
+end
+";
+
 /// Beside 300 processes that pause, process 1 puts one child into the foreground.
 const FOREGROUND_OF_ONE: &[u8] = b"\
 pidmax 1000
@@ -352,6 +399,20 @@ fn a_key_is_for_the_foreground_alone(rt: HostRuntime) -> Result<(), Fail> {
     let (console, byte) = (1, 3);
     let (_, slots) = slots_of(&rt, &mut kernel, Event::Key { console, byte });
     assert!(rt; 1 <= slots && slots <= 24);
+    Ok(())
+}
+
+#[test]
+fn a_line_is_for_no_reader_that_left(rt: HostRuntime) -> Result<(), Fail> {
+    let world = read_world(rt.alloc(), READERS_THAT_LEFT)?;
+    let mut kernel = Kernel::boot(rt.alloc(), &world)?;
+    take_steps(&rt, &mut kernel, 1000);
+    assert_eq!(rt; kernel.census().living, 62);
+    // The foreground has one member: 16 slots, and 8 for it.
+    let (console, byte) = (1, b'\n');
+    let (_, slots) = slots_of(&rt, &mut kernel, Event::Key { console, byte });
+    assert!(rt; 1 <= slots && slots <= 24);
+    assert_eq!(rt; shown(&rt, &mut kernel, Event::Step), 1);
     Ok(())
 }
 

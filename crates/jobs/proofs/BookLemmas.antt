@@ -7,6 +7,7 @@ use Rattle.posix.specs.Tables.{IsRising, lookup, adopted, reparented, above, fir
 use Rattle.posix.specs.Waits.{has_report, reporting_in}
 use Rattle.posix.specs.Alarms.{is_due}
 use Rattle.pidset.specs.Indexes.{ArePairs, IsRekeyed, IsNextPair, is_key, is_pair_in, key_of}
+use Rattle.pidset.specs.Lists.{ListsView}
 use Rattle.pidset.proofs.IndexLemmas.{IsElsewhere, can_replace, indexed_moved, indexed_map, indexed_adopted, indexed_none, index_moved, index_map, rekeyed, next_pair}
 use Rattle.posix.proofs.TableLemmas.{pid_reparented}
 use Rattle.jobs.specs.declared.books.Books.{Books}
@@ -49,8 +50,8 @@ pub fits_more : (k n : ℕ) (b : Books) → 0 < lesser k (room_in n b) → Fits 
 fits_more k n b h = record { reporting = grind (arith, nat_tests, h); stopped = grind (arith, nat_tests, h); alarmed = grind (arith, nat_tests, h) }
 
 -- the record of p is changed, comes or goes, and p moves
-pub books_moved : (p parent : ℕ) (it : Option Seen) (rs ts : List Process) (old new : Books) → IsElsewhere p rs ts → Fits (length ts) old → AreBooks rs old → Sees p parent it ts → AreMoved p parent it old new → AreBooks ts new
-books_moved p parent it rs ts old new same fits h s k = record {
+pub books_moved : (p parent : ℕ) (it : Option Seen) (rs ts : List Process) (old new : Books) (anchors : ListsView) → IsElsewhere p rs ts → Fits (length ts) old → AreBooks rs old → Sees p parent it ts → AreMoved p parent it old new → AreBooks ts (record new { anchors = anchors })
+books_moved p parent it rs ts old new anchors same fits h s k = record {
   members = index_moved member_key p rs ts old.members.pairs new.members.pairs same h.members (rw s.members k.members);
   reporting = indexed_moved report_key p rs ts old.reporting new.reporting same fits.reporting h.reporting (rw s.reporting k.reporting);
   stopped = indexed_moved stopped_key p rs ts old.stopped new.stopped same fits.stopped h.stopped (rw s.stopped k.stopped);

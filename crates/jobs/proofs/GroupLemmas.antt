@@ -1,11 +1,12 @@
 -- The walk over the members of a process group.
-use Rattle.std.proofs.Common.{[], ◌==◌, not, ◌≡◌, ◌+◌, ℕ, Bool, false, cond, refl, ap, sym, ◌∙◌, arith, List, ◌∷◌, filter, length, Option, Some}
-use Rattle.std.specs.Option.{option_map_or}
+use Rattle.std.proofs.Common.{[], ◌≡◌, ◌+◌, ℕ, nat_lt, Bool, inl, refl, ap, ◌∙◌, arith, List, ◌∷◌, filter, length, is_some, Option, Some}
 use Rattle.std.specs.List.{list_any}
 use Rattle.posix.specs.Processes.{Process}
-use Rattle.posix.specs.Tables.{IsRising, lookup, is_member, members_in, first_pid, above, left_of}
+use Rattle.posix.specs.Tables.{IsRising, lookup, first_pid, above, left_of}
 use Rattle.posix.proofs.TableLemmas.{rising_filter}
-use Rattle.posix.proofs.WalkLemmas.{here, in_filter, head_left_of}
+use Rattle.posix.proofs.WalkLemmas.{above_all, all_looked, filters_commute, here, in_filter, head_left_of}
+use Rattle.jobs.specs.JobTables.{AreNumbers}
+use Rattle.jobs.proofs.NumberLemmas.{above_none, least_number}
 
 -- ---- the walk
 
@@ -29,17 +30,13 @@ one_here t p rs next up comes begins =
 pub one_less : (t : Process → Bool) (p : ℕ) (rs : List Process) (next after : Option ℕ) → AtOne t p rs → next ≡ Some p → after ≡ first_pid (above p (filter t rs)) → length (left_of next (filter t rs)) ≡ 1 + length (left_of after (filter t rs))
 one_less t p rs next after at comes e = let long = ap length at.left in rw (comes, e) (omega (arith, long))
 
--- none pass a test where none are counted
-pub none_pass : (t : Process → Bool) (rs : List Process) → (length (filter t rs) == 0) ≡ not (list_any t rs)
-none_pass t [] = refl
-none_pass t (r ∷ rs) = grind (arith, none_pass t rs)
+-- ---- members that are counted
 
--- ---- members that pass a test, counted one after another
+-- all who pass lie above 0
+pub passing_above : (t : Process → Bool) (rs : List Process) → IsRising rs → AreNumbers rs → above 0 (filter t rs) ≡ filter t rs
+passing_above t rs up numbers = filters_commute (λ r. nat_lt 0 r.pid) t rs ∙ ap (filter t) (above_all 0 rs (above_none rs (all_looked _ rs up (least_number rs (numbers 0 (inl refl))))))
 
--- the one that comes next is counted where it passes, and those behind it
-pub counted_here : (t : Process → Bool) (group p : ℕ) (rs : List Process) (next after : Option ℕ) → AtOne (is_member group) p rs → next ≡ Some p → after ≡ first_pid (above p (members_in group rs)) → (b : Bool) → option_map_or t (lookup p rs) false ≡ b
-    → length (filter t (left_of next (members_in group rs))) ≡ cond b (length (filter t (left_of after (members_in group rs))) + 1) (length (filter t (left_of after (members_in group rs))))
-unfolding members_in
-counted_here t group p rs next after at comes e b h =
-    let passes : t at.what ≡ b = ap (λ o. option_map_or t o false) (sym at.found) ∙ h in
-    rw (comes, e, at.left, ← passes) (grind arith)
+-- there is a first of those that pass a test where one passes it
+pub has_first : (t : Process → Bool) (rs : List Process) → is_some (first_pid (filter t rs)) ≡ list_any t rs
+has_first t [] = refl
+has_first t (r ∷ rs) = grind (arith, has_first t rs)

@@ -7,3 +7,4 @@ pub mod MoveLemmas
 pub mod KeptLemmas
 pub mod BookLemmas
 pub mod RunLemmas
+pub mod AnchorLemmas

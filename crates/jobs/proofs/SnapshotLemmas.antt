@@ -1,7 +1,7 @@
 -- Who is there, and the snapshot that was read of a process.
-use Rattle.std.proofs.Common.{◌≡◌, ◌≢◌, ◌==◌, ℕ, true, false, not, refl, ap, sym, ◌∙◌, List, Option, Some, None, option_map}
+use Rattle.std.proofs.Common.{◌≡◌, ◌≢◌, ◌==◌, ◌&&◌, ◌||◌, ℕ, true, false, not, refl, ap, sym, ◌∙◌, List, Option, Some, None, option_map}
 use Rattle.std.specs.Option.{IsSome}
-use Rattle.std.proofs.lemmas.Bool.{eqb-true, eq-eqb}
+use Rattle.std.proofs.lemmas.Bool.{eqb-true, eq-eqb, and_parts}
 use Rattle.posix.specs.declared.process.Life.{Life}
 use Rattle.posix.specs.declared.process.Life.TheVariants.{Running, Stopped, Zombie}
 use Rattle.posix.specs.Processes.{Process, is_zombie}
@@ -9,6 +9,8 @@ use Rattle.posix.specs.Tables.{lookup}
 use Rattle.posix.proofs.TableLemmas.{pid_looked}
 use Rattle.proctable.specs.declared.snapshot.Snapshot.{Snapshot}
 use Rattle.proctable.specs.Records.{snapshot_of}
+use Rattle.jobs.specs.declared.books.Seen.{Seen}
+use Rattle.jobs.specs.Books.{keeps_stance}
 
 -- who is looked up
 pub record There (o : Option Process) : Type 0 where
@@ -50,6 +52,13 @@ pub lives : (life other : Life) → life ≡ other → ((w : ℕ) → life ≡ Z
 lives Running other e h = rw (← e) refl
 lives Stopped other e h = rw (← e) refl
 lives (Zombie w) other e h = absurd (h w refl)
+
+-- who keeps its stance stays in its process group and its session, and isn't revived
+pub stance_kept : (old new : Seen) → keeps_stance old new ≡ true → (new.group ≡ old.group) × (new.session ≡ old.session) × ((is_zombie new.life || not (is_zombie old.life)) ≡ true)
+stance_kept old new e =
+    let both = and_parts (old.group == new.group && old.session == new.session) _ e in
+    let each = and_parts (old.group == new.group) _ both.0 in
+    (sym (eqb-true _ _ each.0), sym (eqb-true _ _ each.1), both.1)
 
 -- ---- numbers that were compared
 

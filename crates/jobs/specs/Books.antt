@@ -1,5 +1,6 @@
 -- The indexes that a table of jobs keeps of its processes.
-use Rattle.std.specs.Prelude.{◌≡◌, ◌<◌, ◌≤◌, IfSome, ℕ, ◌-◌, ◌||◌, if◌then◌else◌, nat_le, List, Option, Some, None}
+use Rattle.std.specs.Prelude.{◌≡◌, ◌<◌, ◌≤◌, IfSome, ℕ, ◌-◌, Bool, false, not, ◌==◌, ◌&&◌, ◌||◌, if◌then◌else◌, nat_le, List, Option, Some, None}
+use Rattle.std.specs.Option.{option_map_or}
 use Rattle.posix.specs.Processes.{Process, is_zombie, is_stopped}
 use Rattle.posix.specs.Waits.{is_news}
 use Rattle.pidset.specs.Indexes.{CanReplace, IsMoved, IsReplaced, IsIndex, IsIndexed}
@@ -27,6 +28,21 @@ member_in (Some w) = Some w.group
 
 abbrev pub member_key : Process → Option ℕ
 member_key r = member_in (Some (seen_of r))
+
+-- one that keeps its process group from being orphaned, by what is seen of its parent, stands under that group
+abbrev pub is_outside : Seen → Seen → Bool
+is_outside w up = up.session == w.session && not (up.group == w.group)
+
+abbrev pub anchor_in : Seen → Option Seen → Option ℕ
+anchor_in w up = if not (is_zombie w.life) && option_map_or (is_outside w) up false then Some w.group else None
+
+-- so a child of a parent that is seen so
+abbrev pub child_key : Seen → Process → Option ℕ
+child_key up r = anchor_in (seen_of r) (Some up)
+
+-- One with the same parent stands under the group as before, or has ended, and its children stand as before.
+abbrev pub keeps_stance : Seen → Seen → Bool
+keeps_stance old new = old.group == new.group && old.session == new.session && (is_zombie new.life || not (is_zombie old.life))
 
 -- one that has something to report stands under its parent
 abbrev pub report_in : ℕ → Option Seen → Option ℕ

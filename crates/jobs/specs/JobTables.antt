@@ -1,16 +1,18 @@
 -- What a table of jobs is worth.
-use Rattle.std.specs.Prelude.{◌≡◌, true, ℕ, ◌+◌, ◌<◌, ◌≤◌, ◌⊎◌, List, length, Some, None}
+use Rattle.std.specs.Prelude.{◌≡◌, Bool, is_some, true, ℕ, ◌+◌, ◌<◌, ◌≤◌, ◌⊎◌, List, length, Some, None, ◌≢◌}
 use Rattle.std.specs.List.{list_any}
 use Rattle.std.specs.Borrow.{MutBor}
 use Rattle.std.specs.Fn.{Once, FnOnceReturnsAtMut}
 use Rattle.posix.specs.Processes.{Process}
 use Rattle.posix.specs.Tables.{IsRising, lookup, changed, parent_of, is_member}
 use Rattle.posix.specs.Targets.{greatest_pid}
+use Rattle.posix.specs.Choice.{chosen}
 use Rattle.proctable.specs.declared.records.Record.{Record}
 use Rattle.proctable.specs.declared.own_part.OwnPart.{OwnPart}
 use Rattle.proctable.specs.Records.{give_own, process_of, with_record}
 use Rattle.jobs.specs.declared.books.Books.{Books}
-use Rattle.jobs.specs.Books.{AreBooks, record_seen}
+use Rattle.pidset.specs.Indexes.{HaveParents, IsAnchorIndex}
+use Rattle.jobs.specs.Books.{AreBooks, record_seen, keeps_stance}
 
 -- the processes in rising order of their numbers, how many more can be put in without memory, with numbers below which
 -- limit, and how many slots have been read
@@ -28,6 +30,16 @@ AreNumbers rs = (p : ℕ) → (p ≡ 0) ⊎ (greatest_pid < p) → lookup p rs �
 abbrev pub AreWithin : ℕ → List Process → Type 0
 AreWithin n rs = (p : ℕ) (r : Process) → lookup p rs ≡ Some r → (r.pid < n) × (1 ≤ r.group) × (r.group < n)
 
+-- it has a parent
+abbrev pub HasParent : ℕ → Process → Type 0
+HasParent p r = r.parent ≢ 0
+
+-- the anchors are in their index, which has memory for each number, and each parent is there
+pub record AreAnchors (rs : List Process) (b : Books) : Type 0 where
+  pub index : IsAnchorIndex rs b.anchors.pairs
+  pub wide : b.members.numbers ≤ b.anchors.numbers
+  pub parents : HaveParents HasParent rs
+
 -- their numbers rise, it is known how many there are, and their indexes are right
 pub record IsKept (n : ℕ) (b : Books) (rs : List Process) : Type 0 where
   pub rising : IsRising rs
@@ -36,6 +48,7 @@ pub record IsKept (n : ℕ) (b : Books) (rs : List Process) : Type 0 where
   pub limit : b.members.numbers ≤ 2147483648
   pub count : n ≡ length rs
   pub books : AreBooks rs b
+  pub anchors : AreAnchors rs b
 
 -- Whoever only looks leaves the processes and the room as they are, and reads at most n slots. From each look it is known
 -- that the numbers rise, and which there are.
@@ -64,19 +77,31 @@ looked more t = record t { visits = more t.visits }
 abbrev pub lent : (ℕ → ℕ) → JobsView → ℕ → OwnPart → JobsView
 lent more t p o = record t { processes = changed p (give_own o) t.processes; visits = more t.visits }
 
+-- a signal is chosen for it, so that it acts next
+abbrev pub takes_signal : Process → Bool
+takes_signal r = is_some (chosen r.life r.signals)
+
 -- ---- closures that change a record
 
--- the indexes see at most an alarm of what the closure changes
-abbrev pub IsUnseen : {F T : Type 0} → Once F (MutBor Record × Unit {0}) (T × (MutBor Record × Unit {0})) → F → Type 0
-IsUnseen {T = T} g change = (b c : Record) (r : T) → FnOnceReturnsAtMut g change b r c → record (record_seen c) { alarm = b.alarm } ≡ record_seen b
+-- the closure changes nothing but signals, and an alarm
+abbrev pub ChangesSignals : {F T : Type 0} → Once F (MutBor Record × Unit {0}) (T × (MutBor Record × Unit {0})) → F → Type 0
+ChangesSignals {T = T} g change = (b c : Record) (r : T) → FnOnceReturnsAtMut g change b r c → c ≡ record b { alarm = c.alarm; own = record (b.own) { signals = c.own.signals } }
 
 -- p may be in the process group g: it has its number, or a member
 abbrev pub IsGroupFor : ℕ → ℕ → List Process → Type 0
 IsGroupFor p g rs = (g ≡ p) ⊎ (list_any (is_member g) rs ≡ true)
 
--- the closure leaves a process in its process group, or in one in which p may be
+-- whatever the closure does to the record of p, this is so of it before and after
+abbrev pub Does : {F T : Type 0} → Once F (MutBor Record × Unit {0}) (T × (MutBor Record × Unit {0})) → F → List Process → ℕ → (Record → Record → Type 0) → Type 0
+Does {T = T} g change rs p what = (b c : Record) (r : T) → lookup p rs ≡ Some (process_of p (parent_of p rs) b) → FnOnceReturnsAtMut g change b r c → what b c
+
+-- the closure leaves p in its process group, or in one in which p may be
 abbrev pub StaysGrouped : {F T : Type 0} → Once F (MutBor Record × Unit {0}) (T × (MutBor Record × Unit {0})) → F → List Process → ℕ → Type 0
-StaysGrouped {T = T} g change rs p = (b c : Record) (r : T) → FnOnceReturnsAtMut g change b r c → (c.group ≡ b.group) ⊎ IsGroupFor p c.group rs
+StaysGrouped g change rs p = Does g change rs p (λ b c. (c.group ≡ b.group) ⊎ IsGroupFor p c.group rs)
+
+-- it leaves p in its process group and its session, and doesn't revive it
+abbrev pub StaysPut : {F T : Type 0} → Once F (MutBor Record × Unit {0}) (T × (MutBor Record × Unit {0})) → F → List Process → ℕ → Type 0
+StaysPut g change rs p = Does g change rs p (λ b c. keeps_stance (record_seen b) (record_seen c) ≡ true)
 
 -- the closure ran on the record of p, and gave r
 pub record IsRun {F T : Type 0} (g : Once F (MutBor Record × Unit {0}) (T × (MutBor Record × Unit {0}))) (change : F) (rs ts : List Process) (p : ℕ) (r : T) : Type 0 where

@@ -1,8 +1,9 @@
 //! The indexes that a table of jobs keeps of its processes.
 
 ghost use Rattle.std.specs.Prelude.{◌≡◌, ◌≢◌, ◌<◌, ◌≤◌, ◌^◌, [], Some, OnOk};
+ghost use Rattle.posix.specs.Processes.{is_zombie};
 ghost use Rattle.pidset.specs.Indexes.{IsNextPair, IsRekeyed};
-ghost use Rattle.jobs.specs.Books.{AreBooks, record_seen, snapshot_seen, member_in, report_in, stopped_in, alarm_in, CanMove, IsInside, AreMoved};
+ghost use Rattle.jobs.specs.Books.{AreBooks, record_seen, snapshot_seen, member_in, anchor_in, report_in, stopped_in, alarm_in, CanMove, IsInside, AreMoved};
 
 use pidset::{Index, Lists};
 use posix::{Life, News, Pid};
@@ -40,6 +41,8 @@ pub struct Change {
 pub struct Books {
     /// The processes by their process groups, zombies included.
     pub members: Lists,
+    /// The processes that keep their process groups from being orphaned, by these groups.
+    pub anchors: Lists,
     /// The children that have something to report, by their parents.
     pub reporting: Index,
     /// The processes that are stopped, by their process groups.
@@ -75,6 +78,14 @@ pub(crate) fn of_snapshot(snapshot: &Snapshot) -> Seen
     }
 }
 
+/// Whether a process has ended.
+#[inline(always)]
+pub(crate) fn is_dead(it: &Seen) -> bool
+    ensures { result ≡ is_zombie it.now.life }
+{
+    matches!(it.life, Life::Zombie(_))
+}
+
 /// A number as a key.
 #[inline(always)]
 fn key(pid: Pid) -> u64
@@ -91,6 +102,19 @@ fn member_key(it: &Option<Seen>) -> Option<Pid>
     match it {
         Some(it) => Some(it.group),
         None => None,
+    }
+}
+
+/// The key of a process among those that keep their process groups from being orphaned: it lives, and has a parent in
+/// another group of the same session.
+#[inline(always)]
+pub(crate) fn anchor_key(it: &Seen, parent: &Option<Seen>) -> Option<Pid>
+    ensures { result ≡ anchor_in it.now parent.now }
+{
+    match parent {
+        Some(parent) if !is_dead(it) && parent.session == it.session && parent.group != it.group =>
+            { Some(it.group) }
+        _ => None,
     }
 }
 
@@ -133,10 +157,12 @@ impl Books {
     /// Of no processes. They take no memory.
     pub(crate) fn new(alloc: Global) -> Books
         ensures books { AreBooks [] result }
+        ensures anchors { result.anchors.pairs ≡ [] }
         ensures none { result.members.numbers ≡ 0 }
     {
         Books {
             members: Lists::new(alloc),
+            anchors: Lists::new(alloc),
             reporting: Index::new(alloc),
             stopped: Index::new(alloc),
             alarmed: Index::new(alloc),
@@ -148,16 +174,20 @@ impl Books {
     pub(crate) fn reserve(&mut self, most: usize, greatest: Pid) -> Result<(), AllocError>
         requires { most < 2 ^ 63 }
         ensures members { self.new.members.pairs ≡ self.old.members.pairs }
+        ensures anchors { self.new.anchors.pairs ≡ self.old.anchors.pairs }
         ensures reporting { self.new.reporting.pairs ≡ self.old.reporting.pairs }
         ensures stopped { self.new.stopped.pairs ≡ self.old.stopped.pairs }
         ensures alarmed { self.new.alarmed.pairs ≡ self.old.alarmed.pairs }
         ensures grows_members { self.old.members.numbers ≤ self.new.members.numbers }
         ensures most_members { self.old.members.numbers ≤ 2147483648 → self.new.members.numbers ≤ 2147483648 }
+        ensures wide { self.old.members.numbers ≤ self.old.anchors.numbers → self.new.members.numbers ≤ self.new.anchors.numbers }
         ensures grows_reporting { self.old.reporting.room ≤ self.new.reporting.room }
         ensures grows_stopped { self.old.stopped.room ≤ self.new.stopped.room }
         ensures grows_alarmed { self.old.alarmed.room ≤ self.new.alarmed.room }
         ensures ok { OnOk result ((greatest < self.new.members.numbers) × (most ≤ self.new.reporting.room) × (most ≤ self.new.stopped.room) × (most ≤ self.new.alarmed.room)) }
     {
+        // There is never less memory for the anchors than for the members.
+        self.anchors.reserve(greatest)?;
         self.members.reserve(greatest)?;
         self.reporting.reserve(most)?;
         self.stopped.reserve(most)?;
@@ -177,7 +207,8 @@ impl Books {
         requires can { CanMove pid parent before.now self.old }
         requires pid { 1 ≤ pid }
         requires inside { IsInside pid after.now self.old }
-        ensures { AreMoved pid parent after.now self.old self.new }
+        ensures moved { AreMoved pid parent after.now self.old self.new }
+        ensures anchors { self.new.anchors ≡ self.old.anchors }
     {
         self.members.put(pid, member_key(after));
         self.reporting
@@ -194,7 +225,8 @@ impl Books {
         requires can { CanMove pid change.now.parent (Some change.now.before) self.old }
         requires pid { 1 ≤ pid }
         requires inside { IsInside pid (Some change.now.after) self.old }
-        ensures { AreMoved pid change.now.parent (Some change.now.after) self.old self.new }
+        ensures moved { AreMoved pid change.now.parent (Some change.now.after) self.old self.new }
+        ensures anchors { self.new.anchors ≡ self.old.anchors }
     {
         self.reindex(
             pid,
@@ -208,6 +240,7 @@ impl Books {
     pub(crate) fn reparent(&mut self, from: Pid, to: Pid)
         requires { from ≢ to }
         ensures members { self.new.members ≡ self.old.members }
+        ensures anchors { self.new.anchors ≡ self.old.anchors }
         ensures reporting { IsRekeyed from to self.old.reporting self.new.reporting }
         ensures stopped { self.new.stopped ≡ self.old.stopped }
         ensures alarmed { self.new.alarmed ≡ self.old.alarmed }
@@ -221,6 +254,22 @@ impl Books {
         ensures { IsNextPair group after self.now.members.pairs result }
     {
         self.members.next(group, after)
+    }
+
+    /// The member of a process group that keeps it from being orphaned, with the least number above `after`.
+    #[inline]
+    pub(crate) fn next_anchor(&self, group: Pid, after: Pid) -> Option<Pid>
+        ensures { IsNextPair group after self.now.anchors.pairs result }
+    {
+        self.anchors.next(group, after)
+    }
+
+    /// The member of a process group that is stopped, with the least number above `after`.
+    #[inline]
+    pub(crate) fn next_stopped(&self, group: Pid, after: Pid) -> Option<Pid>
+        ensures { IsNextPair group after self.now.stopped.pairs result }
+    {
+        self.stopped.next(key(group), after)
     }
 
     /// The child of a process that has something to report, with the least number above `after`.

@@ -1,18 +1,18 @@
 //! Process groups: who their members are, one after another, how many of these are stopped, and whether they
 //! are orphaned (XBD 3).
 
-ghost use Rattle.std.specs.Prelude.{◌≡◌, ◌+◌, ◌≤◌, ◌<◌, ◌*◌, ◌^◌, Option, Some, None, false, length, filter, option_map};
-ghost use Rattle.std.specs.Option.{option_map_or};
-ghost use Rattle.posix.specs.Processes.{Process, is_stopped as is_stopped_of, is_zombie};
-ghost use Rattle.posix.specs.Tables.{IsRising, lookup, first_pid, above, members_in};
-ghost use Rattle.proctable.specs.Records.{snapshot_of};
-ghost use Rattle.jobs.specs.JobTables.{AreNumbers, Finds};
-ghost use Rattle.jobs.specs.Counts.{is_counted as is_counted_by, slots_more};
-ghost use Rattle.posix.specs.Groups.{is_anchor as is_anchor_of, is_orphaned as is_orphaned_of, is_outside as is_outside_of};
+ghost use Rattle.std.specs.Prelude.{◌≡◌, length, filter};
+ghost use Rattle.std.specs.List.{list_any};
+ghost use Rattle.posix.specs.Processes.{is_stopped as is_stopped_of};
+ghost use Rattle.posix.specs.Tables.{IsRising, first_pid, above, members_in};
+ghost use Rattle.posix.specs.Groups.{is_anchor as is_anchor_of, is_orphaned as is_orphaned_of, has_stopped as has_stopped_of};
+ghost use Rattle.pidset.specs.Indexes.{anchor_key, key_of};
+ghost use Rattle.jobs.specs.JobTables.{AreNumbers};
+ghost use Rattle.jobs.specs.Counts.{is_counted, counted_in};
 
 use crate::job_table::JobTable;
-use posix::{Life, Pid};
-use proctable::{Kin, Snapshot};
+use posix::Pid;
+use proctable::Kin;
 
 /// Which members of a process group are counted.
 #[derive(Clone, Copy)]
@@ -21,25 +21,6 @@ enum Counted {
     Anchors,
     /// Those that are stopped.
     Stopped,
-}
-
-/// Whether the process with this snapshot has ended.
-#[inline]
-fn is_dead(it: &Snapshot) -> bool
-    ensures { result ≡ is_zombie it.now.life }
-{
-    matches!(it.life, Life::Zombie(_))
-}
-
-/// Whether a process has a parent in another group of the same session.
-#[inline]
-fn is_outside(it: &Snapshot, parent: &Option<Snapshot>) -> bool
-    ensures { (r : Process) (o : Option Process) → it.now ≡ snapshot_of r → parent.now ≡ option_map snapshot_of o → result ≡ option_map_or (is_outside_of r) o false }
-{
-    match parent {
-        Some(parent) => parent.session == it.session && parent.group != it.group,
-        None => false,
-    }
 }
 
 impl<K: Kin> JobTable<K> {
@@ -63,76 +44,84 @@ impl<K: Kin> JobTable<K> {
         self.next_member(group, Pid::NONE)
     }
 
-    /// Whether a process is there, lives, and has a parent in another group of the same session.
-    pub fn is_anchor(&mut self, pid: Pid) -> bool
-        ensures { Finds 2 self.old self.new (result ≡ option_map_or (is_anchor_of self.old.processes) (lookup pid self.old.processes) false) }
-    {
-        let Some(it) = self.get(pid) else {
-            return false;
-        };
-        if is_dead(&it) {
-            return false;
-        }
-        let parent = self.get(it.parent);
-        is_outside(&it, &parent)
-    }
-
-    /// Whether a process group is orphaned: no living member of it has a parent in another group of the same
-    /// session (XBD 3 Orphaned Process Group).
-    #[tactic(auto, using(crate::proofs::GroupLemmas::none_pass), unfolding(posix::specs::Groups::is_orphaned))]
-    pub fn is_orphaned(&mut self, group: Pid) -> bool
-        ensures { Finds (2 * length (members_in group self.old.processes)) self.old self.new (result ≡ is_orphaned_of group self.old.processes) }
-    {
-        self.anchors(group) == 0
-    }
-
-    /// Whether a process is there and stopped.
-    fn is_stopped(&mut self, pid: Pid) -> bool
-        ensures { Finds 1 self.old self.new (result ≡ option_map_or (λ r. is_stopped_of r.life) (lookup pid self.old.processes) false) }
-    {
-        match self.get(pid) {
-            Some(snapshot) => snapshot.life == Life::Stopped,
-            None => false,
-        }
-    }
-
-    /// Whether a process is there, and is one that is counted.
-    fn is_counted(&mut self, pid: Pid, what: Counted) -> bool
-        ensures { Finds (1 + slots_more what) self.old self.new (result ≡ option_map_or (is_counted_by what self.old.processes) (lookup pid self.old.processes) false) }
+    /// The member of a process group that is counted with the least number above `after`.
+    fn next_counted(&self, group: Pid, what: Counted, after: Pid) -> Option<Pid>
+        ensures { result ≡ first_pid (above after (counted_in what group self.now.processes)) }
     {
         match what {
-            Counted::Anchors => self.is_anchor(pid),
-            Counted::Stopped => self.is_stopped(pid),
+            Counted::Anchors => self.books.next_anchor(group, after),
+            Counted::Stopped => self.books.next_stopped(group, after),
         }
+    }
+
+    /// The member of a process group that is counted with the least number.
+    fn first_counted(&self, group: Pid, what: Counted) -> Option<Pid>
+        ensures first { result ≡ first_pid (counted_in what group self.now.processes) }
+        ensures rising { IsRising self.now.processes }
+        ensures numbers { AreNumbers self.now.processes }
+    {
+        let _ = &self.table;
+        self.next_counted(group, what, Pid::NONE)
+    }
+
+    /// Whether a member of a process group is counted.
+    #[tactic(auto, using(crate::proofs::GroupLemmas::has_first))]
+    fn has_counted(&self, group: Pid, what: Counted) -> bool
+        ensures { result ≡ list_any (is_counted what self.now.processes) (members_in group self.now.processes) }
+    {
+        self.first_counted(group, what).is_some()
     }
 
     /// How many members of a process group are counted.
-    fn count(&mut self, group: Pid, what: Counted) -> usize
-        ensures { Finds ((1 + slots_more what) * length (members_in group self.old.processes)) self.old self.new (result ≡ length (filter (is_counted_by what self.old.processes) (members_in group self.old.processes))) }
+    fn count(&self, group: Pid, what: Counted) -> usize
+        ensures { result ≡ length (counted_in what group self.now.processes) }
     {
-        let _ = &self.table;
         let mut count = 0;
-        let mut next = self.first_member(group);
+        let mut next = self.first_counted(group, what);
         while let Some(pid) = next {
-            if self.is_counted(pid, what) {
-                count += 1;
-            }
-            next = self.next_member(group, pid);
+            count += 1;
+            next = self.next_counted(group, what, pid);
         }
         count
     }
 
-    /// How many members of a process group live and have a parent in another group of the same session.
-    pub fn anchors(&mut self, group: Pid) -> usize
-        ensures { Finds (2 * length (members_in group self.old.processes)) self.old self.new (result ≡ length (filter (is_anchor_of self.old.processes) (members_in group self.old.processes))) }
+    /// The process group that a process keeps from being orphaned: it is there, lives, and has a parent in another
+    /// group of the same session. No slot is read.
+    pub fn group_kept(&self, pid: Pid) -> Option<Pid>
+        ensures { result ≡ key_of (anchor_key self.now.processes) pid self.now.processes }
+    {
+        self.books.anchors.list(pid)
+    }
+
+    /// How many members of a process group live and have a parent in another group of the same session. No slot is
+    /// read.
+    pub fn anchors(&self, group: Pid) -> usize
+        ensures { result ≡ length (filter (is_anchor_of self.now.processes) (members_in group self.now.processes)) }
     {
         self.count(group, Counted::Anchors)
     }
 
-    /// How many members of a process group are stopped.
-    pub fn stopped_in(&mut self, group: Pid) -> usize
-        ensures { Finds (length (members_in group self.old.processes)) self.old self.new (result ≡ length (filter (λ r. is_stopped_of r.life) (members_in group self.old.processes))) }
+    /// Whether a process group is orphaned: no living member of it has a parent in another group of the same
+    /// session (XBD 3 Orphaned Process Group). No slot is read.
+    #[tactic(auto, unfolding(posix::specs::Groups::is_orphaned))]
+    pub fn is_orphaned(&self, group: Pid) -> bool
+        ensures { result ≡ is_orphaned_of group self.now.processes }
+    {
+        !self.has_counted(group, Counted::Anchors)
+    }
+
+    /// How many members of a process group are stopped. No slot is read.
+    pub fn stopped_in(&self, group: Pid) -> usize
+        ensures { result ≡ length (filter (λ r. is_stopped_of r.life) (members_in group self.now.processes)) }
     {
         self.count(group, Counted::Stopped)
+    }
+
+    /// Whether a member of a process group is stopped. No slot is read.
+    #[tactic(auto, unfolding(posix::specs::Groups::has_stopped))]
+    pub fn has_stopped(&self, group: Pid) -> bool
+        ensures { result ≡ has_stopped_of group self.now.processes }
+    {
+        self.has_counted(group, Counted::Stopped)
     }
 }

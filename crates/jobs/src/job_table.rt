@@ -1,20 +1,22 @@
 //! The table: who is there.
 
-ghost use Rattle.std.specs.Prelude.{◌≡◌, ◌≢◌, ◌+◌, ◌*◌, ◌<◌, ◌≤◌, ◌^◌, ◌⊎◌, [], ⊤, ℕ, Some, IfOk, IfSome, IsSome, OnOk, None, true, not, if◌then◌else◌, length, filter, option_map};
+ghost use Rattle.std.specs.Prelude.{◌≡◌, ◌≢◌, ◌+◌, ◌*◌, ◌<◌, ◌≤◌, ◌^◌, ◌⊎◌, [], ⊤, ℕ, Some, IfOk, IfSome, IsSome, OnOk, None, true, not, is_some, if◌then◌else◌, length, filter, option_map};
 ghost use mathlib.Core.Option.{none};
 ghost use Rattle.std.specs.Borrow.{sem, Lends, follows_so};
 ghost use Rattle.std.specs.List.{list_any};
 ghost use Rattle.posix.specs.Processes.{Process, is_stopped as is_stopped_by};
 ghost use Rattle.posix.specs.Tables.{lookup, inserted, removed, children_in, first_pid, next_above, next_sibling as next_sibling_of, adopted, above, parent_of};
 ghost use Rattle.posix.specs.Alarms.{is_due};
+ghost use Rattle.posix.specs.Choice.{chosen};
 ghost use Rattle.posix.specs.Births.{child_of};
 ghost use Rattle.posix.specs.Waits.{reporting_in};
 ghost use Rattle.proctable.specs.Records.{process_of, snapshot_of, own_of, own_row};
 ghost use Rattle.jobs.specs.contracts.job_table.JobTable.{the_row as jobs_row};
 ghost use Rattle.jobs.specs.Books.{record_seen, seen_of};
-ghost use Rattle.jobs.specs.JobTables.{IsRun, IsUnseen, StaysGrouped, lent, looked, Looks, Finds, Costs};
+ghost use Rattle.jobs.specs.JobTables.{takes_signal, ChangesSignals, IsRun, StaysGrouped, lent, looked, Looks, Finds, Costs, StaysPut};
 
-use crate::books::{Books, Change, Seen, of_record, of_snapshot};
+use crate::anchors::{reanchor, seen_in, turn_children};
+use crate::books::{Books, Change, Seen, anchor_key, of_record, of_snapshot};
 use posix::Pid;
 use proctable::{Kin, OwnPart, Record, Snapshot};
 use std::alloc::{AllocError, Global};
@@ -32,12 +34,14 @@ pub struct JobTable<K: Kin> {
     pub(crate) books: Books,
 }
 
-/// What a closure gave, and what the indexes see of the process before and after.
+/// What a closure gave, what the indexes see of the process before and after, and whether a signal is chosen for it
+/// afterwards.
 #[derive(Drop)]
 struct Run<T> {
     before: Seen,
     result: T,
     after: Seen,
+    takes_signal: bool,
 }
 
 impl<K: Kin> Model for JobTable<K> {
@@ -87,11 +91,13 @@ impl<K: Kin> JobTable<K> {
         requires parent { (parent ≡ 0) ⊎ IsSome (lookup parent self.old.processes) }
         ensures processes { self.new.processes ≡ inserted (process_of pid parent fields) self.old.processes }
         ensures room { self.old.room ≤ self.new.room + 1 }
-        ensures visits { self.new.visits ≤ self.old.visits + 5 + length (children_in parent self.old.processes) }
+        ensures visits { self.new.visits ≤ self.old.visits + 6 + length (children_in parent self.old.processes) }
     {
-        let after = Some(of_record(&fields));
+        let after = of_record(&fields);
         self.table.insert(pid, parent, fields);
-        self.books.reindex(pid, parent, &None, &after);
+        let above = seen_in(&mut self.table, parent);
+        self.books.reindex(pid, parent, &None, &Some(after));
+        self.books.anchors.put(pid, anchor_key(&after, &above));
         self.count += 1;
     }
 
@@ -118,6 +124,7 @@ impl<K: Kin> JobTable<K> {
         self.table.remove(pid);
         let before = Some(of_snapshot(&snapshot));
         self.books.reindex(pid, snapshot.parent, &before, &None);
+        self.books.anchors.put(pid, None);
         self.count -= 1;
         Some(snapshot)
     }
@@ -147,13 +154,18 @@ impl<K: Kin> JobTable<K> {
         self.table.next_after(pid)
     }
 
-    /// Gives the children of one process to another, which is there.
+    /// Gives the children of one process that is there to another, which is there.
     pub fn adopt(&mut self, from: Pid, to: Pid)
+        requires giver { IsSome (lookup from self.old.processes) }
         requires there { IsSome (lookup to self.old.processes) }
         requires apart { from ≢ to }
         ensures processes { self.new.processes ≡ adopted from to self.old.processes }
-        ensures costs { Costs (1 + 8 * length (children_in from self.old.processes) + length (children_in to self.old.processes)) self.old self.new }
+        ensures costs { Costs (3 + 10 * length (children_in from self.old.processes) + length (children_in to self.old.processes)) self.old self.new }
     {
+        let Some(heir) = seen_in(&mut self.table, to) else {
+            unreachable!()
+        };
+        turn_children(&mut self.table, &mut self.books.anchors, from, &heir);
         self.table.adopt(from, to);
         self.books.reparent(from, to);
     }
@@ -195,26 +207,28 @@ impl<K: Kin> JobTable<K> {
         self.table.update(pid).fork(birth, spare)
     }
 
-    /// Changes a process that is there in what its parent doesn't see; its alarm moves in the index. Each such
-    /// change goes by this, but a loan.
-    pub fn change<T, F: FnOnce(&mut Record) -> T>(&mut self, pid: Pid, change: F) -> T
+    /// Changes the signals of a process that is there, and its alarm, which moves in the index. Each such change goes
+    /// by this, but a loan. What the closure gave, and whether a signal is chosen for the process now.
+    pub fn change<T, F: FnOnce(&mut Record) -> T>(&mut self, pid: Pid, change: F) -> (T, bool)
         requires there { IsSome (lookup pid self.old.processes) }
         requires callable { F.IsAlwaysCallable change }
-        requires unseen { IsUnseen F.FnOnce change }
-        ensures run { IsRun F.FnOnce change self.old.processes self.new.processes pid result }
+        requires signals { ChangesSignals F.FnOnce change }
+        ensures run { IsRun F.FnOnce change self.old.processes self.new.processes pid result.0 }
+        ensures takes { option_map takes_signal (lookup pid self.new.processes) ≡ Some result.1 }
         ensures costs { Costs 1 self.old self.new }
     {
         let Run {
             before: Seen { alarm: before, .. },
             result,
             after: Seen { alarm: after, .. },
+            takes_signal,
         } = run_on(&mut self.table, pid, change);
         self.books.alarmed.replace(pid, before, after);
-        result
+        (result, takes_signal)
     }
 
-    /// Changes a process that is there, and moves it in the indexes. Each change goes by this that the parent of
-    /// the process sees. What was seen of it before and after.
+    /// Changes a process that is there, and moves it in the indexes, and its children where they see a change of it.
+    /// Each change goes by this that the parent of the process sees. What was seen of it before and after.
     pub fn change_seen<F: FnOnce(&mut Record)>(&mut self, pid: Pid, change: F) -> Change
         requires there { IsSome (lookup pid self.old.processes) }
         requires callable { F.IsAlwaysCallable change }
@@ -223,7 +237,8 @@ impl<K: Kin> JobTable<K> {
         ensures parent { result.parent ≡ parent_of pid self.old.processes }
         ensures before { option_map seen_of (lookup pid self.old.processes) ≡ Some result.before }
         ensures after { option_map seen_of (lookup pid self.new.processes) ≡ Some result.after }
-        ensures costs { Costs 2 self.old self.new }
+        ensures costs { Costs (4 + 2 * length (children_in pid self.old.processes)) self.old self.new }
+        ensures put { StaysPut F.FnOnce change self.old.processes pid → Costs 2 self.old self.new }
     {
         let parent = parent_in(&mut self.table, pid);
         let Run { before, after, .. } = run_on(&mut self.table, pid, change);
@@ -233,6 +248,7 @@ impl<K: Kin> JobTable<K> {
             after,
         };
         self.books.reindex_change(pid, &seen);
+        reanchor(&mut self.table, &mut self.books.anchors, pid, &seen);
         seen
     }
 
@@ -272,7 +288,7 @@ impl<K: Kin> JobTable<K> {
 fn run_on<K: Kin, T, F: FnOnce(&mut Record) -> T>(table: &mut K, pid: Pid, change: F) -> Run<T>
     requires there { IsSome (lookup pid (K.contents table.old)) }
     requires callable { F.IsAlwaysCallable change }
-    ensures run { (k : IsRun F.FnOnce change (K.contents table.old) (K.contents table.new) pid result.result) × (result.before ≡ record_seen k.before) × (result.after ≡ record_seen k.after) }
+    ensures run { (k : IsRun F.FnOnce change (K.contents table.old) (K.contents table.new) pid result.result) × (result.before ≡ record_seen k.before) × (result.after ≡ record_seen k.after) × (result.takes_signal ≡ is_some (chosen k.after.life k.after.own.signals)) }
     ensures room { K.room table.new ≡ K.room table.old }
     ensures visits { K.visits table.new ≤ K.visits table.old + 1 }
 {
@@ -280,10 +296,12 @@ fn run_on<K: Kin, T, F: FnOnce(&mut Record) -> T>(table: &mut K, pid: Pid, chang
     let before = of_record(it);
     let result = change(it);
     let after = of_record(it);
+    let takes_signal = it.own.signals.choose(it.life).is_some();
     Run {
         before,
         result,
         after,
+        takes_signal,
     }
 }
 

@@ -5,6 +5,7 @@
 //! what may change without leave; its life, its news, its group and its session change by calls.
 #![tactic(auto)]
 
+pub mod anchors;
 pub mod books;
 pub mod groups;
 pub mod job_table;

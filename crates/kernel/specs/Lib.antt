@@ -1,5 +1,6 @@
 pub mod Views
 pub mod Steps
+pub mod Counts
 pub mod Progress
 pub mod Summaries
 pub mod Headline

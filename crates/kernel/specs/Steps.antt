@@ -1,5 +1,5 @@
 -- What the functions of one event come to.
-use Rattle.std.specs.Prelude.{◌≡◌, ℕ, ◌+◌, ◌-◌, ◌==◌, ◌||◌, if◌then◌else◌, Bool, true, false, not, List, [], map, Option, Some, None, is_some, replicate}
+use Rattle.std.specs.Prelude.{◌≡◌, ℕ, ◌+◌, ◌-◌, ◌==◌, ◌||◌, if◌then◌else◌, Bool, true, false, List, [], map, Option, Some, None, is_some, replicate}
 use Rattle.posix.specs.declared.call.Call.{Call}
 use Rattle.posix.specs.declared.event.Event.{Event}
 use Rattle.posix.specs.declared.event.Event.TheVariants.{Step, Tick, Key}
@@ -10,7 +10,6 @@ use Rattle.posix.specs.declared.instr.Trap.TheVariants as trap
 use Rattle.posix.specs.Processes.{Process}
 use Rattle.posix.specs.Entries.{Line, line}
 use Rattle.posix.specs.States.{State, process, current_process}
-use Rattle.posix.specs.Alarms.{has_alarms}
 use Rattle.posix.specs.Attempts.{attempt}
 use Rattle.posix.specs.Choice.{chosen}
 use Rattle.posix.specs.Execute.{exec_one}
@@ -65,12 +64,6 @@ abbrev pub next_changes_one : State → Option Process → Bool
 next_changes_one s None = true
 next_changes_one s (Some me) = if is_held me then false else changes_one (exec_one (code_of s me) me.cpu).trap
 
--- an event changes one process at most: a tick changes none where none has an alarm, and a key may signal a process group
-abbrev pub event_changes_one : Event → State → Bool
-event_changes_one Step s = next_changes_one s (current_process s)
-event_changes_one Tick s = not (has_alarms s)
-event_changes_one (Key console byte) s = false
-
 -- an instruction whose machine fault enters a handler: it changes the process alone, too
 abbrev pub enters : Process → Trap → Bool
 enters me trap.Next = false
@@ -82,11 +75,6 @@ enters me (trap.Fault sig) = enters_handler me sig
 abbrev pub next_enters : State → Option Process → Bool
 next_enters s None = false
 next_enters s (Some me) = if is_held me then false else enters me (exec_one (code_of s me) me.cpu).trap
-
-abbrev pub event_enters : Event → State → Bool
-event_enters Step s = next_enters s (current_process s)
-event_enters Tick s = false
-event_enters (Key console byte) s = false
 
 -- who runs instructions next; 0 where nobody does
 abbrev pub runner : Option Process → ℕ

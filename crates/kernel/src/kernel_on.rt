@@ -1,6 +1,6 @@
 //! The kernel of one world.
 
-ghost use Rattle.std.specs.Prelude.{◌≡◌, ◌+◌, ◌-◌, ◌++◌, ◌<◌, ◌≤◌, ℕ, List, [], Contains, Some, IfOk, true, replicate};
+ghost use Rattle.std.specs.Prelude.{◌≡◌, ◌+◌, ◌-◌, ◌++◌, ◌<◌, ◌≤◌, ℕ, List, [], Contains, Some, IfOk, IfSome, true, replicate};
 ghost use Rattle.std.specs.List.{list_all};
 ghost use Rattle.posix.specs.States.{boot as boot_of};
 ghost use Rattle.posix.specs.declared.entry.Entry.{Entry};
@@ -11,7 +11,8 @@ ghost use Rattle.posix.specs.Step.{IsStep};
 ghost use Rattle.posix.specs.Regular.{IsRegular};
 ghost use Rattle.posix.specs.Settle.{IsSettled};
 ghost use Rattle.text.specs.EventTexts.{most_events};
-ghost use Rattle.kernel.specs.Steps.{event_changes_one, event_enters, last_given, noted_lines};
+ghost use Rattle.kernel.specs.Counts.{slots_of_event};
+ghost use Rattle.kernel.specs.Steps.{last_given, noted_lines};
 ghost use Rattle.kernel.specs.Views.{KernelView};
 ghost use Rattle.life.specs.Censuses.{census_of};
 ghost use Rattle.laws.specs.Agree.{Agree, IsOrderly};
@@ -115,8 +116,7 @@ impl<K: Kin> KernelOn<K> {
         ensures forms { IsEvent event → IsOrderly self.old.state → list_all is_line (numbered self.new.events result.items) ≡ true }
         ensures agrees { (lines : List Line) → Agree lines self.old.events self.old.state → Agree (lines ++ numbered self.new.events result.items) self.new.events self.new.state }
         ensures no_number_is_given_out_twice { (e : Entry) (n : ℕ) → Contains result.items e → born_by e ≡ Some n → is_free self.old.state.processes n ≡ true }
-        ensures visits { event_changes_one event self.old.state ≡ true → self.new.visits ≤ self.old.visits + 3 }
-        ensures visits_of_fault { event_enters event self.old.state ≡ true → self.new.visits ≤ self.old.visits + 4 }
+        ensures visits { IfSome (slots_of_event event self.old.state) (λ n. self.new.visits ≤ self.old.visits + n) }
     {
         let mut entries = ArrayVec::new();
         self.event_into(event, &mut entries);
@@ -182,8 +182,7 @@ impl<K: Kin> KernelOn<K> {
         ensures forms { IsEvent event → IsOrderly self.old.state → list_all is_line (numbered self.new.events entries.new.items) ≡ true }
         ensures agrees { (lines : List Line) → Agree lines self.old.events self.old.state → Agree (lines ++ numbered self.new.events entries.new.items) self.new.events self.new.state }
         ensures no_number_is_given_out_twice { (e : Entry) (n : ℕ) → Contains entries.new.items e → born_by e ≡ Some n → is_free self.old.state.processes n ≡ true }
-        ensures visits { event_changes_one event self.old.state ≡ true → self.new.visits ≤ self.old.visits + 3 }
-        ensures visits_of_fault { event_enters event self.old.state ≡ true → self.new.visits ≤ self.old.visits + 4 }
+        ensures visits { IfSome (slots_of_event event self.old.state) (λ n. self.new.visits ≤ self.old.visits + n) }
     {
         self.events += 1;
         next(&mut self.machine, event, entries);

@@ -1,13 +1,15 @@
 //! After each event: foreground process groups that have lost their members are cleared, and each process
 //! that can act has a place.
 
-ghost use Rattle.std.specs.Prelude.{◌≡◌, ◌||◌, [], IsSome, Some, is_some, option_map, false};
+ghost use Rattle.std.specs.Prelude.{◌≡◌, ◌+◌, ◌≤◌, ◌||◌, [], IsSome, Some, is_some, option_map, false, true};
 ghost use Rattle.posix.specs.Processes.{Process};
-ghost use Rattle.posix.specs.States.{process};
+ghost use Rattle.posix.specs.States.{process, is_in};
 ghost use Rattle.posix.specs.Choice.{chosen};
 ghost use Rattle.posix.specs.Regular.{IsRegular};
 ghost use Rattle.posix.specs.Settle.{can_act as acting, can_go_on, give_places as giving_places, settle as settling, woken};
 ghost use Rattle.proctable.specs.Records.{snapshot_of};
+ghost use Rattle.life.specs.Machines.{AreSame};
+ghost use Rattle.kernel.specs.Counts.{slots_of_judging, slots_of_settling};
 
 use calls::{has_to_read, has_to_wait};
 use life::Machine;
@@ -21,9 +23,8 @@ fn is_awake<K: Kin>(machine: &mut Machine<K>, pid: Pid, snapshot: Snapshot) -> b
     requires there { IsSome (process machine.old.state pid) }
     requires snapshot { Some snapshot ≡ option_map snapshot_of (process machine.old.state pid) }
     ensures value { (me : Process) → process machine.old.state pid ≡ Some me → result ≡ (can_go_on machine.old.state me me.blocked || is_some (chosen me.life me.signals)) }
-    ensures same { machine.new.state ≡ machine.old.state }
-    ensures to_recheck { machine.new.to_recheck ≡ machine.old.to_recheck }
-    ensures foregrounds_unchecked { machine.new.foregrounds_unchecked ≡ machine.old.foregrounds_unchecked }
+    ensures same { AreSame machine.old machine.new }
+    ensures visits { (me : Process) → process machine.old.state pid ≡ Some me → machine.new.visits ≤ machine.old.visits + slots_of_judging machine.old.state.processes me }
 {
     if snapshot.chosen.is_some() {
         return true;
@@ -41,9 +42,8 @@ fn is_awake<K: Kin>(machine: &mut Machine<K>, pid: Pid, snapshot: Snapshot) -> b
 fn can_act<K: Kin>(machine: &mut Machine<K>, pid: Pid) -> bool
     requires { IsSome (process machine.old.state pid) }
     ensures value { (me : Process) → process machine.old.state pid ≡ Some me → result ≡ acting machine.old.state me }
-    ensures same { machine.new.state ≡ machine.old.state }
-    ensures to_recheck { machine.new.to_recheck ≡ machine.old.to_recheck }
-    ensures foregrounds_unchecked { machine.new.foregrounds_unchecked ≡ machine.old.foregrounds_unchecked }
+    ensures same { AreSame machine.old machine.new }
+    ensures visits { (me : Process) → process machine.old.state pid ≡ Some me → machine.new.visits ≤ machine.old.visits + 1 + slots_of_judging machine.old.state.processes me }
 {
     let Some(snapshot) = machine.snapshot(pid) else {
         return false;
@@ -55,13 +55,15 @@ fn can_act<K: Kin>(machine: &mut Machine<K>, pid: Pid) -> bool
     }
 }
 
-/// Gives a process that is there the last place, if it has none and can act.
+/// Gives a process that is to be rechecked the last place, if it has none and can act.
 #[tactic(auto, unfolding(posix::specs::Settle::woken))]
 fn wake<K: Kin>(machine: &mut Machine<K>, pid: Pid)
-    requires { IsSome (process machine.old.state pid) }
+    requires there { IsSome (process machine.old.state pid) }
+    requires to_recheck { is_in pid machine.old.to_recheck ≡ true }
     ensures state { machine.new.state ≡ woken machine.old.state pid }
     ensures to_recheck { machine.new.to_recheck ≡ machine.old.to_recheck }
     ensures foregrounds_unchecked { machine.new.foregrounds_unchecked ≡ machine.old.foregrounds_unchecked }
+    ensures visits { (me : Process) → process machine.old.state pid ≡ Some me → machine.new.visits ≤ machine.old.visits + 1 + slots_of_judging machine.old.state.processes me }
 {
     if !machine.has_place(pid) && can_act(machine, pid) {
         machine.place(pid);
@@ -75,7 +77,7 @@ fn give_places<K: Kin>(machine: &mut Machine<K>)
     ensures regular { IsRegular machine.new.state }
     ensures to_recheck { machine.new.to_recheck ≡ [] }
     ensures foregrounds_unchecked { machine.new.foregrounds_unchecked ≡ machine.old.foregrounds_unchecked }
-    ensures none { machine.old.to_recheck ≡ [] → machine.new.visits ≡ machine.old.visits }
+    ensures visits { machine.new.visits ≤ machine.old.visits + slots_of_settling machine.old.state.processes machine.old.to_recheck }
 {
     while let Some(pid) = machine.first_to_recheck() {
         wake(machine, pid);
@@ -91,7 +93,7 @@ pub fn settle<K: Kin>(machine: &mut Machine<K>)
     ensures regular { IsRegular machine.new.state }
     ensures to_recheck { machine.new.to_recheck ≡ [] }
     ensures foregrounds_unchecked { machine.new.foregrounds_unchecked ≡ false }
-    ensures none { machine.old.to_recheck ≡ [] → machine.old.foregrounds_unchecked ≡ false → machine.new.visits ≡ machine.old.visits }
+    ensures visits { machine.old.foregrounds_unchecked ≡ false → machine.new.visits ≤ machine.old.visits + slots_of_settling machine.old.state.processes machine.old.to_recheck }
 {
     machine.clear_foregrounds();
     give_places(machine);

@@ -1,7 +1,7 @@
 //! One event of the machine. What it shows is added to a list of entries that is empty before, so that
 //! an instruction that shows nothing moves none.
 
-ghost use Rattle.std.specs.Prelude.{◌≡◌, ◌≢◌, ◌+◌, ℕ, [], ◌<◌, ◌≤◌, ◌^◌, IsSome, Some, option_map, false, true};
+ghost use Rattle.std.specs.Prelude.{◌≡◌, ◌≢◌, ◌+◌, ◌*◌, ℕ, [], IfSome, ◌<◌, ◌≤◌, ◌^◌, IsSome, Some, option_map, false, true};
 ghost use Rattle.posix.specs.declared.call.Call.{Call as CallValue};
 ghost use Rattle.posix.specs.NextPid.{is_free};
 ghost use Rattle.posix.specs.Processes.{Process};
@@ -11,13 +11,14 @@ ghost use Rattle.posix.specs.Outcomes.{Block};
 ghost use Rattle.posix.specs.Waits.{wait};
 ghost use Rattle.posix.specs.Execute.{exec_one};
 ghost use Rattle.posix.specs.Step.{code_of, enter as entered, tick as ticking, go_on as going_on, IsStep};
-ghost use Rattle.posix.specs.Alarms.{most_ticks, has_alarms};
+ghost use Rattle.posix.specs.Alarms.{most_ticks};
 ghost use Rattle.posix.specs.Attempts.{attempt_again};
 ghost use Rattle.posix.specs.Regular.{IsPlaced, IsRegular};
 ghost use Rattle.posix.specs.Settle.{IsSettled};
 ghost use Rattle.proctable.specs.Records.{snapshot_of};
 ghost use Rattle.calls.specs.Outcomes.{IsActing, CostsAtMost, changes_caller_alone};
-ghost use Rattle.kernel.specs.Steps.{ActsAs, Begins, Bursts, ComesTo, Happens, NoneChosen, RunsInstruction, Steps, next_changes_one, changes_one, event_changes_one, next_enters, enters, event_enters, is_followed_by_step, runner, taken_at_once};
+ghost use Rattle.kernel.specs.Counts.{ReadsAtMost, alarms_due, slots_of_event, slots_of_step};
+ghost use Rattle.kernel.specs.Steps.{ActsAs, Begins, Bursts, ComesTo, Happens, NoneChosen, RunsInstruction, Steps, next_changes_one, changes_one, next_enters, enters, is_followed_by_step, runner, taken_at_once};
 
 use crate::settle::settle;
 use calls::delivery::{deliver, end, fault};
@@ -157,8 +158,7 @@ fn step<K: Kin>(machine: &mut Machine<K>, entries: &mut Entries)
     requires time { machine.old.state.ticks + most_ticks < 2 ^ 64 }
     requires none { entries.old.items ≡ [] }
     ensures steps { Steps machine.old.state entries.new.items machine.new.state }
-    ensures cost { next_changes_one machine.old.state (current_process machine.old.state) ≡ true → CostsAtMost 3 machine.old machine.new }
-    ensures enters { next_enters machine.old.state (current_process machine.old.state) ≡ true → CostsAtMost 4 machine.old machine.new }
+    ensures cost { IfSome (slots_of_step machine.old.state (current_process machine.old.state)) (λ n. CostsAtMost n machine.old machine.new) }
 {
     let Some(pid) = machine.current() else {
         return;
@@ -175,7 +175,7 @@ fn step<K: Kin>(machine: &mut Machine<K>, entries: &mut Entries)
 fn tick<K: Kin>(machine: &mut Machine<K>)
     requires { machine.old.state.ticks + 1 < 2 ^ 64 }
     ensures state { machine.new.state ≡ ticking machine.old.state }
-    ensures cost { has_alarms machine.old.state ≡ false → CostsAtMost 0 machine.old machine.new }
+    ensures cost { machine.old.to_recheck ≡ [] → ReadsAtMost (3 * alarms_due machine.old.state) machine.old machine.new }
 {
     machine.pass_time();
     if let Some(pid) = machine.current() {
@@ -190,8 +190,7 @@ fn happen<K: Kin>(machine: &mut Machine<K>, event: Event, entries: &mut Entries)
     requires time { machine.old.state.ticks + most_ticks < 2 ^ 64 }
     requires none { entries.old.items ≡ [] }
     ensures happens { Happens machine.old.state event entries.new.items machine.new.state }
-    ensures cost { event_changes_one event machine.old.state ≡ true → CostsAtMost 3 machine.old machine.new }
-    ensures enters { event_enters event machine.old.state ≡ true → CostsAtMost 4 machine.old machine.new }
+    ensures cost { machine.old.to_recheck ≡ [] → IfSome (slots_of_event event machine.old.state) (λ n. ReadsAtMost n machine.old machine.new) }
 {
     match event {
         Event::Step => step(machine, entries),
@@ -292,8 +291,7 @@ pub fn next<K: Kin>(machine: &mut Machine<K>, event: Event, entries: &mut Entrie
     ensures regular { IsRegular machine.new.state }
     ensures to_recheck { machine.old.to_recheck ≡ [] → machine.new.to_recheck ≡ [] }
     ensures foregrounds_unchecked { machine.old.foregrounds_unchecked ≡ false → machine.new.foregrounds_unchecked ≡ false }
-    ensures visits { machine.old.to_recheck ≡ [] → machine.old.foregrounds_unchecked ≡ false → event_changes_one event machine.old.state ≡ true → machine.new.visits ≤ machine.old.visits + 3 }
-    ensures enters { machine.old.to_recheck ≡ [] → machine.old.foregrounds_unchecked ≡ false → event_enters event machine.old.state ≡ true → machine.new.visits ≤ machine.old.visits + 4 }
+    ensures visits { machine.old.to_recheck ≡ [] → machine.old.foregrounds_unchecked ≡ false → IfSome (slots_of_event event machine.old.state) (λ n. machine.new.visits ≤ machine.old.visits + n) }
 {
     if machine.is_halted() {
         return;

@@ -1,12 +1,14 @@
 -- The process groups that an end may orphan: how they are noted, and how they are gone through.
-use Rattle.std.proofs.Common.{◌≡◌, ℕ, ◌+◌, ◌≤◌, Bool, true, false, cond, ◌&&◌, ◌||◌, ◌==◌, refl, ap, sym, ◌∙◌, arith, subst, List, [], ◌∷◌, ◌++◌, filter, length, nat_lt, Option, Some, None, slice_get, ⊎_elim}
+use Rattle.std.proofs.Common.{◌≡◌, ℕ, ◌+◌, ◌≤◌, Bool, true, false, cond, ◌&&◌, ◌||◌, ◌==◌, refl, ap, sym, ◌∙◌, arith, subst, List, [], ◌∷◌, ◌++◌, filter, length, Option, Some, None, slice_get, ⊎_elim}
 use Rattle.std.specs.List.{list_any}
-use Rattle.std.specs.Option.{IsSome}
+use Rattle.std.specs.Option.{IsSome, option_map_or}
+use Rattle.std.specs.Prelude.{option_and_then}
 use Rattle.std.proofs.lemmas.Bool.{eqb-true, and_parts, or_cases, or_right}
 use Rattle.posix.specs.Processes.{Process, root, is_zombie}
 use Rattle.posix.specs.Numbers.{with_number}
 use Rattle.posix.specs.Tables.{IsRising, lookup, has_pid, is_child, members_in, children_in, left_of, next_sibling}
-use Rattle.posix.specs.States.{is_in, without}
+use Rattle.posix.specs.Regular.{IsRegular}
+use Rattle.posix.specs.States.{State, is_in, without}
 use Rattle.posix.specs.Choice.{from_kernel}
 use Rattle.posix.specs.Groups.{is_anchor, loses_anchor}
 use Rattle.posix.specs.Ends.{signalled_members, hup_and_cont, hup_and_cont_all}
@@ -18,6 +20,7 @@ use Rattle.posix.proofs.HupAndContLemmas.{still_there, lasts_hup_and_cont_all}
 use Rattle.life.proofs.SoundLemmas.{there, is_there}
 use Rattle.life.proofs.SendLemmas.{all_pass}
 use Rattle.pidset.proofs.WalkLemmas.{IsWalking, walk_of, walk_on, none_left}
+use Rattle.pidset.specs.Indexes.{anchor_key, key_of}
 use Rattle.pidset.specs.Numbers.{PidSetView, Rises, numbers_above}
 use Rattle.pidset.proofs.NumberLemmas.{in_above, rises_with, rises_without, in_with, few}
 use Rattle.posix.proofs.MemberLemmas.{in_without}
@@ -41,6 +44,22 @@ noted_with m g groups_at_risk after i most put same = record {
   within = λ q e. ⊎_elim (λ t. let is = eqb-true g q t in omega (arith, is, most)) (i.within q) (or_cases _ _ (sym (in_with q g groups_at_risk.pids) ∙ ap (is_in q) (sym put) ∙ e));
   room = let room = i.room in omega (arith, room, same);
 }
+
+-- a group that a process keeps has a number up to the greatest
+pub group_bounded : (s : State) → IsRegular s → (p g : ℕ) → Some g ≡ key_of (anchor_key s.processes) p s.processes → g ≤ s.world.pidmax
+group_bounded s i p g is = by (lookup p s.processes) refl is
+  where
+    by : (o : Option Process) → lookup p s.processes ≡ o → Some g ≡ option_and_then (anchor_key s.processes) o → g ≤ s.world.pidmax
+    by None e k = absurd (cc)
+    by (Some r) e k = elim (is_anchor s.processes r) as (λ b. Some g ≡ cond b (Some r.group) None → g ≤ s.world.pidmax) [
+      | true ↦ λ k. let same : g ≡ r.group = cc in let most = (i.bounded p r e).group in omega (arith, same, most)
+      | false ↦ λ k. absurd (cc)
+    ] k
+
+-- one is noted where the process keeps it
+pub noted_kept : (anchor : Bool) (g : ℕ) (old : List ℕ) (o : Option ℕ) → o ≡ cond anchor (Some g) None → option_map_or (λ n. with_number n old) o old ≡ cond anchor (with_number g old) old
+noted_kept true g old o e = rw e refl
+noted_kept false g old o e = rw e refl
 
 -- none is
 pub noted_cleared : (m : ℕ) (groups_at_risk after : PidSetView) → IsNoted m groups_at_risk → after.pids ≡ [] → after.room ≡ groups_at_risk.room → IsNoted m after
@@ -133,11 +152,6 @@ pub zombie_hup_and_cont : (gs : List ℕ) (rs : List Process) → IsRising rs �
 zombie_hup_and_cont gs rs up p r found dead =
     let q = still_there p rs (hup_and_cont_all gs rs) (lasts_hup_and_cont_all gs rs up).same r found in
     (q.what, q.found, q.zombie ∙ dead)
-
--- some pass a test where they are more than none
-pub some_pass : (t : Process → Bool) (rs : List Process) → nat_lt 0 (length (filter t rs)) ≡ list_any t rs
-some_pass t [] = refl
-some_pass t (r ∷ rs) = grind (arith, some_pass t rs)
 
 -- ---- signals of the kernel
 

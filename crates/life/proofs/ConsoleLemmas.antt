@@ -1,5 +1,5 @@
 -- A machine that gets another console in the place of one.
-use Rattle.std.proofs.Common.{◌≡◌, ◌≢◌, ℕ, zero, suc, ◌+◌, ◌*◌, ◌≤◌, ◌==◌, Bool, true, false, cond, not, ◌&&◌, ◌||◌, refl, ap, sym, ◌∙◌, arith, List, [], ◌∷◌, Option, Some, None, is_some, length, nat_lt, slice_get, slice_set, slice_index_or, inl, inr, ⊎_elim}
+use Rattle.std.proofs.Common.{◌≡◌, ◌≢◌, ℕ, zero, suc, ◌+◌, ◌*◌, ◌≤◌, ◌==◌, Bool, true, false, cond, not, ◌&&◌, ◌||◌, refl, ap, sym, ◌∙◌, arith, subst, List, [], ◌∷◌, Option, Some, None, is_some, length, nat_lt, slice_get, slice_set, slice_index_or, inl, inr, ⊎_elim}
 use Rattle.std.proofs.lemmas.Bool.{eqb-true, eqb-false, and_parts, not-true, or_right, ltb-true, cond_both, both_ways}
 use Rattle.std.proofs.lemmas.Option.{slice_get_read, same_Some}
 use Rattle.posix.specs.declared.process.Blocked.{Blocked}
@@ -22,11 +22,11 @@ use Rattle.posix.proofs.ReaderLemmas.{IsOfOrFree, console_of_set, touches_unread
 use Rattle.pidalloc.specs.Rows.{Pids}
 use Rattle.sched.specs.Places.{Places}
 use Rattle.pidset.specs.Numbers.{PidSetView}
-use Rattle.life.specs.Machines.{IsListed, IsMachine, MachineView, readers_at}
+use Rattle.life.specs.Machines.{IsListed, IsWaiting, IsMachine, MachineView, readers_at}
 use Rattle.proctable.specs.Records.{snapshot_of}
-use Rattle.life.specs.Consoles.{AreReaders, hangs_up, slots_of_byte, slots_of_key, slots_of_hangup}
+use Rattle.life.specs.Consoles.{AreReaders, hangs_up, slots_of_key, slots_of_hangup}
 use Rattle.life.specs.Rechecks.{slots_of_signal}
-use Rattle.life.proofs.ReaderLemmas.{of_session}
+use Rattle.life.proofs.ReaderLemmas.{set_same, set_other}
 use Rattle.posix.specs.Tables.{members_in}
 use Rattle.posix.proofs.FreshLemmas.{AllFresh}
 
@@ -35,11 +35,12 @@ abbrev pub put : State → ℕ → Console → State
 put s k d = record s { consoles = slice_set s.consoles k d }
 
 -- It can be put there: a session has one console at most, nobody can act for it who isn't rechecked and has no place, and
--- whoever waits to read from it is known.
+-- just those who wait to read from it are known.
 pub record CanPut (s : State) (to_recheck : List ℕ) (readers : List PidSetView) (k : ℕ) (d : Console) : Type 0 where
   pub apart : AreConsoles s.world.consoles (slice_set s.consoles k d)
   pub acts : (p : ℕ) (r : Process) → process s p ≡ Some r → has_place s p ≡ false → is_in p to_recheck ≡ false → can_act (put s k d) r ≡ true → can_act s r ≡ true
   pub known : (p : ℕ) (r : Process) → process s p ≡ Some r → is_reader d.session r ≡ true → has_place s p ≡ false → is_in p to_recheck ≡ false → is_in p (readers_at k readers) ≡ true
+  pub waits : (p : ℕ) → is_in p to_recheck ≡ false → (w : IsWaiting s k p) → is_reader d.session w.reader ≡ true
 
 -- ---- the machine
 
@@ -68,6 +69,14 @@ listed_put {readers = readers} s l k d h can = record {
         ap (λ i. is_in p (readers_at i readers)) here.0 ∙ can.known p r found mine out unasked)
         (λ other. h.watched.known j p c r other.1 found visits out unasked)
         (found_put s.consoles k j d c at);
+    waits = λ j p on unasked.
+        let w = h.watched.waits j p on unasked in
+        elim (j == k) as (λ b. (j == k) ≡ b → IsWaiting (put s k d) j p) [
+          | true ↦ λ e.
+              let here = subst (λ n. IsWaiting s n p) (eqb-true j k e) w in
+              subst (λ n. IsWaiting (put s k d) n p) (sym (eqb-true j k e)) (record { console = d; reader = here.reader; at = set_same s.consoles k here.console d here.at; found = here.found; reads = can.waits p unasked here; out = here.out })
+          | false ↦ λ e. record { console = w.console; reader = w.reader; at = set_other s.consoles k j d (eqb-false j k e) ∙ w.at; found = w.found; reads = w.reads; out = w.out }
+        ] refl;
     each = h.watched.each;
     many = h.watched.many;
   };
@@ -92,12 +101,12 @@ machine_put s pids places to_recheck groups_at_risk readers before after k d h c
 -- ---- which consoles can be put
 
 -- what a test of a reader says
-record IsReading (session : ℕ) (r : Process) : Type 0 where
-  runs : is_running r.life ≡ true
-  visits : is_in_read r.blocked ≡ true
-  own : r.session ≡ session
+pub record IsReading (session : ℕ) (r : Process) : Type 0 where
+  pub runs : is_running r.life ≡ true
+  pub visits : is_in_read r.blocked ≡ true
+  pub own : r.session ≡ session
 
-reader_is : (session : ℕ) (r : Process) → is_reader session r ≡ true → IsReading session r
+pub reader_is : (session : ℕ) (r : Process) → is_reader session r ≡ true → IsReading session r
 reader_is session r h =
     let a = and_parts (is_running r.life) (is_in_read r.blocked && r.session == session) h in
     let b = and_parts (is_in_read r.blocked) (r.session == session) a.1 in
@@ -115,6 +124,7 @@ put_unread s l k c d i h at owner foreground lines = record {
       let same : u.old ≡ r = cc in
       ap (can_act s) (sym same) ∙ u.acts acts;
   known = λ p r found visits out unasked. h.watched.known k p c r at found (ap (λ n. is_reader n r) (sym owner) ∙ visits) out unasked;
+  waits = λ p unasked w. ap (λ n. is_reader n w.reader) (owner ∙ ap (λ (c : Console). c.session) (same_Some _ _ (sym at ∙ w.at))) ∙ w.reads;
 }
 
 -- where whoever waits to read from it is rechecked, one with the same session, or nobody's
@@ -132,6 +142,7 @@ put_rechecked {readers = readers} s l k c d i h at to_recheck kind = record {
       (λ same. h.watched.known k p c r at found (ap (λ n. is_reader n r) (sym same) ∙ visits) out unasked)
       (λ free. absurd (nobody r d (i.bounded p r found).session_least free visits))
       kind;
+  waits = λ p unasked w. absurd (both_ways _ unasked (to_recheck p w.console w.reader w.at w.found w.reads w.out));
 }
   where
     others : (r : Process) (d : Console) → 1 ≤ r.session → r.session ≢ c.session → IsOfOrFree c.session d → d.session ≢ r.session
@@ -144,7 +155,7 @@ put_rechecked {readers = readers} s l k c d i h at to_recheck kind = record {
         omega (arith, least, free, own)
 
 -- who reads where there is no line to wait for can act
-reads_on : (s : State) (r : Process) → is_running r.life ≡ true → is_in_read r.blocked ≡ true → waits_to_read s.consoles r ≡ false → can_act s r ≡ true
+pub reads_on : (s : State) (r : Process) → is_running r.life ≡ true → is_in_read r.blocked ≡ true → waits_to_read s.consoles r ≡ false → can_act s r ≡ true
 unfolding can_act attempt_again
 reads_on s r runs visits none =
     let on : (is_running r.life && (can_go_on s r r.blocked || is_some (chosen r.life r.signals))) ≡ true = rw (runs, goes r.blocked visits) refl in
@@ -171,6 +182,9 @@ put_acquired {readers = readers} s l k c d i h at free none = record {
   known = λ p r found visits out unasked.
       let it = reader_is d.session r visits in
       absurd (both_ways _ unasked (on_list s l p r h found out (reads_on s r it.runs it.visits (no_wait r it.own))));
+  waits = λ p unasked w.
+      let own = (reader_is w.console.session w.reader w.reads).own in
+      absurd (nobody w.reader (i.bounded p w.reader w.found).session_least (ap (λ (c : Console). c.session) (same_Some _ _ (sym at ∙ w.at)) ∙ sym own));
 }
   where
     no_wait : (r : Process) → r.session ≡ d.session → waits_to_read s.consoles r ≡ false
@@ -293,15 +307,12 @@ key_slots_of byte sig e = by (byte == 3) (byte == 28) (byte == 26) e
     by false false true e = rw (same_Some _ _ e) refl
     by false false false e = absurd (cc)
 
--- where a key gives a signal, and where it gives none
+-- where a key gives a signal
 pub slots_of_signalled : (m : MachineView) (console k byte sig group : ℕ) (c : Console) (rs : List Process) → console ≡ suc k → slice_get m.state.consoles k ≡ Some c → Some sig ≡ key_signal byte → group ≡ c.foreground → rs ≡ m.state.processes
-    → slots_of_byte byte k m.readers + (1 + (2 + slots_of_signal sig) * length (members_in group rs)) ≤ slots_of_key console byte m
+    → 1 + (2 + slots_of_signal sig) * length (members_in group rs) ≤ slots_of_key console byte m
 slots_of_signalled m console k byte sig group c rs number found signal foreground same = rw (number, found, ← signal, foreground, same, key_slots_of byte sig signal) (omega arith)
 
-pub slots_of_typed : (m : MachineView) (console k byte : ℕ) → console ≡ suc k → slots_of_byte byte k m.readers ≤ slots_of_key console byte m
-slots_of_typed m console k byte number = rw number (omega arith)
-
 -- where a session's terminal hangs up
-pub slots_hung_up : (m : MachineView) (me : Process) (k group : ℕ) (c : Console) (readers : List PidSetView) (rs : List Process) → hangs_up (snapshot_of me) ≡ true → readers ≡ m.readers → rs ≡ m.state.processes → slice_get m.state.consoles k ≡ Some c
-    → c.session ≡ me.session → console_of me.session m.state.consoles ≡ Some c → group ≡ c.foreground → 1 + length (readers_at k readers) + (1 + (2 + slots_of_signal HUP) * length (members_in group rs)) ≤ 1 + slots_of_hangup me m
-slots_hung_up m me k group c readers rs leads known same at own is foreground = let few = of_session me.session k c m.state.consoles m.readers at own in rw (leads, known, same, is, foreground) (omega (arith, few))
+pub slots_hung_up : (m : MachineView) (me : Process) (k group : ℕ) (c : Console) (rs : List Process) → hangs_up (snapshot_of me) ≡ true → rs ≡ m.state.processes → slice_get m.state.consoles k ≡ Some c
+    → console_of me.session m.state.consoles ≡ Some c → group ≡ c.foreground → 1 + (1 + (2 + slots_of_signal HUP) * length (members_in group rs)) ≤ 1 + slots_of_hangup me m
+slots_hung_up m me k group c rs leads same at is foreground = rw (leads, same, is, foreground) (omega arith)

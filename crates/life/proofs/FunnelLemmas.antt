@@ -1,10 +1,11 @@
 -- A change of one process, in the parts of a machine.
 use Rattle.std.proofs.Common.{◌≡◌, ◌≢◌, ℕ, Bool, true, false, cond, not, ◌||◌, refl, ap, sym, ◌∙◌, arith, subst, List, [], ◌∷◌, Option, Some, None, option_map, ◌==◌, inl, inr, ◌⊎◌, ⊎_elim}
-use Rattle.std.specs.Option.{IsSome}
+use Rattle.std.specs.Option.{IfSome, IsSome}
 use Rattle.std.specs.Borrow.{MutBor}
 use Rattle.std.specs.Fn.{Once, FnOnceReturnsAtMut}
-use Rattle.std.proofs.lemmas.Bool.{eqb-true, eq-eqb, ne_eqb, cases_eq, or_left, or_right, or_parts}
+use Rattle.std.proofs.lemmas.Bool.{eqb-true, eq-eqb, ne_eqb, cases_eq, cond_both, or_left, or_right, or_parts}
 use Rattle.std.proofs.lemmas.List.{length-map}
+use Rattle.std.proofs.lemmas.Option.{same_Some}
 use Rattle.posix.specs.declared.process.PendingSignal.{PendingSignal}
 use Rattle.posix.specs.Processes.{Process}
 use Rattle.posix.specs.declared.process.Effect.TheVariants as effect
@@ -19,7 +20,7 @@ use Rattle.posix.proofs.MapLemmas.{at_pid, at_keeps}
 use Rattle.posix.proofs.MemberLemmas.{each}
 use Rattle.posix.proofs.RegularLemmas.{Keeps, regular_change}
 use Rattle.posix.proofs.ChangeLemmas.{Lives, regular_lives, lookup_signalled, continued_cont, generated_as}
-use Rattle.posix.proofs.TouchLemmas.{Touches, Unseen, touches_shown, touches_unseen}
+use Rattle.posix.proofs.TouchLemmas.{Touches, Unseen, touches_shown}
 use Rattle.posix.proofs.ReportLemmas.{some_changed}
 use Rattle.posix.proofs.FreshLemmas.{fresh_changed}
 use Rattle.pidalloc.specs.Rows.{Pids, regrouped}
@@ -36,13 +37,16 @@ use Rattle.jobs.proofs.NumberLemmas.{absent_changed}
 use Rattle.jobs.proofs.RunLemmas.{run_as, parent_is}
 use Rattle.jobs.proofs.SnapshotLemmas.{equals, Named, named_there}
 use Rattle.jobs.proofs.KeptLemmas.{record_found, length_record}
-use Rattle.life.specs.Machines.{HaveParents, IsKept, IsSound, IsListed, IsMachine, Terminals, MachineView, Costs, Changes, IfThere}
-use Rattle.life.specs.Rechecks.{with_numbers, with_parent, rechecking, rechecking_changed, rechecking_effect, rechecking_generated, slots_of_signal}
+use Rattle.life.specs.Machines.{IsKept, IsSound, IsListed, IsMachine, Terminals, MachineView, Costs, Changes, IfThere, IsOther}
+use Rattle.life.specs.Rechecks.{with_numbers, with_parent, rechecking, rechecking_by_signals, rechecking_changed, rechecking_effect, rechecking_generated, slots_of_signal}
 use Rattle.life.specs.Changes.{has_moved, CanMoveNumbers, StaysRegular}
-use Rattle.life.proofs.ParentLemmas.{parents_map}
+use Rattle.pidset.specs.Indexes.{HaveParents}
+use Rattle.pidset.proofs.ParentLemmas.{parents_map}
 use Rattle.life.proofs.SoundLemmas.{kept_map, not_many}
-use Rattle.life.proofs.RecheckLemmas.{IsBeside, listed_with, listed_less, listed_change}
-use Rattle.pidset.proofs.NumberLemmas.{rises_with}
+use Rattle.life.proofs.RecheckLemmas.{IsBeside, listed_with, listed_less, listed_signals, unread}
+use Rattle.life.proofs.SignalLemmas.{with_signals, unseen_signals}
+use Rattle.jobs.specs.JobTables.{takes_signal}
+use Rattle.pidset.proofs.NumberLemmas.{rises_with, in_with}
 
 -- ---- the parent
 
@@ -67,44 +71,38 @@ parent_there s pids places i p me found some = elim (cases_eq p 1) [
 -- ---- a change that its parent doesn't see
 
 pub machine_unseen : {groups_at_risk : PidSetView} {terminals : Terminals} (s : State) (pids : Pids) (places : Places) (to_recheck after : PidSetView) (p : ℕ) (f : Process → Process) → Unseen f → ((r : Process) → (f r).session ≡ r.session)
-    → IsRegular (change s p f) → IsSome (process s p) → IsMachine s pids places to_recheck groups_at_risk terminals → after.pids ≡ rechecking p s.order to_recheck.pids → after.room ≡ to_recheck.room → IsMachine (change s p f) pids places after groups_at_risk terminals
+    → IsRegular (change s p f) → IsMachine s pids places to_recheck groups_at_risk terminals → IsListed (change s p f) after terminals.readers → IsMachine (change s p f) pids places after groups_at_risk terminals
 unfolding changed
-machine_unseen s pids places to_recheck after p f u session regular here i put room = record {
+machine_unseen s pids places to_recheck after p f u session regular i listed = record {
   sound = record {
     regular = regular;
-    parents = parents_map (at p f) (at_pid p f u.pid) (at_keeps (λ r. r.parent) p f u.parent) s.processes i.sound.parents;
+    parents = parents_map IsOther (at p f) (at_pid p f u.pid) (at_keeps (λ r. r.parent) p f u.parent) (λ q r other. other) s.processes i.sound.parents;
     counted = let c = i.sound.counted in let l = length-map s.processes (at p f) in omega (arith, c, l);
     kept = kept_map (at p f) (at_pid p f u.pid) (at_keeps (λ r. r.group) p f u.group) (at_keeps (λ r. r.session) p f session) s.world.pidmax s.processes pids places places (omega arith) i.sound.kept;
   };
-  listed = listed_change s p f to_recheck after i.listed u.pid (touches_unseen s p f u) here put room;
+  listed = listed;
   noted = i.noted;
   fresh = λ e. fresh_changed p f u.group session s.processes s.consoles (i.fresh e);
 }
 
--- another record, in which all but its alarm is seen as before
-abbrev keep_seen : Record → Process → Process
-keep_seen c r = record (give_record c r) { group = r.group; session = r.session; life = r.life; news = r.news }
-
-unseen_kept : (c : Record) → Unseen (keep_seen c)
-unfolding give_record
-unseen_kept c = record { pid = λ r. refl; parent = λ r. refl; group = λ r. refl; life = λ r. refl; news = λ r. refl }
-
-seen_as : (rs : List Process) → IsRising rs → (p : ℕ) (b c : Record) → lookup p rs ≡ Some (process_of p (parent_of p rs) b) → record (record_seen c) { alarm = b.alarm } ≡ record_seen b → with_record rs p c ≡ changed p (keep_seen c) rs
-unfolding give_record
-seen_as rs up p b c found same =
-    let group : c.group ≡ b.group = ap (λ (w : Seen). w.group) same in
-    let session : c.session ≡ b.session = ap (λ (w : Seen). w.session) same in
-    let life : c.life ≡ b.life = ap (λ (w : Seen). w.life) same in
-    let news : c.news ≡ b.news = ap (λ (w : Seen). w.news) same in
-    changed_here rs up p b c (keep_seen c) found (λ q. rw (← group, ← session, ← life, ← news) refl)
+-- a record with other signals, and another alarm
+signals_are : (rs : List Process) → IsRising rs → (p : ℕ) (b c : Record) → lookup p rs ≡ Some (process_of p (parent_of p rs) b) → c ≡ record b { alarm = c.alarm; own = record (b.own) { signals = c.own.signals } } → with_record rs p c ≡ changed p (with_signals c.own.signals c.alarm) rs
+signals_are rs up p b c found same = changed_here rs up p b c (with_signals c.own.signals c.alarm) found (λ q. ap (process_of p q) same)
 
 pub machine_run : {groups_at_risk : PidSetView} {terminals : Terminals} (s : State) (pids : Pids) (places : Places) (to_recheck after : PidSetView) (p : ℕ) (b c : Record) (ts : List Process)
-    → lookup p s.processes ≡ Some (process_of p (parent_of p s.processes) b) → ts ≡ with_record s.processes p c → record (record_seen c) { alarm = b.alarm } ≡ record_seen b → IsRegular (record s { processes = with_record s.processes p c })
-    → IsMachine s pids places to_recheck groups_at_risk terminals → after.pids ≡ rechecking p s.order to_recheck.pids → after.room ≡ to_recheck.room → IsMachine (record s { processes = ts }) pids places after groups_at_risk terminals
+    → lookup p s.processes ≡ Some (process_of p (parent_of p s.processes) b) → ts ≡ with_record s.processes p c → c ≡ record b { alarm = c.alarm; own = record (b.own) { signals = c.own.signals } } → IsRegular (record s { processes = with_record s.processes p c })
+    → IsMachine s pids places to_recheck groups_at_risk terminals → after.pids ≡ rechecking_by_signals (lookup p ts) s.order to_recheck.pids → after.room ≡ to_recheck.room → IsMachine (record s { processes = ts }) pids places after groups_at_risk terminals
 machine_run {groups_at_risk = groups_at_risk} {terminals = terminals} s pids places to_recheck after p b c ts found is same regular i put room =
-    let became = seen_as s.processes i.sound.regular.rising p b c found same in
+    let f = with_signals c.own.signals c.alarm in
+    let became = signals_are s.processes i.sound.regular.rising p b c found same in
     subst (λ rs. IsMachine (record s { processes = rs }) pids places after groups_at_risk terminals) (sym (is ∙ became))
-    (machine_unseen s pids places to_recheck after p (keep_seen c) (unseen_kept c) (λ r. refl) (subst (λ rs. IsRegular (record s { processes = rs })) became regular) (rw found refl) i put room)
+    (machine_unseen s pids places to_recheck after p f (unseen_signals c.own.signals c.alarm) (λ r. refl) (subst (λ rs. IsRegular (record s { processes = rs })) became regular) i
+    (listed_signals s p c.own.signals c.alarm to_recheck after i.listed (rw found refl) (put ∙ ap (λ rs. rechecking_by_signals (lookup p rs) s.order to_recheck.pids) (is ∙ became)) room))
+
+-- the process is rechecked where a signal is chosen for it
+pub by_signals : (o : Option Process) (p : ℕ) (order ns : List ℕ) (b : Bool) → ((r : Process) → o ≡ Some r → r.pid ≡ p) → option_map takes_signal o ≡ Some b → cond b (rechecking p order ns) ns ≡ rechecking_by_signals o order ns
+by_signals None p order ns b named takes = absurd (cc)
+by_signals (Some r) p order ns b named takes = ap (λ w. cond w (rechecking p order ns) ns) (sym (same_Some _ _ takes)) ∙ ap (λ n. cond (takes_signal r) (rechecking n order ns) ns) (sym (named r refl))
 
 -- ---- a change that its parent sees
 
@@ -136,11 +134,11 @@ numbers_kept m p b c rs pids now places up found is k = by (has_moved (record_se
     by false e still = rw (still, numbers_as rs up p b c found e) (kept_map (at p (keep_numbers c)) (at_pid p (keep_numbers c) (λ r. refl)) (at_keeps (λ r. r.group) p (keep_numbers c) (λ r. refl)) (at_keeps (λ r. r.session) p (keep_numbers c) (λ r. refl)) m rs pids places places (omega arith) k)
 
 -- those who are rechecked: the process, and its parent if it has one that is there
-pub listed_changed : {readers : List PidSetView} (s t : State) (p parent : ℕ) (before after : PidSetView) (touched : List ℕ) → IsListed s before readers → Touches s t touched → IsBeside s t → ((q : ℕ) → IsSome (process s q) → IsSome (process t q))
+pub listed_changed : {readers : List PidSetView} (s t : State) (p parent : ℕ) (before after : PidSetView) (touched : List ℕ) → IsListed s before readers → Touches s t touched → IsBeside s t touched → t.order ≡ s.order → ((q : ℕ) → IsSome (process s q) → IsSome (process t q))
     → IsSome (process t p) → (parent ≢ 0 → IsSome (process t parent)) → process t 0 ≡ None → ((q : ℕ) → is_in q touched ≡ true → (q ≡ p) ⊎ (q ≡ parent))
     → after.pids ≡ with_parent parent t.order (with_number p before.pids) → after.room ≡ before.room → IsListed t after readers
 unfolding with_numbers is_in
-listed_changed {readers = readers} s t p parent before after touched h touches most stay here up none among is same =
+listed_changed {readers = readers} s t p parent before after touched h touches most order stay here up none among is same =
     elim (cases_eq parent 0) [
       | inl root ↦ listed_with s t before after (p ∷ []) touched h touches most stay (here, tt)
           (λ q theirs e. ⊎_elim (λ k. or_left _ _ (eq-eqb p q (sym k))) (λ k. let no = subst (λ n. IsSome (process t n)) (k ∙ root) theirs in let nobody = rw none at no in absurd (cc)) (among q e))
@@ -149,6 +147,7 @@ listed_changed {readers = readers} s t p parent before after touched h touches m
         | true ↦ λ placed e.
             let all = record after { pids = with_number parent after.pids } in
             listed_less t after all parent (both some all (ap (with_number parent) e) same) refl (subst Rises (sym e) (rises_with p before.pids h.rising)) refl placed
+            (λ k on. ap (is_in parent) e ∙ in_with parent p before.pids ∙ or_right _ _ (unread s before.pids parent h.watched (ap (is_in parent) (sym order) ∙ placed) k on))
         | false ↦ λ out e. both some after e same
       ] refl (is ∙ rw (ne_eqb parent 0 some) refl)
     ]
@@ -163,9 +162,9 @@ pub machine_numbered : {groups_at_risk : PidSetView} {terminals : Terminals} (t 
 machine_numbered {groups_at_risk = groups_at_risk} {terminals = terminals} t pids places to_recheck last same i = subst (λ n. IsMachine (record t { last_pid = n }) pids places to_recheck groups_at_risk terminals) same i
 
 -- everybody else has the parent that it had
-parents_record : (rs : List Process) (p : ℕ) (c : Record) → HaveParents rs → HaveParents (with_record rs p c)
+parents_record : (rs : List Process) (p : ℕ) (c : Record) → HaveParents IsOther rs → HaveParents IsOther (with_record rs p c)
 unfolding give_record changed
-parents_record rs p c h = parents_map (at p (give_record c)) (at_pid p (give_record c) (λ r. refl)) (at_keeps (λ r. r.parent) p (give_record c) (λ r. refl)) rs h
+parents_record rs p c h = parents_map IsOther (at p (give_record c)) (at_pid p (give_record c) (λ r. refl)) (at_keeps (λ r. r.parent) p (give_record c) (λ r. refl)) (λ q r other. other) rs h
 
 -- and who was there is
 pub there_record : (rs : List Process) (p : ℕ) (c : Record) (q : ℕ) → IsSome (lookup q rs) → IsSome (lookup q (with_record rs p c))
@@ -191,7 +190,7 @@ machine_shown {terminals = terminals} s pids now places to_recheck after p paren
         counted = let n = i.sound.counted in let l = length_record rs p c in omega (arith, n, l);
         kept = numbers_kept s.world.pidmax p b c rs pids now places up found moved i.sound.kept;
       };
-      listed = listed_changed s t p (parent_of p rs) to_recheck after (p ∷ parent_of p rs ∷ []) i.listed (touches_shown s p f (λ r. refl) (λ r. refl) up me found) (refl, refl)
+      listed = listed_changed s t p (parent_of p rs) to_recheck after (p ∷ parent_of p rs ∷ []) i.listed (touches_shown s p f (λ r. refl) (λ r. refl) up me found) (refl, refl, λ q u e. e) refl
           (λ q e. some_changed p q f (λ r. refl) rs e) (some_changed p p f (λ r. refl) rs (rw found refl)) (λ some. some_changed p (parent_of p rs) f (λ r. refl) rs (parent_there s pids places i.sound p me found some)) (absent_changed p f (λ r. refl) 0 rs (nobody_0 s i.sound.regular))
           (λ q e. each (λ q. (q ≡ p) ⊎ (q ≡ parent_of p rs)) (p ∷ parent_of p rs ∷ []) (inl refl, (inr refl, tt)) q e)
           (subst (λ q. after.pids ≡ with_parent q s.order (with_number p to_recheck.pids)) its put) room;
@@ -274,7 +273,7 @@ with_lost true p ns = with_twice p ns
 with_lost false p ns = refl
 
 -- a parent that was rechecked with its child is rechecked once
-pub parent_twice : (parent : ℕ) (order ns : List ℕ) → cond (parent == 0) (with_parent parent order ns) (rechecking parent order (with_parent parent order ns)) ≡ with_parent parent order ns
+parent_twice : (parent : ℕ) (order ns : List ℕ) → cond (parent == 0) (with_parent parent order ns) (rechecking parent order (with_parent parent order ns)) ≡ with_parent parent order ns
 parent_twice parent order ns = elim (parent == 0) as (λ b. cond b (cond b ns (rechecking parent order ns)) (rechecking parent order (cond b ns (rechecking parent order ns))) ≡ cond b ns (rechecking parent order ns)) [
   | true ↦ refl
   | false ↦ elim (is_in parent order) as (λ b. cond b (cond b ns (with_number parent ns)) (with_number parent (cond b ns (with_number parent ns))) ≡ cond b ns (with_number parent ns)) [ true ↦ refl | false ↦ with_twice parent ns ]
@@ -306,38 +305,50 @@ told_changed p parent w f s mid new me k i found its is told =
     ∙ ap (λ q. change (change s p f) q (noticed_of_change (child_signal p w))) (parent_is p parent s.processes me its found)
     ∙ ap (λ q. change (change s p f) me.parent (noticed_of_change (child_signal q w))) (sym (pid_looked p s.processes me found))
 
+-- who is found by a number has it
+pub named_parent : (s : State) (p : ℕ) → IfSome (process s p) (λ r. r.pid ≡ p)
+named_parent s p = elim (process s p) as (λ o. process s p ≡ o → IfSome o (λ r. r.pid ≡ p)) [ None ↦ λ e. tt | Some r ↦ λ e. pid_looked p s.processes r e ] refl
+
 -- so with who is rechecked
-pub rechecked_told : (parent : ℕ) (me : Process) (order ns mid new : List ℕ) → parent ≡ me.parent → mid ≡ rechecking_changed me order ns → new ≡ cond (parent == 0) mid (rechecking parent order mid) → new ≡ rechecking_changed me order ns
-rechecked_told parent me order ns mid new its put told =
-    told ∙ ap (λ l. cond (parent == 0) l (rechecking parent order l)) put
-    ∙ ap (λ q. cond (q == 0) (rechecking_changed me order ns) (rechecking q order (rechecking_changed me order ns))) its
-    ∙ parent_twice me.parent order (with_number me.pid ns)
+pub rechecked_told : (parent : ℕ) (me : Process) (order ns mid new : List ℕ) (o : Option Process) → IfSome o (λ r. r.pid ≡ parent) → parent ≡ me.parent → mid ≡ rechecking_changed me order ns → new ≡ cond (parent == 0) mid (rechecking_by_signals o order mid) → new ≡ rechecking_changed me order ns
+rechecked_told parent me order ns mid new None named its put told = told ∙ cond_both (parent == 0) mid mid (λ l. l ≡ mid) (λ e. refl) (λ e. refl) ∙ put
+rechecked_told parent me order ns mid new (Some r) named its put told = by (takes_signal r) (told ∙ ap (λ n. cond (parent == 0) mid (cond (takes_signal r) (rechecking n order mid) mid)) named)
+  where
+    by : (t : Bool) → new ≡ cond (parent == 0) mid (cond t (rechecking parent order mid) mid) → new ≡ rechecking_changed me order ns
+    by false e = e ∙ cond_both (parent == 0) mid mid (λ l. l ≡ mid) (λ e. refl) (λ e. refl) ∙ put
+    by true e =
+        e ∙ ap (λ l. cond (parent == 0) l (rechecking parent order l)) put
+        ∙ ap (λ q. cond (q == 0) (rechecking_changed me order ns) (rechecking q order (rechecking_changed me order ns))) its
+        ∙ parent_twice me.parent order (with_number me.pid ns)
 
 -- a signal was generated for p, which does nothing more
 pub signal_ends : (signal : PendingSignal) (p : ℕ) (old new : MachineView) (r : Process) → process old.state p ≡ Some (record r { pid = p }) → effect.Nothing ≡ effect_of p r.life signal r.signals → new.state ≡ change old.state p (signalled signal)
-    → new.to_recheck ≡ rechecking p old.state.order old.to_recheck → Costs 1 old new → Changes (slots_of_signal signal.sig) old new (record (old.state) { processes = generated_for signal (process old.state p) old.state.processes }) (rechecking_generated signal (process old.state p) old.state.order old.to_recheck)
+    → new.to_recheck ≡ rechecking_by_signals (process new.state p) old.state.order old.to_recheck → Costs 1 old new → Changes (slots_of_signal signal.sig) old new (record (old.state) { processes = generated_for signal (process old.state p) old.state.processes }) (rechecking_generated signal (process old.state p) old.state.order old.to_recheck)
 signal_ends signal p old new r found does state list costs = record {
   state = state ∙ ap (λ rs. record (old.state) { processes = rs }) (sym (generated_as signal p old.state.processes (record r { pid = p }) effect.Nothing found (sym does)));
-  to_recheck = list ∙ ap (λ w. rechecking_effect w (record r { pid = p }) old.state.order (rechecking p old.state.order old.to_recheck)) does ∙ ap (λ o. rechecking_generated signal o old.state.order old.to_recheck) (sym found);
+  to_recheck =
+      list ∙ ap (λ o. rechecking_by_signals o old.state.order old.to_recheck) (ap (λ (t : State). process t p) state ∙ lookup_signalled signal (record r { pid = p }) p old.state.processes found)
+      ∙ ap (λ w. rechecking_effect w (record r { pid = p }) old.state.order (rechecking_by_signals (Some (signalled signal (record r { pid = p }))) old.state.order old.to_recheck)) does ∙ ap (λ o. rechecking_generated signal o old.state.order old.to_recheck) (sym found);
   costs = record { visits = grind (arith, costs.visits); groups_at_risk = costs.groups_at_risk; regular = costs.regular };
 }
 
 -- or continues it
 pub signal_continues : (signal : PendingSignal) (p : ℕ) (old mid new : MachineView) (r : Process) → process old.state p ≡ Some (record r { pid = p }) → effect.Continued ≡ effect_of p r.life signal r.signals → mid.state ≡ change old.state p (signalled signal)
-    → mid.to_recheck ≡ rechecking p old.state.order old.to_recheck → Costs 1 old mid
+    → mid.to_recheck ≡ rechecking_by_signals (process mid.state p) old.state.order old.to_recheck → Costs 1 old mid
     → IfThere p mid (λ me. Changes 3 mid new (record (mid.state) { processes = told_of_change continued me (changed p resumed mid.state.processes) }) (rechecking_changed me mid.state.order mid.to_recheck))
     → Changes (slots_of_signal signal.sig) old new (record (old.state) { processes = generated_for signal (process old.state p) old.state.processes }) (rechecking_generated signal (process old.state p) old.state.order old.to_recheck)
 signal_continues signal p old mid new r found does state list costs continues =
     let s = old.state in
     let it = record r { pid = p } in
     let then = continues (signalled signal it) (ap (λ (t : State). process t p) state ∙ lookup_signalled signal it p s.processes found) in
+    let put = list ∙ ap (λ o. rechecking_by_signals o s.order old.to_recheck) (ap (λ (t : State). process t p) state ∙ lookup_signalled signal it p s.processes found) in
     let cont : (signal.sig == 18) ≡ true = continued_cont p signal it (sym does) in
     record {
       state =
           then.state ∙ ap (λ (t : State). record t { processes = told_of_change continued (signalled signal it) (changed p resumed t.processes) }) state
           ∙ ap (λ rs. record s { processes = rs }) (told_signalled continued signal it (changed p resumed (changed p (signalled signal) s.processes)) ∙ sym (generated_as signal p s.processes it effect.Continued found (sym does)));
       to_recheck =
-          then.to_recheck ∙ ap (λ (t : State). rechecking_changed (signalled signal it) t.order mid.to_recheck) state ∙ rechecking_signalled signal it s.order mid.to_recheck ∙ ap (rechecking_changed it s.order) list
-          ∙ ap (λ w. rechecking_effect w it s.order (rechecking p s.order old.to_recheck)) does ∙ ap (λ o. rechecking_generated signal o s.order old.to_recheck) (sym found);
+          then.to_recheck ∙ ap (λ (t : State). rechecking_changed (signalled signal it) t.order mid.to_recheck) state ∙ rechecking_signalled signal it s.order mid.to_recheck ∙ ap (rechecking_changed it s.order) put
+          ∙ ap (λ w. rechecking_effect w it s.order (rechecking_by_signals (Some (signalled signal it)) s.order old.to_recheck)) does ∙ ap (λ o. rechecking_generated signal o s.order old.to_recheck) (sym found);
       costs = record { visits = rw cont (let one = costs.visits in let more = then.costs.visits in omega (arith, one, more)); groups_at_risk = then.costs.groups_at_risk ∙ costs.groups_at_risk; regular = costs.regular };
     }

@@ -1,14 +1,15 @@
 pub mod SoundLemmas
 pub mod ReaderLemmas
+pub mod ReadingLemmas
 pub mod FunnelLemmas
 pub mod RingLemmas
 pub mod EndLemmas
 pub mod NoticeWalkLemmas
-pub mod ParentLemmas
 pub mod CodeLemmas
 pub mod NotedBurstLemmas
 pub mod ChildLemmas
 pub mod SendLemmas
+pub mod SignalLemmas
 pub mod LoanLemmas
 pub mod ViewLemmas
 pub mod PartLemmas

@@ -10,7 +10,7 @@ use Rattle.posix.specs.Step.{set_cpu}
 use Rattle.posix.specs.States.{State, process, change}
 use Rattle.posix.specs.Regular.{IsRegular}
 use Rattle.posix.proofs.RegularLemmas.{Keeps, regular_change}
-use Rattle.posix.proofs.TouchLemmas.{Unseen}
+use Rattle.posix.proofs.TouchLemmas.{Unseen, touches_unseen}
 use Rattle.pidalloc.specs.Rows.{Pids}
 use Rattle.sched.specs.Places.{Places}
 use Rattle.pidset.specs.Numbers.{PidSetView}
@@ -20,6 +20,7 @@ use Rattle.jobs.proofs.LoanLemmas.{own_found, read_at, written_at}
 use Rattle.life.specs.Machines.{IsMachine, Terminals}
 use Rattle.life.specs.Rechecks.{rechecking}
 use Rattle.life.proofs.FunnelLemmas.{machine_unseen}
+use Rattle.life.proofs.RecheckLemmas.{listed_change}
 
 -- it is nothing that the shape of a machine depends on
 pub keeps_give_own : {now : ℕ} (o : OwnPart) → Keeps now (give_own o)
@@ -72,4 +73,5 @@ pub machine_lent : {groups_at_risk : PidSetView} {terminals : Terminals} (s : St
     → IsSome (process s p) → IsMachine s pids places to_recheck groups_at_risk terminals → after.pids ≡ rechecking p s.order to_recheck.pids → after.room ≡ to_recheck.room
     → IsMachine (change s p (give_own w)) pids places after groups_at_risk terminals
 machine_lent s pids places to_recheck after p w here i put room =
-    machine_unseen s pids places to_recheck after p (give_own w) (unseen_give_own w) (λ r. refl) (regular_change p (give_own w) s (keeps_give_own w) i.sound.regular) here i put room
+    machine_unseen s pids places to_recheck after p (give_own w) (unseen_give_own w) (λ r. refl) (regular_change p (give_own w) s (keeps_give_own w) i.sound.regular) i
+    (listed_change s p (give_own w) to_recheck after i.listed (λ r. refl) (touches_unseen s p (give_own w) (unseen_give_own w)) here put room)

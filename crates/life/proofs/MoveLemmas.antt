@@ -1,14 +1,15 @@
 -- Whom setpgid moves, and who stays in its process group.
-use Rattle.std.proofs.Common.{◌≡◌, ◌==◌, ◌||◌, true, ℕ, ℤ, pos, negsuc, inl, inr, arith, List, refl, ap, sym, ◌∙◌, Option, Some, None, option_map, Ok, Err, Result}
+use Rattle.std.proofs.Common.{◌≡◌, ◌==◌, ◌&&◌, ◌||◌, Bool, not, true, false, ℕ, ℤ, pos, negsuc, inl, inr, arith, List, refl, ap, sym, ◌∙◌, Option, Some, None, option_map, Ok, Err, Result}
 use Rattle.std.specs.Result.{IsErrAnd}
 use Rattle.posix.specs.declared.errno.Errno.{Errno}
-use Rattle.posix.specs.Processes.{Process}
-use Rattle.std.proofs.lemmas.Bool.{eqb-true, and_parts, or_cases}
+use Rattle.posix.specs.Processes.{Process, is_zombie}
+use Rattle.std.proofs.lemmas.Bool.{eqb-true, eq-eqb, and_parts, or_cases}
 use Rattle.posix.specs.Tables.{IsRising, lookup, is_member}
 use Rattle.posix.proofs.WalkLemmas.{some_looked, any_looked}
 use Rattle.jobs.specs.JobTables.{IsGroupFor}
 use Rattle.posix.specs.States.{State, process, change}
-use Rattle.posix.specs.Regular.{IsRegular}
+use Rattle.posix.specs.Regular.{IsPlaced, IsRegular}
+use Rattle.jobs.specs.Books.{keeps_stance, seen_of}
 use Rattle.posix.specs.Notices.{stopped_by, resumed}
 use Rattle.posix.specs.Ends.{ended, made_zombie}
 use Rattle.posix.specs.Waits.{news_told}
@@ -63,24 +64,34 @@ pub err_is : (r : Result ℕ Errno) (e : Errno) → IsErrAnd r (λ x. x ≡ e) �
 err_is (Ok n) e is = absurd (is)
 err_is (Err x) e is = ap Err is
 
--- ---- who stays in its process group
+-- ---- who stays in its process group and its session, and isn't revived
 
-pub stopped_stays : (n : ℕ) (r : Process) → (stopped_by n r).group ≡ r.group
+kept_so : (r : Process) (b : Bool) → b ≡ true → ((r.group == r.group && r.session == r.session) && b) ≡ true
+kept_so r b e = rw (eq-eqb r.group r.group refl, eq-eqb r.session r.session refl) e
+
+alive : (rs : List Process) (p : ℕ) → IsPlaced rs p → (r : Process) → lookup p rs ≡ Some r → not (is_zombie r.life) ≡ true
+alive rs p me r e = let both : Some me.what ≡ Some r = sym me.found ∙ e in let one : me.what ≡ r = cc in rw (← one, me.living) refl
+
+pub stopped_put : (n : ℕ) (rs : List Process) (p : ℕ) → IsPlaced rs p → (r : Process) → lookup p rs ≡ Some r → keeps_stance (seen_of r) (seen_of (stopped_by n r)) ≡ true
 unfolding stopped_by
-stopped_stays n r = refl
+stopped_put n rs p me r e = kept_so r _ (alive rs p me r e)
 
-pub resumed_stays : (r : Process) → (resumed r).group ≡ r.group
+pub resumed_put : (rs : List Process) (p : ℕ) → IsPlaced rs p → (r : Process) → lookup p rs ≡ Some r → keeps_stance (seen_of r) (seen_of (resumed r)) ≡ true
 unfolding resumed
-resumed_stays r = refl
+resumed_put rs p me r e = kept_so r _ (alive rs p me r e)
 
-pub ended_stays : (n : ℕ) (r : Process) → (ended n r).group ≡ r.group
+pub ended_put : (n : ℕ) (r : Process) → keeps_stance (seen_of r) (seen_of (ended n r)) ≡ true
 unfolding ended
-ended_stays n r = refl
+ended_put n r = kept_so r true refl
 
-pub zombie_stays : (n : ℕ) (r : Process) → (made_zombie n r).group ≡ r.group
+pub zombie_put : (n : ℕ) (r : Process) → keeps_stance (seen_of r) (seen_of (made_zombie n r)) ≡ true
 unfolding made_zombie
-zombie_stays n r = refl
+zombie_put n r = kept_so r true refl
 
-pub told_stays : (r : Process) → (news_told r).group ≡ r.group
+pub told_put : (r : Process) → keeps_stance (seen_of r) (seen_of (news_told r)) ≡ true
 unfolding news_told
-told_stays r = refl
+told_put r = kept_so r _ (either (is_zombie r.life))
+  where
+    either : (b : Bool) → (b || not b) ≡ true
+    either true = refl
+    either false = refl

@@ -1,5 +1,5 @@
 -- What a notice of an end, and a record that goes, change in the parts of a machine.
-use Rattle.std.proofs.Common.{◌≡◌, ◌≢◌, ℕ, ◌+◌, ◌≤◌, Bool, true, false, cond, refl, ap, sym, ◌∙◌, arith, subst, List, Option, Some, None, option_map}
+use Rattle.std.proofs.Common.{eq-eqb, ◌≡◌, ◌≢◌, ℕ, ◌+◌, ◌≤◌, Bool, true, false, cond, refl, ap, sym, ◌∙◌, arith, subst, List, Option, Some, None, option_map}
 use Rattle.std.specs.Option.{option_map_or}
 use Rattle.posix.specs.declared.process.PendingSignal.{PendingSignal}
 use Rattle.posix.specs.Processes.{Process, is_zombie}
@@ -7,15 +7,16 @@ use Rattle.posix.specs.Tables.{lookup, at, changed, removed, parent_of}
 use Rattle.posix.specs.States.{State, change}
 use Rattle.posix.specs.Ends.{drops_children, is_dropping, drop_child, notice_of_end}
 use Rattle.posix.specs.Notices.{child_signal, noticed}
-use Rattle.posix.proofs.TableLemmas.{pid_looked, length_removed}
+use Rattle.posix.proofs.TableLemmas.{lookup_changed, pid_looked, length_removed}
 use Rattle.posix.proofs.MapLemmas.{lookup_on, lookup_map}
 use Rattle.posix.proofs.RegularLemmas.{keeps_at, keeps_noticed, regular_as, regular_removed}
 use Rattle.pidalloc.specs.Rows.{Pids}
 use Rattle.pidalloc.specs.Tallies.{IsTallied}
 use Rattle.pidalloc.proofs.TallyLemmas.{can_give_up, tallied_gone}
 use Rattle.sched.specs.Places.{Places}
-use Rattle.life.specs.Machines.{IsSound, CanGo, IsGone}
-use Rattle.life.proofs.ParentLemmas.{parents_removed}
+use Rattle.life.specs.Machines.{IsSound, CanGo, IsGone, IsOther}
+use Rattle.proctable.proofs.LinkLemmas.{no_child}
+use Rattle.pidset.proofs.ParentLemmas.{parents_removed}
 
 -- a zombie other than process 1 can go
 pub can_go : (s : State) (p : Pids) (places : Places) (c : ℕ) (r : Process) → IsSound s p places → lookup c s.processes ≡ Some r → is_zombie r.life ≡ true → c ≢ 1 → CanGo s.processes p c
@@ -53,7 +54,7 @@ sound_gone s p q a c last dropped r i found dead other g most =
     let all = i.counted in
     record {
       regular = regular_as _ (record s { processes = removed c s.processes; last_pid = last; dropped = dropped }) refl refl refl refl refl (regular_removed c r s i.regular other found dead);
-      parents = parents_removed c s.processes (i.regular.childless c r other found dead) i.parents;
+      parents = parents_removed IsOther c s.processes (no_child c s.processes (i.regular.childless c r other found dead)) i.parents;
       counted = omega (arith, e, all, most);
       kept = record {
         greatest = g.greatest ∙ k.greatest;
@@ -73,6 +74,10 @@ unfolding changed
 zombie_noticed parent signal c rs it found dead =
     let k = keeps_at parent (noticed signal) (keeps_noticed {now = 0} signal) in
     (at parent (noticed signal) it, lookup_on (at parent (noticed signal)) k.pid c rs it found, k.zombie it ∙ dead)
+
+-- the parent has got notice
+pub noticed_here : (parent : ℕ) (signal : PendingSignal) (rs : List Process) → lookup parent (changed parent (noticed signal) rs) ≡ option_map (noticed signal) (lookup parent rs)
+noticed_here parent signal rs = lookup_changed parent parent (noticed signal) (keeps_noticed {now = 0} signal).pid rs ∙ ap (λ b. cond b (option_map (noticed signal) (lookup parent rs)) (lookup parent rs)) (eq-eqb parent parent refl)
 
 -- and whose child it is stays
 pub parent_noticed : (parent : ℕ) (signal : PendingSignal) (c : ℕ) (rs : List Process) → parent_of c (changed parent (noticed signal) rs) ≡ parent_of c rs

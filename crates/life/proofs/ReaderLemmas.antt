@@ -1,27 +1,24 @@
 -- Places of consoles, and who waits to read from them.
-use Rattle.std.proofs.Common.{◌≡◌, ◌≢◌, ℕ, ◌+◌, ◌<◌, ◌≤◌, zero, suc, true, false, cond, refl, ap, sym, ◌∙◌, arith, subst, List, [], ◌∷◌, ◌++◌, length, take, find, Option, Some, None, ◌==◌, slice_get, slice_set, Bool, MatchOption, ⊎_elim, nat_lt, map, drop, get_or}
+use Rattle.std.proofs.Common.{◌≡◌, ◌≢◌, ℕ, ◌+◌, ◌<◌, ◌≤◌, zero, suc, true, false, cond, refl, ap, sym, ◌∙◌, arith, subst, List, [], ◌∷◌, ◌++◌, length, take, find, Option, Some, None, ◌==◌, slice_get, slice_set, option_map, is_some, ◌&&◌, ◌||◌, Bool, MatchOption, ⊎_elim, nat_lt, map, drop, get_or}
 use Rattle.std.specs.Option.{IsSome, IfSome, option_map_or}
 use Rattle.std.specs.List.{AllByRecursion}
-use Rattle.std.proofs.lemmas.Bool.{eqb-true, eqb-false, eq-eqb, ltb-true, ltb-false, or_left, or_right, or_cases, and_parts, both_ways}
-use Rattle.std.proofs.lemmas.Bool.Decides.{nat_tests}
+use Rattle.std.proofs.lemmas.Bool.{eqb-true, eqb-false, eq-eqb, ne_eqb, ltb-true, ltb-false, or_left, or_right, or_cases, and_parts, both_ways}
 use Rattle.std.proofs.lemmas.List.{length-set}
-use Rattle.std.proofs.lemmas.Option.{slice_get_within, slice_get_read, same_Some}
-use Rattle.posix.specs.declared.process.Blocked.{Blocked}
-use Rattle.posix.specs.declared.process.Blocked.TheVariants as blocked
-use Rattle.posix.specs.Processes.{Process, is_running}
+use Rattle.std.proofs.lemmas.Option.{slice_get_within, slice_get_read, same_Some, IfSome_then}
+use Rattle.circular_buffer.proofs.Places.{slice_get-some}
+use Rattle.posix.specs.declared.process.Life.{Life}
+use Rattle.posix.specs.declared.process.Life.TheVariants.{Running, Stopped, Zombie}
+use Rattle.posix.specs.Processes.{Process, is_running, is_zombie}
 use Rattle.posix.specs.Consoles.{Console, is_of_session}
 use Rattle.posix.specs.States.{State, process, is_in, has_place, without}
-use Rattle.posix.specs.Regular.{IsRegular, AreConsoles}
+use Rattle.posix.specs.Regular.{IsRegular}
 use Rattle.posix.specs.Terminals.{is_reader, is_in_read}
-use Rattle.posix.proofs.MemberLemmas.{others_stay}
+use Rattle.posix.proofs.MemberLemmas.{in_none, out_of, is_other, others_stay}
 use Rattle.posix.proofs.TableLemmas.{pid_looked}
-use Rattle.posix.proofs.ConsoleLemmas.{none_of}
 use Rattle.pidset.specs.Numbers.{PidSetView, Rises, with_number, numbers_above}
-use Rattle.pidset.proofs.NumberLemmas.{few, rises_with, in_with, IsLeastAbove, next_is}
-use Rattle.life.specs.Machines.{IsReaders, IsWatched, readers_at}
-use Rattle.life.specs.Rechecks.{rechecking}
-use Rattle.life.specs.Consoles.{IsTerminalIndex, IsKnownBy, IsForgottenAt, AreReaders, readers_of}
-use Rattle.life.proofs.SoundLemmas.{there}
+use Rattle.pidset.proofs.NumberLemmas.{few, rises_with, rises_without, in_with, IsLeastAbove, next_is}
+use Rattle.life.specs.Machines.{IsReaders, IsListed, IsWaiting, IsWatched, AreUnread, readers_at}
+use Rattle.life.specs.Consoles.{reads, reads_in, is_terminal_of, marked, IsMarked, IsForgottenAt, AreReaders}
 use Rattle.life.proofs.RecheckLemmas.{none_between}
 
 -- ---- the place of a session's terminal
@@ -67,22 +64,17 @@ pub readers_more : (m : ℕ) (sets : List PidSetView) (set : PidSetView) → All
 readers_more m [] set h one = (one, tt)
 readers_more m (x ∷ xs) set h one = (h.0, readers_more m xs set h.1 one)
 
-set_same : {X : Type 0} (xs : List X) (k : ℕ) (x y : X) → slice_get xs k ≡ Some x → slice_get (slice_set xs k y) k ≡ Some y
+pub set_same : {X : Type 0} (xs : List X) (k : ℕ) (x y : X) → slice_get xs k ≡ Some x → slice_get (slice_set xs k y) k ≡ Some y
 set_same [] k x y e = absurd (cc)
 set_same (z ∷ zs) zero x y e = refl
 set_same (z ∷ zs) (suc k) x y e = set_same zs k x y e
 
-set_other : {X : Type 0} (xs : List X) (k j : ℕ) (y : X) → j ≢ k → slice_get (slice_set xs k y) j ≡ slice_get xs j
+pub set_other : {X : Type 0} (xs : List X) (k j : ℕ) (y : X) → j ≢ k → slice_get (slice_set xs k y) j ≡ slice_get xs j
 set_other [] k j y ne = refl
 set_other (z ∷ zs) zero zero y ne = absurd (ne refl)
 set_other (z ∷ zs) zero (suc j) y ne = refl
 set_other (z ∷ zs) (suc k) zero y ne = refl
 set_other (z ∷ zs) (suc k) (suc j) y ne = set_other zs k j y (λ e. ne (ap suc e))
-
-absent_place : {X : Type 0} (xs : List X) (k : ℕ) → slice_get xs k ≡ None → k < length xs → ⊥
-absent_place [] k e l = absurd (omega (arith, l))
-absent_place (z ∷ zs) zero e l = absurd (cc)
-absent_place (z ∷ zs) (suc k) e l = absent_place zs k e (omega (arith, l))
 
 readers_set : (m : ℕ) (sets : List PidSetView) (k : ℕ) (set : PidSetView) → AllByRecursion (IsReaders m) sets → IsReaders m set → AllByRecursion (IsReaders m) (slice_set sets k set)
 readers_set m [] k set h one = tt
@@ -102,118 +94,134 @@ readers_room m set h =
     let room = h.room in
     omega (arith, most, room)
 
--- who is put in
-readers_with : (m p : ℕ) (set now : PidSetView) → IsReaders m set → (1 ≤ p) × (p ≤ m) → now.pids ≡ with_number p set.pids → now.room ≡ set.room → IsReaders m now
-readers_with m p set now h range is same = record {
-  rising = subst Rises (sym is) (rises_with p set.pids h.rising);
-  within = λ q e. ⊎_elim (λ k. subst (λ n. (1 ≤ n) × (n ≤ m)) (eqb-true p q k) range) (h.within q) (or_cases _ _ (sym (ap (is_in q) is ∙ in_with q p set.pids) ∙ e));
-  room = let room = h.room in omega (arith, room, same);
+-- p is put in or taken out
+readers_marked : (m p : ℕ) (b : Bool) (set : PidSetView) → IsReaders m set → (b ≡ true → (1 ≤ p) × (p ≤ m)) → IsReaders m (marked b p set)
+readers_marked m p true set h range = record {
+  rising = rises_with p set.pids h.rising;
+  within = λ q e. ⊎_elim (λ k. subst (λ n. (1 ≤ n) × (n ≤ m)) (eqb-true p q k) (range refl)) (h.within q) (or_cases _ _ (sym (in_with q p set.pids) ∙ e));
+  room = h.room;
 }
+readers_marked m p false set h range = record { rising = rises_without p set.pids h.rising; within = λ q e. h.within q (is_other p q set.pids e).among; room = h.room }
+
+-- what holds in each place holds of all
+all_places : {X : Type 0} (P : X → Type 0) (xs : List X) → ((k : ℕ) (x : X) → slice_get xs k ≡ Some x → P x) → AllByRecursion P xs
+all_places P [] h = tt
+all_places P (x ∷ xs) h = (h zero x refl, all_places P xs (λ k y e. h (suc k) y e))
+
+-- one more set of nobody
+pub none_more : (k : ℕ) (sets : List PidSetView) (set : PidSetView) → AreUnread sets → set.pids ≡ [] → readers_at k (sets ++ set ∷ []) ≡ []
+none_more zero [] set h e = e
+none_more (suc k) [] set h e = refl
+none_more zero (x ∷ xs) set h e = h zero
+none_more (suc k) (x ∷ xs) set h e = none_more k xs set (λ j. h (suc j)) e
 
 -- ---- one who was rechecked
 
--- who is in a read is blocked in it
-in_read : (b : Option Blocked) → is_in_read b ≡ true → b ≡ Some blocked.Read
-in_read None e = absurd (cc)
-in_read (Some blocked.Waitpid) e = absurd (cc)
-in_read (Some blocked.Read) e = refl
-in_read (Some blocked.Pause) e = absurd (cc)
-in_read (Some (blocked.Sigsuspend mask)) e = absurd (cc)
-
--- a reader of a session is one
-record Reads (session : ℕ) (r : Process) : Type 0 where
-  blocked : r.blocked ≡ Some blocked.Read
-  session_is : r.session ≡ session
-
-reads_are : (session : ℕ) (r : Process) → is_reader session r ≡ true → Reads session r
-reads_are session r e =
-    let both = and_parts (is_running r.life) _ e in
-    let k = and_parts (is_in_read r.blocked) _ both.1 in
-    record { blocked = in_read r.blocked k.0; session_is = eqb-true r.session session k.1 }
-
--- the place is that of the console with the session
-place_is : (many session : ℕ) (cs : List Console) (console_index : Option ℕ) (k : ℕ) (c : Console) → AreConsoles many cs → session ≢ 0 → slice_get cs k ≡ Some c → c.session ≡ session → IsTerminalIndex session cs console_index → console_index ≡ Some k
-place_is many session cs None k c h some at same is = absurd (none_of session cs is k c at same)
-place_is many session cs (Some j) k c h some at same is = ap Some (h.apart j k is.0 c is.1 at (λ z. some (sym is.3 ∙ z)) (is.3 ∙ sym same))
-
--- who is put into a set is in it, and who was in one still is
-known_still : (k : ℕ) (console_index : Option ℕ) (p q : ℕ) (old new : List PidSetView) → IsKnownBy console_index p old new → is_in q (readers_at k old) ≡ true → is_in q (readers_at k new) ≡ true
-known_still k None p q old new is e = ap (λ sets. is_in q (readers_at k sets)) is ∙ e
-known_still k (Some j) p q old new is e = by (slice_get old j) refl is
+-- whose terminal it reads is what tells its readers
+reads_at : (s : State) (p : ℕ) (c : Console) (r : Process) → process s p ≡ Some r → has_place s p ≡ false → is_terminal_of (reads s p) (Some c) ≡ is_reader c.session r
+reads_at s p c r found out = rw (out, found) (by (is_running r.life) (is_in_read r.blocked))
   where
-    here : (set now : PidSetView) → slice_get old j ≡ Some set → now.pids ≡ with_number p set.pids → (b : Bool) → (k == j) ≡ b → is_in q (readers_at k (slice_set old j now)) ≡ true
-    here set now at put true same =
-        let at_j : k ≡ j = eqb-true k j same in
-        ap (λ n. is_in q (readers_at n (slice_set old j now))) at_j ∙ ap (λ o. is_in q (option_map_or (λ (x : PidSetView). x.pids) o [])) (set_same old j set now at) ∙ ap (is_in q) put ∙ in_with q p set.pids
-        ∙ or_right (p == q) _ (sym (ap (λ o. is_in q (option_map_or (λ (x : PidSetView). x.pids) o [])) at) ∙ ap (λ n. is_in q (readers_at n old)) (sym at_j) ∙ e)
-    here set now at put false other = ap (λ o. is_in q (option_map_or (λ (x : PidSetView). x.pids) o [])) (set_other old j k now (eqb-false k j other)) ∙ e
+    by : (a b : Bool) → is_terminal_of (cond (a && b) (Some r.session) None) (Some c) ≡ (a && (b && r.session == c.session))
+    by true true = refl
+    by true false = refl
+    by false b = refl
 
-    by : (o : Option PidSetView) → slice_get old j ≡ o → MatchOption o (new ≡ old) (λ set. (now : PidSetView) × (new ≡ slice_set old j now) × (now.pids ≡ with_number p set.pids) × (now.room ≡ set.room)) → is_in q (readers_at k new) ≡ true
-    by None at m = ap (λ sets. is_in q (readers_at k sets)) m ∙ e
-    by (Some set) at m = ap (λ sets. is_in q (readers_at k sets)) m.1 ∙ here set m.0 at m.2 (k == j) refl
+nowhere : (o : Option ℕ) → is_terminal_of o None ≡ true → ⊥
+nowhere None e = absurd (cc)
+nowhere (Some n) e = absurd (cc)
 
-known_now : (k p : ℕ) (old new : List PidSetView) → k < length old → IsKnownBy (Some k) p old new → is_in p (readers_at k new) ≡ true
-known_now k p old new fits is = by (slice_get old k) refl is
+pub reads_waiting : (s : State) (p k : ℕ) → is_terminal_of (reads s p) (slice_get s.consoles k) ≡ true → IsWaiting s k p
+reads_waiting s p k e = by (has_place s p) (process s p) (slice_get s.consoles k) refl refl refl e
   where
-    by : (o : Option PidSetView) → slice_get old k ≡ o → MatchOption o (new ≡ old) (λ set. (now : PidSetView) × (new ≡ slice_set old k now) × (now.pids ≡ with_number p set.pids) × (now.room ≡ set.room)) → is_in p (readers_at k new) ≡ true
-    by None at m = absurd (absent_place old k at fits)
-    by (Some set) at m = ap (λ sets. is_in p (readers_at k sets)) m.1 ∙ ap (λ o. is_in p (option_map_or (λ (x : PidSetView). x.pids) o [])) (set_same old k set m.0 at) ∙ ap (is_in p) m.2 ∙ in_with p p set.pids ∙ or_left _ _ (eq-eqb p p refl)
+    by : (b : Bool) (r : Option Process) (o : Option Console) → has_place s p ≡ b → process s p ≡ r → slice_get s.consoles k ≡ o → is_terminal_of (cond b None (reads_in r)) o ≡ true → IsWaiting s k p
+    by true r o out found at e = absurd (cc)
+    by false None o out found at e = absurd (cc)
+    by false (Some r) None out found at e = absurd (nowhere (reads_in (Some r)) e)
+    by false (Some r) (Some c) out found at e = record { console = c; reader = r; at = at; found = found; reads = sym (reads_at s p c r found out) ∙ rw (out, found) e; out = out }
 
--- the sets stay sets
-known_each : (m : ℕ) (console_index : Option ℕ) (p : ℕ) (old new : List PidSetView) → AllByRecursion (IsReaders m) old → (console_index ≢ None → (1 ≤ p) × (p ≤ m)) → IsKnownBy console_index p old new → AllByRecursion (IsReaders m) new × (length new ≡ length old)
-known_each m None p old new h range is = (subst (AllByRecursion (IsReaders m)) (sym is) h, ap length is)
-known_each m (Some j) p old new h range is = by (slice_get old j) refl is
-  where
-    by : (o : Option PidSetView) → slice_get old j ≡ o → MatchOption o (new ≡ old) (λ set. (now : PidSetView) × (new ≡ slice_set old j now) × (now.pids ≡ with_number p set.pids) × (now.room ≡ set.room)) → AllByRecursion (IsReaders m) new × (length new ≡ length old)
-    by None at same = (subst (AllByRecursion (IsReaders m)) (sym same) h, ap length same)
-    by (Some set) at k =
-        let one = readers_with m p set k.0 (readers_at_place m old j set h at) (range (λ e. absurd (cc))) k.2 k.3 in
-        (subst (AllByRecursion (IsReaders m)) (sym k.1) (readers_set m old j k.0 h one), ap length k.1 ∙ length-set old j k.0)
+-- ---- sets in which p is marked
 
--- who was rechecked and needn't be any more is known where it waits to read
-pub watched_known : {readers sets : List PidSetView} (s : State) (p : ℕ) (console_index : Option ℕ) (before after : List ℕ) → IsRegular s → IsWatched s before readers → after ≡ without p before → IsKnownBy console_index p readers sets
-    → (console_index ≢ None → IsSome (process s p)) → ((r : Process) → process s p ≡ Some r → r.blocked ≡ Some blocked.Read → has_place s p ≡ false → IsTerminalIndex r.session s.consoles console_index) → IsWatched s after sets
-watched_known {readers = readers} {sets = sets} s p console_index before after i h is known here placed = record {
-  known = λ k q c r at found visits out unasked.
-      elim (q == p) as (λ b. (q == p) ≡ b → is_in q (readers_at k sets) ≡ true) [
-        | true ↦ λ e.
-            let same : q ≡ p = eqb-true q p e in
-            let mine : process s p ≡ Some r = subst (λ n. process s n ≡ Some r) same found in
-            let it = reads_are c.session r visits in
-            let some = i.bounded p r mine in
-            let least = some.session_least in
-            let at_k : console_index ≡ Some k = place_is s.world.consoles r.session s.consoles console_index k c i.consoles (λ z. absurd (omega (arith, z, least))) at (sym it.session_is) (placed r mine it.blocked (ap (λ n. has_place s n) (sym same) ∙ out)) in
-            let fits : k < length readers = subst (λ n. k < n) (i.consoles.count ∙ sym h.many) (slice_get_within s.consoles k c at) in
-            subst (λ n. is_in n (readers_at k sets) ≡ true) (sym same) (known_now k p readers sets fits (subst (λ o. IsKnownBy o p readers sets) at_k known))
-        | false ↦ λ e.
-            known_still k console_index p q readers sets known (h.known k q c r at found visits out (sym (others_stay p q before (eqb-false q p e)) ∙ sym (ap (is_in q) is) ∙ unasked))
-      ] refl;
-  each = (known_each s.world.pidmax console_index p readers sets h.each range known).0;
-  many = (known_each s.world.pidmax console_index p readers sets h.each range known).1 ∙ h.many;
+-- whoever is in one, or in none
+in_place : ℕ → Option PidSetView → Bool
+in_place q o = is_in q (option_map_or (λ (x : PidSetView). x.pids) o [])
+
+-- p is in those where it is marked
+marked_own : (b : Bool) (p : ℕ) (o : Option PidSetView) → in_place p (option_map (marked b p) o) ≡ (b && is_some o)
+unfolding in_place is_in
+marked_own true p None = refl
+marked_own false p None = refl
+marked_own true p (Some set) = in_with p p set.pids ∙ or_left _ _ (eq-eqb p p refl)
+marked_own false p (Some set) = out_of p set.pids
+
+-- and the others where they were
+marked_other : (b : Bool) (p q : ℕ) (o : Option PidSetView) → q ≢ p → in_place q (option_map (marked b p) o) ≡ in_place q o
+unfolding in_place
+marked_other b p q None ne = refl
+marked_other true p q (Some set) ne = in_with q p set.pids ∙ ap (λ t. t || is_in q set.pids) (ne_eqb p q (λ e. ne (sym e)))
+marked_other false p q (Some set) ne = others_stay p q set.pids ne
+
+-- Where p is marked just where it waits to read, it needn't be rechecked.
+pub watched_marked : {readers sets : List PidSetView} (s : State) (p : ℕ) (session : Option ℕ) (before after : List ℕ) → IsRegular s → IsWatched s before readers → IsMarked session p s.consoles readers sets
+    → ((q : ℕ) → q ≢ p → is_in q after ≡ is_in q before) → ((k : ℕ) → is_terminal_of session (slice_get s.consoles k) ≡ true → IsWaiting s k p)
+    → ((c : Console) (r : Process) → process s p ≡ Some r → is_reader c.session r ≡ true → has_place s p ≡ false → is_terminal_of session (Some c) ≡ true) → IsWatched s after sets
+unfolding in_place
+watched_marked {readers = readers} {sets = sets} s p session before after i h put others sound complete = record {
+  known = λ k q c r at found visits out unasked. elim (q == p) as (λ b. (q == p) ≡ b → is_in q (readers_at k sets) ≡ true) [
+    | true ↦ λ e.
+        let same = eqb-true q p e in
+        let here = slice_get-some readers k (subst (λ n. k < n) (i.consoles.count ∙ sym h.many) (slice_get_within s.consoles k c at)) in
+        let marks = complete c r (subst (λ n. process s n ≡ Some r) same found) visits (ap (has_place s) (sym same) ∙ out) in
+        ap (λ n. is_in n (readers_at k sets)) same ∙ own k ∙ ap (λ o. is_terminal_of session (slice_get s.consoles k) && is_some o) here.1 ∙ rw at (rw marks refl)
+    | false ↦ λ e. let ne = eqb-false q p e in other k q ne ∙ h.known k q c r at found visits out (sym (others q ne) ∙ unasked)
+  ] refl;
+  waits = λ k q on unasked. elim (q == p) as (λ b. (q == p) ≡ b → IsWaiting s k q) [
+    | true ↦ λ e. let same = eqb-true q p e in subst (IsWaiting s k) (sym same) (sound k (and_parts _ _ (sym (own k) ∙ ap (λ n. is_in n (readers_at k sets)) (sym same) ∙ on)).0)
+    | false ↦ λ e. let ne = eqb-false q p e in h.waits k q (sym (other k q ne) ∙ on) (sym (others q ne) ∙ unasked)
+  ] refl;
+  each = all_places (IsReaders s.world.pidmax) sets (λ k set at. marked_set k set (slice_get readers k) refl (sym (put.sets k) ∙ at));
+  many = put.many ∙ h.many;
 }
   where
-    range : console_index ≢ None → (1 ≤ p) × (p ≤ s.world.pidmax)
-    range ne =
-        let r = there (process s p) (here ne) in
-        let b = i.bounded p r.what r.found in
-        let named = pid_looked p s.processes r.what r.found in
-        let low = b.least in
-        let high = b.pid in
-        (omega (arith, named, low), omega (arith, named, high))
+    own : (k : ℕ) → is_in p (readers_at k sets) ≡ (is_terminal_of session (slice_get s.consoles k) && is_some (slice_get readers k))
+    own k = ap (in_place p) (put.sets k) ∙ marked_own _ p (slice_get readers k)
 
--- ---- who is to be rechecked
+    other : (k q : ℕ) → q ≢ p → is_in q (readers_at k sets) ≡ is_in q (readers_at k readers)
+    other k q ne = ap (in_place q) (put.sets k) ∙ marked_other _ p q (slice_get readers k) ne
 
--- one without a place that was rechecked is
-pub rechecked_now : (p : ℕ) (order before after : List ℕ) → after ≡ rechecking p order before → is_in p order ≡ false → is_in p after ≡ true
-rechecked_now p order before after is out = ap (is_in p) is ∙ ap (λ b. is_in p (cond b before (with_number p before))) out ∙ in_with p p before ∙ or_left _ _ (eq-eqb p p refl)
+    range : (k : ℕ) → IsWaiting s k p → (1 ≤ p) × (p ≤ s.world.pidmax)
+    range k w =
+        let b = i.bounded p w.reader w.found in
+        let named = pid_looked p s.processes w.reader w.found in
+        (omega (arith, named, b.least), omega (arith, named, b.pid))
 
--- and all who were
-pub rechecked_still : (p q : ℕ) (order before after : List ℕ) → after ≡ rechecking p order before → is_in q before ≡ true → is_in q after ≡ true
-rechecked_still p q order before after is on =
-    ap (is_in q) is ∙ elim (is_in p order) as (λ b. is_in q (cond b before (with_number p before)) ≡ true) [
-      | true ↦ on
-      | false ↦ in_with q p before ∙ or_right (p == q) _ on
-    ]
+    marked_set : (k : ℕ) (set : PidSetView) (o : Option PidSetView) → slice_get readers k ≡ o → option_map (marked (is_terminal_of session (slice_get s.consoles k)) p) o ≡ Some set → IsReaders s.world.pidmax set
+    marked_set k set None at e = absurd (cc)
+    marked_set k set (Some old) at e = subst (IsReaders s.world.pidmax) (same_Some _ _ e) (readers_marked s.world.pidmax p _ old (readers_at_place s.world.pidmax readers k old h.each at) (λ b. range k (sound k b)))
+
+-- so who was rechecked
+pub watched_rechecked : {readers sets : List PidSetView} (s : State) (p : ℕ) (session : Option ℕ) (cs : List Console) (before after : List ℕ) → IsRegular s → IsWatched s before readers → after ≡ without p before → session ≡ reads s p → cs ≡ s.consoles → IsMarked session p cs readers sets → IsWatched s after sets
+watched_rechecked {readers = readers} {sets = sets} s p session cs before after i h is reading same put =
+    watched_marked s p (reads s p) before after i h (subst (λ o. IsMarked o p s.consoles readers sets) reading (subst (λ cs. IsMarked session p cs readers sets) same put)) (λ q ne. ap (is_in q) is ∙ others_stay p q before ne) (reads_waiting s p)
+    (λ c r found visits out. reads_at s p c r found out ∙ visits)
+
+-- and a zombie, which is in none
+pub listed_zombie : {readers sets : List PidSetView} (s : State) (p : ℕ) (it : Process) (l : PidSetView) (cs : List Console) → IsRegular s → IsListed s l readers → process s p ≡ Some it → is_zombie it.life ≡ true → cs ≡ s.consoles → IsMarked None p cs readers sets → IsListed s l sets
+listed_zombie {readers = readers} {sets = sets} s p it l cs i h found zombie same put = record {
+  covers = h.covers;
+  rising = h.rising;
+  there = h.there;
+  room = h.room;
+  watched = watched_marked s p None l.pids l.pids i h.watched (subst (λ cs. IsMarked None p cs readers sets) same put) (λ q ne. refl) (λ k e. absurd (cc)) (λ c r mine visits out. absurd (both_ways _ (not_running it.life zombie) (sym (ap (λ (r : Process). is_running r.life) (same_Some _ _ (sym mine ∙ found))) ∙ (and_parts _ _ visits).0)));
+}
+  where
+    not_running : (life : Life) → is_zombie life ≡ true → is_running life ≡ false
+    not_running Running z = absurd (cc)
+    not_running Stopped z = refl
+    not_running (Zombie w) z = refl
+
+pub none_marked : (k p : ℕ) (cs : List Console) (readers sets : List PidSetView) → IsMarked None p cs readers sets → is_in p (readers_at k sets) ≡ false
+unfolding in_place
+none_marked k p cs readers sets put = ap (in_place p) (put.sets k) ∙ marked_own false p (slice_get readers k)
 
 -- ---- all are rechecked who may wait to read from a console
 
@@ -235,73 +243,42 @@ watched_least {readers = readers} s to_recheck k w q = by (slice_get readers k) 
     by None at e = absurd (cc)
     by (Some set) at e = ((readers_at_place s.world.pidmax readers k set w.each at).within q e).0
 
--- those of a set who are there and have no place, up to the one that comes next, are to be rechecked
-pub record IsRechecking (s : State) (set : List ℕ) (to_recheck : List ℕ) (next : Option ℕ) : Type 0 where
-  pub before : (q : ℕ) → is_in q set ≡ true → IfSome next (λ n. q < n) → IsSome (process s q) → has_place s q ≡ false → is_in q to_recheck ≡ true
+-- those of a set, up to the one that comes next, are to be rechecked
+pub record IsRechecking (set : List ℕ) (to_recheck : List ℕ) (next : Option ℕ) : Type 0 where
+  pub before : (q : ℕ) → is_in q set ≡ true → IfSome next (λ n. q < n) → is_in q to_recheck ≡ true
+  pub next_there : IfSome next (λ n. is_in n set ≡ true)
 
-pub rechecking_starts : (s : State) (set to_recheck : List ℕ) (next : Option ℕ) → Rises set → ((q : ℕ) → is_in q set ≡ true → 1 ≤ q) → next ≡ slice_get (numbers_above 0 set) 0 → IsRechecking s set to_recheck next
-rechecking_starts s set to_recheck next up least is = record { before = λ q on low here out. absurd (none_between 0 q set next up is on (let l = least q on in omega (arith, l)) low) }
+-- who comes next is one of them
+next_in : (n : ℕ) (set : List ℕ) (next : Option ℕ) → Rises set → next ≡ slice_get (numbers_above n set) 0 → IfSome next (λ m. is_in m set ≡ true)
+next_in n set next up e = rw e (IfSome_then _ {P = IsLeastAbove n set} (next_is n set up) (λ m h. h.there))
 
-pub rechecking_proceeds : (s : State) (set to_recheck after : List ℕ) (n : ℕ) (next : Option ℕ) → Rises set → next ≡ slice_get (numbers_above n set) 0 → IsRechecking s set to_recheck (Some n)
-    → (IsSome (process s n) → has_place s n ≡ false → is_in n after ≡ true) → ((q : ℕ) → is_in q to_recheck ≡ true → is_in q after ≡ true) → IsRechecking s set after next
-rechecking_proceeds s set to_recheck after n next up is h it others = record {
-  before = λ q on low here out.
-      elim (nat_lt q n) as (λ b. nat_lt q n ≡ b → is_in q after ≡ true) [
-        | true ↦ λ e. others q (h.before q on (ltb-true q n e) here out)
-        | false ↦ λ e. elim (q == n) as (λ b. (q == n) ≡ b → is_in q after ≡ true) [
-          | true ↦ λ k. let same = eqb-true q n k in subst (λ m. is_in m after ≡ true) (sym same) (it (subst (λ m. IsSome (process s m)) same here) (subst (λ m. has_place s m ≡ false) same out))
-          | false ↦ λ k. absurd (none_between n q set next up is on (let ne = eqb-false q n k in let high = ltb-false q n e in omega (arith, ne, high)) low)
+pub rechecking_starts : (set to_recheck : List ℕ) (next : Option ℕ) → Rises set → ((q : ℕ) → is_in q set ≡ true → 1 ≤ q) → next ≡ slice_get (numbers_above 0 set) 0 → IsRechecking set to_recheck next
+rechecking_starts set to_recheck next up least is = record { before = λ q on low. absurd (none_between 0 q set next up is on (let l = least q on in omega (arith, l)) low); next_there = next_in 0 set next up is }
+
+pub rechecking_proceeds : (set to_recheck after : List ℕ) (n : ℕ) (next : Option ℕ) → Rises set → next ≡ slice_get (numbers_above n set) 0 → IsRechecking set to_recheck (Some n) → after ≡ with_number n to_recheck → IsRechecking set after next
+rechecking_proceeds set to_recheck after n next up is h put = record {
+  before = λ q on low.
+      ap (is_in q) put ∙ in_with q n to_recheck ∙ elim (nat_lt q n) as (λ b. nat_lt q n ≡ b → (n == q || is_in q to_recheck) ≡ true) [
+        | true ↦ λ e. or_right _ _ (h.before q on (ltb-true q n e))
+        | false ↦ λ e. elim (n == q) as (λ b. (n == q) ≡ b → (b || is_in q to_recheck) ≡ true) [
+          | true ↦ λ k. refl
+          | false ↦ λ k. absurd (none_between n q set next up is on (let ne = eqb-false n q k in let high = ltb-false q n e in omega (arith, ne, high)) low)
         ] refl
       ] refl;
+  next_there = next_in n set next up is;
 }
 
 -- at the end it is all who wait to read
-pub rechecking_is_over : {readers : List PidSetView} (s : State) (k : ℕ) (old to_recheck : List ℕ) → IsWatched s old readers → IsRechecking s (readers_at k readers) to_recheck None → ((q : ℕ) → is_in q old ≡ true → is_in q to_recheck ≡ true) → AreReaders s k to_recheck
-rechecking_is_over s k old to_recheck w h others p c r at found visits out =
+pub rechecking_is_over : {readers : List PidSetView} (s : State) (k : ℕ) (old to_recheck : List ℕ) (next : Option ℕ) → IsWatched s old readers → next ≡ None → IsRechecking (readers_at k readers) to_recheck next → ((q : ℕ) → is_in q old ≡ true → is_in q to_recheck ≡ true) → AreReaders s k to_recheck
+rechecking_is_over s k old to_recheck next w end h others p c r at found visits out =
     elim (is_in p old) as (λ b. is_in p old ≡ b → is_in p to_recheck ≡ true) [
       | true ↦ λ on. others p on
-      | false ↦ λ off. h.before p (w.known k p c r at found visits out off) tt (rw found refl) out
+      | false ↦ λ off. h.before p (w.known k p c r at found visits out off) (rw end tt)
     ] refl
 
--- ---- how many of them are left
-
--- from the one that comes next on
-abbrev pub readers_left : Option ℕ → List ℕ → ℕ
-readers_left None ns = 0
-readers_left (Some n) ns = 1 + length (numbers_above n ns)
-
-above_at_most : (n : ℕ) (ns : List ℕ) → length (numbers_above n ns) ≤ length ns
-above_at_most n [] = omega arith
-above_at_most n (m ∷ ms) = grind (arith, above_at_most n ms)
-
-fewer_above : (n q : ℕ) (ns : List ℕ) → n < q → length (numbers_above q ns) ≤ length (numbers_above n ns)
-fewer_above n q [] l = omega arith
-fewer_above n q (m ∷ ms) l = grind (arith, nat_tests, l, fewer_above n q ms l)
-
-one_fewer : (n q : ℕ) (ns : List ℕ) → n < q → is_in q ns ≡ true → 1 + length (numbers_above q ns) ≤ length (numbers_above n ns)
-unfolding is_in
-one_fewer n q [] l e = absurd (cc)
-one_fewer n q (m ∷ ms) l e = grind (arith, nat_tests, l, e, fewer_above n q ms l, one_fewer n q ms l, eqb-true m q)
-
--- behind n they are those above it
-pub left_behind : (n : ℕ) (ns : List ℕ) (next : Option ℕ) → Rises ns → next ≡ slice_get (numbers_above n ns) 0 → readers_left next ns ≤ length (numbers_above n ns)
-left_behind n ns next up e = rw e (by (slice_get (numbers_above n ns) 0) (next_is n ns up))
-  where
-    by : (o : Option ℕ) → IfSome o (IsLeastAbove n ns) → readers_left o ns ≤ length (numbers_above n ns)
-    by None h = omega arith
-    by (Some q) h = one_fewer n q ns h.above h.there
-
--- at the start they are at most all
-pub left_first : (ns : List ℕ) (next : Option ℕ) → Rises ns → next ≡ slice_get (numbers_above 0 ns) 0 → readers_left next ns ≤ length ns
-left_first ns next up e = let first = left_behind 0 ns next up e in let all = above_at_most 0 ns in omega (arith, first, all)
-
--- those of one console of a session are among those of the session
-pub of_session : (session k : ℕ) (c : Console) (cs : List Console) (sets : List PidSetView) → slice_get cs k ≡ Some c → c.session ≡ session → length (readers_at k sets) ≤ readers_of session cs sets
-unfolding readers_of
-of_session session k c [] sets at e = absurd (cc)
-of_session session k c (d ∷ ds) [] at e = omega arith
-of_session session zero c (d ∷ ds) (set ∷ sets) at e = rw (eq-eqb d.session session (ap (λ (x : Console). x.session) (same_Some _ _ at) ∙ e)) (omega arith)
-of_session session (suc k) c (d ∷ ds) (set ∷ sets) at e = let rest = of_session session k c ds sets at e in omega (arith, rest)
+-- who is in a set is there
+pub reader_there : {readers : List PidSetView} (s : State) (l : PidSetView) (k p : ℕ) → IsListed s l readers → is_in p (readers_at k readers) ≡ true → IsSome (process s p)
+reader_there s l k p h on = elim (is_in p l.pids) as (λ b. is_in p l.pids ≡ b → IsSome (process s p)) [ true ↦ λ e. h.there p e | false ↦ λ e. rw (h.watched.waits k p on e).found refl ] refl
 
 -- nobody is known by a console whose set has become empty
 pub none_known : (k : ℕ) (old new : List PidSetView) → IsForgottenAt k old new → readers_at k new ≡ []
@@ -316,15 +293,19 @@ pub watched_forgotten : {readers sets : List PidSetView} (s : State) (k : ℕ) (
 watched_forgotten {readers = readers} {sets = sets} s k to_recheck w all gone = record {
   known = λ j p c r at found visits out unasked. elim (j == k) as (λ b. (j == k) ≡ b → is_in p (readers_at j sets) ≡ true) [
     | true ↦ λ e. absurd (both_ways (is_in p to_recheck) unasked (all p c r (subst (λ n. slice_get s.consoles n ≡ Some c) (eqb-true j k e) at) found visits out))
-    | false ↦ λ e. elsewhere j p (eqb-false j k e) (w.known j p c r at found visits out unasked) (slice_get readers k) refl gone
+    | false ↦ λ e. ap (is_in p) (elsewhere j (eqb-false j k e) (slice_get readers k) refl gone) ∙ w.known j p c r at found visits out unasked
+  ] refl;
+  waits = λ j p on unasked. elim (j == k) as (λ b. (j == k) ≡ b → IsWaiting s j p) [
+    | true ↦ λ e. absurd (in_none p (sym (ap (is_in p) (ap (λ n. readers_at n sets) (eqb-true j k e) ∙ none_known k readers sets gone)) ∙ on))
+    | false ↦ λ e. w.waits j p (sym (ap (is_in p) (elsewhere j (eqb-false j k e) (slice_get readers k) refl gone)) ∙ on) unasked
   ] refl;
   each = (emptied (slice_get readers k) refl gone).0;
   many = (emptied (slice_get readers k) refl gone).1 ∙ w.many;
 }
   where
-    elsewhere : (j p : ℕ) → j ≢ k → is_in p (readers_at j readers) ≡ true → (o : Option PidSetView) → slice_get readers k ≡ o → MatchOption o (sets ≡ readers) (λ set. (now : PidSetView) × (sets ≡ slice_set readers k now) × (now.pids ≡ []) × (now.room ≡ set.room)) → is_in p (readers_at j sets) ≡ true
-    elsewhere j p ne e None at m = ap (λ x. is_in p (readers_at j x)) m ∙ e
-    elsewhere j p ne e (Some set) at m = ap (λ x. is_in p (readers_at j x)) m.1 ∙ ap (λ o. is_in p (option_map_or (λ (x : PidSetView). x.pids) o [])) (set_other readers k j m.0 ne) ∙ e
+    elsewhere : (j : ℕ) → j ≢ k → (o : Option PidSetView) → slice_get readers k ≡ o → MatchOption o (sets ≡ readers) (λ set. (now : PidSetView) × (sets ≡ slice_set readers k now) × (now.pids ≡ []) × (now.room ≡ set.room)) → readers_at j sets ≡ readers_at j readers
+    elsewhere j ne None at m = ap (readers_at j) m
+    elsewhere j ne (Some set) at m = ap (readers_at j) m.1 ∙ ap (λ o. option_map_or (λ (x : PidSetView). x.pids) o []) (set_other readers k j m.0 ne)
 
     emptied : (o : Option PidSetView) → slice_get readers k ≡ o → MatchOption o (sets ≡ readers) (λ set. (now : PidSetView) × (sets ≡ slice_set readers k now) × (now.pids ≡ []) × (now.room ≡ set.room)) → AllByRecursion (IsReaders s.world.pidmax) sets × (length sets ≡ length readers)
     emptied None at m = (subst (AllByRecursion (IsReaders s.world.pidmax)) (sym m) w.each, ap length m)

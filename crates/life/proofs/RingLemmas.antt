@@ -1,14 +1,20 @@
 -- Alarms that ring, one process after another.
-use Rattle.std.proofs.Common.{◌≡◌, ℕ, ◌<◌, ◌≤◌, ◌&&◌, Bool, length, subst, true, false, cond, refl, ap, sym, ◌∙◌, arith, List, [], ◌∷◌, map, filter, Option, Some, None, ◌==◌, inl, inr, nat_lt, is_some}
+use Rattle.std.proofs.Common.{⊎_elim, ◌+◌, ℕ, ◌≡◌, ◌<◌, ◌≤◌, ◌&&◌, Bool, length, subst, true, false, cond, refl, ap, sym, ◌∙◌, arith, List, [], ◌∷◌, map, filter, Option, Some, None, ◌==◌, inl, inr, nat_lt, is_some}
 use Rattle.std.specs.List.{list_any, AllByRecursion}
 use Rattle.std.specs.Option.{IfSome}
-use Rattle.std.proofs.lemmas.Bool.{eq-eqb, ne_eqb, cases_eq, ltb-true, ltb-false, and_parts, or_parts}
+use Rattle.std.proofs.lemmas.Bool.{eqb-true, or_cases, eq-eqb, ne_eqb, cases_eq, ltb-true, ltb-false, and_parts, or_parts}
+use Rattle.std.proofs.lemmas.Option.{IfSome_then}
 use Rattle.posix.specs.Processes.{Process}
+use Rattle.posix.specs.States.{is_in}
+use Rattle.pidset.specs.Numbers.{with_number}
+use Rattle.pidset.proofs.NumberLemmas.{in_with}
+use Rattle.jobs.specs.JobTables.{takes_signal}
+use Rattle.life.specs.Rechecks.{AreTaking, rechecking_by_signals}
 use Rattle.posix.specs.Tables.{lookup, at, changed, first_pid, above, IsRising, IsNext}
 use Rattle.posix.specs.Alarms.{is_due, with_alarm, rung, ring_at, ring_all}
 use Rattle.posix.proofs.TableLemmas.{pid_looked}
 use Rattle.posix.proofs.MapLemmas.{at_pid, lookup_back}
-use Rattle.posix.proofs.RegularLemmas.{keeps_ring}
+use Rattle.posix.proofs.RegularLemmas.{keeps_ring, lookup_other}
 use Rattle.posix.proofs.WalkLemmas.{Passes, all_looked, both_pass, first_passes}
 
 -- those below the next one aren't due any more, and all ring as they did at the beginning
@@ -94,6 +100,55 @@ pub fewer_due : (now p : ℕ) (rs : List Process) (me : Process) → lookup p rs
 unfolding lookup changed
 fewer_due now p [] me found due = absurd (cc)
 fewer_due now p (r ∷ rs) me found due = grind (arith, due_at_most now p rs, rings_once now r, fewer_due now p rs me, found, due)
+
+-- ---- who is rechecked
+
+-- those on the list come before the next one, and a signal is chosen for each
+pub record IsTakingBelow (next : Option ℕ) (rs : List Process) (ns : List ℕ) : Type 0 where
+  pub taking : AreTaking rs ns
+  pub below : (q : ℕ) → is_in q ns ≡ true → IfSome next (λ p. q < p)
+
+-- a number that is put in is one more at most
+one_more : (n : ℕ) (ns : List ℕ) → length (with_number n ns) ≤ length ns + 1
+unfolding with_number
+one_more n [] = omega arith
+one_more n (m ∷ ns) = grind (arith, one_more n ns)
+
+-- so it goes on where the alarm of p rings, and the next one comes after it
+pub taking_on : (now p : ℕ) (next : Option ℕ) (order : List ℕ) (rs : List Process) (ns new : List ℕ) → IsTakingBelow (Some p) rs ns → IfSome next (λ q. p < q)
+    → new ≡ rechecking_by_signals (lookup p (changed p (ring_at now) rs)) order ns → IsTakingBelow next (changed p (ring_at now) rs) new × (length new ≤ length ns + 1)
+taking_on now p next order rs ns new h above is = by (lookup p (changed p (ring_at now) rs)) refl is
+  where
+    was : (q : ℕ) → is_in q ns ≡ true → (r : Process) × (lookup q (changed p (ring_at now) rs) ≡ Some r) × (takes_signal r ≡ true)
+    was q e =
+        let it = h.taking q e in
+        let low = h.below q e in
+        (it.0, lookup_other p q (ring_at now) (keeps_ring {now = 0} now).pid (λ same. omega (arith, low, same)) rs it.0 it.1, it.2)
+
+    lower : (q : ℕ) → q < p → IfSome next (λ m. q < m)
+    lower q low = IfSome_then next above (λ m k. omega (arith, k, low))
+
+    stays : new ≡ ns → IsTakingBelow next (changed p (ring_at now) rs) new × (length new ≤ length ns + 1)
+    stays e = rw e (record { taking = was; below = λ q k. lower q (h.below q k) }, omega arith)
+
+    more : (r : Process) → lookup p (changed p (ring_at now) rs) ≡ Some r → takes_signal r ≡ true → new ≡ with_number p ns → IsTakingBelow next (changed p (ring_at now) rs) new × (length new ≤ length ns + 1)
+    more r found takes e = rw e (
+      record {
+        taking = λ q k. ⊎_elim (λ same. (r, ap (λ n. lookup n (changed p (ring_at now) rs)) (sym (eqb-true p q same)) ∙ found, takes)) (was q) (or_cases _ _ (sym (in_with q p ns) ∙ k));
+        below = λ q k. ⊎_elim (λ same. subst (λ n. IfSome next (λ m. n < m)) (eqb-true p q same) above) (λ k. lower q (h.below q k)) (or_cases _ _ (sym (in_with q p ns) ∙ k));
+      },
+      one_more p ns,
+    )
+
+    by : (o : Option Process) → lookup p (changed p (ring_at now) rs) ≡ o → new ≡ rechecking_by_signals o order ns → IsTakingBelow next (changed p (ring_at now) rs) new × (length new ≤ length ns + 1)
+    by None found e = stays e
+    by (Some r) found e = elim (takes_signal r) as (λ b. takes_signal r ≡ b → new ≡ cond b (cond (is_in r.pid order) ns (with_number r.pid ns)) ns → IsTakingBelow next (changed p (ring_at now) rs) new × (length new ≤ length ns + 1)) [
+      | false ↦ λ takes e. stays e
+      | true ↦ λ takes e. elim (is_in r.pid order) as (λ b. new ≡ cond b ns (with_number r.pid ns) → IsTakingBelow next (changed p (ring_at now) rs) new × (length new ≤ length ns + 1)) [
+        | true ↦ λ e. stays e
+        | false ↦ λ e. more r found takes (e ∙ ap (λ n. with_number n ns) (pid_looked p (changed p (ring_at now) rs) r found))
+      ] e
+    ] refl e
 
 -- ---- nobody has an alarm
 

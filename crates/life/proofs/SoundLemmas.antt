@@ -18,10 +18,12 @@ use Rattle.pidalloc.specs.Rows.{Pids, IsPids, is_free_in, unborne_table, born_in
 use Rattle.pidalloc.specs.Tallies.{IsTallied}
 use Rattle.pidalloc.proofs.TallyLemmas.{CanBear, can_bear, next_same, tallied_unborne, tallied_born, tallied_map}
 use Rattle.sched.specs.Places.{Places}
-use Rattle.life.specs.Machines.{IsKept, HaveParents, IsSound, state_of}
+use Rattle.life.specs.Machines.{IsKept, IsSound, state_of, IsOther}
+use Rattle.pidset.specs.Indexes.{HaveParents}
 use Rattle.jobs.proofs.NumberLemmas.{no_more, above_none}
 pub use Rattle.jobs.proofs.SnapshotLemmas.{There, there, is_there, snapshot_are, some_read, none_read}
-use Rattle.life.proofs.ParentLemmas.{parents_map, parents_adopted, parents_inserted, parents_first}
+use Rattle.jobs.proofs.NumberLemmas.{nobody_there}
+use Rattle.pidset.proofs.ParentLemmas.{parents_map, parents_adopted, parents_inserted}
 
 -- what the value of a machine says of a process, its parts say
 pub found_in : (s t : State) → s ≡ t → (p : ℕ) (r : Process) → process t p ≡ Some r → lookup p s.processes ≡ Some r
@@ -76,10 +78,10 @@ unfolding changed made_zombie
 kids_made_zombie p w q rs = ap length (children_map (at p (made_zombie w)) (λ r. grind arith) q rs) ∙ length-map (children_in q rs) (at p (made_zombie w))
 
 -- who is there keeps a parent that is there, at an end
-pub parents_departed : (p heir w : ℕ) (rs : List Process) → IsSome (lookup heir rs) → HaveParents rs → HaveParents (adopted p heir (changed p (made_zombie w) rs))
+pub parents_departed : (p heir w : ℕ) (rs : List Process) → IsSome (lookup heir rs) → HaveParents IsOther rs → HaveParents IsOther (adopted p heir (changed p (made_zombie w) rs))
 unfolding changed made_zombie
 parents_departed p heir w rs there h =
-    parents_adopted p heir (map (at p (made_zombie w)) rs) (there_made_zombie p w heir rs there) (parents_map (at p (made_zombie w)) (at_pid p (made_zombie w) (λ r. refl)) (λ r. grind arith) rs h)
+    parents_adopted IsOther p heir (map (at p (made_zombie w)) rs) (there_made_zombie p w heir rs there) (parents_map IsOther (at p (made_zombie w)) (at_pid p (made_zombie w) (λ r. refl)) (λ r. grind arith) (λ q r other. other) rs h)
 
 -- ---- numbers
 
@@ -140,7 +142,7 @@ sound_born w rs cs p q a births ticks dropped h new me i fresh there up group se
     let r = regular_inserted new q.last (births + 1) s i.regular number (ap is_zombie life ∙ up) silent me there up group session in
     record {
       regular = regular_as _ (state_of w (inserted new rs) cs q a (births + 1) ticks dropped h) refl refl refl refl refl r;
-      parents = parents_inserted new rs fresh.fresh (is_there _ me there) i.parents;
+      parents = parents_inserted IsOther new rs fresh.fresh (λ other. is_there _ me there) i.parents;
       counted = let c = i.counted in let e = length_inserted new rs in omega (arith, c, e);
       kept = record {
         greatest = same ∙ k.greatest;
@@ -162,7 +164,7 @@ pub sound_first : (w : World) (cs : List Console) (q : Pids) (b : Places) → cs
     → IsSound (state_of w (inserted first_process []) cs q b 1 0 0 false) q b
 sound_first w cs q b unused most bore same table order room = record {
   regular = regular_as (boot w) _ refl first_alone order refl unused (regular_first w (omega (arith, most)));
-  parents = rw first_alone parents_first;
+  parents = parents_inserted IsOther first_process [] (nobody_there 1) (λ other. absurd (other refl)) (λ p r other e. let no = sym (nobody_there p) ∙ e in absurd (cc));
   counted = rw first_alone (omega arith);
   kept = record {
     greatest = same;

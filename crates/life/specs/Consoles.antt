@@ -1,15 +1,15 @@
 -- Consoles as a machine shows them, and who waits to read from one.
-use Rattle.std.specs.Prelude.{◌≡◌, ◌+◌, ◌*◌, ◌==◌, ◌&&◌, ◌||◌, ℕ, zero, suc, Bool, not, true, false, if◌then◌else◌, List, [], ◌∷◌, length, Option, Some, None, slice_get, slice_set, MatchOption}
-use Rattle.posix.specs.Processes.{Process}
+use Rattle.std.specs.Prelude.{option_map, ◌≡◌, ◌+◌, ◌*◌, ◌==◌, ◌&&◌, ℕ, zero, suc, Bool, not, true, false, if◌then◌else◌, List, [], length, Option, Some, None, slice_get, slice_set, MatchOption}
+use Rattle.posix.specs.Processes.{Process, is_running}
 use Rattle.posix.specs.Consoles.{Console, console_of, key_signal}
-use Rattle.posix.specs.States.{State, process, is_in, has_place}
+use Rattle.posix.specs.States.{State, process, is_in, has_place, without}
 use Rattle.posix.specs.Tables.{members_in}
-use Rattle.posix.specs.Terminals.{is_reader}
+use Rattle.posix.specs.Terminals.{is_reader, is_in_read}
 use Rattle.pidset.specs.Numbers.{PidSetView, with_number}
 use Rattle.proctable.specs.Records.{snapshot_of}
 use Rattle.proctable.specs.declared.snapshot.Snapshot.{Snapshot}
 use Rattle.life.specs.declared.consoles.Terminal.{Terminal}
-use Rattle.life.specs.Machines.{MachineView, readers_at}
+use Rattle.life.specs.Machines.{MachineView}
 
 abbrev pub terminal_of : Console → Terminal
 terminal_of c = record { foreground = c.foreground; tostop = c.tostop; has_line = not (length c.lines == 0) }
@@ -27,26 +27,34 @@ IsTerminalIndex session cs (Some k) = (c : Console) × (slice_get cs k ≡ Some 
 abbrev pub AreReaders : State → ℕ → List ℕ → Type 0
 AreReaders s k to_recheck = (p : ℕ) (c : Console) (r : Process) → slice_get s.consoles k ≡ Some c → process s p ≡ Some r → is_reader c.session r ≡ true → has_place s p ≡ false → is_in p to_recheck ≡ true
 
--- p is put into one set more, where there is one in that place
-abbrev pub IsKnownBy : Option ℕ → ℕ → List PidSetView → List PidSetView → Type 0
-IsKnownBy None p old new = new ≡ old
-IsKnownBy (Some k) p old new = MatchOption (slice_get old k) (new ≡ old) (λ set. (now : PidSetView) × (new ≡ slice_set old k now) × (now.pids ≡ with_number p set.pids) × (now.room ≡ set.room))
+-- the session from whose terminal p waits to read
+abbrev pub reads_in : Option Process → Option ℕ
+reads_in None = None
+reads_in (Some r) = if is_running r.life && is_in_read r.blocked then Some r.session else None
+
+abbrev pub reads : State → ℕ → Option ℕ
+reads s p = if has_place s p then None else reads_in (process s p)
+
+-- a console is the terminal of this session
+abbrev pub is_terminal_of : Option ℕ → Option Console → Bool
+is_terminal_of None o = false
+is_terminal_of (Some session) None = false
+is_terminal_of (Some session) (Some c) = session == c.session
+
+-- p is in a set, or isn't
+abbrev pub marked : Bool → ℕ → PidSetView → PidSetView
+marked b p set = record set { pids = if b then with_number p set.pids else without p set.pids }
+
+-- p is in the set of the console that is the terminal of this session, and in no other
+pub record IsMarked (session : Option ℕ) (p : ℕ) (cs : List Console) (old new : List PidSetView) : Type 0 where
+  pub sets : (k : ℕ) → slice_get new k ≡ option_map (marked (is_terminal_of session (slice_get cs k)) p) (slice_get old k)
+  pub many : length new ≡ length old
 
 -- one set has become empty, where there is one in that place
 abbrev pub IsForgottenAt : ℕ → List PidSetView → List PidSetView → Type 0
 IsForgottenAt k old new = MatchOption (slice_get old k) (new ≡ old) (λ set. (now : PidSetView) × (new ≡ slice_set old k now) × (now.pids ≡ []) × (now.room ≡ set.room))
 
 -- ---- how many slots are read
-
--- how many are known to wait to read from the consoles of a session
-unfoldable pub readers_of : ℕ → List Console → List PidSetView → ℕ
-readers_of session [] sets = 0
-readers_of session (c ∷ cs) [] = 0
-readers_of session (c ∷ cs) (set ∷ sets) = (if c.session == session then length set.pids else 0) + readers_of session cs sets
-
--- where a byte ends a line, one for each who is known to wait to read it
-abbrev pub slots_of_byte : ℕ → ℕ → List PidSetView → ℕ
-slots_of_byte byte k readers = if byte == 10 || byte == 4 then length (readers_at k readers) else 0
 
 -- where the foreground process group of a console gets a signal of a key or a hangup, one, and three for each member
 abbrev pub slots_of_foreground : Option Console → List Process → ℕ
@@ -61,8 +69,8 @@ slots_of_signal_key (Some sig) c rs = slots_of_foreground c rs
 -- a byte on a console with a number: they count from 1
 abbrev pub slots_of_key : ℕ → ℕ → MachineView → ℕ
 slots_of_key zero byte m = 0
-slots_of_key (suc k) byte m = slots_of_byte byte k m.readers + slots_of_signal_key (key_signal byte) (slice_get m.state.consoles k) m.state.processes
+slots_of_key (suc k) byte m = slots_of_signal_key (key_signal byte) (slice_get m.state.consoles k) m.state.processes
 
 -- a process hangs up the terminal of the session that it leads
 abbrev pub slots_of_hangup : Process → MachineView → ℕ
-slots_of_hangup me m = if hangs_up (snapshot_of me) then slots_of_foreground (console_of me.session m.state.consoles) m.state.processes + readers_of me.session m.state.consoles m.readers else 0
+slots_of_hangup me m = if hangs_up (snapshot_of me) then slots_of_foreground (console_of me.session m.state.consoles) m.state.processes else 0

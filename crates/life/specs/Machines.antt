@@ -13,6 +13,7 @@ use Rattle.pidalloc.specs.Rows.{Pids, IsPids, row, gone_from}
 use Rattle.pidalloc.specs.Tallies.{IsTallied}
 use Rattle.sched.specs.Places.{Places}
 use Rattle.pidset.specs.Numbers.{PidSetView, Rises}
+use Rattle.pidset.specs.Indexes.{HaveParents}
 
 abbrev pub state_of : World → List Process → List Console → Pids → Places → ℕ → ℕ → ℕ → Bool → State
 state_of world processes consoles pids places births ticks dropped halted = record (boot world) {
@@ -110,13 +111,13 @@ pub record IsKept (pidmax : ℕ) (rs : List Process) (pids : Pids) (places : Pla
   pub tallied : IsTallied pids rs
   pub room : pidmax < places.room
 
--- the parent of each process other than process 1 is there
-abbrev pub HaveParents : List Process → Type 0
-HaveParents rs = (p : ℕ) (r : Process) → p ≢ 1 → lookup p rs ≡ Some r → IsSome (lookup r.parent rs)
+-- each process other than process 1 has a parent that is there
+abbrev pub IsOther : ℕ → Process → Type 0
+IsOther p r = p ≢ 1
 
 pub record IsSound (s : State) (pids : Pids) (places : Places) : Type 0 where
   pub regular : IsRegular s
-  pub parents : HaveParents s.processes
+  pub parents : HaveParents IsOther s.processes
   pub counted : s.dropped + length s.processes ≤ s.births  -- each was born
   pub kept : IsKept s.world.pidmax s.processes pids places
 
@@ -130,15 +131,29 @@ pub record IsReaders (pidmax : ℕ) (set : PidSetView) : Type 0 where
   pub within : (p : ℕ) → is_in p set.pids ≡ true → (1 ≤ p) × (p ≤ pidmax)
   pub room : pidmax < set.room
 
--- Whoever waits to read from a console is known by it, or is to be rechecked.
+-- p waits to read from the console with this index: it runs, is blocked in a read of it, and has no place
+pub record IsWaiting (s : State) (k p : ℕ) : Type 0 where
+  pub console : Console
+  pub reader : Process
+  pub at : slice_get s.consoles k ≡ Some console
+  pub found : process s p ≡ Some reader
+  pub reads : is_reader console.session reader ≡ true
+  pub out : is_in p s.order ≡ false
+
+-- Of those who aren't to be rechecked, just those are known by a console who wait to read from it.
 pub record IsWatched (s : State) (to_recheck : List ℕ) (readers : List PidSetView) : Type 0 where
   pub known : (k p : ℕ) (c : Console) (r : Process) → slice_get s.consoles k ≡ Some c → process s p ≡ Some r → is_reader c.session r ≡ true → is_in p s.order ≡ false → is_in p to_recheck ≡ false → is_in p (readers_at k readers) ≡ true
+  pub waits : (k p : ℕ) → is_in p (readers_at k readers) ≡ true → is_in p to_recheck ≡ false → IsWaiting s k p
   pub each : AllByRecursion (IsReaders s.world.pidmax) readers
   pub many : length readers ≡ s.world.consoles
 
 -- so it is in a machine
 abbrev pub AreWatched : MachineView → Type 0
 AreWatched m = IsWatched m.state m.to_recheck m.readers
+
+-- nobody is known by any console
+abbrev pub AreUnread : List PidSetView → Type 0
+AreUnread sets = (k : ℕ) → readers_at k sets ≡ []
 
 -- there is room for one more in each of these sets
 abbrev pub HaveRoom : List PidSetView → Type 0

@@ -1,5 +1,5 @@
 -- Who is to be rechecked: asked after this event whether it can act.
-use Rattle.std.specs.Prelude.{ℕ, Bool, true, ◌==◌, if◌then◌else◌, List, [], ◌∷◌, Option, Some, None}
+use Rattle.std.specs.Prelude.{◌≡◌, ℕ, Bool, true, ◌==◌, if◌then◌else◌, List, [], ◌∷◌, Option, Some, None}
 use Rattle.posix.specs.declared.process.Effect.{Effect}
 use Rattle.posix.specs.declared.process.Effect.TheVariants as effect
 use Rattle.posix.specs.declared.process.PendingSignal.{PendingSignal}
@@ -10,7 +10,8 @@ use Rattle.posix.specs.Processes.{Process}
 use Rattle.posix.specs.Tables.{lookup, pids, members_in}
 use Rattle.posix.specs.Choice.{from_kernel}
 use Rattle.posix.specs.States.{is_in, without}
-use Rattle.posix.specs.Generation.{effect_of}
+use Rattle.posix.specs.Generation.{effect_of, signalled}
+use Rattle.jobs.specs.JobTables.{takes_signal}
 use Rattle.posix.specs.Notices.{generated_for}
 use Rattle.posix.specs.Sends.{permitted, sent_by}
 use Rattle.pidset.specs.Numbers.{with_number}
@@ -33,9 +34,18 @@ with_parent parent order ns = if parent == 0 then ns else rechecking parent orde
 abbrev pub rechecking_changed : Process → List ℕ → List ℕ → List ℕ
 rechecking_changed r order ns = with_parent r.parent order (with_number r.pid ns)
 
+-- The signals of a process that is there have changed, and nothing else of it: it is rechecked where one is chosen for
+-- it, and it has no place. Where none is, it can act no more than before.
+abbrev pub rechecking_by_signals : Option Process → List ℕ → List ℕ → List ℕ
+rechecking_by_signals None order ns = ns
+rechecking_by_signals (Some r) order ns = if takes_signal r then rechecking r.pid order ns else ns
+
 -- so in a machine
 abbrev pub rechecks : ℕ → MachineView → List ℕ
 rechecks p m = rechecking p m.state.order m.to_recheck
+
+abbrev pub rechecks_by_signals : Option Process → MachineView → List ℕ
+rechecks_by_signals o m = rechecking_by_signals o m.state.order m.to_recheck
 
 abbrev pub rechecks_changed : Process → MachineView → List ℕ
 rechecks_changed r m = rechecking_changed r m.state.order m.to_recheck
@@ -47,7 +57,7 @@ rechecking_effect effect.Continued r order ns = rechecking_changed r order ns
 -- a signal was generated for a process that is there
 abbrev pub rechecking_generated : PendingSignal → Option Process → List ℕ → List ℕ → List ℕ
 rechecking_generated signal None order ns = ns
-rechecking_generated signal (Some r) order ns = rechecking_effect (effect_of r.pid r.life signal r.signals) r order (rechecking r.pid order ns)
+rechecking_generated signal (Some r) order ns = rechecking_effect (effect_of r.pid r.life signal r.signals) r order (rechecking_by_signals (Some (signalled signal r)) order ns)
 
 -- and for several of these processes, one after another
 unfoldable pub rechecking_all : PendingSignal → List ℕ → List Process → List ℕ → List ℕ → List ℕ
@@ -62,6 +72,10 @@ rechecking_signalled me (Some n) qs rs order ns = rechecking_all (sent_by me.pid
 -- a signal of the kernel was generated for the members of a process group
 abbrev pub rechecking_members : ℕ → ℕ → List Process → List ℕ → List ℕ → List ℕ
 rechecking_members n group rs order ns = rechecking_all (record { sig = n; carried = from_kernel }) (pids (members_in group rs)) rs order ns
+
+-- a signal is chosen for each of these
+abbrev pub AreTaking : List Process → List ℕ → Type 0
+AreTaking rs ns = (p : ℕ) → is_in p ns ≡ true → (r : Process) × (lookup p rs ≡ Some r) × (takes_signal r ≡ true)
 
 -- how many slots are read where a signal is generated: CONT may continue its process, whose parent gets notice
 abbrev pub slots_of_signal : ℕ → ℕ

@@ -1,12 +1,12 @@
 //! Alarms, and the time (XSH alarm).
 
-ghost use Rattle.std.specs.Prelude.{◌≡◌, ◌+◌, ◌<◌, ◌≤◌, ◌^◌, ℕ, IsSome, Some, None, false, true, filter, length};
+ghost use Rattle.std.specs.Prelude.{◌≡◌, [], ◌+◌, ◌<◌, ◌≤◌, ◌^◌, ℕ, IsSome, Some, None, false, true, filter, length};
 ghost use Rattle.posix.specs.Processes.{Process};
 ghost use Rattle.posix.specs.States.{process, change};
 ghost use Rattle.posix.specs.Tables.{IsNext};
 ghost use Rattle.posix.specs.Regular.{IsPlaced, IsRegular, IsAhead};
 ghost use Rattle.posix.specs.Alarms.{most_ticks, ticks_left as ticks_left_of, due_in as due_in_ticks, with_alarm, is_due, ring_at, ring_all, has_alarms, pass_time as passing_time};
-ghost use Rattle.life.specs.Rechecks.{rechecks};
+ghost use Rattle.life.specs.Rechecks.{AreTaking, rechecks_by_signals};
 ghost use Rattle.life.specs.Machines.{Changes, Costs, IsThere, IfThere, with_processes};
 
 use crate::machine::Machine;
@@ -22,7 +22,7 @@ impl<K: Kin> Machine<K> {
         requires time { self.old.state.ticks + most_ticks < 2 ^ 64 }
         ensures left { IfThere pid self.old (λ me. result ≡ ticks_left_of self.old.state.ticks me.alarm) }
         ensures few { result ≤ most_ticks }
-        ensures changes { Changes 1 self.old self.new (change self.old.state pid (with_alarm (due_in_ticks self.old.state.ticks ticks))) (rechecks pid self.old) }
+        ensures changes { Changes 1 self.old self.new (change self.old.state pid (with_alarm (due_in_ticks self.old.state.ticks ticks))) (rechecks_by_signals (process self.new.state pid) self.old) }
     {
         let due = due_in(self.ticks, ticks);
         let before = self.change(pid, |fields| {
@@ -37,17 +37,21 @@ impl<K: Kin> Machine<K> {
     fn ring(&mut self, pid: Pid)
         requires there { IsThere pid self.old }
         requires time { self.old.state.ticks + 1 < 2 ^ 64 }
-        ensures { Changes 1 self.old self.new (change self.old.state pid (ring_at (self.old.state.ticks + 1))) (rechecks pid self.old) }
+        ensures changes { Changes 1 self.old self.new (change self.old.state pid (ring_at (self.old.state.ticks + 1))) (rechecks_by_signals (process self.new.state pid) self.old) }
+        ensures foregrounds_unchecked { self.new.foregrounds_unchecked ≡ self.old.foregrounds_unchecked }
     {
         let now = self.ticks + 1;
         self.change(pid, |fields| fields.ring_at(pid, now));
     }
 
-    /// Each alarm that is due at the next tick rings. One slot is read for each.
+    /// Each alarm that is due at the next tick rings. One slot is read for each. Where nobody was to be rechecked, those
+    /// are for whom a signal is chosen by it.
     fn ring_all(&mut self)
         requires { self.old.state.ticks + 1 < 2 ^ 64 }
         ensures state { self.new.state ≡ with_processes self.old.state (ring_all (self.old.state.ticks + 1) self.old.state.processes) }
         ensures quiet { has_alarms self.old.state ≡ false → self.new ≡ self.old }
+        ensures foregrounds_unchecked { self.new.foregrounds_unchecked ≡ self.old.foregrounds_unchecked }
+        ensures taking { self.old.to_recheck ≡ [] → AreTaking self.new.state.processes self.new.to_recheck × (length self.new.to_recheck ≤ length (filter (λ r. is_due (self.old.state.ticks + 1) r.alarm) self.old.state.processes)) }
         ensures costs { Costs (length (filter (λ r. is_due (self.old.state.ticks + 1) r.alarm) self.old.state.processes)) self.old self.new }
     {
         let mut next = self.next_due(Pid::NONE);
@@ -69,11 +73,13 @@ impl<K: Kin> Machine<K> {
     }
 
     /// The time goes on by one tick: each alarm that is due rings. One slot is read for each of these, and none where
-    /// no process has an alarm.
+    /// no process has an alarm. Where nobody was to be rechecked, those are for whom a signal is chosen by it.
     pub fn pass_time(&mut self)
         requires { self.old.state.ticks + 1 < 2 ^ 64 }
         ensures state { self.new.state ≡ passing_time self.old.state }
         ensures quiet { has_alarms self.old.state ≡ false → self.new ≡ record (self.old) { state = self.new.state } }
+        ensures foregrounds_unchecked { self.new.foregrounds_unchecked ≡ self.old.foregrounds_unchecked }
+        ensures taking { self.old.to_recheck ≡ [] → AreTaking self.new.state.processes self.new.to_recheck × (length self.new.to_recheck ≤ length (filter (λ r. is_due (self.old.state.ticks + 1) r.alarm) self.old.state.processes)) }
         ensures costs { Costs (length (filter (λ r. is_due (self.old.state.ticks + 1) r.alarm) self.old.state.processes)) self.old self.new }
     {
         self.ring_all();

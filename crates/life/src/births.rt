@@ -32,7 +32,7 @@ impl<K: Kin> Machine<K> {
         ensures ok { OnOk result (IfThere parent self.old (λ me. self.new.state ≡ born self.old.state me child)) }
         ensures err { OnErr result (AreSame self.old self.new) }
         ensures to_recheck { OnOk result (self.new.to_recheck ≡ with_number child (with_number parent self.old.to_recheck)) }
-        ensures costs { Costs (6 + length (children_in parent self.old.state.processes)) self.old self.new }
+        ensures costs { Costs (7 + length (children_in parent self.old.state.processes)) self.old self.new }
     {
         self.table.reserve(child)?;
         let fields = self.table.newborn(parent, self.births + 1)?;

@@ -1,15 +1,15 @@
 //! A change of one process, with what is kept beside the records: who is to be rechecked, which numbers are borne,
 //! and whether a foreground process group may have lost its members.
 
-ghost use Rattle.std.specs.Prelude.{◌≡◌, ◌≢◌, ◌+◌, ◌<◌, ◌≤◌, ◌||◌, IsSome, Some, length, option_map, if◌then◌else◌};
+ghost use Rattle.std.specs.Prelude.{◌≡◌, ◌≢◌, ◌+◌, ◌*◌, ◌<◌, ◌≤◌, ◌||◌, IsSome, Some, length, option_map, if◌then◌else◌};
 ghost use Rattle.posix.specs.Processes.{Process};
 ghost use Rattle.posix.specs.States.{process};
-ghost use Rattle.posix.specs.Tables.{parent_of};
+ghost use Rattle.posix.specs.Tables.{children_in, parent_of};
 ghost use Rattle.posix.specs.Regular.{IsRegular};
 ghost use Rattle.pidalloc.specs.Rows.{regrouped};
 ghost use Rattle.pidset.specs.Numbers.{with_number};
-ghost use Rattle.jobs.specs.JobTables.{IsRun, IsUnseen, StaysGrouped};
-ghost use Rattle.life.specs.Rechecks.{rechecks, rechecks_changed, with_parent};
+ghost use Rattle.jobs.specs.JobTables.{ChangesSignals, IsRun, StaysGrouped, StaysPut};
+ghost use Rattle.life.specs.Rechecks.{rechecking, rechecks_by_signals, rechecks_changed, with_parent};
 ghost use Rattle.life.specs.Changes.{StaysRegular, CanMoveNumbers, has_moved};
 ghost use Rattle.life.specs.Machines.{Costs, Changes, IsThere, IfThere, with_processes};
 
@@ -23,24 +23,26 @@ use proctable::{Kin, Record};
 use sched::Order;
 
 impl<K: Kin> Machine<K> {
-    /// Changes a process that is there in what its parent doesn't see: the process is to be rechecked where it has no
-    /// place. Each such change goes by this, but a loan ([`Machine::own`]).
+    /// Changes the signals of a process that is there, and its alarm: the process is to be rechecked where a signal is
+    /// chosen for it then and it has no place, as otherwise it can act no more than before. Each such change goes by
+    /// this, but a loan ([`Machine::own`]).
     pub(crate) fn change<T, F: FnOnce(&mut Record) -> T>(&mut self, pid: Pid, change: F) -> T
         requires there { IsThere pid self.old }
         requires callable { F.IsAlwaysCallable change }
-        requires unseen { IsUnseen F.FnOnce change }
+        requires signals { ChangesSignals F.FnOnce change }
         requires regular { StaysRegular F.FnOnce change self.old.state pid }
         ensures run { IsRun F.FnOnce change self.old.state.processes self.new.state.processes pid result }
-        ensures changes { Changes 1 self.old self.new (with_processes self.old.state self.new.state.processes) (rechecks pid self.old) }
+        ensures changes { Changes 1 self.old self.new (with_processes self.old.state self.new.state.processes) (rechecks_by_signals (process self.new.state pid) self.old) }
         ensures foregrounds_unchecked { self.new.foregrounds_unchecked ≡ self.old.foregrounds_unchecked }
     {
-        recheck_later(&mut self.to_recheck, &self.order, pid);
-        self.table.change(pid, change)
+        let (result, takes_signal) = self.table.change(pid, change);
+        recheck_by_signals(&mut self.to_recheck, &self.order, pid, takes_signal);
+        result
     }
 
     /// Changes a process that is there in what its parent sees too: both are to be rechecked, the parent where it has
-    /// no place. The numbers that the process bears move with it. Each such change goes by this. The parent; number 0
-    /// for none.
+    /// no place. The numbers that the process bears move with it. Where it stays put no slot of its children is read.
+    /// Each such change goes by this. The parent; number 0 for none.
     pub(crate) fn change_seen<F: FnOnce(&mut Record)>(&mut self, pid: Pid, change: F) -> Pid
         requires there { IsThere pid self.old }
         requires callable { F.IsAlwaysCallable change }
@@ -51,7 +53,8 @@ impl<K: Kin> Machine<K> {
         ensures parent { result ≡ parent_of pid self.old.state.processes }
         ensures there { result ≢ 0 → IsThere result self.new }
         ensures to_recheck { IfThere pid self.old (λ me. self.new.to_recheck ≡ rechecks_changed me self.old) }
-        ensures costs { Costs 2 self.old self.new }
+        ensures costs { Costs (4 + 2 * length (children_in pid self.old.state.processes)) self.old self.new }
+        ensures put { StaysPut F.FnOnce change self.old.state.processes pid → Costs 2 self.old self.new }
     {
         let Change {
             parent,
@@ -66,6 +69,16 @@ impl<K: Kin> Machine<K> {
             &after,
         );
         parent
+    }
+}
+
+/// The signals of a process have changed: where one is chosen for it, it is to be rechecked if it has no place.
+fn recheck_by_signals(to_recheck: &mut PidSet, order: &Order, pid: Pid, takes_signal: bool)
+    requires { length to_recheck.old.pids < to_recheck.old.room }
+    ensures { to_recheck.new ≡ record (to_recheck.old) { pids = if takes_signal then rechecking pid order.now.pids to_recheck.old.pids else to_recheck.old.pids } }
+{
+    if takes_signal {
+        recheck_later(to_recheck, order, pid);
     }
 }
 

@@ -13,19 +13,18 @@ ghost use Rattle.posix.specs.Settle.{wakes, refreshed, clear_foregrounds as clea
 ghost use Rattle.posix.specs.Step.{key as keying};
 ghost use Rattle.posix.specs.Regular.{AreGrouped, IsRegular};
 ghost use Rattle.posix.specs.Tables.{members_in};
-ghost use Rattle.pidset.specs.Numbers.{numbers_above};
-ghost use Rattle.life.specs.Machines.{Costs, Finds, IsThere, IfThere, with_processes, with_consoles, IfConsole, AreWatched, HaveRoom, IsReaders, readers_at};
+ghost use Rattle.pidset.specs.Numbers.{PidSetView, numbers_above, with_number};
+ghost use Rattle.life.specs.Machines.{Costs, Finds, IsThere, IfThere, with_processes, with_consoles, IfConsole, AreWatched, HaveRoom, AreUnread, IsReaders, readers_at};
 ghost use Rattle.life.specs.Rechecks.{rechecking_members, slots_of_signal};
-ghost use Rattle.pidset.specs.Numbers.{PidSetView};
 ghost use Rattle.posix.specs.declared.process.Blocked.TheVariants as blocked;
-ghost use Rattle.life.specs.Consoles.{terminal_of, hangs_up as hangs_up_with, IsTerminalIndex, IsKnownBy, IsForgottenAt, AreReaders, readers_of, slots_of_byte, slots_of_key, slots_of_hangup};
+ghost use Rattle.life.specs.Consoles.{terminal_of, hangs_up as hangs_up_with, reads as reads_from, is_terminal_of as is_terminal, marked, IsMarked, IsTerminalIndex, IsForgottenAt, AreReaders, slots_of_key, slots_of_hangup};
 ghost use Rattle.tty.specs.Lines.{Takes};
 
 use crate::machine::Machine;
-use crate::rechecks::{recheck_later, take_off};
+use crate::rechecks::take_off;
 use jobs::JobTable;
 use pidset::PidSet;
-use posix::{Blocked, Pid, Sig};
+use posix::{Blocked, Life, Pid, Sig};
 use proctable::{Kin, Snapshot};
 use std::alloc::{AllocError, Global};
 use tty::{Console, KeyEffect, ends_line};
@@ -60,6 +59,7 @@ pub(crate) fn no_readers(alloc: Global, count: u8, pidmax: u32) -> Result<Vec<Pi
     requires { pidmax ≤ 32768 }
     ensures each { IfOk result (λ sets. AllByRecursion (IsReaders pidmax) sets.items) }
     ensures many { IfOk result (λ sets. length sets.items ≡ count) }
+    ensures none { IfOk result (λ sets. AreUnread sets.items) }
 {
     let mut sets = Vec::with_capacity(alloc, usize::from(count))?;
     for _ in 0..count {
@@ -82,16 +82,42 @@ fn terminal_index(consoles: &[Console], session: Pid) -> Option<usize>
     None
 }
 
-/// A process is among those who may wait to read from the console with this index; nobody is new where there is none.
-fn add_reader(readers: &mut Vec<PidSet>, console_index: Option<usize>, pid: Pid)
-    requires { HaveRoom readers.old.items }
-    ensures { IsKnownBy console_index pid readers.old.items readers.new.items }
+/// A process is in a set, or isn't.
+fn mark(set: &mut PidSet, pid: Pid, waits: bool)
+    requires { length set.old.pids < set.old.room }
+    ensures { set.new ≡ marked waits pid set.old }
 {
-    let Some(console_index) = console_index else {
-        return
-    };
-    if let Some(set) = readers.get_mut(console_index) {
+    if waits {
         set.insert(pid);
+    } else {
+        set.remove(pid);
+    }
+}
+
+/// Whether a console is the terminal of this session.
+fn is_terminal_of(session: &Option<Pid>, console: &Console) -> bool
+    ensures { result ≡ is_terminal session.now (Some console.now) }
+{
+    match session {
+        Some(session) => *session == console.session(),
+        None => false,
+    }
+}
+
+/// A process is among those who wait to read from the terminal of this session, and among no others.
+pub(crate) fn mark_reader(
+    readers: &mut Vec<PidSet>,
+    consoles: &[Console],
+    session: Option<Pid>,
+    pid: Pid,
+)
+    requires many { length readers.old.items ≡ length consoles.now }
+    requires room { HaveRoom readers.old.items }
+    ensures { IsMarked session pid consoles.now readers.old.items readers.new.items }
+{
+    for console_index in 0..consoles.len() {
+        let waits = is_terminal_of(&session, &consoles[console_index]);
+        mark(&mut readers[console_index], pid, waits);
     }
 }
 
@@ -179,58 +205,51 @@ impl<K: Kin> Machine<K> {
 
     // ---- who waits to read
 
-    /// The index of the console that a process without a place reads from, where it is in a read and its session has
-    /// a terminal.
-    fn reads_from(&mut self, pid: Pid) -> Option<usize>
-        ensures finds { Finds 1 self.old self.new (IfThere pid self.old (λ r. r.blocked ≡ Some blocked.Read → has_place_in self.old.state pid ≡ false → IsTerminalIndex r.session self.old.state.consoles result)) }
-        ensures there { IsSome result → IsThere pid self.old }
+    /// The session from whose terminal a process waits to read.
+    fn reads(&mut self, pid: Pid) -> Option<Pid>
+        ensures { Finds 1 self.old self.new (result ≡ reads_from self.old.state pid) }
     {
         let _ = &self.table;
         if self.has_place(pid) {
             return None;
         }
         let snapshot = self.snapshot(pid)?;
-        if snapshot.blocked == Some(Blocked::Read) {
-            terminal_index(&self.consoles, snapshot.session)
-        } else {
-            None
+        match (snapshot.life, snapshot.blocked) {
+            (Life::Running, Some(Blocked::Read)) => Some(snapshot.session),
+            _ => None,
         }
     }
 
-    /// A process that needn't be given a place has been rechecked, and isn't to be rechecked any more. Where it is
-    /// in a read it is known by its terminal from now on.
+    /// A process that needn't be given a place has been rechecked, and isn't to be rechecked any more. From now on it
+    /// is known where it waits to read, and nowhere else.
     pub fn rechecked(&mut self, pid: Pid)
         requires { IfThere pid self.old (λ r. wakes self.old.state r ≡ false) }
         ensures rest { self.new ≡ record (self.old) { to_recheck = without pid self.old.to_recheck; readers = self.new.readers; visits = self.new.visits } }
         ensures costs { Costs 1 self.old self.new }
     {
-        let console_index = self.reads_from(pid);
-        add_reader(&mut self.readers, console_index, pid);
+        let session = self.reads(pid);
+        mark_reader(&mut self.readers, &self.consoles, session, pid);
         take_off(&mut self.to_recheck, pid);
     }
 
-    /// A process is to be rechecked where it is there and has no place.
-    fn recheck_if_there(&mut self, pid: Pid)
-        ensures rest { self.new ≡ record (self.old) { to_recheck = self.new.to_recheck; visits = self.new.visits } }
-        ensures it { IsThere pid self.old → has_place_in self.old.state pid ≡ false → is_in pid self.new.to_recheck ≡ true }
-        ensures others { (q : ℕ) → is_in q self.old.to_recheck ≡ true → is_in q self.new.to_recheck ≡ true }
-        ensures costs { Costs 1 self.old self.new }
+    /// Who is known by the console with this index is to be rechecked.
+    fn recheck_reader(&mut self, console_index: usize, pid: Pid)
+        requires { is_in pid (readers_at console_index self.old.readers) ≡ true }
+        ensures { self.new ≡ record (self.old) { to_recheck = with_number pid self.old.to_recheck } }
     {
-        if let Some(_) = self.table.get(pid) {
-            recheck_later(&mut self.to_recheck, &self.order, pid);
-        }
+        self.to_recheck.insert(pid);
     }
 
     /// Whoever waits to read from the console with this index is to be rechecked, and isn't known by it any more.
     fn recheck_readers(&mut self, console_index: usize)
-        ensures rest { self.new ≡ record (self.old) { to_recheck = self.new.to_recheck; readers = self.new.readers; visits = self.new.visits } }
+        ensures rest { self.new ≡ record (self.old) { to_recheck = self.new.to_recheck; readers = self.new.readers } }
         ensures to_recheck { AreReaders self.old.state console_index self.new.to_recheck }
         ensures readers { readers_at console_index self.new.readers ≡ [] }
-        ensures costs { Costs (length (readers_at console_index self.old.readers)) self.old self.new }
+        ensures regular { IsRegular self.old.state }
     {
         let mut next = self.next_reader(console_index, Pid::NONE);
         while let Some(pid) = next {
-            self.recheck_if_there(pid);
+            self.recheck_reader(console_index, pid);
             next = self.next_reader(console_index, pid);
         }
         self.forget_readers(console_index);
@@ -260,13 +279,12 @@ impl<K: Kin> Machine<K> {
     // ---- whose terminal it is
 
     /// The console with this index, nobody's terminal, becomes that of a session that has none, with a foreground
-    /// process group; what was typed before stays. One slot is read for each process that is known to wait to read
-    /// from it.
+    /// process group; what was typed before stays.
     pub fn acquire_console(&mut self, console_index: usize, session: Pid, group: Pid)
         requires free { IfSome (slice_get self.old.state.consoles console_index) (λ c. c.session ≡ 0) }
         requires none { console_of session self.old.state.consoles ≡ None }
         ensures state { IfConsole console_index self.old (λ c. self.new.state ≡ with_consoles self.old.state (slice_set self.old.state.consoles console_index (acquired session group c))) }
-        ensures costs { Costs (length (readers_at console_index self.old.readers)) self.old self.new }
+        ensures costs { Costs 0 self.old self.new }
     {
         self.recheck_readers(console_index);
         if let Some(console) = self.consoles.get_mut(console_index) {
@@ -275,12 +293,11 @@ impl<K: Kin> Machine<K> {
         }
     }
 
-    /// A process group becomes the foreground one of a session's terminal. One slot is read for each process that is
-    /// known to wait to read from it.
+    /// A process group becomes the foreground one of a session's terminal.
     pub fn set_foreground(&mut self, session: Pid, group: Pid)
         requires { session ≢ 0 }
         ensures state { self.new.state ≡ with_consoles self.old.state (changed_console session (with_foreground group) self.old.state.consoles) }
-        ensures costs { Costs (readers_of session self.old.state.consoles self.old.readers) self.old self.new }
+        ensures costs { Costs 0 self.old self.new }
     {
         if let Some(console_index) = terminal_index(&self.consoles, session) {
             self.recheck_readers(console_index);
@@ -335,7 +352,7 @@ impl<K: Kin> Machine<K> {
         ensures none { slice_get self.old.state.consoles console_index ≡ None → (result ≡ None) × (self.new.state ≡ self.old.state) }
         ensures state { IfConsole console_index self.old (λ c. self.new.state ≡ with_consoles self.old.state (slice_set self.old.state.consoles console_index (keyed byte c))) }
         ensures signal { MatchOption result (slice_get self.old.state.consoles console_index ≡ None) (λ e. e.signal ≡ key_signal byte) }
-        ensures costs { Costs (slots_of_byte byte console_index self.old.readers) self.old self.new }
+        ensures costs { Costs 0 self.old self.new }
     {
         if ends_line(byte) {
             self.recheck_readers(console_index);
@@ -345,8 +362,8 @@ impl<K: Kin> Machine<K> {
 
     /// A byte comes on a console, which counts from 1. INTR, QUIT and SUSP discard all input, and each member of the
     /// foreground process group gets INT, QUIT or TSTP; any other byte is for the line that is edited. On a console
-    /// that isn't there nothing happens (XBD 11.1.9). Where the byte ends a line, one slot is read for each process
-    /// that is known to wait to read it; where it gives a signal, one, and three for each member.
+    /// that isn't there nothing happens (XBD 11.1.9). Where the byte gives a signal, one slot is read, and three for
+    /// each member.
     pub fn key(&mut self, console: u8, byte: u8)
         ensures state { self.new.state ≡ keying self.old.state console byte }
         ensures costs { Costs (slots_of_key console byte self.old) self.old self.new }
@@ -369,8 +386,7 @@ impl<K: Kin> Machine<K> {
 
     /// Where a process that is there, other than process 1, leads a session with a terminal, each member of the
     /// foreground process group gets HUP, and the terminal is nobody's any more (XSH _exit). One slot is read for the
-    /// process; where it hangs a terminal up, one for each process that is known to wait to read from it, one for the
-    /// signal, and three for each member.
+    /// process; where it hangs a terminal up, one for the signal, and three for each member.
     pub fn hang_up(&mut self, pid: Pid)
         requires { IsThere pid self.old }
         ensures state { IfThere pid self.old (λ me. self.new.state ≡ hanging_up self.old.state me) }
@@ -393,7 +409,7 @@ impl<K: Kin> Machine<K> {
     /// The console with this index is nobody's terminal any more; what was typed stays.
     fn release(&mut self, console_index: usize)
         ensures state { IfConsole console_index self.old (λ c. self.new.state ≡ with_consoles self.old.state (slice_set self.old.state.consoles console_index (released c))) }
-        ensures costs { Costs (length (readers_at console_index self.old.readers)) self.old self.new }
+        ensures costs { Costs 0 self.old self.new }
     {
         self.recheck_readers(console_index);
         if let Some(console) = self.consoles.get_mut(console_index) {

@@ -1,15 +1,15 @@
 //! Ends.
 
-ghost use Rattle.std.specs.Prelude.{◌≡◌, ◌≢◌, ℕ, ◌≤◌, ◌+◌, ◌*◌, length, IsSome, Some, None, true, false, if◌then◌else◌};
+ghost use Rattle.std.specs.Prelude.{◌≡◌, ◌≢◌, ℕ, ◌≤◌, ◌+◌, ◌*◌, length, IsSome, Some, None, option_map, true, false, if◌then◌else◌};
 ghost use Rattle.posix.specs.Processes.{Process, is_zombie};
 ghost use Rattle.posix.specs.Tables.{children_in, parent_of};
 ghost use Rattle.posix.specs.Groups.{some_stopped};
 ghost use Rattle.posix.specs.Regular.{CanInherit, IsRegular};
 ghost use Rattle.posix.specs.States.{process};
 ghost use Rattle.posix.specs.Ends.{leave_children_and_die as departing, halt as halting, end_with_heir, notice_of_end as noticing_end, drop_child as dropping_child, is_dropping, tell_of_all, zombies_of};
-ghost use Rattle.posix.specs.Notices.{child_signal as child_signal_of};
+ghost use Rattle.posix.specs.Notices.{noticed, child_signal as child_signal_of};
 ghost use Rattle.pidset.specs.Numbers.{with_number};
-ghost use Rattle.life.specs.Rechecks.{rechecks, without_gone};
+ghost use Rattle.life.specs.Rechecks.{rechecks_by_signals, without_gone};
 ghost use Rattle.life.specs.Machines.{Costs, Finds, Changes, IsThere, IfThere};
 
 use crate::machine::Machine;
@@ -49,7 +49,7 @@ impl<K: Kin> Machine<K> {
         ensures is { IfThere pid self.old (λ me. result ≡ me.parent) }
         ensures parent { IfThere pid self.old (λ me. IsThere me.parent self.new) }
         ensures zombie { (it : Process) × (process self.new.state pid ≡ Some it) × (is_zombie it.life ≡ true) }
-        ensures costs { Costs (3 + 8 * length (children_in pid self.old.state.processes) + length (children_in heir self.old.state.processes)) self.old self.new }
+        ensures costs { Costs (5 + 10 * length (children_in pid self.old.state.processes) + length (children_in heir self.old.state.processes)) self.old self.new }
     {
         self.to_recheck.insert(pid);
         self.to_recheck.insert(heir);
@@ -73,7 +73,7 @@ impl<K: Kin> Machine<K> {
         ensures is { IfThere pid self.old (λ me. result ≡ me.parent) }
         ensures parent { IfThere pid self.old (λ me. IsThere me.parent self.new) }
         ensures zombie { (it : Process) × (process self.new.state pid ≡ Some it) × (is_zombie it.life ≡ true) }
-        ensures costs { Costs (4 + 16 * length (children_in pid self.old.state.processes) + length (children_in heir self.old.state.processes)) self.old self.new }
+        ensures costs { Costs (6 + 18 * length (children_in pid self.old.state.processes) + length (children_in heir self.old.state.processes)) self.old self.new }
     {
         self.tell_heir(pid, heir);
         self.leave(pid, heir, status)
@@ -104,7 +104,7 @@ impl<K: Kin> Machine<K> {
         requires parent { IsThere parent self.old }
         requires other { child ≢ 1 }
         requires zombie { (it : Process) × (process self.old.state child ≡ Some it) × (is_zombie it.life ≡ true) }
-        ensures { Changes 6 self.old self.new (noticing_end self.old.state parent child status) (if is_dropping parent self.old.state.processes then without_gone child (parent_of child self.old.state.processes) (rechecks parent self.old) else rechecks parent self.old) }
+        ensures { Changes 6 self.old self.new (noticing_end self.old.state parent child status) (if is_dropping parent self.old.state.processes then without_gone child (parent_of child self.old.state.processes) (rechecks_by_signals (option_map (noticed (child_signal_of child status)) (process self.old.state parent)) self.old) else rechecks_by_signals (option_map (noticed (child_signal_of child status)) (process self.old.state parent)) self.old) }
     {
         let signal = child_signal(child, status);
         let drops = self.change(parent, |fields| {
@@ -137,7 +137,7 @@ impl<K: Kin> Machine<K> {
         requires heir { pid ≢ 1 → CanInherit self.old.state.processes pid heir }
         ensures state { IfThere pid self.old (λ me. self.new.state ≡ (end_with_heir self.old.state me heir status).state) }
         ensures to_recheck { pid ≡ 1 → self.new.to_recheck ≡ with_number 1 self.old.to_recheck }
-        ensures visits { some_stopped self.old.state.processes ≡ false → self.new.visits ≤ self.old.visits + 10 + 16 * length (children_in pid self.old.state.processes) + length (children_in heir self.old.state.processes) }
+        ensures visits { some_stopped self.old.state.processes ≡ false → self.new.visits ≤ self.old.visits + 12 + 18 * length (children_in pid self.old.state.processes) + length (children_in heir self.old.state.processes) }
     {
         if pid == Pid::INIT {
             self.halt(status);

@@ -1,12 +1,9 @@
 //! Process groups: who their members are, one after another, and whether they are orphaned (XBD 3).
 
-ghost use Rattle.std.specs.Prelude.{◌≡◌, ◌+◌, ◌≤◌, ◌*◌, false, not, length};
+ghost use Rattle.std.specs.Prelude.{◌≡◌, not};
 ghost use Rattle.posix.specs.Tables.{first_pid, above, members_in};
-ghost use Rattle.posix.specs.Groups.{is_anchor as is_anchor_of, is_orphaned as is_orphaned_of, has_stopped as has_stopped_of, some_stopped};
-ghost use Rattle.std.specs.Option.{option_map_or};
-ghost use Rattle.posix.specs.States.{process};
+ghost use Rattle.posix.specs.Groups.{is_orphaned as is_orphaned_of, has_stopped as has_stopped_of, some_stopped};
 ghost use Rattle.posix.specs.Regular.{IsRegular};
-ghost use Rattle.life.specs.Machines.{Finds};
 
 use crate::machine::Machine;
 use posix::Pid;
@@ -23,19 +20,11 @@ impl<K: Kin> Machine<K> {
     }
 
     /// Whether a process group is orphaned: no living member of it has a parent in another group of the same
-    /// session (XBD 3 Orphaned Process Group).
-    pub fn is_orphaned(&mut self, group: Pid) -> bool
-        ensures { Finds (2 * length (members_in group self.old.state.processes)) self.old self.new (result ≡ is_orphaned_of group self.old.state.processes) }
+    /// session (XBD 3 Orphaned Process Group). No slot is read.
+    pub fn is_orphaned(&self, group: Pid) -> bool
+        ensures { result ≡ is_orphaned_of group self.now.state.processes }
     {
         self.table.is_orphaned(group)
-    }
-
-    /// Whether a process that is there keeps its process group from being orphaned: it lives, and has a parent in
-    /// another group of the same session.
-    pub(crate) fn is_anchor(&mut self, pid: Pid) -> bool
-        ensures { Finds 2 self.old self.new (result ≡ option_map_or (is_anchor_of self.old.state.processes) (process self.old.state pid) false) }
-    {
-        self.table.is_anchor(pid)
     }
 
     /// Whether no process is stopped.
@@ -45,10 +34,10 @@ impl<K: Kin> Machine<K> {
         self.table.nobody_stopped()
     }
 
-    /// Whether a member of a process group is stopped.
-    pub(crate) fn has_stopped(&mut self, group: Pid) -> bool
-        ensures { Finds (length (members_in group self.old.state.processes)) self.old self.new (result ≡ has_stopped_of group self.old.state.processes) }
+    /// Whether a member of a process group is stopped. No slot is read.
+    pub(crate) fn has_stopped(&self, group: Pid) -> bool
+        ensures { result ≡ has_stopped_of group self.now.state.processes }
     {
-        self.table.stopped_in(group) > 0
+        self.table.has_stopped(group)
     }
 }

@@ -4,7 +4,7 @@ ghost use Rattle.std.specs.Prelude.{◌≡◌, ◌≢◌, ◌+◌, ◌<◌, ◌�
 ghost use mathlib.Core.Option.{none};
 ghost use Rattle.std.specs.Borrow.{sem, Lends, follows_so};
 ghost use Rattle.posix.specs.Processes.{Process};
-ghost use Rattle.posix.specs.States.{boot as boot_of, process, change, current as current_of, lose_place as losing_place, go_last as going_last, has_place as has_place_in};
+ghost use Rattle.posix.specs.States.{boot as boot_of, process, change, current as current_of, lose_place as losing_place, go_last as going_last, has_place as has_place_in, is_in};
 ghost use Rattle.posix.specs.Regular.{IsRegular, IsPlaced};
 ghost use Rattle.posix.specs.Execute.{exec_one as executed, StaysUnlessRun};
 ghost use Rattle.posix.specs.Step.{code_of, set_cpu};
@@ -42,7 +42,7 @@ pub struct Machine<K: Kin> {
     /// While a process ends: the process groups that it and its children kept from being orphaned.
     pub(crate) groups_at_risk: PidSet,
     pub(crate) consoles: Vec<Console>,
-    /// Who may wait to read from each console. Whoever does is among them, or is to be rechecked.
+    /// Who waits to read from each console: of those who aren't to be rechecked just they are among them.
     pub(crate) readers: Vec<PidSet>,
     /// Whether a foreground process group may have lost its members: it is set where a record goes, where
     /// one changes its process group or session, and where a foreground is set.
@@ -255,10 +255,11 @@ impl<K: Kin> Machine<K> {
 
     // ---- places
 
-    /// A process that has no place, and isn't a zombie, gets the last one.
+    /// A process that is to be rechecked, has no place, and isn't a zombie, gets the last one.
     pub fn place(&mut self, pid: Pid)
         requires there { IsPlaced self.old.state.processes pid }
         requires none { has_place_in self.old.state pid ≡ false }
+        requires to_recheck { is_in pid self.old.to_recheck ≡ true }
         ensures { self.new ≡ record (self.old) { state = record (self.old.state) { order = self.old.state.order ++ pid ∷ [] } } }
     {
         self.order.place(pid);

@@ -4,6 +4,7 @@ ghost use Rattle.std.specs.Prelude.{◌≡◌, ◌==◌, ◌||◌, ◌+◌, ◌*
 ghost use Rattle.posix.specs.declared.errno.Errno.TheVariants.{EPERM};
 ghost use Rattle.posix.specs.Processes.{Process};
 ghost use Rattle.posix.specs.States.{process, change};
+ghost use Rattle.posix.specs.Tables.{children_in};
 ghost use Rattle.posix.specs.Regular.{IsPlaced};
 ghost use Rattle.posix.specs.GroupCalls.{named as named_by, move_to, in_group, in_session, is_group_of_others};
 ghost use Rattle.life.specs.Callers.{caller_of};
@@ -27,7 +28,8 @@ impl<K: Kin> Machine<K> {
         ensures err { OnErr result (AreSame self.old self.new) }
         ensures ok { IfOk result (λ g. (it r : Process) → process self.old.state me.now.pid ≡ Some it → named_by it me.now.r1 self.old.state.processes ≡ Some r → self.new.state ≡ change self.old.state r.pid (in_group g)) }
         ensures to_recheck { OnOk result ((it r : Process) → process self.old.state me.now.pid ≡ Some it → named_by it me.now.r1 self.old.state.processes ≡ Some r → self.new.to_recheck ≡ rechecks_changed r self.old) }
-        ensures costs { Costs 5 self.old self.new }
+        ensures costs { IfOk result (λ g. (it r : Process) → process self.old.state me.now.pid ≡ Some it → named_by it me.now.r1 self.old.state.processes ≡ Some r → Costs (7 + 2 * length (children_in r.pid self.old.state.processes)) self.old self.new) }
+        ensures refused { OnErr result (Costs 3 self.old self.new) }
     {
         let target = self.named(me.pid, me.r1);
         let group = self.table.group_to_join(me.pid, &target, me.r2)?;
@@ -44,7 +46,7 @@ impl<K: Kin> Machine<K> {
         ensures refused { IfThere pid self.old (λ me. (me.group == me.pid || is_group_of_others me self.old.state.processes) ≡ true → (result ≡ Err EPERM) × AreSame self.old self.new) }
         ensures leads { IfThere pid self.old (λ me. (me.group == me.pid || is_group_of_others me self.old.state.processes) ≡ false → (result ≡ Ok tt) × (self.new.state ≡ change self.old.state pid in_session)) }
         ensures to_recheck { OnOk result (IfThere pid self.old (λ me. self.new.to_recheck ≡ rechecks_changed me self.old)) }
-        ensures costs { Costs 3 self.old self.new }
+        ensures costs { Costs (5 + 2 * length (children_in pid self.old.state.processes)) self.old self.new }
     {
         self.table.can_lead(pid)?;
         self.change_seen(pid, |fields| {

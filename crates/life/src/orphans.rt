@@ -21,15 +21,13 @@ use proctable::Kin;
 impl<K: Kin> Machine<K> {
     // ---- before the end
 
-    /// The group of a process that is there is noted where the process keeps it from being orphaned.
+    /// The group of a process that is there is noted where the process keeps it from being orphaned. No slot is read.
     fn note_anchor(&mut self, pid: Pid)
-        ensures notes { Notes 3 self.old self.new }
+        ensures notes { Notes 0 self.old self.new }
         ensures groups_at_risk { IfThere pid self.old (λ it. self.new.groups_at_risk ≡ (if is_anchor_of self.old.state.processes it then with_number it.group self.old.groups_at_risk else self.old.groups_at_risk)) }
     {
-        if self.is_anchor(pid) {
-            if let Some(it) = self.snapshot(pid) {
-                self.groups_at_risk.insert(it.group);
-            }
+        if let Some(group) = self.table.group_kept(pid) {
+            self.groups_at_risk.insert(group);
         }
     }
 
@@ -38,7 +36,7 @@ impl<K: Kin> Machine<K> {
     fn note_groups_at_risk(&mut self, pid: Pid)
         requires { IsThere pid self.old }
         ensures groups_at_risk { (g : ℕ) → is_in g self.new.groups_at_risk ≡ loses_anchor pid self.old.state.processes g }
-        ensures notes { Notes (4 + 4 * length (children_in pid self.old.state.processes)) self.old self.new }
+        ensures notes { Notes (1 + length (children_in pid self.old.state.processes)) self.old self.new }
     {
         self.groups_at_risk.clear();
         self.note_anchor(pid);
@@ -118,7 +116,7 @@ impl<K: Kin> Machine<K> {
         ensures is { IfThere pid self.old (λ me. result ≡ me.parent) }
         ensures parent { IfThere pid self.old (λ me. IsThere me.parent self.new) }
         ensures zombie { (it : Process) × (process self.new.state pid ≡ Some it) × (is_zombie it.life ≡ true) }
-        ensures visits { some_stopped self.old.state.processes ≡ false → self.new.visits ≤ self.old.visits + 4 + 16 * length (children_in pid self.old.state.processes) + length (children_in heir self.old.state.processes) }
+        ensures visits { some_stopped self.old.state.processes ≡ false → self.new.visits ≤ self.old.visits + 6 + 18 * length (children_in pid self.old.state.processes) + length (children_in heir self.old.state.processes) }
     {
         if self.nobody_stopped() {
             return self.leave_children_and_die(pid, heir, status);

@@ -8,7 +8,7 @@ ghost use Rattle.posix.specs.States.{process, change, without};
 ghost use Rattle.posix.specs.Regular.{IsPlaced};
 ghost use Rattle.posix.specs.Notices.{noticed_of_change, child_signal as child_signal_of, told_of_change, resumed};
 ghost use Rattle.posix.specs.Delivery.{stop_process as stopping};
-ghost use Rattle.life.specs.Rechecks.{rechecking_changed, rechecks, rechecks_changed};
+ghost use Rattle.life.specs.Rechecks.{rechecking_changed, rechecks_by_signals, rechecks_changed};
 ghost use Rattle.life.specs.Machines.{Changes, IsThere, IfThere, with_processes};
 
 use crate::ends::child_signal;
@@ -41,7 +41,7 @@ impl<K: Kin> Machine<K> {
     /// The parent of a child that was stopped or continued gets notice of it by this status. Number 0 is nobody's.
     fn tell_parent(&mut self, child: Pid, parent: Pid, status: Status)
         requires { parent ≢ 0 → IsThere parent self.old }
-        ensures { Changes 1 self.old self.new (if parent == 0 then self.old.state else change self.old.state parent (noticed_of_change (child_signal_of child status))) (if parent == 0 then self.old.to_recheck else rechecks parent self.old) }
+        ensures { Changes 1 self.old self.new (if parent == 0 then self.old.state else change self.old.state parent (noticed_of_change (child_signal_of child status))) (if parent == 0 then self.old.to_recheck else rechecks_by_signals (process self.new.state parent) self.old) }
     {
         let _ = &self.table;
         if parent != Pid::NONE {

@@ -12,6 +12,7 @@ ghost use Rattle.life.specs.Machines.{Finds, Changes, IsThere, IfThere, with_pro
 ghost use Rattle.life.specs.Rechecks.{rechecks_changed, without_gone};
 
 use crate::caller::Caller;
+use crate::consoles::mark_reader;
 use crate::machine::Machine;
 use crate::rechecks::forget;
 use bitflags::Flags;
@@ -164,6 +165,7 @@ impl<K: Kin> Machine<K> {
         ensures born { self.new.state.dropped + length self.new.state.processes < self.new.state.births }
     {
         let parent = discard(&mut self.table, &mut self.pids, pid);
+        mark_reader(&mut self.readers, &self.consoles, None, pid);
         forget(&mut self.to_recheck, pid, parent);
         self.foregrounds_unchecked = true;
     }

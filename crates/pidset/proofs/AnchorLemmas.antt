@@ -1,16 +1,20 @@
 -- What moves in the index of those that keep their process groups from being orphaned: whose key changes where one record
 -- changes, comes or goes. It is the key of the process itself, and of its children, if what these see of it changes: its
 -- group and its session, and whether it is there.
-use Rattle.std.proofs.Common.{◌≡◌, ◌≢◌, ℕ, ◌&&◌, Bool, false, not, cond, refl, ap, sym, ◌∙◌, List, Option, Some, None, option_map, ◌==◌, inl, inr}
+use Rattle.std.proofs.Common.{◌≡◌, ◌≢◌, ℕ, ◌&&◌, Bool, true, false, not, cond, map, refl, ap, sym, ◌∙◌, List, Option, Some, None, option_map, ◌==◌, inl, inr}
 use Rattle.std.specs.Option.{option_map_or}
+use Rattle.std.specs.List.{list_any}
 use Rattle.std.specs.Prelude.{option_and_then}
-use Rattle.std.proofs.lemmas.Bool.{cases_eq}
+use Rattle.std.proofs.lemmas.Bool.{cases_eq, eq-eqb, ne_eqb}
 use Rattle.posix.specs.Processes.{Process, is_living}
-use Rattle.posix.specs.Tables.{lookup}
+use Rattle.posix.specs.Tables.{lookup, has_pid, is_child, children_in, left_of, next_sibling, inserted, removed, reparented, adopted}
 use Rattle.posix.specs.Groups.{is_anchor, is_outside}
+use Rattle.posix.proofs.TableLemmas.{pid_looked, pid_reparented}
+use Rattle.posix.proofs.MapLemmas.{lookup_map}
+use Rattle.posix.proofs.WalkLemmas.{AtChild, any_filter, any_looked}
 use Rattle.pidset.specs.declared.index.Pair.{Pair}
-use Rattle.pidset.specs.Indexes.{IsMoved, IsAnchorIndex, anchor_key, key_of}
-use Rattle.pidset.proofs.IndexLemmas.{IsElsewhere, keyed_moved}
+use Rattle.pidset.specs.Indexes.{AreTurned, IsKeyed, IsMoved, IsAnchorIndex, anchor_key, is_key, is_pair_in, is_turned, key_of}
+use Rattle.pidset.proofs.IndexLemmas.{IsElsewhere, elsewhere_inserted, elsewhere_removed, key_removed, keyed_moved}
 
 -- what a child sees of its parent
 pub record Stance : Type 0 where
@@ -42,13 +46,111 @@ same_elsewhere p q rs ts same ne apart = ap (option_and_then (anchor_key ts)) (s
   | Some r ↦ λ e. same_anchor rs ts r (ap (option_map stance) (same r.parent (apart r e)))
 ] refl
 
--- and its children do too, where it takes the same stance: a change of its life, say, moves it alone
+-- where p takes the same stance, all do
+pub stance_stays : (p : ℕ) (rs ts : List Process) → IsElsewhere p rs ts → stance_of p ts ≡ stance_of p rs → (q : ℕ) → stance_of q ts ≡ stance_of q rs
+stance_stays p rs ts same stays q = elim (cases_eq q p) [
+  | inl e ↦ ap (λ n. stance_of n ts) e ∙ stays ∙ sym (ap (λ n. stance_of n rs) e)
+  | inr other ↦ ap (option_map stance) (same q other)
+]
+
+-- and its children have the same key: a change of its life, say, moves it alone
 pub anchors_moved : (p : ℕ) (rs ts : List Process) (old new : List Pair) → IsElsewhere p rs ts → stance_of p ts ≡ stance_of p rs → IsAnchorIndex rs old → IsMoved p (key_of (anchor_key ts) p ts) old new → IsAnchorIndex ts new
 anchors_moved p rs ts old new same stays h moved = keyed_moved p (λ q. key_of (anchor_key rs) q rs) (λ q. key_of (anchor_key ts) q ts) old new (λ q ne.
     ap (option_and_then (anchor_key ts)) (same q ne) ∙ elim (lookup q rs) as (λ o. option_and_then (anchor_key ts) o ≡ option_and_then (anchor_key rs) o) [
       | None ↦ refl
-      | Some r ↦ same_anchor rs ts r (elim (cases_eq r.parent p) [
-        | inl e ↦ ap (λ n. stance_of n ts) e ∙ stays ∙ sym (ap (λ n. stance_of n rs) e)
-        | inr other ↦ ap (option_map stance) (same r.parent other)
-      ])
+      | Some r ↦ same_anchor rs ts r (stance_stays p rs ts same stays r.parent)
     ]) h moved
+
+-- one goes in that is nobody's parent yet
+pub anchors_inserted : (new : Process) (rs : List Process) (old now : List Pair) → ((q : ℕ) (r : Process) → lookup q rs ≡ Some r → r.parent ≢ new.pid) → IsMoved new.pid (key_of (anchor_key (inserted new rs)) new.pid (inserted new rs)) old now → IsAnchorIndex rs old → IsAnchorIndex (inserted new rs) now
+anchors_inserted new rs old now apart moved h =
+    keyed_moved new.pid (λ q. key_of (anchor_key rs) q rs) (λ q. key_of (anchor_key (inserted new rs)) q (inserted new rs)) old now (λ q ne. same_elsewhere new.pid q rs (inserted new rs) (elsewhere_inserted new rs) ne (apart q)) h moved
+
+-- one goes that is nobody's any more
+pub anchors_removed : (p : ℕ) (rs : List Process) (old new : List Pair) → ((q : ℕ) (r : Process) → lookup q rs ≡ Some r → r.parent ≢ p) → IsMoved p None old new → IsAnchorIndex rs old → IsAnchorIndex (removed p rs) new
+anchors_removed p rs old new apart moved h =
+    keyed_moved p (λ q. key_of (anchor_key rs) q rs) (λ q. key_of (anchor_key (removed p rs)) q (removed p rs)) old new (λ q ne. same_elsewhere p q rs (removed p rs) (elsewhere_removed p rs) ne (apart q)) h (rw (key_removed (anchor_key (removed p rs)) p rs) moved)
+
+-- ---- children
+
+-- the children of p come under these keys
+keyed_turned : (p : ℕ) (key : Process → Option ℕ) (rs : List Process) (keys now : ℕ → Option ℕ) (old new : List Pair) → AreTurned p key rs old new → IsKeyed keys old → ((q : ℕ) (r : Process) → lookup q rs ≡ Some r → r.parent ≡ p → key r ≡ now q)
+    → ((q : ℕ) → ((r : Process) → lookup q rs ≡ Some r → r.parent ≢ p) → keys q ≡ now q) → IsKeyed now new
+keyed_turned p key rs keys now old new turned h children others q k = turned k q ∙ at (lookup q rs) refl
+  where
+    at : (o : Option Process) → lookup q rs ≡ o → option_map_or (λ r. cond (r.parent == p) (is_key k (key r)) (is_pair_in k q old)) o (is_pair_in k q old) ≡ is_key k (now q)
+    at None e = h q k ∙ ap (is_key k) (others q (λ r f. let no : None ≡ Some r = sym e ∙ f in absurd (cc)))
+    at (Some r) e = elim (cases_eq r.parent p) [
+      | inl child ↦ rw (eq-eqb r.parent p child) (ap (is_key k) (children q r e child))
+      | inr other ↦ rw (ne_eqb r.parent p other) (h q k ∙ ap (is_key k) (others q (λ x f. let one : Some x ≡ Some r = sym f ∙ e in let is : x ≡ r = cc in rw is other)))
+    ]
+
+-- p moves, and then its children, by what they see of it
+pub anchors_turned : (p : ℕ) (key : Process → Option ℕ) (rs ts : List Process) (old mid new : List Pair) → IsElsewhere p rs ts → IsMoved p (key_of (anchor_key ts) p ts) old mid → AreTurned p key ts mid new → ((r : Process) → r.parent ≡ p → key r ≡ anchor_key ts r)
+    → IsAnchorIndex rs old → IsAnchorIndex ts new
+anchors_turned p key rs ts old mid new same moved turned keys h = keyed_turned p key ts between now mid new turned (keyed_moved p was between old mid (λ q ne. rw (ne_eqb q p ne) refl) h (rw (eq-eqb p p refl) moved))
+    (λ q r e child. keys r child ∙ sym (ap (option_and_then (anchor_key ts)) e)) (λ q apart. elim (cases_eq q p) [
+      | inl here ↦ rw (eq-eqb q p here) (ap now (sym here))
+      | inr ne ↦ rw (ne_eqb q p ne) (sym (same_elsewhere p q rs ts same ne (λ r e. apart r (same q ne ∙ e))))
+    ])
+  where
+    was : ℕ → Option ℕ
+    was q = key_of (anchor_key rs) q rs
+
+    now : ℕ → Option ℕ
+    now q = key_of (anchor_key ts) q ts
+
+    between : ℕ → Option ℕ
+    between q = cond (q == p) (now p) (was q)
+
+-- the children of one process move, and then they become those of another
+pub anchors_adopted : (from to : ℕ) (key : Process → Option ℕ) (rs : List Process) (old new : List Pair) → AreTurned from key rs old new → ((r : Process) → key r ≡ anchor_key rs (record r { parent = to })) → IsAnchorIndex rs old → IsAnchorIndex (adopted from to rs) new
+unfolding adopted
+anchors_adopted from to key rs old new turned keys h = keyed_turned from key rs (λ q. key_of (anchor_key rs) q rs) (λ q. key_of (anchor_key ts) q ts) old new turned h
+    (λ q r e child.
+    let is : lookup q ts ≡ Some (record r { parent = to }) = found q (Some r) e ∙ rw (eq-eqb r.parent from child) refl in
+    keys r ∙ sym (same_anchor rs ts (record r { parent = to }) (stays to)) ∙ sym (ap (option_and_then (anchor_key ts)) is))
+    (λ q apart. elim (lookup q rs) as (λ o. lookup q rs ≡ o → option_and_then (anchor_key rs) o ≡ key_of (anchor_key ts) q ts) [
+      | None ↦ λ e. ap (option_and_then (anchor_key ts)) (sym (found q None e))
+      | Some r ↦ λ e.
+          let is : lookup q ts ≡ Some r = found q (Some r) e ∙ rw (ne_eqb r.parent from (apart r e)) refl in
+          sym (same_anchor rs ts r (stays r.parent)) ∙ sym (ap (option_and_then (anchor_key ts)) is)
+    ] refl)
+  where
+    ts : List Process
+    ts = map (reparented from to) rs
+
+    found : (q : ℕ) (o : Option Process) → lookup q rs ≡ o → lookup q ts ≡ option_map (reparented from to) o
+    found q o e = lookup_map (reparented from to) (pid_reparented from to) q rs ∙ ap (option_map (reparented from to)) e
+
+    stays : (q : ℕ) → stance_of q ts ≡ stance_of q rs
+    stays q = ap (option_map stance) (found q (lookup q rs) refl) ∙ elim (lookup q rs) as (λ o. option_map stance (option_map (reparented from to) o) ≡ option_map stance o) [
+      | None ↦ refl
+      | Some r ↦ elim (r.parent == from) as (λ b. Some (stance (cond b (record r { parent = to }) r)) ≡ Some (stance r)) [ true ↦ refl | false ↦ refl ]
+    ]
+
+-- ---- a walk over the children
+
+-- all who aren't children stand as they did
+pub turned_none : (p : ℕ) (key : Process → Option ℕ) (rs : List Process) (old : List Pair) (q : ℕ) → list_any (has_pid q) (children_in p rs) ≡ false → (k : ℕ) → is_pair_in k q old ≡ is_turned p key rs old k q
+unfolding children_in
+turned_none p key rs old q none k = at (lookup q rs) refl
+  where
+    at : (o : Option Process) → lookup q rs ≡ o → is_pair_in k q old ≡ option_map_or (λ r. cond (r.parent == p) (is_key k (key r)) (is_pair_in k q old)) o (is_pair_in k q old)
+    at None e = refl
+    at (Some r) e = elim (cases_eq r.parent p) [
+      | inl child ↦
+          let one = any_looked (λ r. is_child p r && has_pid q r) q rs r e (rw (eq-eqb r.parent p child) (eq-eqb r.pid q (pid_looked q rs r e))) in
+          let no : false ≡ true = sym none ∙ any_filter (is_child p) (has_pid q) rs ∙ one in
+          absurd (cc)
+      | inr other ↦ rw (ne_eqb r.parent p other) refl
+    ]
+
+-- and the child c stands as it is to, with those that aren't left
+pub turned_one : (p c : ℕ) (key : Process → Option ℕ) (rs : List Process) (old mid new : List Pair) (next : Option ℕ) → (i : AtChild rs p c) → next ≡ Some c → IsMoved c (key i.what) mid new
+    → ((q : ℕ) → list_any (has_pid q) (left_of next (children_in p rs)) ≡ false → (k : ℕ) → is_pair_in k q mid ≡ is_turned p key rs old k q)
+    → (q : ℕ) → list_any (has_pid q) (left_of (next_sibling c rs) (children_in p rs)) ≡ false → (k : ℕ) → is_pair_in k q new ≡ is_turned p key rs old k q
+turned_one p c key rs old mid new next i comes moved h q none k = moved k q ∙ elim (cases_eq q c) [
+  | inl here ↦ rw (eq-eqb q c here) (sym (ap (λ n. is_turned p key rs old k n) here ∙ rw (i.found, eq-eqb i.what.parent p i.parent) refl))
+  | inr ne ↦ rw (ne_eqb q c ne) (h q (rw (comes, i.left, none) (rw (ne_eqb i.what.pid q (λ e. ne (sym e ∙ i.named))) refl)) k)
+]

@@ -7,7 +7,7 @@ use Rattle.std.proofs.lemmas.Bool.{eqb-true, eq-eqb, ne_eqb, ltb-true, cases_eq,
 use Rattle.std.proofs.lemmas.Bool.Decides.{nat_tests}
 use Rattle.std.proofs.lemmas.List.{length-map}
 use Rattle.posix.specs.Processes.{Process}
-use Rattle.posix.specs.Tables.{IsRising, lookup, pids, above, first_pid, changed, inserted, removed, reparented, adopted}
+use Rattle.posix.specs.Tables.{IsRising, lookup, pids, members_in, above, first_pid, changed, inserted, removed, reparented, adopted}
 use Rattle.posix.specs.States.{is_in}
 use Rattle.posix.proofs.TableLemmas.{pid_looked, lookup_changed, pid_reparented, none_found, rising_removed}
 use Rattle.posix.proofs.MapLemmas.{lookup_map}
@@ -17,7 +17,7 @@ use Rattle.posix.proofs.PassingLemmas.{filter_at_most}
 use Rattle.posix.proofs.WalkLemmas.{Passes, all_looked, first_passes, none_passes_before, both_pass}
 use Rattle.pidset.specs.declared.index.Pair.{Pair}
 use Rattle.pidset.specs.Numbers.{Rises}
-use Rattle.pidset.specs.Indexes.{ArePairs, IndexView, IsNextPair, IsMoved, IsKeyed, IsIndex, CanReplace, IsReplaced, IsRekeyed, IsIndexed, is_key, key_of, is_pair_in}
+use Rattle.pidset.specs.Indexes.{ArePairs, IndexView, IsNextPair, IsAt, IsMoved, IsKeyed, IsIndex, CanReplace, IsReplaced, IsRekeyed, IsIndexed, is_key, key_of, is_pair_in}
 use Rattle.pidset.proofs.NumberLemmas.{AllAbove, in_above}
 use Rattle.pidset.proofs.PairLemmas.{in_order, rises_in_order, key_in_order, length_in_order}
 
@@ -57,6 +57,13 @@ unmoved key p rs pairs o h same k q = elim (cases_eq q p) [
   | inl e ↦ rw (eq-eqb q p e, same) (ap (λ n. is_pair_in k n pairs) e ∙ h p k)
   | inr ne ↦ rw (ne_eqb q p ne) refl
 ]
+
+-- it stands under one key at most
+pub at_once : (p : ℕ) (a b : Option ℕ) (pairs : List Pair) → IsAt p a pairs → IsAt p b pairs → a ≡ b
+at_once p None None pairs h i = refl
+at_once p None (Some k) pairs h i = let no : false ≡ true = sym (h k) ∙ i k ∙ eq-eqb k k refl in absurd (cc)
+at_once p (Some k) None pairs h i = let no : false ≡ true = sym (i k) ∙ h k ∙ eq-eqb k k refl in absurd (cc)
+at_once p (Some k) (Some n) pairs h i = ap Some (sym (eqb-true n k (sym (i k) ∙ h k ∙ eq-eqb k k refl)))
 
 -- ---- all records
 
@@ -130,6 +137,12 @@ next_pair key rs pairs k n next up h i = same next (first_pid (filter passes rs)
           | inl e ↦ ap Some e
           | inr ne ↦ absurd (g m k.0 k.1 k.2 (grind (arith, is, low, ne)))
         ]
+
+-- those that stand under a group where they pass a test are its members that pass it
+pub members_passing : (t : Process → Bool) (key : Process → Option ℕ) → ((r : Process) → key r ≡ cond (t r) (Some r.group) None) → (group : ℕ) (rs : List Process) → filter (λ r. is_key group (key r)) rs ≡ filter t (members_in group rs)
+unfolding members_in
+members_passing t key is group [] = refl
+members_passing t key is group (r ∷ rs) = rw (is r) (grind (arith, members_passing t key is group rs))
 
 -- ---- how many there are
 

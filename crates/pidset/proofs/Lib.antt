@@ -3,6 +3,7 @@ pub mod ItemLemmas
 pub mod PairLemmas
 pub mod IndexLemmas
 pub mod AnchorLemmas
+pub mod ParentLemmas
 pub mod WalkLemmas
 mod NodeLemmas
 mod LinkLemmas

@@ -1,12 +1,12 @@
 -- Lists that grow and are read off as pairs.
-use Rattle.std.proofs.Common.{◌≡◌, ◌≢◌, ◌⊎◌, ℕ, zero, suc, ◌+◌, ◌-◌, ◌<◌, ◌≤◌, nat_lt, Bool, true, cond, not, ◌&&◌, refl, arith, List, [], ◌∷◌, ◌++◌, length, ◌==◌, replicate, take, Option, Some, None}
+use Rattle.std.proofs.Common.{◌≡◌, ◌≢◌, ◌⊎◌, ℕ, zero, suc, ◌+◌, ◌-◌, ◌<◌, ◌≤◌, nat_lt, Bool, true, cond, not, ◌&&◌, refl, ap, arith, List, [], ◌∷◌, ◌++◌, length, ◌==◌, replicate, take, Option, Some, None}
 use Rattle.std.specs.Option.{IfSome, unwrap_or}
 use Rattle.std.proofs.lemmas.Grind.{get_or_head, get_or_tail}
 use Rattle.std.proofs.lemmas.Bool.Decides.{nat_tests}
-use Rattle.std.proofs.lemmas.List.{take_all}
+use Rattle.std.proofs.lemmas.List.{get_or_past, take_all}
 use Rattle.pidset.specs.declared.index.Pair.{Pair}
 use Rattle.pidset.specs.declared.lists.Node.{Node}
-use Rattle.pidset.specs.Indexes.{IsNextPair, IsMoved, is_pair_in}
+use Rattle.pidset.specs.Indexes.{IsAt, IsNextPair, IsMoved, is_pair_in}
 use Rattle.pidset.specs.Lists.{node_of, list_of, pairs_from, AreLinked, IsFrom}
 use Rattle.pidset.proofs.NodeLemmas.{nowhere}
 use Rattle.pidset.proofs.LinkLemmas.{first_outside, kept}
@@ -44,6 +44,15 @@ next_outside ns k n pairs is l out = record { there = λ p e. grind arith; least
 
 pub moved : (old new : List Node) (p l n : ℕ) (key : Option ℕ) (was is : List Pair) → was ≡ pairs_from 0 old → is ≡ pairs_from 0 new → l ≡ unwrap_or key 0 → IfSome key (λ k. (1 ≤ k) × (k < n)) → ((i : ℕ) → list_of new i ≡ cond (i == p) l (list_of old i)) → IsMoved p key was is
 moved old new p l n key was is e f to some list k q = grind (arith, nat_tests, in_pairs new k q, in_pairs old k q, list q)
+
+-- a process stands in its list alone, or in none
+pub at_list : (ns : List Node) (p : ℕ) (key : Option ℕ) (pairs : List Pair) → pairs ≡ pairs_from 0 ns → list_of ns p ≡ unwrap_or key 0 → IfSome key (λ k. 1 ≤ k) → IsAt p key pairs
+at_list ns p key pairs is e some k = grind (arith, nat_tests, in_pairs ns k p)
+
+-- a number without a node is in none
+pub list_outside : (ns : List Node) (p : ℕ) → length ns ≤ p → list_of ns p ≡ 0
+unfolding list_of
+list_outside ns p h = ap (λ (n : Node). n.list) (get_or_past ns p nowhere h)
 
 -- ---- more numbers
 

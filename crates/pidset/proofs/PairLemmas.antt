@@ -1,5 +1,5 @@
 -- Facts on children by their parents.
-use Rattle.std.proofs.Common.{◌≡◌, ◌≢◌, ℕ, ◌+◌, ◌-◌, ◌*◌, ◌<◌, ◌≤◌, Bool, true, false, cond, not, ◌&&◌, ◌||◌, refl, ap, sym, ◌∙◌, arith, subst, List, [], ◌∷◌, length, map, filter, find, Option, Some, None, ◌==◌, nat_lt, inl, inr, ⊎_elim, slice_get}
+use Rattle.std.proofs.Common.{◌≡◌, ◌≢◌, ℕ, ◌+◌, ◌-◌, ◌<◌, ◌≤◌, Bool, true, false, cond, not, ◌&&◌, ◌||◌, refl, ap, sym, ◌∙◌, arith, subst, List, [], ◌∷◌, length, map, filter, find, Option, Some, None, ◌==◌, nat_lt, inl, inr, ⊎_elim, slice_get}
 use Rattle.std.specs.List.{AllByRecursion, list_any}
 use Rattle.std.specs.Option.{IfSome, IsSome, OnSome, option_map_or}
 use Rattle.std.proofs.lemmas.Bool.{eqb-true, eqb-false, eq-eqb, ne_eqb, ltb-true, ltb-false, cases_eq, not-true, and_parts, or_left, or_right, or_cases}
@@ -8,36 +8,43 @@ use Rattle.std.proofs.Math.Bool.{and-false, or-false, or-true}
 use Rattle.posix.specs.States.{is_in}
 use Rattle.pidset.specs.declared.index.Pair.{Pair}
 use Rattle.pidset.specs.Numbers.{Rises, with_number, inserted_in_order}
-use Rattle.pidset.specs.Indexes.{ArePairs, IsPair, IsNextPair, pair_number, is_pair, is_pair_in}
+use Rattle.pidset.specs.Indexes.{ArePairs, IsPair, IsNextPair, keyed_number, pair_number, is_pair, is_pair_in}
 use Rattle.pidset.proofs.NumberLemmas.{AllAbove, in_with, in_above, rises_with}
 use Rattle.pidset.proofs.ItemLemmas.{rises_inserted, rises_passing}
 
 -- ---- the number of a pair
 
+-- a key and a number that fit into it
+abbrev pub Fits : ℕ → ℕ → Type 0
+Fits p c = (c < 4294967296) × (p ≤ 18446744073709551615)
+
+fits : (x : Pair) → IsPair x → Fits x.key x.pid
+fits x h = (h.1, h.2)
+
 -- it tells pairs apart
-pair_is : (x : Pair) (p c : ℕ) → x.pid < 4294967296 → c < 4294967296 → is_pair p c x ≡ (pair_number x == p * 4294967296 + c)
+pair_is : (x : Pair) (p c : ℕ) → Fits x.key x.pid → Fits p c → is_pair p c x ≡ (pair_number x == keyed_number p c)
 pair_is x p c low l = elim (cases_eq x.key p) [
   | inl e ↦ elim (cases_eq x.pid c) [
-    | inl f ↦ rw (eq-eqb x.key p e, eq-eqb x.pid c f, eq-eqb (pair_number x) (p * 4294967296 + c) (omega (arith, e, f))) refl
-    | inr f ↦ rw (ne_eqb x.pid c f, ne_eqb (pair_number x) (p * 4294967296 + c) (λ k. f (omega (arith, e, k)))) (and-false (x.key == p))
+    | inl f ↦ rw (eq-eqb x.key p e, eq-eqb x.pid c f, eq-eqb (pair_number x) (keyed_number p c) (omega (arith, e, f))) refl
+    | inr f ↦ rw (ne_eqb x.pid c f, ne_eqb (pair_number x) (keyed_number p c) (λ k. f (omega (arith, e, k)))) (and-false (x.key == p))
   ]
-  | inr e ↦ rw (ne_eqb x.key p e, ne_eqb (pair_number x) (p * 4294967296 + c) (λ k. e (omega (arith, k, low, l)))) refl
+  | inr e ↦ rw (ne_eqb x.key p e, ne_eqb (pair_number x) (keyed_number p c) (λ k. e (omega (arith, k, low.0, low.1, l.0, l.1)))) refl
 ]
 
--- a child that is there is in the range of numbers
-pub child_range : (pairs : List Pair) → AllByRecursion IsPair pairs → (p c : ℕ) → is_pair_in p c pairs ≡ true → (1 ≤ c) × (c < 4294967296)
+-- a child that is there is in the range of numbers, and its parent in that of keys
+pub child_range : (pairs : List Pair) → AllByRecursion IsPair pairs → (p c : ℕ) → is_pair_in p c pairs ≡ true → (1 ≤ c) × (c < 4294967296) × (p ≤ 18446744073709551615)
 unfolding is_pair_in
 child_range [] h p c e = absurd (cc)
 child_range (x ∷ xs) h p c e = ⊎_elim
-    (λ k. let same : x.pid ≡ c = eqb-true _ _ (and_parts (x.key == p) _ k).1 in let a = h.0.0 in let b = h.0.1 in (omega (arith, same, a), omega (arith, same, b)))
+    (λ k. let both = and_parts (x.key == p) _ k in let same : x.pid ≡ c = eqb-true _ _ both.1 in let one : x.key ≡ p = eqb-true _ _ both.0 in let a = h.0.0 in let b = h.0.1 in let d = h.0.2 in (omega (arith, same, a), omega (arith, same, b), omega (arith, one, d)))
     (λ k. child_range xs h.1 p c k)
     (or_cases _ _ e)
 
 -- a child is there where its number is
-pub child_is : (pairs : List Pair) → AllByRecursion IsPair pairs → (p c : ℕ) → c < 4294967296 → is_pair_in p c pairs ≡ is_in (p * 4294967296 + c) (map pair_number pairs)
+pub child_is : (pairs : List Pair) → AllByRecursion IsPair pairs → (p c : ℕ) → Fits p c → is_pair_in p c pairs ≡ is_in (keyed_number p c) (map pair_number pairs)
 unfolding is_pair_in is_in
 child_is [] h p c l = refl
-child_is (x ∷ xs) h p c l = rw (pair_is x p c h.0.1 l, child_is xs h.1 p c l) refl
+child_is (x ∷ xs) h p c l = rw (pair_is x p c (fits x h.0) l, child_is xs h.1 p c l) refl
 
 -- ---- a child that is put in
 
@@ -86,11 +93,11 @@ child_there p q c d pairs e = elim (p == q && c == d) as (λ b. (p == q && c == 
 
 -- ---- a child that is taken out
 
-others_are : (x : Pair) (xs : List Pair) → x.pid < 4294967296 → AllByRecursion IsPair xs → filter (λ y. not (pair_number y == pair_number x)) xs ≡ filter (λ y. not (is_pair x.key x.pid y)) xs
+others_are : (x : Pair) (xs : List Pair) → Fits x.key x.pid → AllByRecursion IsPair xs → filter (λ y. not (pair_number y == pair_number x)) xs ≡ filter (λ y. not (is_pair x.key x.pid y)) xs
 others_are x [] l h = refl
-others_are x (y ∷ ys) l h = rw (pair_is y x.key x.pid h.0.1 l, others_are x ys l h.1) refl
+others_are x (y ∷ ys) l h = rw (pair_is y x.key x.pid (fits y h.0) l, others_are x ys l h.1) refl
 
-pub child_taken : (x : Pair) (pairs : List Pair) → x.pid < 4294967296 → AllByRecursion IsPair pairs → (p c : ℕ) → is_pair_in p c (filter (λ y. not (pair_number y == pair_number x)) pairs) ≡ (not (p == x.key && c == x.pid) && is_pair_in p c pairs)
+pub child_taken : (x : Pair) (pairs : List Pair) → Fits x.key x.pid → AllByRecursion IsPair pairs → (p c : ℕ) → is_pair_in p c (filter (λ y. not (pair_number y == pair_number x)) pairs) ≡ (not (p == x.key && c == x.pid) && is_pair_in p c pairs)
 unfolding is_pair_in
 child_taken x pairs l h p c =
     ap (list_any (is_pair p c)) (others_are x pairs l h)
@@ -106,16 +113,16 @@ pub pairs_taken : (n : ℕ) (pairs : List Pair) → ArePairs pairs → ArePairs 
 pairs_taken n pairs h = record { rising = rises_passing pair_number (λ m. not (m == n)) pairs h.rising; within = within_filter _ pairs h.within }
 
 -- one that is there is found
-pub child_found : (x : Pair) (pairs : List Pair) → x.pid < 4294967296 → AllByRecursion IsPair pairs → is_pair_in x.key x.pid pairs ≡ true → IsSome (find (λ y. pair_number y == pair_number x) pairs)
+pub child_found : (x : Pair) (pairs : List Pair) → Fits x.key x.pid → AllByRecursion IsPair pairs → is_pair_in x.key x.pid pairs ≡ true → IsSome (find (λ y. pair_number y == pair_number x) pairs)
 unfolding is_pair_in
 child_found x [] l h e = absurd (cc)
 child_found x (y ∷ ys) l h e = elim (pair_number y == pair_number x) as (λ b. (pair_number y == pair_number x) ≡ b → IsSome (cond b (Some y) (find (λ y. pair_number y == pair_number x) ys))) [
   | true ↦ λ t. refl
-  | false ↦ λ t. child_found x ys l h.1 (⊎_elim (λ k. let no = sym (pair_is y x.key x.pid h.0.1 l ∙ t) ∙ k in absurd (cc)) (λ k. k) (or_cases _ _ e))
+  | false ↦ λ t. child_found x ys l h.1 (⊎_elim (λ k. let no = sym (pair_is y x.key x.pid (fits y h.0) l ∙ t) ∙ k in absurd (cc)) (λ k. k) (or_cases _ _ e))
 ] refl
 
 -- one that isn't found isn't there
-pub child_absent : (x : Pair) (pairs : List Pair) → x.pid < 4294967296 → AllByRecursion IsPair pairs → find (λ y. pair_number y == pair_number x) pairs ≡ None → is_pair_in x.key x.pid pairs ≡ false
+pub child_absent : (x : Pair) (pairs : List Pair) → Fits x.key x.pid → AllByRecursion IsPair pairs → find (λ y. pair_number y == pair_number x) pairs ≡ None → is_pair_in x.key x.pid pairs ≡ false
 child_absent x pairs l h e = elim (is_pair_in x.key x.pid pairs) as (λ b. is_pair_in x.key x.pid pairs ≡ b → b ≡ false) [
   | true ↦ λ t. let k = subst IsSome e (child_found x pairs l h t) in absurd (cc)
   | false ↦ λ t. refl
@@ -128,14 +135,14 @@ pub record IsFirstAbove (k : ℕ) (pairs : List Pair) (x : Pair) : Type 0 where
   pub high : k < pair_number x
   pub range : IsPair x
   pub here : is_pair_in x.key x.pid pairs ≡ true
-  pub least : (q c : ℕ) → is_pair_in q c pairs ≡ true → k < q * 4294967296 + c → pair_number x ≤ q * 4294967296 + c
+  pub least : (q c : ℕ) → is_pair_in q c pairs ≡ true → k < keyed_number q c → pair_number x ≤ keyed_number q c
 
 is_same : (x : Pair) → is_pair x.key x.pid x ≡ true
 is_same x = rw (eq-eqb x.key x.key refl) (eq-eqb x.pid x.pid refl)
 
 -- a pair in a list above k is above k
-pair_above : (k : ℕ) (xs : List Pair) → AllByRecursion IsPair xs → AllAbove k (map pair_number xs) → (q c : ℕ) → is_pair_in q c xs ≡ true → k < q * 4294967296 + c
-pair_above k xs h a q c e = in_above k (q * 4294967296 + c) (map pair_number xs) a (sym (child_is xs h q c (child_range xs h q c e).1) ∙ e)
+pair_above : (k : ℕ) (xs : List Pair) → AllByRecursion IsPair xs → AllAbove k (map pair_number xs) → (q c : ℕ) → is_pair_in q c xs ≡ true → k < keyed_number q c
+pair_above k xs h a q c e = let r = child_range xs h q c e in in_above k (keyed_number q c) (map pair_number xs) a (sym (child_is xs h q c (r.1, r.2)) ∙ e)
 
 -- a pair in a list is the first of it, or in the rest
 first_or : {A : Type 0} (x : Pair) (xs : List Pair) (q c : ℕ) → is_pair_in q c (x ∷ xs) ≡ true → (x.key ≡ q → x.pid ≡ c → A) → (is_pair_in q c xs ≡ true → A) → A
@@ -166,7 +173,7 @@ first_above k (y ∷ ys) h x e = elim (nat_lt k (pair_number y)) as (λ b. nat_l
       record { high = i.high; range = i.range; here = in_others y ys x.key x.pid i.here; least = λ q c j l. first_or y ys q c j (λ a b. omega (arith, a, b, low, l)) (λ m. i.least q c m l) }
 ] refl e
 
-pub none_above : (k : ℕ) (pairs : List Pair) → ArePairs pairs → slice_get (filter (λ y. nat_lt k (pair_number y)) pairs) 0 ≡ None → (q c : ℕ) → is_pair_in q c pairs ≡ true → k < q * 4294967296 + c → ⊥
+pub none_above : (k : ℕ) (pairs : List Pair) → ArePairs pairs → slice_get (filter (λ y. nat_lt k (pair_number y)) pairs) 0 ≡ None → (q c : ℕ) → is_pair_in q c pairs ≡ true → k < keyed_number q c → ⊥
 unfolding Rises is_pair_in
 none_above k [] h e q c i l = absurd (cc)
 none_above k (y ∷ ys) h e q c i l = elim (nat_lt k (pair_number y)) as (λ b. nat_lt k (pair_number y) ≡ b → slice_get (cond b (y ∷ filter (λ y. nat_lt k (pair_number y)) ys) (filter (λ y. nat_lt k (pair_number y)) ys)) 0 ≡ None → ⊥) [
@@ -175,26 +182,26 @@ none_above k (y ∷ ys) h e q c i l = elim (nat_lt k (pair_number y)) as (λ b. 
 ] refl e
 
 -- so the first above n of the pairs of p is the next child of p
-pub next_is_child : (p n : ℕ) (pairs : List Pair) (x : Pair) → ArePairs pairs → IsFirstAbove (p * 4294967296 + n) pairs x → x.key ≡ p → IsNextPair p n pairs (Some x.pid)
+pub next_is_child : (p n : ℕ) (pairs : List Pair) (x : Pair) → ArePairs pairs → IsFirstAbove (keyed_number p n) pairs x → x.key ≡ p → IsNextPair p n pairs (Some x.pid)
 next_is_child p n pairs x h i mine = record {
   there = λ c e. let same : x.pid ≡ c = cc in let high = i.high in (omega (arith, high, mine, same), ap (λ q. is_pair_in q c pairs) (sym mine) ∙ ap (λ d. is_pair_in x.key d pairs) (sym same) ∙ i.here);
   least = λ c e l. let k = i.least p c e (omega (arith, l)) in (x.pid, refl, omega (arith, k, mine));
 }
 
 -- and where it is another's, or there is none, there is no next child
-pub no_next_child : (p n : ℕ) (pairs : List Pair) (x : Pair) → ArePairs pairs → IsFirstAbove (p * 4294967296 + n) pairs x → x.key ≢ p → IsNextPair p n pairs None
+pub no_next_child : (p n : ℕ) (pairs : List Pair) (x : Pair) → ArePairs pairs → IsFirstAbove (keyed_number p n) pairs x → x.key ≢ p → IsNextPair p n pairs None
 no_next_child p n pairs x h i other = record {
   there = λ c e. absurd (cc);
   least = λ c e l.
       let k = i.least p c e (omega (arith, l)) in
-      let low = (child_range pairs h.within p c e).1 in
+      let range = child_range pairs h.within p c e in
       let high = i.high in
-      let small = i.range.1 in
-      absurd (other (omega (arith, k, low, high, small)));
+      let fit = fits x i.range in
+      absurd (other (omega (arith, k, range.1, range.2, high, fit.0, fit.1)));
 }
 
-pub none_next_child : (p n : ℕ) (pairs : List Pair) → ArePairs pairs → slice_get (filter (λ y. nat_lt (p * 4294967296 + n) (pair_number y)) pairs) 0 ≡ None → IsNextPair p n pairs None
-none_next_child p n pairs h none = record { there = λ c e. absurd (cc); least = λ c e l. absurd (none_above (p * 4294967296 + n) pairs h none p c e (omega (arith, l))) }
+pub none_next_child : (p n : ℕ) (pairs : List Pair) → ArePairs pairs → slice_get (filter (λ y. nat_lt (keyed_number p n) (pair_number y)) pairs) 0 ≡ None → IsNextPair p n pairs None
+none_next_child p n pairs h none = record { there = λ c e. absurd (cc); least = λ c e l. absurd (none_above (keyed_number p n) pairs h none p c e (omega (arith, l))) }
 
 -- nobody is the next of nobody
 pub next_of_none : (p n : ℕ) (pairs : List Pair) → slice_get pairs 0 ≡ None → IsNextPair p n pairs None

@@ -1,18 +1,22 @@
 -- Indexes of processes: their numbers by a key that each has or hasn't.
-use Rattle.std.specs.Prelude.{◌≡◌, ℕ, ◌+◌, ◌*◌, ◌<◌, ◌≤◌, ◌==◌, Bool, true, false, ◌&&◌, ◌||◌, not, if◌then◌else◌, List, length, map, Option, Some, None, option_and_then}
+use Rattle.std.specs.Prelude.{◌≡◌, ℕ, ◌+◌, ◌-◌, ◌*◌, ◌<◌, ◌≤◌, ◌==◌, Bool, true, false, ◌&&◌, ◌||◌, not, if◌then◌else◌, List, length, map, Option, Some, None, option_and_then, IsSome}
 use Rattle.std.specs.List.{AllByRecursion, list_any}
+use Rattle.std.specs.Option.{option_map_or}
 use Rattle.posix.specs.Processes.{Process}
 use Rattle.posix.specs.Tables.{lookup}
 use Rattle.posix.specs.Groups.{is_anchor}
 use Rattle.pidset.specs.declared.index.Pair.{Pair}
 use Rattle.pidset.specs.Numbers.{Rises}
 
--- a number for each pair, rising by keys and then by numbers
+-- a number for each key and process: it falls with the key, so that the least key stands last, and rises with the process
+abbrev pub keyed_number : ℕ → ℕ → ℕ
+keyed_number k p = (18446744073709551615 - k) * 4294967296 + p
+
 abbrev pub pair_number : Pair → ℕ
-pair_number x = x.key * 4294967296 + x.pid
+pair_number x = keyed_number x.key x.pid
 
 abbrev pub IsPair : Pair → Type 0
-IsPair x = (1 ≤ x.pid) × (x.pid < 4294967296)
+IsPair x = (1 ≤ x.pid) × (x.pid < 4294967296) × (x.key ≤ 18446744073709551615)
 
 -- each pair once
 pub record ArePairs (pairs : List Pair) : Type 0 where
@@ -95,3 +99,17 @@ pub record IsIndexed (key : Process → Option ℕ) (rs : List Process) (set : I
   pub index : IsIndex key rs set.pairs
   pub once : ArePairs set.pairs
   pub room : length rs ≤ set.room
+
+-- ---- children
+
+-- whether q stands under k, where the children of p have these keys, and all others stand as before
+abbrev pub is_turned : ℕ → (Process → Option ℕ) → List Process → List Pair → ℕ → ℕ → Bool
+is_turned p key rs old k q = option_map_or (λ r. if r.parent == p then is_key k (key r) else is_pair_in k q old) (lookup q rs) (is_pair_in k q old)
+
+-- so they stand now
+abbrev pub AreTurned : ℕ → (Process → Option ℕ) → List Process → List Pair → List Pair → Type 0
+AreTurned p key rs old new = (k q : ℕ) → is_pair_in k q new ≡ is_turned p key rs old k q
+
+-- the parent of each of these is there
+abbrev pub HaveParents : (ℕ → Process → Type 0) → List Process → Type 0
+HaveParents has rs = (p : ℕ) (r : Process) → has p r → lookup p rs ≡ Some r → IsSome (lookup r.parent rs)

@@ -21,20 +21,21 @@ impl Numbered for Pair {
     ghost number = { pair_number };
 
     fn number(&self) -> u128 {
-        u128::from(self.key) * 4_294_967_296 + u128::from(self.pid.number())
+        u128::from(u64::MAX - self.key) * 4_294_967_296 + u128::from(self.pid.number())
     }
 }
 
 /// This process under this key.
 fn keyed(key: u64, pid: Pid) -> Pair
     ensures is { result ≡ record { key = key; pid = pid } }
-    ensures range { pid ≤ 2147483647 }
+    ensures range { (pid < 4294967296) × (key ≤ 18446744073709551615) }
 {
     Pair { key, pid }
 }
 
-/// Processes by keys, each pair of a key and a number once, by keys and then by numbers. It takes memory in
-/// [`Index::reserve`] alone.
+/// Processes by keys, each pair of a key and a number once, by falling keys and then by rising numbers. So the
+/// least key stands last, where little is moved: of alarms that is the next one that is due. It takes memory
+/// in [`Index::reserve`] alone.
 #[derive(Drop)]
 pub struct Index {
     pairs: Vec<Pair>,

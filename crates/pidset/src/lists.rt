@@ -2,7 +2,7 @@
 //! by the number.
 
 ghost use Rattle.std.specs.Prelude.{◌≡◌, ◌<◌, ◌≤◌, ℕ, [], IfSome, OnOk, length, vec_len};
-ghost use Rattle.pidset.specs.Indexes.{IsNextPair, IsMoved};
+ghost use Rattle.pidset.specs.Indexes.{IsNextPair, IsMoved, IsAt};
 ghost use Rattle.pidset.specs.Lists.{AreLinked, IsListed, IsPlaceFor, IsFrom, list_of, behind_of, before_of, with_list, with_behind, with_before, joined};
 
 use posix::Pid;
@@ -92,6 +92,18 @@ impl Lists {
             next = behind(&self.nodes, list, next);
         }
         if next == Pid::NONE { None } else { Some(next) }
+    }
+
+    /// The list in which a process stands.
+    #[inline]
+    pub fn list(&self, pid: Pid) -> Option<Pid>
+        ensures { IsAt pid result self.now.pairs }
+    {
+        if index(pid) >= self.nodes.len() {
+            return None;
+        }
+        let list = list_at(&self.nodes, pid);
+        if list == Pid::NONE { None } else { Some(list) }
     }
 
     /// Puts a process into a list, or into none, and takes it out of that in which it stood.

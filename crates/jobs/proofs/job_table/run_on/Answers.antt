@@ -1,4 +1,4 @@
-use Rattle.std.proofs.Common.{refl}
+use Rattle.std.proofs.Common.{refl, rules}
 use Rattle.jobs.proofs.job_table.run_on.Goals as goal
 
 pub returns-clause-run : goal.returns-clause-run
@@ -12,4 +12,5 @@ returns-clause-run g c = (
   },
   c.of_record-before.ensures,
   c.of_record-after.ensures,
+  search rules,
 )

@@ -1,13 +1,21 @@
-use Rattle.std.proofs.Common.{◌≡◌, ◌∙◌, ◌<◌, ap, sym, subst, length, slice_get, false, List, ℕ}
+use Rattle.std.proofs.Common.{◌≡◌, ◌∙◌, ◌<◌, ap, sym, subst, arith, length, false, List, ℕ}
 use Rattle.posix.specs.States.{State, process, without}
 use Rattle.posix.specs.Settle.{give_places, wakes}
 use Rattle.posix.specs.Tables.{IsNext}
 use Rattle.posix.specs.Regular.{IsRegular}
 use Rattle.posix.proofs.SettleLemmas.{asking_begins, asking_ends}
+use Rattle.pidset.proofs.NumberLemmas.{in_at}
 use Rattle.pidset.proofs.WalkLemmas.{none_left}
-use Rattle.kernel.proofs.RecheckedLemmas.{woken_rests, first_woken, without_first}
+use Rattle.kernel.proofs.RecheckedLemmas.{same_processes, woken_rests, first_woken, without_first}
+use Rattle.std.specs.Option.{IfSome, IsSome}
 use Rattle.life.specs.Machines.{MachineView}
+use Rattle.life.proofs.SoundLemmas.{there}
+use Rattle.kernel.specs.Counts.{slots_of_rechecking, slots_of_settling}
+use Rattle.kernel.proofs.CountLemmas.{settling_first}
 use Rattle.kernel.proofs.settle.give_places.Goals as goal
+
+pub wake-requires-clause-to_recheck : goal.wake-requires-clause-to_recheck
+wake-requires-clause-to_recheck g c = in_at c.loop-pid.machine.to_recheck c.in-Some.pid 0 (sym c.first_to_recheck.ensures.is ∙ c.in-Some.is)
 
 pub rechecked-requires : goal.rechecked-requires
 rechecked-requires g c = λ r e.
@@ -27,10 +35,21 @@ loop-pid-preserved g c =
     let pid = c.in-Some.pid in
     let same = (ap (λ (m : MachineView). m.state) c.rechecked.ensures.rest) ∙ c.wake.ensures.state in
     let first = subst (IsNext (wakes s) 0 s.processes) c.in-Some.is c.first_to_recheck.ensures.next in
+    let processes = ap (λ (t : State). t.processes) same ∙ same_processes s pid in
+    let list = (ap (λ (m : MachineView). m.to_recheck) c.rechecked.ensures.rest) ∙ ap (without pid) c.wake.ensures.to_recheck in
     record {
       places = ap give_places same ∙ first_woken s pid c.first_to_recheck.ensures.regular (subst IsRegular c.wake.ensures.state c.rechecked.ensures.costs.regular) first ∙ c.loop-pid.invariant.places;
       foregrounds_unchecked = (ap (λ (m : MachineView). m.foregrounds_unchecked) c.rechecked.ensures.rest) ∙ c.wake.ensures.foregrounds_unchecked ∙ c.loop-pid.invariant.foregrounds_unchecked;
-      none = λ e. let some = sym c.in-Some.is ∙ c.first_to_recheck.ensures.is ∙ ap (λ (ns : List ℕ). slice_get ns 0) (c.loop-pid.invariant.none e).0 in absurd (cc);
+      processes = processes ∙ c.loop-pid.invariant.processes;
+      visits =
+          let me = there (process s pid) (subst (λ o. IfSome o (λ p. IsSome (process s p))) c.in-Some.is c.first_to_recheck.ensures.next.there) in
+          let its = ap (slots_of_rechecking s.processes) me.found in
+          let left = settling_first s.processes c.loop-pid.machine.to_recheck pid (sym c.first_to_recheck.ensures.is ∙ c.in-Some.is) in
+          let now = ap (slots_of_settling c.rechecked.new.self.state.processes) list ∙ ap (λ rs. slots_of_settling rs (without pid c.loop-pid.machine.to_recheck)) processes in
+          let woke = c.wake.ensures.visits me.what me.found in
+          let one = c.rechecked.ensures.costs.visits in
+          let was = c.loop-pid.invariant.visits in
+          omega (arith, its, left, now, woke, one, was);
     }
 
 pub returns-clause-state : goal.returns-clause-state

@@ -1,6 +1,30 @@
-use Rattle.std.proofs.Common.{◌∙◌, sym}
+use Rattle.std.proofs.Common.{◌∙◌, ◌+◌, ap, sym, arith}
 use Rattle.posix.proofs.OrderLemmas.{first_in}
+use Rattle.life.specs.Machines.{MachineView}
+use Rattle.kernel.specs.Counts.{slots_of_settling}
+use Rattle.kernel.proofs.CountLemmas.{settling_taking}
 use Rattle.kernel.proofs.step.tick.Goals as goal
 
 pub go_last-requires : goal.go_last-requires
 go_last-requires g c = first_in c.in-Some.pid c.pass_time.new.self.state.order (sym c.current.ensures ∙ c.in-Some.is)
+
+-- what was read by then, and what rechecking those reads for whom a signal is chosen
+pub returns-in-Some-clause-cost : goal.returns-in-Some-clause-cost
+returns-in-Some-clause-cost g c = λ none.
+    let mid = c.pass_time.new.self in
+    let taking = c.pass_time.ensures.taking none in
+    let read = c.pass_time.ensures.costs.visits in
+    let two = settling_taking mid.state.processes mid.to_recheck taking.0 in
+    let more = ap (λ (m : MachineView). m.visits + slots_of_settling m.state.processes m.to_recheck) c.go_last.ensures in
+    record {
+      visits = omega (arith, taking.1, read, two, more);
+      foregrounds_unchecked = ap (λ (m : MachineView). m.foregrounds_unchecked) c.go_last.ensures ∙ c.pass_time.ensures.foregrounds_unchecked;
+    }
+
+pub returns-in_default-clause-cost : goal.returns-in_default-clause-cost
+returns-in_default-clause-cost g c = λ none.
+    let mid = c.pass_time.new.self in
+    let taking = c.pass_time.ensures.taking none in
+    let read = c.pass_time.ensures.costs.visits in
+    let two = settling_taking mid.state.processes mid.to_recheck taking.0 in
+    record { visits = omega (arith, taking.1, read, two); foregrounds_unchecked = c.pass_time.ensures.foregrounds_unchecked }

@@ -1,8 +1,8 @@
-use Rattle.std.proofs.Common.{◌∙◌, sym}
+use Rattle.std.proofs.Common.{◌∙◌, ap, sym, Some}
 use Rattle.pidset.proofs.IndexLemmas.{can_replace}
 use Rattle.jobs.specs.Books.{alarm_key}
 use Rattle.jobs.proofs.BookLemmas.{sees}
-use Rattle.jobs.proofs.KeptLemmas.{kept_alarmed}
+use Rattle.jobs.proofs.KeptLemmas.{kept_alarmed, record_found, seen_same}
 use Rattle.jobs.proofs.job_table.JobTable.change.Goals as goal
 
 pub replace-requires-clause-can : goal.replace-requires-clause-can
@@ -13,4 +13,9 @@ replace-requires-clause-can g c =
 pub invariant_of-self : goal.invariant_of-self
 invariant_of-self g c =
     let r = c.run_on-result.ensures.run in
-    kept_alarmed _ _ _ c.args.pid r.0.before r.0.after _ _ r.0.found r.0.is (c.requires.unseen r.0.before r.0.after _ r.0.ran) (rw r.2 at c.replace.ensures) c.self.invariant
+    kept_alarmed _ _ _ c.args.pid r.0.before r.0.after _ _ r.0.found r.0.is (seen_same r.0.before r.0.after (c.requires.signals r.0.before r.0.after _ r.0.ran)) (rw r.2 at c.replace.ensures) c.self.invariant
+
+pub returns-clause-takes : goal.returns-clause-takes
+returns-clause-takes g c =
+    let r = c.run_on-result.ensures.run in
+    rw (r.0.is, record_found _ c.args.pid r.0.before r.0.after r.0.found) (ap Some (sym r.3))

@@ -1,53 +1,34 @@
-use Rattle.std.proofs.Common.{◌≡◌, sym, ◌∙◌, arith, refl}
-use Rattle.posix.specs.Tables.{is_member, members_in, left_of}
-use Rattle.jobs.specs.Counts.{is_counted, slots_more}
-use Rattle.jobs.proofs.KeptLemmas.{size_of}
-use Rattle.jobs.proofs.ReadLemmas.{reads_on}
+use Rattle.std.proofs.Common.{arith, refl}
+use Rattle.posix.specs.Tables.{is_member, members_in}
 use Rattle.posix.proofs.TableLemmas.{rising_filter}
 use Rattle.posix.proofs.PassingLemmas.{filter_at_most}
 use Rattle.posix.proofs.WalkLemmas.{left_of_head}
-use Rattle.jobs.proofs.GroupLemmas.{next_begins, one_here, one_less, counted_here}
+use Rattle.jobs.specs.Counts.{is_counted}
+use Rattle.jobs.proofs.KeptLemmas.{size_of}
+use Rattle.jobs.proofs.GroupLemmas.{next_begins, one_here, one_less}
 use Rattle.jobs.proofs.job_table.JobTable.count.Goals as goal
-use Rattle.jobs.proofs.job_table.JobTable.count.Goals.{then-is_counted, else-is_counted}
 
 pub loop-next-init : goal.loop-next-init
 unfolding members_in
 loop-next-init g c =
-    let members = members_in c.args.group c.args.self.now.processes in
-    let e = c.first_member-next.ensures in
-    let all : left_of c.first_member-next.result members ≡ members = rw e.first (left_of_head members (rising_filter (is_member c.args.group) _ e.rising)) in
-    record { same = refl; room = refl; read = rw all (omega arith); begins = rw (all, e.first) refl; counted = rw all (omega arith) }
+    let first = c.first_counted-next.ensures in
+    rw (first.first, left_of_head _ (rising_filter (is_counted c.args.what c.args.self.now.processes) _ (rising_filter (is_member c.args.group) _ first.rising))) record { begins = refl; counted = omega arith }
 
 pub loop-next-smaller : goal.loop-next-smaller
 unfolding members_in
 loop-next-smaller g c =
-    let rs = c.args.self.now.processes in
-    let at = one_here (is_member c.args.group) c.in-Some.pid rs _ c.first_member-next.ensures.rising c.in-Some.is c.loop-next.invariant.begins in
-    let value = rw (c.is_counted.ensures.looks.processes, c.loop-next.invariant.same) at c.next_member-next.ensures in
-    let less = one_less (is_member c.args.group) c.in-Some.pid rs _ _ at c.in-Some.is value in
+    let t = is_counted c.args.what c.args.self.now.processes in
+    let ms = members_in c.args.group c.args.self.now.processes in
+    let less = one_less t c.in-Some.pid ms _ _ (one_here t c.in-Some.pid ms _ (rising_filter (is_member c.args.group) _ c.first_counted-next.ensures.rising) c.in-Some.is c.loop-next.invariant.begins) c.in-Some.is c.next_counted-next.ensures in
     omega (arith, less)
 
 pub loop-next-preserved : goal.loop-next-preserved
 unfolding members_in
 loop-next-preserved g c =
-    let rs = c.args.self.now.processes in
-    let p = c.in-Some.pid in
-    let at = one_here (is_member c.args.group) p rs _ c.first_member-next.ensures.rising c.in-Some.is c.loop-next.invariant.begins in
-    let value = rw (c.is_counted.ensures.looks.processes, c.loop-next.invariant.same) at c.next_member-next.ensures in
-    let is = rw c.loop-next.invariant.same at c.is_counted.ensures.value in
-    let here = counted_here (is_counted c.args.what rs) c.args.group p rs _ _ at c.in-Some.is value _ (sym is) in
-    record {
-      same = c.is_counted.ensures.looks.processes ∙ c.loop-next.invariant.same;
-      room = c.is_counted.ensures.looks.room ∙ c.loop-next.invariant.room;
-      read =
-          let less = one_less (is_member c.args.group) p rs _ _ at c.in-Some.is value in
-          reads_on (slots_more c.args.what) _ _ c.loop-next.self.visits c.is_counted.new.self.visits _ less (let one = c.is_counted.ensures.looks.visits in omega (arith, one)) c.loop-next.invariant.read;
-      begins = next_begins p (members_in c.args.group rs) _ value;
-      counted = elim c.if-is_counted.branch [
-        | then-is_counted w ↦ let long = rw w.if-is_counted.true at here in rw w.count-is (omega (arith, long, c.loop-next.invariant.counted))
-        | else-is_counted w ↦ let long = rw w.if-is_counted.false at here in rw w.count-is (omega (arith, long, c.loop-next.invariant.counted))
-      ];
-    }
+    let t = is_counted c.args.what c.args.self.now.processes in
+    let ms = members_in c.args.group c.args.self.now.processes in
+    let less = one_less t c.in-Some.pid ms _ _ (one_here t c.in-Some.pid ms _ (rising_filter (is_member c.args.group) _ c.first_counted-next.ensures.rising) c.in-Some.is c.loop-next.invariant.begins) c.in-Some.is c.next_counted-next.ensures in
+    record { begins = next_begins c.in-Some.pid _ _ c.next_counted-next.ensures; counted = omega (arith, less, c.loop-next.invariant.counted) }
 
 pub overflow_add-count : goal.overflow_add-count
 unfolding members_in
@@ -55,5 +36,5 @@ overflow_add-count g c =
     let rs = c.args.self.now.processes in
     let few = filter_at_most (is_counted c.args.what rs) (members_in c.args.group rs) in
     let all = filter_at_most (is_member c.args.group) rs in
-    let size = size_of rs c.first_member-next.ensures.rising c.first_member-next.ensures.numbers in
+    let size = size_of rs c.first_counted-next.ensures.rising c.first_counted-next.ensures.numbers in
     omega (arith, few, all, size, c.loop-next.invariant.counted)

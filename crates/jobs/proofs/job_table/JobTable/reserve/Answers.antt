@@ -1,5 +1,5 @@
 use Rattle.std.proofs.Common.{arith, rules}
-use Rattle.jobs.proofs.KeptLemmas.{few_there}
+use Rattle.jobs.proofs.KeptLemmas.{few_there, widen}
 use Rattle.jobs.proofs.job_table.JobTable.reserve.Goals as goal
 
 pub overflow_add-self-inside : goal.overflow_add-self-inside
@@ -15,8 +15,9 @@ invariant_of-self-2 g c =
     record {
       rising = k.rising;
       numbers = k.numbers;
-      within = λ p r e. let w = k.within p r e in let a = w.0 in let b = w.2 in (omega (arith, a, grows), w.1, omega (arith, b, grows));
+      within = widen _ _ _ grows k.within;
       limit = c.reserve-2.ensures.most_members c.self.invariant.limit;
       count = k.count;
       books = search rules;
+      anchors = record { index = rw c.reserve-2.ensures.anchors k.anchors.index; wide = c.reserve-2.ensures.wide k.anchors.wide; parents = k.anchors.parents };
     }

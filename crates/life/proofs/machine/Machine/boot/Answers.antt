@@ -36,7 +36,7 @@ invariant_of-result g c =
     rw (c.insert.ensures.processes, processes_of c.in_ok-reserve.ensures.rest, c.empty-table.ensures.processes, c.in_ok-first.ensures)
     (record {
       sound = sound_first _ _ _ _ unused (omega (arith, least, c.pidmax.ensures.value)) bore pidmax c.bear_all.ensures.kept order (omega (arith, room, all, c.pidmax-2.ensures.value));
-      listed = listed_first _ _ _ _ (first_is_boot _ _ c.bear_all.new.self c.place.new.self unused c.bear_all.ensures.last order) (c.in_ok-reserve-2.ensures.pids ∙ c.new-to_recheck.ensures) c.pidmax-3.ensures.value c.in_ok-reserve-2.ensures.room (subst (λ n. AllByRecursion (IsReaders n) c.in_ok-readers.readers.items) c.pidmax-5.ensures.value c.in_ok-readers.ensures.each) (c.in_ok-readers.ensures.many ∙ c.consoles-2.ensures.value);
+      listed = listed_first _ _ _ _ (first_is_boot _ _ c.bear_all.new.self c.place.new.self unused c.bear_all.ensures.last order) (c.in_ok-reserve-2.ensures.pids ∙ c.new-to_recheck.ensures) c.pidmax-3.ensures.value c.in_ok-reserve-2.ensures.room (subst (λ n. AllByRecursion (IsReaders n) c.in_ok-readers.readers.items) c.pidmax-5.ensures.value c.in_ok-readers.ensures.each) (c.in_ok-readers.ensures.many ∙ c.consoles-2.ensures.value) c.in_ok-readers.ensures.none;
       fresh = λ e. subst AreFresh (sym (first_is_boot c.in_ok-world.world _ c.bear_all.new.self c.place.new.self unused c.bear_all.ensures.last order)) (first_fresh c.in_ok-world.world);
       noted = record { rising = rw (c.in_ok-reserve-3.ensures.pids ∙ c.new-groups_at_risk.ensures) tt; within = λ q e. absurd (let none = ap (is_in q) (c.in_ok-reserve-3.ensures.pids ∙ c.new-groups_at_risk.ensures) in cc); room = let few = c.pidmax-4.ensures.value in let all = c.in_ok-reserve-3.ensures.room in omega (arith, few, all) };
     })

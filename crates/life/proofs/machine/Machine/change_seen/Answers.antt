@@ -1,4 +1,4 @@
-use Rattle.std.proofs.Common.{ap, sym, ◌∙◌, subst, [], ◌∷◌, refl}
+use Rattle.std.proofs.Common.{ap, sym, ◌∙◌, subst, [], ◌∷◌, refl, rules}
 use Rattle.posix.specs.States.{State}
 use Rattle.posix.specs.Tables.{lookup, parent_of}
 use Rattle.posix.proofs.TableLemmas.{pid_looked}
@@ -13,7 +13,7 @@ use Rattle.life.proofs.SoundLemmas.{here_in, found_in}
 use Rattle.life.proofs.RecheckLemmas.{has_room, room_after, pids_of, room_of}
 use Rattle.life.proofs.FunnelLemmas.{machine_shown, can_move_numbers, seen_is, parent_there, there_record}
 use Rattle.life.proofs.ViewLemmas.{state_is}
-use Rattle.jobs.specs.JobTables.{StaysGrouped}
+use Rattle.jobs.specs.JobTables.{StaysGrouped, StaysPut}
 use Rattle.life.proofs.machine.Machine.change_seen.Goals as goal
 
 pub recheck_with_parent-requires-clause-few : goal.recheck_with_parent-requires-clause-few
@@ -65,3 +65,8 @@ returns-clause-to_recheck g c = λ me found.
 
 pub change_seen-parent-requires-clause-grouped : goal.change_seen-parent-requires-clause-grouped
 change_seen-parent-requires-clause-grouped g c = subst (λ (s : State). StaysGrouped g.F.FnOnce c.args.change s.processes c.args.pid) (sym (state_is c.self.view_is)) c.requires.grouped
+
+pub returns-clause-put : goal.returns-clause-put
+returns-clause-put g c = λ h.
+    let put = c.change_seen-parent.ensures.put (subst (λ (s : State). StaysPut g.F.FnOnce c.args.change s.processes c.args.pid) (sym (state_is c.self.view_is)) h) in
+    search rules

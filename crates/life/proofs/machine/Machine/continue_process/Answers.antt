@@ -1,13 +1,13 @@
 use Rattle.std.proofs.Common.{◌∙◌, ap, rules, cond, ◌==◌}
 use Rattle.posix.specs.Statuses.{continued}
-use Rattle.posix.specs.States.{State, change}
+use Rattle.posix.specs.States.{State, change, process}
 use Rattle.posix.specs.Notices.{noticed_of_change, child_signal, resumed}
 use Rattle.posix.proofs.ChangeLemmas.{lives_resumed}
-use Rattle.jobs.proofs.RunLemmas.{run_as, parent_is, grouped_as}
-use Rattle.life.specs.Rechecks.{rechecking}
-use Rattle.life.proofs.FunnelLemmas.{stays_living, told_changed, rechecked_told}
+use Rattle.jobs.proofs.RunLemmas.{run_as, parent_is, put_as, put_grouped}
+use Rattle.life.specs.Rechecks.{rechecking_by_signals}
+use Rattle.life.proofs.FunnelLemmas.{stays_living, named_parent, told_changed, rechecked_told}
 use Rattle.life.specs.Machines.{with_processes}
-use Rattle.life.proofs.MoveLemmas.{resumed_stays}
+use Rattle.life.proofs.MoveLemmas.{resumed_put}
 use Rattle.life.proofs.machine.Machine.continue_process.Goals as goal
 
 pub change_seen-parent-requires-clause-regular : goal.change_seen-parent-requires-clause-regular
@@ -23,10 +23,10 @@ returns g c = λ me found.
     record {
       state = told_changed p parent continued resumed s _ _ me lives_resumed.pid c.change_seen-parent.ensures.costs.regular found c.change_seen-parent.ensures.parent is
           (c.tell_parent.ensures.state ∙ ap (λ w. cond (parent == 0) mid.state (change mid.state parent (noticed_of_change (child_signal p w)))) c.continued.ensures);
-      to_recheck = rechecked_told parent me s.order c.args.self.now.to_recheck _ _ (parent_is p parent s.processes me c.change_seen-parent.ensures.parent found) (c.change_seen-parent.ensures.to_recheck me found)
-          (c.tell_parent.ensures.to_recheck ∙ ap (λ (t : State). cond (parent == 0) mid.to_recheck (rechecking parent t.order mid.to_recheck)) c.change_seen-parent.ensures.rest);
-      costs = search rules;
+      to_recheck = rechecked_told parent me s.order c.args.self.now.to_recheck _ _ (process c.tell_parent.new.self.state parent) (named_parent c.tell_parent.new.self.state parent) (parent_is p parent s.processes me c.change_seen-parent.ensures.parent found) (c.change_seen-parent.ensures.to_recheck me found)
+          (c.tell_parent.ensures.to_recheck ∙ ap (λ (t : State). cond (parent == 0) mid.to_recheck (rechecking_by_signals (process c.tell_parent.new.self.state parent) t.order mid.to_recheck)) c.change_seen-parent.ensures.rest);
+      costs = let put = c.change_seen-parent.ensures.put (put_as p s.processes resumed (resumed_put s.processes p c.requires) (λ b d r k q. search rules)) in search rules;
     }
 
 pub change_seen-parent-requires-clause-grouped : goal.change_seen-parent-requires-clause-grouped
-change_seen-parent-requires-clause-grouped g c = grouped_as c.args.pid _ resumed resumed_stays (λ b d r k q. search rules)
+change_seen-parent-requires-clause-grouped g c = put_grouped _ _ (put_as c.args.pid _ resumed (resumed_put _ c.args.pid c.requires) (λ b d r k q. search rules))

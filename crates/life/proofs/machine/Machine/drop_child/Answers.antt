@@ -17,7 +17,7 @@ invariant_of-self g c =
     let born = c.reap.ensures.born in
     record {
       sound = record { regular = regular_as _ _ refl refl refl refl refl i.sound.regular; parents = i.sound.parents; counted = omega (arith, dropped, births, many, born); kept = i.sound.kept };
-      listed = listed_same _ _ _ [] i.listed (touches_none _ _ refl refl refl) (refl, refl) (λ q e. e) (λ q there e. absurd (in_none q e));
+      listed = listed_same _ _ _ [] i.listed (touches_none _ _ refl refl refl) (refl, refl, λ q u e. e) (λ q e. e) (λ q there e. absurd (in_none q e));
       noted = i.noted;
       fresh = i.fresh;
     }

@@ -1,10 +1,11 @@
-use Rattle.std.proofs.Common.{◌≡◌, refl, sym, subst, arith, true, []}
+use Rattle.std.proofs.lemmas.Bool.{ne_eqb, both_ways}
+use Rattle.std.proofs.Common.{◌∙◌, ap, ◌||◌, ◌==◌, ◌≡◌, refl, sym, subst, arith, true, []}
 use Rattle.posix.specs.States.{State, is_in}
 use Rattle.posix.proofs.OrderLemmas.{regular_last}
-use Rattle.posix.proofs.MemberLemmas.{in_none}
+use Rattle.posix.proofs.MemberLemmas.{in_none, in_last}
 use Rattle.posix.proofs.TouchLemmas.{touches_last}
 use Rattle.life.proofs.SoundLemmas.{kept_order}
-use Rattle.life.proofs.RecheckLemmas.{listed_same}
+use Rattle.life.proofs.RecheckLemmas.{listed_same, still_out}
 use Rattle.life.proofs.ViewLemmas.{state_is}
 use Rattle.life.proofs.machine.Machine.go_last.Goals as goal
 
@@ -18,7 +19,8 @@ invariant_of-self g c =
         counted = c.self.invariant.sound.counted;
         kept = kept_order _ _ _ _ _ (let r = c.go_last.ensures.room in omega (arith, r)) c.self.invariant.sound.kept;
       };
-      listed = listed_same _ _ _ [] c.self.invariant.listed (touches_last _ c.args.pid) (refl, refl) (λ q e. e) (λ q there e. absurd (in_none q e));
+      listed = listed_same _ _ _ [] c.self.invariant.listed (touches_last _ c.args.pid)
+          (refl, refl, λ q u e. in_last q c.args.pid _ ∙ ap (λ b. b || c.args.pid == q) (still_out c.args.pid q _ e) ∙ ne_eqb c.args.pid q (λ same. both_ways _ e (subst (λ n. is_in n c.self.inside.order.pids ≡ true) same h))) (λ q e. e) (λ q there e. absurd (in_none q e));
       noted = c.self.invariant.noted;
       fresh = c.self.invariant.fresh;
     }

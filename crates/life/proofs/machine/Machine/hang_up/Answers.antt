@@ -64,4 +64,4 @@ returns-clause-costs g c = λ me found.
     let foreground = c.foreground-foreground.ensures.is ∙ ap (λ (x : Console). x.foreground) (c.index.ensures ∙ get_or_from_slice_get cs console_index it.0 _ inside) in
     let processes = ap (λ (s : State). s.processes) (c.release.ensures.state it.0 (ap (λ (s : State). slice_get s.consoles console_index) looks.same.state ∙ at)) ∙ ap (λ (s : State). s.processes) looks.same.state in
     cost_more (costs_then (costs_then (looks_cost looks) c.release.ensures.costs) c.signal_group.ensures.costs)
-    (slots_hung_up c.args.self.now me console_index c.foreground-foreground.result it.0 _ _ leads looks.same.readers processes at (it.3 ∙ session) (ap (console_of me.session) all ∙ ap (λ n. console_of n c.deref.result.now) (sym session) ∙ it.2) foreground)
+    (let all = slots_hung_up c.args.self.now me console_index c.foreground-foreground.result it.0 _ leads processes at (ap (console_of me.session) all ∙ ap (λ n. console_of n c.deref.result.now) (sym session) ∙ it.2) foreground in omega (arith, all))

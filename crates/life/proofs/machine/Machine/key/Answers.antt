@@ -1,7 +1,7 @@
 use Rattle.std.proofs.Common.{ap, sym, ◌∙◌, arith, Some, None, slice_get}
 use Rattle.posix.specs.States.{State}
 use Rattle.posix.specs.Step.{signalled_from}
-use Rattle.life.proofs.ConsoleLemmas.{lent_at, not_both, key_nowhere, key_past, key_on_it, slots_of_signalled, slots_of_typed}
+use Rattle.life.proofs.ConsoleLemmas.{lent_at, not_both, key_nowhere, key_past, key_on_it, slots_of_signalled}
 use Rattle.life.proofs.ViewLemmas.{state_is, costs_then, cost_more}
 use Rattle.life.proofs.machine.Machine.key.Goals as goal
 use Rattle.life.proofs.CodeLemmas.{past_none}
@@ -64,7 +64,7 @@ returns-in-Some-signal-clause-costs g c =
     let found = ap (λ cs. slice_get cs console_index) consoles ∙ lent_at c.deref.result.now console_index it c.in-Some-get.ensures.lookup.0 c.in-Some-get.ensures.lookup.1 in
     let signal = sym c.in-Some-signal.is ∙ c.in-Some-type_byte.ensures.signal in
     cost_more (costs_then c.type_byte.ensures.costs c.signal_group.ensures.costs)
-    (slots_of_signalled c.args.self.now c.args.console console_index c.args.byte c.in-Some-signal.sig c.foreground-foreground.result it _ (omega (arith, was, from)) found signal c.foreground-foreground.ensures.is (ap (λ (s : State). s.processes) (c.type_byte.ensures.state it found)))
+    (let all = slots_of_signalled c.args.self.now c.args.console console_index c.args.byte c.in-Some-signal.sig c.foreground-foreground.result it _ (omega (arith, was, from)) found signal c.foreground-foreground.ensures.is (ap (λ (s : State). s.processes) (c.type_byte.ensures.state it found)) in omega (arith, all))
 
 pub returns-in_default-signal-clause-costs : goal.returns-in_default-signal-clause-costs
-returns-in_default-signal-clause-costs g c = let was = c.in-Some.ensures in let from = c.from.ensures in cost_more c.type_byte.ensures.costs (slots_of_typed c.args.self.now c.args.console c.in-Some.console_index c.args.byte (omega (arith, was, from)))
+returns-in_default-signal-clause-costs g c = cost_more c.type_byte.ensures.costs (omega arith)

@@ -8,13 +8,13 @@ use Rattle.life.specs.Machines.{MachineView, state_of}
 use Rattle.life.specs.Rechecks.{with_numbers}
 use Rattle.posix.proofs.RegularLemmas.{heir_other, heir_there, regular_depart}
 use Rattle.posix.proofs.TableLemmas.{pid_looked}
-use Rattle.jobs.proofs.RunLemmas.{run_as, parent_is, grouped_as}
+use Rattle.jobs.proofs.RunLemmas.{run_as, parent_is, put_as, put_grouped}
 use Rattle.life.proofs.EndLemmas.{there_after, zombie_after}
 use Rattle.life.proofs.RecheckLemmas.{has_room, room_after, listed_more, listed_departed, in_numbers}
 use Rattle.life.proofs.SoundLemmas.{there, here_in, heir_in, found_in, kept_departed, kids_made_zombie, length_departed, parents_departed, there_made_zombie}
 use Rattle.life.proofs.ViewLemmas.{state_is}
 use Rattle.posix.specs.Regular.{IsRegular}
-use Rattle.life.proofs.MoveLemmas.{zombie_stays}
+use Rattle.life.proofs.MoveLemmas.{zombie_put}
 use Rattle.life.proofs.machine.Machine.leave.Goals as goal
 
 pub insert-requires : goal.insert-requires
@@ -32,13 +32,16 @@ insert-requires-3 g c =
     let theirs = heir_there _ c.args.pid c.args.heir i.sound.regular (heir_in old c.requires.heir) in
     record { room = λ out. room_after _ _ c.insert-2.new.self (c.args.heir ∷ c.args.pid ∷ []) i.sound.regular i.listed (theirs, (here_in c.args.pid old c.requires.there, tt)) (c.insert-2.ensures.pids ∙ ap (with_number c.args.heir) c.insert.ensures.pids) (c.insert-2.ensures.room ∙ c.insert.ensures.room) }
 
-pub adopt-requires-clause-there : goal.adopt-requires-clause-there
-adopt-requires-clause-there g c =
-    let theirs = heir_there _ c.args.pid c.args.heir c.self.invariant.sound.regular (heir_in (state_is c.self.view_is) c.requires.heir) in
-    rw (run_as (made_zombie c.args.status) c.change_seen-parent.ensures.run c.self.invariant.sound.regular.rising (λ b d r k q. search rules)) (there_made_zombie c.args.pid c.args.status c.args.heir _ theirs)
-
-pub adopt-requires-clause-apart : goal.adopt-requires-clause-apart
-adopt-requires-clause-apart g c = λ same. heir_other _ c.args.pid c.args.heir c.requires.other c.requires.heir (sym same)
+pub adopt-requires : goal.adopt-requires
+adopt-requires g c =
+    let old = state_is c.self.view_is in
+    let theirs = heir_there _ c.args.pid c.args.heir c.self.invariant.sound.regular (heir_in old c.requires.heir) in
+    let made = run_as (made_zombie c.args.status) c.change_seen-parent.ensures.run c.self.invariant.sound.regular.rising (λ b d r k q. search rules) in
+    record {
+      giver = rw made (there_made_zombie c.args.pid c.args.status c.args.pid _ (here_in c.args.pid old c.requires.there));
+      there = rw made (there_made_zombie c.args.pid c.args.status c.args.heir _ theirs);
+      apart = λ same. heir_other _ c.args.pid c.args.heir c.requires.other c.requires.heir (sym same);
+    }
 
 pub invariant_of-self : goal.invariant_of-self
 unfolding with_numbers is_in
@@ -85,7 +88,7 @@ returns g c =
     let made = run_as (made_zombie c.args.status) c.change_seen-parent.ensures.run c.self.invariant.sound.regular.rising (λ b d r k q. search rules) ∙ ap (λ (s : State). changed c.args.pid (made_zombie c.args.status) s.processes) (state_is c.self.view_is) in
     let mine = kids_made_zombie c.args.pid c.args.status c.args.pid rs in
     let theirs = kids_made_zombie c.args.pid c.args.status c.args.heir rs in
-    let adopts = subst (λ ts. c.adopt.new.self.visits ≤ c.change_seen-parent.new.self.visits + (1 + 8 * length (children_in c.args.pid ts) + length (children_in c.args.heir ts))) made c.adopt.ensures.costs.visits in
+    let adopts = subst (λ ts. c.adopt.new.self.visits ≤ c.change_seen-parent.new.self.visits + (3 + 10 * length (children_in c.args.pid ts) + length (children_in c.args.heir ts))) made c.adopt.ensures.costs.visits in
     record {
       state = rw (c.adopt.ensures.processes, run_as (made_zombie c.args.status) c.change_seen-parent.ensures.run c.self.invariant.sound.regular.rising (λ b d r k q. search rules), c.drop_place.ensures.pids, ← c.self.view_is) refl;
       is = λ me e. parent_is c.args.pid c.change_seen-parent.result.parent _ me c.change_seen-parent.ensures.parent (found_in _ _ (state_is c.self.view_is) c.args.pid me e);
@@ -96,11 +99,11 @@ returns g c =
           rw (c.adopt.ensures.processes, run_as (made_zombie c.args.status) c.change_seen-parent.ensures.run c.self.invariant.sound.regular.rising (λ b d r k q. search rules)) (there_after s c.args.pid c.args.heir c.args.status me.parent (c.self.invariant.sound.parents c.args.pid me c.requires.other found));
       zombie = rw (c.adopt.ensures.processes, run_as (made_zombie c.args.status) c.change_seen-parent.ensures.run c.self.invariant.sound.regular.rising (λ b d r k q. search rules)) (zombie_after s c.args.pid c.args.heir c.args.status me.what me.found);
       costs = record {
-        visits = omega (arith, old, mine, theirs, adopts, c.change_seen-parent.ensures.costs.visits);
+        visits = omega (arith, old, mine, theirs, adopts, (c.change_seen-parent.ensures.put (put_as c.args.pid _ (made_zombie c.args.status) (λ r e. zombie_put c.args.status r) (λ b d r k q. search rules))).visits);
         groups_at_risk = ap (λ (m : MachineView). m.groups_at_risk) c.self.view_is;
         regular = subst IsRegular (state_is c.self.view_is) c.self.invariant.sound.regular;
       };
     }
 
 pub change_seen-parent-requires-clause-grouped : goal.change_seen-parent-requires-clause-grouped
-change_seen-parent-requires-clause-grouped g c = grouped_as c.args.pid _ (made_zombie c.args.status) (zombie_stays c.args.status) (λ b d r k q. search rules)
+change_seen-parent-requires-clause-grouped g c = put_grouped _ _ (put_as c.args.pid _ (made_zombie c.args.status) (λ r e. zombie_put c.args.status r) (λ b d r k q. search rules))

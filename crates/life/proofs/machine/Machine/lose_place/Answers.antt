@@ -6,7 +6,7 @@ use Rattle.life.specs.Machines.{MachineView}
 use Rattle.life.specs.Rechecks.{with_numbers}
 use Rattle.posix.proofs.TouchLemmas.{touches_lost}
 use Rattle.life.proofs.SoundLemmas.{kept_order}
-use Rattle.life.proofs.RecheckLemmas.{has_room, listed_with, loses_none}
+use Rattle.life.proofs.RecheckLemmas.{has_room, listed_with, loses_none, still_out}
 use Rattle.life.proofs.machine.Machine.lose_place.Goals as goal
 
 pub insert-requires : goal.insert-requires
@@ -23,7 +23,7 @@ invariant_of-self g c =
         counted = c.self.invariant.sound.counted;
         kept = kept_order _ _ _ _ _ (let r = c.drop_place.ensures.room in omega (arith, r)) c.self.invariant.sound.kept;
       };
-      listed = listed_with _ _ _ _ (c.args.pid ∷ []) (c.args.pid ∷ []) c.self.invariant.listed (touches_lost _ c.args.pid) (refl, refl) (λ q e. e) (here, tt) (λ q there e. e) c.insert.ensures.pids c.insert.ensures.room;
+      listed = listed_with _ _ _ _ (c.args.pid ∷ []) (c.args.pid ∷ []) c.self.invariant.listed (touches_lost _ c.args.pid) (refl, refl, λ q u e. still_out c.args.pid q _ e) (λ q e. e) (here, tt) (λ q there e. e) c.insert.ensures.pids c.insert.ensures.room;
       noted = c.self.invariant.noted;
       fresh = c.self.invariant.fresh;
     }

@@ -1,5 +1,5 @@
-use Rattle.std.proofs.Common.{rules, w64, to_z, of_z, ◌≡◌, ◌∙◌, ap, sym, Some, option_map, inr}
-use Rattle.posix.specs.Tables.{lookup}
+use Rattle.std.proofs.Common.{arith, length, rules, w64, to_z, of_z, ◌≡◌, ◌∙◌, ap, sym, Some, option_map, inr}
+use Rattle.posix.specs.Tables.{children_in, lookup}
 use Rattle.posix.specs.States.{State, change as change_of}
 use Rattle.posix.specs.GroupCalls.{named as named_by, in_group, move_to}
 use Rattle.proctable.specs.declared.snapshot.Snapshot.{Snapshot}
@@ -29,7 +29,7 @@ change_seen-requires g c =
     record {
       there = is_there _ it.what (ap (lookup c.in-Some.it.pid) c.group_to_join.ensures.looks.processes ∙ it.found);
       callable = search rules;
-      grouped = λ b d r k. inr (rw c.group_to_join.ensures.looks.processes (let is : d.group ≡ c.in_ok-group.group = search rules in rw is it.joins));
+      grouped = λ b d r here k. inr (rw c.group_to_join.ensures.looks.processes (let is : d.group ≡ c.in_ok-group.group = search rules in rw is it.joins));
       regular = stays_so c.in-Some.it.pid (in_group c.in_ok-group.group) t (λ i. rw c.group_to_join.ensures.looks.processes it.regular) (λ b d r k q. search rules);
     }
 
@@ -69,3 +69,20 @@ returns-clause-to_recheck g c = λ me r found named.
     let here = ap (lookup c.in-Some.it.pid) c.group_to_join.ensures.looks.processes ∙ it.found ∙ ap Some one in
     c.change_seen.ensures.to_recheck r here ∙ ap (λ (v : MachineView). rechecking_changed r v.state.order v.to_recheck) c.self.view_is
     ∙ ap (λ (s : State). rechecking_changed r s.order c.named-target.new.self.to_recheck) c.named-target.ensures.looks.same.state ∙ ap (rechecking_changed r c.args.self.now.state.order) c.named-target.ensures.looks.same.to_recheck
+
+pub returns-clause-costs : goal.returns-clause-costs
+returns-clause-costs g c = λ me r found named.
+    let m = c.self.inside in
+    let t = state_of m.world c.group_to_join.new.self.processes m.consoles.items m.pids m.order m.births m.ticks m.dropped m.halted in
+    let before = ap (with_processes t) c.group_to_join.ensures.looks.processes ∙ state_is c.self.view_is ∙ c.named-target.ensures.looks.same.state in
+    let word : to_z w64 (of_z w64 c.args.me.now.r1) ≡ c.args.me.now.r1 = search rules in
+    let who = snapshot_are (named_by me c.args.me.now.r1 c.args.self.now.state.processes) r c.in-Some.it (sym c.in-Some.is ∙ c.named-target.ensures.value me found ∙ ap (λ z. option_map snapshot_of (named_by me z c.args.self.now.state.processes)) word) named in
+    let kids = ap (λ (s : State). length (children_in c.in-Some.it.pid s.processes)) before ∙ ap (λ (f : Snapshot). length (children_in f.pid c.args.self.now.state.processes)) who in
+    let moved = c.change_seen.ensures.costs.visits in
+    let judged = c.group_to_join.ensures.looks.visits in
+    let old = ap (λ (v : MachineView). v.visits) c.self.view_is in
+    record {
+      visits = omega (arith, kids, moved, judged, old, c.named-target.ensures.looks.visits);
+      groups_at_risk = c.change_seen.ensures.costs.groups_at_risk ∙ ap (λ (v : MachineView). v.groups_at_risk) c.self.view_is ∙ c.named-target.ensures.looks.same.groups_at_risk;
+      regular = c.named-target.ensures.looks.regular;
+    }

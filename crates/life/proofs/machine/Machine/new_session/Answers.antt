@@ -32,4 +32,4 @@ returns-clause-leads g c = λ me found none.
     (refl, is ∙ ap (λ (s : State). change_of s c.args.pid in_session) same)
 
 pub change_seen-requires-clause-grouped : goal.change_seen-requires-clause-grouped
-change_seen-requires-clause-grouped g c = λ b d r k. inr (inl (search rules))
+change_seen-requires-clause-grouped g c = λ b d r found k. inr (inl (search rules))

@@ -1,4 +1,4 @@
-use Rattle.std.proofs.Common.{◌≡◌, ◌+◌, ◌*◌, ◌≤◌, ◌||◌, ℕ, length}
+use Rattle.std.proofs.Common.{◌≡◌, ◌+◌, ◌≤◌, ◌||◌, ℕ, length}
 use Rattle.std.specs.List.{list_any}
 use Rattle.posix.specs.States.{is_in}
 use Rattle.posix.specs.Regular.{IsRegular}
@@ -20,7 +20,7 @@ invariant-loop-next g l =
       readers : l.self.readers ≡ l.fn.self.readers;
       here : first_pid (left_of l.next kids) ≡ l.next;
       todo : (n : ℕ) → (is_in n l.self.groups_at_risk || list_any (keeps rs n) (left_of l.next kids)) ≡ loses_anchor l.fn.pid rs n;
-      read : l.self.visits + 4 * length (left_of l.next kids) ≤ l.fn.self.visits + 4 + 4 * length kids;
+      read : l.self.visits + length (left_of l.next kids) ≤ l.fn.self.visits + 1 + length kids;
     }
 
 abbrev pub decreases-loop-next : goal.decreases-loop-next

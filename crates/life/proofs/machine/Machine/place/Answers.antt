@@ -1,10 +1,12 @@
-use Rattle.std.proofs.Common.{◌≡◌, refl, sym, subst, arith, false, []}
+use Rattle.std.proofs.lemmas.Bool.{ne_eqb}
+use Rattle.std.proofs.Common.{◌≡◌, ◌∙◌, ◌||◌, ◌==◌, ap, refl, sym, subst, arith, true, false, [], ◌∷◌}
 use Rattle.posix.specs.States.{State, is_in}
 use Rattle.posix.specs.Regular.{IsPlaced}
 use Rattle.posix.proofs.OrderLemmas.{regular_placed}
 use Rattle.posix.proofs.TableLemmas.{pid_looked}
-use Rattle.posix.proofs.MemberLemmas.{in_none}
+use Rattle.posix.proofs.MemberLemmas.{in_last, in_one, apart_first}
 use Rattle.posix.proofs.TouchLemmas.{touches_placed}
+use Rattle.life.specs.Machines.{MachineView}
 use Rattle.life.proofs.SoundLemmas.{kept_order}
 use Rattle.life.proofs.RecheckLemmas.{listed_same}
 use Rattle.life.proofs.ViewLemmas.{state_is}
@@ -22,6 +24,7 @@ pub place-requires-clause-none : goal.place-requires-clause-none
 place-requires-clause-none g c = subst (λ (s : State). is_in c.args.pid s.order ≡ false) (sym (state_is c.self.view_is)) c.requires.none
 
 pub invariant_of-self : goal.invariant_of-self
+unfolding is_in
 invariant_of-self g c =
     let there = subst (λ (s : State). IsPlaced s.processes c.args.pid) (sym (state_is c.self.view_is)) c.requires.there in
     let none = subst (λ (s : State). is_in c.args.pid s.order ≡ false) (sym (state_is c.self.view_is)) c.requires.none in
@@ -32,7 +35,9 @@ invariant_of-self g c =
         counted = c.self.invariant.sound.counted;
         kept = kept_order _ _ _ _ _ (let r = c.place.ensures.room in omega (arith, r)) c.self.invariant.sound.kept;
       };
-      listed = listed_same _ _ _ [] c.self.invariant.listed (touches_placed _ c.args.pid) (refl, refl) (λ q e. e) (λ q there e. absurd (in_none q e));
+      listed = listed_same _ _ _ (c.args.pid ∷ []) c.self.invariant.listed (λ q r e u. touches_placed _ c.args.pid q r e refl)
+          (refl, refl, λ q u e. in_last q c.args.pid _ ∙ ap (λ b. b || c.args.pid == q) e ∙ ne_eqb c.args.pid q (λ same. apart_first q c.args.pid [] u (sym same))) (λ q e. e)
+          (λ q there e. subst (λ n. is_in n c.self.inside.to_recheck.pids ≡ true) (sym (in_one q c.args.pid e)) (ap (λ (m : MachineView). is_in c.args.pid m.to_recheck) c.self.view_is ∙ c.requires.to_recheck));
       noted = c.self.invariant.noted;
       fresh = c.self.invariant.fresh;
     }

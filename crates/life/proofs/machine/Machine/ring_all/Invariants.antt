@@ -1,10 +1,10 @@
-use Rattle.std.proofs.Common.{◌≡◌, ◌+◌, ◌≤◌, ℕ, true, false, Some, None, filter, length}
+use Rattle.std.proofs.Common.{◌≡◌, [], ◌+◌, ◌≤◌, ℕ, true, false, Some, None, filter, length}
 use Rattle.std.specs.Option.{IfSome, IsSome}
 use Rattle.posix.specs.Processes.{Process}
 use Rattle.posix.specs.Tables.{IsRising, lookup}
 use Rattle.posix.specs.Alarms.{has_alarms, is_due}
 use Rattle.posix.proofs.WalkLemmas.{numbers_left}
-use Rattle.life.proofs.RingLemmas.{IsRinging}
+use Rattle.life.proofs.RingLemmas.{IsRinging, IsTakingBelow}
 use Rattle.life.proofs.machine.Machine.ring_all.Given as goal
 
 -- those below the next one have rung
@@ -18,7 +18,9 @@ invariant-loop-next g l =
       due : (p : ℕ) (r : Process) → l.next ≡ Some p → lookup p now.processes ≡ Some r → is_due (first.ticks + 1) r.alarm ≡ true;
       costs : l.self.visits + length (filter (λ r. is_due (first.ticks + 1) r.alarm) now.processes) ≤ l.fn.self.visits + length (filter (λ r. is_due (first.ticks + 1) r.alarm) first.processes);
       groups_at_risk : l.self.groups_at_risk ≡ l.fn.self.groups_at_risk;
+      foregrounds_unchecked : l.self.foregrounds_unchecked ≡ l.fn.self.foregrounds_unchecked;
       rest : now ≡ record first { processes = now.processes };
+      taking : l.fn.self.to_recheck ≡ [] → IsTakingBelow l.next now.processes l.self.to_recheck × (length l.self.to_recheck + length (filter (λ r. is_due (first.ticks + 1) r.alarm) now.processes) ≤ length (filter (λ r. is_due (first.ticks + 1) r.alarm) first.processes));
       quiet : has_alarms first ≡ false → (l.next ≡ None) × (l.self ≡ l.fn.self);
     }
 

@@ -5,19 +5,17 @@ use Rattle.posix.specs.States.{State}
 use Rattle.posix.specs.Regular.{IsAhead}
 use Rattle.posix.specs.Alarms.{with_alarm, due_in, ticks_left}
 use Rattle.posix.proofs.RegularLemmas.{keeps_with_alarm, due_ahead}
-use Rattle.posix.proofs.TouchLemmas.{unseen_with_alarm}
-use Rattle.jobs.proofs.RunLemmas.{run_as, unseen_as}
+use Rattle.life.proofs.SignalLemmas.{only_alarm}
+use Rattle.jobs.proofs.RunLemmas.{run_as, signals_as}
 use Rattle.life.proofs.FunnelLemmas.{stays_regular, has_run}
 use Rattle.life.proofs.SoundLemmas.{is_there}
 use Rattle.life.specs.Machines.{with_processes}
 use Rattle.life.proofs.ViewLemmas.{state_is}
 use Rattle.life.proofs.machine.Machine.set_alarm.Goals as goal
 
-pub change-before-requires-clause-unseen : goal.change-before-requires-clause-unseen
-change-before-requires-clause-unseen g c =
-    let due = c.due_in-due.ensures ∙ ap (λ (s : State). due_in s.ticks c.args.ticks) (state_is c.self.view_is) in
-    let k = keeps_with_alarm c.due_in-due.result (subst (IsAhead c.args.self.now.state.ticks) (sym due) (due_ahead c.args.self.now.state.ticks c.args.ticks c.requires.few)) in
-    unseen_as c.args.pid (with_alarm c.due_in-due.result) (unseen_with_alarm c.due_in-due.result) k.session (λ b d r k q. search rules)
+pub change-before-requires-clause-signals : goal.change-before-requires-clause-signals
+change-before-requires-clause-signals g c =
+    signals_as c.args.pid (with_alarm c.due_in-due.result) (only_alarm c.due_in-due.result) (λ b d r k q. search rules)
 
 pub change-before-requires-clause-regular : goal.change-before-requires-clause-regular
 change-before-requires-clause-regular g c =

@@ -1,4 +1,4 @@
-use Rattle.std.proofs.Common.{◌≡◌, ap, sym, ◌∙◌, arith, subst, refl, Some, slice_get, inl}
+use Rattle.std.proofs.Common.{◌≡◌, ap, sym, ◌∙◌, subst, refl, Some, slice_get, inl}
 use Rattle.std.proofs.lemmas.Option.{get_or_from_slice_get}
 use Rattle.posix.specs.Consoles.{console_of, changed_console, with_foreground}
 use Rattle.posix.specs.States.{State}
@@ -6,7 +6,6 @@ use Rattle.life.specs.Consoles.{AreReaders}
 use Rattle.life.specs.Machines.{MachineView}
 use Rattle.life.proofs.ConsoleLemmas.{machine_put, put_rechecked, put_changed, none_changed}
 use Rattle.life.proofs.ViewLemmas.{state_is}
-use Rattle.life.proofs.ReaderLemmas.{of_session}
 use Rattle.life.proofs.machine.Machine.set_foreground.Goals as goal
 
 pub invariant_of-self : goal.invariant_of-self
@@ -43,17 +42,3 @@ pub returns-in_default-clause-state : goal.returns-in_default-clause-state
 returns-in_default-clause-state g c =
     let same = ap (λ (s : State). s.consoles) (sym (state_is c.self.view_is)) ∙ sym c.deref.ensures.value in
     none_changed _ c.args.session (with_foreground c.args.group) (ap (console_of c.args.session) same ∙ c.in_default.ensures)
-
-pub returns-in-Some-clause-costs : goal.returns-in-Some-clause-costs
-returns-in-Some-clause-costs g c =
-    let o = c.self-in-Some in
-    let it = c.in-Some.ensures in
-    let k = c.in-Some.console_index in
-    let first = c.deref.ensures.value ∙ ap (λ (s : State). s.consoles) (state_is c.self.view_is) in
-    let few = of_session c.args.session k it.0 c.args.self.now.state.consoles c.args.self.now.readers (ap (λ cs. slice_get cs k) (sym first) ∙ it.1) it.3 in
-    let costs = c.recheck_readers.ensures.costs in
-    record {
-      visits = let same = ap (λ (m : MachineView). m.visits) o.view_is in let read = costs.visits in omega (arith, few, same, read);
-      groups_at_risk = ap (λ (m : MachineView). m.groups_at_risk) o.view_is ∙ costs.groups_at_risk;
-      regular = costs.regular;
-    }

@@ -3,16 +3,16 @@ use Rattle.posix.specs.declared.process.Effect.{Effect}
 use Rattle.posix.specs.Processes.{Process}
 use Rattle.posix.specs.Generation.{signalled, effect_of}
 use Rattle.posix.proofs.RegularLemmas.{keeps_signalled}
-use Rattle.posix.proofs.TouchLemmas.{unseen_signalled}
+use Rattle.life.proofs.SignalLemmas.{only_signalled}
 use Rattle.posix.proofs.ChangeLemmas.{lookup_signalled, life_signalled, stopped_living, continued_stopped}
-use Rattle.jobs.proofs.RunLemmas.{unseen_as}
+use Rattle.jobs.proofs.RunLemmas.{signals_as}
 use Rattle.life.proofs.FunnelLemmas.{stays_regular, has_run, signal_ends, signal_continues}
 use Rattle.posix.specs.declared.process.PendingSignal.{PendingSignal}
 use Rattle.life.specs.Machines.{with_processes}
 use Rattle.life.proofs.machine.Machine.signal.Goals as goal
 
-pub change-requires-clause-unseen : goal.change-requires-clause-unseen
-change-requires-clause-unseen g c = unseen_as c.args.pid (signalled c.args.signal) (unseen_signalled c.args.signal) (keeps_signalled {now = 0} c.args.signal).session (λ b d r k q. search rules)
+pub change-requires-clause-signals : goal.change-requires-clause-signals
+change-requires-clause-signals g c = signals_as c.args.pid (signalled c.args.signal) (only_signalled c.args.signal) (λ b d r k q. search rules)
 
 pub change-requires-clause-regular : goal.change-requires-clause-regular
 change-requires-clause-regular g c = stays_regular c.args.pid (signalled c.args.signal) c.args.self.now.state (keeps_signalled c.args.signal) (λ b d r k q. search rules)

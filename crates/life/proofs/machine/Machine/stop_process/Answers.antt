@@ -8,11 +8,11 @@ use Rattle.posix.specs.Notices.{noticed_of_change, child_signal, told_of_change,
 use Rattle.posix.proofs.TableLemmas.{pid_looked}
 use Rattle.posix.proofs.ChangeLemmas.{lives_stopped}
 use Rattle.pidset.specs.Numbers.{with_number}
-use Rattle.jobs.proofs.RunLemmas.{run_as, parent_is, grouped_as}
-use Rattle.life.specs.Rechecks.{rechecking, rechecking_changed, with_parent}
-use Rattle.life.proofs.FunnelLemmas.{stays_living, told_changed, rechecked_told, with_lost}
+use Rattle.jobs.proofs.RunLemmas.{run_as, parent_is, put_as, put_grouped}
+use Rattle.life.specs.Rechecks.{rechecking_by_signals, rechecking_changed, with_parent}
+use Rattle.life.proofs.FunnelLemmas.{stays_living, named_parent, told_changed, rechecked_told, with_lost}
 use Rattle.life.specs.Machines.{MachineView, with_processes}
-use Rattle.life.proofs.MoveLemmas.{stopped_stays}
+use Rattle.life.proofs.MoveLemmas.{stopped_put}
 use Rattle.life.proofs.machine.Machine.stop_process.Goals as goal
 
 pub change_seen-parent-requires-clause-regular : goal.change_seen-parent-requires-clause-regular
@@ -41,15 +41,15 @@ returns g c = λ me found.
           ∙ ap (λ (t : State). record t { processes = told_of_change (stopped n) me (changed p (stopped_by n) t.processes) }) lost
           ∙ ap (λ q. record (lose_place s q) { processes = told_of_change (stopped n) me (changed q (stopped_by n) s.processes) }) (sym named);
       to_recheck =
-          rechecked_told parent me left.order ns _ _ (parent_is p parent left.processes me c.change_seen-parent.ensures.parent here) put
-          (c.tell_parent.ensures.to_recheck ∙ ap (λ (t : State). cond (parent == 0) mid.to_recheck (rechecking parent t.order mid.to_recheck)) c.change_seen-parent.ensures.rest)
+          rechecked_told parent me left.order ns _ _ (process c.tell_parent.new.self.state parent) (named_parent c.tell_parent.new.self.state parent) (parent_is p parent left.processes me c.change_seen-parent.ensures.parent here) put
+          (c.tell_parent.ensures.to_recheck ∙ ap (λ (t : State). cond (parent == 0) mid.to_recheck (rechecking_by_signals (process c.tell_parent.new.self.state parent) t.order mid.to_recheck)) c.change_seen-parent.ensures.rest)
           ∙ ap (λ (t : State). rechecking_changed me t.order ns) lost;
       costs = record {
-        visits = let lost = ap (λ (m : MachineView). m.visits) c.lose_place.ensures.is in omega (arith, lost, c.change_seen-parent.ensures.costs.visits, c.tell_parent.ensures.costs.visits);
+        visits = let lost = ap (λ (m : MachineView). m.visits) c.lose_place.ensures.is in omega (arith, lost, (c.change_seen-parent.ensures.put (put_as p _ (stopped_by n) (stopped_put n left.processes p (subst (λ (m : MachineView). IsPlaced m.state.processes p) (sym c.lose_place.ensures.is) c.requires)) (λ b d r k q. search rules))).visits, c.tell_parent.ensures.costs.visits);
         groups_at_risk = c.tell_parent.ensures.costs.groups_at_risk ∙ c.change_seen-parent.ensures.costs.groups_at_risk ∙ ap (λ (m : MachineView). m.groups_at_risk) c.lose_place.ensures.is;
         regular = c.lose_place.ensures.regular;
       };
     }
 
 pub change_seen-parent-requires-clause-grouped : goal.change_seen-parent-requires-clause-grouped
-change_seen-parent-requires-clause-grouped g c = grouped_as c.args.pid _ (stopped_by c.args.sig) (stopped_stays c.args.sig) (λ b d r k q. search rules)
+change_seen-parent-requires-clause-grouped g c = put_grouped _ _ (put_as c.args.pid _ (stopped_by c.args.sig) (stopped_put c.args.sig _ c.args.pid (subst (λ (m : MachineView). IsPlaced m.state.processes c.args.pid) (sym c.lose_place.ensures.is) c.requires)) (λ b d r k q. search rules))

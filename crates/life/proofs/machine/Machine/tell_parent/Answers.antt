@@ -3,17 +3,18 @@ use Rattle.std.proofs.lemmas.Bool.{ne_eqb}
 use Rattle.posix.specs.declared.process.PendingSignal.{PendingSignal}
 use Rattle.posix.specs.Notices.{noticed_of_change}
 use Rattle.posix.specs.States.{change}
-use Rattle.posix.proofs.ChangeLemmas.{keeps_noticed_of_change, unseen_noticed_of_change}
+use Rattle.posix.proofs.ChangeLemmas.{keeps_noticed_of_change}
+use Rattle.life.proofs.SignalLemmas.{only_noticed_of_change}
 use Rattle.jobs.proofs.SnapshotLemmas.{differs}
-use Rattle.jobs.proofs.RunLemmas.{run_as, unseen_as}
+use Rattle.jobs.proofs.RunLemmas.{run_as, signals_as}
 use Rattle.life.proofs.FunnelLemmas.{stays_regular}
 use Rattle.life.specs.Machines.{with_processes}
 use Rattle.life.proofs.machine.Machine.tell_parent.Goals as goal
 
-pub change-requires-clause-unseen : goal.change-requires-clause-unseen
-change-requires-clause-unseen g c =
+pub change-requires-clause-signals : goal.change-requires-clause-signals
+change-requires-clause-signals g c =
     let signal = c.child_signal-signal.result in
-    unseen_as c.args.parent (noticed_of_change signal) (unseen_noticed_of_change signal) (keeps_noticed_of_change {now = 0} signal).session (λ b d r k q. search rules)
+    signals_as c.args.parent (noticed_of_change signal) (only_noticed_of_change signal) (λ b d r k q. search rules)
 
 pub change-requires-clause-regular : goal.change-requires-clause-regular
 change-requires-clause-regular g c =

@@ -1,6 +1,6 @@
-use Rattle.std.proofs.Common.{◌≡◌, ◌+◌, ◌*◌, sym, ◌∙◌, ap, subst, filter, slice_get, nat_lt, Some, None}
+use Rattle.std.proofs.Common.{◌≡◌, sym, ◌∙◌, ap, subst, filter, slice_get, nat_lt, Some, None}
 use Rattle.std.specs.Option.{option_copied}
-use Rattle.pidset.specs.Indexes.{IsNextPair, IndexView, pair_number}
+use Rattle.pidset.specs.Indexes.{IsNextPair, IndexView, keyed_number, pair_number}
 use Rattle.pidset.proofs.PairLemmas.{first_above, next_is_child, no_next_child, none_next_child, next_of_none}
 use Rattle.pidset.proofs.index.Index.next.Goals as goal
 use Rattle.pidset.proofs.index.Index.next.Goals.{in_default-via-in-Some+else-pair-key, in_default-via-in_default}
@@ -15,7 +15,7 @@ returns-in_err-first-clause-next c =
 pub returns-in-Some-clause-next : goal.returns-in-Some-clause-next
 returns-in-Some-clause-next c =
     let pairs = c.self.inside.pairs.items in
-    let k = c.args.key * 4294967296 + c.args.after in
+    let k = keyed_number c.args.key c.args.after in
     let first : slice_get (filter (λ y. nat_lt k (pair_number y)) pairs) 0 ≡ Some c.in-Some.pair.now =
     sym (c.next_above.ensures ∙ ap (λ xs. slice_get (filter (λ y. nat_lt (pair_number c.keyed-from.result) (pair_number y)) xs) 0) c.deref-2.ensures.value ∙ ap (λ x. slice_get (filter (λ y. nat_lt (pair_number x) (pair_number y)) pairs) 0) c.keyed-from.ensures.is) ∙ ap option_copied c.in-Some.is in
     subst (λ (s : IndexView). IsNextPair c.args.key c.args.after s.pairs (Some c.in-Some.pair.now.pid)) c.self.view_is
@@ -24,7 +24,7 @@ returns-in-Some-clause-next c =
 pub returns-in_default-clause-next : goal.returns-in_default-clause-next
 returns-in_default-clause-next c =
     let pairs = c.self.inside.pairs.items in
-    let k = c.args.key * 4294967296 + c.args.after in
+    let k = keyed_number c.args.key c.args.after in
     let first : option_copied c.next_above.result ≡ slice_get (filter (λ y. nat_lt k (pair_number y)) pairs) 0 =
     c.next_above.ensures ∙ ap (λ xs. slice_get (filter (λ y. nat_lt (pair_number c.keyed-from.result) (pair_number y)) xs) 0) c.deref-2.ensures.value ∙ ap (λ x. slice_get (filter (λ y. nat_lt (pair_number x) (pair_number y)) pairs) 0) c.keyed-from.ensures.is in
     subst (λ (s : IndexView). IsNextPair c.args.key c.args.after s.pairs None) c.self.view_is (elim c.in_default.branch [

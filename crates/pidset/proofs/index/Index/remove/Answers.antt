@@ -16,14 +16,14 @@ returns-clause-pairs c = λ p d.
     let items = c.self.inside.pairs.items in
     let gone : Pair = record { key = c.args.key; pid = c.args.pid } in
     ap (is_pair_in p d) (c.take_out-pair.ensures.items ∙ ap (λ x. filter (λ y. not (pair_number y == pair_number x)) items) c.keyed-pair.ensures.is)
-    ∙ child_taken gone items (omega (arith, c.keyed-pair.ensures.range)) c.self.invariant.within p d
+    ∙ child_taken gone items c.keyed-pair.ensures.range c.self.invariant.within p d
     ∙ ap (λ (s : IndexView). not (p == c.args.key && d == c.args.pid) && is_pair_in p d s.pairs) c.self.view_is
 
 pub returns-clause-left : goal.returns-clause-left
 returns-clause-left c = λ e.
     let items = c.self.inside.pairs.items in
     let gone : Pair = record { key = c.args.key; pid = c.args.pid } in
-    let some = child_found gone items (omega (arith, c.keyed-pair.ensures.range)) c.self.invariant.within (ap (λ (s : IndexView). is_pair_in c.args.key c.args.pid s.pairs) c.self.view_is ∙ e) in
+    let some = child_found gone items c.keyed-pair.ensures.range c.self.invariant.within (ap (λ (s : IndexView). is_pair_in c.args.key c.args.pid s.pairs) c.self.view_is ∙ e) in
     let is = c.take_out-pair.ensures.value ∙ ap (λ x. find (λ y. pair_number y == pair_number x) items) c.keyed-pair.ensures.is in
     let less = on_some c.take_out-pair.result (subst IsSome (sym is) some) c.take_out-pair.ensures.one_less in
     omega (arith, less, c.take_out-pair.ensures.capacity, c.self.inside.pairs.ok.0, c.take_out-pair.new.items.ok.0)

@@ -1,0 +1,12 @@
+use Rattle.std.proofs.Common.{sym, subst}
+use Rattle.std.specs.Option.{IfSome}
+use Rattle.posix.specs.declared.event.Event.{Event}
+use Rattle.kernel.specs.Counts.{ReadsAtMost, slots_of_event}
+use Rattle.kernel.proofs.CountLemmas.{step_reads}
+use Rattle.kernel.proofs.step.happen.Goals as goal
+
+pub returns-in-Step-clause-cost : goal.returns-in-Step-clause-cost
+returns-in-Step-clause-cost g c = λ none.
+    let old = c.args.machine.now in
+    let new = c.step.new.machine in
+    subst (λ (e : Event). IfSome (slots_of_event e old.state) (λ n. ReadsAtMost n old new)) (sym c.in-Step.is) (step_reads old new _ none c.step.ensures.cost)

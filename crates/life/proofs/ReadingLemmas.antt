@@ -1,0 +1,86 @@
+-- How many wait to read from a console: no more than are in its foreground process group.
+use Rattle.std.proofs.Common.{◌≡◌, ℕ, ◌≤◌, ◌==◌, true, false, cond, not, ◌&&◌, refl, ap, sym, ◌∙◌, arith, List, [], ◌∷◌, length, Some, slice_get, Result, Ok, Err}
+use Rattle.std.proofs.lemmas.Bool.{eq-eqb, ne_eqb, and_parts, not-true, not-false, false_from_ne_true, true_from_ne_false, both_ways}
+use Rattle.std.proofs.lemmas.Option.{same_Some}
+use Rattle.posix.specs.declared.errno.Errno.{Errno}
+use Rattle.posix.specs.declared.span.Span.{Span}
+use Rattle.posix.specs.Processes.{Process, argument}
+use Rattle.posix.specs.Tables.{lookup, is_member, members_in}
+use Rattle.posix.specs.States.{State, is_in, without}
+use Rattle.posix.specs.Consoles.{Console}
+use Rattle.posix.specs.Transfers.{span_in}
+use Rattle.posix.specs.Terminals.{waits_in, waits_on, waits_to_read}
+use Rattle.posix.specs.Regular.{IsRegular, IsDistinct}
+use Rattle.posix.specs.Settle.{NoWakeIsLost}
+use Rattle.posix.proofs.MemberLemmas.{in_first, is_other}
+use Rattle.posix.proofs.OrderLemmas.{without_absent, one_less_at_most}
+use Rattle.posix.proofs.ConsoleLemmas.{console_is}
+use Rattle.pidset.specs.Numbers.{PidSetView, Rises}
+use Rattle.pidset.proofs.NumberLemmas.{not_in_above, rises_without}
+use Rattle.life.specs.Machines.{IsWatched, readers_at}
+use Rattle.life.proofs.ReaderLemmas.{watched_rises}
+use Rattle.life.proofs.ConsoleLemmas.{reader_is, reads_on}
+
+-- ---- members of a process group
+
+-- p is the number of a member
+pub record IsMember (group : ℕ) (rs : List Process) (p : ℕ) : Type 0 where
+  pub what : Process
+  pub found : lookup p rs ≡ Some what
+  pub member : is_member group what ≡ true
+
+rises_distinct : (ns : List ℕ) → Rises ns → IsDistinct ns
+unfolding Rises IsDistinct
+rises_distinct [] up = tt
+rises_distinct (n ∷ ns) up = (not_in_above n n ns (omega arith) up.0, rises_distinct ns up.1)
+
+-- a rising list of numbers of members is no longer than the list of members
+pub few_members : (group : ℕ) (rs : List Process) (ns : List ℕ) → Rises ns → ((q : ℕ) → is_in q ns ≡ true → IsMember group rs q) → length ns ≤ length (members_in group rs)
+unfolding lookup members_in
+few_members group [] [] up h = omega arith
+few_members group [] (n ∷ ns) up h = absurd (let nobody = (h n (in_first n ns)).found in cc)
+few_members group (r ∷ rs) ns up h =
+    let rest = few_members group rs (without r.pid ns) (rises_without r.pid ns up) behind in
+    elim (is_member group r) as (λ b. is_member group r ≡ b → length ns ≤ length (cond b (r ∷ members_in group rs) (members_in group rs))) [
+      | true ↦ λ e. let l = one_less_at_most r.pid ns (rises_distinct ns up) in omega (arith, rest, l)
+      | false ↦ λ e. let l = ap length (without_absent r.pid ns (false_from_ne_true _ (λ on. both_ways _ e (first on)))) in omega (arith, rest, l)
+    ] refl
+  where
+    behind : (q : ℕ) → is_in q (without r.pid ns) ≡ true → IsMember group rs q
+    behind q e =
+        let k = is_other r.pid q ns e in
+        let it = h q k.among in
+        record { what = it.what; found = ap (λ b. cond b (Some r) (lookup q rs)) (sym (ne_eqb r.pid q (λ same. k.apart (sym same)))) ∙ it.found; member = it.member }
+
+    first : is_in r.pid ns ≡ true → is_member group r ≡ true
+    first on =
+        let it = h r.pid on in
+        ap (is_member group) (same_Some _ _ (ap (λ b. cond b (Some r) (lookup r.pid rs)) (sym (eq-eqb r.pid r.pid refl)) ∙ it.found)) ∙ it.member
+
+-- ---- readers
+
+-- who waits for a line is in the foreground
+in_foreground : (me : Process) (c : Console) (span : Result Span Errno) → waits_in me c span ≡ true → (me.group == c.foreground) ≡ true
+in_foreground me c (Err why) w = absurd (cc)
+in_foreground me c (Ok span) w = not-false _ (not-true _ (and_parts (not (not (me.group == c.foreground))) (not (span.count == 0) && length c.lines == 0) w).0)
+
+-- Where each process that can act has a place, who is known by a console and needn't be rechecked is a member of the
+-- console's foreground process group: a read in the background doesn't block.
+pub reader_member : {readers : List PidSetView} (s : State) (to_recheck : List ℕ) (k p : ℕ) (c : Console) → IsRegular s → IsWatched s to_recheck readers → NoWakeIsLost s → slice_get s.consoles k ≡ Some c
+    → is_in p (readers_at k readers) ≡ true → is_in p to_recheck ≡ false → IsMember c.foreground s.processes p
+unfolding waits_to_read
+reader_member s to_recheck k p c i h awake at on off =
+    let w = h.waits k p on off in
+    let it = reader_is w.console.session w.reader w.reads in
+    let some = (i.bounded p w.reader w.found).session_least in
+    let own = console_is s.world.consoles s.consoles k w.reader.session w.console i.consoles w.at (sym it.own) (λ none. omega (arith, none, some)) in
+    let waits : waits_to_read s.consoles w.reader ≡ true = true_from_ne_false _ (λ e. both_ways _ w.out (awake p w.reader w.found (reads_on s w.reader it.runs it.visits e))) in
+    let here = in_foreground w.reader w.console (span_in (argument w.reader 1) (argument w.reader 2)) (ap (waits_on w.reader) (sym own) ∙ waits) in
+    record { what = w.reader; found = w.found; member = ap (λ (c : Console). w.reader.group == c.foreground) (same_Some _ _ (sym at ∙ w.at)) ∙ here }
+
+-- so where nobody is to be rechecked no more are known than are members
+pub few_readers : {readers : List PidSetView} (s : State) (to_recheck : List ℕ) (k : ℕ) (c : Console) → IsRegular s → IsWatched s to_recheck readers → NoWakeIsLost s → to_recheck ≡ [] → slice_get s.consoles k ≡ Some c
+    → length (readers_at k readers) ≤ length (members_in c.foreground s.processes)
+unfolding is_in
+few_readers {readers = readers} s to_recheck k c i h awake none at =
+    few_members c.foreground s.processes (readers_at k readers) (watched_rises s to_recheck k h) (λ q on. reader_member s to_recheck k q c i h awake at on (ap (is_in q) none))
