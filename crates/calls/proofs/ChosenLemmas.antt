@@ -123,10 +123,6 @@ stopped_acts s r stops =
       | false ↦ λ e. sym (ap (λ l. is_some (cond (is_running l) (least_ready r.signals) None)) stops)
     ] refl
 
--- it goes on the same in the same state
-pub same_awake : (s t : State) (r : Process) → s ≡ t → (can_go_on s r r.blocked || is_some (chosen r.life r.signals)) ≡ (can_go_on t r r.blocked || is_some (chosen r.life r.signals))
-same_awake s t r e = ap (λ x. can_go_on x r r.blocked || is_some (chosen r.life r.signals)) e
-
 -- ---- what a process does, by what was found of it
 
 -- a test of what is chosen

@@ -8,3 +8,4 @@ pub mod ReplyLemmas
 pub mod GroupCallLemmas
 pub mod TerminalCallLemmas
 pub mod TransferLemmas
+pub mod BriefLemmas

@@ -1,16 +1,25 @@
 -- What the functions of calls come to.
-use Rattle.std.specs.Prelude.{◌≡◌, ◌&&◌, not, ℕ, ◌+◌, ◌≤◌, Bool, true, false, List, [], ◌∷◌, ◌++◌, Some, ℤ, pos, Result, Ok, Err}
+use Rattle.std.specs.Prelude.{◌≡◌, ◌≢◌, ◌==◌, ◌&&◌, not, ⊤, ℕ, ◌+◌, ◌*◌, ◌≤◌, if◌then◌else◌, length, Option, None, Bool, true, false, List, [], ◌∷◌, ◌++◌, Some, ℤ, pos, Result, Ok, Err}
 use Rattle.posix.specs.declared.call.Call.{Call}
 use Rattle.posix.specs.declared.call.Call.TheVariants.{Exit, Fork, Waitpid, Pause, SchedYield, Getppid, Kill, Sigsuspend, Sigreturn, Alarm, Exec, Getpgid, Getsid, Setpgid, Setsid, Setctty, Tcgetpgrp, Tcsetpgrp, Settostop, Read, Write}
 use Rattle.posix.specs.declared.entry.Entry.{Entry}
 use Rattle.posix.specs.declared.entry.Entry.TheVariants.{Called}
 use Rattle.posix.specs.declared.errno.Errno.{Errno}
+use Rattle.posix.specs.declared.target.Target.{Target}
+use Rattle.posix.specs.declared.target.Target.TheVariants as whom
+use Rattle.posix.specs.SignalNumbers.{CONT}
+use Rattle.posix.specs.Targets.{target_in}
+use Rattle.posix.specs.Tables.{children_in}
+use Rattle.posix.specs.Sends.{signal_or_none}
+use Rattle.life.specs.declared.consoles.Unchecked.{Unchecked}
+use Rattle.life.specs.declared.consoles.Unchecked.TheVariants.{Nothing, Group, All}
+use Rattle.life.specs.Rechecks.{AreBrief}
 use Rattle.posix.specs.declared.process.Handler.{Handler}
 use Rattle.posix.specs.declared.process.Handler.TheVariants as handler
 use Rattle.posix.specs.SignalSets.{has}
 use Rattle.posix.specs.Generation.{action}
 use Rattle.posix.specs.Handlers.{is_full}
-use Rattle.posix.specs.Processes.{Process}
+use Rattle.posix.specs.Processes.{Process, argument}
 use Rattle.posix.specs.States.{State, process, has_place}
 use Rattle.posix.specs.Regular.{IsPlaced}
 use Rattle.posix.specs.Outcomes as outcome
@@ -27,6 +36,52 @@ pub record CostsAtMost (most : ℕ) (old new : MachineView) : Type 0 where
   pub visits : new.visits ≤ old.visits + most
   pub to_recheck : new.to_recheck ≡ old.to_recheck
   pub foregrounds_unchecked : new.foregrounds_unchecked ≡ old.foregrounds_unchecked
+
+-- Nothing is left to settle, and p has a place.
+pub record IsQuiet (p : ℕ) (m : MachineView) : Type 0 where
+  pub none : m.to_recheck ≡ []
+  pub checked : m.foregrounds_unchecked ≡ Nothing
+  pub place : has_place m.state p ≡ true
+
+-- no foreground process group is unchecked, or that of one number
+abbrev pub AreFew : Unchecked → Type 0
+AreFew Nothing = ⊤
+AreFew (Group g) = g ≢ 0
+AreFew All = ⊥
+
+-- At most so many slots were read. At most one process is to be rechecked, without a look at a child, and the foreground
+-- process groups of one number at most are unchecked.
+pub record IsBrief (most : ℕ) (old new : MachineView) : Type 0 where
+  pub visits : new.visits ≤ old.visits + most
+  pub brief : AreBrief new.state.processes new.to_recheck
+  pub few : length new.to_recheck ≤ 1
+  pub unchecked : AreFew new.foregrounds_unchecked
+  pub consoles : new.state.consoles ≡ old.state.consoles
+
+-- one process is meant by its number
+abbrev pub is_one : Target → Bool
+is_one (whom.Process p) = true
+is_one whom.OwnGroup = false
+is_one (whom.Group p) = false
+is_one whom.All = false
+is_one whom.Nobody = false
+
+-- CONT is named
+abbrev pub is_cont : Result (Option ℕ) Errno → Bool
+is_cont (Ok None) = false
+is_cont (Ok (Some n)) = n == CONT
+is_cont (Err why) = false
+
+-- whether a kill means one process by its number, and sends no CONT
+abbrev pub kills_one : Process → Bool
+kills_one me = is_one (target_in (argument me 1)) && not (is_cont (signal_or_none (argument me 2)))
+
+-- how many slots a wait reads at most, by its caller, and such a kill; no count is given of other calls that aren't their
+-- caller's alone
+abbrev pub slots_of_brief : Call → List Process → Process → Option ℕ
+slots_of_brief Waitpid rs me = Some (9 + 2 * length (children_in me.pid rs))
+slots_of_brief Kill rs me = if kills_one me then Some 5 else None
+slots_of_brief call rs me = None
 
 abbrev pub is_address : Handler → Bool
 is_address (handler.At address) = true

@@ -1,14 +1,17 @@
 //! Attempts of system calls: each is done, and adds what it shows, or the process has to wait.
 
-ghost use Rattle.std.specs.Prelude.{◌≡◌, ◌+◌, ◌<◌, ◌≤◌, ◌^◌, ◌++◌, ◌∷◌, [], length, IsSome, true};
+ghost use Rattle.std.specs.Prelude.{◌≡◌, ◌≢◌, ◌+◌, ◌<◌, ◌≤◌, ◌^◌, ◌++◌, ◌∷◌, [], ◌*◌, length, IsSome, IfSome, Some, true};
 ghost use Rattle.posix.specs.declared.entry.Entry.TheVariants.{Called};
 ghost use Rattle.posix.specs.Processes.{Process};
-ghost use Rattle.posix.specs.States.{process};
+ghost use Rattle.posix.specs.declared.process.Blocked.{Blocked as BlockedValue};
+ghost use Rattle.posix.specs.States.{process, has_place};
+ghost use Rattle.posix.specs.Tables.{children_in};
+ghost use Rattle.life.specs.Machines.{AreSame};
 ghost use Rattle.posix.specs.Regular.{IsPlaced};
 ghost use Rattle.posix.specs.Outcomes.{finish, refusal as refusal_of};
 ghost use Rattle.posix.specs.Alarms.{most_ticks, ticks_in as ticks_in_word};
 ghost use Rattle.posix.specs.Attempts.{attempt_again as attempting_again};
-ghost use Rattle.calls.specs.Outcomes.{Comes, Attempts, IsActing, CostsAtMost, changes_caller_alone};
+ghost use Rattle.calls.specs.Outcomes.{Comes, Attempts, IsActing, IsQuiet, IsBrief, CostsAtMost, changes_caller_alone, slots_of_brief};
 
 use crate::delivery::{end, return_from_handler};
 use crate::entries::Entries;
@@ -37,6 +40,7 @@ pub fn finish_with<K: Kin>(
     ensures done { result ≡ Attempt.Done }
     ensures state { machine.new.state ≡ finish machine.old.state pid ((0, value) ∷ []) }
     ensures shown { entries.new.items ≡ entries.old.items ++ Called pid call value ∷ [] }
+    ensures costs { has_place machine.old.state pid ≡ true → CostsAtMost 1 machine.old machine.new }
 {
     finish_call(machine.own(pid), pid, call, value, entries);
     Attempt::Done
@@ -55,6 +59,7 @@ pub fn refuse<K: Kin>(
     ensures done { result ≡ Attempt.Done }
     ensures state { machine.new.state ≡ finish machine.old.state pid ((0, refusal_of errno) ∷ []) }
     ensures shown { entries.new.items ≡ entries.old.items ++ Called pid call (refusal_of errno) ∷ [] }
+    ensures costs { has_place machine.old.state pid ≡ true → CostsAtMost 1 machine.old machine.new }
 {
     finish_with(machine, pid, call, refusal(errno), entries)
 }
@@ -161,7 +166,8 @@ fn alarm<K: Kin>(machine: &mut Machine<K>, pid: Pid, entries: &mut Entries) -> A
 }
 
 /// A process that has a place attempts a call. Where it has to wait nothing has changed, and the call that
-/// it is to be blocked in is answered.
+/// it is to be blocked in is answered. Where nothing is left to settle a wait reads 9 slots at most, and two for each
+/// child, and a kill of one process by its number five, if it isn't CONT.
 #[tactic(auto, unfolding(posix::specs::Attempts::attempt))]
 #[inline(always)]
 pub fn attempt<K: Kin>(
@@ -176,6 +182,9 @@ pub fn attempt<K: Kin>(
     requires none { entries.old.items ≡ [] }
     ensures attempts { Attempts machine.old.state pid call result entries.old.items entries.new.items machine.new.state }
     ensures own { changes_caller_alone call ≡ true → (result ≡ Attempt.Done) × CostsAtMost 1 machine.old machine.new }
+    ensures brief { (me : Process) → process machine.old.state pid ≡ Some me → IsQuiet pid machine.old → IfSome (slots_of_brief call machine.old.state.processes me) (λ n. IsBrief n machine.old machine.new) }
+    ensures done { call ≡ Call.Kill → result ≡ Attempt.Done }
+    ensures waits { (b : BlockedValue) → call ≡ Call.Waitpid → result ≡ Attempt.Block b → AreSame machine.old machine.new }
 {
     match call {
         Call::Exit => exit(machine, pid, entries),
@@ -215,7 +224,10 @@ pub fn attempt_again<K: Kin>(
 ) -> Attempt
     requires placed { IsPlaced machine.old.state.processes pid }
     requires none { entries.old.items ≡ [] }
-    ensures { (me : Process) → process machine.old.state pid ≡ Some me → Comes machine.old.state (attempting_again machine.old.state me blocked) result entries.old.items entries.new.items machine.new.state }
+    ensures comes { (me : Process) → process machine.old.state pid ≡ Some me → Comes machine.old.state (attempting_again machine.old.state me blocked) result entries.old.items entries.new.items machine.new.state }
+    ensures brief { blocked ≡ Blocked.Waitpid → IsQuiet pid machine.old → IsBrief (9 + 2 * length (children_in pid machine.old.state.processes)) machine.old machine.new }
+    ensures once { blocked ≡ Blocked.Waitpid → result ≢ Attempt.Again }
+    ensures waits { (b : BlockedValue) → blocked ≡ Blocked.Waitpid → result ≡ Attempt.Block b → AreSame machine.old machine.new }
 {
     match blocked {
         Blocked::Waitpid => wait(machine, pid, entries),

@@ -1,10 +1,11 @@
 //! Signals that processes send (XSH kill).
 
-ghost use Rattle.std.specs.Prelude.{◌≡◌, ◌≤◌, length, IsSome};
+ghost use Rattle.std.specs.Prelude.{◌≡◌, ◌≤◌, length, IsSome, Some, true};
 ghost use Rattle.posix.specs.Sends.{signal_or_none as signal_number_or_none, kill as killing};
 ghost use Rattle.posix.specs.States.{process};
 ghost use Rattle.life.specs.Callers.{process_like};
-ghost use Rattle.calls.specs.Outcomes.{Attempts, Comes};
+ghost use Rattle.posix.specs.Processes.{Process};
+ghost use Rattle.calls.specs.Outcomes.{Attempts, Comes, IsQuiet, IsBrief, kills_one};
 
 use crate::attempts::{finish_with, refuse};
 use crate::entries::Entries;
@@ -32,7 +33,9 @@ fn signal_or_none(me: &Caller) -> Result<Option<Sig>, Errno>
 fn kill_as<K: Kin>(machine: &mut Machine<K>, me: &Caller, entries: &mut Entries) -> Attempt
     requires there { IsSome (process machine.old.state me.now.pid) }
     requires room { length entries.old.items ≤ 1 }
-    ensures { Comes machine.old.state (killing machine.old.state (process_like me.now)) result entries.old.items entries.new.items machine.new.state }
+    ensures done { result ≡ Attempt.Done }
+    ensures comes { Comes machine.old.state (killing machine.old.state (process_like me.now)) result entries.old.items entries.new.items machine.new.state }
+    ensures brief { kills_one (process_like me.now) ≡ true → IsQuiet me.now.pid machine.old → IsBrief 3 machine.old machine.new }
 {
     let sig = match signal_or_none(me) {
         Ok(sig) => sig,
@@ -50,7 +53,9 @@ fn kill_as<K: Kin>(machine: &mut Machine<K>, me: &Caller, entries: &mut Entries)
 pub fn kill<K: Kin>(machine: &mut Machine<K>, pid: Pid, entries: &mut Entries) -> Attempt
     requires there { IsSome (process machine.old.state pid) }
     requires room { length entries.old.items ≤ 1 }
-    ensures { Attempts machine.old.state pid Call.Kill result entries.old.items entries.new.items machine.new.state }
+    ensures done { result ≡ Attempt.Done }
+    ensures attempts { Attempts machine.old.state pid Call.Kill result entries.old.items entries.new.items machine.new.state }
+    ensures brief { (me : Process) → process machine.old.state pid ≡ Some me → kills_one me ≡ true → IsQuiet pid machine.old → IsBrief 5 machine.old machine.new }
 {
     let me = machine.caller(pid);
     kill_as(machine, &me, entries)

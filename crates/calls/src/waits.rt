@@ -1,6 +1,6 @@
 //! Waits for children (XSH waitpid).
 
-ghost use Rattle.std.specs.Prelude.{◌≡◌, ◌+◌, ◌≤◌, ◌++◌, ◌∷◌, [], length, pos, IsSome, IfSome, Some, is_some};
+ghost use Rattle.std.specs.Prelude.{◌≡◌, ◌≢◌, ◌+◌, ◌*◌, ◌≤◌, ◌++◌, option_map, true, ◌∷◌, [], length, pos, IsSome, IfSome, Some, is_some};
 ghost use Rattle.posix.specs.declared.entry.Entry.TheVariants.{Reported};
 ghost use Rattle.posix.specs.Processes.{Process, argument};
 ghost use Rattle.posix.specs.Targets.{target_in};
@@ -12,7 +12,11 @@ ghost use Rattle.posix.specs.Settle.{is_block};
 ghost use Rattle.life.specs.Callers.{process_like};
 ghost use Rattle.life.specs.Machines.{AreSame};
 ghost use Rattle.life.specs.Waits.{slots_of_wait};
-ghost use Rattle.calls.specs.Outcomes.{Comes};
+ghost use Rattle.posix.specs.declared.process.Blocked.{Blocked as BlockedValue};
+ghost use Rattle.posix.specs.States.{has_place};
+ghost use Rattle.posix.specs.Tables.{children_in};
+ghost use Rattle.proctable.specs.Records.{snapshot_of};
+ghost use Rattle.calls.specs.Outcomes.{Comes, CostsAtMost, IsQuiet, IsBrief};
 
 use crate::attempts::{finish_with, refuse};
 use crate::entries::Entries;
@@ -20,7 +24,7 @@ use crate::outcome::Attempt;
 use bitflags::Flags;
 use life::{Caller, Machine};
 use posix::{Blocked, Call, Entry, Errno, Pid, Report, Status, WaitOptions};
-use proctable::Kin;
+use proctable::{Kin, Snapshot};
 
 /// The options of a wait; none where a bit in r2 is unknown.
 fn options_of(me: &Caller) -> Option<WaitOptions>
@@ -44,6 +48,7 @@ fn report<K: Kin>(
     ensures done { result ≡ Attempt.Done }
     ensures state { machine.new.state ≡ finish machine.old.state pid ((0, pos child) ∷ (1, pos status) ∷ []) }
     ensures shown { entries.new.items ≡ entries.old.items ++ Reported pid child status ∷ [] }
+    ensures costs { has_place machine.old.state pid ≡ true → CostsAtMost 1 machine.old machine.new }
 {
     machine.own(pid).finish_wait(child, status);
     entries.push(Entry::Reported { pid, child, status });
@@ -56,7 +61,10 @@ fn wait_as<K: Kin>(machine: &mut Machine<K>, me: &Caller, entries: &mut Entries)
     requires regular { IsRegular machine.old.state }
     requires placed { IsPlaced machine.old.state.processes me.now.pid }
     requires room { length entries.old.items ≤ 1 }
-    ensures { Comes machine.old.state (waiting machine.old.state (process_like me.now)) result entries.old.items entries.new.items machine.new.state }
+    ensures comes { Comes machine.old.state (waiting machine.old.state (process_like me.now)) result entries.old.items entries.new.items machine.new.state }
+    ensures brief { IsQuiet me.now.pid machine.old → IsBrief (7 + 2 * length (children_in me.now.pid machine.old.state.processes)) machine.old machine.new }
+    ensures once { result ≢ Attempt.Again }
+    ensures waits { (b : BlockedValue) → result ≡ Attempt.Block b → AreSame machine.old machine.new }
 {
     let Some(options) = options_of(me) else {
         return refuse(machine, me.pid, Call::Waitpid, Errno::EINVAL, entries);
@@ -86,7 +94,10 @@ fn wait_as<K: Kin>(machine: &mut Machine<K>, me: &Caller, entries: &mut Entries)
 pub fn wait<K: Kin>(machine: &mut Machine<K>, pid: Pid, entries: &mut Entries) -> Attempt
     requires placed { IsPlaced machine.old.state.processes pid }
     requires room { length entries.old.items ≤ 1 }
-    ensures { (me : Process) → process machine.old.state pid ≡ Some me → Comes machine.old.state (waiting machine.old.state me) result entries.old.items entries.new.items machine.new.state }
+    ensures comes { (me : Process) → process machine.old.state pid ≡ Some me → Comes machine.old.state (waiting machine.old.state me) result entries.old.items entries.new.items machine.new.state }
+    ensures brief { IsQuiet pid machine.old → IsBrief (9 + 2 * length (children_in pid machine.old.state.processes)) machine.old machine.new }
+    ensures once { result ≢ Attempt.Again }
+    ensures waits { (b : BlockedValue) → result ≡ Attempt.Block b → AreSame machine.old machine.new }
 {
     let me = machine.caller(pid);
     wait_as(machine, &me, entries)
@@ -109,13 +120,14 @@ fn would_wait<K: Kin>(machine: &mut Machine<K>, me: &Caller) -> bool
     }
 }
 
-/// Whether the wait of a process that is there would have to wait. Nothing changes.
-pub fn has_to_wait<K: Kin>(machine: &mut Machine<K>, pid: Pid) -> bool
-    requires { IsSome (process machine.old.state pid) }
+/// Whether the wait of a process that is there, with this snapshot, would have to wait. Nothing changes.
+pub fn has_to_wait<K: Kin>(machine: &mut Machine<K>, pid: Pid, snapshot: Snapshot) -> bool
+    requires there { IsSome (process machine.old.state pid) }
+    requires snapshot { Some snapshot ≡ option_map snapshot_of (process machine.old.state pid) }
     ensures value { (me : Process) → process machine.old.state pid ≡ Some me → result ≡ is_block (waiting machine.old.state me) }
     ensures same { AreSame machine.old machine.new }
-    ensures visits { (me : Process) → process machine.old.state pid ≡ Some me → machine.new.visits ≤ machine.old.visits + 3 + slots_of_wait (target_in (argument me 1)) me.pid machine.old.state.processes }
+    ensures visits { (me : Process) → process machine.old.state pid ≡ Some me → machine.new.visits ≤ machine.old.visits + 2 + slots_of_wait (target_in (argument me 1)) me.pid machine.old.state.processes }
 {
-    let me = machine.caller(pid);
+    let me = machine.caller_with(pid, snapshot);
     would_wait(machine, &me)
 }

@@ -13,6 +13,40 @@ use std::process::Abort;
 use std::test::Fail;
 use text::read_world;
 
+/// Process 1 stops and continues a child that waits for its 300 children, and then waits for the child's news.
+const NEWS_OF_A_WAITER: &[u8] = b"\
+pidmax 1000
+consoles 0
+program init
+sys fork
+jz r0, waiter
+sys sched_yield
+set r1, 2
+set r2, 19
+sys kill
+sys sched_yield
+set r2, 18
+sys kill
+set r1, 2
+set r2, 8
+sys waitpid
+sys pause
+waiter:
+set r6, 300
+set r7, 1
+more:
+sys fork
+jz r0, sleeper
+sub r6, r7
+jnz r6, more
+set r1, 0
+set r2, 0
+sys waitpid
+sleeper:
+sys pause
+end
+";
+
 const NUMBERS_WRAP: &[u8] = b"\
 pidmax 4
 consoles 1
@@ -474,5 +508,23 @@ fn a_fault_that_enters_a_handler_asks_nobody_else(rt: HostRuntime) -> Result<(),
     }
     // Ten rounds of a fault, which is shown as its handler is entered, a sum, and the return.
     assert_eq!(rt; shown, 20);
+    Ok(())
+}
+
+#[test]
+fn news_that_are_told_ask_nobody(rt: HostRuntime) -> Result<(), Fail> {
+    let world = read_world(rt.alloc(), NEWS_OF_A_WAITER)?;
+    let mut kernel = KernelOn::<ProcTable>::boot(rt.alloc(), &world)?;
+    for _ in 0..1211 {
+        slots_of(&rt, &mut kernel, Event::Step);
+    }
+    assert_eq!(rt; kernel.census().living, 302);
+    // STOP for the waiter, which has 300 children.
+    assert_eq!(rt; expect_slots(&rt, &mut kernel, Event::Step, 1), 1);
+    for _ in 0..606 {
+        slots_of(&rt, &mut kernel, Event::Step);
+    }
+    // It was continued, and waits on; the wait of process 1 tells that.
+    assert_eq!(rt; expect_slots(&rt, &mut kernel, Event::Step, 1), 1);
     Ok(())
 }

@@ -1,17 +1,16 @@
 -- Moves between process groups: which groups there are.
-use Rattle.std.proofs.Common.{◌≡◌, ℕ, ◌<◌, ◌≤◌, Bool, true, false, not, ◌&&◌, ◌||◌, ◌==◌, refl, ap, sym, ◌∙◌, arith, subst, List, [], ◌∷◌, Some, None, is_some, option_map, nat_lt, filter, inl, inr}
+use Rattle.std.proofs.Common.{◌≡◌, ℕ, ◌≤◌, true, false, not, ◌&&◌, ◌||◌, ◌==◌, refl, sym, ◌∙◌, arith, subst, List, [], ◌∷◌, Some, None, is_some, filter}
 use Rattle.std.specs.List.{list_any}
 use Rattle.std.specs.Option.{IfSome, option_map_or}
-use Rattle.std.proofs.lemmas.Bool.{eqb-true, eq-eqb, ne_eqb, cases_eq, and_parts}
+use Rattle.std.proofs.lemmas.Bool.{eqb-true, and_parts, false_from_ne_true}
 use Rattle.std.proofs.lemmas.Bool.Decides.{nat_tests}
 use Rattle.posix.specs.Processes.{Process}
 use Rattle.posix.specs.Tables.{IsRising, lookup, is_member, members_in, first_pid, above}
 use Rattle.posix.specs.GroupCalls.{is_group_of, is_group_of_others}
 use Rattle.posix.specs.Regular.{AreGrouped}
 use Rattle.posix.proofs.TableLemmas.{Above, pid_looked, rising_filter}
-use Rattle.posix.proofs.WalkLemmas.{Passes, any_filter, above_all, first_passes, any_looked, some_looked}
-use Rattle.proctable.specs.declared.snapshot.Snapshot.{Snapshot}
-use Rattle.proctable.specs.Records.{snapshot_of}
+use Rattle.posix.proofs.WalkLemmas.{Passes, any_filter, first_passes, any_looked, some_looked}
+use Rattle.jobs.specs.JobTables.{AreWithin}
 use Rattle.jobs.proofs.SnapshotLemmas.{snapshot_are}
 
 -- ---- whether there is a group
@@ -25,17 +24,17 @@ no_first session g (x ∷ xs) e = grind (arith, e, no_first session g xs)
 -- nor where no member of it is in the session
 no_member : (session g : ℕ) (rs : List Process) → IsRising rs → ((q : ℕ) (r : Process) → lookup q rs ≡ Some r → r.group ≡ g → (r.session == session) ≡ false) → is_group_of session g rs ≡ false
 unfolding is_group_of
-no_member session g rs up h = elim (list_any (λ r. r.session == session && r.group == g) rs) as (λ b. list_any (λ r. r.session == session && r.group == g) rs ≡ b → b ≡ false) [
-  | true ↦ λ e.
-      let i = some_looked _ rs up e in
-      let both = and_parts (i.0.session == session) (i.0.group == g) i.2 in
-      sym both.0 ∙ h i.0.pid i.0 i.1 (eqb-true _ _ both.1)
-  | false ↦ λ e. refl
-] refl
+no_member session g rs up h = false_from_ne_true _ (λ e.
+    let i = some_looked _ rs up e in
+    let both = and_parts (i.0.session == session) (i.0.group == g) i.2 in
+    let no : true ≡ false = sym both.0 ∙ h i.0.pid i.0 i.1 (eqb-true _ _ both.1) in
+    cc)
 
 -- as where no member's group has its number
-pub no_number : (session g n : ℕ) (rs : List Process) → IsRising rs → ((p : ℕ) (r : Process) → lookup p rs ≡ Some r → r.group < n) → n ≤ g → is_group_of session g rs ≡ false
-no_number session g n rs up low high = no_member session g rs up (λ q r f e. let less = low q r f in absurd (omega (arith, e, less, high)))
+pub no_number : (session g n : ℕ) (rs : List Process) → IsRising rs → AreWithin n rs → n ≤ g → is_group_of session g rs ≡ false
+no_number session g n rs up low high = no_member session g rs up (λ q r f e. let less = (low q r f).2 in absurd (omega (arith, e, less, high)))
+
+pub ruleset group_rules = (no_first, no_number)
 
 -- its first member is there, and the session of that member is the group's
 pub by_first : (session g p : ℕ) (rs : List Process) → IsRising rs → AreGrouped rs → first_pid (members_in g rs) ≡ Some p → (it : Process) × (lookup p rs ≡ Some it) × (is_group_of session g rs ≡ (it.session == session && it.group == g))
@@ -53,35 +52,17 @@ by_first session g p rs up k first =
 
 -- ---- others in the process group with the number of a process
 
--- whether one of these is another than p
-abbrev pub has_other : ℕ → List Process → Bool
-has_other p ms = list_any (λ r. not (r.pid == p)) ms
-
--- all above p are others
-above_other : (p : ℕ) (ms : List Process) → Above p ms → has_other p ms ≡ is_some (first_pid ms)
-above_other p [] h = refl
-above_other p (x ∷ xs) h = rw (ne_eqb x.pid p (λ is. let above = h.0 in absurd (omega (arith, above, is)))) refl
-
 -- the first of the members is another, or one is behind it
-pub other_among : (p : ℕ) (ms : List Process) → IsRising ms → has_other p ms ≡ option_map_or (λ q. not (q == p) || is_some (first_pid (above p ms))) (first_pid ms) false
+other_among : (p : ℕ) (ms : List Process) → IsRising ms → list_any (λ r. not (r.pid == p)) ms ≡ option_map_or (λ q. not (q == p) || is_some (first_pid (above p ms))) (first_pid ms) false
 unfolding IsRising
 other_among p [] up = refl
-other_among p (x ∷ xs) up = elim (cases_eq x.pid p) [
-  | inl same ↦
-      let low : nat_lt p x.pid ≡ false = grind (arith, same, nat_tests) in
-      let rest : Above p xs = subst (λ n. Above n xs) same up.0 in
-      rw (eq-eqb x.pid p same, low, above_all p xs rest) (above_other p xs rest)
-  | inr ne ↦ rw (ne_eqb x.pid p ne) refl
-]
+other_among p (x ∷ []) up = grind (arith, nat_tests)
+other_among p (x ∷ y ∷ ys) up = grind (arith, nat_tests, up.0.0)
 
 -- so for who is there with the number p
 pub others_of : (p : ℕ) (rs : List Process) (me : Process) → IsRising rs → lookup p rs ≡ Some me → is_group_of_others me rs ≡ option_map_or (λ q. not (q == p) || is_some (first_pid (above p (members_in p rs)))) (first_pid (members_in p rs)) false
 unfolding members_in
 others_of p rs me up found = rw (pid_looked p rs me found) (sym (any_filter (is_member p) (λ r. not (r.pid == p)) rs) ∙ other_among p (filter (is_member p) rs) (rising_filter (is_member p) rs up))
 
--- ---- a new session
-
 -- whether a process leads a process group, by its snapshot
-pub leads_by : (p : ℕ) (rs : List Process) (me : Process) (f : Snapshot) → lookup p rs ≡ Some me → Some f ≡ option_map snapshot_of (lookup p rs) → (f.group == p) ≡ (me.group == me.pid)
-leads_by p rs me f found read =
-    ap (λ (x : Snapshot). x.group == p) (snapshot_are (lookup p rs) me f read found) ∙ ap (λ n. me.group == n) (sym (pid_looked p rs me found))
+pub ruleset lead_rules = (snapshot_are, pid_looked)

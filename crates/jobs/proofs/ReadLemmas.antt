@@ -1,5 +1,5 @@
 -- What looks come to, one after another, and how many processes a walk has still to read.
-use Rattle.std.proofs.Common.{Bool, true, false, cond, subst, sym, ◌≡◌, ap, ℕ, ◌+◌, ◌*◌, ◌<◌, ◌≤◌, arith, List, [], ◌∷◌, length, Option, Some, None}
+use Rattle.std.proofs.Common.{subst, sym, ◌≡◌, ap, ℕ, ◌+◌, ◌*◌, ◌<◌, ◌≤◌, arith, List, [], ◌∷◌, length, Option, Some, None}
 use Rattle.std.specs.Option.{IfSome}
 use Rattle.std.proofs.lemmas.Bool.{eqb-true}
 use Rattle.std.proofs.lemmas.Bool.Decides.{nat_tests}
@@ -31,8 +31,3 @@ fewer_after p low now next comes above = subst (λ o. numbers_left 2147483648 ne
 -- a walk that reads 1 + k of each: where it has read one, one less is left
 pub reads_on : (k were left before one most : ℕ) → were ≡ 1 + left → one ≤ before + 1 + k → before + (1 + k) * were ≤ most → one + (1 + k) * left ≤ most
 reads_on k were left before one most e a h = let all : (1 + k) * were ≡ (1 + k) * (1 + left) = ap (λ n. (1 + k) * n) e in omega (arith, a, h, all)
-
--- where more are read in one case alone
-pub few_more : (b : Bool) (n : ℕ) → cond b 0 n ≤ n
-few_more true n = omega arith
-few_more false n = omega arith

@@ -9,7 +9,7 @@ use Rattle.proctable.specs.Records.{process_of, own_of}
 use Rattle.proctable.proofs.RecordLemmas.{changed_here}
 use Rattle.jobs.specs.JobTables.{IsRun, ChangesSignals, StaysGrouped, StaysPut}
 use Rattle.jobs.specs.Books.{seen_of, record_seen, keeps_stance}
-use Rattle.jobs.proofs.SnapshotLemmas.{stance_kept}
+use Rattle.jobs.proofs.AnchorLemmas.{stance_kept}
 
 -- where it changes each record as f changes its process, it changes that process so
 pub run_as : {F T : Type 0} {g : Once F (MutBor Record × Unit {0}) (T × (MutBor Record × Unit {0}))} {change : F} {rs ts : List Process} {p : ℕ} {r : T} (f : Process → Process) → IsRun g change rs ts p r → IsRising rs

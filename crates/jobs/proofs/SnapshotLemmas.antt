@@ -1,7 +1,7 @@
 -- Who is there, and the snapshot that was read of a process.
-use Rattle.std.proofs.Common.{◌≡◌, ◌≢◌, ◌==◌, ◌&&◌, ◌||◌, ℕ, true, false, not, refl, ap, sym, ◌∙◌, List, Option, Some, None, option_map}
+use Rattle.std.proofs.Common.{◌≡◌, ◌≢◌, ◌==◌, ℕ, true, false, not, refl, ap, sym, ◌∙◌, List, Option, Some, None, option_map}
 use Rattle.std.specs.Option.{IsSome}
-use Rattle.std.proofs.lemmas.Bool.{eqb-true, eq-eqb, and_parts}
+use Rattle.std.proofs.lemmas.Bool.{eqb-true, eq-eqb, not-false}
 use Rattle.posix.specs.declared.process.Life.{Life}
 use Rattle.posix.specs.declared.process.Life.TheVariants.{Running, Stopped, Zombie}
 use Rattle.posix.specs.Processes.{Process, is_zombie}
@@ -9,8 +9,6 @@ use Rattle.posix.specs.Tables.{lookup}
 use Rattle.posix.proofs.TableLemmas.{pid_looked}
 use Rattle.proctable.specs.declared.snapshot.Snapshot.{Snapshot}
 use Rattle.proctable.specs.Records.{snapshot_of}
-use Rattle.jobs.specs.declared.books.Seen.{Seen}
-use Rattle.jobs.specs.Books.{keeps_stance}
 
 -- who is looked up
 pub record There (o : Option Process) : Type 0 where
@@ -53,17 +51,10 @@ lives Running other e h = rw (← e) refl
 lives Stopped other e h = rw (← e) refl
 lives (Zombie w) other e h = absurd (h w refl)
 
--- who keeps its stance stays in its process group and its session, and isn't revived
-pub stance_kept : (old new : Seen) → keeps_stance old new ≡ true → (new.group ≡ old.group) × (new.session ≡ old.session) × ((is_zombie new.life || not (is_zombie old.life)) ≡ true)
-stance_kept old new e =
-    let both = and_parts (old.group == new.group && old.session == new.session) _ e in
-    let each = and_parts (old.group == new.group) _ both.0 in
-    (sym (eqb-true _ _ each.0), sym (eqb-true _ _ each.1), both.1)
-
 -- ---- numbers that were compared
 
 pub differs : (a b : ℕ) → not (a == b) ≡ true → a ≢ b
 differs a b e = λ x. let t : (a == b) ≡ true = eq-eqb a b x in let no : false ≡ true = ap not (sym t) ∙ e in absurd (cc)
 
 pub equals : (a b : ℕ) → not (a == b) ≡ false → a ≡ b
-equals a b e = eqb-true a b (elim (a == b) as (λ b. not b ≡ false → b ≡ true) [ true ↦ λ k. refl | false ↦ λ k. sym k ] e)
+equals a b e = eqb-true a b (not-false _ e)

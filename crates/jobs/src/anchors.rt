@@ -1,20 +1,20 @@
 //! Who keeps a process group from being orphaned (XBD 3): what moves in their index where a process changes, or its
 //! children get another parent.
 
-ghost use Rattle.std.specs.Prelude.{◌≡◌, ◌≢◌, ℕ, ◌+◌, ◌*◌, ◌<◌, ◌≤◌, List, length, None, Some, IsSome, IfSome, option_map, if◌then◌else◌};
+ghost use Rattle.std.specs.Prelude.{◌≡◌, ◌≢◌, ℕ, ◌+◌, ◌*◌, ◌<◌, ◌≤◌, ◌⊎◌, List, length, None, Some, IsSome, IfSome, option_map, if◌then◌else◌};
 ghost use Rattle.posix.specs.Processes.{Process};
 ghost use Rattle.posix.specs.Tables.{lookup, children_in, parent_of};
 ghost use Rattle.pidset.specs.Indexes.{AreTurned, IsAnchorIndex, IsMoved};
 ghost use Rattle.jobs.specs.Books.{seen_of, child_key, keeps_stance as keeps_stance_by};
 ghost use Rattle.jobs.specs.JobTables.{AreWithin};
 
-use crate::books::{Change, Seen, anchor_key, is_dead, of_snapshot};
+use crate::books::{Change, Seen, anchor_key, is_dead, of_record, of_snapshot};
 use pidset::Lists;
 use posix::Pid;
 use proctable::Kin;
 
 /// What the indexes see of a process; none where it isn't there.
-pub(crate) fn seen_in<K: Kin>(table: &mut K, pid: Pid) -> Option<Seen>
+fn seen_in<K: Kin>(table: &mut K, pid: Pid) -> Option<Seen>
     ensures value { result ≡ option_map seen_of (lookup pid (K.contents table.old)) }
     ensures contents { K.contents table.new ≡ K.contents table.old }
     ensures room { K.room table.new ≡ K.room table.old }
@@ -24,6 +24,35 @@ pub(crate) fn seen_in<K: Kin>(table: &mut K, pid: Pid) -> Option<Seen>
         Some(snapshot) => Some(of_snapshot(&snapshot)),
         None => None,
     }
+}
+
+/// What the indexes see of a process that is there.
+#[tactic(auto, using(proctable::proofs::RecordLemmas::same_record))]
+#[inline]
+pub(crate) fn seen_there<K: Kin>(table: &mut K, pid: Pid) -> Seen
+    requires { IsSome (lookup pid (K.contents table.old)) }
+    ensures value { option_map seen_of (lookup pid (K.contents table.old)) ≡ Some result }
+    ensures contents { K.contents table.new ≡ K.contents table.old }
+    ensures room { K.room table.new ≡ K.room table.old }
+    ensures visits { K.visits table.new ≤ K.visits table.old + 1 }
+{
+    of_record(table.update(pid))
+}
+
+/// What the indexes see of a parent, which is there, or has number 0 for none.
+#[inline]
+pub(crate) fn seen_above<K: Kin>(table: &mut K, parent: Pid) -> Option<Seen>
+    requires there { (parent ≡ 0) ⊎ IsSome (lookup parent (K.contents table.old)) }
+    requires none { lookup 0 (K.contents table.old) ≡ None }
+    ensures value { result ≡ option_map seen_of (lookup parent (K.contents table.old)) }
+    ensures contents { K.contents table.new ≡ K.contents table.old }
+    ensures room { K.room table.new ≡ K.room table.old }
+    ensures visits { K.visits table.new ≤ K.visits table.old + 1 }
+{
+    if parent == Pid::NONE {
+        return None;
+    }
+    Some(seen_there(table, parent))
 }
 
 /// Whether a process stays in its process group and its session, and isn't revived.
@@ -46,13 +75,12 @@ fn turn<K: Kin>(table: &mut K, anchors: &mut Lists, pid: Pid, parent: &Seen)
     ensures room { K.room table.new ≡ K.room table.old }
     ensures visits { K.visits table.new ≤ K.visits table.old + 1 }
 {
-    let Some(it) = seen_in(table, pid) else {
-        unreachable!()
-    };
+    let it = seen_there(table, pid);
     anchors.put(pid, anchor_key(&it, &Some(*parent)));
 }
 
 /// The children of a process that is there stand among the anchors, or don't, as those of one that is seen so.
+#[tactic(auto, using(crate::proofs::AnchorLemmas::child_rules))]
 pub(crate) fn turn_children<K: Kin>(table: &mut K, anchors: &mut Lists, pid: Pid, parent: &Seen)
     requires there { IsSome (lookup pid (K.contents table.old)) }
     requires none { lookup 0 (K.contents table.old) ≡ None }

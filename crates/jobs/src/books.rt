@@ -11,7 +11,7 @@ use proctable::{Record, Snapshot};
 use std::alloc::{AllocError, Global};
 
 /// What the indexes see of a process, but its parent.
-#[derive(Clone, Copy)]
+#[derive(Clone, Copy, PartialEq, Eq)]
 pub struct Seen {
     /// Its process group.
     pub group: Pid,
@@ -155,6 +155,7 @@ fn alarm_key(it: &Option<Seen>) -> Option<u64>
 
 impl Books {
     /// Of no processes. They take no memory.
+    #[tactic(auto, using(pidset::proofs::IndexLemmas::indexed_none), unfolding(posix::specs::Tables::lookup, pidset::specs::Indexes::is_pair_in))]
     pub(crate) fn new(alloc: Global) -> Books
         ensures books { AreBooks [] result }
         ensures anchors { result.anchors.pairs ≡ [] }

@@ -26,6 +26,7 @@ enum Counted {
 impl<K: Kin> JobTable<K> {
     /// The member of a process group with the least number above `after`, zombies included (XBD 3 Process
     /// Group). No slot is read.
+    #[tactic(auto, using(crate::proofs::BookLemmas::next_in_group))]
     #[inline]
     pub fn next_member(&self, group: Pid, after: Pid) -> Option<Pid>
         ensures { result ≡ first_pid (above after (members_in group self.now.processes)) }
@@ -34,6 +35,7 @@ impl<K: Kin> JobTable<K> {
     }
 
     /// The member of a process group with the least number. No slot is read.
+    #[tactic(auto, using(crate::proofs::GroupLemmas::passing_above), unfolding(posix::specs::Tables::members_in))]
     #[inline]
     pub(crate) fn first_member(&self, group: Pid) -> Option<Pid>
         ensures first { result ≡ first_pid (members_in group self.now.processes) }
@@ -45,6 +47,7 @@ impl<K: Kin> JobTable<K> {
     }
 
     /// The member of a process group that is counted with the least number above `after`.
+    #[tactic(auto, using(crate::proofs::BookLemmas::counted_next))]
     fn next_counted(&self, group: Pid, what: Counted, after: Pid) -> Option<Pid>
         ensures { result ≡ first_pid (above after (counted_in what group self.now.processes)) }
     {
@@ -55,6 +58,7 @@ impl<K: Kin> JobTable<K> {
     }
 
     /// The member of a process group that is counted with the least number.
+    #[tactic(auto, using(crate::proofs::GroupLemmas::counted_above))]
     fn first_counted(&self, group: Pid, what: Counted) -> Option<Pid>
         ensures first { result ≡ first_pid (counted_in what group self.now.processes) }
         ensures rising { IsRising self.now.processes }
@@ -73,6 +77,7 @@ impl<K: Kin> JobTable<K> {
     }
 
     /// How many members of a process group are counted.
+    #[tactic(auto, using(crate::proofs::GroupLemmas::counted_rules))]
     fn count(&self, group: Pid, what: Counted) -> usize
         ensures { result ≡ length (counted_in what group self.now.processes) }
     {

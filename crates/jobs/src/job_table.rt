@@ -15,7 +15,7 @@ ghost use Rattle.jobs.specs.contracts.job_table.JobTable.{the_row as jobs_row};
 ghost use Rattle.jobs.specs.Books.{record_seen, seen_of};
 ghost use Rattle.jobs.specs.JobTables.{takes_signal, ChangesSignals, IsRun, StaysGrouped, lent, looked, Looks, Finds, Costs, StaysPut};
 
-use crate::anchors::{reanchor, seen_in, turn_children};
+use crate::anchors::{reanchor, seen_above, seen_there, turn_children};
 use crate::books::{Books, Change, Seen, anchor_key, of_record, of_snapshot};
 use posix::Pid;
 use proctable::{Kin, OwnPart, Record, Snapshot};
@@ -57,6 +57,7 @@ impl<K: Kin> Model for JobTable<K> {
 
 impl<K: Kin> JobTable<K> {
     /// A table without processes. It takes no memory.
+    #[tactic(auto, using(crate::proofs::NumberLemmas::nobody_there), unfolding(posix::specs::Tables::IsRising, posix::specs::Tables::lookup, pidset::specs::Indexes::is_pair_in))]
     pub fn empty(alloc: Global) -> Self
         ensures processes { result.processes ≡ [] }
         ensures visits { result.visits ≡ 0 }
@@ -70,6 +71,7 @@ impl<K: Kin> JobTable<K> {
 
     /// Makes room for one more process, with a number up to `greatest`. At an error the host has no memory for it,
     /// and the processes are unchanged.
+    #[tactic(auto, using(crate::proofs::KeptLemmas::size_of))]
     pub fn reserve(&mut self, greatest: Pid) -> Result<(), AllocError>
         ensures ok { OnOk result (0 < self.new.room) }
         ensures limit { OnOk result (greatest < self.new.limit) }
@@ -82,6 +84,7 @@ impl<K: Kin> JobTable<K> {
 
     /// Puts in a process that isn't there, where there is room for one with this number. Its number isn't 0, its parent
     /// is there, or number 0, and there is room for the number of its process group. The others are unchanged.
+    #[tactic(auto, using(crate::proofs::KeptLemmas::size_of))]
     pub fn insert(&mut self, pid: Pid, parent: Pid, fields: Record)
         requires room { 0 < self.old.room }
         requires number { pid ≢ 0 }
@@ -94,8 +97,8 @@ impl<K: Kin> JobTable<K> {
         ensures visits { self.new.visits ≤ self.old.visits + 6 + length (children_in parent self.old.processes) }
     {
         let after = of_record(&fields);
+        let above = seen_above(&mut self.table, parent);
         self.table.insert(pid, parent, fields);
-        let above = seen_in(&mut self.table, parent);
         self.books.reindex(pid, parent, &None, &Some(after));
         self.books.anchors.put(pid, anchor_key(&after, &above));
         self.count += 1;
@@ -111,6 +114,7 @@ impl<K: Kin> JobTable<K> {
     }
 
     /// Takes out a process without children. Its small fields; none, and nothing changes, where it isn't there.
+    #[tactic(auto, using(crate::proofs::KeptLemmas::leave_rules))]
     pub fn remove(&mut self, pid: Pid) -> Option<Snapshot>
         requires { children_in pid self.old.processes ≡ [] }
         ensures value { result ≡ option_map snapshot_of (lookup pid self.old.processes) }
@@ -162,15 +166,14 @@ impl<K: Kin> JobTable<K> {
         ensures processes { self.new.processes ≡ adopted from to self.old.processes }
         ensures costs { Costs (3 + 10 * length (children_in from self.old.processes) + length (children_in to self.old.processes)) self.old self.new }
     {
-        let Some(heir) = seen_in(&mut self.table, to) else {
-            unreachable!()
-        };
+        let heir = seen_there(&mut self.table, to);
         turn_children(&mut self.table, &mut self.books.anchors, from, &heir);
         self.table.adopt(from, to);
         self.books.reparent(from, to);
     }
 
     /// Whether no process is stopped. No slot is read.
+    #[tactic(auto, using(crate::proofs::BookLemmas::none_stopped))]
     pub fn nobody_stopped(&self) -> bool
         ensures { result ≡ not (list_any (λ r. is_stopped_by r.life) self.now.processes) }
     {
@@ -178,6 +181,7 @@ impl<K: Kin> JobTable<K> {
     }
 
     /// The child of a process that has something to report, with the least number above `after`.
+    #[tactic(auto, using(crate::proofs::BookLemmas::next_report))]
     pub fn next_reporting(&self, parent: Pid, after: Pid) -> Option<Pid>
         ensures { result ≡ first_pid (above after (reporting_in parent self.now.processes)) }
     {
@@ -229,6 +233,7 @@ impl<K: Kin> JobTable<K> {
 
     /// Changes a process that is there, and moves it in the indexes, and its children where they see a change of it.
     /// Each change goes by this that the parent of the process sees. What was seen of it before and after.
+    #[tactic(auto, using(crate::proofs::KeptLemmas::record_rules))]
     pub fn change_seen<F: FnOnce(&mut Record)>(&mut self, pid: Pid, change: F) -> Change
         requires there { IsSome (lookup pid self.old.processes) }
         requires callable { F.IsAlwaysCallable change }
@@ -240,13 +245,11 @@ impl<K: Kin> JobTable<K> {
         ensures costs { Costs (4 + 2 * length (children_in pid self.old.processes)) self.old self.new }
         ensures put { StaysPut F.FnOnce change self.old.processes pid → Costs 2 self.old self.new }
     {
-        let parent = parent_in(&mut self.table, pid);
-        let Run { before, after, .. } = run_on(&mut self.table, pid, change);
-        let seen = Change {
-            parent,
-            before,
-            after,
-        };
+        let seen = change_in(&mut self.table, pid, change);
+        if seen.before == seen.after {
+            // It stands in each index as it did.
+            return seen;
+        }
         self.books.reindex_change(pid, &seen);
         reanchor(&mut self.table, &mut self.books.anchors, pid, &seen);
         seen
@@ -302,6 +305,28 @@ fn run_on<K: Kin, T, F: FnOnce(&mut Record) -> T>(table: &mut K, pid: Pid, chang
         result,
         after,
         takes_signal,
+    }
+}
+
+/// Runs a closure on the record of a process that is there. What the indexes see of this change.
+#[inline(always)]
+fn change_in<K: Kin, F: FnOnce(&mut Record)>(table: &mut K, pid: Pid, change: F) -> Change
+    requires there { IsSome (lookup pid (K.contents table.old)) }
+    requires callable { F.IsAlwaysCallable change }
+    ensures run { (k : IsRun F.FnOnce change (K.contents table.old) (K.contents table.new) pid tt) × (result.before ≡ record_seen k.before) × (result.after ≡ record_seen k.after) }
+    ensures parent { result.parent ≡ parent_of pid (K.contents table.old) }
+    ensures room { K.room table.new ≡ K.room table.old }
+    ensures visits { K.visits table.new ≤ K.visits table.old + 2 }
+{
+    let parent = parent_in(table, pid);
+    let it = table.update(pid);
+    let before = of_record(it);
+    change(it);
+    let after = of_record(it);
+    Change {
+        parent,
+        before,
+        after,
     }
 }
 

@@ -50,6 +50,7 @@ impl<K: Kin> JobTable<K> {
 
     /// The process group with this number, where it is one of this session, zombies being members: its first
     /// member decides, as all are in one session.
+    #[tactic(auto, using(crate::proofs::MoveLemmas::group_rules))]
     pub fn group_of(&mut self, session: Pid, group: u64) -> Option<Pid>
         requires { AreGrouped self.old.processes }
         ensures { Finds 1 self.old self.new (result ≡ (if is_group_of session group self.old.processes then Some group else None)) }
@@ -151,7 +152,7 @@ impl<K: Kin> JobTable<K> {
 
     /// Whether a process that is there may lead a session of its own. EPERM where it leads a process group, or
     /// another process is in one with its number (XSH setsid).
-    #[tactic(auto, using(crate::proofs::MoveLemmas::leads_by))]
+    #[tactic(auto, using(crate::proofs::MoveLemmas::lead_rules))]
     pub fn can_lead(&mut self, me: Pid) -> Result<(), Errno>
         requires { IsSome (lookup me self.old.processes) }
         ensures test { (caller : Process) → lookup me self.old.processes ≡ Some caller → is_ok result ≡ not (caller.group == caller.pid || is_group_of_others_by caller self.old.processes) }

@@ -1,44 +1,167 @@
 -- How many slots settling reads.
-use Rattle.std.proofs.Common.{◌≡◌, ℕ, ◌+◌, ◌*◌, ◌≤◌, Bool, not, refl, ap, ◌∙◌, arith, List, [], ◌∷◌, length, Some, None, Option, filter, slice_get, ◌==◌}
+use Rattle.std.proofs.Common.{◌≡◌, ◌≢◌, ℕ, ◌+◌, ◌*◌, ◌≤◌, suc, Bool, true, false, cond, not, ◌&&◌, ◌||◌, refl, ap, sym, ◌∙◌, arith, List, [], ◌∷◌, length, count_by, Some, None, Option, option_map, filter, slice_get, ◌==◌, is_some}
 use Rattle.std.specs.Option.{IfSome}
-use Rattle.std.proofs.lemmas.Bool.{eq-eqb, or_left, or_right}
+use Rattle.std.proofs.lemmas.Bool.{eq-eqb, eqb-true, ne_eqb, and_parts, or_left, or_right}
+use Rattle.std.proofs.lemmas.List.Sums.{length-filter}
+use Rattle.posix.specs.declared.process.Blocked.{Blocked}
+use Rattle.posix.specs.declared.process.Blocked.TheVariants as blocked
 use Rattle.posix.specs.Processes.{Process}
-use Rattle.posix.specs.Tables.{lookup}
-use Rattle.posix.specs.States.{is_in, without}
+use Rattle.posix.specs.Tables.{lookup, IsRising}
+use Rattle.posix.specs.States.{State, is_in, without}
+use Rattle.posix.specs.Choice.{chosen}
+use Rattle.posix.specs.Consoles.{Console}
+use Rattle.std.specs.List.{AllByRecursion, list_any}
+use Rattle.posix.specs.GroupCalls.{is_group_of}
+use Rattle.posix.specs.Settle.{is_fresh, AreFresh}
+use Rattle.posix.proofs.WalkLemmas.{some_looked}
+use Rattle.posix.specs.Regular.{IsRegular}
+use Rattle.life.specs.declared.consoles.Unchecked.{Unchecked}
+use Rattle.life.specs.declared.consoles.Unchecked.TheVariants.{Nothing, Group, All}
+use Rattle.life.specs.Foregrounds.{is_unchecked}
 use Rattle.life.specs.Machines.{MachineView}
-use Rattle.life.specs.Rechecks.{AreTaking}
-use Rattle.calls.specs.Outcomes.{CostsAtMost}
-use Rattle.kernel.specs.Counts.{ReadsAtMost, slots_of_rechecking, slots_of_settling}
+use Rattle.life.specs.Rechecks.{AreTaking, AreBrief, is_in_wait}
+use Rattle.calls.specs.Outcomes.{AreFew, CostsAtMost, IsBrief}
+use Rattle.life.specs.Consoles.{foreground_members, slots_of_key}
+use Rattle.kernel.proofs.CallCountLemmas.{key_slots}
+use Rattle.kernel.specs.Counts.{IsAtRest, ReadsAtMost, slots_of_own_step, slots_of_acting, slots_of_step, slots_of_call, slots_of_rechecking, slots_of_rechecks}
+
+-- ---- those to recheck
 
 -- fewer of them read no more
-settling_less : (rs : List Process) (t : ℕ → Bool) (ns : List ℕ) → slots_of_settling rs (filter t ns) ≤ slots_of_settling rs ns
-unfolding slots_of_settling
-settling_less rs t [] = omega arith
-settling_less rs t (n ∷ ns) = grind (arith, settling_less rs t ns)
+rechecks_less : (rs : List Process) (t : ℕ → Bool) (ns : List ℕ) → slots_of_rechecks rs (filter t ns) ≤ slots_of_rechecks rs ns
+unfolding slots_of_rechecks
+rechecks_less rs t [] = omega arith
+rechecks_less rs t (n ∷ ns) = grind (arith, rechecks_less rs t ns)
 
 -- what the first one reads, and what the others do
-pub settling_first : (rs : List Process) (ns : List ℕ) (p : ℕ) → slice_get ns 0 ≡ Some p → slots_of_rechecking rs (lookup p rs) + slots_of_settling rs (without p ns) ≤ slots_of_settling rs ns
-unfolding slots_of_settling without
-settling_first rs [] p first = absurd (cc)
-settling_first rs (n ∷ ns) p first =
+pub rechecks_first : (rs : List Process) (ns : List ℕ) (p : ℕ) → slice_get ns 0 ≡ Some p → slots_of_rechecking rs (lookup p rs) + slots_of_rechecks rs (without p ns) ≤ slots_of_rechecks rs ns
+unfolding slots_of_rechecks without
+rechecks_first rs [] p first = absurd (cc)
+rechecks_first rs (n ∷ ns) p first =
     let same : n ≡ p = cc in
-    let less = settling_less rs (λ q. not (q == p)) ns in
+    let less = rechecks_less rs (λ q. not (q == p)) ns in
     rw (eq-eqb n p same, same) (omega (arith, less))
 
--- two for each, where a signal is chosen for each
-pub settling_taking : (rs : List Process) (ns : List ℕ) → AreTaking rs ns → slots_of_settling rs ns ≤ 2 * length ns
-unfolding slots_of_settling is_in
-settling_taking rs [] h = omega arith
-settling_taking rs (n ∷ ns) h =
+-- one for each, where a signal is chosen for each
+pub rechecks_taking : (rs : List Process) (ns : List ℕ) → AreTaking rs ns → slots_of_rechecks rs ns ≤ length ns
+unfolding slots_of_rechecks is_in
+rechecks_taking rs [] h = omega arith
+rechecks_taking rs (n ∷ ns) h =
     let it = h n (or_left _ _ (eq-eqb n n refl)) in
-    let rest = settling_taking rs ns (λ p e. h p (or_right _ _ e)) in
+    let rest = rechecks_taking rs ns (λ p e. h p (or_right _ _ e)) in
     rw (it.1, it.2) (omega (arith, rest))
 
--- a step that puts nobody on the list reads no more then
-pub step_reads : (old new : MachineView) (o : Option ℕ) → old.to_recheck ≡ [] → IfSome o (λ n. CostsAtMost n old new) → IfSome o (λ n. ReadsAtMost n old new)
-unfolding slots_of_settling
-step_reads old new None none costs = tt
-step_reads old new (Some n) none costs = record {
-  visits = let list = ap (slots_of_settling new.state.processes) (costs.to_recheck ∙ none) in let read = costs.visits in omega (arith, list, read);
-  foregrounds_unchecked = costs.foregrounds_unchecked;
-}
+-- a call that isn't a wait is told of by one more
+call_brief : (rs : List Process) (me : Process) (b : Option Blocked) → not (is_in_wait b) ≡ true → slots_of_call rs me b ≤ 1
+call_brief rs me None e = omega arith
+call_brief rs me (Some blocked.Waitpid) e = absurd (cc)
+call_brief rs me (Some blocked.Read) e = omega arith
+call_brief rs me (Some blocked.Pause) e = omega arith
+call_brief rs me (Some (blocked.Sigsuspend mask)) e = omega arith
+
+-- two for each, where no child has to be looked at
+pub rechecks_brief : (rs : List Process) (ns : List ℕ) → AreBrief rs ns → slots_of_rechecks rs ns ≤ 2 * length ns
+unfolding slots_of_rechecks is_in
+rechecks_brief rs [] h = omega arith
+rechecks_brief rs (n ∷ ns) h =
+    let it = h n (or_left _ _ (eq-eqb n n refl)) in
+    let rest = rechecks_brief rs ns (λ p e. h p (or_right _ _ e)) in
+    let one = judged it.0 (is_some (chosen it.0.life it.0.signals)) it.2 in
+    rw it.1 (omega (arith, rest, one))
+  where
+    judged : (r : Process) (b : Bool) → (b || not (is_in_wait r.blocked)) ≡ true → cond b 0 (slots_of_call rs r r.blocked) ≤ 1
+    judged r true e = omega arith
+    judged r false e = call_brief rs r r.blocked e
+
+-- ---- foregrounds
+
+-- none is looked at where all are checked
+pub none_unchecked : (cs : List Console) → count_by (is_unchecked Nothing) cs ≡ 0
+none_unchecked [] = refl
+none_unchecked (c ∷ cs) = none_unchecked cs
+
+-- a member of the process group g in a console's session
+record HasMember (g : ℕ) (rs : List Process) (c : Console) : Type 0 where
+  what : Process
+  found : lookup what.pid rs ≡ Some what
+  session : what.session ≡ c.session
+  group : what.group ≡ g
+
+-- there is one where it is the console's foreground process group
+fresh_member : (g : ℕ) (rs : List Process) (c : Console) → IsRising rs → g ≢ 0 → (c.foreground == g) ≡ true → is_fresh rs c ≡ true → HasMember g rs c
+unfolding is_group_of
+fresh_member g rs c up some here fresh =
+    let same = eqb-true c.foreground g here in
+    let group : list_any (λ r. r.session == c.session && r.group == c.foreground) rs ≡ true = sym (ap (λ b. b || list_any (λ r. r.session == c.session && r.group == c.foreground) rs) (ne_eqb c.foreground 0 (λ none. some (sym same ∙ none)))) ∙ fresh in
+    let it = some_looked (λ r. r.session == c.session && r.group == c.foreground) rs up group in
+    let both = and_parts (it.0.session == c.session) (it.0.group == c.foreground) it.2 in
+    record { what = it.0; found = it.1; session = eqb-true _ _ both.0; group = eqb-true _ _ both.1 ∙ same }
+
+-- a session has one console
+abbrev AreApart : List Console → Type 0
+AreApart cs = (i j : ℕ) (c d : Console) → slice_get cs i ≡ Some c → slice_get cs j ≡ Some d → c.session ≢ 0 → c.session ≡ d.session → i ≡ j
+
+-- So no other console has the foreground process group g, as all members are in one session.
+none_others : (g : ℕ) (s : State) (c : Console) → IsRegular s → g ≢ 0 → HasMember g s.processes c → (ds : List Console) → ((j : ℕ) (d : Console) → slice_get ds j ≡ Some d → c.session ≡ d.session → c.session ≢ 0 → ⊥) → AllByRecursion (λ c. is_fresh s.processes c ≡ true) ds
+    → length (filter (is_unchecked (Group g)) ds) ≡ 0
+none_others g s c i some m [] none fresh = refl
+none_others g s c i some m (d ∷ ds) none fresh = elim (d.foreground == g) as (λ b. (d.foreground == g) ≡ b → length (cond b (d ∷ filter (is_unchecked (Group g)) ds) (filter (is_unchecked (Group g)) ds)) ≡ 0) [
+  | true ↦ λ here.
+      let n = fresh_member g s.processes d i.rising some here fresh.0 in
+      let session = i.grouped.one m.what.pid n.what.pid m.what n.what m.found n.found (m.group ∙ sym n.group) in
+      let least = (i.bounded m.what.pid m.what m.found).session_least in
+      absurd (none 0 d refl (sym m.session ∙ session ∙ n.session) (λ zero. let was = m.session in omega (arith, least, zero, was)))
+  | false ↦ λ e. none_others g s c i some m ds (λ j d at. none (suc j) d at) fresh.1
+] refl
+
+one_group : (g : ℕ) (s : State) (cs : List Console) → IsRegular s → g ≢ 0 → AreApart cs → AllByRecursion (λ c. is_fresh s.processes c ≡ true) cs → length (filter (is_unchecked (Group g)) cs) ≤ 1
+one_group g s [] i some apart fresh = omega arith
+one_group g s (c ∷ cs) i some apart fresh = elim (c.foreground == g) as (λ b. (c.foreground == g) ≡ b → length (cond b (c ∷ filter (is_unchecked (Group g)) cs) (filter (is_unchecked (Group g)) cs)) ≤ 1) [
+  | true ↦ λ here. let none = none_others g s c i some (fresh_member g s.processes c i.rising some here fresh.0) cs (λ j d at same k. let no = apart 0 (suc j) c d refl at k same in omega (arith, no)) fresh.1 in omega (arith, none)
+  | false ↦ λ e. one_group g s cs i some (λ i j c d a b k e. let both = apart (suc i) (suc j) c d a b k e in omega (arith, both)) fresh.1
+] refl
+
+-- at most one console is unchecked
+one_unchecked : (s : State) → IsRegular s → AreFresh s → (u : Unchecked) → AreFew u → count_by (is_unchecked u) s.consoles ≤ 1
+one_unchecked s i fresh Nothing few = let none = none_unchecked s.consoles in omega (arith, none)
+one_unchecked s i fresh (Group g) few = let one = one_group g s s.consoles i few i.consoles.apart fresh in let same = length-filter (is_unchecked (Group g)) s.consoles in omega (arith, one, same)
+one_unchecked s i fresh All few = absurd few
+
+-- what settling reads after what is brief
+pub settling_brief : (most : ℕ) (old new : MachineView) → IsAtRest old → IsBrief most old new → ReadsAtMost (most + 3) old new
+settling_brief most old new rest h =
+    let brief = rechecks_brief new.state.processes new.to_recheck h.brief in
+    let few = h.few in
+    let one = one_unchecked old.state rest.regular rest.settled.fresh new.foregrounds_unchecked h.unchecked in
+    let consoles = ap (count_by (is_unchecked new.foregrounds_unchecked)) h.consoles in
+    let read = h.visits in
+    omega (arith, brief, few, one, consoles, read)
+
+-- and after a step that leaves nothing to settle
+pub settling_none : (n : ℕ) (old new : MachineView) → IsAtRest old → CostsAtMost n old new → ReadsAtMost n old new
+unfolding slots_of_rechecks
+settling_none n old new rest costs = rw (costs.to_recheck ∙ rest.none, costs.foregrounds_unchecked ∙ rest.checked, none_unchecked new.state.consoles) (let read = costs.visits in omega (arith, read))
+
+-- so after a step
+pub step_reads : (old new : MachineView) (o : Option Process) → IsAtRest old → IfSome (slots_of_own_step old.state o) (λ n. CostsAtMost n old new)
+    → ((me : Process) → o ≡ Some me → IfSome (slots_of_acting old.state me me.blocked) (λ n. IsBrief (n + 1) old new)) → IfSome (slots_of_step old.state o) (λ n. ReadsAtMost n old new)
+step_reads old new None rest costs brief = settling_none 3 old new rest costs
+step_reads old new (Some me) rest costs brief = by (slots_of_own_step old.state (Some me)) costs
+  where
+    acts : (a : Option ℕ) → IfSome a (λ n. IsBrief (n + 1) old new) → IfSome (option_map (λ n. n + 4) a) (λ n. ReadsAtMost n old new)
+    acts None h = tt
+    acts (Some n) h = let all = settling_brief (n + 1) old new rest h in omega (arith, all)
+
+    by : (own : Option ℕ) → IfSome own (λ n. CostsAtMost n old new) → IfSome (cond (is_some own) own (option_map (λ n. n + 4) (slots_of_acting old.state me me.blocked))) (λ n. ReadsAtMost n old new)
+    by None h = acts (slots_of_acting old.state me me.blocked) (brief me refl)
+    by (Some n) h = settling_none n old new rest h
+
+-- and a key
+pub key_reads : (console byte : ℕ) (old new : MachineView) → IsAtRest old → new.visits ≤ old.visits + slots_of_key console byte old → new.foregrounds_unchecked ≡ old.foregrounds_unchecked
+    → AreBrief new.state.processes new.to_recheck × (length new.to_recheck ≤ length (foreground_members console old.state)) → ReadsAtMost (1 + 5 * length (foreground_members console old.state)) old new
+key_reads console byte old new rest read still h =
+    let slots = key_slots console byte old in
+    let brief = rechecks_brief new.state.processes new.to_recheck h.0 in
+    let few = h.1 in
+    let none = ap (λ u. count_by (is_unchecked u) new.state.consoles) (still ∙ rest.checked) ∙ none_unchecked new.state.consoles in
+    omega (arith, read, slots, brief, few, none)

@@ -9,3 +9,4 @@ pub mod AgainLemmas
 pub mod BlockLemmas
 pub mod AgreeLemmas
 mod AccountLemmas
+pub mod CallCountLemmas

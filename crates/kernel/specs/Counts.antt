@@ -1,5 +1,5 @@
 -- How many slots of the table of processes are read in an event, at most.
-use Rattle.std.specs.Prelude.{◌≡◌, ℕ, ◌+◌, ◌*◌, ◌≤◌, if◌then◌else◌, List, [], ◌∷◌, length, filter, Option, Some, None, is_some}
+use Rattle.std.specs.Prelude.{◌&&◌, ◌||◌, ◌==◌, not, Bool, false, option_map, count_by, ◌≡◌, ℕ, ◌+◌, ◌*◌, ◌≤◌, if◌then◌else◌, List, [], ◌∷◌, length, filter, Option, Some, None, is_some}
 use Rattle.posix.specs.declared.event.Event.{Event}
 use Rattle.posix.specs.declared.event.Event.TheVariants.{Step, Tick, Key}
 use Rattle.posix.specs.declared.process.Blocked.{Blocked}
@@ -10,6 +10,19 @@ use Rattle.posix.specs.Targets.{target_in}
 use Rattle.posix.specs.Alarms.{is_due}
 use Rattle.posix.specs.States.{State, current_process}
 use Rattle.posix.specs.Choice.{chosen}
+use Rattle.posix.specs.declared.instr.Trap.{Trap}
+use Rattle.posix.specs.declared.instr.Trap.TheVariants as trap
+use Rattle.posix.specs.SignalNumbers.{KILL}
+use Rattle.posix.specs.Tables.{children_in}
+use Rattle.posix.specs.Waits.{wait}
+use Rattle.posix.specs.Execute.{exec_one}
+use Rattle.posix.specs.Regular.{IsRegular}
+use Rattle.posix.specs.Settle.{IsSettled, is_block}
+use Rattle.posix.specs.Step.{code_of}
+use Rattle.life.specs.declared.consoles.Unchecked.TheVariants.{Nothing}
+use Rattle.life.specs.Foregrounds.{is_unchecked}
+use Rattle.life.specs.Consoles.{foreground_members}
+use Rattle.calls.specs.Outcomes.{slots_of_brief}
 use Rattle.life.specs.Waits.{slots_of_wait}
 use Rattle.life.specs.Machines.{MachineView}
 use Rattle.kernel.specs.Steps.{next_changes_one, next_enters}
@@ -19,7 +32,7 @@ use Rattle.kernel.specs.Steps.{next_changes_one, next_enters}
 -- to tell whether a call goes on in which a process is: a wait is attempted
 abbrev pub slots_of_call : List Process → Process → Option Blocked → ℕ
 slots_of_call rs me None = 0
-slots_of_call rs me (Some blocked.Waitpid) = 3 + slots_of_wait (target_in (argument me 1)) me.pid rs
+slots_of_call rs me (Some blocked.Waitpid) = 2 + slots_of_wait (target_in (argument me 1)) me.pid rs
 slots_of_call rs me (Some blocked.Read) = 1
 slots_of_call rs me (Some blocked.Pause) = 0
 slots_of_call rs me (Some (blocked.Sigsuspend mask)) = 0
@@ -30,18 +43,62 @@ slots_of_judging rs me = if is_some (chosen me.life me.signals) then 0 else slot
 
 abbrev pub slots_of_rechecking : List Process → Option Process → ℕ
 slots_of_rechecking rs None = 0
-slots_of_rechecking rs (Some me) = 2 + slots_of_judging rs me
+slots_of_rechecking rs (Some me) = 1 + slots_of_judging rs me
 
 -- to recheck these
-unfoldable pub slots_of_settling : List Process → List ℕ → ℕ
-slots_of_settling rs [] = 0
-slots_of_settling rs (p ∷ ps) = slots_of_rechecking rs (lookup p rs) + slots_of_settling rs ps
+unfoldable pub slots_of_rechecks : List Process → List ℕ → ℕ
+slots_of_rechecks rs [] = 0
+slots_of_rechecks rs (p ∷ ps) = slots_of_rechecking rs (lookup p rs) + slots_of_rechecks rs ps
 
--- At most so many slots were read, with those that rechecking reads; and whether a foreground process group may have lost
--- its members is as before.
-pub record ReadsAtMost (most : ℕ) (old new : MachineView) : Type 0 where
-  pub visits : new.visits + slots_of_settling new.state.processes new.to_recheck ≤ old.visits + most
-  pub foregrounds_unchecked : new.foregrounds_unchecked ≡ old.foregrounds_unchecked
+-- to settle: one for each console whose foreground process group is unchecked, and those of rechecking
+abbrev pub slots_of_settling : MachineView → ℕ
+slots_of_settling m = count_by (is_unchecked m.foregrounds_unchecked) m.state.consoles + slots_of_rechecks m.state.processes m.to_recheck
+
+-- At most so many slots were read, with those that settling reads.
+abbrev pub ReadsAtMost : ℕ → MachineView → MachineView → Type 0
+ReadsAtMost most old new = new.visits + slots_of_settling new ≤ old.visits + most
+
+-- Nothing is left to settle.
+pub record IsAtRest (m : MachineView) : Type 0 where
+  pub none : m.to_recheck ≡ []
+  pub checked : m.foregrounds_unchecked ≡ Nothing
+  pub settled : IsSettled m.state
+  pub regular : IsRegular m.state
+
+-- ---- a step
+
+-- an instruction that comes out so: a wait or a kill of one process
+abbrev pub slots_of_trap : List Process → Process → Trap → Option ℕ
+slots_of_trap rs me trap.Next = None
+slots_of_trap rs me (trap.Note z) = None
+slots_of_trap rs me (trap.Call call) = option_map (λ n. n + 2) (slots_of_brief call rs me)
+slots_of_trap rs me (trap.Fault sig) = None
+
+-- KILL is chosen
+abbrev pub is_kill : Option ℕ → Bool
+is_kill None = false
+is_kill (Some n) = n == KILL
+
+-- a process that is blocked in a wait attempts it again, and no signal is delivered to it then
+abbrev pub delivers_nothing : State → Process → Bool
+delivers_nothing s me = not (is_kill (chosen me.life me.signals)) && (not (is_some (chosen me.life me.signals)) || not (is_block (wait s me)))
+
+-- what a process in this call reads as it acts, beside its own snapshot
+abbrev pub slots_of_acting : State → Process → Option Blocked → Option ℕ
+slots_of_acting s me None = if is_some (chosen me.life me.signals) then None else slots_of_trap s.processes me (exec_one (code_of s me) me.cpu).trap
+slots_of_acting s me (Some blocked.Waitpid) = if delivers_nothing s me then Some (9 + 2 * length (children_in me.pid s.processes)) else None
+slots_of_acting s me (Some blocked.Read) = None
+slots_of_acting s me (Some blocked.Pause) = None
+slots_of_acting s me (Some (blocked.Sigsuspend mask)) = None
+
+-- a step whose instruction changes the process alone that runs it, or is a machine fault that enters a handler
+abbrev pub slots_of_own_step : State → Option Process → Option ℕ
+slots_of_own_step s me = if next_changes_one s me then Some 3 else if next_enters s me then Some 4 else None
+
+-- any step, with what settling reads after it
+abbrev pub slots_of_step : State → Option Process → Option ℕ
+slots_of_step s None = Some 3
+slots_of_step s (Some me) = if is_some (slots_of_own_step s (Some me)) then slots_of_own_step s (Some me) else option_map (λ n. n + 4) (slots_of_acting s me me.blocked)
 
 -- ---- an event
 
@@ -49,14 +106,12 @@ pub record ReadsAtMost (most : ℕ) (old new : MachineView) : Type 0 where
 abbrev pub alarms_due : State → ℕ
 alarms_due s = length (filter (λ r. is_due (s.ticks + 1) r.alarm) s.processes)
 
--- a step
-abbrev pub slots_of_step : State → Option Process → Option ℕ
-slots_of_step s me = if next_changes_one s me then Some 3 else if next_enters s me then Some 4 else None
-
--- At most so many slots are read in an event, where this is Some; no count is promised of the others. A step reads three where
--- its instruction changes the process alone that runs it, and four where a machine fault enters a handler; a tick three
--- for each alarm that is due.
+-- At most so many slots are read in an event, where this is Some; no count is promised of the others. A step reads three
+-- where its instruction changes the process alone that runs it; four where a machine fault enters a handler; 11 where it
+-- is a kill of one process by its number, without CONT; and 15, and two for each child, where it attempts a wait and
+-- delivers no signal. A tick reads two for each alarm that is due, a key one, and five for each member of the console's
+-- foreground process group.
 abbrev pub slots_of_event : Event → State → Option ℕ
 slots_of_event Step s = slots_of_step s (current_process s)
-slots_of_event Tick s = Some (3 * alarms_due s)
-slots_of_event (Key console byte) s = None
+slots_of_event Tick s = Some (2 * alarms_due s)
+slots_of_event (Key console byte) s = Some (1 + 5 * length (foreground_members console s))

@@ -45,13 +45,14 @@ impl<K: Kin> Model for KernelOn<K> {
     ghost use Rattle.posix.specs.Settle.{IsSettled};
     ghost use Rattle.posix.specs.Regular.{IsRegular};
     ghost use Rattle.laws.specs.Agree.{AreTurns};
+    ghost use Rattle.life.specs.declared.consoles.Unchecked.TheVariants.{Nothing};
     ghost use Rattle.kernel.specs.Views.{KernelView};
 
     ghost Value = { KernelView };
 
     ghost view = { λ k. record { state = k.machine.state; events = k.events; visits = k.machine.visits } };
 
-    ghost invariant = { λ k. (k.machine.state.births ≤ k.events + 1) × (k.machine.state.ticks ≤ k.events) × IsSettled k.machine.state × IsRegular k.machine.state × (k.machine.to_recheck ≡ []) × (k.machine.foregrounds_unchecked ≡ false) × AreTurns k.machine.state };
+    ghost invariant = { λ k. (k.machine.state.births ≤ k.events + 1) × (k.machine.state.ticks ≤ k.events) × IsSettled k.machine.state × IsRegular k.machine.state × (k.machine.to_recheck ≡ []) × (k.machine.foregrounds_unchecked ≡ Nothing) × AreTurns k.machine.state };
 }
 
 impl<K: Kin> KernelOn<K> {

@@ -9,10 +9,11 @@ ghost use Rattle.posix.specs.Regular.{IsRegular};
 ghost use Rattle.posix.specs.Settle.{can_act as acting, can_go_on, give_places as giving_places, settle as settling, woken};
 ghost use Rattle.proctable.specs.Records.{snapshot_of};
 ghost use Rattle.life.specs.Machines.{AreSame};
-ghost use Rattle.kernel.specs.Counts.{slots_of_judging, slots_of_settling};
+ghost use Rattle.life.specs.Consoles.{reads};
+ghost use Rattle.kernel.specs.Counts.{slots_of_judging, slots_of_rechecks, slots_of_settling};
 
 use calls::{has_to_read, has_to_wait};
-use life::Machine;
+use life::{Machine, Unchecked, reads_in};
 use posix::{Blocked, Life, Pid};
 use proctable::{Kin, Snapshot};
 
@@ -31,23 +32,21 @@ fn is_awake<K: Kin>(machine: &mut Machine<K>, pid: Pid, snapshot: Snapshot) -> b
     }
     match snapshot.blocked {
         None => true,
-        Some(Blocked::Waitpid) => !has_to_wait(machine, pid),
+        Some(Blocked::Waitpid) => !has_to_wait(machine, pid, snapshot),
         Some(Blocked::Read) => !has_to_read(machine, pid, snapshot),
         Some(Blocked::Pause | Blocked::Sigsuspend(_)) => false,
     }
 }
 
-/// Whether a process that is there can act: KILL is pending for it, or it runs and needn't wait.
+/// Whether a process that is there, with this snapshot, can act: KILL is pending for it, or it runs and needn't wait.
 #[tactic(auto, unfolding(posix::specs::Settle::can_act))]
-fn can_act<K: Kin>(machine: &mut Machine<K>, pid: Pid) -> bool
-    requires { IsSome (process machine.old.state pid) }
+fn can_act<K: Kin>(machine: &mut Machine<K>, pid: Pid, snapshot: Snapshot) -> bool
+    requires there { IsSome (process machine.old.state pid) }
+    requires snapshot { Some snapshot ≡ option_map snapshot_of (process machine.old.state pid) }
     ensures value { (me : Process) → process machine.old.state pid ≡ Some me → result ≡ acting machine.old.state me }
     ensures same { AreSame machine.old machine.new }
-    ensures visits { (me : Process) → process machine.old.state pid ≡ Some me → machine.new.visits ≤ machine.old.visits + 1 + slots_of_judging machine.old.state.processes me }
+    ensures visits { (me : Process) → process machine.old.state pid ≡ Some me → machine.new.visits ≤ machine.old.visits + slots_of_judging machine.old.state.processes me }
 {
-    let Some(snapshot) = machine.snapshot(pid) else {
-        return false;
-    };
     match snapshot.life {
         Life::Running => is_awake(machine, pid, snapshot),
         Life::Stopped => snapshot.chosen.is_some(),
@@ -55,19 +54,29 @@ fn can_act<K: Kin>(machine: &mut Machine<K>, pid: Pid) -> bool
     }
 }
 
-/// Gives a process that is to be rechecked the last place, if it has none and can act.
+/// Gives a process that is to be rechecked the last place, if it has none and can act. Where it waits to read, the
+/// session from whose terminal.
 #[tactic(auto, unfolding(posix::specs::Settle::woken))]
-fn wake<K: Kin>(machine: &mut Machine<K>, pid: Pid)
+fn wake<K: Kin>(machine: &mut Machine<K>, pid: Pid) -> Option<Pid>
     requires there { IsSome (process machine.old.state pid) }
     requires to_recheck { is_in pid machine.old.to_recheck ≡ true }
+    ensures reads { result ≡ reads machine.new.state pid }
     ensures state { machine.new.state ≡ woken machine.old.state pid }
     ensures to_recheck { machine.new.to_recheck ≡ machine.old.to_recheck }
     ensures foregrounds_unchecked { machine.new.foregrounds_unchecked ≡ machine.old.foregrounds_unchecked }
     ensures visits { (me : Process) → process machine.old.state pid ≡ Some me → machine.new.visits ≤ machine.old.visits + 1 + slots_of_judging machine.old.state.processes me }
 {
-    if !machine.has_place(pid) && can_act(machine, pid) {
-        machine.place(pid);
+    if machine.has_place(pid) {
+        return None;
     }
+    let Some(snapshot) = machine.snapshot(pid) else {
+        unreachable!()
+    };
+    if can_act(machine, pid, snapshot) {
+        machine.place(pid);
+        return None;
+    }
+    reads_in(&snapshot)
 }
 
 /// Each process that can act has a place: those that have none get theirs at the end of the order, in the
@@ -77,11 +86,11 @@ fn give_places<K: Kin>(machine: &mut Machine<K>)
     ensures regular { IsRegular machine.new.state }
     ensures to_recheck { machine.new.to_recheck ≡ [] }
     ensures foregrounds_unchecked { machine.new.foregrounds_unchecked ≡ machine.old.foregrounds_unchecked }
-    ensures visits { machine.new.visits ≤ machine.old.visits + slots_of_settling machine.old.state.processes machine.old.to_recheck }
+    ensures visits { machine.new.visits ≤ machine.old.visits + slots_of_rechecks machine.old.state.processes machine.old.to_recheck }
 {
     while let Some(pid) = machine.first_to_recheck() {
-        wake(machine, pid);
-        machine.rechecked(pid);
+        let session = wake(machine, pid);
+        machine.rechecked(pid, session);
     }
 }
 
@@ -92,8 +101,8 @@ pub fn settle<K: Kin>(machine: &mut Machine<K>)
     ensures state { machine.new.state ≡ settling machine.old.state }
     ensures regular { IsRegular machine.new.state }
     ensures to_recheck { machine.new.to_recheck ≡ [] }
-    ensures foregrounds_unchecked { machine.new.foregrounds_unchecked ≡ false }
-    ensures visits { machine.old.foregrounds_unchecked ≡ false → machine.new.visits ≤ machine.old.visits + slots_of_settling machine.old.state.processes machine.old.to_recheck }
+    ensures foregrounds_unchecked { machine.new.foregrounds_unchecked ≡ Unchecked.Nothing }
+    ensures visits { machine.new.visits ≤ machine.old.visits + slots_of_settling machine.old }
 {
     machine.clear_foregrounds();
     give_places(machine);

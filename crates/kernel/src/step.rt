@@ -1,12 +1,12 @@
 //! One event of the machine. What it shows is added to a list of entries that is empty before, so that
 //! an instruction that shows nothing moves none.
 
-ghost use Rattle.std.specs.Prelude.{◌≡◌, ◌≢◌, ◌+◌, ◌*◌, ℕ, [], IfSome, ◌<◌, ◌≤◌, ◌^◌, IsSome, Some, option_map, false, true};
+ghost use Rattle.std.specs.Prelude.{◌≡◌, ◌≢◌, ◌+◌, ◌*◌, ℕ, [], length, None, IfSome, ◌<◌, ◌≤◌, ◌^◌, IsSome, Some, option_map, false, true};
 ghost use Rattle.posix.specs.declared.call.Call.{Call as CallValue};
 ghost use Rattle.posix.specs.NextPid.{is_free};
 ghost use Rattle.posix.specs.Processes.{Process};
 ghost use Rattle.posix.specs.Choice.{chosen};
-ghost use Rattle.posix.specs.States.{process, current_process, change, is_in, lose_place as losing_place};
+ghost use Rattle.posix.specs.States.{process, current_process, change, lose_place as losing_place};
 ghost use Rattle.posix.specs.Outcomes.{Block};
 ghost use Rattle.posix.specs.Waits.{wait};
 ghost use Rattle.posix.specs.Execute.{exec_one};
@@ -16,15 +16,20 @@ ghost use Rattle.posix.specs.Attempts.{attempt_again};
 ghost use Rattle.posix.specs.Regular.{IsPlaced, IsRegular};
 ghost use Rattle.posix.specs.Settle.{IsSettled};
 ghost use Rattle.proctable.specs.Records.{snapshot_of};
-ghost use Rattle.calls.specs.Outcomes.{IsActing, CostsAtMost, changes_caller_alone};
-ghost use Rattle.kernel.specs.Counts.{ReadsAtMost, alarms_due, slots_of_event, slots_of_step};
+ghost use Rattle.posix.specs.States.{has_place};
+ghost use Rattle.life.specs.Rechecks.{is_in_wait};
+ghost use Rattle.posix.specs.Tables.{children_in};
+ghost use Rattle.posix.specs.Settle.{is_block};
+ghost use Rattle.pidset.specs.Numbers.{with_number};
+ghost use Rattle.calls.specs.Outcomes.{IsActing, IsQuiet, IsBrief, CostsAtMost, changes_caller_alone, slots_of_brief};
+ghost use Rattle.kernel.specs.Counts.{IsAtRest, ReadsAtMost, alarms_due, delivers_nothing, slots_of_acting, slots_of_event, slots_of_own_step, slots_of_trap};
 ghost use Rattle.kernel.specs.Steps.{ActsAs, Begins, Bursts, ComesTo, Happens, NoneChosen, RunsInstruction, Steps, next_changes_one, changes_one, next_enters, enters, is_followed_by_step, runner, taken_at_once};
 
 use crate::settle::settle;
 use calls::delivery::{deliver, end, fault};
 use calls::outcome::Attempt;
 use calls::{Entries, attempt, attempt_again};
-use life::{Machine, Notes};
+use life::{Machine, Notes, Unchecked};
 use posix::{Blocked, Call, Entry, Event, Pid, Sig, Status, Trap};
 use proctable::{Kin, Snapshot};
 
@@ -32,6 +37,9 @@ use proctable::{Kin, Snapshot};
 fn enter_call<K: Kin>(machine: &mut Machine<K>, pid: Pid, blocked: Blocked)
     requires { IsSome (process machine.old.state pid) }
     ensures state { machine.new.state ≡ losing_place (change machine.old.state pid (entered blocked)) pid }
+    ensures to_recheck { has_place machine.old.state pid ≡ true → machine.new.to_recheck ≡ with_number pid machine.old.to_recheck }
+    ensures foregrounds_unchecked { machine.new.foregrounds_unchecked ≡ machine.old.foregrounds_unchecked }
+    ensures visits { machine.new.visits ≤ machine.old.visits + 1 }
 {
     machine.own(pid).enter(blocked);
     machine.lose_place(pid);
@@ -44,11 +52,34 @@ fn block<K: Kin>(machine: &mut Machine<K>, pid: Pid, call: Call, blocked: Blocke
     requires none_chosen { NoneChosen machine.old.state pid }
     requires waits { (me : Process) → process machine.old.state pid ≡ Some me → call ≡ Call.Waitpid → wait machine.old.state me ≡ Block blocked }
     ensures state { machine.new.state ≡ losing_place (change machine.old.state pid (entered blocked)) pid }
-    ensures to_recheck { call ≡ Call.Waitpid → is_in pid machine.new.to_recheck ≡ false }
+    ensures brief { call ≡ Call.Waitpid → IsQuiet pid machine.old → IsBrief 1 machine.old machine.new }
 {
     enter_call(machine, pid, blocked);
     if let Call::Waitpid = call {
-        machine.rechecked(pid);
+        machine.rechecked(pid, None);
+    }
+}
+
+/// Whether a process that is blocked in this call waits for a child.
+fn is_wait(blocked: &Blocked) -> bool
+    ensures { result ≡ is_in_wait (Some blocked.now) }
+{
+    matches!(blocked, Blocked::Waitpid)
+}
+
+/// A process for which no signal is chosen still has to wait in its call, and loses its place. Where it waits for a
+/// child, and so has looked for one, it isn't asked again.
+fn wait_on<K: Kin>(machine: &mut Machine<K>, pid: Pid, waits: bool)
+    requires acting { IsActing machine.old.state pid }
+    requires none_chosen { NoneChosen machine.old.state pid }
+    requires blocked { (me : Process) → process machine.old.state pid ≡ Some me → waits ≡ true → me.blocked ≡ Some Blocked.Waitpid }
+    requires waits { (me : Process) → process machine.old.state pid ≡ Some me → waits ≡ true → is_block (wait machine.old.state me) ≡ true }
+    ensures state { machine.new.state ≡ losing_place machine.old.state pid }
+    ensures brief { waits ≡ true → IsQuiet pid machine.old → IsBrief 0 machine.old machine.new }
+{
+    machine.lose_place(pid);
+    if waits {
+        machine.rechecked(pid, None);
     }
 }
 
@@ -63,6 +94,7 @@ fn begin_call<K: Kin>(machine: &mut Machine<K>, pid: Pid, call: Call, entries: &
     requires none { entries.old.items ≡ [] }
     ensures begins { Begins machine.old.state pid call entries.new.items machine.new.state }
     ensures own { changes_caller_alone call ≡ true → CostsAtMost 1 machine.old machine.new }
+    ensures brief { (me : Process) → process machine.old.state pid ≡ Some me → IsQuiet pid machine.old → IfSome (slots_of_brief call machine.old.state.processes me) (λ n. IsBrief (n + 1) machine.old machine.new) }
 {
     match attempt(machine, pid, call, entries) {
         Attempt::Done | Attempt::Again => {}
@@ -84,15 +116,18 @@ fn go_on<K: Kin>(
     requires acting { IsActing machine.old.state pid }
     requires regular { IsRegular machine.old.state }
     requires signal { (me : Process) → process machine.old.state pid ≡ Some me → signal ≡ chosen me.life me.signals }
+    requires blocked { (me : Process) → process machine.old.state pid ≡ Some me → me.blocked ≡ Some blocked }
     requires none { entries.old.items ≡ [] }
-    ensures { (me : Process) → process machine.old.state pid ≡ Some me → going_on machine.old.state me (attempt_again machine.old.state me blocked) ≡ record { state = machine.new.state; entries = entries.new.items } }
+    ensures goes_on { (me : Process) → process machine.old.state pid ≡ Some me → going_on machine.old.state me (attempt_again machine.old.state me blocked) ≡ record { state = machine.new.state; entries = entries.new.items } }
+    ensures brief { (me : Process) → process machine.old.state pid ≡ Some me → IsQuiet pid machine.old → blocked ≡ Blocked.Waitpid → delivers_nothing machine.old.state me ≡ true → IsBrief (9 + 2 * length (children_in pid machine.old.state.processes)) machine.old machine.new }
 {
+    let waits = is_wait(&blocked);
     match attempt_again(machine, pid, blocked, entries) {
         Attempt::Done => {}
         Attempt::Again => machine.own(pid).leave(),
         Attempt::Block(_) => match signal {
             Some(sig) => deliver(machine, pid, sig, entries),
-            None => machine.lose_place(pid),
+            None => wait_on(machine, pid, waits),
         },
     }
 }
@@ -110,6 +145,7 @@ fn run_instruction<K: Kin>(machine: &mut Machine<K>, pid: Pid, program: u8, entr
     ensures runs { RunsInstruction machine.old.state pid entries.new.items machine.new.state }
     ensures cost { (me : Process) → process machine.old.state pid ≡ Some me → changes_one (exec_one (code_of machine.old.state me) me.cpu).trap ≡ true → CostsAtMost 2 machine.old machine.new }
     ensures enters { (me : Process) → process machine.old.state pid ≡ Some me → enters me (exec_one (code_of machine.old.state me) me.cpu).trap ≡ true → CostsAtMost 3 machine.old machine.new }
+    ensures brief { (me : Process) → process machine.old.state pid ≡ Some me → IsQuiet pid machine.old → IfSome (slots_of_trap machine.old.state.processes me (exec_one (code_of machine.old.state me) me.cpu).trap) (λ n. IsBrief n machine.old machine.new) }
 {
     match machine.exec_one(pid, program) {
         Trap::Next => {}
@@ -132,6 +168,7 @@ fn act<K: Kin>(machine: &mut Machine<K>, pid: Pid, snapshot: Snapshot, entries: 
     ensures acts { ActsAs machine.old.state pid entries.new.items machine.new.state }
     ensures cost { next_changes_one machine.old.state (process machine.old.state pid) ≡ true → CostsAtMost 2 machine.old machine.new }
     ensures enters { next_enters machine.old.state (process machine.old.state pid) ≡ true → CostsAtMost 3 machine.old machine.new }
+    ensures brief { (me : Process) → process machine.old.state pid ≡ Some me → IsQuiet pid machine.old → IfSome (slots_of_acting machine.old.state me me.blocked) (λ n. IsBrief n machine.old machine.new) }
 {
     let Snapshot {
         chosen,
@@ -158,7 +195,8 @@ fn step<K: Kin>(machine: &mut Machine<K>, entries: &mut Entries)
     requires time { machine.old.state.ticks + most_ticks < 2 ^ 64 }
     requires none { entries.old.items ≡ [] }
     ensures steps { Steps machine.old.state entries.new.items machine.new.state }
-    ensures cost { IfSome (slots_of_step machine.old.state (current_process machine.old.state)) (λ n. CostsAtMost n machine.old machine.new) }
+    ensures cost { IfSome (slots_of_own_step machine.old.state (current_process machine.old.state)) (λ n. CostsAtMost n machine.old machine.new) }
+    ensures brief { (me : Process) → current_process machine.old.state ≡ Some me → machine.old.to_recheck ≡ [] → machine.old.foregrounds_unchecked ≡ Unchecked.Nothing → IfSome (slots_of_acting machine.old.state me me.blocked) (λ n. IsBrief (n + 1) machine.old machine.new) }
 {
     let Some(pid) = machine.current() else {
         return;
@@ -175,7 +213,7 @@ fn step<K: Kin>(machine: &mut Machine<K>, entries: &mut Entries)
 fn tick<K: Kin>(machine: &mut Machine<K>)
     requires { machine.old.state.ticks + 1 < 2 ^ 64 }
     ensures state { machine.new.state ≡ ticking machine.old.state }
-    ensures cost { machine.old.to_recheck ≡ [] → ReadsAtMost (3 * alarms_due machine.old.state) machine.old machine.new }
+    ensures cost { machine.old.to_recheck ≡ [] → machine.old.foregrounds_unchecked ≡ Unchecked.Nothing → ReadsAtMost (2 * alarms_due machine.old.state) machine.old machine.new }
 {
     machine.pass_time();
     if let Some(pid) = machine.current() {
@@ -190,7 +228,7 @@ fn happen<K: Kin>(machine: &mut Machine<K>, event: Event, entries: &mut Entries)
     requires time { machine.old.state.ticks + most_ticks < 2 ^ 64 }
     requires none { entries.old.items ≡ [] }
     ensures happens { Happens machine.old.state event entries.new.items machine.new.state }
-    ensures cost { machine.old.to_recheck ≡ [] → IfSome (slots_of_event event machine.old.state) (λ n. ReadsAtMost n machine.old machine.new) }
+    ensures cost { IsAtRest machine.old → IfSome (slots_of_event event machine.old.state) (λ n. ReadsAtMost n machine.old machine.new) }
 {
     match event {
         Event::Step => step(machine, entries),
@@ -275,7 +313,7 @@ pub fn call_next<K: Kin>(machine: &mut Machine<K>, pid: Pid, call: Call, entries
     ensures step { IsStep machine.old.state Event.Step entries.new.items machine.new.state }
     ensures regular { IsRegular machine.new.state }
     ensures to_recheck { machine.new.to_recheck ≡ [] }
-    ensures foregrounds_unchecked { machine.new.foregrounds_unchecked ≡ false }
+    ensures foregrounds_unchecked { machine.new.foregrounds_unchecked ≡ Unchecked.Nothing }
 {
     begin_call(machine, pid, call, entries);
     settle(machine);
@@ -290,8 +328,8 @@ pub fn next<K: Kin>(machine: &mut Machine<K>, event: Event, entries: &mut Entrie
     ensures step { IsStep machine.old.state event entries.new.items machine.new.state }
     ensures regular { IsRegular machine.new.state }
     ensures to_recheck { machine.old.to_recheck ≡ [] → machine.new.to_recheck ≡ [] }
-    ensures foregrounds_unchecked { machine.old.foregrounds_unchecked ≡ false → machine.new.foregrounds_unchecked ≡ false }
-    ensures visits { machine.old.to_recheck ≡ [] → machine.old.foregrounds_unchecked ≡ false → IfSome (slots_of_event event machine.old.state) (λ n. machine.new.visits ≤ machine.old.visits + n) }
+    ensures foregrounds_unchecked { machine.old.foregrounds_unchecked ≡ Unchecked.Nothing → machine.new.foregrounds_unchecked ≡ Unchecked.Nothing }
+    ensures visits { IsAtRest machine.old → IfSome (slots_of_event event machine.old.state) (λ n. machine.new.visits ≤ machine.old.visits + n) }
 {
     if machine.is_halted() {
         return;

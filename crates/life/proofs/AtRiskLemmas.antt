@@ -1,10 +1,9 @@
 -- The process groups that an end may orphan: how they are noted, and how they are gone through.
 use Rattle.std.proofs.Common.{◌≡◌, ℕ, ◌+◌, ◌≤◌, Bool, true, false, cond, ◌&&◌, ◌||◌, ◌==◌, refl, ap, sym, ◌∙◌, arith, subst, List, [], ◌∷◌, ◌++◌, filter, length, Option, Some, None, slice_get, ⊎_elim}
 use Rattle.std.specs.List.{list_any}
-use Rattle.std.specs.Option.{IsSome, option_map_or}
 use Rattle.std.specs.Prelude.{option_and_then}
 use Rattle.std.proofs.lemmas.Bool.{eqb-true, and_parts, or_cases, or_right}
-use Rattle.posix.specs.Processes.{Process, root, is_zombie}
+use Rattle.posix.specs.Processes.{Process, root}
 use Rattle.posix.specs.Numbers.{with_number}
 use Rattle.posix.specs.Tables.{IsRising, lookup, has_pid, is_child, members_in, children_in, left_of, next_sibling}
 use Rattle.posix.specs.Regular.{IsRegular}
@@ -16,17 +15,17 @@ use Rattle.posix.specs.declared.target.Target.TheVariants as whom
 use Rattle.posix.specs.Credentials.{may}
 use Rattle.posix.specs.Sends.{targets, permitted, sent_among, sent}
 use Rattle.posix.proofs.WalkLemmas.{numbered, numbered_one, AtChild}
-use Rattle.posix.proofs.HupAndContLemmas.{still_there, lasts_hup_and_cont_all}
-use Rattle.life.proofs.SoundLemmas.{there, is_there}
 use Rattle.life.proofs.SendLemmas.{all_pass}
-use Rattle.pidset.proofs.WalkLemmas.{IsWalking, walk_of, walk_on, none_left}
+use Rattle.pidset.proofs.WalkLemmas.{IsWalking, walk_on}
 use Rattle.pidset.specs.Indexes.{anchor_key, key_of}
 use Rattle.pidset.specs.Numbers.{PidSetView, Rises, numbers_above}
 use Rattle.pidset.proofs.NumberLemmas.{in_above, rises_with, rises_without, in_with, few}
 use Rattle.posix.proofs.MemberLemmas.{in_without}
 use Rattle.life.specs.declared.caller.Caller.{Caller}
 use Rattle.life.specs.Callers.{process_like}
-use Rattle.life.specs.Machines.{IsNoted}
+use Rattle.pidalloc.specs.Rows.{Pids}
+use Rattle.sched.specs.Places.{Places}
+use Rattle.life.specs.Machines.{IsMachine, IsNoted, Terminals}
 use Rattle.life.specs.Rechecks.{rechecking_signalled, rechecking_members}
 
 -- ---- the list of those that are noted
@@ -56,12 +55,7 @@ group_bounded s i p g is = by (lookup p s.processes) refl is
       | false ↦ λ k. absurd (cc)
     ] k
 
--- one is noted where the process keeps it
-pub noted_kept : (anchor : Bool) (g : ℕ) (old : List ℕ) (o : Option ℕ) → o ≡ cond anchor (Some g) None → option_map_or (λ n. with_number n old) o old ≡ cond anchor (with_number g old) old
-noted_kept true g old o e = rw e refl
-noted_kept false g old o e = rw e refl
-
--- none is
+-- none is noted
 pub noted_cleared : (m : ℕ) (groups_at_risk after : PidSetView) → IsNoted m groups_at_risk → after.pids ≡ [] → after.room ≡ groups_at_risk.room → IsNoted m after
 unfolding Rises is_in
 noted_cleared m groups_at_risk after i none same = record {
@@ -77,6 +71,10 @@ noted_without m g groups_at_risk after i out same = record {
   within = λ q e. i.within q (and_parts _ _ (sym (in_without q g groups_at_risk.pids) ∙ ap (is_in q) (sym out) ∙ e)).1;
   room = let room = i.room in omega (arith, room, same);
 }
+
+-- and the machine stays one
+pub noted_again : {s : State} {pids : Pids} {places : Places} {to_recheck groups_at_risk after : PidSetView} {terminals : Terminals} → IsMachine s pids places to_recheck groups_at_risk terminals → IsNoted s.world.pidmax after → IsMachine s pids places to_recheck after terminals
+noted_again i noted = record { sound = i.sound; listed = i.listed; noted = noted; fresh = i.fresh }
 
 -- ---- noting
 
@@ -113,55 +111,29 @@ pub step_noted : (rs : List Process) (p c : ℕ) (next after : Option ℕ) (at :
     → (n : ℕ) → (is_in n noted || list_any (keeps rs n) (left_of after (children_in p rs))) ≡ (is_in n ns || list_any (keeps rs n) (left_of next (children_in p rs)))
 step_noted rs p c next after at comes e ns noted is n =
     let one : is_in n noted ≡ (keeps rs n at.what || is_in n ns) = ap (is_in n) is ∙ noted_one (is_anchor rs at.what) at.what.group n ns in
-    rw (one, comes, e, at.left) (swap (keeps rs n at.what) (is_in n ns) (list_any (keeps rs n) (left_of (next_sibling c rs) (children_in p rs))))
-  where
-    swap : (a b c : Bool) → ((a || b) || c) ≡ (b || (a || c))
-    swap true true c = refl
-    swap a b c = refl
+    rw (one, comes, e, at.left) (grind arith)
 
 -- ---- all get HUP and CONT
 
+-- of the groups those are left that come next: what these get makes of the processes now what all get made of those before
 pub record IsSignalling (first ns : List ℕ) (before now : List Process) (next : Option ℕ) : Type 0 where
   pub done : List ℕ
   pub left : List ℕ
   pub walk : IsWalking ns done left next
   pub todo : hup_and_cont_all left now ≡ hup_and_cont_all first before
 
-pub signalling_begins : (ns : List ℕ) (rs : List Process) (next : Option ℕ) → Rises ns → next ≡ slice_get ns 0 → IsSignalling ns ns rs rs next
-signalling_begins ns rs next up e = record { done = []; left = ns; walk = walk_of ns next up e; todo = refl }
-
-pub signalling_goes_on : (first ns : List ℕ) (before now then : List Process) (next after : Option ℕ) (g : ℕ) → IsSignalling first ns before now next → next ≡ Some g → then ≡ hup_and_cont g now → after ≡ slice_get (numbers_above g ns) 0 → IsSignalling first ns before then after
+-- it goes on behind the group that came next
+pub signalling_goes_on : {first ns : List ℕ} {before now then : List Process} {next after : Option ℕ} {g : ℕ} → IsSignalling first ns before now next → next ≡ Some g → then ≡ hup_and_cont g now → after ≡ slice_get (numbers_above g ns) 0 → IsSignalling first ns before then after
 unfolding hup_and_cont_all
-signalling_goes_on first ns before now then next after g k comes is e =
+signalling_goes_on {ns = ns} {now = now} {next = next} {after = after} {g = g} k comes is e =
     let on = walk_on ns k.done k.left next after g k.walk comes e in
     record { done = k.done ++ g ∷ []; left = on.rest; walk = on.walk; todo = ap (hup_and_cont_all on.rest) is ∙ ap (λ left. hup_and_cont_all left now) (sym on.is) ∙ k.todo }
-
-pub signalling_ends : (first ns : List ℕ) (before now : List Process) (next : Option ℕ) → IsSignalling first ns before now next → next ≡ None → now ≡ hup_and_cont_all first before
-unfolding hup_and_cont_all
-signalling_ends first ns before now next k comes = sym (ap (λ left. hup_and_cont_all left now) (none_left k.left (sym k.walk.comes ∙ comes))) ∙ k.todo
-
--- who is there is there when groups get HUP and CONT
-pub there_hup_and_cont : (gs : List ℕ) (rs : List Process) → IsRising rs → (p : ℕ) → IsSome (lookup p rs) → IsSome (lookup p (hup_and_cont_all gs rs))
-there_hup_and_cont gs rs up p here =
-    let r = there (lookup p rs) here in
-    let q = still_there p rs (hup_and_cont_all gs rs) (lasts_hup_and_cont_all gs rs up).same r.what r.found in
-    is_there _ q.what q.found
-
--- and a zombie is one
-pub zombie_hup_and_cont : (gs : List ℕ) (rs : List Process) → IsRising rs → (p : ℕ) (r : Process) → lookup p rs ≡ Some r → is_zombie r.life ≡ true → (x : Process) × (lookup p (hup_and_cont_all gs rs) ≡ Some x) × (is_zombie x.life ≡ true)
-zombie_hup_and_cont gs rs up p r found dead =
-    let q = still_there p rs (hup_and_cont_all gs rs) (lasts_hup_and_cont_all gs rs up).same r found in
-    (q.what, q.found, q.zombie ∙ dead)
 
 -- ---- signals of the kernel
 
 -- whoever may signal all may signal these
 may_signal_all : (r : Process) (s : Option ℕ) (q : Process) → r.credentials ≡ root → may r s q ≡ true
-may_signal_all r s q e = rw e (some (0 == q.credentials.user.real) (0 == q.credentials.user.saved) _)
-  where
-    some : (a b e : Bool) → (a || b || a || b || true || e) ≡ true
-    some false false e = refl
-    some a b e = refl
+may_signal_all r s q e = rw e (grind arith)
 
 -- so who is meant by a signal of the kernel to a group are all its members
 members_meant : (c : Caller) → c.creds ≡ root → (n group : ℕ) (rs : List Process) → permitted (process_like c) (Some n) (targets (process_like c) (whom.Group group) rs) ≡ members_in group rs

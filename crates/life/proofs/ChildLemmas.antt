@@ -1,102 +1,104 @@
--- The walk of a wait over the children of its caller.
-use Rattle.std.proofs.Common.{◌≡◌, ◌<◌, ℕ, refl, ap, sym, ◌∙◌, arith, List, length, Option, Some, None, option_map}
+-- The walk over the children of a process, and what a wait learns from one child, or from each.
+use Rattle.std.proofs.Common.{◌≡◌, ◌==◌, ◌<◌, ℕ, cond, option_map, refl, ap, sym, ◌∙◌, subst, arith, List, length, Option, Some, None}
 use Rattle.posix.specs.declared.process.Report.{Report}
 use Rattle.posix.specs.declared.process.Report.TheVariants as found
 use Rattle.posix.specs.declared.target.Target.{Target}
+use Rattle.posix.specs.declared.target.Target.TheVariants as whom
 use Rattle.posix.specs.Processes.{Process}
-use Rattle.posix.specs.Tables.{IsRising, lookup, children_in, first_pid, left_of, next_sibling}
-use Rattle.posix.specs.Waits.{report, look}
+use Rattle.posix.specs.Tables.{IsRising, lookup, children_in, first_pid, above, left_of, next_sibling}
+use Rattle.std.specs.Option.{IsSome, option_map_or}
+use Rattle.posix.specs.States.{State}
+use Rattle.posix.specs.Regular.{IsRegular}
+use Rattle.posix.specs.Waits.{report, report_life, report_of, reporting_in, look}
 use Rattle.posix.proofs.WalkLemmas.{AtChild, at_child, at_first}
-use Rattle.posix.proofs.WaitLemmas.{scan, scan_is_report, after_look}
+use Rattle.posix.proofs.TableLemmas.{pid_looked}
+use Rattle.posix.proofs.ReportingLemmas.{IsReportWalk, AtReporting, at_reporting, reporting_less, report_one, report_nobody}
 use Rattle.proctable.specs.declared.snapshot.Snapshot.{Snapshot}
 use Rattle.proctable.specs.Records.{snapshot_of}
-use Rattle.life.proofs.SoundLemmas.{snapshot_are, none_read}
+use Rattle.life.proofs.SoundLemmas.{is_there, snapshot_are}
+use Rattle.posix.proofs.WaitLemmas.{scan, scan_is_report, after_look}
 
--- the walk begins at the first child
-pub first_here : (rs : List Process) → IsRising rs → (p : ℕ) (next : Option ℕ) → next ≡ first_pid (children_in p rs) → first_pid (left_of next (children_in p rs)) ≡ next
-first_here rs up p next e = rw e (ap first_pid (at_first rs up p))
+-- the walk over the children of p is at the one that comes next
+pub record IsAtChild (rs : List Process) (p : ℕ) (next : Option ℕ) : Type 0 where
+  pub rising : IsRising rs
+  pub here : first_pid (left_of next (children_in p rs)) ≡ next
 
--- and all children are left
+-- it begins at the first child, and all are left
 pub first_todo : (rs : List Process) → IsRising rs → (p : ℕ) (next : Option ℕ) → next ≡ first_pid (children_in p rs) → left_of next (children_in p rs) ≡ children_in p rs
 first_todo rs up p next e = rw e (at_first rs up p)
 
--- the walk over the children of p among rs is at the child c; now is what is read of rs
-pub record IsAtChild (rs now : List Process) (p c : ℕ) (next : Option ℕ) : Type 0 where
-  pub rising : IsRising rs
-  pub comes : next ≡ Some c
-  pub here : first_pid (left_of next (children_in p rs)) ≡ next
-  pub same : now ≡ rs
+-- so it knows where it is
+pub first_here : (rs : List Process) → IsRising rs → (p : ℕ) (next : Option ℕ) → next ≡ first_pid (children_in p rs) → IsAtChild rs p next
+first_here rs up p next e = record { rising = up; here = ap first_pid (first_todo rs up p next e) ∙ sym e }
 
--- the snapshot of the child c was read, and o is what a look at them says
-pub record Says (now : List Process) (c group : ℕ) (target : Target) (options : ℕ) (o : Report) : Type 0 where
-  pub snapshot : Snapshot
-  pub read : Some snapshot ≡ option_map snapshot_of (lookup c now)
-  pub said : (r : Process) → snapshot ≡ snapshot_of r → o ≡ look group target options r
+-- what it knows of the child c
+pub child_here : {rs : List Process} {p c : ℕ} {next : Option ℕ} → IsAtChild rs p next → next ≡ Some c → AtChild rs p c
+child_here {rs = rs} {p = p} {c = c} w comes = at_child rs w.rising p c (ap (λ o. first_pid (left_of o (children_in p rs))) (sym comes) ∙ w.here ∙ comes)
 
--- what the walk knows there
-pub child_here : (rs now : List Process) (p c : ℕ) (next : Option ℕ) → IsAtChild rs now p c next → AtChild rs p c
-child_here rs now p c next w = at_child rs w.rising p c (ap (λ (o : Option ℕ). first_pid (left_of o (children_in p rs))) (sym w.comes) ∙ w.here ∙ w.comes)
+-- that it is there
+pub child_there : {rs : List Process} {p c : ℕ} {next : Option ℕ} → IsAtChild rs p next → next ≡ Some c → IsSome (lookup c rs)
+child_there w comes = let r = child_here w comes in is_there _ r.what r.found
 
--- the child is there
-pub surely_read : (rs now : List Process) (p c : ℕ) (next : Option ℕ) → IsAtChild rs now p c next → None ≡ option_map snapshot_of (lookup c now) → ⊥
-surely_read rs now p c next w e =
-    let both = sym (none_read _ e) ∙ ap (lookup c) w.same ∙ (child_here rs now p c next w).found in
-    cc
+-- it goes on to the next sibling
+pub next_here : {rs : List Process} {p c : ℕ} {next after : Option ℕ} → IsAtChild rs p next → next ≡ Some c → after ≡ next_sibling c rs → IsAtChild rs p after
+next_here w comes e = record { rising = w.rising; here = rw e (child_here w comes).next }
 
-pub child_less : (rs now : List Process) (p c : ℕ) (next after : Option ℕ) → IsAtChild rs now p c next → after ≡ next_sibling c rs
-    → length (left_of after (children_in p rs)) < length (left_of next (children_in p rs))
-child_less rs now p c next after w e = let l = ap length (child_here rs now p c next w).left in rw (w.comes, e) (omega (arith, l))
+-- and one child less is left
+pub child_less : {rs : List Process} {p c : ℕ} {next after : Option ℕ} → IsAtChild rs p next → next ≡ Some c → after ≡ next_sibling c rs → length (left_of after (children_in p rs)) < length (left_of next (children_in p rs))
+child_less w comes e = rw (comes, e) (omega (arith, ap length (child_here w comes).left))
 
-pub next_here : (rs now : List Process) (p c : ℕ) (next after : Option ℕ) → IsAtChild rs now p c next → after ≡ next_sibling c rs → first_pid (left_of after (children_in p rs)) ≡ after
-next_here rs now p c next after w e = rw e (child_here rs now p c next w).next
+-- ---- a wait
 
--- what is left says what the child says, and then the others
-child_scan : (rs now : List Process) (p c : ℕ) (next after : Option ℕ) (group : ℕ) (target : Target) (options : ℕ) (o so_far : Report) → IsAtChild rs now p c next → Says now c group target options o → after ≡ next_sibling c rs
-    → scan group target options so_far (left_of next (children_in p rs)) ≡ after_look o so_far (λ s. scan group target options s (left_of after (children_in p rs)))
+-- what the children that are left say, after what was found so far, is what all say
+abbrev pub IsLooking : List Process → ℕ → Target → ℕ → Report → Option ℕ → Type 0
+IsLooking rs p target options so_far next = (own : ℕ) → scan own target options so_far (left_of next (children_in p rs)) ≡ report rs p own target options
+
+-- it begins with nothing found
+pub none_found : (rs : List Process) → IsRising rs → (p : ℕ) (next : Option ℕ) → next ≡ first_pid (children_in p rs) → (target : Target) (options : ℕ) → IsLooking rs p target options found.NoChild next
+unfolding report
+none_found rs up p next e target options own = ap (scan own target options found.NoChild) (first_todo rs up p next e) ∙ scan_is_report own target options (children_in p rs)
+
+-- what the child c says, and then the others, is what all say
+pub child_says : (rs : List Process) (p c : ℕ) (next after : Option ℕ) (target : Target) (options : ℕ) (so_far : Report) (w : IsAtChild rs p next) (comes : next ≡ Some c) → after ≡ next_sibling c rs → IsLooking rs p target options so_far next
+    → (own : ℕ) (o : Report) → o ≡ look own target options (child_here w comes).what → after_look o so_far (λ s. scan own target options s (left_of after (children_in p rs))) ≡ report rs p own target options
 unfolding scan
-child_scan rs now p c next after group target options o so_far w a e =
-    let k = child_here rs now p c next w in
-    let said = a.said k.what (snapshot_are _ k.what a.snapshot a.read (ap (lookup c) w.same ∙ k.found)) in
-    rw (w.comes, e, k.left, said) refl
+child_says rs p c next after target options so_far w comes e todo own o said =
+    let now : after_look o so_far (λ s. scan own target options s (left_of after (children_in p rs))) ≡ scan own target options so_far (left_of next (children_in p rs)) = rw (comes, e, (child_here w comes).left, said) refl in
+    now ∙ todo own
 
 -- a child that has something to report ends the search
-found_here : (o so_far : Report) (rest : Report → Report) → (o ≡ found.NoChild → ⊥) → (o ≡ found.Nothing → ⊥) → after_look o so_far rest ≡ o
+pub found_here : (o so_far : Report) (rest : Report → Report) → (o ≡ found.NoChild → ⊥) → (o ≡ found.Nothing → ⊥) → after_look o so_far rest ≡ o
 found_here found.NoChild so_far rest h k = absurd (h refl)
 found_here found.Nothing so_far rest h k = absurd (k refl)
 found_here (found.End p w) so_far rest h k = refl
 found_here (found.Change p w) so_far rest h k = refl
 
--- all children were asked
-all_rechecked : (rs : List Process) (p group : ℕ) (target : Target) (options : ℕ) → scan group target options found.NoChild (children_in p rs) ≡ report rs p group target options
-unfolding report
-all_rechecked rs p group target options = scan_is_report group target options (children_in p rs)
+-- ---- a walk over those that have something to report
 
-pub reported_here : (rs now : List Process) (p c : ℕ) (next : Option ℕ) (group : ℕ) (target : Target) (options : ℕ) (o so_far : Report) → IsAtChild rs now p c next → Says now c group target options o
-    → scan group target options so_far (left_of next (children_in p rs)) ≡ scan group target options found.NoChild (children_in p rs) → (o ≡ found.NoChild → ⊥) → (o ≡ found.Nothing → ⊥) → o ≡ report rs p group target options
-reported_here rs now p c next group target options o so_far w a todo h k =
-    sym (found_here o so_far (λ s. scan group target options s (left_of (next_sibling c rs) (children_in p rs))) h k) ∙ sym (child_scan rs now p c next (next_sibling c rs) group target options o so_far w a refl) ∙ todo ∙ all_rechecked rs p group target options
+-- what it knows of the one that comes next
+pub reporting_there : {rs : List Process} {p options c : ℕ} {next : Option ℕ} → IsRising rs → IsReportWalk rs p options next → next ≡ Some c → AtReporting rs p c
+reporting_there {rs = rs} {p = p} {options = options} {c = c} up w comes = at_reporting rs up p c options (subst (IsReportWalk rs p options) comes w)
 
-pub none_left : (rs : List Process) (p : ℕ) (next : Option ℕ) (group : ℕ) (target : Target) (options : ℕ) (so_far : Report) → next ≡ None
-    → scan group target options so_far (left_of next (children_in p rs)) ≡ scan group target options found.NoChild (children_in p rs) → so_far ≡ report rs p group target options
-unfolding scan
-none_left rs p next group target options so_far none todo =
-    let left : scan group target options so_far (left_of next (children_in p rs)) ≡ so_far = rw none refl in
-    sym left ∙ todo ∙ all_rechecked rs p group target options
+-- that it is there
+pub reporting_found : {rs : List Process} {p options c : ℕ} {next : Option ℕ} → IsRising rs → IsReportWalk rs p options next → next ≡ Some c → IsSome (lookup c rs)
+reporting_found up w comes = let r = reporting_there up w comes in is_there _ r.what r.found
 
--- the search goes on behind a child that isn't named
-pub unnamed_here : (rs now : List Process) (p c : ℕ) (next after : Option ℕ) (group : ℕ) (target : Target) (options : ℕ) (o so_far later : Report) → IsAtChild rs now p c next → Says now c group target options o → after ≡ next_sibling c rs
-    → o ≡ found.NoChild → later ≡ so_far → scan group target options so_far (left_of next (children_in p rs)) ≡ scan group target options found.NoChild (children_in p rs)
-    → scan group target options later (left_of after (children_in p rs)) ≡ scan group target options found.NoChild (children_in p rs)
-unnamed_here rs now p c next after group target options o so_far later w a e none stays todo =
-    let rest = child_scan rs now p c next after group target options o so_far w a e in
-    let others = rw none at rest in
-    rw stays (sym others ∙ todo)
+-- and that fewer are left behind it
+pub reporting_fewer : {rs : List Process} {p options c : ℕ} {next after : Option ℕ} → IsRising rs → IsReportWalk rs p options next → next ≡ Some c → after ≡ first_pid (above c (reporting_in p rs)) → length (left_of after (reporting_in p rs)) < length (left_of next (reporting_in p rs))
+reporting_fewer {rs = rs} {p = p} {c = c} up w comes e = rw comes (reporting_less rs p c (reporting_there up w comes) _ e)
 
--- and behind one that has nothing to report
-pub nothing_here : (rs now : List Process) (p c : ℕ) (next after : Option ℕ) (group : ℕ) (target : Target) (options : ℕ) (o so_far later : Report) → IsAtChild rs now p c next → Says now c group target options o → after ≡ next_sibling c rs
-    → o ≡ found.Nothing → later ≡ found.Nothing → scan group target options so_far (left_of next (children_in p rs)) ≡ scan group target options found.NoChild (children_in p rs)
-    → scan group target options later (left_of after (children_in p rs)) ≡ scan group target options found.NoChild (children_in p rs)
-nothing_here rs now p c next after group target options o so_far later w a e nothing is todo =
-    let rest = child_scan rs now p c next after group target options o so_far w a e in
-    let others = rw nothing at rest in
-    rw is (sym others ∙ todo)
+-- ---- one process
+
+-- what was read of a process is what it reports
+pub read_report : (rs : List Process) (options c : ℕ) (f : Snapshot) (r : Process) → Some f ≡ option_map snapshot_of (lookup c rs) → lookup c rs ≡ Some r → report_life options c f.life f.news ≡ report_of options r
+unfolding report_of
+read_report rs options c f r read found = rw (snapshot_are _ r f read found, pid_looked c rs r found) refl
+
+-- and what a wait for it reports, where its parent waits
+pub report_read : (s : State) (p own c options : ℕ) → IsRegular s → report s.processes p own (whom.Process c) options ≡ option_map_or (λ f. cond (f.parent == p) (report_life options c f.life f.news) found.NoChild) (option_map snapshot_of (lookup c s.processes)) found.NoChild
+unfolding report_of
+report_read s p own c options i =
+    elim (lookup c s.processes) as (λ o. lookup c s.processes ≡ o → report s.processes p own (whom.Process c) options ≡ option_map_or (λ f. cond (f.parent == p) (report_life options c f.life f.news) found.NoChild) (option_map snapshot_of o) found.NoChild) [
+      | None ↦ λ e. report_nobody s.processes p own c options e
+      | Some r ↦ λ e. report_one s.processes i.rising p own c options r e ∙ ap (λ n. cond (r.parent == p) (report_life options n r.life r.news) found.NoChild) (pid_looked c s.processes r e)
+    ] refl

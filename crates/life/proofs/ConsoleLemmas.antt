@@ -1,10 +1,10 @@
 -- A machine that gets another console in the place of one.
-use Rattle.std.proofs.Common.{◌≡◌, ◌≢◌, ℕ, zero, suc, ◌+◌, ◌*◌, ◌≤◌, ◌==◌, Bool, true, false, cond, not, ◌&&◌, ◌||◌, refl, ap, sym, ◌∙◌, arith, subst, List, [], ◌∷◌, Option, Some, None, is_some, length, nat_lt, slice_get, slice_set, slice_index_or, inl, inr, ⊎_elim}
-use Rattle.std.proofs.lemmas.Bool.{eqb-true, eqb-false, and_parts, not-true, or_right, ltb-true, cond_both, both_ways}
+use Rattle.std.proofs.Common.{◌≡◌, ◌≢◌, ℕ, suc, ◌+◌, ◌*◌, ◌≤◌, ◌==◌, Bool, true, false, cond, not, ◌&&◌, ◌||◌, refl, ap, sym, ◌∙◌, arith, subst, List, [], Option, Some, None, is_some, length, nat_lt, slice_get, slice_set, slice_index_or, inl, inr, ⊎_elim}
+use Rattle.std.proofs.lemmas.Bool.{false_from_ne_true, or_cases, eqb-true, eqb-false, and_parts, not-true, or_right, ltb-true, cond_both, both_ways}
 use Rattle.std.proofs.lemmas.Option.{slice_get_read, same_Some}
 use Rattle.posix.specs.declared.process.Blocked.{Blocked}
 use Rattle.posix.specs.declared.process.Blocked.TheVariants as blocked
-use Rattle.posix.specs.SignalNumbers.{HUP, INT, QUIT, TSTP}
+use Rattle.posix.specs.SignalNumbers.{CONT, HUP, INT, QUIT, TSTP}
 use Rattle.posix.specs.Processes.{Process, is_running}
 use Rattle.posix.specs.States.{State, process, is_in, has_place}
 use Rattle.posix.specs.Consoles.{Console, console_of, changed_console, key_signal, keyed, keyed_by, edit, flushed, finish_line, released}
@@ -13,7 +13,7 @@ use Rattle.posix.specs.Attempts.{attempt_again}
 use Rattle.posix.specs.Terminals.{is_reader, is_in_read, waits_on, waits_to_read}
 use Rattle.posix.specs.Ends.{signalled_group, hang_up, hung_up}
 use Rattle.posix.specs.Step.{signalled_from, key}
-use Rattle.posix.specs.Settle.{can_act, can_go_on, is_fresh, AreFresh}
+use Rattle.posix.specs.Settle.{can_act, can_go_on}
 use Rattle.posix.specs.Regular.{IsRegular, AreConsoles}
 use Rattle.posix.proofs.TableLemmas.{pid_looked}
 use Rattle.posix.proofs.SeeLemmas.{block_read, acts_reading}
@@ -28,7 +28,8 @@ use Rattle.life.specs.Consoles.{AreReaders, hangs_up, slots_of_key, slots_of_han
 use Rattle.life.specs.Rechecks.{slots_of_signal}
 use Rattle.life.proofs.ReaderLemmas.{set_same, set_other}
 use Rattle.posix.specs.Tables.{members_in}
-use Rattle.posix.proofs.FreshLemmas.{AllFresh}
+use Rattle.life.specs.declared.consoles.Unchecked.{Unchecked}
+use Rattle.life.specs.Foregrounds.{AreFreshBut}
 
 -- the state with another console in a place
 abbrev pub put : State → ℕ → Console → State
@@ -83,8 +84,8 @@ listed_put {readers = readers} s l k d h can = record {
 }
 
 -- the machine stays one
-pub machine_put : (s : State) (pids : Pids) (places : Places) (to_recheck : PidSetView) (groups_at_risk : PidSetView) (readers : List PidSetView) (before after : Bool) (k : ℕ) (d : Console)
-    → IsMachine s pids places to_recheck groups_at_risk (record { readers = readers; foregrounds_unchecked = before }) → CanPut s to_recheck.pids readers k d → (after ≡ false → AreFresh (put s k d))
+pub machine_put : (s : State) (pids : Pids) (places : Places) (to_recheck : PidSetView) (groups_at_risk : PidSetView) (readers : List PidSetView) (before after : Unchecked) (k : ℕ) (d : Console)
+    → IsMachine s pids places to_recheck groups_at_risk (record { readers = readers; foregrounds_unchecked = before }) → CanPut s to_recheck.pids readers k d → AreFreshBut after s.processes (slice_set s.consoles k d)
     → IsMachine (put s k d) pids places to_recheck groups_at_risk (record { readers = readers; foregrounds_unchecked = after })
 machine_put s pids places to_recheck groups_at_risk readers before after k d h can fresh = record {
   sound = record {
@@ -193,23 +194,6 @@ put_acquired {readers = readers} s l k c d i h at free none = record {
     nobody : (r : Process) → 1 ≤ r.session → c.session ≢ r.session
     nobody r least same = omega (arith, free, same, least)
 
--- ---- foregrounds
-
--- a fresh console in the place of one
-pub fresh_put : (rs : List Process) (cs : List Console) (k : ℕ) (d : Console) → AllFresh rs cs → is_fresh rs d ≡ true → AllFresh rs (slice_set cs k d)
-fresh_put rs [] k d h e = tt
-fresh_put rs (x ∷ xs) zero d h e = (e, h.1)
-fresh_put rs (x ∷ xs) (suc k) d h e = (h.0, fresh_put rs xs k d h.1 e)
-
-fresh_at : (rs : List Process) (cs : List Console) (k : ℕ) (c : Console) → AllFresh rs cs → slice_get cs k ≡ Some c → is_fresh rs c ≡ true
-fresh_at rs [] k c h e = absurd (cc)
-fresh_at rs (x ∷ xs) zero c h e = let same : x ≡ c = cc in ap (is_fresh rs) (sym same) ∙ h.0
-fresh_at rs (x ∷ xs) (suc k) c h e = fresh_at rs xs k c h.1 e
-
--- one with the same session and foreground process group
-pub fresh_alike : (rs : List Process) (cs : List Console) (k : ℕ) (c d : Console) → slice_get cs k ≡ Some c → d.session ≡ c.session → d.foreground ≡ c.foreground → AllFresh rs cs → AllFresh rs (slice_set cs k d)
-fresh_alike rs cs k c d at owner foreground h = fresh_put rs cs k d h (rw (owner, foreground) (fresh_at rs cs k c h at))
-
 -- ---- the console in a place
 
 -- what the test of a place says
@@ -297,20 +281,26 @@ leader_hangs_up s k p me c i found leads at own =
 -- ---- how many slots are read
 
 -- the signal of a key continues nobody
-key_slots_of : (byte sig : ℕ) → Some sig ≡ key_signal byte → slots_of_signal sig ≡ 1
+-- no key continues anybody
+pub key_plain : (byte sig : ℕ) → Some sig ≡ key_signal byte → (sig == CONT) ≡ false
 unfolding key_signal
-key_slots_of byte sig e = by (byte == 3) (byte == 28) (byte == 26) e
+key_plain byte sig e = by (byte == 3) (byte == 28) (byte == 26) e
   where
-    by : (a b c : Bool) → Some sig ≡ cond a (Some INT) (cond b (Some QUIT) (cond c (Some TSTP) None)) → slots_of_signal sig ≡ 1
+    by : (a b c : Bool) → Some sig ≡ cond a (Some INT) (cond b (Some QUIT) (cond c (Some TSTP) None)) → (sig == CONT) ≡ false
     by true b c e = rw (same_Some _ _ e) refl
     by false true c e = rw (same_Some _ _ e) refl
     by false false true e = rw (same_Some _ _ e) refl
     by false false false e = absurd (cc)
 
+-- and none that gives a signal ends a line
+pub key_is_no_end : (byte : ℕ) → key_signal byte ≢ None → (byte == 10 || byte == 4) ≡ false
+unfolding key_signal
+key_is_no_end byte some = false_from_ne_true _ (λ e. ⊎_elim (λ k. some (rw (eqb-true byte 10 k) refl)) (λ k. some (rw (eqb-true byte 4 k) refl)) (or_cases _ _ e))
+
 -- where a key gives a signal
 pub slots_of_signalled : (m : MachineView) (console k byte sig group : ℕ) (c : Console) (rs : List Process) → console ≡ suc k → slice_get m.state.consoles k ≡ Some c → Some sig ≡ key_signal byte → group ≡ c.foreground → rs ≡ m.state.processes
     → 1 + (2 + slots_of_signal sig) * length (members_in group rs) ≤ slots_of_key console byte m
-slots_of_signalled m console k byte sig group c rs number found signal foreground same = rw (number, found, ← signal, foreground, same, key_slots_of byte sig signal) (omega arith)
+slots_of_signalled m console k byte sig group c rs number found signal foreground same = rw (number, found, ← signal, foreground, same, key_plain byte sig signal) (omega arith)
 
 -- where a session's terminal hangs up
 pub slots_hung_up : (m : MachineView) (me : Process) (k group : ℕ) (c : Console) (rs : List Process) → hangs_up (snapshot_of me) ≡ true → rs ≡ m.state.processes → slice_get m.state.consoles k ≡ Some c

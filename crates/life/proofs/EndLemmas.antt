@@ -1,99 +1,56 @@
 -- The end of a process: what its heir is told, and the departure, may come in either order.
-use Rattle.std.proofs.Common.{◌≡◌, ◌≢◌, ℕ, true, false, cond, refl, ap, ◌∙◌, List, [], ◌∷◌, map, Option, Some, None, option_map, ◌==◌}
-use Rattle.std.specs.Option.{IsSome, option_map_or}
-use Rattle.std.proofs.lemmas.Bool.{eq-eqb, ne_eqb}
+use Rattle.std.proofs.Common.{◌≡◌, ◌≢◌, ℕ, true, false, cond, arith, refl, ap, ◌∙◌, List, [], ◌∷◌, map, Some, ◌==◌}
+use Rattle.std.specs.Option.{IsSome}
+use Rattle.std.proofs.lemmas.Bool.{eq-eqb, ne_eqb, eqb-true, eqb-false, cond_both}
 use Rattle.posix.specs.declared.process.PendingSignal.{PendingSignal}
 use Rattle.posix.specs.Processes.{Process, is_zombie}
 use Rattle.posix.specs.Tables.{lookup, at, changed, removed, reparented, adopted}
-use Rattle.posix.specs.States.{State, process, change, lose_place, without}
+use Rattle.posix.specs.States.{State, process, change, lose_place}
 use Rattle.posix.specs.Regular.{IsRegular}
 use Rattle.posix.specs.Generation.{signalled}
-use Rattle.posix.specs.Ends.{made_zombie, ended, leave_children_and_die, drops_children, is_dropping, drop_child, notice_of_end, status_of, zombies_of, tell_of_all, hup_and_cont_orphans, end_with_heir}
-use Rattle.posix.specs.Notices.{child_signal, ignores_children, noticed}
+use Rattle.posix.specs.Ends.{made_zombie, ended, leave_children_and_die, is_dropping, drop_child, notice_of_end, status_of, zombies_of, tell_of_all, hup_and_cont_orphans, end_with_heir}
+use Rattle.posix.specs.Notices.{child_signal, noticed}
 use Rattle.posix.proofs.TableLemmas.{pid_looked, pid_reparented, lookup_changed}
-use Rattle.posix.proofs.MapLemmas.{at_pid, lookup_map, lookup_on, some_map, removed_map, changed_changed, adopted_changed}
+use Rattle.posix.proofs.MapLemmas.{at_pid, lookup_on, some_map, removed_map, changed_changed, adopted_changed}
 use Rattle.posix.proofs.RegularLemmas.{keeps_noticed, regular_leave}
+
+-- a zombie keeps its number
+keeps_pid : (w : ℕ) (r : Process) → (made_zombie w r).pid ≡ r.pid
+unfolding made_zombie
+keeps_pid w r = refl
 
 -- a notice and an adoption of one record may come in either order
 noticed_reparented : (signal : PendingSignal) (p q : ℕ) (r : Process) → noticed signal (reparented p q r) ≡ reparented p q (noticed signal r)
 unfolding noticed signalled
-noticed_reparented signal p q r =
-    elim (ignores_children r.signals) as (λ i. ignores_children r.signals ≡ i → noticed signal (reparented p q r) ≡ reparented p q (cond i r (signalled signal r))) [
-      | true ↦ λ t. elim (r.parent == p) as (λ b. noticed signal (cond b (record r { parent = q }) r) ≡ cond b (record r { parent = q }) r) [ true ↦ rw t refl | false ↦ rw t refl ]
-      | false ↦ λ t. elim (r.parent == p) as (λ b. noticed signal (cond b (record r { parent = q }) r) ≡ cond b (record (signalled signal r) { parent = q }) (signalled signal r)) [ true ↦ rw t refl | false ↦ rw t refl ]
-    ] refl
+noticed_reparented signal p q r = grind arith
 
--- ---- an adoption
+-- ---- a departure
 
--- the children of p are the heir's
-abbrev given : ℕ → ℕ → State → State
-given p heir s = record s { processes = adopted p heir s.processes }
+-- the heir drops its children as before where another departs
+dropping_departed : (p heir w : ℕ) → heir ≢ p → (rs : List Process) → is_dropping heir (adopted p heir (changed p (made_zombie w) rs)) ≡ is_dropping heir rs
+unfolding lookup adopted changed made_zombie
+dropping_departed p heir w ne [] = refl
+dropping_departed p heir w ne (r ∷ rs) = grind (arith, ne, dropping_departed p heir w ne rs, eqb-true, eqb-false)
 
--- the heir drops its children as before where it adopts some
-dropping_given : (p heir : ℕ) (rs : List Process) → is_dropping heir (adopted p heir rs) ≡ is_dropping heir rs
-unfolding adopted
-dropping_given p heir rs =
-    ap (λ (o : Option Process). option_map_or (λ r. drops_children r.signals) o false) (lookup_map (reparented p heir) (pid_reparented p heir) heir rs)
-    ∙ elim (lookup heir rs) as (λ o. option_map_or (λ r. drops_children r.signals) (option_map (reparented p heir) o) false ≡ option_map_or (λ r. drops_children r.signals) o false) [
-      | None ↦ refl
-      | Some r ↦ elim (r.parent == p) as (λ b. drops_children (cond b (record r { parent = heir }) r).signals ≡ drops_children r.signals) [ true ↦ refl | false ↦ refl ]
-    ]
+-- a removal and a departure may come in either order
+removed_departed : (c p heir w : ℕ) (rs : List Process) → removed c (adopted p heir (changed p (made_zombie w) rs)) ≡ adopted p heir (changed p (made_zombie w) (removed c rs))
+unfolding adopted changed
+removed_departed c p heir w rs =
+    removed_map c (reparented p heir) (pid_reparented p heir) (map (at p (made_zombie w)) rs) ∙ ap (map (reparented p heir)) (removed_map c (at p (made_zombie w)) (at_pid p (made_zombie w) (keeps_pid w)) rs)
 
--- a removal and an adoption may come in either order
-removed_given : (c p heir : ℕ) (rs : List Process) → removed c (adopted p heir rs) ≡ adopted p heir (removed c rs)
-unfolding adopted
-removed_given c p heir rs = removed_map c (reparented p heir) (pid_reparented p heir) rs
-
--- so may a notice of an end to the heir and the adoption
-notice_given : (s : State) (p heir c v : ℕ) → notice_of_end (given p heir s) heir c v ≡ given p heir (notice_of_end s heir c v)
-unfolding notice_of_end
-notice_given s p heir c v =
-    let signal = child_signal c v in
-    rw (dropping_given p heir s.processes, adopted_changed p heir heir (noticed signal) (noticed_reparented signal p heir) s.processes)
-    (elim (is_dropping heir s.processes) as (λ b. cond {A = State} b (drop_child (given p heir (change s heir (noticed signal))) c) (given p heir (change s heir (noticed signal)))
-    ≡ given p heir (cond {A = State} b (drop_child (change s heir (noticed signal)) c) (change s heir (noticed signal)))) [
-      | true ↦ rw (removed_given c p heir (changed heir (noticed signal) s.processes)) refl
-      | false ↦ refl
-    ])
-
--- ---- one becomes a zombie
-
--- p was made a zombie and has lost its place, and has its children still
-abbrev pub leave : ℕ → ℕ → State → State
-leave p w s = record s { processes = changed p (made_zombie w) s.processes; order = without p s.order }
-
--- the heir drops its children as before where another leaves
-dropping_left : (p heir w : ℕ) → heir ≢ p → (rs : List Process) → is_dropping heir (changed p (made_zombie w) rs) ≡ is_dropping heir rs
-unfolding made_zombie
-dropping_left p heir w ne rs =
-    let same : lookup heir (changed p (made_zombie w) rs) ≡ lookup heir rs = lookup_changed p heir (made_zombie w) (λ r. refl) rs ∙ rw (ne_eqb heir p ne) refl in
-    ap (λ (o : Option Process). option_map_or (λ r. drops_children r.signals) o false) same
-
--- that one becomes a zombie comes in either order with a notice to another
-told_left : (signal : PendingSignal) (p heir w : ℕ) → heir ≢ p → (rs : List Process) → changed heir (noticed signal) (changed p (made_zombie w) rs) ≡ changed p (made_zombie w) (changed heir (noticed signal) rs)
-unfolding made_zombie
-told_left signal p heir w ne rs = changed_changed heir p (noticed signal) (made_zombie w) (keeps_noticed {now = 0} signal).pid (λ r. refl) ne rs
-
--- and with a removal
-removed_left : (c p w : ℕ) (rs : List Process) → removed c (changed p (made_zombie w) rs) ≡ changed p (made_zombie w) (removed c rs)
-unfolding changed made_zombie
-removed_left c p w rs = removed_map c (at p (made_zombie w)) (at_pid p (made_zombie w) (λ r. refl)) rs
-
--- a notice of an end to the heir, and another that leaves, may come in either order
-notice_left : (s : State) (p heir w c v : ℕ) → heir ≢ p → notice_of_end (leave p w s) heir c v ≡ leave p w (notice_of_end s heir c v)
-unfolding notice_of_end
-notice_left s p heir w c v ne =
-    let signal = child_signal c v in
-    rw (dropping_left p heir w ne s.processes, told_left signal p heir w ne s.processes)
-    (elim (is_dropping heir s.processes) as (λ b. cond {A = State} b (drop_child (leave p w (change s heir (noticed signal))) c) (leave p w (change s heir (noticed signal)))
-    ≡ leave p w (cond {A = State} b (drop_child (change s heir (noticed signal)) c) (change s heir (noticed signal)))) [
-      | true ↦ rw (removed_left c p w (changed heir (noticed signal) s.processes)) refl
-      | false ↦ refl
-    ])
-
--- so may it and the departure
+-- a notice of an end to the heir, and the departure of another, may come in either order
 notice_after : (s : State) (p heir w c v : ℕ) → heir ≢ p → notice_of_end (leave_children_and_die s p heir w) heir c v ≡ leave_children_and_die (notice_of_end s heir c v) p heir w
-notice_after s p heir w c v ne = notice_given (leave p w s) p heir c v ∙ ap (given p heir) (notice_left s p heir w c v ne)
+unfolding notice_of_end
+notice_after s p heir w c v ne =
+    let signal = child_signal c v in
+    let told = adopted_changed p heir heir (noticed signal) (noticed_reparented signal p heir) (changed p (made_zombie w) s.processes)
+    ∙ ap (adopted p heir) (changed_changed heir p (noticed signal) (made_zombie w) (keeps_noticed {now = 0} signal).pid (keeps_pid w) ne s.processes) in
+    rw (dropping_departed p heir w ne s.processes, told)
+    (elim (is_dropping heir s.processes) as (λ b. cond {A = State} b (drop_child (leave_children_and_die (change s heir (noticed signal)) p heir w) c) (leave_children_and_die (change s heir (noticed signal)) p heir w)
+    ≡ leave_children_and_die (cond {A = State} b (drop_child (change s heir (noticed signal)) c) (change s heir (noticed signal))) p heir w) [
+      | true ↦ rw (removed_departed c p heir w (changed heir (noticed signal) s.processes)) refl
+      | false ↦ refl
+    ])
 
 -- so may several
 pub tell_after : (s : State) (p heir w : ℕ) → heir ≢ p → (zs : List Process) → tell_of_all (leave_children_and_die s p heir w) heir zs ≡ leave_children_and_die (tell_of_all s heir zs) p heir w
@@ -116,14 +73,10 @@ there_after s p heir w q h = some_map (reparented p heir) (pid_reparented p heir
 
 -- who departs is a zombie
 pub zombie_after : (s : State) (p heir w : ℕ) (me : Process) → process s p ≡ Some me → (x : Process) × (process (leave_children_and_die s p heir w) p ≡ Some x) × (is_zombie x.life ≡ true)
-unfolding adopted changed made_zombie
+unfolding adopted made_zombie
 zombie_after s p heir w me e =
-    let named : (me.pid == p) ≡ true = eq-eqb _ _ (pid_looked p s.processes me e) in
-    let here : lookup p (map (at p (made_zombie w)) s.processes) ≡ Some (made_zombie w me) = lookup_on (at p (made_zombie w)) (at_pid p (made_zombie w) (λ r. refl)) p s.processes me e ∙ rw named refl in (
-      reparented p heir (made_zombie w me),
-      lookup_on (reparented p heir) (pid_reparented p heir) p (map (at p (made_zombie w)) s.processes) (made_zombie w me) here,
-      elim (me.parent == p) as (λ b. is_zombie (cond b (record (made_zombie w me) { parent = heir }) (made_zombie w me)).life ≡ true) [ true ↦ refl | false ↦ refl ],
-    )
+    let here : lookup p (changed p (made_zombie w) s.processes) ≡ Some (made_zombie w me) = lookup_changed p p (made_zombie w) (keeps_pid w) s.processes ∙ rw (eq-eqb p p refl, e) refl in
+    (reparented p heir (made_zombie w me), lookup_on (reparented p heir) (pid_reparented p heir) p _ (made_zombie w me) here, cond_both (me.parent == p) (record (made_zombie w me) { parent = heir }) (made_zombie w me) (λ q. is_zombie q.life ≡ true) (λ e. refl) (λ e. refl))
 
 -- process 1 may end once it has lost its place
 pub regular_ended : (w : ℕ) (s : State) → IsRegular s → IsRegular (change (lose_place s 1) 1 (ended w))

@@ -1,9 +1,9 @@
 -- A change of one process, in the parts of a machine.
-use Rattle.std.proofs.Common.{◌≡◌, ◌≢◌, ℕ, Bool, true, false, cond, not, ◌||◌, refl, ap, sym, ◌∙◌, arith, subst, List, [], ◌∷◌, Option, Some, None, option_map, ◌==◌, inl, inr, ◌⊎◌, ⊎_elim}
+use Rattle.std.proofs.Common.{◌≡◌, ◌≢◌, ◌&&◌, ℕ, Bool, true, false, cond, not, refl, ap, sym, ◌∙◌, arith, subst, List, [], ◌∷◌, Option, Some, None, option_map, ◌==◌, inl, inr, ◌⊎◌, ⊎_elim}
 use Rattle.std.specs.Option.{IfSome, IsSome}
 use Rattle.std.specs.Borrow.{MutBor}
 use Rattle.std.specs.Fn.{Once, FnOnceReturnsAtMut}
-use Rattle.std.proofs.lemmas.Bool.{eqb-true, eq-eqb, ne_eqb, cases_eq, cond_both, or_left, or_right, or_parts}
+use Rattle.std.proofs.lemmas.Bool.{eqb-true, eq-eqb, ne_eqb, and_parts, cases_eq, cond_both, or_left, or_right, or_parts}
 use Rattle.std.proofs.lemmas.List.{length-map}
 use Rattle.std.proofs.lemmas.Option.{same_Some}
 use Rattle.posix.specs.declared.process.PendingSignal.{PendingSignal}
@@ -20,7 +20,7 @@ use Rattle.posix.proofs.MapLemmas.{at_pid, at_keeps}
 use Rattle.posix.proofs.MemberLemmas.{each}
 use Rattle.posix.proofs.RegularLemmas.{Keeps, regular_change}
 use Rattle.posix.proofs.ChangeLemmas.{Lives, regular_lives, lookup_signalled, continued_cont, generated_as}
-use Rattle.posix.proofs.TouchLemmas.{Touches, Unseen, touches_shown}
+use Rattle.posix.proofs.TouchLemmas.{Touches, touches_shown}
 use Rattle.posix.proofs.ReportLemmas.{some_changed}
 use Rattle.posix.proofs.FreshLemmas.{fresh_changed}
 use Rattle.pidalloc.specs.Rows.{Pids, regrouped}
@@ -31,7 +31,7 @@ use Rattle.proctable.specs.declared.records.Record.{Record}
 use Rattle.proctable.specs.Records.{process_of, give_record, with_record}
 use Rattle.proctable.proofs.RecordLemmas.{changed_here}
 use Rattle.jobs.specs.declared.books.Seen.{Seen}
-use Rattle.jobs.specs.Books.{record_seen, seen_of}
+use Rattle.jobs.specs.Books.{record_seen, seen_of, keeps_stance}
 use Rattle.jobs.specs.JobTables.{IsRun}
 use Rattle.jobs.proofs.NumberLemmas.{absent_changed}
 use Rattle.jobs.proofs.RunLemmas.{run_as, parent_is}
@@ -39,12 +39,16 @@ use Rattle.jobs.proofs.SnapshotLemmas.{equals, Named, named_there}
 use Rattle.jobs.proofs.KeptLemmas.{record_found, length_record}
 use Rattle.life.specs.Machines.{IsKept, IsSound, IsListed, IsMachine, Terminals, MachineView, Costs, Changes, IfThere, IsOther}
 use Rattle.life.specs.Rechecks.{with_numbers, with_parent, rechecking, rechecking_by_signals, rechecking_changed, rechecking_effect, rechecking_generated, slots_of_signal}
+use Rattle.life.specs.declared.consoles.Unchecked.{Unchecked}
+use Rattle.life.specs.declared.consoles.Unchecked.TheVariants.{All}
+use Rattle.life.specs.Foregrounds.{AreFreshBut}
+use Rattle.life.proofs.ForegroundLemmas.{fresh_all, fresh_still}
 use Rattle.life.specs.Changes.{has_moved, CanMoveNumbers, StaysRegular}
 use Rattle.pidset.specs.Indexes.{HaveParents}
 use Rattle.pidset.proofs.ParentLemmas.{parents_map}
 use Rattle.life.proofs.SoundLemmas.{kept_map, not_many}
 use Rattle.life.proofs.RecheckLemmas.{IsBeside, listed_with, listed_less, listed_signals, unread}
-use Rattle.life.proofs.SignalLemmas.{with_signals, unseen_signals}
+use Rattle.life.proofs.SignalLemmas.{with_signals}
 use Rattle.jobs.specs.JobTables.{takes_signal}
 use Rattle.pidset.proofs.NumberLemmas.{rises_with, in_with}
 
@@ -68,21 +72,28 @@ parent_there s pids places i p me found some = elim (cases_eq p 1) [
   | inr other ↦ i.parents p me other found
 ]
 
--- ---- a change that its parent doesn't see
+-- ---- a change that keeps the numbers
 
-pub machine_unseen : {groups_at_risk : PidSetView} {terminals : Terminals} (s : State) (pids : Pids) (places : Places) (to_recheck after : PidSetView) (p : ℕ) (f : Process → Process) → Unseen f → ((r : Process) → (f r).session ≡ r.session)
+-- a process keeps its number, its parent's, its group's and its session's
+pub record KeepsNumbers (f : Process → Process) : Type 0 where
+  pub pid : (r : Process) → (f r).pid ≡ r.pid
+  pub parent : (r : Process) → (f r).parent ≡ r.parent
+  pub group : (r : Process) → (f r).group ≡ r.group
+  pub session : (r : Process) → (f r).session ≡ r.session
+
+pub machine_changed : {groups_at_risk : PidSetView} {terminals : Terminals} (s : State) (pids : Pids) (places : Places) (to_recheck after : PidSetView) (p : ℕ) (f : Process → Process) → KeepsNumbers f
     → IsRegular (change s p f) → IsMachine s pids places to_recheck groups_at_risk terminals → IsListed (change s p f) after terminals.readers → IsMachine (change s p f) pids places after groups_at_risk terminals
 unfolding changed
-machine_unseen s pids places to_recheck after p f u session regular i listed = record {
+machine_changed s pids places to_recheck after p f k regular i listed = record {
   sound = record {
     regular = regular;
-    parents = parents_map IsOther (at p f) (at_pid p f u.pid) (at_keeps (λ r. r.parent) p f u.parent) (λ q r other. other) s.processes i.sound.parents;
+    parents = parents_map IsOther (at p f) (at_pid p f k.pid) (at_keeps (λ r. r.parent) p f k.parent) (λ q r other. other) s.processes i.sound.parents;
     counted = let c = i.sound.counted in let l = length-map s.processes (at p f) in omega (arith, c, l);
-    kept = kept_map (at p f) (at_pid p f u.pid) (at_keeps (λ r. r.group) p f u.group) (at_keeps (λ r. r.session) p f session) s.world.pidmax s.processes pids places places (omega arith) i.sound.kept;
+    kept = kept_map (at p f) (at_pid p f k.pid) (at_keeps (λ r. r.group) p f k.group) (at_keeps (λ r. r.session) p f k.session) s.world.pidmax s.processes pids places places (omega arith) i.sound.kept;
   };
   listed = listed;
   noted = i.noted;
-  fresh = λ e. fresh_changed p f u.group session s.processes s.consoles (i.fresh e);
+  fresh = fresh_still _ s.processes _ s.consoles (λ ds h. fresh_changed p f k.group k.session s.processes ds h) i.fresh;
 }
 
 -- a record with other signals, and another alarm
@@ -96,7 +107,7 @@ machine_run {groups_at_risk = groups_at_risk} {terminals = terminals} s pids pla
     let f = with_signals c.own.signals c.alarm in
     let became = signals_are s.processes i.sound.regular.rising p b c found same in
     subst (λ rs. IsMachine (record s { processes = rs }) pids places after groups_at_risk terminals) (sym (is ∙ became))
-    (machine_unseen s pids places to_recheck after p f (unseen_signals c.own.signals c.alarm) (λ r. refl) (subst (λ rs. IsRegular (record s { processes = rs })) became regular) i
+    (machine_changed s pids places to_recheck after p f (record { pid = λ r. refl; parent = λ r. refl; group = λ r. refl; session = λ r. refl }) (subst (λ rs. IsRegular (record s { processes = rs })) became regular) i
     (listed_signals s p c.own.signals c.alarm to_recheck after i.listed (rw found refl) (put ∙ ap (λ rs. rechecking_by_signals (lookup p rs) s.order to_recheck.pids) (is ∙ became)) room))
 
 -- the process is rechecked where a signal is chosen for it
@@ -109,6 +120,10 @@ by_signals (Some r) p order ns b named takes = ap (λ w. cond w (rechecking p or
 -- another record, in the same group and session
 abbrev keep_numbers : Record → Process → Process
 keep_numbers c r = record (give_record c r) { group = r.group; session = r.session }
+
+-- one that stays put hasn't moved
+pub not_moved : (old new : Seen) → keeps_stance old new ≡ true → has_moved old new ≡ false
+not_moved old new h = let both = and_parts (old.group == new.group && old.session == new.session) _ h in let each = and_parts (old.group == new.group) _ both.0 in rw (each.0, each.1) refl
 
 numbers_as : (rs : List Process) → IsRising rs → (p : ℕ) (b c : Record) → lookup p rs ≡ Some (process_of p (parent_of p rs) b) → has_moved (record_seen b) (record_seen c) ≡ false → with_record rs p c ≡ changed p (keep_numbers c) rs
 unfolding give_record
@@ -171,9 +186,9 @@ pub there_record : (rs : List Process) (p : ℕ) (c : Record) (q : ℕ) → IsSo
 unfolding give_record
 there_record rs p c q there = some_changed p q (give_record c) (λ r. refl) rs there
 
-pub machine_shown : {groups_at_risk : PidSetView} {terminals : Terminals} (s : State) (pids now : Pids) (places : Places) (to_recheck after : PidSetView) (p parent : ℕ) (b c : Record) (ts : List Process) (foregrounds_unchecked : Bool)
+pub machine_shown : {groups_at_risk : PidSetView} {terminals : Terminals} (s : State) (pids now : Pids) (places : Places) (to_recheck after : PidSetView) (p parent : ℕ) (b c : Record) (ts : List Process) (foregrounds_unchecked : Unchecked)
     → lookup p s.processes ≡ Some (process_of p (parent_of p s.processes) b) → ts ≡ with_record s.processes p c → IsRegular (record s { processes = with_record s.processes p c }) → parent ≡ parent_of p s.processes
-    → now ≡ cond (has_moved (record_seen b) (record_seen c)) (regrouped pids b.group b.session c.group c.session) pids → foregrounds_unchecked ≡ (has_moved (record_seen b) (record_seen c) || terminals.foregrounds_unchecked) → s.last_pid ≡ now.last
+    → now ≡ cond (has_moved (record_seen b) (record_seen c)) (regrouped pids b.group b.session c.group c.session) pids → foregrounds_unchecked ≡ cond (has_moved (record_seen b) (record_seen c)) All terminals.foregrounds_unchecked → s.last_pid ≡ now.last
     → IsMachine s pids places to_recheck groups_at_risk terminals → after.pids ≡ with_parent parent s.order (with_number p to_recheck.pids) → after.room ≡ to_recheck.room
     → IsMachine (record s { processes = ts; last_pid = now.last }) now places after groups_at_risk (record { readers = terminals.readers; foregrounds_unchecked = foregrounds_unchecked })
 unfolding give_record
@@ -195,9 +210,10 @@ machine_shown {terminals = terminals} s pids now places to_recheck after p paren
           (λ q e. each (λ q. (q ≡ p) ⊎ (q ≡ parent_of p rs)) (p ∷ parent_of p rs ∷ []) (inl refl, (inr refl, tt)) q e)
           (subst (λ q. after.pids ≡ with_parent q s.order (with_number p to_recheck.pids)) its put) room;
       noted = i.noted;
-      fresh = λ e.
-          let both = or_parts (has_moved (record_seen b) (record_seen c)) terminals.foregrounds_unchecked (sym mark ∙ e) in
-          rw (numbers_as rs up p b c found both.0) (fresh_changed p (keep_numbers c) (λ r. refl) (λ r. refl) rs s.consoles (i.fresh both.1));
+      fresh = subst (λ u. AreFreshBut u (with_record rs p c) s.consoles) (sym mark) (elim (has_moved (record_seen b) (record_seen c)) as (λ m. has_moved (record_seen b) (record_seen c) ≡ m → AreFreshBut (cond m All terminals.foregrounds_unchecked) (with_record rs p c) s.consoles) [
+        | true ↦ λ e. fresh_all s.consoles
+        | false ↦ λ e. fresh_still _ rs _ s.consoles (λ ds h. rw (numbers_as rs up p b c found e) (fresh_changed p (keep_numbers c) (λ r. refl) (λ r. refl) rs ds h)) i.fresh
+      ] refl);
     }))
 
 -- what the rows need for it
@@ -323,8 +339,9 @@ rechecked_told parent me order ns mid new (Some r) named its put told = by (take
 
 -- a signal was generated for p, which does nothing more
 pub signal_ends : (signal : PendingSignal) (p : ℕ) (old new : MachineView) (r : Process) → process old.state p ≡ Some (record r { pid = p }) → effect.Nothing ≡ effect_of p r.life signal r.signals → new.state ≡ change old.state p (signalled signal)
-    → new.to_recheck ≡ rechecking_by_signals (process new.state p) old.state.order old.to_recheck → Costs 1 old new → Changes (slots_of_signal signal.sig) old new (record (old.state) { processes = generated_for signal (process old.state p) old.state.processes }) (rechecking_generated signal (process old.state p) old.state.order old.to_recheck)
-signal_ends signal p old new r found does state list costs = record {
+    → new.to_recheck ≡ rechecking_by_signals (process new.state p) old.state.order old.to_recheck → new.foregrounds_unchecked ≡ old.foregrounds_unchecked → Costs 1 old new → Changes (slots_of_signal signal.sig) old new (record (old.state) { processes = generated_for signal (process old.state p) old.state.processes }) (rechecking_generated signal (process old.state p) old.state.order old.to_recheck)
+signal_ends signal p old new r found does state list still costs = record {
+  foregrounds_unchecked = still;
   state = state ∙ ap (λ rs. record (old.state) { processes = rs }) (sym (generated_as signal p old.state.processes (record r { pid = p }) effect.Nothing found (sym does)));
   to_recheck =
       list ∙ ap (λ o. rechecking_by_signals o old.state.order old.to_recheck) (ap (λ (t : State). process t p) state ∙ lookup_signalled signal (record r { pid = p }) p old.state.processes found)
@@ -334,10 +351,10 @@ signal_ends signal p old new r found does state list costs = record {
 
 -- or continues it
 pub signal_continues : (signal : PendingSignal) (p : ℕ) (old mid new : MachineView) (r : Process) → process old.state p ≡ Some (record r { pid = p }) → effect.Continued ≡ effect_of p r.life signal r.signals → mid.state ≡ change old.state p (signalled signal)
-    → mid.to_recheck ≡ rechecking_by_signals (process mid.state p) old.state.order old.to_recheck → Costs 1 old mid
+    → mid.to_recheck ≡ rechecking_by_signals (process mid.state p) old.state.order old.to_recheck → mid.foregrounds_unchecked ≡ old.foregrounds_unchecked → Costs 1 old mid
     → IfThere p mid (λ me. Changes 3 mid new (record (mid.state) { processes = told_of_change continued me (changed p resumed mid.state.processes) }) (rechecking_changed me mid.state.order mid.to_recheck))
     → Changes (slots_of_signal signal.sig) old new (record (old.state) { processes = generated_for signal (process old.state p) old.state.processes }) (rechecking_generated signal (process old.state p) old.state.order old.to_recheck)
-signal_continues signal p old mid new r found does state list costs continues =
+signal_continues signal p old mid new r found does state list still costs continues =
     let s = old.state in
     let it = record r { pid = p } in
     let then = continues (signalled signal it) (ap (λ (t : State). process t p) state ∙ lookup_signalled signal it p s.processes found) in
@@ -350,5 +367,6 @@ signal_continues signal p old mid new r found does state list costs continues =
       to_recheck =
           then.to_recheck ∙ ap (λ (t : State). rechecking_changed (signalled signal it) t.order mid.to_recheck) state ∙ rechecking_signalled signal it s.order mid.to_recheck ∙ ap (rechecking_changed it s.order) put
           ∙ ap (λ w. rechecking_effect w it s.order (rechecking_by_signals (Some (signalled signal it)) s.order old.to_recheck)) does ∙ ap (λ o. rechecking_generated signal o s.order old.to_recheck) (sym found);
+      foregrounds_unchecked = then.foregrounds_unchecked ∙ still;
       costs = record { visits = rw cont (let one = costs.visits in let more = then.costs.visits in omega (arith, one, more)); groups_at_risk = then.costs.groups_at_risk ∙ costs.groups_at_risk; regular = costs.regular };
     }

@@ -13,10 +13,11 @@ pub mod SignalLemmas
 pub mod LoanLemmas
 pub mod ViewLemmas
 pub mod PartLemmas
-pub mod CensusLemmas
 pub mod RecheckLemmas
 pub mod AtRiskLemmas
 pub mod OrphanLemmas
 pub mod MoveLemmas
-pub mod NameLemmas
 pub mod ConsoleLemmas
+pub mod ForegroundLemmas
+pub mod NewsLemmas
+pub mod TakingLemmas

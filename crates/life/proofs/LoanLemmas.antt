@@ -2,7 +2,6 @@
 use Rattle.std.proofs.Common.{◌≡◌, ℕ, refl, ap, ◌∙◌, subst, Some, List}
 use Rattle.std.specs.Option.{IfSome, IsSome}
 use Rattle.posix.specs.declared.instr.Trap.{Trap}
-use Rattle.posix.specs.declared.instr.Trap.TheVariants as trap
 use Rattle.posix.specs.Processes.{Process, Cpu}
 use Rattle.posix.specs.Tables.{IsRising, lookup, changed}
 use Rattle.posix.specs.Execute.{StaysUnlessRun}
@@ -19,7 +18,8 @@ use Rattle.proctable.specs.Records.{own_of, give_own}
 use Rattle.jobs.proofs.LoanLemmas.{own_found, read_at, written_at}
 use Rattle.life.specs.Machines.{IsMachine, Terminals}
 use Rattle.life.specs.Rechecks.{rechecking}
-use Rattle.life.proofs.FunnelLemmas.{machine_unseen}
+use Rattle.life.proofs.CodeLemmas.{stays_by}
+use Rattle.life.proofs.FunnelLemmas.{machine_changed}
 use Rattle.life.proofs.RecheckLemmas.{listed_change}
 
 -- it is nothing that the shape of a machine depends on
@@ -61,10 +61,9 @@ cpu_ran rs up p o h f c is me e =
 
 -- one that leaves the processor leaves the processes
 pub cpu_stays : (t : Trap) (rs : List Process) → IsRising rs → (p : ℕ) (o : OwnPart) (c : Cpu) → IfSome (lookup p rs) (λ r. o ≡ own_of r) → StaysUnlessRun t o.cpu c → StaysUnlessRun t rs (changed p (give_own (record o { cpu = c })) rs)
-cpu_stays trap.Next rs up p o c h stays = tt
-cpu_stays (trap.Note value) rs up p o c h stays = tt
-cpu_stays (trap.Call call) rs up p o c h stays = ap (λ x. changed p (give_own (record o { cpu = x })) rs) stays ∙ read_at rs up p o (lookup p rs) refl h
-cpu_stays (trap.Fault sig) rs up p o c h stays = ap (λ x. changed p (give_own (record o { cpu = x })) rs) stays ∙ read_at rs up p o (lookup p rs) refl h
+cpu_stays t rs up p o c h stays =
+    let lent = λ (x : Cpu). changed p (give_own (record o { cpu = x })) rs in
+    subst (λ xs. StaysUnlessRun t xs (lent c)) (read_at rs up p o (lookup p rs) refl h) (stays_by lent t o.cpu c stays)
 
 -- ---- a machine
 
@@ -73,5 +72,5 @@ pub machine_lent : {groups_at_risk : PidSetView} {terminals : Terminals} (s : St
     → IsSome (process s p) → IsMachine s pids places to_recheck groups_at_risk terminals → after.pids ≡ rechecking p s.order to_recheck.pids → after.room ≡ to_recheck.room
     → IsMachine (change s p (give_own w)) pids places after groups_at_risk terminals
 machine_lent s pids places to_recheck after p w here i put room =
-    machine_unseen s pids places to_recheck after p (give_own w) (unseen_give_own w) (λ r. refl) (regular_change p (give_own w) s (keeps_give_own w) i.sound.regular) i
+    machine_changed s pids places to_recheck after p (give_own w) (record { pid = λ r. refl; parent = λ r. refl; group = λ r. refl; session = λ r. refl }) (regular_change p (give_own w) s (keeps_give_own w) i.sound.regular) i
     (listed_change s p (give_own w) to_recheck after i.listed (λ r. refl) (touches_unseen s p (give_own w) (unseen_give_own w)) here put room)

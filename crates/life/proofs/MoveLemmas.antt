@@ -1,9 +1,8 @@
 -- Whom setpgid moves, and who stays in its process group.
-use Rattle.std.proofs.Common.{◌≡◌, ◌==◌, ◌&&◌, ◌||◌, Bool, not, true, false, ℕ, ℤ, pos, negsuc, inl, inr, arith, List, refl, ap, sym, ◌∙◌, Option, Some, None, option_map, Ok, Err, Result}
-use Rattle.std.specs.Result.{IsErrAnd}
+use Rattle.std.proofs.Common.{◌≡◌, ◌==◌, ◌||◌, not, true, ℕ, ℤ, pos, negsuc, inl, inr, arith, List, refl, ap, sym, ◌∙◌, Option, Some, option_map, Ok, Result}
 use Rattle.posix.specs.declared.errno.Errno.{Errno}
 use Rattle.posix.specs.Processes.{Process, is_zombie}
-use Rattle.std.proofs.lemmas.Bool.{eqb-true, eq-eqb, and_parts, or_cases}
+use Rattle.std.proofs.lemmas.Bool.{eqb-true, and_parts, or_cases}
 use Rattle.posix.specs.Tables.{IsRising, lookup, is_member}
 use Rattle.posix.proofs.WalkLemmas.{some_looked, any_looked}
 use Rattle.jobs.specs.JobTables.{IsGroupFor}
@@ -14,7 +13,7 @@ use Rattle.posix.specs.Notices.{stopped_by, resumed}
 use Rattle.posix.specs.Ends.{ended, made_zombie}
 use Rattle.posix.specs.Waits.{news_told}
 use Rattle.posix.specs.GroupCalls.{named, move_to, in_group, is_group_of}
-use Rattle.posix.proofs.MoveLemmas.{moves_nobody, regular_move_to, named_found}
+use Rattle.posix.proofs.MoveLemmas.{regular_move_to, named_found}
 use Rattle.proctable.specs.declared.snapshot.Snapshot.{Snapshot}
 use Rattle.proctable.specs.Records.{snapshot_of}
 use Rattle.life.proofs.SoundLemmas.{snapshot_are, found_in, some_read}
@@ -38,7 +37,6 @@ Answers rs p z target answer = (me : Process) (named : Option Process) → looku
 -- whom setpgid moves
 pub record IsMoving (s : State) (me : Process) (word : ℤ) (group p : ℕ) : Type 0 where
   pub what : Process
-  pub named : named me word s.processes ≡ Some what
   pub found : lookup p s.processes ≡ Some what
   pub regular : IsRegular (change s p (in_group group))
   pub joins : IsGroupFor p group s.processes
@@ -53,45 +51,29 @@ is_moving s t same i p me word z group it target answer here read value was is =
     let found = named_found p s.processes me word r.what here r.found in
     let moves = ap (λ o. move_to me o z s.processes) (sym r.found) ∙ sym (value me o here read) ∙ was in
     rw (ap (λ (f : Snapshot). f.pid) (snapshot_are o r.what it (sym is ∙ read) r.found))
-    record { what = r.what; named = r.found; found = found; regular = regular_move_to s i me r.what z group found moves; joins = group_for me r.what z group s.processes i.rising moves }
-
--- somebody moves
-pub none_moves : (s t : State) → s ≡ t → (p : ℕ) (me : Process) (word z : ℤ) (group : ℕ) (answer : Result ℕ Errno) → process t p ≡ Some me → None ≡ option_map snapshot_of (named me word t.processes) → Answers s.processes p z None answer → answer ≡ Ok group → ⊥
-none_moves s t same p me word z group answer here read value was = moves_nobody me z s.processes group (sym (value me None (found_in s t same p me here) refl) ∙ was)
-
--- the error that is handed on
-pub err_is : (r : Result ℕ Errno) (e : Errno) → IsErrAnd r (λ x. x ≡ e) → r ≡ Err e
-err_is (Ok n) e is = absurd (is)
-err_is (Err x) e is = ap Err is
+    record { what = r.what; found = found; regular = regular_move_to s i me r.what z group found moves; joins = group_for me r.what z group s.processes i.rising moves }
 
 -- ---- who stays in its process group and its session, and isn't revived
-
-kept_so : (r : Process) (b : Bool) → b ≡ true → ((r.group == r.group && r.session == r.session) && b) ≡ true
-kept_so r b e = rw (eq-eqb r.group r.group refl, eq-eqb r.session r.session refl) e
 
 alive : (rs : List Process) (p : ℕ) → IsPlaced rs p → (r : Process) → lookup p rs ≡ Some r → not (is_zombie r.life) ≡ true
 alive rs p me r e = let both : Some me.what ≡ Some r = sym me.found ∙ e in let one : me.what ≡ r = cc in rw (← one, me.living) refl
 
 pub stopped_put : (n : ℕ) (rs : List Process) (p : ℕ) → IsPlaced rs p → (r : Process) → lookup p rs ≡ Some r → keeps_stance (seen_of r) (seen_of (stopped_by n r)) ≡ true
 unfolding stopped_by
-stopped_put n rs p me r e = kept_so r _ (alive rs p me r e)
+stopped_put n rs p me r e = let living = alive rs p me r e in grind arith
 
 pub resumed_put : (rs : List Process) (p : ℕ) → IsPlaced rs p → (r : Process) → lookup p rs ≡ Some r → keeps_stance (seen_of r) (seen_of (resumed r)) ≡ true
 unfolding resumed
-resumed_put rs p me r e = kept_so r _ (alive rs p me r e)
+resumed_put rs p me r e = let living = alive rs p me r e in grind arith
 
 pub ended_put : (n : ℕ) (r : Process) → keeps_stance (seen_of r) (seen_of (ended n r)) ≡ true
 unfolding ended
-ended_put n r = kept_so r true refl
+ended_put n r = grind arith
 
 pub zombie_put : (n : ℕ) (r : Process) → keeps_stance (seen_of r) (seen_of (made_zombie n r)) ≡ true
 unfolding made_zombie
-zombie_put n r = kept_so r true refl
+zombie_put n r = grind arith
 
 pub told_put : (r : Process) → keeps_stance (seen_of r) (seen_of (news_told r)) ≡ true
 unfolding news_told
-told_put r = kept_so r _ (either (is_zombie r.life))
-  where
-    either : (b : Bool) → (b || not b) ≡ true
-    either true = refl
-    either false = refl
+told_put r = grind arith

@@ -1,5 +1,5 @@
 -- Instructions that are plain or give a note, run one after another.
-use Rattle.std.proofs.Common.{◌≡◌, ℕ, zero, suc, ◌+◌, ◌-◌, ◌<◌, ◌≤◌, ◌≢◌, ℤ, ap, sym, ◌∙◌, arith, refl, List, [], ◌∷◌, ◌++◌, length, append-nil, add-zero, append_assoc, length-append}
+use Rattle.std.proofs.Common.{◌≡◌, ℕ, zero, suc, ◌+◌, ◌-◌, ◌<◌, ◌≤◌, ◌≢◌, ℤ, ap, ◌∙◌, arith, refl, List, [], ◌∷◌, ◌++◌, length, append-nil, add-zero, append_assoc, length-append}
 use Rattle.posix.specs.declared.instr.Instr.{Instr}
 use Rattle.posix.specs.declared.instr.Trap.{Trap}
 use Rattle.posix.specs.declared.instr.Trap.TheVariants as trap
@@ -8,7 +8,7 @@ use Rattle.posix.specs.States.{State}
 use Rattle.posix.specs.Step.{code_of}
 use Rattle.umach.specs.Bursts.{Burst, exec_until, IsWithin}
 use Rattle.life.specs.declared.noted_bursts.Note.{Note}
-use Rattle.life.specs.NotedBursts.{NotedBurst, ends_at, with_note, then_note, most_notes, exec_with_notes}
+use Rattle.life.specs.NotedBursts.{NotedBurst, ends_at, then_note, most_notes, exec_with_notes}
 use Rattle.life.proofs.CodeLemmas.{no_burst}
 
 -- with these notes before
@@ -19,22 +19,13 @@ with_notes ns b = record { taken = record { last = b.taken.last; notes = ns ++ b
 abbrev pub rest_after : List Instr → ℕ → Cpu → ℕ → List Note → NotedBurst
 rest_after program last c done ns = exec_with_notes program (most_notes - length ns) done last c
 
--- where there is room for a note, plain instructions are run
-first_of : (program : List Instr) (room done last : ℕ) (c : Cpu) → 0 < room
-    → exec_with_notes program room done last c ≡ then_note (done + (exec_until program (last - done) c).count) (exec_until program (last - done) c).trap (exec_until program (last - done) c).cpu
-    (exec_with_notes program (room - 1) ((done + (exec_until program (last - done) c).count) + 1) last (exec_until program (last - done) c).cpu)
-unfolding exec_with_notes
-first_of program zero done last c some = absurd (omega (arith, some))
-first_of program (suc room) done last c some =
-    let b = exec_until program (last - done) c in
-    let same : room ≡ suc room - 1 = omega arith in
-    ap (λ (r : ℕ). then_note (done + b.count) b.trap b.cpu (exec_with_notes program r ((done + b.count) + 1) last b.cpu)) same
-
--- and this is what the code found of them
+-- where there is room for a note, plain instructions are run, and this is what the code found of them
 found_first : (program : List Instr) (room done last n : ℕ) (t : Trap) (c d : Cpu) → 0 < room
     → n ≡ (exec_until program (last - done) c).count → t ≡ (exec_until program (last - done) c).trap → d ≡ (exec_until program (last - done) c).cpu
     → exec_with_notes program room done last c ≡ then_note (done + n) t d (exec_with_notes program (room - 1) ((done + n) + 1) last d)
-found_first program room done last n t c d some count trap_is cpu = rw (count, trap_is, cpu) (first_of program room done last c some)
+unfolding exec_with_notes
+found_first program zero done last n t c d some count trap_is cpu = absurd (omega (arith, some))
+found_first program (suc room) done last n t c d some count trap_is cpu = let same : suc room - 1 ≡ room = omega arith in rw (count, trap_is, cpu, same) refl
 
 -- a note was given
 pub note_given : (program : List Instr) (from done last n : ℕ) (t : Trap) (z : ℤ) (old c d : Cpu) (ns : List Note) → length ns < most_notes
@@ -44,12 +35,9 @@ pub note_given : (program : List Instr) (from done last n : ℕ) (t : Trap) (z :
     ≡ with_notes (ns ++ record { step = (done + n) + 1; value = z } ∷ []) (rest_after program last d ((done + n) + 1) (ns ++ record { step = (done + n) + 1; value = z } ∷ []))
 note_given program from done last n t z old c d ns fits count trap_is cpu is h =
     let x : Note = record { step = (done + n) + 1; value = z } in
-    let room : (most_notes - length ns) - 1 ≡ most_notes - length (ns ++ x ∷ []) = omega (arith, fits, length-append ns (x ∷ [])) in
-    let rest = rest_after program last d ((done + n) + 1) (ns ++ x ∷ []) in
-    h ∙ ap (with_notes ns) (found_first program (most_notes - length ns) done last n t c d (omega (arith, fits)) count trap_is cpu
-    ∙ ap (λ u. then_note (done + n) u d (exec_with_notes program ((most_notes - length ns) - 1) ((done + n) + 1) last d)) is
-    ∙ ap (λ (r : ℕ). with_note x (exec_with_notes program r ((done + n) + 1) last d)) room)
-    ∙ ap (λ (l : List Note). record { taken = record { last = rest.taken.last; notes = l; trap = rest.taken.trap }; cpu = rest.cpu }) (sym (append_assoc ns (x ∷ []) rest.taken.notes))
+    let room : most_notes - length (ns ++ x ∷ []) ≡ (most_notes - length ns) - 1 = omega (arith, fits, length-append ns (x ∷ [])) in
+    let first = found_first program (most_notes - length ns) done last n t c d (omega (arith, fits)) count trap_is cpu in
+    rw (room, append_assoc ns (x ∷ []) (exec_with_notes program ((most_notes - length ns) - 1) ((done + n) + 1) last d).taken.notes) (h ∙ ap (with_notes ns) (rw is at first))
 
 -- what isn't a note ends the burst
 ends_by : (done : ℕ) (t : Trap) (d : Cpu) (rest : NotedBurst) → ((z : ℤ) → t ≢ trap.Note z) → then_note done t d rest ≡ ends_at done t d
@@ -75,26 +63,19 @@ pub is_filled : (program : List Instr) (from done last : ℕ) (old c : Cpu) (ns 
 unfolding exec_with_notes
 is_filled program from done last old c ns full h =
     let none : most_notes - length ns ≡ 0 = omega (arith, full) in
-    h ∙ ap (λ (r : ℕ). with_notes ns (exec_with_notes program r done last c)) none
-    ∙ ap (λ (l : List Note). record { taken = record { last = done; notes = l; trap = trap.Next }; cpu = c }) (append-nil ns)
+    h ∙ rw (none, append-nil ns) refl
 
 -- as many plain instructions as there may be, and fewer where another one was looked at
-pub within_all : (n most : ℕ) (t : Trap) → IsWithin most n t → n ≤ most
-within_all n most trap.Next within = omega (arith, within)
-within_all n most (trap.Note z) within = omega (arith, within)
-within_all n most (trap.Call call) within = omega (arith, within)
-within_all n most (trap.Fault sig) within = omega (arith, within)
-
-pub within_short : (n most : ℕ) (t : Trap) → IsWithin most n t → t ≢ trap.Next → n < most
-within_short n most trap.Next within other = absurd (other refl)
-within_short n most (trap.Note z) within other = within
-within_short n most (trap.Call call) within other = within
-within_short n most (trap.Fault sig) within other = within
+pub within_all : (n most : ℕ) (t : Trap) → IsWithin most n t → (n ≤ most) × (t ≢ trap.Next → n < most)
+within_all n most trap.Next within = (omega (arith, within), λ other. absurd (other refl))
+within_all n most (trap.Note z) within = (omega (arith, within), λ other. within)
+within_all n most (trap.Call call) within = (omega (arith, within), λ other. within)
+within_all n most (trap.Fault sig) within = (omega (arith, within), λ other. within)
 
 -- without code the first instruction is a fault
 pub no_notes : (s : State) (me : Process) (before last : ℕ) → code_of s me ≡ [] → before < last → exec_with_notes (code_of s me) most_notes before last me.cpu ≡ ends_at before (trap.Fault 11) me.cpu
 no_notes s me before last e some =
     let none = no_burst s me (last - before) e (omega (arith, some)) in
-    first_of (code_of s me) most_notes before last me.cpu (omega arith)
+    found_first (code_of s me) most_notes before last _ _ me.cpu _ (omega arith) refl refl refl
     ∙ ap (λ (b : Burst). then_note (before + b.count) b.trap b.cpu (exec_with_notes (code_of s me) (most_notes - 1) ((before + b.count) + 1) last b.cpu)) none
     ∙ ap (λ (n : ℕ). ends_at n (trap.Fault 11) me.cpu) (add-zero before)

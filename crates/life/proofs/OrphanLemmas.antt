@@ -1,13 +1,11 @@
 -- Which process groups an end has to signal, where those are known that lose an anchor by it.
-use Rattle.std.proofs.Common.{◌≡◌, ℕ, ◌==◌, Bool, true, false, not, ◌&&◌, ◌||◌, refl, ap, sym, ◌∙◌, arith, List, [], ◌∷◌, filter, Some}
-use Rattle.std.specs.List.{list_any}
-use Rattle.posix.specs.Processes.{Process, is_stopped}
-use Rattle.posix.specs.Tables.{is_member, members_in}
+use Rattle.std.proofs.Common.{◌≡◌, ℕ, Bool, true, false, not, ◌&&◌, ap, sym, ◌∙◌, arith, List, [], ◌∷◌, filter, Some}
+use Rattle.posix.specs.Processes.{Process}
+use Rattle.posix.specs.Tables.{members_in}
 use Rattle.posix.specs.States.{State, process, is_in}
 use Rattle.posix.specs.Groups.{is_orphaned, group_numbers, has_stopped, is_newly_orphaned, newly_orphaned, loses_anchor}
 use Rattle.posix.specs.Regular.{IsRegular}
 use Rattle.posix.proofs.MemberLemmas.{in_filter}
-use Rattle.posix.proofs.WalkLemmas.{any_filter}
 use Rattle.posix.proofs.OrphanLemmas.{after_departure, orphans_by_anchor, anchor_lost}
 use Rattle.pidset.specs.Numbers.{Rises}
 use Rattle.pidset.proofs.NumberLemmas.{rises_filter, rises_with, in_with, same_numbers}
@@ -20,21 +18,11 @@ unfolding Rises group_numbers
 groups_rise [] = tt
 groups_rise (r ∷ rs) = rises_with r.group (group_numbers rs) (groups_rise rs)
 
--- a number is one of them where a process has it as its group
-in_groups : (g : ℕ) (rs : List Process) → is_in g (group_numbers rs) ≡ list_any (is_member g) rs
-unfolding is_in group_numbers
-in_groups g [] = refl
-in_groups g (r ∷ rs) = in_with g r.group (group_numbers rs) ∙ ap (λ b. (r.group == g) || b) (in_groups g rs)
-
--- where one passes two tests, one passes the first
-any_first : (t u : Process → Bool) (rs : List Process) → list_any (λ r. t r && u r) rs ≡ true → list_any t rs ≡ true
-any_first t u [] e = absurd (cc)
-any_first t u (r ∷ rs) e = grind (arith, e, any_first t u rs)
-
--- as it is of a group with a stopped member
+-- the number of a group with a stopped member is one of them
 stopped_in_groups : (g : ℕ) (rs : List Process) → has_stopped g rs ≡ true → is_in g (group_numbers rs) ≡ true
-unfolding has_stopped members_in
-stopped_in_groups g rs e = in_groups g rs ∙ any_first (is_member g) (λ r. is_stopped r.life) rs (sym (any_filter (is_member g) (λ r. is_stopped r.life) rs) ∙ e)
+unfolding has_stopped members_in is_in group_numbers
+stopped_in_groups g [] e = absurd (cc)
+stopped_in_groups g (r ∷ rs) e = rw (in_with g r.group (group_numbers rs)) (grind (arith, e, stopped_in_groups g rs))
 
 -- ---- those that an end orphans
 
@@ -42,10 +30,7 @@ stopped_in_groups g rs e = in_groups g rs ∙ any_first (is_member g) (λ r. is_
 -- groups, and of one that is orphaned now whether it has lost an anchor.
 same_test : (before now stopped there lost : Bool) → (stopped ≡ true → there ≡ true) → (before ≡ false → now ≡ true → lost ≡ true) → (lost ≡ true → before ≡ false)
     → ((not before && (now && stopped)) && there) ≡ ((now && stopped) && lost)
-same_test false true true true false a b c = sym (b refl refl)
-same_test true true true true true a b c = let e = c refl in absurd (cc)
-same_test before true true false lost a b c = let e = a refl in absurd (cc)
-same_test before now stopped there lost a b c = refl
+same_test before now stopped there lost a b c = grind arith
 
 -- Of the groups that lose an anchor those have become orphaned, and have a stopped member, that are orphaned now
 -- and have one.

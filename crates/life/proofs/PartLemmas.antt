@@ -1,12 +1,12 @@
 -- What a notice of an end, and a record that goes, change in the parts of a machine.
-use Rattle.std.proofs.Common.{eq-eqb, ◌≡◌, ◌≢◌, ℕ, ◌+◌, ◌≤◌, Bool, true, false, cond, refl, ap, sym, ◌∙◌, arith, subst, List, Option, Some, None, option_map}
+use Rattle.std.proofs.Common.{rules, eq-eqb, ◌≡◌, ◌≢◌, ℕ, ◌+◌, ◌≤◌, Bool, true, false, cond, refl, ap, sym, ◌∙◌, arith, subst, List, [], length, Option, Some, None, option_map}
 use Rattle.std.specs.Option.{option_map_or}
 use Rattle.posix.specs.declared.process.PendingSignal.{PendingSignal}
 use Rattle.posix.specs.Processes.{Process, is_zombie}
 use Rattle.posix.specs.Tables.{lookup, at, changed, removed, parent_of}
-use Rattle.posix.specs.States.{State, change}
-use Rattle.posix.specs.Ends.{drops_children, is_dropping, drop_child, notice_of_end}
-use Rattle.posix.specs.Notices.{child_signal, noticed}
+use Rattle.posix.specs.States.{State}
+use Rattle.posix.specs.Ends.{drops_children, is_dropping}
+use Rattle.posix.specs.Notices.{noticed}
 use Rattle.posix.proofs.TableLemmas.{lookup_changed, pid_looked, length_removed}
 use Rattle.posix.proofs.MapLemmas.{lookup_on, lookup_map}
 use Rattle.posix.proofs.RegularLemmas.{keeps_at, keeps_noticed, regular_as, regular_removed}
@@ -14,7 +14,11 @@ use Rattle.pidalloc.specs.Rows.{Pids}
 use Rattle.pidalloc.specs.Tallies.{IsTallied}
 use Rattle.pidalloc.proofs.TallyLemmas.{can_give_up, tallied_gone}
 use Rattle.sched.specs.Places.{Places}
-use Rattle.life.specs.Machines.{IsSound, CanGo, IsGone, IsOther}
+use Rattle.life.specs.Machines.{IsSound, IsMachine, Terminals, CanGo, IsGone, IsOther}
+use Rattle.life.proofs.RecheckLemmas.{listed_same}
+use Rattle.pidset.specs.Numbers.{PidSetView}
+use Rattle.posix.proofs.MemberLemmas.{in_none}
+use Rattle.posix.proofs.TouchLemmas.{touches_none}
 use Rattle.proctable.proofs.LinkLemmas.{no_child}
 use Rattle.pidset.proofs.ParentLemmas.{parents_removed}
 
@@ -22,26 +26,12 @@ use Rattle.pidset.proofs.ParentLemmas.{parents_removed}
 pub can_go : (s : State) (p : Pids) (places : Places) (c : ℕ) (r : Process) → IsSound s p places → lookup c s.processes ≡ Some r → is_zombie r.life ≡ true → c ≢ 1 → CanGo s.processes p c
 can_go s p places c r i found dead other =
     let bounds = i.regular.bounded c r found in
-    let named = pid_looked c s.processes r found in
-    let m = i.kept.greatest in
-    let one = bounds.pid in
-    let two = bounds.group in
-    let three = bounds.session in
-    let own : c ≤ p.pidmax = omega (arith, one, m, named) in
-    let group : r.group ≤ p.pidmax = omega (arith, two, m) in
-    let session : r.session ≤ p.pidmax = omega (arith, three, m) in
+    let own : c ≤ p.pidmax = omega (arith, bounds.pid, i.kept.greatest, pid_looked c s.processes r found) in
+    let group : r.group ≤ p.pidmax = omega (arith, bounds.group, i.kept.greatest) in
+    let session : r.session ≤ p.pidmax = omega (arith, bounds.session, i.kept.greatest) in
     let counts = can_give_up p s.processes i.kept.tallied c r found own group session in
-    record {
-      what = r;
-      found = found;
-      childless = i.regular.childless c r other found dead;
-      pid_range = own;
-      group_range = group;
-      session_range = session;
-      pid_count = counts.pid_count;
-      group_count = counts.group_count;
-      session_count = counts.session_count;
-    }
+    let childless = i.regular.childless c r other found dead in
+    search rules
 
 -- ---- a sound machine
 
@@ -49,20 +39,20 @@ can_go s p places c r i found dead other =
 pub sound_gone : (s : State) (p q : Pids) (a : Places) (c last dropped : ℕ) (r : Process) → IsSound s p a → lookup c s.processes ≡ Some r → is_zombie r.life ≡ true → c ≢ 1
     → IsGone p q c r → dropped ≤ s.dropped + 1 → IsSound (record s { processes = removed c s.processes; last_pid = last; dropped = dropped }) q a
 sound_gone s p q a c last dropped r i found dead other g most =
-    let k = i.kept in
-    let e = length_removed c r s.processes i.regular.rising found in
-    let all = i.counted in
-    record {
-      regular = regular_as _ (record s { processes = removed c s.processes; last_pid = last; dropped = dropped }) refl refl refl refl refl (regular_removed c r s i.regular other found dead);
-      parents = parents_removed IsOther c s.processes (no_child c s.processes (i.regular.childless c r other found dead)) i.parents;
-      counted = omega (arith, e, all, most);
-      kept = record {
-        greatest = g.greatest ∙ k.greatest;
-        table = g.table;
-        tallied = subst (λ x. IsTallied x (removed c s.processes)) (sym g.rows) (tallied_gone p c r s.processes k.table.size i.regular.rising k.tallied found);
-        room = k.room;
-      };
-    }
+    let regular = regular_as _ (record s { processes = removed c s.processes; last_pid = last; dropped = dropped }) refl refl refl refl refl (regular_removed c r s i.regular other found dead) in
+    let parents = parents_removed IsOther c s.processes (no_child c s.processes (i.regular.childless c r other found dead)) i.parents in
+    let many = length_removed c r s.processes i.regular.rising found in
+    let tallied = subst (λ x. IsTallied x (removed c s.processes)) (sym g.rows) (tallied_gone p c r s.processes i.kept.table.size i.regular.rising i.kept.tallied found) in
+    search (rules, arith)
+
+-- it stays a machine where only the count of those dropped changes, and whether it has halted
+pub machine_counted : {groups_at_risk : PidSetView} {terminals : Terminals} (s : State) (pids : Pids) (places : Places) (to_recheck : PidSetView) (dropped : ℕ) (halted : Bool) → dropped + length s.processes ≤ s.births
+    → IsMachine s pids places to_recheck groups_at_risk terminals → IsMachine (record s { dropped = dropped; halted = halted }) pids places to_recheck groups_at_risk terminals
+machine_counted s pids places to_recheck dropped halted few i =
+    let t = record s { dropped = dropped; halted = halted } in
+    let regular = regular_as s t refl refl refl refl refl i.sound.regular in
+    let listed = listed_same s t to_recheck [] i.listed (touches_none s t refl refl refl) (refl, refl, λ q u e. e) (λ q e. e) (λ q there e. absurd (in_none q e)) in
+    search rules
 
 -- what was read of the parent says whether it drops the child
 pub drops_is : (parent : ℕ) (rs : List Process) (drops : Bool) (me : Process) → lookup parent rs ≡ Some me → drops ≡ drops_children me.signals → drops ≡ is_dropping parent rs
@@ -86,8 +76,3 @@ parent_noticed parent signal c rs =
     let k = keeps_at parent (noticed signal) (keeps_noticed {now = 0} signal) in
     ap (λ o. option_map_or (λ (r : Process). r.parent) o 0) (lookup_map (at parent (noticed signal)) k.pid c rs)
     ∙ elim (lookup c rs) as (λ o. option_map_or (λ (r : Process). r.parent) (option_map (at parent (noticed signal)) o) 0 ≡ option_map_or (λ (r : Process). r.parent) o 0) [ None ↦ refl | Some r ↦ k.parent r ]
-
--- a notice of an end, by whether the parent drops its children
-pub notice_by : (b : Bool) (s : State) (parent c v : ℕ) → is_dropping parent s.processes ≡ b → notice_of_end s parent c v ≡ cond {A = State} b (drop_child (change s parent (noticed (child_signal c v))) c) (change s parent (noticed (child_signal c v)))
-unfolding notice_of_end
-notice_by b s parent c v e = rw e refl

@@ -1,10 +1,11 @@
 -- Places of consoles, and who waits to read from them.
-use Rattle.std.proofs.Common.{◌≡◌, ◌≢◌, ℕ, ◌+◌, ◌<◌, ◌≤◌, zero, suc, true, false, cond, refl, ap, sym, ◌∙◌, arith, subst, List, [], ◌∷◌, ◌++◌, length, take, find, Option, Some, None, ◌==◌, slice_get, slice_set, option_map, is_some, ◌&&◌, ◌||◌, Bool, MatchOption, ⊎_elim, nat_lt, map, drop, get_or}
+use Rattle.std.proofs.Common.{count_by, ◌≡◌, ◌≢◌, ℕ, ◌+◌, ◌<◌, ◌≤◌, zero, suc, true, false, cond, refl, ap, sym, ◌∙◌, arith, subst, List, [], ◌∷◌, ◌++◌, length, take, find, Option, Some, None, ◌==◌, slice_get, slice_set, option_map, is_some, ◌&&◌, ◌||◌, Bool, MatchOption, ⊎_elim, nat_lt, map, drop, get_or}
 use Rattle.std.specs.Option.{IsSome, IfSome, option_map_or}
 use Rattle.std.specs.List.{AllByRecursion}
 use Rattle.std.proofs.lemmas.Bool.{eqb-true, eqb-false, eq-eqb, ne_eqb, ltb-true, ltb-false, or_left, or_right, or_cases, and_parts, both_ways}
 use Rattle.std.proofs.lemmas.List.{length-set}
-use Rattle.std.proofs.lemmas.Option.{slice_get_within, slice_get_read, same_Some, IfSome_then}
+use Rattle.std.proofs.lemmas.List.Sums.{count_by_more_no, count_by_more_yes}
+use Rattle.std.proofs.lemmas.Option.{get_or_from_slice_get, slice_get_within, slice_get_read, same_Some, IfSome_then}
 use Rattle.circular_buffer.proofs.Places.{slice_get-some}
 use Rattle.posix.specs.declared.process.Life.{Life}
 use Rattle.posix.specs.declared.process.Life.TheVariants.{Running, Stopped, Zombie}
@@ -347,10 +348,21 @@ refreshed_length f zero cs = refl
 refreshed_length f (suc k) [] = refl
 refreshed_length f (suc k) (d ∷ ds) = ap suc (refreshed_length f k ds)
 
+-- what the next one is was there at first
+was_at : (f : Console → Console) (k : ℕ) (x : Console) (cs now : List Console) → now ≡ refreshed_to f k cs → k < length cs → x ≡ get_or now k x → slice_get cs k ≡ Some x
+was_at f k x cs now so_far fits is =
+    let all = ap length so_far ∙ refreshed_length f k cs in
+    sym (not_refreshed f k cs) ∙ ap (λ (l : List Console). slice_get l k) (sym so_far) ∙ slice_get_read now (length now) k x refl (omega (arith, fits, all)) is
+
 -- one more
 pub refreshed_step : (f : Console → Console) (k : ℕ) (x : Console) (cs now : List Console) → now ≡ refreshed_to f k cs → k < length cs → x ≡ get_or now k x → slice_set now k (f x) ≡ refreshed_to f (k + 1) cs
-refreshed_step f k x cs now so_far fits is =
-    let all = ap length so_far ∙ refreshed_length f k cs in
-    let found : slice_get now k ≡ Some x = slice_get_read now (length now) k x refl (omega (arith, fits, all)) is in
-    let was : slice_get cs k ≡ Some x = sym (not_refreshed f k cs) ∙ ap (λ (l : List Console). slice_get l k) (sym so_far) ∙ found in
-    ap (λ (l : List Console). slice_set l k (f x)) so_far ∙ refreshed_next f k x cs was
+refreshed_step f k x cs now so_far fits is = ap (λ (l : List Console). slice_set l k (f x)) so_far ∙ refreshed_next f k x cs (was_at f k x cs now so_far fits is)
+
+-- so with how many there are of a kind
+pub counted_step : (t : Console → Bool) (f : Console → Console) (k : ℕ) (x : Console) (cs now : List Console) → now ≡ refreshed_to f k cs → k < length cs → x ≡ get_or now k x → count_by t (take (k + 1) cs) ≡ count_by t (take k cs) + cond (t x) 1 0
+counted_step t f k x cs now so_far fits is =
+    let same = get_or_from_slice_get cs k x x (was_at f k x cs now so_far fits is) in
+    elim (t x) as (λ b. t x ≡ b → count_by t (take (k + 1) cs) ≡ count_by t (take k cs) + cond b 1 0) [
+      | true ↦ λ e. count_by_more_yes t cs k x fits (ap t same ∙ e)
+      | false ↦ λ e. let none = count_by_more_no t cs k x fits (ap t same ∙ e) in omega (arith, none)
+    ] refl

@@ -1,15 +1,18 @@
 -- How many wait to read from a console: no more than are in its foreground process group.
-use Rattle.std.proofs.Common.{◌≡◌, ℕ, ◌≤◌, ◌==◌, true, false, cond, not, ◌&&◌, refl, ap, sym, ◌∙◌, arith, List, [], ◌∷◌, length, Some, slice_get, Result, Ok, Err}
-use Rattle.std.proofs.lemmas.Bool.{eq-eqb, ne_eqb, and_parts, not-true, not-false, false_from_ne_true, true_from_ne_false, both_ways}
+use Rattle.std.proofs.Common.{◌≡◌, ℕ, ◌≤◌, ◌==◌, true, false, cond, not, ◌&&◌, ◌||◌, Option, None, refl, ap, sym, ◌∙◌, arith, List, [], ◌∷◌, length, Some, slice_get, Result, Ok, Err}
+use Rattle.std.proofs.lemmas.Bool.{eq-eqb, ne_eqb, or_right, and_parts, not-true, not-false, false_from_ne_true, true_from_ne_false, both_ways}
 use Rattle.std.proofs.lemmas.Option.{same_Some}
 use Rattle.posix.specs.declared.errno.Errno.{Errno}
 use Rattle.posix.specs.declared.span.Span.{Span}
+use Rattle.posix.specs.declared.process.Blocked.{Blocked}
+use Rattle.posix.specs.declared.process.Blocked.TheVariants as blocked
 use Rattle.posix.specs.Processes.{Process, argument}
 use Rattle.posix.specs.Tables.{lookup, is_member, members_in}
 use Rattle.posix.specs.States.{State, is_in, without}
 use Rattle.posix.specs.Consoles.{Console}
 use Rattle.posix.specs.Transfers.{span_in}
-use Rattle.posix.specs.Terminals.{waits_in, waits_on, waits_to_read}
+use Rattle.posix.specs.Terminals.{is_in_read, waits_in, waits_on, waits_to_read}
+use Rattle.life.specs.Rechecks.{AreBrief, is_in_wait}
 use Rattle.posix.specs.Regular.{IsRegular, IsDistinct}
 use Rattle.posix.specs.Settle.{NoWakeIsLost}
 use Rattle.posix.proofs.MemberLemmas.{in_first, is_other}
@@ -18,7 +21,6 @@ use Rattle.posix.proofs.ConsoleLemmas.{console_is}
 use Rattle.pidset.specs.Numbers.{PidSetView, Rises}
 use Rattle.pidset.proofs.NumberLemmas.{not_in_above, rises_without}
 use Rattle.life.specs.Machines.{IsWatched, readers_at}
-use Rattle.life.proofs.ReaderLemmas.{watched_rises}
 use Rattle.life.proofs.ConsoleLemmas.{reader_is, reads_on}
 
 -- ---- members of a process group
@@ -66,7 +68,7 @@ in_foreground me c (Ok span) w = not-false _ (not-true _ (and_parts (not (not (m
 
 -- Where each process that can act has a place, who is known by a console and needn't be rechecked is a member of the
 -- console's foreground process group: a read in the background doesn't block.
-pub reader_member : {readers : List PidSetView} (s : State) (to_recheck : List ℕ) (k p : ℕ) (c : Console) → IsRegular s → IsWatched s to_recheck readers → NoWakeIsLost s → slice_get s.consoles k ≡ Some c
+reader_member : {readers : List PidSetView} (s : State) (to_recheck : List ℕ) (k p : ℕ) (c : Console) → IsRegular s → IsWatched s to_recheck readers → NoWakeIsLost s → slice_get s.consoles k ≡ Some c
     → is_in p (readers_at k readers) ≡ true → is_in p to_recheck ≡ false → IsMember c.foreground s.processes p
 unfolding waits_to_read
 reader_member s to_recheck k p c i h awake at on off =
@@ -78,9 +80,27 @@ reader_member s to_recheck k p c i h awake at on off =
     let here = in_foreground w.reader w.console (span_in (argument w.reader 1) (argument w.reader 2)) (ap (waits_on w.reader) (sym own) ∙ waits) in
     record { what = w.reader; found = w.found; member = ap (λ (c : Console). w.reader.group == c.foreground) (same_Some _ _ (sym at ∙ w.at)) ∙ here }
 
--- so where nobody is to be rechecked no more are known than are members
-pub few_readers : {readers : List PidSetView} (s : State) (to_recheck : List ℕ) (k : ℕ) (c : Console) → IsRegular s → IsWatched s to_recheck readers → NoWakeIsLost s → to_recheck ≡ [] → slice_get s.consoles k ≡ Some c
-    → length (readers_at k readers) ≤ length (members_in c.foreground s.processes)
+-- so where nobody was to be rechecked, and then those are who are known by a console
+pub readers_brief : {readers : List PidSetView} (s : State) (before ns : List ℕ) (k : ℕ) (c : Console) → IsRegular s → IsWatched s before readers → NoWakeIsLost s → before ≡ [] → slice_get s.consoles k ≡ Some c
+    → Rises ns → ((p : ℕ) → is_in p ns ≡ true → (is_in p before || is_in p (readers_at k readers)) ≡ true) → AreBrief s.processes ns × (length ns ≤ length (members_in c.foreground s.processes))
 unfolding is_in
-few_readers {readers = readers} s to_recheck k c i h awake none at =
-    few_members c.foreground s.processes (readers_at k readers) (watched_rises s to_recheck k h) (λ q on. reader_member s to_recheck k q c i h awake at on (ap (is_in q) none))
+readers_brief {readers = readers} s before ns k c i h awake none at up those = (
+  λ p e.
+      let w = h.waits k p (known p e) (off p) in
+      let it = reader_is w.console.session w.reader w.reads in
+      (w.reader, w.found, or_right _ _ (reading w.reader.blocked it.visits)),
+  few_members c.foreground s.processes ns up (λ p e. reader_member s before k p c i h awake at (known p e) (off p)),
+)
+  where
+    off : (p : ℕ) → is_in p before ≡ false
+    off p = ap (is_in p) none
+
+    known : (p : ℕ) → is_in p ns ≡ true → is_in p (readers_at k readers) ≡ true
+    known p e = sym (ap (λ b. b || is_in p (readers_at k readers)) (off p)) ∙ those p e
+
+    reading : (b : Option Blocked) → is_in_read b ≡ true → not (is_in_wait b) ≡ true
+    reading None e = absurd (cc)
+    reading (Some blocked.Waitpid) e = absurd (cc)
+    reading (Some blocked.Read) e = refl
+    reading (Some blocked.Pause) e = refl
+    reading (Some (blocked.Sigsuspend mask)) e = refl

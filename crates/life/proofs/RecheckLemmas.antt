@@ -229,15 +229,6 @@ listed_signals {readers = readers} s p g a before after h here is same =
       | false ↦ λ k e. listed_with s t before after [] [] h (touches_signals s p g a (λ r found. ap takes_signal (same_Some _ _ (sym found ∙ it.found)) ∙ k)) (refl, refl, λ q u e. e) (λ q k. stay q s.processes k) tt (λ q theirs k. k) e same
     ] refl (is ∙ ap (λ o. rechecking_by_signals o s.order before.pids) it.found)
 
--- one that is there and is rechecked, and hasn't changed
-pub listed_rechecking : {readers : List PidSetView} (s : State) (p : ℕ) (before after : PidSetView) → IsListed s before readers → IsSome (process s p) → after.pids ≡ rechecking p s.order before.pids → after.room ≡ before.room → IsListed s after readers
-unfolding with_numbers
-listed_rechecking {readers = readers} s p before after h here is same =
-    elim (is_in p s.order) as (λ b. after.pids ≡ cond b before.pids (with_number p before.pids) → IsListed s after readers) [
-      | true ↦ λ e. listed_more s before after [] h tt e same
-      | false ↦ λ e. listed_more s before after (p ∷ []) h (here, tt) e same
-    ] is
-
 -- ---- who is rechecked next
 
 -- nobody comes between a number and the next one above

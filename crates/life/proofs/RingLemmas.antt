@@ -109,7 +109,7 @@ pub record IsTakingBelow (next : Option ℕ) (rs : List Process) (ns : List ℕ)
   pub below : (q : ℕ) → is_in q ns ≡ true → IfSome next (λ p. q < p)
 
 -- a number that is put in is one more at most
-one_more : (n : ℕ) (ns : List ℕ) → length (with_number n ns) ≤ length ns + 1
+pub one_more : (n : ℕ) (ns : List ℕ) → length (with_number n ns) ≤ length ns + 1
 unfolding with_number
 one_more n [] = omega arith
 one_more n (m ∷ ns) = grind (arith, one_more n ns)

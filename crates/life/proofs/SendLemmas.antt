@@ -19,7 +19,7 @@ use Rattle.posix.specs.Credentials.{may}
 use Rattle.posix.specs.Statuses.{continued}
 use Rattle.posix.specs.Generation.{signalled, effect_of}
 use Rattle.posix.specs.Notices.{ignores_stops, noticed_of_change, child_signal, told_of_change, resumed, acted_upon, generated_for, signalled_all}
-use Rattle.posix.specs.Sends.{is_target, targets, permitted, sending_permitted, sending_found, sending, sent_by, sent_among}
+use Rattle.posix.specs.Sends.{is_target, targets, permitted, sending_permitted, sending_found, sent_by, sent_among}
 use Rattle.posix.proofs.MapLemmas.{at_keeps, filter_map}
 use Rattle.posix.proofs.WalkLemmas.{numbered, numbered_one, numbered_none, rest_of_walk, walk_splits}
 use Rattle.proctable.specs.declared.snapshot.Snapshot.{Snapshot}
@@ -287,11 +287,6 @@ target_other me target p rs up q e t = rw (numbered_one p rs up q e, t) refl
 pub target_none : (me : Process) (target : Target) (p : ℕ) (rs : List Process) → lookup p rs ≡ None → targets me target (numbered p rs) ≡ []
 unfolding targets
 target_none me target p rs e = rw (numbered_none p rs e) refl
-
--- the targets decide whom a signal finds
-pub sending_targets : (me : Process) (target : Target) (s : Option ℕ) (qs rs : List Process) → targets me target rs ≡ qs → sending me target s rs ≡ sending_found me s qs
-unfolding sending
-sending_targets me target s qs rs e = ap (sending_found me s) e
 
 -- a test that was passed is passed again
 filter_twice : (t : Process → Bool) (rs : List Process) → filter t (filter t rs) ≡ filter t rs

@@ -1,5 +1,5 @@
 -- What keeps a machine sound.
-use Rattle.std.proofs.Common.{◌≡◌, ℕ, ◌+◌, ◌<◌, ◌≤◌, Bool, false, refl, ap, sym, ◌∙◌, arith, subst, List, [], ◌∷◌, length, map, replicate, Some, None}
+use Rattle.std.proofs.Common.{rules, ◌≡◌, ◌≢◌, ℕ, ◌+◌, ◌<◌, ◌≤◌, Bool, false, refl, ap, sym, ◌∙◌, arith, subst, List, [], ◌∷◌, length, map, replicate, Some, None}
 use Rattle.std.specs.Option.{IsSome}
 use Rattle.std.proofs.lemmas.List.{length-map, length-replicate}
 use Rattle.posix.specs.Processes.{Process, is_zombie, first_process}
@@ -8,9 +8,9 @@ use Rattle.posix.specs.Consoles.{Console, unused_console}
 use Rattle.posix.specs.States.{World, State, boot, process, next_pid}
 use Rattle.posix.specs.NextPid.{is_free, next_free}
 use Rattle.posix.specs.Regular.{IsRegular, IsPlaced, CanInherit}
-use Rattle.posix.specs.Ends.{made_zombie}
+use Rattle.posix.specs.Ends.{made_zombie, leave_children_and_die}
 use Rattle.posix.proofs.NextLemmas.{IsNew, new_number}
-use Rattle.posix.proofs.RegularLemmas.{regular_as, regular_inserted, regular_first}
+use Rattle.posix.proofs.RegularLemmas.{regular_as, regular_inserted, regular_first, regular_depart, heir_there}
 use Rattle.posix.proofs.TableLemmas.{length_inserted}
 use Rattle.posix.proofs.MapLemmas.{at_pid, some_map, children_map}
 use Rattle.posix.proofs.WalkLemmas.{all_looked}
@@ -19,10 +19,8 @@ use Rattle.pidalloc.specs.Tallies.{IsTallied}
 use Rattle.pidalloc.proofs.TallyLemmas.{CanBear, can_bear, next_same, tallied_unborne, tallied_born, tallied_map}
 use Rattle.sched.specs.Places.{Places}
 use Rattle.life.specs.Machines.{IsKept, IsSound, state_of, IsOther}
-use Rattle.pidset.specs.Indexes.{HaveParents}
-use Rattle.jobs.proofs.NumberLemmas.{no_more, above_none}
 pub use Rattle.jobs.proofs.SnapshotLemmas.{There, there, is_there, snapshot_are, some_read, none_read}
-use Rattle.jobs.proofs.NumberLemmas.{nobody_there}
+use Rattle.jobs.proofs.NumberLemmas.{no_more, above_none, nobody_there}
 use Rattle.pidset.proofs.ParentLemmas.{parents_map, parents_adopted, parents_inserted}
 
 -- what the value of a machine says of a process, its parts say
@@ -42,30 +40,13 @@ heir_in {p = p} {heir = heir} same h = subst (λ (s : State). CanInherit s.proce
 -- the numbers and the room stay kept where each record keeps its numbers
 pub kept_map : (g : Process → Process) → ((r : Process) → (g r).pid ≡ r.pid) → ((r : Process) → (g r).group ≡ r.group) → ((r : Process) → (g r).session ≡ r.session)
     → (m : ℕ) (rs : List Process) (p : Pids) (a b : Places) → a.room ≤ b.room → IsKept m rs p a → IsKept m (map g rs) p b
-kept_map g kp kg ks m rs p a b e k = record {
-  greatest = k.greatest;
-  table = k.table;
-  tallied = tallied_map p g kp kg ks rs k.tallied;
-  room = let r = k.room in omega (arith, r, e);
-}
+kept_map g kp kg ks m rs p a b e k = let tallied = tallied_map p g kp kg ks rs k.tallied in search (rules, arith)
 
 -- and where the places change but keep their room
 pub kept_order : (m : ℕ) (rs : List Process) (p : Pids) (a b : Places) → a.room ≤ b.room → IsKept m rs p a → IsKept m rs p b
 kept_order m rs p a b e k = record { greatest = k.greatest; table = k.table; tallied = k.tallied; room = let r = k.room in omega (arith, r, e) }
 
 -- ---- ends
-
--- as many processes are there
-pub length_departed : (p heir w : ℕ) (rs : List Process) → length (adopted p heir (changed p (made_zombie w) rs)) ≡ length rs
-unfolding changed adopted
-length_departed p heir w rs = length-map (map (at p (made_zombie w)) rs) (reparented p heir) ∙ length-map rs (at p (made_zombie w))
-
--- no number changes at an end
-pub kept_departed : (p heir w m : ℕ) (rs : List Process) (pids : Pids) (a b : Places) → a.room ≤ b.room → IsKept m rs pids a → IsKept m (adopted p heir (changed p (made_zombie w) rs)) pids b
-unfolding changed adopted made_zombie
-kept_departed p heir w m rs pids a b e k =
-    kept_map (reparented p heir) (λ r. grind arith) (λ r. grind arith) (λ r. grind arith) m _ pids a b e
-    (kept_map (at p (made_zombie w)) (λ r. grind arith) (λ r. grind arith) (λ r. grind arith) m rs pids a a (omega arith) k)
 
 -- who is there is still there where a process was made a zombie
 pub there_made_zombie : (p w q : ℕ) (rs : List Process) → IsSome (lookup q rs) → IsSome (lookup q (changed p (made_zombie w) rs))
@@ -77,11 +58,18 @@ pub kids_made_zombie : (p w q : ℕ) (rs : List Process) → length (children_in
 unfolding changed made_zombie
 kids_made_zombie p w q rs = ap length (children_map (at p (made_zombie w)) (λ r. grind arith) q rs) ∙ length-map (children_in q rs) (at p (made_zombie w))
 
--- who is there keeps a parent that is there, at an end
-pub parents_departed : (p heir w : ℕ) (rs : List Process) → IsSome (lookup heir rs) → HaveParents IsOther rs → HaveParents IsOther (adopted p heir (changed p (made_zombie w) rs))
-unfolding changed made_zombie
-parents_departed p heir w rs there h =
-    parents_adopted IsOther p heir (map (at p (made_zombie w)) rs) (there_made_zombie p w heir rs there) (parents_map IsOther (at p (made_zombie w)) (at_pid p (made_zombie w) (λ r. refl)) (λ r. grind arith) (λ q r other. other) rs h)
+-- a process departs, and the machine stays sound
+pub sound_departed : (p heir w : ℕ) (s : State) (pids : Pids) (a b : Places) → 1 ≤ p → p ≢ 1 → CanInherit s.processes p heir → a.room ≤ b.room → IsSound s pids a → IsSound (leave_children_and_die s p heir w) pids b
+unfolding changed adopted made_zombie
+sound_departed p heir w s pids a b least other h room i =
+    let dead = map (at p (made_zombie w)) s.processes in
+    record {
+      regular = regular_depart p heir w least other s i.regular h;
+      parents = parents_adopted IsOther p heir dead (there_made_zombie p w heir s.processes (heir_there s p heir i.regular h)) (parents_map IsOther (at p (made_zombie w)) (at_pid p (made_zombie w) (λ r. refl)) (λ r. grind arith) (λ q r other. other) s.processes i.parents);
+      counted = omega (arith, i.counted, length-map dead (reparented p heir), length-map s.processes (at p (made_zombie w)));
+      kept = kept_map (reparented p heir) (λ r. grind arith) (λ r. grind arith) (λ r. grind arith) s.world.pidmax dead pids a b room
+          (kept_map (at p (made_zombie w)) (λ r. grind arith) (λ r. grind arith) (λ r. grind arith) s.world.pidmax s.processes pids a a (omega arith) i.kept);
+    }
 
 -- ---- numbers
 
@@ -93,9 +81,7 @@ next_is s p places last i =
 -- there are no more processes than numbers
 pub few : (s : State) → IsRegular s → length s.processes ≤ s.world.pidmax
 few s i =
-    let l = no_more 0 s.world.pidmax s.processes i.rising
-    (above_none s.processes (all_looked _ s.processes i.rising (λ p r e. (i.bounded p r e).least)))
-    (all_looked _ s.processes i.rising (λ p r e. (i.bounded p r e).pid)) (omega arith) in
+    let l = no_more 0 s.world.pidmax s.processes i.rising (above_none s.processes (all_looked _ s.processes i.rising (λ p r e. (i.bounded p r e).least))) (all_looked _ s.processes i.rising (λ p r e. (i.bounded p r e).pid)) (omega arith) in
     omega (arith, l)
 
 -- ---- births
@@ -107,27 +93,18 @@ next_is_new s t p places child now i next =
 
 -- and no more than 32,768
 pub not_many : (s : State) (p : Pids) (places : Places) → IsSound s p places → length s.processes ≤ 32768
-not_many s p places i =
-    let l = few s i.regular in
-    let same = i.kept.greatest in
-    let limit = i.kept.table.limit in
-    omega (arith, l, same, limit)
+not_many s p places i = omega (arith, few s i.regular, i.kept.greatest, i.kept.table.limit)
 
 -- the rows have room for one more process in the group and session of its parent
 pub room_to_bear : (s t : State) (p : Pids) (places : Places) (rs : List Process) (child parent group session : ℕ) → s ≡ t → rs ≡ s.processes → IsSound s p places → next_pid t ≡ Some child → IsPlaced t.processes parent
     → ((me : Process) → lookup parent rs ≡ Some me → (group ≡ me.group) × (session ≡ me.session)) → CanBear p child group session
 room_to_bear s t p places rs child parent group session now same i next me like =
-    let l = not_many s p places i in
     let fresh = next_is_new s t p places child now i next in
     let found = found_in s t now parent me.what me.found in
     let bounds = i.regular.bounded parent me.what found in
-    let m = i.kept.greatest in
-    let a = bounds.group in
-    let b = bounds.session in
     let groups = like me.what (ap (lookup parent) same ∙ found) in
-    let same_group = groups.0 in
-    let same_session = groups.1 in
-    can_bear p s.processes i.kept.tallied (omega (arith, l)) child group session fresh.greatest (omega (arith, a, m, same_group)) (omega (arith, b, m, same_session))
+    can_bear p s.processes i.kept.tallied (omega (arith, not_many s p places i)) child group session fresh.greatest
+    (omega (arith, bounds.group, i.kept.greatest, groups.0)) (omega (arith, bounds.session, i.kept.greatest, groups.1))
 
 -- a birth
 pub sound_born : (w : World) (rs : List Process) (cs : List Console) (p q : Pids) (a : Places) (births ticks dropped : ℕ) (h : Bool) (new me : Process)
@@ -137,20 +114,13 @@ pub sound_born : (w : World) (rs : List Process) (cs : List Console) (p q : Pids
     → IsSound (state_of w (inserted new rs) cs q a (births + 1) ticks dropped h) q a
 sound_born w rs cs p q a births ticks dropped h new me i fresh there up group session life silent bore same table =
     let s = state_of w rs cs p a births ticks dropped h in
-    let k = i.kept in
-    let number : IsNew rs w.pidmax new.pid = subst (λ m. IsNew rs m new.pid) k.greatest fresh in
+    let number : IsNew rs w.pidmax new.pid = subst (λ m. IsNew rs m new.pid) i.kept.greatest fresh in
     let r = regular_inserted new q.last (births + 1) s i.regular number (ap is_zombie life ∙ up) silent me there up group session in
-    record {
-      regular = regular_as _ (state_of w (inserted new rs) cs q a (births + 1) ticks dropped h) refl refl refl refl refl r;
-      parents = parents_inserted IsOther new rs fresh.fresh (λ other. is_there _ me there) i.parents;
-      counted = let c = i.counted in let e = length_inserted new rs in omega (arith, c, e);
-      kept = record {
-        greatest = same ∙ k.greatest;
-        table = table;
-        tallied = subst (λ x. IsTallied x (inserted new rs)) (sym bore) (tallied_born p new rs k.table.size k.tallied);
-        room = k.room;
-      };
-    }
+    let regular = regular_as _ (state_of w (inserted new rs) cs q a (births + 1) ticks dropped h) refl refl refl refl refl r in
+    let parents = parents_inserted IsOther new rs fresh.fresh (λ other. is_there _ me there) i.parents in
+    let many = length_inserted new rs in
+    let tallied = subst (λ x. IsTallied x (inserted new rs)) (sym bore) (tallied_born p new rs i.kept.table.size i.kept.tallied) in
+    search (rules, arith)
 
 -- ---- the start
 
@@ -166,12 +136,7 @@ sound_first w cs q b unused most bore same table order room = record {
   regular = regular_as (boot w) _ refl first_alone order refl unused (regular_first w (omega (arith, most)));
   parents = parents_inserted IsOther first_process [] (nobody_there 1) (λ other. absurd (other refl)) (λ p r other e. let no = sym (nobody_there p) ∙ e in absurd (cc));
   counted = rw first_alone (omega arith);
-  kept = record {
-    greatest = same;
-    table = table;
-    tallied = subst (λ x. IsTallied x (inserted first_process [])) (sym bore) (tallied_born (unborne_table w.pidmax) first_process [] (length-replicate _ _) (tallied_unborne w.pidmax));
-    room = room;
-  };
+  kept = let tallied = subst (λ x. IsTallied x (inserted first_process [])) (sym bore) (tallied_born (unborne_table w.pidmax) first_process [] (length-replicate _ _) (tallied_unborne w.pidmax)) in search rules;
 }
 
 -- and it is the machine at boot

@@ -21,10 +21,6 @@ same_then h k = record {
   readers = k.readers ∙ h.readers;
 }
 
--- so many slots were read in all
-pub looks_within : {n : ℕ} {a b : MachineView} → AreSame a b → b.visits ≤ a.visits + n → IsRegular a.state → Looks n a b
-looks_within same few regular = record { same = same; visits = few; regular = regular }
-
 -- a look that may read more
 pub read_more : {m n : ℕ} {a b : MachineView} → Looks m a b → m ≤ n → Looks n a b
 read_more h le = record { same = h.same; visits = let few = h.visits in omega (arith, few, le); regular = h.regular }

@@ -1,7 +1,8 @@
 -- Consoles as a machine shows them, and who waits to read from one.
 use Rattle.std.specs.Prelude.{option_map, ◌≡◌, ◌+◌, ◌*◌, ◌==◌, ◌&&◌, ℕ, zero, suc, Bool, not, true, false, if◌then◌else◌, List, [], length, Option, Some, None, slice_get, slice_set, MatchOption}
 use Rattle.posix.specs.Processes.{Process, is_running}
-use Rattle.posix.specs.Consoles.{Console, console_of, key_signal}
+use Rattle.std.specs.Option.{option_map_or}
+use Rattle.posix.specs.Consoles.{Console, console_of, console_at, key_signal}
 use Rattle.posix.specs.States.{State, process, is_in, has_place, without}
 use Rattle.posix.specs.Tables.{members_in}
 use Rattle.posix.specs.Terminals.{is_reader, is_in_read}
@@ -74,3 +75,7 @@ slots_of_key (suc k) byte m = slots_of_signal_key (key_signal byte) (slice_get m
 -- a process hangs up the terminal of the session that it leads
 abbrev pub slots_of_hangup : Process → MachineView → ℕ
 slots_of_hangup me m = if hangs_up (snapshot_of me) then slots_of_foreground (console_of me.session m.state.consoles) m.state.processes else 0
+
+-- the members of the foreground process group of the console with this number, none where there is no console
+abbrev pub foreground_members : ℕ → State → List Process
+foreground_members console s = option_map_or (λ c. members_in c.foreground s.processes) (console_at console s.consoles) []

@@ -1,3 +1,4 @@
+pub mod Foregrounds
 pub mod Machines
 pub mod Loans
 pub mod Callers

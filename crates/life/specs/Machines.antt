@@ -7,8 +7,10 @@ use Rattle.posix.specs.Regular.{IsRegular}
 use Rattle.std.specs.Option.{option_map_or}
 use Rattle.std.specs.List.{AllByRecursion}
 use Rattle.posix.specs.Consoles.{Console}
-use Rattle.posix.specs.Settle.{Covers, AreFresh}
+use Rattle.posix.specs.Settle.{Covers}
 use Rattle.posix.specs.Terminals.{is_reader}
+use Rattle.life.specs.declared.consoles.Unchecked.{Unchecked}
+use Rattle.life.specs.Foregrounds.{AreFreshBut}
 use Rattle.pidalloc.specs.Rows.{Pids, IsPids, row, gone_from}
 use Rattle.pidalloc.specs.Tallies.{IsTallied}
 use Rattle.sched.specs.Places.{Places}
@@ -28,14 +30,14 @@ state_of world processes consoles pids places births ticks dropped halted = reco
 }
 
 -- The state of a machine, how many slots of its table have been read, who is to be rechecked, which
--- process groups were noted as those that an end may orphan, whether a foreground process group may have lost its
+-- process groups were noted as those that an end may orphan, whose foreground process group may have lost its
 -- members, and who may wait to read from each console.
 pub record MachineView : Type 0 where
   pub state : State
   pub visits : ℕ
   pub to_recheck : List ℕ
   pub groups_at_risk : List ℕ
-  pub foregrounds_unchecked : Bool
+  pub foregrounds_unchecked : Unchecked
   pub readers : List PidSetView
 
 -- all but the number of slots that have been read is as it was
@@ -73,8 +75,15 @@ pub record Notes (n : ℕ) (old new : MachineView) : Type 0 where
   pub visits : new.visits ≤ old.visits + n
   pub regular : IsRegular old.state
 
--- a change after which the state is this, and these are to be rechecked
+-- a change after which the state is this, these are to be rechecked, and no other foreground is unchecked
 pub record Changes (n : ℕ) (old new : MachineView) (s : State) (ns : List ℕ) : Type 0 where
+  pub state : new.state ≡ s
+  pub to_recheck : new.to_recheck ≡ ns
+  pub foregrounds_unchecked : new.foregrounds_unchecked ≡ old.foregrounds_unchecked
+  pub costs : Costs n old new
+
+-- so with a record that may have gone: a foreground may be unchecked then
+pub record Removes (n : ℕ) (old new : MachineView) (s : State) (ns : List ℕ) : Type 0 where
   pub state : new.state ≡ s
   pub to_recheck : new.to_recheck ≡ ns
   pub costs : Costs n old new
@@ -174,18 +183,18 @@ pub record IsNoted (pidmax : ℕ) (groups_at_risk : PidSetView) : Type 0 where
   pub within : (g : ℕ) → is_in g groups_at_risk.pids ≡ true → g ≤ pidmax
   pub room : pidmax + 1 < groups_at_risk.room
 
--- what a machine keeps of its consoles beside them: who may wait to read from each, and whether a foreground
--- process group may have lost its members
+-- what a machine keeps of its consoles beside them: who may wait to read from each, and whose foreground process
+-- group may have lost its members
 pub record Terminals : Type 0 where
   pub readers : List PidSetView
-  pub foregrounds_unchecked : Bool
+  pub foregrounds_unchecked : Unchecked
 
 -- what the type of a machine keeps
 pub record IsMachine (s : State) (pids : Pids) (places : Places) (to_recheck groups_at_risk : PidSetView) (terminals : Terminals) : Type 0 where
   pub sound : IsSound s pids places
   pub listed : IsListed s to_recheck terminals.readers
   pub noted : IsNoted s.world.pidmax groups_at_risk
-  pub fresh : terminals.foregrounds_unchecked ≡ false → AreFresh s
+  pub fresh : AreFreshBut terminals.foregrounds_unchecked s.processes s.consoles
 
 -- ---- one record that goes
 

@@ -1,5 +1,7 @@
 -- Who is to be rechecked: asked after this event whether it can act.
-use Rattle.std.specs.Prelude.{◌≡◌, ℕ, Bool, true, ◌==◌, if◌then◌else◌, List, [], ◌∷◌, Option, Some, None}
+use Rattle.std.specs.Prelude.{◌≡◌, ℕ, Bool, true, false, not, ◌||◌, ◌==◌, if◌then◌else◌, List, [], ◌∷◌, Option, Some, None}
+use Rattle.posix.specs.declared.process.Blocked.{Blocked}
+use Rattle.posix.specs.declared.process.Blocked.TheVariants as blocked
 use Rattle.posix.specs.declared.process.Effect.{Effect}
 use Rattle.posix.specs.declared.process.Effect.TheVariants as effect
 use Rattle.posix.specs.declared.process.PendingSignal.{PendingSignal}
@@ -76,6 +78,18 @@ rechecking_members n group rs order ns = rechecking_all (record { sig = n; carri
 -- a signal is chosen for each of these
 abbrev pub AreTaking : List Process → List ℕ → Type 0
 AreTaking rs ns = (p : ℕ) → is_in p ns ≡ true → (r : Process) × (lookup p rs ≡ Some r) × (takes_signal r ≡ true)
+
+-- its call is a wait for a child
+abbrev pub is_in_wait : Option Blocked → Bool
+is_in_wait None = false
+is_in_wait (Some blocked.Waitpid) = true
+is_in_wait (Some blocked.Read) = false
+is_in_wait (Some blocked.Pause) = false
+is_in_wait (Some (blocked.Sigsuspend mask)) = false
+
+-- No child has to be looked at to tell whether each of these can act: a signal is chosen for it, or it waits for none.
+abbrev pub AreBrief : List Process → List ℕ → Type 0
+AreBrief rs ns = (p : ℕ) → is_in p ns ≡ true → (r : Process) × (lookup p rs ≡ Some r) × ((takes_signal r || not (is_in_wait r.blocked)) ≡ true)
 
 -- how many slots are read where a signal is generated: CONT may continue its process, whose parent gets notice
 abbrev pub slots_of_signal : ℕ → ℕ

@@ -37,8 +37,7 @@ impl<K: Kin> Machine<K> {
     fn ring(&mut self, pid: Pid)
         requires there { IsThere pid self.old }
         requires time { self.old.state.ticks + 1 < 2 ^ 64 }
-        ensures changes { Changes 1 self.old self.new (change self.old.state pid (ring_at (self.old.state.ticks + 1))) (rechecks_by_signals (process self.new.state pid) self.old) }
-        ensures foregrounds_unchecked { self.new.foregrounds_unchecked ≡ self.old.foregrounds_unchecked }
+        ensures { Changes 1 self.old self.new (change self.old.state pid (ring_at (self.old.state.ticks + 1))) (rechecks_by_signals (process self.new.state pid) self.old) }
     {
         let now = self.ticks + 1;
         self.change(pid, |fields| fields.ring_at(pid, now));

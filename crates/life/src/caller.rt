@@ -1,6 +1,6 @@
 //! The caller of a system call.
 
-ghost use Rattle.std.specs.Prelude.{◌≡◌, ◌+◌, ◌≤◌, IsSome, IfSome};
+ghost use Rattle.std.specs.Prelude.{◌≡◌, ◌+◌, ◌≤◌, option_map, Some, IsSome, IfSome};
 ghost use Rattle.posix.specs.Processes.{Process, root as root_credentials};
 ghost use Rattle.posix.specs.States.{process};
 ghost use Rattle.posix.specs.Regular.{IsRegular};
@@ -62,9 +62,19 @@ impl<K: Kin> Machine<K> {
         ensures pid { result.pid ≡ pid }
         ensures finds { Finds 2 self.old self.new (IfSome (process self.old.state pid) (λ me. result ≡ caller_of me)) }
     {
-        let Some(snapshot) = self.table.get(pid) else {
+        let Some(snapshot) = self.snapshot(pid) else {
             unreachable!()
         };
+        self.caller_with(pid, snapshot)
+    }
+
+    /// A process that is there, with this snapshot, as the caller of a call. Nothing changes.
+    pub fn caller_with(&mut self, pid: Pid, snapshot: Snapshot) -> Caller
+        requires there { IsThere pid self.old }
+        requires snapshot { Some snapshot ≡ option_map snapshot_of (process self.old.state pid) }
+        ensures pid { result.pid ≡ pid }
+        ensures finds { Finds 1 self.old self.new (IfSome (process self.old.state pid) (λ me. result ≡ caller_of me)) }
+    {
         caller_by(snapshot, self.table.look(pid))
     }
 }

@@ -13,6 +13,7 @@ ghost use Rattle.life.specs.Rechecks.{rechecking, rechecks_by_signals, rechecks_
 ghost use Rattle.life.specs.Changes.{StaysRegular, CanMoveNumbers, has_moved};
 ghost use Rattle.life.specs.Machines.{Costs, Changes, IsThere, IfThere, with_processes};
 
+use crate::consoles::Unchecked;
 use crate::machine::Machine;
 use crate::rechecks::recheck_later;
 use jobs::{Change, Seen};
@@ -33,7 +34,6 @@ impl<K: Kin> Machine<K> {
         requires regular { StaysRegular F.FnOnce change self.old.state pid }
         ensures run { IsRun F.FnOnce change self.old.state.processes self.new.state.processes pid result }
         ensures changes { Changes 1 self.old self.new (with_processes self.old.state self.new.state.processes) (rechecks_by_signals (process self.new.state pid) self.old) }
-        ensures foregrounds_unchecked { self.new.foregrounds_unchecked ≡ self.old.foregrounds_unchecked }
     {
         let (result, takes_signal) = self.table.change(pid, change);
         recheck_by_signals(&mut self.to_recheck, &self.order, pid, takes_signal);
@@ -54,7 +54,7 @@ impl<K: Kin> Machine<K> {
         ensures there { result ≢ 0 → IsThere result self.new }
         ensures to_recheck { IfThere pid self.old (λ me. self.new.to_recheck ≡ rechecks_changed me self.old) }
         ensures costs { Costs (4 + 2 * length (children_in pid self.old.state.processes)) self.old self.new }
-        ensures put { StaysPut F.FnOnce change self.old.state.processes pid → Costs 2 self.old self.new }
+        ensures put { StaysPut F.FnOnce change self.old.state.processes pid → Costs 2 self.old self.new × (self.new.foregrounds_unchecked ≡ self.old.foregrounds_unchecked) }
     {
         let Change {
             parent,
@@ -96,14 +96,19 @@ fn recheck_with_parent(to_recheck: &mut PidSet, order: &Order, pid: Pid, parent:
 
 /// The numbers that a process bears as its process group's and its session's are others where it has moved. A
 /// foreground process group may have lost a member then.
-fn move_numbers(pids: &mut PidTable, foregrounds_unchecked: &mut bool, before: &Seen, after: &Seen)
+fn move_numbers(
+    pids: &mut PidTable,
+    foregrounds_unchecked: &mut Unchecked,
+    before: &Seen,
+    after: &Seen,
+)
     requires { CanMoveNumbers pids.old before.now after.now }
     ensures pids { pids.new ≡ (if has_moved before.now after.now then regrouped pids.old before.now.group before.now.session after.now.group after.now.session else pids.old) }
     ensures last { pids.new.last ≡ pids.old.last }
-    ensures foregrounds_unchecked { foregrounds_unchecked.new ≡ (has_moved before.now after.now || foregrounds_unchecked.old) }
+    ensures foregrounds_unchecked { foregrounds_unchecked.new ≡ (if has_moved before.now after.now then Unchecked.All else foregrounds_unchecked.old) }
 {
     if before.group != after.group || before.session != after.session {
         pids.regroup(before.group, before.session, after.group, after.session);
-        *foregrounds_unchecked = true;
+        *foregrounds_unchecked = Unchecked::All;
     }
 }

@@ -1,7 +1,7 @@
 //! Consoles: whose terminal each is, who waits to read from it, and what a key, a hangup and a lost foreground
 //! process group do (XBD 11.1).
 
-ghost use Rattle.std.specs.Prelude.{◌≡◌, ◌≢◌, ◌+◌, ◌*◌, ◌<◌, ◌≤◌, ◌==◌, ◌&&◌, ◌||◌, ℕ, IfOk, IfSome, IsSome, MatchOption, Option, Some, None, [], length, false, true, if◌then◌else◌, option_map, map, replicate, slice_get, slice_set};
+ghost use Rattle.std.specs.Prelude.{◌≡◌, ◌≢◌, ◌+◌, ◌*◌, ◌<◌, ◌≤◌, ◌==◌, ◌&&◌, ◌||◌, ℕ, IfOk, IfSome, IsSome, MatchOption, Option, Some, None, [], count_by, length, false, true, if◌then◌else◌, option_map, map, replicate, slice_get, slice_set};
 ghost use Rattle.std.specs.List.{AllByRecursion};
 ghost use Rattle.posix.specs.Processes.{Process};
 ghost use Rattle.posix.specs.States.{process, has_place as has_place_in, is_in, without};
@@ -9,15 +9,17 @@ ghost use Rattle.posix.specs.Consoles.{Console as ConsoleValue, unused_console, 
 ghost use Rattle.posix.specs.GroupCalls.{is_group_of};
 ghost use Rattle.posix.specs.Terminals.{is_reader, is_nonzero};
 ghost use Rattle.posix.specs.Ends.{signalled_group, hang_up as hanging_up};
-ghost use Rattle.posix.specs.Settle.{wakes, refreshed, clear_foregrounds as clearing_foregrounds};
+ghost use Rattle.posix.specs.Settle.{wakes, refreshed, clear_foregrounds as clearing_foregrounds, NoWakeIsLost};
 ghost use Rattle.posix.specs.Step.{key as keying};
 ghost use Rattle.posix.specs.Regular.{AreGrouped, IsRegular};
 ghost use Rattle.posix.specs.Tables.{members_in};
 ghost use Rattle.pidset.specs.Numbers.{PidSetView, numbers_above, with_number};
-ghost use Rattle.life.specs.Machines.{Costs, Finds, IsThere, IfThere, with_processes, with_consoles, IfConsole, AreWatched, HaveRoom, AreUnread, IsReaders, readers_at};
-ghost use Rattle.life.specs.Rechecks.{rechecking_members, slots_of_signal};
+ghost use Rattle.life.specs.Machines.{Changes, Costs, Finds, IsThere, IfThere, with_processes, with_consoles, IfConsole, AreWatched, HaveRoom, AreUnread, IsReaders, readers_at};
+ghost use Rattle.life.specs.Rechecks.{AreBrief, rechecking_members, slots_of_signal};
 ghost use Rattle.posix.specs.declared.process.Blocked.TheVariants as blocked;
-ghost use Rattle.life.specs.Consoles.{terminal_of, hangs_up as hangs_up_with, reads as reads_from, is_terminal_of as is_terminal, marked, IsMarked, IsTerminalIndex, IsForgottenAt, AreReaders, slots_of_key, slots_of_hangup};
+ghost use Rattle.proctable.specs.Records.{snapshot_of};
+ghost use Rattle.life.specs.Foregrounds.{after_loss as after_loss_of, is_unchecked as is_unchecked_by, refreshed_where};
+ghost use Rattle.life.specs.Consoles.{terminal_of, hangs_up as hangs_up_with, reads as reads_from, reads_in as reads_in_session, is_terminal_of as is_terminal, marked, IsMarked, IsTerminalIndex, IsForgottenAt, AreReaders, foreground_members, slots_of_key, slots_of_hangup};
 ghost use Rattle.tty.specs.Lines.{Takes};
 
 use crate::machine::Machine;
@@ -38,6 +40,45 @@ pub struct Terminal {
     pub tostop: bool,
     /// Whether a line is finished, and waits to be read.
     pub has_line: bool,
+}
+
+/// Whose foreground process group may have lost its members since the last time that foregrounds were cleared.
+#[derive(Clone, Copy, Debug, PartialEq, Eq)]
+pub enum Unchecked {
+    /// No console's.
+    Nothing,
+    /// That of a console whose foreground process group this is: a member's record has gone.
+    Group(Pid),
+    /// Any console's: a process has moved, or a foreground was set.
+    All,
+}
+
+/// What is unchecked once the record of a member of a process group has gone.
+pub(crate) fn after_loss(unchecked: &Unchecked, group: Pid) -> Unchecked
+    ensures { result ≡ after_loss_of group unchecked.now }
+{
+    match unchecked {
+        Unchecked::Nothing => Unchecked::Group(group),
+        Unchecked::Group(other) => {
+            if *other == group {
+                Unchecked::Group(group)
+            } else {
+                Unchecked::All
+            }
+        }
+        Unchecked::All => Unchecked::All,
+    }
+}
+
+/// Whether a console is among those that are unchecked.
+fn is_unchecked(unchecked: &Unchecked, console: &Console) -> bool
+    ensures { result ≡ is_unchecked_by unchecked.now console.now }
+{
+    match unchecked {
+        Unchecked::Nothing => false,
+        Unchecked::Group(group) => console.foreground() == *group,
+        Unchecked::All => true,
+    }
 }
 
 // ---- at the start
@@ -121,6 +162,16 @@ pub(crate) fn mark_reader(
     }
 }
 
+/// The session from whose terminal a process with this snapshot waits to read, if it has no place.
+pub fn reads_in(snapshot: &Snapshot) -> Option<Pid>
+    ensures { (r : Process) → snapshot.now ≡ snapshot_of r → result ≡ reads_in_session (Some r) }
+{
+    match (snapshot.life, snapshot.blocked) {
+        (Life::Running, Some(Blocked::Read)) => Some(snapshot.session),
+        _ => None,
+    }
+}
+
 /// Whether a process with this snapshot hangs its terminal up as it ends: it leads its session, and isn't process 1.
 fn hangs_up(snapshot: &Snapshot) -> bool
     ensures { result ≡ hangs_up_with snapshot.now }
@@ -154,15 +205,27 @@ fn refresh<K: Kin>(console: &mut Console, table: &mut JobTable<K>)
     }
 }
 
-/// So it is of each console.
-fn refresh_all<K: Kin>(consoles: &mut Vec<Console>, table: &mut JobTable<K>)
+/// So it is of a console that is unchecked, and one slot is read for it. Any other stays.
+fn refresh_unchecked<K: Kin>(console: &mut Console, unchecked: &Unchecked, table: &mut JobTable<K>)
     requires { AreGrouped table.old.processes }
-    ensures consoles { consoles.new.items ≡ map (refreshed table.old.processes) consoles.old.items }
+    ensures console { console.new ≡ refreshed_where unchecked.now table.old.processes console.old }
     ensures processes { table.new.processes ≡ table.old.processes }
-    ensures visits { table.new.visits ≤ table.old.visits + length consoles.old.items }
+    ensures visits { table.new.visits ≤ table.old.visits + (if is_unchecked_by unchecked.now console.old then 1 else 0) }
+{
+    if is_unchecked(unchecked, console) {
+        refresh(console, table);
+    }
+}
+
+/// So it is of each console.
+fn refresh_all<K: Kin>(consoles: &mut Vec<Console>, unchecked: &Unchecked, table: &mut JobTable<K>)
+    requires { AreGrouped table.old.processes }
+    ensures consoles { consoles.new.items ≡ map (refreshed_where unchecked.now table.old.processes) consoles.old.items }
+    ensures processes { table.new.processes ≡ table.old.processes }
+    ensures visits { table.new.visits ≤ table.old.visits + count_by (is_unchecked_by unchecked.now) consoles.old.items }
 {
     for console_index in 0..consoles.len() {
-        refresh(&mut consoles[console_index], table);
+        refresh_unchecked(&mut consoles[console_index], unchecked, table);
     }
 }
 
@@ -205,29 +268,14 @@ impl<K: Kin> Machine<K> {
 
     // ---- who waits to read
 
-    /// The session from whose terminal a process waits to read.
-    fn reads(&mut self, pid: Pid) -> Option<Pid>
-        ensures { Finds 1 self.old self.new (result ≡ reads_from self.old.state pid) }
+    /// A process that needn't be given a place has been rechecked, and isn't to be rechecked any more. Where it waits to
+    /// read from the terminal of its session, which this is then, it is known there from now on, and nowhere else.
+    pub fn rechecked(&mut self, pid: Pid, session: Option<Pid>)
+        requires waits { IfThere pid self.old (λ r. wakes self.old.state r ≡ false) }
+        requires session { session ≡ reads_from self.old.state pid }
+        ensures rest { self.new ≡ record (self.old) { to_recheck = without pid self.old.to_recheck; readers = self.new.readers } }
+        ensures regular { IsRegular self.old.state }
     {
-        let _ = &self.table;
-        if self.has_place(pid) {
-            return None;
-        }
-        let snapshot = self.snapshot(pid)?;
-        match (snapshot.life, snapshot.blocked) {
-            (Life::Running, Some(Blocked::Read)) => Some(snapshot.session),
-            _ => None,
-        }
-    }
-
-    /// A process that needn't be given a place has been rechecked, and isn't to be rechecked any more. From now on it
-    /// is known where it waits to read, and nowhere else.
-    pub fn rechecked(&mut self, pid: Pid)
-        requires { IfThere pid self.old (λ r. wakes self.old.state r ≡ false) }
-        ensures rest { self.new ≡ record (self.old) { to_recheck = without pid self.old.to_recheck; readers = self.new.readers; visits = self.new.visits } }
-        ensures costs { Costs 1 self.old self.new }
-    {
-        let session = self.reads(pid);
         mark_reader(&mut self.readers, &self.consoles, session, pid);
         take_off(&mut self.to_recheck, pid);
     }
@@ -244,7 +292,9 @@ impl<K: Kin> Machine<K> {
     fn recheck_readers(&mut self, console_index: usize)
         ensures rest { self.new ≡ record (self.old) { to_recheck = self.new.to_recheck; readers = self.new.readers } }
         ensures to_recheck { AreReaders self.old.state console_index self.new.to_recheck }
+        ensures those { (p : ℕ) → is_in p self.new.to_recheck ≡ true → (is_in p self.old.to_recheck || is_in p (readers_at console_index self.old.readers)) ≡ true }
         ensures readers { readers_at console_index self.new.readers ≡ [] }
+        ensures watched { AreWatched self.old }
         ensures regular { IsRegular self.old.state }
     {
         let mut next = self.next_reader(console_index, Pid::NONE);
@@ -289,7 +339,7 @@ impl<K: Kin> Machine<K> {
         self.recheck_readers(console_index);
         if let Some(console) = self.consoles.get_mut(console_index) {
             console.acquire(session, group);
-            self.foregrounds_unchecked = true;
+            self.foregrounds_unchecked = Unchecked::All;
         }
     }
 
@@ -302,7 +352,7 @@ impl<K: Kin> Machine<K> {
         if let Some(console_index) = terminal_index(&self.consoles, session) {
             self.recheck_readers(console_index);
             self.consoles[console_index].set_foreground(group);
-            self.foregrounds_unchecked = true;
+            self.foregrounds_unchecked = Unchecked::All;
         }
     }
 
@@ -335,9 +385,7 @@ impl<K: Kin> Machine<K> {
     /// A signal of the kernel is generated for each member of a process group, zombies included, in rising order;
     /// number 0 is no group's.
     pub fn signal_group(&mut self, group: Pid, sig: Sig)
-        ensures state { self.new.state ≡ with_processes self.old.state (signalled_group sig group self.old.state.processes) }
-        ensures to_recheck { self.new.to_recheck ≡ (if group == 0 then self.old.to_recheck else rechecking_members sig group self.old.state.processes self.old.state.order self.old.to_recheck) }
-        ensures costs { Costs (1 + (2 + slots_of_signal sig) * length (members_in group self.old.state.processes)) self.old self.new }
+        ensures { Changes (1 + (2 + slots_of_signal sig) * length (members_in group self.old.state.processes)) self.old self.new (with_processes self.old.state (signalled_group sig group self.old.state.processes)) (if group == 0 then self.old.to_recheck else rechecking_members sig group self.old.state.processes self.old.state.order self.old.to_recheck) }
     {
         let _ = &self.table;
         if group != Pid::NONE {
@@ -352,6 +400,9 @@ impl<K: Kin> Machine<K> {
         ensures none { slice_get self.old.state.consoles console_index ≡ None → (result ≡ None) × (self.new.state ≡ self.old.state) }
         ensures state { IfConsole console_index self.old (λ c. self.new.state ≡ with_consoles self.old.state (slice_set self.old.state.consoles console_index (keyed byte c))) }
         ensures signal { MatchOption result (slice_get self.old.state.consoles console_index ≡ None) (λ e. e.signal ≡ key_signal byte) }
+        ensures foregrounds_unchecked { self.new.foregrounds_unchecked ≡ self.old.foregrounds_unchecked }
+        ensures quiet { key_signal byte ≢ None → self.new.to_recheck ≡ self.old.to_recheck }
+        ensures readers { self.old.to_recheck ≡ [] → NoWakeIsLost self.old.state → IfConsole console_index self.old (λ c. AreBrief self.new.state.processes self.new.to_recheck × (length self.new.to_recheck ≤ length (members_in c.foreground self.old.state.processes))) }
         ensures costs { Costs 0 self.old self.new }
     {
         if ends_line(byte) {
@@ -363,9 +414,12 @@ impl<K: Kin> Machine<K> {
     /// A byte comes on a console, which counts from 1. INTR, QUIT and SUSP discard all input, and each member of the
     /// foreground process group gets INT, QUIT or TSTP; any other byte is for the line that is edited. On a console
     /// that isn't there nothing happens (XBD 11.1.9). Where the byte gives a signal, one slot is read, and three for
-    /// each member.
+    /// each member. Where nobody was to be rechecked, and no wake-up lost, those are members of it, for whom a signal is
+    /// chosen or who read.
     pub fn key(&mut self, console: u8, byte: u8)
         ensures state { self.new.state ≡ keying self.old.state console byte }
+        ensures foregrounds_unchecked { self.new.foregrounds_unchecked ≡ self.old.foregrounds_unchecked }
+        ensures brief { self.old.to_recheck ≡ [] → NoWakeIsLost self.old.state → AreBrief self.new.state.processes self.new.to_recheck × (length self.new.to_recheck ≤ length (foreground_members console self.old.state)) }
         ensures costs { Costs (slots_of_key console byte self.old) self.old self.new }
     {
         let _ = &self.table;
@@ -417,19 +471,22 @@ impl<K: Kin> Machine<K> {
         }
     }
 
-    /// A console whose foreground process group has no member left in its session has none from then on. While
-    /// none can have lost its members since the last time, nothing is looked at.
+    /// A console whose foreground process group has no member left in its session has none from then on. One slot is
+    /// read for each console whose foreground may have lost its members since the last time; no other is looked at.
     pub fn clear_foregrounds(&mut self)
         ensures state { self.new.state ≡ clearing_foregrounds self.old.state }
         ensures to_recheck { self.new.to_recheck ≡ self.old.to_recheck }
-        ensures foregrounds_unchecked { self.new.foregrounds_unchecked ≡ false }
-        ensures none { self.old.foregrounds_unchecked ≡ false → self.new.visits ≡ self.old.visits }
-        ensures visits { self.new.visits ≤ self.old.visits + length self.old.state.consoles }
+        ensures foregrounds_unchecked { self.new.foregrounds_unchecked ≡ Unchecked.Nothing }
+        ensures visits { self.new.visits ≤ self.old.visits + count_by (is_unchecked_by self.old.foregrounds_unchecked) self.old.state.consoles }
     {
-        if !self.foregrounds_unchecked {
+        if let Unchecked::Nothing = self.foregrounds_unchecked {
             return;
         }
-        refresh_all(&mut self.consoles, &mut self.table);
-        self.foregrounds_unchecked = false;
+        refresh_all(
+            &mut self.consoles,
+            &self.foregrounds_unchecked,
+            &mut self.table,
+        );
+        self.foregrounds_unchecked = Unchecked::Nothing;
     }
 }

@@ -10,8 +10,9 @@ ghost use Rattle.posix.specs.Ends.{leave_children_and_die as departing, halt as 
 ghost use Rattle.posix.specs.Notices.{noticed, child_signal as child_signal_of};
 ghost use Rattle.pidset.specs.Numbers.{with_number};
 ghost use Rattle.life.specs.Rechecks.{rechecks_by_signals, without_gone};
-ghost use Rattle.life.specs.Machines.{Costs, Finds, Changes, IsThere, IfThere};
+ghost use Rattle.life.specs.Machines.{Costs, Finds, Changes, Removes, IsThere, IfThere};
 
+use crate::consoles::Unchecked;
 use crate::machine::Machine;
 use jobs::Change;
 use posix::{Carried, Life, PendingSignal, Pid, Sig, Status};
@@ -20,6 +21,7 @@ use proctable::Kin;
 impl<K: Kin> Machine<K> {
     /// The heir of a process gets notice of the ends of the zombies among its children, in rising order. No
     /// number of a child is to be had once they are the heir's, so it gets notice before.
+    #[tactic(auto, using(crate::proofs::NoticeWalkLemmas::walk, crate::proofs::ChildLemmas::child_there, crate::proofs::ChildLemmas::child_less))]
     fn tell_heir(&mut self, pid: Pid, heir: Pid)
         requires there { IsThere pid self.old }
         requires other { pid ≢ 1 }
@@ -59,12 +61,13 @@ impl<K: Kin> Machine<K> {
         self.to_recheck.insert(parent);
         self.table.adopt(pid, heir);
         self.order.drop_place(pid);
-        self.foregrounds_unchecked = true;
+        self.foregrounds_unchecked = Unchecked::All;
         parent
     }
 
     /// The heir of a process gets notice of the ends of the zombies among its children, and then the process
     /// is a zombie and loses its place, and its children become those of its heir. Its parent.
+    #[tactic(auto, using(crate::proofs::EndLemmas::tell_after, posix::proofs::RegularLemmas::heir_other))]
     pub(crate) fn leave_children_and_die(&mut self, pid: Pid, heir: Pid, status: Status) -> Pid
         requires there { IsThere pid self.old }
         requires other { pid ≢ 1 }
@@ -104,7 +107,7 @@ impl<K: Kin> Machine<K> {
         requires parent { IsThere parent self.old }
         requires other { child ≢ 1 }
         requires zombie { (it : Process) × (process self.old.state child ≡ Some it) × (is_zombie it.life ≡ true) }
-        ensures { Changes 6 self.old self.new (noticing_end self.old.state parent child status) (if is_dropping parent self.old.state.processes then without_gone child (parent_of child self.old.state.processes) (rechecks_by_signals (option_map (noticed (child_signal_of child status)) (process self.old.state parent)) self.old) else rechecks_by_signals (option_map (noticed (child_signal_of child status)) (process self.old.state parent)) self.old) }
+        ensures { Removes 6 self.old self.new (noticing_end self.old.state parent child status) (if is_dropping parent self.old.state.processes then without_gone child (parent_of child self.old.state.processes) (rechecks_by_signals (option_map (noticed (child_signal_of child status)) (process self.old.state parent)) self.old) else rechecks_by_signals (option_map (noticed (child_signal_of child status)) (process self.old.state parent)) self.old) }
     {
         let signal = child_signal(child, status);
         let drops = self.change(parent, |fields| {
@@ -121,7 +124,7 @@ impl<K: Kin> Machine<K> {
     fn drop_child(&mut self, child: Pid)
         requires other { child ≢ 1 }
         requires zombie { (it : Process) × (process self.old.state child ≡ Some it) × (is_zombie it.life ≡ true) }
-        ensures { Changes 5 self.old self.new (dropping_child self.old.state child) (without_gone child (parent_of child self.old.state.processes) self.old.to_recheck) }
+        ensures { Removes 5 self.old self.new (dropping_child self.old.state child) (without_gone child (parent_of child self.old.state.processes) self.old.to_recheck) }
     {
         self.reap(child);
         self.dropped += 1;
@@ -132,6 +135,7 @@ impl<K: Kin> Machine<K> {
     /// that have ended; the process groups that this orphans, and that have a stopped member, get HUP and CONT; and
     /// its parent gets notice of its end, and may drop it (XSH _exit, Consequences of Process Termination).
     /// Where no process is stopped no slot is read for the groups.
+    #[tactic(auto, using(crate::proofs::EndLemmas::end_is, posix::proofs::NoticeLemmas::end_first, posix::proofs::TableLemmas::pid_looked))]
     pub fn end(&mut self, pid: Pid, heir: Pid, status: Status)
         requires there { IsThere pid self.old }
         requires heir { pid ≢ 1 → CanInherit self.old.state.processes pid heir }

@@ -27,6 +27,6 @@ pub mod walks;
 
 pub use caller::Caller;
 pub use census::Census;
-pub use consoles::Terminal;
+pub use consoles::{Terminal, Unchecked, reads_in};
 pub use machine::Machine;
 pub use noted_bursts::{Note, Notes};

@@ -15,7 +15,7 @@ ghost use Rattle.life.specs.Machines.{Finds, Runs, IsThere, IfThere};
 ghost use Rattle.life.specs.NotedBursts.{most_notes, exec_with_notes};
 ghost use Rattle.pidset.specs.Numbers.{with_number};
 
-use crate::consoles::{no_readers, unused};
+use crate::consoles::{Unchecked, no_readers, unused};
 use crate::noted_bursts::{Notes, run_with_notes};
 use crate::rechecks::recheck_later;
 use jobs::JobTable;
@@ -44,9 +44,9 @@ pub struct Machine<K: Kin> {
     pub(crate) consoles: Vec<Console>,
     /// Who waits to read from each console: of those who aren't to be rechecked just they are among them.
     pub(crate) readers: Vec<PidSet>,
-    /// Whether a foreground process group may have lost its members: it is set where a record goes, where
-    /// one changes its process group or session, and where a foreground is set.
-    pub(crate) foregrounds_unchecked: bool,
+    /// Whose foreground process group may have lost its members: a record went, one changed its process group or
+    /// session, or a foreground was set.
+    pub(crate) foregrounds_unchecked: Unchecked,
     pub(crate) births: u64,
     pub(crate) ticks: u64,
     pub(crate) dropped: u64,
@@ -65,11 +65,12 @@ impl<K: Kin> Model for Machine<K> {
 
 impl<K: Kin> Machine<K> {
     /// The machine at its start; an error where the host has no memory for it.
+    #[tactic(auto, using(jobs::proofs::NumberLemmas::nobody_there), unfolding(posix::specs::States::is_in, posix::specs::Tables::children_in))]
     pub fn boot(alloc: Global, world: &World) -> Result<Self, AllocError>
         ensures state { IfOk result (λ m. m.state ≡ boot_of world.now) }
         ensures visits { IfOk result (λ m. m.visits ≤ 6) }
         ensures to_recheck { IfOk result (λ m. m.to_recheck ≡ []) }
-        ensures foregrounds_unchecked { IfOk result (λ m. m.foregrounds_unchecked ≡ false) }
+        ensures foregrounds_unchecked { IfOk result (λ m. m.foregrounds_unchecked ≡ Unchecked.Nothing) }
         ensures regular { IfOk result (λ m. IsRegular m.state) }
     {
         let world = world.try_clone(alloc)?;
@@ -96,7 +97,7 @@ impl<K: Kin> Machine<K> {
             groups_at_risk,
             consoles,
             readers,
-            foregrounds_unchecked: false,
+            foregrounds_unchecked: Unchecked::Nothing,
             births: 1,
             ticks: 0,
             dropped: 0,

@@ -11,7 +11,7 @@ ghost use Rattle.posix.specs.Ends.{signalled_members, hup_and_cont as hup_and_co
 ghost use Rattle.pidset.specs.Numbers.{Rises};
 ghost use Rattle.life.specs.Rechecks.{rechecking_members, slots_of_signal};
 ghost use Rattle.posix.specs.Regular.{IsRegular, CanInherit};
-ghost use Rattle.life.specs.Machines.{Costs, Notes, IsThere, IfThere, with_processes};
+ghost use Rattle.life.specs.Machines.{Changes, Costs, Notes, IsThere, IfThere, with_processes};
 
 use crate::caller::Caller;
 use crate::machine::Machine;
@@ -33,6 +33,7 @@ impl<K: Kin> Machine<K> {
 
     /// The groups are noted that a process that is there and its children keep from being orphaned: no
     /// others can be orphaned by its end.
+    #[tactic(auto, using(crate::proofs::ChildLemmas::child_there, crate::proofs::ChildLemmas::child_less))]
     fn note_groups_at_risk(&mut self, pid: Pid)
         requires { IsThere pid self.old }
         ensures groups_at_risk { (g : ℕ) → is_in g self.new.groups_at_risk ≡ loses_anchor pid self.old.state.processes g }
@@ -74,10 +75,9 @@ impl<K: Kin> Machine<K> {
 
     /// A signal of the kernel is generated for each member of a process group, zombies included, in rising
     /// order.
+    #[tactic(auto, using(crate::proofs::AtRiskLemmas::members_get), unfolding(posix::specs::Tables::members_in))]
     pub(crate) fn signal_members(&mut self, group: Pid, sig: Sig)
-        ensures state { self.new.state ≡ with_processes self.old.state (signalled_members (record { sig = sig; carried = from_kernel }) group self.old.state.processes) }
-        ensures to_recheck { self.new.to_recheck ≡ rechecking_members sig group self.old.state.processes self.old.state.order self.old.to_recheck }
-        ensures costs { Costs (1 + (2 + slots_of_signal sig) * length (members_in group self.old.state.processes)) self.old self.new }
+        ensures { Changes (1 + (2 + slots_of_signal sig) * length (members_in group self.old.state.processes)) self.old self.new (with_processes self.old.state (signalled_members (record { sig = sig; carried = from_kernel }) group self.old.state.processes)) (rechecking_members sig group self.old.state.processes self.old.state.order self.old.to_recheck) }
     {
         self.send(&Caller::kernel(), Target::Group(group), Some(sig));
     }
@@ -108,6 +108,7 @@ impl<K: Kin> Machine<K> {
     /// The process becomes a zombie, as [`Machine::leave_children_and_die`] says, and then each member of a process
     /// group that was not orphaned before, is now, and has a stopped member, gets HUP, and then CONT: of these
     /// groups one after another, in rising order. Its parent.
+    #[tactic(auto, using(posix::proofs::QuietLemmas::none_hup_and_cont), unfolding(posix::specs::Ends::hup_and_cont_all))]
     pub(crate) fn die_and_hup_orphans(&mut self, pid: Pid, heir: Pid, status: Status) -> Pid
         requires there { IsThere pid self.old }
         requires other { pid ≢ 1 }

@@ -56,6 +56,7 @@ impl<K: Kin> Machine<K> {
         ensures sending { (q : Process) → it.now ≡ snapshot_of q → result ≡ sending_permitted (permitted (process_like me.now) sig.now (q ∷ [])) }
         ensures state { (q : Process) → it.now ≡ snapshot_of q → self.new.state ≡ with_processes self.old.state (sent_among (process_like me.now) sig.now (q ∷ []) self.old.state.processes) }
         ensures to_recheck { (q : Process) → it.now ≡ snapshot_of q → self.new.to_recheck ≡ rechecking_signalled (process_like me.now) sig.now (q ∷ []) self.old.state.processes self.old.state.order self.old.to_recheck }
+        ensures foregrounds_unchecked { self.new.foregrounds_unchecked ≡ self.old.foregrounds_unchecked }
         ensures costs { Costs (slots_of_send sig.now) self.old self.new }
     {
         let _ = &self.table;

@@ -1,6 +1,6 @@
 //! Waits.
 
-ghost use Rattle.std.specs.Prelude.{◌≡◌, ◌≢◌, ◌<◌, ◌≤◌, ◌+◌, ◌*◌, ℕ, length, IsSome, Some, true};
+ghost use Rattle.std.specs.Prelude.{◌≡◌, ◌≢◌, ◌<◌, ◌≤◌, ◌+◌, ◌*◌, ℕ, length, option_map, IsSome, Some, true};
 ghost use Rattle.posix.specs.Processes.{Process, is_zombie};
 ghost use Rattle.posix.specs.Tables.{lookup, removed, children_in, parent_of};
 ghost use Rattle.posix.specs.States.{process, change};
@@ -8,11 +8,12 @@ ghost use Rattle.posix.specs.declared.target.Target.TheVariants as whom;
 ghost use Rattle.posix.specs.Waits.{look as look_of, report, report_change as report_change_of, report_life as report_life_of, report_of as report_of_child, reporting_in, news_told};
 ghost use Rattle.life.specs.Waits.{slots_of_wait};
 ghost use Rattle.proctable.specs.Records.{snapshot_of};
-ghost use Rattle.life.specs.Machines.{Finds, Changes, IsThere, IfThere, with_processes, CanGo, IsGone};
-ghost use Rattle.life.specs.Rechecks.{rechecks_changed, without_gone};
+ghost use Rattle.life.specs.Machines.{Finds, Changes, Removes, IsThere, IfThere, with_processes, CanGo, IsGone};
+ghost use Rattle.life.specs.Rechecks.{without_gone};
+ghost use Rattle.life.specs.Foregrounds.{after_loss as after_loss_of};
 
 use crate::caller::Caller;
-use crate::consoles::mark_reader;
+use crate::consoles::{after_loss, mark_reader};
 use crate::machine::Machine;
 use crate::rechecks::forget;
 use bitflags::Flags;
@@ -59,24 +60,25 @@ fn look(group: Pid, options: WaitOptions, child: Snapshot) -> Report
     }
 }
 
-/// The record of a process without children goes, and it no longer bears its own number, its group's and its
-/// session's, in the parts of a machine. Its parent.
-pub(crate) fn discard<K: Kin>(table: &mut JobTable<K>, pids: &mut PidTable, pid: Pid) -> Pid
+/// The record of a process that is there, without children, goes, and it no longer bears its own number, its group's
+/// and its session's, in the parts of a machine. Its small fields.
+pub(crate) fn discard<K: Kin>(table: &mut JobTable<K>, pids: &mut PidTable, pid: Pid) -> Snapshot
     requires { CanGo table.old.processes pids.old pid }
-    ensures parent { result ≡ parent_of pid table.old.processes }
+    ensures value { Some result ≡ option_map snapshot_of (lookup pid table.old.processes) }
     ensures processes { table.new.processes ≡ removed pid table.old.processes }
     ensures counts { (it : Process) → lookup pid table.old.processes ≡ Some it → IsGone pids.old pids.new pid it }
     ensures visits { table.new.visits ≤ table.old.visits + 5 }
 {
     let Some(snapshot) = table.remove(pid) else {
-        return Pid::NONE;
+        unreachable!()
     };
     pids.give_up_all(pid, snapshot.group, snapshot.session);
-    snapshot.parent
+    snapshot
 }
 
 impl<K: Kin> Machine<K> {
     /// What a wait for one process has to report: `NoChild` where that isn't a child of the caller.
+    #[tactic(auto, using(crate::proofs::ChildLemmas::report_read))]
     fn report_of_one(&mut self, parent: Pid, child: Pid, options: WaitOptions) -> Report
         ensures { Finds 1 self.old self.new ((own : ℕ) → result ≡ report self.old.state.processes parent own (whom.Process child) options.0) }
     {
@@ -89,6 +91,7 @@ impl<K: Kin> Machine<K> {
     }
 
     /// What a child that is there has to report.
+    #[tactic(auto, using(crate::proofs::ChildLemmas::read_report))]
     fn report_of(&mut self, child: Pid, options: WaitOptions) -> Report
         requires { IsThere child self.old }
         ensures { Finds 1 self.old self.new (IfThere child self.old (λ it. result ≡ report_of_child options.0 it)) }
@@ -101,6 +104,7 @@ impl<K: Kin> Machine<K> {
 
     /// What a wait for any child has to report. It asks only those that have something to report, and of the
     /// others whether there is one.
+    #[tactic(auto, using(posix::proofs::ReportingLemmas::report_nothing, posix::proofs::ReportingLemmas::report_childless, crate::proofs::ChildLemmas::reporting_found, crate::proofs::ChildLemmas::reporting_fewer))]
     fn report_of_any(&mut self, parent: Pid, options: WaitOptions) -> Report
         requires { IsThere parent self.old }
         ensures { Finds (1 + length (reporting_in parent self.old.state.processes)) self.old self.new ((own : ℕ) → result ≡ report self.old.state.processes parent own whom.All options.0) }
@@ -120,6 +124,7 @@ impl<K: Kin> Machine<K> {
     }
 
     /// What a wait for the children in a process group has to report. It looks at each child.
+    #[tactic(auto, using(crate::proofs::ChildLemmas::child_less))]
     fn report_of_members(&mut self, parent: Pid, group: Pid, options: WaitOptions) -> Report
         requires { IsThere parent self.old }
         ensures { Finds (1 + 2 * length (children_in parent self.old.state.processes)) self.old self.new ((own : ℕ) → result ≡ report self.old.state.processes parent own (whom.Group group) options.0) }
@@ -142,6 +147,7 @@ impl<K: Kin> Machine<K> {
 
     /// What a wait has to report: of the children of a caller that is there which the target means, the one
     /// with the least number that has something to report (XSH waitpid). Nothing changes.
+    #[tactic(auto, using(posix::proofs::ReportingLemmas::report_own, posix::proofs::ReportingLemmas::report_none_meant))]
     pub fn wait_attempt(&mut self, me: &Caller, target: Target, options: WaitOptions) -> Report
         requires { IsThere me.now.pid self.old }
         ensures { Finds (1 + slots_of_wait target me.now.pid self.old.state.processes) self.old self.new (result ≡ report self.old.state.processes me.now.pid me.now.group target options.0) }
@@ -161,20 +167,21 @@ impl<K: Kin> Machine<K> {
     pub fn reap(&mut self, pid: Pid)
         requires other { pid ≢ 1 }
         requires zombie { (child : Process) × (process self.old.state pid ≡ Some child) × (is_zombie child.life ≡ true) }
-        ensures changes { Changes 5 self.old self.new (with_processes self.old.state (removed pid self.old.state.processes)) (without_gone pid (parent_of pid self.old.state.processes) self.old.to_recheck) }
+        ensures changes { Removes 5 self.old self.new (with_processes self.old.state (removed pid self.old.state.processes)) (without_gone pid (parent_of pid self.old.state.processes) self.old.to_recheck) }
+        ensures foregrounds_unchecked { IfThere pid self.old (λ it. self.new.foregrounds_unchecked ≡ after_loss_of it.group self.old.foregrounds_unchecked) }
         ensures born { self.new.state.dropped + length self.new.state.processes < self.new.state.births }
     {
-        let parent = discard(&mut self.table, &mut self.pids, pid);
+        let snapshot = discard(&mut self.table, &mut self.pids, pid);
         mark_reader(&mut self.readers, &self.consoles, None, pid);
-        forget(&mut self.to_recheck, pid, parent);
-        self.foregrounds_unchecked = true;
+        forget(&mut self.to_recheck, pid, snapshot.parent);
+        self.foregrounds_unchecked = after_loss(&self.foregrounds_unchecked, snapshot.group);
     }
 
-    /// A wait has reported the news of a process that is there: they become none.
+    /// A wait has reported the news of a process that is there: they become none. Nobody can act by it who couldn't.
     pub fn tell_news(&mut self, pid: Pid)
         requires { IsThere pid self.old }
-        ensures { IfThere pid self.old (λ child. Changes 2 self.old self.new (change self.old.state pid news_told) (rechecks_changed child self.old)) }
+        ensures { Changes 2 self.old self.new (change self.old.state pid news_told) self.old.to_recheck }
     {
-        self.change_seen(pid, |fields| fields.tell_news());
+        self.table.change_seen(pid, |fields| fields.tell_news());
     }
 }

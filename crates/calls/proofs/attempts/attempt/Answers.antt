@@ -1,5 +1,6 @@
 use Rattle.std.proofs.Common.{sym, subst, true}
 use Rattle.posix.specs.States.{change}
+use Rattle.posix.proofs.TableLemmas.{pid_looked}
 use Rattle.posix.specs.Attempts.{attempt}
 use Rattle.proctable.specs.Records.{give_own}
 use Rattle.calls.specs.Outcomes.{Comes}
@@ -13,3 +14,6 @@ returns-in_default-clause-attempts g c = λ me e.
       subst (λ q. Comes s (attempt true s me c.args.call) q c.args.entries.now.items c.own_call.new.entries.items (change s c.args.pid (give_own c.own_call.new.own))) (sym c.own_call.ensures.done)
           (answered s c.args.pid c.own.result.now c.own_call.new.own me c.args.call c.args.entries.now.items c.own_call.new.entries.items c.own.ensures.regular c.own.ensures.value e (c.own_call.ensures.answers me)),
     )
+
+pub returns-in-Waitpid-clause-brief : goal.returns-in-Waitpid-clause-brief
+returns-in-Waitpid-clause-brief g c = λ me e quiet. rw (c.in-Waitpid.is, pid_looked c.args.pid _ me e) (c.wait.ensures.brief quiet)

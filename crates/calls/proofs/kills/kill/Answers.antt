@@ -1,10 +1,14 @@
-use Rattle.std.proofs.Common.{sym, subst, true}
+use Rattle.std.proofs.Common.{◌≡◌, ◌∙◌, ap, arith, sym, subst, true}
 use Rattle.std.specs.Option.{IsSome}
 use Rattle.posix.specs.States.{State, process}
 use Rattle.posix.specs.Attempts.{attempt}
 use Rattle.posix.specs.Sends.{kill}
 use Rattle.calls.specs.Outcomes.{Comes}
 use Rattle.life.specs.Callers.{process_like}
+use Rattle.std.specs.Option.{IfSome}
+use Rattle.life.specs.Callers.{caller_of}
+use Rattle.calls.specs.Outcomes.{IsQuiet, kills_one}
+use Rattle.calls.proofs.BriefLemmas.{quiet_on, brief_on}
 use Rattle.calls.proofs.CallLemmas.{kill_of}
 use Rattle.calls.proofs.kills.kill.Goals as goal
 
@@ -13,12 +17,20 @@ kill_as-requires-clause-there g c =
     subst (λ (t : State). IsSome (process t c.caller-me.result.pid)) (sym c.caller-me.ensures.finds.looks.same.state)
     (subst (λ p. IsSome (process c.args.machine.now.state p)) (sym c.caller-me.ensures.pid) c.requires.there)
 
-pub returns : goal.returns
+pub returns-clause-attempts : goal.returns-clause-attempts
 unfolding attempt
-returns g c = λ me e.
+returns-clause-attempts g c = λ me e.
     let s = c.args.machine.now.state in
     let cr = c.caller-me.result in (
       true,
       subst (λ a. Comes s a c.kill_as.result c.args.entries.now.items c.kill_as.new.entries.items c.kill_as.new.machine.state) (kill_of s (process s c.args.pid) me cr c.caller-me.ensures.finds.value e)
-          (subst (λ (t : State). Comes t (kill t (process_like cr)) c.kill_as.result c.args.entries.now.items c.kill_as.new.entries.items c.kill_as.new.machine.state) c.caller-me.ensures.finds.looks.same.state c.kill_as.ensures),
+          (subst (λ (t : State). Comes t (kill t (process_like cr)) c.kill_as.result c.args.entries.now.items c.kill_as.new.entries.items c.kill_as.new.machine.state) c.caller-me.ensures.finds.looks.same.state c.kill_as.ensures.comes),
     )
+
+pub returns-clause-brief : goal.returns-clause-brief
+returns-clause-brief g c = λ me e one quiet.
+    let finds = c.caller-me.ensures.finds in
+    let is = subst (λ o. IfSome o (λ me. c.caller-me.result ≡ caller_of me)) e finds.value in
+    let mid = quiet_on c.args.pid c.args.machine.now _ finds.looks.same quiet in
+    brief_on 3 2 5 c.args.machine.now _ _ finds.looks.same finds.looks.visits (omega arith)
+    (c.kill_as.ensures.brief (ap (λ d. kills_one (process_like d)) is ∙ one) (subst (λ p. IsQuiet p c.caller-me.new.self) (sym c.caller-me.ensures.pid) mid))

@@ -14,9 +14,9 @@ pub wait_as-requires-clause-placed : goal.wait_as-requires-clause-placed
 wait_as-requires-clause-placed g c =
     subst (λ (t : State). IsPlaced t.processes c.caller-me.result.pid) (sym c.caller-me.ensures.finds.looks.same.state) (subst (IsPlaced c.args.machine.now.state.processes) (sym c.caller-me.ensures.pid) c.requires.placed)
 
-pub returns : goal.returns
-returns g c = λ me e.
+pub returns-clause-comes : goal.returns-clause-comes
+returns-clause-comes g c = λ me e.
     let s = c.args.machine.now.state in
     let cr = c.caller-me.result in
     subst (λ a. Comes s a c.wait_as.result c.args.entries.now.items c.wait_as.new.entries.items c.wait_as.new.machine.state) (wait_of s (process s c.args.pid) me cr c.caller-me.ensures.finds.value e)
-    (subst (λ (t : State). Comes t (wait t (process_like cr)) c.wait_as.result c.args.entries.now.items c.wait_as.new.entries.items c.wait_as.new.machine.state) c.caller-me.ensures.finds.looks.same.state c.wait_as.ensures)
+    (subst (λ (t : State). Comes t (wait t (process_like cr)) c.wait_as.result c.args.entries.now.items c.wait_as.new.entries.items c.wait_as.new.machine.state) c.caller-me.ensures.finds.looks.same.state c.wait_as.ensures.comes)

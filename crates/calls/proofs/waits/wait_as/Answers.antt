@@ -1,11 +1,15 @@
-use Rattle.std.proofs.Common.{◌≡◌, ◌∙◌, ap, sym, refl, subst, true, false, cond, pos}
+use Rattle.std.proofs.Common.{arith, ◌≡◌, ◌∙◌, ap, sym, refl, subst, true, false, cond, pos}
 use Rattle.std.specs.Option.{IsSome}
 use Rattle.posix.specs.declared.errno.Errno.TheVariants.{ECHILD, EINVAL}
 use Rattle.posix.specs.declared.call.Call.TheVariants.{Waitpid}
 use Rattle.posix.specs.declared.process.Blocked.TheVariants as blocked
 use Rattle.posix.specs.declared.process.Report.TheVariants as found
 use Rattle.posix.specs.Tables.{removed}
-use Rattle.posix.specs.States.{State, process, change}
+use Rattle.posix.specs.States.{State, process, change, has_place}
+use Rattle.jobs.proofs.RunLemmas.{parent_is}
+use Rattle.life.specs.Rechecks.{without_gone}
+use Rattle.life.proofs.SoundLemmas.{there}
+use Rattle.calls.proofs.BriefLemmas.{quiet_on, brief_on, brief_behind, brief_look, brief_more, brief_done, brief_reaped, wait_slots}
 use Rattle.posix.specs.Outcomes.{Block, finish_with, refusal}
 use Rattle.posix.specs.Waits.{WNOHANG, has_option, news_told}
 use Rattle.posix.proofs.OrderLemmas.{placed_some}
@@ -17,8 +21,8 @@ use Rattle.calls.proofs.CallLemmas.{gives_is, reports_is, wait_unknown, wait_fin
 use Rattle.posix.proofs.ReportLemmas.{reported, not_first, caller_stays, some_changed}
 use Rattle.calls.proofs.waits.wait_as.Goals as goal
 
-pub returns-in_default : goal.returns-in_default
-returns-in_default g c =
+pub returns-in_default-clause-comes : goal.returns-in_default-clause-comes
+returns-in_default-clause-comes g c =
     let s = c.args.machine.now.state in
     let me = c.args.me.now in
     let is = wait_unknown s (process_like me) _ c.options_of.ensures.known c.in_default.is in
@@ -58,19 +62,19 @@ report-requires-in-Change-clause-there g c =
     let s = c.args.machine.now.state in
     let me = c.args.me.now in
     let child = reported s.processes c.requires.regular.rising me.pid me.group _ _ (found.Change c.in-Change.child c.in-Change.status) c.in-Change.child (sym c.wait_attempt.ensures.value ∙ c.in-Change.is) refl in
-    let told = (c.tell_news.ensures child.what (ap (λ (t : State). process t c.in-Change.child) c.wait_attempt.ensures.looks.same.state ∙ child.found)).state ∙ ap (λ (t : State). change t c.in-Change.child news_told) c.wait_attempt.ensures.looks.same.state in
+    let told = (c.tell_news.ensures).state ∙ ap (λ (t : State). change t c.in-Change.child news_told) c.wait_attempt.ensures.looks.same.state in
     subst (λ (t : State). IsSome (process t me.pid)) (sym told) (some_changed c.in-Change.child me.pid news_told (keeps_news_told {now = 0}).pid s.processes (placed_some s.processes me.pid c.requires.placed))
 
-pub returns-in-NoChild : goal.returns-in-NoChild
-returns-in-NoChild g c =
+pub returns-in-NoChild-clause-comes : goal.returns-in-NoChild-clause-comes
+returns-in-NoChild-clause-comes g c =
     let s = c.args.machine.now.state in
     let me = c.args.me.now in
     let is = wait_finds s (process_like me) _ _ c.in-Some.options _ found.NoChild c.options_of.ensures.known c.in-Some.is c.in-Some.ensures.value c.target.ensures c.wait_attempt.ensures.value c.in-NoChild.is in
     let r = c.refuse-in-NoChild in
     gives_is s s _ _ _ me.pid Waitpid (refusal ECHILD) (refusal ECHILD) _ _ _ is r.ensures.done r.ensures.state c.wait_attempt.ensures.looks.same.state r.ensures.shown refl
 
-pub returns-then-contains : goal.returns-then-contains
-returns-then-contains g c =
+pub returns-then-contains-clause-comes : goal.returns-then-contains-clause-comes
+returns-then-contains-clause-comes g c =
     let s = c.args.machine.now.state in
     let me = c.args.me.now in
     let is = wait_finds s (process_like me) _ _ c.in-Some.options _ found.Nothing c.options_of.ensures.known c.in-Some.is c.in-Some.ensures.value c.target.ensures c.wait_attempt.ensures.value c.in-Nothing.is in
@@ -78,8 +82,8 @@ returns-then-contains g c =
     let value = is ∙ ap (λ b. cond b (finish_with s me.pid Waitpid (pos 0)) (Block blocked.Waitpid)) at_once in
     gives_is s s _ _ _ me.pid Waitpid (pos 0) (pos 0) _ _ _ value c.finish_with.ensures.done c.finish_with.ensures.state c.wait_attempt.ensures.looks.same.state c.finish_with.ensures.shown refl
 
-pub returns-else-contains : goal.returns-else-contains
-returns-else-contains g c =
+pub returns-else-contains-clause-comes : goal.returns-else-contains-clause-comes
+returns-else-contains-clause-comes g c =
     let s = c.args.machine.now.state in
     let me = c.args.me.now in
     let is = wait_finds s (process_like me) _ _ c.in-Some.options _ found.Nothing c.options_of.ensures.known c.in-Some.is c.in-Some.ensures.value c.target.ensures c.wait_attempt.ensures.value c.in-Nothing.is in
@@ -87,20 +91,71 @@ returns-else-contains g c =
     let value = is ∙ ap (λ b. cond b (finish_with s me.pid Waitpid (pos 0)) (Block blocked.Waitpid)) hangs in
     subst (λ a. Comes s a (came.Block blocked.Waitpid) c.args.entries.now.items c.args.entries.now.items c.wait_attempt.new.self.state) (sym value) (refl, refl, c.wait_attempt.ensures.looks.same.state)
 
-pub returns-in-End : goal.returns-in-End
-returns-in-End g c =
+pub returns-in-End-clause-comes : goal.returns-in-End-clause-comes
+returns-in-End-clause-comes g c =
     let s = c.args.machine.now.state in
     let me = c.args.me.now in
     let is = wait_finds s (process_like me) _ _ c.in-Some.options _ (found.End c.in-End.child c.in-End.status) c.options_of.ensures.known c.in-Some.is c.in-Some.ensures.value c.target.ensures c.wait_attempt.ensures.value c.in-End.is in
     let gone = c.reap.ensures.changes.state ∙ ap (λ (t : State). record t { processes = removed c.in-End.child t.processes }) c.wait_attempt.ensures.looks.same.state in
     reports_is s (record s { processes = removed c.in-End.child s.processes }) _ _ _ me.pid c.in-End.child c.in-End.status _ _ _ is c.report.ensures.done c.report.ensures.state gone c.report.ensures.shown
 
-pub returns-in-Change : goal.returns-in-Change
-returns-in-Change g c =
+pub returns-in-Change-clause-comes : goal.returns-in-Change-clause-comes
+returns-in-Change-clause-comes g c =
     let s = c.args.machine.now.state in
     let me = c.args.me.now in
     let is = wait_finds s (process_like me) _ _ c.in-Some.options _ (found.Change c.in-Change.child c.in-Change.status) c.options_of.ensures.known c.in-Some.is c.in-Some.ensures.value c.target.ensures c.wait_attempt.ensures.value c.in-Change.is in
     let child = reported s.processes c.requires.regular.rising me.pid me.group _ _ (found.Change c.in-Change.child c.in-Change.status) c.in-Change.child (sym c.wait_attempt.ensures.value ∙ c.in-Change.is) refl in
-    let told = (c.tell_news.ensures child.what (ap (λ (t : State). process t c.in-Change.child) c.wait_attempt.ensures.looks.same.state ∙ child.found)).state ∙ ap (λ (t : State). change t c.in-Change.child news_told) c.wait_attempt.ensures.looks.same.state in
+    let told = (c.tell_news.ensures).state ∙ ap (λ (t : State). change t c.in-Change.child news_told) c.wait_attempt.ensures.looks.same.state in
     let r = c.report-in-Change in
     reports_is s (change s c.in-Change.child news_told) _ _ _ me.pid c.in-Change.child c.in-Change.status _ _ _ is r.ensures.done r.ensures.state told r.ensures.shown
+
+pub returns-in_default-clause-brief : goal.returns-in_default-clause-brief
+returns-in_default-clause-brief g c = λ quiet. brief_more 1 _ c.args.machine.now _ (omega arith) (brief_done c.args.me.now.pid _ c.args.machine.now _ quiet c.refuse.ensures.state c.refuse.ensures.costs)
+
+pub returns-in-NoChild-clause-brief : goal.returns-in-NoChild-clause-brief
+returns-in-NoChild-clause-brief g c = λ quiet.
+    let looks = c.wait_attempt.ensures.looks in
+    let slots = wait_slots c.target.result c.args.me.now.pid c.args.machine.now.state.processes in
+    let r = c.refuse-in-NoChild in
+    brief_on 1 _ _ c.args.machine.now c.wait_attempt.new.self _ looks.same looks.visits (omega (arith, slots)) (brief_done c.args.me.now.pid _ c.wait_attempt.new.self _ (quiet_on _ c.args.machine.now _ looks.same quiet) r.ensures.state r.ensures.costs)
+
+pub returns-then-contains-clause-brief : goal.returns-then-contains-clause-brief
+returns-then-contains-clause-brief g c = λ quiet.
+    let looks = c.wait_attempt.ensures.looks in
+    let slots = wait_slots c.target.result c.args.me.now.pid c.args.machine.now.state.processes in
+    brief_on 1 _ _ c.args.machine.now c.wait_attempt.new.self _ looks.same looks.visits (omega (arith, slots)) (brief_done c.args.me.now.pid _ c.wait_attempt.new.self _ (quiet_on _ c.args.machine.now _ looks.same quiet) c.finish_with.ensures.state c.finish_with.ensures.costs)
+
+pub returns-else-contains-clause-brief : goal.returns-else-contains-clause-brief
+returns-else-contains-clause-brief g c = λ quiet.
+    let looks = c.wait_attempt.ensures.looks in
+    let slots = wait_slots c.target.result c.args.me.now.pid c.args.machine.now.state.processes in
+    brief_more _ _ c.args.machine.now _ (omega (arith, slots)) (brief_look c.args.me.now.pid _ c.args.machine.now _ quiet looks.same looks.visits)
+
+pub returns-in-End-clause-brief : goal.returns-in-End-clause-brief
+returns-in-End-clause-brief g c = λ quiet.
+    let s = c.args.machine.now.state in
+    let me = c.args.me.now in
+    let looks = c.wait_attempt.ensures.looks in
+    let mid = c.wait_attempt.new.self in
+    let child = reported s.processes c.requires.regular.rising me.pid me.group _ _ (found.End c.in-End.child c.in-End.status) c.in-End.child (sym c.wait_attempt.ensures.value ∙ c.in-End.is) refl in
+    let there_child = ap (λ (t : State). process t c.in-End.child) looks.same.state ∙ child.found in
+    let gone = c.reap.ensures.changes.state ∙ ap (λ (t : State). record t { processes = removed c.in-End.child t.processes }) looks.same.state in
+    let here = there _ (subst (λ (t : State). IsSome (process t me.pid)) (sym gone) (caller_stays s.processes me.pid c.in-End.child c.requires.placed child)) in
+    let parent = parent_is c.in-End.child _ mid.state.processes child.what refl there_child ∙ child.parent in
+    let slots = wait_slots c.target.result me.pid s.processes in
+    brief_on 6 _ _ c.args.machine.now mid _ looks.same looks.visits (omega (arith, slots))
+    (brief_reaped me.pid c.in-End.child _ mid c.reap.new.self _ here.what child.what (c.requires.regular.bounded c.in-End.child child.what child.found).group_least (quiet_on _ c.args.machine.now _ looks.same quiet) c.reap.ensures.changes.state (c.reap.ensures.changes.to_recheck ∙ ap (λ p. without_gone c.in-End.child p mid.to_recheck) parent)
+    (c.reap.ensures.foregrounds_unchecked child.what there_child) c.reap.ensures.changes.costs.visits here.found c.report.ensures.state c.report.ensures.costs)
+
+pub returns-in-Change-clause-brief : goal.returns-in-Change-clause-brief
+returns-in-Change-clause-brief g c = λ quiet.
+    let me = c.args.me.now in
+    let looks = c.wait_attempt.ensures.looks in
+    let mid = c.wait_attempt.new.self in
+    let told = c.tell_news.ensures in
+    let still = quiet_on me.pid c.args.machine.now mid looks.same quiet in
+    let slots = wait_slots c.target.result me.pid c.args.machine.now.state.processes in
+    let r = c.report-in-Change in
+    brief_on 3 _ _ c.args.machine.now mid _ looks.same looks.visits (omega (arith, slots))
+    (brief_behind 1 2 3 mid c.tell_news.new.self _ (ap (λ (t : State). t.consoles) told.state) told.costs.visits (omega arith)
+    (brief_done me.pid _ c.tell_news.new.self _ (record { none = told.to_recheck ∙ still.none; checked = told.foregrounds_unchecked ∙ still.checked; place = ap (λ (t : State). has_place t me.pid) told.state ∙ still.place }) r.ensures.state r.ensures.costs))

@@ -10,44 +10,44 @@ use Rattle.kernel.proofs.RecheckedLemmas.{same_processes, woken_rests, first_wok
 use Rattle.std.specs.Option.{IfSome, IsSome}
 use Rattle.life.specs.Machines.{MachineView}
 use Rattle.life.proofs.SoundLemmas.{there}
-use Rattle.kernel.specs.Counts.{slots_of_rechecking, slots_of_settling}
-use Rattle.kernel.proofs.CountLemmas.{settling_first}
+use Rattle.kernel.specs.Counts.{slots_of_rechecking, slots_of_rechecks}
+use Rattle.kernel.proofs.CountLemmas.{rechecks_first}
 use Rattle.kernel.proofs.settle.give_places.Goals as goal
 
-pub wake-requires-clause-to_recheck : goal.wake-requires-clause-to_recheck
-wake-requires-clause-to_recheck g c = in_at c.loop-pid.machine.to_recheck c.in-Some.pid 0 (sym c.first_to_recheck.ensures.is ∙ c.in-Some.is)
+pub wake-session-requires-clause-to_recheck : goal.wake-session-requires-clause-to_recheck
+wake-session-requires-clause-to_recheck g c = in_at c.loop-pid.machine.to_recheck c.in-Some.pid 0 (sym c.first_to_recheck.ensures.is ∙ c.in-Some.is)
 
-pub rechecked-requires : goal.rechecked-requires
-rechecked-requires g c = λ r e.
+pub rechecked-requires-clause-waits : goal.rechecked-requires-clause-waits
+rechecked-requires-clause-waits g c = λ r e.
     let pid = c.in-Some.pid in
-    let same = c.wake.ensures.state in
+    let same = c.wake-session.ensures.state in
     subst (λ (t : State). wakes t r ≡ false) (sym same) (woken_rests c.loop-pid.machine.state pid r (ap (λ (t : State). process t pid) (sym same) ∙ e))
 
 pub loop-pid-smaller : goal.loop-pid-smaller
 loop-pid-smaller g c =
     let pid = c.in-Some.pid in
-    let list = (ap (λ (m : MachineView). m.to_recheck) c.rechecked.ensures.rest) ∙ ap (without pid) c.wake.ensures.to_recheck in
+    let list = (ap (λ (m : MachineView). m.to_recheck) c.rechecked.ensures.rest) ∙ ap (without pid) c.wake-session.ensures.to_recheck in
     subst (λ (ns : List ℕ). length ns < length c.loop-pid.machine.to_recheck) (sym list) (without_first c.loop-pid.machine.to_recheck pid (sym c.first_to_recheck.ensures.is ∙ c.in-Some.is))
 
 pub loop-pid-preserved : goal.loop-pid-preserved
 loop-pid-preserved g c =
     let s = c.loop-pid.machine.state in
     let pid = c.in-Some.pid in
-    let same = (ap (λ (m : MachineView). m.state) c.rechecked.ensures.rest) ∙ c.wake.ensures.state in
+    let same = (ap (λ (m : MachineView). m.state) c.rechecked.ensures.rest) ∙ c.wake-session.ensures.state in
     let first = subst (IsNext (wakes s) 0 s.processes) c.in-Some.is c.first_to_recheck.ensures.next in
     let processes = ap (λ (t : State). t.processes) same ∙ same_processes s pid in
-    let list = (ap (λ (m : MachineView). m.to_recheck) c.rechecked.ensures.rest) ∙ ap (without pid) c.wake.ensures.to_recheck in
+    let list = (ap (λ (m : MachineView). m.to_recheck) c.rechecked.ensures.rest) ∙ ap (without pid) c.wake-session.ensures.to_recheck in
     record {
-      places = ap give_places same ∙ first_woken s pid c.first_to_recheck.ensures.regular (subst IsRegular c.wake.ensures.state c.rechecked.ensures.costs.regular) first ∙ c.loop-pid.invariant.places;
-      foregrounds_unchecked = (ap (λ (m : MachineView). m.foregrounds_unchecked) c.rechecked.ensures.rest) ∙ c.wake.ensures.foregrounds_unchecked ∙ c.loop-pid.invariant.foregrounds_unchecked;
+      places = ap give_places same ∙ first_woken s pid c.first_to_recheck.ensures.regular (subst IsRegular c.wake-session.ensures.state c.rechecked.ensures.regular) first ∙ c.loop-pid.invariant.places;
+      foregrounds_unchecked = (ap (λ (m : MachineView). m.foregrounds_unchecked) c.rechecked.ensures.rest) ∙ c.wake-session.ensures.foregrounds_unchecked ∙ c.loop-pid.invariant.foregrounds_unchecked;
       processes = processes ∙ c.loop-pid.invariant.processes;
       visits =
           let me = there (process s pid) (subst (λ o. IfSome o (λ p. IsSome (process s p))) c.in-Some.is c.first_to_recheck.ensures.next.there) in
           let its = ap (slots_of_rechecking s.processes) me.found in
-          let left = settling_first s.processes c.loop-pid.machine.to_recheck pid (sym c.first_to_recheck.ensures.is ∙ c.in-Some.is) in
-          let now = ap (slots_of_settling c.rechecked.new.self.state.processes) list ∙ ap (λ rs. slots_of_settling rs (without pid c.loop-pid.machine.to_recheck)) processes in
-          let woke = c.wake.ensures.visits me.what me.found in
-          let one = c.rechecked.ensures.costs.visits in
+          let left = rechecks_first s.processes c.loop-pid.machine.to_recheck pid (sym c.first_to_recheck.ensures.is ∙ c.in-Some.is) in
+          let now = ap (slots_of_rechecks c.rechecked.new.self.state.processes) list ∙ ap (λ rs. slots_of_rechecks rs (without pid c.loop-pid.machine.to_recheck)) processes in
+          let woke = c.wake-session.ensures.visits me.what me.found in
+          let one = ap (λ (m : MachineView). m.visits) c.rechecked.ensures.rest in
           let was = c.loop-pid.invariant.visits in
           omega (arith, its, left, now, woke, one, was);
     }

@@ -1,7 +1,7 @@
 use Rattle.std.proofs.Common.{◌≡◌, ◌+◌, ◌≤◌, length}
 use Rattle.posix.specs.Settle.{give_places}
 use Rattle.life.specs.Machines.{MachineView}
-use Rattle.kernel.specs.Counts.{slots_of_settling}
+use Rattle.kernel.specs.Counts.{slots_of_rechecks}
 use Rattle.kernel.proofs.settle.give_places.Given as goal
 
 -- the same places are left to give
@@ -9,7 +9,7 @@ pub record IsGiving (old now : MachineView) : Type 0 where
   pub places : give_places now.state ≡ give_places old.state
   pub foregrounds_unchecked : now.foregrounds_unchecked ≡ old.foregrounds_unchecked
   pub processes : now.state.processes ≡ old.state.processes
-  pub visits : now.visits + slots_of_settling now.state.processes now.to_recheck ≤ old.visits + slots_of_settling old.state.processes old.to_recheck
+  pub visits : now.visits + slots_of_rechecks now.state.processes now.to_recheck ≤ old.visits + slots_of_rechecks old.state.processes old.to_recheck
 
 abbrev pub invariant-loop-pid : goal.invariant-loop-pid
 invariant-loop-pid g l = IsGiving l.fn.machine l.machine

@@ -1,13 +1,13 @@
 use Rattle.std.proofs.Common.{ap, ◌∙◌, arith}
 use Rattle.posix.specs.States.{State}
 use Rattle.posix.specs.Settle.{clear_foregrounds}
-use Rattle.kernel.specs.Counts.{slots_of_settling}
+use Rattle.kernel.specs.Counts.{slots_of_rechecks}
 use Rattle.kernel.proofs.settle.settle.Goals as goal
 
 pub returns-clause-visits : goal.returns-clause-visits
 unfolding clear_foregrounds
-returns-clause-visits g c = λ checked.
-    let none = c.clear_foregrounds.ensures.none checked in
+returns-clause-visits g c =
+    let cleared = c.clear_foregrounds.ensures.visits in
     let gave = c.give_places.ensures.visits in
-    let same = ap (λ (t : State). slots_of_settling t.processes c.clear_foregrounds.new.self.to_recheck) c.clear_foregrounds.ensures.state ∙ ap (slots_of_settling c.args.machine.now.state.processes) c.clear_foregrounds.ensures.to_recheck in
-    omega (arith, none, gave, same)
+    let same = ap (λ (t : State). slots_of_rechecks t.processes c.clear_foregrounds.new.self.to_recheck) c.clear_foregrounds.ensures.state ∙ ap (slots_of_rechecks c.args.machine.now.state.processes) c.clear_foregrounds.ensures.to_recheck in
+    omega (arith, cleared, gave, same)

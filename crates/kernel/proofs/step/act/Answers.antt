@@ -1,4 +1,4 @@
-use Rattle.std.proofs.Common.{◌≡◌, ◌≢◌, ◌∙◌, ap, sym, true, Some, None, option_map, List, ◌++◌}
+use Rattle.std.proofs.Common.{◌+◌, ◌*◌, length, subst, ◌≡◌, ◌≢◌, ◌∙◌, ap, sym, true, Some, None, option_map, List, ◌++◌}
 use Rattle.posix.specs.declared.entry.Entry.{Entry}
 use Rattle.posix.specs.SignalNumbers.{KILL}
 use Rattle.posix.specs.Statuses.{killed}
@@ -8,6 +8,12 @@ use Rattle.proctable.specs.declared.snapshot.Snapshot.{Snapshot}
 use Rattle.proctable.specs.Records.{snapshot_of}
 use Rattle.calls.proofs.CallLemmas.{same_outcome}
 use Rattle.calls.proofs.ChosenLemmas.{act_killed, act_blocked, act_delivers, act_runs, kill_chosen, no_kill_chosen, chosen_is, chosen_not}
+use Rattle.std.specs.Option.{IfSome}
+use Rattle.posix.specs.Tables.{children_in}
+use Rattle.posix.proofs.TableLemmas.{pid_looked}
+use Rattle.calls.specs.Outcomes.{IsBrief}
+use Rattle.kernel.specs.Counts.{slots_of_acting}
+use Rattle.kernel.proofs.CallCountLemmas.{acting_blocked}
 use Rattle.kernel.proofs.step.act.Goals as goal
 
 pub returns-then-eq-clause-acts : goal.returns-then-eq-clause-acts
@@ -30,7 +36,7 @@ returns-in-Some-clause-acts g c = λ me e.
     let is : c.args.snapshot ≡ snapshot_of me = cc in
     let other : chosen me.life me.signals ≢ Some KILL = λ k. chosen_not c.args.snapshot.chosen KILL (sym c.eq.ensures ∙ c.if-eq.false) (ap (λ (f : Snapshot). f.chosen) is ∙ k) in
     let in_call : me.blocked ≡ Some c.in-Some.blocked = ap (λ (f : Snapshot). f.blocked) (sym is) ∙ c.in-Some.is in
-    (true, act_blocked true s me c.in-Some.blocked (no_kill_chosen me.life me.signals other) in_call ∙ c.go_on.ensures me e)
+    (true, act_blocked true s me c.in-Some.blocked (no_kill_chosen me.life me.signals other) in_call ∙ c.go_on.ensures.goes_on me e)
 
 pub returns-in-Some-chosen-clause-acts : goal.returns-in-Some-chosen-clause-acts
 returns-in-Some-chosen-clause-acts g c = λ me e.
@@ -52,3 +58,13 @@ returns-in-None-clause-acts g c = λ me e.
     let none : chosen me.life me.signals ≡ None = ap (λ (f : Snapshot). f.chosen) (sym is) ∙ c.in-None.is in
     let ran = c.run_instruction.ensures.runs me e in
     (ran.0, act_runs ran.0 s me (no_kill_chosen me.life me.signals other) free none ∙ ran.1)
+
+pub returns-in-Some-clause-brief : goal.returns-in-Some-clause-brief
+returns-in-Some-clause-brief g c = λ me e quiet.
+    let old = c.args.machine.now in
+    let told : Some c.args.snapshot ≡ Some (snapshot_of me) = c.requires.snapshot ∙ ap (option_map snapshot_of) e in
+    let is : c.args.snapshot ≡ snapshot_of me = cc in
+    let in_call : me.blocked ≡ Some c.in-Some.blocked = ap (λ (f : Snapshot). f.blocked) (sym is) ∙ c.in-Some.is in
+    subst (λ b. IfSome (slots_of_acting old.state me b) (λ n. IsBrief n old c.go_on.new.machine)) (sym in_call)
+    (acting_blocked old.state me c.in-Some.blocked (λ n. IsBrief n old c.go_on.new.machine)
+    (λ waits nothing. subst (λ n. IsBrief (9 + 2 * length (children_in n old.state.processes)) old c.go_on.new.machine) (sym (pid_looked c.args.pid old.state.processes me e)) (c.go_on.ensures.brief me e quiet waits nothing)))

@@ -1,4 +1,4 @@
-use Rattle.std.proofs.Common.{◌≡◌, ◌∙◌, ap, sym, subst, []}
+use Rattle.std.proofs.Common.{◌+◌, ◌*◌, length, arith, ◌≡◌, ◌∙◌, ap, sym, subst, []}
 use Rattle.posix.specs.Outcomes.{Block}
 use Rattle.posix.specs.Waits.{wait}
 use Rattle.posix.specs.States.{State, change, lose_place, process}
@@ -6,6 +6,12 @@ use Rattle.posix.specs.Attempts.{attempt}
 use Rattle.posix.specs.Step.{begin_call, enter}
 use Rattle.posix.proofs.TableLemmas.{pid_looked}
 use Rattle.calls.proofs.CallLemmas.{block_is, same_outcome}
+use Rattle.std.specs.Option.{IfSome}
+use Rattle.std.proofs.lemmas.Option.{IfSome_then}
+use Rattle.posix.specs.Tables.{children_in}
+use Rattle.calls.specs.Outcomes.{IsBrief, slots_of_brief}
+use Rattle.calls.proofs.BriefLemmas.{brief_more, brief_on, quiet_on}
+use Rattle.kernel.proofs.CallCountLemmas.{brief_call}
 use Rattle.kernel.proofs.step.begin_call.Goals as goal
 
 pub block-requires-clause-waits : goal.block-requires-clause-waits
@@ -34,3 +40,16 @@ returns-in-Block-clause-begins g c = λ me e.
           ∙ ap (λ (t : State). lose_place (change t c.args.pid (enter blocked)) c.args.pid) (sym b.2)
           ∙ sym c.block.ensures.state) (sym c.requires.none ∙ sym b.1),
     )
+
+pub returns-in-Done-clause-brief : goal.returns-in-Done-clause-brief
+returns-in-Done-clause-brief g c = λ me e quiet. IfSome_then (slots_of_brief c.args.call c.args.machine.now.state.processes me) (c.attempt.ensures.brief me e quiet) (λ n h. brief_more n (n + 1) c.args.machine.now c.attempt.new.machine (omega arith) h)
+
+pub returns-in-Block-clause-brief : goal.returns-in-Block-clause-brief
+returns-in-Block-clause-brief g c = λ me e quiet.
+    let old = c.args.machine.now in
+    brief_call c.args.call old.state.processes me (λ n. IsBrief (n + 1) old c.block.new.machine)
+    (λ is.
+    let same = c.attempt.ensures.waits c.in-Block.blocked is c.in-Block.is in
+    let h : IsBrief (9 + 2 * length (children_in me.pid old.state.processes)) old c.attempt.new.machine = subst (λ call. IfSome (slots_of_brief call old.state.processes me) (λ n. IsBrief n old c.attempt.new.machine)) is (c.attempt.ensures.brief me e quiet) in
+    brief_on 1 (9 + 2 * length (children_in me.pid old.state.processes)) _ old c.attempt.new.machine c.block.new.machine same h.visits (omega arith) (c.block.ensures.brief is (quiet_on c.args.pid old c.attempt.new.machine same quiet)))
+    (λ is. let no = sym c.in-Block.is ∙ c.attempt.ensures.done is in absurd (cc))

@@ -1,14 +1,16 @@
-use Rattle.std.proofs.Common.{◌≡◌, ◌∙◌, ap, sym, subst, false, Some}
+use Rattle.std.proofs.Common.{None, arith, ◌≡◌, ◌∙◌, ap, sym, subst, false, Some}
 use Rattle.posix.specs.Processes.{Process}
-use Rattle.posix.specs.States.{State, process, is_in}
+use Rattle.posix.specs.States.{State, process, without}
+use Rattle.life.specs.Consoles.{reads}
+use Rattle.life.proofs.TakingLemmas.{brief_none}
+use Rattle.calls.specs.Outcomes.{AreFew}
 use Rattle.posix.specs.Settle.{wakes}
-use Rattle.posix.proofs.MemberLemmas.{out_of}
-use Rattle.kernel.proofs.BlockLemmas.{blocked_rests}
+use Rattle.kernel.proofs.BlockLemmas.{blocked_rests, blocked_unread, nobody_left}
 use Rattle.life.specs.Machines.{MachineView}
 use Rattle.kernel.proofs.step.block.Goals as goal
 
-pub rechecked-requires : goal.rechecked-requires
-rechecked-requires g c =
+pub rechecked-requires-clause-waits : goal.rechecked-requires-clause-waits
+rechecked-requires-clause-waits g c =
     let s = c.args.machine.now.state in
     let p = c.args.pid in
     let b = c.args.blocked in
@@ -16,5 +18,20 @@ rechecked-requires g c =
     subst (λ (t : State). (r : Process) → process t p ≡ Some r → wakes t r ≡ false) (sym c.enter_call.ensures.state)
     (blocked_rests s p it.what b it.found (c.requires.none_chosen it.what it.found) (c.requires.waits it.what it.found c.in-Waitpid.is))
 
-pub returns-in-Waitpid-clause-to_recheck : goal.returns-in-Waitpid-clause-to_recheck
-returns-in-Waitpid-clause-to_recheck g c = λ e. ap (is_in c.args.pid) (ap (λ (m : MachineView). m.to_recheck) c.rechecked.ensures.rest) ∙ out_of c.args.pid _
+pub rechecked-requires-clause-session : goal.rechecked-requires-clause-session
+rechecked-requires-clause-session g c =
+    let it = c.requires.acting.placed in
+    subst (λ (t : State). None ≡ reads t c.args.pid) (sym c.enter_call.ensures.state) (blocked_unread c.args.machine.now.state c.args.pid it.what c.args.blocked it.found (c.requires.waits it.what it.found c.in-Waitpid.is))
+
+pub returns-in-Waitpid-clause-brief : goal.returns-in-Waitpid-clause-brief
+returns-in-Waitpid-clause-brief g c = λ same quiet.
+    let rest = c.rechecked.ensures.rest in
+    let none = ap (λ (m : MachineView). m.to_recheck) rest ∙ ap (without c.args.pid) (c.enter_call.ensures.to_recheck quiet.place) ∙ nobody_left c.args.pid _ quiet.none in
+    let nobody = brief_none c.rechecked.new.self.state.processes c.rechecked.new.self.to_recheck 1 none in
+    record {
+      visits = let read = ap (λ (m : MachineView). m.visits) rest in let one = c.enter_call.ensures.visits in omega (arith, read, one);
+      brief = nobody.0;
+      few = nobody.1;
+      unchecked = subst AreFew (sym (ap (λ (m : MachineView). m.foregrounds_unchecked) rest ∙ c.enter_call.ensures.foregrounds_unchecked ∙ quiet.checked)) tt;
+      consoles = ap (λ (m : MachineView). m.state.consoles) rest ∙ ap (λ (t : State). t.consoles) c.enter_call.ensures.state;
+    }

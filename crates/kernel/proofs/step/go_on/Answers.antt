@@ -1,5 +1,11 @@
-use Rattle.std.proofs.Common.{◌∙◌, ap, sym, subst, is_some, []}
-use Rattle.posix.specs.States.{State, change, lose_place}
+use Rattle.std.proofs.Common.{◌≡◌, Some, true, arith, ◌∙◌, ap, sym, subst, is_some, []}
+use Rattle.posix.specs.States.{State, process, change, lose_place}
+use Rattle.posix.specs.Waits.{wait}
+use Rattle.posix.specs.Settle.{is_block}
+use Rattle.life.specs.Rechecks.{is_in_wait}
+use Rattle.calls.specs.Outcomes.{IsActing}
+use Rattle.calls.proofs.BriefLemmas.{brief_on, quiet_on}
+use Rattle.kernel.proofs.CallCountLemmas.{in_wait_is, nothing_delivered}
 use Rattle.posix.specs.Regular.{IsPlaced}
 use Rattle.posix.specs.Outcomes.{silent}
 use Rattle.posix.specs.Attempts.{attempt_again}
@@ -7,7 +13,6 @@ use Rattle.posix.specs.Step.{go_on, deliver_or, out_of_call}
 use Rattle.posix.proofs.TableLemmas.{pid_looked}
 use Rattle.life.proofs.LoanLemmas.{was_written}
 use Rattle.calls.proofs.CallLemmas.{block_is, again_is, same_outcome}
-use Rattle.life.proofs.ViewLemmas.{state_is}
 use Rattle.kernel.proofs.AgainLemmas.{placed_again}
 use Rattle.kernel.proofs.step.go_on.Goals as goal
 
@@ -15,15 +20,15 @@ pub own-requires : goal.own-requires
 own-requires g c =
     let s = c.args.machine.now.state in
     let me = c.requires.acting.placed in
-    let a = again_is s (attempt_again s me.what c.args.blocked) c.args.entries.now.items c.attempt_again.new.entries.items c.attempt_again.new.machine.state (c.in-Again.ensures me.what me.found) in
+    let a = again_is s (attempt_again s me.what c.args.blocked) c.args.entries.now.items c.attempt_again.new.entries.items c.attempt_again.new.machine.state (c.in-Again.ensures.comes me.what me.found) in
     ap is_some (placed_again s c.attempt_again.new.machine.state c.args.pid me.what c.args.blocked c.requires.regular c.requires.acting.place a.0).found
 
-pub returns-in-Again : goal.returns-in-Again
-returns-in-Again g c = λ me e.
+pub returns-in-Again-clause-goes_on : goal.returns-in-Again-clause-goes_on
+returns-in-Again-clause-goes_on g c = λ me e.
     let s = c.args.machine.now.state in
     let t = c.attempt_again.new.machine.state in
     let named = pid_looked c.args.pid s.processes me e in
-    let a = again_is s (attempt_again s me c.args.blocked) c.args.entries.now.items c.attempt_again.new.entries.items t (c.in-Again.ensures me e) in
+    let a = again_is s (attempt_again s me c.args.blocked) c.args.entries.now.items c.attempt_again.new.entries.items t (c.in-Again.ensures.comes me e) in
     ap (go_on s me) a.0
     ∙ same_outcome (change t me.pid out_of_call) _ [] c.attempt_again.new.entries.items
     (ap (λ n. change t n out_of_call) named
@@ -33,22 +38,72 @@ pub deliver-requires-clause-placed : goal.deliver-requires-clause-placed
 deliver-requires-clause-placed g c =
     let s = c.args.machine.now.state in
     let me = c.requires.acting.placed in
-    let b = block_is s (attempt_again s me.what c.args.blocked) c.in-Block.field-0 c.args.entries.now.items c.attempt_again.new.entries.items c.attempt_again.new.machine.state (c.in-Block.ensures me.what me.found) in
+    let b = block_is s (attempt_again s me.what c.args.blocked) c.in-Block.field-0 c.args.entries.now.items c.attempt_again.new.entries.items c.attempt_again.new.machine.state (c.in-Block.ensures.comes me.what me.found) in
     subst (λ (t : State). IsPlaced t.processes c.args.pid) (sym b.2) me
 
 pub deliver-requires-clause-none : goal.deliver-requires-clause-none
 deliver-requires-clause-none g c =
     let s = c.args.machine.now.state in
     let me = c.requires.acting.placed in
-    let b = block_is s (attempt_again s me.what c.args.blocked) c.in-Block.field-0 c.args.entries.now.items c.attempt_again.new.entries.items c.attempt_again.new.machine.state (c.in-Block.ensures me.what me.found) in
+    let b = block_is s (attempt_again s me.what c.args.blocked) c.in-Block.field-0 c.args.entries.now.items c.attempt_again.new.entries.items c.attempt_again.new.machine.state (c.in-Block.ensures.comes me.what me.found) in
     b.1 ∙ c.requires.none
 
-pub returns-in-None : goal.returns-in-None
-returns-in-None g c = λ me e.
+pub returns-in-None-clause-goes_on : goal.returns-in-None-clause-goes_on
+returns-in-None-clause-goes_on g c = λ me e.
     let s = c.args.machine.now.state in
     let named = pid_looked c.args.pid s.processes me e in
-    let b = block_is s (attempt_again s me c.args.blocked) c.in-Block.field-0 c.args.entries.now.items c.attempt_again.new.entries.items c.attempt_again.new.machine.state (c.in-Block.ensures me e) in
+    let b = block_is s (attempt_again s me c.args.blocked) c.in-Block.field-0 c.args.entries.now.items c.attempt_again.new.entries.items c.attempt_again.new.machine.state (c.in-Block.ensures.comes me e) in
     ap (go_on s me) b.0
     ∙ ap (λ o. deliver_or s me o (silent (lose_place s me.pid))) (sym (c.requires.signal me e) ∙ c.in-None.is)
-    ∙ same_outcome (lose_place s me.pid) c.lose_place.new.self.state [] c.attempt_again.new.entries.items
-    (ap (lose_place s) named ∙ ap (λ (t : State). lose_place t c.args.pid) (sym b.2) ∙ sym (state_is c.lose_place.ensures.is)) (sym (b.1 ∙ c.requires.none))
+    ∙ same_outcome (lose_place s me.pid) c.wait_on.new.machine.state [] c.attempt_again.new.entries.items
+    (ap (lose_place s) named ∙ ap (λ (t : State). lose_place t c.args.pid) (sym b.2) ∙ sym c.wait_on.ensures.state) (sym (b.1 ∙ c.requires.none))
+
+pub wait_on-requires-clause-acting : goal.wait_on-requires-clause-acting
+wait_on-requires-clause-acting g c =
+    let me = c.requires.acting.placed in
+    let b = block_is _ (attempt_again c.args.machine.now.state me.what c.args.blocked) c.in-Block.field-0 c.args.entries.now.items c.attempt_again.new.entries.items c.attempt_again.new.machine.state (c.in-Block.ensures.comes me.what me.found) in
+    subst (λ (t : State). IsActing t c.args.pid) (sym b.2) c.requires.acting
+
+pub wait_on-requires-clause-none_chosen : goal.wait_on-requires-clause-none_chosen
+wait_on-requires-clause-none_chosen g c = λ me e.
+    let it = c.requires.acting.placed in
+    let b = block_is _ (attempt_again c.args.machine.now.state it.what c.args.blocked) c.in-Block.field-0 c.args.entries.now.items c.attempt_again.new.entries.items c.attempt_again.new.machine.state (c.in-Block.ensures.comes it.what it.found) in
+    sym (c.requires.signal me (ap (λ (t : State). process t c.args.pid) (sym b.2) ∙ e)) ∙ c.in-None.is
+
+pub wait_on-requires-clause-blocked : goal.wait_on-requires-clause-blocked
+wait_on-requires-clause-blocked g c = λ me e waits.
+    let it = c.requires.acting.placed in
+    let b = block_is _ (attempt_again c.args.machine.now.state it.what c.args.blocked) c.in-Block.field-0 c.args.entries.now.items c.attempt_again.new.entries.items c.attempt_again.new.machine.state (c.in-Block.ensures.comes it.what it.found) in
+    c.requires.blocked me (ap (λ (t : State). process t c.args.pid) (sym b.2) ∙ e) ∙ ap (λ b. Some b) (in_wait_is c.args.blocked (sym c.is_wait-waits.ensures ∙ waits))
+
+pub wait_on-requires-clause-waits : goal.wait_on-requires-clause-waits
+unfolding attempt_again
+wait_on-requires-clause-waits g c = λ me e waits.
+    let s = c.args.machine.now.state in
+    let it = c.requires.acting.placed in
+    let b = block_is s (attempt_again s it.what c.args.blocked) c.in-Block.field-0 c.args.entries.now.items c.attempt_again.new.entries.items c.attempt_again.new.machine.state (c.in-Block.ensures.comes it.what it.found) in
+    let here = ap (λ (t : State). process t c.args.pid) (sym b.2) ∙ e in
+    let d = block_is s (attempt_again s me c.args.blocked) c.in-Block.field-0 c.args.entries.now.items c.attempt_again.new.entries.items c.attempt_again.new.machine.state (c.in-Block.ensures.comes me here) in
+    let again = ap (attempt_again s me) (sym (in_wait_is c.args.blocked (sym c.is_wait-waits.ensures ∙ waits))) ∙ d.0 in
+    subst (λ (t : State). is_block (wait t me) ≡ true) (sym b.2) (ap is_block again)
+
+pub returns-in-Done-clause-brief : goal.returns-in-Done-clause-brief
+returns-in-Done-clause-brief g c = λ me e quiet is nothing. c.attempt_again.ensures.brief is quiet
+
+pub returns-in-Again-clause-brief : goal.returns-in-Again-clause-brief
+returns-in-Again-clause-brief g c = λ me e quiet is nothing. absurd (c.attempt_again.ensures.once is c.in-Again.is)
+
+pub returns-in-Some-clause-brief : goal.returns-in-Some-clause-brief
+unfolding attempt_again
+returns-in-Some-clause-brief g c = λ me e quiet is nothing.
+    let s = c.args.machine.now.state in
+    let b = block_is s (attempt_again s me c.args.blocked) c.in-Block.field-0 c.args.entries.now.items c.attempt_again.new.entries.items c.attempt_again.new.machine.state (c.in-Block.ensures.comes me e) in
+    let waits : is_block (wait s me) ≡ true = ap is_block (ap (attempt_again s me) (sym is) ∙ b.0) in
+    absurd (nothing_delivered s me c.in-Some.sig (sym (c.requires.signal me e) ∙ c.in-Some.is) waits nothing)
+
+pub returns-in-None-clause-brief : goal.returns-in-None-clause-brief
+returns-in-None-clause-brief g c = λ me e quiet is nothing.
+    let old = c.args.machine.now in
+    let same = c.attempt_again.ensures.waits c.in-Block.field-0 is c.in-Block.is in
+    let read = (c.attempt_again.ensures.brief is quiet).visits in
+    brief_on 0 _ _ old c.attempt_again.new.machine c.wait_on.new.machine same read (omega arith) (c.wait_on.ensures.brief (c.is_wait-waits.ensures ∙ ap (λ b. is_in_wait (Some b)) is) (quiet_on c.args.pid old c.attempt_again.new.machine same quiet))

@@ -1,8 +1,9 @@
-use Rattle.std.proofs.Common.{◌∙◌, ◌+◌, ap, sym, arith}
+use Rattle.std.proofs.Common.{◌∙◌, ◌+◌, count_by, ap, sym, arith}
 use Rattle.posix.proofs.OrderLemmas.{first_in}
 use Rattle.life.specs.Machines.{MachineView}
+use Rattle.life.specs.Foregrounds.{is_unchecked}
 use Rattle.kernel.specs.Counts.{slots_of_settling}
-use Rattle.kernel.proofs.CountLemmas.{settling_taking}
+use Rattle.kernel.proofs.CountLemmas.{rechecks_taking, none_unchecked}
 use Rattle.kernel.proofs.step.tick.Goals as goal
 
 pub go_last-requires : goal.go_last-requires
@@ -10,21 +11,20 @@ go_last-requires g c = first_in c.in-Some.pid c.pass_time.new.self.state.order (
 
 -- what was read by then, and what rechecking those reads for whom a signal is chosen
 pub returns-in-Some-clause-cost : goal.returns-in-Some-clause-cost
-returns-in-Some-clause-cost g c = λ none.
+returns-in-Some-clause-cost g c = λ none checked.
     let mid = c.pass_time.new.self in
     let taking = c.pass_time.ensures.taking none in
     let read = c.pass_time.ensures.costs.visits in
-    let two = settling_taking mid.state.processes mid.to_recheck taking.0 in
-    let more = ap (λ (m : MachineView). m.visits + slots_of_settling m.state.processes m.to_recheck) c.go_last.ensures in
-    record {
-      visits = omega (arith, taking.1, read, two, more);
-      foregrounds_unchecked = ap (λ (m : MachineView). m.foregrounds_unchecked) c.go_last.ensures ∙ c.pass_time.ensures.foregrounds_unchecked;
-    }
+    let one = rechecks_taking mid.state.processes mid.to_recheck taking.0 in
+    let foregrounds = ap (λ u. count_by (is_unchecked u) mid.state.consoles) (c.pass_time.ensures.foregrounds_unchecked ∙ checked) ∙ none_unchecked mid.state.consoles in
+    let more = ap (λ (m : MachineView). m.visits + slots_of_settling m) c.go_last.ensures in
+    omega (arith, taking.1, read, one, foregrounds, more)
 
 pub returns-in_default-clause-cost : goal.returns-in_default-clause-cost
-returns-in_default-clause-cost g c = λ none.
+returns-in_default-clause-cost g c = λ none checked.
     let mid = c.pass_time.new.self in
     let taking = c.pass_time.ensures.taking none in
     let read = c.pass_time.ensures.costs.visits in
-    let two = settling_taking mid.state.processes mid.to_recheck taking.0 in
-    record { visits = omega (arith, taking.1, read, two); foregrounds_unchecked = c.pass_time.ensures.foregrounds_unchecked }
+    let one = rechecks_taking mid.state.processes mid.to_recheck taking.0 in
+    let foregrounds = ap (λ u. count_by (is_unchecked u) mid.state.consoles) (c.pass_time.ensures.foregrounds_unchecked ∙ checked) ∙ none_unchecked mid.state.consoles in
+    omega (arith, taking.1, read, one, foregrounds)

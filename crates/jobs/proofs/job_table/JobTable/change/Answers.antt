@@ -16,6 +16,4 @@ invariant_of-self g c =
     kept_alarmed _ _ _ c.args.pid r.0.before r.0.after _ _ r.0.found r.0.is (seen_same r.0.before r.0.after (c.requires.signals r.0.before r.0.after _ r.0.ran)) (rw r.2 at c.replace.ensures) c.self.invariant
 
 pub returns-clause-takes : goal.returns-clause-takes
-returns-clause-takes g c =
-    let r = c.run_on-result.ensures.run in
-    rw (r.0.is, record_found _ c.args.pid r.0.before r.0.after r.0.found) (ap Some (sym r.3))
+returns-clause-takes g c = let r = c.run_on-result.ensures.run in rw (r.0.is, record_found _ c.args.pid r.0.before r.0.after r.0.found) (ap Some (sym r.3))

@@ -3,6 +3,7 @@ use Rattle.std.specs.Option.{IfSome}
 use Rattle.posix.specs.Consoles.{console_of, acquired}
 use Rattle.posix.specs.States.{State}
 use Rattle.life.proofs.ConsoleLemmas.{machine_put, put_acquired, put_is, lent_at}
+use Rattle.life.proofs.ForegroundLemmas.{fresh_all}
 use Rattle.life.proofs.ViewLemmas.{state_is}
 use Rattle.life.proofs.machine.Machine.acquire_console.Goals as goal
 
@@ -17,7 +18,7 @@ invariant_of-self g c =
     let free = subst (λ o. IfSome o (λ c. c.session ≡ 0)) at (subst (λ (s : State). IfSome (slice_get s.consoles console_index) (λ c. c.session ≡ 0)) (sym same) c.requires.free) in
     let none = ap (λ (s : State). console_of c.args.session s.consoles) same ∙ c.requires.none in
     rw c.acquire.ensures (machine_put _ _ _ _ _ _ _ _ console_index (acquired c.args.session c.args.group it) c.self.invariant
-    (put_acquired _ _ console_index it (acquired c.args.session c.args.group it) c.self.invariant.sound.regular c.self.invariant.listed at free none) (λ e. absurd (cc)))
+    (put_acquired _ _ console_index it (acquired c.args.session c.args.group it) c.self.invariant.sound.regular c.self.invariant.listed at free none) (fresh_all _))
 
 pub returns-in-Some-clause-state : goal.returns-in-Some-clause-state
 returns-in-Some-clause-state g c = λ its found.

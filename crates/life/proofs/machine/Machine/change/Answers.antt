@@ -25,5 +25,6 @@ returns-clause-changes g c =
     record {
       state = ap (λ (s : State). record s { processes = c.change-result.new.self.processes }) old;
       to_recheck = pids_of c.recheck_by_signals.ensures ∙ by_signals _ c.args.pid _ _ _ (pid_looked c.args.pid _) c.change-result.ensures.takes ∙ ap (λ (m : MachineView). rechecking_by_signals (lookup c.args.pid c.change-result.new.self.processes) m.state.order m.to_recheck) c.self.view_is;
+      foregrounds_unchecked = search rules;
       costs = search rules;
     }

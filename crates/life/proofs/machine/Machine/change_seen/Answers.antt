@@ -1,4 +1,6 @@
-use Rattle.std.proofs.Common.{ap, sym, ◌∙◌, subst, [], ◌∷◌, refl, rules}
+use Rattle.jobs.specs.Books.{record_seen}
+use Rattle.life.specs.declared.consoles.Unchecked.TheVariants.{All}
+use Rattle.std.proofs.Common.{cond, ap, sym, ◌∙◌, subst, [], ◌∷◌, refl, rules}
 use Rattle.posix.specs.States.{State}
 use Rattle.posix.specs.Tables.{lookup, parent_of}
 use Rattle.posix.proofs.TableLemmas.{pid_looked}
@@ -11,7 +13,7 @@ use Rattle.life.specs.Rechecks.{with_numbers, with_parent}
 use Rattle.life.specs.Changes.{StaysRegular}
 use Rattle.life.proofs.SoundLemmas.{here_in, found_in}
 use Rattle.life.proofs.RecheckLemmas.{has_room, room_after, pids_of, room_of}
-use Rattle.life.proofs.FunnelLemmas.{machine_shown, can_move_numbers, seen_is, parent_there, there_record}
+use Rattle.life.proofs.FunnelLemmas.{not_moved, machine_shown, can_move_numbers, seen_is, parent_there, there_record}
 use Rattle.life.proofs.ViewLemmas.{state_is}
 use Rattle.jobs.specs.JobTables.{StaysGrouped, StaysPut}
 use Rattle.life.proofs.machine.Machine.change_seen.Goals as goal
@@ -68,5 +70,10 @@ change_seen-parent-requires-clause-grouped g c = subst (λ (s : State). StaysGro
 
 pub returns-clause-put : goal.returns-clause-put
 returns-clause-put g c = λ h.
-    let put = c.change_seen-parent.ensures.put (subst (λ (s : State). StaysPut g.F.FnOnce c.args.change s.processes c.args.pid) (sym (state_is c.self.view_is)) h) in
-    search rules
+    let run = c.change_seen-parent.ensures.run in
+    let stays = subst (λ (s : State). StaysPut g.F.FnOnce c.args.change s.processes c.args.pid) (sym (state_is c.self.view_is)) h in
+    let put = c.change_seen-parent.ensures.put stays in
+    let before = seen_is _ _ _ c.change_seen-parent.ensures.before run.found in
+    let after = seen_is _ _ _ c.change_seen-parent.ensures.after (ap (lookup c.args.pid) run.is ∙ record_found _ c.args.pid run.before run.after run.found) in
+    let mark = rw (before, after) at c.move_numbers.ensures.foregrounds_unchecked in
+    (search rules, mark ∙ ap (λ b. cond b All c.self.inside.foregrounds_unchecked) (not_moved (record_seen run.before) (record_seen run.after) (stays _ _ _ run.found run.ran)) ∙ ap (λ (m : MachineView). m.foregrounds_unchecked) c.self.view_is)

@@ -20,12 +20,14 @@ returns g c = λ me found.
     let parent = c.change_seen-parent.result in
     let mid = c.change_seen-parent.new.self in
     let is = c.change_seen-parent.ensures.rest ∙ ap (with_processes s) (run_as resumed c.change_seen-parent.ensures.run c.change_seen-parent.ensures.costs.regular.rising (λ b d r k q. search rules)) in
+    let stays = c.change_seen-parent.ensures.put (put_as p s.processes resumed (resumed_put s.processes p c.requires) (λ b d r k q. search rules)) in
     record {
       state = told_changed p parent continued resumed s _ _ me lives_resumed.pid c.change_seen-parent.ensures.costs.regular found c.change_seen-parent.ensures.parent is
           (c.tell_parent.ensures.state ∙ ap (λ w. cond (parent == 0) mid.state (change mid.state parent (noticed_of_change (child_signal p w)))) c.continued.ensures);
       to_recheck = rechecked_told parent me s.order c.args.self.now.to_recheck _ _ (process c.tell_parent.new.self.state parent) (named_parent c.tell_parent.new.self.state parent) (parent_is p parent s.processes me c.change_seen-parent.ensures.parent found) (c.change_seen-parent.ensures.to_recheck me found)
           (c.tell_parent.ensures.to_recheck ∙ ap (λ (t : State). cond (parent == 0) mid.to_recheck (rechecking_by_signals (process c.tell_parent.new.self.state parent) t.order mid.to_recheck)) c.change_seen-parent.ensures.rest);
-      costs = let put = c.change_seen-parent.ensures.put (put_as p s.processes resumed (resumed_put s.processes p c.requires) (λ b d r k q. search rules)) in search rules;
+      foregrounds_unchecked = c.tell_parent.ensures.foregrounds_unchecked ∙ stays.1;
+      costs = let put = stays.0 in search rules;
     }
 
 pub change_seen-parent-requires-clause-grouped : goal.change_seen-parent-requires-clause-grouped

@@ -1,5 +1,5 @@
-use Rattle.std.proofs.Common.{◌≡◌, ◌∙◌, ap, sym, refl, Some, None, slice_get}
-use Rattle.posix.specs.States.{State, Program, change}
+use Rattle.std.proofs.Common.{rules, ◌≡◌, ◌∙◌, ap, sym, Some, None, slice_get}
+use Rattle.posix.specs.States.{State}
 use Rattle.posix.specs.Programs.{executed}
 use Rattle.life.proofs.SoundLemmas.{here_in}
 use Rattle.life.proofs.RecheckLemmas.{has_room, pids_of, room_of}
@@ -14,22 +14,19 @@ recheck_later-requires g c = has_room _ _ c.self.invariant.sound.regular c.self.
 pub invariant_of-self : goal.invariant_of-self
 invariant_of-self g c = machine_lent _ _ _ _ _ c.args.pid c.exec.new.self (here_in c.args.pid (state_is c.self.view_is) c.requires) c.self.invariant (pids_of c.recheck_later.ensures) (room_of c.recheck_later.ensures)
 
-pub returns-in-Some-clause-done : goal.returns-in-Some-clause-done
-returns-in-Some-clause-done g c = λ program e.
+pub returns-in-Some : goal.returns-in-Some
+returns-in-Some g c =
     let all = c.programs.ensures.value ∙ ap (λ (s : State). s.world.programs) (state_is c.self.view_is) in
-    let at = get_some _ _ _ (c.in-Some.ensures.lookup.0, c.in-Some.ensures.lookup.1) in
-    let both : Some program ≡ Some c.in-Some.program.now = sym e ∙ ap (λ ps. slice_get ps c.args.number) (sym all) ∙ ap (λ n. slice_get c.programs.result.now n) (sym c.from.ensures) ∙ at in
-    let is : c.in-Some.program.now ≡ program = cc in
-    let regular = c.self.invariant.sound.regular in
-    let did = was_written _ c.args.pid c.own.result.now c.exec.new.self (executed c.args.number c.in-Some.program.now) regular c.own.ensures.value (λ r. c.exec.ensures c.in-Some.program.now r (sym c.setuid.ensures) (sym c.setgid.ensures)) in
-    (refl, did ∙ ap (λ (s : State). change s c.args.pid (executed c.args.number c.in-Some.program.now)) (state_is c.self.view_is) ∙ ap (λ (x : Program). change c.args.self.now.state c.args.pid (executed c.args.number x)) is)
-
-pub returns-in-Some-clause-none : goal.returns-in-Some-clause-none
-returns-in-Some-clause-none g c = λ e.
-    let all = c.programs.ensures.value ∙ ap (λ (s : State). s.world.programs) (state_is c.self.view_is) in
-    let at = get_some _ _ _ (c.in-Some.ensures.lookup.0, c.in-Some.ensures.lookup.1) in
-    let no : None ≡ Some c.in-Some.program.now = sym e ∙ ap (λ ps. slice_get ps c.args.number) (sym all) ∙ ap (λ n. slice_get c.programs.result.now n) (sym c.from.ensures) ∙ at in
-    absurd (cc)
+    let here = ap (λ ps. slice_get ps c.args.number) (sym all) ∙ ap (λ n. slice_get c.programs.result.now n) (sym c.from.ensures) ∙ get_some _ _ _ (c.in-Some.ensures.lookup.0, c.in-Some.ensures.lookup.1) in
+    record {
+      done = λ program e.
+          let both : Some program ≡ Some c.in-Some.program.now = sym e ∙ here in
+          let did = was_written _ c.args.pid c.own.result.now c.exec.new.self (executed c.args.number c.in-Some.program.now) c.self.invariant.sound.regular c.own.ensures.value (λ r. c.exec.ensures c.in-Some.program.now r (sym c.setuid.ensures) (sym c.setgid.ensures)) in
+          search rules;
+      none = λ e. let no : None ≡ Some c.in-Some.program.now = sym e ∙ here in absurd (cc);
+      to_recheck = search rules;
+      costs = search rules;
+    }
 
 pub returns-in-None-clause-done : goal.returns-in-None-clause-done
 returns-in-None-clause-done g c = λ program e.

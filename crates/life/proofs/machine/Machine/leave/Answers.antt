@@ -1,19 +1,19 @@
-use Rattle.std.proofs.Common.{rules, ◌∙◌, ◌≡◌, ◌≤◌, ◌+◌, ◌*◌, length, subst, refl, ◌∷◌, [], ap, sym, arith, ◌==◌, ◌||◌, true}
+use Rattle.std.proofs.Common.{rules, ◌∙◌, ◌≡◌, ◌≤◌, ◌+◌, ◌*◌, length, subst, refl, ◌∷◌, [], ap, arith, ◌==◌, ◌||◌, true}
 use Rattle.std.proofs.lemmas.Bool.{eq-eqb, or_right}
 use Rattle.posix.specs.Tables.{changed, children_in}
 use Rattle.posix.specs.Ends.{made_zombie}
 use Rattle.posix.specs.States.{State, is_in}
 use Rattle.pidset.specs.Numbers.{with_number}
-use Rattle.life.specs.Machines.{MachineView, state_of}
+use Rattle.life.specs.Machines.{state_of}
 use Rattle.life.specs.Rechecks.{with_numbers}
-use Rattle.posix.proofs.RegularLemmas.{heir_other, heir_there, regular_depart}
+use Rattle.posix.proofs.RegularLemmas.{heir_there}
 use Rattle.posix.proofs.TableLemmas.{pid_looked}
 use Rattle.jobs.proofs.RunLemmas.{run_as, parent_is, put_as, put_grouped}
 use Rattle.life.proofs.EndLemmas.{there_after, zombie_after}
 use Rattle.life.proofs.RecheckLemmas.{has_room, room_after, listed_more, listed_departed, in_numbers}
-use Rattle.life.proofs.SoundLemmas.{there, here_in, heir_in, found_in, kept_departed, kids_made_zombie, length_departed, parents_departed, there_made_zombie}
+use Rattle.life.proofs.SoundLemmas.{there, here_in, heir_in, found_in, sound_departed, kids_made_zombie, there_made_zombie}
+use Rattle.life.proofs.ForegroundLemmas.{fresh_all}
 use Rattle.life.proofs.ViewLemmas.{state_is}
-use Rattle.posix.specs.Regular.{IsRegular}
 use Rattle.life.proofs.MoveLemmas.{zombie_put}
 use Rattle.life.proofs.machine.Machine.leave.Goals as goal
 
@@ -32,16 +32,11 @@ insert-requires-3 g c =
     let theirs = heir_there _ c.args.pid c.args.heir i.sound.regular (heir_in old c.requires.heir) in
     record { room = λ out. room_after _ _ c.insert-2.new.self (c.args.heir ∷ c.args.pid ∷ []) i.sound.regular i.listed (theirs, (here_in c.args.pid old c.requires.there, tt)) (c.insert-2.ensures.pids ∙ ap (with_number c.args.heir) c.insert.ensures.pids) (c.insert-2.ensures.room ∙ c.insert.ensures.room) }
 
-pub adopt-requires : goal.adopt-requires
-adopt-requires g c =
-    let old = state_is c.self.view_is in
-    let theirs = heir_there _ c.args.pid c.args.heir c.self.invariant.sound.regular (heir_in old c.requires.heir) in
-    let made = run_as (made_zombie c.args.status) c.change_seen-parent.ensures.run c.self.invariant.sound.regular.rising (λ b d r k q. search rules) in
-    record {
-      giver = rw made (there_made_zombie c.args.pid c.args.status c.args.pid _ (here_in c.args.pid old c.requires.there));
-      there = rw made (there_made_zombie c.args.pid c.args.status c.args.heir _ theirs);
-      apart = λ same. heir_other _ c.args.pid c.args.heir c.requires.other c.requires.heir (sym same);
-    }
+pub adopt-requires-clause-there : goal.adopt-requires-clause-there
+adopt-requires-clause-there g c =
+    let i = c.self.invariant in
+    rw (run_as (made_zombie c.args.status) c.change_seen-parent.ensures.run i.sound.regular.rising (λ b d r k q. search rules))
+    (there_made_zombie c.args.pid c.args.status c.args.heir _ (heir_there _ c.args.pid c.args.heir i.sound.regular (heir_in (state_is c.self.view_is) c.requires.heir)))
 
 pub invariant_of-self : goal.invariant_of-self
 unfolding with_numbers is_in
@@ -54,55 +49,38 @@ invariant_of-self g c =
     let old = state_is c.self.view_is in
     let s = state_of m.world m.table.processes m.consoles.items m.pids m.order m.births m.ticks m.dropped m.halted in
     let h = heir_in old c.requires.heir in
-    let theirs = heir_there s p heir i.sound.regular h in
     let me = there _ c.requires.there in
     let found = found_in s _ old p me.what me.found in
-    let named = pid_looked p s.processes me.what found in
-    let low = (i.sound.regular.bounded p me.what found).least in
-    let made = run_as (made_zombie c.args.status) c.change_seen-parent.ensures.run c.self.invariant.sound.regular.rising (λ b d r k q. search rules) in
+    let made = run_as (made_zombie w) c.change_seen-parent.ensures.run i.sound.regular.rising (λ b d r k q. search rules) in
     let up = parent_is p c.change_seen-parent.result.parent s.processes me.what c.change_seen-parent.ensures.parent found in
     let to_recheck = c.insert-2.ensures.pids ∙ ap (with_number heir) c.insert.ensures.pids in
-    let room = c.insert-2.ensures.room ∙ c.insert.ensures.room in
-    let now = listed_more s m.to_recheck c.insert-2.new.self (heir ∷ p ∷ []) i.listed (theirs, (here_in p old c.requires.there, tt)) to_recheck room in
+    let now = listed_more s m.to_recheck c.insert-2.new.self (heir ∷ p ∷ []) i.listed (heir_there s p heir i.sound.regular h, (here_in p old c.requires.there, tt)) to_recheck (c.insert-2.ensures.room ∙ c.insert.ensures.room) in
     let mine : is_in p c.insert-2.new.self.pids ≡ true = ap (is_in p) to_recheck ∙ in_numbers p (heir ∷ p ∷ []) m.to_recheck.pids ∙ rw (eq-eqb p p refl) (ap (λ b. b || is_in p m.to_recheck.pids) (or_right (heir == p) true refl)) in
     let its : is_in heir c.insert-2.new.self.pids ≡ true = ap (is_in heir) to_recheck ∙ in_numbers heir (heir ∷ p ∷ []) m.to_recheck.pids ∙ rw (eq-eqb heir heir refl) refl in
-    rw (c.adopt.ensures.processes, made, c.drop_place.ensures.pids) record {
-      sound = record {
-        regular = regular_depart p heir w (omega (arith, named, low)) c.requires.other s i.sound.regular h;
-        parents = parents_departed p heir w s.processes theirs i.sound.parents;
-        counted = let k = i.sound.counted in let same = length_departed p heir w s.processes in omega (arith, k, same);
-        kept = kept_departed p heir w s.world.pidmax s.processes m.pids m.order _ (let r = c.drop_place.ensures.room in omega (arith, r)) i.sound.kept;
-      };
-      listed = listed_departed s p heir w me.what c.insert-2.new.self c.insert-3.new.self i.sound.regular now found (i.sound.parents p me.what c.requires.other found) mine its (c.insert-3.ensures.pids ∙ ap (λ n. with_number n c.insert-2.new.self.pids) up) c.insert-3.ensures.room;
-      noted = i.noted;
-      fresh = λ e. absurd (cc);
-    }
+    let sound = sound_departed p heir w s m.pids m.order c.drop_place.new.self (omega (arith, pid_looked p s.processes me.what found, (i.sound.regular.bounded p me.what found).least)) c.requires.other h (omega (arith, c.drop_place.ensures.room)) i.sound in
+    let listed = listed_departed s p heir w me.what c.insert-2.new.self c.insert-3.new.self i.sound.regular now found (i.sound.parents p me.what c.requires.other found) mine its (c.insert-3.ensures.pids ∙ ap (λ n. with_number n c.insert-2.new.self.pids) up) c.insert-3.ensures.room in
+    rw (c.adopt.ensures.processes, made, c.drop_place.ensures.pids) record { sound = search rules; listed = listed; noted = i.noted; fresh = fresh_all _ }
 
 pub returns : goal.returns
 returns g c =
     let m = c.self.inside in
+    let p = c.args.pid in
+    let w = c.args.status in
     let s = state_of m.world m.table.processes m.consoles.items m.pids m.order m.births m.ticks m.dropped m.halted in
-    let me = there _ (here_in {s = s} c.args.pid (state_is c.self.view_is) c.requires.there) in
+    let old = state_is c.self.view_is in
     let rs = c.args.self.now.state.processes in
-    let old = ap (λ (m : MachineView). m.visits) c.self.view_is in
-    let made = run_as (made_zombie c.args.status) c.change_seen-parent.ensures.run c.self.invariant.sound.regular.rising (λ b d r k q. search rules) ∙ ap (λ (s : State). changed c.args.pid (made_zombie c.args.status) s.processes) (state_is c.self.view_is) in
-    let mine = kids_made_zombie c.args.pid c.args.status c.args.pid rs in
-    let theirs = kids_made_zombie c.args.pid c.args.status c.args.heir rs in
-    let adopts = subst (λ ts. c.adopt.new.self.visits ≤ c.change_seen-parent.new.self.visits + (3 + 10 * length (children_in c.args.pid ts) + length (children_in c.args.heir ts))) made c.adopt.ensures.costs.visits in
+    let run = run_as (made_zombie w) c.change_seen-parent.ensures.run c.self.invariant.sound.regular.rising (λ b d r k q. search rules) in
+    let me = there _ (here_in {s = s} p old c.requires.there) in
+    let adopts = subst (λ ts. c.adopt.new.self.visits ≤ c.change_seen-parent.new.self.visits + (3 + 10 * length (children_in p ts) + length (children_in c.args.heir ts))) (run ∙ ap (λ (s : State). changed p (made_zombie w) s.processes) old) c.adopt.ensures.costs.visits in
+    let mine = kids_made_zombie p w p rs in
+    let theirs = kids_made_zombie p w c.args.heir rs in
+    let put = c.change_seen-parent.ensures.put (put_as p _ (made_zombie w) (λ r e. zombie_put w r) (λ b d r k q. search rules)) in
     record {
-      state = rw (c.adopt.ensures.processes, run_as (made_zombie c.args.status) c.change_seen-parent.ensures.run c.self.invariant.sound.regular.rising (λ b d r k q. search rules), c.drop_place.ensures.pids, ← c.self.view_is) refl;
-      is = λ me e. parent_is c.args.pid c.change_seen-parent.result.parent _ me c.change_seen-parent.ensures.parent (found_in _ _ (state_is c.self.view_is) c.args.pid me e);
-      parent = λ me e.
-          let m = c.self.inside in
-          let s = state_of m.world m.table.processes m.consoles.items m.pids m.order m.births m.ticks m.dropped m.halted in
-          let found = found_in s _ (state_is c.self.view_is) c.args.pid me e in
-          rw (c.adopt.ensures.processes, run_as (made_zombie c.args.status) c.change_seen-parent.ensures.run c.self.invariant.sound.regular.rising (λ b d r k q. search rules)) (there_after s c.args.pid c.args.heir c.args.status me.parent (c.self.invariant.sound.parents c.args.pid me c.requires.other found));
-      zombie = rw (c.adopt.ensures.processes, run_as (made_zombie c.args.status) c.change_seen-parent.ensures.run c.self.invariant.sound.regular.rising (λ b d r k q. search rules)) (zombie_after s c.args.pid c.args.heir c.args.status me.what me.found);
-      costs = record {
-        visits = omega (arith, old, mine, theirs, adopts, (c.change_seen-parent.ensures.put (put_as c.args.pid _ (made_zombie c.args.status) (λ r e. zombie_put c.args.status r) (λ b d r k q. search rules))).visits);
-        groups_at_risk = ap (λ (m : MachineView). m.groups_at_risk) c.self.view_is;
-        regular = subst IsRegular (state_is c.self.view_is) c.self.invariant.sound.regular;
-      };
+      state = rw (c.adopt.ensures.processes, run, c.drop_place.ensures.pids, ← c.self.view_is) refl;
+      is = λ me e. parent_is p c.change_seen-parent.result.parent _ me c.change_seen-parent.ensures.parent (found_in _ _ old p me e);
+      parent = λ me e. rw (c.adopt.ensures.processes, run) (there_after s p c.args.heir w me.parent (c.self.invariant.sound.parents p me c.requires.other (found_in s _ old p me e)));
+      zombie = rw (c.adopt.ensures.processes, run) (zombie_after s p c.args.heir w me.what me.found);
+      costs = search (rules, arith);
     }
 
 pub change_seen-parent-requires-clause-grouped : goal.change_seen-parent-requires-clause-grouped

@@ -1,12 +1,33 @@
-use Rattle.std.proofs.Common.{◌≡◌, ap, sym, ◌∙◌, rules, to_z, of_z, w64, pos, option_map}
+use Rattle.std.proofs.Common.{◌≡◌, ◌<◌, ℕ, zero, suc, true, ap, sym, ◌∙◌, arith, rules, to_z, of_z, w64, List, ℤ, pos, negsuc, Some, None, option_map, refl}
 use Rattle.std.specs.Int.Signed.{lt_z}
+use Rattle.posix.specs.Processes.{Process}
+use Rattle.posix.specs.Tables.{lookup}
 use Rattle.posix.specs.States.{State}
+use Rattle.posix.specs.Regular.{IsRegular}
 use Rattle.posix.specs.GroupCalls.{named}
+use Rattle.posix.proofs.TableLemmas.{pid_looked}
 use Rattle.proctable.specs.Records.{snapshot_of}
-use Rattle.life.proofs.NameLemmas.{named_negative, named_above}
 use Rattle.life.proofs.ViewLemmas.{state_is}
 use Rattle.life.proofs.machine.Machine.named.Goals as goal
 use Rattle.life.proofs.machine.Machine.named.Goals.{then-word-lt0-via-then-word-lt0, then-word-lt0-via-else-word-lt0+then-word-from}
+
+-- a negative word names nobody
+named_negative : (me : Process) (z : ℤ) (rs : List Process) → lt_z z (pos 0) ≡ true → named me z rs ≡ None
+named_negative me (pos n) rs e = absurd (grind (arith, e))
+named_negative me (negsuc n) rs e = refl
+
+-- nobody has a number above the greatest
+nobody_above : (s : State) (p : ℕ) → IsRegular s → s.world.pidmax < p → lookup p s.processes ≡ None
+nobody_above s p i above = elim (lookup p s.processes) as (λ o. lookup p s.processes ≡ o → o ≡ None) [
+  | None ↦ λ e. refl
+  | Some r ↦ λ e. absurd (omega (arith, above, (i.bounded p r e).pid, pid_looked p s.processes r e))
+] refl
+
+-- so no word above it names anybody
+named_above : (s : State) (me : Process) (z : ℤ) → IsRegular s → lt_z (pos s.world.pidmax) z ≡ true → named me z s.processes ≡ None
+named_above s me (pos zero) i e = absurd (grind (arith, e))
+named_above s me (pos (suc n)) i e = nobody_above s (suc n) i (grind (arith, e))
+named_above s me (negsuc n) i e = absurd (cc)
 
 pub returns-then-word-lt0 : goal.returns-then-word-lt0
 returns-then-word-lt0 g c = record {

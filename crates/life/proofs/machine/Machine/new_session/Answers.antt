@@ -1,11 +1,10 @@
-use Rattle.std.proofs.Common.{◌∙◌, ap, sym, refl, is_ok, rules, inl, inr}
+use Rattle.std.proofs.Common.{◌∙◌, ap, sym, is_ok, rules}
 use Rattle.std.proofs.lemmas.Bool.{not-true, or_parts}
 use Rattle.posix.specs.Tables.{lookup}
-use Rattle.posix.specs.States.{State, change as change_of}
 use Rattle.posix.specs.GroupCalls.{in_session, is_group_of_others}
 use Rattle.posix.proofs.GroupLemmas.{regular_session}
 use Rattle.jobs.proofs.RunLemmas.{run_as}
-use Rattle.life.specs.Machines.{state_of, with_processes}
+use Rattle.life.specs.Machines.{state_of}
 use Rattle.life.proofs.FunnelLemmas.{stays_so}
 use Rattle.life.proofs.SoundLemmas.{found_in}
 use Rattle.life.proofs.ViewLemmas.{state_is}
@@ -24,12 +23,6 @@ change_seen-requires-clause-regular g c =
 
 pub returns-clause-leads : goal.returns-clause-leads
 unfolding in_session
-returns-clause-leads g c = λ me found none.
-    let m = c.self.inside in
-    let t = state_of m.world c.can_lead.new.self.processes m.consoles.items m.pids m.order m.births m.ticks m.dropped m.halted in
-    let is = c.change_seen.ensures.rest ∙ ap (with_processes t) (run_as in_session c.change_seen.ensures.run c.change_seen.ensures.costs.regular.rising (λ b d r k q. search rules)) in
-    let same = ap (with_processes t) c.can_lead.ensures.looks.processes ∙ state_is c.self.view_is in
-    (refl, is ∙ ap (λ (s : State). change_of s c.args.pid in_session) same)
-
-pub change_seen-requires-clause-grouped : goal.change_seen-requires-clause-grouped
-change_seen-requires-clause-grouped g c = λ b d r found k. inr (inl (search rules))
+returns-clause-leads g c =
+    let is = run_as in_session c.change_seen.ensures.run c.change_seen.ensures.costs.regular.rising (λ b d r k q. search rules) in
+    search rules

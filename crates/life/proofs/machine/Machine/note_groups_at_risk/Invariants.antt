@@ -2,9 +2,10 @@ use Rattle.std.proofs.Common.{◌≡◌, ◌+◌, ◌≤◌, ◌||◌, ℕ, leng
 use Rattle.std.specs.List.{list_any}
 use Rattle.posix.specs.States.{is_in}
 use Rattle.posix.specs.Regular.{IsRegular}
-use Rattle.posix.specs.Tables.{children_in, first_pid, left_of}
+use Rattle.posix.specs.Tables.{children_in, left_of}
 use Rattle.posix.specs.Groups.{loses_anchor}
 use Rattle.life.proofs.AtRiskLemmas.{keeps}
+use Rattle.life.proofs.ChildLemmas.{IsAtChild}
 use Rattle.life.proofs.machine.Machine.note_groups_at_risk.Given as goal
 
 -- a group is noted, or one of the children that are left keeps it from being orphaned
@@ -18,7 +19,7 @@ invariant-loop-next g l =
       to_recheck : l.self.to_recheck ≡ l.fn.self.to_recheck;
       foregrounds_unchecked : l.self.foregrounds_unchecked ≡ l.fn.self.foregrounds_unchecked;
       readers : l.self.readers ≡ l.fn.self.readers;
-      here : first_pid (left_of l.next kids) ≡ l.next;
+      walk : IsAtChild rs l.fn.pid l.next;
       todo : (n : ℕ) → (is_in n l.self.groups_at_risk || list_any (keeps rs n) (left_of l.next kids)) ≡ loses_anchor l.fn.pid rs n;
       read : l.self.visits + length (left_of l.next kids) ≤ l.fn.self.visits + 1 + length kids;
     }

@@ -1,8 +1,13 @@
-use Rattle.std.proofs.Common.{rules, ◌∙◌, ap, sym, arith, refl, List, length}
+use Rattle.std.proofs.lemmas.Option.{same_Some}
+use Rattle.std.proofs.Common.{◌≡◌, option_map, Some, rules, subst, ◌∙◌, ap, sym, arith, refl, List, length}
 use Rattle.posix.specs.Processes.{Process}
 use Rattle.posix.proofs.TableLemmas.{length_removed}
-use Rattle.jobs.proofs.RunLemmas.{parent_is}
+use Rattle.posix.specs.Tables.{lookup, removed}
+use Rattle.proctable.specs.Records.{snapshot_of}
+use Rattle.proctable.specs.declared.snapshot.Snapshot.{Snapshot}
+use Rattle.life.specs.Foregrounds.{AreFreshBut, after_loss}
 use Rattle.life.specs.Rechecks.{without_gone}
+use Rattle.life.proofs.ForegroundLemmas.{fresh_removed}
 use Rattle.life.proofs.SoundLemmas.{found_in}
 use Rattle.life.proofs.PartLemmas.{can_go, sound_gone}
 use Rattle.life.proofs.RecheckLemmas.{has_room, listed_removed, pids_of, room_of}
@@ -10,8 +15,8 @@ use Rattle.life.proofs.ReaderLemmas.{readers_at_place, readers_room, listed_zomb
 use Rattle.life.proofs.ViewLemmas.{state_is}
 use Rattle.life.proofs.machine.Machine.reap.Goals as goal
 
-pub discard-parent-requires : goal.discard-parent-requires
-discard-parent-requires g c =
+pub discard-snapshot-requires : goal.discard-snapshot-requires
+discard-snapshot-requires g c =
     let it = c.requires.zombie in
     can_go _ _ _ c.args.pid it.0 c.self.invariant.sound (found_in _ _ (state_is c.self.view_is) c.args.pid it.0 it.1) it.2 c.requires.other
 
@@ -28,15 +33,17 @@ pub invariant_of-self : goal.invariant_of-self
 invariant_of-self g c =
     let it = c.requires.zombie in
     let found = found_in _ _ (state_is c.self.view_is) c.args.pid it.0 it.1 in
-    let gone = c.discard-parent.ensures.counts it.0 found in
+    let gone = c.discard-snapshot.ensures.counts it.0 found in
     let up = c.self.invariant.sound.parents c.args.pid it.0 c.requires.other found in
-    let parent = parent_is c.args.pid _ _ it.0 c.discard-parent.ensures.parent found in
-    rw c.discard-parent.ensures.processes (record {
+    let fields : c.discard-snapshot.result ≡ snapshot_of it.0 = same_Some _ _ (c.discard-snapshot.ensures.value ∙ ap (option_map snapshot_of) found) in
+    let parent : c.discard-snapshot.result.parent ≡ it.0.parent = rw fields refl in
+    let group : c.discard-snapshot.result.group ≡ it.0.group = rw fields refl in
+    rw c.discard-snapshot.ensures.processes (record {
       sound = sound_gone _ _ _ _ c.args.pid _ _ it.0 c.self.invariant.sound found it.2 c.requires.other gone (omega arith);
       listed = listed_removed _ c.args.pid _ _ it.0 _ _ c.self.invariant.sound.regular (listed_zombie _ c.args.pid it.0 _ _ c.self.invariant.sound.regular c.self.invariant.listed found it.2 c.deref.ensures.value c.mark_reader.ensures) found up
           (pids_of c.forget.ensures ∙ ap (λ n. without_gone c.args.pid n c.self.inside.to_recheck.pids) parent) (room_of c.forget.ensures) (λ k. none_marked k c.args.pid _ _ _ c.mark_reader.ensures);
       noted = c.self.invariant.noted;
-      fresh = λ e. absurd (cc);
+      fresh = subst (λ u. AreFreshBut u (removed c.args.pid c.self.inside.table.processes) c.self.inside.consoles.items) (sym (c.after_loss-self-inside.ensures ∙ ap (λ g. after_loss g c.self.inside.foregrounds_unchecked) group)) (fresh_removed _ c.args.pid it.0 _ _ c.self.invariant.sound.regular.rising found c.self.invariant.fresh);
     })
 
 pub returns : goal.returns
@@ -44,10 +51,12 @@ returns g c =
     let it = c.requires.zombie in
     let found = found_in _ _ (state_is c.self.view_is) c.args.pid it.0 it.1 in
     let rs = c.self.inside.table.processes in
+    let group = λ (r : Process) (e : lookup c.args.pid rs ≡ Some r). ap (λ (f : Snapshot). f.group) (same_Some _ (snapshot_of r) (c.discard-snapshot.ensures.value ∙ ap (option_map snapshot_of) e)) in
     let one = length_removed c.args.pid it.0 rs c.self.invariant.sound.regular.rising found in
-    let left = ap (λ (l : List Process). length l) c.discard-parent.ensures.processes in
+    let left = ap (λ (l : List Process). length l) c.discard-snapshot.ensures.processes in
     let all = c.self.invariant.sound.counted in
     record {
-      changes = record { state = rw (c.discard-parent.ensures.processes, (c.discard-parent.ensures.counts it.0 found).last, ← c.self.view_is) refl; to_recheck = search rules; costs = search rules };
+      changes = record { state = rw (c.discard-snapshot.ensures.processes, (c.discard-snapshot.ensures.counts it.0 found).last, ← c.self.view_is) refl; to_recheck = search rules; costs = search rules };
+      foregrounds_unchecked = λ r e. c.after_loss-self-inside.ensures ∙ ap (λ g. after_loss g c.self.inside.foregrounds_unchecked) (group r (found_in _ _ (state_is c.self.view_is) c.args.pid r e)) ∙ search rules;
       born = omega (arith, one, left, all);
     }

@@ -1,9 +1,9 @@
-use Rattle.std.proofs.Common.{◌≡◌, ◌∙◌, ap, sym, subst, refl, arith, slice_get, ℕ, Option, List, true}
+use Rattle.std.proofs.Common.{◌≡◌, ⊎_elim, ◌∙◌, ap, sym, subst, refl, arith, slice_get, ℕ, Option, List, true}
 use Rattle.std.specs.Option.{IfSome}
 use Rattle.posix.specs.States.{State, is_in}
 use Rattle.pidset.specs.Numbers.{PidSetView, Rises, numbers_above, with_number}
 use Rattle.pidset.proofs.NumberLemmas.{in_with}
-use Rattle.std.proofs.lemmas.Bool.{or_right}
+use Rattle.std.proofs.lemmas.Bool.{or_left, or_right, or_cases, eqb-true}
 use Rattle.life.specs.Machines.{MachineView, readers_at}
 use Rattle.life.specs.Consoles.{AreReaders}
 use Rattle.pidset.proofs.WalkLemmas.{lies_above}
@@ -16,6 +16,7 @@ pub loop-next-init : goal.loop-next-init
 loop-next-init g c = record {
   rest = refl;
   others = λ q e. e;
+  those = λ q e. or_left _ _ e;
   rechecking = rechecking_starts _ _ _ (watched_rises _ _ c.args.console_index c.next_reader-next.ensures.watched) (watched_least _ _ c.args.console_index c.next_reader-next.ensures.watched) c.next_reader-next.ensures.is;
 }
 
@@ -38,11 +39,13 @@ loop-next-preserved g c =
     ∙ ap (λ (ns : List ℕ). record (c.args.self.now) { to_recheck = ns }) (sym to_recheck) in
     let kept = ap (λ (m : MachineView). m.readers) rest in
     let set = readers_at c.args.console_index c.args.self.now.readers in
+    let on : is_in c.in-Some.pid set ≡ true = subst (λ (o : Option ℕ). IfSome o (λ n. is_in n set ≡ true)) c.in-Some.is i.rechecking.next_there in
     let up : Rises set = subst (λ (sets : List PidSetView). Rises (readers_at c.args.console_index sets)) kept (watched_rises _ _ c.args.console_index c.next_reader-next-in-Some.ensures.watched) in
     let comes : c.next_reader-next-in-Some.result ≡ slice_get (numbers_above c.in-Some.pid set) 0 = c.next_reader-next-in-Some.ensures.is ∙ ap (λ (sets : List PidSetView). slice_get (numbers_above c.in-Some.pid (readers_at c.args.console_index sets)) 0) kept in
     record {
       rest = rest;
       others = λ q e. ap (is_in q) to_recheck ∙ in_with q c.in-Some.pid _ ∙ or_right _ _ (i.others q e);
+      those = λ q e. ⊎_elim (λ same. or_right _ _ (subst (λ n. is_in n set ≡ true) (eqb-true c.in-Some.pid q same) on)) (i.those q) (or_cases _ _ (sym (in_with q c.in-Some.pid _) ∙ sym (ap (is_in q) to_recheck) ∙ e));
       rechecking = rechecking_proceeds set c.loop-next.self.to_recheck _ c.in-Some.pid c.next_reader-next-in-Some.result up comes
           (subst (λ (o : Option ℕ). IsRechecking set c.loop-next.self.to_recheck o) c.in-Some.is i.rechecking) to_recheck;
     }
@@ -62,3 +65,9 @@ returns-clause-rest g c =
     let fn = c.args.self.now in
     rest ∙ ap (λ (m : MachineView). record m { readers = now.readers }) c.loop-next.invariant.rest
     ∙ ap (λ (m : MachineView). record fn { to_recheck = m.to_recheck; readers = now.readers }) (sym rest)
+
+pub returns-clause-those : goal.returns-clause-those
+returns-clause-those g c = λ p e. c.loop-next.invariant.those p (ap (is_in p) (sym (ap (λ (m : MachineView). m.to_recheck) c.forget_readers.ensures.rest)) ∙ e)
+
+pub returns-clause-watched : goal.returns-clause-watched
+returns-clause-watched g c = c.next_reader-next.ensures.watched

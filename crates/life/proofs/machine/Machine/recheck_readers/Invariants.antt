@@ -1,4 +1,4 @@
-use Rattle.std.proofs.Common.{◌≡◌, ℕ, true}
+use Rattle.std.proofs.Common.{◌≡◌, ◌||◌, ℕ, true}
 use Rattle.posix.specs.States.{is_in}
 use Rattle.posix.proofs.WalkLemmas.{numbers_left}
 use Rattle.life.specs.Machines.{readers_at}
@@ -9,6 +9,7 @@ abbrev pub invariant-loop-next : goal.invariant-loop-next
 invariant-loop-next g l = record {
   rest : l.self ≡ record (l.fn.self) { to_recheck = l.self.to_recheck };
   others : (q : ℕ) → is_in q l.fn.self.to_recheck ≡ true → is_in q l.self.to_recheck ≡ true;
+  those : (q : ℕ) → is_in q l.self.to_recheck ≡ true → (is_in q l.fn.self.to_recheck || is_in q (readers_at l.console_index l.fn.self.readers)) ≡ true;
   rechecking : IsRechecking (readers_at l.console_index l.fn.self.readers) l.self.to_recheck l.next;
 }
 

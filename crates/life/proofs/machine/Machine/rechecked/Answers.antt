@@ -16,11 +16,11 @@ mark_reader-requires-clause-room g c = λ k set at. readers_room _ set (readers_
 pub invariant_of-self : goal.invariant_of-self
 invariant_of-self g c =
     let i = c.self.invariant in
-    let same = state_is c.self.view_is ∙ c.reads-session.ensures.looks.same.state in
-    let session = c.reads-session.ensures.value ∙ ap (λ (s : State). reads s c.args.pid) (sym same) in
+    let same = state_is c.self.view_is in
+    let session = c.requires.session ∙ ap (λ (s : State). reads s c.args.pid) (sym same) in
     record {
       sound = i.sound;
-      listed = listed_rechecked _ c.args.pid _ _ _ i.listed (λ r e. ap (λ (s : State). wakes s r) same ∙ c.requires r (subst (λ (s : State). process s c.args.pid ≡ Some r) same e)) (pids_of c.take_off.ensures) (room_of c.take_off.ensures)
+      listed = listed_rechecked _ c.args.pid _ _ _ i.listed (λ r e. ap (λ (s : State). wakes s r) same ∙ c.requires.waits r (subst (λ (s : State). process s c.args.pid ≡ Some r) same e)) (pids_of c.take_off.ensures) (room_of c.take_off.ensures)
           (watched_rechecked _ c.args.pid _ _ _ _ i.sound.regular i.listed.watched (pids_of c.take_off.ensures) session c.deref.ensures.value c.mark_reader.ensures);
       noted = i.noted;
       fresh = i.fresh;

@@ -1,9 +1,11 @@
 use Rattle.std.proofs.Common.{◌≡◌, ap, sym, ◌∙◌, subst, refl, Some, slice_get, inr}
+use Rattle.std.proofs.lemmas.Bool.{or_right}
 use Rattle.posix.specs.Consoles.{released}
 use Rattle.posix.specs.States.{State}
 use Rattle.life.specs.Consoles.{AreReaders}
 use Rattle.life.specs.Machines.{MachineView}
-use Rattle.life.proofs.ConsoleLemmas.{machine_put, put_rechecked, put_is, lent_at, not_both, fresh_put}
+use Rattle.life.proofs.ConsoleLemmas.{machine_put, put_rechecked, put_is, lent_at, not_both}
+use Rattle.life.proofs.ForegroundLemmas.{fresh_put}
 use Rattle.life.proofs.ViewLemmas.{state_is}
 use Rattle.life.proofs.machine.Machine.release.Goals as goal
 use Rattle.life.proofs.machine.Machine.release.Goals.{in-Some, in_default}
@@ -22,7 +24,7 @@ invariant_of-self g c = elim c.match-get_mut.branch [
       let theirs = subst (λ (s : State). AreReaders s console_index c.self.inside.to_recheck.pids) (sym same) readers in
       rw (w.self-inside-is, w.release.ensures) (machine_put _ _ _ _ _ _ _ _ console_index (released it) c.self.invariant
       (put_rechecked _ _ console_index it (released it) c.self.invariant.sound.regular c.self.invariant.listed at theirs (inr refl))
-      (λ e. fresh_put _ _ console_index (released it) (c.self.invariant.fresh e) refl))
+      (fresh_put _ _ _ console_index (released it) c.self.invariant.fresh (or_right _ _ refl)))
   | in_default w ↦ rw w.self-inside-is c.self.invariant
 ]
 

@@ -36,7 +36,7 @@ loop-next-preserved g c =
     let h = c.loop-next.invariant in
     let it = there (lookup pid s.processes) (subst (λ (o : Option ℕ). IfSome o (λ q. IsSome (lookup q s.processes))) c.in-Some.is h.there) in
     let tick : s.ticks + 1 ≡ first.ticks + 1 = ap (λ (t : State). t.ticks + 1) h.rest in
-    let rung = c.ring.ensures.changes.state ∙ ap (λ n. record s { processes = changed pid (ring_at n) s.processes }) tick in
+    let rung = c.ring.ensures.state ∙ ap (λ n. record s { processes = changed pid (ring_at n) s.processes }) tick in
     let now : t.ticks + 1 ≡ first.ticks + 1 = ap (λ (t : State). t.ticks + 1) rung ∙ tick in
     let n = c.next_due-next-in-Some.ensures in
     let next = subst (λ k. IsNext (λ (r : Process). is_due k r.alarm) pid t.processes c.next_due-next-in-Some.result) now n.next in
@@ -51,15 +51,15 @@ loop-next-preserved g c =
       costs =
           let fewer = fewer_due (first.ticks + 1) pid s.processes it.what it.found (h.due pid it.what c.in-Some.is it.found) in
           let left = ap (λ (t : State). length (filter (λ (r : Process). is_due (first.ticks + 1) r.alarm) t.processes)) rung in
-          let one = c.ring.ensures.changes.costs.visits in
+          let one = c.ring.ensures.costs.visits in
           omega (arith, fewer, left, one, h.costs);
-      groups_at_risk = c.ring.ensures.changes.costs.groups_at_risk ∙ h.groups_at_risk;
+      groups_at_risk = c.ring.ensures.costs.groups_at_risk ∙ h.groups_at_risk;
       foregrounds_unchecked = c.ring.ensures.foregrounds_unchecked ∙ h.foregrounds_unchecked;
       rest = rung ∙ ap (λ (t : State). record t { processes = changed pid (ring_at (first.ticks + 1)) s.processes }) h.rest ∙ ap (λ rs. record first { processes = rs }) (sym (ap (λ (t : State). t.processes) rung));
       taking = λ none.
           let t_is = ap (λ (t : State). t.processes) rung in
           let was = h.taking none in
-          let list = c.ring.ensures.changes.to_recheck ∙ ap (λ (t : State). rechecking_by_signals (process t pid) s.order c.loop-next.self.to_recheck) rung in
+          let list = c.ring.ensures.to_recheck ∙ ap (λ (t : State). rechecking_by_signals (process t pid) s.order c.loop-next.self.to_recheck) rung in
           let on = taking_on (first.ticks + 1) pid c.next_due-next-in-Some.result s.order s.processes _ _ (subst (λ o. IsTakingBelow o s.processes c.loop-next.self.to_recheck) c.in-Some.is was.0) n.next.above list in
           let fewer = fewer_due (first.ticks + 1) pid s.processes it.what it.found (h.due pid it.what c.in-Some.is it.found) in
           let left = ap (λ (t : State). length (filter (λ (r : Process). is_due (first.ticks + 1) r.alarm) t.processes)) rung in

@@ -1,7 +1,6 @@
-use Rattle.std.proofs.Common.{◌≡◌, Some, ap, sym, ◌∙◌, subst, refl}
+use Rattle.std.proofs.Common.{ap, sym, ◌∙◌, subst, refl}
 use Rattle.posix.specs.declared.instr.Trap.TheVariants as trap
-use Rattle.posix.specs.States.{State, change, process}
-use Rattle.posix.specs.Processes.{Process}
+use Rattle.posix.specs.States.{State, change}
 use Rattle.posix.specs.Tables.{IsRising}
 use Rattle.posix.specs.Step.{set_cpu}
 use Rattle.life.specs.NotedBursts.{NotedBurst, most_notes, exec_with_notes}
@@ -9,7 +8,6 @@ use Rattle.life.proofs.SoundLemmas.{found_in, here_in}
 use Rattle.life.proofs.RecheckLemmas.{has_room, pids_of, room_of}
 use Rattle.life.proofs.CodeLemmas.{code_is, get_some, past_none, same_cpu}
 use Rattle.life.proofs.NotedBurstLemmas.{no_notes}
-use Rattle.jobs.proofs.LoanLemmas.{own_found}
 use Rattle.life.proofs.LoanLemmas.{machine_lent, cpu_ran}
 use Rattle.life.proofs.ViewLemmas.{state_is}
 use Rattle.life.proofs.machine.Machine.run_with_notes.Goals as goal
@@ -20,29 +18,14 @@ recheck_later-requires g c = has_room _ _ c.self.invariant.sound.regular c.self.
 pub invariant_of-self : goal.invariant_of-self
 invariant_of-self g c = machine_lent _ _ _ _ _ c.args.pid (record (c.own.result.now) { cpu = c.run_with_notes.new.cpu }) (here_in c.args.pid (state_is c.self.view_is) c.requires.there) c.self.invariant (pids_of c.recheck_later.ensures) (room_of c.recheck_later.ensures)
 
-pub returns-in-Some : goal.returns-in-Some
-returns-in-Some g c =
-    let s = c.args.self.now.state in
-    let found = λ (me : Process) (e : process s c.args.pid ≡ Some me). found_in _ _ (state_is c.self.view_is) c.args.pid me e in
-    let code = λ (me : Process) (e : process s c.args.pid ≡ Some me). code_is s me _ _ _ (c.programs.ensures.value ∙ ap (λ (t : State). t.world.programs) (state_is c.self.view_is)) (c.from.ensures ∙ sym (c.requires.program me e)) (get_some _ _ _ (c.in-Some.ensures.lookup.0, c.in-Some.ensures.lookup.1)) in
-    record {
-      taken = λ me e.
-          ap (λ is. (exec_with_notes is most_notes c.args.before c.args.last me.cpu).taken) (code me e)
-          ∙ sym (ap (λ o. (exec_with_notes c.in-Some.program.now.instructions most_notes c.args.before c.args.last o.cpu).taken) (own_found _ c.args.pid c.own.result.now me c.own.ensures.value (found me e)))
-          ∙ ap (λ (b : NotedBurst). b.taken) c.run_with_notes.ensures.taken;
-      state = λ me e.
-          let contents = cpu_ran _ c.self.invariant.sound.regular.rising c.args.pid c.own.result.now c.own.ensures.value (λ x. (exec_with_notes c.in-Some.program.now.instructions most_notes c.args.before c.args.last x).cpu) c.run_with_notes.new.cpu (sym (ap (λ (b : NotedBurst). b.cpu) c.run_with_notes.ensures.taken)) me (found me e) in
-          rw (code me e, ← c.self.view_is, contents) refl;
-      from = c.run_with_notes.ensures.from;
-      within = c.run_with_notes.ensures.within;
-      short = c.run_with_notes.ensures.short;
-      regular = (invariant_of-self g c).sound.regular;
-      runs = rw (← c.self.view_is) (record {
-        to_recheck = λ here. pids_of c.recheck_later.ensures ∙ rw here refl;
-        foregrounds_unchecked = refl;
-        costs = record { visits = g.met.K.Kin.at_most_one _; groups_at_risk = refl; regular = c.self.invariant.sound.regular };
-      });
-    }
+pub returns-in-Some-clause-state : goal.returns-in-Some-clause-state
+returns-in-Some-clause-state g c = λ me e.
+    let code = code_is c.args.self.now.state me _ _ _ (c.programs.ensures.value ∙ ap (λ (t : State). t.world.programs) (state_is c.self.view_is)) (c.from.ensures ∙ sym (c.requires.program me e)) (get_some _ _ _ (c.in-Some.ensures.lookup.0, c.in-Some.ensures.lookup.1)) in
+    let contents = cpu_ran _ c.self.invariant.sound.regular.rising c.args.pid c.own.result.now c.own.ensures.value (λ x. (exec_with_notes c.in-Some.program.now.instructions most_notes c.args.before c.args.last x).cpu) c.run_with_notes.new.cpu (sym (ap (λ (b : NotedBurst). b.cpu) c.run_with_notes.ensures.taken)) me (found_in _ _ (state_is c.self.view_is) c.args.pid me e) in
+    rw (code, ← c.self.view_is, contents) refl
+
+pub returns-in-Some-clause-regular : goal.returns-in-Some-clause-regular
+returns-in-Some-clause-regular g c = (invariant_of-self g c).sound.regular
 
 pub returns-in-None-clause-taken : goal.returns-in-None-clause-taken
 returns-in-None-clause-taken g c = λ me e.

@@ -26,6 +26,7 @@ returns-in-Process-clause-changes g c =
     record {
       state = rw (c.in-Process.is, ← targets_numbered me c.in-Process.pid rs) changes.state;
       to_recheck = rw (c.in-Process.is, ← targets_numbered me c.in-Process.pid rs) changes.to_recheck;
+      foregrounds_unchecked = changes.foregrounds_unchecked;
       costs = record { visits = omega (arith, product, changes.costs.visits); groups_at_risk = changes.costs.groups_at_risk; regular = changes.costs.regular };
     }
 
@@ -37,4 +38,4 @@ pub returns-in-Nobody-clause-changes : goal.returns-in-Nobody-clause-changes
 unfolding sent
 returns-in-Nobody-clause-changes g c =
     let nobody = targets_nobody (process_like c.args.me.now) c.args.self.now.state.processes in
-    record { state = rw (c.in-Nobody.is, nobody, sent_nobody) refl; to_recheck = rw (c.in-Nobody.is, nobody, rechecked_nobody) refl; costs = search rules }
+    record { state = rw (c.in-Nobody.is, nobody, sent_nobody) refl; to_recheck = rw (c.in-Nobody.is, nobody, rechecked_nobody) refl; foregrounds_unchecked = refl; costs = search rules }

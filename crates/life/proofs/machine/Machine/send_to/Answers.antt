@@ -15,6 +15,7 @@ returns-then-not-may_signal g c =
       sending = λ q f. rw (sym (c.may_signal.ensures q f) ∙ no) refl;
       state = λ q f. rw (not_sent (process_like c.args.me.now) c.args.sig.now q s.processes s.order c.args.self.now.to_recheck (sym (c.may_signal.ensures q f) ∙ no)).0 refl;
       to_recheck = λ q f. sym (not_sent (process_like c.args.me.now) c.args.sig.now q s.processes s.order c.args.self.now.to_recheck (sym (c.may_signal.ensures q f) ∙ no)).1;
+      foregrounds_unchecked = search rules;
       costs = search rules;
     }
 
@@ -26,6 +27,7 @@ returns-in-Some g c =
       sending = λ q f. rw (sym (c.may_signal.ensures q f) ∙ yes) refl;
       state = λ q f. rw (c.in-Some.is, (rw c.in-Some.is at (sym (c.may_signal.ensures q f) ∙ yes))) (rw (f, c.sent.ensures) at c.signal.ensures.state);
       to_recheck = λ q f. rw (c.in-Some.is, (rw c.in-Some.is at (sym (c.may_signal.ensures q f) ∙ yes))) (rw (f, c.sent.ensures) at c.signal.ensures.to_recheck);
+      foregrounds_unchecked = search rules;
       costs = search rules;
     }
 
@@ -37,5 +39,6 @@ returns-in_default g c =
       sending = λ q f. rw (sym (c.may_signal.ensures q f) ∙ yes) refl;
       state = λ q f. rw c.in_default.is refl;
       to_recheck = λ q f. rw c.in_default.is refl;
+      foregrounds_unchecked = search rules;
       costs = search rules;
     }

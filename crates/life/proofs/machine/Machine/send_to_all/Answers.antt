@@ -25,6 +25,7 @@ loop-next-init g c =
     let all = walk_begins (is_target r target) s.processes c.next_target-next.result i.rising (λ p r e. (i.bounded p r e).least) finds.value in
     rw (finds.looks.same.state, finds.looks.same.to_recheck) record {
       groups_at_risk = finds.looks.same.groups_at_risk;
+      foregrounds_unchecked = finds.looks.same.foregrounds_unchecked;
       there = finds.value.there;
       begins = next_begins 0 (filter (is_candidate r target) s.processes) c.next_target-next.result c.next_target-next.ensures.is;
       read =
@@ -55,6 +56,7 @@ loop-next-preserved g c =
     let sent = sent_on r sig order (targets r target (numbered pid rs)) k c.send_to_one.result c.max-sending.result mid _ c.send_to_one.ensures.sending c.max-sending.ensures (ap (λ (t : State). t.processes) changes.state) asked in
     rw (finds.looks.same.state, finds.looks.same.to_recheck) record {
       groups_at_risk = finds.looks.same.groups_at_risk ∙ changes.costs.groups_at_risk ∙ i.groups_at_risk;
+      foregrounds_unchecked = finds.looks.same.foregrounds_unchecked ∙ changes.foregrounds_unchecked ∙ i.foregrounds_unchecked;
       there = finds.value.there;
       begins = next_begins pid (filter (is_candidate r target) mid) next c.next_target-next-in-Some.ensures.is;
       read =
@@ -87,6 +89,7 @@ returns g c =
       changes = record {
         state = ap (λ (t : State). with_processes t m.state.processes) i.rest ∙ ap (λ (k : Sent). with_processes s k.processes) done;
         to_recheck = ap (λ (k : Sent). k.to_recheck) done;
+        foregrounds_unchecked = i.foregrounds_unchecked;
         costs = record { visits = omega (arith, i.read); groups_at_risk = i.groups_at_risk; regular = c.next_target-next.ensures.finds.looks.regular };
       };
     }

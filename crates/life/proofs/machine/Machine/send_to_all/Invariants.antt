@@ -16,6 +16,7 @@ invariant-loop-next g l =
     let r = process_like l.me in let now = l.self.state in let first = l.fn.self.state in
     record {
       groups_at_risk : l.self.groups_at_risk ≡ l.fn.self.groups_at_risk;
+      foregrounds_unchecked : l.self.foregrounds_unchecked ≡ l.fn.self.foregrounds_unchecked;
       there : IfSome l.next (λ p. IsSome (lookup p now.processes));
       begins : first_pid (left_of l.next (filter (is_candidate r l.target) now.processes)) ≡ l.next;
       read : l.self.visits + (2 + slots_of_send l.sig) * length (left_of l.next (filter (is_candidate r l.target) now.processes)) ≤ l.fn.self.visits + 1 + (2 + slots_of_send l.sig) * length (filter (is_candidate r l.fn.target) first.processes);

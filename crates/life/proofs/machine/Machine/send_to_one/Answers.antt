@@ -24,6 +24,7 @@ returns-in-Some g c =
       changes = record {
         state = rw looks.same.state at (c.send_to.ensures.state it.what it.snapshot);
         to_recheck = rw (looks.same.state, looks.same.to_recheck) at (c.send_to.ensures.to_recheck it.what it.snapshot);
+        foregrounds_unchecked = search rules;
         costs = search rules;
       };
     }
@@ -34,11 +35,11 @@ returns-in_default g c =
     let it = is_read _ _ (sym c.in-Some.is ∙ c.snapshot.ensures.value) in
     let looks = c.snapshot.ensures.looks in
     rw (target_other (process_like c.args.me.now) c.args.target.now c.args.pid _ looks.regular.rising it.what it.found (sym (c.is_target.ensures it.what it.snapshot) ∙ c.if-is_target.false), sent_nobody, rechecked_nobody)
-    record { sending = refl; changes = record { state = looks.same.state; to_recheck = looks.same.to_recheck; costs = search rules } }
+    record { sending = refl; changes = record { state = looks.same.state; to_recheck = looks.same.to_recheck; foregrounds_unchecked = looks.same.foregrounds_unchecked; costs = search rules } }
 
 pub returns-in_default-2 : goal.returns-in_default-2
 unfolding sending
 returns-in_default-2 g c =
     let looks = c.snapshot.ensures.looks in
     rw (target_none (process_like c.args.me.now) c.args.target.now c.args.pid _ (none_read _ (sym c.in_default.is ∙ c.snapshot.ensures.value)), sent_nobody, rechecked_nobody)
-    record { sending = refl; changes = record { state = looks.same.state; to_recheck = looks.same.to_recheck; costs = search rules } }
+    record { sending = refl; changes = record { state = looks.same.state; to_recheck = looks.same.to_recheck; foregrounds_unchecked = looks.same.foregrounds_unchecked; costs = search rules } }

@@ -5,6 +5,7 @@ use Rattle.posix.specs.States.{State}
 use Rattle.life.specs.Consoles.{AreReaders}
 use Rattle.life.specs.Machines.{MachineView}
 use Rattle.life.proofs.ConsoleLemmas.{machine_put, put_rechecked, put_changed, none_changed}
+use Rattle.life.proofs.ForegroundLemmas.{fresh_all}
 use Rattle.life.proofs.ViewLemmas.{state_is}
 use Rattle.life.proofs.machine.Machine.set_foreground.Goals as goal
 
@@ -23,7 +24,7 @@ invariant_of-self g c =
     let readers = subst (λ ns. AreReaders c.args.self.now.state console_index ns) (sym to_recheck) c.recheck_readers.ensures.to_recheck in
     let theirs = subst (λ (s : State). AreReaders s console_index o.inside.to_recheck.pids) (sym same) readers in
     rw (c.set_foreground.ensures, is) (machine_put _ _ _ _ _ _ _ _ console_index (with_foreground c.args.group it.0) o.invariant
-    (put_rechecked _ _ console_index it.0 (with_foreground c.args.group it.0) o.invariant.sound.regular o.invariant.listed at theirs (inl refl)) (λ e. absurd (cc)))
+    (put_rechecked _ _ console_index it.0 (with_foreground c.args.group it.0) o.invariant.sound.regular o.invariant.listed at theirs (inl refl)) (fresh_all _))
 
 pub returns-in-Some-clause-state : goal.returns-in-Some-clause-state
 returns-in-Some-clause-state g c =

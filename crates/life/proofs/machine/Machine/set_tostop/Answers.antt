@@ -2,7 +2,8 @@ use Rattle.std.proofs.Common.{◌≡◌, ap, sym, ◌∙◌, refl, Some, slice_g
 use Rattle.std.proofs.lemmas.Option.{get_or_from_slice_get}
 use Rattle.posix.specs.Consoles.{console_of, with_tostop}
 use Rattle.posix.specs.States.{State}
-use Rattle.life.proofs.ConsoleLemmas.{machine_put, put_unread, put_changed, none_changed, fresh_alike}
+use Rattle.life.proofs.ConsoleLemmas.{machine_put, put_unread, put_changed, none_changed}
+use Rattle.life.proofs.ForegroundLemmas.{fresh_alike}
 use Rattle.life.proofs.ViewLemmas.{state_is}
 use Rattle.life.proofs.machine.Machine.set_tostop.Goals as goal
 
@@ -15,7 +16,7 @@ invariant_of-self g c =
     let is = c.index_mut.ensures.value ∙ get_or_from_slice_get cs c.in-Some.console_index it.0 _ at in
     rw (c.set_tostop.ensures, is) (machine_put _ _ _ _ _ _ _ _ c.in-Some.console_index (with_tostop c.args.tostop it.0) c.self.invariant
     (put_unread _ _ c.in-Some.console_index it.0 _ c.self.invariant.sound.regular c.self.invariant.listed at refl refl (λ e. e))
-    (λ e. fresh_alike _ _ c.in-Some.console_index it.0 _ at refl refl (c.self.invariant.fresh e)))
+    (fresh_alike _ _ _ c.in-Some.console_index it.0 _ at refl refl c.self.invariant.fresh))
 
 pub returns-in-Some-clause-state : goal.returns-in-Some-clause-state
 returns-in-Some-clause-state g c =

@@ -34,6 +34,7 @@ returns g c = λ me found.
     let named = pid_looked p s.processes me found in
     let is = c.change_seen-parent.ensures.rest ∙ ap (with_processes left) (run_as (stopped_by n) c.change_seen-parent.ensures.run c.change_seen-parent.ensures.costs.regular.rising (λ b d r k q. search rules)) in
     let put = c.change_seen-parent.ensures.to_recheck me here ∙ ap (λ (m : MachineView). rechecking_changed me left.order m.to_recheck) c.lose_place.ensures.is ∙ ap (with_parent me.parent left.order) (ap (λ q. with_number q (cond (is_in p s.order) (with_number p ns) ns)) named ∙ with_lost (is_in p s.order) p ns ∙ ap (λ q. with_number q ns) (sym named)) in
+    let stays = c.change_seen-parent.ensures.put (put_as p _ (stopped_by n) (stopped_put n left.processes p (subst (λ (m : MachineView). IsPlaced m.state.processes p) (sym c.lose_place.ensures.is) c.requires)) (λ b d r k q. search rules)) in
     record {
       state =
           told_changed p parent (stopped n) (stopped_by n) left _ _ me (lives_stopped n).pid c.change_seen-parent.ensures.costs.regular here c.change_seen-parent.ensures.parent is
@@ -44,8 +45,9 @@ returns g c = λ me found.
           rechecked_told parent me left.order ns _ _ (process c.tell_parent.new.self.state parent) (named_parent c.tell_parent.new.self.state parent) (parent_is p parent left.processes me c.change_seen-parent.ensures.parent here) put
           (c.tell_parent.ensures.to_recheck ∙ ap (λ (t : State). cond (parent == 0) mid.to_recheck (rechecking_by_signals (process c.tell_parent.new.self.state parent) t.order mid.to_recheck)) c.change_seen-parent.ensures.rest)
           ∙ ap (λ (t : State). rechecking_changed me t.order ns) lost;
+      foregrounds_unchecked = c.tell_parent.ensures.foregrounds_unchecked ∙ stays.1 ∙ ap (λ (m : MachineView). m.foregrounds_unchecked) c.lose_place.ensures.is;
       costs = record {
-        visits = let lost = ap (λ (m : MachineView). m.visits) c.lose_place.ensures.is in omega (arith, lost, (c.change_seen-parent.ensures.put (put_as p _ (stopped_by n) (stopped_put n left.processes p (subst (λ (m : MachineView). IsPlaced m.state.processes p) (sym c.lose_place.ensures.is) c.requires)) (λ b d r k q. search rules))).visits, c.tell_parent.ensures.costs.visits);
+        visits = let lost = ap (λ (m : MachineView). m.visits) c.lose_place.ensures.is in omega (arith, lost, stays.0.visits, c.tell_parent.ensures.costs.visits);
         groups_at_risk = c.tell_parent.ensures.costs.groups_at_risk ∙ c.change_seen-parent.ensures.costs.groups_at_risk ∙ ap (λ (m : MachineView). m.groups_at_risk) c.lose_place.ensures.is;
         regular = c.lose_place.ensures.regular;
       };

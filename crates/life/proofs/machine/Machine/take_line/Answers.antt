@@ -3,7 +3,8 @@ use Rattle.std.proofs.lemmas.Option.{get_or_from_slice_get, slice_get_within}
 use Rattle.posix.specs.Consoles.{Console, console_of, lines_left, line_taken}
 use Rattle.posix.specs.States.{State}
 use Rattle.tty.specs.Lines.{Takes}
-use Rattle.life.proofs.ConsoleLemmas.{machine_put, put_unread, put_changed, none_changed, fresh_alike}
+use Rattle.life.proofs.ConsoleLemmas.{machine_put, put_unread, put_changed, none_changed}
+use Rattle.life.proofs.ForegroundLemmas.{fresh_alike}
 use Rattle.life.proofs.ViewLemmas.{state_is}
 use Rattle.life.proofs.machine.Machine.take_line.Goals as goal
 
@@ -29,7 +30,7 @@ invariant_of-self g c =
     let is = c.index_mut.ensures.value ∙ get_or_from_slice_get cs console_index it.0 _ at in
     rw (c.take.ensures.console, is) (machine_put _ _ _ _ _ _ _ _ console_index (line_taken (length c.args.out.now) it.0) c.self.invariant
     (put_unread _ _ console_index it.0 _ c.self.invariant.sound.regular c.self.invariant.listed at refl refl (λ e. ap (lines_left (length c.args.out.now)) e))
-    (λ e. fresh_alike _ _ console_index it.0 _ at refl refl (c.self.invariant.fresh e)))
+    (fresh_alike _ _ _ console_index it.0 _ at refl refl c.self.invariant.fresh))
 
 pub returns-clause-taken : goal.returns-clause-taken
 returns-clause-taken g c = λ its found.

@@ -31,5 +31,6 @@ returns-then-ne g c =
           rw other (c.change.ensures.changes.state ∙ ap (with_processes s) (run_as (noticed_of_change signal) c.change.ensures.run c.change.ensures.changes.costs.regular.rising (λ b d r k q. search rules))
           ∙ ap (λ (w : PendingSignal). change s c.args.parent (noticed_of_change w)) c.child_signal-signal.ensures);
       to_recheck = search rules;
+      foregrounds_unchecked = search rules;
       costs = search rules;
     }

@@ -1,0 +1,60 @@
+-- Calls of which it is counted how many slots they read, beside those of their caller alone.
+use Rattle.std.proofs.Common.{◌≡◌, ℕ, zero, suc, arith, ◌≤◌, [], Option, slice_get, ◌+◌, ◌*◌, true, false, cond, not, ◌&&◌, ◌||◌, is_some, subst, refl, List, length, Some, None}
+use Rattle.std.specs.Option.{IfSome}
+use Rattle.std.proofs.Math.Bool.{and-false}
+use Rattle.std.proofs.lemmas.Bool.{both_ways}
+use Rattle.posix.specs.declared.process.Blocked.{Blocked}
+use Rattle.posix.specs.declared.process.Blocked.TheVariants as blocked
+use Rattle.posix.specs.States.{State}
+use Rattle.posix.specs.Choice.{chosen}
+use Rattle.posix.specs.Waits.{wait}
+use Rattle.posix.specs.Settle.{is_block}
+use Rattle.life.specs.Rechecks.{is_in_wait}
+use Rattle.kernel.specs.Counts.{is_kill, delivers_nothing, slots_of_acting}
+use Rattle.posix.specs.declared.call.Call.{Call}
+use Rattle.posix.specs.declared.call.Call.TheVariants.{Waitpid, Kill}
+use Rattle.posix.specs.Processes.{Process}
+use Rattle.std.specs.Option.{option_map_or}
+use Rattle.posix.specs.Tables.{children_in, members_in}
+use Rattle.posix.specs.Consoles.{Console, key_signal}
+use Rattle.life.specs.Machines.{MachineView}
+use Rattle.life.specs.Consoles.{foreground_members, slots_of_key, slots_of_signal_key}
+use Rattle.calls.specs.Outcomes.{kills_one, slots_of_brief}
+
+-- they are a wait and a kill
+pub brief_call : (call : Call) (rs : List Process) (me : Process) (holds : ℕ → Type 0) → (call ≡ Waitpid → holds (9 + 2 * length (children_in me.pid rs))) → (call ≡ Kill → holds 5) → IfSome (slots_of_brief call rs me) holds
+brief_call Waitpid rs me holds waits kills = waits refl
+brief_call Kill rs me holds waits kills = elim (kills_one me) as (λ b. IfSome (cond b (Some 5) None) holds) [ true ↦ kills refl | false ↦ tt ]
+brief_call call rs me holds waits kills = tt
+
+-- who waits for a child does so
+pub in_wait_is : (b : Blocked) → is_in_wait (Some b) ≡ true → b ≡ blocked.Waitpid
+in_wait_is blocked.Waitpid e = refl
+in_wait_is blocked.Read e = absurd (cc)
+in_wait_is blocked.Pause e = absurd (cc)
+in_wait_is (blocked.Sigsuspend mask) e = absurd (cc)
+
+-- where a signal is chosen for who has to wait, it is delivered
+pub nothing_delivered : (s : State) (me : Process) (sig : ℕ) → chosen me.life me.signals ≡ Some sig → is_block (wait s me) ≡ true → delivers_nothing s me ≡ true → ⊥
+nothing_delivered s me sig takes waits nothing =
+    let no : (not (is_kill (Some sig)) && false) ≡ true = subst (λ b. (not (is_kill (Some sig)) && (false || not b)) ≡ true) waits (subst (λ o. (not (is_kill o) && (not (is_some o) || not (is_block (wait s me)))) ≡ true) takes nothing) in
+    both_ways _ (and-false (not (is_kill (Some sig)))) no
+
+-- so who is blocked in a call is counted where it waits, and no signal is delivered
+pub acting_blocked : (s : State) (me : Process) (b : Blocked) (holds : ℕ → Type 0) → (b ≡ blocked.Waitpid → delivers_nothing s me ≡ true → holds (9 + 2 * length (children_in me.pid s.processes))) → IfSome (slots_of_acting s me (Some b)) holds
+acting_blocked s me blocked.Waitpid holds h = elim (delivers_nothing s me) as (λ b. delivers_nothing s me ≡ b → IfSome (cond b (Some (9 + 2 * length (children_in me.pid s.processes))) None) holds) [ true ↦ λ e. h refl e | false ↦ λ e. tt ] refl
+acting_blocked s me blocked.Read holds h = tt
+acting_blocked s me blocked.Pause holds h = tt
+acting_blocked s me (blocked.Sigsuspend mask) holds h = tt
+
+-- ---- a key
+
+-- a key reads one slot, and three for each member of the foreground process group, at most
+pub key_slots : (console byte : ℕ) (m : MachineView) → slots_of_key console byte m ≤ 1 + 3 * length (foreground_members console m.state)
+key_slots zero byte m = omega arith
+key_slots (suc k) byte m = by (key_signal byte) (slice_get m.state.consoles k)
+  where
+    by : (sig : Option ℕ) (o : Option Console) → slots_of_signal_key sig o m.state.processes ≤ 1 + 3 * length (option_map_or (λ c. members_in c.foreground m.state.processes) o [])
+    by None o = omega arith
+    by (Some n) None = omega arith
+    by (Some n) (Some c) = omega arith

@@ -1,0 +1,39 @@
+use Rattle.std.proofs.Common.{◌≡◌, ◌∙◌, ap, sym, subst, arith, false, cond, None, Some}
+use Rattle.posix.specs.Processes.{Process}
+use Rattle.posix.specs.States.{State, process, lose_place, without}
+use Rattle.posix.specs.Settle.{wakes}
+use Rattle.pidset.specs.Numbers.{with_number}
+use Rattle.life.specs.Machines.{MachineView}
+use Rattle.life.specs.Consoles.{reads}
+use Rattle.life.proofs.TakingLemmas.{brief_none}
+use Rattle.life.proofs.ViewLemmas.{state_is}
+use Rattle.calls.specs.Outcomes.{AreFew}
+use Rattle.kernel.proofs.BlockLemmas.{waits_rest, waits_unread, nobody_left}
+use Rattle.kernel.proofs.step.wait_on.Goals as goal
+
+pub rechecked-requires-clause-waits : goal.rechecked-requires-clause-waits
+rechecked-requires-clause-waits g c =
+    let it = c.requires.acting.placed in
+    subst (λ (t : State). (r : Process) → process t c.args.pid ≡ Some r → wakes t r ≡ false) (sym (state_is c.lose_place.ensures.is))
+    (waits_rest c.args.machine.now.state c.args.pid it.what it.found (c.requires.blocked it.what it.found c.if-waits.true) (c.requires.none_chosen it.what it.found) (c.requires.waits it.what it.found c.if-waits.true))
+
+pub rechecked-requires-clause-session : goal.rechecked-requires-clause-session
+rechecked-requires-clause-session g c =
+    let it = c.requires.acting.placed in
+    subst (λ (t : State). None ≡ reads t c.args.pid) (sym (state_is c.lose_place.ensures.is)) (waits_unread (lose_place c.args.machine.now.state c.args.pid) c.args.pid it.what it.found (c.requires.blocked it.what it.found c.if-waits.true))
+
+pub returns-then-waits-clause-brief : goal.returns-then-waits-clause-brief
+returns-then-waits-clause-brief g c = λ same quiet.
+    let rest = c.rechecked.ensures.rest in
+    let lost = c.lose_place.ensures.is in
+    let ns = c.args.machine.now.to_recheck in
+    let list = ap (λ (m : MachineView). m.to_recheck) lost ∙ ap (λ b. cond b (with_number c.args.pid ns) ns) quiet.place in
+    let none = ap (λ (m : MachineView). m.to_recheck) rest ∙ ap (without c.args.pid) list ∙ nobody_left c.args.pid _ quiet.none in
+    let nobody = brief_none c.rechecked.new.self.state.processes c.rechecked.new.self.to_recheck 1 none in
+    record {
+      visits = let read = ap (λ (m : MachineView). m.visits) rest in let before = ap (λ (m : MachineView). m.visits) lost in omega (arith, read, before);
+      brief = nobody.0;
+      few = nobody.1;
+      unchecked = subst AreFew (sym (ap (λ (m : MachineView). m.foregrounds_unchecked) rest ∙ ap (λ (m : MachineView). m.foregrounds_unchecked) lost ∙ quiet.checked)) tt;
+      consoles = ap (λ (m : MachineView). m.state.consoles) rest ∙ ap (λ (m : MachineView). m.state.consoles) lost;
+    }

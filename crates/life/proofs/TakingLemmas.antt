@@ -1,0 +1,128 @@
+-- Signals that continue nobody are generated for several processes: who is rechecked then takes one.
+use Rattle.std.proofs.Common.{◌≡◌, ℕ, ◌+◌, ◌≤◌, Bool, true, false, cond, refl, ap, sym, ◌∙◌, arith, subst, List, [], ◌∷◌, length, Option, Some, None, ◌==◌, ⊎_elim}
+use Rattle.std.proofs.lemmas.Bool.{eqb-true, ne_eqb, or_cases, or_left, or_parts, both_ways}
+use Rattle.std.proofs.lemmas.List.{length-map}
+use Rattle.posix.specs.declared.process.Effect.TheVariants as effect
+use Rattle.posix.specs.declared.process.PendingSignal.{PendingSignal}
+use Rattle.posix.specs.SignalNumbers.{CONT}
+use Rattle.posix.specs.Processes.{Process}
+use Rattle.posix.specs.Tables.{IsRising, lookup, changed, pids, is_member, members_in}
+use Rattle.posix.specs.Choice.{from_kernel}
+use Rattle.posix.specs.Ends.{signalled_members, signalled_group}
+use Rattle.posix.specs.States.{is_in}
+use Rattle.posix.specs.Regular.{IsDistinct}
+use Rattle.posix.specs.Generation.{signalled, effect_of}
+use Rattle.posix.specs.Notices.{generated_for, signalled_all}
+use Rattle.posix.proofs.TableLemmas.{Above, pid_looked, rising_filter}
+use Rattle.posix.proofs.MemberLemmas.{apart_first}
+use Rattle.posix.proofs.RegularLemmas.{lookup_other}
+use Rattle.posix.proofs.ChangeLemmas.{continued_cont, lookup_signalled}
+use Rattle.pidset.specs.Numbers.{with_number}
+use Rattle.pidset.proofs.NumberLemmas.{in_with}
+use Rattle.jobs.specs.JobTables.{takes_signal}
+use Rattle.life.specs.Rechecks.{AreTaking, AreBrief, rechecking_generated, rechecking_all, rechecking_members}
+use Rattle.life.proofs.RingLemmas.{one_more}
+
+-- it isn't among these, and a signal is chosen for it
+record IsTakingBeside (ps : List ℕ) (rs : List Process) (q : ℕ) : Type 0 where
+  apart : is_in q ps ≡ false
+  what : Process
+  found : lookup q rs ≡ Some what
+  takes : takes_signal what ≡ true
+
+-- so each on the list
+abbrev AreTakingBeside : List ℕ → List Process → List ℕ → Type 0
+AreTakingBeside ps rs ns = (q : ℕ) → is_in q ns ≡ true → IsTakingBeside ps rs q
+
+-- one signal
+taking_one : (signal : PendingSignal) (p : ℕ) (ps order : List ℕ) (rs : List Process) (ns : List ℕ) → (signal.sig == CONT) ≡ false → is_in p ps ≡ false → AreTakingBeside (p ∷ ps) rs ns
+    → AreTakingBeside ps (generated_for signal (lookup p rs) rs) (rechecking_generated signal (lookup p rs) order ns) × (length (rechecking_generated signal (lookup p rs) order ns) ≤ length ns + 1)
+unfolding is_in signalled
+taking_one signal p ps order rs ns plain apart h = by (lookup p rs) refl
+  where
+    before : AreTakingBeside ps rs ns
+    before q e = let it = h q e in record { apart = (or_parts (p == q) _ it.apart).1; what = it.what; found = it.found; takes = it.takes }
+
+    does : (r : Process) → effect_of r.pid r.life signal r.signals ≡ effect.Nothing
+    does r = elim (effect_of r.pid r.life signal r.signals) as (λ w. effect_of r.pid r.life signal r.signals ≡ w → w ≡ effect.Nothing) [
+      | effect.Nothing ↦ λ e. refl
+      | effect.Continued ↦ λ e. absurd (both_ways _ plain (continued_cont r.pid signal r e))
+    ] refl
+
+    after : (r : Process) → lookup p rs ≡ Some r → AreTakingBeside ps (changed r.pid (signalled signal) rs) ns
+    after r found q e =
+        let it = before q e in
+        record {
+          apart = it.apart;
+          what = it.what;
+          found = lookup_other r.pid q (signalled signal) (λ r. refl) (λ same. apart_first q p ps (h q e).apart (same ∙ pid_looked p rs r found)) rs it.what it.found;
+          takes = it.takes;
+        }
+
+    more : (r : Process) → lookup p rs ≡ Some r → takes_signal (signalled signal r) ≡ true → AreTakingBeside ps (changed r.pid (signalled signal) rs) (with_number r.pid ns)
+    more r found takes q e = ⊎_elim
+        (λ k. let same = eqb-true r.pid q k in record {
+          apart = subst (λ n. is_in n ps ≡ false) (sym (pid_looked p rs r found) ∙ same) apart;
+          what = signalled signal r;
+          found = ap (λ n. lookup n (changed r.pid (signalled signal) rs)) (sym same) ∙ lookup_signalled signal r p rs found;
+          takes = takes;
+        })
+        (λ k. after r found q k) (or_cases _ _ (sym (in_with q r.pid ns) ∙ e))
+
+    by : (o : Option Process) → lookup p rs ≡ o → AreTakingBeside ps (generated_for signal o rs) (rechecking_generated signal o order ns) × (length (rechecking_generated signal o order ns) ≤ length ns + 1)
+    by None found = (before, omega arith)
+    by (Some r) found = rw (does r) (elim (takes_signal (signalled signal r)) as (λ b. takes_signal (signalled signal r) ≡ b → AreTakingBeside ps (changed r.pid (signalled signal) rs) (cond b (cond (is_in r.pid order) ns (with_number r.pid ns)) ns)
+        × (length (cond b (cond (is_in r.pid order) ns (with_number r.pid ns)) ns) ≤ length ns + 1)) [
+          | false ↦ λ takes. (after r found, omega arith)
+          | true ↦ λ takes. elim (is_in r.pid order) as (λ b. AreTakingBeside ps (changed r.pid (signalled signal) rs) (cond b ns (with_number r.pid ns)) × (length (cond b ns (with_number r.pid ns)) ≤ length ns + 1)) [
+            | true ↦ (after r found, omega arith)
+            | false ↦ (more r found takes, one_more r.pid ns)
+          ]
+        ] refl)
+
+taking_on : (signal : PendingSignal) (ps order : List ℕ) (rs : List Process) (ns : List ℕ) → (signal.sig == CONT) ≡ false → IsDistinct ps → AreTakingBeside ps rs ns
+    → AreTaking (signalled_all signal ps rs) (rechecking_all signal ps rs order ns) × (length (rechecking_all signal ps rs order ns) ≤ length ns + length ps)
+unfolding signalled_all rechecking_all IsDistinct
+taking_on signal [] order rs ns plain apart h = (λ q e. let it = h q e in (it.what, it.found, it.takes), omega arith)
+taking_on signal (p ∷ ps) order rs ns plain apart h =
+    let one = taking_one signal p ps order rs ns plain apart.0 h in
+    let rest = taking_on signal ps order (generated_for signal (lookup p rs) rs) (rechecking_generated signal (lookup p rs) order ns) plain apart.1 one.0 in
+    let first = one.1 in
+    let more = rest.1 in
+    (rest.0, omega (arith, first, more))
+
+-- where nobody was to be rechecked those are who take one, and no more than got one
+pub taking_all : (signal : PendingSignal) (ps order : List ℕ) (rs : List Process) → (signal.sig == CONT) ≡ false → IsDistinct ps
+    → AreTaking (signalled_all signal ps rs) (rechecking_all signal ps rs order []) × (length (rechecking_all signal ps rs order []) ≤ length ps)
+unfolding is_in
+taking_all signal ps order rs plain apart = let on = taking_on signal ps order rs [] plain apart (λ q e. absurd (cc)) in let few = on.1 in (on.0, omega (arith, few))
+
+not_among : (p : ℕ) (rs : List Process) → Above p rs → is_in p (pids rs) ≡ false
+unfolding is_in
+not_among p [] a = refl
+not_among p (r ∷ rs) a = rw (ne_eqb r.pid p (λ same. omega (arith, same, a.0))) (not_among p rs a.1)
+
+-- rising numbers are distinct
+pub rising_distinct : (rs : List Process) → IsRising rs → IsDistinct (pids rs)
+unfolding IsRising IsDistinct
+rising_distinct [] up = tt
+rising_distinct (r ∷ rs) up = (not_among r.pid rs up.0, rising_distinct rs up.1)
+
+-- nobody is told anything of where nobody is to be rechecked
+pub brief_none : (rs : List Process) (ns : List ℕ) (k : ℕ) → ns ≡ [] → AreBrief rs ns × (length ns ≤ k)
+unfolding is_in
+brief_none rs ns k none = rw none (λ q e. absurd (cc), omega arith)
+
+-- so where the kernel signals a process group
+pub brief_group : (n group : ℕ) (rs ts : List Process) (order ns new : List ℕ) → (n == CONT) ≡ false → IsRising rs → ns ≡ [] → ts ≡ signalled_group n group rs → new ≡ cond (group == 0) ns (rechecking_members n group rs order ns)
+    → AreBrief ts new × (length new ≤ length (members_in group rs))
+unfolding signalled_members members_in
+brief_group n group rs ts order ns new plain up none does puts = by (group == 0) does puts
+  where
+    by : (b : Bool) → ts ≡ cond b rs (signalled_members (record { sig = n; carried = from_kernel }) group rs) → new ≡ cond b ns (rechecking_members n group rs order ns) → AreBrief ts new × (length new ≤ length (members_in group rs))
+    by true does puts = brief_none ts new _ (puts ∙ none)
+    by false does puts =
+        let all = taking_all (record { sig = n; carried = from_kernel }) (pids (members_in group rs)) order rs plain (rising_distinct (members_in group rs) (rising_filter (is_member group) rs up)) in
+        let many = length-map (members_in group rs) (λ r. r.pid) in
+        let few = all.1 in
+        rw (does, puts, none) (λ q e. let it = all.0 q e in (it.0, it.1, or_left _ _ it.2), omega (arith, many, few))
