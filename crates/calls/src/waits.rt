@@ -121,6 +121,7 @@ fn would_wait<K: Kin>(machine: &mut Machine<K>, me: &Caller) -> bool
 }
 
 /// Whether the wait of a process that is there, with this snapshot, would have to wait. Nothing changes.
+#[inline(always)]
 pub fn has_to_wait<K: Kin>(machine: &mut Machine<K>, pid: Pid, snapshot: Snapshot) -> bool
     requires there { IsSome (process machine.old.state pid) }
     requires snapshot { Some snapshot ≡ option_map snapshot_of (process machine.old.state pid) }

@@ -20,6 +20,7 @@ use proctable::{Kin, Snapshot};
 /// Whether a process that is there, with this snapshot, needn't wait: it is in no call, or its call can be
 /// completed, or a signal is chosen for it.
 #[tactic(auto, using(posix::proofs::SeeLemmas::block_read), unfolding(posix::specs::Attempts::attempt_again))]
+#[inline(always)]
 fn is_awake<K: Kin>(machine: &mut Machine<K>, pid: Pid, snapshot: Snapshot) -> bool
     requires there { IsSome (process machine.old.state pid) }
     requires snapshot { Some snapshot ≡ option_map snapshot_of (process machine.old.state pid) }
@@ -40,6 +41,7 @@ fn is_awake<K: Kin>(machine: &mut Machine<K>, pid: Pid, snapshot: Snapshot) -> b
 
 /// Whether a process that is there, with this snapshot, can act: KILL is pending for it, or it runs and needn't wait.
 #[tactic(auto, unfolding(posix::specs::Settle::can_act))]
+#[inline(always)]
 fn can_act<K: Kin>(machine: &mut Machine<K>, pid: Pid, snapshot: Snapshot) -> bool
     requires there { IsSome (process machine.old.state pid) }
     requires snapshot { Some snapshot ≡ option_map snapshot_of (process machine.old.state pid) }

@@ -62,13 +62,14 @@ impl<K: Kin> Machine<K> {
         ensures pid { result.pid ≡ pid }
         ensures finds { Finds 2 self.old self.new (IfSome (process self.old.state pid) (λ me. result ≡ caller_of me)) }
     {
-        let Some(snapshot) = self.snapshot(pid) else {
+        let Some(snapshot) = self.table.get(pid) else {
             unreachable!()
         };
-        self.caller_with(pid, snapshot)
+        caller_by(snapshot, self.table.look(pid))
     }
 
     /// A process that is there, with this snapshot, as the caller of a call. Nothing changes.
+    #[inline(always)]
     pub fn caller_with(&mut self, pid: Pid, snapshot: Snapshot) -> Caller
         requires there { IsThere pid self.old }
         requires snapshot { Some snapshot ≡ option_map snapshot_of (process self.old.state pid) }

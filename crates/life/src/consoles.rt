@@ -163,6 +163,7 @@ pub(crate) fn mark_reader(
 }
 
 /// The session from whose terminal a process with this snapshot waits to read, if it has no place.
+#[inline]
 pub fn reads_in(snapshot: &Snapshot) -> Option<Pid>
     ensures { (r : Process) → snapshot.now ≡ snapshot_of r → result ≡ reads_in_session (Some r) }
 {
