@@ -1,33 +1,35 @@
 -- How many slots a wait and a kill read, and who is to be rechecked after them.
-use Rattle.std.proofs.Common.{subst, ◌≡◌, ℕ, ℤ, ◌+◌, ◌*◌, ◌≤◌, Bool, true, false, cond, not, ◌==◌, ◌||◌, refl, ap, sym, ◌∙◌, arith, List, [], ◌∷◌, length, filter, Option, Some, None, Result, Ok}
-use Rattle.std.proofs.lemmas.Bool.{eqb-true, or_left, or_right, and_parts, not-true}
+use Rattle.std.proofs.Common.{subst, ◌≡◌, ℕ, ℤ, ◌+◌, ◌≤◌, Bool, true, false, cond, not, ◌==◌, ◌||◌, refl, ap, sym, ◌∙◌, arith, List, [], ◌∷◌, length, filter, Option, Some, None, Result, Ok}
+use Rattle.std.proofs.lemmas.Bool.{eqb-true, or_right}
 use Rattle.std.proofs.lemmas.List.{length-map}
-use Rattle.std.proofs.lemmas.List.Sums.{length-filter, count_by-le-length}
-use Rattle.posix.specs.declared.errno.Errno.{Errno}
-use Rattle.posix.specs.Targets.{target_in}
 use Rattle.posix.specs.declared.target.Target.{Target}
 use Rattle.posix.specs.declared.target.Target.TheVariants as whom
+use Rattle.posix.specs.declared.errno.Errno.{Errno}
+use Rattle.posix.specs.Targets.{target_in}
 use Rattle.posix.specs.Processes.{Process, argument}
-use Rattle.posix.specs.Tables.{IsRising, has_pid, lookup, at, changed, pids, removed, children_in}
+use Rattle.posix.specs.Tables.{IsRising, has_pid, lookup, at, changed, pids, removed}
 use Rattle.posix.specs.States.{State, process, is_in, without, has_place}
 use Rattle.posix.specs.Credentials.{may}
 use Rattle.posix.specs.Outcomes.{finish, finished}
-use Rattle.posix.specs.Sends.{targets, permitted, sent, sent_among, sent_by, signal_or_none}
-use Rattle.posix.specs.Waits.{has_report, reporting_in}
-use Rattle.life.specs.Waits.{slots_of_wait}
+use Rattle.posix.specs.Sends.{signal_or_none, targets, permitted, sent, sent_among, sent_by}
 use Rattle.posix.specs.Regular.{IsRegular}
 use Rattle.posix.proofs.TableLemmas.{rising_filter}
-use Rattle.posix.proofs.MapLemmas.{lookup_on, at_pid}
+use Rattle.posix.specs.SignalNumbers.{CONT}
+use Rattle.posix.proofs.MapLemmas.{lookup_on, at_keeps, at_pid}
+use Rattle.calls.proofs.ContinueLemmas.{sent_slots}
 use Rattle.posix.proofs.WalkLemmas.{numbered_one, numbered_none}
 use Rattle.pidset.specs.Numbers.{with_number}
 use Rattle.jobs.specs.JobTables.{takes_signal}
-use Rattle.life.specs.Machines.{MachineView, AreSame}
-use Rattle.life.specs.Rechecks.{AreTaking, AreBrief, is_in_wait, rechecking_signalled, slots_of_send, without_gone}
+use Rattle.life.specs.Machines.{MachineView, AreSame, Changes}
+use Rattle.life.specs.Rechecks.{AreTaking, AreBrief, rechecking_signalled, slots_of_send, without_gone}
 use Rattle.life.specs.Foregrounds.{after_loss}
-use Rattle.life.proofs.TakingLemmas.{taking_all, rising_distinct, brief_none}
-use Rattle.calls.specs.Outcomes.{CostsAtMost, IsQuiet, IsBrief, AreFew, is_one, is_cont, kills_one}
+use Rattle.life.proofs.TakingLemmas.{taking_all, rising_distinct}
+use Rattle.calls.specs.Outcomes.{CostsAtMost, IsQuiet, IsBrief, AreFew, is_one, is_cont, slots_of_kill}
 use Rattle.calls.proofs.ChosenLemmas.{changed_there}
 use Rattle.calls.proofs.KillLemmas.{sent_in}
+use Rattle.life.specs.declared.consoles.Unchecked.TheVariants.{Nothing, Group}
+use Rattle.calls.specs.Counts.{slots_of_rechecks, slots_of_checking}
+use Rattle.calls.proofs.CountLemmas.{rechecks_none, rechecks_brief, rechecks_taking}
 
 -- ---- who is to be rechecked
 
@@ -37,16 +39,12 @@ unfolding finished
 brief_finished results p me rs ns found alone q e =
     (finished results me, ap (λ n. lookup n (changed p (finished results) rs)) (alone q e) ∙ changed_there p (finished results) (λ r. refl) rs me found, or_right _ _ refl)
 
--- and so are others told of as before
-brief_still : (results : List (ℕ × ℤ)) (p : ℕ) (rs : List Process) (ns : List ℕ) → AreBrief rs ns → AreBrief (changed p (finished results) rs) ns
+-- a signal stays chosen where a call is finished
+taking_still : (results : List (ℕ × ℤ)) (p : ℕ) (rs : List Process) (ns : List ℕ) → AreTaking rs ns → AreTaking (changed p (finished results) rs) ns
 unfolding finished changed
-brief_still results p rs ns h q e =
+taking_still results p rs ns h q e =
     let it = h q e in
-    (at p (finished results) it.0, lookup_on (at p (finished results)) (at_pid p (finished results) (λ r. refl)) q rs it.0 it.1, by it.0 (it.0.pid == p) it.2)
-  where
-    by : (r : Process) (b : Bool) → (takes_signal r || not (is_in_wait r.blocked)) ≡ true → (takes_signal (cond b (finished results r) r) || not (is_in_wait (cond b (finished results r) r).blocked)) ≡ true
-    by r true k = or_right _ _ refl
-    by r false k = k
+    (at p (finished results) it.0, lookup_on (at p (finished results)) (at_pid p (finished results) (λ r. refl)) q rs it.0 it.1, at_keeps takes_signal p (finished results) (λ r. refl) it.0 ∙ it.2)
 
 -- ---- what is quiet, and looked at
 
@@ -56,51 +54,36 @@ quiet_on p old mid same h = record { none = same.to_recheck ∙ h.none; checked 
 
 -- what is brief after something is so before it, where that changes no console
 pub brief_behind : (n k m : ℕ) (old mid new : MachineView) → mid.state.consoles ≡ old.state.consoles → mid.visits ≤ old.visits + k → n + k ≤ m → IsBrief n mid new → IsBrief m old new
-brief_behind n k m old mid new same read most h = record {
-  visits = let more = h.visits in omega (arith, read, more, most);
-  brief = h.brief;
-  few = h.few;
-  unchecked = h.unchecked;
-  consoles = h.consoles ∙ same;
-}
+brief_behind n k m old mid new same read most h = record { reads = let more = h.reads in omega (arith, read, more, most); unchecked = h.unchecked; consoles = h.consoles ∙ same }
 
 -- so after a look
 pub brief_on : (n k m : ℕ) (old mid new : MachineView) → AreSame old mid → mid.visits ≤ old.visits + k → n + k ≤ m → IsBrief n mid new → IsBrief m old new
 brief_on n k m old mid new same = brief_behind n k m old mid new (ap (λ (s : State). s.consoles) same.state)
 
--- a look itself is brief
+-- how many slots were read by then
+pub brief_visits : (n : ℕ) (old new : MachineView) → IsBrief n old new → new.visits ≤ old.visits + n
+brief_visits n old new h = let reads = h.reads in omega (arith, reads)
+
+-- what leaves nothing to settle is brief
+pub brief_alone : (k : ℕ) (old new : MachineView) → new.to_recheck ≡ [] → new.foregrounds_unchecked ≡ Nothing → new.state.consoles ≡ old.state.consoles → new.visits ≤ old.visits + k → IsBrief k old new
+brief_alone k old new none checked consoles read =
+    let rechecks = rechecks_none new.state.processes None new.to_recheck none in
+    let checks = ap slots_of_checking checked in
+    record { reads = omega (arith, rechecks, checks, read); unchecked = subst AreFew (sym checked) tt; consoles = consoles }
+
+-- so is a look
 pub brief_look : (p k : ℕ) (old new : MachineView) → IsQuiet p old → AreSame old new → new.visits ≤ old.visits + k → IsBrief k old new
-brief_look p k old new h same read =
-    let none = brief_none new.state.processes new.to_recheck 1 (same.to_recheck ∙ h.none) in
-    record { visits = read; brief = none.0; few = none.1; unchecked = subst AreFew (sym (same.foregrounds_unchecked ∙ h.checked)) tt; consoles = ap (λ (s : State). s.consoles) same.state }
+brief_look p k old new h same read = brief_alone k old new (same.to_recheck ∙ h.none) (same.foregrounds_unchecked ∙ h.checked) (ap (λ (s : State). s.consoles) same.state) read
 
 -- so is what reads no more
 pub brief_more : (n m : ℕ) (old new : MachineView) → n ≤ m → IsBrief n old new → IsBrief m old new
-brief_more n m old new most h = record { visits = let read = h.visits in omega (arith, read, most); brief = h.brief; few = h.few; unchecked = h.unchecked; consoles = h.consoles }
+brief_more n m old new most h = record { reads = let read = h.reads in omega (arith, read, most); unchecked = h.unchecked; consoles = h.consoles }
 
--- a call that is finished
+-- and a call that is finished
 pub brief_done : (p : ℕ) (results : List (ℕ × ℤ)) (old new : MachineView) → IsQuiet p old → new.state ≡ finish old.state p results → (has_place old.state p ≡ true → CostsAtMost 1 old new) → IsBrief 1 old new
-brief_done p results old new h is costs =
-    let c = costs h.place in
-    let none = brief_none new.state.processes new.to_recheck 1 (c.to_recheck ∙ h.none) in
-    record {
-      visits = c.visits;
-      brief = none.0;
-      few = none.1;
-      unchecked = subst AreFew (sym (c.foregrounds_unchecked ∙ h.checked)) tt;
-      consoles = ap (λ (s : State). s.consoles) is;
-    }
+brief_done p results old new h is costs = let c = costs h.place in brief_alone 1 old new (c.to_recheck ∙ h.none) (c.foregrounds_unchecked ∙ h.checked) (ap (λ (s : State). s.consoles) is) c.visits
 
 -- ---- a wait
-
--- it reads two slots for each child at most
-pub wait_slots : (target : Target) (p : ℕ) (rs : List Process) → slots_of_wait target p rs ≤ 2 * length (children_in p rs)
-unfolding reporting_in
-wait_slots (whom.Process q) p rs = omega arith
-wait_slots whom.OwnGroup p rs = omega arith
-wait_slots (whom.Group g) p rs = omega arith
-wait_slots whom.All p rs = let few = length-filter has_report (children_in p rs) in let most = count_by-le-length has_report (children_in p rs) in omega (arith, few, most)
-wait_slots whom.Nobody p rs = omega arith
 
 -- where the record of a child has gone, its parent alone is to be rechecked
 gone_alone : (child p : ℕ) → ((q : ℕ) → is_in q (without_gone child p []) ≡ true → q ≡ p) × (length (without_gone child p []) ≤ 1)
@@ -116,16 +99,21 @@ gone_alone child p = elim (p == child) as (λ b. ((q : ℕ) → is_in q (cond (n
 
 -- a zombie was collected, and then reported
 pub brief_reaped : (p child : ℕ) (results : List (ℕ × ℤ)) (old mid new : MachineView) (me it : Process) → 1 ≤ it.group → IsQuiet p old → mid.state ≡ record (old.state) { processes = removed child old.state.processes } → mid.to_recheck ≡ without_gone child p old.to_recheck
-    → mid.foregrounds_unchecked ≡ after_loss it.group old.foregrounds_unchecked → mid.visits ≤ old.visits + 5 → process mid.state p ≡ Some me → new.state ≡ finish mid.state p results → (has_place mid.state p ≡ true → CostsAtMost 1 mid new) → IsBrief 6 old new
+    → mid.foregrounds_unchecked ≡ after_loss it.group old.foregrounds_unchecked → mid.visits ≤ old.visits + 5 → process mid.state p ≡ Some me → new.state ≡ finish mid.state p results → (has_place mid.state p ≡ true → CostsAtMost 1 mid new) → IsBrief 9 old new
 brief_reaped p child results old mid new me it least h gone list lost read here is costs =
     let c = costs (ap (λ (s : State). has_place s p) gone ∙ h.place) in
     let ns : new.to_recheck ≡ without_gone child p [] = c.to_recheck ∙ list ∙ ap (without_gone child p) h.none in
     let alone = gone_alone child p in
+    let lost : new.foregrounds_unchecked ≡ Group it.group = c.foregrounds_unchecked ∙ lost ∙ ap (after_loss it.group) h.checked in
+    let brief : AreBrief new.state.processes new.to_recheck = rw (is, ns) (brief_finished results p me mid.state.processes (without_gone child p []) here alone.0) in
+    let few : length new.to_recheck ≤ 1 = rw ns alone.1 in
     record {
-      visits = let one = c.visits in omega (arith, read, one);
-      brief = rw (is, ns) (brief_finished results p me mid.state.processes (without_gone child p []) here alone.0);
-      few = rw ns alone.1;
-      unchecked = subst AreFew (sym (c.foregrounds_unchecked ∙ lost ∙ ap (after_loss it.group) h.checked)) (λ none. omega (arith, least, none));
+      reads =
+          let rechecks = rechecks_brief new.state.processes None new.to_recheck brief in
+          let checks = ap slots_of_checking lost in
+          let one = c.visits in
+          omega (arith, read, one, rechecks, few, checks);
+      unchecked = subst AreFew (sym lost) (λ none. omega (arith, least, none));
       consoles = ap (λ (s : State). s.consoles) (is ∙ ap (λ (s : State). finish s p results) gone);
     }
 
@@ -154,32 +142,54 @@ taking_sent me p (Some n) rs order plain up =
     let most = one.1 in
     (all.0, omega (arith, few, many, most))
 
--- what the test of a kill says, which names this signal
-pub kills_by : (me : Process) (sig : Option ℕ) (named : Result (Option ℕ) Errno) → named ≡ signal_or_none (argument me 2) → named ≡ Ok sig → kills_one me ≡ true → (is_one (target_in (argument me 1)) ≡ true) × (is_cont (Ok sig) ≡ false)
-kills_by me sig named known ok one =
-    let both = and_parts (is_one (target_in (argument me 1))) (not (is_cont (signal_or_none (argument me 2)))) one in
-    (both.0, ap is_cont (sym ok ∙ known) ∙ not-true _ both.1)
+-- one slot at least
+pub kill_least : (rs : List Process) (to : Target) (cont : Bool) → 1 ≤ slots_of_kill rs to cont
+kill_least rs to true = omega arith
+kill_least rs to false = omega arith
 
-pub brief_killed : (me : Process) (to : Target) (sig : Option ℕ) (results : List (ℕ × ℤ)) (old mid new : MachineView) → is_one to ≡ true → is_cont (Ok sig) ≡ false → IsQuiet me.pid old → IsRegular old.state
+-- it reads so many slots with those of rechecking
+kill_slots : (me : Process) (p : ℕ) (sig : Option ℕ) (results : List (ℕ × ℤ)) (rs : List Process) (order : List ℕ) → IsRising rs
+    → 2 + slots_of_send sig + slots_of_rechecks (changed me.pid (finished results) (sent me (whom.Process p) sig rs)) None (rechecking_signalled me sig (targets me (whom.Process p) rs) rs order []) ≤ slots_of_kill rs (whom.Process p) (is_cont (Ok sig))
+unfolding rechecking_signalled slots_of_rechecks
+kill_slots me p None results rs order up = omega arith
+kill_slots me p (Some n) results rs order up = elim (n == CONT) as (λ b. (n == CONT) ≡ b → 2 + cond b 4 1 + slots_of_rechecks (changed me.pid (finished results) (sent me (whom.Process p) (Some n) rs)) None (rechecking_signalled me (Some n) (targets me (whom.Process p) rs) rs order []) ≤ slots_of_kill rs (whom.Process p) b) [
+  | true ↦ λ e. let most = sent_slots results me p n rs order up in omega (arith, most)
+  | false ↦ λ e.
+      let taken = taking_sent me p (Some n) rs order e up in
+      let one = taken.1 in
+      let most = rechecks_taking _ None _ (taking_still results me.pid _ _ taken.0) in
+      omega (arith, most, one)
+] refl
+
+-- what a kill of this target reads, with this signal
+brief_killed : (me : Process) (to : Target) (sig : Option ℕ) (results : List (ℕ × ℤ)) (old mid new : MachineView) → is_one to ≡ true → IsQuiet me.pid old → IsRegular old.state
     → mid.state ≡ sent_in old.state me to sig → mid.to_recheck ≡ rechecking_signalled me sig (targets me to old.state.processes) old.state.processes old.state.order old.to_recheck → mid.foregrounds_unchecked ≡ old.foregrounds_unchecked
-    → ((p : ℕ) → to ≡ whom.Process p → mid.visits ≤ old.visits + 1 + slots_of_send sig) → new.state ≡ finish mid.state me.pid results → (has_place mid.state me.pid ≡ true → CostsAtMost 1 mid new) → IsBrief 3 old new
-brief_killed me (whom.Process p) sig results old mid new one plain h i is list still read done costs =
+    → ((p : ℕ) → to ≡ whom.Process p → mid.visits ≤ old.visits + 1 + slots_of_send sig) → new.state ≡ finish mid.state me.pid results → (has_place mid.state me.pid ≡ true → CostsAtMost 1 mid new) → IsBrief (slots_of_kill old.state.processes to (is_cont (Ok sig))) old new
+brief_killed me (whom.Process p) sig results old mid new one h i is list still read done costs =
     let c = costs (ap (λ (s : State). has_place s me.pid) is ∙ h.place) in
     let rs = old.state.processes in
-    let taken = taking_sent me p sig rs old.state.order plain i.rising in
     let ns = c.to_recheck ∙ list ∙ ap (rechecking_signalled me sig (targets me (whom.Process p) rs) rs old.state.order) h.none in
+    let checked = c.foregrounds_unchecked ∙ still ∙ h.checked in
+    let now : new.state.processes ≡ changed me.pid (finished results) (sent me (whom.Process p) sig rs) = ap (λ (s : State). s.processes) (done ∙ ap (λ (s : State). finish s me.pid results) is) in
+    let one = c.visits in
+    let most = read p refl in
+    let checks = ap slots_of_checking checked in
+    let rechecks = ap (λ ts. slots_of_rechecks ts None new.to_recheck) now ∙ ap (slots_of_rechecks (changed me.pid (finished results) (sent me (whom.Process p) sig rs)) None) ns in
     record {
-      visits = let one = c.visits in let sent = read p refl in let slots = plain_slots sig plain in omega (arith, one, sent, slots);
-      brief = rw (done, is, ns) (brief_still results me.pid _ _ (λ q e. let it = taken.0 q e in (it.0, it.1, or_left _ _ it.2)));
-      few = rw ns taken.1;
-      unchecked = subst AreFew (sym (c.foregrounds_unchecked ∙ still ∙ h.checked)) tt;
+      reads = let all = kill_slots me p sig results rs old.state.order i.rising in omega (arith, one, most, checks, rechecks, all);
+      unchecked = subst AreFew (sym checked) tt;
       consoles = ap (λ (s : State). s.consoles) (done ∙ ap (λ (s : State). finish s me.pid results) is);
     }
-  where
-    plain_slots : (sig : Option ℕ) → is_cont (Ok sig) ≡ false → slots_of_send sig ≤ 1
-    plain_slots None e = omega arith
-    plain_slots (Some n) e = rw e (omega arith)
-brief_killed me whom.OwnGroup sig results old mid new one plain h i is list still read done costs = absurd (cc)
-brief_killed me (whom.Group p) sig results old mid new one plain h i is list still read done costs = absurd (cc)
-brief_killed me whom.All sig results old mid new one plain h i is list still read done costs = absurd (cc)
-brief_killed me whom.Nobody sig results old mid new one plain h i is list still read done costs = absurd (cc)
+brief_killed me whom.OwnGroup sig results old mid new one h i is list still read done costs = absurd (cc)
+brief_killed me (whom.Group p) sig results old mid new one h i is list still read done costs = absurd (cc)
+brief_killed me whom.All sig results old mid new one h i is list still read done costs = absurd (cc)
+brief_killed me whom.Nobody sig results old mid new one h i is list still read done costs = absurd (cc)
+
+-- so it is where it means one process
+pub brief_kill : {n : ℕ} (me : Process) (to : Target) (named : Result (Option ℕ) Errno) (sig : Option ℕ) (results : List (ℕ × ℤ)) (old mid new : MachineView) → is_one (target_in (argument me 1)) ≡ true → IsQuiet me.pid old → to ≡ target_in (argument me 1) → named ≡ signal_or_none (argument me 2) → named ≡ Ok sig
+    → Changes n old mid (sent_in old.state me to sig) (rechecking_signalled me sig (targets me to old.state.processes) old.state.processes old.state.order old.to_recheck) → ((p : ℕ) → to ≡ whom.Process p → mid.visits ≤ old.visits + 1 + slots_of_send sig)
+    → new.state ≡ finish mid.state me.pid results → (has_place mid.state me.pid ≡ true → CostsAtMost 1 mid new) → IsBrief (slots_of_kill old.state.processes (target_in (argument me 1)) (is_cont (signal_or_none (argument me 2)))) old new
+brief_kill me to named sig results old mid new one quiet target known ok sent read done costs =
+    subst (λ w. IsBrief (slots_of_kill old.state.processes (target_in (argument me 1)) (is_cont w)) old new) (sym ok ∙ known)
+    (subst (λ to. IsBrief (slots_of_kill old.state.processes to (is_cont (Ok sig))) old new) target
+    (brief_killed me to sig results old mid new (ap is_one target ∙ one) quiet sent.costs.regular sent.state sent.to_recheck sent.foregrounds_unchecked read done costs))

@@ -8,4 +8,6 @@ pub mod ReplyLemmas
 pub mod GroupCallLemmas
 pub mod TerminalCallLemmas
 pub mod TransferLemmas
+pub mod CountLemmas
+pub mod ContinueLemmas
 pub mod BriefLemmas

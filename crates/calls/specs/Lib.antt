@@ -1,3 +1,4 @@
+pub mod Counts
 pub mod Outcomes
 pub mod Access
 pub mod Terminals

@@ -9,17 +9,18 @@ use Rattle.posix.specs.declared.target.Target.{Target}
 use Rattle.posix.specs.declared.target.Target.TheVariants as whom
 use Rattle.posix.specs.SignalNumbers.{CONT}
 use Rattle.posix.specs.Targets.{target_in}
-use Rattle.posix.specs.Tables.{children_in}
+use Rattle.posix.specs.Tables.{children_in, lookup}
 use Rattle.posix.specs.Sends.{signal_or_none}
 use Rattle.life.specs.declared.consoles.Unchecked.{Unchecked}
 use Rattle.life.specs.declared.consoles.Unchecked.TheVariants.{Nothing, Group, All}
-use Rattle.life.specs.Rechecks.{AreBrief}
+use Rattle.life.specs.Rechecks.{is_in_wait}
+use Rattle.calls.specs.Counts.{slots_of_rechecks, slots_of_checking}
 use Rattle.posix.specs.declared.process.Handler.{Handler}
 use Rattle.posix.specs.declared.process.Handler.TheVariants as handler
 use Rattle.posix.specs.SignalSets.{has}
 use Rattle.posix.specs.Generation.{action}
 use Rattle.posix.specs.Handlers.{is_full}
-use Rattle.posix.specs.Processes.{Process, argument}
+use Rattle.posix.specs.Processes.{Process, argument, is_stopped}
 use Rattle.posix.specs.States.{State, process, has_place}
 use Rattle.posix.specs.Regular.{IsPlaced}
 use Rattle.posix.specs.Outcomes as outcome
@@ -49,12 +50,10 @@ AreFew Nothing = ⊤
 AreFew (Group g) = g ≢ 0
 AreFew All = ⊥
 
--- At most so many slots were read. At most one process is to be rechecked, without a look at a child, and the foreground
--- process groups of one number at most are unchecked.
+-- At most so many slots were read, with those that rechecking reads and a look at the foreground process groups that are
+-- unchecked, which are those of one number at most.
 pub record IsBrief (most : ℕ) (old new : MachineView) : Type 0 where
-  pub visits : new.visits ≤ old.visits + most
-  pub brief : AreBrief new.state.processes new.to_recheck
-  pub few : length new.to_recheck ≤ 1
+  pub reads : new.visits + slots_of_rechecks new.state.processes None new.to_recheck + slots_of_checking new.foregrounds_unchecked ≤ old.visits + most
   pub unchecked : AreFew new.foregrounds_unchecked
   pub consoles : new.state.consoles ≡ old.state.consoles
 
@@ -72,15 +71,29 @@ is_cont (Ok None) = false
 is_cont (Ok (Some n)) = n == CONT
 is_cont (Err why) = false
 
--- whether a kill means one process by its number, and sends no CONT
-abbrev pub kills_one : Process → Bool
-kills_one me = is_one (target_in (argument me 1)) && not (is_cont (signal_or_none (argument me 2)))
+-- the process that a target means by its number
+abbrev pub meant_in : List Process → Target → Option Process
+meant_in rs (whom.Process p) = lookup p rs
+meant_in rs whom.OwnGroup = None
+meant_in rs (whom.Group p) = None
+meant_in rs whom.All = None
+meant_in rs whom.Nobody = None
 
--- how many slots a wait reads at most, by its caller, and such a kill; no count is given of other calls that aren't their
--- caller's alone
+-- where CONT continues a process that is blocked in a wait, two slots for each of its children
+abbrev pub slots_of_continued : List Process → Option Process → ℕ
+slots_of_continued rs None = 0
+slots_of_continued rs (Some it) = if is_stopped it.life && is_in_wait it.blocked then 2 * length (children_in it.pid rs) else 0
+
+-- a kill of one process by its number, and whether it sends CONT, but for the look at its caller
+abbrev pub slots_of_kill : List Process → Target → Bool → ℕ
+slots_of_kill rs target false = 4
+slots_of_kill rs target true = 13 + slots_of_continued rs (meant_in rs target)
+
+-- How many slots a wait reads at most, by its caller, and a kill of one process by its number, with those that settling
+-- reads. No count is given of other calls that aren't their caller's alone.
 abbrev pub slots_of_brief : Call → List Process → Process → Option ℕ
-slots_of_brief Waitpid rs me = Some (9 + 2 * length (children_in me.pid rs))
-slots_of_brief Kill rs me = if kills_one me then Some 5 else None
+slots_of_brief Waitpid rs me = Some (11 + 2 * length (children_in me.pid rs))
+slots_of_brief Kill rs me = if is_one (target_in (argument me 1)) then Some (slots_of_kill rs (target_in (argument me 1)) (is_cont (signal_or_none (argument me 2))) + 1) else None
 slots_of_brief call rs me = None
 
 abbrev pub is_address : Handler → Bool

@@ -225,7 +225,7 @@ pub fn attempt_again<K: Kin>(
     requires placed { IsPlaced machine.old.state.processes pid }
     requires none { entries.old.items ≡ [] }
     ensures comes { (me : Process) → process machine.old.state pid ≡ Some me → Comes machine.old.state (attempting_again machine.old.state me blocked) result entries.old.items entries.new.items machine.new.state }
-    ensures brief { blocked ≡ Blocked.Waitpid → IsQuiet pid machine.old → IsBrief (9 + 2 * length (children_in pid machine.old.state.processes)) machine.old machine.new }
+    ensures brief { blocked ≡ Blocked.Waitpid → IsQuiet pid machine.old → IsBrief (11 + 2 * length (children_in pid machine.old.state.processes)) machine.old machine.new }
     ensures once { blocked ≡ Blocked.Waitpid → result ≢ Attempt.Again }
     ensures waits { (b : BlockedValue) → blocked ≡ Blocked.Waitpid → result ≡ Attempt.Block b → AreSame machine.old machine.new }
 {

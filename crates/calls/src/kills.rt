@@ -1,11 +1,12 @@
 //! Signals that processes send (XSH kill).
 
-ghost use Rattle.std.specs.Prelude.{◌≡◌, ◌≤◌, length, IsSome, Some, true};
+ghost use Rattle.std.specs.Prelude.{◌≡◌, ◌+◌, ◌≤◌, length, IsSome, Some, true};
 ghost use Rattle.posix.specs.Sends.{signal_or_none as signal_number_or_none, kill as killing};
 ghost use Rattle.posix.specs.States.{process};
 ghost use Rattle.life.specs.Callers.{process_like};
-ghost use Rattle.posix.specs.Processes.{Process};
-ghost use Rattle.calls.specs.Outcomes.{Attempts, Comes, IsQuiet, IsBrief, kills_one};
+ghost use Rattle.posix.specs.Processes.{Process, argument};
+ghost use Rattle.posix.specs.Targets.{target_in};
+ghost use Rattle.calls.specs.Outcomes.{Attempts, Comes, IsQuiet, IsBrief, is_cont, is_one, slots_of_kill};
 
 use crate::attempts::{finish_with, refuse};
 use crate::entries::Entries;
@@ -35,7 +36,7 @@ fn kill_as<K: Kin>(machine: &mut Machine<K>, me: &Caller, entries: &mut Entries)
     requires room { length entries.old.items ≤ 1 }
     ensures done { result ≡ Attempt.Done }
     ensures comes { Comes machine.old.state (killing machine.old.state (process_like me.now)) result entries.old.items entries.new.items machine.new.state }
-    ensures brief { kills_one (process_like me.now) ≡ true → IsQuiet me.now.pid machine.old → IsBrief 3 machine.old machine.new }
+    ensures brief { is_one (target_in me.now.r1) ≡ true → IsQuiet me.now.pid machine.old → IsBrief (slots_of_kill machine.old.state.processes (target_in me.now.r1) (is_cont (signal_number_or_none me.now.r2))) machine.old machine.new }
 {
     let sig = match signal_or_none(me) {
         Ok(sig) => sig,
@@ -55,7 +56,7 @@ pub fn kill<K: Kin>(machine: &mut Machine<K>, pid: Pid, entries: &mut Entries) -
     requires room { length entries.old.items ≤ 1 }
     ensures done { result ≡ Attempt.Done }
     ensures attempts { Attempts machine.old.state pid Call.Kill result entries.old.items entries.new.items machine.new.state }
-    ensures brief { (me : Process) → process machine.old.state pid ≡ Some me → kills_one me ≡ true → IsQuiet pid machine.old → IsBrief 5 machine.old machine.new }
+    ensures brief { (me : Process) → process machine.old.state pid ≡ Some me → is_one (target_in (argument me 1)) ≡ true → IsQuiet pid machine.old → IsBrief (slots_of_kill machine.old.state.processes (target_in (argument me 1)) (is_cont (signal_number_or_none (argument me 2))) + 1) machine.old machine.new }
 {
     let me = machine.caller(pid);
     kill_as(machine, &me, entries)

@@ -1,6 +1,6 @@
 //! Runs with consoles: keys, background reads, and the end of a session.
 
-use crate::process_tests::{expect_slots, slots_of};
+use crate::count_tests::{expect_slots, slots_of};
 use crate::tests::expect_run;
 use kernel::Kernel;
 use posix::{Bytes, Call, Entry, Event, Pid};

@@ -4,6 +4,8 @@
 #[cfg(test)]
 mod console_tests;
 #[cfg(test)]
+mod count_tests;
+#[cfg(test)]
 mod group_tests;
 #[cfg(test)]
 mod machine_tests;

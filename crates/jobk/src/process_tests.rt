@@ -5,47 +5,12 @@ ghost use Rattle.std.proofs.Common.{arith};
 ghost use Rattle.proctable.specs.ScanTable.{scan_with_record};
 
 use crate::tests::{expect_run, expect_run_on};
-use kernel::{KernelOn, RunError, Summary, WriteSink, run, run_on};
-use posix::{Event, Pid};
-use proctable::{Kin, ProcTable, Record, ScanTable, Snapshot, Spare};
+use kernel::{RunError, Summary, WriteSink, run, run_on};
+use posix::Pid;
+use proctable::{Kin, Record, ScanTable, Snapshot, Spare};
 use std::alloc::{AllocError, Global};
 use std::process::Abort;
 use std::test::Fail;
-use text::read_world;
-
-/// Process 1 stops and continues a child that waits for its 300 children, and then waits for the child's news.
-const NEWS_OF_A_WAITER: &[u8] = b"\
-pidmax 1000
-consoles 0
-program init
-sys fork
-jz r0, waiter
-sys sched_yield
-set r1, 2
-set r2, 19
-sys kill
-sys sched_yield
-set r2, 18
-sys kill
-set r1, 2
-set r2, 8
-sys waitpid
-sys pause
-waiter:
-set r6, 300
-set r7, 1
-more:
-sys fork
-jz r0, sleeper
-sub r6, r7
-jnz r6, more
-set r1, 0
-set r2, 0
-sys waitpid
-sleeper:
-sys pause
-end
-";
 
 const NUMBERS_WRAP: &[u8] = b"\
 pidmax 4
@@ -151,64 +116,6 @@ note r0
 ld r2, r1
 note r2
 sys fork
-end
-";
-
-/// Process 1, which ignores CHLD, has 900 children that pause. Then it goes in rounds of fourteen steps, with
-/// the two of a child that is born, ends and is dropped: a note, a getpid, CHLD to the last sleeper, the
-/// birth, a yield, a wait for any child that doesn't block.
-const SLEEPERS: &[u8] = b"\
-pidmax 1000
-consoles 1
-program init
-set r1, 17
-set r2, 1
-sys sigaction
-set r2, 17
-set r5, 900
-set r6, 1
-again:
-sys fork
-jz r0, sleeper
-sub r5, r6
-jnz r5, again
-mov r7, r0
-mov r1, r7
-sys sched_yield
-loop:
-note r1
-sys getpid
-sys kill
-sys fork
-jz r0, child
-sys sched_yield
-set r1, -1
-set r2, 1
-sys waitpid
-mov r1, r7
-set r2, 17
-jmp loop
-child:
-sys exit
-sleeper:
-sys pause
-end
-";
-
-const FAULTS: &[u8] = b"\
-pidmax 40
-consoles 1
-program init
-set r1, 11
-set r2, @handler
-sys sigaction
-set r5, 256
-again:
-ld r0, r5
-jmp again
-handler:
-add r5, r1
-sys sigreturn
 end
 ";
 
@@ -444,87 +351,4 @@ fn a_start_without_memory_is_an_error(rt: HostRuntime) {
     let got = run_on::<RefusingTable<1>, _>(rt.alloc(), TWO_FORKS, b"step 2\n", &mut out);
     assert!(rt; got == Err(RunError::Memory));
     assert_eq!(rt; out.into_writer().len(), 0);
-}
-
-/// An event reads at least so many slots of the table, and at most 16. How many entries it shows.
-pub(crate) fn expect_slots<R: Abort + AllocGlobal>(
-    rt: &R,
-    kernel: &mut KernelOn<ProcTable>,
-    event: Event,
-    least: u128,
-) -> usize {
-    let (shown, slots) = slots_of(rt, kernel, event);
-    assert!(rt; least <= slots && slots <= 16);
-    shown
-}
-
-/// How many entries an event shows, and how many slots of the table it reads.
-pub(crate) fn slots_of<R: Abort + AllocGlobal>(
-    rt: &R,
-    kernel: &mut KernelOn<ProcTable>,
-    event: Event,
-) -> (usize, u128) {
-    assert!(rt; kernel.events() < 10_000);
-    let before = kernel.visits();
-    let shown = kernel.event(event).len();
-    (shown, kernel.visits().wrapping_sub(before))
-}
-
-#[test]
-fn sleepers_are_not_asked(rt: HostRuntime) -> Result<(), Fail> {
-    let world = read_world(rt.alloc(), SLEEPERS)?;
-    let mut kernel = KernelOn::<ProcTable>::boot(rt.alloc(), &world)?;
-    for _ in 0..5409 {
-        assert!(rt; kernel.events() < 10_000);
-        kernel.event(Event::Step);
-    }
-    assert_eq!(rt; kernel.census().living, 901);
-    let mut shown: usize = 0;
-    for i in 0..150 {
-        let (event, least) = if i % 15 == 14 {
-            (Event::Tick, 0)
-        } else {
-            (Event::Step, 1)
-        };
-        shown = shown.wrapping_add(expect_slots(&rt, &mut kernel, event, least));
-    }
-    // Ten rounds, each of which shows a line for each of its calls, the note and the end.
-    assert_eq!(rt; shown, 70);
-    assert_eq!(rt; kernel.census().births, 911);
-    assert_eq!(rt; kernel.census().dropped, 10);
-    Ok(())
-}
-
-#[test]
-fn a_fault_that_enters_a_handler_asks_nobody_else(rt: HostRuntime) -> Result<(), Fail> {
-    let world = read_world(rt.alloc(), FAULTS)?;
-    let mut kernel = KernelOn::<ProcTable>::boot(rt.alloc(), &world)?;
-    for _ in 0..4 {
-        expect_slots(&rt, &mut kernel, Event::Step, 1);
-    }
-    let mut shown: usize = 0;
-    for _ in 0..30 {
-        shown = shown.wrapping_add(expect_slots(&rt, &mut kernel, Event::Step, 1));
-    }
-    // Ten rounds of a fault, which is shown as its handler is entered, a sum, and the return.
-    assert_eq!(rt; shown, 20);
-    Ok(())
-}
-
-#[test]
-fn news_that_are_told_ask_nobody(rt: HostRuntime) -> Result<(), Fail> {
-    let world = read_world(rt.alloc(), NEWS_OF_A_WAITER)?;
-    let mut kernel = KernelOn::<ProcTable>::boot(rt.alloc(), &world)?;
-    for _ in 0..1211 {
-        slots_of(&rt, &mut kernel, Event::Step);
-    }
-    assert_eq!(rt; kernel.census().living, 302);
-    // STOP for the waiter, which has 300 children.
-    assert_eq!(rt; expect_slots(&rt, &mut kernel, Event::Step, 1), 1);
-    for _ in 0..606 {
-        slots_of(&rt, &mut kernel, Event::Step);
-    }
-    // It was continued, and waits on; the wait of process 1 tells that.
-    assert_eq!(rt; expect_slots(&rt, &mut kernel, Event::Step, 1), 1);
-    Ok(())
 }

@@ -63,18 +63,18 @@ impl<K: Kin> JobTable<K> {
 
     /// Which process group a process would join, or why not, for a caller of this session: one of its own
     /// number, or one of that session, unless it leads a session or is in another one.
-    fn can_join(&mut self, me: &Snapshot, it: &Snapshot, group: u64) -> Result<Pid, Errno>
+    fn can_join(&mut self, session: Pid, it: &Snapshot, group: u64) -> Result<Pid, Errno>
         requires { AreGrouped self.old.processes }
-        ensures { Finds 1 self.old self.new ((caller r : Process) → me.now ≡ snapshot_of caller → it.now ≡ snapshot_of r → result ≡ can_join_by caller r group self.old.processes) }
+        ensures { Finds 1 self.old self.new ((caller r : Process) → session ≡ caller.session → it.now ≡ snapshot_of r → result ≡ can_join_by caller r group self.old.processes) }
     {
         let _ = &self.table;
-        if it.session != me.session || it.session == it.pid {
+        if it.session != session || it.session == it.pid {
             return Err(Errno::EPERM);
         }
         if u64::from(it.pid.number()) == group {
             return Ok(it.pid);
         }
-        match self.group_of(me.session, group) {
+        match self.group_of(session, group) {
             Some(group) => Ok(group),
             None => Err(Errno::EPERM),
         }
@@ -82,29 +82,37 @@ impl<K: Kin> JobTable<K> {
 
     /// Which process group a process would move to for a caller, or why not: the caller may move itself, and a
     /// child of its session that hasn't run exec since its birth.
-    fn can_move(&mut self, me: &Snapshot, it: &Snapshot, group: u64) -> Result<Pid, Errno>
+    fn can_move(&mut self, me: Pid, session: Pid, it: &Snapshot, group: u64) -> Result<Pid, Errno>
         requires { AreGrouped self.old.processes }
-        ensures { Finds 1 self.old self.new ((caller r : Process) → me.now ≡ snapshot_of caller → it.now ≡ snapshot_of r → result ≡ can_move_by caller r group self.old.processes) }
+        ensures { Finds 1 self.old self.new ((caller r : Process) → me ≡ caller.pid → session ≡ caller.session → it.now ≡ snapshot_of r → result ≡ can_move_by caller r group self.old.processes) }
     {
         let _ = &self.table;
-        if it.pid != me.pid {
-            if it.parent != me.pid {
+        if it.pid != me {
+            if it.parent != me {
                 return Err(Errno::ESRCH);
             }
-            if it.session != me.session {
+            if it.session != session {
                 return Err(Errno::EPERM);
             }
             if it.ran_exec {
                 return Err(Errno::EACCES);
             }
         }
-        self.can_join(me, it, group)
+        self.can_join(session, it, group)
     }
 
-    /// Which process group the process that a caller named would move to, or why not.
-    fn judge(&mut self, me: &Snapshot, target: &Option<Snapshot>, group: i64) -> Result<Pid, Errno>
+    /// Which process group the process that a caller of this session names would move to, or none where nobody has
+    /// that number; 0 as the group stands for the number of the process itself. At an error the caller may not move
+    /// it, or it or the group isn't there (XSH setpgid).
+    pub fn group_to_join(
+        &mut self,
+        me: Pid,
+        session: Pid,
+        target: &Option<Snapshot>,
+        group: i64,
+    ) -> Result<Pid, Errno>
         requires { AreGrouped self.old.processes }
-        ensures { Finds 1 self.old self.new ((caller : Process) (named : Option Process) → me.now ≡ snapshot_of caller → target.now ≡ option_map snapshot_of named → result ≡ move_to caller named group self.old.processes) }
+        ensures { Finds 1 self.old self.new ((caller : Process) (named : Option Process) → me ≡ caller.pid → session ≡ caller.session → target.now ≡ option_map snapshot_of named → result ≡ move_to caller named group self.old.processes) }
     {
         let _ = &self.table;
         let Ok(group) = u64::try_from(group) else {
@@ -113,29 +121,10 @@ impl<K: Kin> JobTable<K> {
         match target {
             Some(it) => {
                 let group = group_meant(it, group);
-                self.can_move(me, it, group)
+                self.can_move(me, session, it, group)
             }
             None => Err(Errno::ESRCH),
         }
-    }
-
-    /// Which process group the process that a caller names would move to, or none where nobody has that number; 0 as
-    /// the group stands for the number of the process itself. At an error the caller may not move it, or it or the
-    /// group isn't there (XSH setpgid).
-    pub fn group_to_join(
-        &mut self,
-        me: Pid,
-        target: &Option<Snapshot>,
-        group: i64,
-    ) -> Result<Pid, Errno>
-        requires there { IsSome (lookup me self.old.processes) }
-        requires grouped { AreGrouped self.old.processes }
-        ensures { Finds 2 self.old self.new ((caller : Process) (named : Option Process) → lookup me self.old.processes ≡ Some caller → target.now ≡ option_map snapshot_of named → result ≡ move_to caller named group self.old.processes) }
-    {
-        let Some(caller) = self.get(me) else {
-            unreachable!()
-        };
-        self.judge(&caller, target, group)
     }
 
     /// Whether a process is there in the process group with the number of another, zombies included. No slot is

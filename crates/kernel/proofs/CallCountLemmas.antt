@@ -13,18 +13,20 @@ use Rattle.life.specs.Rechecks.{is_in_wait}
 use Rattle.kernel.specs.Counts.{is_kill, delivers_nothing, slots_of_acting}
 use Rattle.posix.specs.declared.call.Call.{Call}
 use Rattle.posix.specs.declared.call.Call.TheVariants.{Waitpid, Kill}
-use Rattle.posix.specs.Processes.{Process}
+use Rattle.posix.specs.Processes.{Process, argument}
 use Rattle.std.specs.Option.{option_map_or}
 use Rattle.posix.specs.Tables.{children_in, members_in}
 use Rattle.posix.specs.Consoles.{Console, key_signal}
 use Rattle.life.specs.Machines.{MachineView}
 use Rattle.life.specs.Consoles.{foreground_members, slots_of_key, slots_of_signal_key}
-use Rattle.calls.specs.Outcomes.{kills_one, slots_of_brief}
+use Rattle.posix.specs.Sends.{signal_or_none}
+use Rattle.posix.specs.Targets.{target_in}
+use Rattle.calls.specs.Outcomes.{is_cont, is_one, slots_of_brief, slots_of_kill}
 
 -- they are a wait and a kill
-pub brief_call : (call : Call) (rs : List Process) (me : Process) (holds : ℕ → Type 0) → (call ≡ Waitpid → holds (9 + 2 * length (children_in me.pid rs))) → (call ≡ Kill → holds 5) → IfSome (slots_of_brief call rs me) holds
+pub brief_call : (call : Call) (rs : List Process) (me : Process) (holds : ℕ → Type 0) → (call ≡ Waitpid → holds (11 + 2 * length (children_in me.pid rs))) → (call ≡ Kill → holds (slots_of_kill rs (target_in (argument me 1)) (is_cont (signal_or_none (argument me 2))) + 1)) → IfSome (slots_of_brief call rs me) holds
 brief_call Waitpid rs me holds waits kills = waits refl
-brief_call Kill rs me holds waits kills = elim (kills_one me) as (λ b. IfSome (cond b (Some 5) None) holds) [ true ↦ kills refl | false ↦ tt ]
+brief_call Kill rs me holds waits kills = elim (is_one (target_in (argument me 1))) as (λ b. IfSome (cond b (Some (slots_of_kill rs (target_in (argument me 1)) (is_cont (signal_or_none (argument me 2))) + 1)) None) holds) [ true ↦ kills refl | false ↦ tt ]
 brief_call call rs me holds waits kills = tt
 
 -- who waits for a child does so
@@ -41,8 +43,8 @@ nothing_delivered s me sig takes waits nothing =
     both_ways _ (and-false (not (is_kill (Some sig)))) no
 
 -- so who is blocked in a call is counted where it waits, and no signal is delivered
-pub acting_blocked : (s : State) (me : Process) (b : Blocked) (holds : ℕ → Type 0) → (b ≡ blocked.Waitpid → delivers_nothing s me ≡ true → holds (9 + 2 * length (children_in me.pid s.processes))) → IfSome (slots_of_acting s me (Some b)) holds
-acting_blocked s me blocked.Waitpid holds h = elim (delivers_nothing s me) as (λ b. delivers_nothing s me ≡ b → IfSome (cond b (Some (9 + 2 * length (children_in me.pid s.processes))) None) holds) [ true ↦ λ e. h refl e | false ↦ λ e. tt ] refl
+pub acting_blocked : (s : State) (me : Process) (b : Blocked) (holds : ℕ → Type 0) → (b ≡ blocked.Waitpid → delivers_nothing s me ≡ true → holds (11 + 2 * length (children_in me.pid s.processes))) → IfSome (slots_of_acting s me (Some b)) holds
+acting_blocked s me blocked.Waitpid holds h = elim (delivers_nothing s me) as (λ b. delivers_nothing s me ≡ b → IfSome (cond b (Some (11 + 2 * length (children_in me.pid s.processes))) None) holds) [ true ↦ λ e. h refl e | false ↦ λ e. tt ] refl
 acting_blocked s me blocked.Read holds h = tt
 acting_blocked s me blocked.Pause holds h = tt
 acting_blocked s me (blocked.Sigsuspend mask) holds h = tt

@@ -1,14 +1,11 @@
 -- How many slots settling reads.
-use Rattle.std.proofs.Common.{◌≡◌, ◌≢◌, ℕ, ◌+◌, ◌*◌, ◌≤◌, suc, Bool, true, false, cond, not, ◌&&◌, ◌||◌, refl, ap, sym, ◌∙◌, arith, List, [], ◌∷◌, length, count_by, Some, None, Option, option_map, filter, slice_get, ◌==◌, is_some}
+use Rattle.std.proofs.Common.{◌≡◌, ◌≢◌, ℕ, ◌+◌, ◌*◌, ◌≤◌, suc, true, false, cond, ◌&&◌, ◌||◌, refl, ap, sym, ◌∙◌, arith, List, [], ◌∷◌, length, count_by, Some, None, Option, option_map, filter, slice_get, ◌==◌, is_some}
 use Rattle.std.specs.Option.{IfSome}
-use Rattle.std.proofs.lemmas.Bool.{eq-eqb, eqb-true, ne_eqb, and_parts, or_left, or_right}
+use Rattle.std.proofs.lemmas.Bool.{eqb-true, ne_eqb, and_parts}
 use Rattle.std.proofs.lemmas.List.Sums.{length-filter}
-use Rattle.posix.specs.declared.process.Blocked.{Blocked}
-use Rattle.posix.specs.declared.process.Blocked.TheVariants as blocked
 use Rattle.posix.specs.Processes.{Process}
 use Rattle.posix.specs.Tables.{lookup, IsRising}
-use Rattle.posix.specs.States.{State, is_in, without}
-use Rattle.posix.specs.Choice.{chosen}
+use Rattle.posix.specs.States.{State}
 use Rattle.posix.specs.Consoles.{Console}
 use Rattle.std.specs.List.{AllByRecursion, list_any}
 use Rattle.posix.specs.GroupCalls.{is_group_of}
@@ -19,59 +16,13 @@ use Rattle.life.specs.declared.consoles.Unchecked.{Unchecked}
 use Rattle.life.specs.declared.consoles.Unchecked.TheVariants.{Nothing, Group, All}
 use Rattle.life.specs.Foregrounds.{is_unchecked}
 use Rattle.life.specs.Machines.{MachineView}
-use Rattle.life.specs.Rechecks.{AreTaking, AreBrief, is_in_wait}
+use Rattle.life.specs.Rechecks.{AreBrief}
 use Rattle.calls.specs.Outcomes.{AreFew, CostsAtMost, IsBrief}
 use Rattle.life.specs.Consoles.{foreground_members, slots_of_key}
 use Rattle.kernel.proofs.CallCountLemmas.{key_slots}
-use Rattle.kernel.specs.Counts.{IsAtRest, ReadsAtMost, slots_of_own_step, slots_of_acting, slots_of_step, slots_of_call, slots_of_rechecking, slots_of_rechecks}
-
--- ---- those to recheck
-
--- fewer of them read no more
-rechecks_less : (rs : List Process) (t : ℕ → Bool) (ns : List ℕ) → slots_of_rechecks rs (filter t ns) ≤ slots_of_rechecks rs ns
-unfolding slots_of_rechecks
-rechecks_less rs t [] = omega arith
-rechecks_less rs t (n ∷ ns) = grind (arith, rechecks_less rs t ns)
-
--- what the first one reads, and what the others do
-pub rechecks_first : (rs : List Process) (ns : List ℕ) (p : ℕ) → slice_get ns 0 ≡ Some p → slots_of_rechecking rs (lookup p rs) + slots_of_rechecks rs (without p ns) ≤ slots_of_rechecks rs ns
-unfolding slots_of_rechecks without
-rechecks_first rs [] p first = absurd (cc)
-rechecks_first rs (n ∷ ns) p first =
-    let same : n ≡ p = cc in
-    let less = rechecks_less rs (λ q. not (q == p)) ns in
-    rw (eq-eqb n p same, same) (omega (arith, less))
-
--- one for each, where a signal is chosen for each
-pub rechecks_taking : (rs : List Process) (ns : List ℕ) → AreTaking rs ns → slots_of_rechecks rs ns ≤ length ns
-unfolding slots_of_rechecks is_in
-rechecks_taking rs [] h = omega arith
-rechecks_taking rs (n ∷ ns) h =
-    let it = h n (or_left _ _ (eq-eqb n n refl)) in
-    let rest = rechecks_taking rs ns (λ p e. h p (or_right _ _ e)) in
-    rw (it.1, it.2) (omega (arith, rest))
-
--- a call that isn't a wait is told of by one more
-call_brief : (rs : List Process) (me : Process) (b : Option Blocked) → not (is_in_wait b) ≡ true → slots_of_call rs me b ≤ 1
-call_brief rs me None e = omega arith
-call_brief rs me (Some blocked.Waitpid) e = absurd (cc)
-call_brief rs me (Some blocked.Read) e = omega arith
-call_brief rs me (Some blocked.Pause) e = omega arith
-call_brief rs me (Some (blocked.Sigsuspend mask)) e = omega arith
-
--- two for each, where no child has to be looked at
-pub rechecks_brief : (rs : List Process) (ns : List ℕ) → AreBrief rs ns → slots_of_rechecks rs ns ≤ 2 * length ns
-unfolding slots_of_rechecks is_in
-rechecks_brief rs [] h = omega arith
-rechecks_brief rs (n ∷ ns) h =
-    let it = h n (or_left _ _ (eq-eqb n n refl)) in
-    let rest = rechecks_brief rs ns (λ p e. h p (or_right _ _ e)) in
-    let one = judged it.0 (is_some (chosen it.0.life it.0.signals)) it.2 in
-    rw it.1 (omega (arith, rest, one))
-  where
-    judged : (r : Process) (b : Bool) → (b || not (is_in_wait r.blocked)) ≡ true → cond b 0 (slots_of_call rs r r.blocked) ≤ 1
-    judged r true e = omega arith
-    judged r false e = call_brief rs r r.blocked e
+use Rattle.calls.specs.Counts.{slots_of_checking, slots_of_rechecks}
+use Rattle.calls.proofs.CountLemmas.{rechecks_brief}
+use Rattle.kernel.specs.Counts.{IsAtRest, ReadsAtMost, slots_of_own_step, slots_of_acting, slots_of_step}
 
 -- ---- foregrounds
 
@@ -121,21 +72,19 @@ one_group g s (c ∷ cs) i some apart fresh = elim (c.foreground == g) as (λ b.
   | false ↦ λ e. one_group g s cs i some (λ i j c d a b k e. let both = apart (suc i) (suc j) c d a b k e in omega (arith, both)) fresh.1
 ] refl
 
--- at most one console is unchecked
-one_unchecked : (s : State) → IsRegular s → AreFresh s → (u : Unchecked) → AreFew u → count_by (is_unchecked u) s.consoles ≤ 1
-one_unchecked s i fresh Nothing few = let none = none_unchecked s.consoles in omega (arith, none)
-one_unchecked s i fresh (Group g) few = let one = one_group g s s.consoles i few i.consoles.apart fresh in let same = length-filter (is_unchecked (Group g)) s.consoles in omega (arith, one, same)
-one_unchecked s i fresh All few = absurd few
+-- no more consoles are unchecked
+few_unchecked : (s : State) → IsRegular s → AreFresh s → (u : Unchecked) → AreFew u → count_by (is_unchecked u) s.consoles ≤ slots_of_checking u
+few_unchecked s i fresh Nothing few = let none = none_unchecked s.consoles in omega (arith, none)
+few_unchecked s i fresh (Group g) few = let one = one_group g s s.consoles i few i.consoles.apart fresh in let same = length-filter (is_unchecked (Group g)) s.consoles in omega (arith, one, same)
+few_unchecked s i fresh All few = absurd few
 
 -- what settling reads after what is brief
-pub settling_brief : (most : ℕ) (old new : MachineView) → IsAtRest old → IsBrief most old new → ReadsAtMost (most + 3) old new
+pub settling_brief : (most : ℕ) (old new : MachineView) → IsAtRest old → IsBrief most old new → ReadsAtMost most old new
 settling_brief most old new rest h =
-    let brief = rechecks_brief new.state.processes new.to_recheck h.brief in
-    let few = h.few in
-    let one = one_unchecked old.state rest.regular rest.settled.fresh new.foregrounds_unchecked h.unchecked in
+    let few = few_unchecked old.state rest.regular rest.settled.fresh new.foregrounds_unchecked h.unchecked in
     let consoles = ap (count_by (is_unchecked new.foregrounds_unchecked)) h.consoles in
-    let read = h.visits in
-    omega (arith, brief, few, one, consoles, read)
+    let read = h.reads in
+    omega (arith, few, consoles, read)
 
 -- and after a step that leaves nothing to settle
 pub settling_none : (n : ℕ) (old new : MachineView) → IsAtRest old → CostsAtMost n old new → ReadsAtMost n old new
@@ -148,11 +97,11 @@ pub step_reads : (old new : MachineView) (o : Option Process) → IsAtRest old �
 step_reads old new None rest costs brief = settling_none 3 old new rest costs
 step_reads old new (Some me) rest costs brief = by (slots_of_own_step old.state (Some me)) costs
   where
-    acts : (a : Option ℕ) → IfSome a (λ n. IsBrief (n + 1) old new) → IfSome (option_map (λ n. n + 4) a) (λ n. ReadsAtMost n old new)
+    acts : (a : Option ℕ) → IfSome a (λ n. IsBrief (n + 1) old new) → IfSome (option_map (λ n. n + 1) a) (λ n. ReadsAtMost n old new)
     acts None h = tt
     acts (Some n) h = let all = settling_brief (n + 1) old new rest h in omega (arith, all)
 
-    by : (own : Option ℕ) → IfSome own (λ n. CostsAtMost n old new) → IfSome (cond (is_some own) own (option_map (λ n. n + 4) (slots_of_acting old.state me me.blocked))) (λ n. ReadsAtMost n old new)
+    by : (own : Option ℕ) → IfSome own (λ n. CostsAtMost n old new) → IfSome (cond (is_some own) own (option_map (λ n. n + 1) (slots_of_acting old.state me me.blocked))) (λ n. ReadsAtMost n old new)
     by None h = acts (slots_of_acting old.state me me.blocked) (brief me refl)
     by (Some n) h = settling_none n old new rest h
 
@@ -161,7 +110,7 @@ pub key_reads : (console byte : ℕ) (old new : MachineView) → IsAtRest old �
     → AreBrief new.state.processes new.to_recheck × (length new.to_recheck ≤ length (foreground_members console old.state)) → ReadsAtMost (1 + 5 * length (foreground_members console old.state)) old new
 key_reads console byte old new rest read still h =
     let slots = key_slots console byte old in
-    let brief = rechecks_brief new.state.processes new.to_recheck h.0 in
+    let brief = rechecks_brief new.state.processes None new.to_recheck h.0 in
     let few = h.1 in
     let none = ap (λ u. count_by (is_unchecked u) new.state.consoles) (still ∙ rest.checked) ∙ none_unchecked new.state.consoles in
     omega (arith, read, slots, brief, few, none)

@@ -1,15 +1,15 @@
 -- How many slots of the table of processes are read in an event, at most.
-use Rattle.std.specs.Prelude.{◌&&◌, ◌||◌, ◌==◌, not, Bool, false, option_map, count_by, ◌≡◌, ℕ, ◌+◌, ◌*◌, ◌≤◌, if◌then◌else◌, List, [], ◌∷◌, length, filter, Option, Some, None, is_some}
+use Rattle.std.specs.Prelude.{◌&&◌, ◌||◌, ◌==◌, not, Bool, false, option_map, count_by, ◌≡◌, ℕ, ◌+◌, ◌*◌, ◌≤◌, if◌then◌else◌, List, [], length, filter, Option, Some, None, is_some}
 use Rattle.posix.specs.declared.event.Event.{Event}
 use Rattle.posix.specs.declared.event.Event.TheVariants.{Step, Tick, Key}
 use Rattle.posix.specs.declared.process.Blocked.{Blocked}
 use Rattle.posix.specs.declared.process.Blocked.TheVariants as blocked
-use Rattle.posix.specs.Processes.{Process, argument}
-use Rattle.posix.specs.Tables.{lookup}
-use Rattle.posix.specs.Targets.{target_in}
+use Rattle.posix.specs.Processes.{Process}
 use Rattle.posix.specs.Alarms.{is_due}
 use Rattle.posix.specs.States.{State, current_process}
 use Rattle.posix.specs.Choice.{chosen}
+use Rattle.posix.specs.declared.call.Call.{Call}
+use Rattle.posix.specs.declared.call.Call.TheVariants.{Waitpid}
 use Rattle.posix.specs.declared.instr.Trap.{Trap}
 use Rattle.posix.specs.declared.instr.Trap.TheVariants as trap
 use Rattle.posix.specs.SignalNumbers.{KILL}
@@ -22,37 +22,16 @@ use Rattle.posix.specs.Step.{code_of}
 use Rattle.life.specs.declared.consoles.Unchecked.TheVariants.{Nothing}
 use Rattle.life.specs.Foregrounds.{is_unchecked}
 use Rattle.life.specs.Consoles.{foreground_members}
+use Rattle.calls.specs.Counts.{slots_of_rechecks}
 use Rattle.calls.specs.Outcomes.{slots_of_brief}
-use Rattle.life.specs.Waits.{slots_of_wait}
 use Rattle.life.specs.Machines.{MachineView}
 use Rattle.kernel.specs.Steps.{next_changes_one, next_enters}
 
 -- ---- after an event
 
--- to tell whether a call goes on in which a process is: a wait is attempted
-abbrev pub slots_of_call : List Process → Process → Option Blocked → ℕ
-slots_of_call rs me None = 0
-slots_of_call rs me (Some blocked.Waitpid) = 2 + slots_of_wait (target_in (argument me 1)) me.pid rs
-slots_of_call rs me (Some blocked.Read) = 1
-slots_of_call rs me (Some blocked.Pause) = 0
-slots_of_call rs me (Some (blocked.Sigsuspend mask)) = 0
-
--- to tell whether a process can act, beside its own: its call doesn't count where a signal is chosen for it
-abbrev pub slots_of_judging : List Process → Process → ℕ
-slots_of_judging rs me = if is_some (chosen me.life me.signals) then 0 else slots_of_call rs me me.blocked
-
-abbrev pub slots_of_rechecking : List Process → Option Process → ℕ
-slots_of_rechecking rs None = 0
-slots_of_rechecking rs (Some me) = 1 + slots_of_judging rs me
-
--- to recheck these
-unfoldable pub slots_of_rechecks : List Process → List ℕ → ℕ
-slots_of_rechecks rs [] = 0
-slots_of_rechecks rs (p ∷ ps) = slots_of_rechecking rs (lookup p rs) + slots_of_rechecks rs ps
-
 -- to settle: one for each console whose foreground process group is unchecked, and those of rechecking
 abbrev pub slots_of_settling : MachineView → ℕ
-slots_of_settling m = count_by (is_unchecked m.foregrounds_unchecked) m.state.consoles + slots_of_rechecks m.state.processes m.to_recheck
+slots_of_settling m = count_by (is_unchecked m.foregrounds_unchecked) m.state.consoles + slots_of_rechecks m.state.processes None m.to_recheck
 
 -- At most so many slots were read, with those that settling reads.
 abbrev pub ReadsAtMost : ℕ → MachineView → MachineView → Type 0
@@ -67,11 +46,16 @@ pub record IsAtRest (m : MachineView) : Type 0 where
 
 -- ---- a step
 
+-- a process that begins a wait may be blocked in it
+abbrev pub slots_of_blocking : Call → ℕ
+slots_of_blocking Waitpid = 1
+slots_of_blocking call = 0
+
 -- an instruction that comes out so: a wait or a kill of one process
 abbrev pub slots_of_trap : List Process → Process → Trap → Option ℕ
 slots_of_trap rs me trap.Next = None
 slots_of_trap rs me (trap.Note z) = None
-slots_of_trap rs me (trap.Call call) = option_map (λ n. n + 2) (slots_of_brief call rs me)
+slots_of_trap rs me (trap.Call call) = option_map (λ n. n + slots_of_blocking call + 1) (slots_of_brief call rs me)
 slots_of_trap rs me (trap.Fault sig) = None
 
 -- KILL is chosen
@@ -83,10 +67,10 @@ is_kill (Some n) = n == KILL
 abbrev pub delivers_nothing : State → Process → Bool
 delivers_nothing s me = not (is_kill (chosen me.life me.signals)) && (not (is_some (chosen me.life me.signals)) || not (is_block (wait s me)))
 
--- what a process in this call reads as it acts, beside its own snapshot
+-- what a process in this call reads as it acts, beside its own snapshot, with what settling reads
 abbrev pub slots_of_acting : State → Process → Option Blocked → Option ℕ
 slots_of_acting s me None = if is_some (chosen me.life me.signals) then None else slots_of_trap s.processes me (exec_one (code_of s me) me.cpu).trap
-slots_of_acting s me (Some blocked.Waitpid) = if delivers_nothing s me then Some (9 + 2 * length (children_in me.pid s.processes)) else None
+slots_of_acting s me (Some blocked.Waitpid) = if delivers_nothing s me then Some (11 + 2 * length (children_in me.pid s.processes)) else None
 slots_of_acting s me (Some blocked.Read) = None
 slots_of_acting s me (Some blocked.Pause) = None
 slots_of_acting s me (Some (blocked.Sigsuspend mask)) = None
@@ -95,10 +79,10 @@ slots_of_acting s me (Some (blocked.Sigsuspend mask)) = None
 abbrev pub slots_of_own_step : State → Option Process → Option ℕ
 slots_of_own_step s me = if next_changes_one s me then Some 3 else if next_enters s me then Some 4 else None
 
--- any step, with what settling reads after it
+-- any step
 abbrev pub slots_of_step : State → Option Process → Option ℕ
 slots_of_step s None = Some 3
-slots_of_step s (Some me) = if is_some (slots_of_own_step s (Some me)) then slots_of_own_step s (Some me) else option_map (λ n. n + 4) (slots_of_acting s me me.blocked)
+slots_of_step s (Some me) = if is_some (slots_of_own_step s (Some me)) then slots_of_own_step s (Some me) else option_map (λ n. n + 1) (slots_of_acting s me me.blocked)
 
 -- ---- an event
 
@@ -107,10 +91,10 @@ abbrev pub alarms_due : State → ℕ
 alarms_due s = length (filter (λ r. is_due (s.ticks + 1) r.alarm) s.processes)
 
 -- At most so many slots are read in an event, where this is Some; no count is promised of the others. A step reads three
--- where its instruction changes the process alone that runs it; four where a machine fault enters a handler; 11 where it
--- is a kill of one process by its number, without CONT; and 15, and two for each child, where it attempts a wait and
--- delivers no signal. A tick reads two for each alarm that is due, a key one, and five for each member of the console's
--- foreground process group.
+-- where its instruction changes the process alone that runs it; four where a machine fault enters a handler; where it is a
+-- kill of one process by its number seven, and with CONT 16, and two for each child of a process that CONT continues in a
+-- wait; and 14, and two for each child, where it attempts a wait and delivers no signal. A tick reads two for each alarm
+-- that is due, a key one, and five for each member of the console's foreground process group.
 abbrev pub slots_of_event : Event → State → Option ℕ
 slots_of_event Step s = slots_of_step s (current_process s)
 slots_of_event Tick s = Some (2 * alarms_due s)

@@ -22,7 +22,7 @@ ghost use Rattle.posix.specs.Tables.{children_in};
 ghost use Rattle.posix.specs.Settle.{is_block};
 ghost use Rattle.pidset.specs.Numbers.{with_number};
 ghost use Rattle.calls.specs.Outcomes.{IsActing, IsQuiet, IsBrief, CostsAtMost, changes_caller_alone, slots_of_brief};
-ghost use Rattle.kernel.specs.Counts.{IsAtRest, ReadsAtMost, alarms_due, delivers_nothing, slots_of_acting, slots_of_event, slots_of_own_step, slots_of_trap};
+ghost use Rattle.kernel.specs.Counts.{IsAtRest, ReadsAtMost, alarms_due, delivers_nothing, slots_of_acting, slots_of_blocking, slots_of_event, slots_of_own_step, slots_of_trap};
 ghost use Rattle.kernel.specs.Steps.{ActsAs, Begins, Bursts, ComesTo, Happens, NoneChosen, RunsInstruction, Steps, next_changes_one, changes_one, next_enters, enters, is_followed_by_step, runner, taken_at_once};
 
 use crate::settle::settle;
@@ -94,7 +94,7 @@ fn begin_call<K: Kin>(machine: &mut Machine<K>, pid: Pid, call: Call, entries: &
     requires none { entries.old.items ≡ [] }
     ensures begins { Begins machine.old.state pid call entries.new.items machine.new.state }
     ensures own { changes_caller_alone call ≡ true → CostsAtMost 1 machine.old machine.new }
-    ensures brief { (me : Process) → process machine.old.state pid ≡ Some me → IsQuiet pid machine.old → IfSome (slots_of_brief call machine.old.state.processes me) (λ n. IsBrief (n + 1) machine.old machine.new) }
+    ensures brief { (me : Process) → process machine.old.state pid ≡ Some me → IsQuiet pid machine.old → IfSome (slots_of_brief call machine.old.state.processes me) (λ n. IsBrief (n + slots_of_blocking call) machine.old machine.new) }
 {
     match attempt(machine, pid, call, entries) {
         Attempt::Done | Attempt::Again => {}
@@ -119,7 +119,7 @@ fn go_on<K: Kin>(
     requires blocked { (me : Process) → process machine.old.state pid ≡ Some me → me.blocked ≡ Some blocked }
     requires none { entries.old.items ≡ [] }
     ensures goes_on { (me : Process) → process machine.old.state pid ≡ Some me → going_on machine.old.state me (attempt_again machine.old.state me blocked) ≡ record { state = machine.new.state; entries = entries.new.items } }
-    ensures brief { (me : Process) → process machine.old.state pid ≡ Some me → IsQuiet pid machine.old → blocked ≡ Blocked.Waitpid → delivers_nothing machine.old.state me ≡ true → IsBrief (9 + 2 * length (children_in pid machine.old.state.processes)) machine.old machine.new }
+    ensures brief { (me : Process) → process machine.old.state pid ≡ Some me → IsQuiet pid machine.old → blocked ≡ Blocked.Waitpid → delivers_nothing machine.old.state me ≡ true → IsBrief (11 + 2 * length (children_in pid machine.old.state.processes)) machine.old machine.new }
 {
     let waits = is_wait(&blocked);
     match attempt_again(machine, pid, blocked, entries) {

@@ -50,10 +50,7 @@ group_bounded s i p g is = by (lookup p s.processes) refl is
   where
     by : (o : Option Process) → lookup p s.processes ≡ o → Some g ≡ option_and_then (anchor_key s.processes) o → g ≤ s.world.pidmax
     by None e k = absurd (cc)
-    by (Some r) e k = elim (is_anchor s.processes r) as (λ b. Some g ≡ cond b (Some r.group) None → g ≤ s.world.pidmax) [
-      | true ↦ λ k. let same : g ≡ r.group = cc in let most = (i.bounded p r e).group in omega (arith, same, most)
-      | false ↦ λ k. absurd (cc)
-    ] k
+    by (Some r) e k = grind (arith, k, (i.bounded p r e).group)
 
 -- none is noted
 pub noted_cleared : (m : ℕ) (groups_at_risk after : PidSetView) → IsNoted m groups_at_risk → after.pids ≡ [] → after.room ≡ groups_at_risk.room → IsNoted m after
@@ -101,17 +98,12 @@ noted_one false g n ns = refl
 pub begin_noted : (rs : List Process) → IsRising rs → (p : ℕ) (me : Process) → lookup p rs ≡ Some me → (none ns : List ℕ) → none ≡ [] → ns ≡ cond (is_anchor rs me) (with_number me.group none) none
     → (n : ℕ) → (is_in n ns || list_any (keeps rs n) (children_in p rs)) ≡ loses_anchor p rs n
 unfolding is_in
-begin_noted rs up p me e none ns empty is n =
-    let one : is_in n ns ≡ (keeps rs n me || is_in n none) = ap (is_in n) is ∙ noted_one (is_anchor rs me) me.group n none in
-    let nothing : is_in n none ≡ false = ap (is_in n) empty in
-    rw (one, nothing) (sym (loses_split p rs n ∙ ap (λ qs. list_any (keeps rs n) qs || list_any (keeps rs n) (children_in p rs)) (numbered_one p rs up me e)))
+begin_noted rs up p me e none ns empty is n = grind (arith, up, e, empty, is, loses_split, noted_one, numbered_one)
 
 -- and goes on from child to child
 pub step_noted : (rs : List Process) (p c : ℕ) (next after : Option ℕ) (at : AtChild rs p c) → next ≡ Some c → after ≡ next_sibling c rs → (ns noted : List ℕ) → noted ≡ cond (is_anchor rs at.what) (with_number at.what.group ns) ns
     → (n : ℕ) → (is_in n noted || list_any (keeps rs n) (left_of after (children_in p rs))) ≡ (is_in n ns || list_any (keeps rs n) (left_of next (children_in p rs)))
-step_noted rs p c next after at comes e ns noted is n =
-    let one : is_in n noted ≡ (keeps rs n at.what || is_in n ns) = ap (is_in n) is ∙ noted_one (is_anchor rs at.what) at.what.group n ns in
-    rw (one, comes, e, at.left) (grind arith)
+step_noted rs p c next after at comes e ns noted is n = grind (arith, comes, e, is, noted_one)
 
 -- ---- all get HUP and CONT
 

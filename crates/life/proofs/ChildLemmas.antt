@@ -1,5 +1,5 @@
 -- The walk over the children of a process, and what a wait learns from one child, or from each.
-use Rattle.std.proofs.Common.{◌≡◌, ◌==◌, ◌<◌, ℕ, cond, option_map, refl, ap, sym, ◌∙◌, subst, arith, List, length, Option, Some, None}
+use Rattle.std.proofs.Common.{◌≡◌, ◌==◌, ◌<◌, ℕ, cond, option_map, refl, ap, sym, ◌∙◌, subst, arith, List, length, Option, Some, None, Bool, ◌&&◌}
 use Rattle.posix.specs.declared.process.Report.{Report}
 use Rattle.posix.specs.declared.process.Report.TheVariants as found
 use Rattle.posix.specs.declared.target.Target.{Target}
@@ -9,13 +9,15 @@ use Rattle.posix.specs.Tables.{IsRising, lookup, children_in, first_pid, above, 
 use Rattle.std.specs.Option.{IsSome, option_map_or}
 use Rattle.posix.specs.States.{State}
 use Rattle.posix.specs.Regular.{IsRegular}
-use Rattle.posix.specs.Waits.{report, report_life, report_of, reporting_in, look}
+use Rattle.posix.specs.Waits.{report, report_life, report_of, reporting_in, look, is_named, reports}
 use Rattle.posix.proofs.WalkLemmas.{AtChild, at_child, at_first}
 use Rattle.posix.proofs.TableLemmas.{pid_looked}
 use Rattle.posix.proofs.ReportingLemmas.{IsReportWalk, AtReporting, at_reporting, reporting_less, report_one, report_nobody}
 use Rattle.proctable.specs.declared.snapshot.Snapshot.{Snapshot}
 use Rattle.proctable.specs.Records.{snapshot_of}
 use Rattle.life.proofs.SoundLemmas.{is_there, snapshot_are}
+use Rattle.std.proofs.lemmas.Option.{same_Some}
+use Rattle.life.specs.Waits.{is_reported}
 use Rattle.posix.proofs.WaitLemmas.{scan, scan_is_report, after_look}
 
 -- the walk over the children of p is at the one that comes next
@@ -62,16 +64,13 @@ none_found rs up p next e target options own = ap (scan own target options found
 pub child_says : (rs : List Process) (p c : ℕ) (next after : Option ℕ) (target : Target) (options : ℕ) (so_far : Report) (w : IsAtChild rs p next) (comes : next ≡ Some c) → after ≡ next_sibling c rs → IsLooking rs p target options so_far next
     → (own : ℕ) (o : Report) → o ≡ look own target options (child_here w comes).what → after_look o so_far (λ s. scan own target options s (left_of after (children_in p rs))) ≡ report rs p own target options
 unfolding scan
-child_says rs p c next after target options so_far w comes e todo own o said =
-    let now : after_look o so_far (λ s. scan own target options s (left_of after (children_in p rs))) ≡ scan own target options so_far (left_of next (children_in p rs)) = rw (comes, e, (child_here w comes).left, said) refl in
-    now ∙ todo own
+child_says rs p c next after target options so_far w comes e todo own o said = grind (arith, e, todo, said, after_look, child_here, scan)
 
 -- a child that has something to report ends the search
 pub found_here : (o so_far : Report) (rest : Report → Report) → (o ≡ found.NoChild → ⊥) → (o ≡ found.Nothing → ⊥) → after_look o so_far rest ≡ o
 found_here found.NoChild so_far rest h k = absurd (h refl)
 found_here found.Nothing so_far rest h k = absurd (k refl)
-found_here (found.End p w) so_far rest h k = refl
-found_here (found.Change p w) so_far rest h k = refl
+found_here o so_far rest h k = refl
 
 -- ---- a walk over those that have something to report
 
@@ -102,3 +101,8 @@ report_read s p own c options i =
       | None ↦ λ e. report_nobody s.processes p own c options e
       | Some r ↦ λ e. report_one s.processes i.rising p own c options r e ∙ ap (λ n. cond (r.parent == p) (report_life options n r.life r.news) found.NoChild) (pid_looked c s.processes r e)
     ] refl
+
+-- what was read says whether a wait reports it
+pub is_reported_read : (p group : ℕ) (target : Target) (options : ℕ) (o : Option Process) (it : Snapshot) → Some it ≡ option_map snapshot_of o → (b : Bool) → ((r : Process) → it ≡ snapshot_of r → (r.parent == p && (is_named group target r && reports options r)) ≡ b) → is_reported p group target options o ≡ b
+is_reported_read p group target options None it e b h = absurd (cc)
+is_reported_read p group target options (Some r) it e b h = h r (same_Some _ _ e)

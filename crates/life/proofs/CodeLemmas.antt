@@ -7,9 +7,9 @@ use Rattle.posix.specs.Processes.{Process}
 use Rattle.posix.specs.States.{Program, State, process, change}
 use Rattle.posix.specs.declared.instr.Trap.{Trap}
 use Rattle.posix.specs.declared.instr.Trap.TheVariants as trap
-use Rattle.posix.specs.Execute.{StaysUnlessRun, Executed, exec_one, faulted, fetched}
+use Rattle.posix.specs.Execute.{StaysUnlessRun, exec_one, faulted, fetched}
 use Rattle.posix.specs.Step.{code_of, instructions, set_cpu}
-use Rattle.umach.specs.Bursts.{then_rest, exec_until}
+use Rattle.umach.specs.Bursts.{exec_until}
 use Rattle.posix.specs.Tables.{IsRising}
 use Rattle.posix.proofs.TableLemmas.{changed_id}
 
@@ -36,8 +36,7 @@ no_code s me e = rw (e, nothing_there me.cpu.pc) refl
 pub no_burst : (s : State) (me : Process) (most : ℕ) → code_of s me ≡ [] → 0 < most → exec_until (code_of s me) most me.cpu ≡ record { count = 0; trap = trap.Fault 11; cpu = me.cpu }
 unfolding exec_until
 no_burst s me zero e lt = absurd (omega (arith, lt))
-no_burst s me (suc most) e lt =
-    ap (λ (x : Executed). then_rest x.trap me.cpu x.cpu (exec_until (code_of s me) most x.cpu)) (no_code s me e)
+no_burst s me (suc most) e lt = grind (arith, e, lt, no_code)
 
 -- a fault changes no record
 pub same_cpu : (s : State) (p : ℕ) (me : Process) → IsRising s.processes → process s p ≡ Some me → s ≡ change s p (set_cpu me.cpu)
@@ -48,5 +47,4 @@ same_cpu s p me up e = ap (λ rs. record s { processes = rs }) (sym (changed_id 
 pub stays_by : {A B : Type 0} (f : A → B) (t : Trap) (a b : A) → StaysUnlessRun t a b → StaysUnlessRun t (f a) (f b)
 stays_by f trap.Next a b h = tt
 stays_by f (trap.Note value) a b h = tt
-stays_by f (trap.Call call) a b h = ap f h
-stays_by f (trap.Fault sig) a b h = ap f h
+stays_by f t a b h = ap f h

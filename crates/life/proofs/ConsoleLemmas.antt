@@ -1,13 +1,13 @@
 -- A machine that gets another console in the place of one.
-use Rattle.std.proofs.Common.{◌≡◌, ◌≢◌, ℕ, suc, ◌+◌, ◌*◌, ◌≤◌, ◌==◌, Bool, true, false, cond, not, ◌&&◌, ◌||◌, refl, ap, sym, ◌∙◌, arith, subst, List, [], Option, Some, None, is_some, length, nat_lt, slice_get, slice_set, slice_index_or, inl, inr, ⊎_elim}
-use Rattle.std.proofs.lemmas.Bool.{false_from_ne_true, or_cases, eqb-true, eqb-false, and_parts, not-true, or_right, ltb-true, cond_both, both_ways}
-use Rattle.std.proofs.lemmas.Option.{slice_get_read, same_Some}
+use Rattle.std.proofs.Common.{◌≡◌, ◌≢◌, ℕ, suc, ◌+◌, ◌*◌, ◌≤◌, ◌==◌, Bool, true, false, cond, not, ◌&&◌, ◌||◌, refl, ap, sym, ◌∙◌, arith, subst, List, [], Option, Some, None, is_some, length, nat_lt, slice_get, slice_set, slice_index_or, inl, inr, ⊎_elim, rules}
+use Rattle.std.proofs.lemmas.Bool.{false_from_ne_true, true_from_ne_false, or_cases, eqb-true, eqb-false, and_parts, not-true, or_right, ltb-true, cond_both, both_ways}
+use Rattle.std.proofs.lemmas.Option.{get_or_from_slice_get, slice_get_read, same_Some}
 use Rattle.posix.specs.declared.process.Blocked.{Blocked}
 use Rattle.posix.specs.declared.process.Blocked.TheVariants as blocked
 use Rattle.posix.specs.SignalNumbers.{CONT, HUP, INT, QUIT, TSTP}
 use Rattle.posix.specs.Processes.{Process, is_running}
 use Rattle.posix.specs.States.{State, process, is_in, has_place}
-use Rattle.posix.specs.Consoles.{Console, console_of, changed_console, key_signal, keyed, keyed_by, edit, flushed, finish_line, released}
+use Rattle.posix.specs.Consoles.{Console, console_of, changed_console, key_signal, keyed, edit, flushed, finish_line, released}
 use Rattle.posix.specs.Choice.{chosen}
 use Rattle.posix.specs.Attempts.{attempt_again}
 use Rattle.posix.specs.Terminals.{is_reader, is_in_read, waits_on, waits_to_read}
@@ -56,10 +56,7 @@ listed_put {readers = readers} s l k d h can = record {
   covers = λ p r found w.
       let awake = and_parts (not (is_in r.pid s.order)) _ w in
       let out : is_in p s.order ≡ false = ap (λ n. is_in n s.order) (sym (pid_looked p s.processes r found)) ∙ not-true _ awake.0 in
-      elim (is_in p l.pids) as (λ b. is_in p l.pids ≡ b → b ≡ true) [
-        | true ↦ λ e. refl
-        | false ↦ λ e. sym e ∙ on_list s l p r h found out (can.acts p r found out e awake.1)
-      ] refl;
+      true_from_ne_false _ (λ e. both_ways _ e (on_list s l p r h found out (can.acts p r found out e awake.1)));
   rising = h.rising;
   there = h.there;
   room = h.room;
@@ -87,17 +84,10 @@ listed_put {readers = readers} s l k d h can = record {
 pub machine_put : (s : State) (pids : Pids) (places : Places) (to_recheck : PidSetView) (groups_at_risk : PidSetView) (readers : List PidSetView) (before after : Unchecked) (k : ℕ) (d : Console)
     → IsMachine s pids places to_recheck groups_at_risk (record { readers = readers; foregrounds_unchecked = before }) → CanPut s to_recheck.pids readers k d → AreFreshBut after s.processes (slice_set s.consoles k d)
     → IsMachine (put s k d) pids places to_recheck groups_at_risk (record { readers = readers; foregrounds_unchecked = after })
-machine_put s pids places to_recheck groups_at_risk readers before after k d h can fresh = record {
-  sound = record {
-    regular = regular_consoles s _ h.sound.regular can.apart;
-    parents = h.sound.parents;
-    counted = h.sound.counted;
-    kept = h.sound.kept;
-  };
-  listed = listed_put s to_recheck k d h.listed can;
-  noted = h.noted;
-  fresh = fresh;
-}
+machine_put s pids places to_recheck groups_at_risk readers before after k d h can fresh =
+    let regular = regular_consoles s _ h.sound.regular can.apart in
+    let listed = listed_put s to_recheck k d h.listed can in
+    search rules
 
 -- ---- which consoles can be put
 
@@ -163,11 +153,8 @@ reads_on s r runs visits none =
     or_right _ _ on
   where
     goes : (b : Option Blocked) → is_in_read b ≡ true → can_go_on s r b ≡ true
-    goes None e = absurd (cc)
-    goes (Some blocked.Waitpid) e = absurd (cc)
     goes (Some blocked.Read) e = ap not (block_read s r ∙ none)
-    goes (Some blocked.Pause) e = absurd (cc)
-    goes (Some (blocked.Sigsuspend mask)) e = absurd (cc)
+    goes b e = absurd (cc)
 
 -- in the place of one that was nobody's, one of a session that had none: its reads were refused, and needn't wait
 pub put_acquired : {readers : List PidSetView} (s : State) (l : PidSetView) (k : ℕ) (c d : Console) → IsRegular s → IsListed s l readers → slice_get s.consoles k ≡ Some c
@@ -200,16 +187,17 @@ put_acquired {readers = readers} s l k c d i h at free none = record {
 pub lent_at : (cs : List Console) (k : ℕ) (c : Console) → true ≡ nat_lt k (length cs) → c ≡ slice_index_or cs k c → slice_get cs k ≡ Some c
 lent_at cs k c within is = slice_get_read cs (length cs) k c refl (ltb-true _ _ (sym within)) is
 
+-- and what was read there is the one that was found
+pub found_there : {cs ds : List Console} {c d : Console} (k : ℕ) (other : Console) → cs ≡ ds → slice_get cs k ≡ Some c → d ≡ slice_index_or ds k other → (slice_get ds k ≡ Some c) × (d ≡ c)
+found_there {ds = ds} {c = c} k other all at read = let here = ap (λ cs. slice_get cs k) (sym all) ∙ at in (here, read ∙ get_or_from_slice_get ds k c other here)
+
 -- there is one or there isn't
 pub not_both : (o : Option Console) (c : Console) → o ≡ Some c → o ≡ None → ⊥
 not_both o c some none = absurd (cc)
 
 -- the same change of equal states
 pub put_is : (s t : State) (k : ℕ) (c d : Console) (f : Console → Console) → s ≡ t → slice_get s.consoles k ≡ Some c → slice_get t.consoles k ≡ Some d → put s k (f c) ≡ put t k (f d)
-put_is s t k c d f same at found =
-    let both : Some c ≡ Some d = sym at ∙ ap (λ (s : State). slice_get s.consoles k) same ∙ found in
-    let is : c ≡ d = cc in
-    ap (λ c. put s k (f c)) is ∙ ap (λ (s : State). put s k (f d)) same
+put_is s t k c d f same at found = grind (arith, same, at, found)
 
 -- ---- the console of a session
 
@@ -219,27 +207,23 @@ pub put_changed : (s : State) (k session : ℕ) (c : Console) (f : Console → C
 put_changed s k session c f i at own some = ap (λ cs. record s { consoles = cs }) (sym (changed_at_place s.world.consoles s.consoles k session c f i.consoles at own some))
 
 -- and nothing is changed where it has none
-pub none_changed : (s : State) (session : ℕ) (f : Console → Console) → console_of session s.consoles ≡ None → s ≡ record s { consoles = changed_console session f s.consoles }
+pub none_changed : {s t : State} {cs : List Console} (session : ℕ) (f : Console → Console) → s ≡ t → cs ≡ s.consoles → console_of session cs ≡ None → t ≡ record t { consoles = changed_console session f t.consoles }
 unfolding changed_console
-none_changed s session f e = ap (λ cs. record s { consoles = cs }) (sym (changed_none session f s.consoles (none_of session s.consoles e)))
+none_changed {t = t} session f same all none =
+    let nobody = ap (λ (s : State). console_of session s.consoles) (sym same) ∙ ap (console_of session) (sym all) ∙ none in
+    ap (λ cs. record t { consoles = cs }) (sym (changed_none session f t.consoles (none_of session t.consoles nobody)))
 
 -- ---- keys
 
 -- a key leaves the foreground process group
 pub foreground_keyed : (byte : ℕ) (c : Console) → (keyed byte c).foreground ≡ c.foreground
 unfolding keyed edit finish_line flushed
-foreground_keyed byte c = elim (key_signal byte) as (λ o. (keyed_by o byte c).foreground ≡ c.foreground) [
-  | None ↦ grind arith
-  | Some n ↦ refl
-]
+foreground_keyed byte c = grind arith
 
 -- and finishes no line but by NL and EOF
 pub lines_keyed : (byte : ℕ) (c : Console) → (byte == 10) ≡ false → (byte == 4) ≡ false → c.lines ≡ [] → (keyed byte c).lines ≡ []
 unfolding keyed edit flushed
-lines_keyed byte c newline eof none = elim (key_signal byte) as (λ o. (keyed_by o byte c).lines ≡ []) [
-  | None ↦ grind (arith, newline, eof, none)
-  | Some n ↦ refl
-]
+lines_keyed byte c newline eof none = grind (arith, newline, eof, none)
 
 -- on a console that isn't there nothing happens
 pub key_nowhere : (s : State) (console byte : ℕ) → console ≡ 0 → s ≡ key s console byte
@@ -271,12 +255,7 @@ none_stays s me none = rw none (sym (cond_both (not (me.pid == 1) && me.session 
 pub leader_hangs_up : (s : State) (k p : ℕ) (me : Process) (c : Console) → IsRegular s → process s p ≡ Some me → hangs_up (snapshot_of me) ≡ true → slice_get s.consoles k ≡ Some c → c.session ≡ me.session
     → put (record s { processes = signalled_group HUP c.foreground s.processes }) k (released c) ≡ hang_up s me
 unfolding hang_up
-leader_hangs_up s k p me c i found leads at own =
-    let least = (i.bounded p me found).session_least in
-    let some : me.session ≢ 0 = λ none. omega (arith, none, least) in
-    let is = console_is s.world.consoles s.consoles k me.session c i.consoles at own some in
-    rw (leads, is)
-    (ap (λ cs. record s { processes = signalled_group HUP c.foreground s.processes; consoles = cs }) (sym (changed_at_place s.world.consoles s.consoles k me.session c released i.consoles at own some)))
+leader_hangs_up s k p me c i found leads at own = grind (arith, i, found, leads, at, own, changed_at_place, console_is)
 
 -- ---- how many slots are read
 
@@ -287,10 +266,8 @@ unfolding key_signal
 key_plain byte sig e = by (byte == 3) (byte == 28) (byte == 26) e
   where
     by : (a b c : Bool) → Some sig ≡ cond a (Some INT) (cond b (Some QUIT) (cond c (Some TSTP) None)) → (sig == CONT) ≡ false
-    by true b c e = rw (same_Some _ _ e) refl
-    by false true c e = rw (same_Some _ _ e) refl
-    by false false true e = rw (same_Some _ _ e) refl
     by false false false e = absurd (cc)
+    by a b c e = rw (same_Some _ _ e) refl
 
 -- and none that gives a signal ends a line
 pub key_is_no_end : (byte : ℕ) → key_signal byte ≢ None → (byte == 10 || byte == 4) ≡ false

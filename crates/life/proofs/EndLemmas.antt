@@ -35,8 +35,7 @@ dropping_departed p heir w ne (r ∷ rs) = grind (arith, ne, dropping_departed p
 -- a removal and a departure may come in either order
 removed_departed : (c p heir w : ℕ) (rs : List Process) → removed c (adopted p heir (changed p (made_zombie w) rs)) ≡ adopted p heir (changed p (made_zombie w) (removed c rs))
 unfolding adopted changed
-removed_departed c p heir w rs =
-    removed_map c (reparented p heir) (pid_reparented p heir) (map (at p (made_zombie w)) rs) ∙ ap (map (reparented p heir)) (removed_map c (at p (made_zombie w)) (at_pid p (made_zombie w) (keeps_pid w)) rs)
+removed_departed c p heir w rs = grind (arith, at_pid, keeps_pid, pid_reparented, removed_map)
 
 -- a notice of an end to the heir, and the departure of another, may come in either order
 notice_after : (s : State) (p heir w c v : ℕ) → heir ≢ p → notice_of_end (leave_children_and_die s p heir w) heir c v ≡ leave_children_and_die (notice_of_end s heir c v) p heir w
@@ -62,9 +61,7 @@ tell_after s p heir w ne (z ∷ zs) =
 -- the end of a process other than process 1
 pub end_is : (s : State) (me : Process) (p heir w : ℕ) → process s p ≡ Some me → p ≢ 1
     → (end_with_heir s me heir w).state ≡ notice_of_end (hup_and_cont_orphans s.processes (tell_of_all (leave_children_and_die s p heir w) heir (zombies_of p s.processes))) me.parent p w
-end_is s me p heir w e other =
-    let named : me.pid ≡ p = pid_looked p s.processes me e in
-    rw (named, ne_eqb p 1 other) refl
+end_is s me p heir w e other = grind (arith, e, other, ne_eqb, pid_looked)
 
 -- who is there is there after a departure
 pub there_after : (s : State) (p heir w q : ℕ) → IsSome (process s q) → IsSome (process (leave_children_and_die s p heir w) q)

@@ -55,20 +55,14 @@ fresh_removed u p it rs cs up found h = fresh_by u (after_loss it.group u) rs (r
 
     apart : (u : Unchecked) (c : Console) → is_unchecked (after_loss it.group u) c ≡ false → (c.foreground == it.group) ≡ false
     apart Nothing c e = e
-    apart (Group h) c e = elim (h == it.group) as (λ b. (h == it.group) ≡ b → is_unchecked (cond b (Group it.group) All) c ≡ false → (c.foreground == it.group) ≡ false) [
-      | true ↦ λ same e. e
-      | false ↦ λ same e. absurd (cc)
-    ] refl e
+    apart (Group h) c e = grind (arith, e)
     apart All c e = absurd (cc)
 
     all : AllByRecursion (λ r. r.pid ≡ p → r.group ≡ it.group) rs
     all = all_looked (λ r. r.pid ≡ p → r.group ≡ it.group) rs up (λ q r e named. let both : Some r ≡ Some it = sym e ∙ ap (λ n. lookup n rs) (sym (pid_looked q rs r e) ∙ named) ∙ found in let is : r ≡ it = cc in ap (λ (r : Process). r.group) is)
 
     still : (c : Console) → (c.foreground == it.group) ≡ false → is_fresh rs c ≡ true → is_fresh (removed p rs) c ≡ true
-    still c other e = elim (c.foreground == 0) as (λ b. (b || is_group_of c.session c.foreground rs) ≡ true → (b || is_group_of c.session c.foreground (removed p rs)) ≡ true) [
-      | true ↦ λ e. refl
-      | false ↦ λ e. group_left p it.group rs all c.session c.foreground (λ same. both_ways _ other (eq-eqb c.foreground it.group (sym same))) e
-    ] e
+    still c other e = grind (arith, e, group_left p it.group rs all c.session c.foreground (λ same. both_ways _ other (eq-eqb c.foreground it.group (sym same))))
 
 -- ---- a console in the place of one
 
@@ -87,9 +81,8 @@ pub fresh_alike : (u : Unchecked) (rs : List Process) (cs : List Console) (k : �
 fresh_alike u rs cs k c d at owner foreground h = fresh_put u rs cs k d h (by u ∙ fresh_at u rs cs k c h at)
   where
     by : (u : Unchecked) → (is_unchecked u d || is_fresh rs d) ≡ (is_unchecked u c || is_fresh rs c)
-    by Nothing = rw (owner, foreground) refl
-    by (Group g) = rw (owner, foreground) refl
     by All = refl
+    by u = rw (owner, foreground) refl
 
 -- ---- foregrounds are cleared
 

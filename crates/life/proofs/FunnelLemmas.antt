@@ -1,26 +1,26 @@
 -- A change of one process, in the parts of a machine.
-use Rattle.std.proofs.Common.{◌≡◌, ◌≢◌, ◌&&◌, ℕ, Bool, true, false, cond, not, refl, ap, sym, ◌∙◌, arith, subst, List, [], ◌∷◌, Option, Some, None, option_map, ◌==◌, inl, inr, ◌⊎◌, ⊎_elim}
-use Rattle.std.specs.Option.{IfSome, IsSome}
+use Rattle.std.proofs.Common.{◌≡◌, ◌≢◌, ◌&&◌, ℕ, Bool, true, false, cond, not, refl, ap, sym, ◌∙◌, arith, subst, List, [], ◌∷◌, Option, Some, None, option_map, ◌==◌, inl, inr, ◌⊎◌, ⊎_elim, ◌++◌, ◌||◌, rules}
+use Rattle.std.specs.Option.{IsSome}
 use Rattle.std.specs.Borrow.{MutBor}
 use Rattle.std.specs.Fn.{Once, FnOnceReturnsAtMut}
-use Rattle.std.proofs.lemmas.Bool.{eqb-true, eq-eqb, ne_eqb, and_parts, cases_eq, cond_both, or_left, or_right, or_parts}
+use Rattle.std.proofs.lemmas.Bool.{eq-eqb, ne_eqb, and_parts, cases_eq, cond_both, or_left, or_right, or_parts}
 use Rattle.std.proofs.lemmas.List.{length-map}
 use Rattle.std.proofs.lemmas.Option.{same_Some}
 use Rattle.posix.specs.declared.process.PendingSignal.{PendingSignal}
-use Rattle.posix.specs.Processes.{Process}
+use Rattle.posix.specs.Processes.{Process, is_zombie}
 use Rattle.posix.specs.declared.process.Effect.TheVariants as effect
 use Rattle.posix.specs.Generation.{signalled, effect_of}
 use Rattle.posix.specs.Statuses.{continued}
-use Rattle.posix.specs.Notices.{told_of_change, noticed_of_change, child_signal, resumed, generated_for}
+use Rattle.posix.specs.Notices.{told_of_change, noticed_of_change, child_signal, resumed, generated_for, ignores_stops}
 use Rattle.posix.specs.Tables.{IsRising, lookup, at, changed, parent_of}
 use Rattle.posix.specs.States.{State, process, change, is_in, change as change_of}
 use Rattle.posix.specs.Regular.{IsRegular, IsPlaced}
-use Rattle.posix.proofs.TableLemmas.{pid_looked, changed_absent}
-use Rattle.posix.proofs.MapLemmas.{at_pid, at_keeps}
+use Rattle.posix.proofs.TableLemmas.{pid_looked, changed_absent, changed_same, lookup_changed, rising_changed}
+use Rattle.posix.proofs.MapLemmas.{at_pid, at_keeps, lookup_back}
 use Rattle.posix.proofs.MemberLemmas.{each}
-use Rattle.posix.proofs.RegularLemmas.{Keeps, regular_change}
-use Rattle.posix.proofs.ChangeLemmas.{Lives, regular_lives, lookup_signalled, continued_cont, generated_as}
-use Rattle.posix.proofs.TouchLemmas.{Touches, touches_shown}
+use Rattle.posix.proofs.RegularLemmas.{Keeps, regular_change, lookup_other}
+use Rattle.posix.proofs.ChangeLemmas.{regular_lives, lookup_signalled, continued_cont, generated_as, keeps_noticed_of_change, unseen_noticed_of_change}
+use Rattle.posix.proofs.TouchLemmas.{Touches, touches_shown, touches_both, touches_unseen}
 use Rattle.posix.proofs.ReportLemmas.{some_changed}
 use Rattle.posix.proofs.FreshLemmas.{fresh_changed}
 use Rattle.pidalloc.specs.Rows.{Pids, regrouped}
@@ -32,69 +32,56 @@ use Rattle.proctable.specs.Records.{process_of, give_record, with_record}
 use Rattle.proctable.proofs.RecordLemmas.{changed_here}
 use Rattle.jobs.specs.declared.books.Seen.{Seen}
 use Rattle.jobs.specs.Books.{record_seen, seen_of, keeps_stance}
-use Rattle.jobs.specs.JobTables.{IsRun}
+use Rattle.jobs.specs.JobTables.{IsRun, StaysPut, takes_signal}
 use Rattle.jobs.proofs.NumberLemmas.{absent_changed}
-use Rattle.jobs.proofs.RunLemmas.{run_as, parent_is}
-use Rattle.jobs.proofs.SnapshotLemmas.{equals, Named, named_there}
+use Rattle.jobs.proofs.RunLemmas.{run_as, put_as, parent_is}
+use Rattle.jobs.proofs.SnapshotLemmas.{differs, equals, Named, named_there}
 use Rattle.jobs.proofs.KeptLemmas.{record_found, length_record}
-use Rattle.life.specs.Machines.{IsKept, IsSound, IsListed, IsMachine, Terminals, MachineView, Costs, Changes, IfThere, IsOther}
-use Rattle.life.specs.Rechecks.{with_numbers, with_parent, rechecking, rechecking_by_signals, rechecking_changed, rechecking_effect, rechecking_generated, slots_of_signal}
+use Rattle.life.specs.Machines.{with_processes, IsKept, IsSound, IsListed, IsMachine, Terminals, MachineView, Costs, Changes, IfThere, IsOther}
+use Rattle.life.specs.Rechecks.{with_numbers, with_parent, rechecking, rechecking_by_signals, rechecking_effect, rechecking_generated, slots_of_signal, awaits, rechecking_told}
 use Rattle.life.specs.declared.consoles.Unchecked.{Unchecked}
 use Rattle.life.specs.declared.consoles.Unchecked.TheVariants.{All}
 use Rattle.life.specs.Foregrounds.{AreFreshBut}
 use Rattle.life.proofs.ForegroundLemmas.{fresh_all, fresh_still}
-use Rattle.life.specs.Changes.{has_moved, CanMoveNumbers, StaysRegular}
+use Rattle.life.specs.Changes.{has_moved, CanMoveNumbers, StaysRegular, lives}
 use Rattle.pidset.specs.Indexes.{HaveParents}
 use Rattle.pidset.proofs.ParentLemmas.{parents_map}
-use Rattle.life.proofs.SoundLemmas.{kept_map, not_many}
+use Rattle.life.proofs.SoundLemmas.{found_in, kept_map, not_many}
 use Rattle.life.proofs.RecheckLemmas.{IsBeside, listed_with, listed_less, listed_signals, unread}
-use Rattle.life.proofs.SignalLemmas.{with_signals}
-use Rattle.jobs.specs.JobTables.{takes_signal}
+use Rattle.life.proofs.SignalLemmas.{with_signals, only_noticed_of_change, touches_signals}
+use Rattle.posix.specs.declared.process.Life.{Life}
+use Rattle.posix.specs.declared.process.News.{News}
+use Rattle.life.proofs.NewsLemmas.{KeepsNumbers, touches_unawaited}
 use Rattle.pidset.proofs.NumberLemmas.{rises_with, in_with}
 
 -- ---- the parent
 
 -- nobody has the number 0
 pub nobody_0 : (s : State) → IsRegular s → lookup 0 s.processes ≡ None
-nobody_0 s i = elim (lookup 0 s.processes) as (λ o. lookup 0 s.processes ≡ o → o ≡ None) [
-  | None ↦ λ e. refl
-  | Some r ↦ λ e. let named = pid_looked 0 s.processes r e in let least = (i.bounded 0 r e).least in absurd (omega (arith, named, least))
-] refl
+nobody_0 s i = grind (arith, pid_looked 0 s.processes, λ (r : Process) (e : lookup 0 s.processes ≡ Some r). (i.bounded 0 r e).least)
 
 -- a parent with another number is there
 pub parent_there : (s : State) (pids : Pids) (places : Places) → IsSound s pids places → (p : ℕ) (me : Process) → lookup p s.processes ≡ Some me → me.parent ≢ 0 → IsSome (lookup me.parent s.processes)
-parent_there s pids places i p me found some = elim (cases_eq p 1) [
-  | inl same ↦
-      let first = i.regular.first in
-      let one : Some me ≡ Some first.what = sym found ∙ ap (λ n. lookup n s.processes) same ∙ first.found in
-      let mine : me ≡ first.what = cc in
-      absurd (some (ap (λ (r : Process). r.parent) mine ∙ first.parent))
-  | inr other ↦ i.parents p me other found
-]
+parent_there s pids places i p me found some = i.parents p me (λ same. some (ap (λ (r : Process). r.parent) (same_Some _ _ (sym found ∙ ap (λ n. lookup n s.processes) same ∙ i.regular.first.found)) ∙ i.regular.first.parent)) found
 
 -- ---- a change that keeps the numbers
 
--- a process keeps its number, its parent's, its group's and its session's
-pub record KeepsNumbers (f : Process → Process) : Type 0 where
-  pub pid : (r : Process) → (f r).pid ≡ r.pid
-  pub parent : (r : Process) → (f r).parent ≡ r.parent
-  pub group : (r : Process) → (f r).group ≡ r.group
-  pub session : (r : Process) → (f r).session ≡ r.session
+sound_changed : (s : State) (pids : Pids) (places : Places) (p : ℕ) (f : Process → Process) → KeepsNumbers f → IsRegular (change s p f) → IsSound s pids places → IsSound (change s p f) pids places
+unfolding changed
+sound_changed s pids places p f k regular i = record {
+  regular = regular;
+  parents = parents_map IsOther (at p f) (at_pid p f k.pid) (at_keeps (λ r. r.parent) p f k.parent) (λ q r other. other) s.processes i.parents;
+  counted = let c = i.counted in let l = length-map s.processes (at p f) in omega (arith, c, l);
+  kept = kept_map (at p f) (at_pid p f k.pid) (at_keeps (λ r. r.group) p f k.group) (at_keeps (λ r. r.session) p f k.session) s.world.pidmax s.processes pids places places (omega arith) i.kept;
+}
+
+-- foregrounds have members as before
+fresh_on : (u : Unchecked) (s : State) (p : ℕ) (f : Process → Process) → KeepsNumbers f → AreFreshBut u s.processes s.consoles → AreFreshBut u (changed p f s.processes) s.consoles
+fresh_on u s p f k fresh = fresh_still _ s.processes _ s.consoles (λ ds h. fresh_changed p f k.group k.session s.processes ds h) fresh
 
 pub machine_changed : {groups_at_risk : PidSetView} {terminals : Terminals} (s : State) (pids : Pids) (places : Places) (to_recheck after : PidSetView) (p : ℕ) (f : Process → Process) → KeepsNumbers f
     → IsRegular (change s p f) → IsMachine s pids places to_recheck groups_at_risk terminals → IsListed (change s p f) after terminals.readers → IsMachine (change s p f) pids places after groups_at_risk terminals
-unfolding changed
-machine_changed s pids places to_recheck after p f k regular i listed = record {
-  sound = record {
-    regular = regular;
-    parents = parents_map IsOther (at p f) (at_pid p f k.pid) (at_keeps (λ r. r.parent) p f k.parent) (λ q r other. other) s.processes i.sound.parents;
-    counted = let c = i.sound.counted in let l = length-map s.processes (at p f) in omega (arith, c, l);
-    kept = kept_map (at p f) (at_pid p f k.pid) (at_keeps (λ r. r.group) p f k.group) (at_keeps (λ r. r.session) p f k.session) s.world.pidmax s.processes pids places places (omega arith) i.sound.kept;
-  };
-  listed = listed;
-  noted = i.noted;
-  fresh = fresh_still _ s.processes _ s.consoles (λ ds h. fresh_changed p f k.group k.session s.processes ds h) i.fresh;
-}
+machine_changed s pids places to_recheck after p f k regular i listed = record { sound = sound_changed s pids places p f k regular i.sound; listed = listed; noted = i.noted; fresh = fresh_on _ s p f k i.fresh }
 
 -- a record with other signals, and another alarm
 signals_are : (rs : List Process) → IsRising rs → (p : ℕ) (b c : Record) → lookup p rs ≡ Some (process_of p (parent_of p rs) b) → c ≡ record b { alarm = c.alarm; own = record (b.own) { signals = c.own.signals } } → with_record rs p c ≡ changed p (with_signals c.own.signals c.alarm) rs
@@ -127,11 +114,7 @@ not_moved old new h = let both = and_parts (old.group == new.group && old.sessio
 
 numbers_as : (rs : List Process) → IsRising rs → (p : ℕ) (b c : Record) → lookup p rs ≡ Some (process_of p (parent_of p rs) b) → has_moved (record_seen b) (record_seen c) ≡ false → with_record rs p c ≡ changed p (keep_numbers c) rs
 unfolding give_record
-numbers_as rs up p b c found still =
-    let apart = or_parts (not (b.group == c.group)) (not (b.session == c.session)) still in
-    let group = equals b.group c.group apart.0 in
-    let session = equals b.session c.session apart.1 in
-    changed_here rs up p b c (keep_numbers c) found (λ q. rw (group, session) refl)
+numbers_as rs up p b c found still = grind (arith, up, found, still, changed_here, equals, or_parts)
 
 -- the rows count the records with it, where the numbers that it bears move with it
 numbers_kept : (m p : ℕ) (b c : Record) (rs : List Process) (pids now : Pids) (places : Places) → IsRising rs → lookup p rs ≡ Some (process_of p (parent_of p rs) b)
@@ -216,6 +199,82 @@ machine_shown {terminals = terminals} s pids now places to_recheck after p paren
       ] refl);
     }))
 
+-- ---- a child that was stopped or continued
+
+keeps_lives : (l : Life) (n : News) → KeepsNumbers (lives l n)
+keeps_lives l n = record { pid = λ r. refl; parent = λ r. refl; group = λ r. refl; session = λ r. refl }
+
+pub keeps_notice : (signal : PendingSignal) → KeepsNumbers (noticed_of_change signal)
+keeps_notice signal =
+    let only = only_noticed_of_change signal in
+    record { pid = λ r. ap (λ (q : Process). q.pid) (only r); parent = λ r. ap (λ (q : Process). q.parent) (only r); group = λ r. ap (λ (q : Process). q.group) (only r); session = λ r. ap (λ (q : Process). q.session) (only r) }
+
+-- whether a parent waits for a child doesn't depend on its signals
+awaits_noticed : (signal : PendingSignal) (parent child : Process) → awaits (noticed_of_change signal parent) child ≡ awaits parent child
+unfolding awaits noticed_of_change signalled
+awaits_noticed signal parent child = cond_both (ignores_stops parent.signals) parent (signalled signal parent) (λ q. awaits q child ≡ awaits parent child) (λ e. refl) (λ e. refl)
+
+-- who is rechecked then: the child, and its parent where that waits for the child, or takes a signal
+listed_told : {readers : List PidSetView} (s : State) (pids : Pids) (places : Places) → IsSound s pids places → (p w : ℕ) (l : Life) (n : News) (me : Process) → process s p ≡ Some me → (before after : PidSetView) → IsListed s before readers
+    → let t = record s { processes = told_of_change w me (changed p (lives l n) s.processes) } in after.pids ≡ rechecking_told (lives l n me) (process t me.parent) s.order before.pids → after.room ≡ before.room → IsListed t after readers
+unfolding told_of_change with_numbers changed
+listed_told {readers = readers} s pids places i p w l n me found before after h put room = by (process t q) refl put
+  where
+    q : ℕ
+    q = me.parent
+
+    f : Process → Process
+    f = lives l n
+
+    g : Process → Process
+    g = noticed_of_change (child_signal me.pid w)
+
+    mid : State
+    mid = change s p f
+
+    t : State
+    t = change mid q g
+
+    keeps : (r : Process) → (g r).pid ≡ r.pid
+    keeps = (keeps_notice (child_signal me.pid w)).pid
+
+    stay : (x : ℕ) → IsSome (process s x) → IsSome (process t x)
+    stay x here = some_changed q x g keeps (changed p f s.processes) (some_changed p x f (λ r. refl) s.processes here)
+
+    nobody : process t 0 ≡ None
+    nobody = absent_changed q g keeps 0 (changed p f s.processes) (absent_changed p f (λ r. refl) 0 s.processes (nobody_0 s i.regular))
+
+    both : after.pids ≡ with_parent q s.order (with_number p before.pids) → IsListed t after readers
+    both is = listed_changed s t p q before after ((q ∷ []) ++ (p ∷ q ∷ [])) h
+        (touches_both s mid t (p ∷ q ∷ []) (q ∷ []) (touches_shown s p f (λ r. refl) (λ r. refl) i.regular.rising me found) (touches_unseen mid q g (unseen_noticed_of_change (child_signal me.pid w)))) (refl, refl, λ x u e. e) refl stay
+        (stay p (rw found refl)) (λ some. stay q (parent_there s pids places i p me found some)) nobody (λ x e. each (λ x. (x ≡ p) ⊎ (x ≡ q)) (q ∷ p ∷ q ∷ []) (inr refl, (inl refl, (inr refl, tt))) x e) is room
+
+    by : (o : Option Process) → process t q ≡ o → after.pids ≡ rechecking_told (f me) o s.order before.pids → IsListed t after readers
+    by None none is = elim (cases_eq q 0) [
+      | inl root ↦ both (is ∙ rw (eq-eqb q 0 root, pid_looked p s.processes me found) refl)
+      | inr some ↦ let here = stay q (parent_there s pids places i p me found some) in let nobody = subst IsSome none here in absurd (cc)
+    ]
+    by (Some up) there is =
+        let named = pid_looked q t.processes up there in
+        let some : q ≢ 0 = λ root. let no = sym nobody ∙ ap (process t) (sym root) ∙ there in absurd (cc) in
+        let mine = pid_looked p s.processes me found in
+        elim (awaits up (f me) || takes_signal up) as (λ b. (awaits up (f me) || takes_signal up) ≡ b → after.pids ≡ cond b (rechecking up.pid s.order (with_number me.pid before.pids)) (with_number me.pid before.pids) → IsListed t after readers) [
+          | true ↦ λ k e. both (e ∙ rw (ne_eqb q 0 some, named, mine) refl)
+          | false ↦ λ k e.
+              let none = or_parts (awaits up (f me)) (takes_signal up) k in
+              let b = lookup_back (at q g) (at_pid q g keeps) q mid.processes up there in
+              let its : up ≡ g b.what = b.is ∙ ap (λ x. cond x (g b.what) b.what) (eq-eqb b.what.pid q (pid_looked q mid.processes b.what b.found)) in
+              let is_signals : t.processes ≡ changed q (with_signals (g b.what).signals (g b.what).alarm) mid.processes = changed_same q g (with_signals (g b.what).signals (g b.what).alarm) mid.processes (rising_changed p f (λ r. refl) s.processes i.regular.rising) b.what b.found (only_noticed_of_change (child_signal me.pid w) b.what) in
+              listed_with s t before after (p ∷ []) (p ∷ []) h
+              (touches_both s mid t (p ∷ []) []
+              (touches_unawaited s p f (keeps_lives l n) i.regular.rising me found (λ parent ne here.
+              let same : b.what ≡ parent = same_Some _ _ (sym b.found ∙ lookup_other p q f (λ r. refl) ne s.processes parent here) in
+              sym (awaits_noticed (child_signal me.pid w) parent (f me)) ∙ ap (λ r. awaits (g r) (f me)) (sym same) ∙ ap (λ r. awaits r (f me)) (sym its) ∙ none.0))
+              (subst (λ rs. Touches mid (record mid { processes = rs }) []) (sym is_signals) (touches_signals mid q (g b.what).signals (g b.what).alarm (λ r here.
+              ap takes_signal (same_Some _ _ (sym here ∙ ap (lookup q) (sym is_signals) ∙ there)) ∙ none.1))))
+              (refl, refl, λ x u e. e) stay (stay p (rw found refl), tt) (λ x theirs e. e) (e ∙ ap (λ m. with_number m before.pids) mine) room
+        ] refl is
+
 -- what the rows need for it
 pub can_move_numbers : (s : State) (pids : Pids) (places : Places) → IsSound s pids places → (p : ℕ) (b c : Record) → lookup p s.processes ≡ Some (process_of p (parent_of p s.processes) b) → IsRegular (record s { processes = with_record s.processes p c })
     → CanMoveNumbers pids (record_seen b) (record_seen c)
@@ -223,22 +282,9 @@ can_move_numbers s pids places i p b c found regular =
     let most = i.kept.greatest in
     let old = i.regular.bounded p (process_of p (parent_of p s.processes) b) found in
     let new = regular.bounded p (process_of p (parent_of p s.processes) c) (record_found s.processes p b c found) in
-    let group = old.group in
-    let session = old.session in
-    let to_group = new.group in
-    let to_session = new.session in
     let many = not_many s pids places i in
-    let r : CanRegroup pids b.group b.session c.group c.session = can_regroup pids p c.group c.session (process_of p (parent_of p s.processes) b) s.processes i.kept.tallied (omega (arith, many)) found (omega (arith, group, most)) (omega (arith, session, most)) (omega (arith, to_group, most)) (omega (arith, to_session, most)) in
-    record {
-      group_range = omega (arith, group, most);
-      session_range = omega (arith, session, most);
-      to_group_range = omega (arith, to_group, most);
-      to_session_range = omega (arith, to_session, most);
-      group_count = r.group_count;
-      session_count = r.session_count;
-      to_group_count = r.to_group_count;
-      to_session_count = r.to_session_count;
-    }
+    let r : CanRegroup pids b.group b.session c.group c.session = can_regroup pids p c.group c.session (process_of p (parent_of p s.processes) b) s.processes i.kept.tallied (omega (arith, many)) found (omega (arith, old.group, most)) (omega (arith, old.session, most)) (omega (arith, new.group, most)) (omega (arith, new.session, most)) in
+    search (rules, arith)
 
 -- ---- by what the closure did
 
@@ -270,10 +316,113 @@ pub stays_regular : {F T : Type 0} {g : Once F (MutBor Record × Unit {0}) (T ×
     → ((b c : Record) (r : T) → FnOnceReturnsAtMut g change b r c → (q : ℕ) → process_of p q c ≡ f (process_of p q b)) → StaysRegular g change s p
 stays_regular p f s k did = stays_so p f s (regular_change p f s k) did
 
--- and where it lives and goes on to live
-pub stays_living : {F T : Type 0} {g : Once F (MutBor Record × Unit {0}) (T × (MutBor Record × Unit {0}))} {change : F} (p : ℕ) (f : Process → Process) (s : State) → Lives f → IsPlaced s.processes p
-    → ((b c : Record) (r : T) → FnOnceReturnsAtMut g change b r c → (q : ℕ) → process_of p q c ≡ f (process_of p q b)) → StaysRegular g change s p
-stays_living p f s k me did = stays_so p f s (regular_lives p f k s me.what me.found me.living) did
+-- p, this process, which is no zombie, lives so in the table mid, and this is its parent
+pub record HasLived (s : State) (p parent : ℕ) (l : Life) (n : News) (me : Process) (mid : List Process) : Type 0 where
+  pub found : process s p ≡ Some me
+  pub living : is_zombie me.life ≡ false
+  pub up : parent ≡ me.parent
+  pub is : mid ≡ changed p (lives l n) s.processes
+
+pub has_lived : {F : Type 0} {g : Once F (MutBor Record × Unit {0}) (Unit {0} × (MutBor Record × Unit {0}))} {change : F} {mid : List Process} {r : Unit {0}} (s t : State) (p parent : ℕ) (l : Life) (n : News) → s ≡ t → IsRegular s → (me : IsPlaced t.processes p) → IsRun g change s.processes mid p r
+    → ((b c : Record) (r : Unit {0}) → FnOnceReturnsAtMut g change b r c → (q : ℕ) → process_of p q c ≡ lives l n (process_of p q b)) → parent ≡ parent_of p s.processes → HasLived s p parent l n me.what mid
+has_lived s t p parent l n same i me run did its =
+    let found = found_in s t same p me.what me.found in
+    record { found = found; living = me.living; up = parent_is p parent s.processes me.what its found; is = run_as (lives l n) run i.rising did }
+
+-- it stays in its process group and its session, and isn't revived
+pub lived_put : {F : Type 0} {g : Once F (MutBor Record × Unit {0}) (Unit {0} × (MutBor Record × Unit {0}))} {change : F} {s : State} {p parent : ℕ} {l : Life} {n : News} {me : Process} {mid : List Process} → HasLived s p parent l n me mid → is_zombie l ≡ false
+    → ((b c : Record) (r : Unit {0}) → FnOnceReturnsAtMut g change b r c → (q : ℕ) → process_of p q c ≡ lives l n (process_of p q b)) → StaysPut g change s.processes p
+lived_put {s = s} {p = p} {l = l} {n = n} k on did = put_as p s.processes (lives l n) (λ r found. let living = ap (λ (q : Process). is_zombie q.life) (same_Some _ _ (sym found ∙ k.found)) ∙ k.living in grind (arith, on, living)) did
+
+-- what became of the processes, and of those to recheck, once its parent was told
+pub record IsTold (s : State) (p w : ℕ) (f : Process → Process) (me : Process) (ts : List Process) (before after : List ℕ) : Type 0 where
+  pub processes : ts ≡ told_of_change w me (changed p f s.processes)
+  pub list : after ≡ rechecking_told (f me) (lookup me.parent ts) s.order before
+
+-- the parent that is told is there
+pub told_there : {s : State} {pids : Pids} {places : Places} {p parent : ℕ} {l : Life} {n : News} {me : Process} {mid : List Process} → IsSound s pids places → HasLived s p parent l n me mid → not (parent == 0) ≡ true → IsSome (lookup parent mid)
+told_there {s = s} {pids = pids} {places = places} {p = p} {parent = parent} {l = l} {n = n} {me = me} i k other =
+    rw k.is (some_changed p parent (lives l n) (λ r. refl) s.processes (rw k.up (parent_there s pids places i p me k.found (λ root. differs parent 0 other (k.up ∙ root)))))
+
+pub told_parent : {s : State} {pids : Pids} {places : Places} {p parent w : ℕ} {l : Life} {n : News} {me : Process} {mid ts : List Process} {seen : Seen} {acts : Bool} {before put after : List ℕ} → IsSound s pids places → HasLived s p parent l n me mid → not (parent == 0) ≡ true
+    → ts ≡ changed parent (noticed_of_change (child_signal p w)) mid → option_map seen_of (lookup p mid) ≡ Some seen → ((up it : Process) → lookup parent ts ≡ Some up → it.pid ≡ p → seen ≡ seen_of it → acts ≡ (awaits up it || takes_signal up))
+    → put ≡ with_number p before → after ≡ cond acts (rechecking parent s.order put) put → IsTold s p w (lives l n) me ts before after
+unfolding told_of_change
+told_parent {s = s} {p = p} {parent = parent} {w = w} {l = l} {n = n} {me = me} {mid = mid} {ts = ts} {seen = seen} {acts = acts} {before = before} i k other told sees does put is = record {
+  processes = rw (told, named, ← k.up, ← k.is) refl;
+  list = is ∙ ap (λ ns. cond acts (rechecking parent s.order ns) ns) put ∙ by (lookup me.parent ts) refl;
+}
+  where
+    named : me.pid ≡ p
+    named = pid_looked p s.processes me k.found
+
+    here : lookup p mid ≡ Some (lives l n me)
+    here = ap (lookup p) k.is ∙ lookup_changed p p (lives l n) (λ r. refl) s.processes ∙ rw (eq-eqb p p refl, k.found) refl
+
+    by : (o : Option Process) → lookup me.parent ts ≡ o → cond acts (rechecking parent s.order (with_number p before)) (with_number p before) ≡ rechecking_told (lives l n me) o s.order before
+    by None none = let stays = subst IsSome (ap (lookup parent) (sym told) ∙ ap (λ q. lookup q ts) k.up ∙ none) (some_changed parent parent (noticed_of_change (child_signal p w)) (keeps_notice (child_signal p w)).pid mid (told_there i k other)) in absurd (cc)
+    by (Some up) e =
+        let at_parent : lookup parent ts ≡ Some up = ap (λ q. lookup q ts) k.up ∙ e in
+        rw (does up (lives l n me) at_parent named (seen_is (lookup p mid) (lives l n me) seen sees here), named, pid_looked parent ts up at_parent) refl
+
+-- without a parent nobody is told
+pub told_nobody : {s : State} {p parent w : ℕ} {l : Life} {n : News} {me : Process} {mid : List Process} {before after : List ℕ} → IsRegular s → HasLived s p parent l n me mid → not (parent == 0) ≡ false → after ≡ with_number p before → IsTold s p w (lives l n) me mid before after
+unfolding told_of_change
+told_nobody {s = s} {p = p} {parent = parent} {w = w} {l = l} {n = n} {me = me} {mid = mid} {before = before} i k root put =
+    let rs = changed p (lives l n) s.processes in
+    let none : lookup me.parent rs ≡ None = ap (λ q. lookup q rs) (sym k.up ∙ equals parent 0 root) ∙ absent_changed p (lives l n) (λ r. refl) 0 s.processes (nobody_0 s i) in
+    record {
+      processes = k.is ∙ sym (changed_absent me.parent (noticed_of_change (child_signal me.pid w)) rs none);
+      list = put ∙ ap (λ q. with_number q before) (sym (pid_looked p s.processes me k.found)) ∙ ap (λ o. rechecking_told (lives l n me) o s.order before) (sym (ap (lookup me.parent) k.is ∙ none));
+    }
+
+pub machine_told : {groups_at_risk : PidSetView} {terminals : Terminals} {s : State} {pids : Pids} {places : Places} {before after : PidSetView} {p parent w : ℕ} {l : Life} {n : News} {me : Process} {mid ts : List Process} → HasLived s p parent l n me mid → is_zombie l ≡ false
+    → IsMachine s pids places before groups_at_risk terminals → IsTold s p w (lives l n) me ts before.pids after.pids → after.room ≡ before.room → IsMachine (record s { processes = ts }) pids places after groups_at_risk terminals
+unfolding told_of_change
+machine_told {groups_at_risk = groups_at_risk} {terminals = terminals} {s = s} {pids = pids} {places = places} {before = before} {after = after} {p = p} {w = w} {l = l} {n = n} {me = me} k lives_on i told room =
+    let f = lives l n in
+    let signal = child_signal me.pid w in
+    let g = noticed_of_change signal in
+    let regular = regular_lives p f (record { pid = λ r. refl; parent = λ r. refl; group = λ r. refl; session = λ r. refl; living = λ r. lives_on; alarm = λ r. refl }) s me k.found k.living i.sound.regular in
+    let put = told.list ∙ ap (λ rs. rechecking_told (f me) (lookup me.parent rs) s.order before.pids) told.processes in
+    subst (λ rs. IsMachine (record s { processes = rs }) pids places after groups_at_risk terminals) (sym told.processes) (record {
+      sound = sound_changed (change s p f) pids places me.parent g (keeps_notice signal) (regular_change me.parent g (change s p f) (keeps_noticed_of_change signal) regular) (sound_changed s pids places p f (keeps_lives l n) regular i.sound);
+      listed = listed_told s pids places i.sound p w l n me k.found before after i.listed put room;
+      noted = i.noted;
+      fresh = fresh_on _ (change s p f) me.parent g (keeps_notice signal) (fresh_on _ s p f (keeps_lives l n) i.fresh);
+    })
+
+pub told_changes : {was old new : MachineView} {p parent w : ℕ} {l : Life} {n : News} {me : Process} {mid ts : List Process} {after : List ℕ} → was ≡ old → HasLived was.state p parent l n me mid → IsTold was.state p w (lives l n) me ts was.to_recheck after → new.state ≡ with_processes was.state ts → new.to_recheck ≡ after
+    → new.foregrounds_unchecked ≡ was.foregrounds_unchecked → Costs 3 was new → IfThere p old (λ r. Changes 3 old new (with_processes old.state (told_of_change w r (changed p (lives l n) old.state.processes))) (rechecking_told (lives l n r) (process new.state r.parent) old.state.order old.to_recheck))
+told_changes {was = was} {new = new} {p = p} {w = w} {l = l} {n = n} {me = me} same k told state list still costs =
+    subst (λ old. IfThere p old (λ r. Changes 3 old new (with_processes old.state (told_of_change w r (changed p (lives l n) old.state.processes))) (rechecking_told (lives l n r) (process new.state r.parent) old.state.order old.to_recheck))) same (λ r there.
+    subst (λ r. Changes 3 was new (with_processes was.state (told_of_change w r (changed p (lives l n) was.state.processes))) (rechecking_told (lives l n r) (process new.state r.parent) was.state.order was.to_recheck)) (same_Some _ _ (sym k.found ∙ there)) (record {
+      state = state ∙ ap (with_processes was.state) told.processes;
+      to_recheck = list ∙ told.list ∙ ap (λ (t : State). rechecking_told (lives l n me) (process t me.parent) was.state.order was.to_recheck) (sym state);
+      foregrounds_unchecked = still;
+      costs = costs;
+    }))
+
+-- What became of the processes rs where a parent got notice, and whether it can act by that: it waits for the child that is
+-- seen so, or takes a signal.
+pub record IsNoticed (rs ts : List Process) (parent child w : ℕ) (seen : Seen) (result : Bool) : Type 0 where
+  pub processes : ts ≡ changed parent (noticed_of_change (child_signal child w)) rs
+  pub acts : (me it : Process) → lookup parent ts ≡ Some me → it.pid ≡ child → seen ≡ seen_of it → result ≡ (awaits me it || takes_signal me)
+
+pub is_noticed : {F : Type 0} {g : Once F (MutBor Record × Unit {0}) (Bool × (MutBor Record × Unit {0}))} {change : F} {rs ts : List Process} {p : ℕ} {b t : Bool} (child w : ℕ) (seen : Seen) (acts : Bool) (signal : PendingSignal) → signal ≡ child_signal child w → IsRun g change rs ts p b → IsRising rs → IsSome (lookup p rs)
+    → ((d e : Record) (r : Bool) → FnOnceReturnsAtMut g change d r e → (q : ℕ) → (process_of p q e ≡ noticed_of_change signal (process_of p q d)) × ((it : Process) → it.pid ≡ child → seen ≡ seen_of it → r ≡ awaits (noticed_of_change signal (process_of p q d)) it))
+    → option_map takes_signal (lookup p ts) ≡ Some t → acts ≡ (b || t) → IsNoticed rs ts p child w seen acts
+is_noticed {rs = rs} {p = p} child w seen acts signal is run up here did takes both =
+    let f = noticed_of_change signal in
+    let ran = has_run f (λ r b. (it : Process) → it.pid ≡ child → seen ≡ seen_of it → b ≡ awaits (f r) it) run up here did in
+    let was = ap (lookup p) ran.is ∙ lookup_changed p p f (keeps_notice signal).pid rs ∙ rw (eq-eqb p p refl, ran.me.found) refl in
+    record {
+      processes = ran.is ∙ ap (λ (x : PendingSignal). changed p (noticed_of_change x) rs) is;
+      acts = λ me it found named sees.
+          let same : me ≡ f (record (ran.me.what) { pid = p }) = same_Some _ _ (sym found ∙ was) in
+          let signal : takes_signal me ≡ _ = same_Some _ _ (ap (option_map takes_signal) (sym found) ∙ takes) in
+          both ∙ rw (ran.says it named sees, sym signal) (ap (λ r. awaits r it || takes_signal me) (sym same));
+    }
 
 -- ---- the list of those to recheck
 
@@ -288,85 +437,54 @@ pub with_lost : (t : Bool) (p : ℕ) (ns : List ℕ) → with_number p (cond t (
 with_lost true p ns = with_twice p ns
 with_lost false p ns = refl
 
--- a parent that was rechecked with its child is rechecked once
-parent_twice : (parent : ℕ) (order ns : List ℕ) → cond (parent == 0) (with_parent parent order ns) (rechecking parent order (with_parent parent order ns)) ≡ with_parent parent order ns
-parent_twice parent order ns = elim (parent == 0) as (λ b. cond b (cond b ns (rechecking parent order ns)) (rechecking parent order (cond b ns (rechecking parent order ns))) ≡ cond b ns (rechecking parent order ns)) [
-  | true ↦ refl
-  | false ↦ elim (is_in parent order) as (λ b. cond b (cond b ns (with_number parent ns)) (with_number parent (cond b ns (with_number parent ns))) ≡ cond b ns (with_number parent ns)) [ true ↦ refl | false ↦ with_twice parent ns ]
-]
+-- so for a child that was stopped
+pub told_lost : (t : Bool) (p : ℕ) (child : Process) → child.pid ≡ p → (parent : Option Process) (order ns : List ℕ) → rechecking_told child parent order (cond t (with_number p ns) ns) ≡ rechecking_told child parent order ns
+told_lost t p child named parent order ns = by parent (ap (λ q. with_number q (cond t (with_number p ns) ns)) named ∙ with_lost t p ns ∙ ap (λ q. with_number q ns) (sym named))
+  where
+    by : (parent : Option Process) → with_number child.pid (cond t (with_number p ns) ns) ≡ with_number child.pid ns → rechecking_told child parent order (cond t (with_number p ns) ns) ≡ rechecking_told child parent order ns
+    by None e = e
+    by (Some up) e = ap (λ l. cond (awaits up child || takes_signal up) (rechecking up.pid order l) l) e
 
--- a change of number 0 changes nobody
-pub told_or_none : (parent : ℕ) (s : State) (f : Process → Process) → lookup 0 s.processes ≡ None → cond (parent == 0) s (change_of s parent f) ≡ change_of s parent f
-told_or_none parent s f none = elim (parent == 0) as (λ b. (parent == 0) ≡ b → cond b s (change_of s parent f) ≡ change_of s parent f) [
-  | true ↦ λ e. ap (λ rs. record s { processes = rs }) (sym (changed_absent parent f s.processes (subst (λ n. lookup n s.processes ≡ None) (sym (eqb-true parent 0 e)) none)))
-  | false ↦ λ e. refl
-] refl
-
--- a signal that was generated changes neither whom a change is told nor who is rechecked
+-- a signal that was generated changes nothing of whom a change is told
 pub told_signalled : (w : ℕ) (signal : PendingSignal) (r : Process) (rs : List Process) → told_of_change w (signalled signal r) rs ≡ told_of_change w r rs
 unfolding told_of_change signalled
 told_signalled w signal r rs = refl
 
-pub rechecking_signalled : (signal : PendingSignal) (r : Process) (order ns : List ℕ) → rechecking_changed (signalled signal r) order ns ≡ rechecking_changed r order ns
-unfolding signalled
-rechecking_signalled signal r order ns = refl
-
--- The process p was changed by f, and its parent, if it has one, got notice of it.
-pub told_changed : (p parent w : ℕ) (f : Process → Process) (s mid new : State) (me : Process) → ((r : Process) → (f r).pid ≡ r.pid) → IsRegular s → process s p ≡ Some me → parent ≡ parent_of p s.processes → mid ≡ change s p f
-    → new ≡ cond (parent == 0) mid (change mid parent (noticed_of_change (child_signal p w))) → new ≡ record s { processes = told_of_change w me (changed p f s.processes) }
-unfolding told_of_change
-told_changed p parent w f s mid new me k i found its is told =
-    told ∙ ap (λ (t : State). cond (parent == 0) t (change t parent (noticed_of_change (child_signal p w)))) is
-    ∙ told_or_none parent (change s p f) (noticed_of_change (child_signal p w)) (absent_changed p f k 0 s.processes (nobody_0 s i))
-    ∙ ap (λ q. change (change s p f) q (noticed_of_change (child_signal p w))) (parent_is p parent s.processes me its found)
-    ∙ ap (λ q. change (change s p f) me.parent (noticed_of_change (child_signal q w))) (sym (pid_looked p s.processes me found))
-
--- who is found by a number has it
-pub named_parent : (s : State) (p : ℕ) → IfSome (process s p) (λ r. r.pid ≡ p)
-named_parent s p = elim (process s p) as (λ o. process s p ≡ o → IfSome o (λ r. r.pid ≡ p)) [ None ↦ λ e. tt | Some r ↦ λ e. pid_looked p s.processes r e ] refl
-
--- so with who is rechecked
-pub rechecked_told : (parent : ℕ) (me : Process) (order ns mid new : List ℕ) (o : Option Process) → IfSome o (λ r. r.pid ≡ parent) → parent ≡ me.parent → mid ≡ rechecking_changed me order ns → new ≡ cond (parent == 0) mid (rechecking_by_signals o order mid) → new ≡ rechecking_changed me order ns
-rechecked_told parent me order ns mid new None named its put told = told ∙ cond_both (parent == 0) mid mid (λ l. l ≡ mid) (λ e. refl) (λ e. refl) ∙ put
-rechecked_told parent me order ns mid new (Some r) named its put told = by (takes_signal r) (told ∙ ap (λ n. cond (parent == 0) mid (cond (takes_signal r) (rechecking n order mid) mid)) named)
-  where
-    by : (t : Bool) → new ≡ cond (parent == 0) mid (cond t (rechecking parent order mid) mid) → new ≡ rechecking_changed me order ns
-    by false e = e ∙ cond_both (parent == 0) mid mid (λ l. l ≡ mid) (λ e. refl) (λ e. refl) ∙ put
-    by true e =
-        e ∙ ap (λ l. cond (parent == 0) l (rechecking parent order l)) put
-        ∙ ap (λ q. cond (q == 0) (rechecking_changed me order ns) (rechecking q order (rechecking_changed me order ns))) its
-        ∙ parent_twice me.parent order (with_number me.pid ns)
-
 -- a signal was generated for p, which does nothing more
 pub signal_ends : (signal : PendingSignal) (p : ℕ) (old new : MachineView) (r : Process) → process old.state p ≡ Some (record r { pid = p }) → effect.Nothing ≡ effect_of p r.life signal r.signals → new.state ≡ change old.state p (signalled signal)
-    → new.to_recheck ≡ rechecking_by_signals (process new.state p) old.state.order old.to_recheck → new.foregrounds_unchecked ≡ old.foregrounds_unchecked → Costs 1 old new → Changes (slots_of_signal signal.sig) old new (record (old.state) { processes = generated_for signal (process old.state p) old.state.processes }) (rechecking_generated signal (process old.state p) old.state.order old.to_recheck)
+    → new.to_recheck ≡ rechecking_by_signals (process new.state p) old.state.order old.to_recheck → new.foregrounds_unchecked ≡ old.foregrounds_unchecked → Costs 1 old new → Changes (slots_of_signal signal.sig) old new (record (old.state) { processes = generated_for signal (process old.state p) old.state.processes }) (rechecking_generated signal (process old.state p) old.state.processes old.state.order old.to_recheck)
 signal_ends signal p old new r found does state list still costs = record {
   foregrounds_unchecked = still;
   state = state ∙ ap (λ rs. record (old.state) { processes = rs }) (sym (generated_as signal p old.state.processes (record r { pid = p }) effect.Nothing found (sym does)));
   to_recheck =
-      list ∙ ap (λ o. rechecking_by_signals o old.state.order old.to_recheck) (ap (λ (t : State). process t p) state ∙ lookup_signalled signal (record r { pid = p }) p old.state.processes found)
-      ∙ ap (λ w. rechecking_effect w (record r { pid = p }) old.state.order (rechecking_by_signals (Some (signalled signal (record r { pid = p }))) old.state.order old.to_recheck)) does ∙ ap (λ o. rechecking_generated signal o old.state.order old.to_recheck) (sym found);
+      let it = record r { pid = p } in
+      list ∙ ap (λ o. rechecking_by_signals o old.state.order old.to_recheck) (ap (λ (t : State). process t p) state ∙ lookup_signalled signal it p old.state.processes found)
+      ∙ ap (λ w. rechecking_effect w (signalled signal it) (generated_for signal (Some it) old.state.processes) old.state.order (rechecking_by_signals (Some (signalled signal it)) old.state.order old.to_recheck)) does
+      ∙ ap (λ o. rechecking_generated signal o old.state.processes old.state.order old.to_recheck) (sym found);
   costs = record { visits = grind (arith, costs.visits); groups_at_risk = costs.groups_at_risk; regular = costs.regular };
 }
 
 -- or continues it
 pub signal_continues : (signal : PendingSignal) (p : ℕ) (old mid new : MachineView) (r : Process) → process old.state p ≡ Some (record r { pid = p }) → effect.Continued ≡ effect_of p r.life signal r.signals → mid.state ≡ change old.state p (signalled signal)
     → mid.to_recheck ≡ rechecking_by_signals (process mid.state p) old.state.order old.to_recheck → mid.foregrounds_unchecked ≡ old.foregrounds_unchecked → Costs 1 old mid
-    → IfThere p mid (λ me. Changes 3 mid new (record (mid.state) { processes = told_of_change continued me (changed p resumed mid.state.processes) }) (rechecking_changed me mid.state.order mid.to_recheck))
-    → Changes (slots_of_signal signal.sig) old new (record (old.state) { processes = generated_for signal (process old.state p) old.state.processes }) (rechecking_generated signal (process old.state p) old.state.order old.to_recheck)
+    → IfThere p mid (λ me. Changes 3 mid new (record (mid.state) { processes = told_of_change continued me (changed p resumed mid.state.processes) }) (rechecking_told (resumed me) (process new.state me.parent) mid.state.order mid.to_recheck))
+    → Changes (slots_of_signal signal.sig) old new (record (old.state) { processes = generated_for signal (process old.state p) old.state.processes }) (rechecking_generated signal (process old.state p) old.state.processes old.state.order old.to_recheck)
 signal_continues signal p old mid new r found does state list still costs continues =
     let s = old.state in
     let it = record r { pid = p } in
-    let then = continues (signalled signal it) (ap (λ (t : State). process t p) state ∙ lookup_signalled signal it p s.processes found) in
-    let put = list ∙ ap (λ o. rechecking_by_signals o s.order old.to_recheck) (ap (λ (t : State). process t p) state ∙ lookup_signalled signal it p s.processes found) in
+    let child = signalled signal it in
+    let here = lookup_signalled signal it p s.processes found in
+    let then = (rw (list, state) at (continues child)) here in
     let cont : (signal.sig == 18) ≡ true = continued_cont p signal it (sym does) in
+    let told : new.state ≡ record s { processes = generated_for signal (process s p) s.processes } =
+    then.state ∙ ap (λ rs. record s { processes = rs }) (told_signalled continued signal it (changed p resumed (changed p (signalled signal) s.processes)) ∙ sym (generated_as signal p s.processes it effect.Continued found (sym does))) in
     record {
-      state =
-          then.state ∙ ap (λ (t : State). record t { processes = told_of_change continued (signalled signal it) (changed p resumed t.processes) }) state
-          ∙ ap (λ rs. record s { processes = rs }) (told_signalled continued signal it (changed p resumed (changed p (signalled signal) s.processes)) ∙ sym (generated_as signal p s.processes it effect.Continued found (sym does)));
+      state = told;
       to_recheck =
-          then.to_recheck ∙ ap (λ (t : State). rechecking_changed (signalled signal it) t.order mid.to_recheck) state ∙ rechecking_signalled signal it s.order mid.to_recheck ∙ ap (rechecking_changed it s.order) put
-          ∙ ap (λ w. rechecking_effect w it s.order (rechecking_by_signals (Some (signalled signal it)) s.order old.to_recheck)) does ∙ ap (λ o. rechecking_generated signal o s.order old.to_recheck) (sym found);
+          rw (told, here) at then.to_recheck
+          ∙ ap (λ o. rechecking_told (resumed child) (lookup child.parent (generated_for signal o s.processes)) s.order (rechecking_by_signals (Some child) s.order old.to_recheck)) found
+          ∙ ap (λ w. rechecking_effect w child (generated_for signal (Some it) s.processes) s.order (rechecking_by_signals (Some child) s.order old.to_recheck)) does
+          ∙ ap (λ o. rechecking_generated signal o s.processes s.order old.to_recheck) (sym found);
       foregrounds_unchecked = then.foregrounds_unchecked ∙ still;
-      costs = record { visits = rw cont (let one = costs.visits in let more = then.costs.visits in omega (arith, one, more)); groups_at_risk = then.costs.groups_at_risk ∙ costs.groups_at_risk; regular = costs.regular };
+      costs = record { visits = rw cont (omega (arith, costs.visits, then.costs.visits)); groups_at_risk = then.costs.groups_at_risk ∙ costs.groups_at_risk; regular = costs.regular };
     }

@@ -30,10 +30,6 @@ keeps_give_own o = record { pid = λ r. refl; parent = λ r. refl; group = λ r.
 pub unseen_give_own : (o : OwnPart) → Unseen (give_own o)
 unseen_give_own o = record { pid = λ r. refl; parent = λ r. refl; group = λ r. refl; life = λ r. refl; news = λ r. refl }
 
--- what was read is that of the process that is there
-pub own_if : (s t : State) → s ≡ t → (p : ℕ) (o : OwnPart) → IfSome (process s p) (λ me. o ≡ own_of me) → IfSome (process t p) (λ me. o ≡ own_of me)
-own_if s t same p o h = subst (λ (x : State). IfSome (process x p) (λ me. o ≡ own_of me)) same h
-
 -- the value of a loan, said of the record that is there
 pub own_is : (s : State) (p : ℕ) (o : OwnPart) (me : Process) → IfSome (process s p) (λ r. o ≡ own_of r) → process s p ≡ Some me → o ≡ own_of me
 own_is s p o me h e = own_found s.processes p o me h e

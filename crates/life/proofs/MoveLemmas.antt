@@ -1,15 +1,14 @@
 -- Whom setpgid moves, and who stays in its process group.
-use Rattle.std.proofs.Common.{◌≡◌, ◌==◌, ◌||◌, not, true, ℕ, ℤ, pos, negsuc, inl, inr, arith, List, refl, ap, sym, ◌∙◌, Option, Some, option_map, Ok, Result}
+use Rattle.std.proofs.Common.{◌≡◌, ◌==◌, ◌||◌, true, ℕ, ℤ, pos, negsuc, inl, inr, arith, List, ap, sym, ◌∙◌, Option, Some, option_map, Ok, Result}
 use Rattle.posix.specs.declared.errno.Errno.{Errno}
-use Rattle.posix.specs.Processes.{Process, is_zombie}
+use Rattle.posix.specs.Processes.{Process}
 use Rattle.std.proofs.lemmas.Bool.{eqb-true, and_parts, or_cases}
 use Rattle.posix.specs.Tables.{IsRising, lookup, is_member}
 use Rattle.posix.proofs.WalkLemmas.{some_looked, any_looked}
 use Rattle.jobs.specs.JobTables.{IsGroupFor}
 use Rattle.posix.specs.States.{State, process, change}
-use Rattle.posix.specs.Regular.{IsPlaced, IsRegular}
+use Rattle.posix.specs.Regular.{IsRegular}
 use Rattle.jobs.specs.Books.{keeps_stance, seen_of}
-use Rattle.posix.specs.Notices.{stopped_by, resumed}
 use Rattle.posix.specs.Ends.{ended, made_zombie}
 use Rattle.posix.specs.Waits.{news_told}
 use Rattle.posix.specs.GroupCalls.{named, move_to, in_group, is_group_of}
@@ -54,17 +53,6 @@ is_moving s t same i p me word z group it target answer here read value was is =
     record { what = r.what; found = found; regular = regular_move_to s i me r.what z group found moves; joins = group_for me r.what z group s.processes i.rising moves }
 
 -- ---- who stays in its process group and its session, and isn't revived
-
-alive : (rs : List Process) (p : ℕ) → IsPlaced rs p → (r : Process) → lookup p rs ≡ Some r → not (is_zombie r.life) ≡ true
-alive rs p me r e = let both : Some me.what ≡ Some r = sym me.found ∙ e in let one : me.what ≡ r = cc in rw (← one, me.living) refl
-
-pub stopped_put : (n : ℕ) (rs : List Process) (p : ℕ) → IsPlaced rs p → (r : Process) → lookup p rs ≡ Some r → keeps_stance (seen_of r) (seen_of (stopped_by n r)) ≡ true
-unfolding stopped_by
-stopped_put n rs p me r e = let living = alive rs p me r e in grind arith
-
-pub resumed_put : (rs : List Process) (p : ℕ) → IsPlaced rs p → (r : Process) → lookup p rs ≡ Some r → keeps_stance (seen_of r) (seen_of (resumed r)) ≡ true
-unfolding resumed
-resumed_put rs p me r e = let living = alive rs p me r e in grind arith
 
 pub ended_put : (n : ℕ) (r : Process) → keeps_stance (seen_of r) (seen_of (ended n r)) ≡ true
 unfolding ended

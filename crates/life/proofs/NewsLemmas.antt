@@ -1,10 +1,11 @@
--- News that were told let nobody act: a wait that had to wait finds no more than before.
-use Rattle.std.proofs.Common.{◌≡◌, ℕ, Bool, true, false, cond, not, ◌&&◌, ◌||◌, is_some, pos, refl, ap, sym, ◌∙◌, subst, List, [], ◌∷◌, map, filter, find, Option, Some, None, ◌==◌, arith}
-use Rattle.std.proofs.lemmas.Bool.{cond_both, both_ways}
+-- What a change of one child is for those who wait: a wait that had to wait finds no more than before, where no child that
+-- it means has more to report.
+use Rattle.std.proofs.Common.{◌≡◌, ℕ, Bool, true, false, cond, not, ◌&&◌, ◌||◌, is_some, pos, refl, ap, sym, ◌∙◌, subst, List, [], ◌∷◌, map, filter, find, Option, Some, None, ◌==◌, arith, ◌≢◌, inl, inr}
+use Rattle.std.proofs.lemmas.Bool.{cond_both, cases_eq, ne_eqb, eq-eqb}
 use Rattle.posix.specs.declared.process.Blocked.{Blocked}
 use Rattle.posix.specs.declared.process.Blocked.TheVariants as blocked
 use Rattle.posix.specs.declared.process.Life.{Life}
-use Rattle.posix.specs.declared.process.Life.TheVariants.{Running, Stopped, Zombie}
+use Rattle.posix.specs.declared.process.Life.TheVariants.{Zombie}
 use Rattle.posix.specs.declared.process.Report.{Report}
 use Rattle.posix.specs.declared.process.Report.TheVariants as found
 use Rattle.posix.specs.declared.process.News.TheVariants as news
@@ -19,124 +20,173 @@ use Rattle.posix.specs.Targets.{target_in}
 use Rattle.posix.specs.Outcomes.{Block, finish_with, refused}
 use Rattle.posix.specs.Generation.{is_pending}
 use Rattle.posix.specs.Choice.{chosen}
-use Rattle.posix.specs.Tables.{at, changed, children_in}
-use Rattle.posix.specs.States.{State, change}
+use Rattle.posix.specs.Tables.{at, changed, children_in, lookup, IsRising, is_child}
+use Rattle.posix.specs.States.{State, change, process, is_in}
 use Rattle.posix.specs.Waits.{wait, wait_with, is_named, report, report_of, report_life, report_found, report_among, reports, is_something, news_told, options_in, are_known, has_option}
 use Rattle.posix.specs.Terminals.{waits_to_read}
 use Rattle.posix.specs.Attempts.{attempt_again}
 use Rattle.posix.specs.Settle.{can_act, can_go_on, is_block}
 use Rattle.posix.proofs.MapLemmas.{at_pid, at_keeps, lookup_back, children_map, filter_map}
 use Rattle.posix.proofs.SeeLemmas.{acts_less, block_read}
-use Rattle.posix.proofs.TouchLemmas.{Touches}
+use Rattle.std.specs.List.{AllByRecursion}
+use Rattle.life.specs.Rechecks.{awaits, is_in_wait}
+use Rattle.posix.proofs.TableLemmas.{pid_looked, rising_filter}
+use Rattle.posix.proofs.WalkLemmas.{all_looked, in_filter}
+use Rattle.posix.proofs.RegularLemmas.{other_back}
+use Rattle.posix.proofs.MemberLemmas.{apart_first}
+use Rattle.std.proofs.lemmas.Option.{same_Some}
+use Rattle.posix.proofs.TouchLemmas.{Touches, touches_shown, stands}
 
 -- ---- what is reported
 
 -- a child reports no more than before
 told_life : (options p : ℕ) (l : Life) (n : News) → is_something (report_life options p l news.Nothing) ≡ true → is_something (report_life options p l n) ≡ true
-told_life options p Running n e = absurd (cc)
-told_life options p Stopped n e = absurd (cc)
 told_life options p (Zombie status) n e = refl
+told_life options p l n e = absurd (cc)
 
 told_less : (options : ℕ) (r : Process) → reports options (news_told r) ≡ true → reports options r ≡ true
 unfolding report_of news_told
 told_less options r e = told_life options r.pid r.life r.news e
 
 -- who found nothing found nobody who reports
-quiet : (options : ℕ) (rs : List Process) → report_found options (find (reports options) rs) ≡ found.Nothing → find (reports options) rs ≡ None
+pub quiet : (options : ℕ) (rs : List Process) → report_found options (find (reports options) rs) ≡ found.Nothing → find (reports options) rs ≡ None
 quiet options [] e = refl
-quiet options (r ∷ rs) e =
-    elim (is_something (report_of options r)) as (λ b. is_something (report_of options r) ≡ b → report_found options (cond b (Some r) (find (reports options) rs)) ≡ found.Nothing → cond b (Some r) (find (reports options) rs) ≡ None) [
-      | true ↦ λ t k. absurd (both_ways _ (ap is_something k) t)
-      | false ↦ λ t k. quiet options rs k
-    ] refl e
+quiet options (r ∷ rs) e = grind (arith, e, quiet options rs)
 
--- and finds nobody where each reports no more than before
-none_more : (t : Process → Bool) (g : Process → Process) → ((r : Process) → t (g r) ≡ true → t r ≡ true) → (rs : List Process) → find t rs ≡ None → find t (map g rs) ≡ None
-none_more t g less [] e = refl
-none_more t g less (r ∷ rs) e = grind (arith, e, less r, none_more t g less rs)
+-- and finds nobody where each that is named reports no more than before
+none_more : (named t : Process → Bool) (g : Process → Process) → ((r : Process) → named (g r) ≡ named r) → (rs : List Process) → AllByRecursion (λ r. named r ≡ true → t (g r) ≡ true → t r ≡ true) rs → find t (filter named rs) ≡ None → find t (filter named (map g rs)) ≡ None
+none_more named t g same [] less e = refl
+none_more named t g same (r ∷ rs) less e = grind (arith, e, same r, less.0, none_more named t g same rs less.1)
 
 -- so it is of those that are named
-among_still : (options group : ℕ) (target : Target) (g : Process → Process) → ((r : Process) → is_named group target (g r) ≡ is_named group target r) → ((r : Process) → reports options (g r) ≡ true → reports options r ≡ true)
-    → (ks : List Process) → report_among options (filter (is_named group target) ks) ≡ found.Nothing → report_among options (filter (is_named group target) (map g ks)) ≡ found.Nothing
-among_still options group target g same less ks e = ap (report_among options) (filter_map (is_named group target) g same ks) ∙ by (filter (is_named group target) ks) e
+among_still : (options : ℕ) (named : Process → Bool) (g : Process → Process) → ((r : Process) → named (g r) ≡ named r) → (ks : List Process) → AllByRecursion (λ r. named r ≡ true → reports options (g r) ≡ true → reports options r ≡ true) ks
+    → report_among options (filter named ks) ≡ found.Nothing → report_among options (filter named (map g ks)) ≡ found.Nothing
+among_still options named g same ks less e = by (filter named ks) refl e
   where
-    by : (l : List Process) → report_among options l ≡ found.Nothing → report_among options (map g l) ≡ found.Nothing
-    by [] e = absurd (cc)
-    by (r ∷ rs) e = ap (report_found options) (none_more (reports options) g less (r ∷ rs) (quiet options (r ∷ rs) e))
+    by : (l : List Process) → filter named ks ≡ l → report_among options l ≡ found.Nothing → report_among options (filter named (map g ks)) ≡ found.Nothing
+    by [] is e = absurd (cc)
+    by (r ∷ rs) is e =
+        let all : filter named (map g ks) ≡ map g (r ∷ rs) = filter_map named g same ks ∙ ap (map g) is in
+        let none = none_more named (reports options) g same ks less (ap (find (reports options)) is ∙ quiet options (r ∷ rs) e) in
+        ap (report_among options) all ∙ ap (report_found options) (sym (ap (find (reports options)) all) ∙ none)
 
 -- ---- who can act
 
-named_told : (p group : ℕ) (target : Target) (r : Process) → is_named group target (at p news_told r) ≡ is_named group target r
-unfolding news_told
-named_told p group (whom.Process q) r = at_keeps (λ r. r.pid == q) p news_told (λ r. refl) r
-named_told p group whom.OwnGroup r = at_keeps (λ r. r.group == group) p news_told (λ r. refl) r
-named_told p group (whom.Group g) r = at_keeps (λ r. r.group == g) p news_told (λ r. refl) r
-named_told p group whom.All r = refl
-named_told p group whom.Nobody r = refl
+-- a process keeps its number, its parent's, its group's and its session's
+pub record KeepsNumbers (f : Process → Process) : Type 0 where
+  pub pid : (r : Process) → (f r).pid ≡ r.pid
+  pub parent : (r : Process) → (f r).parent ≡ r.parent
+  pub group : (r : Process) → (f r).group ≡ r.group
+  pub session : (r : Process) → (f r).session ≡ r.session
 
-report_still : (p options caller group : ℕ) (target : Target) (rs : List Process) → report rs caller group target options ≡ found.Nothing → report (changed p news_told rs) caller group target options ≡ found.Nothing
-unfolding report changed news_told
-report_still p options caller group target rs e =
-    ap (λ ks. report_among options (filter (is_named group target) ks)) (children_map (at p news_told) (at_keeps (λ r. r.parent) p news_told (λ r. refl)) caller rs)
-    ∙ among_still options group target (at p news_told) (named_told p group target) (λ r. cond_both (r.pid == p) (news_told r) r (λ q. reports options q ≡ true → reports options r ≡ true) (λ e. told_less options r) (λ e k. k)) (children_in caller rs) e
+named_kept : (p : ℕ) (f : Process → Process) → KeepsNumbers f → (group : ℕ) (target : Target) (r : Process) → is_named group target (at p f r) ≡ is_named group target r
+named_kept p f k group (whom.Process q) r = at_keeps (λ r. r.pid == q) p f (λ r. ap (λ n. n == q) (k.pid r)) r
+named_kept p f k group whom.OwnGroup r = at_keeps (λ r. r.group == group) p f (λ r. ap (λ n. n == group) (k.group r)) r
+named_kept p f k group (whom.Group g) r = at_keeps (λ r. r.group == g) p f (λ r. ap (λ n. n == g) (k.group r)) r
+named_kept p f k group target r = refl
+
+-- After a change of p, of those whom a wait means each has no more to report to it than before.
+abbrev TellsNoMore : (Process → Process) → List Process → ℕ → ℕ → Target → ℕ → Type 0
+TellsNoMore f rs p group target options = (k : Process) → lookup k.pid rs ≡ Some k → is_named group target k ≡ true → reports options (at p f k) ≡ true → reports options k ≡ true
+
+report_still : (p : ℕ) (f : Process → Process) → KeepsNumbers f → (rs : List Process) → IsRising rs → (options caller group : ℕ) (target : Target) → TellsNoMore f rs p group target options
+    → report rs caller group target options ≡ found.Nothing → report (changed p f rs) caller group target options ≡ found.Nothing
+unfolding report changed children_in
+report_still p f k rs up options caller group target less e =
+    ap (λ ks. report_among options (filter (is_named group target) ks)) (children_map (at p f) (at_keeps (λ r. r.parent) p f k.parent) caller rs)
+    ∙ among_still options (is_named group target) (at p f) (named_kept p f k group target) (filter (is_child caller) rs)
+    (all_looked _ (filter (is_child caller) rs) (rising_filter (is_child caller) rs up) (λ q r here.
+    let it = in_filter (is_child caller) rs up q r here in
+    less r (ap (λ n. lookup n rs) (pid_looked q rs r it.found) ∙ it.found))) e
 
 -- a wait that has to wait found nothing
 block_nothing : (s : State) (p options : ℕ) (o : Report) → is_block (wait_with s p options o) ≡ true → o ≡ found.Nothing
-block_nothing s p options found.NoChild e = absurd (cc)
 block_nothing s p options found.Nothing e = refl
-block_nothing s p options (found.End c w) e = absurd (cc)
-block_nothing s p options (found.Change c w) e = absurd (cc)
+block_nothing s p options o e = absurd (cc)
 
-block_still : (s : State) (p : ℕ) (me : Process) → is_block (wait s me) ≡ true → is_block (wait (change s p news_told) me) ≡ true
+-- who can be told nothing more by a change of p still has to wait
+abbrev LearnsNoMore : State → ℕ → (Process → Process) → Process → Type 0
+LearnsNoMore s p f r = TellsNoMore f s.processes p r.group (target_in (argument r 1)) (options_in (argument r 2))
+
+block_still : (s : State) (p : ℕ) (f : Process → Process) → KeepsNumbers f → IsRising s.processes → (me : Process) → LearnsNoMore s p f me → is_block (wait s me) ≡ true → is_block (wait (change s p f) me) ≡ true
 unfolding wait
-block_still s p me e =
+block_still s p f k up me less e =
     let options = options_in (argument me 2) in
     let target = target_in (argument me 1) in
     elim (are_known options) as (λ b. is_block (cond b (wait_with s me.pid options (report s.processes me.pid me.group target options)) (refused s me.pid Waitpid EINVAL)) ≡ true
-    → is_block (cond b (wait_with (change s p news_told) me.pid options (report (changed p news_told s.processes) me.pid me.group target options)) (refused (change s p news_told) me.pid Waitpid EINVAL)) ≡ true) [
+    → is_block (cond b (wait_with (change s p f) me.pid options (report (changed p f s.processes) me.pid me.group target options)) (refused (change s p f) me.pid Waitpid EINVAL)) ≡ true) [
       | true ↦ λ e.
           let none = block_nothing s me.pid options (report s.processes me.pid me.group target options) e in
-          rw (report_still p options me.pid me.group target s.processes none) (still (has_option options 1) (subst (λ o. is_block (wait_with s me.pid options o) ≡ true) none e))
+          rw (report_still p f k s.processes up options me.pid me.group target less none) (still (has_option options 1) (subst (λ o. is_block (wait_with s me.pid options o) ≡ true) none e))
       | false ↦ λ e. absurd (cc)
     ] e
   where
-    still : (b : Bool) → is_block (cond b (finish_with s me.pid Waitpid (pos 0)) (Block blocked.Waitpid)) ≡ true → is_block (cond b (finish_with (change s p news_told) me.pid Waitpid (pos 0)) (Block blocked.Waitpid)) ≡ true
+    still : (b : Bool) → is_block (cond b (finish_with s me.pid Waitpid (pos 0)) (Block blocked.Waitpid)) ≡ true → is_block (cond b (finish_with (change s p f) me.pid Waitpid (pos 0)) (Block blocked.Waitpid)) ≡ true
     still true e = e
     still false e = refl
 
--- whoever can act then could before
-told_acts : (s : State) (p : ℕ) (r : Process) → can_act (change s p news_told) r ≡ true → can_act s r ≡ true
+-- whoever can act then could before, where its wait learns no more
+acts_no_more : (s : State) (p : ℕ) (f : Process → Process) → KeepsNumbers f → IsRising s.processes → (r : Process) → (is_in_wait r.blocked ≡ true → LearnsNoMore s p f r) → can_act (change s p f) r ≡ true → can_act s r ≡ true
 unfolding attempt_again waits_to_read
-told_acts s p r e = acts_less s (change s p news_told) r (λ l k. goes r.blocked k) e
+acts_no_more s p f k up r learns e = acts_less s (change s p f) r (λ l c. goes r.blocked learns c) e
   where
     less : (a b : Bool) → (a ≡ true → b ≡ true) → not b ≡ true → not a ≡ true
     less true b k e = sym (ap not (k refl)) ∙ e
     less false b k e = refl
 
-    goes : (b : Option Blocked) → can_go_on (change s p news_told) r b ≡ true → can_go_on s r b ≡ true
-    goes None k = refl
-    goes (Some blocked.Waitpid) k = less (is_block (wait s r)) (is_block (wait (change s p news_told) r)) (block_still s p r) k
-    goes (Some blocked.Read) k = ap not (block_read s r ∙ sym (block_read (change s p news_told) r)) ∙ k
-    goes (Some blocked.Pause) k = k
-    goes (Some (blocked.Sigsuspend mask)) k = k
+    goes : (b : Option Blocked) → (is_in_wait b ≡ true → LearnsNoMore s p f r) → can_go_on (change s p f) r b ≡ true → can_go_on s r b ≡ true
+    goes (Some blocked.Waitpid) h c = less (is_block (wait s r)) (is_block (wait (change s p f) r)) (block_still s p f k up r (h refl)) c
+    goes (Some blocked.Read) h c = ap not (block_read s r ∙ sym (block_read (change s p f) r)) ∙ c
+    goes b h c = c
+
+-- ---- a child that was stopped or continued
+
+-- Where its parent doesn't wait for just this child, nobody can act by it who couldn't, but the child.
+pub touches_unawaited : (s : State) (p : ℕ) (f : Process → Process) → KeepsNumbers f → IsRising s.processes → (me : Process) → process s p ≡ Some me → ((parent : Process) → me.parent ≢ p → process s me.parent ≡ Some parent → awaits parent (f me) ≡ false) → Touches s (change s p f) (p ∷ [])
+unfolding awaits is_in
+touches_unawaited s p f k up me found deaf q r e out = elim (cases_eq q me.parent) [
+  | inr other ↦ touches_shown s p f k.pid k.parent up me found q r e (rw (ne_eqb p q (λ same. apart (sym same)), ne_eqb me.parent q (λ same. other (sym same))) refl)
+  | inl same ↦
+      let was = other_back p q f k.pid apart s.processes r e in
+      stands s (change s p f) q r (λ h. h) was (acts_no_more s p f k up r (learns (deaf r (λ no. apart (same ∙ no)) (ap (process s) (sym same) ∙ was))))
+]
+  where
+    apart : q ≢ p
+    apart = apart_first q p [] out
+
+    both : (a b : Bool) → (true && (a && b)) ≡ false → a ≡ true → b ≡ true → ⊥
+    both a b e x y = absurd (grind (arith, e, x, y))
+
+    learns : awaits r (f me) ≡ false → is_in_wait r.blocked ≡ true → LearnsNoMore s p f r
+    learns none waits c here named says = elim (cases_eq c.pid p) [
+      | inr other ↦ sym (ap (λ b. reports (options_in (argument r 2)) (cond b (f c) c)) (ne_eqb c.pid p other)) ∙ says
+      | inl mine ↦
+          let one : c ≡ me = same_Some _ _ (sym here ∙ ap (process s) mine ∙ found) in
+          let asks = sym (ap (λ b. reports (options_in (argument r 2)) (cond b (f c) c)) (eq-eqb c.pid p mine)) ∙ says in
+          let meant = sym (ap (λ b. is_named r.group (target_in (argument r 1)) (cond b (f c) c)) (eq-eqb c.pid p mine)) ∙ named_kept p f k r.group (target_in (argument r 1)) c ∙ named in
+          absurd (both _ _ (subst (λ b. (b && (is_named r.group (target_in (argument r 1)) (f c) && reports (options_in (argument r 2)) (f c))) ≡ false) waits (subst (λ (m : Process). awaits r (f m) ≡ false) (sym one) none)) meant asks)
+    ]
+
+-- ---- news that were told
 
 -- its own news don't count for it
 go_on_told : (s : State) (r : Process) (b : Option Blocked) → can_go_on s (news_told r) b ≡ can_go_on s r b
 unfolding attempt_again wait waits_to_read news_told
-go_on_told s r None = refl
-go_on_told s r (Some blocked.Waitpid) = refl
 go_on_told s r (Some blocked.Read) = ap not (block_read s (news_told r) ∙ sym (block_read s r))
-go_on_told s r (Some blocked.Pause) = refl
-go_on_told s r (Some (blocked.Sigsuspend mask)) = refl
+go_on_told s r b = refl
 
 can_act_told : (s : State) (r : Process) → can_act s (news_told r) ≡ can_act s r
 unfolding can_act news_told
 can_act_told s r = ap (λ b. is_living r && is_pending r.signals KILL || is_running r.life && (b || is_some (chosen r.life r.signals))) (go_on_told s r r.blocked)
 
+pub keeps_told : KeepsNumbers news_told
+unfolding news_told
+keeps_told = record { pid = λ r. refl; parent = λ r. refl; group = λ r. refl; session = λ r. refl }
+
 -- So the change lets nobody act who couldn't.
-pub touches_told : (s : State) (p : ℕ) → Touches s (change s p news_told) []
+pub touches_told : (s : State) (p : ℕ) → IsRising s.processes → Touches s (change s p news_told) []
 unfolding changed news_told
-touches_told s p q r e out =
+touches_told s p up q r e out =
     let b = lookup_back (at p news_told) (at_pid p news_told (λ r. refl)) q s.processes r e in
     record {
       placed = λ h. h;
@@ -145,5 +195,7 @@ touches_told s p q r e out =
       blocked = ap (λ q. q.blocked) b.is ∙ at_keeps (λ q. q.blocked) p news_told (λ q. refl) b.what;
       session = ap (λ q. q.session) b.is ∙ at_keeps (λ q. q.session) p news_told (λ q. refl) b.what;
       life = ap (λ q. q.life) b.is ∙ at_keeps (λ q. q.life) p news_told (λ q. refl) b.what;
-      acts = λ h. told_acts s p b.what (sym (at_keeps (can_act (change s p news_told)) p news_told (can_act_told (change s p news_told)) b.what) ∙ sym (ap (can_act (change s p news_told)) b.is) ∙ h);
+      acts = λ h.
+          acts_no_more s p news_told keeps_told up b.what (λ waits k here named. cond_both (k.pid == p) (news_told k) k (λ q. reports (options_in (argument b.what 2)) q ≡ true → reports (options_in (argument b.what 2)) k ≡ true) (λ e. told_less (options_in (argument b.what 2)) k) (λ e x. x))
+          (sym (at_keeps (can_act (change s p news_told)) p news_told (can_act_told (change s p news_told)) b.what) ∙ sym (ap (can_act (change s p news_told)) b.is) ∙ h);
     }

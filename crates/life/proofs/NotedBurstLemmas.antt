@@ -1,12 +1,12 @@
 -- Instructions that are plain or give a note, run one after another.
-use Rattle.std.proofs.Common.{◌≡◌, ℕ, zero, suc, ◌+◌, ◌-◌, ◌<◌, ◌≤◌, ◌≢◌, ℤ, ap, ◌∙◌, arith, refl, List, [], ◌∷◌, ◌++◌, length, append-nil, add-zero, append_assoc, length-append}
+use Rattle.std.proofs.Common.{◌≡◌, ℕ, zero, suc, ◌+◌, ◌-◌, ◌<◌, ◌≤◌, ◌≢◌, ℤ, ap, ◌∙◌, arith, refl, List, [], ◌∷◌, ◌++◌, length, append-nil, append_assoc, length-append}
 use Rattle.posix.specs.declared.instr.Instr.{Instr}
 use Rattle.posix.specs.declared.instr.Trap.{Trap}
 use Rattle.posix.specs.declared.instr.Trap.TheVariants as trap
 use Rattle.posix.specs.Processes.{Cpu, Process}
 use Rattle.posix.specs.States.{State}
 use Rattle.posix.specs.Step.{code_of}
-use Rattle.umach.specs.Bursts.{Burst, exec_until, IsWithin}
+use Rattle.umach.specs.Bursts.{exec_until, IsWithin}
 use Rattle.life.specs.declared.noted_bursts.Note.{Note}
 use Rattle.life.specs.NotedBursts.{NotedBurst, ends_at, then_note, most_notes, exec_with_notes}
 use Rattle.life.proofs.CodeLemmas.{no_burst}
@@ -41,10 +41,8 @@ note_given program from done last n t z old c d ns fits count trap_is cpu is h =
 
 -- what isn't a note ends the burst
 ends_by : (done : ℕ) (t : Trap) (d : Cpu) (rest : NotedBurst) → ((z : ℤ) → t ≢ trap.Note z) → then_note done t d rest ≡ ends_at done t d
-ends_by done trap.Next d rest other = refl
 ends_by done (trap.Note z) d rest other = absurd (other z refl)
-ends_by done (trap.Call call) d rest other = refl
-ends_by done (trap.Fault sig) d rest other = refl
+ends_by done t d rest other = refl
 
 -- no note was given
 pub none_given : (program : List Instr) (from done last n : ℕ) (t : Trap) (old c d : Cpu) (ns : List Note) → length ns < most_notes
@@ -68,14 +66,8 @@ is_filled program from done last old c ns full h =
 -- as many plain instructions as there may be, and fewer where another one was looked at
 pub within_all : (n most : ℕ) (t : Trap) → IsWithin most n t → (n ≤ most) × (t ≢ trap.Next → n < most)
 within_all n most trap.Next within = (omega (arith, within), λ other. absurd (other refl))
-within_all n most (trap.Note z) within = (omega (arith, within), λ other. within)
-within_all n most (trap.Call call) within = (omega (arith, within), λ other. within)
-within_all n most (trap.Fault sig) within = (omega (arith, within), λ other. within)
+within_all n most t within = (omega (arith, within), λ other. within)
 
 -- without code the first instruction is a fault
 pub no_notes : (s : State) (me : Process) (before last : ℕ) → code_of s me ≡ [] → before < last → exec_with_notes (code_of s me) most_notes before last me.cpu ≡ ends_at before (trap.Fault 11) me.cpu
-no_notes s me before last e some =
-    let none = no_burst s me (last - before) e (omega (arith, some)) in
-    found_first (code_of s me) most_notes before last _ _ me.cpu _ (omega arith) refl refl refl
-    ∙ ap (λ (b : Burst). then_note (before + b.count) b.trap b.cpu (exec_with_notes (code_of s me) (most_notes - 1) ((before + b.count) + 1) last b.cpu)) none
-    ∙ ap (λ (n : ℕ). ends_at n (trap.Fault 11) me.cpu) (add-zero before)
+no_notes s me before last e some = grind (arith, e, some, found_first, no_burst)

@@ -24,9 +24,8 @@ use Rattle.life.proofs.ChildLemmas.{IsAtChild, child_here, child_less, first_her
 -- what is left from above c is left without c
 left_without : (o : Option ℕ) (c : ℕ) → IfSome o (λ y. c < y) → (rs : List Process) → left_of o (removed c rs) ≡ left_of o rs
 unfolding removed
-left_without None c l rs = refl
-left_without (Some n) c l [] = refl
 left_without (Some n) c l (r ∷ rs) = grind (arith, nat_tests, eqb-true r.pid c, l, left_without (Some n) c l rs)
+left_without o c l rs = refl
 
 -- the zombies of some processes
 abbrev pub zombies : List Process → List Process
@@ -51,9 +50,7 @@ tell_map g pid life s heir rs = ap (tell_of_all s heir) (filter_map (λ r. is_zo
 -- a zombie is told of first
 tell_first : (s : State) (heir c v : ℕ) (r : Process) (rest : List Process) → r.pid ≡ c → r.life ≡ Zombie v → tell_of_all s heir (zombies (r ∷ rest)) ≡ tell_of_all (notice_of_end s heir c v) heir (zombies rest)
 unfolding tell_of_all
-tell_first s heir c v r rest named dead =
-    let first : zombies (r ∷ rest) ≡ r ∷ zombies rest = rw dead refl in
-    ap (tell_of_all s heir) first ∙ rw (dead, named) refl
+tell_first s heir c v r rest named dead = grind (arith, named, dead)
 
 -- ---- one zombie
 

@@ -1,14 +1,14 @@
 -- Places of consoles, and who waits to read from them.
-use Rattle.std.proofs.Common.{count_by, ◌≡◌, ◌≢◌, ℕ, ◌+◌, ◌<◌, ◌≤◌, zero, suc, true, false, cond, refl, ap, sym, ◌∙◌, arith, subst, List, [], ◌∷◌, ◌++◌, length, take, find, Option, Some, None, ◌==◌, slice_get, slice_set, option_map, is_some, ◌&&◌, ◌||◌, Bool, MatchOption, ⊎_elim, nat_lt, map, drop, get_or}
+use Rattle.std.proofs.Common.{count_by, ◌≡◌, ◌≢◌, ℕ, ◌+◌, ◌<◌, ◌≤◌, zero, suc, true, false, cond, refl, ap, sym, ◌∙◌, arith, subst, List, [], ◌∷◌, ◌++◌, length, take, find, Option, Some, None, ◌==◌, slice_get, slice_set, option_map, is_some, ◌&&◌, ◌||◌, Bool, MatchOption, ⊎_elim, map, drop, get_or, rules}
 use Rattle.std.specs.Option.{IsSome, IfSome, option_map_or}
 use Rattle.std.specs.List.{AllByRecursion}
-use Rattle.std.proofs.lemmas.Bool.{eqb-true, eqb-false, eq-eqb, ne_eqb, ltb-true, ltb-false, or_left, or_right, or_cases, and_parts, both_ways}
+use Rattle.std.proofs.lemmas.Bool.{eqb-true, eqb-false, eq-eqb, ne_eqb, or_left, or_cases, and_parts, both_ways}
 use Rattle.std.proofs.lemmas.List.{length-set}
 use Rattle.std.proofs.lemmas.List.Sums.{count_by_more_no, count_by_more_yes}
 use Rattle.std.proofs.lemmas.Option.{get_or_from_slice_get, slice_get_within, slice_get_read, same_Some, IfSome_then}
 use Rattle.circular_buffer.proofs.Places.{slice_get-some}
 use Rattle.posix.specs.declared.process.Life.{Life}
-use Rattle.posix.specs.declared.process.Life.TheVariants.{Running, Stopped, Zombie}
+use Rattle.posix.specs.declared.process.Life.TheVariants.{Running}
 use Rattle.posix.specs.Processes.{Process, is_running, is_zombie}
 use Rattle.posix.specs.Consoles.{Console, is_of_session}
 use Rattle.posix.specs.States.{State, process, is_in, has_place, without}
@@ -71,11 +71,9 @@ set_same (z ∷ zs) zero x y e = refl
 set_same (z ∷ zs) (suc k) x y e = set_same zs k x y e
 
 pub set_other : {X : Type 0} (xs : List X) (k j : ℕ) (y : X) → j ≢ k → slice_get (slice_set xs k y) j ≡ slice_get xs j
-set_other [] k j y ne = refl
 set_other (z ∷ zs) zero zero y ne = absurd (ne refl)
-set_other (z ∷ zs) zero (suc j) y ne = refl
-set_other (z ∷ zs) (suc k) zero y ne = refl
 set_other (z ∷ zs) (suc k) (suc j) y ne = set_other zs k j y (λ e. ne (ap suc e))
+set_other xs k j y ne = refl
 
 readers_set : (m : ℕ) (sets : List PidSetView) (k : ℕ) (set : PidSetView) → AllByRecursion (IsReaders m) sets → IsReaders m set → AllByRecursion (IsReaders m) (slice_set sets k set)
 readers_set m [] k set h one = tt
@@ -92,8 +90,7 @@ readers_at_place m (x ∷ xs) (suc k) set h e = readers_at_place m xs k set h.1 
 pub readers_room : (m : ℕ) (set : PidSetView) → IsReaders m set → length set.pids < set.room
 readers_room m set h =
     let most = few m set.pids h.rising h.within in
-    let room = h.room in
-    omega (arith, most, room)
+    omega (arith, most, h.room)
 
 -- p is put in or taken out
 readers_marked : (m p : ℕ) (b : Bool) (set : PidSetView) → IsReaders m set → (b ≡ true → (1 ≤ p) × (p ≤ m)) → IsReaders m (marked b p set)
@@ -124,8 +121,7 @@ reads_at s p c r found out = rw (out, found) (by (is_running r.life) (is_in_read
   where
     by : (a b : Bool) → is_terminal_of (cond (a && b) (Some r.session) None) (Some c) ≡ (a && (b && r.session == c.session))
     by true true = refl
-    by true false = refl
-    by false b = refl
+    by a b = refl
 
 nowhere : (o : Option ℕ) → is_terminal_of o None ≡ true → ⊥
 nowhere None e = absurd (cc)
@@ -135,10 +131,9 @@ pub reads_waiting : (s : State) (p k : ℕ) → is_terminal_of (reads s p) (slic
 reads_waiting s p k e = by (has_place s p) (process s p) (slice_get s.consoles k) refl refl refl e
   where
     by : (b : Bool) (r : Option Process) (o : Option Console) → has_place s p ≡ b → process s p ≡ r → slice_get s.consoles k ≡ o → is_terminal_of (cond b None (reads_in r)) o ≡ true → IsWaiting s k p
-    by true r o out found at e = absurd (cc)
-    by false None o out found at e = absurd (cc)
     by false (Some r) None out found at e = absurd (nowhere (reads_in (Some r)) e)
     by false (Some r) (Some c) out found at e = record { console = c; reader = r; at = at; found = found; reads = sym (reads_at s p c r found out) ∙ rw (out, found) e; out = out }
+    by b r o out found at e = absurd (cc)
 
 -- ---- sets in which p is marked
 
@@ -149,10 +144,9 @@ in_place q o = is_in q (option_map_or (λ (x : PidSetView). x.pids) o [])
 -- p is in those where it is marked
 marked_own : (b : Bool) (p : ℕ) (o : Option PidSetView) → in_place p (option_map (marked b p) o) ≡ (b && is_some o)
 unfolding in_place is_in
-marked_own true p None = refl
-marked_own false p None = refl
 marked_own true p (Some set) = in_with p p set.pids ∙ or_left _ _ (eq-eqb p p refl)
 marked_own false p (Some set) = out_of p set.pids
+marked_own b p o = refl
 
 -- and the others where they were
 marked_other : (b : Bool) (p q : ℕ) (o : Option PidSetView) → q ≢ p → in_place q (option_map (marked b p) o) ≡ in_place q o
@@ -207,18 +201,13 @@ watched_rechecked {readers = readers} {sets = sets} s p session cs before after 
 
 -- and a zombie, which is in none
 pub listed_zombie : {readers sets : List PidSetView} (s : State) (p : ℕ) (it : Process) (l : PidSetView) (cs : List Console) → IsRegular s → IsListed s l readers → process s p ≡ Some it → is_zombie it.life ≡ true → cs ≡ s.consoles → IsMarked None p cs readers sets → IsListed s l sets
-listed_zombie {readers = readers} {sets = sets} s p it l cs i h found zombie same put = record {
-  covers = h.covers;
-  rising = h.rising;
-  there = h.there;
-  room = h.room;
-  watched = watched_marked s p None l.pids l.pids i h.watched (subst (λ cs. IsMarked None p cs readers sets) same put) (λ q ne. refl) (λ k e. absurd (cc)) (λ c r mine visits out. absurd (both_ways _ (not_running it.life zombie) (sym (ap (λ (r : Process). is_running r.life) (same_Some _ _ (sym mine ∙ found))) ∙ (and_parts _ _ visits).0)));
-}
+listed_zombie {readers = readers} {sets = sets} s p it l cs i h found zombie same put =
+    let watched = watched_marked s p None l.pids l.pids i h.watched (subst (λ cs. IsMarked None p cs readers sets) same put) (λ q ne. refl) (λ k e. absurd (cc)) (λ c r mine visits out. absurd (both_ways _ (not_running it.life zombie) (sym (ap (λ (r : Process). is_running r.life) (same_Some _ _ (sym mine ∙ found))) ∙ (and_parts _ _ visits).0))) in
+    search (rules, arith)
   where
     not_running : (life : Life) → is_zombie life ≡ true → is_running life ≡ false
     not_running Running z = absurd (cc)
-    not_running Stopped z = refl
-    not_running (Zombie w) z = refl
+    not_running life z = refl
 
 pub none_marked : (k p : ℕ) (cs : List Console) (readers sets : List PidSetView) → IsMarked None p cs readers sets → is_in p (readers_at k sets) ≡ false
 unfolding in_place
@@ -258,24 +247,9 @@ rechecking_starts set to_recheck next up least is = record { before = λ q on lo
 
 pub rechecking_proceeds : (set to_recheck after : List ℕ) (n : ℕ) (next : Option ℕ) → Rises set → next ≡ slice_get (numbers_above n set) 0 → IsRechecking set to_recheck (Some n) → after ≡ with_number n to_recheck → IsRechecking set after next
 rechecking_proceeds set to_recheck after n next up is h put = record {
-  before = λ q on low.
-      ap (is_in q) put ∙ in_with q n to_recheck ∙ elim (nat_lt q n) as (λ b. nat_lt q n ≡ b → (n == q || is_in q to_recheck) ≡ true) [
-        | true ↦ λ e. or_right _ _ (h.before q on (ltb-true q n e))
-        | false ↦ λ e. elim (n == q) as (λ b. (n == q) ≡ b → (b || is_in q to_recheck) ≡ true) [
-          | true ↦ λ k. refl
-          | false ↦ λ k. absurd (none_between n q set next up is on (let ne = eqb-false n q k in let high = ltb-false q n e in omega (arith, ne, high)) low)
-        ] refl
-      ] refl;
+  before = λ q on low. ap (is_in q) put ∙ in_with q n to_recheck ∙ grind (arith, h.before q on, λ (high : n < q). none_between n q set next up is on high low);
   next_there = next_in n set next up is;
 }
-
--- at the end it is all who wait to read
-pub rechecking_is_over : {readers : List PidSetView} (s : State) (k : ℕ) (old to_recheck : List ℕ) (next : Option ℕ) → IsWatched s old readers → next ≡ None → IsRechecking (readers_at k readers) to_recheck next → ((q : ℕ) → is_in q old ≡ true → is_in q to_recheck ≡ true) → AreReaders s k to_recheck
-rechecking_is_over s k old to_recheck next w end h others p c r at found visits out =
-    elim (is_in p old) as (λ b. is_in p old ≡ b → is_in p to_recheck ≡ true) [
-      | true ↦ λ on. others p on
-      | false ↦ λ off. h.before p (w.known k p c r at found visits out off) (rw end tt)
-    ] refl
 
 -- who is in a set is there
 pub reader_there : {readers : List PidSetView} (s : State) (l : PidSetView) (k p : ℕ) → IsListed s l readers → is_in p (readers_at k readers) ≡ true → IsSome (process s p)
@@ -312,8 +286,7 @@ watched_forgotten {readers = readers} {sets = sets} s k to_recheck w all gone = 
     emptied None at m = (subst (AllByRecursion (IsReaders s.world.pidmax)) (sym m) w.each, ap length m)
     emptied (Some set) at m =
         let one = readers_at_place s.world.pidmax readers k set w.each at in
-        let room = one.room in
-        let none = readers_none s.world.pidmax m.0 m.2 (omega (arith, room, m.3)) in
+        let none = readers_none s.world.pidmax m.0 m.2 (omega (arith, one.room, m.3)) in
         (subst (AllByRecursion (IsReaders s.world.pidmax)) (sym m.1) (readers_set s.world.pidmax readers k m.0 w.each none), ap length m.1 ∙ length-set readers k m.0)
 
 -- ---- each console refreshed
@@ -328,31 +301,24 @@ refreshed_suc f zero c (d ∷ ds) e = ap (λ x. f x ∷ ds) (sym (same_Some _ _ 
 refreshed_suc f (suc k) c (d ∷ ds) e = ap (λ x. f d ∷ x) (refreshed_suc f k c ds e)
 
 pub refreshed_next : (f : Console → Console) (k : ℕ) (c : Console) (cs : List Console) → slice_get cs k ≡ Some c → slice_set (refreshed_to f k cs) k (f c) ≡ refreshed_to f (k + 1) cs
-refreshed_next f k c cs e =
-    let one : suc k ≡ k + 1 = omega arith in
-    refreshed_suc f k c cs e ∙ ap (λ m. refreshed_to f m cs) one
+refreshed_next f k c cs e = grind (arith, e, refreshed_suc)
 
 -- the next one is as it was
 pub not_refreshed : (f : Console → Console) (k : ℕ) (cs : List Console) → slice_get (refreshed_to f k cs) k ≡ slice_get cs k
-not_refreshed f zero [] = refl
-not_refreshed f (suc k) [] = refl
-not_refreshed f zero (d ∷ ds) = refl
 not_refreshed f (suc k) (d ∷ ds) = not_refreshed f k ds
+not_refreshed f k cs = refl
 
 pub refreshed_all : (f : Console → Console) (cs : List Console) → refreshed_to f (length cs) cs ≡ map f cs
 refreshed_all f [] = refl
 refreshed_all f (d ∷ ds) = ap (λ x. f d ∷ x) (refreshed_all f ds)
 
 refreshed_length : (f : Console → Console) (k : ℕ) (cs : List Console) → length (refreshed_to f k cs) ≡ length cs
-refreshed_length f zero cs = refl
-refreshed_length f (suc k) [] = refl
 refreshed_length f (suc k) (d ∷ ds) = ap suc (refreshed_length f k ds)
+refreshed_length f k cs = refl
 
 -- what the next one is was there at first
 was_at : (f : Console → Console) (k : ℕ) (x : Console) (cs now : List Console) → now ≡ refreshed_to f k cs → k < length cs → x ≡ get_or now k x → slice_get cs k ≡ Some x
-was_at f k x cs now so_far fits is =
-    let all = ap length so_far ∙ refreshed_length f k cs in
-    sym (not_refreshed f k cs) ∙ ap (λ (l : List Console). slice_get l k) (sym so_far) ∙ slice_get_read now (length now) k x refl (omega (arith, fits, all)) is
+was_at f k x cs now so_far fits is = grind (arith, so_far, fits, is, not_refreshed, refreshed_length, slice_get_read)
 
 -- one more
 pub refreshed_step : (f : Console → Console) (k : ℕ) (x : Console) (cs now : List Console) → now ≡ refreshed_to f k cs → k < length cs → x ≡ get_or now k x → slice_set now k (f x) ≡ refreshed_to f (k + 1) cs
@@ -362,7 +328,4 @@ refreshed_step f k x cs now so_far fits is = ap (λ (l : List Console). slice_se
 pub counted_step : (t : Console → Bool) (f : Console → Console) (k : ℕ) (x : Console) (cs now : List Console) → now ≡ refreshed_to f k cs → k < length cs → x ≡ get_or now k x → count_by t (take (k + 1) cs) ≡ count_by t (take k cs) + cond (t x) 1 0
 counted_step t f k x cs now so_far fits is =
     let same = get_or_from_slice_get cs k x x (was_at f k x cs now so_far fits is) in
-    elim (t x) as (λ b. t x ≡ b → count_by t (take (k + 1) cs) ≡ count_by t (take k cs) + cond b 1 0) [
-      | true ↦ λ e. count_by_more_yes t cs k x fits (ap t same ∙ e)
-      | false ↦ λ e. let none = count_by_more_no t cs k x fits (ap t same ∙ e) in omega (arith, none)
-    ] refl
+    grind (arith, same, count_by_more_yes t cs k x fits, count_by_more_no t cs k x fits)

@@ -43,10 +43,7 @@ few_members group [] [] up h = omega arith
 few_members group [] (n ∷ ns) up h = absurd (let nobody = (h n (in_first n ns)).found in cc)
 few_members group (r ∷ rs) ns up h =
     let rest = few_members group rs (without r.pid ns) (rises_without r.pid ns up) behind in
-    elim (is_member group r) as (λ b. is_member group r ≡ b → length ns ≤ length (cond b (r ∷ members_in group rs) (members_in group rs))) [
-      | true ↦ λ e. let l = one_less_at_most r.pid ns (rises_distinct ns up) in omega (arith, rest, l)
-      | false ↦ λ e. let l = ap length (without_absent r.pid ns (false_from_ne_true _ (λ on. both_ways _ e (first on)))) in omega (arith, rest, l)
-    ] refl
+    grind (arith, rest, one_less_at_most r.pid ns (rises_distinct ns up), λ (e : is_member group r ≡ false). ap length (without_absent r.pid ns (false_from_ne_true _ (λ on. both_ways _ e (first on)))))
   where
     behind : (q : ℕ) → is_in q (without r.pid ns) ≡ true → IsMember group rs q
     behind q e =
@@ -101,6 +98,4 @@ readers_brief {readers = readers} s before ns k c i h awake none at up those = (
     reading : (b : Option Blocked) → is_in_read b ≡ true → not (is_in_wait b) ≡ true
     reading None e = absurd (cc)
     reading (Some blocked.Waitpid) e = absurd (cc)
-    reading (Some blocked.Read) e = refl
-    reading (Some blocked.Pause) e = refl
-    reading (Some (blocked.Sigsuspend mask)) e = refl
+    reading b e = refl

@@ -1,5 +1,5 @@
 -- The list of those who are to be rechecked.
-use Rattle.std.proofs.Common.{◌≡◌, ◌≢◌, ℕ, ◌+◌, ◌<◌, ◌≤◌, true, false, cond, not, ◌||◌, ◌&&◌, refl, ap, sym, ◌∙◌, arith, subst, List, [], ◌∷◌, ◌++◌, length, Option, Some, None, ◌==◌, slice_get, ⊎_elim, Bool, map, option_map, zero, suc}
+use Rattle.std.proofs.Common.{◌≡◌, ◌≢◌, ℕ, ◌+◌, ◌<◌, ◌≤◌, true, false, cond, not, ◌||◌, ◌&&◌, refl, ap, sym, ◌∙◌, arith, subst, List, [], ◌∷◌, ◌++◌, length, Option, Some, None, ◌==◌, slice_get, ⊎_elim, Bool, map, option_map, zero, suc, rules}
 use Rattle.std.specs.List.{AllByRecursion}
 use Rattle.std.specs.Option.{IfSome, IsSome}
 use Rattle.std.proofs.lemmas.Bool.{eqb-true, eq-eqb, ne_eqb, and_parts, or_left, or_right, or_cases, both_ways, false_from_ne_true, true_from_ne_false}
@@ -28,7 +28,7 @@ use Rattle.life.specs.Rechecks.{with_numbers, rechecking, rechecking_by_signals,
 use Rattle.life.proofs.SignalLemmas.{with_signals, unseen_signals, touches_signals}
 use Rattle.jobs.specs.JobTables.{takes_signal}
 use Rattle.life.proofs.SoundLemmas.{there}
-use Rattle.pidset.proofs.WalkLemmas.{all_above}
+use Rattle.pidset.proofs.WalkLemmas.{above_rest, all_above}
 
 -- what a set is, by its parts
 pub pids_of : {a b : PidSetView} → a ≡ b → a.pids ≡ b.pids
@@ -80,14 +80,10 @@ watched_on {readers = readers} s t before after touched h touches same gets keep
         let r = there (process t p) (stay k p on (rw w.found refl)) in
         let u = others p r.what r.found unasked in
         let was = ap (is_reader w.console.session) (same_Some _ _ (sym u.found ∙ w.found)) in
-        record {
-          console = w.console;
-          reader = r.what;
-          at = ap (λ cs. slice_get cs k) same.1 ∙ w.at;
-          found = r.found;
-          reads = reads_still w.console.session u.old r.what u.blocked u.session u.life ∙ was ∙ w.reads;
-          out = same.2 p (untouched p (rw r.found refl) unasked) w.out;
-        }
+        let at = ap (λ cs. slice_get cs k) same.1 ∙ w.at in
+        let reads = reads_still w.console.session u.old r.what u.blocked u.session u.life ∙ was ∙ w.reads in
+        let out = same.2 p (untouched p (rw r.found refl) unasked) w.out in
+        search (rules, arith)
   ] refl;
   each = subst (λ (w : World). AllByRecursion (IsReaders w.pidmax) readers) (sym same.0) h.each;
   many = h.many ∙ ap (λ (w : World). w.consoles) (sym same.0);
@@ -114,9 +110,7 @@ room_for s ns room i up theirs enough =
     let r = there (process s q) (theirs q e) in
     let named = pid_looked q s.processes r.what r.found in
     let b = i.bounded q r.what r.found in
-    let low = b.least in
-    let high = b.pid in
-    (omega (arith, named, low), omega (arith, named, high))) in
+    (omega (arith, named, b.least), omega (arith, named, b.pid))) in
     omega (arith, most, enough)
 
 pub has_room : {readers : List PidSetView} (s : State) (l : PidSetView) → IsRegular s → IsListed s l readers → length l.pids < l.room
@@ -247,10 +241,7 @@ next_known test rs ns n next up covers theirs is =
     record {
       there = IfSome_then next least (λ m k. theirs m k.there);
       above = IfSome_then next least (λ m k. k.above);
-      between = λ q r e low before. elim (test r) as (λ b. test r ≡ b → b ≡ false) [
-        | true ↦ λ w. absurd (none_between n q ns next up is (covers q r e w) low before)
-        | false ↦ λ w. refl
-      ] refl;
+      between = λ q r e low before. false_from_ne_true _ (λ w. none_between n q ns next up is (covers q r e w) low before);
     }
 
 -- the first of all who are on the list
@@ -258,6 +249,13 @@ pub first_rechecked : {readers : List PidSetView} (s : State) (l : PidSetView) (
 first_rechecked s l next i h is =
     let numbered : (q : ℕ) → is_in q l.pids ≡ true → 0 < q = λ q e. let it = there _ (h.there q e) in omega (arith, (i.bounded q it.what it.found).least, pid_looked q s.processes it.what it.found) in
     next_known (wakes s) s.processes l.pids 0 next h.rising h.covers h.there (is ∙ ap (λ ns. slice_get ns 0) (sym (all_above 0 l.pids (all_in (λ q. 0 < q) l.pids numbered))))
+
+-- who comes after the first one is the next above it
+pub second_is : (ns : List ℕ) (p : ℕ) → Rises ns → slice_get ns 0 ≡ Some p → slice_get (numbers_above p ns) 0 ≡ slice_get ns 1
+second_is [] p up first = refl
+second_is (n ∷ ns) p up first =
+    let same : n ≡ p = cc in
+    ap (λ q. slice_get (numbers_above q (n ∷ ns)) 0) (sym same) ∙ ap (λ l. slice_get l 0) (above_rest [] n ns up)
 
 -- without the only one on a list nobody is on it
 pub without_only : (ns : List ℕ) (p : ℕ) → (length ns == 1 && is_in p ns) ≡ true → [] ≡ without p ns

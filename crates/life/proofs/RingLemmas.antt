@@ -1,8 +1,8 @@
 -- Alarms that ring, one process after another.
-use Rattle.std.proofs.Common.{⊎_elim, ◌+◌, ℕ, ◌≡◌, ◌<◌, ◌≤◌, ◌&&◌, Bool, length, subst, true, false, cond, refl, ap, sym, ◌∙◌, arith, List, [], ◌∷◌, map, filter, Option, Some, None, ◌==◌, inl, inr, nat_lt, is_some}
+use Rattle.std.proofs.Common.{⊎_elim, ◌+◌, ℕ, ◌≡◌, ◌<◌, ◌≤◌, ◌&&◌, Bool, length, subst, true, false, cond, refl, ap, sym, ◌∙◌, arith, List, [], ◌∷◌, map, filter, Option, Some, None, inl, inr, nat_lt, is_some}
 use Rattle.std.specs.List.{list_any, AllByRecursion}
 use Rattle.std.specs.Option.{IfSome}
-use Rattle.std.proofs.lemmas.Bool.{eqb-true, or_cases, eq-eqb, ne_eqb, cases_eq, ltb-true, ltb-false, and_parts, or_parts}
+use Rattle.std.proofs.lemmas.Bool.{eqb-true, or_cases, eq-eqb, ne_eqb, cases_eq, and_parts, or_parts}
 use Rattle.std.proofs.lemmas.Option.{IfSome_then}
 use Rattle.posix.specs.Processes.{Process}
 use Rattle.posix.specs.States.{is_in}
@@ -35,10 +35,7 @@ rings_not now r e = rw e refl
 rung_first : (now p : ℕ) (rs : List Process) → ring_all now (changed p (ring_at now) rs) ≡ ring_all now rs
 unfolding ring_all changed
 rung_first now p [] = refl
-rung_first now p (r ∷ rs) = elim (r.pid == p) as (λ b. ring_at now (cond b (ring_at now r) r) ∷ map (ring_at now) (map (at p (ring_at now)) rs) ≡ ring_at now r ∷ map (ring_at now) rs) [
-  | true ↦ let once = rings_not now (ring_at now r) (rings_once now r) in rw once (ap (λ qs. ring_at now r ∷ qs) (rung_first now p rs))
-  | false ↦ ap (λ qs. ring_at now r ∷ qs) (rung_first now p rs)
-]
+rung_first now p (r ∷ rs) = grind (arith, rings_once now r, rung_first now p rs)
 
 -- at the beginning none is due below the first one
 pub ringing_begins : (now : ℕ) (rs : List Process) (next : Option ℕ) → ((p : ℕ) (r : Process) → lookup p rs ≡ Some r → 1 ≤ r.pid) → IsNext (λ r. is_due now r.alarm) 0 rs next → IsRinging now rs rs next
@@ -63,10 +60,7 @@ ringing_on now p old rs after me found i h = record {
             ap (λ (x : Process). is_due now x.alarm) is ∙ rings_once now me
         | inr other ↦
             let is : r ≡ b.what = b.is ∙ rw (ne_eqb b.what.pid p (λ x. other (sym (pid_looked q rs b.what b.found) ∙ x))) refl in
-            elim (nat_lt q p) as (λ t. nat_lt q p ≡ t → is_due now r.alarm ≡ false) [
-              | true ↦ λ t. ap (λ (x : Process). is_due now x.alarm) is ∙ h.done q b.what b.found (ltb-true _ _ t)
-              | false ↦ λ t. let high = ltb-false _ _ t in i.between q r e (omega (arith, high, other)) before
-            ] refl
+            grind (arith, is, other, h.done q b.what b.found, λ (high : p < q). i.between q r e high before)
       ];
 }
 

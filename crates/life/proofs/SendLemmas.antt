@@ -117,10 +117,7 @@ same_left (Some n) xs ys e = sym (length-map (left_of (Some n) xs) blank) ∙ ap
 -- one less is left behind p, which was signalled
 pub candidates_less : (me : Process) (target : Target) (p : ℕ) (rs mid : List Process) (next after : Option ℕ) → AtOne (is_candidate me target) p rs → next ≡ Some p → map blank mid ≡ map blank rs → after ≡ first_pid (above p (filter (is_candidate me target) mid))
     → length (left_of next (filter (is_candidate me target) rs)) ≡ 1 + length (left_of after (filter (is_candidate me target) mid))
-candidates_less me target p rs mid next after at comes e is =
-    let same = same_filter (is_candidate me target) (candidate_blank me target) mid rs e in
-    let first = is ∙ same_first _ _ (same_above p (filter (is_candidate me target) mid) (filter (is_candidate me target) rs) same) in
-    one_less (is_candidate me target) p rs next after at comes first ∙ ap (λ n. 1 + n) (sym (same_left after _ _ same))
+candidates_less me target p rs mid next after at comes e is = grind (arith, at, comes, e, is, candidate_blank, one_less, same_above, same_filter, same_first, same_left)
 
 -- ---- several, part by part
 
@@ -156,16 +153,14 @@ joined_max a b = refl
 -- among some and then others
 joined_permitted : (xs ys : List Process) → joined (sending_permitted xs) (sending_permitted ys) ≡ sending_permitted (xs ++ ys)
 joined_permitted [] [] = refl
-joined_permitted [] (y ∷ ys) = refl
-joined_permitted (x ∷ xs) ys = refl
+joined_permitted xs ys = refl
 
 -- whom a signal to all of them finds
 sending_append : (me : Process) (s : Option ℕ) (xs ys : List Process) → joined (sending_found me s xs) (sending_found me s ys) ≡ sending_found me s (xs ++ ys)
 unfolding permitted
 sending_append me s [] ys = refl
 sending_append me s (x ∷ xs) [] = joined_none _ ∙ ap (λ l. sending_permitted (filter (may me s) (x ∷ l))) (sym (append-nil xs))
-sending_append me s (x ∷ xs) (y ∷ ys) =
-    joined_permitted (filter (may me s) (x ∷ xs)) (filter (may me s) (y ∷ ys)) ∙ ap sending_permitted (sym (filter-append (may me s) (x ∷ xs) (y ∷ ys)))
+sending_append me s (x ∷ xs) (y ∷ ys) = grind (arith, filter-append, joined_permitted)
 
 -- ---- the walk
 
@@ -228,7 +223,7 @@ given_append me (Some n) order a b (p ∷ ps) qs k =
     given_append me (Some n) order a b ps qs (record {
       sending = k.sending;
       processes = generated_for (sent_by me.pid n) (lookup p k.processes) k.processes;
-      to_recheck = rechecking_generated (sent_by me.pid n) (lookup p k.processes) order k.to_recheck;
+      to_recheck = rechecking_generated (sent_by me.pid n) (lookup p k.processes) k.processes order k.to_recheck;
     })
 
 -- to send it to some and then to others is to send it to all of them

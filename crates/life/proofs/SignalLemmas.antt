@@ -57,11 +57,8 @@ only_alarm due r = refl
 -- its call doesn't ask for its signals
 go_on_signals : (s : State) (g : Signals) (a : Option ℕ) (r : Process) (b : Option Blocked) → can_go_on s (with_signals g a r) b ≡ can_go_on s r b
 unfolding attempt_again wait waits_to_read
-go_on_signals s g a r None = refl
-go_on_signals s g a r (Some blocked.Waitpid) = refl
 go_on_signals s g a r (Some blocked.Read) = ap not (block_read s (with_signals g a r) ∙ sym (block_read s r))
-go_on_signals s g a r (Some blocked.Pause) = refl
-go_on_signals s g a r (Some (blocked.Sigsuspend mask)) = refl
+go_on_signals s g a r b = refl
 
 -- where no signal is chosen, KILL isn't pending
 no_kill : (r : Process) → takes_signal r ≡ false → is_pending r.signals KILL ≡ false

@@ -6,7 +6,7 @@ use Rattle.posix.specs.Processes.{Process, is_zombie, first_process}
 use Rattle.posix.specs.Tables.{at, children_in, lookup, changed, inserted, adopted, reparented}
 use Rattle.posix.specs.Consoles.{Console, unused_console}
 use Rattle.posix.specs.States.{World, State, boot, process, next_pid}
-use Rattle.posix.specs.NextPid.{is_free, next_free}
+use Rattle.posix.specs.NextPid.{next_free}
 use Rattle.posix.specs.Regular.{IsRegular, IsPlaced, CanInherit}
 use Rattle.posix.specs.Ends.{made_zombie, leave_children_and_die}
 use Rattle.posix.proofs.NextLemmas.{IsNew, new_number}
@@ -42,9 +42,9 @@ pub kept_map : (g : Process → Process) → ((r : Process) → (g r).pid ≡ r.
     → (m : ℕ) (rs : List Process) (p : Pids) (a b : Places) → a.room ≤ b.room → IsKept m rs p a → IsKept m (map g rs) p b
 kept_map g kp kg ks m rs p a b e k = let tallied = tallied_map p g kp kg ks rs k.tallied in search (rules, arith)
 
--- and where the places change but keep their room
-pub kept_order : (m : ℕ) (rs : List Process) (p : Pids) (a b : Places) → a.room ≤ b.room → IsKept m rs p a → IsKept m rs p b
-kept_order m rs p a b e k = record { greatest = k.greatest; table = k.table; tallied = k.tallied; room = let r = k.room in omega (arith, r, e) }
+-- a machine stays sound where the places change but keep their room
+pub sound_order : (s : State) (order : List ℕ) (pids : Pids) (a b : Places) → a.room ≤ b.room → IsRegular (record s { order = order }) → IsSound s pids a → IsSound (record s { order = order }) pids b
+sound_order s order pids a b e regular i = let room = i.kept.room in search (rules, arith)
 
 -- ---- ends
 
@@ -75,8 +75,7 @@ sound_departed p heir w s pids a b least other h room i =
 
 -- the number that the rows give next is that of the state
 pub next_is : (s : State) (p : Pids) (places : Places) → s.last_pid ≡ p.last → IsSound s p places → next_free (is_free_in p.rows) p.last p.pidmax ≡ next_pid s
-next_is s p places last i =
-    next_same p s.processes i.kept.tallied ∙ ap (λ m. next_free (is_free s.processes) p.last m) i.kept.greatest ∙ ap (λ l. next_free (is_free s.processes) l s.world.pidmax) (sym last)
+next_is s p places last i = grind (arith, last, i, next_same)
 
 -- there are no more processes than numbers
 pub few : (s : State) → IsRegular s → length s.processes ≤ s.world.pidmax

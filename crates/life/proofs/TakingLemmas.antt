@@ -1,6 +1,6 @@
 -- Signals that continue nobody are generated for several processes: who is rechecked then takes one.
-use Rattle.std.proofs.Common.{◌≡◌, ℕ, ◌+◌, ◌≤◌, Bool, true, false, cond, refl, ap, sym, ◌∙◌, arith, subst, List, [], ◌∷◌, length, Option, Some, None, ◌==◌, ⊎_elim}
-use Rattle.std.proofs.lemmas.Bool.{eqb-true, ne_eqb, or_cases, or_left, or_parts, both_ways}
+use Rattle.std.proofs.Common.{◌≡◌, ℕ, ◌+◌, ◌≤◌, Bool, true, false, cond, refl, ap, sym, ◌∙◌, arith, subst, List, [], ◌∷◌, length, Option, Some, None, ◌==◌, ⊎_elim, rules}
+use Rattle.std.proofs.lemmas.Bool.{eqb-true, ne_eqb, or_cases, or_left, or_parts}
 use Rattle.std.proofs.lemmas.List.{length-map}
 use Rattle.posix.specs.declared.process.Effect.TheVariants as effect
 use Rattle.posix.specs.declared.process.PendingSignal.{PendingSignal}
@@ -36,7 +36,7 @@ AreTakingBeside ps rs ns = (q : ℕ) → is_in q ns ≡ true → IsTakingBeside 
 
 -- one signal
 taking_one : (signal : PendingSignal) (p : ℕ) (ps order : List ℕ) (rs : List Process) (ns : List ℕ) → (signal.sig == CONT) ≡ false → is_in p ps ≡ false → AreTakingBeside (p ∷ ps) rs ns
-    → AreTakingBeside ps (generated_for signal (lookup p rs) rs) (rechecking_generated signal (lookup p rs) order ns) × (length (rechecking_generated signal (lookup p rs) order ns) ≤ length ns + 1)
+    → AreTakingBeside ps (generated_for signal (lookup p rs) rs) (rechecking_generated signal (lookup p rs) rs order ns) × (length (rechecking_generated signal (lookup p rs) rs order ns) ≤ length ns + 1)
 unfolding is_in signalled
 taking_one signal p ps order rs ns plain apart h = by (lookup p rs) refl
   where
@@ -44,20 +44,13 @@ taking_one signal p ps order rs ns plain apart h = by (lookup p rs) refl
     before q e = let it = h q e in record { apart = (or_parts (p == q) _ it.apart).1; what = it.what; found = it.found; takes = it.takes }
 
     does : (r : Process) → effect_of r.pid r.life signal r.signals ≡ effect.Nothing
-    does r = elim (effect_of r.pid r.life signal r.signals) as (λ w. effect_of r.pid r.life signal r.signals ≡ w → w ≡ effect.Nothing) [
-      | effect.Nothing ↦ λ e. refl
-      | effect.Continued ↦ λ e. absurd (both_ways _ plain (continued_cont r.pid signal r e))
-    ] refl
+    does r = grind (arith, plain, continued_cont r.pid signal r)
 
     after : (r : Process) → lookup p rs ≡ Some r → AreTakingBeside ps (changed r.pid (signalled signal) rs) ns
     after r found q e =
         let it = before q e in
-        record {
-          apart = it.apart;
-          what = it.what;
-          found = lookup_other r.pid q (signalled signal) (λ r. refl) (λ same. apart_first q p ps (h q e).apart (same ∙ pid_looked p rs r found)) rs it.what it.found;
-          takes = it.takes;
-        }
+        let found = lookup_other r.pid q (signalled signal) (λ r. refl) (λ same. apart_first q p ps (h q e).apart (same ∙ pid_looked p rs r found)) rs it.what it.found in
+        search (rules, arith)
 
     more : (r : Process) → lookup p rs ≡ Some r → takes_signal (signalled signal r) ≡ true → AreTakingBeside ps (changed r.pid (signalled signal) rs) (with_number r.pid ns)
     more r found takes q e = ⊎_elim
@@ -69,7 +62,7 @@ taking_one signal p ps order rs ns plain apart h = by (lookup p rs) refl
         })
         (λ k. after r found q k) (or_cases _ _ (sym (in_with q r.pid ns) ∙ e))
 
-    by : (o : Option Process) → lookup p rs ≡ o → AreTakingBeside ps (generated_for signal o rs) (rechecking_generated signal o order ns) × (length (rechecking_generated signal o order ns) ≤ length ns + 1)
+    by : (o : Option Process) → lookup p rs ≡ o → AreTakingBeside ps (generated_for signal o rs) (rechecking_generated signal o rs order ns) × (length (rechecking_generated signal o rs order ns) ≤ length ns + 1)
     by None found = (before, omega arith)
     by (Some r) found = rw (does r) (elim (takes_signal (signalled signal r)) as (λ b. takes_signal (signalled signal r) ≡ b → AreTakingBeside ps (changed r.pid (signalled signal) rs) (cond b (cond (is_in r.pid order) ns (with_number r.pid ns)) ns)
         × (length (cond b (cond (is_in r.pid order) ns (with_number r.pid ns)) ns) ≤ length ns + 1)) [
@@ -86,10 +79,8 @@ unfolding signalled_all rechecking_all IsDistinct
 taking_on signal [] order rs ns plain apart h = (λ q e. let it = h q e in (it.what, it.found, it.takes), omega arith)
 taking_on signal (p ∷ ps) order rs ns plain apart h =
     let one = taking_one signal p ps order rs ns plain apart.0 h in
-    let rest = taking_on signal ps order (generated_for signal (lookup p rs) rs) (rechecking_generated signal (lookup p rs) order ns) plain apart.1 one.0 in
-    let first = one.1 in
-    let more = rest.1 in
-    (rest.0, omega (arith, first, more))
+    let rest = taking_on signal ps order (generated_for signal (lookup p rs) rs) (rechecking_generated signal (lookup p rs) rs order ns) plain apart.1 one.0 in
+    (rest.0, omega (arith, one.1, rest.1))
 
 -- where nobody was to be rechecked those are who take one, and no more than got one
 pub taking_all : (signal : PendingSignal) (ps order : List ℕ) (rs : List Process) → (signal.sig == CONT) ≡ false → IsDistinct ps
@@ -124,5 +115,4 @@ brief_group n group rs ts order ns new plain up none does puts = by (group == 0)
     by false does puts =
         let all = taking_all (record { sig = n; carried = from_kernel }) (pids (members_in group rs)) order rs plain (rising_distinct (members_in group rs) (rising_filter (is_member group) rs up)) in
         let many = length-map (members_in group rs) (λ r. r.pid) in
-        let few = all.1 in
-        rw (does, puts, none) (λ q e. let it = all.0 q e in (it.0, it.1, or_left _ _ it.2), omega (arith, many, few))
+        rw (does, puts, none) (λ q e. let it = all.0 q e in (it.0, it.1, or_left _ _ it.2), omega (arith, many, all.1))

@@ -1,5 +1,5 @@
 -- The state that a machine stands for, and what looks at it come to, one after another.
-use Rattle.std.proofs.Common.{◌≡◌, ◌∙◌, ◌+◌, ◌≤◌, ℕ, ap, arith, refl}
+use Rattle.std.proofs.Common.{◌≡◌, ◌+◌, ◌≤◌, ℕ, ap, arith, refl, rules}
 use Rattle.posix.specs.Regular.{IsRegular}
 use Rattle.life.specs.Machines.{MachineView, AreSame, Looks, Costs}
 
@@ -13,13 +13,7 @@ same_refl = record { state = refl; to_recheck = refl; groups_at_risk = refl; for
 
 -- and what stays twice stays
 pub same_then : {a b c : MachineView} → AreSame a b → AreSame b c → AreSame a c
-same_then h k = record {
-  state = k.state ∙ h.state;
-  to_recheck = k.to_recheck ∙ h.to_recheck;
-  groups_at_risk = k.groups_at_risk ∙ h.groups_at_risk;
-  foregrounds_unchecked = k.foregrounds_unchecked ∙ h.foregrounds_unchecked;
-  readers = k.readers ∙ h.readers;
-}
+same_then h k = search (rules, arith)
 
 -- a look that may read more
 pub read_more : {m n : ℕ} {a b : MachineView} → Looks m a b → m ≤ n → Looks n a b
@@ -35,11 +29,7 @@ looks_cost h = record { visits = h.visits; groups_at_risk = h.same.groups_at_ris
 
 -- one change, and then another
 pub costs_then : {m n : ℕ} {a b c : MachineView} → Costs m a b → Costs n b c → Costs (m + n) a c
-costs_then h k = record {
-  visits = let first = h.visits in let then = k.visits in omega (arith, first, then);
-  groups_at_risk = k.groups_at_risk ∙ h.groups_at_risk;
-  regular = h.regular;
-}
+costs_then h k = let first = h.visits in let then = k.visits in search (rules, arith)
 
 -- a change that may cost more
 pub cost_more : {m n : ℕ} {a b : MachineView} → Costs m a b → m ≤ n → Costs n a b

@@ -2,6 +2,9 @@
 use Rattle.std.specs.Prelude.{◌≡◌, ℕ, ◌<◌, ◌≤◌, ◌==◌, ◌||◌, Bool, not, Some}
 use Rattle.std.specs.Borrow.{MutBor}
 use Rattle.std.specs.Fn.{Once, FnOnceReturnsAtMut}
+use Rattle.posix.specs.declared.process.Life.{Life}
+use Rattle.posix.specs.declared.process.News.{News}
+use Rattle.posix.specs.Processes.{Process}
 use Rattle.posix.specs.Tables.{lookup, parent_of}
 use Rattle.posix.specs.States.{State}
 use Rattle.posix.specs.Regular.{IsRegular}
@@ -29,3 +32,7 @@ pub record CanMoveNumbers (p : Pids) (old new : Seen) : Type 0 where
   pub session_count : 1 ≤ (row p.rows old.session).session
   pub to_group_count : (row p.rows new.group).group < 4294967295
   pub to_session_count : (row p.rows new.session).session < 4294967295
+
+-- It lives so from now on, and this is new of it.
+abbrev pub lives : Life → News → Process → Process
+lives l n r = record r { life = l; news = n }

@@ -1,5 +1,5 @@
 -- Who is to be rechecked: asked after this event whether it can act.
-use Rattle.std.specs.Prelude.{◌≡◌, ℕ, Bool, true, false, not, ◌||◌, ◌==◌, if◌then◌else◌, List, [], ◌∷◌, Option, Some, None}
+use Rattle.std.specs.Prelude.{◌≡◌, ℕ, Bool, true, false, not, ◌||◌, ◌&&◌, ◌==◌, if◌then◌else◌, List, [], ◌∷◌, Option, Some, None}
 use Rattle.posix.specs.declared.process.Blocked.{Blocked}
 use Rattle.posix.specs.declared.process.Blocked.TheVariants as blocked
 use Rattle.posix.specs.declared.process.Effect.{Effect}
@@ -8,13 +8,15 @@ use Rattle.posix.specs.declared.process.PendingSignal.{PendingSignal}
 use Rattle.posix.specs.declared.target.Target.{Target}
 use Rattle.posix.specs.declared.target.Target.TheVariants as whom
 use Rattle.posix.specs.SignalNumbers.{CONT}
-use Rattle.posix.specs.Processes.{Process}
+use Rattle.posix.specs.Processes.{Process, argument}
+use Rattle.posix.specs.Targets.{target_in}
+use Rattle.posix.specs.Waits.{is_named, reports, options_in}
 use Rattle.posix.specs.Tables.{lookup, pids, members_in}
 use Rattle.posix.specs.Choice.{from_kernel}
 use Rattle.posix.specs.States.{is_in, without}
 use Rattle.posix.specs.Generation.{effect_of, signalled}
 use Rattle.jobs.specs.JobTables.{takes_signal}
-use Rattle.posix.specs.Notices.{generated_for}
+use Rattle.posix.specs.Notices.{generated_for, resumed}
 use Rattle.posix.specs.Sends.{permitted, sent_by}
 use Rattle.pidset.specs.Numbers.{with_number}
 use Rattle.life.specs.Machines.{MachineView}
@@ -42,6 +44,25 @@ abbrev pub rechecking_by_signals : Option Process → List ℕ → List ℕ → 
 rechecking_by_signals None order ns = ns
 rechecking_by_signals (Some r) order ns = if takes_signal r then rechecking r.pid order ns else ns
 
+-- its call is a wait for a child
+abbrev pub is_in_wait : Option Blocked → Bool
+is_in_wait None = false
+is_in_wait (Some blocked.Waitpid) = true
+is_in_wait (Some blocked.Read) = false
+is_in_wait (Some blocked.Pause) = false
+is_in_wait (Some (blocked.Sigsuspend mask)) = false
+
+-- A process is blocked in a wait that means this child, and the child has something to report that the wait asks for.
+unfoldable pub awaits : Process → Process → Bool
+awaits me child = is_in_wait me.blocked && (is_named me.group (target_in (argument me 1)) child && reports (options_in (argument me 2)) child)
+
+-- A child was stopped or continued, and its parent, if it has one, got notice of it. The child is rechecked; its parent
+-- is, where it has no place, if it waits for just this child or a signal is chosen for it. Else the parent can act no more
+-- than before. Both are as they are afterwards.
+abbrev pub rechecking_told : Process → Option Process → List ℕ → List ℕ → List ℕ
+rechecking_told child None order ns = with_number child.pid ns
+rechecking_told child (Some parent) order ns = if awaits parent child || takes_signal parent then rechecking parent.pid order (with_number child.pid ns) else with_number child.pid ns
+
 -- so in a machine
 abbrev pub rechecks : ℕ → MachineView → List ℕ
 rechecks p m = rechecking p m.state.order m.to_recheck
@@ -52,19 +73,20 @@ rechecks_by_signals o m = rechecking_by_signals o m.state.order m.to_recheck
 abbrev pub rechecks_changed : Process → MachineView → List ℕ
 rechecks_changed r m = rechecking_changed r m.state.order m.to_recheck
 
-abbrev pub rechecking_effect : Effect → Process → List ℕ → List ℕ → List ℕ
-rechecking_effect effect.Nothing r order ns = ns
-rechecking_effect effect.Continued r order ns = rechecking_changed r order ns
+-- so where a signal continues a child, or does nothing at once, after which these are the processes
+abbrev pub rechecking_effect : Effect → Process → List Process → List ℕ → List ℕ → List ℕ
+rechecking_effect effect.Nothing r rs order ns = ns
+rechecking_effect effect.Continued r rs order ns = rechecking_told (resumed r) (lookup r.parent rs) order ns
 
--- a signal was generated for a process that is there
-abbrev pub rechecking_generated : PendingSignal → Option Process → List ℕ → List ℕ → List ℕ
-rechecking_generated signal None order ns = ns
-rechecking_generated signal (Some r) order ns = rechecking_effect (effect_of r.pid r.life signal r.signals) r order (rechecking_by_signals (Some (signalled signal r)) order ns)
+-- a signal was generated for one of these processes
+abbrev pub rechecking_generated : PendingSignal → Option Process → List Process → List ℕ → List ℕ → List ℕ
+rechecking_generated signal None rs order ns = ns
+rechecking_generated signal (Some r) rs order ns = rechecking_effect (effect_of r.pid r.life signal r.signals) (signalled signal r) (generated_for signal (Some r) rs) order (rechecking_by_signals (Some (signalled signal r)) order ns)
 
 -- and for several of these processes, one after another
 unfoldable pub rechecking_all : PendingSignal → List ℕ → List Process → List ℕ → List ℕ → List ℕ
 rechecking_all signal [] rs order ns = ns
-rechecking_all signal (p ∷ ps) rs order ns = rechecking_all signal ps (generated_for signal (lookup p rs) rs) order (rechecking_generated signal (lookup p rs) order ns)
+rechecking_all signal (p ∷ ps) rs order ns = rechecking_all signal ps (generated_for signal (lookup p rs) rs) order (rechecking_generated signal (lookup p rs) rs order ns)
 
 -- a signal was sent to those who may be signalled; signal 0 only checks
 unfoldable pub rechecking_signalled : Process → Option ℕ → List Process → List Process → List ℕ → List ℕ → List ℕ
@@ -78,14 +100,6 @@ rechecking_members n group rs order ns = rechecking_all (record { sig = n; carri
 -- a signal is chosen for each of these
 abbrev pub AreTaking : List Process → List ℕ → Type 0
 AreTaking rs ns = (p : ℕ) → is_in p ns ≡ true → (r : Process) × (lookup p rs ≡ Some r) × (takes_signal r ≡ true)
-
--- its call is a wait for a child
-abbrev pub is_in_wait : Option Blocked → Bool
-is_in_wait None = false
-is_in_wait (Some blocked.Waitpid) = true
-is_in_wait (Some blocked.Read) = false
-is_in_wait (Some blocked.Pause) = false
-is_in_wait (Some (blocked.Sigsuspend mask)) = false
 
 -- No child has to be looked at to tell whether each of these can act: a signal is chosen for it, or it waits for none.
 abbrev pub AreBrief : List Process → List ℕ → Type 0

@@ -1,10 +1,10 @@
--- How many slots a wait reads.
-use Rattle.std.specs.Prelude.{ℕ, ◌*◌, List, length}
+-- What a wait reports, and how many slots it reads.
+use Rattle.std.specs.Prelude.{ℕ, ◌*◌, ◌&&◌, ◌==◌, Bool, false, List, length, Option, Some, None}
 use Rattle.posix.specs.declared.target.Target.{Target}
 use Rattle.posix.specs.declared.target.Target.TheVariants.{Process, OwnGroup, Group, All, Nobody}
 use Rattle.posix.specs.Processes as processes
 use Rattle.posix.specs.Tables.{children_in}
-use Rattle.posix.specs.Waits.{reporting_in}
+use Rattle.posix.specs.Waits.{is_named, reporting_in, reports}
 
 -- but for one more: none for one process, one for each child of p that has something to report where any will do, and
 -- two for each child where a group is meant
@@ -14,3 +14,8 @@ slots_of_wait OwnGroup p rs = 2 * length (children_in p rs)
 slots_of_wait (Group group) p rs = 2 * length (children_in p rs)
 slots_of_wait All p rs = length (reporting_in p rs)
 slots_of_wait Nobody p rs = 0
+
+-- Here is a child of p, a caller in this process group, that a wait for the target means, and it has something to report.
+abbrev pub is_reported : ℕ → ℕ → Target → ℕ → Option processes.Process → Bool
+is_reported p group target options None = false
+is_reported p group target options (Some r) = r.parent == p && (is_named group target r && reports options r)

@@ -1,18 +1,18 @@
 //! The caller of a system call.
 
-ghost use Rattle.std.specs.Prelude.{◌≡◌, ◌+◌, ◌≤◌, option_map, Some, IsSome, IfSome};
+ghost use Rattle.std.specs.Prelude.{◌≡◌, ◌+◌, ◌≤◌, Some, IsSome, IfSome};
 ghost use Rattle.posix.specs.Processes.{Process, root as root_credentials};
 ghost use Rattle.posix.specs.States.{process};
 ghost use Rattle.posix.specs.Regular.{IsRegular};
 ghost use Rattle.posix.specs.Targets.{target_in};
-ghost use Rattle.proctable.specs.Records.{snapshot_of, own_of};
+ghost use Rattle.proctable.specs.Records.{process_of};
 ghost use Rattle.life.specs.Callers.{caller_of};
 ghost use Rattle.life.specs.Machines.{Finds, IsThere};
 
 use crate::machine::Machine;
 use creds::Creds;
 use posix::{Pid, Register, Target};
-use proctable::{Kin, OwnPart, Snapshot};
+use proctable::{Kin, Record};
 
 /// What a call that concerns others reads of the process that makes it.
 #[derive(Clone, Copy, Debug, PartialEq, Eq)]
@@ -60,36 +60,23 @@ impl<K: Kin> Machine<K> {
     pub fn caller(&mut self, pid: Pid) -> Caller
         requires { IsThere pid self.old }
         ensures pid { result.pid ≡ pid }
-        ensures finds { Finds 2 self.old self.new (IfSome (process self.old.state pid) (λ me. result ≡ caller_of me)) }
-    {
-        let Some(snapshot) = self.table.get(pid) else {
-            unreachable!()
-        };
-        caller_by(snapshot, self.table.look(pid))
-    }
-
-    /// A process that is there, with this snapshot, as the caller of a call. Nothing changes.
-    #[inline(always)]
-    pub fn caller_with(&mut self, pid: Pid, snapshot: Snapshot) -> Caller
-        requires there { IsThere pid self.old }
-        requires snapshot { Some snapshot ≡ option_map snapshot_of (process self.old.state pid) }
-        ensures pid { result.pid ≡ pid }
         ensures finds { Finds 1 self.old self.new (IfSome (process self.old.state pid) (λ me. result ≡ caller_of me)) }
     {
-        caller_by(snapshot, self.table.look(pid))
+        // One look at the record gives all of it.
+        self.table.change(pid, |fields| caller_in(pid, fields)).0
     }
 }
 
-/// The caller, by its snapshot and by what it may change of itself.
-fn caller_by(snapshot: Snapshot, own: &OwnPart) -> Caller
-    ensures { (r : Process) → snapshot ≡ snapshot_of r → own.now ≡ own_of r → result ≡ caller_of r }
+/// The process with this number as a caller, by its record.
+fn caller_in(pid: Pid, fields: &Record) -> Caller
+    ensures { result ≡ caller_of (process_of pid 0 fields.now) }
 {
     Caller {
-        pid: snapshot.pid,
-        group: snapshot.group,
-        session: snapshot.session,
-        creds: snapshot.creds,
-        r1: own.cpu.register(Register::FIRST_ARGUMENT),
-        r2: own.cpu.register(Register::SECOND_ARGUMENT),
+        pid,
+        group: fields.group,
+        session: fields.session,
+        creds: fields.own.creds,
+        r1: fields.own.cpu.register(Register::FIRST_ARGUMENT),
+        r2: fields.own.cpu.register(Register::SECOND_ARGUMENT),
     }
 }

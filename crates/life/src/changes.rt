@@ -1,25 +1,29 @@
 //! A change of one process, with what is kept beside the records: who is to be rechecked, which numbers are borne,
 //! and whether a foreground process group may have lost its members.
 
-ghost use Rattle.std.specs.Prelude.{◌≡◌, ◌≢◌, ◌+◌, ◌*◌, ◌<◌, ◌≤◌, ◌||◌, IsSome, Some, length, option_map, if◌then◌else◌};
-ghost use Rattle.posix.specs.Processes.{Process};
+ghost use Rattle.std.specs.Prelude.{◌≡◌, ◌≢◌, ◌+◌, ◌*◌, ◌<◌, ◌≤◌, ◌||◌, IsSome, Some, length, option_map, if◌then◌else◌, false};
+ghost use Rattle.posix.specs.Processes.{Process, is_zombie};
 ghost use Rattle.posix.specs.States.{process};
-ghost use Rattle.posix.specs.Tables.{children_in, parent_of};
-ghost use Rattle.posix.specs.Regular.{IsRegular};
+ghost use Rattle.posix.specs.Tables.{IsRising, changed, children_in, lookup, parent_of};
+ghost use Rattle.posix.specs.Notices.{child_signal as child_signal_of, noticed_of_change, told_of_change};
+ghost use Rattle.posix.specs.Regular.{IsPlaced, IsRegular};
 ghost use Rattle.pidalloc.specs.Rows.{regrouped};
 ghost use Rattle.pidset.specs.Numbers.{with_number};
-ghost use Rattle.jobs.specs.JobTables.{ChangesSignals, IsRun, StaysGrouped, StaysPut};
-ghost use Rattle.life.specs.Rechecks.{rechecking, rechecks_by_signals, rechecks_changed, with_parent};
-ghost use Rattle.life.specs.Changes.{StaysRegular, CanMoveNumbers, has_moved};
+ghost use Rattle.jobs.specs.Books.{seen_of};
+ghost use Rattle.jobs.specs.JobTables.{ChangesSignals, Costs as JobCosts, IsRun, StaysGrouped, StaysPut, takes_signal as taking_signal};
+ghost use Rattle.life.specs.Rechecks.{awaits as awaiting, rechecking, rechecking_told, rechecks_by_signals, rechecks_changed, with_parent};
+ghost use Rattle.life.specs.Changes.{StaysRegular, CanMoveNumbers, has_moved, lives};
 ghost use Rattle.life.specs.Machines.{Costs, Changes, IsThere, IfThere, with_processes};
 
 use crate::consoles::Unchecked;
+use crate::ends::child_signal;
 use crate::machine::Machine;
 use crate::rechecks::recheck_later;
-use jobs::{Change, Seen};
+use crate::waits::awaits;
+use jobs::{Change, JobTable, Seen};
 use pidalloc::PidTable;
 use pidset::PidSet;
-use posix::Pid;
+use posix::{Life, News, Pid, Status};
 use proctable::{Kin, Record};
 use sched::Order;
 
@@ -36,7 +40,7 @@ impl<K: Kin> Machine<K> {
         ensures changes { Changes 1 self.old self.new (with_processes self.old.state self.new.state.processes) (rechecks_by_signals (process self.new.state pid) self.old) }
     {
         let (result, takes_signal) = self.table.change(pid, change);
-        recheck_by_signals(&mut self.to_recheck, &self.order, pid, takes_signal);
+        recheck_where(&mut self.to_recheck, &self.order, pid, takes_signal);
         result
     }
 
@@ -70,14 +74,56 @@ impl<K: Kin> Machine<K> {
         );
         parent
     }
+
+    /// A process that is there and no zombie lives so from now on, with these news, and its parent gets notice of it by
+    /// this status. It is to be rechecked; its parent is, where it has no place, if it waits for this child, or a signal
+    /// is chosen for it, as otherwise the parent can act no more than before. Each such change goes by this.
+    pub(crate) fn change_life(&mut self, pid: Pid, life: Life, news: News, status: Status)
+        requires there { IsPlaced self.old.state.processes pid }
+        requires living { is_zombie life ≡ false }
+        ensures { IfThere pid self.old (λ me. Changes 3 self.old self.new (with_processes self.old.state (told_of_change status me (changed pid (lives life news) self.old.state.processes))) (rechecking_told (lives life news me) (process self.new.state me.parent) self.old.state.order self.old.to_recheck)) }
+    {
+        let Change { parent, after, .. } = self.table.change_seen(pid, |fields| {
+            fields.life = life;
+            fields.news = news;
+        });
+        self.to_recheck.insert(pid);
+        if parent != Pid::NONE {
+            let acts = notice(&mut self.table, parent, pid, &after, status);
+            recheck_where(&mut self.to_recheck, &self.order, parent, acts);
+        }
+    }
 }
 
-/// The signals of a process have changed: where one is chosen for it, it is to be rechecked if it has no place.
-fn recheck_by_signals(to_recheck: &mut PidSet, order: &Order, pid: Pid, takes_signal: bool)
-    requires { length to_recheck.old.pids < to_recheck.old.room }
-    ensures { to_recheck.new ≡ record (to_recheck.old) { pids = if takes_signal then rechecking pid order.now.pids to_recheck.old.pids else to_recheck.old.pids } }
+/// The parent of a child that was stopped or continued, and is seen so, gets notice of it by this status. Whether it can
+/// act by that: it waits for this child, or a signal is chosen for it.
+fn notice<K: Kin>(
+    table: &mut JobTable<K>,
+    parent: Pid,
+    child: Pid,
+    seen: &Seen,
+    status: Status,
+) -> bool
+    requires there { IsSome (lookup parent table.old.processes) }
+    requires rising { IsRising table.old.processes }
+    ensures processes { table.new.processes ≡ changed parent (noticed_of_change (child_signal_of child status)) table.old.processes }
+    ensures acts { (me it : Process) → lookup parent table.new.processes ≡ Some me → it.pid ≡ child → seen.now ≡ seen_of it → result ≡ (awaiting me it || taking_signal me) }
+    ensures costs { JobCosts 1 table.old table.new }
 {
-    if takes_signal {
+    let signal = child_signal(child, status);
+    let (awaits, takes_signal) = table.change(parent, |fields| {
+        fields.notice_of_change(parent, signal);
+        awaits(fields, child, seen)
+    });
+    awaits || takes_signal
+}
+
+/// A process is to be rechecked where it can act by a change, and has no place.
+fn recheck_where(to_recheck: &mut PidSet, order: &Order, pid: Pid, acts: bool)
+    requires { length to_recheck.old.pids < to_recheck.old.room }
+    ensures { to_recheck.new ≡ record (to_recheck.old) { pids = if acts then rechecking pid order.now.pids to_recheck.old.pids else to_recheck.old.pids } }
+{
+    if acts {
         recheck_later(to_recheck, order, pid);
     }
 }

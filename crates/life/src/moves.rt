@@ -28,11 +28,13 @@ impl<K: Kin> Machine<K> {
         ensures err { OnErr result (AreSame self.old self.new) }
         ensures ok { IfOk result (λ g. (it r : Process) → process self.old.state me.now.pid ≡ Some it → named_by it me.now.r1 self.old.state.processes ≡ Some r → self.new.state ≡ change self.old.state r.pid (in_group g)) }
         ensures to_recheck { OnOk result ((it r : Process) → process self.old.state me.now.pid ≡ Some it → named_by it me.now.r1 self.old.state.processes ≡ Some r → self.new.to_recheck ≡ rechecks_changed r self.old) }
-        ensures costs { IfOk result (λ g. (it r : Process) → process self.old.state me.now.pid ≡ Some it → named_by it me.now.r1 self.old.state.processes ≡ Some r → Costs (7 + 2 * length (children_in r.pid self.old.state.processes)) self.old self.new) }
-        ensures refused { OnErr result (Costs 3 self.old self.new) }
+        ensures costs { IfOk result (λ g. (it r : Process) → process self.old.state me.now.pid ≡ Some it → named_by it me.now.r1 self.old.state.processes ≡ Some r → Costs (6 + 2 * length (children_in r.pid self.old.state.processes)) self.old self.new) }
+        ensures refused { OnErr result (Costs 2 self.old self.new) }
     {
         let target = self.named(me.pid, me.r1);
-        let group = self.table.group_to_join(me.pid, &target, me.r2)?;
+        let group = self
+            .table
+            .group_to_join(me.pid, me.session, &target, me.r2)?;
         let Some(it) = target else { unreachable!() };
         self.change_seen(it.pid, |fields| fields.group = group);
         Ok(group)

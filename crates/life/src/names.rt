@@ -17,6 +17,7 @@ use proctable::{Kin, Snapshot};
 impl<K: Kin> Machine<K> {
     /// The small fields of the process that a word names to a caller that is there: 0 is the caller itself.
     /// None where no process has that number, a negative one too (XSH getpgid, getsid). Nothing changes.
+    #[inline(always)]
     pub fn named(&mut self, me: Pid, word: i64) -> Option<Snapshot>
         requires { IsThere me self.old }
         ensures { Finds 1 self.old self.new (IfThere me self.old (λ it. result ≡ option_map snapshot_of (named_by it word self.old.state.processes))) }

@@ -15,7 +15,7 @@ impl<K: Kin> Machine<K> {
     /// gets notice (XSH 2.4.1, 2.4.3).
     pub fn signal(&mut self, pid: Pid, signal: PendingSignal)
         requires { IsThere pid self.old }
-        ensures { Changes (slots_of_signal signal.sig) self.old self.new (with_processes self.old.state (generated_for signal (process self.old.state pid) self.old.state.processes)) (rechecking_generated signal (process self.old.state pid) self.old.state.order self.old.to_recheck) }
+        ensures { Changes (slots_of_signal signal.sig) self.old self.new (with_processes self.old.state (generated_for signal (process self.old.state pid) self.old.state.processes)) (rechecking_generated signal (process self.old.state pid) self.old.state.processes self.old.state.order self.old.to_recheck) }
     {
         match self.change(pid, |fields| fields.signal(pid, signal)) {
             Effect::Nothing => {}

@@ -5,11 +5,13 @@ ghost use Rattle.posix.specs.Processes.{Process, is_zombie};
 ghost use Rattle.posix.specs.Tables.{lookup, removed, children_in, parent_of};
 ghost use Rattle.posix.specs.States.{process, change};
 ghost use Rattle.posix.specs.declared.target.Target.TheVariants as whom;
-ghost use Rattle.posix.specs.Waits.{look as look_of, report, report_change as report_change_of, report_life as report_life_of, report_of as report_of_child, reporting_in, news_told};
-ghost use Rattle.life.specs.Waits.{slots_of_wait};
+ghost use Rattle.posix.specs.Waits.{is_named as is_named_by, is_something, look as look_of, report, report_change as report_change_of, report_life as report_life_of, report_of as report_of_child, reporting_in, news_told};
+ghost use Rattle.life.specs.Waits.{is_reported, slots_of_wait};
 ghost use Rattle.proctable.specs.Records.{snapshot_of};
 ghost use Rattle.life.specs.Machines.{Finds, Changes, Removes, IsThere, IfThere, with_processes, CanGo, IsGone};
-ghost use Rattle.life.specs.Rechecks.{without_gone};
+ghost use Rattle.jobs.specs.Books.{seen_of};
+ghost use Rattle.life.specs.Rechecks.{awaits as awaiting, without_gone};
+ghost use Rattle.proctable.specs.Records.{process_of};
 ghost use Rattle.life.specs.Foregrounds.{after_loss as after_loss_of};
 
 use crate::caller::Caller;
@@ -17,10 +19,10 @@ use crate::consoles::{after_loss, mark_reader};
 use crate::machine::Machine;
 use crate::rechecks::forget;
 use bitflags::Flags;
-use jobs::JobTable;
+use jobs::{JobTable, Seen};
 use pidalloc::PidTable;
-use posix::{Life, News, Pid, Report, Status, Target, WaitOptions};
-use proctable::{Kin, Snapshot};
+use posix::{Blocked, Life, News, Pid, Register, Report, Status, Target, WaitOptions};
+use proctable::{Kin, Record, Snapshot};
 
 /// What the news of a process are for a wait.
 fn report_change(options: WaitOptions, pid: Pid, news: News) -> Report
@@ -58,6 +60,48 @@ fn look(group: Pid, options: WaitOptions, child: Snapshot) -> Report
     } else {
         Report::NoChild
     }
+}
+
+/// Whether a wait by a caller in this process group means a child with this number, in its group.
+fn is_named(group: Pid, target: Target, child: Pid, child_group: Pid) -> bool
+    ensures { (r : Process) → r.pid ≡ child → r.group ≡ child_group → result ≡ is_named_by group target r }
+{
+    match target {
+        Target::Process(pid) => child == pid,
+        Target::OwnGroup => child_group == group,
+        Target::Group(pid) => child_group == pid,
+        Target::All => true,
+        Target::Nobody => false,
+    }
+}
+
+/// Whether a child has something to report.
+fn reports(options: WaitOptions, child: Pid, life: Life, news: News) -> bool
+    ensures { result ≡ is_something (report_life_of options.0 child life news) }
+{
+    match report_life(options, child, life, news) {
+        Report::End(..) | Report::Change(..) => true,
+        Report::NoChild | Report::Nothing => false,
+    }
+}
+
+/// Whether a process is blocked in a wait that means this child, which is seen so, and asks for what it has to report.
+#[tactic(auto, unfolding(crate::specs::Rechecks::awaits, posix::specs::Waits::report_of))]
+pub(crate) fn awaits(me: &Record, child: Pid, seen: &Seen) -> bool
+    ensures { (p q : ℕ) (it : Process) → it.pid ≡ child → seen.now ≡ seen_of it → result ≡ awaiting (process_of p q me.now) it }
+{
+    if me.own.blocked != Some(Blocked::Waitpid) {
+        return false;
+    }
+    let target = Target::from_word(me.own.cpu.register(Register::FIRST_ARGUMENT));
+    let options = me.own.cpu.register(Register::SECOND_ARGUMENT);
+    is_named(me.group, target, child, seen.group)
+        && reports(
+            WaitOptions::from_bits_retain(options.cast_unsigned()),
+            child,
+            seen.life,
+            seen.news,
+        )
 }
 
 /// The record of a process that is there, without children, goes, and it no longer bears its own number, its group's
@@ -159,6 +203,28 @@ impl<K: Kin> Machine<K> {
             Target::OwnGroup => self.report_of_members(me.pid, me.group, options),
             Target::Group(group) => self.report_of_members(me.pid, group, options),
             Target::Nobody => Report::NoChild,
+        }
+    }
+
+    /// Whether a wait of a caller reports, if it gets to it, the process with this number: that is a child of the caller,
+    /// the wait means it, and it has something to report. Nothing changes.
+    #[tactic(auto, using(crate::proofs::ChildLemmas::is_reported_read), unfolding(posix::specs::Waits::report_of))]
+    pub fn has_report_of(
+        &mut self,
+        me: &Caller,
+        target: Target,
+        options: WaitOptions,
+        child: Pid,
+    ) -> bool
+        ensures { Finds 1 self.old self.new (result ≡ is_reported me.now.pid me.now.group target options.0 (process self.old.state child)) }
+    {
+        match self.snapshot(child) {
+            Some(it) => {
+                it.parent == me.pid
+                    && is_named(me.group, target, it.pid, it.group)
+                    && reports(options, it.pid, it.life, it.news)
+            }
+            None => false,
         }
     }
 

@@ -8,6 +8,7 @@ ghost use Rattle.posix.specs.Regular.{IsRegular};
 ghost use Rattle.posix.specs.Settle.{wakes, NoWakeIsLost};
 ghost use Rattle.posix.specs.Waits.{reporting_in};
 ghost use Rattle.life.specs.Machines.{Finds, IsThere};
+ghost use Rattle.pidset.specs.Numbers.{Rises};
 
 use crate::machine::Machine;
 use posix::Pid;
@@ -50,8 +51,16 @@ impl<K: Kin> Machine<K> {
     pub fn first_to_recheck(&self) -> Option<Pid>
         ensures next { IsNext (wakes self.now.state) 0 self.now.state.processes result }
         ensures is { result ≡ slice_get self.now.to_recheck 0 }
+        ensures rising { Rises self.now.to_recheck }
         ensures regular { IsRegular self.now.state }
     {
         self.to_recheck.first()
+    }
+    /// Who is to be rechecked after the first one.
+    pub fn second_to_recheck(&self, first: Pid) -> Option<Pid>
+        requires { slice_get self.now.to_recheck 0 ≡ Some first }
+        ensures { result ≡ slice_get self.now.to_recheck 1 }
+    {
+        self.to_recheck.next_above(first)
     }
 }

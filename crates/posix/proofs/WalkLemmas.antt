@@ -284,16 +284,6 @@ walk_at t p rs up r e next i =
     ∙ ap (λ l. filter t l ++ filter t (above p rs)) (numbered_one p rs up r e)
     ∙ ap (λ l. filter t (r ∷ []) ++ l) (sym (rest_of_walk t p rs next up i))
 
--- where it passes, it is the first of those left that do
-pub passes_here : (t : Process → Bool) (p : ℕ) (rs : List Process) → IsRising rs → (r : Process) → lookup p rs ≡ Some r → (next : Option ℕ) → IsNext t p rs next → t r ≡ true
-    → first_pid (filter t (left_of (Some p) rs)) ≡ Some p
-passes_here t p rs up r e next i h = ap first_pid (walk_at t p rs up r e next i) ∙ rw h (ap Some (pid_looked p rs r e))
-
--- where it fails, those left that pass are left after it
-pub fails_here : (t : Process → Bool) (p : ℕ) (rs : List Process) → IsRising rs → (r : Process) → lookup p rs ≡ Some r → (next : Option ℕ) → IsNext t p rs next → t r ≡ false
-    → filter t (left_of (Some p) rs) ≡ filter t (left_of next rs)
-fails_here t p rs up r e next i h = walk_at t p rs up r e next i ∙ rw h refl
-
 -- ---- who comes next
 
 -- the record with the number q is there, and passes

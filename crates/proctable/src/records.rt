@@ -128,24 +128,6 @@ impl Record {
         self.own.signals.generate(pid, self.life, signal)
     }
 
-    /// A signal has stopped the process (XSH 2.4.3).
-    #[tactic(auto, unfolding(posix::specs::Notices::stopped_by))]
-    pub fn stop(&mut self, sig: Sig)
-        ensures { (p q : ℕ) → process_of p q self.new ≡ stopped_by sig (process_of p q self.old) }
-    {
-        self.life = Life::Stopped;
-        self.news = News::StoppedBy(sig);
-    }
-
-    /// The process runs again (XSH 2.4.3). News of a stop that no wait has reported go.
-    #[tactic(auto, unfolding(posix::specs::Notices::resumed))]
-    pub fn resume(&mut self)
-        ensures { (p q : ℕ) → process_of p q self.new ≡ resumed (process_of p q self.old) }
-    {
-        self.life = Life::Running;
-        self.news = News::Continued;
-    }
-
     /// The alarm of the process, whose number this is, rings if it is due at this tick, and isn't set any more
     /// then (XSH alarm).
     #[tactic(auto, unfolding(posix::specs::Alarms::rung, posix::specs::Alarms::with_alarm))]

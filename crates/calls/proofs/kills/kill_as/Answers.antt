@@ -1,4 +1,4 @@
-use Rattle.std.proofs.Common.{ap, ◌∙◌, arith, refl, pos}
+use Rattle.std.proofs.Common.{ap, ◌∙◌, refl, pos}
 use Rattle.posix.specs.declared.errno.Errno.TheVariants.{EPERM, ESRCH}
 use Rattle.posix.specs.declared.call.Call.TheVariants.{Kill}
 use Rattle.posix.specs.declared.process.Sending.TheVariants as found
@@ -6,8 +6,9 @@ use Rattle.posix.specs.Outcomes.{refusal}
 use Rattle.life.specs.Callers.{process_like}
 use Rattle.calls.proofs.CallLemmas.{gives_is}
 use Rattle.calls.proofs.KillLemmas.{kill_unknown, kill_finds, sent_in, there_sent, sent_same}
-use Rattle.calls.specs.Outcomes.{is_one}
-use Rattle.calls.proofs.BriefLemmas.{brief_done, brief_more, brief_killed, kills_by}
+use Rattle.posix.specs.Sends.{signal_or_none}
+use Rattle.calls.specs.Outcomes.{is_cont}
+use Rattle.calls.proofs.BriefLemmas.{brief_done, brief_more, brief_kill, kill_least}
 use Rattle.calls.proofs.kills.kill_as.Goals as goal
 
 pub returns-in-Err-clause-comes : goal.returns-in-Err-clause-comes
@@ -55,22 +56,17 @@ returns-in-Permitted-clause-comes g c =
     gives_is s (sent_in s x c.target.result c.in-Ok.sig) _ _ _ me.pid Kill (pos 0) (pos 0) _ _ _ is c.finish_with.ensures.done c.finish_with.ensures.state c.send.ensures.changes.state c.finish_with.ensures.shown refl
 
 pub returns-in-Err-clause-brief : goal.returns-in-Err-clause-brief
-returns-in-Err-clause-brief g c = λ one quiet. brief_more 1 3 _ _ (omega arith) (brief_done c.args.me.now.pid _ c.args.machine.now _ quiet c.refuse.ensures.state c.refuse.ensures.costs)
+returns-in-Err-clause-brief g c = λ one quiet.
+    brief_more 1 _ c.args.machine.now _ (kill_least c.args.machine.now.state.processes _ (is_cont (signal_or_none c.args.me.now.r2))) (brief_done c.args.me.now.pid _ c.args.machine.now _ quiet c.refuse.ensures.state c.refuse.ensures.costs)
 
 pub returns-in-NobodyFound-clause-brief : goal.returns-in-NobodyFound-clause-brief
 returns-in-NobodyFound-clause-brief g c = λ one quiet.
-    let both = kills_by (process_like c.args.me.now) c.in-Ok.sig _ (c.signal_or_none.ensures) c.in-Ok.is one in
-    let sent = c.send.ensures.changes in
-    brief_killed (process_like c.args.me.now) c.target.result c.in-Ok.sig _ c.args.machine.now _ _ (ap is_one c.target.ensures ∙ both.0) both.1 quiet sent.costs.regular sent.state sent.to_recheck sent.foregrounds_unchecked c.send.ensures.visits c.refuse-in-NobodyFound.ensures.state c.refuse-in-NobodyFound.ensures.costs
+    brief_kill (process_like c.args.me.now) c.target.result _ c.in-Ok.sig _ c.args.machine.now _ _ one quiet c.target.ensures c.signal_or_none.ensures c.in-Ok.is c.send.ensures.changes c.send.ensures.visits c.refuse-in-NobodyFound.ensures.state c.refuse-in-NobodyFound.ensures.costs
 
 pub returns-in-NobodyPermitted-clause-brief : goal.returns-in-NobodyPermitted-clause-brief
 returns-in-NobodyPermitted-clause-brief g c = λ one quiet.
-    let both = kills_by (process_like c.args.me.now) c.in-Ok.sig _ (c.signal_or_none.ensures) c.in-Ok.is one in
-    let sent = c.send.ensures.changes in
-    brief_killed (process_like c.args.me.now) c.target.result c.in-Ok.sig _ c.args.machine.now _ _ (ap is_one c.target.ensures ∙ both.0) both.1 quiet sent.costs.regular sent.state sent.to_recheck sent.foregrounds_unchecked c.send.ensures.visits c.refuse-in-NobodyPermitted.ensures.state c.refuse-in-NobodyPermitted.ensures.costs
+    brief_kill (process_like c.args.me.now) c.target.result _ c.in-Ok.sig _ c.args.machine.now _ _ one quiet c.target.ensures c.signal_or_none.ensures c.in-Ok.is c.send.ensures.changes c.send.ensures.visits c.refuse-in-NobodyPermitted.ensures.state c.refuse-in-NobodyPermitted.ensures.costs
 
 pub returns-in-Permitted-clause-brief : goal.returns-in-Permitted-clause-brief
 returns-in-Permitted-clause-brief g c = λ one quiet.
-    let both = kills_by (process_like c.args.me.now) c.in-Ok.sig _ (c.signal_or_none.ensures) c.in-Ok.is one in
-    let sent = c.send.ensures.changes in
-    brief_killed (process_like c.args.me.now) c.target.result c.in-Ok.sig _ c.args.machine.now _ _ (ap is_one c.target.ensures ∙ both.0) both.1 quiet sent.costs.regular sent.state sent.to_recheck sent.foregrounds_unchecked c.send.ensures.visits c.finish_with.ensures.state c.finish_with.ensures.costs
+    brief_kill (process_like c.args.me.now) c.target.result _ c.in-Ok.sig _ c.args.machine.now _ _ one quiet c.target.ensures c.signal_or_none.ensures c.in-Ok.is c.send.ensures.changes c.send.ensures.visits c.finish_with.ensures.state c.finish_with.ensures.costs

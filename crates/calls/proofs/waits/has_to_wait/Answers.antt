@@ -9,5 +9,5 @@ use Rattle.calls.proofs.waits.has_to_wait.Goals as goal
 pub returns-clause-value : goal.returns-clause-value
 returns-clause-value g c = λ me e.
     let s = c.args.machine.now.state in
-    let cr = c.caller_with-me.result in
-    c.would_wait.ensures.value ∙ ap (λ (t : State). is_block (wait t (process_like cr))) c.caller_with-me.ensures.finds.looks.same.state ∙ ap is_block (wait_of s (process s c.args.pid) me cr c.caller_with-me.ensures.finds.value e)
+    let cr = c.caller-me.result in
+    c.would_wait.ensures.value ∙ ap (λ (t : State). is_block (wait t (process_like cr))) c.caller-me.ensures.finds.looks.same.state ∙ ap is_block (wait_of s (process s c.args.pid) me cr c.caller-me.ensures.finds.value e)

@@ -9,7 +9,8 @@ use Rattle.posix.specs.States.{State, process, change, has_place}
 use Rattle.jobs.proofs.RunLemmas.{parent_is}
 use Rattle.life.specs.Rechecks.{without_gone}
 use Rattle.life.proofs.SoundLemmas.{there}
-use Rattle.calls.proofs.BriefLemmas.{quiet_on, brief_on, brief_behind, brief_look, brief_more, brief_done, brief_reaped, wait_slots}
+use Rattle.calls.proofs.BriefLemmas.{quiet_on, brief_on, brief_behind, brief_look, brief_more, brief_done, brief_reaped}
+use Rattle.calls.proofs.CountLemmas.{wait_slots}
 use Rattle.posix.specs.Outcomes.{Block, finish_with, refusal}
 use Rattle.posix.specs.Waits.{WNOHANG, has_option, news_told}
 use Rattle.posix.proofs.OrderLemmas.{placed_some}
@@ -143,7 +144,7 @@ returns-in-End-clause-brief g c = λ quiet.
     let here = there _ (subst (λ (t : State). IsSome (process t me.pid)) (sym gone) (caller_stays s.processes me.pid c.in-End.child c.requires.placed child)) in
     let parent = parent_is c.in-End.child _ mid.state.processes child.what refl there_child ∙ child.parent in
     let slots = wait_slots c.target.result me.pid s.processes in
-    brief_on 6 _ _ c.args.machine.now mid _ looks.same looks.visits (omega (arith, slots))
+    brief_on 9 _ _ c.args.machine.now mid _ looks.same looks.visits (omega (arith, slots))
     (brief_reaped me.pid c.in-End.child _ mid c.reap.new.self _ here.what child.what (c.requires.regular.bounded c.in-End.child child.what child.found).group_least (quiet_on _ c.args.machine.now _ looks.same quiet) c.reap.ensures.changes.state (c.reap.ensures.changes.to_recheck ∙ ap (λ p. without_gone c.in-End.child p mid.to_recheck) parent)
     (c.reap.ensures.foregrounds_unchecked child.what there_child) c.reap.ensures.changes.costs.visits here.found c.report.ensures.state c.report.ensures.costs)
 

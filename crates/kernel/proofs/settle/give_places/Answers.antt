@@ -1,21 +1,17 @@
-use Rattle.std.proofs.Common.{◌≡◌, ◌∙◌, ◌<◌, ap, sym, subst, arith, length, false, List, ℕ}
+use Rattle.std.proofs.Common.{◌≡◌, ◌∙◌, ◌<◌, ap, sym, subst, arith, length, false, List, Some, ℕ}
 use Rattle.posix.specs.States.{State, process, without}
 use Rattle.posix.specs.Settle.{give_places, wakes}
 use Rattle.posix.specs.Tables.{IsNext}
 use Rattle.posix.specs.Regular.{IsRegular}
 use Rattle.posix.proofs.SettleLemmas.{asking_begins, asking_ends}
-use Rattle.pidset.proofs.NumberLemmas.{in_at}
 use Rattle.pidset.proofs.WalkLemmas.{none_left}
 use Rattle.kernel.proofs.RecheckedLemmas.{same_processes, woken_rests, first_woken, without_first}
 use Rattle.std.specs.Option.{IfSome, IsSome}
 use Rattle.life.specs.Machines.{MachineView}
 use Rattle.life.proofs.SoundLemmas.{there}
-use Rattle.kernel.specs.Counts.{slots_of_rechecking, slots_of_rechecks}
-use Rattle.kernel.proofs.CountLemmas.{rechecks_first}
+use Rattle.calls.specs.Counts.{neighbour, slots_of_rechecking, slots_of_rechecks}
+use Rattle.calls.proofs.CountLemmas.{rechecks_first}
 use Rattle.kernel.proofs.settle.give_places.Goals as goal
-
-pub wake-session-requires-clause-to_recheck : goal.wake-session-requires-clause-to_recheck
-wake-session-requires-clause-to_recheck g c = in_at c.loop-pid.machine.to_recheck c.in-Some.pid 0 (sym c.first_to_recheck.ensures.is ∙ c.in-Some.is)
 
 pub rechecked-requires-clause-waits : goal.rechecked-requires-clause-waits
 rechecked-requires-clause-waits g c = λ r e.
@@ -43,9 +39,9 @@ loop-pid-preserved g c =
       processes = processes ∙ c.loop-pid.invariant.processes;
       visits =
           let me = there (process s pid) (subst (λ o. IfSome o (λ p. IsSome (process s p))) c.in-Some.is c.first_to_recheck.ensures.next.there) in
-          let its = ap (slots_of_rechecking s.processes) me.found in
-          let left = rechecks_first s.processes c.loop-pid.machine.to_recheck pid (sym c.first_to_recheck.ensures.is ∙ c.in-Some.is) in
-          let now = ap (slots_of_rechecks c.rechecked.new.self.state.processes) list ∙ ap (λ rs. slots_of_rechecks rs (without pid c.loop-pid.machine.to_recheck)) processes in
+          let its = ap (slots_of_rechecking s.processes (neighbour c.loop-pid.last c.loop-pid.machine.to_recheck)) me.found in
+          let left = rechecks_first s.processes c.loop-pid.last c.loop-pid.machine.to_recheck pid c.first_to_recheck.ensures.rising (sym c.first_to_recheck.ensures.is ∙ c.in-Some.is) in
+          let now = ap (slots_of_rechecks c.rechecked.new.self.state.processes (Some pid)) list ∙ ap (λ rs. slots_of_rechecks rs (Some pid) (without pid c.loop-pid.machine.to_recheck)) processes in
           let woke = c.wake-session.ensures.visits me.what me.found in
           let one = ap (λ (m : MachineView). m.visits) c.rechecked.ensures.rest in
           let was = c.loop-pid.invariant.visits in

@@ -10,7 +10,8 @@ use Rattle.std.specs.Option.{IfSome}
 use Rattle.std.proofs.lemmas.Option.{IfSome_then}
 use Rattle.posix.specs.Tables.{children_in}
 use Rattle.calls.specs.Outcomes.{IsBrief, slots_of_brief}
-use Rattle.calls.proofs.BriefLemmas.{brief_more, brief_on, quiet_on}
+use Rattle.calls.proofs.BriefLemmas.{brief_more, brief_on, brief_visits, quiet_on}
+use Rattle.kernel.specs.Counts.{slots_of_blocking}
 use Rattle.kernel.proofs.CallCountLemmas.{brief_call}
 use Rattle.kernel.proofs.step.begin_call.Goals as goal
 
@@ -42,14 +43,14 @@ returns-in-Block-clause-begins g c = λ me e.
     )
 
 pub returns-in-Done-clause-brief : goal.returns-in-Done-clause-brief
-returns-in-Done-clause-brief g c = λ me e quiet. IfSome_then (slots_of_brief c.args.call c.args.machine.now.state.processes me) (c.attempt.ensures.brief me e quiet) (λ n h. brief_more n (n + 1) c.args.machine.now c.attempt.new.machine (omega arith) h)
+returns-in-Done-clause-brief g c = λ me e quiet. IfSome_then (slots_of_brief c.args.call c.args.machine.now.state.processes me) (c.attempt.ensures.brief me e quiet) (λ n h. brief_more n (n + slots_of_blocking c.args.call) c.args.machine.now c.attempt.new.machine (omega arith) h)
 
 pub returns-in-Block-clause-brief : goal.returns-in-Block-clause-brief
 returns-in-Block-clause-brief g c = λ me e quiet.
     let old = c.args.machine.now in
-    brief_call c.args.call old.state.processes me (λ n. IsBrief (n + 1) old c.block.new.machine)
+    brief_call c.args.call old.state.processes me (λ n. IsBrief (n + slots_of_blocking c.args.call) old c.block.new.machine)
     (λ is.
     let same = c.attempt.ensures.waits c.in-Block.blocked is c.in-Block.is in
-    let h : IsBrief (9 + 2 * length (children_in me.pid old.state.processes)) old c.attempt.new.machine = subst (λ call. IfSome (slots_of_brief call old.state.processes me) (λ n. IsBrief n old c.attempt.new.machine)) is (c.attempt.ensures.brief me e quiet) in
-    brief_on 1 (9 + 2 * length (children_in me.pid old.state.processes)) _ old c.attempt.new.machine c.block.new.machine same h.visits (omega arith) (c.block.ensures.brief is (quiet_on c.args.pid old c.attempt.new.machine same quiet)))
+    let h : IsBrief (11 + 2 * length (children_in me.pid old.state.processes)) old c.attempt.new.machine = subst (λ call. IfSome (slots_of_brief call old.state.processes me) (λ n. IsBrief n old c.attempt.new.machine)) is (c.attempt.ensures.brief me e quiet) in
+    rw is (brief_on 1 (11 + 2 * length (children_in me.pid old.state.processes)) _ old c.attempt.new.machine c.block.new.machine same (brief_visits _ old _ h) (omega arith) (c.block.ensures.brief is (quiet_on c.args.pid old c.attempt.new.machine same quiet))))
     (λ is. let no = sym c.in-Block.is ∙ c.attempt.ensures.done is in absurd (cc))

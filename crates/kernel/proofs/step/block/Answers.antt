@@ -2,8 +2,7 @@ use Rattle.std.proofs.Common.{None, arith, ◌≡◌, ◌∙◌, ap, sym, subst,
 use Rattle.posix.specs.Processes.{Process}
 use Rattle.posix.specs.States.{State, process, without}
 use Rattle.life.specs.Consoles.{reads}
-use Rattle.life.proofs.TakingLemmas.{brief_none}
-use Rattle.calls.specs.Outcomes.{AreFew}
+use Rattle.calls.proofs.BriefLemmas.{brief_alone}
 use Rattle.posix.specs.Settle.{wakes}
 use Rattle.kernel.proofs.BlockLemmas.{blocked_rests, blocked_unread, nobody_left}
 use Rattle.life.specs.Machines.{MachineView}
@@ -27,11 +26,5 @@ pub returns-in-Waitpid-clause-brief : goal.returns-in-Waitpid-clause-brief
 returns-in-Waitpid-clause-brief g c = λ same quiet.
     let rest = c.rechecked.ensures.rest in
     let none = ap (λ (m : MachineView). m.to_recheck) rest ∙ ap (without c.args.pid) (c.enter_call.ensures.to_recheck quiet.place) ∙ nobody_left c.args.pid _ quiet.none in
-    let nobody = brief_none c.rechecked.new.self.state.processes c.rechecked.new.self.to_recheck 1 none in
-    record {
-      visits = let read = ap (λ (m : MachineView). m.visits) rest in let one = c.enter_call.ensures.visits in omega (arith, read, one);
-      brief = nobody.0;
-      few = nobody.1;
-      unchecked = subst AreFew (sym (ap (λ (m : MachineView). m.foregrounds_unchecked) rest ∙ c.enter_call.ensures.foregrounds_unchecked ∙ quiet.checked)) tt;
-      consoles = ap (λ (m : MachineView). m.state.consoles) rest ∙ ap (λ (t : State). t.consoles) c.enter_call.ensures.state;
-    }
+    brief_alone 1 c.args.machine.now _ none (ap (λ (m : MachineView). m.foregrounds_unchecked) rest ∙ c.enter_call.ensures.foregrounds_unchecked ∙ quiet.checked)
+    (ap (λ (m : MachineView). m.state.consoles) rest ∙ ap (λ (t : State). t.consoles) c.enter_call.ensures.state) (let read = ap (λ (m : MachineView). m.visits) rest in let one = c.enter_call.ensures.visits in omega (arith, read, one))

@@ -4,7 +4,7 @@ use Rattle.posix.specs.Waits.{wait}
 use Rattle.posix.specs.Settle.{is_block}
 use Rattle.life.specs.Rechecks.{is_in_wait}
 use Rattle.calls.specs.Outcomes.{IsActing}
-use Rattle.calls.proofs.BriefLemmas.{brief_on, quiet_on}
+use Rattle.calls.proofs.BriefLemmas.{brief_on, brief_visits, quiet_on}
 use Rattle.kernel.proofs.CallCountLemmas.{in_wait_is, nothing_delivered}
 use Rattle.posix.specs.Regular.{IsPlaced}
 use Rattle.posix.specs.Outcomes.{silent}
@@ -105,5 +105,5 @@ pub returns-in-None-clause-brief : goal.returns-in-None-clause-brief
 returns-in-None-clause-brief g c = λ me e quiet is nothing.
     let old = c.args.machine.now in
     let same = c.attempt_again.ensures.waits c.in-Block.field-0 is c.in-Block.is in
-    let read = (c.attempt_again.ensures.brief is quiet).visits in
+    let read = brief_visits _ old _ (c.attempt_again.ensures.brief is quiet) in
     brief_on 0 _ _ old c.attempt_again.new.machine c.wait_on.new.machine same read (omega arith) (c.wait_on.ensures.brief (c.is_wait-waits.ensures ∙ ap (λ b. is_in_wait (Some b)) is) (quiet_on c.args.pid old c.attempt_again.new.machine same quiet))

@@ -1,9 +1,10 @@
-use Rattle.std.proofs.Common.{◌∙◌, ◌+◌, count_by, ap, sym, arith}
+use Rattle.std.proofs.Common.{None, ◌∙◌, ◌+◌, count_by, ap, sym, arith}
 use Rattle.posix.proofs.OrderLemmas.{first_in}
 use Rattle.life.specs.Machines.{MachineView}
 use Rattle.life.specs.Foregrounds.{is_unchecked}
 use Rattle.kernel.specs.Counts.{slots_of_settling}
-use Rattle.kernel.proofs.CountLemmas.{rechecks_taking, none_unchecked}
+use Rattle.calls.proofs.CountLemmas.{rechecks_taking}
+use Rattle.kernel.proofs.CountLemmas.{none_unchecked}
 use Rattle.kernel.proofs.step.tick.Goals as goal
 
 pub go_last-requires : goal.go_last-requires
@@ -15,7 +16,7 @@ returns-in-Some-clause-cost g c = λ none checked.
     let mid = c.pass_time.new.self in
     let taking = c.pass_time.ensures.taking none in
     let read = c.pass_time.ensures.costs.visits in
-    let one = rechecks_taking mid.state.processes mid.to_recheck taking.0 in
+    let one = rechecks_taking mid.state.processes None mid.to_recheck taking.0 in
     let foregrounds = ap (λ u. count_by (is_unchecked u) mid.state.consoles) (c.pass_time.ensures.foregrounds_unchecked ∙ checked) ∙ none_unchecked mid.state.consoles in
     let more = ap (λ (m : MachineView). m.visits + slots_of_settling m) c.go_last.ensures in
     omega (arith, taking.1, read, one, foregrounds, more)
@@ -25,6 +26,6 @@ returns-in_default-clause-cost g c = λ none checked.
     let mid = c.pass_time.new.self in
     let taking = c.pass_time.ensures.taking none in
     let read = c.pass_time.ensures.costs.visits in
-    let one = rechecks_taking mid.state.processes mid.to_recheck taking.0 in
+    let one = rechecks_taking mid.state.processes None mid.to_recheck taking.0 in
     let foregrounds = ap (λ u. count_by (is_unchecked u) mid.state.consoles) (c.pass_time.ensures.foregrounds_unchecked ∙ checked) ∙ none_unchecked mid.state.consoles in
     omega (arith, taking.1, read, one, foregrounds)

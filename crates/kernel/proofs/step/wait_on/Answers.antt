@@ -5,9 +5,8 @@ use Rattle.posix.specs.Settle.{wakes}
 use Rattle.pidset.specs.Numbers.{with_number}
 use Rattle.life.specs.Machines.{MachineView}
 use Rattle.life.specs.Consoles.{reads}
-use Rattle.life.proofs.TakingLemmas.{brief_none}
 use Rattle.life.proofs.ViewLemmas.{state_is}
-use Rattle.calls.specs.Outcomes.{AreFew}
+use Rattle.calls.proofs.BriefLemmas.{brief_alone}
 use Rattle.kernel.proofs.BlockLemmas.{waits_rest, waits_unread, nobody_left}
 use Rattle.kernel.proofs.step.wait_on.Goals as goal
 
@@ -29,11 +28,5 @@ returns-then-waits-clause-brief g c = λ same quiet.
     let ns = c.args.machine.now.to_recheck in
     let list = ap (λ (m : MachineView). m.to_recheck) lost ∙ ap (λ b. cond b (with_number c.args.pid ns) ns) quiet.place in
     let none = ap (λ (m : MachineView). m.to_recheck) rest ∙ ap (without c.args.pid) list ∙ nobody_left c.args.pid _ quiet.none in
-    let nobody = brief_none c.rechecked.new.self.state.processes c.rechecked.new.self.to_recheck 1 none in
-    record {
-      visits = let read = ap (λ (m : MachineView). m.visits) rest in let before = ap (λ (m : MachineView). m.visits) lost in omega (arith, read, before);
-      brief = nobody.0;
-      few = nobody.1;
-      unchecked = subst AreFew (sym (ap (λ (m : MachineView). m.foregrounds_unchecked) rest ∙ ap (λ (m : MachineView). m.foregrounds_unchecked) lost ∙ quiet.checked)) tt;
-      consoles = ap (λ (m : MachineView). m.state.consoles) rest ∙ ap (λ (m : MachineView). m.state.consoles) lost;
-    }
+    brief_alone 0 c.args.machine.now _ none (ap (λ (m : MachineView). m.foregrounds_unchecked) rest ∙ ap (λ (m : MachineView). m.foregrounds_unchecked) lost ∙ quiet.checked)
+    (ap (λ (m : MachineView). m.state.consoles) rest ∙ ap (λ (m : MachineView). m.state.consoles) lost) (let read = ap (λ (m : MachineView). m.visits) rest in let before = ap (λ (m : MachineView). m.visits) lost in omega (arith, read, before))

@@ -5,9 +5,6 @@ use Rattle.life.specs.Machines.{IsReaders, readers_at}
 use Rattle.life.proofs.ReaderLemmas.{readers_none, readers_more, none_more}
 use Rattle.life.proofs.consoles.no_readers.Goals as goal
 
-pub loop-init : goal.loop-init
-loop-init c = (ap length c.in_ok-sets.ensures.items, subst (AllByRecursion (IsReaders c.args.pidmax)) (sym c.in_ok-sets.ensures.items) tt, λ k. ap (readers_at k) c.in_ok-sets.ensures.items)
-
 pub loop-preserved : goal.loop-preserved
 loop-preserved c =
     let items = c.in_ok-push.ensures.items in
@@ -17,16 +14,3 @@ loop-preserved c =
       subst (AllByRecursion (IsReaders c.args.pidmax)) (sym items) (readers_more _ _ _ c.loop.invariant.1 (readers_none _ _ (c.in_ok-reserve.ensures.pids ∙ c.new-readers.ensures) c.in_ok-reserve.ensures.room)),
       λ k. ap (readers_at k) items ∙ none_more k _ _ c.loop.invariant.2 (c.in_ok-reserve.ensures.pids ∙ c.new-readers.ensures),
     )
-
-pub returns-clause-each : goal.returns-clause-each
-returns-clause-each c = c.loop.invariant.1
-
-pub returns-clause-none : goal.returns-clause-none
-returns-clause-none c = c.loop.invariant.2
-
-pub returns-clause-many : goal.returns-clause-many
-returns-clause-many c =
-    let low = c.loop-test.false in
-    let high = c.loop.auto.counter-end in
-    let is = c.loop.invariant.0 in
-    omega (arith, low, high, is)

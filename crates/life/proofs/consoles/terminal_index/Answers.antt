@@ -6,9 +6,6 @@ use Rattle.posix.specs.Consoles.{is_of_session, console_of}
 use Rattle.life.proofs.ReaderLemmas.{not_next, is_next}
 use Rattle.life.proofs.consoles.terminal_index.Goals as goal
 
-pub loop-console_index-init : goal.loop-console_index-init
-loop-console_index-init c = refl
-
 pub returns-then-eq : goal.returns-then-eq
 unfolding console_of
 returns-then-eq c =

@@ -22,6 +22,5 @@ invariant_of-self g c =
 
 pub returns-in-Some-clause-state : goal.returns-in-Some-clause-state
 returns-in-Some-clause-state g c = λ its found.
-    let it = c.in-Some.console.now in
-    let at = lent_at c.self.inside.consoles.items c.args.console_index it c.in-Some.ensures.item.0 c.in-Some.ensures.item.1 in
-    rw c.acquire.ensures (put_is _ c.args.self.now.state c.args.console_index it its (acquired c.args.session c.args.group) (state_is c.self.view_is ∙ (state_is c.recheck_readers.ensures.rest)) at found)
+    let at = lent_at c.self.inside.consoles.items c.args.console_index c.in-Some.console.now c.in-Some.ensures.item.0 c.in-Some.ensures.item.1 in
+    rw c.acquire.ensures (put_is _ c.args.self.now.state c.args.console_index c.in-Some.console.now its (acquired c.args.session c.args.group) (state_is c.self.view_is ∙ (state_is c.recheck_readers.ensures.rest)) at found)

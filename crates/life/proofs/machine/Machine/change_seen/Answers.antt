@@ -3,15 +3,13 @@ use Rattle.life.specs.declared.consoles.Unchecked.TheVariants.{All}
 use Rattle.std.proofs.Common.{cond, ap, sym, ◌∙◌, subst, [], ◌∷◌, refl, rules}
 use Rattle.posix.specs.States.{State}
 use Rattle.posix.specs.Tables.{lookup, parent_of}
-use Rattle.posix.proofs.TableLemmas.{pid_looked}
 use Rattle.pidset.specs.Numbers.{with_number}
 use Rattle.proctable.specs.Records.{process_of}
 use Rattle.jobs.proofs.KeptLemmas.{record_found}
-use Rattle.jobs.proofs.RunLemmas.{parent_is}
 use Rattle.life.specs.Machines.{MachineView}
-use Rattle.life.specs.Rechecks.{with_numbers, with_parent}
+use Rattle.life.specs.Rechecks.{with_numbers}
 use Rattle.life.specs.Changes.{StaysRegular}
-use Rattle.life.proofs.SoundLemmas.{here_in, found_in}
+use Rattle.life.proofs.SoundLemmas.{here_in}
 use Rattle.life.proofs.RecheckLemmas.{has_room, room_after, pids_of, room_of}
 use Rattle.life.proofs.FunnelLemmas.{not_moved, machine_shown, can_move_numbers, seen_is, parent_there, there_record}
 use Rattle.life.proofs.ViewLemmas.{state_is}
@@ -24,17 +22,15 @@ recheck_with_parent-requires-clause-few g c = has_room _ _ c.self.invariant.soun
 pub recheck_with_parent-requires-clause-fits : goal.recheck_with_parent-requires-clause-fits
 unfolding with_numbers
 recheck_with_parent-requires-clause-fits g c =
-    let set = c.self.inside.to_recheck in
-    room_after _ _ (record set { pids = with_number c.args.pid set.pids }) (c.args.pid ∷ []) c.self.invariant.sound.regular c.self.invariant.listed (here_in c.args.pid (state_is c.self.view_is) c.requires.there, tt) refl refl
+    room_after _ _ (record (c.self.inside.to_recheck) { pids = with_number c.args.pid c.self.inside.to_recheck.pids }) (c.args.pid ∷ []) c.self.invariant.sound.regular c.self.invariant.listed (here_in c.args.pid (state_is c.self.view_is) c.requires.there, tt) refl refl
 
 pub move_numbers-requires : goal.move_numbers-requires
 move_numbers-requires g c =
     let run = c.change_seen-parent.ensures.run in
     let stays = subst (λ (s : State). StaysRegular g.F.FnOnce c.args.change s c.args.pid) (sym (state_is c.self.view_is)) c.requires.regular in
-    let i = c.self.invariant.sound in
     let before = seen_is _ _ _ c.change_seen-parent.ensures.before run.found in
     let after = seen_is _ _ _ c.change_seen-parent.ensures.after (ap (lookup c.args.pid) run.is ∙ record_found _ c.args.pid run.before run.after run.found) in
-    rw (before, after) (can_move_numbers _ _ _ i c.args.pid run.before run.after run.found (stays i.regular _ _ _ run.found run.ran))
+    rw (before, after) (can_move_numbers _ _ _ c.self.invariant.sound c.args.pid run.before run.after run.found (stays c.self.invariant.sound.regular _ _ _ run.found run.ran))
 
 pub invariant_of-self : goal.invariant_of-self
 invariant_of-self g c =
@@ -47,23 +43,12 @@ invariant_of-self g c =
     machine_shown _ _ c.move_numbers.new.pids _ _ c.recheck_with_parent.new.to_recheck c.args.pid c.change_seen-parent.result.parent run.before run.after _ c.move_numbers.new.foregrounds_unchecked run.found run.is (stays c.self.invariant.sound.regular _ _ _ run.found run.ran) c.change_seen-parent.ensures.parent
     moved mark (sym c.move_numbers.ensures.last) c.self.invariant (pids_of c.recheck_with_parent.ensures) (room_of c.recheck_with_parent.ensures)
 
-pub returns-clause-rest : goal.returns-clause-rest
-returns-clause-rest g c =
-    rw c.move_numbers.ensures.last (ap (λ (s : State). record s { processes = c.change_seen-parent.new.self.processes }) (state_is c.self.view_is))
-
 pub returns-clause-there : goal.returns-clause-there
 returns-clause-there g c = λ some.
     let run = c.change_seen-parent.ensures.run in
     let its = c.change_seen-parent.ensures.parent in
     let up = parent_there _ _ _ c.self.invariant.sound c.args.pid (process_of c.args.pid (parent_of c.args.pid c.self.inside.table.processes) run.before) run.found (λ e. some (its ∙ e)) in
     rw (its, run.is) (there_record c.self.inside.table.processes c.args.pid run.after _ up)
-
-pub returns-clause-to_recheck : goal.returns-clause-to_recheck
-returns-clause-to_recheck g c = λ me found.
-    let its = parent_is c.args.pid _ c.self.inside.table.processes me c.change_seen-parent.ensures.parent (found_in _ _ (state_is c.self.view_is) c.args.pid me found) in
-    let named = pid_looked c.args.pid c.args.self.now.state.processes me found in
-    (pids_of c.recheck_with_parent.ensures) ∙ ap (λ (m : MachineView). with_parent c.change_seen-parent.result.parent m.state.order (with_number c.args.pid m.to_recheck)) c.self.view_is
-    ∙ ap (λ q. with_parent q c.args.self.now.state.order (with_number c.args.pid c.args.self.now.to_recheck)) its ∙ ap (λ n. with_parent me.parent c.args.self.now.state.order (with_number n c.args.self.now.to_recheck)) (sym named)
 
 pub change_seen-parent-requires-clause-grouped : goal.change_seen-parent-requires-clause-grouped
 change_seen-parent-requires-clause-grouped g c = subst (λ (s : State). StaysGrouped g.F.FnOnce c.args.change s.processes c.args.pid) (sym (state_is c.self.view_is)) c.requires.grouped

@@ -12,14 +12,12 @@ pub returns : goal.returns
 returns g c =
     let s = c.args.self.now.state in
     let p = c.args.pid in
-    let heir = c.args.heir in
-    let status = c.args.status in
-    let gone = after_departure s p heir status in
-    let left : c.leave_children_and_die-parent.new.self.state ≡ gone = c.leave_children_and_die-parent.ensures.state ∙ ap (λ (t : State). after_departure t p heir status) c.note_groups_at_risk.ensures.notes.state in
+    let gone = after_departure s p c.args.heir c.args.status in
+    let left : c.leave_children_and_die-parent.new.self.state ≡ gone = c.leave_children_and_die-parent.ensures.state ∙ ap (λ (t : State). after_departure t p c.args.heir c.args.status) c.note_groups_at_risk.ensures.notes.state in
     let me = there _ c.requires.there in
     let gs = c.note_groups_at_risk.new.self.groups_at_risk in
     let up : Rises gs = subst Rises c.leave_children_and_die-parent.ensures.costs.groups_at_risk c.keep_orphans_with_stopped.ensures.rising in
-    let orphaned = orphaned_by_end s c.note_groups_at_risk.ensures.notes.regular p heir status me.what me.found gs up c.note_groups_at_risk.ensures.groups_at_risk in
+    let orphaned = orphaned_by_end s c.note_groups_at_risk.ensures.notes.regular p c.args.heir c.args.status me.what me.found gs up c.note_groups_at_risk.ensures.groups_at_risk in
     let now = c.keep_orphans_with_stopped.new.self in
     let last = (lasts_hup_and_cont_all now.groups_at_risk now.state.processes c.hup_and_cont_all.ensures.regular.rising).same in
     let zombie = c.leave_children_and_die-parent.ensures.zombie in

@@ -20,8 +20,7 @@ invariant_of-self g c = machine_lent _ _ _ _ _ c.args.pid (record (c.own.result.
 
 pub returns-in-Some-clause-state : goal.returns-in-Some-clause-state
 returns-in-Some-clause-state g c = λ me e.
-    let s = c.args.self.now.state in
-    let code = code_is s me _ _ _ (c.programs.ensures.value ∙ ap (λ (t : State). t.world.programs) (state_is c.self.view_is)) (c.from.ensures ∙ sym (c.requires.program me e)) (get_some _ _ _ (c.in-Some.ensures.lookup.0, c.in-Some.ensures.lookup.1)) in
+    let code = code_is c.args.self.now.state me _ _ _ (c.programs.ensures.value ∙ ap (λ (t : State). t.world.programs) (state_is c.self.view_is)) (c.from.ensures ∙ sym (c.requires.program me e)) (get_some _ _ _ (c.in-Some.ensures.lookup.0, c.in-Some.ensures.lookup.1)) in
     let contents = cpu_ran _ c.self.invariant.sound.regular.rising c.args.pid c.own.result.now c.own.ensures.value (λ x. (exec_one c.in-Some.program.now.instructions x).cpu) c.exec_one.new.self c.exec_one.ensures.cpu me (found_in _ _ (state_is c.self.view_is) c.args.pid me e) in
     rw (code, ← c.self.view_is, contents) refl
 

@@ -30,8 +30,7 @@ insert-requires-clause-number g c = λ none. absurd (omega (arith, none, (next_i
 pub insert-requires-3 : goal.insert-requires-3
 unfolding with_numbers
 insert-requires-3 g c =
-    let me = c.requires.parent in
-    record { room = λ out. room_after _ _ c.insert-2.new.self (c.args.parent ∷ []) c.self.invariant.sound.regular c.self.invariant.listed (is_there _ me.what (found_in _ _ (state_is c.self.view_is) c.args.parent me.what me.found), tt) c.insert-2.ensures.pids c.insert-2.ensures.room }
+    record { room = λ out. room_after _ _ c.insert-2.new.self (c.args.parent ∷ []) c.self.invariant.sound.regular c.self.invariant.listed (is_there _ c.requires.parent.what (found_in _ _ (state_is c.self.view_is) c.args.parent c.requires.parent.what c.requires.parent.found), tt) c.insert-2.ensures.pids c.insert-2.ensures.room }
 
 pub invariant_of-self-2 : goal.invariant_of-self-2
 unfolding child_of finished has_report

@@ -17,18 +17,16 @@ returns-then-not-hangs_up-clause-state g c = λ me found.
 
 pub returns-in_default-terminal_index-clause-state : goal.returns-in_default-terminal_index-clause-state
 returns-in_default-terminal_index-clause-state g c = λ me found.
-    let now = c.args.self.now.state in
     let session = ap (λ (f : Snapshot). f.session) (snapshot_are _ me c.in-Some.snapshot c.in-Some.ensures.value found) in
     let same = state_is c.self.view_is ∙ c.snapshot.ensures.looks.same.state in
     let consoles = c.deref.ensures.value ∙ ap (λ (s : State). s.consoles) same in
-    c.snapshot.ensures.looks.same.state ∙ none_stays now me (ap (λ n. console_of n now.consoles) (sym session) ∙ ap (console_of c.in-Some.snapshot.session) (sym consoles) ∙ c.in_default-terminal_index.ensures)
+    c.snapshot.ensures.looks.same.state ∙ none_stays c.args.self.now.state me (ap (λ n. console_of n c.args.self.now.state.consoles) (sym session) ∙ ap (console_of c.in-Some.snapshot.session) (sym consoles) ∙ c.in_default-terminal_index.ensures)
 
 pub index-requires : goal.index-requires
 index-requires g c =
     let it = c.in-Some-terminal_index.ensures in
     let within = slice_get_within c.deref.result.now c.in-Some-terminal_index.console_index it.0 it.1 in
-    let len = c.deref.ensures.len in
-    omega (arith, within, len)
+    omega (arith, within, c.deref.ensures.len)
 
 pub returns-clause-state : goal.returns-clause-state
 returns-clause-state g c = λ me found.
@@ -49,7 +47,6 @@ returns-clause-state g c = λ me found.
 
 pub returns-clause-costs : goal.returns-clause-costs
 returns-clause-costs g c = λ me found.
-    let now = c.args.self.now.state in
     let console_index = c.in-Some-terminal_index.console_index in
     let it = c.in-Some-terminal_index.ensures in
     let cs = c.self.inside.consoles.items in
@@ -60,7 +57,7 @@ returns-clause-costs g c = λ me found.
     let same = state_is c.self.view_is ∙ looks.same.state in
     let all = ap (λ (s : State). s.consoles) (sym same) ∙ sym c.deref.ensures.value in
     let inside : slice_get cs console_index ≡ Some it.0 = ap (λ cs. slice_get cs console_index) (sym c.deref.ensures.value) ∙ it.1 in
-    let at : slice_get now.consoles console_index ≡ Some it.0 = ap (λ cs. slice_get cs console_index) all ∙ it.1 in
+    let at : slice_get c.args.self.now.state.consoles console_index ≡ Some it.0 = ap (λ cs. slice_get cs console_index) all ∙ it.1 in
     let foreground = c.foreground-foreground.ensures.is ∙ ap (λ (x : Console). x.foreground) (c.index.ensures ∙ get_or_from_slice_get cs console_index it.0 _ inside) in
     let processes = ap (λ (s : State). s.processes) (c.release.ensures.state it.0 (ap (λ (s : State). slice_get s.consoles console_index) looks.same.state ∙ at)) ∙ ap (λ (s : State). s.processes) looks.same.state in
     cost_more (costs_then (costs_then (looks_cost looks) c.release.ensures.costs) c.signal_group.ensures.costs)

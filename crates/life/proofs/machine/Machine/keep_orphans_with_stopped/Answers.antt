@@ -15,10 +15,9 @@ loop-next-preserved g c =
     let rs = c.args.self.now.state.processes in
     let t = λ (n : ℕ). is_orphaned n rs && has_stopped n rs in
     let n = c.in-Some.group in
-    let old = c.loop-next.invariant.same in
     let groups_at_risk = ap (λ (m : MachineView). m.groups_at_risk) c.self-in-Some.view_is in
     let keeping = keeping_goes_on t c.args.self.now.groups_at_risk c.loop-next.self.groups_at_risk c.keep_orphan_with_stopped.new.self.groups_at_risk c.loop-next.next c.next_above-next.result n c.loop-next.invariant.keeping c.in-Some.is
-    (c.keep_orphan_with_stopped.ensures.groups_at_risk ∙ ap (λ (s : State). cond (is_orphaned n s.processes && has_stopped n s.processes) c.loop-next.self.groups_at_risk (without n c.loop-next.self.groups_at_risk)) old)
+    (c.keep_orphan_with_stopped.ensures.groups_at_risk ∙ ap (λ (s : State). cond (is_orphaned n s.processes && has_stopped n s.processes) c.loop-next.self.groups_at_risk (without n c.loop-next.self.groups_at_risk)) c.loop-next.invariant.same)
     (c.next_above-next.ensures.is ∙ ap (λ ns. slice_get (numbers_above n ns) 0) groups_at_risk) in
     search rules
 

@@ -27,16 +27,14 @@ insert-requires-2 g c = record { room = λ out. room_after _ _ c.insert.new.self
 pub insert-requires-3 : goal.insert-requires-3
 unfolding with_numbers
 insert-requires-3 g c =
-    let i = c.self.invariant in
     let old = state_is c.self.view_is in
-    let theirs = heir_there _ c.args.pid c.args.heir i.sound.regular (heir_in old c.requires.heir) in
-    record { room = λ out. room_after _ _ c.insert-2.new.self (c.args.heir ∷ c.args.pid ∷ []) i.sound.regular i.listed (theirs, (here_in c.args.pid old c.requires.there, tt)) (c.insert-2.ensures.pids ∙ ap (with_number c.args.heir) c.insert.ensures.pids) (c.insert-2.ensures.room ∙ c.insert.ensures.room) }
+    let theirs = heir_there _ c.args.pid c.args.heir c.self.invariant.sound.regular (heir_in old c.requires.heir) in
+    record { room = λ out. room_after _ _ c.insert-2.new.self (c.args.heir ∷ c.args.pid ∷ []) c.self.invariant.sound.regular c.self.invariant.listed (theirs, (here_in c.args.pid old c.requires.there, tt)) (c.insert-2.ensures.pids ∙ ap (with_number c.args.heir) c.insert.ensures.pids) (c.insert-2.ensures.room ∙ c.insert.ensures.room) }
 
 pub adopt-requires-clause-there : goal.adopt-requires-clause-there
 adopt-requires-clause-there g c =
-    let i = c.self.invariant in
-    rw (run_as (made_zombie c.args.status) c.change_seen-parent.ensures.run i.sound.regular.rising (λ b d r k q. search rules))
-    (there_made_zombie c.args.pid c.args.status c.args.heir _ (heir_there _ c.args.pid c.args.heir i.sound.regular (heir_in (state_is c.self.view_is) c.requires.heir)))
+    rw (run_as (made_zombie c.args.status) c.change_seen-parent.ensures.run c.self.invariant.sound.regular.rising (λ b d r k q. search rules))
+    (there_made_zombie c.args.pid c.args.status c.args.heir _ (heir_there _ c.args.pid c.args.heir c.self.invariant.sound.regular (heir_in (state_is c.self.view_is) c.requires.heir)))
 
 pub invariant_of-self : goal.invariant_of-self
 unfolding with_numbers is_in
@@ -45,20 +43,19 @@ invariant_of-self g c =
     let i = c.self.invariant in
     let p = c.args.pid in
     let heir = c.args.heir in
-    let w = c.args.status in
     let old = state_is c.self.view_is in
     let s = state_of m.world m.table.processes m.consoles.items m.pids m.order m.births m.ticks m.dropped m.halted in
     let h = heir_in old c.requires.heir in
     let me = there _ c.requires.there in
     let found = found_in s _ old p me.what me.found in
-    let made = run_as (made_zombie w) c.change_seen-parent.ensures.run i.sound.regular.rising (λ b d r k q. search rules) in
+    let made = run_as (made_zombie c.args.status) c.change_seen-parent.ensures.run i.sound.regular.rising (λ b d r k q. search rules) in
     let up = parent_is p c.change_seen-parent.result.parent s.processes me.what c.change_seen-parent.ensures.parent found in
     let to_recheck = c.insert-2.ensures.pids ∙ ap (with_number heir) c.insert.ensures.pids in
     let now = listed_more s m.to_recheck c.insert-2.new.self (heir ∷ p ∷ []) i.listed (heir_there s p heir i.sound.regular h, (here_in p old c.requires.there, tt)) to_recheck (c.insert-2.ensures.room ∙ c.insert.ensures.room) in
     let mine : is_in p c.insert-2.new.self.pids ≡ true = ap (is_in p) to_recheck ∙ in_numbers p (heir ∷ p ∷ []) m.to_recheck.pids ∙ rw (eq-eqb p p refl) (ap (λ b. b || is_in p m.to_recheck.pids) (or_right (heir == p) true refl)) in
     let its : is_in heir c.insert-2.new.self.pids ≡ true = ap (is_in heir) to_recheck ∙ in_numbers heir (heir ∷ p ∷ []) m.to_recheck.pids ∙ rw (eq-eqb heir heir refl) refl in
-    let sound = sound_departed p heir w s m.pids m.order c.drop_place.new.self (omega (arith, pid_looked p s.processes me.what found, (i.sound.regular.bounded p me.what found).least)) c.requires.other h (omega (arith, c.drop_place.ensures.room)) i.sound in
-    let listed = listed_departed s p heir w me.what c.insert-2.new.self c.insert-3.new.self i.sound.regular now found (i.sound.parents p me.what c.requires.other found) mine its (c.insert-3.ensures.pids ∙ ap (λ n. with_number n c.insert-2.new.self.pids) up) c.insert-3.ensures.room in
+    let sound = sound_departed p heir c.args.status s m.pids m.order c.drop_place.new.self (omega (arith, pid_looked p s.processes me.what found, (i.sound.regular.bounded p me.what found).least)) c.requires.other h (omega (arith, c.drop_place.ensures.room)) i.sound in
+    let listed = listed_departed s p heir c.args.status me.what c.insert-2.new.self c.insert-3.new.self i.sound.regular now found (i.sound.parents p me.what c.requires.other found) mine its (c.insert-3.ensures.pids ∙ ap (λ n. with_number n c.insert-2.new.self.pids) up) c.insert-3.ensures.room in
     rw (c.adopt.ensures.processes, made, c.drop_place.ensures.pids) record { sound = search rules; listed = listed; noted = i.noted; fresh = fresh_all _ }
 
 pub returns : goal.returns

@@ -5,7 +5,7 @@ use Rattle.posix.specs.States.{State, is_in}
 use Rattle.life.specs.Machines.{MachineView}
 use Rattle.life.specs.Rechecks.{with_numbers}
 use Rattle.posix.proofs.TouchLemmas.{touches_lost}
-use Rattle.life.proofs.SoundLemmas.{kept_order}
+use Rattle.life.proofs.SoundLemmas.{sound_order}
 use Rattle.life.proofs.RecheckLemmas.{has_room, listed_with, loses_none, still_out}
 use Rattle.life.proofs.machine.Machine.lose_place.Goals as goal
 
@@ -17,12 +17,7 @@ unfolding with_numbers
 invariant_of-self g c =
     let here = placed_some _ c.args.pid (c.self.invariant.sound.regular.placed c.args.pid (sym c.has.ensures ∙ c.if-has.true)) in
     rw c.drop_place.ensures.pids record {
-      sound = record {
-        regular = regular_lose c.args.pid _ c.self.invariant.sound.regular;
-        parents = c.self.invariant.sound.parents;
-        counted = c.self.invariant.sound.counted;
-        kept = kept_order _ _ _ _ _ (let r = c.drop_place.ensures.room in omega (arith, r)) c.self.invariant.sound.kept;
-      };
+      sound = sound_order _ _ _ _ _ (omega (arith, c.drop_place.ensures.room)) (regular_lose c.args.pid _ c.self.invariant.sound.regular) c.self.invariant.sound;
       listed = listed_with _ _ _ _ (c.args.pid ∷ []) (c.args.pid ∷ []) c.self.invariant.listed (touches_lost _ c.args.pid) (refl, refl, λ q u e. still_out c.args.pid q _ e) (λ q e. e) (here, tt) (λ q there e. e) c.insert.ensures.pids c.insert.ensures.room;
       noted = c.self.invariant.noted;
       fresh = c.self.invariant.fresh;
@@ -30,6 +25,5 @@ invariant_of-self g c =
 
 pub returns-else-has-clause-is : goal.returns-else-has-clause-is
 returns-else-has-clause-is g c =
-    let m = c.args.self.now in
-    let no : is_in c.args.pid m.state.order ≡ false = ap (λ (v : MachineView). is_in c.args.pid v.state.order) (sym c.self.view_is) ∙ sym c.has.ensures ∙ c.if-has.false in
-    rw no (ap (λ (s : State). record m { state = s }) (loses_none m.state c.args.pid no))
+    let no : is_in c.args.pid c.args.self.now.state.order ≡ false = ap (λ (v : MachineView). is_in c.args.pid v.state.order) (sym c.self.view_is) ∙ sym c.has.ensures ∙ c.if-has.false in
+    rw no (ap (λ (s : State). record (c.args.self.now) { state = s }) (loses_none c.args.self.now.state c.args.pid no))

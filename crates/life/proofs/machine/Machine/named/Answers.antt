@@ -18,10 +18,7 @@ named_negative me (negsuc n) rs e = refl
 
 -- nobody has a number above the greatest
 nobody_above : (s : State) (p : ℕ) → IsRegular s → s.world.pidmax < p → lookup p s.processes ≡ None
-nobody_above s p i above = elim (lookup p s.processes) as (λ o. lookup p s.processes ≡ o → o ≡ None) [
-  | None ↦ λ e. refl
-  | Some r ↦ λ e. absurd (omega (arith, above, (i.bounded p r e).pid, pid_looked p s.processes r e))
-] refl
+nobody_above s p i above = grind (arith, above, pid_looked p s.processes, λ (r : Process) (e : lookup p s.processes ≡ Some r). (i.bounded p r e).pid)
 
 -- so no word above it names anybody
 named_above : (s : State) (me : Process) (z : ℤ) → IsRegular s → lt_z (pos s.world.pidmax) z ≡ true → named me z s.processes ≡ None

@@ -9,5 +9,4 @@ insert-requires g c =
 
 pub invariant_of-self : goal.invariant_of-self
 invariant_of-self g c =
-    let i = c.self.invariant in
-    noted_again i (noted_with _ c.in-Some.group _ _ i.noted (group_bounded _ i.sound.regular c.args.pid c.in-Some.group (sym c.in-Some.is ∙ c.group_kept.ensures)) c.insert.ensures.pids c.insert.ensures.room)
+    noted_again c.self.invariant (noted_with _ c.in-Some.group _ _ c.self.invariant.noted (group_bounded _ c.self.invariant.sound.regular c.args.pid c.in-Some.group (sym c.in-Some.is ∙ c.group_kept.ensures)) c.insert.ensures.pids c.insert.ensures.room)

@@ -17,16 +17,14 @@ invariant_of-self g c = noted_again c.self.invariant (noted_cleared _ _ _ c.self
 pub loop-next-init : goal.loop-next-init
 loop-next-init g c =
     let s = c.args.self.now.state in
-    let none = c.clear.new.self.pids in
     let old = state_is c.self.view_is in
-    let noted = c.note_anchor.ensures.notes in
     let looks = c.first_child-next.ensures.looks in
-    let same : c.note_anchor.new.self.state ≡ s = noted.state ∙ old in
+    let same : c.note_anchor.new.self.state ≡ s = c.note_anchor.ensures.notes.state ∙ old in
     let regular = subst IsRegular same looks.regular in
     let next = c.first_child-next.ensures.value ∙ ap (λ (t : State). first_pid (children_in c.args.pid t.processes)) same in
     let me = there _ c.requires in
     let now = looks.same.groups_at_risk ∙ c.note_anchor.ensures.groups_at_risk me.what (ap (λ (t : State). process t c.args.pid) old ∙ me.found)
-    ∙ ap (λ (t : State). cond (is_anchor t.processes me.what) (with_number me.what.group none) none) old in
+    ∙ ap (λ (t : State). cond (is_anchor t.processes me.what) (with_number me.what.group c.clear.new.self.pids) c.clear.new.self.pids) old in
     let all = first_todo s.processes regular.rising c.args.pid _ next in
     let walk = first_here s.processes regular.rising c.args.pid _ next in
     let todo = λ (n : ℕ). ap (λ qs. is_in n c.first_child-next.new.self.groups_at_risk || list_any (keeps s.processes n) qs) all ∙ begin_noted s.processes regular.rising c.args.pid me.what me.found _ _ c.clear.ensures.pids now n in
@@ -35,17 +33,14 @@ loop-next-init g c =
 
 pub loop-next-preserved : goal.loop-next-preserved
 loop-next-preserved g c =
-    let s = c.args.self.now.state in
     let i = c.loop-next.invariant in
-    let noted = c.note_anchor-in-Some.ensures.notes in
-    let looks = c.next_sibling-next.ensures.looks in
-    let same = noted.state ∙ i.same in
+    let same = c.note_anchor-in-Some.ensures.notes.state ∙ i.same in
     let at = child_here i.walk c.in-Some.is in
     let next = c.next_sibling-next.ensures.value ∙ ap (λ (t : State). next_sibling c.in-Some.child t.processes) same in
     let ns = c.loop-next.self.groups_at_risk in
-    let now = looks.same.groups_at_risk ∙ c.note_anchor-in-Some.ensures.groups_at_risk at.what (ap (λ (t : State). process t c.in-Some.child) i.same ∙ at.found)
+    let now = c.next_sibling-next.ensures.looks.same.groups_at_risk ∙ c.note_anchor-in-Some.ensures.groups_at_risk at.what (ap (λ (t : State). process t c.in-Some.child) i.same ∙ at.found)
     ∙ ap (λ (t : State). cond (is_anchor t.processes at.what) (with_number at.what.group ns) ns) i.same in
     let walk = next_here i.walk c.in-Some.is next in
-    let todo = λ (n : ℕ). step_noted s.processes c.args.pid c.in-Some.child _ _ at c.in-Some.is next ns _ now n ∙ i.todo n in
+    let todo = λ (n : ℕ). step_noted c.args.self.now.state.processes c.args.pid c.in-Some.child _ _ at c.in-Some.is next ns _ now n ∙ i.todo n in
     let less = child_less i.walk c.in-Some.is next in
     search (rules, arith)

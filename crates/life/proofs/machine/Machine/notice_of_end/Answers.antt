@@ -18,8 +18,7 @@ change-drops-requires-clause-regular g c = stays_regular c.args.parent (noticed 
 pub drop_child-requires-clause-zombie : goal.drop_child-requires-clause-zombie
 drop_child-requires-clause-zombie g c =
     let signal = c.child_signal-signal.result in
-    let it = c.requires.zombie in
-    rw (run_as (noticed signal) c.change-drops.ensures.run c.change-drops.ensures.changes.costs.regular.rising (λ b d r k q. search rules)) (zombie_noticed c.args.parent signal c.args.child c.args.self.now.state.processes it.0 it.1 it.2)
+    rw (run_as (noticed signal) c.change-drops.ensures.run c.change-drops.ensures.changes.costs.regular.rising (λ b d r k q. search rules)) (zombie_noticed c.args.parent signal c.args.child c.args.self.now.state.processes c.requires.zombie.0 c.requires.zombie.1 c.requires.zombie.2)
 
 -- what the change answers
 abbrev answers : Process → Bool → Type 0
@@ -30,8 +29,7 @@ unfolding notice_of_end
 returns-then-drops g c =
     let s = c.args.self.now.state in
     let signal = c.child_signal-signal.result in
-    let changes = c.change-drops.ensures.changes in
-    let ran = has_run (noticed signal) answers c.change-drops.ensures.run changes.costs.regular.rising c.requires.parent (λ b d r k q. (search rules, search rules)) in
+    let ran = has_run (noticed signal) answers c.change-drops.ensures.run c.change-drops.ensures.changes.costs.regular.rising c.requires.parent (λ b d r k q. (search rules, search rules)) in
     let drops = sym (drops_is c.args.parent s.processes c.change-drops.result _ ran.me.found ran.says) ∙ c.if-drops.true in
     let here = noticed_here c.args.parent signal s.processes in
     let up = parent_noticed c.args.parent signal c.args.child s.processes in
@@ -40,10 +38,8 @@ returns-then-drops g c =
 pub returns-else-drops : goal.returns-else-drops
 unfolding notice_of_end
 returns-else-drops g c =
-    let s = c.args.self.now.state in
     let signal = c.child_signal-signal.result in
-    let changes = c.change-drops.ensures.changes in
-    let ran = has_run (noticed signal) answers c.change-drops.ensures.run changes.costs.regular.rising c.requires.parent (λ b d r k q. (search rules, search rules)) in
-    let drops = sym (drops_is c.args.parent s.processes c.change-drops.result _ ran.me.found ran.says) ∙ c.if-drops.false in
-    let here = noticed_here c.args.parent signal s.processes in
+    let ran = has_run (noticed signal) answers c.change-drops.ensures.run c.change-drops.ensures.changes.costs.regular.rising c.requires.parent (λ b d r k q. (search rules, search rules)) in
+    let drops = sym (drops_is c.args.parent c.args.self.now.state.processes c.change-drops.result _ ran.me.found ran.says) ∙ c.if-drops.false in
+    let here = noticed_here c.args.parent signal c.args.self.now.state.processes in
     rw (← c.child_signal-signal.ensures, drops) (search rules)

@@ -1,7 +1,6 @@
-use Rattle.std.proofs.Common.{refl}
 use Rattle.life.proofs.SoundLemmas.{here_in}
 use Rattle.life.proofs.RecheckLemmas.{has_room, pids_of, room_of}
-use Rattle.life.proofs.LoanLemmas.{machine_lent, own_if}
+use Rattle.life.proofs.LoanLemmas.{machine_lent}
 use Rattle.life.proofs.ViewLemmas.{state_is}
 use Rattle.life.proofs.machine.Machine.own.Goals as goal
 
@@ -10,9 +9,3 @@ recheck_later-requires g c = has_room _ _ c.self.invariant.sound.regular c.self.
 
 pub invariant_of-self-lent : goal.invariant_of-self-lent
 invariant_of-self-lent g c = λ w. machine_lent _ _ _ _ _ c.args.pid w (here_in c.args.pid (state_is c.self.view_is) c.requires) c.self.invariant (pids_of c.recheck_later.ensures) (room_of c.recheck_later.ensures)
-
-pub returns : goal.returns
-returns g c = (
-  (refl, λ w. rw (← c.self.view_is, (pids_of c.recheck_later.ensures)) refl),
-  record { lends = tt; value = own_if _ _ (state_is c.self.view_is) c.args.pid c.own.result.now c.own.ensures.value; regular = rw (← c.self.view_is) c.self.invariant.sound.regular },
-)

@@ -23,9 +23,6 @@ discard-snapshot-requires g c =
 pub forget-requires : goal.forget-requires
 forget-requires g c = has_room _ _ c.self.invariant.sound.regular c.self.invariant.listed
 
-pub mark_reader-requires-clause-many : goal.mark_reader-requires-clause-many
-mark_reader-requires-clause-many g c = c.self.invariant.listed.watched.many ∙ sym c.self.invariant.sound.regular.consoles.count ∙ ap length (sym c.deref.ensures.value)
-
 pub mark_reader-requires-clause-room : goal.mark_reader-requires-clause-room
 mark_reader-requires-clause-room g c = λ k set at. readers_room _ set (readers_at_place _ _ k set c.self.invariant.listed.watched.each at)
 
@@ -54,9 +51,8 @@ returns g c =
     let group = λ (r : Process) (e : lookup c.args.pid rs ≡ Some r). ap (λ (f : Snapshot). f.group) (same_Some _ (snapshot_of r) (c.discard-snapshot.ensures.value ∙ ap (option_map snapshot_of) e)) in
     let one = length_removed c.args.pid it.0 rs c.self.invariant.sound.regular.rising found in
     let left = ap (λ (l : List Process). length l) c.discard-snapshot.ensures.processes in
-    let all = c.self.invariant.sound.counted in
     record {
       changes = record { state = rw (c.discard-snapshot.ensures.processes, (c.discard-snapshot.ensures.counts it.0 found).last, ← c.self.view_is) refl; to_recheck = search rules; costs = search rules };
       foregrounds_unchecked = λ r e. c.after_loss-self-inside.ensures ∙ ap (λ g. after_loss g c.self.inside.foregrounds_unchecked) (group r (found_in _ _ (state_is c.self.view_is) c.args.pid r e)) ∙ search rules;
-      born = omega (arith, one, left, all);
+      born = omega (arith, one, left, c.self.invariant.sound.counted);
     }

@@ -1,4 +1,4 @@
-use Rattle.std.proofs.Common.{◌≡◌, sym, subst, true, ◌∷◌, []}
+use Rattle.std.proofs.Common.{◌≡◌, sym, subst, true, ◌∷◌, [], rules, arith}
 use Rattle.posix.specs.States.{is_in}
 use Rattle.life.specs.Machines.{MachineView, readers_at}
 use Rattle.life.specs.Rechecks.{with_numbers}
@@ -12,11 +12,6 @@ insert-requires g c = record { room = λ out. has_room _ _ c.self.invariant.soun
 pub invariant_of-self : goal.invariant_of-self
 unfolding with_numbers
 invariant_of-self g c =
-    let i = c.self.invariant in
     let on = subst (λ (m : MachineView). is_in c.args.pid (readers_at c.args.console_index m.readers) ≡ true) (sym c.self.view_is) c.requires in
-    record {
-      sound = i.sound;
-      listed = listed_more _ _ _ (c.args.pid ∷ []) i.listed (reader_there _ _ c.args.console_index c.args.pid i.listed on, tt) c.insert.ensures.pids c.insert.ensures.room;
-      noted = i.noted;
-      fresh = i.fresh;
-    }
+    let listed = listed_more _ _ _ (c.args.pid ∷ []) c.self.invariant.listed (reader_there _ _ c.args.console_index c.args.pid c.self.invariant.listed on, tt) c.insert.ensures.pids c.insert.ensures.room in
+    search (rules, arith)

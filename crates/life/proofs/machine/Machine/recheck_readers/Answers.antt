@@ -1,14 +1,12 @@
 use Rattle.std.proofs.Common.{◌≡◌, ⊎_elim, ◌∙◌, ap, sym, subst, refl, arith, slice_get, ℕ, Option, List, true}
 use Rattle.std.specs.Option.{IfSome}
-use Rattle.posix.specs.States.{State, is_in}
+use Rattle.posix.specs.States.{is_in}
 use Rattle.pidset.specs.Numbers.{PidSetView, Rises, numbers_above, with_number}
 use Rattle.pidset.proofs.NumberLemmas.{in_with}
 use Rattle.std.proofs.lemmas.Bool.{or_left, or_right, or_cases, eqb-true}
 use Rattle.life.specs.Machines.{MachineView, readers_at}
-use Rattle.life.specs.Consoles.{AreReaders}
 use Rattle.pidset.proofs.WalkLemmas.{lies_above}
-use Rattle.life.proofs.ViewLemmas.{state_is}
-use Rattle.life.proofs.ReaderLemmas.{IsRechecking, watched_rises, watched_least, rechecking_starts, rechecking_proceeds, rechecking_is_over}
+use Rattle.life.proofs.ReaderLemmas.{IsRechecking, watched_rises, watched_least, rechecking_starts, rechecking_proceeds}
 use Rattle.life.proofs.machine.Machine.recheck_readers.Goals as goal
 use Rattle.jobs.proofs.ReadLemmas.{fewer_after}
 
@@ -19,13 +17,6 @@ loop-next-init g c = record {
   those = λ q e. or_left _ _ e;
   rechecking = rechecking_starts _ _ _ (watched_rises _ _ c.args.console_index c.next_reader-next.ensures.watched) (watched_least _ _ c.args.console_index c.next_reader-next.ensures.watched) c.next_reader-next.ensures.is;
 }
-
-pub recheck_reader-requires : goal.recheck_reader-requires
-recheck_reader-requires g c =
-    let i = c.loop-next.invariant in
-    let kept = ap (λ (m : MachineView). m.readers) i.rest in
-    subst (λ (sets : List PidSetView). is_in c.in-Some.pid (readers_at c.args.console_index sets) ≡ true) (sym kept)
-    (subst (λ (o : Option ℕ). IfSome o (λ n. is_in n (readers_at c.args.console_index c.args.self.now.readers) ≡ true)) c.in-Some.is i.rechecking.next_there)
 
 pub loop-next-smaller : goal.loop-next-smaller
 loop-next-smaller g c = fewer_after c.in-Some.pid (omega arith) _ _ c.in-Some.is (lies_above c.in-Some.pid _ c.next_reader-next-in-Some.result (watched_rises _ _ c.args.console_index c.next_reader-next-in-Some.ensures.watched) c.next_reader-next-in-Some.ensures.is)
@@ -49,25 +40,3 @@ loop-next-preserved g c =
       rechecking = rechecking_proceeds set c.loop-next.self.to_recheck _ c.in-Some.pid c.next_reader-next-in-Some.result up comes
           (subst (λ (o : Option ℕ). IsRechecking set c.loop-next.self.to_recheck o) c.in-Some.is i.rechecking) to_recheck;
     }
-
-pub forget_readers-requires : goal.forget_readers-requires
-forget_readers-requires g c = subst (λ (s : State). AreReaders s c.args.console_index c.loop-next.self.to_recheck) (sym (state_is c.loop-next.invariant.rest))
-    (rechecking_is_over c.args.self.now.state c.args.console_index c.args.self.now.to_recheck c.loop-next.self.to_recheck _ c.next_reader-next.ensures.watched c.in_default.is c.loop-next.invariant.rechecking c.loop-next.invariant.others)
-
-pub returns-clause-to_recheck : goal.returns-clause-to_recheck
-returns-clause-to_recheck g c = subst (λ (to_recheck : List ℕ). AreReaders c.args.self.now.state c.args.console_index to_recheck) (sym (ap (λ (m : MachineView). m.to_recheck) c.forget_readers.ensures.rest))
-    (rechecking_is_over c.args.self.now.state c.args.console_index c.args.self.now.to_recheck c.loop-next.self.to_recheck _ c.next_reader-next.ensures.watched c.in_default.is c.loop-next.invariant.rechecking c.loop-next.invariant.others)
-
-pub returns-clause-rest : goal.returns-clause-rest
-returns-clause-rest g c =
-    let rest = c.forget_readers.ensures.rest in
-    let now = c.forget_readers.new.self in
-    let fn = c.args.self.now in
-    rest ∙ ap (λ (m : MachineView). record m { readers = now.readers }) c.loop-next.invariant.rest
-    ∙ ap (λ (m : MachineView). record fn { to_recheck = m.to_recheck; readers = now.readers }) (sym rest)
-
-pub returns-clause-those : goal.returns-clause-those
-returns-clause-those g c = λ p e. c.loop-next.invariant.those p (ap (is_in p) (sym (ap (λ (m : MachineView). m.to_recheck) c.forget_readers.ensures.rest)) ∙ e)
-
-pub returns-clause-watched : goal.returns-clause-watched
-returns-clause-watched g c = c.next_reader-next.ensures.watched

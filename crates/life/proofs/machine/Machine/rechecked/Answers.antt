@@ -1,4 +1,4 @@
-use Rattle.std.proofs.Common.{length, ◌≡◌, sym, ap, subst, ◌∙◌, Some}
+use Rattle.std.proofs.Common.{◌≡◌, sym, ap, subst, ◌∙◌, Some}
 use Rattle.posix.specs.States.{State, process}
 use Rattle.posix.specs.Settle.{wakes}
 use Rattle.life.specs.Consoles.{reads}
@@ -6,9 +6,6 @@ use Rattle.life.proofs.RecheckLemmas.{listed_rechecked, pids_of, room_of}
 use Rattle.life.proofs.ReaderLemmas.{readers_at_place, readers_room, watched_rechecked}
 use Rattle.life.proofs.ViewLemmas.{state_is}
 use Rattle.life.proofs.machine.Machine.rechecked.Goals as goal
-
-pub mark_reader-requires-clause-many : goal.mark_reader-requires-clause-many
-mark_reader-requires-clause-many g c = c.self.invariant.listed.watched.many ∙ sym c.self.invariant.sound.regular.consoles.count ∙ ap length (sym c.deref.ensures.value)
 
 pub mark_reader-requires-clause-room : goal.mark_reader-requires-clause-room
 mark_reader-requires-clause-room g c = λ k set at. readers_room _ set (readers_at_place _ _ k set c.self.invariant.listed.watched.each at)

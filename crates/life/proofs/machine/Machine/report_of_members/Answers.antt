@@ -19,8 +19,7 @@ loop-next-init g c =
 
 pub returns-in_default-snapshot : goal.returns-in_default-snapshot
 returns-in_default-snapshot g c =
-    let i = c.loop-next.invariant in
-    let no = sym (none_read _ (sym c.in_default-snapshot.is ∙ c.snapshot.ensures.value)) ∙ ap (λ (t : State). lookup c.in-Some.child t.processes) i.same.state ∙ (child_here i.walk c.in-Some.is).found in
+    let no = sym (none_read _ (sym c.in_default-snapshot.is ∙ c.snapshot.ensures.value)) ∙ ap (λ (t : State). lookup c.in-Some.child t.processes) c.loop-next.invariant.same.state ∙ (child_here c.loop-next.invariant.walk c.in-Some.is).found in
     absurd (cc)
 
 pub returns-in_default-look : goal.returns-in_default-look

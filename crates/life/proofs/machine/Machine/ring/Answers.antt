@@ -1,4 +1,4 @@
-use Rattle.std.proofs.Common.{◌+◌, ◌∙◌, ap, rules}
+use Rattle.std.proofs.Common.{◌+◌, ◌∙◌, ap, rules, arith}
 use Rattle.posix.specs.Alarms.{ring_at}
 use Rattle.posix.proofs.RegularLemmas.{keeps_ring}
 use Rattle.life.proofs.SignalLemmas.{only_ring}
@@ -14,9 +14,6 @@ pub change-requires-clause-regular : goal.change-requires-clause-regular
 change-requires-clause-regular g c = let now = c.args.self.now.state.ticks + 1 in stays_regular c.args.pid (ring_at now) c.args.self.now.state (keeps_ring now) (λ b d r k q. search rules)
 
 pub returns : goal.returns
-returns g c = record {
-  state = c.change.ensures.changes.state ∙ ap (with_processes c.args.self.now.state) (run_as (ring_at (c.args.self.now.state.ticks + 1)) c.change.ensures.run c.change.ensures.changes.costs.regular.rising (λ b d r k q. search rules));
-  to_recheck = search rules;
-  foregrounds_unchecked = search rules;
-  costs = search rules;
-}
+returns g c =
+    let state = c.change.ensures.changes.state ∙ ap (with_processes c.args.self.now.state) (run_as (ring_at (c.args.self.now.state.ticks + 1)) c.change.ensures.run c.change.ensures.changes.costs.regular.rising (λ b d r k q. search rules)) in
+    search (rules, arith)

@@ -12,11 +12,10 @@ use Rattle.life.proofs.machine.Machine.ring_all.Goals as goal
 
 pub loop-next-init : goal.loop-next-init
 loop-next-init g c =
-    let s = c.args.self.now.state in
     let n = c.next_due-next.ensures in
     record {
       there = n.next.there;
-      ringing = ringing_begins (s.ticks + 1) s.processes _ (λ p r e. (n.regular.bounded p r e).least) n.next;
+      ringing = ringing_begins (c.args.self.now.state.ticks + 1) c.args.self.now.state.processes _ (λ p r e. (n.regular.bounded p r e).least) n.next;
       rising = n.regular.rising;
       due = n.due;
       costs = omega arith;
@@ -51,8 +50,7 @@ loop-next-preserved g c =
       costs =
           let fewer = fewer_due (first.ticks + 1) pid s.processes it.what it.found (h.due pid it.what c.in-Some.is it.found) in
           let left = ap (λ (t : State). length (filter (λ (r : Process). is_due (first.ticks + 1) r.alarm) t.processes)) rung in
-          let one = c.ring.ensures.costs.visits in
-          omega (arith, fewer, left, one, h.costs);
+          omega (arith, fewer, left, c.ring.ensures.costs.visits, h.costs);
       groups_at_risk = c.ring.ensures.costs.groups_at_risk ∙ h.groups_at_risk;
       foregrounds_unchecked = c.ring.ensures.foregrounds_unchecked ∙ h.foregrounds_unchecked;
       rest = rung ∙ ap (λ (t : State). record t { processes = changed pid (ring_at (first.ticks + 1)) s.processes }) h.rest ∙ ap (λ rs. record first { processes = rs }) (sym (ap (λ (t : State). t.processes) rung));
@@ -70,17 +68,6 @@ loop-next-preserved g c =
 pub returns-clause-state : goal.returns-clause-state
 returns-clause-state g c =
     let first = c.args.self.now.state in
-    let s = c.loop-next.self.state in
     let h = c.loop-next.invariant in
-    let ends = subst (λ (o : Option ℕ). IsRinging (first.ticks + 1) first.processes s.processes o) c.in_default.is h.ringing in
-    h.rest ∙ ap (λ rs. record first { processes = rs }) (ringing_ends (first.ticks + 1) first.processes s.processes h.rising ends)
-
-pub returns-clause-costs : goal.returns-clause-costs
-returns-clause-costs g c = record {
-  visits = let read = c.loop-next.invariant.costs in omega (arith, read);
-  groups_at_risk = c.loop-next.invariant.groups_at_risk;
-  regular = c.next_due-next.ensures.regular;
-}
-
-pub returns-clause-taking : goal.returns-clause-taking
-returns-clause-taking g c = λ none. let h = c.loop-next.invariant.taking none in (h.0.taking, omega (arith, h.1))
+    let ends = subst (λ (o : Option ℕ). IsRinging (first.ticks + 1) first.processes c.loop-next.self.state.processes o) c.in_default.is h.ringing in
+    h.rest ∙ ap (λ rs. record first { processes = rs }) (ringing_ends (first.ticks + 1) first.processes c.loop-next.self.state.processes h.rising ends)

@@ -11,7 +11,7 @@ use Rattle.life.specs.Callers.{process_like}
 use Rattle.life.proofs.SendLemmas.{blank_sent, candidates_less, Sent, sent_to, sent_on, sent_step, sent_ends}
 use Rattle.life.specs.Machines.{with_processes}
 use Rattle.jobs.proofs.GroupLemmas.{next_begins, one_here}
-use Rattle.jobs.proofs.ReadLemmas.{fewer_after, reads_on}
+use Rattle.jobs.proofs.ReadLemmas.{reads_on}
 use Rattle.life.proofs.machine.Machine.send_to_all.Goals as goal
 
 pub loop-next-init : goal.loop-next-init
@@ -19,17 +19,15 @@ unfolding targets
 loop-next-init g c =
     let s = c.args.self.now.state in
     let r = process_like c.args.me.now in
-    let target = c.args.target.now in
     let finds = c.next_target-next.ensures.finds in
-    let i = finds.looks.regular in
-    let all = walk_begins (is_target r target) s.processes c.next_target-next.result i.rising (λ p r e. (i.bounded p r e).least) finds.value in
+    let all = walk_begins (is_target r c.args.target.now) s.processes c.next_target-next.result finds.looks.regular.rising (λ p r e. (finds.looks.regular.bounded p r e).least) finds.value in
     rw (finds.looks.same.state, finds.looks.same.to_recheck) record {
       groups_at_risk = finds.looks.same.groups_at_risk;
       foregrounds_unchecked = finds.looks.same.foregrounds_unchecked;
       there = finds.value.there;
-      begins = next_begins 0 (filter (is_candidate r target) s.processes) c.next_target-next.result c.next_target-next.ensures.is;
+      begins = next_begins 0 (filter (is_candidate r c.args.target.now) s.processes) c.next_target-next.result c.next_target-next.ensures.is;
       read =
-          let less = left_at_most c.next_target-next.result (filter (is_candidate r target) s.processes) in
+          let less = left_at_most c.next_target-next.result (filter (is_candidate r c.args.target.now) s.processes) in
           let product = mul-le-mul_left (2 + slots_of_send c.args.sig.now) less in
           omega (arith, product, finds.looks.visits);
       rest = refl;
@@ -71,23 +69,19 @@ loop-next-preserved g c =
           ∙ i.todo;
     }
 
-pub loop-next-smaller : goal.loop-next-smaller
-loop-next-smaller g c = fewer_after c.in-Some.pid (omega arith) _ _ c.in-Some.is c.next_target-next-in-Some.ensures.finds.value.above
-
 pub returns : goal.returns
 unfolding sending sent
 returns g c =
     let r = process_like c.args.me.now in
     let s = c.args.self.now.state in
-    let m = c.loop-next.self in
     let i = c.loop-next.invariant in
-    let k : Sent = record { sending = c.loop-next.sending; processes = m.state.processes; to_recheck = m.to_recheck } in
+    let k : Sent = record { sending = c.loop-next.sending; processes = c.loop-next.self.state.processes; to_recheck = c.loop-next.self.to_recheck } in
     let l : Sent = record { sending = NobodyFound; processes = s.processes; to_recheck = c.args.self.now.to_recheck } in
     let done = sent_ends r c.args.target.now c.args.sig.now s.order c.loop-next.next k l (targets r c.args.target.now s.processes) c.in_default.is i.todo in
     record {
       sending = ap (λ (k : Sent). k.sending) done;
       changes = record {
-        state = ap (λ (t : State). with_processes t m.state.processes) i.rest ∙ ap (λ (k : Sent). with_processes s k.processes) done;
+        state = ap (λ (t : State). with_processes t c.loop-next.self.state.processes) i.rest ∙ ap (λ (k : Sent). with_processes s k.processes) done;
         to_recheck = ap (λ (k : Sent). k.to_recheck) done;
         foregrounds_unchecked = i.foregrounds_unchecked;
         costs = record { visits = omega (arith, i.read); groups_at_risk = i.groups_at_risk; regular = c.next_target-next.ensures.finds.looks.regular };

@@ -1,9 +1,9 @@
-use Rattle.std.proofs.Common.{option_map, Some, ◌≡◌, ◌∙◌, ap, rules, sym, subst, Option, ℕ}
+use Rattle.std.proofs.Common.{◌≡◌, ◌∙◌, ap, rules, sym, subst, Option, ℕ}
 use Rattle.posix.specs.Processes.{Process}
 use Rattle.posix.specs.Tables.{changed}
 use Rattle.posix.specs.States.{State}
 use Rattle.posix.specs.Regular.{IsAhead}
-use Rattle.posix.specs.Alarms.{with_alarm, due_in, ticks_left}
+use Rattle.posix.specs.Alarms.{with_alarm, due_in}
 use Rattle.posix.proofs.RegularLemmas.{keeps_with_alarm, due_ahead}
 use Rattle.life.proofs.SignalLemmas.{only_alarm}
 use Rattle.jobs.proofs.RunLemmas.{run_as, signals_as}
@@ -32,14 +32,6 @@ ticks_left-requires g c =
     let regular = c.change-before.ensures.changes.costs.regular in
     let ran = has_run (with_alarm c.due_in-due.result) answers c.change-before.ensures.run regular.rising (is_there _ _ c.requires.there.found) (λ b d r k q. (search rules, search rules)) in
     subst (λ n. IsAhead n c.change-before.result) (sym now) (subst (IsAhead c.args.self.now.state.ticks) (sym ran.says) (regular.alarms c.args.pid _ ran.me.found))
-
-pub returns-clause-left : goal.returns-clause-left
-returns-clause-left g c = λ me found.
-    let now = ap (λ (s : State). s.ticks) (state_is c.self-2.view_is ∙ c.change-before.ensures.changes.state) in
-    let ran = has_run (with_alarm c.due_in-due.result) answers c.change-before.ensures.run c.change-before.ensures.changes.costs.regular.rising (is_there _ me found) (λ b d r k q. (search rules, search rules)) in
-    let both : Some ran.me.what.alarm ≡ Some me.alarm = ap (option_map (λ (r : Process). r.alarm)) (sym ran.me.found ∙ found) in
-    let same : ran.me.what.alarm ≡ me.alarm = cc in
-    c.ticks_left.ensures.left ∙ ap (λ n. ticks_left n c.change-before.result) now ∙ ap (ticks_left c.args.self.now.state.ticks) (ran.says ∙ same)
 
 pub returns-clause-changes : goal.returns-clause-changes
 returns-clause-changes g c =

@@ -44,5 +44,4 @@ loop-next-preserved g c =
 pub returns-clause-state : goal.returns-clause-state
 unfolding tell_of_all
 returns-clause-state g c =
-    let now = c.loop-next.self.state in
-    ap (λ (o : Option ℕ). tell_of_all now c.args.heir (zombies (left_of o (children_in c.args.pid now.processes)))) (sym c.in_default.is) ∙ c.loop-next.invariant.telling.todo
+    ap (λ (o : Option ℕ). tell_of_all c.loop-next.self.state c.args.heir (zombies (left_of o (children_in c.args.pid c.loop-next.self.state.processes)))) (sym c.in_default.is) ∙ c.loop-next.invariant.telling.todo

@@ -6,7 +6,7 @@ use Rattle.posix.proofs.ReportLemmas.{some_changed}
 use Rattle.jobs.proofs.RunLemmas.{run_as, put_as, put_grouped}
 use Rattle.life.proofs.FunnelLemmas.{machine_changed}
 use Rattle.life.proofs.MoveLemmas.{told_put}
-use Rattle.life.proofs.NewsLemmas.{touches_told}
+use Rattle.life.proofs.NewsLemmas.{touches_told, keeps_told}
 use Rattle.life.proofs.RecheckLemmas.{listed_same}
 use Rattle.life.proofs.machine.Machine.tell_news.Goals as goal
 
@@ -16,10 +16,9 @@ change_seen-requires-clause-grouped g c = put_grouped _ _ (put_as c.args.pid _ n
 pub invariant_of-self : goal.invariant_of-self
 invariant_of-self g c =
     let i = c.self.invariant in
-    let k = keeps_news_told {now = 0} in
     rw (run_as news_told c.change_seen.ensures.run i.sound.regular.rising (λ b d r k q. search rules))
-    (machine_changed _ _ _ _ _ c.args.pid news_told (record { pid = k.pid; parent = k.parent; group = k.group; session = k.session }) (regular_change c.args.pid news_told _ keeps_news_told i.sound.regular) i
-    (listed_same _ _ _ [] i.listed (touches_told _ c.args.pid) (refl, refl, λ q u e. e) (λ q e. some_changed c.args.pid q news_told k.pid _ e) (λ q t e. absurd (in_none q e))))
+    (machine_changed _ _ _ _ _ c.args.pid news_told keeps_told (regular_change c.args.pid news_told _ keeps_news_told i.sound.regular) i
+    (listed_same _ _ _ [] i.listed (touches_told _ c.args.pid i.sound.regular.rising) (refl, refl, λ q u e. e) (λ q e. some_changed c.args.pid q news_told keeps_told.pid _ e) (λ q t e. absurd (in_none q e))))
 
 pub returns : goal.returns
 returns g c = record {

@@ -66,9 +66,8 @@ returns-in_err-get_mut-clause-quiet g c = λ some. elim c.if-ends_line.branch [
 pub returns-clause-readers : goal.returns-clause-readers
 returns-clause-readers g c = λ none awake it at. elim c.if-ends_line.branch [
   | then-ends_line w ↦
-      let rest = w.recheck_readers.ensures.rest in
       let list = ap (λ (m : MachineView). m.to_recheck) (c.self.view_is ∙ w.self-is) in
-      let same = ap (λ (s : State). s.processes) (state_is (c.self.view_is ∙ w.self-is) ∙ state_is rest) in
+      let same = ap (λ (s : State). s.processes) (state_is (c.self.view_is ∙ w.self-is) ∙ state_is w.recheck_readers.ensures.rest) in
       rw (same, list) (readers_brief _ _ w.recheck_readers.new.self.to_recheck c.args.console_index it w.recheck_readers.ensures.regular w.recheck_readers.ensures.watched awake none at (subst Rises list c.self.invariant.listed.rising) w.recheck_readers.ensures.those)
   | else-ends_line w ↦ brief_none _ _ _ (ap (λ (m : MachineView). m.to_recheck) (c.self.view_is ∙ w.self-is) ∙ none)
 ]

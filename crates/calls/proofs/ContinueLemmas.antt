@@ -1,0 +1,278 @@
+-- Waits that are judged by one child, and who is to be rechecked after CONT was sent to one process: it, and its parent where
+-- that waits for just this child.
+use Rattle.std.proofs.Common.{◌≡◌, ℕ, ℤ, ◌+◌, ◌*◌, ◌≤◌, Bool, true, false, cond, not, ◌||◌, ◌==◌, refl, ap, sym, ◌∙◌, inl, inr, arith, List, [], ◌∷◌, length, filter, find, Option, Some, None}
+use Rattle.std.proofs.lemmas.Bool.{eq-eqb, both_ways, or_left, or_right, or_cases, and_parts}
+use Rattle.std.proofs.lemmas.List.{length-map}
+use Rattle.posix.specs.declared.process.Effect.{Effect}
+use Rattle.posix.specs.declared.process.Effect.TheVariants as effect
+use Rattle.posix.specs.declared.process.PendingSignal.{PendingSignal}
+use Rattle.posix.specs.declared.process.Report.{Report}
+use Rattle.posix.specs.declared.process.Report.TheVariants as found
+use Rattle.posix.specs.declared.target.Target.{Target}
+use Rattle.posix.specs.declared.target.Target.TheVariants as whom
+use Rattle.posix.specs.Processes.{Process, argument, is_stopped}
+use Rattle.posix.specs.Targets.{target_in}
+use Rattle.posix.specs.Tables.{IsRising, has_pid, is_child, lookup, at, changed, children_in}
+use Rattle.posix.specs.States.{State, is_in}
+use Rattle.posix.specs.Statuses.{continued}
+use Rattle.posix.specs.Credentials.{may}
+use Rattle.posix.specs.Outcomes.{finished}
+use Rattle.posix.specs.Generation.{signalled, effect_of}
+use Rattle.posix.specs.Notices.{acted_upon, child_signal, generated_for, noticed_of_change, resumed, told_of_change, signalled_all}
+use Rattle.posix.specs.Sends.{targets, permitted, sent, sent_among, sent_by}
+use Rattle.posix.specs.Settle.{is_block}
+use Rattle.posix.specs.Waits.{are_known, report, report_among, wait, wait_with, is_named, is_something, options_in, report_life, report_of, reports}
+use Rattle.posix.proofs.ChangeLemmas.{continued_stopped}
+use Rattle.posix.proofs.MapLemmas.{at_keeps, at_pid, children_map, lookup_on}
+use Rattle.posix.proofs.SeeLemmas.{seen}
+use Rattle.posix.proofs.TableLemmas.{pid_looked}
+use Rattle.posix.proofs.WalkLemmas.{numbered_one, numbered_none}
+use Rattle.pidset.specs.Numbers.{with_number}
+use Rattle.jobs.specs.JobTables.{takes_signal}
+use Rattle.life.specs.Rechecks.{awaits, is_in_wait, rechecking, rechecking_all, rechecking_by_signals, rechecking_effect, rechecking_generated, rechecking_signalled, rechecking_told}
+use Rattle.life.specs.Waits.{is_reported}
+use Rattle.life.proofs.FunnelLemmas.{with_twice}
+use Rattle.life.proofs.NewsLemmas.{quiet}
+use Rattle.life.proofs.SignalLemmas.{only_noticed_of_change}
+use Rattle.calls.specs.Counts.{reports_first, slots_of_rechecks}
+use Rattle.calls.specs.Outcomes.{slots_of_continued}
+use Rattle.calls.proofs.ChosenLemmas.{changed_there}
+use Rattle.calls.proofs.CountLemmas.{judged_brief, rechecks_one, rechecks_pair, slots_of_waiter}
+
+-- ---- what a parent sees of a child
+
+named_alike : (group : ℕ) (target : Target) (a b : Process) → seen a ≡ seen b → is_named group target a ≡ is_named group target b
+named_alike group (whom.Process p) a b e = ap (λ s. s.pid == p) e
+named_alike group whom.OwnGroup a b e = ap (λ s. s.group == group) e
+named_alike group (whom.Group p) a b e = ap (λ s. s.group == p) e
+named_alike group whom.All a b e = refl
+named_alike group whom.Nobody a b e = refl
+
+reports_alike : (options : ℕ) (a b : Process) → seen a ≡ seen b → reports options a ≡ reports options b
+unfolding report_of
+reports_alike options a b e = ap (λ s. is_something (report_life options s.pid s.life s.news)) e
+
+-- who waits for a child reports it, if it is looked at first
+awaited_first : (rs : List Process) (p : ℕ) (me child now : Process) → lookup p rs ≡ Some now → now.parent ≡ me.pid → seen now ≡ seen child → awaits me child ≡ true → reports_first rs (Some p) me ≡ true
+unfolding awaits
+awaited_first rs p me child now found up same waits =
+    let both = and_parts (is_in_wait me.blocked) _ waits in
+    let asks = and_parts (is_named me.group (target_in (argument me 1)) child) _ both.1 in
+    rw (found, eq-eqb now.parent me.pid up, named_alike me.group (target_in (argument me 1)) now child same, reports_alike (options_in (argument me 2)) now child same, asks.0, asks.1) refl
+
+-- ---- a wait that reports who is looked at first
+
+nobody : (options : ℕ) (rs : List Process) → report_among options rs ≡ found.Nothing → find (reports options) rs ≡ None
+nobody options [] e = absurd (cc)
+nobody options (r ∷ rs) e = quiet options (r ∷ rs) e
+
+-- who is there, is a child and is meant reports nothing where nothing was found
+silent : (t meant child : Process → Bool) (rs : List Process) (q : ℕ) (r : Process) → lookup q rs ≡ Some r → meant r ≡ true → child r ≡ true → find t (filter meant (filter child rs)) ≡ None → t r ≡ false
+unfolding lookup
+silent t meant child [] q r found m k e = absurd (cc)
+silent t meant child (x ∷ xs) q r found m k e = grind (arith, found, m, k, e, silent t meant child xs q r)
+
+reports_something : (rs : List Process) (q p group : ℕ) (target : Target) (options : ℕ) (o : Option Process) → lookup q rs ≡ o → is_reported p group target options o ≡ true → report rs p group target options ≡ found.Nothing → ⊥
+unfolding report children_in
+reports_something rs q p group target options None e t none = absurd (cc)
+reports_something rs q p group target options (Some r) e t none =
+    let child = and_parts (r.parent == p) _ t in
+    let meant = and_parts (is_named group target r) _ child.1 in
+    both_ways _ (silent (reports options) (is_named group target) (is_child p) rs q r e meant.0 child.0 (nobody options _ none)) meant.1
+
+-- so it needn't wait
+pub first_reported : (s : State) (me : Process) (first : Option ℕ) → reports_first s.processes first me ≡ true → are_known (options_in (argument me 2)) ≡ true → is_block (wait s me) ≡ false
+unfolding wait
+first_reported s me None told known = absurd (cc)
+first_reported s me (Some q) told known = rw known (by (report s.processes me.pid me.group (target_in (argument me 1)) (options_in (argument me 2))) refl)
+  where
+    by : (o : Report) → report s.processes me.pid me.group (target_in (argument me 1)) (options_in (argument me 2)) ≡ o → is_block (wait_with s me.pid (options_in (argument me 2)) o) ≡ false
+    by found.NoChild e = refl
+    by found.Nothing e = absurd (reports_something s.processes q me.pid me.group (target_in (argument me 1)) (options_in (argument me 2)) (lookup q s.processes) refl told e)
+    by (found.End c w) e = refl
+    by (found.Change c w) e = refl
+
+-- ---- how many children there are
+
+kids_kept : (x : ℕ) (f : Process → Process) → ((r : Process) → (f r).parent ≡ r.parent) → (p : ℕ) (rs : List Process) → length (children_in p (changed x f rs)) ≡ length (children_in p rs)
+unfolding changed
+kids_kept x f k p rs = ap length (children_map (at x f) (at_keeps (λ r. r.parent) x f k) p rs) ∙ length-map (children_in p rs) (at x f)
+
+-- ---- one process
+
+-- a process is as it was, but for its signals, its call and its processor
+record IsSeenAs (now was : Process) : Type 0 where
+  seen : seen now ≡ seen was
+  parent : now.parent ≡ was.parent
+  signal : takes_signal now ≡ takes_signal was
+
+finished_as : (results : List (ℕ × ℤ)) (c : ℕ) (r : Process) → IsSeenAs (at c (finished results) r) r
+unfolding finished
+finished_as results c r = record {
+  seen = at_keeps seen c (finished results) (λ r. refl) r;
+  parent = at_keeps (λ r. r.parent) c (finished results) (λ r. refl) r;
+  signal = at_keeps takes_signal c (finished results) (λ r. refl) r;
+}
+
+-- who finished a call waits for nothing, and all others as before
+waits_less : (results : List (ℕ × ℤ)) (c : ℕ) (r : Process) → is_in_wait (at c (finished results) r).blocked ≡ true → is_in_wait r.blocked ≡ true
+unfolding finished
+waits_less results c r = by (r.pid == c)
+  where
+    by : (b : Bool) → is_in_wait (cond b (finished results r) r).blocked ≡ true → is_in_wait r.blocked ≡ true
+    by true e = absurd (cc)
+    by false e = e
+
+seen_noticed : (signal : PendingSignal) (r : Process) → seen (noticed_of_change signal r) ≡ seen r
+seen_noticed signal r = ap seen (only_noticed_of_change signal r)
+
+-- ---- CONT
+
+-- a parent that acts by its child looks at no other child
+parent_told : (results : List (ℕ × ℤ)) (c p : ℕ) (ts : List Process) (up child now : Process) → lookup p ts ≡ Some now → now.parent ≡ up.pid → seen now ≡ seen child → (awaits up child || takes_signal up) ≡ true
+    → let u = at c (finished results) up in (takes_signal u || (not (is_in_wait u.blocked) || reports_first ts (Some p) u)) ≡ true
+unfolding finished
+parent_told results c p ts up child now found its same acts = by (up.pid == c)
+  where
+    by : (b : Bool) → let u = cond b (finished results up) up in (takes_signal u || (not (is_in_wait u.blocked) || reports_first ts (Some p) u)) ≡ true
+    by true = or_right (takes_signal (finished results up)) _ refl
+    by false = elim (or_cases _ _ acts) [
+      | inl waits ↦ or_right (takes_signal up) _ (or_right (not (is_in_wait up.blocked)) _ (awaited_first ts p up child now found its same waits))
+      | inr takes ↦ or_left (takes_signal up) _ takes
+    ]
+
+-- a process was continued, and its parent told, before the caller c finished its call
+told_slots : (results : List (ℕ × ℤ)) (c : ℕ) (signal : PendingSignal) (r : Process) (rs : List Process) (order ns : List ℕ) → lookup r.pid rs ≡ Some r → is_stopped r.life ≡ true → with_number r.pid ns ≡ r.pid ∷ []
+    → let mid = told_of_change continued r (changed r.pid resumed (changed r.pid (signalled signal) rs)) in slots_of_rechecks (changed c (finished results) mid) None (rechecking_told (resumed (signalled signal r)) (lookup r.parent mid) order ns) ≤ 7 + slots_of_continued rs (Some r)
+unfolding told_of_change signalled resumed changed finished
+told_slots results c signal r rs order ns found stopped alone = by (lookup q mid) refl
+  where
+    p : ℕ
+    p = r.pid
+
+    q : ℕ
+    q = r.parent
+
+    f : Process → Process
+    f = signalled signal
+
+    g : Process → Process
+    g = noticed_of_change (child_signal p continued)
+
+    child : Process
+    child = resumed (f r)
+
+    before : List Process
+    before = changed p resumed (changed p f rs)
+
+    mid : List Process
+    mid = changed q g before
+
+    ts : List Process
+    ts = changed c (finished results) mid
+
+    keeps : (r : Process) → (g r).pid ≡ r.pid
+    keeps r = ap (λ (q : Process). q.pid) (only_noticed_of_change (child_signal p continued) r)
+
+    same_parent : (r : Process) → (g r).parent ≡ r.parent
+    same_parent r = ap (λ (q : Process). q.parent) (only_noticed_of_change (child_signal p continued) r)
+
+    told : Process
+    told = at q g child
+
+    now : Process
+    now = at c (finished results) told
+
+    here : lookup p ts ≡ Some now
+    here = lookup_on (at c (finished results)) (at_pid c (finished results) (λ r. refl)) p mid told (lookup_on (at q g) (at_pid q g keeps) p before child (changed_there p resumed (λ r. refl) (changed p f rs) (f r) (changed_there p f (λ r. refl) rs r found)))
+
+    like : IsSeenAs now told
+    like = finished_as results c told
+
+    same : seen now ≡ seen child
+    same = like.seen ∙ at_keeps seen q g (seen_noticed (child_signal p continued)) child
+
+    its : now.parent ≡ q
+    its = like.parent ∙ at_keeps (λ r. r.parent) q g same_parent child
+
+    kids : length (children_in p ts) ≡ length (children_in p rs)
+    kids = kids_kept c (finished results) (λ r. refl) p mid ∙ kids_kept q g same_parent p before ∙ kids_kept p resumed (λ r. refl) p (changed p f rs) ∙ kids_kept p f (λ r. refl) p rs
+
+    in_call : told.blocked ≡ r.blocked
+    in_call = at_keeps (λ r. r.blocked) q g (λ r. ap (λ (q : Process). q.blocked) (only_noticed_of_change (child_signal p continued) r)) child
+
+    waits : slots_of_waiter ts now ≤ slots_of_continued rs (Some r)
+    waits = elim (is_in_wait now.blocked) as (λ b. is_in_wait now.blocked ≡ b → cond b (2 * length (children_in now.pid ts)) 0 ≤ slots_of_continued rs (Some r)) [
+      | true ↦ λ e.
+          let was : is_in_wait r.blocked ≡ true = ap is_in_wait (sym in_call) ∙ waits_less results c told e in
+          rw (stopped, was, ap (λ s. s.pid) same) (omega (arith, kids))
+      | false ↦ λ e. omega arith
+    ] refl
+
+    one : (l : List ℕ) → l ≡ p ∷ [] → slots_of_rechecks ts None l ≤ 7 + slots_of_continued rs (Some r)
+    one l e = rw e (let most = rechecks_one ts p now here in omega (arith, most, waits))
+
+    by : (o : Option Process) → lookup q mid ≡ o → slots_of_rechecks ts None (rechecking_told child o order ns) ≤ 7 + slots_of_continued rs (Some r)
+    by None none = one (with_number p ns) alone
+    by (Some up) there = elim (awaits up child || takes_signal up) as (λ b. (awaits up child || takes_signal up) ≡ b → slots_of_rechecks ts None (cond b (rechecking up.pid order (with_number p ns)) (with_number p ns)) ≤ 7 + slots_of_continued rs (Some r)) [
+      | false ↦ λ e. one (with_number p ns) alone
+      | true ↦ λ e. elim (is_in up.pid order) as (λ b. slots_of_rechecks ts None (cond b (with_number p ns) (with_number up.pid (with_number p ns))) ≤ 7 + slots_of_continued rs (Some r)) [
+        | true ↦ one (with_number p ns) alone
+        | false ↦
+            let named = pid_looked q mid up there in
+            let found_up = lookup_on (at c (finished results)) (at_pid c (finished results) (λ r. refl)) up.pid mid up (ap (λ n. lookup n mid) named ∙ there) in
+            let most = rechecks_pair ts p up.pid now (at c (finished results) up) here found_up (parent_told results c p ts up child now here (its ∙ sym named) same e) in
+            rw alone (omega (arith, most, waits))
+      ]
+    ] refl
+
+-- a signal that continues nobody
+plain_slots : (results : List (ℕ × ℤ)) (c : ℕ) (signal : PendingSignal) (r : Process) (rs : List Process) (order : List ℕ) → lookup r.pid rs ≡ Some r
+    → slots_of_rechecks (changed c (finished results) (changed r.pid (signalled signal) rs)) None (rechecking_by_signals (Some (signalled signal r)) order []) ≤ 7
+unfolding signalled changed slots_of_rechecks with_number finished
+plain_slots results c signal r rs order found =
+    let it = signalled signal r in
+    let here = lookup_on (at c (finished results)) (at_pid c (finished results) (λ r. refl)) r.pid (changed r.pid (signalled signal) rs) it (changed_there r.pid (signalled signal) (λ r. refl) rs r found) in
+    elim (takes_signal it) as (λ b. takes_signal it ≡ b → slots_of_rechecks (changed c (finished results) (changed r.pid (signalled signal) rs)) None (cond b (rechecking r.pid order []) []) ≤ 7) [
+      | false ↦ λ e. omega arith
+      | true ↦ λ e. elim (is_in r.pid order) as (λ b. slots_of_rechecks (changed c (finished results) (changed r.pid (signalled signal) rs)) None (cond b [] (r.pid ∷ [])) ≤ 7) [
+        | true ↦ omega arith
+        | false ↦ let two = judged_brief (changed c (finished results) (changed r.pid (signalled signal) rs)) None (at c (finished results) it) (or_left _ _ ((finished_as results c it).signal ∙ e)) in rw here (omega (arith, two))
+      ]
+    ] refl
+
+-- any signal
+generated_slots : (results : List (ℕ × ℤ)) (c : ℕ) (signal : PendingSignal) (r : Process) (rs : List Process) (order : List ℕ) → lookup r.pid rs ≡ Some r
+    → slots_of_rechecks (changed c (finished results) (generated_for signal (Some r) rs)) None (rechecking_generated signal (Some r) rs order []) ≤ 7 + slots_of_continued rs (Some r)
+unfolding with_number signalled
+generated_slots results c signal r rs order found = by (effect_of r.pid r.life signal r.signals) refl
+  where
+    after : Effect → List Process
+    after w = acted_upon w r (changed r.pid (signalled signal) rs)
+
+    listed : (b : Bool) → with_number r.pid (cond b (rechecking r.pid order []) []) ≡ r.pid ∷ []
+    listed false = refl
+    listed true = elim (is_in r.pid order) as (λ b. with_number r.pid (cond b [] (with_number r.pid [])) ≡ r.pid ∷ []) [ true ↦ refl | false ↦ with_twice r.pid [] ]
+
+    by : (w : Effect) → effect_of r.pid r.life signal r.signals ≡ w → slots_of_rechecks (changed c (finished results) (after w)) None (rechecking_effect w (signalled signal r) (after w) order (rechecking_by_signals (Some (signalled signal r)) order [])) ≤ 7 + slots_of_continued rs (Some r)
+    by effect.Nothing e = let most = plain_slots results c signal r rs order found in omega (arith, most)
+    by effect.Continued e = told_slots results c signal r rs order (rechecking_by_signals (Some (signalled signal r)) order []) found (continued_stopped r.pid signal r e) (listed (takes_signal (signalled signal r)))
+
+-- and where it was sent to one process by its number
+pub sent_slots : (results : List (ℕ × ℤ)) (me : Process) (p n : ℕ) (rs : List Process) (order : List ℕ) → IsRising rs
+    → slots_of_rechecks (changed me.pid (finished results) (sent me (whom.Process p) (Some n) rs)) None (rechecking_signalled me (Some n) (targets me (whom.Process p) rs) rs order []) ≤ 7 + slots_of_continued rs (lookup p rs)
+unfolding sent sent_among targets permitted rechecking_signalled rechecking_all signalled_all slots_of_rechecks
+sent_slots results me p n rs order up = by (lookup p rs) refl
+  where
+    signal : PendingSignal
+    signal = sent_by me.pid n
+
+    all : List Process → ℕ
+    all qs = slots_of_rechecks (changed me.pid (finished results) (sent_among me (Some n) qs rs)) None (rechecking_signalled me (Some n) qs rs order [])
+
+    by : (o : Option Process) → lookup p rs ≡ o → all (filter (has_pid p) rs) ≤ 7 + slots_of_continued rs o
+    by None none = rw (numbered_none p rs none) (omega arith)
+    by (Some r) found = rw (numbered_one p rs up r found) (elim (may me (Some n) r) as (λ b. may me (Some n) r ≡ b → all (r ∷ []) ≤ 7 + slots_of_continued rs (Some r)) [
+      | false ↦ λ e. rw e (omega arith)
+      | true ↦ λ e. let here = ap (λ q. lookup q rs) (pid_looked p rs r found) ∙ found in rw (e, here) (generated_slots results me.pid signal r rs order here)
+    ] refl)

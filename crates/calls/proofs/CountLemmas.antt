@@ -1,0 +1,143 @@
+-- How many slots rechecking reads.
+use Rattle.std.proofs.Common.{◌≡◌, ℕ, ◌+◌, ◌*◌, ◌<◌, ◌≤◌, Bool, true, false, cond, not, ◌||◌, refl, ap, arith, List, [], ◌∷◌, length, subst, Some, None, Option, slice_get, ◌==◌, is_some, nat_lt}
+use Rattle.std.specs.List.{AllByRecursion}
+use Rattle.std.proofs.lemmas.Bool.{eq-eqb, ne_eqb, or_left, or_right}
+use Rattle.posix.specs.declared.process.Blocked.{Blocked}
+use Rattle.posix.specs.declared.process.Blocked.TheVariants as blocked
+use Rattle.posix.specs.Processes.{Process, argument}
+use Rattle.posix.specs.Tables.{lookup, children_in}
+use Rattle.posix.specs.States.{is_in, without}
+use Rattle.posix.specs.Choice.{chosen}
+use Rattle.pidset.specs.Numbers.{Rises, with_number}
+use Rattle.life.specs.Rechecks.{AreTaking, AreBrief, is_in_wait}
+use Rattle.calls.specs.Counts.{neighbour, slots_of_call, slots_of_rechecking, slots_of_rechecks, reports_first, slots_of_first}
+use Rattle.posix.specs.declared.target.Target.{Target}
+use Rattle.posix.specs.declared.target.Target.TheVariants as whom
+use Rattle.posix.specs.Targets.{target_in}
+use Rattle.posix.specs.Waits.{has_report, reporting_in}
+use Rattle.life.specs.Waits.{slots_of_wait}
+use Rattle.jobs.specs.JobTables.{takes_signal}
+use Rattle.std.proofs.lemmas.List.Sums.{length-filter, count_by-le-length}
+
+-- ---- those to recheck
+
+-- where the first of them goes, the others stay
+others_stay : (n : ℕ) (ms : List ℕ) → AllByRecursion (λ m. n < m) ms → without n ms ≡ ms
+unfolding without
+others_stay n [] h = refl
+others_stay n (m ∷ ms) h = rw (ne_eqb m n (λ same. omega (arith, same, h.0))) (ap (λ l. m ∷ l) (others_stay n ms h.1))
+
+-- what the first one reads, and what the others do
+pub rechecks_first : (rs : List Process) (last : Option ℕ) (ns : List ℕ) (p : ℕ) → Rises ns → slice_get ns 0 ≡ Some p → slots_of_rechecking rs (neighbour last ns) (lookup p rs) + slots_of_rechecks rs (Some p) (without p ns) ≡ slots_of_rechecks rs last ns
+unfolding slots_of_rechecks without Rises
+rechecks_first rs last [] p up first = absurd (cc)
+rechecks_first rs last (n ∷ ns) p up first =
+    let same : n ≡ p = cc in
+    let others : without n (n ∷ ns) ≡ ns = rw (eq-eqb n n refl) (others_stay n ns up.0) in
+    subst (λ q. slots_of_rechecking rs (neighbour last (n ∷ ns)) (lookup q rs) + slots_of_rechecks rs (Some q) (without q (n ∷ ns)) ≡ slots_of_rechecks rs last (n ∷ ns)) same
+    (ap (λ l. slots_of_rechecking rs (neighbour last (n ∷ ns)) (lookup n rs) + slots_of_rechecks rs (Some n) l) others)
+
+-- one for each, where a signal is chosen for each
+pub rechecks_taking : (rs : List Process) (last : Option ℕ) (ns : List ℕ) → AreTaking rs ns → slots_of_rechecks rs last ns ≤ length ns
+unfolding slots_of_rechecks is_in
+rechecks_taking rs last [] h = omega arith
+rechecks_taking rs last (n ∷ ns) h =
+    let it = h n (or_left _ _ (eq-eqb n n refl)) in
+    let rest = rechecks_taking rs (Some n) ns (λ p e. h p (or_right _ _ e)) in
+    rw (it.1, it.2) (omega (arith, rest))
+
+-- a call that isn't a wait is told of by one more
+call_brief : (rs : List Process) (first : Option ℕ) (me : Process) (b : Option Blocked) → not (is_in_wait b) ≡ true → slots_of_call rs first me b ≤ 1
+call_brief rs first me None e = omega arith
+call_brief rs first me (Some blocked.Waitpid) e = absurd (cc)
+call_brief rs first me (Some blocked.Read) e = omega arith
+call_brief rs first me (Some blocked.Pause) e = omega arith
+call_brief rs first me (Some (blocked.Sigsuspend mask)) e = omega arith
+
+-- who isn't in a wait, or takes a signal, is told of by two
+pub judged_brief : (rs : List Process) (first : Option ℕ) (r : Process) → (is_some (chosen r.life r.signals) || not (is_in_wait r.blocked)) ≡ true → slots_of_rechecking rs first (Some r) ≤ 2
+judged_brief rs first r e = by (is_some (chosen r.life r.signals)) e
+  where
+    by : (b : Bool) → (b || not (is_in_wait r.blocked)) ≡ true → 1 + cond b 0 (slots_of_call rs first r r.blocked) ≤ 2
+    by true e = omega arith
+    by false e = let one = call_brief rs first r r.blocked e in omega (arith, one)
+
+-- two for each, where no child has to be looked at
+pub rechecks_brief : (rs : List Process) (last : Option ℕ) (ns : List ℕ) → AreBrief rs ns → slots_of_rechecks rs last ns ≤ 2 * length ns
+unfolding slots_of_rechecks is_in
+rechecks_brief rs last [] h = omega arith
+rechecks_brief rs last (n ∷ ns) h =
+    let it = h n (or_left _ _ (eq-eqb n n refl)) in
+    let rest = rechecks_brief rs (Some n) ns (λ p e. h p (or_right _ _ e)) in
+    let one = judged_brief rs (neighbour last (n ∷ ns)) it.0 it.2 in
+    rw it.1 (omega (arith, rest, one))
+
+-- none where nobody is to be rechecked
+pub rechecks_none : (rs : List Process) (last : Option ℕ) (ns : List ℕ) → ns ≡ [] → slots_of_rechecks rs last ns ≡ 0
+unfolding slots_of_rechecks
+rechecks_none rs last ns none = rw none refl
+
+-- ---- a wait
+
+-- it reads two slots for each child at most
+pub wait_slots : (target : Target) (p : ℕ) (rs : List Process) → slots_of_wait target p rs ≤ 2 * length (children_in p rs)
+unfolding reporting_in
+wait_slots (whom.Process q) p rs = omega arith
+wait_slots whom.OwnGroup p rs = omega arith
+wait_slots (whom.Group g) p rs = omega arith
+wait_slots whom.All p rs = let few = length-filter has_report (children_in p rs) in let most = count_by-le-length has_report (children_in p rs) in omega (arith, few, most)
+wait_slots whom.Nobody p rs = omega arith
+
+-- what it can be for who waits for a child
+abbrev pub slots_of_waiter : List Process → Process → ℕ
+slots_of_waiter rs r = cond (is_in_wait r.blocked) (2 * length (children_in r.pid rs)) 0
+
+-- a parent whose wait reports the child that is looked at first
+pub judged_told : (rs : List Process) (q : ℕ) (r : Process) → (takes_signal r || (not (is_in_wait r.blocked) || reports_first rs (Some q) r)) ≡ true → slots_of_rechecking rs (Some q) (Some r) ≤ 3
+judged_told rs q r e = by (takes_signal r) r.blocked e
+  where
+    by : (t : Bool) (b : Option Blocked) → (t || (not (is_in_wait b) || reports_first rs (Some q) r)) ≡ true → 1 + cond t 0 (slots_of_call rs (Some q) r b) ≤ 3
+    by true b e = omega arith
+    by false None e = omega arith
+    by false (Some blocked.Waitpid) e = rw e (omega arith)
+    by false (Some blocked.Read) e = omega arith
+    by false (Some blocked.Pause) e = omega arith
+    by false (Some (blocked.Sigsuspend mask)) e = omega arith
+
+-- any process
+judged_any : (rs : List Process) (first : Option ℕ) (r : Process) → slots_of_rechecking rs first (Some r) ≤ 4 + slots_of_waiter rs r
+judged_any rs first r = by (takes_signal r) r.blocked
+  where
+    most : (first : Option ℕ) → slots_of_first first ≤ 1
+    most None = omega arith
+    most (Some q) = omega arith
+
+    by : (t : Bool) (b : Option Blocked) → 1 + cond t 0 (slots_of_call rs first r b) ≤ 4 + cond (is_in_wait b) (2 * length (children_in r.pid rs)) 0
+    by true b = omega arith
+    by false None = omega arith
+    by false (Some blocked.Waitpid) = elim (reports_first rs first r) as (λ k. 1 + cond k 2 (2 + slots_of_first first + slots_of_wait (target_in (argument r 1)) r.pid rs) ≤ 4 + 2 * length (children_in r.pid rs)) [
+      | true ↦ omega arith
+      | false ↦ let one = most first in let all = wait_slots (target_in (argument r 1)) r.pid rs in omega (arith, one, all)
+    ]
+    by false (Some blocked.Read) = omega arith
+    by false (Some blocked.Pause) = omega arith
+    by false (Some (blocked.Sigsuspend mask)) = omega arith
+
+-- one process alone
+pub rechecks_one : (rs : List Process) (p : ℕ) (r : Process) → lookup p rs ≡ Some r → slots_of_rechecks rs None (p ∷ []) ≤ 4 + slots_of_waiter rs r
+unfolding slots_of_rechecks
+rechecks_one rs p r found = rw found (let one = judged_any rs None r in omega (arith, one))
+
+-- a child and its parent, which waits for just it, or looks at no child
+pub rechecks_pair : (rs : List Process) (p q : ℕ) (child parent : Process) → lookup p rs ≡ Some child → lookup q rs ≡ Some parent → (takes_signal parent || (not (is_in_wait parent.blocked) || reports_first rs (Some p) parent)) ≡ true
+    → slots_of_rechecks rs None (with_number q (p ∷ [])) ≤ 7 + slots_of_waiter rs child
+unfolding slots_of_rechecks with_number
+rechecks_pair rs p q child parent here up told =
+    let three = judged_told rs p parent told in
+    elim (nat_lt q p) as (λ b. slots_of_rechecks rs None (cond b (q ∷ p ∷ []) (cond (q == p) (p ∷ []) (p ∷ q ∷ []))) ≤ 7 + slots_of_waiter rs child) [
+      | true ↦ rw (here, up) (let four = judged_any rs (Some q) child in omega (arith, three, four))
+      | false ↦ elim (q == p) as (λ b. slots_of_rechecks rs None (cond b (p ∷ []) (p ∷ q ∷ [])) ≤ 7 + slots_of_waiter rs child) [
+        | true ↦ rw here (let four = judged_any rs None child in omega (arith, four))
+        | false ↦ rw (here, up) (let four = judged_any rs (Some q) child in omega (arith, three, four))
+      ]
+    ]
