@@ -1,12 +1,11 @@
 //! Runs with consoles: keys, background reads, and the end of a session.
 
-use crate::count_tests::{expect_slots, slots_of};
-use crate::tests::expect_run;
+use crate::count_tests::{after_steps, expect_event, expect_living, shown_within};
+use crate::tests::{expect_entries, expect_equal, expect_run};
 use kernel::Kernel;
 use posix::{Bytes, Call, Entry, Event, Pid};
 use std::process::Abort;
 use std::test::Fail;
-use text::read_world;
 
 /// Beside 300 processes that pause, process 1 puts one child into the foreground, and collects another.
 const COLLECTION_BESIDE_A_FOREGROUND: &[u8] = b"\
@@ -300,132 +299,89 @@ step 1
     expect_run(&rt, LINE_EDITING, events, trace, b"", 0);
 }
 
-/// How many entries an event shows.
-fn shown<R: Abort + AllocGlobal>(rt: &R, kernel: &mut Kernel, event: Event) -> usize {
-    assert!(rt; kernel.events() < 10_000);
-    kernel.event(event).len()
+/// An event shows so many entries.
+fn expect_shown<R: Abort + AllocGlobal>(rt: &R, kernel: &mut Kernel, event: Event, shown: usize) {
+    expect_event(rt, kernel, event, shown, &(0..=u128::MAX));
 }
 
-/// How many entries a line feed on a console shows, with a step behind it.
-fn shown_by_a_line<R: Abort + AllocGlobal>(rt: &R, kernel: &mut Kernel, console: u8) -> usize {
+/// A line feed on this console, where process 1 waits to read from console 1, shows nothing, nor does a step behind it.
+fn expect_no_line<R: Abort + AllocGlobal>(rt: &R, kernel: &mut Kernel, console: u8) {
     let byte = b'\n';
-    let typed = shown(rt, kernel, Event::Key { console, byte });
-    typed.wrapping_add(shown(rt, kernel, Event::Step))
+    expect_shown(rt, kernel, Event::Key { console, byte }, 0);
+    expect_shown(rt, kernel, Event::Step, 0);
 }
 
 #[test]
 fn a_key_on_a_console_that_is_not_there_does_nothing(rt: HostRuntime) -> Result<(), Fail> {
-    let world = read_world(rt.alloc(), LINE_EDITING)?;
-    let mut kernel = Kernel::boot(rt.alloc(), &world)?;
-    let mut count: usize = 0;
-    for _ in 0..5 {
-        count = count.wrapping_add(shown(&rt, &mut kernel, Event::Step));
-    }
-    assert_eq!(rt; count, 1);
-    assert_eq!(rt; shown_by_a_line(&rt, &mut kernel, 0), 0);
-    assert_eq!(rt; shown_by_a_line(&rt, &mut kernel, 2), 0);
-    assert_eq!(rt; shown_by_a_line(&rt, &mut kernel, 255), 0);
+    let mut kernel = after_steps(&rt, LINE_EDITING, 5)?;
+    expect_no_line(&rt, &mut kernel, 0);
+    expect_no_line(&rt, &mut kernel, 2);
+    expect_no_line(&rt, &mut kernel, 255);
     let (console, byte) = (1, b'\n');
-    assert_eq!(rt; shown(&rt, &mut kernel, Event::Key { console, byte }), 0);
-    assert!(rt; kernel.events() < 10_000);
+    expect_shown(&rt, &mut kernel, Event::Key { console, byte }, 0);
     let (pid, call, bytes) = (Pid::INIT, Call::Read, Bytes::new(b"\n"));
-    assert_eq!(rt;
-        kernel.event(Event::Step).as_slice(),
-        [Entry::Moved { pid, call, bytes }].as_slice()
-    );
-    assert_eq!(rt; kernel.events(), 13);
+    let line = Entry::Moved { pid, call, bytes };
+    expect_entries(&rt, &mut kernel, Event::Step, &[line]);
+    expect_equal(&rt, kernel.events(), 13);
     Ok(())
 }
 
 /// How many entries a line of a letter and a line feed on console 1 shows, with the three steps of its reader. Each of
 /// these events reads at most 16 slots of the table.
 fn shown_by_a_short_line<R: Abort + AllocGlobal>(rt: &R, kernel: &mut Kernel) -> usize {
-    let console = 1;
-    let mut count = expect_slots(
-        rt,
-        kernel,
-        Event::Key {
-            console,
-            byte: b'a',
-        },
-        0,
-    );
+    let (console, byte) = (1, b'a');
+    let mut count = shown_within(rt, kernel, Event::Key { console, byte }, &(0..=16));
     let byte = b'\n';
-    count = count.wrapping_add(expect_slots(rt, kernel, Event::Key { console, byte }, 1));
+    count = count.wrapping_add(shown_within(rt, kernel, Event::Key { console, byte }, &(1..=16)));
     for _ in 0..3 {
-        count = count.wrapping_add(expect_slots(rt, kernel, Event::Step, 1));
+        count = count.wrapping_add(shown_within(rt, kernel, Event::Step, &(1..=16)));
     }
     count
 }
 
 #[test]
 fn sleeping_readers_are_not_asked(rt: HostRuntime) -> Result<(), Fail> {
-    let world = read_world(rt.alloc(), SLEEPING_READERS)?;
-    let mut kernel = Kernel::boot(rt.alloc(), &world)?;
-    for _ in 0..5500 {
-        shown(&rt, &mut kernel, Event::Step);
-    }
-    assert_eq!(rt; kernel.census().living, 902);
+    let mut kernel = after_steps(&rt, SLEEPING_READERS, 5500)?;
+    expect_living(&rt, &mut kernel, 902);
     for _ in 0..20 {
-        assert_eq!(rt; shown_by_a_short_line(&rt, &mut kernel), 1);
+        expect_equal(&rt, shown_by_a_short_line(&rt, &mut kernel), 1);
     }
     // A line on the other console is for all 901 of them.
     let (console, byte) = (2, b'\n');
-    let before = kernel.visits();
-    assert_eq!(rt; shown(&rt, &mut kernel, Event::Key { console, byte }), 0);
-    assert!(rt; kernel.visits().wrapping_sub(before) >= 901);
+    let all = &(901..=u128::MAX);
+    expect_event(&rt, &mut kernel, Event::Key { console, byte }, 0, all);
     Ok(())
-}
-
-/// So many steps are taken.
-fn take_steps<R: Abort + AllocGlobal>(rt: &R, kernel: &mut Kernel, count: u64) {
-    for _ in 0..count {
-        shown(rt, kernel, Event::Step);
-    }
 }
 
 #[test]
 fn a_key_is_for_the_foreground_alone(rt: HostRuntime) -> Result<(), Fail> {
-    let world = read_world(rt.alloc(), FOREGROUND_OF_ONE)?;
-    let mut kernel = Kernel::boot(rt.alloc(), &world)?;
-    take_steps(&rt, &mut kernel, 2500);
-    assert_eq!(rt; kernel.census().living, 303);
+    let mut kernel = after_steps(&rt, FOREGROUND_OF_ONE, 2500)?;
+    expect_living(&rt, &mut kernel, 303);
     let (console, byte) = (1, b'a');
-    assert_eq!(rt;
-        slots_of(&rt, &mut kernel, Event::Key { console, byte }).1,
-        0
-    );
+    expect_event(&rt, &mut kernel, Event::Key { console, byte }, 0, &(0..=0));
     // INT for the one member: 16 slots, and 8 for it.
     let (console, byte) = (1, 3);
-    let (_, slots) = slots_of(&rt, &mut kernel, Event::Key { console, byte });
-    assert!(rt; 1 <= slots && slots <= 24);
+    expect_event(&rt, &mut kernel, Event::Key { console, byte }, 0, &(1..=24));
     Ok(())
 }
 
 #[test]
 fn a_line_is_for_no_reader_that_left(rt: HostRuntime) -> Result<(), Fail> {
-    let world = read_world(rt.alloc(), READERS_THAT_LEFT)?;
-    let mut kernel = Kernel::boot(rt.alloc(), &world)?;
-    take_steps(&rt, &mut kernel, 1000);
-    assert_eq!(rt; kernel.census().living, 62);
+    let mut kernel = after_steps(&rt, READERS_THAT_LEFT, 1000)?;
+    expect_living(&rt, &mut kernel, 62);
     // The foreground has one member: 16 slots, and 8 for it.
     let (console, byte) = (1, b'\n');
-    let (_, slots) = slots_of(&rt, &mut kernel, Event::Key { console, byte });
-    assert!(rt; 1 <= slots && slots <= 24);
-    assert_eq!(rt; shown(&rt, &mut kernel, Event::Step), 1);
+    expect_event(&rt, &mut kernel, Event::Key { console, byte }, 0, &(1..=24));
+    expect_shown(&rt, &mut kernel, Event::Step, 1);
     Ok(())
 }
 
 #[test]
 fn a_collection_asks_no_sleepers_for_a_foreground(rt: HostRuntime) -> Result<(), Fail> {
-    let world = read_world(rt.alloc(), COLLECTION_BESIDE_A_FOREGROUND)?;
-    let mut kernel = Kernel::boot(rt.alloc(), &world)?;
-    take_steps(&rt, &mut kernel, 1829);
-    assert_eq!(rt; kernel.census().zombies, 1);
+    let mut kernel = after_steps(&rt, COLLECTION_BESIDE_A_FOREGROUND, 1829)?;
+    expect_equal(&rt, kernel.census().zombies, 1);
     // A wait with three children, of which it collects one: 16 slots, and 2 for each of them.
-    let (shown, slots) = slots_of(&rt, &mut kernel, Event::Step);
-    assert_eq!(rt; shown, 1);
-    assert!(rt; 1 <= slots && slots <= 22);
-    assert_eq!(rt; kernel.census().zombies, 0);
+    expect_event(&rt, &mut kernel, Event::Step, 1, &(1..=22));
+    expect_equal(&rt, kernel.census().zombies, 0);
     Ok(())
 }

@@ -1,7 +1,9 @@
 //! How many slots of the table events read.
 
+use crate::tests::expect_equal;
 use kernel::Kernel;
 use posix::Event;
+use std::ops::RangeInclusive;
 use std::process::Abort;
 use std::test::Fail;
 use text::read_world;
@@ -239,6 +241,38 @@ sys pause
 end
 ";
 
+/// Process 1 has 300 children in its process group, and three in another one, for which it waits: first without blocking.
+const GROUP_BESIDE_CHILDREN: &[u8] = b"\
+pidmax 1000
+consoles 0
+program init
+set r6, 300
+set r7, 1
+more:
+sys fork
+jz r0, kid
+sub r6, r7
+jnz r6, more
+set r6, 3
+set r5, 302
+jobs:
+sys fork
+jz r0, kid
+mov r1, r0
+mov r2, r5
+sys setpgid
+sub r6, r7
+jnz r6, jobs
+set r1, -302
+set r2, 1
+sys waitpid
+set r2, 0
+sys waitpid
+kid:
+sys pause
+end
+";
+
 /// Process 1, which ignores CHLD, has 900 children that pause. Then it goes in rounds of twenty steps, with the
 /// two of a child that is born, ends and is dropped, and the one in which the last sleeper stops: a note, a
 /// getpid, CHLD to the last sleeper, STOP, a yield, CONT, the birth, a yield, a wait for any child that doesn't block.
@@ -358,187 +392,184 @@ sys pause
 end
 ";
 
-/// An event reads at least so many slots of the table, and at most 16. How many entries it shows.
-pub(crate) fn expect_slots<R: Abort + AllocGlobal>(
-    rt: &R,
-    kernel: &mut Kernel,
-    event: Event,
-    least: u128,
-) -> usize {
-    let (shown, slots) = slots_of(rt, kernel, event);
-    assert!(rt; least <= slots && slots <= 16);
-    shown
-}
-
 /// How many entries an event shows, and how many slots of the table it reads.
-pub(crate) fn slots_of<R: Abort + AllocGlobal>(
-    rt: &R,
-    kernel: &mut Kernel,
-    event: Event,
-) -> (usize, u128) {
+fn slots_of<R: Abort + AllocGlobal>(rt: &R, kernel: &mut Kernel, event: Event) -> (usize, u128) {
     assert!(rt; kernel.events() < 10_000);
     let before = kernel.visits();
     let shown = kernel.event(event).len();
     (shown, kernel.visits().wrapping_sub(before))
 }
 
-/// The kernel after so many steps of a world.
-pub(crate) fn after_steps<R: Abort + AllocGlobal>(
+/// An event reads so many slots of the table. How many entries it shows.
+pub(crate) fn shown_within<R: Abort + AllocGlobal>(
     rt: &R,
-    world: &[u8],
-    steps: usize,
-) -> Result<Kernel, Fail> {
-    let world = read_world(rt.alloc(), world)?;
-    let mut kernel = Kernel::boot(rt.alloc(), &world)?;
-    for _ in 0..steps {
-        slots_of(rt, &mut kernel, Event::Step);
-    }
-    Ok(kernel)
-}
-
-/// The step after so many of a world reads at most 16 slots, though somebody waits who has 300 children.
-fn expect_few_slots<R: Abort + AllocGlobal>(
-    rt: &R,
-    world: &[u8],
-    steps: usize,
-) -> Result<(), Fail> {
-    let mut kernel = after_steps(rt, world, steps)?;
-    assert_eq!(rt; kernel.census().living, 302);
-    assert_eq!(rt; expect_slots(rt, &mut kernel, Event::Step, 1), 1);
-    Ok(())
-}
-
-/// A key on console 1 reads at most 16 slots, and eight for each of the three in the foreground.
-fn expect_key<R: Abort + AllocGlobal>(rt: &R, kernel: &mut Kernel, byte: u8) {
-    let console = 1;
-    let (shown, slots) = slots_of(rt, kernel, Event::Key { console, byte });
-    assert_eq!(rt; shown, 0);
-    assert!(rt; slots <= 40);
+    kernel: &mut Kernel,
+    event: Event,
+    slots: &RangeInclusive<u128>,
+) -> usize {
+    let (shown, read) = slots_of(rt, kernel, event);
+    assert!(rt; slots.contains(&read));
+    shown
 }
 
 /// How many entries so many steps show, each of which reads at least one slot, and at most 16.
-fn expect_steps<R: Abort + AllocGlobal>(rt: &R, kernel: &mut Kernel, count: u64) -> usize {
+fn shown_by_steps<R: Abort + AllocGlobal>(rt: &R, kernel: &mut Kernel, count: u64) -> usize {
     let mut shown: usize = 0;
     for _ in 0..count {
-        shown = shown.wrapping_add(expect_slots(rt, kernel, Event::Step, 1));
+        shown = shown.wrapping_add(shown_within(rt, kernel, Event::Step, &(1..=16)));
     }
     shown
 }
 
+/// An event shows so many entries, and reads so many slots of the table.
+pub(crate) fn expect_event<R: Abort + AllocGlobal>(
+    rt: &R,
+    kernel: &mut Kernel,
+    event: Event,
+    shown: usize,
+    slots: &RangeInclusive<u128>,
+) {
+    expect_equal(rt, shown_within(rt, kernel, event, slots), shown);
+}
+
+/// So many steps show so many entries, and each reads at least one slot, and at most 16.
+fn expect_steps<R: Abort + AllocGlobal>(rt: &R, kernel: &mut Kernel, count: u64, shown: usize) {
+    expect_equal(rt, shown_by_steps(rt, kernel, count), shown);
+}
+
+/// So many processes live.
+pub(crate) fn expect_living<R: Abort>(rt: &R, kernel: &mut Kernel, living: u64) {
+    expect_equal(rt, kernel.census().living, living);
+}
+
+/// The kernel after so many steps of a world.
+pub(crate) fn after_steps<R: Abort + AllocGlobal>(
+    rt: &R,
+    world: &[u8],
+    steps: u64,
+) -> Result<Kernel, Fail> {
+    let world = read_world(rt.alloc(), world)?;
+    let mut kernel = Kernel::boot(rt.alloc(), &world)?;
+    take_steps(rt, &mut kernel, steps);
+    Ok(kernel)
+}
+
+/// So many steps are taken.
+fn take_steps<R: Abort + AllocGlobal>(rt: &R, kernel: &mut Kernel, count: u64) {
+    for _ in 0..count {
+        slots_of(rt, kernel, Event::Step);
+    }
+}
+
+/// The step after so many of a world shows one entry, and reads at most 16 slots, though somebody waits who has 300
+/// children.
+fn expect_step_after<R: Abort + AllocGlobal>(rt: &R, world: &[u8], steps: u64) -> Result<(), Fail> {
+    let mut kernel = after_steps(rt, world, steps)?;
+    expect_living(rt, &mut kernel, 302);
+    expect_event(rt, &mut kernel, Event::Step, 1, &(1..=16));
+    Ok(())
+}
+
 #[test]
 fn sleepers_are_not_asked(rt: HostRuntime) -> Result<(), Fail> {
-    let world = read_world(rt.alloc(), SLEEPERS)?;
-    let mut kernel = Kernel::boot(rt.alloc(), &world)?;
-    for _ in 0..5409 {
-        assert!(rt; kernel.events() < 10_000);
-        kernel.event(Event::Step);
+    let mut kernel = after_steps(&rt, SLEEPERS, 5409)?;
+    expect_living(&rt, &mut kernel, 901);
+    // Each round shows a line for each of its calls, the note, the stop and the end.
+    for _ in 0..10 {
+        expect_steps(&rt, &mut kernel, 20, 11);
+        expect_event(&rt, &mut kernel, Event::Tick, 0, &(0..=16));
     }
-    assert_eq!(rt; kernel.census().living, 901);
-    let mut shown: usize = 0;
-    for i in 0..210 {
-        let (event, least) = if i % 21 == 20 {
-            (Event::Tick, 0)
-        } else {
-            (Event::Step, 1)
-        };
-        shown = shown.wrapping_add(expect_slots(&rt, &mut kernel, event, least));
-    }
-    // Ten rounds, each of which shows a line for each of its calls, the note, the stop and the end.
-    assert_eq!(rt; shown, 110);
-    assert_eq!(rt; kernel.census().births, 911);
-    assert_eq!(rt; kernel.census().dropped, 10);
+    expect_equal(&rt, kernel.census().births, 911);
+    expect_equal(&rt, kernel.census().dropped, 10);
     Ok(())
 }
 
 #[test]
 fn a_fault_that_enters_a_handler_asks_nobody_else(rt: HostRuntime) -> Result<(), Fail> {
-    let world = read_world(rt.alloc(), FAULTS)?;
-    let mut kernel = Kernel::boot(rt.alloc(), &world)?;
-    for _ in 0..4 {
-        expect_slots(&rt, &mut kernel, Event::Step, 1);
-    }
-    let mut shown: usize = 0;
-    for _ in 0..30 {
-        shown = shown.wrapping_add(expect_slots(&rt, &mut kernel, Event::Step, 1));
-    }
+    let mut kernel = after_steps(&rt, FAULTS, 4)?;
     // Ten rounds of a fault, which is shown as its handler is entered, a sum, and the return.
-    assert_eq!(rt; shown, 20);
+    expect_steps(&rt, &mut kernel, 30, 20);
     Ok(())
 }
 
 #[test]
 fn a_child_that_continues_is_the_only_one_asked(rt: HostRuntime) -> Result<(), Fail> {
-    expect_few_slots(&rt, CHILD_OF_A_GROUP_WAITER, 1813)?;
-    expect_few_slots(&rt, CHILD_OF_A_WAITER_WITH_STOPPED, 3016)
+    expect_step_after(&rt, CHILD_OF_A_GROUP_WAITER, 1813)?;
+    expect_step_after(&rt, CHILD_OF_A_WAITER_WITH_STOPPED, 3016)
 }
 
 #[test]
 fn a_signal_asks_no_child(rt: HostRuntime) -> Result<(), Fail> {
-    expect_few_slots(&rt, BLOCKED_SIGNAL_TO_A_WAITER, 1214)?;
-    expect_few_slots(&rt, CHILD_OF_A_WAITER, 1211)
+    expect_step_after(&rt, BLOCKED_SIGNAL_TO_A_WAITER, 1214)?;
+    expect_step_after(&rt, CHILD_OF_A_WAITER, 1211)
 }
 
 #[test]
 fn a_wait_reads_two_slots_for_each_child(rt: HostRuntime) -> Result<(), Fail> {
     let mut kernel = after_steps(&rt, WAITER_WITH_STOPPED, 3615)?;
     // All 300 have been stopped, for which the wait doesn't ask.
-    let (shown, slots) = slots_of(&rt, &mut kernel, Event::Step);
-    assert_eq!(rt; shown, 0);
-    assert!(rt; 300 <= slots && slots <= 616);
+    expect_event(&rt, &mut kernel, Event::Step, 0, &(300..=616));
     Ok(())
 }
 
 #[test]
-fn a_waiter_that_continues_looks_at_its_children(rt: HostRuntime) -> Result<(), Fail> {
-    let mut kernel = after_steps(&rt, NEWS_OF_A_WAITER, 1815)?;
-    // CONT continues process 2 in its wait for 300 children.
-    let (shown, slots) = slots_of(&rt, &mut kernel, Event::Step);
-    assert_eq!(rt; shown, 1);
-    assert!(rt; 300 <= slots && slots <= 616);
+fn a_wait_for_a_group_looks_at_its_members_alone(rt: HostRuntime) -> Result<(), Fail> {
+    let mut kernel = after_steps(&rt, GROUP_BESIDE_CHILDREN, 1227)?;
+    expect_living(&rt, &mut kernel, 304);
+    expect_event(&rt, &mut kernel, Event::Step, 1, &(1..=16));
+    expect_steps(&rt, &mut kernel, 2, 0);
     Ok(())
+}
+
+#[test]
+fn a_waiter_that_continues_finds_a_child_at_once(rt: HostRuntime) -> Result<(), Fail> {
+    // CONT continues process 2 in its wait for the members of its process group, and its 300 children are in it.
+    expect_step_after(&rt, NEWS_OF_A_WAITER, 1815)
 }
 
 #[test]
 fn news_that_are_told_ask_nobody(rt: HostRuntime) -> Result<(), Fail> {
     let mut kernel = after_steps(&rt, NEWS_OF_A_WAITER, 1211)?;
-    assert_eq!(rt; kernel.census().living, 302);
+    expect_living(&rt, &mut kernel, 302);
     // STOP for the waiter, which has 300 children.
-    assert_eq!(rt; expect_slots(&rt, &mut kernel, Event::Step, 1), 1);
-    for _ in 0..606 {
-        slots_of(&rt, &mut kernel, Event::Step);
-    }
+    expect_event(&rt, &mut kernel, Event::Step, 1, &(1..=16));
+    take_steps(&rt, &mut kernel, 606);
     // It was continued, and waits on; the wait of process 1 tells that.
-    assert_eq!(rt; expect_slots(&rt, &mut kernel, Event::Step, 1), 1);
+    expect_event(&rt, &mut kernel, Event::Step, 1, &(1..=16));
     Ok(())
 }
 
 #[test]
 fn a_tick_rings_who_is_due_alone(rt: HostRuntime) -> Result<(), Fail> {
     let mut kernel = after_steps(&rt, ONE_ALARM_OF_MANY, 8000)?;
-    assert_eq!(rt; kernel.census().living, 901);
-    assert_eq!(rt; slots_of(&rt, &mut kernel, Event::Tick).1, 0);
+    expect_living(&rt, &mut kernel, 901);
+    expect_event(&rt, &mut kernel, Event::Tick, 0, &(0..=0));
     // One alarm is due.
-    let (_, slots) = slots_of(&rt, &mut kernel, Event::Tick);
-    assert!(rt; 1 <= slots && slots <= 32);
+    expect_event(&rt, &mut kernel, Event::Tick, 0, &(1..=32));
     // Its call is cut short, and its handler is entered.
-    assert_eq!(rt; expect_slots(&rt, &mut kernel, Event::Step, 1), 2);
+    expect_event(&rt, &mut kernel, Event::Step, 2, &(1..=16));
     Ok(())
+}
+
+/// A key on console 1 shows nothing, and reads at most 16 slots, and eight for each of the three in the foreground.
+fn expect_key<R: Abort + AllocGlobal>(rt: &R, kernel: &mut Kernel, byte: u8) {
+    let console = 1;
+    expect_event(rt, kernel, Event::Key { console, byte }, 0, &(0..=40));
 }
 
 #[test]
 fn sleepers_are_asked_by_no_event(rt: HostRuntime) -> Result<(), Fail> {
     let mut kernel = after_steps(&rt, READERS_BESIDE_SLEEPERS, 5460)?;
-    assert_eq!(rt; kernel.census().living, 904);
+    expect_living(&rt, &mut kernel, 904);
     // INT for the foreground: the read of each is interrupted, its handler entered, and it reads again.
     expect_key(&rt, &mut kernel, 0x03);
-    assert_eq!(rt; expect_steps(&rt, &mut kernel, 12), 9);
+    expect_steps(&rt, &mut kernel, 12, 9);
     // A line, which one of the three takes.
     expect_key(&rt, &mut kernel, b'a');
     expect_key(&rt, &mut kernel, b'\n');
-    assert_eq!(rt; expect_steps(&rt, &mut kernel, 5), 1);
+    expect_steps(&rt, &mut kernel, 5, 1);
     // The alarm rings, and is set again.
-    let (_, slots) = slots_of(&rt, &mut kernel, Event::Tick);
-    assert!(rt; 1 <= slots && slots <= 32);
-    assert_eq!(rt; expect_steps(&rt, &mut kernel, 6), 4);
+    expect_event(&rt, &mut kernel, Event::Tick, 0, &(1..=32));
+    expect_steps(&rt, &mut kernel, 6, 4);
     Ok(())
 }

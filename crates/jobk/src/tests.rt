@@ -56,6 +56,22 @@ const USAGE: &[u8] = b"usage: jobk run WORLD EVENTS | jobk audit TRACE\n";
 
 const NO_MEMORY: &[u8] = b"jobk: out of memory\n";
 
+/// These are the same. Tests say so by a call, since a body with many assertions takes long to prove.
+pub(crate) fn expect_equal<T: PartialEq + Drop, R: Abort>(rt: &R, got: T, want: T) {
+    assert!(rt; got == want);
+}
+
+/// An event shows these entries.
+pub(crate) fn expect_entries<R: Abort + AllocGlobal>(
+    rt: &R,
+    kernel: &mut Kernel,
+    event: Event,
+    entries: &[Entry],
+) {
+    assert!(rt; kernel.events() < 10_000);
+    assert_eq!(rt; kernel.event(event).as_slice(), entries);
+}
+
 /// The words are served with this trace, this message and this status.
 fn expect_served<R: Abort + AllocGlobal>(
     rt: &R,
@@ -68,9 +84,9 @@ fn expect_served<R: Abort + AllocGlobal>(
     let mut out = WriteSink::new(Vec::<u8>::new(rt.alloc()));
     let mut err = WriteSink::new(Vec::<u8>::new(rt.alloc()));
     let got = serve(rt.alloc(), words, files, &mut out, &mut err);
-    assert_eq!(rt; got, status);
-    assert_eq!(rt; out.into_writer().as_slice(), trace);
-    assert_eq!(rt; err.into_writer().as_slice(), told);
+    expect_equal(rt, got, status);
+    expect_equal(rt, out.into_writer().as_slice(), trace);
+    expect_equal(rt, err.into_writer().as_slice(), told);
 }
 
 /// The texts are run over this table of processes, with this trace; the run in numbers.
@@ -198,12 +214,10 @@ fn an_output_takes_no_more(rt: HostRuntime) {
     let mut out = WriteSink::new(ArrayVec::<u8, 5>::new());
     let mut err = WriteSink::new(Vec::<u8>::new(rt.alloc()));
     let status = serve(rt.alloc(), Ok(&words), &files, &mut out, &mut err);
-    assert_eq!(rt; status, 3);
-    assert_eq!(rt; out.into_writer().as_slice(), b"2 not".as_slice());
-    assert_eq!(rt;
-        err.into_writer().as_slice(),
-        b"jobk: cannot write\n".as_slice()
-    );
+    expect_equal(&rt, status, 3);
+    expect_equal(&rt, out.into_writer().as_slice(), b"2 not".as_slice());
+    let told = b"jobk: cannot write\n".as_slice();
+    expect_equal(&rt, err.into_writer().as_slice(), told);
 }
 
 #[test]
@@ -216,15 +230,11 @@ fn a_failing_error_output_changes_no_status(rt: HostRuntime) {
     let mut out = WriteSink::new(ArrayVec::<u8, 0>::new());
     let mut err = WriteSink::new(ArrayVec::<u8, 3>::new());
     let words = ["run", "world", "events"];
-    assert_eq!(rt;
-        serve(rt.alloc(), Ok(&words), &files, &mut out, &mut err),
-        3
-    );
+    let status = serve(rt.alloc(), Ok(&words), &files, &mut out, &mut err);
+    expect_equal(&rt, status, 3);
     let words = ["run", "world"];
-    assert_eq!(rt;
-        serve(rt.alloc(), Ok(&words), &files, &mut out, &mut err),
-        2
-    );
+    let status = serve(rt.alloc(), Ok(&words), &files, &mut out, &mut err);
+    expect_equal(&rt, status, 2);
 }
 
 /// A writer that keeps how many bytes each write had.
@@ -255,11 +265,10 @@ fn lines_are_put_in_large_pieces(rt: HostRuntime) -> Result<(), Fail> {
         sizes: Vec::new(rt.alloc()),
     });
     let summary = run(rt.alloc(), world.as_slice(), b"step 1000000\n", &mut out)?;
-    assert_eq!(rt; summary.events, 1_000_000);
-    assert!(rt; summary.halted);
+    expect_equal(&rt, (summary.events, summary.halted), (1_000_000, true));
     // 1,000 lines of 11 to 14 bytes, and the end: two pieces.
     let written = out.into_writer();
-    assert_eq!(rt; written.sizes.len(), 2);
+    expect_equal(&rt, written.sizes.len(), 2);
     assert!(rt; written.sizes.as_slice().first() >= Some(&8192));
     Ok(())
 }
@@ -271,8 +280,7 @@ fn an_event_text_comes_in_pieces(rt: HostRuntime) -> Result<(), Fail> {
     reader.feed(b"ck 2 # two\nstep 10000")?;
     reader.feed(b"00")?;
     let events = reader.finish()?;
-    assert_eq!(rt; events.len(), 1_000_002);
-    assert_eq!(rt; events.runs().len(), 2);
+    expect_equal(&rt, (events.len(), events.runs().len()), (1_000_002, 2));
     Ok(())
 }
 
@@ -296,11 +304,9 @@ fn keys_come_in_pieces(rt: HostRuntime) -> Result<(), Fail> {
     reader.feed(b"8,fF Ff # two of one")?;
     reader.feed(b"\nkey 1 ff")?;
     let events = reader.finish()?;
-    assert_eq!(rt; events.len(), 5);
-    assert_eq!(rt;
-        events.runs(),
-        [STEP, keys(2, 0x68, 1), keys(2, 0xff, 2), keys(1, 0xff, 1)].as_slice()
-    );
+    expect_equal(&rt, events.len(), 5);
+    let runs = [STEP, keys(2, 0x68, 1), keys(2, 0xff, 2), keys(1, 0xff, 1)];
+    expect_equal(&rt, events.runs(), runs.as_slice());
     Ok(())
 }
 
@@ -311,8 +317,8 @@ fn a_key_needs_a_console(rt: HostRuntime) {
         reason: Reason::OutOfRange,
     };
     let mut reader = EventReader::new(rt.alloc(), 0);
-    assert_eq!(rt; reader.feed(b"key 1 41"), Ok(()));
-    assert!(rt; reader.finish().err() == Some(fault));
+    expect_equal(&rt, reader.feed(b"key 1 41"), Ok(()));
+    expect_equal(&rt, reader.finish().err(), Some(fault));
 }
 
 #[test]
@@ -322,9 +328,10 @@ fn a_fault_is_answered_for_good(rt: HostRuntime) {
         reason: Reason::BadNumber,
     };
     let mut reader = EventReader::new(rt.alloc(), 1);
-    assert_eq!(rt; reader.feed(b"step 1\nstep one\nstep 1"), Err(fault));
-    assert_eq!(rt; reader.feed(b"\nfly\n"), Err(fault));
-    assert!(rt; reader.finish().err() == Some(fault));
+    let fed = reader.feed(b"step 1\nstep one\nstep 1");
+    expect_equal(&rt, fed, Err(fault));
+    expect_equal(&rt, reader.feed(b"\nfly\n"), Err(fault));
+    expect_equal(&rt, reader.finish().err(), Some(fault));
 }
 
 #[test]
@@ -333,17 +340,13 @@ fn a_kernel_shows_its_entries(rt: HostRuntime) -> Result<(), Fail> {
     let mut kernel = Kernel::boot(rt.alloc(), &world)?;
     let pid = Pid::INIT;
     let status = Status::exited(7);
-    assert_eq!(rt; kernel.event(Event::Step).len(), 0);
-    assert_eq!(rt;
-        kernel.event(Event::Step).as_slice(),
-        [Entry::Noted { pid, value: 7 }].as_slice()
-    );
-    assert_eq!(rt;
-        kernel.event(Event::Step).as_slice(),
-        [Entry::Ended { pid, status }, Entry::Halted].as_slice()
-    );
-    assert_eq!(rt; kernel.event(Event::Tick).len(), 0);
-    assert_eq!(rt; kernel.events(), 4);
+    expect_entries(&rt, &mut kernel, Event::Step, &[]);
+    let note = Entry::Noted { pid, value: 7 };
+    expect_entries(&rt, &mut kernel, Event::Step, &[note]);
+    let end = [Entry::Ended { pid, status }, Entry::Halted];
+    expect_entries(&rt, &mut kernel, Event::Step, &end);
+    expect_entries(&rt, &mut kernel, Event::Tick, &[]);
+    expect_equal(&rt, kernel.events(), 4);
     Ok(())
 }
 

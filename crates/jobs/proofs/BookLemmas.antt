@@ -2,14 +2,15 @@
 use Rattle.std.proofs.Common.{◌≡◌, ◌≢◌, ℕ, ◌+◌, ◌<◌, ◌≤◌, true, false, cond, refl, ap, sym, ◌∙◌, arith, not, is_some, List, length, filter, Option, Some, None, ◌==◌, ◌&&◌}
 use Rattle.std.specs.Prelude.{option_and_then}
 use Rattle.std.specs.List.{list_any}
+use Rattle.std.specs.Option.{option_map_or}
 use Rattle.std.proofs.lemmas.Bool.Decides.{nat_tests}
 use Rattle.std.proofs.lemmas.List.Elements.{filter_agree}
 use Rattle.posix.specs.Processes.{Process, is_stopped}
-use Rattle.posix.specs.Tables.{IsRising, lookup, adopted, reparented, above, first_pid, is_child, children_in, members_in}
+use Rattle.posix.specs.Tables.{IsRising, lookup, adopted, reparented, above, first_pid, is_child, children_in, is_member, members_in}
 use Rattle.posix.specs.Groups.{is_anchor}
 use Rattle.posix.specs.Waits.{has_report, reporting_in}
 use Rattle.posix.specs.Alarms.{is_due}
-use Rattle.pidset.specs.Indexes.{IsRekeyed, IsNextPair, anchor_key, is_key, key_of}
+use Rattle.pidset.specs.Indexes.{IsRekeyed, IsNextPair, IsAt, anchor_key, is_key, key_of}
 use Rattle.pidset.specs.Lists.{ListsView}
 use Rattle.pidset.proofs.IndexLemmas.{IsElsewhere, can_replace, unmoved, indexed_moved, indexed_map, indexed_adopted, index_moved, index_map, index_empty, rekeyed, next_pair, members_passing}
 use Rattle.posix.proofs.TableLemmas.{pid_reparented}
@@ -98,6 +99,10 @@ books_adopted from to ne rs old new h m k e g = record {
 pub next_in_group : (group n : ℕ) (rs : List Process) (b : Books) (next : Option ℕ) → IsRising rs → AreBooks rs b → IsNextPair group n b.members.pairs next → next ≡ first_pid (above n (members_in group rs))
 unfolding members_in
 next_in_group group n rs b next up h i = next_pair member_key rs b.members.pairs group n next up h.members i
+
+-- the list in which a process stands says whether it is a member of a process group
+pub is_listed : (group p : ℕ) (rs : List Process) (b : Books) (list : Option ℕ) → AreBooks rs b → IsAt p list b.members.pairs → is_key group list ≡ option_map_or (is_member group) (lookup p rs) false
+is_listed group p rs b list h at = sym (at group) ∙ h.members p group ∙ elim (lookup p rs) as (λ o. is_key group (option_and_then member_key o) ≡ option_map_or (is_member group) o false) [ None ↦ refl | Some r ↦ refl ]
 
 -- nobody is stopped where none stands in the index of these
 pub none_stopped : (rs : List Process) (b : Books) → IsRising rs → AreBooks rs b → (length b.stopped.pairs == 0) ≡ not (list_any (λ r. is_stopped r.life) rs)

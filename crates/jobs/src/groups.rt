@@ -1,10 +1,11 @@
 //! Process groups: who their members are, one after another, how many of these are stopped, and whether they
 //! are orphaned (XBD 3).
 
-ghost use Rattle.std.specs.Prelude.{◌≡◌, length, filter};
+ghost use Rattle.std.specs.Prelude.{◌≡◌, length, filter, false};
 ghost use Rattle.std.specs.List.{list_any};
+ghost use Rattle.std.specs.Option.{option_map_or};
 ghost use Rattle.posix.specs.Processes.{is_stopped as is_stopped_of};
-ghost use Rattle.posix.specs.Tables.{IsRising, first_pid, above, members_in};
+ghost use Rattle.posix.specs.Tables.{IsRising, lookup, first_pid, above, is_member as is_member_of, members_in};
 ghost use Rattle.posix.specs.Groups.{is_anchor as is_anchor_of, is_orphaned as is_orphaned_of, has_stopped as has_stopped_of};
 ghost use Rattle.pidset.specs.Indexes.{anchor_key, key_of};
 ghost use Rattle.jobs.specs.JobTables.{AreNumbers};
@@ -32,6 +33,14 @@ impl<K: Kin> JobTable<K> {
         ensures { result ≡ first_pid (above after (members_in group self.now.processes)) }
     {
         self.books.next_member(group, after)
+    }
+
+    /// Whether a process is there, and a member of a process group. No slot is read.
+    #[inline]
+    pub fn is_member(&self, group: Pid, pid: Pid) -> bool
+        ensures { result ≡ option_map_or (is_member_of group) (lookup pid self.now.processes) false }
+    {
+        self.books.members.list(pid) == Some(group)
     }
 
     /// The member of a process group with the least number. No slot is read.
@@ -69,7 +78,7 @@ impl<K: Kin> JobTable<K> {
     }
 
     /// Whether a member of a process group is counted.
-    #[tactic(auto, using(crate::proofs::GroupLemmas::has_first))]
+    #[tactic(auto, using(posix::proofs::WalkLemmas::has_first))]
     fn has_counted(&self, group: Pid, what: Counted) -> bool
         ensures { result ≡ list_any (is_counted what self.now.processes) (members_in group self.now.processes) }
     {

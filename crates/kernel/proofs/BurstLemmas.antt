@@ -33,6 +33,7 @@ use Rattle.umach.specs.Bursts.{Burst, then_rest, exec_until}
 use Rattle.umach.proofs.BurstLemmas.{stops_at}
 use Rattle.life.specs.declared.noted_bursts.Note.{Note}
 use Rattle.life.specs.NotedBursts.{StepsTaken, NotedBurst, then_note, most_notes, exec_with_notes}
+use Rattle.kernel.specs.Counts.{after_taken}
 use Rattle.kernel.specs.Steps.{Bursts, ComesTo, noted_lines, runner, taken_at_once}
 use Rattle.calls.proofs.CallLemmas.{same_outcome}
 use Rattle.calls.proofs.ChosenLemmas.{changed_there, act_runs, no_kill_chosen}
@@ -343,6 +344,9 @@ comes s p me call r is =
       going = r.going;
       acting = record { placed = record { what = me; found = r.here; living = r.living }; place = r.place };
       none_chosen = λ m e. let same : me ≡ m = cc in subst (λ (x : Process). chosen x.life x.signals ≡ None) same r.none;
+      now = is_current s p me r;
+      free = r.free;
+      next = is;
       begins = λ granted m e.
           let same : me ≡ m = cc in
           subst (λ (x : Process). step granted s (current_process s) ≡ begin_call s x (attempt granted s x call)) same
@@ -376,6 +380,7 @@ pub record Shows (s : State) (p before last : ℕ) (taken : StepsTaken) (new : S
   pub whose : p ≡ runner (current_process s)
   pub call : (call : Call) → taken.trap ≡ trap.Call call → ComesTo new p call
   pub numbers : (n : ℕ) → is_free new.processes n ≡ is_free s.processes n
+  pub state : new ≡ after_taken s before last (current_process s)
 
 -- another processor leaves the numbers that are borne
 borne_kept : (n p : ℕ) (c : Cpu) (rs : List Process) → list_any (bears n) (changed p (set_cpu c) rs) ≡ list_any (bears n) rs
@@ -406,6 +411,7 @@ shows_by s p me before last r =
       whose = sym (ap runner (is_current s p me r) ∙ rw (none, free) (pid_looked p s.processes me r.here));
       call = λ call e. comes (change s p (set_cpu b.cpu)) p (set_cpu b.cpu me) call (stays_ready s p me b.cpu r ran.runs.settled) (notes_call (code_of s me) call most_notes before last me.cpu e);
       numbers = λ n. free_kept n p b.cpu s.processes;
+      state = sym (ap (after_taken s before last) (is_current s p me r) ∙ rw (none, free) (ap (λ n. change s n (set_cpu b.cpu)) (pid_looked p s.processes me r.here)));
     }
 
 pub shows : (s x : State) (p : ℕ) → Readies s p → x ≡ s → (before last : ℕ) (taken : StepsTaken) (new : State)

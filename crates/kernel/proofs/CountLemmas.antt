@@ -1,11 +1,11 @@
 -- How many slots settling reads.
-use Rattle.std.proofs.Common.{◌≡◌, ◌≢◌, ℕ, ◌+◌, ◌*◌, ◌≤◌, suc, true, false, cond, ◌&&◌, ◌||◌, refl, ap, sym, ◌∙◌, arith, List, [], ◌∷◌, length, count_by, Some, None, Option, option_map, filter, slice_get, ◌==◌, is_some}
+use Rattle.std.proofs.Common.{◌≡◌, ◌≢◌, ℕ, ◌+◌, ◌*◌, ◌≤◌, suc, true, false, cond, subst, ◌&&◌, ◌||◌, refl, ap, sym, ◌∙◌, arith, List, [], ◌∷◌, length, count_by, Some, None, Option, option_map, filter, slice_get, ◌==◌, is_some}
 use Rattle.std.specs.Option.{IfSome}
 use Rattle.std.proofs.lemmas.Bool.{eqb-true, ne_eqb, and_parts}
 use Rattle.std.proofs.lemmas.List.Sums.{length-filter}
 use Rattle.posix.specs.Processes.{Process}
 use Rattle.posix.specs.Tables.{lookup, IsRising}
-use Rattle.posix.specs.States.{State}
+use Rattle.posix.specs.States.{State, current_process}
 use Rattle.posix.specs.Consoles.{Console}
 use Rattle.std.specs.List.{AllByRecursion, list_any}
 use Rattle.posix.specs.GroupCalls.{is_group_of}
@@ -17,12 +17,22 @@ use Rattle.life.specs.declared.consoles.Unchecked.TheVariants.{Nothing, Group, A
 use Rattle.life.specs.Foregrounds.{is_unchecked}
 use Rattle.life.specs.Machines.{MachineView}
 use Rattle.life.specs.Rechecks.{AreBrief}
-use Rattle.calls.specs.Outcomes.{AreFew, CostsAtMost, IsBrief}
+use Rattle.calls.specs.Outcomes.{AreFew, CostsAtMost, IsBrief, changes_caller_alone, slots_of_brief}
 use Rattle.life.specs.Consoles.{foreground_members, slots_of_key}
 use Rattle.kernel.proofs.CallCountLemmas.{key_slots}
 use Rattle.calls.specs.Counts.{slots_of_checking, slots_of_rechecks}
 use Rattle.calls.proofs.CountLemmas.{rechecks_brief}
-use Rattle.kernel.specs.Counts.{IsAtRest, ReadsAtMost, slots_of_own_step, slots_of_acting, slots_of_step}
+use Rattle.kernel.specs.Counts.{IsAtRest, ReadsAtMost, slots_of_own_step, slots_of_acting, slots_of_blocking, slots_of_event, slots_of_step, slots_of_steps, slots_of_taken, slots_of_trap, after_taken}
+use Rattle.kernel.specs.Steps.{changes_one, enters, is_followed_by_step, is_held, taken_at_once}
+use Rattle.life.specs.NotedBursts.{StepsTaken}
+use Rattle.posix.specs.declared.event.Event.TheVariants.{Step}
+use Rattle.posix.specs.declared.call.Call.{Call}
+use Rattle.posix.specs.declared.instr.Trap.TheVariants as trap
+use Rattle.posix.specs.Choice.{chosen}
+use Rattle.posix.specs.Execute.{exec_one}
+use Rattle.posix.specs.Step.{code_of}
+use Rattle.std.proofs.lemmas.Option.{same_Some}
+use Rattle.calls.proofs.BriefLemmas.{brief_more}
 
 -- ---- foregrounds
 
@@ -105,6 +115,34 @@ step_reads old new (Some me) rest costs brief = by (slots_of_own_step old.state 
     by None h = acts (slots_of_acting old.state me me.blocked) (brief me refl)
     by (Some n) h = settling_none n old new rest h
 
+-- so where the step begins this call
+pub call_reads : (call : Call) (old new : MachineView) (me : Process) → IsAtRest old → chosen me.life me.signals ≡ None → me.blocked ≡ None → (exec_one (code_of old.state me) me.cpu).trap ≡ trap.Call call
+    → (changes_caller_alone call ≡ true → CostsAtMost 1 old new) → IfSome (slots_of_brief call old.state.processes me) (λ n. IsBrief (n + slots_of_blocking call) old new) → IfSome (slots_of_step old.state (Some me)) (λ n. ReadsAtMost n old new)
+call_reads call old new me rest none free is own brief = step_reads old new (Some me) rest costs (λ m e. subst (λ m. IfSome (slots_of_acting old.state m m.blocked) (λ n. IsBrief (n + 1) old new)) (same_Some _ _ e) acts)
+  where
+    held : is_held me ≡ false
+    held = ap (λ o. is_some o || is_some me.blocked) none ∙ ap is_some free
+
+    costs : IfSome (slots_of_own_step old.state (Some me)) (λ n. CostsAtMost n old new)
+    costs =
+        let t = (exec_one (code_of old.state me) me.cpu).trap in
+        subst (λ b. IfSome (cond (cond b false (changes_one t)) (Some 3) (cond (cond b false (enters me t)) (Some 4) None)) (λ n. CostsAtMost n old new)) (sym held)
+        (subst (λ t. IfSome (cond (changes_one t) (Some 3) (cond (enters me t) (Some 4) None)) (λ n. CostsAtMost n old new)) (sym is)
+        (elim (changes_caller_alone call) as (λ b. (b ≡ true → CostsAtMost 1 old new) → IfSome (cond b (Some 3) None) (λ n. CostsAtMost n old new)) [
+          | true ↦ λ h. let one = h refl in record { visits = let few = one.visits in omega (arith, few); to_recheck = one.to_recheck; foregrounds_unchecked = one.foregrounds_unchecked }
+          | false ↦ λ h. tt
+        ] own))
+
+    more : (o : Option ℕ) → IfSome o (λ n. IsBrief (n + slots_of_blocking call) old new) → IfSome (option_map (λ n. n + slots_of_blocking call + 1) o) (λ n. IsBrief (n + 1) old new)
+    more None h = tt
+    more (Some n) h = brief_more (n + slots_of_blocking call) _ old new (omega arith) h
+
+    acts : IfSome (slots_of_acting old.state me me.blocked) (λ n. IsBrief (n + 1) old new)
+    acts =
+        subst (λ o. IfSome (slots_of_acting old.state me o) (λ n. IsBrief (n + 1) old new)) (sym free)
+        (subst (λ o. IfSome (cond (is_some o) None (slots_of_trap old.state.processes me (exec_one (code_of old.state me) me.cpu).trap)) (λ n. IsBrief (n + 1) old new)) (sym none)
+        (subst (λ t. IfSome (slots_of_trap old.state.processes me t) (λ n. IsBrief (n + 1) old new)) (sym is) (more (slots_of_brief call old.state.processes me) brief)))
+
 -- and a key
 pub key_reads : (console byte : ℕ) (old new : MachineView) → IsAtRest old → new.visits ≤ old.visits + slots_of_key console byte old → new.foregrounds_unchecked ≡ old.foregrounds_unchecked
     → AreBrief new.state.processes new.to_recheck × (length new.to_recheck ≤ length (foreground_members console old.state)) → ReadsAtMost (1 + 5 * length (foreground_members console old.state)) old new
@@ -114,3 +152,21 @@ key_reads console byte old new rest read still h =
     let few = h.1 in
     let none = ap (λ u. count_by (is_unchecked u) new.state.consoles) (still ∙ rest.checked) ∙ none_unchecked new.state.consoles in
     omega (arith, read, slots, brief, few, none)
+
+-- ---- steps that are given at once
+
+-- they read two slots, and those of the step that follows them
+pub steps_read : (before last old mid new : ℕ) (s t : State) (taken : StepsTaken) → s.halted ≡ false → taken_at_once s before last (current_process s) ≡ taken → t ≡ after_taken s before last (current_process s) → mid ≤ old + 2
+    → (is_followed_by_step before taken.last taken.trap ≡ true → IfSome (slots_of_event Step t) (λ n. new ≤ mid + n)) → (is_followed_by_step before taken.last taken.trap ≡ false → new ≡ mid) → IfSome (slots_of_steps before last s) (λ n. new ≤ old + n)
+steps_read before last old mid new s t taken going exact is few follows alone =
+    subst (λ b. IfSome (cond b (slots_of_event Step s) (slots_of_taken before (taken_at_once s before last (current_process s)) (after_taken s before last (current_process s)))) (λ n. new ≤ old + n)) (sym going)
+    (subst (λ k. IfSome (slots_of_taken before k (after_taken s before last (current_process s))) (λ n. new ≤ old + n)) (sym exact)
+    (subst (λ u. IfSome (slots_of_taken before taken u) (λ n. new ≤ old + n)) is
+    (elim (is_followed_by_step before taken.last taken.trap) as (λ b. (b ≡ true → IfSome (slots_of_event Step t) (λ n. new ≤ mid + n)) → (b ≡ false → new ≡ mid) → IfSome (cond b (option_map (λ n. n + 2) (slots_of_event Step t)) (Some 2)) (λ n. new ≤ old + n)) [
+      | true ↦ λ h k. more (slots_of_event Step t) (h refl)
+      | false ↦ λ h k. let same = k refl in omega (arith, same, few)
+    ] follows alone)))
+  where
+    more : (o : Option ℕ) → IfSome o (λ n. new ≤ mid + n) → IfSome (option_map (λ n. n + 2) o) (λ n. new ≤ old + n)
+    more None h = tt
+    more (Some n) h = omega (arith, h, few)

@@ -6,7 +6,7 @@ use Rattle.posix.specs.declared.process.Blocked.{Blocked}
 use Rattle.posix.specs.declared.process.Blocked.TheVariants as blocked
 use Rattle.posix.specs.Processes.{Process}
 use Rattle.posix.specs.Alarms.{is_due}
-use Rattle.posix.specs.States.{State, current_process}
+use Rattle.posix.specs.States.{State, change, current_process}
 use Rattle.posix.specs.Choice.{chosen}
 use Rattle.posix.specs.declared.call.Call.{Call}
 use Rattle.posix.specs.declared.call.Call.TheVariants.{Waitpid}
@@ -18,14 +18,15 @@ use Rattle.posix.specs.Waits.{wait}
 use Rattle.posix.specs.Execute.{exec_one}
 use Rattle.posix.specs.Regular.{IsRegular}
 use Rattle.posix.specs.Settle.{IsSettled, is_block}
-use Rattle.posix.specs.Step.{code_of}
+use Rattle.posix.specs.Step.{code_of, set_cpu}
 use Rattle.life.specs.declared.consoles.Unchecked.TheVariants.{Nothing}
 use Rattle.life.specs.Foregrounds.{is_unchecked}
 use Rattle.life.specs.Consoles.{foreground_members}
 use Rattle.calls.specs.Counts.{slots_of_rechecks}
 use Rattle.calls.specs.Outcomes.{slots_of_brief}
 use Rattle.life.specs.Machines.{MachineView}
-use Rattle.kernel.specs.Steps.{next_changes_one, next_enters}
+use Rattle.life.specs.NotedBursts.{StepsTaken, most_notes, exec_with_notes}
+use Rattle.kernel.specs.Steps.{is_followed_by_step, is_held, next_changes_one, next_enters, taken_at_once}
 
 -- ---- after an event
 
@@ -99,3 +100,19 @@ abbrev pub slots_of_event : Event → State → Option ℕ
 slots_of_event Step s = slots_of_step s (current_process s)
 slots_of_event Tick s = Some (2 * alarms_due s)
 slots_of_event (Key console byte) s = Some (1 + 5 * length (foreground_members console s))
+
+-- ---- steps that are given at once
+
+-- the state after those that the current process takes at once, from the one after number before up to number last
+abbrev pub after_taken : State → ℕ → ℕ → Option Process → State
+after_taken s before last None = s
+after_taken s before last (Some me) = if is_held me then s else change s me.pid (set_cpu (exec_with_notes (code_of s me) most_notes before last me.cpu).cpu)
+
+-- They read two slots, after which the state is this, and the step that follows them, if one does, its own.
+abbrev pub slots_of_taken : ℕ → StepsTaken → State → Option ℕ
+slots_of_taken before taken s = if is_followed_by_step before taken.last taken.trap then option_map (λ n. n + 2) (slots_of_event Step s) else Some 2
+
+-- after a halt they are one step, which does nothing
+abbrev pub slots_of_steps : ℕ → ℕ → State → Option ℕ
+slots_of_steps before last s =
+    if s.halted then slots_of_event Step s else slots_of_taken before (taken_at_once s before last (current_process s)) (after_taken s before last (current_process s))

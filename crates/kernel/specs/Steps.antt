@@ -117,6 +117,9 @@ pub record ComesTo (s : State) (p : ℕ) (call : Call) : Type 0 where
   pub going : s.halted ≡ false
   pub acting : IsActing s p
   pub none_chosen : NoneChosen s p
+  pub now : current_process s ≡ Some acting.placed.what
+  pub free : acting.placed.what.blocked ≡ None
+  pub next : (exec_one (code_of s acting.placed.what) acting.placed.what.cpu).trap ≡ trap.Call call
   pub begins : (granted : Bool) (me : Process) → process s p ≡ Some me → step granted s (current_process s) ≡ begin_call s me (attempt granted s me call)
 
 -- The steps after number before, up to number last, lead from old to new, and show these notes of p; nobody

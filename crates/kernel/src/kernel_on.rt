@@ -11,7 +11,7 @@ ghost use Rattle.posix.specs.Step.{IsStep};
 ghost use Rattle.posix.specs.Regular.{IsRegular};
 ghost use Rattle.posix.specs.Settle.{IsSettled};
 ghost use Rattle.text.specs.EventTexts.{most_events};
-ghost use Rattle.kernel.specs.Counts.{slots_of_event};
+ghost use Rattle.kernel.specs.Counts.{slots_of_event, slots_of_steps};
 ghost use Rattle.kernel.specs.Steps.{last_given, noted_lines};
 ghost use Rattle.kernel.specs.Views.{KernelView};
 ghost use Rattle.life.specs.Censuses.{census_of};
@@ -128,7 +128,7 @@ impl<K: Kin> KernelOn<K> {
     /// instructions and such as give a note, until there are 32 notes, or with the one after them where that is a
     /// call or a machine fault. The notes, and what the last event shows besides, are added to lists that are
     /// empty. Whose notes they are, where there are any. Of all these lines, and of the state after them, holds what
-    /// [`KernelOn::event`] says of its own.
+    /// [`KernelOn::event`] says of its own. Two slots of the table are read, and those of the step that follows them.
     #[inline]
     pub fn steps(&mut self, last: u64, notes: &mut Notes, entries: &mut Entries) -> Pid
         requires few { last ≤ most_events }
@@ -145,6 +145,7 @@ impl<K: Kin> KernelOn<K> {
         ensures forms { IsOrderly self.old.state → list_all is_line (noted_lines result notes.new.items ++ numbered self.new.events entries.new.items) ≡ true }
         ensures agrees { (lines : List Line) → Agree lines self.old.events self.old.state → Agree (lines ++ (noted_lines result notes.new.items ++ numbered self.new.events entries.new.items)) self.new.events self.new.state }
         ensures no_number_is_given_out_twice { (e : Entry) (n : ℕ) → Contains entries.new.items e → born_by e ≡ Some n → is_free self.old.state.processes n ≡ true }
+        ensures visits { IfSome (slots_of_steps self.old.events last self.old.state) (λ n. self.new.visits ≤ self.old.visits + n) }
     {
         if self.machine.is_halted() {
             self.event_into(Event::Step, entries);

@@ -22,7 +22,7 @@ ghost use Rattle.posix.specs.Tables.{children_in};
 ghost use Rattle.posix.specs.Settle.{is_block};
 ghost use Rattle.pidset.specs.Numbers.{with_number};
 ghost use Rattle.calls.specs.Outcomes.{IsActing, IsQuiet, IsBrief, CostsAtMost, changes_caller_alone, slots_of_brief};
-ghost use Rattle.kernel.specs.Counts.{IsAtRest, ReadsAtMost, alarms_due, delivers_nothing, slots_of_acting, slots_of_blocking, slots_of_event, slots_of_own_step, slots_of_trap};
+ghost use Rattle.kernel.specs.Counts.{IsAtRest, ReadsAtMost, after_taken, alarms_due, delivers_nothing, slots_of_acting, slots_of_blocking, slots_of_event, slots_of_own_step, slots_of_trap};
 ghost use Rattle.kernel.specs.Steps.{ActsAs, Begins, Bursts, ComesTo, Happens, NoneChosen, RunsInstruction, Steps, next_changes_one, changes_one, next_enters, enters, is_followed_by_step, runner, taken_at_once};
 
 use crate::settle::settle;
@@ -270,6 +270,8 @@ pub fn burst<K: Kin>(
     ensures within { result.last ≤ last }
     ensures short { result.trap ≢ Trap.Next → result.last < last }
     ensures call { (call : CallValue) → result.trap ≡ Trap.Call call → ComesTo machine.new.state result.pid call }
+    ensures state { machine.new.state ≡ after_taken machine.old.state before last (current_process machine.old.state) }
+    ensures visits { machine.new.visits ≤ machine.old.visits + 2 }
     ensures to_recheck { machine.new.to_recheck ≡ machine.old.to_recheck }
     ensures foregrounds_unchecked { machine.new.foregrounds_unchecked ≡ machine.old.foregrounds_unchecked }
     ensures regular { IsRegular machine.new.state }
@@ -314,6 +316,7 @@ pub fn call_next<K: Kin>(machine: &mut Machine<K>, pid: Pid, call: Call, entries
     ensures regular { IsRegular machine.new.state }
     ensures to_recheck { machine.new.to_recheck ≡ [] }
     ensures foregrounds_unchecked { machine.new.foregrounds_unchecked ≡ Unchecked.Nothing }
+    ensures visits { IsAtRest machine.old → IfSome (slots_of_event Event.Step machine.old.state) (λ n. machine.new.visits ≤ machine.old.visits + n) }
 {
     begin_call(machine, pid, call, entries);
     settle(machine);

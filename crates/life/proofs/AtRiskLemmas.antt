@@ -1,11 +1,14 @@
 -- The process groups that an end may orphan: how they are noted, and how they are gone through.
-use Rattle.std.proofs.Common.{◌≡◌, ℕ, ◌+◌, ◌≤◌, Bool, true, false, cond, ◌&&◌, ◌||◌, ◌==◌, refl, ap, sym, ◌∙◌, arith, subst, List, [], ◌∷◌, ◌++◌, filter, length, Option, Some, None, slice_get, ⊎_elim}
+use Rattle.std.proofs.Common.{◌≡◌, ℕ, ◌+◌, ◌≤◌, Bool, true, false, cond, ◌&&◌, ◌||◌, ◌==◌, refl, ap, sym, ◌∙◌, arith, subst, List, [], ◌∷◌, ◌++◌, map, filter, length, Option, Some, None, slice_get, ⊎_elim}
 use Rattle.std.specs.List.{list_any}
 use Rattle.std.specs.Prelude.{option_and_then}
 use Rattle.std.proofs.lemmas.Bool.{eqb-true, and_parts, or_cases, or_right}
 use Rattle.posix.specs.Processes.{Process, root}
 use Rattle.posix.specs.Numbers.{with_number}
-use Rattle.posix.specs.Tables.{IsRising, lookup, has_pid, is_child, members_in, children_in, left_of, next_sibling}
+use Rattle.posix.specs.Tables.{IsRising, lookup, has_pid, is_child, is_member, members_in, children_in, left_of, next_sibling}
+use Rattle.posix.proofs.HupAndContLemmas.{Lasts, lasting, lasts_hup_and_cont, lasts_then}
+use Rattle.posix.proofs.MapLemmas.{filter_map}
+use Rattle.std.proofs.lemmas.List.{length-map}
 use Rattle.posix.specs.Regular.{IsRegular}
 use Rattle.posix.specs.States.{State, is_in, without}
 use Rattle.posix.specs.Choice.{from_kernel}
@@ -25,6 +28,7 @@ use Rattle.life.specs.declared.caller.Caller.{Caller}
 use Rattle.life.specs.Callers.{process_like}
 use Rattle.pidalloc.specs.Rows.{Pids}
 use Rattle.sched.specs.Places.{Places}
+use Rattle.life.specs.Ends.{slots_of_hup_and_cont, slots_of_hups}
 use Rattle.life.specs.Machines.{IsMachine, IsNoted, Terminals}
 use Rattle.life.specs.Rechecks.{rechecking_signalled, rechecking_members}
 
@@ -107,19 +111,40 @@ step_noted rs p c next after at comes e ns noted is n = grind (arith, comes, e, 
 
 -- ---- all get HUP and CONT
 
--- of the groups those are left that come next: what these get makes of the processes now what all get made of those before
-pub record IsSignalling (first ns : List ℕ) (before now : List Process) (next : Option ℕ) : Type 0 where
+-- a group has as many members as before, after what leaves all that lasts
+members_lasting : (group : ℕ) (rs : List Process) → length (members_in group (map lasting rs)) ≡ length (members_in group rs)
+unfolding members_in
+members_lasting group rs = ap length (filter_map (is_member group) lasting (λ r. refl) rs) ∙ length-map (filter (is_member group) rs) lasting
+
+pub members_last : (group : ℕ) (old new : List Process) → map lasting new ≡ map lasting old → length (members_in group new) ≡ length (members_in group old)
+members_last group old new same = sym (members_lasting group new) ∙ ap (λ rs. length (members_in group rs)) same ∙ members_lasting group old
+
+-- of the groups those are left that come next: what these get makes of the processes now what all get made of those before,
+-- of which all lasts, and as many slots are left to read, of those from one number to another
+pub record IsSignalling (first ns : List ℕ) (before now : List Process) (next : Option ℕ) (from upto : ℕ) : Type 0 where
   pub done : List ℕ
   pub left : List ℕ
   pub walk : IsWalking ns done left next
   pub todo : hup_and_cont_all left now ≡ hup_and_cont_all first before
+  pub lasts : Lasts before now
+  pub read : upto + slots_of_hups left before ≤ from + slots_of_hups first before
 
 -- it goes on behind the group that came next
-pub signalling_goes_on : {first ns : List ℕ} {before now then : List Process} {next after : Option ℕ} {g : ℕ} → IsSignalling first ns before now next → next ≡ Some g → then ≡ hup_and_cont g now → after ≡ slice_get (numbers_above g ns) 0 → IsSignalling first ns before then after
-unfolding hup_and_cont_all
-signalling_goes_on {ns = ns} {now = now} {next = next} {after = after} {g = g} k comes is e =
+pub signalling_goes_on : {first ns : List ℕ} {before now then : List Process} {next after : Option ℕ} {from upto later g : ℕ} → IsSignalling first ns before now next from upto → next ≡ Some g → then ≡ hup_and_cont g now → later ≤ upto + slots_of_hup_and_cont g now → after ≡ slice_get (numbers_above g ns) 0
+    → IsSignalling first ns before then after from later
+unfolding hup_and_cont_all slots_of_hups
+signalling_goes_on {ns = ns} {before = before} {now = now} {next = next} {after = after} {g = g} k comes is few e =
     let on = walk_on ns k.done k.left next after g k.walk comes e in
-    record { done = k.done ++ g ∷ []; left = on.rest; walk = on.walk; todo = ap (hup_and_cont_all on.rest) is ∙ ap (λ left. hup_and_cont_all left now) (sym on.is) ∙ k.todo }
+    let many = members_last g before now k.lasts.same in
+    let slots = ap (λ left. slots_of_hups left before) on.is in
+    record {
+      done = k.done ++ g ∷ [];
+      left = on.rest;
+      walk = on.walk;
+      todo = ap (hup_and_cont_all on.rest) is ∙ ap (λ left. hup_and_cont_all left now) (sym on.is) ∙ k.todo;
+      lasts = subst (Lasts before) (sym is) (lasts_then before now _ k.lasts (lasts_hup_and_cont g now k.lasts.rising));
+      read = let read = k.read in omega (arith, few, many, slots, read);
+    }
 
 -- ---- signals of the kernel
 

@@ -1,24 +1,25 @@
 -- The walk over the children of a process, and what a wait learns from one child, or from each.
-use Rattle.std.proofs.Common.{◌≡◌, ◌==◌, ◌<◌, ℕ, cond, option_map, refl, ap, sym, ◌∙◌, subst, arith, List, length, Option, Some, None, Bool, ◌&&◌}
+use Rattle.std.proofs.Common.{◌≡◌, ◌==◌, ◌<◌, ℕ, cond, option_map, refl, ap, sym, ◌∙◌, arith, List, [], ◌∷◌, length, Option, Some, None, is_some, Bool, ◌&&◌, ◌≤◌}
 use Rattle.posix.specs.declared.process.Report.{Report}
 use Rattle.posix.specs.declared.process.Report.TheVariants as found
 use Rattle.posix.specs.declared.target.Target.{Target}
 use Rattle.posix.specs.declared.target.Target.TheVariants as whom
 use Rattle.posix.specs.Processes.{Process}
-use Rattle.posix.specs.Tables.{IsRising, lookup, children_in, first_pid, above, left_of, next_sibling}
+use Rattle.posix.specs.Tables.{IsRising, lookup, children_in, first_pid, left_of, next_sibling}
+use Rattle.std.specs.List.{list_any}
 use Rattle.std.specs.Option.{IsSome, option_map_or}
 use Rattle.posix.specs.States.{State}
 use Rattle.posix.specs.Regular.{IsRegular}
-use Rattle.posix.specs.Waits.{report, report_life, report_of, reporting_in, look, is_named, reports}
+use Rattle.posix.specs.Waits.{has_report, report, report_life, report_of, reporting_in, report_of_meant, is_named, reports}
 use Rattle.posix.proofs.WalkLemmas.{AtChild, at_child, at_first}
 use Rattle.posix.proofs.TableLemmas.{pid_looked}
-use Rattle.posix.proofs.ReportingLemmas.{IsReportWalk, AtReporting, at_reporting, reporting_less, report_one, report_nobody}
+use Rattle.posix.proofs.ReportingLemmas.{IsReportWalk, at_reporting, reporting_found, report_one, report_nobody}
 use Rattle.proctable.specs.declared.snapshot.Snapshot.{Snapshot}
 use Rattle.proctable.specs.Records.{snapshot_of}
 use Rattle.life.proofs.SoundLemmas.{is_there, snapshot_are}
 use Rattle.std.proofs.lemmas.Option.{same_Some}
-use Rattle.life.specs.Waits.{is_reported}
-use Rattle.posix.proofs.WaitLemmas.{scan, scan_is_report, after_look}
+use Rattle.life.specs.Waits.{is_reported, is_meant, slots_of_children}
+use Rattle.posix.proofs.PassingLemmas.{filter_at_most}
 
 -- the walk over the children of p is at the one that comes next
 pub record IsAtChild (rs : List Process) (p : ℕ) (next : Option ℕ) : Type 0 where
@@ -51,40 +52,29 @@ child_less w comes e = rw (comes, e) (omega (arith, ap length (child_here w come
 
 -- ---- a wait
 
--- what the children that are left say, after what was found so far, is what all say
-abbrev pub IsLooking : List Process → ℕ → Target → ℕ → Report → Option ℕ → Type 0
-IsLooking rs p target options so_far next = (own : ℕ) → scan own target options so_far (left_of next (children_in p rs)) ≡ report rs p own target options
+-- the one that comes next is there
+pub reporting_there : {rs : List Process} {p options c : ℕ} {means : Process → Bool} {so_far : Report} {next : Option ℕ} → IsRising rs → IsReportWalk rs p means options so_far next → next ≡ Some c → IsSome (lookup c rs)
+reporting_there up w comes = let r = at_reporting up w comes in is_there _ r.what (reporting_found _ up _ _ r)
 
--- it begins with nothing found
-pub none_found : (rs : List Process) → IsRising rs → (p : ℕ) (next : Option ℕ) → next ≡ first_pid (children_in p rs) → (target : Target) (options : ℕ) → IsLooking rs p target options found.NoChild next
+-- those that have something to report are no more than the slots that a wait may read
+pub few_reporting : (group : Option ℕ) (p : ℕ) (rs : List Process) → length (reporting_in p rs) ≤ slots_of_children group p rs
+unfolding reporting_in
+few_reporting None p rs = omega arith
+few_reporting (Some group) p rs = omega (arith, filter_at_most has_report (children_in p rs))
+
+-- any child is meant where any will do
+pub any_child : (rs : List Process) → is_some (first_pid rs) ≡ list_any (is_meant None) rs
+any_child [] = refl
+any_child (r ∷ rs) = refl
+
+-- a wait for any child, and for those in a process group
+pub report_any : (rs : List Process) (p own options : ℕ) → report rs p own whom.All options ≡ report_of_meant (is_meant None) options (children_in p rs)
 unfolding report
-none_found rs up p next e target options own = ap (scan own target options found.NoChild) (first_todo rs up p next e) ∙ scan_is_report own target options (children_in p rs)
+report_any rs p own options = refl
 
--- what the child c says, and then the others, is what all say
-pub child_says : (rs : List Process) (p c : ℕ) (next after : Option ℕ) (target : Target) (options : ℕ) (so_far : Report) (w : IsAtChild rs p next) (comes : next ≡ Some c) → after ≡ next_sibling c rs → IsLooking rs p target options so_far next
-    → (own : ℕ) (o : Report) → o ≡ look own target options (child_here w comes).what → after_look o so_far (λ s. scan own target options s (left_of after (children_in p rs))) ≡ report rs p own target options
-unfolding scan
-child_says rs p c next after target options so_far w comes e todo own o said = grind (arith, e, todo, said, after_look, child_here, scan)
-
--- a child that has something to report ends the search
-pub found_here : (o so_far : Report) (rest : Report → Report) → (o ≡ found.NoChild → ⊥) → (o ≡ found.Nothing → ⊥) → after_look o so_far rest ≡ o
-found_here found.NoChild so_far rest h k = absurd (h refl)
-found_here found.Nothing so_far rest h k = absurd (k refl)
-found_here o so_far rest h k = refl
-
--- ---- a walk over those that have something to report
-
--- what it knows of the one that comes next
-pub reporting_there : {rs : List Process} {p options c : ℕ} {next : Option ℕ} → IsRising rs → IsReportWalk rs p options next → next ≡ Some c → AtReporting rs p c
-reporting_there {rs = rs} {p = p} {options = options} {c = c} up w comes = at_reporting rs up p c options (subst (IsReportWalk rs p options) comes w)
-
--- that it is there
-pub reporting_found : {rs : List Process} {p options c : ℕ} {next : Option ℕ} → IsRising rs → IsReportWalk rs p options next → next ≡ Some c → IsSome (lookup c rs)
-reporting_found up w comes = let r = reporting_there up w comes in is_there _ r.what r.found
-
--- and that fewer are left behind it
-pub reporting_fewer : {rs : List Process} {p options c : ℕ} {next after : Option ℕ} → IsRising rs → IsReportWalk rs p options next → next ≡ Some c → after ≡ first_pid (above c (reporting_in p rs)) → length (left_of after (reporting_in p rs)) < length (left_of next (reporting_in p rs))
-reporting_fewer {rs = rs} {p = p} {c = c} up w comes e = rw comes (reporting_less rs p c (reporting_there up w comes) _ e)
+pub report_in : (rs : List Process) (p own group options : ℕ) → report rs p own (whom.Group group) options ≡ report_of_meant (is_meant (Some group)) options (children_in p rs)
+unfolding report
+report_in rs p own group options = refl
 
 -- ---- one process
 

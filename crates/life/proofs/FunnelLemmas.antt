@@ -15,7 +15,7 @@ use Rattle.posix.specs.Notices.{told_of_change, noticed_of_change, child_signal,
 use Rattle.posix.specs.Tables.{IsRising, lookup, at, changed, parent_of}
 use Rattle.posix.specs.States.{State, process, change, is_in, change as change_of}
 use Rattle.posix.specs.Regular.{IsRegular, IsPlaced}
-use Rattle.posix.proofs.TableLemmas.{pid_looked, changed_absent, changed_same, lookup_changed, rising_changed}
+use Rattle.posix.proofs.TableLemmas.{pid_looked, changed_absent, changed_id, changed_same, lookup_changed, rising_changed}
 use Rattle.posix.proofs.MapLemmas.{at_pid, at_keeps, lookup_back}
 use Rattle.posix.proofs.MemberLemmas.{each}
 use Rattle.posix.proofs.RegularLemmas.{Keeps, regular_change, lookup_other}
@@ -26,7 +26,7 @@ use Rattle.posix.proofs.FreshLemmas.{fresh_changed}
 use Rattle.pidalloc.specs.Rows.{Pids, regrouped}
 use Rattle.pidalloc.proofs.MoveLemmas.{tallied_regrouped, pids_regrouped, greatest_regrouped, CanRegroup, can_regroup}
 use Rattle.sched.specs.Places.{Places}
-use Rattle.pidset.specs.Numbers.{Rises, PidSetView, with_number}
+use Rattle.pidset.specs.Numbers.{PidSetView, with_number}
 use Rattle.proctable.specs.declared.records.Record.{Record}
 use Rattle.proctable.specs.Records.{process_of, give_record, with_record}
 use Rattle.proctable.proofs.RecordLemmas.{changed_here}
@@ -47,12 +47,11 @@ use Rattle.life.specs.Changes.{has_moved, CanMoveNumbers, StaysRegular, lives}
 use Rattle.pidset.specs.Indexes.{HaveParents}
 use Rattle.pidset.proofs.ParentLemmas.{parents_map}
 use Rattle.life.proofs.SoundLemmas.{found_in, kept_map, not_many}
-use Rattle.life.proofs.RecheckLemmas.{IsBeside, listed_with, listed_less, listed_signals, unread}
+use Rattle.life.proofs.RecheckLemmas.{IsBeside, listed_with, listed_signals}
 use Rattle.life.proofs.SignalLemmas.{with_signals, only_noticed_of_change, touches_signals}
 use Rattle.posix.specs.declared.process.Life.{Life}
 use Rattle.posix.specs.declared.process.News.{News}
 use Rattle.life.proofs.NewsLemmas.{KeepsNumbers, touches_unawaited}
-use Rattle.pidset.proofs.NumberLemmas.{rises_with, in_with}
 
 -- ---- the parent
 
@@ -139,20 +138,18 @@ unfolding with_numbers is_in
 listed_changed {readers = readers} s t p parent before after touched h touches most order stay here up none among is same =
     elim (cases_eq parent 0) [
       | inl root ↦ listed_with s t before after (p ∷ []) touched h touches most stay (here, tt)
-          (λ q theirs e. ⊎_elim (λ k. or_left _ _ (eq-eqb p q (sym k))) (λ k. let no = subst (λ n. IsSome (process t n)) (k ∙ root) theirs in let nobody = rw none at no in absurd (cc)) (among q e))
+          (λ q theirs e. ⊎_elim (mine q) (λ k. let no = subst (λ n. IsSome (process t n)) (k ∙ root) theirs in let nobody = rw none at no in absurd (cc)) (among q e))
           (is ∙ rw (eq-eqb parent 0 root) refl) same
       | inr some ↦ elim (is_in parent t.order) as (λ b. is_in parent t.order ≡ b → after.pids ≡ cond b (with_number p before.pids) (with_number parent (with_number p before.pids)) → IsListed t after readers) [
-        | true ↦ λ placed e.
-            let all = record after { pids = with_number parent after.pids } in
-            listed_less t after all parent (both some all (ap (with_number parent) e) same) refl (subst Rises (sym e) (rises_with p before.pids h.rising)) refl placed
-            (λ k on. ap (is_in parent) e ∙ in_with parent p before.pids ∙ or_right _ _ (unread s before.pids parent h.watched (ap (is_in parent) (sym order) ∙ placed) k on))
-        | false ↦ λ out e. both some after e same
+        | true ↦ λ placed e. listed_with s t before after (p ∷ []) touched h touches most stay (here, tt)
+            (λ q theirs k. ⊎_elim (mine q) (λ same. let now = subst (λ n. is_in n t.order ≡ true) (sym same) placed in inr (ap (is_in q) (sym order) ∙ now, now)) (among q k)) e same
+        | false ↦ λ out e. listed_with s t before after (parent ∷ p ∷ []) touched h touches most stay (up some, (here, tt))
+            (λ q theirs k. inl (⊎_elim (λ same. or_right (parent == q) _ (or_left _ _ (eq-eqb p q (sym same)))) (λ same. or_left _ _ (eq-eqb parent q (sym same))) (among q k))) e same
       ] refl (is ∙ rw (ne_eqb parent 0 some) refl)
     ]
   where
-    both : parent ≢ 0 → (all : PidSetView) → all.pids ≡ with_number parent (with_number p before.pids) → all.room ≡ before.room → IsListed t all readers
-    both some all e room = listed_with s t before all (parent ∷ p ∷ []) touched h touches most stay (up some, (here, tt))
-        (λ q theirs e. ⊎_elim (λ k. or_right (parent == q) _ (or_left _ _ (eq-eqb p q (sym k)))) (λ k. or_left _ _ (eq-eqb parent q (sym k))) (among q e)) e room
+    mine : (q : ℕ) → q ≡ p → (is_in q (p ∷ []) ≡ true) ⊎ ((is_in q s.order ≡ true) × (is_in q t.order ≡ true))
+    mine q same = inl (or_left _ _ (eq-eqb p q (sym same)))
 
 -- the number that was given last is the same
 pub machine_numbered : {groups_at_risk : PidSetView} {terminals : Terminals} (t : State) (pids : Pids) (places : Places) (to_recheck : PidSetView) (last : ℕ) → t.last_pid ≡ last
@@ -272,7 +269,7 @@ listed_told {readers = readers} s pids places i p w l n me found before after h 
               sym (awaits_noticed (child_signal me.pid w) parent (f me)) ∙ ap (λ r. awaits (g r) (f me)) (sym same) ∙ ap (λ r. awaits r (f me)) (sym its) ∙ none.0))
               (subst (λ rs. Touches mid (record mid { processes = rs }) []) (sym is_signals) (touches_signals mid q (g b.what).signals (g b.what).alarm (λ r here.
               ap takes_signal (same_Some _ _ (sym here ∙ ap (lookup q) (sym is_signals) ∙ there)) ∙ none.1))))
-              (refl, refl, λ x u e. e) stay (stay p (rw found refl), tt) (λ x theirs e. e) (e ∙ ap (λ m. with_number m before.pids) mine) room
+              (refl, refl, λ x u e. e) stay (stay p (rw found refl), tt) (λ x theirs e. inl e) (e ∙ ap (λ m. with_number m before.pids) mine) room
         ] refl is
 
 -- what the rows need for it
@@ -423,6 +420,14 @@ is_noticed {rs = rs} {p = p} child w seen acts signal is run up here did takes b
           let signal : takes_signal me ≡ _ = same_Some _ _ (ap (option_map takes_signal) (sym found) ∙ takes) in
           both ∙ rw (ran.says it named sees, sym signal) (ap (λ r. awaits r it || takes_signal me) (sym same));
     }
+
+-- A process was looked at by a change that changes nothing, to tell whether it waits for the child that is seen so.
+pub awaits_looked : {F : Type 0} {g : Once F (MutBor Record × Unit {0}) (Bool × (MutBor Record × Unit {0}))} {change : F} {rs ts : List Process} {p : ℕ} {b : Bool} (child : ℕ) (seen : Seen) → IsRun g change rs ts p b → IsRising rs → IsSome (lookup p rs)
+    → ((d e : Record) (r : Bool) → FnOnceReturnsAtMut g change d r e → (q : ℕ) → (process_of p q e ≡ process_of p q d) × ((it : Process) → it.pid ≡ child → seen ≡ seen_of it → r ≡ awaits (process_of p q d) it))
+    → (ts ≡ rs) × ((me it : Process) → lookup p rs ≡ Some me → it.pid ≡ child → seen ≡ seen_of it → b ≡ awaits me it)
+awaits_looked {rs = rs} {p = p} child seen run up here did =
+    let ran = has_run (λ r. r) (λ r b. (it : Process) → it.pid ≡ child → seen ≡ seen_of it → b ≡ awaits r it) run up here did in
+    (ran.is ∙ changed_id p (λ r. r) rs up (record (ran.me.what) { pid = p }) ran.me.found refl, λ me it found named sees. ran.says it named sees ∙ ap (λ r. awaits r it) (same_Some _ _ (sym ran.me.found ∙ found)))
 
 -- ---- the list of those to recheck
 

@@ -8,6 +8,7 @@ pub mod NoticeWalkLemmas
 pub mod CodeLemmas
 pub mod NotedBurstLemmas
 pub mod ChildLemmas
+pub mod MemberLemmas
 pub mod SendLemmas
 pub mod SignalLemmas
 pub mod LoanLemmas
@@ -21,3 +22,5 @@ pub mod ConsoleLemmas
 pub mod ForegroundLemmas
 pub mod NewsLemmas
 pub mod TakingLemmas
+pub mod AdoptionLemmas
+pub mod DepartureLemmas

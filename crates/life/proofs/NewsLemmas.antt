@@ -104,40 +104,52 @@ block_nothing : (s : State) (p options : ℕ) (o : Report) → is_block (wait_wi
 block_nothing s p options found.Nothing e = refl
 block_nothing s p options o e = absurd (cc)
 
--- who can be told nothing more by a change of p still has to wait
-abbrev LearnsNoMore : State → ℕ → (Process → Process) → Process → Type 0
-LearnsNoMore s p f r = TellsNoMore f s.processes p r.group (target_in (argument r 1)) (options_in (argument r 2))
+-- where these are the processes, a wait of this one still finds nothing if it found nothing
+abbrev FindsNoMore : State → List Process → Process → Type 0
+FindsNoMore s rs me =
+    let finds = λ (ps : List Process). report ps me.pid me.group (target_in (argument me 1)) (options_in (argument me 2)) in
+    finds s.processes ≡ found.Nothing → finds rs ≡ found.Nothing
 
-block_still : (s : State) (p : ℕ) (f : Process → Process) → KeepsNumbers f → IsRising s.processes → (me : Process) → LearnsNoMore s p f me → is_block (wait s me) ≡ true → is_block (wait (change s p f) me) ≡ true
+-- so it still has to wait
+block_still : (s : State) (rs : List Process) (me : Process) → FindsNoMore s rs me → is_block (wait s me) ≡ true → is_block (wait (record s { processes = rs }) me) ≡ true
 unfolding wait
-block_still s p f k up me less e =
+block_still s rs me less e =
     let options = options_in (argument me 2) in
     let target = target_in (argument me 1) in
+    let t = record s { processes = rs } in
     elim (are_known options) as (λ b. is_block (cond b (wait_with s me.pid options (report s.processes me.pid me.group target options)) (refused s me.pid Waitpid EINVAL)) ≡ true
-    → is_block (cond b (wait_with (change s p f) me.pid options (report (changed p f s.processes) me.pid me.group target options)) (refused (change s p f) me.pid Waitpid EINVAL)) ≡ true) [
+    → is_block (cond b (wait_with t me.pid options (report rs me.pid me.group target options)) (refused t me.pid Waitpid EINVAL)) ≡ true) [
       | true ↦ λ e.
           let none = block_nothing s me.pid options (report s.processes me.pid me.group target options) e in
-          rw (report_still p f k s.processes up options me.pid me.group target less none) (still (has_option options 1) (subst (λ o. is_block (wait_with s me.pid options o) ≡ true) none e))
+          rw (less none) (still (has_option options 1) (subst (λ o. is_block (wait_with s me.pid options o) ≡ true) none e))
       | false ↦ λ e. absurd (cc)
     ] e
   where
-    still : (b : Bool) → is_block (cond b (finish_with s me.pid Waitpid (pos 0)) (Block blocked.Waitpid)) ≡ true → is_block (cond b (finish_with (change s p f) me.pid Waitpid (pos 0)) (Block blocked.Waitpid)) ≡ true
+    still : (b : Bool) → is_block (cond b (finish_with s me.pid Waitpid (pos 0)) (Block blocked.Waitpid)) ≡ true → is_block (cond b (finish_with (record s { processes = rs }) me.pid Waitpid (pos 0)) (Block blocked.Waitpid)) ≡ true
     still true e = e
     still false e = refl
 
--- whoever can act then could before, where its wait learns no more
-acts_no_more : (s : State) (p : ℕ) (f : Process → Process) → KeepsNumbers f → IsRising s.processes → (r : Process) → (is_in_wait r.blocked ≡ true → LearnsNoMore s p f r) → can_act (change s p f) r ≡ true → can_act s r ≡ true
+-- whoever can act then could before, where its wait finds no more
+pub acts_no_more : (s : State) (rs : List Process) (r : Process) → (is_in_wait r.blocked ≡ true → FindsNoMore s rs r) → can_act (record s { processes = rs }) r ≡ true → can_act s r ≡ true
 unfolding attempt_again waits_to_read
-acts_no_more s p f k up r learns e = acts_less s (change s p f) r (λ l c. goes r.blocked learns c) e
+acts_no_more s rs r finds e = acts_less s (record s { processes = rs }) r (λ l c. goes r.blocked finds c) e
   where
     less : (a b : Bool) → (a ≡ true → b ≡ true) → not b ≡ true → not a ≡ true
     less true b k e = sym (ap not (k refl)) ∙ e
     less false b k e = refl
 
-    goes : (b : Option Blocked) → (is_in_wait b ≡ true → LearnsNoMore s p f r) → can_go_on (change s p f) r b ≡ true → can_go_on s r b ≡ true
-    goes (Some blocked.Waitpid) h c = less (is_block (wait s r)) (is_block (wait (change s p f) r)) (block_still s p f k up r (h refl)) c
-    goes (Some blocked.Read) h c = ap not (block_read s r ∙ sym (block_read (change s p f) r)) ∙ c
+    goes : (b : Option Blocked) → (is_in_wait b ≡ true → FindsNoMore s rs r) → can_go_on (record s { processes = rs }) r b ≡ true → can_go_on s r b ≡ true
+    goes (Some blocked.Waitpid) h c = less (is_block (wait s r)) (is_block (wait (record s { processes = rs }) r)) (block_still s rs r (h refl)) c
+    goes (Some blocked.Read) h c = ap not (block_read s r ∙ sym (block_read (record s { processes = rs }) r)) ∙ c
     goes b h c = c
+
+-- who can be told nothing more by a change of p
+abbrev LearnsNoMore : State → ℕ → (Process → Process) → Process → Type 0
+LearnsNoMore s p f r = TellsNoMore f s.processes p r.group (target_in (argument r 1)) (options_in (argument r 2))
+
+-- and so can act no more than before
+acts_untold : (s : State) (p : ℕ) (f : Process → Process) → KeepsNumbers f → IsRising s.processes → (r : Process) → (is_in_wait r.blocked ≡ true → LearnsNoMore s p f r) → can_act (change s p f) r ≡ true → can_act s r ≡ true
+acts_untold s p f k up r learns e = acts_no_more s (changed p f s.processes) r (λ waits. report_still p f k s.processes up (options_in (argument r 2)) r.pid r.group (target_in (argument r 1)) (learns waits)) e
 
 -- ---- a child that was stopped or continued
 
@@ -148,7 +160,7 @@ touches_unawaited s p f k up me found deaf q r e out = elim (cases_eq q me.paren
   | inr other ↦ touches_shown s p f k.pid k.parent up me found q r e (rw (ne_eqb p q (λ same. apart (sym same)), ne_eqb me.parent q (λ same. other (sym same))) refl)
   | inl same ↦
       let was = other_back p q f k.pid apart s.processes r e in
-      stands s (change s p f) q r (λ h. h) was (acts_no_more s p f k up r (learns (deaf r (λ no. apart (same ∙ no)) (ap (process s) (sym same) ∙ was))))
+      stands s (change s p f) q r (λ h. h) was (acts_untold s p f k up r (learns (deaf r (λ no. apart (same ∙ no)) (ap (process s) (sym same) ∙ was))))
 ]
   where
     apart : q ≢ p
@@ -196,6 +208,6 @@ touches_told s p up q r e out =
       session = ap (λ q. q.session) b.is ∙ at_keeps (λ q. q.session) p news_told (λ q. refl) b.what;
       life = ap (λ q. q.life) b.is ∙ at_keeps (λ q. q.life) p news_told (λ q. refl) b.what;
       acts = λ h.
-          acts_no_more s p news_told keeps_told up b.what (λ waits k here named. cond_both (k.pid == p) (news_told k) k (λ q. reports (options_in (argument b.what 2)) q ≡ true → reports (options_in (argument b.what 2)) k ≡ true) (λ e. told_less (options_in (argument b.what 2)) k) (λ e x. x))
+          acts_untold s p news_told keeps_told up b.what (λ waits k here named. cond_both (k.pid == p) (news_told k) k (λ q. reports (options_in (argument b.what 2)) q ≡ true → reports (options_in (argument b.what 2)) k ≡ true) (λ e. told_less (options_in (argument b.what 2)) k) (λ e x. x))
           (sym (at_keeps (can_act (change s p news_told)) p news_told (can_act_told (change s p news_told)) b.what) ∙ sym (ap (can_act (change s p news_told)) b.is) ∙ h);
     }

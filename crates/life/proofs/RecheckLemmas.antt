@@ -1,20 +1,19 @@
 -- The list of those who are to be rechecked.
-use Rattle.std.proofs.Common.{◌≡◌, ◌≢◌, ℕ, ◌+◌, ◌<◌, ◌≤◌, true, false, cond, not, ◌||◌, ◌&&◌, refl, ap, sym, ◌∙◌, arith, subst, List, [], ◌∷◌, ◌++◌, length, Option, Some, None, ◌==◌, slice_get, ⊎_elim, Bool, map, option_map, zero, suc, rules}
+use Rattle.std.proofs.Common.{◌≡◌, ◌≢◌, ℕ, ◌+◌, ◌<◌, ◌≤◌, true, false, cond, not, ◌||◌, ◌&&◌, refl, ap, sym, ◌∙◌, arith, subst, List, [], ◌∷◌, ◌++◌, length, Option, Some, None, ◌==◌, slice_get, ◌⊎◌, ⊎_elim, inl, inr, Bool, map, option_map, zero, suc, rules}
 use Rattle.std.specs.List.{AllByRecursion}
 use Rattle.std.specs.Option.{IfSome, IsSome}
-use Rattle.std.proofs.lemmas.Bool.{eqb-true, eq-eqb, ne_eqb, and_parts, or_left, or_right, or_cases, both_ways, false_from_ne_true, true_from_ne_false}
+use Rattle.std.proofs.lemmas.Bool.{eqb-true, eq-eqb, and_parts, or_left, or_right, or_cases, both_ways, false_from_ne_true}
 use Rattle.std.proofs.lemmas.Option.{IfSome_then, same_Some, slice_get-map}
 use Rattle.posix.specs.Processes.{Process, Signals, first_process}
-use Rattle.posix.specs.Tables.{IsNext, lookup, at, changed, inserted, removed, reparented, adopted}
+use Rattle.posix.specs.Tables.{IsNext, lookup, at, changed, inserted, removed}
 use Rattle.posix.specs.States.{World, State, boot, process, is_in, change, lose_place, without}
 use Rattle.posix.specs.Regular.{IsRegular}
-use Rattle.posix.specs.Settle.{can_act, wakes, is_fresh, refreshed, clear_foregrounds}
-use Rattle.posix.specs.Ends.{made_zombie, leave_children_and_die}
-use Rattle.posix.proofs.TableLemmas.{pid_looked, pid_reparented}
+use Rattle.posix.specs.Settle.{Covers, can_act, wakes, is_fresh, refreshed, clear_foregrounds}
+use Rattle.posix.proofs.TableLemmas.{pid_looked}
 use Rattle.posix.proofs.MapLemmas.{at_pid, some_map}
 use Rattle.posix.proofs.RegularLemmas.{lookup_new, some_inserted, lookup_kept, lookup_removed}
-use Rattle.posix.proofs.TouchLemmas.{Touches, goes_on, touches_born, touches_both, touches_none, touches_shown, touches_unseen, touches_lost, touches_adopted, touches_removed, Untouched}
-use Rattle.posix.proofs.MemberLemmas.{each, in_none, in_one, is_other, others_stay, in_without}
+use Rattle.posix.proofs.TouchLemmas.{Touches, goes_on, touches_born, touches_none, touches_unseen, touches_removed, Untouched}
+use Rattle.posix.proofs.MemberLemmas.{each, in_append, in_none, in_one, is_other, others_stay, in_without}
 use Rattle.posix.proofs.OrderLemmas.{without_absent}
 use Rattle.posix.proofs.UnseenLemmas.{covers_none}
 use Rattle.posix.proofs.WakeLemmas.{first_has_place}
@@ -63,44 +62,48 @@ still_out p q ns e = in_without q p ns ∙ ap (λ b. not (q == p) && b) e ∙ el
 reads_still : (session : ℕ) (old new : Process) → new.blocked ≡ old.blocked → new.session ≡ old.session → new.life ≡ old.life → is_reader session new ≡ is_reader session old
 reads_still session old new b n l = rw (b, n, l) refl
 
--- just those who wait to read stay known where those are rechecked who are touched
+-- each of these that is there is to be rechecked, or has a place, and had it
+abbrev pub AreAsked : State → State → List ℕ → List ℕ → Type 0
+AreAsked s t touched to_recheck = (q : ℕ) → IsSome (process t q) → is_in q touched ≡ true → (is_in q to_recheck ≡ true) ⊎ ((is_in q s.order ≡ true) × (is_in q t.order ≡ true))
+
+-- nobody is touched
+pub none_asked : (s t : State) (to_recheck : List ℕ) → AreAsked s t [] to_recheck
+none_asked s t to_recheck q here e = absurd (in_none q e)
+
+-- just those who wait to read stay known where those are asked who are touched
 pub watched_on : {readers : List PidSetView} (s t : State) (before after touched : List ℕ) → IsWatched s before readers → Touches s t touched → IsBeside s t touched
-    → ((q : ℕ) → IsSome (process t q) → is_in q touched ≡ true → is_in q after ≡ true)
+    → AreAsked s t touched after
     → ((q : ℕ) → IsSome (process t q) → is_in q before ≡ true → is_in q after ≡ true)
     → ((q : ℕ) → is_in q before ≡ true → IsSome (process s q))
     → ((k q : ℕ) → is_in q (readers_at k readers) ≡ true → IsSome (process s q) → IsSome (process t q)) → IsWatched t after readers
 watched_on {readers = readers} s t before after touched h touches same gets keeps theirs stay = record {
   known = λ k p c r at found visits out unasked.
-      let u = others p r found unasked in
+      let u = others p r found unasked (λ was now. both_ways _ out now) in
       h.known k p c u.old (ap (λ cs. slice_get cs k) (sym same.1) ∙ at) u.found (sym (reads_still c.session u.old r u.blocked u.session u.life) ∙ visits) (u.placed out) (unasked_before p (rw found refl) unasked);
   waits = λ k p on unasked. elim (is_in p before) as (λ b. is_in p before ≡ b → IsWaiting t k p) [
     | true ↦ λ e. absurd (both_ways _ (unasked_before p (stay k p on (theirs p e)) unasked) e)
     | false ↦ λ e.
         let w = h.waits k p on e in
         let r = there (process t p) (stay k p on (rw w.found refl)) in
-        let u = others p r.what r.found unasked in
+        let u = others p r.what r.found unasked (λ was now. both_ways _ w.out was) in
         let was = ap (is_reader w.console.session) (same_Some _ _ (sym u.found ∙ w.found)) in
         let at = ap (λ cs. slice_get cs k) same.1 ∙ w.at in
         let reads = reads_still w.console.session u.old r.what u.blocked u.session u.life ∙ was ∙ w.reads in
-        let out = same.2 p (untouched p (rw r.found refl) unasked) w.out in
+        let out = same.2 p (untouched p (rw r.found refl) unasked (λ was now. both_ways _ w.out was)) w.out in
         search (rules, arith)
   ] refl;
   each = subst (λ (w : World). AllByRecursion (IsReaders w.pidmax) readers) (sym same.0) h.each;
   many = h.many ∙ ap (λ (w : World). w.consoles) (sym same.0);
 }
   where
-    untouched : (p : ℕ) → IsSome (process t p) → is_in p after ≡ false → is_in p touched ≡ false
-    untouched p here unasked = false_from_ne_true _ (λ e. both_ways _ unasked (gets p here e))
+    untouched : (p : ℕ) → IsSome (process t p) → is_in p after ≡ false → (is_in p s.order ≡ true → is_in p t.order ≡ true → ⊥) → is_in p touched ≡ false
+    untouched p here unasked out = false_from_ne_true _ (λ e. ⊎_elim (both_ways _ unasked) (λ placed. out placed.0 placed.1) (gets p here e))
 
-    others : (p : ℕ) (r : Process) → process t p ≡ Some r → is_in p after ≡ false → Untouched s t p r
-    others p r found unasked = touches p r found (untouched p (rw found refl) unasked)
+    others : (p : ℕ) (r : Process) → process t p ≡ Some r → is_in p after ≡ false → (is_in p s.order ≡ true → is_in p t.order ≡ true → ⊥) → Untouched s t p r
+    others p r found unasked out = touches p r found (untouched p (rw found refl) unasked out)
 
     unasked_before : (p : ℕ) → IsSome (process t p) → is_in p after ≡ false → is_in p before ≡ false
     unasked_before p here unasked = false_from_ne_true _ (λ e. both_ways _ unasked (keeps p here e))
-
--- who has a place and isn't to be rechecked is known by no console
-pub unread : {readers : List PidSetView} (s : State) (to_recheck : List ℕ) (p : ℕ) → IsWatched s to_recheck readers → is_in p s.order ≡ true → (k : ℕ) → is_in p (readers_at k readers) ≡ true → is_in p to_recheck ≡ true
-unread s to_recheck p h placed k on = true_from_ne_false _ (λ off. both_ways _ (h.waits k p on off).out placed)
 
 -- ---- there is room for whoever is there
 
@@ -123,8 +126,14 @@ listed_more s l m ps h theirs is same = record {
   rising = subst Rises (sym is) (rises_numbers ps l.pids h.rising);
   there = λ q e. ⊎_elim (each (λ q. IsSome (process s q)) ps theirs q) (h.there q) (or_cases _ _ (sym (ap (is_in q) is ∙ in_numbers q ps l.pids) ∙ e));
   room = let room = h.room in omega (arith, room, same);
-  watched = watched_on s s l.pids m.pids [] h.watched (touches_none s s refl refl refl) (refl, refl, λ q u e. e) (λ q t e. absurd (in_none q e)) (λ q t e. ap (is_in q) is ∙ in_numbers q ps l.pids ∙ or_right _ _ e) h.there (λ k q on e. e);
+  watched = watched_on s s l.pids m.pids [] h.watched (touches_none s s refl refl refl) (refl, refl, λ q u e. e) (none_asked s s m.pids) (λ q t e. ap (is_in q) is ∙ in_numbers q ps l.pids ∙ or_right _ _ e) h.there (λ k q on e. e);
 }
+
+-- so where one more is rechecked if it can act
+pub listed_where : {readers : List PidSetView} (s : State) (l m : PidSetView) (p : ℕ) (acts : Bool) → IsListed s l readers → IsSome (process s p) → m.pids ≡ cond acts (rechecking p s.order l.pids) l.pids → m.room ≡ l.room → IsListed s m readers
+unfolding with_numbers
+listed_where {readers = readers} s l m p true h there is same = elim (is_in p s.order) as (λ b. m.pids ≡ cond b l.pids (with_number p l.pids) → IsListed s m readers) [ true ↦ λ e. listed_more s l m [] h tt e same | false ↦ λ e. listed_more s l m (p ∷ []) h (there, tt) e same ] is
+listed_where s l m p false h there is same = listed_more s l m [] h tt is same
 
 -- so there is room for one more behind these
 pub room_after : {readers : List PidSetView} (s : State) (l m : PidSetView) (ps : List ℕ) → IsRegular s → IsListed s l readers → AllByRecursion (λ q. IsSome (process s q)) ps → m.pids ≡ with_numbers ps l.pids → m.room ≡ l.room → length m.pids < m.room
@@ -132,71 +141,46 @@ room_after s l m ps i h theirs is same = has_room s m i (listed_more s l m ps h 
 
 -- ---- the list after a change of the state
 
+-- whoever has to be given a place has none
+awake_out : (s : State) (p : ℕ) (r : Process) → process s p ≡ Some r → wakes s r ≡ true → is_in p s.order ≡ true → ⊥
+awake_out s p r found w placed =
+    let has : is_in r.pid s.order ≡ true = ap (λ n. is_in n s.order) (pid_looked p s.processes r found) ∙ placed in
+    let none : false ≡ true = sym (ap (λ b. not b && can_act s r) has) ∙ w in
+    absurd (cc)
+
 pub listed_on : {readers : List PidSetView} (s t : State) (before after : PidSetView) (touched : List ℕ) → IsListed s before readers → Touches s t touched → IsBeside s t touched → Rises after.pids → after.room ≡ before.room
     → ((q : ℕ) → is_in q after.pids ≡ true → IsSome (process t q))
-    → ((q : ℕ) → IsSome (process t q) → is_in q touched ≡ true → is_in q after.pids ≡ true)
+    → AreAsked s t touched after.pids
     → ((q : ℕ) → IsSome (process t q) → is_in q before.pids ≡ true → is_in q after.pids ≡ true)
     → ((k q : ℕ) → is_in q (readers_at k readers) ≡ true → IsSome (process s q) → IsSome (process t q)) → IsListed t after readers
 listed_on s t before after touched h touches most rises same theirs gets keeps stay = record {
-  covers = goes_on s t before.pids after.pids touched h.covers touches gets keeps;
+  covers = λ q r found w. ⊎_elim (λ k. ⊎_elim (λ on. on) (λ placed. absurd (awake_out t q r found w placed.1)) (gets q (rw found refl) k)) (λ on. on) (or_cases _ _ (sym (in_append q touched after.pids) ∙ covers q r found w));
   rising = rises;
   there = theirs;
   room = let room = h.room in let size = ap (λ (w : World). w.pidmax) most.0 in omega (arith, room, same, size);
   watched = watched_on s t before.pids after.pids touched h.watched touches most gets keeps h.there stay;
 }
+  where
+    covers : Covers t (touched ++ after.pids)
+    covers = goes_on s t before.pids (touched ++ after.pids) touched h.covers touches (λ q here e. in_append q touched after.pids ∙ or_left _ _ e) (λ q here e. in_append q touched after.pids ∙ or_right (is_in q touched) _ (keeps q here e))
 
--- where it is the same list, on which are those who are touched
+-- where it is the same list
 pub listed_same : {readers : List PidSetView} (s t : State) (l : PidSetView) (touched : List ℕ) → IsListed s l readers → Touches s t touched → IsBeside s t touched → ((q : ℕ) → IsSome (process s q) → IsSome (process t q))
-    → ((q : ℕ) → IsSome (process t q) → is_in q touched ≡ true → is_in q l.pids ≡ true) → IsListed t l readers
+    → AreAsked s t touched l.pids → IsListed t l readers
 listed_same s t l touched h touches most stay gets =
     listed_on s t l l touched h touches most h.rising refl (λ q e. stay q (h.there q e)) gets (λ q theirs e. e) (λ k q on e. stay q e)
 
--- where those were put in who are touched
+-- where these were put in
 pub listed_with : {readers : List PidSetView} (s t : State) (before after : PidSetView) (ps touched : List ℕ) → IsListed s before readers → Touches s t touched → IsBeside s t touched → ((q : ℕ) → IsSome (process s q) → IsSome (process t q))
-    → AllByRecursion (λ q. IsSome (process t q)) ps → ((q : ℕ) → IsSome (process t q) → is_in q touched ≡ true → is_in q ps ≡ true) → after.pids ≡ with_numbers ps before.pids → after.room ≡ before.room → IsListed t after readers
+    → AllByRecursion (λ q. IsSome (process t q)) ps → AreAsked s t touched ps → after.pids ≡ with_numbers ps before.pids → after.room ≡ before.room → IsListed t after readers
 listed_with s t before after ps touched h touches most stay theirs among is same =
     listed_on s t before after touched h touches most (subst Rises (sym is) (rises_numbers ps before.pids h.rising)) same
     (λ q e. ⊎_elim (each (λ q. IsSome (process t q)) ps theirs q) (λ k. stay q (h.there q k)) (or_cases _ _ (sym (inside q) ∙ e)))
-    (λ q there e. inside q ∙ or_left _ _ (among q there e))
+    (λ q there e. ⊎_elim (λ k. inl (inside q ∙ or_left _ _ k)) (λ placed. inr placed) (among q there e))
     (λ q there e. inside q ∙ or_right _ _ e) (λ k q on e. stay q e)
   where
     inside : (q : ℕ) → is_in q after.pids ≡ (is_in q ps || is_in q before.pids)
     inside q = ap (is_in q) is ∙ in_numbers q ps before.pids
-
--- who has a place needn't be on it where no console knows it
-pub listed_less : {readers : List PidSetView} (t : State) (l m : PidSetView) (p : ℕ) → IsListed t m readers → m.pids ≡ with_number p l.pids → Rises l.pids → m.room ≡ l.room → is_in p t.order ≡ true
-    → ((k : ℕ) → is_in p (readers_at k readers) ≡ true → is_in p l.pids ≡ true) → IsListed t l readers
-listed_less {readers = readers} t l m p h is rises same placed unread = record {
-  covers = λ q r e w. ⊎_elim (λ same. absurd (waits q r e w (eqb-true p q same))) (λ k. k) (or_cases _ _ (sym (inside q) ∙ h.covers q r e w));
-  rising = rises;
-  there = λ q e. h.there q (inside q ∙ or_right _ _ e);
-  room = let room = h.room in omega (arith, room, same);
-  watched = record {
-    known = λ k q c r at found visits out unasked. h.watched.known k q c r at found visits out (others q unasked (λ same. both_ways (is_in q t.order) out (subst (λ n. is_in n t.order ≡ true) same placed)));
-    waits = λ k q on unasked. h.watched.waits k q on (others q unasked (λ same. both_ways (is_in q l.pids) unasked (subst (λ n. is_in n (readers_at k readers) ≡ true → is_in n l.pids ≡ true) same (unread k) on)));
-    each = h.watched.each;
-    many = h.watched.many;
-  };
-}
-  where
-    inside : (q : ℕ) → is_in q m.pids ≡ (p == q || is_in q l.pids)
-    inside q = ap (is_in q) is ∙ in_with q p l.pids
-
-    others : (q : ℕ) → is_in q l.pids ≡ false → p ≢ q → is_in q m.pids ≡ false
-    others q unasked ne = inside q ∙ ap (λ b. b || is_in q l.pids) (ne_eqb p q ne) ∙ unasked
-
-    waits : (q : ℕ) (r : Process) → process t q ≡ Some r → wakes t r ≡ true → p ≡ q → ⊥
-    waits q r e w same =
-        let has : is_in r.pid t.order ≡ true = ap (λ n. is_in n t.order) (pid_looked q t.processes r e ∙ sym same) ∙ placed in
-        let none : false ≡ true = sym (ap (λ b. not b && can_act t r) has) ∙ w in
-        absurd (cc)
-
--- where who is touched has a place, and so needn't be rechecked
-listed_placed : {readers : List PidSetView} (s t : State) (l : PidSetView) (p : ℕ) → IsListed s l readers → Touches s t (p ∷ []) → IsBeside s t (p ∷ []) → IsSome (process t p) → ((q : ℕ) → IsSome (process s q) → IsSome (process t q)) → is_in p s.order ≡ true → is_in p t.order ≡ true → IsListed t l readers
-unfolding with_numbers
-listed_placed s t l p h touches most here stay was placed =
-    let m = record l { pids = with_number p l.pids } in
-    listed_less t l m p (listed_with s t l m (p ∷ []) (p ∷ []) h touches most stay (here, tt) (λ q theirs k. k) refl refl) refl h.rising refl placed (unread s l.pids p h.watched was)
 
 -- one record that changed and keeps its number
 pub listed_change : {readers : List PidSetView} (s : State) (p : ℕ) (f : Process → Process) (before after : PidSetView) → IsListed s before readers → ((r : Process) → (f r).pid ≡ r.pid) → Touches s (change s p f) (p ∷ []) → IsSome (process s p)
@@ -205,8 +189,8 @@ unfolding with_numbers changed
 listed_change {readers = readers} s p f before after h keeps touches here is same =
     let stay = some_map (at p f) (at_pid p f keeps) in
     elim (is_in p s.order) as (λ b. is_in p s.order ≡ b → after.pids ≡ cond b before.pids (with_number p before.pids) → IsListed (change s p f) after readers) [
-      | true ↦ λ placed e. listed_more (change s p f) before after [] (listed_placed s (change s p f) before p h touches (refl, refl, λ q u e. e) (stay p s.processes here) (λ q k. stay q s.processes k) placed placed) tt e same
-      | false ↦ λ out e. listed_with s (change s p f) before after (p ∷ []) (p ∷ []) h touches (refl, refl, λ q u e. e) (λ q k. stay q s.processes k) (stay p s.processes here, tt) (λ q theirs k. k) e same
+      | true ↦ λ placed e. listed_with s (change s p f) before after [] (p ∷ []) h touches (refl, refl, λ q u e. e) (λ q k. stay q s.processes k) tt (λ q theirs k. let both = subst (λ n. is_in n s.order ≡ true) (sym (in_one q p k)) placed in inr (both, both)) e same
+      | false ↦ λ out e. listed_with s (change s p f) before after (p ∷ []) (p ∷ []) h touches (refl, refl, λ q u e. e) (λ q k. stay q s.processes k) (stay p s.processes here, tt) (λ q theirs k. inl k) e same
     ] refl is
 
 -- one whose signals changed, and its alarm
@@ -220,7 +204,7 @@ listed_signals {readers = readers} s p g a before after h here is same =
     let named = pid_looked p t.processes it.what it.found in
     elim (takes_signal it.what) as (λ b. takes_signal it.what ≡ b → after.pids ≡ cond b (rechecking it.what.pid s.order before.pids) before.pids → IsListed t after readers) [
       | true ↦ λ k e. listed_change s p (with_signals g a) before after h (λ r. refl) (touches_unseen s p (with_signals g a) (unseen_signals g a)) here (e ∙ ap (λ n. rechecking n s.order before.pids) named) same
-      | false ↦ λ k e. listed_with s t before after [] [] h (touches_signals s p g a (λ r found. ap takes_signal (same_Some _ _ (sym found ∙ it.found)) ∙ k)) (refl, refl, λ q u e. e) (λ q k. stay q s.processes k) tt (λ q theirs k. k) e same
+      | false ↦ λ k e. listed_with s t before after [] [] h (touches_signals s p g a (λ r found. ap takes_signal (same_Some _ _ (sym found ∙ it.found)) ∙ k)) (refl, refl, λ q u e. e) (λ q k. stay q s.processes k) tt (none_asked s t []) e same
     ] refl (is ∙ ap (λ o. rechecking_by_signals o s.order before.pids) it.found)
 
 -- ---- who is rechecked next
@@ -286,31 +270,12 @@ listed_removed {readers = readers} s c last dropped it before after i h found pa
     (λ q e.
     let k = is_other c q _ (sym (ap (is_in q) is) ∙ e) in
     rw (lookup_kept c q s.processes k.apart) (⊎_elim (λ t. subst (λ n. IsSome (process s n)) (eqb-true it.parent q t) parent) (h.there q) (or_cases _ _ (sym (in_with q it.parent before.pids) ∙ k.among))))
-    (λ q theirs e. ap (is_in q) is ∙ others_stay c q _ (apart q theirs) ∙ in_with q it.parent before.pids ∙ or_left _ _ (eq-eqb it.parent q (sym (in_one q it.parent e))))
+    (λ q theirs e. inl (ap (is_in q) is ∙ others_stay c q _ (apart q theirs) ∙ in_with q it.parent before.pids ∙ or_left _ _ (eq-eqb it.parent q (sym (in_one q it.parent e)))))
     (λ q theirs e. ap (is_in q) is ∙ others_stay c q _ (apart q theirs) ∙ in_with q it.parent before.pids ∙ or_right (it.parent == q) _ e)
     (λ k q on e. rw (lookup_kept c q s.processes (λ same. both_ways _ (unread k) (subst (λ n. is_in n (readers_at k readers) ≡ true) same on))) e)
   where
     apart : (q : ℕ) → IsSome (lookup q (removed c s.processes)) → q ≢ c
     apart q theirs e = let no : IsSome (lookup c (removed c s.processes)) = subst (λ n. IsSome (lookup n (removed c s.processes))) e theirs in let none = rw (lookup_removed c s.processes) at no in absurd (cc)
-
--- ---- ends
-
--- a departure touches the process, its heir and its parent
-pub listed_departed : {readers : List PidSetView} (s : State) (p heir w : ℕ) (me : Process) (before after : PidSetView) → IsRegular s → IsListed s before readers → lookup p s.processes ≡ Some me → IsSome (process s me.parent)
-    → is_in p before.pids ≡ true → is_in heir before.pids ≡ true → after.pids ≡ with_number me.parent before.pids → after.room ≡ before.room → IsListed (leave_children_and_die s p heir w) after readers
-unfolding changed adopted made_zombie with_numbers
-listed_departed s p heir w me before after i h found up mine its put room =
-    let zombie = change s p (made_zombie w) in
-    let left = lose_place zombie p in
-    let touches : Touches s (leave_children_and_die s p heir w) ((p ∷ heir ∷ []) ++ (p ∷ []) ++ (p ∷ me.parent ∷ [])) =
-    touches_both s left (leave_children_and_die s p heir w) ((p ∷ []) ++ (p ∷ me.parent ∷ [])) (p ∷ heir ∷ [])
-    (touches_both s zombie left (p ∷ me.parent ∷ []) (p ∷ []) (touches_shown s p (made_zombie w) (λ r. refl) (λ r. refl) i.rising me found) (touches_lost zombie p))
-    (touches_adopted left p heir) in
-    let on : (q : ℕ) → is_in q before.pids ≡ true → is_in q after.pids ≡ true = λ q e. ap (is_in q) put ∙ in_with q me.parent before.pids ∙ or_right (me.parent == q) _ e in
-    let its_parent : is_in me.parent after.pids ≡ true = ap (is_in me.parent) put ∙ in_with me.parent me.parent before.pids ∙ or_left _ _ (eq-eqb me.parent me.parent refl) in
-    listed_same s (leave_children_and_die s p heir w) after ((p ∷ heir ∷ []) ++ (p ∷ []) ++ (p ∷ me.parent ∷ [])) (listed_more s before after (me.parent ∷ []) h (up, tt) put room) touches (refl, refl, λ q u e. still_out p q s.order e)
-    (λ q e. some_map (reparented p heir) (pid_reparented p heir) q _ (some_map (at p (made_zombie w)) (at_pid p (made_zombie w) (λ r. refl)) q s.processes e))
-    (λ q theirs e. each (λ q. is_in q after.pids ≡ true) (p ∷ heir ∷ p ∷ p ∷ me.parent ∷ []) (on p mine, (on heir its, (on p mine, (on p mine, (its_parent, tt))))) q e)
 
 -- ---- births
 
@@ -321,7 +286,7 @@ unfolding with_numbers
 listed_born s new last births before after h fresh up put room =
     let t = record s { processes = inserted new s.processes; last_pid = last; births = births } in
     listed_with s t before after (new.pid ∷ new.parent ∷ []) (new.pid ∷ new.parent ∷ []) h (touches_born s new last births) (refl, refl, λ q u e. e) (λ q e. some_inserted new q s.processes e)
-    (rw (lookup_new new s.processes fresh) refl, (some_inserted new new.parent s.processes up, tt)) (λ q theirs e. e) put room
+    (rw (lookup_new new s.processes fresh) refl, (some_inserted new new.parent s.processes up, tt)) (λ q theirs e. inl e) put room
 
 nobody_reads : (session : ℕ) (b : Bool) (r : Process) → cond b (Some first_process) None ≡ Some r → is_reader session r ≡ true → ⊥
 nobody_reads session true r found visits = absurd (cc)

@@ -21,10 +21,9 @@ use Rattle.posix.specs.Generation.{signalled, effect_of}
 use Rattle.posix.specs.Notices.{ignores_stops, noticed_of_change, child_signal, told_of_change, resumed, acted_upon, generated_for, signalled_all}
 use Rattle.posix.specs.Sends.{is_target, targets, permitted, sending_permitted, sending_found, sent_by, sent_among}
 use Rattle.posix.proofs.MapLemmas.{at_keeps, filter_map}
-use Rattle.posix.proofs.WalkLemmas.{numbered, numbered_one, numbered_none, rest_of_walk, walk_splits}
+use Rattle.posix.proofs.WalkLemmas.{AtOne, numbered, numbered_one, numbered_none, one_less, rest_of_walk, walk_splits}
 use Rattle.proctable.specs.declared.snapshot.Snapshot.{Snapshot}
 use Rattle.proctable.specs.Records.{snapshot_of}
-use Rattle.jobs.proofs.GroupLemmas.{AtOne, one_less}
 use Rattle.life.specs.Rechecks.{rechecking_generated, rechecking_all, rechecking_signalled, is_candidate}
 
 -- ---- what a sender asks of a process

@@ -1,5 +1,5 @@
 -- Signals that continue nobody are generated for several processes: who is rechecked then takes one.
-use Rattle.std.proofs.Common.{◌≡◌, ℕ, ◌+◌, ◌≤◌, Bool, true, false, cond, refl, ap, sym, ◌∙◌, arith, subst, List, [], ◌∷◌, length, Option, Some, None, ◌==◌, ⊎_elim, rules}
+use Rattle.std.proofs.Common.{◌≡◌, ℕ, ◌+◌, ◌≤◌, Bool, true, false, cond, refl, ap, sym, ◌∙◌, arith, subst, List, [], ◌∷◌, length, Option, Some, None, ◌==◌, ◌||◌, ⊎_elim, rules}
 use Rattle.std.proofs.lemmas.Bool.{eqb-true, ne_eqb, or_cases, or_left, or_parts}
 use Rattle.std.proofs.lemmas.List.{length-map}
 use Rattle.posix.specs.declared.process.Effect.TheVariants as effect
@@ -116,3 +116,24 @@ brief_group n group rs ts order ns new plain up none does puts = by (group == 0)
         let all = taking_all (record { sig = n; carried = from_kernel }) (pids (members_in group rs)) order rs plain (rising_distinct (members_in group rs) (rising_filter (is_member group) rs up)) in
         let many = length-map (members_in group rs) (λ r. r.pid) in
         rw (does, puts, none) (λ q e. let it = all.0 q e in (it.0, it.1, or_left _ _ it.2), omega (arith, many, all.1))
+
+-- who is asked by a signal that isn't CONT got it
+asked_one : (signal : PendingSignal) (q p : ℕ) (order : List ℕ) (rs : List Process) (ns : List ℕ) → (signal.sig == CONT) ≡ false → is_in p (rechecking_generated signal (lookup q rs) rs order ns) ≡ true → (is_in p ns || p == q) ≡ true
+unfolding signalled
+asked_one signal q p order rs ns plain on = by (lookup q rs) refl on
+  where
+    by : (o : Option Process) → lookup q rs ≡ o → is_in p (rechecking_generated signal o rs order ns) ≡ true → (is_in p ns || p == q) ≡ true
+    by None found on = or_left _ _ on
+    by (Some r) found on = grind (arith, on, plain, continued_cont r.pid signal r, pid_looked q rs r found, in_with p r.pid ns)
+
+asked_all : (signal : PendingSignal) (qs : List ℕ) (p : ℕ) (order : List ℕ) (rs : List Process) (ns : List ℕ) → (signal.sig == CONT) ≡ false → is_in p (rechecking_all signal qs rs order ns) ≡ true → (is_in p ns || is_in p qs) ≡ true
+unfolding rechecking_all is_in
+asked_all signal [] p order rs ns plain on = or_left _ _ on
+asked_all signal (q ∷ qs) p order rs ns plain on = grind (arith, asked_all signal qs p order (generated_for signal (lookup q rs) rs) (rechecking_generated signal (lookup q rs) rs order ns) plain on, asked_one signal q p order rs ns plain)
+
+-- so where the kernel signals a process group
+pub asked_members : (n group p : ℕ) (order : List ℕ) (rs : List Process) (ns : List ℕ) → (n == CONT) ≡ false → is_in p (cond (group == 0) ns (rechecking_members n group rs order ns)) ≡ true → (is_in p ns || is_in p (pids (members_in group rs))) ≡ true
+asked_members n group p order rs ns plain = elim (group == 0) as (λ b. is_in p (cond b ns (rechecking_members n group rs order ns)) ≡ true → (is_in p ns || is_in p (pids (members_in group rs))) ≡ true) [
+  | true ↦ or_left _ _
+  | false ↦ asked_all (record { sig = n; carried = from_kernel }) (pids (members_in group rs)) p order rs ns plain
+]

@@ -8,3 +8,4 @@ pub mod Waits
 pub mod Consoles
 pub mod NotedBursts
 pub mod Changes
+pub mod Ends

@@ -1,9 +1,9 @@
 //! A change of one process, with what is kept beside the records: who is to be rechecked, which numbers are borne,
 //! and whether a foreground process group may have lost its members.
 
-ghost use Rattle.std.specs.Prelude.{◌≡◌, ◌≢◌, ◌+◌, ◌*◌, ◌<◌, ◌≤◌, ◌||◌, IsSome, Some, length, option_map, if◌then◌else◌, false};
+ghost use Rattle.std.specs.Prelude.{◌≡◌, ◌≢◌, ◌+◌, ◌*◌, ◌<◌, ◌≤◌, ◌&&◌, ◌||◌, not, IsSome, Some, length, option_map, if◌then◌else◌, false};
 ghost use Rattle.posix.specs.Processes.{Process, is_zombie};
-ghost use Rattle.posix.specs.States.{process};
+ghost use Rattle.posix.specs.States.{is_in, process};
 ghost use Rattle.posix.specs.Tables.{IsRising, changed, children_in, lookup, parent_of};
 ghost use Rattle.posix.specs.Notices.{child_signal as child_signal_of, noticed_of_change, told_of_change};
 ghost use Rattle.posix.specs.Regular.{IsPlaced, IsRegular};
@@ -118,8 +118,30 @@ fn notice<K: Kin>(
     awaits || takes_signal
 }
 
+/// Whether a process that is there has no place, and waits for this child, which is seen so: without a look at one that
+/// has a place. Nothing changes.
+pub(crate) fn is_awaited<K: Kin>(
+    table: &mut JobTable<K>,
+    order: &Order,
+    parent: Pid,
+    child: Pid,
+    seen: &Seen,
+) -> bool
+    requires there { IsSome (lookup parent table.old.processes) }
+    requires rising { IsRising table.old.processes }
+    ensures value { (me it : Process) → lookup parent table.old.processes ≡ Some me → it.pid ≡ child → seen.now ≡ seen_of it → result ≡ (not (is_in parent order.now.pids) && awaiting me it) }
+    ensures same { table.new.processes ≡ table.old.processes }
+    ensures costs { JobCosts 1 table.old table.new }
+{
+    if order.has(parent) {
+        return false;
+    }
+    let (awaits, _) = table.change(parent, |fields| awaits(fields, child, seen));
+    awaits
+}
+
 /// A process is to be rechecked where it can act by a change, and has no place.
-fn recheck_where(to_recheck: &mut PidSet, order: &Order, pid: Pid, acts: bool)
+pub(crate) fn recheck_where(to_recheck: &mut PidSet, order: &Order, pid: Pid, acts: bool)
     requires { length to_recheck.old.pids < to_recheck.old.room }
     ensures { to_recheck.new ≡ record (to_recheck.old) { pids = if acts then rechecking pid order.now.pids to_recheck.old.pids else to_recheck.old.pids } }
 {

@@ -12,7 +12,7 @@ ghost use Rattle.posix.specs.Ends.{signalled_group, hang_up as hanging_up};
 ghost use Rattle.posix.specs.Settle.{wakes, refreshed, clear_foregrounds as clearing_foregrounds, NoWakeIsLost};
 ghost use Rattle.posix.specs.Step.{key as keying};
 ghost use Rattle.posix.specs.Regular.{AreGrouped, IsRegular};
-ghost use Rattle.posix.specs.Tables.{members_in};
+ghost use Rattle.posix.specs.Tables.{members_in, pids};
 ghost use Rattle.pidset.specs.Numbers.{PidSetView, numbers_above, with_number};
 ghost use Rattle.life.specs.Machines.{Changes, Costs, Finds, IsThere, IfThere, with_processes, with_consoles, IfConsole, AreWatched, HaveRoom, AreUnread, IsReaders, readers_at};
 ghost use Rattle.life.specs.Rechecks.{AreBrief, rechecking_members, slots_of_signal};
@@ -336,6 +336,7 @@ impl<K: Kin> Machine<K> {
         requires none { console_of session self.old.state.consoles ≡ None }
         ensures state { IfConsole console_index self.old (λ c. self.new.state ≡ with_consoles self.old.state (slice_set self.old.state.consoles console_index (acquired session group c))) }
         ensures costs { Costs 0 self.old self.new }
+        ensures those { (p : ℕ) → is_in p self.new.to_recheck ≡ true → (is_in p self.old.to_recheck || is_in p (readers_at console_index self.old.readers)) ≡ true }
     {
         self.recheck_readers(console_index);
         if let Some(console) = self.consoles.get_mut(console_index) {
@@ -349,6 +350,7 @@ impl<K: Kin> Machine<K> {
         requires { session ≢ 0 }
         ensures state { self.new.state ≡ with_consoles self.old.state (changed_console session (with_foreground group) self.old.state.consoles) }
         ensures costs { Costs 0 self.old self.new }
+        ensures those { (k p : ℕ) (c : ConsoleValue) → slice_get self.old.state.consoles k ≡ Some c → c.session ≡ session → is_in p self.new.to_recheck ≡ true → (is_in p self.old.to_recheck || is_in p (readers_at k self.old.readers)) ≡ true }
     {
         if let Some(console_index) = terminal_index(&self.consoles, session) {
             self.recheck_readers(console_index);
@@ -446,6 +448,7 @@ impl<K: Kin> Machine<K> {
         requires { IsThere pid self.old }
         ensures state { IfThere pid self.old (λ me. self.new.state ≡ hanging_up self.old.state me) }
         ensures costs { IfThere pid self.old (λ me. Costs (1 + slots_of_hangup me self.old) self.old self.new) }
+        ensures those { (me : Process) (k p : ℕ) (c : ConsoleValue) → process self.old.state pid ≡ Some me → slice_get self.old.state.consoles k ≡ Some c → c.session ≡ me.session → is_in p self.new.to_recheck ≡ true → ((is_in p self.old.to_recheck || is_in p (readers_at k self.old.readers)) || is_in p (pids (members_in c.foreground self.old.state.processes))) ≡ true }
     {
         let Some(snapshot) = self.snapshot(pid) else {
             return;
@@ -465,6 +468,7 @@ impl<K: Kin> Machine<K> {
     fn release(&mut self, console_index: usize)
         ensures state { IfConsole console_index self.old (λ c. self.new.state ≡ with_consoles self.old.state (slice_set self.old.state.consoles console_index (released c))) }
         ensures costs { Costs 0 self.old self.new }
+        ensures those { (p : ℕ) → is_in p self.new.to_recheck ≡ true → (is_in p self.old.to_recheck || is_in p (readers_at console_index self.old.readers)) ≡ true }
     {
         self.recheck_readers(console_index);
         if let Some(console) = self.consoles.get_mut(console_index) {

@@ -3,15 +3,16 @@
 ghost use Rattle.std.specs.Prelude.{◌≡◌, ◌≢◌, ℕ, ◌≤◌, ◌+◌, ◌*◌, length, IsSome, Some, None, option_map, true, false, if◌then◌else◌};
 ghost use Rattle.posix.specs.Processes.{Process, is_zombie};
 ghost use Rattle.posix.specs.Tables.{children_in, parent_of};
-ghost use Rattle.posix.specs.Groups.{some_stopped};
 ghost use Rattle.posix.specs.Regular.{CanInherit, IsRegular};
 ghost use Rattle.posix.specs.States.{process};
 ghost use Rattle.posix.specs.Ends.{leave_children_and_die as departing, halt as halting, end_with_heir, notice_of_end as noticing_end, drop_child as dropping_child, is_dropping, tell_of_all, zombies_of};
 ghost use Rattle.posix.specs.Notices.{noticed, child_signal as child_signal_of};
 ghost use Rattle.pidset.specs.Numbers.{with_number};
+ghost use Rattle.life.specs.Ends.{slots_of_orphans};
 ghost use Rattle.life.specs.Rechecks.{rechecks_by_signals, without_gone};
 ghost use Rattle.life.specs.Machines.{Costs, Finds, Changes, Removes, IsThere, IfThere};
 
+use crate::changes::{is_awaited, recheck_where};
 use crate::consoles::Unchecked;
 use crate::machine::Machine;
 use jobs::Change;
@@ -42,7 +43,9 @@ impl<K: Kin> Machine<K> {
         }
     }
 
-    /// The process is a zombie and loses its place, and its children become those of its heir. Its parent.
+    /// The process is a zombie and loses its place, and its children become those of its heir. It is to be rechecked; its
+    /// parent is, where it has no place, if it waits for just this child, and its heir if one of the children has
+    /// something to report, as otherwise they can act no more than before. Its parent.
     fn leave(&mut self, pid: Pid, heir: Pid, status: Status) -> Pid
         requires there { IsThere pid self.old }
         requires other { pid ≢ 1 }
@@ -51,14 +54,16 @@ impl<K: Kin> Machine<K> {
         ensures is { IfThere pid self.old (λ me. result ≡ me.parent) }
         ensures parent { IfThere pid self.old (λ me. IsThere me.parent self.new) }
         ensures zombie { (it : Process) × (process self.new.state pid ≡ Some it) × (is_zombie it.life ≡ true) }
-        ensures costs { Costs (5 + 10 * length (children_in pid self.old.state.processes) + length (children_in heir self.old.state.processes)) self.old self.new }
+        ensures costs { Costs (6 + 10 * length (children_in pid self.old.state.processes) + length (children_in heir self.old.state.processes)) self.old self.new }
     {
         self.to_recheck.insert(pid);
-        self.to_recheck.insert(heir);
-        let Change { parent, .. } = self
+        let Change { parent, after, .. } = self
             .table
             .change_seen(pid, |fields| fields.make_zombie(status));
-        self.to_recheck.insert(parent);
+        let awaited = is_awaited(&mut self.table, &self.order, parent, pid, &after);
+        recheck_where(&mut self.to_recheck, &self.order, parent, awaited);
+        let told = self.table.next_reporting(pid, Pid::NONE).is_some();
+        recheck_where(&mut self.to_recheck, &self.order, heir, told);
         self.table.adopt(pid, heir);
         self.order.drop_place(pid);
         self.foregrounds_unchecked = Unchecked::All;
@@ -76,7 +81,7 @@ impl<K: Kin> Machine<K> {
         ensures is { IfThere pid self.old (λ me. result ≡ me.parent) }
         ensures parent { IfThere pid self.old (λ me. IsThere me.parent self.new) }
         ensures zombie { (it : Process) × (process self.new.state pid ≡ Some it) × (is_zombie it.life ≡ true) }
-        ensures costs { Costs (6 + 18 * length (children_in pid self.old.state.processes) + length (children_in heir self.old.state.processes)) self.old self.new }
+        ensures costs { Costs (7 + 18 * length (children_in pid self.old.state.processes) + length (children_in heir self.old.state.processes)) self.old self.new }
     {
         self.tell_heir(pid, heir);
         self.leave(pid, heir, status)
@@ -134,14 +139,14 @@ impl<K: Kin> Machine<K> {
     /// becomes a zombie without a place; its children become those of its heir, which gets notice of those
     /// that have ended; the process groups that this orphans, and that have a stopped member, get HUP and CONT; and
     /// its parent gets notice of its end, and may drop it (XSH _exit, Consequences of Process Termination).
-    /// Where no process is stopped no slot is read for the groups.
+    /// Of the groups the members of those are read that it orphans and that have a stopped member.
     #[tactic(auto, using(crate::proofs::EndLemmas::end_is, posix::proofs::NoticeLemmas::end_first, posix::proofs::TableLemmas::pid_looked))]
     pub fn end(&mut self, pid: Pid, heir: Pid, status: Status)
         requires there { IsThere pid self.old }
         requires heir { pid ≢ 1 → CanInherit self.old.state.processes pid heir }
         ensures state { IfThere pid self.old (λ me. self.new.state ≡ (end_with_heir self.old.state me heir status).state) }
         ensures to_recheck { pid ≡ 1 → self.new.to_recheck ≡ with_number 1 self.old.to_recheck }
-        ensures visits { some_stopped self.old.state.processes ≡ false → self.new.visits ≤ self.old.visits + 12 + 18 * length (children_in pid self.old.state.processes) + length (children_in heir self.old.state.processes) }
+        ensures visits { self.new.visits ≤ self.old.visits + 14 + 19 * length (children_in pid self.old.state.processes) + length (children_in heir self.old.state.processes) + slots_of_orphans self.old.state (tell_of_all (departing self.old.state pid heir status) heir (zombies_of pid self.old.state.processes)) }
     {
         if pid == Pid::INIT {
             self.halt(status);

@@ -1,7 +1,9 @@
 //! Process groups: who their members are, one after another, and whether they are orphaned (XBD 3).
 
-ghost use Rattle.std.specs.Prelude.{◌≡◌, not};
-ghost use Rattle.posix.specs.Tables.{first_pid, above, members_in};
+ghost use Rattle.std.specs.Prelude.{◌≡◌, not, false};
+ghost use Rattle.std.specs.Option.{option_map_or};
+ghost use Rattle.posix.specs.States.{process};
+ghost use Rattle.posix.specs.Tables.{first_pid, above, is_member as is_member_of, members_in};
 ghost use Rattle.posix.specs.Groups.{is_orphaned as is_orphaned_of, has_stopped as has_stopped_of, some_stopped};
 ghost use Rattle.posix.specs.Regular.{IsRegular};
 
@@ -17,6 +19,13 @@ impl<K: Kin> Machine<K> {
         ensures regular { IsRegular self.now.state }
     {
         self.table.next_member(group, after)
+    }
+
+    /// Whether a process is there, and a member of a process group. No slot is read.
+    pub(crate) fn is_member(&self, group: Pid, pid: Pid) -> bool
+        ensures { result ≡ option_map_or (is_member_of group) (process self.now.state pid) false }
+    {
+        self.table.is_member(group, pid)
     }
 
     /// Whether a process group is orphaned: no living member of it has a parent in another group of the same

@@ -6,9 +6,10 @@ ghost use Rattle.posix.specs.Numbers.{with_number};
 ghost use Rattle.posix.specs.States.{process, is_in, without};
 ghost use Rattle.posix.specs.Tables.{children_in, members_in};
 ghost use Rattle.posix.specs.Choice.{from_kernel};
-ghost use Rattle.posix.specs.Groups.{is_anchor as is_anchor_of, is_orphaned as is_orphaned_of, has_stopped as has_stopped_of, some_stopped, loses_anchor};
+ghost use Rattle.posix.specs.Groups.{is_anchor as is_anchor_of, is_orphaned as is_orphaned_of, has_stopped as has_stopped_of, loses_anchor};
 ghost use Rattle.posix.specs.Ends.{signalled_members, hup_and_cont as hup_and_cont_of, hup_and_cont_all as hup_and_cont_all_of, hup_and_cont_orphans, leave_children_and_die as departing, tell_of_all, zombies_of};
 ghost use Rattle.pidset.specs.Numbers.{Rises};
+ghost use Rattle.life.specs.Ends.{slots_of_hup_and_cont, slots_of_hups, slots_of_orphans};
 ghost use Rattle.life.specs.Rechecks.{rechecking_members, slots_of_signal};
 ghost use Rattle.posix.specs.Regular.{IsRegular, CanInherit};
 ghost use Rattle.life.specs.Machines.{Changes, Costs, Notes, IsThere, IfThere, with_processes};
@@ -54,6 +55,7 @@ impl<K: Kin> Machine<K> {
     fn keep_orphan_with_stopped(&mut self, group: Pid)
         ensures groups_at_risk { self.new.groups_at_risk ≡ (if is_orphaned_of group self.old.state.processes && has_stopped_of group self.old.state.processes then self.old.groups_at_risk else without group self.old.groups_at_risk) }
         ensures same { self.new.state ≡ self.old.state }
+        ensures visits { self.new.visits ≡ self.old.visits }
     {
         if !(self.is_orphaned(group) && self.has_stopped(group)) {
             self.groups_at_risk.remove(group);
@@ -65,6 +67,7 @@ impl<K: Kin> Machine<K> {
         ensures groups_at_risk { self.new.groups_at_risk ≡ filter (λ g. is_orphaned_of g self.old.state.processes && has_stopped_of g self.old.state.processes) self.old.groups_at_risk }
         ensures rising { Rises self.old.groups_at_risk }
         ensures same { self.new.state ≡ self.old.state }
+        ensures visits { self.new.visits ≡ self.old.visits }
     {
         let mut next = self.groups_at_risk.first();
         while let Some(group) = next {
@@ -86,6 +89,7 @@ impl<K: Kin> Machine<K> {
     fn hup_and_cont(&mut self, group: Pid)
         ensures state { self.new.state ≡ with_processes self.old.state (hup_and_cont_of group self.old.state.processes) }
         ensures groups_at_risk { self.new.groups_at_risk ≡ self.old.groups_at_risk }
+        ensures visits { self.new.visits ≤ self.old.visits + slots_of_hup_and_cont group self.old.state.processes }
     {
         self.signal_members(group, Sig::HUP);
         self.signal_members(group, Sig::CONT);
@@ -94,6 +98,7 @@ impl<K: Kin> Machine<K> {
     /// Each noted group gets HUP and CONT.
     fn hup_and_cont_all(&mut self)
         ensures state { self.new.state ≡ with_processes self.old.state (hup_and_cont_all_of self.old.groups_at_risk self.old.state.processes) }
+        ensures visits { self.new.visits ≤ self.old.visits + slots_of_hups self.old.groups_at_risk self.old.state.processes }
         ensures regular { IsRegular self.old.state }
     {
         let mut next = self.groups_at_risk.first();
@@ -117,7 +122,7 @@ impl<K: Kin> Machine<K> {
         ensures is { IfThere pid self.old (λ me. result ≡ me.parent) }
         ensures parent { IfThere pid self.old (λ me. IsThere me.parent self.new) }
         ensures zombie { (it : Process) × (process self.new.state pid ≡ Some it) × (is_zombie it.life ≡ true) }
-        ensures visits { some_stopped self.old.state.processes ≡ false → self.new.visits ≤ self.old.visits + 6 + 18 * length (children_in pid self.old.state.processes) + length (children_in heir self.old.state.processes) }
+        ensures visits { self.new.visits ≤ self.old.visits + 8 + 19 * length (children_in pid self.old.state.processes) + length (children_in heir self.old.state.processes) + slots_of_orphans self.old.state (tell_of_all (departing self.old.state pid heir status) heir (zombies_of pid self.old.state.processes)) }
     {
         if self.nobody_stopped() {
             return self.leave_children_and_die(pid, heir, status);

@@ -1,12 +1,15 @@
 //! Waits.
 
-ghost use Rattle.std.specs.Prelude.{◌≡◌, ◌≢◌, ◌<◌, ◌≤◌, ◌+◌, ◌*◌, ℕ, length, option_map, IsSome, Some, true};
+ghost use Rattle.std.specs.Prelude.{◌≡◌, ◌≢◌, ◌<◌, ◌≤◌, ◌+◌, ◌*◌, ℕ, length, option_map, IsSome, Some, true, if◌then◌else◌};
+ghost use Rattle.std.specs.List.{list_any};
 ghost use Rattle.posix.specs.Processes.{Process, is_zombie};
-ghost use Rattle.posix.specs.Tables.{lookup, removed, children_in, parent_of};
+ghost use Rattle.posix.specs.Tables.{lookup, removed, children_in, is_member, parent_of};
 ghost use Rattle.posix.specs.States.{process, change};
+ghost use Rattle.posix.specs.Regular.{IsRegular};
+ghost use Rattle.posix.specs.declared.process.Report.TheVariants.{NoChild, Nothing};
 ghost use Rattle.posix.specs.declared.target.Target.TheVariants as whom;
-ghost use Rattle.posix.specs.Waits.{is_named as is_named_by, is_something, look as look_of, report, report_change as report_change_of, report_life as report_life_of, report_of as report_of_child, reporting_in, news_told};
-ghost use Rattle.life.specs.Waits.{is_reported, slots_of_wait};
+ghost use Rattle.posix.specs.Waits.{is_named as is_named_by, is_something, look as look_of, report, report_change as report_change_of, report_life as report_life_of, report_of as report_of_child, reporting_in, report_of_meant, news_told};
+ghost use Rattle.life.specs.Waits.{is_meant as is_meant_by, is_reported, slots_of_children, slots_of_wait};
 ghost use Rattle.proctable.specs.Records.{snapshot_of};
 ghost use Rattle.life.specs.Machines.{Finds, Changes, Removes, IsThere, IfThere, with_processes, CanGo, IsGone};
 ghost use Rattle.jobs.specs.Books.{seen_of};
@@ -49,19 +52,6 @@ fn report_life(options: WaitOptions, pid: Pid, life: Life, news: News) -> Report
     }
 }
 
-/// What a wait for the children in a process group learns from one child: `NoChild` where it isn't in the
-/// group.
-#[tactic(auto, unfolding(posix::specs::Waits::report_of, posix::specs::Waits::look))]
-fn look(group: Pid, options: WaitOptions, child: Snapshot) -> Report
-    ensures { (own : ℕ) (r : Process) → child ≡ snapshot_of r → result ≡ look_of own (whom.Group group) options.0 r }
-{
-    if child.group == group {
-        report_life(options, child.pid, child.life, child.news)
-    } else {
-        Report::NoChild
-    }
-}
-
 /// Whether a wait by a caller in this process group means a child with this number, in its group.
 fn is_named(group: Pid, target: Target, child: Pid, child_group: Pid) -> bool
     ensures { (r : Process) → r.pid ≡ child → r.group ≡ child_group → result ≡ is_named_by group target r }
@@ -82,6 +72,18 @@ fn reports(options: WaitOptions, child: Pid, life: Life, news: News) -> bool
     match report_life(options, child, life, news) {
         Report::End(..) | Report::Change(..) => true,
         Report::NoChild | Report::Nothing => false,
+    }
+}
+
+/// What a wait has to report where none of those that it means has something to report, and this says whether it
+/// means any.
+fn without_report(has_child: bool) -> Report
+    ensures { result ≡ (if has_child then Nothing else NoChild) }
+{
+    if has_child {
+        Report::Nothing
+    } else {
+        Report::NoChild
     }
 }
 
@@ -146,52 +148,113 @@ impl<K: Kin> Machine<K> {
         }
     }
 
-    /// What a wait for any child has to report. It asks only those that have something to report, and of the
-    /// others whether there is one.
-    #[tactic(auto, using(posix::proofs::ReportingLemmas::report_nothing, posix::proofs::ReportingLemmas::report_childless, crate::proofs::ChildLemmas::reporting_found, crate::proofs::ChildLemmas::reporting_fewer))]
-    fn report_of_any(&mut self, parent: Pid, options: WaitOptions) -> Report
-        requires { IsThere parent self.old }
-        ensures { Finds (1 + length (reporting_in parent self.old.state.processes)) self.old self.new ((own : ℕ) → result ≡ report self.old.state.processes parent own whom.All options.0) }
+    /// Whether a wait for any child, or for those in a process group, means a child that is there. No slot is read.
+    fn is_meant(&self, group: &Option<Pid>, child: Pid) -> bool
+        ensures meant { IfThere child self.now (λ it. result ≡ is_meant_by group.now it) }
+        ensures regular { IsRegular self.now.state }
     {
-        let mut next = self.next_reporting(parent, Pid::NONE);
-        while let Some(child) = next {
-            match self.report_of(child, options) {
-                Report::Nothing => {}
-                report => return report,
-            }
-            next = self.next_reporting(parent, child);
-        }
-        match self.first_child(parent) {
-            Some(_) => Report::Nothing,
-            None => Report::NoChild,
+        let _ = &self.table;
+        match group {
+            Some(group) => self.is_member(*group, child),
+            None => true,
         }
     }
 
-    /// What a wait for the children in a process group has to report. It looks at each child.
-    #[tactic(auto, using(crate::proofs::ChildLemmas::child_less))]
-    fn report_of_members(&mut self, parent: Pid, group: Pid, options: WaitOptions) -> Report
-        requires { IsThere parent self.old }
-        ensures { Finds (1 + 2 * length (children_in parent self.old.state.processes)) self.old self.new ((own : ℕ) → result ≡ report self.old.state.processes parent own (whom.Group group) options.0) }
+    /// What such a wait learns from a child that is there: `NoChild`, without a slot, where it isn't meant.
+    fn report_if_meant(&mut self, group: &Option<Pid>, child: Pid, options: WaitOptions) -> Report
+        requires { IsThere child self.old }
+        ensures finds { Finds 1 self.old self.new (IfThere child self.old (λ it. result ≡ look_of (is_meant_by group.now) options.0 it)) }
+        ensures unread { result ≡ NoChild → self.new.visits ≤ self.old.visits }
+    {
+        if self.is_meant(group, child) {
+            self.report_of(child, options)
+        } else {
+            Report::NoChild
+        }
+    }
+
+    /// What the children that have something to report say to such a wait. No other is looked at.
+    #[tactic(auto, using(crate::proofs::ChildLemmas::reporting_there, posix::proofs::ReportingLemmas::reporting_less))]
+    fn report_of_reporting(
+        &mut self,
+        parent: Pid,
+        group: &Option<Pid>,
+        options: WaitOptions,
+    ) -> Report
+        ensures finds { Finds (length (reporting_in parent self.old.state.processes)) self.old self.new (result ≡ report_of_meant (is_meant_by group.now) options.0 (reporting_in parent self.old.state.processes)) }
+        ensures unread { result ≡ NoChild → self.new.visits ≤ self.old.visits }
     {
         let mut found = Report::NoChild;
-        let mut next = self.first_child(parent);
+        let mut next = self.next_reporting(parent, Pid::NONE);
         while let Some(child) = next {
-            let Some(snapshot) = self.snapshot(child) else {
-                return found;
-            };
-            match look(group, options, snapshot) {
+            match self.report_if_meant(group, child, options) {
                 Report::NoChild => {}
                 Report::Nothing => found = Report::Nothing,
                 report => return report,
             }
-            next = self.next_sibling(child);
+            next = self.next_reporting(parent, child);
         }
         found
     }
 
+    /// Whether a process that is there has a child in a process group. It goes over the members and the children side
+    /// by side, so it takes no more rounds than there are of the fewer.
+    #[tactic(auto, using(crate::proofs::ChildLemmas::child_there, crate::proofs::ChildLemmas::child_less, crate::proofs::MemberLemmas::member_there))]
+    fn has_child_in(&mut self, parent: Pid, group: Pid) -> bool
+        requires { IsThere parent self.old }
+        ensures { Finds (1 + 2 * length (children_in parent self.old.state.processes)) self.old self.new (result ≡ list_any (is_member group) (children_in parent self.old.state.processes)) }
+    {
+        let mut next_child = self.first_child(parent);
+        let mut next_member = self.next_member(group, Pid::NONE);
+        while let Some(child) = next_child {
+            let Some(member) = next_member else {
+                return false;
+            };
+            if self.is_member(group, child) {
+                return true;
+            }
+            if self.parent(member) == parent {
+                return true;
+            }
+            next_child = self.next_sibling(child);
+            next_member = self.next_member(group, member);
+        }
+        false
+    }
+
+    /// Whether a process that is there has a child, or one in a process group.
+    #[tactic(auto, using(crate::proofs::ChildLemmas::any_child))]
+    fn has_child(&mut self, parent: Pid, group: &Option<Pid>) -> bool
+        requires { IsThere parent self.old }
+        ensures { Finds (1 + slots_of_children group.now parent self.old.state.processes) self.old self.new (result ≡ list_any (is_meant_by group.now) (children_in parent self.old.state.processes)) }
+    {
+        match group {
+            Some(group) => self.has_child_in(parent, *group),
+            None => self.first_child(parent).is_some(),
+        }
+    }
+
+    /// What a wait for any child, or for those in a process group, has to report. It asks those that have something to
+    /// report, and where it means none of these, whether there is another that it means.
+    #[tactic(auto, using(crate::proofs::ChildLemmas::few_reporting))]
+    fn report_of_children(
+        &mut self,
+        parent: Pid,
+        group: &Option<Pid>,
+        options: WaitOptions,
+    ) -> Report
+        requires { IsThere parent self.old }
+        ensures { Finds (1 + slots_of_children group.now parent self.old.state.processes) self.old self.new (result ≡ report_of_meant (is_meant_by group.now) options.0 (children_in parent self.old.state.processes)) }
+    {
+        match self.report_of_reporting(parent, group, options) {
+            Report::NoChild => without_report(self.has_child(parent, group)),
+            report => report,
+        }
+    }
+
     /// What a wait has to report: of the children of a caller that is there which the target means, the one
     /// with the least number that has something to report (XSH waitpid). Nothing changes.
-    #[tactic(auto, using(posix::proofs::ReportingLemmas::report_own, posix::proofs::ReportingLemmas::report_none_meant))]
+    #[tactic(auto, using(crate::proofs::ChildLemmas::report_any, crate::proofs::ChildLemmas::report_in, posix::proofs::ReportingLemmas::report_own, posix::proofs::ReportingLemmas::report_none_meant))]
     pub fn wait_attempt(&mut self, me: &Caller, target: Target, options: WaitOptions) -> Report
         requires { IsThere me.now.pid self.old }
         ensures { Finds (1 + slots_of_wait target me.now.pid self.old.state.processes) self.old self.new (result ≡ report self.old.state.processes me.now.pid me.now.group target options.0) }
@@ -199,9 +262,9 @@ impl<K: Kin> Machine<K> {
         let _ = &self.table;
         match target {
             Target::Process(pid) => self.report_of_one(me.pid, pid, options),
-            Target::All => self.report_of_any(me.pid, options),
-            Target::OwnGroup => self.report_of_members(me.pid, me.group, options),
-            Target::Group(group) => self.report_of_members(me.pid, group, options),
+            Target::All => self.report_of_children(me.pid, &None, options),
+            Target::OwnGroup => self.report_of_children(me.pid, &Some(me.group), options),
+            Target::Group(group) => self.report_of_children(me.pid, &Some(group), options),
             Target::Nobody => Report::NoChild,
         }
     }

@@ -1,5 +1,6 @@
 -- A wait that asks those children alone that have something to report.
-use Rattle.std.proofs.Common.{◌≡◌, ◌<◌, ◌≤◌, ℕ, true, false, cond, refl, ap, sym, ◌∙◌, arith, List, [], ◌∷◌, length, filter, find, Option, Some, None, ◌==◌, ◌||◌}
+use Rattle.std.proofs.Common.{◌≡◌, ◌<◌, ◌≤◌, ℕ, Bool, true, false, cond, refl, ap, sym, ◌∙◌, arith, List, [], ◌∷◌, length, filter, find, Option, Some, None, is_some, nat_lt, ◌==◌, ◌||◌}
+use Rattle.std.specs.List.{list_any}
 use Rattle.posix.specs.declared.process.Life.{Life}
 use Rattle.posix.specs.declared.process.Life.TheVariants.{Running, Stopped, Zombie}
 use Rattle.posix.specs.declared.process.News.{News}
@@ -9,22 +10,12 @@ use Rattle.posix.specs.declared.process.Report.TheVariants as found
 use Rattle.posix.specs.declared.target.Target.TheVariants as whom
 use Rattle.posix.specs.Processes.{Process, is_zombie}
 use Rattle.posix.specs.Tables.{IsRising, lookup, has_pid, is_child, children_in, first_pid, above, left_of}
-use Rattle.posix.specs.Waits.{is_named, is_something, is_news, has_report, reporting_in, report_life, report_of, reports, report_found, report_among, report}
+use Rattle.posix.specs.Waits.{is_named, is_something, is_news, has_report, reporting_in, report_life, report_of, reports, report_found, report_among, report, look, report_of_meant}
 use Rattle.posix.proofs.TableLemmas.{rising_filter}
-use Rattle.posix.proofs.WalkLemmas.{above_all, here, head_left_of, left_of_head, in_filter, all_looked, numbered_one, numbered_none, filters_commute}
-use Rattle.posix.proofs.WaitLemmas.{after_look, is_no_child, one_named, is_there}
+use Rattle.posix.proofs.WalkLemmas.{AtOne, one_here, one_less, passing_above, all_left, has_first, head_left_of, in_filter, numbered_one, numbered_none, filters_commute}
+use Rattle.posix.proofs.WaitLemmas.{report_or, or_no_child, found_there, found_or_nothing, after_look, one_among, look_first}
 
 -- ---- a wait for one process
-
--- a look at one child finds what it reports
-looks_alone : (o : Report) → after_look o found.NoChild (λ s. s) ≡ o
-looks_alone found.NoChild = refl
-looks_alone found.Nothing = refl
-looks_alone (found.End p w) = refl
-looks_alone (found.Change p w) = refl
-
-one_among : (options : ℕ) (r : Process) → report_among options (r ∷ []) ≡ report_of options r
-one_among options r = sym (one_named (report_of options r) (λ s. s) options r [] refl (is_there options r) refl found.NoChild) ∙ looks_alone (report_of options r)
 
 -- the process that the wait is for is there
 pub report_one : (rs : List Process) → IsRising rs → (p group c options : ℕ) (r : Process) → lookup c rs ≡ Some r → report rs p group (whom.Process c) options ≡ cond (r.parent == p) (report_of options r) found.NoChild
@@ -54,7 +45,7 @@ report_none_meant rs p group options = ap (report_among options) (none_named (ch
     none_named [] = refl
     none_named (x ∷ xs) = none_named xs
 
--- ---- a wait for any child
+-- ---- those that have something to report
 
 -- without anything to report, nothing is reported
 silent_life : (options p : ℕ) (l : Life) (n : News) → (is_zombie l || is_news n) ≡ false → is_something (report_life options p l n) ≡ false
@@ -78,85 +69,65 @@ found_among options (x ∷ xs) = elim (has_report x) as (λ b. has_report x ≡ 
   | false ↦ λ e. rw (silent options x e) (found_among options xs)
 ] refl
 
-all_named : (group : ℕ) (rs : List Process) → filter (is_named group whom.All) rs ≡ rs
-all_named group [] = refl
-all_named group (x ∷ xs) = ap (λ ys. x ∷ ys) (all_named group xs)
+-- where none is there, there is no child, and else nothing to report
+abbrev pub unreported : Bool → Report
+unreported has_child = cond has_child found.Nothing found.NoChild
 
--- what is found where one reports
-among_some : (options : ℕ) (rs : List Process) (r : Process) → find (reports options) rs ≡ Some r → report_among options rs ≡ report_of options r
-among_some options [] r e = absurd (cc)
-among_some options (x ∷ xs) r e = ap (report_found options) e
+-- what children report is what those report that have something to report, or whether one is there
+reported_among : (options : ℕ) (rs : List Process) → report_or (report_among options (filter has_report rs)) (unreported (is_some (first_pid rs))) ≡ report_among options rs
+reported_among options [] = refl
+reported_among options (x ∷ xs) = sym (found_or_nothing options (filter has_report (x ∷ xs)) found.Nothing) ∙ found_there options _ found.Nothing ∙ ap (report_found options) (found_among options (x ∷ xs))
 
--- and where none does
-among_none : (options : ℕ) (rs : List Process) → find (reports options) rs ≡ None → (c : ℕ) → first_pid rs ≡ Some c → report_among options rs ≡ found.Nothing
-among_none options [] e c h = absurd (cc)
-among_none options (x ∷ xs) e c h = ap (report_found options) e
+-- so it is of those that are meant
+pub reported : (rs : List Process) (p : ℕ) (means : Process → Bool) (options : ℕ) (o : Report) (has_child : Bool) → o ≡ report_of_meant means options (reporting_in p rs) → has_child ≡ list_any means (children_in p rs) → report_or o (unreported has_child) ≡ report_of_meant means options (children_in p rs)
+unfolding reporting_in
+reported rs p means options o has_child e h =
+    let all : report_of_meant means options (reporting_in p rs) ≡ report_among options (filter has_report (filter means (children_in p rs))) = ap (report_among options) (filters_commute means has_report (children_in p rs)) in
+    rw (e ∙ all, h, ← has_first means (children_in p rs)) (reported_among options (filter means (children_in p rs)))
 
-among_empty : (options : ℕ) (rs : List Process) → first_pid rs ≡ None → report_among options rs ≡ found.NoChild
-among_empty options [] h = refl
-among_empty options (x ∷ xs) h = absurd (cc)
+-- ---- the walk over them
 
--- a walk over the children of p that have something to report: from the one that comes next, what is found is what
--- is found among all its children
-pub record IsReportWalk (rs : List Process) (p options : ℕ) (next : Option ℕ) : Type 0 where
+-- What those that are left report, from the one that comes next, or what was found so far, is what all of them report.
+pub record IsReportWalk (rs : List Process) (p : ℕ) (means : Process → Bool) (options : ℕ) (so_far : Report) (next : Option ℕ) : Type 0 where
   pub here : first_pid (left_of next (reporting_in p rs)) ≡ next
-  pub todo : find (reports options) (left_of next (reporting_in p rs)) ≡ find (reports options) (children_in p rs)
-
--- what the walk knows at the child c
-pub record AtReporting (rs : List Process) (p c : ℕ) : Type 0 where
-  pub what : Process
-  pub found : lookup c rs ≡ Some what
-  pub left : left_of (Some c) (reporting_in p rs) ≡ what ∷ left_of (first_pid (above c (reporting_in p rs))) (reporting_in p rs)
-
-pub at_reporting : (rs : List Process) → IsRising rs → (p c options : ℕ) → IsReportWalk rs p options (Some c) → AtReporting rs p c
-unfolding reporting_in children_in
-at_reporting rs up p c options w =
-    let kids = filter (is_child p) rs in
-    let rising = rising_filter (is_child p) rs up in
-    let h = here (filter has_report kids) (rising_filter has_report kids rising) c w.here in
-    record { what = h.what; found = (in_filter (is_child p) rs up c h.what (in_filter has_report kids rising c h.what h.found).found).found; left = h.left }
+  pub todo : report_or (report_of_meant means options (left_of next (reporting_in p rs))) so_far ≡ report_of_meant means options (reporting_in p rs)
 
 -- the walk begins with all of them
-pub report_begins : (rs : List Process) → IsRising rs → ((q : ℕ) (r : Process) → lookup q rs ≡ Some r → 1 ≤ r.pid) → (p options : ℕ) (next : Option ℕ) → next ≡ first_pid (above 0 (reporting_in p rs)) → IsReportWalk rs p options next
+pub report_begins : (rs : List Process) → IsRising rs → ((q : ℕ) (r : Process) → lookup q rs ≡ Some r → 1 ≤ r.pid) → (p : ℕ) (means : Process → Bool) (options : ℕ) (next : Option ℕ) → next ≡ first_pid (above 0 (reporting_in p rs)) → IsReportWalk rs p means options found.NoChild next
 unfolding reporting_in children_in
-report_begins rs up least p options next e =
+report_begins rs up least p means options next e =
     let kids = filter (is_child p) rs in
-    let rising = rising_filter (is_child p) rs up in
     let xs = filter has_report kids in
-    let all : above 0 xs ≡ xs = above_all 0 xs (all_looked _ xs (rising_filter has_report kids rising) (λ q r e. least q r (in_filter (is_child p) rs up q r (in_filter has_report kids rising q r e).found).found)) in
-    rw e (record { here = head_left_of xs 0; todo = ap (λ l. find (reports options) (left_of (first_pid l) xs)) all ∙ ap (find (reports options)) (left_of_head xs (rising_filter has_report kids rising)) ∙ found_among options kids })
+    let all : above 0 xs ≡ xs = filters_commute (λ r. nat_lt 0 r.pid) has_report kids ∙ ap (filter has_report) (passing_above (is_child p) rs up least) in
+    record {
+      here = rw e (head_left_of xs 0);
+      todo = ap (λ l. report_or (report_of_meant means options l) found.NoChild) (all_left xs next (rising_filter has_report kids (rising_filter (is_child p) rs up)) all e) ∙ or_no_child _;
+    }
 
--- it goes on behind one that has nothing to report for these options
-pub report_passes : (rs : List Process) (p c options : ℕ) (h : AtReporting rs p c) → IsReportWalk rs p options (Some c) → report_of options h.what ≡ found.Nothing → (next : Option ℕ) → next ≡ first_pid (above c (reporting_in p rs)) → IsReportWalk rs p options next
-report_passes rs p c options h w none next e = rw e (record {
-  here = head_left_of (reporting_in p rs) c;
-  todo = let skipped : find (reports options) (left_of (Some c) (reporting_in p rs)) ≡ find (reports options) (left_of (first_pid (above c (reporting_in p rs))) (reporting_in p rs)) = rw (h.left, none) refl in sym skipped ∙ w.todo;
-})
+-- what the walk knows of the one that comes next
+pub at_reporting : {rs : List Process} {p c options : ℕ} {means : Process → Bool} {so_far : Report} {next : Option ℕ} → IsRising rs → IsReportWalk rs p means options so_far next → next ≡ Some c → AtOne has_report c (children_in p rs)
+unfolding reporting_in children_in
+at_reporting {rs = rs} {p = p} {c = c} {next = next} up w comes = one_here has_report c (filter (is_child p) rs) next (rising_filter (is_child p) rs up) comes w.here
+
+-- that it is there
+pub reporting_found : (rs : List Process) → IsRising rs → (p c : ℕ) (h : AtOne has_report c (children_in p rs)) → lookup c rs ≡ Some h.what
+unfolding children_in
+reporting_found rs up p c h = (in_filter (is_child p) rs up c h.what h.found).found
+
+-- what it says, and then those behind it, is what all of them report
+pub report_here : {rs : List Process} {p c options : ℕ} {means : Process → Bool} {so_far : Report} {next after : Option ℕ} (up : IsRising rs) (w : IsReportWalk rs p means options so_far next) (comes : next ≡ Some c) → after ≡ first_pid (above c (reporting_in p rs))
+    → (o : Report) → o ≡ look means options (at_reporting up w comes).what → after_look o (report_of_meant means options (left_of after (reporting_in p rs))) so_far ≡ report_of_meant means options (reporting_in p rs)
+unfolding reporting_in
+report_here {rs = rs} {p = p} {c = c} {options = options} {means = means} {so_far = so_far} up w comes e o said =
+    let h = at_reporting up w comes in
+    rw (said, e) (sym (look_first means options h.what _ so_far) ∙ ap (λ l. report_or (report_of_meant means options l) so_far) (sym h.left ∙ ap (λ o. left_of o (reporting_in p rs)) (sym comes)) ∙ w.todo)
+
+-- where none is left, this was found
+pub report_over : {rs : List Process} {p options : ℕ} {means : Process → Bool} {so_far : Report} {next : Option ℕ} → IsReportWalk rs p means options so_far next → next ≡ None → so_far ≡ report_of_meant means options (reporting_in p rs)
+report_over {rs = rs} {p = p} {options = options} {means = means} {so_far = so_far} w over = sym (ap (λ o. report_or (report_of_meant means options (left_of o (reporting_in p rs))) so_far) over) ∙ w.todo
 
 -- fewer are left behind it
-pub reporting_less : (rs : List Process) (p c : ℕ) (h : AtReporting rs p c) (next : Option ℕ) → next ≡ first_pid (above c (reporting_in p rs))
-    → length (left_of next (reporting_in p rs)) < length (left_of (Some c) (reporting_in p rs))
-reporting_less rs p c h next e = let l = ap length h.left in rw e (omega (arith, l))
-
-is_some_report : (o : Report) → is_no_child o ≡ false → (o ≡ found.Nothing → ⊥) → is_something o ≡ true
-is_some_report found.NoChild e h = absurd (cc)
-is_some_report found.Nothing e h = absurd (h refl)
-is_some_report (found.End p w) e h = refl
-is_some_report (found.Change p w) e h = refl
-
--- one that reports ends the search
-pub report_here : (rs : List Process) (p c group options : ℕ) (h : AtReporting rs p c) → IsReportWalk rs p options (Some c) → (report_of options h.what ≡ found.Nothing → ⊥) → report rs p group whom.All options ≡ report_of options h.what
-unfolding report
-report_here rs p c group options h w some =
-    let yes : reports options h.what ≡ true = is_some_report (report_of options h.what) (is_there options h.what) some in
-    let first : find (reports options) (left_of (Some c) (reporting_in p rs)) ≡ Some h.what = rw (h.left, yes) refl in
-    ap (report_among options) (all_named group (children_in p rs)) ∙ among_some options (children_in p rs) h.what (sym w.todo ∙ first)
-
--- where none is left, there is nothing to report, if there is a child
-pub report_nothing : (rs : List Process) (p group options : ℕ) → IsReportWalk rs p options None → (c : ℕ) → first_pid (children_in p rs) ≡ Some c → report rs p group whom.All options ≡ found.Nothing
-unfolding report
-report_nothing rs p group options w c e = ap (report_among options) (all_named group (children_in p rs)) ∙ among_none options (children_in p rs) (sym w.todo) c e
-
-pub report_childless : (rs : List Process) (p group options : ℕ) → first_pid (children_in p rs) ≡ None → report rs p group whom.All options ≡ found.NoChild
-unfolding report
-report_childless rs p group options e = ap (report_among options) (all_named group (children_in p rs)) ∙ among_empty options (children_in p rs) e
+pub reporting_less : {rs : List Process} {p c options : ℕ} {means : Process → Bool} {so_far : Report} {next after : Option ℕ} → IsRising rs → IsReportWalk rs p means options so_far next → next ≡ Some c → after ≡ first_pid (above c (reporting_in p rs))
+    → length (left_of after (reporting_in p rs)) < length (left_of next (reporting_in p rs))
+unfolding reporting_in
+reporting_less {rs = rs} {p = p} {c = c} {next = next} {after = after} up w comes e = let less = one_less has_report c (children_in p rs) next after (at_reporting up w comes) comes e in omega (arith, less)

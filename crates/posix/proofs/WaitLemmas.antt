@@ -1,32 +1,14 @@
--- A wait that looks at one child after another.
-use Rattle.std.proofs.Common.{◌≡◌, ℕ, Bool, true, false, cond, refl, sym, List, [], ◌∷◌, filter, find, Some}
+-- What children say to a wait, one after another.
+use Rattle.std.proofs.Common.{◌≡◌, ℕ, Bool, true, false, cond, refl, sym, ◌∙◌, List, [], ◌∷◌, filter, find, Option, Some, None}
 use Rattle.posix.specs.declared.process.Life.{Life}
 use Rattle.posix.specs.declared.process.Life.TheVariants.{Running, Stopped, Zombie}
 use Rattle.posix.specs.declared.process.News.{News}
 use Rattle.posix.specs.declared.process.News.TheVariants as news
 use Rattle.posix.specs.declared.process.Report.{Report}
 use Rattle.posix.specs.declared.process.Report.TheVariants as found
-use Rattle.posix.specs.declared.target.Target.{Target}
 use Rattle.posix.specs.Statuses.{stopped, continued}
 use Rattle.posix.specs.Processes.{Process, is_zombie}
-use Rattle.posix.specs.Waits.{is_named, is_something, has_option, WUNTRACED, WCONTINUED, report_change, report_life, report_of, reports, report_found, report_among, look}
-
--- what a look makes of what was found so far: it ends the search, or the rest follows
-abbrev pub after_look : Report → Report → (Report → Report) → Report
-after_look found.NoChild so_far rest = rest so_far
-after_look found.Nothing so_far rest = rest found.Nothing
-after_look (found.End p w) so_far rest = found.End p w
-after_look (found.Change p w) so_far rest = found.Change p w
-
-unfoldable pub scan : ℕ → Target → ℕ → Report → List Process → Report
-scan group target options so_far [] = so_far
-scan group target options so_far (r ∷ rs) = after_look (look group target options r) so_far (λ s. scan group target options s rs)
-
-abbrev pub is_no_child : Report → Bool
-is_no_child found.NoChild = true
-is_no_child found.Nothing = false
-is_no_child (found.End p w) = false
-is_no_child (found.Change p w) = false
+use Rattle.posix.specs.Waits.{is_something, has_option, WUNTRACED, WCONTINUED, report_change, report_life, report_of, reports, report_found, report_among, look, report_of_meant}
 
 -- what holds of nothing and of each change holds of what news report
 by_news : (P : Report → Type 0) (options p : ℕ) → P found.Nothing → ((w : ℕ) → P (found.Change p w)) → (n : News) → P (report_change options p n)
@@ -45,35 +27,61 @@ pub by_report : (P : Bool → Report → Type 0) (options : ℕ) (r : Process) �
 unfolding report_of
 by_report P options r nothing change ended = by_life P options r.pid nothing change ended r.life r.news
 
+-- ---- what is found, and what is asked after it
+
+-- a report, or where there is no child another one
+abbrev pub report_or : Report → Report → Report
+report_or found.NoChild other = other
+report_or o other = o
+
+pub or_no_child : (o : Report) → report_or o found.NoChild ≡ o
+or_no_child found.NoChild = refl
+or_no_child o = refl
+
+-- where there is a child, nothing else is asked
+pub said_here : (o other : Report) → (o ≡ found.NoChild → ⊥) → report_or o other ≡ o
+said_here found.NoChild other h = absurd (h refl)
+said_here o other h = refl
+
 -- a child is a child, whatever it reports
-pub is_there : (options : ℕ) (r : Process) → is_no_child (report_of options r) ≡ false
-is_there options r = by_report (λ z o. is_no_child o ≡ false) options r refl (λ w. refl) (λ w. refl)
+pub says_something : (options : ℕ) (r : Process) → report_of options r ≡ found.NoChild → ⊥
+says_something options r = by_report (λ z o. o ≡ found.NoChild → ⊥) options r (λ e. cc) (λ w e. cc) (λ w e. cc)
 
--- one child that is named, and then the others
-pub one_named : (o : Report) (rest : Report → Report) (options : ℕ) (r : Process) (rs : List Process) → report_of options r ≡ o → is_no_child o ≡ false
-    → rest found.Nothing ≡ report_found options (find (reports options) rs) → (so_far : Report)
-    → after_look o so_far rest ≡ report_found options (cond (is_something o) (Some r) (find (reports options) rs))
-one_named found.NoChild rest options r rs e child h so_far = absurd (cc)
-one_named found.Nothing rest options r rs e child h so_far = h
-one_named (found.End p w) rest options r rs e child h so_far = sym e
-one_named (found.Change p w) rest options r rs e child h so_far = sym e
+pub found_there : (options : ℕ) (o : Option Process) (other : Report) → report_or (report_found options o) other ≡ report_found options o
+found_there options None other = refl
+found_there options (Some r) other = said_here (report_of options r) other (says_something options r)
 
--- where one is named already
-scan_found : (group : ℕ) (target : Target) (options : ℕ) (rs : List Process) → scan group target options found.Nothing rs ≡ report_found options (find (reports options) (filter (is_named group target) rs))
-unfolding scan look
-scan_found group target options [] = refl
-scan_found group target options (r ∷ rs) = elim (is_named group target r) as (λ b. after_look (cond b (report_of options r) found.NoChild) found.Nothing (λ s. scan group target options s rs)
-    ≡ report_found options (find (reports options) (cond b (r ∷ filter (is_named group target) rs) (filter (is_named group target) rs)))) [
-      | true ↦ one_named (report_of options r) (λ s. scan group target options s rs) options r (filter (is_named group target) rs) refl (is_there options r) (scan_found group target options rs) found.Nothing
-      | false ↦ scan_found group target options rs
-    ]
+-- where a child is there that has nothing to report, others are asked for a report alone
+pub found_or_nothing : (options : ℕ) (rs : List Process) (so_far : Report) → report_or (report_found options (find (reports options) rs)) so_far ≡ report_or (report_among options rs) found.Nothing
+found_or_nothing options [] so_far = refl
+found_or_nothing options (x ∷ xs) so_far = let o = find (reports options) (x ∷ xs) in found_there options o so_far ∙ sym (found_there options o found.Nothing)
 
--- looking at one after another finds what the definition names
-pub scan_is_report : (group : ℕ) (target : Target) (options : ℕ) (rs : List Process) → scan group target options found.NoChild rs ≡ report_among options (filter (is_named group target) rs)
-unfolding scan look
-scan_is_report group target options [] = refl
-scan_is_report group target options (r ∷ rs) = elim (is_named group target r) as (λ b. after_look (cond b (report_of options r) found.NoChild) found.NoChild (λ s. scan group target options s rs)
-    ≡ report_among options (cond b (r ∷ filter (is_named group target) rs) (filter (is_named group target) rs))) [
-      | true ↦ one_named (report_of options r) (λ s. scan group target options s rs) options r (filter (is_named group target) rs) refl (is_there options r) (scan_found group target options rs) found.NoChild
-      | false ↦ scan_is_report group target options rs
-    ]
+-- ---- one child, and then others
+
+-- what a look at one child, and then the rest, make of what was found so far
+abbrev pub after_look : Report → Report → Report → Report
+after_look found.NoChild rest so_far = report_or rest so_far
+after_look found.Nothing rest so_far = report_or rest found.Nothing
+after_look o rest so_far = o
+
+-- a child that has something to report ends the search
+pub found_here : (o rest so_far : Report) → (o ≡ found.NoChild → ⊥) → (o ≡ found.Nothing → ⊥) → after_look o rest so_far ≡ o
+found_here found.NoChild rest so_far h k = absurd (h refl)
+found_here found.Nothing rest so_far h k = absurd (k refl)
+found_here o rest so_far h k = refl
+
+-- one child alone
+pub one_among : (options : ℕ) (r : Process) → report_among options (r ∷ []) ≡ report_of options r
+one_among options r = by_report (λ z o. o ≡ report_of options r → report_found options (cond (is_something o) (Some r) None) ≡ o) options r (λ e. refl) (λ w e. sym e) (λ w e. sym e) refl
+
+first_among : (options : ℕ) (r : Process) (rs : List Process) (so_far : Report) → report_or (report_among options (r ∷ rs)) so_far ≡ after_look (report_of options r) (report_among options rs) so_far
+first_among options r rs so_far =
+    by_report (λ z o. o ≡ report_of options r → report_or (report_found options (cond (is_something o) (Some r) (find (reports options) rs))) so_far ≡ after_look o (report_among options rs) so_far) options r
+    (λ e. found_or_nothing options rs so_far) (λ w e. rw (← e) refl) (λ w e. rw (← e) refl) refl
+
+-- the first of several, of which some are meant
+pub look_first : (means : Process → Bool) (options : ℕ) (r : Process) (rs : List Process) (so_far : Report) → report_or (report_of_meant means options (r ∷ rs)) so_far ≡ after_look (look means options r) (report_of_meant means options rs) so_far
+look_first means options r rs so_far = elim (means r) as (λ b. report_or (report_among options (cond b (r ∷ filter means rs) (filter means rs))) so_far ≡ after_look (cond b (report_of options r) found.NoChild) (report_of_meant means options rs) so_far) [
+  | true ↦ first_among options r (filter means rs) so_far
+  | false ↦ refl
+]

@@ -1,5 +1,5 @@
 -- Processes of a table in rising order, and children, read off one after another.
-use Rattle.std.proofs.Common.{◌≡◌, ℕ, ◌<◌, ◌≤◌, Bool, true, false, not, ◌&&◌, ◌||◌, cond, refl, ap, sym, ◌∙◌, arith, subst, List, [], ◌∷◌, ◌++◌, filter, find, Option, Some, None, ◌==◌, ◌-◌, nat_lt, nat_le, inl, inr}
+use Rattle.std.proofs.Common.{◌≡◌, ℕ, ◌+◌, length, is_some, ◌<◌, ◌≤◌, Bool, true, false, not, ◌&&◌, ◌||◌, cond, refl, ap, sym, ◌∙◌, arith, subst, List, [], ◌∷◌, ◌++◌, filter, find, Option, Some, None, ◌==◌, ◌-◌, nat_lt, nat_le, inl, inr}
 use Rattle.std.specs.List.{AllByRecursion, list_any}
 use Rattle.std.specs.Option.{IfSome, IsSome}
 use Rattle.std.proofs.lemmas.List.Elements.{filter-append}
@@ -345,6 +345,41 @@ pub passing_is_next : (t : Process → Bool) (n : ℕ) (rs : List Process) → I
 passing_is_next t n rs up =
     subst (λ l. IsNext t n rs (first_pid l)) (sym (both_pass t (λ r. nat_lt n r.pid) rs))
     (first_is_next t (λ r. t r && nat_lt n r.pid) n rs up (λ r e. ltb-true _ _ (and_parts (t r) _ e).1) (λ r l k. let u : nat_lt n r.pid ≡ true = grind (arith, nat_tests) in rw (k, u) refl))
+
+-- ---- a walk over those that pass a test, by the numbers of these alone
+
+-- what is left begins with the one that comes next
+pub next_begins : (n : ℕ) (rs : List Process) (next : Option ℕ) → next ≡ first_pid (above n rs) → first_pid (left_of next rs) ≡ next
+next_begins n rs next e = rw e (head_left_of rs n)
+
+-- what a walk over those that pass a test knows at p, which is one of them
+pub record AtOne (t : Process → Bool) (p : ℕ) (rs : List Process) : Type 0 where
+  pub what : Process
+  pub found : lookup p rs ≡ Some what
+  pub left : left_of (Some p) (filter t rs) ≡ what ∷ left_of (first_pid (above p (filter t rs))) (filter t rs)
+
+-- where it comes next, and what is left begins with it
+pub one_here : (t : Process → Bool) (p : ℕ) (rs : List Process) (next : Option ℕ) → IsRising rs → next ≡ Some p → first_pid (left_of next (filter t rs)) ≡ next → AtOne t p rs
+one_here t p rs next up comes begins =
+    let h = here (filter t rs) (rising_filter t rs up) p (rw comes at begins) in
+    record { what = h.what; found = (in_filter t rs up p h.what h.found).found; left = h.left }
+
+-- one less is left behind it
+pub one_less : (t : Process → Bool) (p : ℕ) (rs : List Process) (next after : Option ℕ) → AtOne t p rs → next ≡ Some p → after ≡ first_pid (above p (filter t rs)) → length (left_of next (filter t rs)) ≡ 1 + length (left_of after (filter t rs))
+one_less t p rs next after at comes e = let long = ap length at.left in rw (comes, e) (omega (arith, long))
+
+-- all who pass lie above 0
+pub passing_above : (t : Process → Bool) (rs : List Process) → IsRising rs → ((q : ℕ) (r : Process) → lookup q rs ≡ Some r → 1 ≤ r.pid) → above 0 (filter t rs) ≡ filter t rs
+passing_above t rs up least = filters_commute (λ r. nat_lt 0 r.pid) t rs ∙ ap (filter t) (above_all 0 rs (all_looked _ rs up least))
+
+-- so from the first of them on all are left
+pub all_left : (rs : List Process) (next : Option ℕ) → IsRising rs → above 0 rs ≡ rs → next ≡ first_pid (above 0 rs) → left_of next rs ≡ rs
+all_left rs next up all e = ap (λ o. left_of o rs) (e ∙ ap first_pid all) ∙ left_of_head rs up
+
+-- there is a first of those that pass a test where one passes it
+pub has_first : (t : Process → Bool) (rs : List Process) → is_some (first_pid (filter t rs)) ≡ list_any t rs
+has_first t [] = refl
+has_first t (r ∷ rs) = grind (arith, has_first t rs)
 
 -- ---- how long a walk is
 

@@ -101,9 +101,13 @@ has_report r = is_zombie r.life || is_news r.news
 unfoldable pub reporting_in : ℕ → List Process → List Process
 reporting_in p rs = filter has_report (children_in p rs)
 
--- what one child says: it isn't named, or this is its report
-unfoldable pub look : ℕ → Target → ℕ → Process → Report
-look group target options r = if is_named group target r then report_of options r else found.NoChild
+-- what one child says: it isn't meant, or this is its report
+abbrev pub look : (Process → Bool) → ℕ → Process → Report
+look means options r = if means r then report_of options r else found.NoChild
+
+-- what those of these children report that are meant
+abbrev pub report_of_meant : (Process → Bool) → ℕ → List Process → Report
+report_of_meant means options rs = report_among options (filter means rs)
 
 -- ---- the call
 

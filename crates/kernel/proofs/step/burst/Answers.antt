@@ -1,4 +1,4 @@
-use Rattle.std.proofs.Common.{◌∙◌, sym}
+use Rattle.std.proofs.Common.{◌∙◌, arith, sym}
 use Rattle.kernel.proofs.BurstLemmas.{placed_now, readies, shows}
 use Rattle.kernel.proofs.step.burst.Goals as goal
 
@@ -21,6 +21,8 @@ returns g c =
       short = e.short;
       call = shown.call;
       numbers = shown.numbers;
+      state = shown.state;
+      visits = omega (arith, c.snapshot.ensures.looks.visits, e.runs.costs.visits);
       to_recheck = e.runs.to_recheck (placed_now s _ p c.snapshot.ensures.looks.same.state now) ∙ c.snapshot.ensures.looks.same.to_recheck;
       foregrounds_unchecked = e.runs.foregrounds_unchecked ∙ c.snapshot.ensures.looks.same.foregrounds_unchecked;
       regular = e.regular;

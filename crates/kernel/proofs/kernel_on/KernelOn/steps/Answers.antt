@@ -6,7 +6,10 @@ use Rattle.posix.specs.NextPid.{is_free}
 use Rattle.posix.specs.Regular.{IsRegular}
 use Rattle.laws.specs.Agree.{AreTurns}
 use Rattle.kernel.specs.Steps.{Bursts, noted_lines, last_given, is_followed_by_step}
+use Rattle.kernel.specs.Counts.{IsAtRest, slots_of_steps}
 use Rattle.kernel.specs.Views.{KernelView}
+use Rattle.kernel.proofs.CountLemmas.{steps_read}
+use Rattle.std.specs.Option.{IfSome}
 use Rattle.kernel.proofs.EventLemmas.{counts_on, then_on, followed_short}
 use Rattle.kernel.proofs.RunLemmas.{step_after}
 use Rattle.laws.proofs.AgreeRuns.{step_turns}
@@ -14,6 +17,10 @@ use Rattle.laws.proofs.RefusalLemmas.{birth_free}
 use Rattle.kernel.proofs.AgreeLemmas.{StepsTell, burst_tells, step_tells, burst_keeps}
 use Rattle.kernel.proofs.kernel_on.KernelOn.steps.Given.{Over}
 use Rattle.kernel.proofs.kernel_on.KernelOn.steps.Goals as goal
+
+-- steps from this view read as many slots as is said of them
+abbrev ReadsOf : ℕ → ℕ → KernelView → Type 0
+ReadsOf last visits k = IfSome (slots_of_steps k.events last k.state) (λ n. visits ≤ k.visits + n)
 
 pub invariant_of-self-2 : goal.invariant_of-self-2
 invariant_of-self-2 g c =
@@ -56,6 +63,8 @@ returns-in_default g c =
       agrees = told.agrees (subst (λ (k : KernelView). AreTurns k.state) c.self.view_is c.self.invariant.6);
       no_number_is_given_out_twice = λ e n shown born.
           subst (λ (k : KernelView). is_free k.state.processes n ≡ true) c.self.view_is (sym (b.ensures.numbers n) ∙ birth_free b.new.machine.state c.event_into-in_default.new.self.state Step _ c.event_into-in_default.ensures.step e n shown born);
+      visits = subst (ReadsOf c.args.last c.event_into-in_default.new.self.visits) c.self.view_is
+          (steps_read c.self.inside.events c.args.last c.self.inside.machine.visits b.new.machine.visits _ _ _ (record { last = b.result.last; notes = b.new.notes.items; trap = b.result.trap }) going b.ensures.taken b.ensures.state b.ensures.visits (λ e. c.event_into-in_default.ensures.visits) (λ e. absurd (cc)));
     }
 
 pub returns-clause-runs : goal.returns-clause-runs
@@ -135,3 +144,21 @@ pub returns-clause-no_number_is_given_out_twice : goal.returns-clause-no_number_
 returns-clause-no_number_is_given_out_twice g c = λ e n shown born.
     let b = c.burst-done in
     subst (λ (k : KernelView). is_free k.state.processes n ≡ true) c.self.view_is (sym (b.ensures.numbers n) ∙ birth_free b.new.machine.state c.call_next.new.machine.state Step _ c.call_next.ensures.step e n shown born)
+
+pub returns-clause-visits : goal.returns-clause-visits
+returns-clause-visits g c =
+    let b = c.burst-done in
+    let old = c.self.invariant in
+    let follows : is_followed_by_step c.self.inside.events b.result.last b.result.trap ≡ true = grind arith in
+    let going : c.self.inside.machine.state.halted ≡ false = grind arith in
+    let rest : IsAtRest b.new.machine = record { none = b.ensures.to_recheck ∙ old.4; checked = b.ensures.foregrounds_unchecked ∙ old.5; settled = b.ensures.runs.settled; regular = b.ensures.regular } in
+    subst (ReadsOf c.args.last c.call_next.new.machine.visits) c.self.view_is
+    (steps_read c.self.inside.events c.args.last c.self.inside.machine.visits b.new.machine.visits _ _ _ (record { last = b.result.last; notes = b.new.notes.items; trap = b.result.trap }) going b.ensures.taken b.ensures.state b.ensures.visits (λ e. c.call_next.ensures.visits rest) (λ e. absurd (cc)))
+
+pub returns-then-not-is_followed_by_step-clause-visits : goal.returns-then-not-is_followed_by_step-clause-visits
+returns-then-not-is_followed_by_step-clause-visits g c =
+    let b = c.burst-done in
+    let alone : is_followed_by_step c.self.inside.events b.result.last b.result.trap ≡ false = grind arith in
+    let going : c.self.inside.machine.state.halted ≡ false = grind arith in
+    subst (ReadsOf c.args.last b.new.machine.visits) c.self.view_is
+    (steps_read c.self.inside.events c.args.last c.self.inside.machine.visits b.new.machine.visits _ _ _ (record { last = b.result.last; notes = b.new.notes.items; trap = b.result.trap }) going b.ensures.taken b.ensures.state b.ensures.visits (λ e. absurd (cc)) (λ e. refl))

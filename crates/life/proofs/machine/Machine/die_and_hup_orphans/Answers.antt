@@ -1,6 +1,7 @@
-use Rattle.std.proofs.Common.{rules, ◌≡◌, ap, sym, ◌∙◌, subst}
-use Rattle.std.proofs.lemmas.Bool.{not-false}
+use Rattle.std.proofs.Common.{rules, ℕ, ◌≡◌, ap, arith, length, ◌∙◌, subst}
 use Rattle.posix.specs.States.{State, process}
+use Rattle.posix.specs.Tables.{children_in}
+use Rattle.life.specs.Ends.{slots_of_hups, slots_of_orphans}
 use Rattle.posix.proofs.HupAndContLemmas.{still_there, lasts_hup_and_cont_all}
 use Rattle.posix.proofs.OrphanLemmas.{after_departure}
 use Rattle.pidset.specs.Numbers.{Rises}
@@ -21,6 +22,7 @@ returns g c =
     let now = c.keep_orphans_with_stopped.new.self in
     let last = (lasts_hup_and_cont_all now.groups_at_risk now.state.processes c.hup_and_cont_all.ensures.regular.rising).same in
     let zombie = c.leave_children_and_die-parent.ensures.zombie in
+    let many = λ (q : ℕ). ap (λ (t : State). length (children_in q t.processes)) c.note_groups_at_risk.ensures.notes.state in
     record {
       state = search rules;
       is = search rules;
@@ -31,5 +33,7 @@ returns g c =
       zombie =
           let it = still_there p now.state.processes _ last zombie.0 (ap (λ (s : State). process s p) c.keep_orphans_with_stopped.ensures.same ∙ zombie.1) in
           rw c.hup_and_cont_all.ensures.state (it.what, it.found, it.zombie ∙ zombie.2);
-      visits = λ nobody. let some = not-false _ (sym c.nobody_stopped.ensures ∙ c.if-nobody_stopped.false) in absurd (cc);
+      visits =
+          let slots : slots_of_hups now.groups_at_risk now.state.processes ≡ slots_of_orphans s gone = search rules in
+          omega (arith, slots, many p, many c.args.heir, c.note_groups_at_risk.ensures.notes.visits, c.leave_children_and_die-parent.ensures.costs.visits, c.keep_orphans_with_stopped.ensures.visits, c.hup_and_cont_all.ensures.visits);
     }

@@ -1,11 +1,15 @@
-use Rattle.std.proofs.Common.{◌≡◌, ap, sym, ◌∙◌, arith, Some, slice_get}
-use Rattle.std.proofs.lemmas.Option.{get_or_from_slice_get, slice_get_within}
+use Rattle.std.proofs.Common.{◌≡◌, ◌||◌, ap, sym, ◌∙◌, arith, refl, Some, slice_get, ⊎_elim}
+use Rattle.std.proofs.lemmas.Bool.{or_cases, or_left, or_right}
+use Rattle.std.proofs.lemmas.Option.{get_or_from_slice_get, same_Some, slice_get_within}
 use Rattle.proctable.specs.declared.snapshot.Snapshot.{Snapshot}
 use Rattle.posix.specs.SignalNumbers.{HUP}
 use Rattle.posix.specs.Consoles.{Console, console_of, released}
-use Rattle.posix.specs.States.{State}
+use Rattle.posix.specs.States.{State, is_in}
+use Rattle.posix.specs.Tables.{members_in, pids}
 use Rattle.posix.specs.Ends.{signalled_group}
 use Rattle.life.specs.Consoles.{hangs_up}
+use Rattle.life.specs.Machines.{readers_at}
+use Rattle.life.proofs.TakingLemmas.{asked_members}
 use Rattle.life.proofs.SoundLemmas.{snapshot_are}
 use Rattle.life.proofs.ConsoleLemmas.{put, others_stay, none_stays, leader_hangs_up, slots_hung_up}
 use Rattle.life.proofs.ViewLemmas.{state_is, looks_cost, costs_then, cost_more}
@@ -62,3 +66,18 @@ returns-clause-costs g c = λ me found.
     let processes = ap (λ (s : State). s.processes) (c.release.ensures.state it.0 (ap (λ (s : State). slice_get s.consoles console_index) looks.same.state ∙ at)) ∙ ap (λ (s : State). s.processes) looks.same.state in
     cost_more (costs_then (costs_then (looks_cost looks) c.release.ensures.costs) c.signal_group.ensures.costs)
     (let all = slots_hung_up c.args.self.now me console_index c.foreground-foreground.result it.0 _ leads processes at (ap (console_of me.session) all ∙ ap (λ n. console_of n c.deref.result.now) (sym session) ∙ it.2) foreground in omega (arith, all))
+
+pub returns-clause-those : goal.returns-clause-those
+returns-clause-those g c = λ me k p d found at session on.
+    let old = c.args.self.now in
+    let console_index = c.in-Some-terminal_index.console_index in
+    let it = c.in-Some-terminal_index.ensures in
+    let cs = c.self.inside.consoles.items in
+    let its : it.0.session ≡ me.session = it.3 ∙ ap (λ (f : Snapshot). f.session) (snapshot_are _ me c.in-Some.snapshot c.in-Some.ensures.value found) in
+    let looks = c.snapshot.ensures.looks in
+    let inside : slice_get cs console_index ≡ Some it.0 = ap (λ cs. slice_get cs console_index) (sym c.deref.ensures.value) ∙ it.1 in
+    let here : slice_get old.state.consoles console_index ≡ Some it.0 = ap (λ (s : State). slice_get s.consoles console_index) (sym (state_is c.self.view_is ∙ looks.same.state)) ∙ inside in
+    let one : console_index ≡ k = looks.regular.consoles.apart console_index k it.0 d here at (λ zero. let least = (looks.regular.bounded c.args.pid me found).session_least in omega (arith, its, least, zero)) (its ∙ sym session) in
+    let foreground = c.foreground-foreground.ensures.is ∙ ap (λ (x : Console). x.foreground) (c.index.ensures ∙ get_or_from_slice_get cs console_index it.0 _ inside ∙ same_Some _ _ (sym here ∙ ap (λ n. slice_get old.state.consoles n) one ∙ at)) in
+    let gone = ap (λ (s : State). s.processes) (c.release.ensures.state it.0 (ap (λ (s : State). slice_get s.consoles console_index) looks.same.state ∙ here)) ∙ ap (λ (s : State). s.processes) looks.same.state in
+    ⊎_elim (λ a. or_left _ _ (sym (ap (λ ns. is_in p ns || is_in p (readers_at console_index c.snapshot.new.self.readers)) looks.same.to_recheck ∙ ap (λ rs. is_in p old.to_recheck || is_in p (readers_at console_index rs)) looks.same.readers ∙ ap (λ n. is_in p old.to_recheck || is_in p (readers_at n old.readers)) one) ∙ c.release.ensures.those p a)) (λ b. or_right _ _ (sym (ap (λ n. is_in p (pids (members_in n c.release.new.self.state.processes))) foreground ∙ ap (λ rs. is_in p (pids (members_in d.foreground rs))) gone) ∙ b)) (or_cases _ _ (asked_members HUP c.foreground-foreground.result p c.release.new.self.state.order c.release.new.self.state.processes c.release.new.self.to_recheck refl (ap (is_in p) (sym c.signal_group.ensures.to_recheck) ∙ on)))

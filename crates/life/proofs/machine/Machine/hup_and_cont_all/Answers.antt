@@ -16,8 +16,8 @@ loop-next-preserved g c =
     let both = ap (λ (s : State). s.processes) c.hup_and_cont.ensures.state in
     let kept = c.hup_and_cont.ensures.groups_at_risk in
     let groups_at_risk = ap (λ (m : MachineView). m.groups_at_risk) c.self-in-Some.view_is in
-    let signalling = subst (λ ns. IsSignalling c.args.self.now.groups_at_risk ns c.args.self.now.state.processes c.hup_and_cont.new.self.state.processes c.next_above-next.result) (sym kept)
-    (signalling_goes_on c.loop-next.invariant.signalling c.in-Some.is both (c.next_above-next.ensures.is ∙ ap (λ ns. slice_get (numbers_above c.in-Some.group ns) 0) (groups_at_risk ∙ kept))) in
+    let signalling = subst (λ ns. IsSignalling c.args.self.now.groups_at_risk ns c.args.self.now.state.processes c.hup_and_cont.new.self.state.processes c.next_above-next.result c.args.self.now.visits c.hup_and_cont.new.self.visits) (sym kept)
+    (signalling_goes_on c.loop-next.invariant.signalling c.in-Some.is both c.hup_and_cont.ensures.visits (c.next_above-next.ensures.is ∙ ap (λ ns. slice_get (numbers_above c.in-Some.group ns) 0) (groups_at_risk ∙ kept))) in
     search rules
 
 pub returns-clause-state : goal.returns-clause-state
@@ -25,3 +25,6 @@ unfolding hup_and_cont_all
 returns-clause-state g c =
     let k = c.loop-next.invariant.signalling in
     c.loop-next.invariant.others ∙ ap (with_processes c.args.self.now.state) (sym (ap (λ left. hup_and_cont_all left c.loop-next.self.state.processes) (none_left k.left (sym k.walk.comes ∙ c.in_default.is))) ∙ k.todo)
+
+pub returns-clause-visits : goal.returns-clause-visits
+returns-clause-visits g c = omega (arith, c.loop-next.invariant.signalling.read)

@@ -7,7 +7,7 @@ use Rattle.life.proofs.machine.Machine.hup_and_cont_all.Given as goal
 abbrev pub invariant-loop-next : goal.invariant-loop-next
 invariant-loop-next g l = record {
   others : l.self.state ≡ with_processes l.fn.self.state l.self.state.processes;
-  signalling : IsSignalling l.fn.self.groups_at_risk l.self.groups_at_risk l.fn.self.state.processes l.self.state.processes l.next;
+  signalling : IsSignalling l.fn.self.groups_at_risk l.self.groups_at_risk l.fn.self.state.processes l.self.state.processes l.next l.fn.self.visits l.self.visits;
 }
 
 abbrev pub decreases-loop-next : goal.decreases-loop-next

@@ -9,6 +9,7 @@ invariant-loop-next g l =
     let rs = l.fn.self.state.processes in
     record {
       same : l.self.state ≡ l.fn.self.state;
+      read : l.self.visits ≡ l.fn.self.visits;
       keeping : IsKeeping (λ n. is_orphaned n rs && has_stopped n rs) l.fn.self.groups_at_risk l.self.groups_at_risk l.next;
     }
 

@@ -1,4 +1,4 @@
-use Rattle.std.proofs.Common.{◌≡◌, ap, false, ◌∙◌, refl, sym, arith, [], ◌∷◌}
+use Rattle.std.proofs.Common.{inl, ◌≡◌, ap, false, ◌∙◌, refl, sym, arith, [], ◌∷◌}
 use Rattle.posix.proofs.RegularLemmas.{regular_lose}
 use Rattle.posix.proofs.OrderLemmas.{placed_some}
 use Rattle.posix.specs.States.{State, is_in}
@@ -18,7 +18,7 @@ invariant_of-self g c =
     let here = placed_some _ c.args.pid (c.self.invariant.sound.regular.placed c.args.pid (sym c.has.ensures ∙ c.if-has.true)) in
     rw c.drop_place.ensures.pids record {
       sound = sound_order _ _ _ _ _ (omega (arith, c.drop_place.ensures.room)) (regular_lose c.args.pid _ c.self.invariant.sound.regular) c.self.invariant.sound;
-      listed = listed_with _ _ _ _ (c.args.pid ∷ []) (c.args.pid ∷ []) c.self.invariant.listed (touches_lost _ c.args.pid) (refl, refl, λ q u e. still_out c.args.pid q _ e) (λ q e. e) (here, tt) (λ q there e. e) c.insert.ensures.pids c.insert.ensures.room;
+      listed = listed_with _ _ _ _ (c.args.pid ∷ []) (c.args.pid ∷ []) c.self.invariant.listed (touches_lost _ c.args.pid) (refl, refl, λ q u e. still_out c.args.pid q _ e) (λ q e. e) (here, tt) (λ q there e. inl e) c.insert.ensures.pids c.insert.ensures.room;
       noted = c.self.invariant.noted;
       fresh = c.self.invariant.fresh;
     }

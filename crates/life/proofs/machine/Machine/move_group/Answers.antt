@@ -12,7 +12,7 @@ use Rattle.life.specs.declared.caller.Caller.{Caller}
 use Rattle.life.specs.Machines.{state_of, with_processes}
 use Rattle.life.proofs.FunnelLemmas.{stays_so}
 use Rattle.life.proofs.MoveLemmas.{is_moving}
-use Rattle.life.proofs.SoundLemmas.{snapshot_are, found_in, is_there}
+use Rattle.life.proofs.SoundLemmas.{snapshot_are, is_there}
 use Rattle.life.proofs.ViewLemmas.{state_is}
 use Rattle.life.proofs.machine.Machine.move_group.Goals as goal
 

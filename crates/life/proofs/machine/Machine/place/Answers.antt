@@ -1,5 +1,5 @@
 use Rattle.std.proofs.lemmas.Bool.{ne_eqb}
-use Rattle.std.proofs.Common.{◌≡◌, ◌∙◌, ◌||◌, ◌==◌, ap, refl, sym, subst, arith, true, false, [], ◌∷◌}
+use Rattle.std.proofs.Common.{inl, ◌≡◌, ◌∙◌, ◌||◌, ◌==◌, ap, refl, sym, subst, arith, true, false, [], ◌∷◌}
 use Rattle.posix.specs.States.{State, is_in}
 use Rattle.posix.specs.Regular.{IsPlaced}
 use Rattle.posix.proofs.OrderLemmas.{regular_placed}
@@ -28,7 +28,7 @@ invariant_of-self g c =
       sound = sound_order _ _ _ _ _ (omega (arith, c.place.ensures.room)) (regular_placed c.args.pid _ c.self.invariant.sound.regular there none) c.self.invariant.sound;
       listed = listed_same _ _ _ (c.args.pid ∷ []) c.self.invariant.listed (λ q r e u. touches_placed _ c.args.pid q r e refl)
           (refl, refl, λ q u e. in_last q c.args.pid _ ∙ ap (λ b. b || c.args.pid == q) e ∙ ne_eqb c.args.pid q (λ same. apart_first q c.args.pid [] u (sym same))) (λ q e. e)
-          (λ q there e. subst (λ n. is_in n c.self.inside.to_recheck.pids ≡ true) (sym (in_one q c.args.pid e)) (ap (λ (m : MachineView). is_in c.args.pid m.to_recheck) c.self.view_is ∙ c.requires.to_recheck));
+          (λ q there e. inl (subst (λ n. is_in n c.self.inside.to_recheck.pids ≡ true) (sym (in_one q c.args.pid e)) (ap (λ (m : MachineView). is_in c.args.pid m.to_recheck) c.self.view_is ∙ c.requires.to_recheck)));
       noted = c.self.invariant.noted;
       fresh = c.self.invariant.fresh;
     }

@@ -3,14 +3,13 @@ use Rattle.posix.specs.declared.process.Sending.TheVariants.{NobodyFound}
 use Rattle.posix.specs.Tables.{left_of}
 use Rattle.posix.specs.States.{State}
 use Rattle.posix.specs.Sends.{is_target, targets, sending, sent}
-use Rattle.posix.proofs.WalkLemmas.{numbered, walk_begins}
+use Rattle.posix.proofs.WalkLemmas.{numbered, walk_begins, next_begins, one_here}
 use Rattle.std.proofs.Math.Nat.{mul-le-mul_left}
 use Rattle.posix.proofs.PassingLemmas.{left_at_most}
 use Rattle.life.specs.Rechecks.{rechecking_signalled, slots_of_send, is_candidate}
 use Rattle.life.specs.Callers.{process_like}
 use Rattle.life.proofs.SendLemmas.{blank_sent, candidates_less, Sent, sent_to, sent_on, sent_step, sent_ends}
 use Rattle.life.specs.Machines.{with_processes}
-use Rattle.jobs.proofs.GroupLemmas.{next_begins, one_here}
 use Rattle.jobs.proofs.ReadLemmas.{reads_on}
 use Rattle.life.proofs.machine.Machine.send_to_all.Goals as goal
 
