@@ -5,28 +5,30 @@ use Rattle.std.proofs.lemmas.List.{length-map}
 use Rattle.posix.specs.declared.target.Target.{Target}
 use Rattle.posix.specs.declared.target.Target.TheVariants as whom
 use Rattle.posix.specs.declared.errno.Errno.{Errno}
-use Rattle.posix.specs.Targets.{target_in}
-use Rattle.posix.specs.Processes.{Process, argument}
+use Rattle.posix.specs.Processes.{Process}
 use Rattle.posix.specs.Tables.{IsRising, has_pid, lookup, at, changed, pids, removed}
 use Rattle.posix.specs.States.{State, process, is_in, without, has_place}
 use Rattle.posix.specs.Credentials.{may}
 use Rattle.posix.specs.Outcomes.{finish, finished}
-use Rattle.posix.specs.Sends.{signal_or_none, targets, permitted, sent, sent_among, sent_by}
+use Rattle.posix.specs.declared.process.PendingSignal.{PendingSignal}
+use Rattle.posix.specs.declared.process.Sending.{Sending}
+use Rattle.posix.specs.Sends.{signal_or_none, message, number_of, targets, permitted, sent, sent_among}
 use Rattle.posix.specs.Regular.{IsRegular}
 use Rattle.posix.proofs.TableLemmas.{rising_filter}
-use Rattle.posix.specs.SignalNumbers.{CONT}
+use Rattle.posix.specs.SignalNumbers.{CONT, is_realtime}
 use Rattle.posix.proofs.MapLemmas.{lookup_on, at_keeps, at_pid}
 use Rattle.calls.proofs.ContinueLemmas.{sent_slots}
 use Rattle.posix.proofs.WalkLemmas.{numbered_one, numbered_none}
 use Rattle.pidset.specs.Numbers.{with_number}
 use Rattle.jobs.specs.JobTables.{takes_signal}
-use Rattle.life.specs.Machines.{MachineView, AreSame, Changes}
-use Rattle.life.specs.Rechecks.{AreTaking, AreBrief, rechecking_signalled, slots_of_send, without_gone}
+use Rattle.life.specs.Machines.{MachineView, AreSame, with_processes}
+use Rattle.life.specs.Queues.{Sends, is_sent}
+use Rattle.life.specs.Rechecks.{AreTaking, AreBrief, rechecking_signalled, slots_of_send, slots_of_survey_of_one, without_gone}
 use Rattle.life.specs.Foregrounds.{after_loss}
 use Rattle.life.proofs.TakingLemmas.{taking_all, rising_distinct}
-use Rattle.calls.specs.Outcomes.{CostsAtMost, IsQuiet, IsBrief, AreFew, is_one, is_cont, slots_of_kill}
+use Rattle.calls.specs.Outcomes.{CostsAtMost, IsQuiet, IsBrief, AreFew, is_one, is_cont, slots_of_kill, slots_of_continued, slots_before, meant_in}
 use Rattle.calls.proofs.ChosenLemmas.{changed_there}
-use Rattle.calls.proofs.KillLemmas.{sent_in}
+use Rattle.calls.proofs.KillLemmas.{number_is}
 use Rattle.life.specs.declared.consoles.Unchecked.TheVariants.{Nothing, Group}
 use Rattle.calls.specs.Counts.{slots_of_rechecks, slots_of_checking}
 use Rattle.calls.proofs.CountLemmas.{rechecks_none, rechecks_brief, rechecks_taking}
@@ -129,67 +131,96 @@ one_target me p sig rs up = (rising_filter (may me sig) (filter (has_pid p) rs) 
     few (Some r) e = rw (numbered_one p rs up r e) (elim (may me sig r) as (λ b. length (cond b (r ∷ []) []) ≤ 1) [ true ↦ omega arith | false ↦ omega arith ])
 
 -- one process gets a signal other than CONT, or none
-taking_sent : (me : Process) (p : ℕ) (sig : Option ℕ) (rs : List Process) (order : List ℕ) → is_cont (Ok sig) ≡ false → IsRising rs
-    → let new = rechecking_signalled me sig (targets me (whom.Process p) rs) rs order [] in AreTaking (sent me (whom.Process p) sig rs) new × (length new ≤ 1)
+taking_sent : (me : Process) (p : ℕ) (k : Option PendingSignal) (rs : List Process) (order : List ℕ) → is_cont (Ok (number_of k)) ≡ false → IsRising rs
+    → let new = rechecking_signalled me k (targets me (whom.Process p) rs) rs order [] in AreTaking (sent me (whom.Process p) k rs) new × (length new ≤ 1)
 unfolding sent sent_among rechecking_signalled is_in
 taking_sent me p None rs order plain up = (λ q e. absurd (cc), omega arith)
-taking_sent me p (Some n) rs order plain up =
-    let qs = permitted me (Some n) (targets me (whom.Process p) rs) in
-    let one = one_target me p (Some n) rs up in
-    let all = taking_all (sent_by me.pid n) (pids qs) order rs plain (rising_distinct qs one.0) in
+taking_sent me p (Some m) rs order plain up =
+    let qs = permitted me (Some m.sig) (targets me (whom.Process p) rs) in
+    let one = one_target me p (Some m.sig) rs up in
+    let all = taking_all m (pids qs) order rs plain (rising_distinct qs one.0) in
     let many = length-map qs (λ r. r.pid) in
     let few = all.1 in
     let most = one.1 in
     (all.0, omega (arith, few, many, most))
 
 -- one slot at least
-pub kill_least : (rs : List Process) (to : Target) (cont : Bool) → 1 ≤ slots_of_kill rs to cont
-kill_least rs to true = omega arith
-kill_least rs to false = omega arith
+pub kill_least : (rs : List Process) (to : Target) (sig : Result (Option ℕ) Errno) → 1 ≤ slots_of_kill rs to sig
+kill_least rs to sig = elim (is_cont sig) as (λ b. 1 ≤ cond b (13 + slots_of_continued rs (meant_in rs to)) (4 + slots_before sig)) [ true ↦ omega arith | false ↦ omega arith ]
 
--- it reads so many slots with those of rechecking
-kill_slots : (me : Process) (p : ℕ) (sig : Option ℕ) (results : List (ℕ × ℤ)) (rs : List Process) (order : List ℕ) → IsRising rs
-    → 2 + slots_of_send sig + slots_of_rechecks (changed me.pid (finished results) (sent me (whom.Process p) sig rs)) None (rechecking_signalled me sig (targets me (whom.Process p) rs) rs order []) ≤ slots_of_kill rs (whom.Process p) (is_cont (Ok sig))
-unfolding rechecking_signalled slots_of_rechecks
-kill_slots me p None results rs order up = omega arith
-kill_slots me p (Some n) results rs order up = elim (n == CONT) as (λ b. (n == CONT) ≡ b → 2 + cond b 4 1 + slots_of_rechecks (changed me.pid (finished results) (sent me (whom.Process p) (Some n) rs)) None (rechecking_signalled me (Some n) (targets me (whom.Process p) rs) rs order []) ≤ slots_of_kill rs (whom.Process p) b) [
-  | true ↦ λ e. let most = sent_slots results me p n rs order up in omega (arith, most)
-  | false ↦ λ e.
-      let taken = taking_sent me p (Some n) rs order e up in
-      let one = taken.1 in
-      let most = rechecks_taking _ None _ (taking_still results me.pid _ _ taken.0) in
-      omega (arith, most, one)
+-- and those of the send itself
+sending_least : (rs : List Process) (to : Target) (s : Option ℕ) → 2 + slots_of_send s + slots_of_survey_of_one s ≤ slots_of_kill rs to (Ok s)
+sending_least rs to None = omega arith
+sending_least rs to (Some n) = elim (n == CONT) as (λ b. (n == CONT) ≡ b → 2 + cond b 4 1 + cond (is_realtime n) 2 0 ≤ cond b (13 + slots_of_continued rs (meant_in rs to)) (4 + cond (is_realtime n) 2 0)) [
+  | true ↦ λ e. let plain = ap is_realtime (eqb-true n CONT e) in rw plain (omega arith)
+  | false ↦ λ e. omega arith
 ] refl
 
--- what a kill of this target reads, with this signal
-brief_killed : (me : Process) (to : Target) (sig : Option ℕ) (results : List (ℕ × ℤ)) (old mid new : MachineView) → is_one to ≡ true → IsQuiet me.pid old → IsRegular old.state
-    → mid.state ≡ sent_in old.state me to sig → mid.to_recheck ≡ rechecking_signalled me sig (targets me to old.state.processes) old.state.processes old.state.order old.to_recheck → mid.foregrounds_unchecked ≡ old.foregrounds_unchecked
-    → ((p : ℕ) → to ≡ whom.Process p → mid.visits ≤ old.visits + 1 + slots_of_send sig) → new.state ≡ finish mid.state me.pid results → (has_place mid.state me.pid ≡ true → CostsAtMost 1 mid new) → IsBrief (slots_of_kill old.state.processes to (is_cont (Ok sig))) old new
-brief_killed me (whom.Process p) sig results old mid new one h i is list still read done costs =
+-- it reads so many slots with those of rechecking
+kill_slots : (me : Process) (p : ℕ) (k : Option PendingSignal) (results : List (ℕ × ℤ)) (rs : List Process) (order : List ℕ) → IsRising rs
+    → 2 + slots_of_send (number_of k) + slots_of_survey_of_one (number_of k) + slots_of_rechecks (changed me.pid (finished results) (sent me (whom.Process p) k rs)) None (rechecking_signalled me k (targets me (whom.Process p) rs) rs order []) ≤ slots_of_kill rs (whom.Process p) (Ok (number_of k))
+unfolding rechecking_signalled slots_of_rechecks
+kill_slots me p None results rs order up = omega arith
+kill_slots me p (Some m) results rs order up = elim (m.sig == CONT) as (λ b. (m.sig == CONT) ≡ b → 2 + cond b 4 1 + cond (is_realtime m.sig) 2 0 + slots_of_rechecks (changed me.pid (finished results) (sent me (whom.Process p) (Some m) rs)) None (rechecking_signalled me (Some m) (targets me (whom.Process p) rs) rs order [])
+    ≤ cond b (13 + slots_of_continued rs (lookup p rs)) (4 + cond (is_realtime m.sig) 2 0)) [
+      | true ↦ λ e.
+          let most = sent_slots results me p m rs order up in
+          let plain : is_realtime m.sig ≡ false = ap is_realtime (eqb-true m.sig CONT e) in
+          rw plain (omega (arith, most))
+      | false ↦ λ e.
+          let taken = taking_sent me p (Some m) rs order e up in
+          let one = taken.1 in
+          let most = rechecks_taking _ None _ (taking_still results me.pid _ _ taken.0) in
+          omega (arith, most, one)
+    ] refl
+
+-- what a send to this target reads, with this signal
+brief_killed : (me : Process) (to : Target) (k : Option PendingSignal) (results : List (ℕ × ℤ)) (old mid new : MachineView) → is_one to ≡ true → IsQuiet me.pid old → IsRegular old.state
+    → mid.state ≡ with_processes old.state (sent me to k old.state.processes) → mid.to_recheck ≡ rechecking_signalled me k (targets me to old.state.processes) old.state.processes old.state.order old.to_recheck → mid.foregrounds_unchecked ≡ old.foregrounds_unchecked
+    → ((p : ℕ) → to ≡ whom.Process p → mid.visits ≤ old.visits + 1 + slots_of_send (number_of k) + slots_of_survey_of_one (number_of k)) → new.state ≡ finish mid.state me.pid results → (has_place mid.state me.pid ≡ true → CostsAtMost 1 mid new) → IsBrief (slots_of_kill old.state.processes to (Ok (number_of k))) old new
+brief_killed me (whom.Process p) k results old mid new one h i is list still read done costs =
     let c = costs (ap (λ (s : State). has_place s me.pid) is ∙ h.place) in
     let rs = old.state.processes in
-    let ns = c.to_recheck ∙ list ∙ ap (rechecking_signalled me sig (targets me (whom.Process p) rs) rs old.state.order) h.none in
+    let ns = c.to_recheck ∙ list ∙ ap (rechecking_signalled me k (targets me (whom.Process p) rs) rs old.state.order) h.none in
     let checked = c.foregrounds_unchecked ∙ still ∙ h.checked in
-    let now : new.state.processes ≡ changed me.pid (finished results) (sent me (whom.Process p) sig rs) = ap (λ (s : State). s.processes) (done ∙ ap (λ (s : State). finish s me.pid results) is) in
+    let now : new.state.processes ≡ changed me.pid (finished results) (sent me (whom.Process p) k rs) = ap (λ (s : State). s.processes) (done ∙ ap (λ (s : State). finish s me.pid results) is) in
     let one = c.visits in
     let most = read p refl in
     let checks = ap slots_of_checking checked in
-    let rechecks = ap (λ ts. slots_of_rechecks ts None new.to_recheck) now ∙ ap (slots_of_rechecks (changed me.pid (finished results) (sent me (whom.Process p) sig rs)) None) ns in
+    let rechecks = ap (λ ts. slots_of_rechecks ts None new.to_recheck) now ∙ ap (slots_of_rechecks (changed me.pid (finished results) (sent me (whom.Process p) k rs)) None) ns in
     record {
-      reads = let all = kill_slots me p sig results rs old.state.order i.rising in omega (arith, one, most, checks, rechecks, all);
+      reads = let all = kill_slots me p k results rs old.state.order i.rising in omega (arith, one, most, checks, rechecks, all);
       unchecked = subst AreFew (sym checked) tt;
       consoles = ap (λ (s : State). s.consoles) (done ∙ ap (λ (s : State). finish s me.pid results) is);
     }
-brief_killed me whom.OwnGroup sig results old mid new one h i is list still read done costs = absurd (cc)
-brief_killed me (whom.Group p) sig results old mid new one h i is list still read done costs = absurd (cc)
-brief_killed me whom.All sig results old mid new one h i is list still read done costs = absurd (cc)
-brief_killed me whom.Nobody sig results old mid new one h i is list still read done costs = absurd (cc)
+brief_killed me whom.OwnGroup k results old mid new one h i is list still read done costs = absurd (cc)
+brief_killed me (whom.Group p) k results old mid new one h i is list still read done costs = absurd (cc)
+brief_killed me whom.All k results old mid new one h i is list still read done costs = absurd (cc)
+brief_killed me whom.Nobody k results old mid new one h i is list still read done costs = absurd (cc)
 
--- so it is where it means one process
-pub brief_kill : {n : ℕ} (me : Process) (to : Target) (named : Result (Option ℕ) Errno) (sig : Option ℕ) (results : List (ℕ × ℤ)) (old mid new : MachineView) → is_one (target_in (argument me 1)) ≡ true → IsQuiet me.pid old → to ≡ target_in (argument me 1) → named ≡ signal_or_none (argument me 2) → named ≡ Ok sig
-    → Changes n old mid (sent_in old.state me to sig) (rechecking_signalled me sig (targets me to old.state.processes) old.state.processes old.state.order old.to_recheck) → ((p : ℕ) → to ≡ whom.Process p → mid.visits ≤ old.visits + 1 + slots_of_send sig)
-    → new.state ≡ finish mid.state me.pid results → (has_place mid.state me.pid ≡ true → CostsAtMost 1 mid new) → IsBrief (slots_of_kill old.state.processes (target_in (argument me 1)) (is_cont (signal_or_none (argument me 2)))) old new
-brief_kill me to named sig results old mid new one quiet target known ok sent read done costs =
-    subst (λ w. IsBrief (slots_of_kill old.state.processes (target_in (argument me 1)) (is_cont w)) old new) (sym ok ∙ known)
-    (subst (λ to. IsBrief (slots_of_kill old.state.processes to (is_cont (Ok sig))) old new) target
-    (brief_killed me to sig results old mid new (ap is_one target ∙ one) quiet sent.costs.regular sent.state sent.to_recheck sent.foregrounds_unchecked read done costs))
+-- one that isn't sent
+brief_unsent : (me : Process) (to : Target) (k : Option PendingSignal) (results : List (ℕ × ℤ)) (old mid new : MachineView) → is_one to ≡ true → IsQuiet me.pid old → mid.state ≡ old.state → mid.to_recheck ≡ old.to_recheck → mid.foregrounds_unchecked ≡ old.foregrounds_unchecked
+    → ((p : ℕ) → to ≡ whom.Process p → mid.visits ≤ old.visits + 1 + slots_of_send (number_of k) + slots_of_survey_of_one (number_of k)) → new.state ≡ finish mid.state me.pid results → (has_place mid.state me.pid ≡ true → CostsAtMost 1 mid new) → IsBrief (slots_of_kill old.state.processes to (Ok (number_of k))) old new
+brief_unsent me (whom.Process p) k results old mid new one h is list still read done costs =
+    let c = costs (ap (λ (s : State). has_place s me.pid) is ∙ h.place) in
+    let one = c.visits in
+    let most = read p refl in
+    let least = sending_least old.state.processes (whom.Process p) (number_of k) in
+    brief_alone (slots_of_kill old.state.processes (whom.Process p) (Ok (number_of k))) old new (c.to_recheck ∙ list ∙ h.none) (c.foregrounds_unchecked ∙ still ∙ h.checked) (ap (λ (s : State). s.consoles) (done ∙ ap (λ (s : State). finish s me.pid results) is)) (omega (arith, one, most, least))
+brief_unsent me whom.OwnGroup k results old mid new one h is list still read done costs = absurd (cc)
+brief_unsent me (whom.Group p) k results old mid new one h is list still read done costs = absurd (cc)
+brief_unsent me whom.All k results old mid new one h is list still read done costs = absurd (cc)
+brief_unsent me whom.Nobody k results old mid new one h is list still read done costs = absurd (cc)
+
+-- so it is whatever comes of it, where it means one process
+pub brief_send : {n : ℕ} (me : Process) (to : Target) (named : Result (Option ℕ) Errno) (word : ℤ) (sig : Option ℕ) (value : ℤ) (k : Option PendingSignal) (answer : Sending) (results : List (ℕ × ℤ)) (old mid new : MachineView) → is_one to ≡ true → IsQuiet me.pid old → named ≡ signal_or_none word → named ≡ Ok sig → k ≡ message me.pid value sig
+    → Sends answer me to k n old mid → ((p : ℕ) → to ≡ whom.Process p → mid.visits ≤ old.visits + 1 + slots_of_send (number_of k) + slots_of_survey_of_one (number_of k)) → new.state ≡ finish mid.state me.pid results → (has_place mid.state me.pid ≡ true → CostsAtMost 1 mid new)
+    → IsBrief (slots_of_kill old.state.processes to (signal_or_none word)) old new
+brief_send me to named word sig value k answer results old mid new one quiet known ok is sends read done costs =
+    subst (λ w. IsBrief (slots_of_kill old.state.processes to w) old new) (ap Ok (number_is me.pid value sig k is) ∙ sym ok ∙ known) (by (is_sent answer) refl)
+  where
+    by : (b : Bool) → is_sent answer ≡ b → IsBrief (slots_of_kill old.state.processes to (Ok (number_of k))) old new
+    by true e = brief_killed me to k results old mid new one quiet sends.costs.regular (sends.state ∙ ap (λ b. with_processes old.state (cond b (sent me to k old.state.processes) old.state.processes)) e)
+        (sends.to_recheck ∙ ap (λ b. cond b (rechecking_signalled me k (targets me to old.state.processes) old.state.processes old.state.order old.to_recheck) old.to_recheck) e) sends.foregrounds_unchecked read done costs
+    by false e = brief_unsent me to k results old mid new one quiet (sends.state ∙ ap (λ b. with_processes old.state (cond b (sent me to k old.state.processes) old.state.processes)) e)
+        (sends.to_recheck ∙ ap (λ b. cond b (rechecking_signalled me k (targets me to old.state.processes) old.state.processes old.state.order old.to_recheck) old.to_recheck) e) sends.foregrounds_unchecked read done costs

@@ -4,9 +4,9 @@ use Rattle.std.specs.Option.{IsSome, IfSome}
 use Rattle.std.proofs.lemmas.Bool.{eqb-true, eq-eqb}
 use Rattle.posix.specs.declared.call.Call.{Call}
 use Rattle.posix.specs.declared.call.Call.TheVariants.{Waitpid}
-use Rattle.posix.specs.declared.errno.Errno.TheVariants.{EINVAL}
+use Rattle.posix.specs.declared.errno.Errno.TheVariants.{EAGAIN, EINVAL}
 use Rattle.posix.specs.declared.entry.Entry.{Entry}
-use Rattle.posix.specs.declared.entry.Entry.TheVariants.{Called, Reported, Ended, Halted}
+use Rattle.posix.specs.declared.entry.Entry.TheVariants.{Called, NoMemory, Reported, Ended, Halted}
 use Rattle.posix.specs.declared.process.Blocked.{Blocked}
 use Rattle.posix.specs.declared.process.Report.{Report}
 use Rattle.posix.specs.declared.target.Target.{Target}
@@ -17,7 +17,7 @@ use Rattle.posix.specs.States.{State, change}
 use Rattle.posix.specs.Outcomes as outcome
 use Rattle.posix.specs.Targets.{target_in}
 use Rattle.posix.specs.Ends.{end_process}
-use Rattle.posix.specs.Sends.{kill, sending, targets, permitted, sent, sent_among}
+use Rattle.posix.specs.Sends.{kill, sigqueue, sending, sending_granted, queuers_among, targets, permitted, sent, sent_among}
 use Rattle.posix.specs.Waits.{wait, wait_with, gives_report, report, options_in, are_known}
 use Rattle.life.specs.declared.caller.Caller.{Caller}
 use Rattle.life.specs.Callers.{caller_of}
@@ -55,6 +55,13 @@ gives_is s t b n a p call v z xs ys r is done state before shown same =
     (subst (λ q. Comes s (outcome.finish_with t p call z) q xs ys n) (sym done)
     (shown ∙ ap (λ w. xs ++ Called p call w ∷ []) same, state ∙ ap (λ (u : State). outcome.finish u p ((0, v) ∷ [])) before ∙ ap (λ w. outcome.finish t p ((0, w) ∷ [])) same))
 
+-- one that is refused for want of memory
+pub wants_memory : (s b n : State) (a : outcome.Attempted) (p : ℕ) (call : Call) (xs ys : List Entry) (r : Attempt) → a ≡ outcome.no_memory s p call
+    → r ≡ came.Done → n ≡ outcome.finish b p ((0, outcome.refusal EAGAIN) ∷ []) → b ≡ s → ys ≡ xs ++ NoMemory p call ∷ [] → Comes s a r xs ys n
+wants_memory s b n a p call xs ys r is done state before shown =
+    subst (λ x. Comes s x r xs ys n) (sym is)
+    (subst (λ q. Comes s (outcome.no_memory s p call) q xs ys n) (sym done) (shown, state ∙ ap (λ (u : State). outcome.finish u p ((0, outcome.refusal EAGAIN) ∷ [])) before))
+
 -- one change of a process after another
 changed_then : (p : ℕ) (f g : Process → Process) → ((r : Process) → (g r).pid ≡ r.pid) → (rs : List Process) → changed p f (changed p g rs) ≡ changed p (λ r. f (g r)) rs
 unfolding changed
@@ -90,12 +97,20 @@ wait_like s me = refl
 pub wait_of : (s : State) (o : Option Process) (me : Process) (c : Caller) → IfSome o (λ r. c ≡ caller_of r) → o ≡ Some me → wait s (process_like c) ≡ wait s me
 wait_of s o me c h e = ap (λ d. wait s (process_like d)) (caller_is o me c h e) ∙ wait_like s me
 
-kill_like : (s : State) (me : Process) → kill s (process_like (caller_of me)) ≡ kill s me
-unfolding kill sending targets permitted sent sent_among
-kill_like s me = refl
+kill_like : (granted : Bool) (s : State) (me : Process) → kill granted s (process_like (caller_of me)) ≡ kill granted s me
+unfolding kill sending targets permitted sent sent_among sending_granted queuers_among
+kill_like granted s me = refl
 
-pub kill_of : (s : State) (o : Option Process) (me : Process) (c : Caller) → IfSome o (λ r. c ≡ caller_of r) → o ≡ Some me → kill s (process_like c) ≡ kill s me
-kill_of s o me c h e = ap (λ d. kill s (process_like d)) (caller_is o me c h e) ∙ kill_like s me
+pub kill_of : (granted : Bool) (s : State) (o : Option Process) (me : Process) (c : Caller) → IfSome o (λ r. c ≡ caller_of r) → o ≡ Some me → kill granted s (process_like c) ≡ kill granted s me
+kill_of granted s o me c h e = ap (λ d. kill granted s (process_like d)) (caller_is o me c h e) ∙ kill_like granted s me
+
+-- and its sigqueue
+sigqueue_like : (granted : Bool) (s : State) (me : Process) → sigqueue granted s (process_like (caller_of me)) ≡ sigqueue granted s me
+unfolding sigqueue sending targets permitted sent sent_among sending_granted queuers_among
+sigqueue_like granted s me = refl
+
+pub sigqueue_of : (granted : Bool) (s : State) (o : Option Process) (me : Process) (c : Caller) → IfSome o (λ r. c ≡ caller_of r) → o ≡ Some me → sigqueue granted s (process_like c) ≡ sigqueue granted s me
+sigqueue_of granted s o me c h e = ap (λ d. sigqueue granted s (process_like d)) (caller_is o me c h e) ∙ sigqueue_like granted s me
 
 -- ---- an end
 

@@ -1,21 +1,17 @@
 -- What is known of the signal that is chosen, and of one that is sent or taken out.
 use Rattle.std.proofs.Common.{◌≡◌, ◌≢◌, ℕ, Bool, true, false, cond, not, ◌&&◌, ◌||◌, is_some, refl, ap, sym, ◌∙◌, arith, List, [], ◌∷◌, find, Option, Some, None, ◌==◌, ℤ}
-use Rattle.std.specs.List.{range_with_len}
 use Rattle.std.specs.Option.{option_eq}
-use Rattle.std.proofs.lemmas.Bool.{eqb-true, eq-eqb}
+use Rattle.std.proofs.lemmas.Bool.{and_parts, eqb-true, eq-eqb}
+use Rattle.posix.specs.SignalSets.{has}
 use Rattle.posix.specs.declared.process.Life.{Life}
 use Rattle.posix.specs.declared.process.Life.TheVariants.{Running, Stopped}
 use Rattle.posix.specs.declared.process.PendingSignal.{PendingSignal}
-use Rattle.posix.specs.declared.process.Sending.{Sending}
-use Rattle.posix.specs.declared.target.Target.{Target}
-use Rattle.posix.specs.declared.process.Sending.TheVariants as found
-use Rattle.posix.specs.SignalNumbers.{KILL}
+use Rattle.posix.specs.SignalNumbers.{KILL, is_realtime}
 use Rattle.posix.specs.Processes.{Process, Signals, is_running, is_zombie}
-use Rattle.posix.specs.Tables.{lookup, changed, at, pids}
+use Rattle.posix.specs.Tables.{lookup, changed, at}
 use Rattle.posix.specs.States.{State}
-use Rattle.posix.specs.Generation.{is_pending}
-use Rattle.posix.specs.Notices.{signalled_all}
-use Rattle.posix.specs.Choice.{chosen, least_ready, is_ready, taken}
+use Rattle.posix.specs.Generation.{is_pending, with_pending, with_queue}
+use Rattle.posix.specs.Choice.{chosen, least_ready, is_ready, all_signals, taken, without_first}
 use Rattle.posix.specs.Settle.{can_act, can_go_on}
 use Rattle.posix.specs.Statuses.{killed}
 use Rattle.posix.specs.Execute.{exec_one}
@@ -24,7 +20,6 @@ use Rattle.posix.specs.Step.{act, act_in, go_on, deliver_or, after_trap, code_of
 use Rattle.posix.specs.declared.process.Blocked.{Blocked}
 use Rattle.posix.specs.Ends.{hang_up, end_process}
 use Rattle.posix.specs.Delivery.{handle, take_out, deliver}
-use Rattle.posix.specs.Sends.{targets, permitted, sending, sending_found, sending_permitted, sent, sent_among, sent_by}
 use Rattle.posix.proofs.TableLemmas.{pid_looked}
 use Rattle.posix.proofs.MapLemmas.{at_pid, lookup_on}
 
@@ -36,7 +31,7 @@ find_passes t (m ∷ ms) n e = grind (arith, find_passes t ms n)
 -- a signal that is ready is pending
 ready_pending : (g : Signals) (n : ℕ) → least_ready g ≡ Some n → is_pending g n ≡ true
 unfolding least_ready
-ready_pending g n e = let r = find_passes (is_ready g) (range_with_len 1 31) n e in grind arith
+ready_pending g n e = (and_parts (is_pending g n) (not (has g.mask n)) (find_passes (is_ready g) all_signals n e)).0
 
 -- KILL is chosen where it is pending
 pub kill_chosen : (l : Life) (g : Signals) → chosen l g ≡ Some KILL → is_pending g KILL ≡ true
@@ -57,32 +52,10 @@ no_kill_chosen l g ne = elim (is_pending g KILL) as (λ b. is_pending g KILL ≡
   | false ↦ λ k. refl
 ] refl
 
--- nothing is sent where nobody may be signalled
-nobody_permitted : (me : Process) (s : Option ℕ) (qs rs : List Process) → permitted me s qs ≡ [] → sent_among me s qs rs ≡ rs
-unfolding sent_among signalled_all
-nobody_permitted me None qs rs e = refl
-nobody_permitted me (Some n) qs rs e = ap (λ ps. signalled_all (sent_by me.pid n) (pids ps) rs) e
-
--- nothing is sent by a call that is refused
-sent_permitted : (me : Process) (s : Option ℕ) (qs rs : List Process) (w : Sending) → sending_permitted (permitted me s qs) ≡ w → w ≢ found.Permitted → sent_among me s qs rs ≡ rs
-sent_permitted me s qs rs w e ne = elim (permitted me s qs) as (λ ps. permitted me s qs ≡ ps → sending_permitted ps ≡ w → sent_among me s qs rs ≡ rs) [
-  | [] ↦ λ k h. nobody_permitted me s qs rs k
-  | x ∷ xs ↦ λ k h. absurd (ne (sym h))
-] refl e
-
-sent_found : (me : Process) (s : Option ℕ) (qs rs : List Process) (w : Sending) → sending_found me s qs ≡ w → w ≢ found.Permitted → sent_among me s qs rs ≡ rs
-unfolding permitted
-sent_found me s [] rs w e ne = nobody_permitted me s [] rs refl
-sent_found me s (q ∷ qs) rs w e ne = sent_permitted me s (q ∷ qs) rs w e ne
-
-pub sent_nobody : (me : Process) (choice : Target) (s : Option ℕ) (rs : List Process) (w : Sending) → sending me choice s rs ≡ w → w ≢ found.Permitted → sent me choice s rs ≡ rs
-unfolding sending sent
-sent_nobody me choice s rs w e ne = sent_found me s (targets me choice rs) rs w e ne
-
 -- a handler is entered the same, whether the signal was taken out of the record that is looked at or not
 pub handle_taken : (s : State) (me : Process) (n : ℕ) (signal : PendingSignal) (address : ℤ) → handle s (take_out n me) signal address ≡ handle s me signal address
 unfolding handle take_out taken end_process hang_up
-handle_taken s me n signal address = refl
+handle_taken s me n signal address = elim (is_realtime n) as (λ b. handle s (record me { signals = cond b (with_queue (without_first n me.signals.queue) me.signals) (with_pending n None me.signals) }) signal address ≡ handle s me signal address) [ true ↦ refl | false ↦ refl ]
 
 -- a process ends the same
 pub end_taken : (s : State) (me : Process) (n status : ℕ) → end_process s (take_out n me) status ≡ end_process s me status

@@ -19,7 +19,7 @@ use Rattle.posix.specs.Credentials.{may}
 use Rattle.posix.specs.Outcomes.{finished}
 use Rattle.posix.specs.Generation.{signalled, effect_of}
 use Rattle.posix.specs.Notices.{acted_upon, child_signal, generated_for, noticed_of_change, resumed, told_of_change, signalled_all}
-use Rattle.posix.specs.Sends.{targets, permitted, sent, sent_among, sent_by}
+use Rattle.posix.specs.Sends.{targets, permitted, sent, sent_among}
 use Rattle.posix.specs.Settle.{is_block}
 use Rattle.posix.specs.Waits.{are_known, report, report_among, wait, wait_with, is_named, is_something, options_in, report_life, report_of, reports}
 use Rattle.posix.proofs.ChangeLemmas.{continued_stopped}
@@ -259,20 +259,17 @@ generated_slots results c signal r rs order found = by (effect_of r.pid r.life s
     by effect.Continued e = told_slots results c signal r rs order (rechecking_by_signals (Some (signalled signal r)) order []) found (continued_stopped r.pid signal r e) (listed (takes_signal (signalled signal r)))
 
 -- and where it was sent to one process by its number
-pub sent_slots : (results : List (ℕ × ℤ)) (me : Process) (p n : ℕ) (rs : List Process) (order : List ℕ) → IsRising rs
-    → slots_of_rechecks (changed me.pid (finished results) (sent me (whom.Process p) (Some n) rs)) None (rechecking_signalled me (Some n) (targets me (whom.Process p) rs) rs order []) ≤ 7 + slots_of_continued rs (lookup p rs)
+pub sent_slots : (results : List (ℕ × ℤ)) (me : Process) (p : ℕ) (signal : PendingSignal) (rs : List Process) (order : List ℕ) → IsRising rs
+    → slots_of_rechecks (changed me.pid (finished results) (sent me (whom.Process p) (Some signal) rs)) None (rechecking_signalled me (Some signal) (targets me (whom.Process p) rs) rs order []) ≤ 7 + slots_of_continued rs (lookup p rs)
 unfolding sent sent_among targets permitted rechecking_signalled rechecking_all signalled_all slots_of_rechecks
-sent_slots results me p n rs order up = by (lookup p rs) refl
+sent_slots results me p signal rs order up = by (lookup p rs) refl
   where
-    signal : PendingSignal
-    signal = sent_by me.pid n
-
     all : List Process → ℕ
-    all qs = slots_of_rechecks (changed me.pid (finished results) (sent_among me (Some n) qs rs)) None (rechecking_signalled me (Some n) qs rs order [])
+    all qs = slots_of_rechecks (changed me.pid (finished results) (sent_among me (Some signal) qs rs)) None (rechecking_signalled me (Some signal) qs rs order [])
 
     by : (o : Option Process) → lookup p rs ≡ o → all (filter (has_pid p) rs) ≤ 7 + slots_of_continued rs o
     by None none = rw (numbered_none p rs none) (omega arith)
-    by (Some r) found = rw (numbered_one p rs up r found) (elim (may me (Some n) r) as (λ b. may me (Some n) r ≡ b → all (r ∷ []) ≤ 7 + slots_of_continued rs (Some r)) [
+    by (Some r) found = rw (numbered_one p rs up r found) (elim (may me (Some signal.sig) r) as (λ b. may me (Some signal.sig) r ≡ b → all (r ∷ []) ≤ 7 + slots_of_continued rs (Some r)) [
       | false ↦ λ e. rw e (omega arith)
       | true ↦ λ e. let here = ap (λ q. lookup q rs) (pid_looked p rs r found) ∙ found in rw (e, here) (generated_slots results me.pid signal r rs order here)
     ] refl)

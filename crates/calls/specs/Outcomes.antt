@@ -1,19 +1,19 @@
 -- What the functions of calls come to.
 use Rattle.std.specs.Prelude.{◌≡◌, ◌≢◌, ◌==◌, ◌&&◌, not, ⊤, ℕ, ◌+◌, ◌*◌, ◌≤◌, if◌then◌else◌, length, Option, None, Bool, true, false, List, [], ◌∷◌, ◌++◌, Some, ℤ, pos, Result, Ok, Err}
 use Rattle.posix.specs.declared.call.Call.{Call}
-use Rattle.posix.specs.declared.call.Call.TheVariants.{Exit, Fork, Waitpid, Pause, SchedYield, Getppid, Kill, Sigsuspend, Sigreturn, Alarm, Exec, Getpgid, Getsid, Setpgid, Setsid, Setctty, Tcgetpgrp, Tcsetpgrp, Settostop, Read, Write}
+use Rattle.posix.specs.declared.call.Call.TheVariants.{Exit, Fork, Waitpid, Pause, SchedYield, Getppid, Kill, Sigqueue, Sigsuspend, Sigreturn, Alarm, Exec, Getpgid, Getsid, Setpgid, Setsid, Setctty, Tcgetpgrp, Tcsetpgrp, Settostop, Read, Write}
 use Rattle.posix.specs.declared.entry.Entry.{Entry}
 use Rattle.posix.specs.declared.entry.Entry.TheVariants.{Called}
 use Rattle.posix.specs.declared.errno.Errno.{Errno}
 use Rattle.posix.specs.declared.target.Target.{Target}
 use Rattle.posix.specs.declared.target.Target.TheVariants as whom
 use Rattle.posix.specs.SignalNumbers.{CONT}
-use Rattle.posix.specs.Targets.{target_in}
+use Rattle.posix.specs.Targets.{process_in, target_in}
 use Rattle.posix.specs.Tables.{children_in, lookup}
 use Rattle.posix.specs.Sends.{signal_or_none}
 use Rattle.life.specs.declared.consoles.Unchecked.{Unchecked}
 use Rattle.life.specs.declared.consoles.Unchecked.TheVariants.{Nothing, Group, All}
-use Rattle.life.specs.Rechecks.{is_in_wait}
+use Rattle.life.specs.Rechecks.{is_in_wait, slots_of_survey_of_one}
 use Rattle.calls.specs.Counts.{slots_of_rechecks, slots_of_checking}
 use Rattle.posix.specs.declared.process.Handler.{Handler}
 use Rattle.posix.specs.declared.process.Handler.TheVariants as handler
@@ -84,16 +84,24 @@ abbrev pub slots_of_continued : List Process → Option Process → ℕ
 slots_of_continued rs None = 0
 slots_of_continued rs (Some it) = if is_stopped it.life && is_in_wait it.blocked then 2 * length (children_in it.pid rs) else 0
 
--- a kill of one process by its number, and whether it sends CONT, but for the look at its caller
-abbrev pub slots_of_kill : List Process → Target → Bool → ℕ
-slots_of_kill rs target false = 4
-slots_of_kill rs target true = 13 + slots_of_continued rs (meant_in rs target)
+-- before a real-time signal is queued for one process two slots are read
+abbrev pub slots_before : Result (Option ℕ) Errno → ℕ
+slots_before (Ok sig) = slots_of_survey_of_one sig
+slots_before (Err why) = 0
 
--- How many slots a wait reads at most, by its caller, and a kill of one process by its number, with those that settling
--- reads. No count is given of other calls that aren't their caller's alone.
+-- a signal that is sent to one process by its number, but for the look at its caller
+abbrev pub slots_of_kill : List Process → Target → Result (Option ℕ) Errno → ℕ
+slots_of_kill rs target sig = if is_cont sig then 13 + slots_of_continued rs (meant_in rs target) else 4 + slots_before sig
+
+-- How many slots a wait reads at most, by its caller, and a signal that is sent to one process by its number, with those
+-- that settling reads. No count is given of other calls that aren't their caller's alone.
+abbrev pub slots_of_sending : List Process → Process → Target → Option ℕ
+slots_of_sending rs me target = if is_one target then Some (slots_of_kill rs target (signal_or_none (argument me 2)) + 1) else None
+
 abbrev pub slots_of_brief : Call → List Process → Process → Option ℕ
 slots_of_brief Waitpid rs me = Some (11 + 2 * length (children_in me.pid rs))
-slots_of_brief Kill rs me = if is_one (target_in (argument me 1)) then Some (slots_of_kill rs (target_in (argument me 1)) (is_cont (signal_or_none (argument me 2))) + 1) else None
+slots_of_brief Kill rs me = slots_of_sending rs me (target_in (argument me 1))
+slots_of_brief Sigqueue rs me = slots_of_sending rs me (process_in (argument me 1))
 slots_of_brief call rs me = None
 
 abbrev pub is_address : Handler → Bool
@@ -143,6 +151,7 @@ changes_caller_alone Pause = false
 changes_caller_alone SchedYield = false
 changes_caller_alone Getppid = false
 changes_caller_alone Kill = false
+changes_caller_alone Sigqueue = false
 changes_caller_alone Sigsuspend = false
 changes_caller_alone Sigreturn = false
 changes_caller_alone Alarm = false

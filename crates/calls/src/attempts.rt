@@ -1,7 +1,7 @@
 //! Attempts of system calls: each is done, and adds what it shows, or the process has to wait.
 
-ghost use Rattle.std.specs.Prelude.{◌≡◌, ◌≢◌, ◌+◌, ◌<◌, ◌≤◌, ◌^◌, ◌++◌, ◌∷◌, [], ◌*◌, length, IsSome, IfSome, Some, true};
-ghost use Rattle.posix.specs.declared.entry.Entry.TheVariants.{Called};
+ghost use Rattle.std.specs.Prelude.{◌≡◌, ◌⊎◌, ◌≢◌, ◌+◌, ◌<◌, ◌≤◌, ◌^◌, ◌++◌, ◌∷◌, [], ◌*◌, length, IsSome, IfSome, Some, true};
+ghost use Rattle.posix.specs.declared.entry.Entry.TheVariants.{Called, NoMemory};
 ghost use Rattle.posix.specs.Processes.{Process};
 ghost use Rattle.posix.specs.declared.process.Blocked.{Blocked as BlockedValue};
 ghost use Rattle.posix.specs.States.{process, has_place};
@@ -16,7 +16,7 @@ ghost use Rattle.calls.specs.Outcomes.{Comes, Attempts, IsActing, IsQuiet, IsBri
 use crate::delivery::{end, return_from_handler};
 use crate::entries::Entries;
 use crate::groups::{getpgid, getsid, setpgid, setsid};
-use crate::kills::kill;
+use crate::kills::{kill, sigqueue};
 use crate::outcome::Attempt;
 use crate::programs::exec;
 use crate::replies::{finish_call, own_call, refusal};
@@ -64,6 +64,25 @@ pub fn refuse<K: Kin>(
     finish_with(machine, pid, call, refusal(errno), entries)
 }
 
+/// The call of a process that is there is refused, since the host has no memory for it.
+pub fn refuse_memory<K: Kin>(
+    machine: &mut Machine<K>,
+    pid: Pid,
+    call: Call,
+    entries: &mut Entries,
+) -> Attempt
+    requires there { IsSome (process machine.old.state pid) }
+    requires room { length entries.old.items ≤ 3 }
+    ensures done { result ≡ Attempt.Done }
+    ensures state { machine.new.state ≡ finish machine.old.state pid ((0, refusal_of Errno.EAGAIN) ∷ []) }
+    ensures shown { entries.new.items ≡ entries.old.items ++ NoMemory pid call ∷ [] }
+    ensures costs { has_place machine.old.state pid ≡ true → CostsAtMost 1 machine.old machine.new }
+{
+    machine.own(pid).finish(refusal(Errno::EAGAIN));
+    entries.push(Entry::NoMemory { pid, call });
+    Attempt::Done
+}
+
 /// The number of the caller's parent (XSH getppid).
 #[tactic(auto, unfolding(posix::specs::Attempts::attempt))]
 fn getppid<K: Kin>(machine: &mut Machine<K>, pid: Pid, entries: &mut Entries) -> Attempt
@@ -105,14 +124,7 @@ fn fork<K: Kin>(machine: &mut Machine<K>, pid: Pid, entries: &mut Entries) -> At
     };
     match machine.fork(pid, child) {
         Ok(()) => finish_with(machine, pid, Call::Fork, i64::from(child.number()), entries),
-        Err(_) => {
-            machine.own(pid).finish(refusal(Errno::EAGAIN));
-            entries.push(Entry::NoMemory {
-                pid,
-                call: Call::Fork,
-            });
-            Attempt::Done
-        }
+        Err(_) => refuse_memory(machine, pid, Call::Fork, entries),
     }
 }
 
@@ -167,7 +179,8 @@ fn alarm<K: Kin>(machine: &mut Machine<K>, pid: Pid, entries: &mut Entries) -> A
 
 /// A process that has a place attempts a call. Where it has to wait nothing has changed, and the call that
 /// it is to be blocked in is answered. Where nothing is left to settle a wait reads 9 slots at most, and two for each
-/// child, and a kill of one process by its number five, if it isn't CONT.
+/// child, and a signal that is sent to one process by its number five, or seven if it is a real-time signal, and if it isn't
+/// CONT.
 #[tactic(auto, unfolding(posix::specs::Attempts::attempt))]
 #[inline(always)]
 pub fn attempt<K: Kin>(
@@ -183,7 +196,7 @@ pub fn attempt<K: Kin>(
     ensures attempts { Attempts machine.old.state pid call result entries.old.items entries.new.items machine.new.state }
     ensures own { changes_caller_alone call ≡ true → (result ≡ Attempt.Done) × CostsAtMost 1 machine.old machine.new }
     ensures brief { (me : Process) → process machine.old.state pid ≡ Some me → IsQuiet pid machine.old → IfSome (slots_of_brief call machine.old.state.processes me) (λ n. IsBrief n machine.old machine.new) }
-    ensures done { call ≡ Call.Kill → result ≡ Attempt.Done }
+    ensures done { call ≡ Call.Kill ⊎ call ≡ Call.Sigqueue → result ≡ Attempt.Done }
     ensures waits { (b : BlockedValue) → call ≡ Call.Waitpid → result ≡ Attempt.Block b → AreSame machine.old machine.new }
 {
     match call {
@@ -194,6 +207,7 @@ pub fn attempt<K: Kin>(
         Call::SchedYield => sched_yield(machine, pid, entries),
         Call::Getppid => getppid(machine, pid, entries),
         Call::Kill => kill(machine, pid, entries),
+        Call::Sigqueue => sigqueue(machine, pid, entries),
         Call::Sigsuspend => {
             Attempt::Block(Blocked::Sigsuspend(machine.look(pid).signals.mask()))
         },

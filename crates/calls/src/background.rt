@@ -1,7 +1,8 @@
 //! Background process groups: who may use a terminal (XBD 11.1.4).
 
-ghost use Rattle.std.specs.Prelude.{◌≡◌, IsSome, Some};
+ghost use Rattle.std.specs.Prelude.{◌≡◌, false, IsSome, Some};
 ghost use Rattle.posix.specs.Processes.{Process};
+ghost use Rattle.posix.specs.SignalNumbers.{is_realtime};
 ghost use Rattle.posix.specs.Consoles.{Console};
 ghost use Rattle.posix.specs.States.{process};
 ghost use Rattle.posix.specs.Generation.{is_ignored as is_ignored_by};
@@ -112,8 +113,9 @@ pub(crate) fn write_access<K: Kin>(
     }
 }
 
-/// A signal of the kernel is generated for each member of the caller's process group, and the call begins again.
+/// A standard signal of the kernel is generated for each member of the caller's process group, and the call begins again.
 pub(crate) fn signal_own_group<K: Kin>(machine: &mut Machine<K>, me: &Caller, sig: Sig) -> Attempt
+    requires { is_realtime sig ≡ false }
     ensures again { result ≡ Attempt.Again }
     ensures state { machine.new.state ≡ record (machine.old.state) { processes = signalled_group sig me.now.group machine.old.state.processes } }
 {

@@ -1,19 +1,19 @@
-//! Signals that processes send (XSH kill).
+//! Signals that processes send (XSH kill, XSH sigqueue).
 
-ghost use Rattle.std.specs.Prelude.{◌≡◌, ◌+◌, ◌≤◌, length, IsSome, Some, true};
-ghost use Rattle.posix.specs.Sends.{signal_or_none as signal_number_or_none, kill as killing};
+ghost use Rattle.std.specs.Prelude.{◌≡◌, ◌+◌, ◌≤◌, Bool, length, IsSome, Some, pos, true};
+ghost use Rattle.posix.specs.Sends.{message as message_of, signal_or_none as signal_number_or_none, send as sending};
 ghost use Rattle.posix.specs.States.{process};
 ghost use Rattle.life.specs.Callers.{process_like};
 ghost use Rattle.posix.specs.Processes.{Process, argument};
-ghost use Rattle.posix.specs.Targets.{target_in};
-ghost use Rattle.calls.specs.Outcomes.{Attempts, Comes, IsQuiet, IsBrief, is_cont, is_one, slots_of_kill};
+ghost use Rattle.posix.specs.Targets.{process_in, target_in};
+ghost use Rattle.calls.specs.Outcomes.{Attempts, Comes, IsQuiet, IsBrief, is_one, slots_of_kill};
 
-use crate::attempts::{finish_with, refuse};
+use crate::attempts::{finish_with, refuse, refuse_memory};
 use crate::entries::Entries;
 use crate::outcome::Attempt;
 use crate::replies::signal_in;
 use life::{Caller, Machine};
-use posix::{Call, Errno, Pid, Sending, Sig};
+use posix::{Call, Carried, Errno, PendingSignal, Pid, Sending, Sig, Target};
 use proctable::Kin;
 
 /// The signal that the second argument names; none for signal 0. EINVAL where it is neither.
@@ -29,35 +29,68 @@ fn signal_or_none(me: &Caller) -> Result<Option<Sig>, Errno>
     }
 }
 
-/// Sends a signal, as a caller that is there.
-#[tactic(auto, unfolding(posix::specs::Sends::kill))]
-fn kill_as<K: Kin>(machine: &mut Machine<K>, me: &Caller, entries: &mut Entries) -> Attempt
+/// The signal as a process sends it, with a value and its number.
+fn message(sender: Pid, value: i64, sig: Option<Sig>) -> Option<PendingSignal>
+    ensures { result ≡ message_of sender value sig }
+{
+    let sig = sig?;
+    Some(PendingSignal {
+        sig,
+        carried: Carried { value, sender },
+    })
+}
+
+/// Sends the signal that the second argument names to a target, with a value, by this call of a caller that is there.
+fn send<K: Kin>(
+    machine: &mut Machine<K>,
+    me: &Caller,
+    call: Call,
+    target: Target,
+    value: i64,
+    entries: &mut Entries,
+) -> Attempt
     requires there { IsSome (process machine.old.state me.now.pid) }
     requires room { length entries.old.items ≤ 1 }
     ensures done { result ≡ Attempt.Done }
-    ensures comes { Comes machine.old.state (killing machine.old.state (process_like me.now)) result entries.old.items entries.new.items machine.new.state }
-    ensures brief { is_one (target_in me.now.r1) ≡ true → IsQuiet me.now.pid machine.old → IsBrief (slots_of_kill machine.old.state.processes (target_in me.now.r1) (is_cont (signal_number_or_none me.now.r2))) machine.old machine.new }
+    ensures comes { (granted : Bool) × Comes machine.old.state (sending granted machine.old.state (process_like me.now) call target value (signal_number_or_none me.now.r2)) result entries.old.items entries.new.items machine.new.state }
+    ensures brief { is_one target ≡ true → IsQuiet me.now.pid machine.old → IsBrief (slots_of_kill machine.old.state.processes target (signal_number_or_none me.now.r2)) machine.old machine.new }
 {
     let sig = match signal_or_none(me) {
         Ok(sig) => sig,
-        Err(errno) => return refuse(machine, me.pid, Call::Kill, errno, entries),
+        Err(errno) => return refuse(machine, me.pid, call, errno, entries),
     };
-    match machine.send(me, me.target(), sig) {
-        Sending::NobodyFound => refuse(machine, me.pid, Call::Kill, Errno::ESRCH, entries),
-        Sending::NobodyPermitted => refuse(machine, me.pid, Call::Kill, Errno::EPERM, entries),
-        Sending::Permitted => finish_with(machine, me.pid, Call::Kill, 0, entries),
+    match machine.send(me, target, message(me.pid, value, sig)) {
+        Sending::NobodyFound => refuse(machine, me.pid, call, Errno::ESRCH, entries),
+        Sending::NobodyPermitted => refuse(machine, me.pid, call, Errno::EPERM, entries),
+        Sending::QueueFull => refuse(machine, me.pid, call, Errno::EAGAIN, entries),
+        Sending::NoMemory => refuse_memory(machine, me.pid, call, entries),
+        Sending::Permitted => finish_with(machine, me.pid, call, 0, entries),
     }
 }
 
-/// Sends a signal.
+/// Sends a signal, with value 0, to those whom the first argument means.
 #[tactic(auto, unfolding(posix::specs::Attempts::attempt, posix::specs::Sends::kill))]
 pub fn kill<K: Kin>(machine: &mut Machine<K>, pid: Pid, entries: &mut Entries) -> Attempt
     requires there { IsSome (process machine.old.state pid) }
     requires room { length entries.old.items ≤ 1 }
     ensures done { result ≡ Attempt.Done }
     ensures attempts { Attempts machine.old.state pid Call.Kill result entries.old.items entries.new.items machine.new.state }
-    ensures brief { (me : Process) → process machine.old.state pid ≡ Some me → is_one (target_in (argument me 1)) ≡ true → IsQuiet pid machine.old → IsBrief (slots_of_kill machine.old.state.processes (target_in (argument me 1)) (is_cont (signal_number_or_none (argument me 2))) + 1) machine.old machine.new }
+    ensures brief { (me : Process) → process machine.old.state pid ≡ Some me → is_one (target_in (argument me 1)) ≡ true → IsQuiet pid machine.old → IsBrief (slots_of_kill machine.old.state.processes (target_in (argument me 1)) (signal_number_or_none (argument me 2)) + 1) machine.old machine.new }
 {
     let me = machine.caller(pid);
-    kill_as(machine, &me, entries)
+    send(machine, &me, Call::Kill, me.target(), 0, entries)
+}
+
+/// Sends a signal, with the value in the third argument, to the process that the first argument means.
+#[tactic(auto, unfolding(posix::specs::Attempts::attempt, posix::specs::Sends::sigqueue))]
+pub fn sigqueue<K: Kin>(machine: &mut Machine<K>, pid: Pid, entries: &mut Entries) -> Attempt
+    requires there { IsSome (process machine.old.state pid) }
+    requires room { length entries.old.items ≤ 1 }
+    ensures done { result ≡ Attempt.Done }
+    ensures attempts { Attempts machine.old.state pid Call.Sigqueue result entries.old.items entries.new.items machine.new.state }
+    ensures brief { (me : Process) → process machine.old.state pid ≡ Some me → is_one (process_in (argument me 1)) ≡ true → IsQuiet pid machine.old → IsBrief (slots_of_kill machine.old.state.processes (process_in (argument me 1)) (signal_number_or_none (argument me 2)) + 1) machine.old machine.new }
+{
+    let me = machine.caller(pid);
+    let target = Target::process_from_word(me.r1);
+    send(machine, &me, Call::Sigqueue, target, me.r3, entries)
 }

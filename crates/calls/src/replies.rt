@@ -51,12 +51,12 @@ pub fn finish_call(own: &mut OwnPart, pid: Pid, call: Call, value: i64, entries:
 
 // ---- arguments
 
-/// The signal that a register names: 1 to 31, the standard ones, as yet.
+/// The signal that a register names: 1 to 31 and 34 to 64.
 pub fn signal_in(number: i64) -> Option<Sig>
     ensures { result ≡ signal_number_in number }
 {
     match number {
-        1..=31 => Sig::new(number as u8),
+        1..=64 => Sig::new(number as u8),
         _ => None,
     }
 }

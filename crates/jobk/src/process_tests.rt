@@ -1,4 +1,4 @@
-//! Runs of several processes, those in which the host has no memory for a fork included.
+//! Runs of several processes, those in which the host has no memory for a fork or a queue included.
 
 ghost use Rattle.std.specs.Prelude.{◌≡◌, refl};
 ghost use Rattle.std.proofs.Common.{arith};
@@ -7,7 +7,7 @@ ghost use Rattle.proctable.specs.ScanTable.{scan_with_record};
 use crate::tests::{expect_run, expect_run_on};
 use kernel::{RunError, Summary, WriteSink, run, run_on};
 use posix::Pid;
-use proctable::{Kin, Record, ScanTable, Snapshot, Spare};
+use proctable::{Kin, Record, ScanTable, Snapshot, Spare, Stock};
 use std::alloc::{AllocError, Global};
 use std::process::Abort;
 use std::test::Fail;
@@ -125,6 +125,31 @@ consoles 1
 program init
 set r1, -9223372036854775808
 sys waitpid
+end
+";
+
+const REFUSED_QUEUING: &[u8] = b"\
+pidmax 40
+consoles 1
+program init
+set r1, 35
+set r2, @h
+sys sigaction
+set r1, 2
+set r2, -1
+sys sigprocmask
+set r1, 1
+set r2, 35
+set r3, 9
+sys sigqueue
+sys sigpending
+note r1
+set r1, 1
+sys sigqueue
+sys sigpending
+note r1
+h:
+sys sigreturn
 end
 ";
 
@@ -286,6 +311,15 @@ impl<const REFUSED: usize> Kin for RefusingTable<REFUSED> {
         made
     }
 
+    fn reserve_pools(&mut self, stock: &mut Stock, count: usize) -> Result<(), AllocError> {
+        let made = stock.reserve(count);
+        self.attempts = self.attempts.wrapping_add(1);
+        if self.attempts == REFUSED {
+            return Err(AllocError);
+        }
+        made
+    }
+
     fn insert(&mut self, pid: Pid, parent: Pid, fields: Record) {
         self.table.insert(pid, parent, fields);
     }
@@ -342,6 +376,23 @@ fn a_fork_without_memory_changes_only_its_result(rt: HostRuntime) -> Result<(), 
     let trace = b"3 call 1 fork = -11 memory\n4 note 1 -11\n6 note 1 5\n7 call 1 fork = 2\n";
     let run = expect_run_on::<RefusingTable<2>, _>(&rt, KEPT_WORD, b"step 7\n", trace)?;
     assert_eq!(rt; run.births, 2);
+    Ok(())
+}
+
+#[test]
+fn a_sigqueue_without_memory_changes_only_its_result(rt: HostRuntime) -> Result<(), Fail> {
+    let trace = b"\
+3 call 1 sigaction = 0
+6 call 1 sigprocmask = 0
+10 call 1 sigqueue = -11 memory
+11 call 1 sigpending = 0
+12 note 1 0
+14 call 1 sigqueue = 0
+15 call 1 sigpending = 0
+16 note 1 17179869184
+";
+    let run = expect_run_on::<RefusingTable<2>, _>(&rt, REFUSED_QUEUING, b"step 16\n", trace)?;
+    assert_eq!(rt; run.births, 1);
     Ok(())
 }
 

@@ -163,6 +163,62 @@ jmp kid
 end
 ";
 
+const DELIVERIES: &[u8] = b"\
+pidmax 40
+consoles 1
+program init
+set r1, 10
+set r2, @h
+set r3, -1
+set r4, 4
+sys sigaction
+set r1, 35
+set r2, @h
+set r3, -1
+set r4, 4
+sys sigaction
+set r1, 2
+set r2, -1
+sys sigprocmask
+set r1, 1
+set r2, 35
+set r3, 1
+sys sigqueue
+set r3, 2
+sys sigqueue
+set r2, 10
+sys kill
+sys kill
+set r1, 2
+set r2, 0
+sys sigprocmask
+sys pause
+h:
+note r2
+sys sigreturn
+end
+";
+
+const FULL_QUEUE: &[u8] = b"\
+pidmax 40
+consoles 1
+program init
+set r1, 35
+set r2, @h
+sys sigaction
+set r1, 2
+set r2, -1
+sys sigprocmask
+set r1, 1
+set r2, 35
+more:
+sys sigqueue
+jmp more
+h:
+sys sigreturn
+end
+";
+
 #[test]
 fn ignored_children_are_dropped(rt: HostRuntime) {
     let dropped = Summary {
@@ -280,4 +336,72 @@ fn a_stopped_process_is_killed(rt: HostRuntime) {
 "
         .as_slice();
     expect_run(&rt, KILL_WHILE_STOPPED, b"step 18\n", trace, b"", 0);
+}
+
+#[test]
+fn queued_signals_come_by_their_numbers(rt: HostRuntime) {
+    let trace = b"\
+5 call 1 sigaction = 0
+10 call 1 sigaction = 0
+13 call 1 sigprocmask = 0
+17 call 1 sigqueue = 0
+19 call 1 sigqueue = 0
+21 call 1 kill = 0
+22 call 1 kill = 0
+25 call 1 sigprocmask = 0
+26 handle 1 10 0 1
+27 note 1 0
+28 return 1
+29 handle 1 35 1 1
+30 note 1 1
+31 return 1
+32 handle 1 35 2 1
+33 note 1 2
+34 return 1
+"
+        .as_slice();
+    expect_run(&rt, DELIVERIES, b"step 34\n", trace, b"", 0);
+}
+
+#[test]
+fn a_33rd_queued_signal_is_refused(rt: HostRuntime) {
+    let trace = b"\
+3 call 1 sigaction = 0
+6 call 1 sigprocmask = 0
+9 call 1 sigqueue = 0
+11 call 1 sigqueue = 0
+13 call 1 sigqueue = 0
+15 call 1 sigqueue = 0
+17 call 1 sigqueue = 0
+19 call 1 sigqueue = 0
+21 call 1 sigqueue = 0
+23 call 1 sigqueue = 0
+25 call 1 sigqueue = 0
+27 call 1 sigqueue = 0
+29 call 1 sigqueue = 0
+31 call 1 sigqueue = 0
+33 call 1 sigqueue = 0
+35 call 1 sigqueue = 0
+37 call 1 sigqueue = 0
+39 call 1 sigqueue = 0
+41 call 1 sigqueue = 0
+43 call 1 sigqueue = 0
+45 call 1 sigqueue = 0
+47 call 1 sigqueue = 0
+49 call 1 sigqueue = 0
+51 call 1 sigqueue = 0
+53 call 1 sigqueue = 0
+55 call 1 sigqueue = 0
+57 call 1 sigqueue = 0
+59 call 1 sigqueue = 0
+61 call 1 sigqueue = 0
+63 call 1 sigqueue = 0
+65 call 1 sigqueue = 0
+67 call 1 sigqueue = 0
+69 call 1 sigqueue = 0
+71 call 1 sigqueue = 0
+73 call 1 sigqueue = -11
+"
+        .as_slice();
+    expect_run(&rt, FULL_QUEUE, b"step 73\n", trace, b"", 0);
 }

@@ -18,7 +18,7 @@ ghost use Rattle.jobs.specs.JobTables.{takes_signal, ChangesSignals, IsRun, Stay
 use crate::anchors::{reanchor, seen_above, seen_there, turn_children};
 use crate::books::{Books, Change, Seen, anchor_key, of_record, of_snapshot};
 use posix::Pid;
-use proctable::{Kin, OwnPart, Record, Snapshot};
+use proctable::{Kin, OwnPart, Record, Snapshot, Stock};
 use std::alloc::{AllocError, Global};
 use std::marker::Model;
 
@@ -80,6 +80,16 @@ impl<K: Kin> JobTable<K> {
     {
         self.table.reserve()?;
         self.books.reserve(self.count + 1, greatest)
+    }
+
+    /// Makes so many pools wait for the queues of real-time signals, where fewer do. At an error the host has no memory
+    /// for them, and none is gone. The processes are unchanged.
+    pub fn reserve_pools(&mut self, stock: &mut Stock, count: usize) -> Result<(), AllocError>
+        ensures enough { OnOk result (count ≤ stock.new.pools) }
+        ensures more { stock.old.pools ≤ stock.new.pools }
+        ensures same { self.new ≡ self.old }
+    {
+        self.table.reserve_pools(stock, count)
     }
 
     /// Puts in a process that isn't there, where there is room for one with this number. Its number isn't 0, its parent

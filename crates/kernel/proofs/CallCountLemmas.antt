@@ -1,5 +1,5 @@
 -- Calls of which it is counted how many slots they read, beside those of their caller alone.
-use Rattle.std.proofs.Common.{◌≡◌, ℕ, zero, suc, arith, ◌≤◌, [], Option, slice_get, ◌+◌, ◌*◌, true, false, cond, not, ◌&&◌, ◌||◌, is_some, subst, refl, List, length, Some, None}
+use Rattle.std.proofs.Common.{◌≡◌, ℕ, zero, suc, arith, ◌≤◌, [], Option, slice_get, ◌+◌, ◌*◌, true, false, cond, not, ◌&&◌, ◌||◌, is_some, subst, refl, List, length, Some, None, ◌⊎◌, inl, inr}
 use Rattle.std.specs.Option.{IfSome}
 use Rattle.std.proofs.Math.Bool.{and-false}
 use Rattle.std.proofs.lemmas.Bool.{both_ways}
@@ -12,22 +12,21 @@ use Rattle.posix.specs.Settle.{is_block}
 use Rattle.life.specs.Rechecks.{is_in_wait}
 use Rattle.kernel.specs.Counts.{is_kill, delivers_nothing, slots_of_acting}
 use Rattle.posix.specs.declared.call.Call.{Call}
-use Rattle.posix.specs.declared.call.Call.TheVariants.{Waitpid, Kill}
-use Rattle.posix.specs.Processes.{Process, argument}
+use Rattle.posix.specs.declared.call.Call.TheVariants.{Waitpid, Kill, Sigqueue}
+use Rattle.posix.specs.Processes.{Process}
 use Rattle.std.specs.Option.{option_map_or}
 use Rattle.posix.specs.Tables.{children_in, members_in}
 use Rattle.posix.specs.Consoles.{Console, key_signal}
 use Rattle.life.specs.Machines.{MachineView}
 use Rattle.life.specs.Consoles.{foreground_members, slots_of_key, slots_of_signal_key}
-use Rattle.posix.specs.Sends.{signal_or_none}
-use Rattle.posix.specs.Targets.{target_in}
-use Rattle.calls.specs.Outcomes.{is_cont, is_one, slots_of_brief, slots_of_kill}
+use Rattle.calls.specs.Outcomes.{slots_of_brief}
 
--- they are a wait and a kill
-pub brief_call : (call : Call) (rs : List Process) (me : Process) (holds : ℕ → Type 0) → (call ≡ Waitpid → holds (11 + 2 * length (children_in me.pid rs))) → (call ≡ Kill → holds (slots_of_kill rs (target_in (argument me 1)) (is_cont (signal_or_none (argument me 2))) + 1)) → IfSome (slots_of_brief call rs me) holds
-brief_call Waitpid rs me holds waits kills = waits refl
-brief_call Kill rs me holds waits kills = elim (is_one (target_in (argument me 1))) as (λ b. IfSome (cond b (Some (slots_of_kill rs (target_in (argument me 1)) (is_cont (signal_or_none (argument me 2))) + 1)) None) holds) [ true ↦ kills refl | false ↦ tt ]
-brief_call call rs me holds waits kills = tt
+-- they are a wait, and sends, which needn't wait
+pub brief_call : (call : Call) (rs : List Process) (me : Process) (holds : ℕ → Type 0) → (call ≡ Waitpid → holds (11 + 2 * length (children_in me.pid rs))) → ((call ≡ Kill) ⊎ (call ≡ Sigqueue) → ⊥) → IfSome (slots_of_brief call rs me) holds
+brief_call Waitpid rs me holds waits done = waits refl
+brief_call Kill rs me holds waits done = absurd (done (inl refl))
+brief_call Sigqueue rs me holds waits done = absurd (done (inr refl))
+brief_call call rs me holds waits done = tt
 
 -- who waits for a child does so
 pub in_wait_is : (b : Blocked) → is_in_wait (Some b) ≡ true → b ≡ blocked.Waitpid

@@ -96,9 +96,9 @@ impl<K: Kin> KernelOn<K> {
     }
 
     /// One event, of which fewer than 1,000,000,000,000 were given before: the machine takes the step that
-    /// the definitions give, and shows its entries. Memory is taken only by a fork, which shows where it
-    /// was refused; so there is no error. After a halt the state stays, nothing is shown, and the event is
-    /// counted.
+    /// the definitions give, and shows its entries. Memory is taken by a fork alone, and by a kill or sigqueue of a
+    /// real-time signal, which show where it was refused; so there is no error. After a halt the state stays, nothing is
+    /// shown, and the event is counted.
     ///
     /// Nothing is left to settle after an event, as at the boot, so no wake-up is lost (`laws::no_wake_is_lost`), and
     /// the law of refused calls (`laws::refusals_change_little`) holds of the event that comes next.

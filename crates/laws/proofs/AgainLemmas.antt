@@ -1,10 +1,11 @@
 -- What a call that begins again changes.
 use Rattle.std.proofs.Common.{◌≡◌, ℕ, Bool, true, false, cond, not, ◌||◌, refl, ap, subst, ◌==◌, List, [], ◌∷◌, take, Option, Some, None, ℤ, pos, negsuc, Result, Ok, Err, slice_get, inl, inr}
 use Rattle.posix.specs.declared.call.Call.{Call}
-use Rattle.posix.specs.declared.call.Call.TheVariants.{Exit, Fork, Waitpid, Pause, SchedYield, Getpid, Getppid, Getuid, Geteuid, Getgid, Getegid, Setuid, Seteuid, Setgid, Setegid, Kill, Sigaction, Sigprocmask, Sigpending, Sigsuspend, Sigreturn, Alarm, Exec, Getpgid, Getsid, Setpgid, Setsid, Setctty, Tcgetpgrp, Tcsetpgrp, Settostop, Read, Write}
+use Rattle.posix.specs.declared.call.Call.TheVariants.{Exit, Fork, Waitpid, Pause, SchedYield, Getpid, Getppid, Getuid, Geteuid, Getgid, Getegid, Setuid, Seteuid, Setgid, Setegid, Kill, Sigqueue, Sigaction, Sigprocmask, Sigpending, Sigsuspend, Sigreturn, Alarm, Exec, Getpgid, Getsid, Setpgid, Setsid, Setctty, Tcgetpgrp, Tcsetpgrp, Settostop, Read, Write}
 use Rattle.posix.specs.declared.errno.Errno.{Errno}
 use Rattle.posix.specs.declared.process.Blocked.{Blocked}
 use Rattle.posix.specs.declared.process.Blocked.TheVariants as blocked
+use Rattle.posix.specs.declared.process.PendingSignal.{PendingSignal}
 use Rattle.posix.specs.declared.process.Report.{Report}
 use Rattle.posix.specs.declared.process.Report.TheVariants as found
 use Rattle.posix.specs.declared.process.Sending.{Sending}
@@ -19,9 +20,9 @@ use Rattle.posix.specs.Transfers.{span_in, bytes_in}
 use Rattle.posix.specs.Outcomes.{Attempted, Done, Block, Again, silent}
 use Rattle.posix.specs.Groups.{is_orphaned}
 use Rattle.posix.specs.Births.{fork_as}
-use Rattle.posix.specs.Targets.{target_in}
+use Rattle.posix.specs.Targets.{target_in, process_in}
 use Rattle.posix.specs.Waits.{wait, wait_with, report, options_in, are_known, has_option, WNOHANG}
-use Rattle.posix.specs.Sends.{sending, send_with, signal_or_none, kill_with, kill}
+use Rattle.posix.specs.Sends.{sending_granted, message, send_with, signal_or_none, send, kill, sigqueue}
 use Rattle.posix.specs.Programs.{exec_as, exec_of, exec}
 use Rattle.posix.specs.GroupCalls.{named, tells, getpgid, getsid, move_of, setpgid_with, setpgid_to, setpgid, is_group_of, is_group_of_others, setsid}
 use Rattle.posix.specs.Terminals.{terminal, is_in_background, blocks_or_ignores, if_allowed, console_named, may_acquire, setctty_of, setctty_at, setctty, tcgetpgrp_on, tcgetpgrp, put_foreground, tcsetpgrp_on, tcsetpgrp, settostop_on, settostop, finish_moved, read_from, read_in, read_on, read, write_in, write_on, write}
@@ -59,18 +60,24 @@ signalled_wait s me =
     let options = options_in (argument me 2) in
     signalled_if s me (are_known options) _ _ (signalled_with s me options (report s.processes me.pid me.group (target_in (argument me 1)) options)) tt
 
-signalled_send : (s : State) (me : Process) (target : Target) (sig : Option ℕ) (what : Sending) → SignalledIf s me (send_with s me target sig what)
-signalled_send s me target sig sends.NobodyFound = tt
-signalled_send s me target sig sends.NobodyPermitted = tt
-signalled_send s me target sig sends.Permitted = tt
+signalled_sending : (s : State) (me : Process) (call : Call) (target : Target) (signal : Option PendingSignal) (what : Sending) → SignalledIf s me (send_with s me call target signal what)
+signalled_sending s me call target signal sends.NobodyFound = tt
+signalled_sending s me call target signal sends.NobodyPermitted = tt
+signalled_sending s me call target signal sends.QueueFull = tt
+signalled_sending s me call target signal sends.NoMemory = tt
+signalled_sending s me call target signal sends.Permitted = tt
 
-signalled_kill_with : (s : State) (me : Process) (target : Target) (sig : Result (Option ℕ) Errno) → SignalledIf s me (kill_with s me target sig)
-signalled_kill_with s me target (Ok sig) = signalled_send s me target sig (sending me target sig s.processes)
-signalled_kill_with s me target (Err why) = tt
+signalled_send : (granted : Bool) (s : State) (me : Process) (call : Call) (target : Target) (value : ℤ) (sig : Result (Option ℕ) Errno) → SignalledIf s me (send granted s me call target value sig)
+signalled_send granted s me call target value (Ok n) = signalled_sending s me call target (message me.pid value n) (sending_granted granted me target n s.processes)
+signalled_send granted s me call target value (Err why) = tt
 
-signalled_kill : (s : State) (me : Process) → SignalledIf s me (kill s me)
+signalled_kill : (granted : Bool) (s : State) (me : Process) → SignalledIf s me (kill granted s me)
 unfolding kill
-signalled_kill s me = signalled_kill_with s me (target_in (argument me 1)) (signal_or_none (argument me 2))
+signalled_kill granted s me = signalled_send granted s me Kill (target_in (argument me 1)) (pos 0) (signal_or_none (argument me 2))
+
+signalled_sigqueue : (granted : Bool) (s : State) (me : Process) → SignalledIf s me (sigqueue granted s me)
+unfolding sigqueue
+signalled_sigqueue granted s me = signalled_send granted s me Sigqueue (process_in (argument me 1)) (argument me 3) (signal_or_none (argument me 2))
 
 signalled_exec_as : (s : State) (me : Process) (n : ℕ) (program : Option Program) → SignalledIf s me (exec_as s me n program)
 signalled_exec_as s me n None = tt
@@ -216,7 +223,8 @@ signalled_attempt granted s me Setuid = tt
 signalled_attempt granted s me Seteuid = tt
 signalled_attempt granted s me Setgid = tt
 signalled_attempt granted s me Setegid = tt
-signalled_attempt granted s me Kill = signalled_kill s me
+signalled_attempt granted s me Kill = signalled_kill granted s me
+signalled_attempt granted s me Sigqueue = signalled_sigqueue granted s me
 signalled_attempt granted s me Sigaction = tt
 signalled_attempt granted s me Sigprocmask = tt
 signalled_attempt granted s me Sigpending = tt

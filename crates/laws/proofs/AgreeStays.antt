@@ -3,7 +3,7 @@ use Rattle.std.proofs.Common.{◌≡◌, ℕ, Bool, true, false, not, ◌&&◌, 
 use Rattle.std.specs.Int.{cast_unsigned, w64}
 use Rattle.std.proofs.lemmas.Bool.{cond_both}
 use Rattle.posix.specs.declared.call.Call.{Call}
-use Rattle.posix.specs.declared.call.Call.TheVariants.{Exit, Fork, Waitpid, Pause, SchedYield, Getpid, Getppid, Getuid, Geteuid, Getgid, Getegid, Setuid, Seteuid, Setgid, Setegid, Kill, Sigaction, Sigprocmask, Sigpending, Sigsuspend, Sigreturn, Alarm, Exec, Getpgid, Getsid, Setpgid, Setsid, Setctty, Tcgetpgrp, Tcsetpgrp, Settostop, Read, Write}
+use Rattle.posix.specs.declared.call.Call.TheVariants.{Exit, Fork, Waitpid, Pause, SchedYield, Getpid, Getppid, Getuid, Geteuid, Getgid, Getegid, Setuid, Seteuid, Setgid, Setegid, Kill, Sigqueue, Sigaction, Sigprocmask, Sigpending, Sigsuspend, Sigreturn, Alarm, Exec, Getpgid, Getsid, Setpgid, Setsid, Setctty, Tcgetpgrp, Tcsetpgrp, Settostop, Read, Write}
 use Rattle.posix.specs.declared.instr.Trap.{Trap}
 use Rattle.posix.specs.declared.instr.Trap.TheVariants as trap
 use Rattle.posix.specs.declared.errno.Errno.{Errno}
@@ -42,10 +42,10 @@ use Rattle.posix.specs.Choice.{chosen, carried_by, from_kernel}
 use Rattle.posix.specs.Handlers.{handles, is_full, is_interrupted, newest_frame, returned, set_action}
 use Rattle.posix.specs.Births.{born, fork_as}
 use Rattle.posix.specs.Ends.{end_process}
-use Rattle.posix.specs.Targets.{target_in}
+use Rattle.posix.specs.Targets.{target_in, process_in}
 use Rattle.posix.specs.Waits.{wait, wait_with, report, options_in, are_known, has_option, WNOHANG, news_told}
 use Rattle.posix.specs.Delivery.{call_of, interruption, handle, act_by_default, act_on, take_out, deliver, fault_with, fault, return_to, return_from_handler}
-use Rattle.posix.specs.Sends.{sent, sent_by, sent_among, permitted, targets, sending, send_with, signal_in, signal_or_none, kill_with, kill}
+use Rattle.posix.specs.Sends.{sent, sent_among, permitted, targets, sending_granted, message, send_with, signal_in, signal_or_none, send, kill, sigqueue}
 use Rattle.posix.specs.SignalCalls.{set_credentials, give_credentials, give_signals, holding, is_question, are_flags, action_in, sigaction_with, sigaction_of, sigaction, how_in, sigprocmask_with, sigprocmask, sigpending}
 use Rattle.posix.specs.Programs.{executed, exec_as, exec_of, exec}
 use Rattle.posix.specs.GroupCalls.{named, tells, getpgid, getsid, move_to, setpgid_with, setpgid, is_group_of_others, in_group, in_session, setsid}
@@ -245,23 +245,37 @@ tells_wait s me c =
     (λ t. tells_plain s me Waitpid (refusal EINVAL) c refl)
 
 -- a signal that is sent
-quiet_sent : (s : State) (me : Process) (target : Target) (sig : Option ℕ) → Quiet s (record s { processes = sent me target sig s.processes })
+quiet_sent : (s : State) (me : Process) (target : Target) (signal : Option PendingSignal) → Quiet s (record s { processes = sent me target signal s.processes })
 unfolding sent sent_among
 quiet_sent s me target None = quiet_same s
-quiet_sent s me target (Some n) = quiet_signalled (sent_by me.pid n) (pids (permitted me (Some n) (targets me target s.processes))) s
+quiet_sent s me target (Some signal) = quiet_signalled signal (pids (permitted me (Some signal.sig) (targets me target s.processes))) s
 
-tells_send : (s : State) (me : Process) (target : Target) (sig : Option ℕ) (what : Sending) → IsTaking s me → TellsIf s (send_with s me target sig what)
-tells_send s me target sig sends.NobodyFound c = tells_plain s me Kill (refusal ESRCH) c refl
-tells_send s me target sig sends.NobodyPermitted c = tells_plain s me Kill (refusal EPERM) c refl
-tells_send s me target sig sends.Permitted c = tells_gives s (record s { processes = sent me target sig s.processes }) me Kill (pos 0) c (quiet_sent s me target sig) refl
+-- no line of the call tells of a birth
+abbrev BearsNobody : Call → Type 0
+BearsNobody call = (p : ℕ) (z : ℤ) → is_plain (Called p call z) ≡ true
 
-tells_kill_with : (s : State) (me : Process) (target : Target) (sig : Result (Option ℕ) Errno) → IsTaking s me → TellsIf s (kill_with s me target sig)
-tells_kill_with s me target (Ok sig) c = tells_send s me target sig (sending me target sig s.processes) c
-tells_kill_with s me target (Err why) c = tells_plain s me Kill (refusal why) c refl
+-- by what comes of it
+tells_sending : (s : State) (me : Process) (call : Call) (target : Target) (signal : Option PendingSignal) (what : Sending) → BearsNobody call → IsTaking s me → TellsIf s (send_with s me call target signal what)
+tells_sending s me call target signal sends.NobodyFound silent c = tells_plain s me call (refusal ESRCH) c (silent me.pid (refusal ESRCH))
+tells_sending s me call target signal sends.NobodyPermitted silent c = tells_plain s me call (refusal EPERM) c (silent me.pid (refusal EPERM))
+tells_sending s me call target signal sends.QueueFull silent c = tells_plain s me call (refusal EAGAIN) c (silent me.pid (refusal EAGAIN))
+tells_sending s me call target signal sends.NoMemory silent c =
+    told_line s _ me.pid (NoMemory me.pid call) c.awake (taking_living s me c) refl refl (quiet_finished s me.pid ((0, refusal EAGAIN) ∷ []))
+tells_sending s me call target signal sends.Permitted silent c =
+    tells_gives s (record s { processes = sent me target signal s.processes }) me call (pos 0) c (quiet_sent s me target signal) (silent me.pid (pos 0))
 
-tells_kill : (s : State) (me : Process) → IsTaking s me → TellsIf s (kill s me)
+-- by what it is
+tells_send : (granted : Bool) (s : State) (me : Process) (call : Call) (target : Target) (value : ℤ) (sig : Result (Option ℕ) Errno) → BearsNobody call → IsTaking s me → TellsIf s (send granted s me call target value sig)
+tells_send granted s me call target value (Ok n) silent c = tells_sending s me call target (message me.pid value n) (sending_granted granted me target n s.processes) silent c
+tells_send granted s me call target value (Err why) silent c = tells_plain s me call (refusal why) c (silent me.pid (refusal why))
+
+tells_kill : (granted : Bool) (s : State) (me : Process) → IsTaking s me → TellsIf s (kill granted s me)
 unfolding kill
-tells_kill s me c = tells_kill_with s me (target_in (argument me 1)) (signal_or_none (argument me 2)) c
+tells_kill granted s me c = tells_send granted s me Kill (target_in (argument me 1)) (pos 0) (signal_or_none (argument me 2)) (λ p z. refl) c
+
+tells_sigqueue : (granted : Bool) (s : State) (me : Process) → IsTaking s me → TellsIf s (sigqueue granted s me)
+unfolding sigqueue
+tells_sigqueue granted s me c = tells_send granted s me Sigqueue (process_in (argument me 1)) (argument me 3) (signal_or_none (argument me 2)) (λ p z. refl) c
 
 -- new ids, or a refusal
 pub untold_ids : (c : Result Credentials Errno) → Untold (set_credentials c).changes
@@ -372,7 +386,8 @@ tells_attempt granted s me Setuid c = tells_answers s me Setuid _ c (untold_ids 
 tells_attempt granted s me Seteuid c = tells_answers s me Seteuid _ c (untold_ids (seteuid me.credentials (argument me 1))) refl
 tells_attempt granted s me Setgid c = tells_answers s me Setgid _ c (untold_ids (setgid me.credentials (argument me 1))) refl
 tells_attempt granted s me Setegid c = tells_answers s me Setegid _ c (untold_ids (setegid me.credentials (argument me 1))) refl
-tells_attempt granted s me Kill c = tells_kill s me c
+tells_attempt granted s me Kill c = tells_kill granted s me c
+tells_attempt granted s me Sigqueue c = tells_sigqueue granted s me c
 tells_attempt granted s me Sigaction c = tells_answers s me Sigaction (sigaction me) c (untold_action me) refl
 tells_attempt granted s me Sigprocmask c = tells_answers s me Sigprocmask (sigprocmask me) c (untold_mask me) refl
 tells_attempt granted s me Sigpending c = tells_answers s me Sigpending (sigpending me) c (untold_pending me) refl

@@ -1,9 +1,9 @@
 -- What an event shows has a form, and it keeps the kinds of a state.
-use Rattle.std.proofs.Common.{◌≡◌, ℕ, ◌+◌, ◌≤◌, Bool, true, false, cond, not, ◌&&◌, refl, ap, sym, ◌∙◌, arith, subst, List, [], ◌∷◌, ◌++◌, Option, Some, None, option_and_then, ◌==◌, ℤ, pos, inl, inr, Result, Ok, Err, nat_le, negsuc, slice_get, ◌||◌, zero, suc, ◌-◌, ◌<◌}
+use Rattle.std.proofs.Common.{◌≡◌, ℕ, ◌+◌, ◌≤◌, Bool, true, false, cond, not, ◌&&◌, refl, ap, sym, ◌∙◌, arith, subst, List, [], ◌∷◌, ◌++◌, filter, Option, Some, None, option_and_then, ◌==◌, ℤ, pos, inl, inr, Result, Ok, Err, nat_le, negsuc, slice_get, ◌||◌, zero, suc, ◌-◌, ◌<◌}
 use Rattle.std.specs.Int.{cast_unsigned, w64, int_wrapping_div}
 use Rattle.std.proofs.lemmas.Bool.{eqb-false, cond_both, leb-true, and_parts, or_cases}
 use Rattle.posix.specs.declared.call.Call.{Call}
-use Rattle.posix.specs.declared.call.Call.TheVariants.{Exit, Fork, Waitpid, Pause, SchedYield, Getpid, Getppid, Getuid, Geteuid, Getgid, Getegid, Setuid, Seteuid, Setgid, Setegid, Kill, Sigaction, Sigprocmask, Sigpending, Sigsuspend, Sigreturn, Alarm, Exec, Getpgid, Getsid, Setpgid, Setsid, Setctty, Tcgetpgrp, Tcsetpgrp, Settostop, Read, Write}
+use Rattle.posix.specs.declared.call.Call.TheVariants.{Exit, Fork, Waitpid, Pause, SchedYield, Getpid, Getppid, Getuid, Geteuid, Getgid, Getegid, Setuid, Seteuid, Setgid, Setegid, Kill, Sigqueue, Sigaction, Sigprocmask, Sigpending, Sigsuspend, Sigreturn, Alarm, Exec, Getpgid, Getsid, Setpgid, Setsid, Setctty, Tcgetpgrp, Tcsetpgrp, Settostop, Read, Write}
 use Rattle.posix.specs.declared.instr.Trap.{Trap}
 use Rattle.posix.specs.declared.instr.Trap.TheVariants as trap
 use Rattle.posix.specs.declared.event.Event.{Event}
@@ -33,30 +33,31 @@ use Rattle.posix.specs.Statuses.{exited, killed, stopped, continued}
 use Rattle.posix.specs.Processes.{Process, Signals, Credentials, Cpu, argument, zero_registers, zero_memory, first_process, default_actions, nothing_pending}
 use Rattle.posix.specs.Tables.{IsRising, lookup, removed, pids}
 use Rattle.posix.specs.States.{Program, State, change, lose_place, go_last, current, next_pid, process, World, boot}
-use Rattle.posix.specs.Outcomes.{Outcome, silent, Attempted, Done, Block, Again, Reply, finished, refusal, refusing, finish_with, finish_call}
-use Rattle.posix.specs.Credentials.{setuid, seteuid, setgid, setegid}
-use Rattle.posix.specs.Generation.{action, is_pending}
+use Rattle.posix.specs.Outcomes.{Outcome, silent, Attempted, Done, Block, Again, Reply, finished, refusal, refusing, finish_with, finish_call, no_memory}
+use Rattle.posix.specs.Credentials.{may, setuid, seteuid, setgid, setegid}
+use Rattle.posix.specs.Generation.{action, has_sig, is_pending}
 use Rattle.posix.specs.Groups.{is_orphaned}
-use Rattle.posix.specs.Choice.{chosen, carried_by, from_kernel}
+use Rattle.posix.specs.Choice.{chosen, first_carried, carried_by, from_kernel}
 use Rattle.posix.specs.Handlers.{handles, is_full, is_interrupted, newest_frame, returned, set_action, set_mask}
 use Rattle.posix.specs.Births.{born, fork_as}
 use Rattle.posix.specs.Ends.{end_process}
-use Rattle.posix.specs.Targets.{target_in}
+use Rattle.posix.specs.Targets.{target_in, process_in}
 use Rattle.posix.specs.Waits.{wait, wait_with, report, options_in, are_known, has_option, WNOHANG, news_told}
 use Rattle.posix.specs.Delivery.{call_of, interruption, handle, act_by_default, act_on, take_out, deliver, fault_with, fault, return_to, return_from_handler, stop_process}
-use Rattle.posix.specs.Sends.{sent, sent_by, sent_among, permitted, targets, sending, send_with, signal_in, signal_or_none, kill_with, kill}
-use Rattle.posix.specs.SignalCalls.{set_credentials, is_question, are_flags, action_in, sigaction_with, sigaction_of, sigaction, how_in, sigprocmask_with, sigprocmask, sigpending, set_of}
+use Rattle.posix.specs.Sends.{is_target, sent, sent_by, sent_among, permitted, targets, sending, has_full_queue, is_queuer, queuers, queued_for, queuers_among, sending_granted, message, send_with, signal_in, signal_or_none, send, kill, sigqueue}
+use Rattle.posix.specs.SignalCalls.{set_credentials, is_question, are_flags, action_in, sigaction_with, sigaction_of, sigaction, how_in, sigprocmask_with, sigprocmask, sigpending, pending_set}
 use Rattle.posix.specs.Programs.{executed, exec_as, exec_of, exec}
 use Rattle.posix.specs.GroupCalls.{named, tells, getpgid, getsid, move_to, setpgid_with, setpgid, is_group_of_others, in_group, in_session, setsid}
 use Rattle.posix.specs.Alarms.{ticks_in, alarm_in, alarm, ticks_left, due_in}
 use Rattle.posix.specs.Attempts.{attempt, attempt_again}
 use Rattle.posix.specs.Step.{act, act_in, after_trap, begin_call, enter, set_cpu, deliver_or, out_of_call, go_on, code_of, IsStep, next, happens, step, instructions}
 use Rattle.std.specs.Prelude.{◌*◌, ◌%◌, bit_and, bit_or, bit_xor, int_div, int_rem, unsigned_abs, slice_index_or, unwrap_or}
-use Rattle.std.specs.List.{list_all}
-use Rattle.posix.proofs.TableLemmas.{rising_changed, pid_looked}
+use Rattle.std.specs.List.{AllByRecursion, list_all, list_any}
+use Rattle.posix.proofs.TableLemmas.{rising_changed, rising_filter, none_found, pid_looked}
+use Rattle.posix.proofs.WalkLemmas.{all_looked, any_filter, in_filter}
 use Rattle.laws.proofs.ToldLines.{pid_child, told_pid}
 use Rattle.posix.specs.declared.ids.Ids.{Ids}
-use Rattle.laws.specs.Kinds.{is_action, is_own_id, are_ids, is_id, is_carried, is_pending_kind, is_instruction, is_program, is_console, is_news_kind, is_life, AreSignals, IsCpu, IsKind, IsWorld, AreKinds, IsEvent}
+use Rattle.laws.specs.Kinds.{is_action, is_own_id, are_ids, is_id, is_carried, is_pending_kind, is_queued_kind, is_instruction, is_program, is_console, is_news_kind, is_life, AreSignals, IsCpu, IsKind, IsWorld, AreKinds, IsEvent}
 use Rattle.std.proofs.lemmas.Bool.Decides.{nat_tests}
 use Rattle.posix.specs.declared.instr.Instr.{Instr}
 use Rattle.posix.specs.declared.instr.Instr.TheVariants as instr
@@ -67,9 +68,9 @@ use Rattle.posix.specs.declared.process.Carried.{Carried}
 use Rattle.posix.specs.Execute.{Executed, execute, execute_fetched, exec_one, fetched, computed, register, set_register, move_on, put_result, load_from, store_at, address_of, is_zero, passes, jump}
 use Rattle.posix.specs.Regular.{IsRegular, IsAhead}
 use Rattle.posix.specs.Entries.{line, numbered}
-use Rattle.posix.specs.Notices.{stopped_by}
+use Rattle.posix.specs.Notices.{stopped_by, signalled_all}
 use Rattle.posix.specs.Consoles.{unused_console}
-use Rattle.laws.specs.TraceLines.{is_number, is_i64, is_result, is_entry, is_line, is_end_word}
+use Rattle.laws.specs.TraceLines.{is_number, is_i64, is_result, asks_memory, is_entry, is_line, is_end_word}
 use Rattle.posix.proofs.CountLemmas.{next_halted}
 use Rattle.posix.proofs.WakeLemmas.{next_awake}
 use Rattle.posix.proofs.NextLemmas.{new_number}
@@ -80,8 +81,8 @@ use Rattle.posix.proofs.ReportLemmas.{reporting}
 use Rattle.laws.proofs.QuietLemmas.{Untold}
 use Rattle.laws.proofs.AgreeStays.{untold_enter, untold_returned, untold_handles, untold_take_out, untold_set_cpu, untold_executed, untold_out, untold_ids, untold_action, untold_mask, untold_pending, untold_alarm_call}
 use Rattle.laws.proofs.KindLemmas.{and_both, all_get, all_set, all_found, all_same, small_i64, id_i64, cast_i64, rem_i64}
-use Rattle.laws.proofs.KindChanges.{KeepsKind, kind_stopped, kind_take_out, kind_written, kind_set_cpu, kind_child, kind_action, kind_handles, kind_frame, kind_returned, kind_enter, kind_out, kind_told, kind_alarm, kind_grouped, kind_led, kind_credentials, kind_give, kind_holding, kind_set_action, kind_mask, CredentialsIf, kind_setuid, kind_seteuid, kind_setgid, kind_setegid, kind_executed}
-use Rattle.laws.proofs.KindStates.{kinds_changed, kinds_removed, kinds_inserted, kinds_stop_told, kinds_signalled, kinds_as, kinds_change, kinds_end, end_small, kinds_key, kinds_tick, kinds_settled}
+use Rattle.laws.proofs.KindChanges.{KeepsKind, HasRoom, kind_argument, kind_stopped, kind_take_out, kind_written, kind_set_cpu, kind_child, kind_action, kind_handles, kind_frame, kind_returned, kind_enter, kind_out, kind_told, kind_alarm, kind_grouped, kind_led, kind_credentials, kind_give, kind_holding, kind_set_action, kind_mask, CredentialsIf, kind_setuid, kind_seteuid, kind_setgid, kind_setegid, kind_executed}
+use Rattle.laws.proofs.KindStates.{AllKind, IsThereWithRoom, kinds_changed, kinds_removed, kinds_inserted, kinds_stop_told, kinds_signalled, kinds_queued, kinds_as, kinds_change, kinds_end, end_small, kinds_key, kinds_tick, kinds_settled}
 use Rattle.laws.proofs.FormTerminals.{IsFormed, FormsIf, IsSaying, saying_kind, number_there, saying_number, group_there, refusal_i64, form_called, kinds_finished, form_gives, form_plain, form_answers, form_setctty, form_tcgetpgrp, form_tcsetpgrp, form_settostop, form_read, form_write}
 
 -- news of a stop or of a continue have a word
@@ -99,7 +100,7 @@ first_kind = record {
   pid = refl;
   parent = refl;
   credentials = record { user = refl; group = refl };
-  signals = record { pending = refl; actions = refl; frames = refl };
+  signals = record { pending = refl; queue = refl; few = refl; actions = refl; frames = refl };
   life = refl;
   news = refl;
   cpu = record { registers = all_same is_i64 8 (pos 0) refl; memory = all_same is_i64 256 (pos 0) refl };
@@ -191,9 +192,20 @@ form_on t r signal handler.Ignore sig carried h = form_discard t r signal.sig h 
 form_on t r signal handler.Default sig carried h =
     cond_both (r.pid == 1) _ _ IsFormed (λ e. form_discard t r signal.sig h sig) (λ e. form_default t r signal.sig (default_action signal.sig) refl sig h)
 
+-- what the first queued signal of a number came with
+kind_first_carried : (n : ℕ) (queue : List PendingSignal) → list_all is_queued_kind queue ≡ true → is_pending_kind (first_carried n queue) ≡ true
+unfolding first_carried
+kind_first_carried n [] h = refl
+kind_first_carried n (m ∷ ms) h =
+    let p = and_parts (is_queued_kind m) (list_all is_queued_kind ms) h in
+    cond_both (has_sig n m) (Some m.carried) (first_carried n ms) (λ (o : Option Carried). is_pending_kind o ≡ true) (λ t. (and_parts (is_realtime m.sig) (is_carried m.carried) p.0).1) (λ t. kind_first_carried n ms p.1)
+
 -- what a pending signal came with
 kind_carried : (n : ℕ) (g : Signals) → AreSignals g → is_carried (carried_by n g) ≡ true
-kind_carried n g h = of (slice_index_or g.standard (n - 1) None) (all_get is_pending_kind g.standard (n - 1) None h.pending refl)
+kind_carried n g h =
+    of (cond (is_realtime n) (first_carried n g.queue) (slice_index_or g.standard (n - 1) None))
+    (cond_both (is_realtime n) (first_carried n g.queue) (slice_index_or g.standard (n - 1) None) (λ (o : Option Carried). is_pending_kind o ≡ true)
+    (λ t. kind_first_carried n g.queue h.queue) (λ t. all_get is_pending_kind g.standard (n - 1) None h.pending refl))
   where
     of : (o : Option Carried) → is_pending_kind o ≡ true → is_carried (unwrap_or o from_kernel) ≡ true
     of None k = refl
@@ -232,6 +244,13 @@ form_return t r h = form_return_to t r (newest_frame r.signals) refl h
 old_saying : (s : State) (me : Process) → IsSaying s me → IsOld s me
 old_saying s me c = record { up = c.regular.rising; kinds = c.kinds; kind = saying_kind s me c; number = saying_number s me c }
 
+-- there is no memory for the call
+form_no_memory : (s : State) (me : Process) (call : Call) → IsSaying s me → asks_memory call ≡ true → FormsIf (no_memory s me.pid call)
+form_no_memory s me call c asks = record {
+  entries = one_formed (NoMemory me.pid call) (and_both (is_number me.pid) (asks_memory call) (saying_number s me c) asks);
+  kinds = kinds_finished s me.pid ((0, refusal EAGAIN) ∷ []) refl c.kinds;
+}
+
 form_fork : (granted : Bool) (s : State) (me : Process) (n : Option ℕ) → IsSaying s me → next_pid s ≡ n → FormsIf (fork_as granted s me n)
 unfolding fork_as
 form_fork granted s me None c e = form_plain s me Fork (refusal EAGAIN) c refl refl
@@ -244,7 +263,7 @@ form_fork granted s me (Some n) c e =
     let kinds : AreKinds (born s me n) = kinds_as s (born s me n) refl refl (kinds_inserted _ s.processes (ap (λ m. lookup m s.processes) named ∙ new.fresh) child c.kinds.records) c.kinds in
     cond_both granted _ _ FormsIf
     (λ t. form_gives s (born s me n) me Fork (pos n) c kinds (id_i64 n id) id)
-    (λ t. record { entries = one_formed (NoMemory me.pid Fork) (and_both (is_number me.pid) true (saying_number s me c) refl); kinds = kinds_finished s me.pid ((0, refusal EAGAIN) ∷ []) refl c.kinds })
+    (λ t. form_no_memory s me Fork c refl)
 
 form_report : (s t : State) (me : Process) (child w : ℕ) → IsSaying s me → AreKinds t → is_number child ≡ true → w ≤ 65535 → IsFormed (record { state = change t me.pid (finished ((0, pos child) ∷ (1, pos w) ∷ [])); entries = Reported me.pid child w ∷ [] })
 form_report s t me child w c k n few =
@@ -279,24 +298,85 @@ unfolding wait
 form_wait s me c =
     cond_both (are_known (options_in (argument me 2))) _ _ FormsIf (λ t. form_with s me (target_in (argument me 1)) (options_in (argument me 2)) _ c refl) (λ t. form_plain s me Waitpid (refusal EINVAL) c refl refl)
 
-kinds_sent : (s : State) (me : Process) (target : Target) (sig : Option ℕ) → IsSaying s me → AreKinds (record s { processes = sent me target sig s.processes })
+-- where a send is permitted, nobody is full for whom the signal would be queued
+queued_room : (granted : Bool) (qs : List Process) (other : Sending) → queued_for granted qs other ≡ sends.Permitted → list_any has_full_queue qs ≡ false
+queued_room granted [] other e = refl
+queued_room granted (q ∷ qs) other e = by (list_any has_full_queue (q ∷ qs)) e
+  where
+    by : (b : Bool) → cond b sends.QueueFull (cond granted other sends.NoMemory) ≡ sends.Permitted → b ≡ false
+    by true e = absurd (cc)
+    by false e = refl
+
+permitted_room : (granted : Bool) (s : State) (me : Process) (target : Target) (n : ℕ) → sending_granted granted me target (Some n) s.processes ≡ sends.Permitted
+    → (p : ℕ) (r : Process) → lookup p (permitted me (Some n) (targets me target s.processes)) ≡ Some r → HasRoom n r
+unfolding sending_granted queuers_among queuers
+permitted_room granted s me target n e =
+    let rs = permitted me (Some n) (targets me target s.processes) in
+    none_found (λ r. is_queuer n r && has_full_queue r) rs (sym (any_filter (is_queuer n) has_full_queue rs) ∙ queued_room granted (filter (is_queuer n) rs) (sending me target (Some n) s.processes) e)
+
+-- those whom a permitted send is for are there, with room
+permitted_there : (granted : Bool) (s : State) (me : Process) (target : Target) (n : ℕ) → IsRising s.processes → sending_granted granted me target (Some n) s.processes ≡ sends.Permitted
+    → AllByRecursion (IsThereWithRoom s.processes n) (permitted me (Some n) (targets me target s.processes))
+unfolding permitted targets
+permitted_there granted s me target n up e =
+    let meant = filter (is_target me target) s.processes in
+    let meant_up = rising_filter (is_target me target) s.processes up in
+    let rs = filter (may me (Some n)) meant in
+    all_looked (IsThereWithRoom s.processes n) rs (rising_filter (may me (Some n)) meant meant_up) (λ p q found.
+    let a = in_filter (may me (Some n)) meant meant_up p q found in
+    let b = in_filter (is_target me target) s.processes up p q a.found in
+    (ap (λ m. lookup m s.processes) (pid_looked p s.processes q b.found) ∙ b.found, permitted_room granted s me target n e p q found))
+
+-- they stand in rising order
+permitted_rising : (me : Process) (n : ℕ) (target : Target) (rs : List Process) → IsRising rs → IsRising (permitted me (Some n) (targets me target rs))
+unfolding permitted targets
+permitted_rising me n target rs up = rising_filter (may me (Some n)) _ (rising_filter (is_target me target) rs up)
+
+-- a signal that is sent
+kinds_sent_one : (granted : Bool) (s : State) (me : Process) (target : Target) (value : ℤ) (n : ℕ) → is_i64 value ≡ true → IsSaying s me → sending_granted granted me target (Some n) s.processes ≡ sends.Permitted
+    → AreKinds (record s { processes = signalled_all (sent_by me.pid value n) (pids (permitted me (Some n) (targets me target s.processes))) s.processes })
+kinds_sent_one granted s me target value n z c e = kinds_as s _ refl refl (by (is_realtime n) refl) c.kinds
+  where
+    carried : is_carried (sent_by me.pid value n).carried ≡ true
+    carried = and_both (is_i64 value) (is_id me.pid) z (saying_kind s me c).pid
+
+    by : (b : Bool) → is_realtime n ≡ b → AllKind (signalled_all (sent_by me.pid value n) (pids (permitted me (Some n) (targets me target s.processes))) s.processes)
+    by true real = kinds_queued (sent_by me.pid value n) carried real (permitted me (Some n) (targets me target s.processes)) s.processes
+        (permitted_rising me n target s.processes c.regular.rising) (permitted_there granted s me target n c.regular.rising e) c.kinds.records
+    by false standard = kinds_signalled (sent_by me.pid value n) carried standard (pids (permitted me (Some n) (targets me target s.processes))) s.processes c.kinds.records
+
+kinds_sent : (granted : Bool) (s : State) (me : Process) (target : Target) (value : ℤ) (n : Option ℕ) → is_i64 value ≡ true → IsSaying s me → sending_granted granted me target n s.processes ≡ sends.Permitted
+    → AreKinds (record s { processes = sent me target (message me.pid value n) s.processes })
 unfolding sent sent_among
-kinds_sent s me target None c = c.kinds
-kinds_sent s me target (Some n) c =
-    kinds_as s _ refl refl (kinds_signalled (sent_by me.pid n) (and_both (is_i64 (pos 0)) (is_id me.pid) refl (saying_kind s me c).pid) (pids (permitted me (Some n) (targets me target s.processes))) s.processes c.kinds.records) c.kinds
+kinds_sent granted s me target value None z c e = c.kinds
+kinds_sent granted s me target value (Some n) z c e = kinds_sent_one granted s me target value n z c e
 
-form_send : (s : State) (me : Process) (target : Target) (sig : Option ℕ) (what : Sending) → IsSaying s me → FormsIf (send_with s me target sig what)
-form_send s me target sig sends.NobodyFound c = form_plain s me Kill (refusal ESRCH) c refl refl
-form_send s me target sig sends.NobodyPermitted c = form_plain s me Kill (refusal EPERM) c refl refl
-form_send s me target sig sends.Permitted c = form_gives s (record s { processes = sent me target sig s.processes }) me Kill (pos 0) c (kinds_sent s me target sig c) refl refl
+-- a call that sends may give any result, and may find no memory
+record IsSend (call : Call) : Type 0 where
+  result : (z : ℤ) → is_result call z ≡ true
+  asks : asks_memory call ≡ true
 
-form_kill_with : (s : State) (me : Process) (target : Target) (sig : Result (Option ℕ) Errno) → IsSaying s me → FormsIf (kill_with s me target sig)
-form_kill_with s me target (Ok sig) c = form_send s me target sig (sending me target sig s.processes) c
-form_kill_with s me target (Err why) c = form_plain s me Kill (refusal why) c (refusal_i64 why) refl
+form_sending : (granted : Bool) (s : State) (me : Process) (call : Call) (target : Target) (value : ℤ) (n : Option ℕ) (what : Sending) → IsSend call → is_i64 value ≡ true → IsSaying s me
+    → sending_granted granted me target n s.processes ≡ what → FormsIf (send_with s me call target (message me.pid value n) what)
+form_sending granted s me call target value n sends.NobodyFound k z c e = form_plain s me call (refusal ESRCH) c refl (k.result (refusal ESRCH))
+form_sending granted s me call target value n sends.NobodyPermitted k z c e = form_plain s me call (refusal EPERM) c refl (k.result (refusal EPERM))
+form_sending granted s me call target value n sends.QueueFull k z c e = form_plain s me call (refusal EAGAIN) c refl (k.result (refusal EAGAIN))
+form_sending granted s me call target value n sends.NoMemory k z c e = form_no_memory s me call c k.asks
+form_sending granted s me call target value n sends.Permitted k z c e =
+    form_gives s (record s { processes = sent me target (message me.pid value n) s.processes }) me call (pos 0) c (kinds_sent granted s me target value n z c e) refl (k.result (pos 0))
 
-form_kill : (s : State) (me : Process) → IsSaying s me → FormsIf (kill s me)
+form_send : (granted : Bool) (s : State) (me : Process) (call : Call) (target : Target) (value : ℤ) (sig : Result (Option ℕ) Errno) → IsSend call → is_i64 value ≡ true → IsSaying s me → FormsIf (send granted s me call target value sig)
+form_send granted s me call target value (Ok n) k z c = form_sending granted s me call target value n (sending_granted granted me target n s.processes) k z c refl
+form_send granted s me call target value (Err why) k z c = form_plain s me call (refusal why) c (refusal_i64 why) (k.result (refusal why))
+
+form_kill : (granted : Bool) (s : State) (me : Process) → IsSaying s me → FormsIf (kill granted s me)
 unfolding kill
-form_kill s me c = form_kill_with s me (target_in (argument me 1)) (signal_or_none (argument me 2)) c
+form_kill granted s me c = form_send granted s me Kill (target_in (argument me 1)) (pos 0) (signal_or_none (argument me 2)) (record { result = λ z. refl; asks = refl }) refl c
+
+form_sigqueue : (granted : Bool) (s : State) (me : Process) → IsSaying s me → FormsIf (sigqueue granted s me)
+unfolding sigqueue
+form_sigqueue granted s me c =
+    form_send granted s me Sigqueue (process_in (argument me 1)) (argument me 3) (signal_or_none (argument me 2)) (record { result = λ z. refl; asks = refl }) (kind_argument me 3 (saying_kind s me c)) c
 
 -- a reply that is of its kind
 record IsReply (reply : Reply) : Type 0 where
@@ -338,7 +418,7 @@ reply_mask me k = reply_mask_with me (how_in (argument me 1)) k
 
 reply_pending : (me : Process) → IsReply (sigpending me)
 unfolding sigpending
-reply_pending me = record { value = refl; keeps = kind_written 1 _ (cast_i64 (set_of me.signals.standard)) }
+reply_pending me = record { value = refl; keeps = kind_written 1 _ (cast_i64 (pending_set me.signals)) }
 
 reply_alarm_in : (now : ℕ) (me : Process) (n : Option ℕ) → IsAhead now me.alarm → IsReply (alarm_in now me n)
 reply_alarm_in now me None h = reply_refused EINVAL
@@ -443,7 +523,8 @@ form_attempt granted s me Setuid c = form_reply s me Setuid _ c (untold_ids (set
 form_attempt granted s me Seteuid c = form_reply s me Seteuid _ c (untold_ids (seteuid me.credentials (argument me 1))) (reply_ids _ (kind_seteuid me.credentials (argument me 1) (saying_kind s me c).credentials)) refl
 form_attempt granted s me Setgid c = form_reply s me Setgid _ c (untold_ids (setgid me.credentials (argument me 1))) (reply_ids _ (kind_setgid me.credentials (argument me 1) (saying_kind s me c).credentials)) refl
 form_attempt granted s me Setegid c = form_reply s me Setegid _ c (untold_ids (setegid me.credentials (argument me 1))) (reply_ids _ (kind_setegid me.credentials (argument me 1) (saying_kind s me c).credentials)) refl
-form_attempt granted s me Kill c = form_kill s me c
+form_attempt granted s me Kill c = form_kill granted s me c
+form_attempt granted s me Sigqueue c = form_sigqueue granted s me c
 form_attempt granted s me Sigaction c = form_reply s me Sigaction (sigaction me) c (untold_action me) (reply_action me (saying_kind s me c)) refl
 form_attempt granted s me Sigprocmask c = form_reply s me Sigprocmask (sigprocmask me) c (untold_mask me) (reply_mask me (saying_kind s me c)) refl
 form_attempt granted s me Sigpending c = form_reply s me Sigpending (sigpending me) c (untold_pending me) (reply_pending me) refl

@@ -11,7 +11,7 @@ use Rattle.posix.specs.declared.entry.Entry.TheVariants.{Called, Moved}
 use Rattle.posix.specs.declared.errno.Errno.{Errno}
 use Rattle.posix.specs.declared.errno.Errno.TheVariants.{EPERM, ENOENT, ESRCH, EINTR, EIO, ECHILD, EAGAIN, EACCES, EFAULT, EINVAL, ENOTTY}
 use Rattle.posix.specs.declared.span.Span.{Span}
-use Rattle.posix.specs.SignalNumbers.{TTIN, TTOU}
+use Rattle.posix.specs.SignalNumbers.{TTIN, TTOU, is_realtime}
 use Rattle.posix.specs.Processes.{Process, argument}
 use Rattle.posix.specs.Tables.{lookup}
 use Rattle.posix.specs.States.{State, change}
@@ -117,13 +117,13 @@ form_answers s me call reply c u keeps k r = record {
 
 -- ---- the background
 
-kinds_again : (s : State) (n group : ℕ) → AreKinds s → FormsIf (Again (record s { processes = Rattle.posix.specs.Ends.signalled_group n group s.processes }))
-kinds_again s n group h = kinds_as s _ refl refl (kinds_group n group s.processes h.records) h
+kinds_again : (s : State) (n group : ℕ) → is_realtime n ≡ false → AreKinds s → FormsIf (Again (record s { processes = Rattle.posix.specs.Ends.signalled_group n group s.processes }))
+kinds_again s n group standard h = kinds_as s _ refl refl (kinds_group n group s.processes standard h.records) h
 
 form_allowed : (s : State) (me : Process) (call : Call) (c : Console) (allowed : Attempted) → IsSaying s me → is_result call (refusal EIO) ≡ true → FormsIf allowed → FormsIf (if_allowed s me call c allowed)
 form_allowed s me call c allowed i r h =
     cond_both (not (is_in_background me c) || blocks_or_ignores me TTOU) _ _ FormsIf (λ t. h)
-    (λ t. cond_both (is_orphaned me.group s.processes) _ _ FormsIf (λ u. form_plain s me call (refusal EIO) i refl r) (λ u. kinds_again s TTOU me.group i.kinds))
+    (λ t. cond_both (is_orphaned me.group s.processes) _ _ FormsIf (λ u. form_plain s me call (refusal EIO) i refl r) (λ u. kinds_again s TTOU me.group refl i.kinds))
 
 with_consoles : (s : State) (cs : List Console) → list_all is_console cs ≡ true → AreKinds s → AreKinds (record s { consoles = cs })
 with_consoles s cs k h = record { world = h.world; records = h.records; consoles = k }
@@ -266,7 +266,7 @@ form_read_in s me c (Err why) k e i = form_plain s me Read (refusal why) i (refu
 form_read_in s me c (Ok span) k e i =
     let p = and_parts (is_id c.foreground) (list_all (list_all is_byte) c.lines && list_all is_byte c.edited) k in
     cond_both (is_in_background me c) _ _ FormsIf
-    (λ t. cond_both (blocks_or_ignores me TTIN || is_orphaned me.group s.processes) _ _ FormsIf (λ u. form_plain s me Read (refusal EIO) i refl refl) (λ u. kinds_again s TTIN me.group i.kinds))
+    (λ t. cond_both (blocks_or_ignores me TTIN || is_orphaned me.group s.processes) _ _ FormsIf (λ u. form_plain s me Read (refusal EIO) i refl refl) (λ u. kinds_again s TTIN me.group refl i.kinds))
     (λ t. cond_both (span.count == 0) _ _ FormsIf (λ u. form_plain s me Read (pos 0) i refl refl)
     (λ u. form_read_from s me span c.lines (and_parts (list_all (list_all is_byte) c.lines) (list_all is_byte c.edited) p.1).0 (span_few (argument me 1) (argument me 2) span e) i))
 

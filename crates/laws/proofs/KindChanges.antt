@@ -1,9 +1,10 @@
 -- What each change of a record keeps of its kinds.
-use Rattle.std.proofs.Common.{◌≡◌, ℕ, zero, suc, ◌+◌, ◌-◌, ◌<◌, Bool, true, false, cond, ◌&&◌, ◌||◌, ◌==◌, refl, arith, subst, List, [], ◌∷◌, length, Option, Some, None, ℤ, pos, negsuc, nat_le, Result, Ok, Err}
+use Rattle.std.proofs.Common.{◌≡◌, ℕ, zero, suc, ◌+◌, ◌-◌, ◌<◌, ◌≤◌, Bool, true, false, cond, not, ◌&&◌, ◌||◌, ◌==◌, refl, ap, ◌∙◌, arith, subst, List, [], ◌∷◌, ◌++◌, filter, length, Option, Some, None, ℤ, pos, negsuc, nat_le, Result, Ok, Err}
 use Rattle.std.specs.Prelude.{slice_set}
 use Rattle.std.specs.Int.{w64, cast_signed}
 use Rattle.std.specs.List.{list_all}
-use Rattle.std.proofs.lemmas.Bool.{cond_both, and_parts}
+use Rattle.std.proofs.lemmas.Bool.{cond_both, and_parts, leb-true, leb-false, le-leb}
+use Rattle.std.proofs.lemmas.List.{length-append}
 use Rattle.std.proofs.lemmas.Bool.Decides.{nat_tests}
 use Rattle.posix.specs.declared.ids.Ids.{Ids}
 use Rattle.posix.specs.declared.errno.Errno.{Errno}
@@ -18,7 +19,7 @@ use Rattle.posix.specs.declared.process.Frame.{Frame}
 use Rattle.posix.specs.declared.process.Handler.{Handler}
 use Rattle.posix.specs.declared.process.Handler.TheVariants as handler
 use Rattle.posix.specs.declared.process.PendingSignal.{PendingSignal}
-use Rattle.posix.specs.SignalNumbers.{KILL, CONT, STOP, TSTP, TTIN, TTOU, is_stop_signal}
+use Rattle.posix.specs.SignalNumbers.{KILL, CONT, STOP, TSTP, TTIN, TTOU, is_realtime, is_stop_signal}
 use Rattle.posix.specs.SignalSets.{word_of, maskable}
 use Rattle.posix.specs.Processes.{Process, Signals, Credentials, Cpu, argument, initial_action, nothing_pending, zero_registers, zero_memory, fresh_cpu}
 use Rattle.posix.specs.Tables.{reparented}
@@ -26,8 +27,9 @@ use Rattle.posix.specs.States.{Program}
 use Rattle.posix.specs.Execute.{set_register, move_on}
 use Rattle.posix.specs.Outcomes.{write_registers, finished, written, refusal}
 use Rattle.posix.specs.Credentials.{is_privileged, id_in, is_own, all_ids_set, effective_id_set, with_user, with_group, setuid, seteuid, setgid, setegid, ids_on_exec}
-use Rattle.posix.specs.Generation.{action, is_pending, with_pending, make_pending, gets_no_signals, keeps, without_stops, after_discards, generated, signalled, has_flag, does_nothing, SA_SIGINFO, SA_RESETHAND}
-use Rattle.posix.specs.Choice.{taken}
+use Rattle.posix.specs.Generation.{action, has_sig, is_pending, with_pending, with_queue, make_pending, gets_no_signals, keeps, without_stops, after_discards, generated, signalled, has_flag, does_nothing, SA_SIGINFO, SA_RESETHAND}
+use Rattle.posix.specs.Choice.{without_first, taken, discarded}
+use Rattle.posix.specs.Sends.{most_queued, has_full_queue, is_queuer}
 use Rattle.posix.specs.Notices.{ignores_children, noticed, ignores_stops, noticed_of_change, stopped_by, resumed}
 use Rattle.posix.specs.Handlers.{leave_call, is_interrupted, entered, handler_arguments, at_handler, after_entry, handles, is_full, newest_frame, returned, give_action, set_action, set_mask}
 use Rattle.posix.specs.Programs.{handler_on_exec, action_on_exec, executed}
@@ -40,7 +42,7 @@ use Rattle.posix.specs.Delivery.{take_out}
 use Rattle.posix.specs.SignalCalls.{give_credentials, give_signals, handler_word, handler_in, action_in, holding}
 use Rattle.posix.specs.Step.{set_cpu, waiting_signals, enter, out_of_call}
 use Rattle.laws.specs.TraceLines.{is_i64, is_end_word}
-use Rattle.laws.specs.Kinds.{is_id, are_ids, is_carried, is_pending_kind, is_handler, is_action, is_frame, AreSignals, IsCpu, AreCredentials, IsKind, is_own_id, is_program}
+use Rattle.laws.specs.Kinds.{is_id, are_ids, is_carried, is_pending_kind, is_queued_kind, is_handler, is_action, is_frame, AreSignals, IsCpu, AreCredentials, IsKind, is_own_id, is_program}
 use Rattle.laws.proofs.KindLemmas.{and_both, all_set, all_get, all_found, all_append, all_take, all_map, all_same, small_i64, id_i64, cast_i64}
 
 abbrev pub KeepsKind : (Process → Process) → Type 0
@@ -49,10 +51,56 @@ KeepsKind f = (r : Process) → IsKind r → IsKind (f r)
 -- ---- signals
 
 kind_pending : (s : ℕ) (c : Option Carried) (g : Signals) → is_pending_kind c ≡ true → AreSignals g → AreSignals (with_pending s c g)
-kind_pending s c g k h = record { pending = all_set is_pending_kind g.standard (s - 1) c h.pending k; actions = h.actions; frames = h.frames }
+kind_pending s c g k h = record { pending = all_set is_pending_kind g.standard (s - 1) c h.pending k; queue = h.queue; few = h.few; actions = h.actions; frames = h.frames }
 
-kind_made : (signal : PendingSignal) (g : Signals) → is_carried signal.carried ≡ true → AreSignals g → AreSignals (make_pending signal g)
-kind_made signal g k h = cond_both (is_pending g signal.sig) g (with_pending signal.sig (Some signal.carried) g) AreSignals (λ t. h) (λ t. kind_pending signal.sig (Some signal.carried) g k h)
+-- what is left of a queue of such signals
+abbrev IsLeft : List PendingSignal → List PendingSignal → Type 0
+IsLeft queue rest = (list_all is_queued_kind rest ≡ true) × (length rest ≤ length queue)
+
+-- as one goes
+left_first : (s : ℕ) (queue : List PendingSignal) → list_all is_queued_kind queue ≡ true → IsLeft queue (without_first s queue)
+unfolding without_first
+left_first s [] h = (refl, omega arith)
+left_first s (m ∷ ms) h =
+    let p = and_parts (is_queued_kind m) (list_all is_queued_kind ms) h in
+    let l = left_first s ms p.1 in
+    cond_both (has_sig s m) ms (m ∷ without_first s ms) (IsLeft (m ∷ ms)) (λ t. (p.1, omega arith)) (λ t. (and_both (is_queued_kind m) (list_all is_queued_kind (without_first s ms)) p.0 l.0, omega (arith, l.1)))
+
+-- as all go that a test says
+left_passing : (stays : PendingSignal → Bool) (queue : List PendingSignal) → list_all is_queued_kind queue ≡ true → IsLeft queue (filter stays queue)
+left_passing stays [] h = (refl, omega arith)
+left_passing stays (m ∷ ms) h =
+    let p = and_parts (is_queued_kind m) (list_all is_queued_kind ms) h in
+    let l = left_passing stays ms p.1 in
+    cond_both (stays m) (m ∷ filter stays ms) (filter stays ms) (IsLeft (m ∷ ms)) (λ t. (and_both (is_queued_kind m) (list_all is_queued_kind (filter stays ms)) p.0 l.0, omega (arith, l.1))) (λ t. (l.0, omega (arith, l.1)))
+
+kind_left : (rest : List PendingSignal) (g : Signals) → IsLeft g.queue rest → AreSignals g → AreSignals (with_queue rest g)
+kind_left rest g l h = record {
+  pending = h.pending;
+  queue = l.0;
+  few = let few = leb-true (length g.queue) most_queued h.few in le-leb (length rest) most_queued (omega (arith, l.1, few));
+  actions = h.actions;
+  frames = h.frames;
+}
+
+-- a real-time signal that is queued behind the others, where there is room
+kind_queued : (signal : PendingSignal) (g : Signals) → is_realtime signal.sig ≡ true → is_carried signal.carried ≡ true → nat_le most_queued (length g.queue) ≡ false → AreSignals g → AreSignals (with_queue (g.queue ++ signal ∷ []) g)
+kind_queued signal g real k room h = record {
+  pending = h.pending;
+  queue = all_append is_queued_kind g.queue (signal ∷ []) h.queue (and_both (is_queued_kind signal) true (and_both (is_realtime signal.sig) (is_carried signal.carried) real k) refl);
+  few =
+      let below = leb-false most_queued (length g.queue) room in
+      let longer = length-append g.queue (signal ∷ []) in
+      le-leb (length (g.queue ++ signal ∷ [])) most_queued (omega (arith, below, longer));
+  actions = h.actions;
+  frames = h.frames;
+}
+
+kind_made : (signal : PendingSignal) (g : Signals) → is_carried signal.carried ≡ true → (is_realtime signal.sig ≡ true → nat_le most_queued (length g.queue) ≡ false) → AreSignals g → AreSignals (make_pending signal g)
+kind_made signal g k room h =
+    cond_both (is_realtime signal.sig) (with_queue (g.queue ++ signal ∷ []) g) (cond (is_pending g signal.sig) g (with_pending signal.sig (Some signal.carried) g)) AreSignals
+    (λ real. kind_queued signal g real k (room real) h)
+    (λ t. cond_both (is_pending g signal.sig) g (with_pending signal.sig (Some signal.carried) g) AreSignals (λ u. h) (λ u. kind_pending signal.sig (Some signal.carried) g k h))
 
 kind_without_stops : (g : Signals) → AreSignals g → AreSignals (without_stops g)
 unfolding without_stops
@@ -63,26 +111,50 @@ kind_discards s g h =
     cond_both (s == CONT) _ _ AreSignals (λ t. kind_without_stops g h)
     (λ t. cond_both (is_stop_signal s) _ _ AreSignals (λ u. kind_pending CONT None g refl h) (λ u. h))
 
+-- they leave the queue
+queue_discards : (s : ℕ) (g : Signals) → (after_discards s g).queue ≡ g.queue
+unfolding without_stops
+queue_discards s g = cond_both (s == CONT) _ _ (λ (x : Signals). x.queue ≡ g.queue) (λ t. refl) (λ t. cond_both (is_stop_signal s) _ _ (λ (x : Signals). x.queue ≡ g.queue) (λ u. refl) (λ u. refl))
+
 kind_with : (r : Process) (g : Signals) → AreSignals g → IsKind r → IsKind (record r { signals = g })
 kind_with r g k h = record { pid = h.pid; parent = h.parent; credentials = h.credentials; signals = k; life = h.life; news = h.news; cpu = h.cpu }
 
-pub kind_signalled : (signal : PendingSignal) → is_carried signal.carried ≡ true → KeepsKind (signalled signal)
+-- where the signal would be queued for the process, its queue isn't full
+abbrev pub HasRoom : ℕ → Process → Type 0
+HasRoom n r = (is_queuer n r && has_full_queue r) ≡ false
+
+-- no standard signal would be
+pub standard_room : (n : ℕ) (r : Process) → is_realtime n ≡ false → HasRoom n r
+standard_room n r e = rw e refl
+
+pub kind_signalled : (signal : PendingSignal) → is_carried signal.carried ≡ true → (r : Process) → HasRoom signal.sig r → IsKind r → IsKind (signalled signal r)
 unfolding signalled generated
-kind_signalled signal k r h =
+kind_signalled signal k r room h =
     let g = r.signals in
     let x = after_discards signal.sig g in
     let kept = kind_discards signal.sig g h.signals in
     kind_with r (generated r.pid r.life signal g)
     (cond_both (gets_no_signals r.pid r.life g signal.sig) g (cond (keeps g signal.sig) (make_pending signal x) x) AreSignals (λ t. h.signals)
-    (λ t. cond_both (keeps g signal.sig) (make_pending signal x) x AreSignals (λ u. kind_made signal x k kept) (λ u. kept))) h
+    (λ t. cond_both (keeps g signal.sig) (make_pending signal x) x AreSignals
+    (λ u. kind_made signal x k (λ real. ap (λ (q : List PendingSignal). nat_le most_queued (length q)) (queue_discards signal.sig g) ∙ below _ _ _ (has_full_queue r) real t u room) kept) (λ u. kept))) h
+  where
+    below : (real none keeps full : Bool) → real ≡ true → none ≡ false → keeps ≡ true → ((real && (not none && keeps)) && full) ≡ false → full ≡ false
+    below true false true full a b c e = e
+    below true false false full a b c e = absurd (cc)
+    below true true keeps full a b c e = absurd (cc)
+    below false none keeps full a b c e = absurd (cc)
 
-pub kind_noticed : (signal : PendingSignal) → is_carried signal.carried ≡ true → KeepsKind (noticed signal)
+-- a standard signal
+pub kind_standard : (signal : PendingSignal) → is_carried signal.carried ≡ true → is_realtime signal.sig ≡ false → KeepsKind (signalled signal)
+kind_standard signal k e r h = kind_signalled signal k r (standard_room signal.sig r e) h
+
+pub kind_noticed : (signal : PendingSignal) → is_carried signal.carried ≡ true → is_realtime signal.sig ≡ false → KeepsKind (noticed signal)
 unfolding noticed
-kind_noticed signal k r h = cond_both (ignores_children r.signals) _ _ IsKind (λ t. h) (λ t. kind_signalled signal k r h)
+kind_noticed signal k e r h = cond_both (ignores_children r.signals) _ _ IsKind (λ t. h) (λ t. kind_standard signal k e r h)
 
-pub kind_noticed_of_change : (signal : PendingSignal) → is_carried signal.carried ≡ true → KeepsKind (noticed_of_change signal)
+pub kind_noticed_of_change : (signal : PendingSignal) → is_carried signal.carried ≡ true → is_realtime signal.sig ≡ false → KeepsKind (noticed_of_change signal)
 unfolding noticed_of_change
-kind_noticed_of_change signal k r h = cond_both (ignores_stops r.signals) _ _ IsKind (λ t. h) (λ t. kind_signalled signal k r h)
+kind_noticed_of_change signal k e r h = cond_both (ignores_stops r.signals) _ _ IsKind (λ t. h) (λ t. kind_standard signal k e r h)
 
 pub kind_resumed : KeepsKind resumed
 unfolding resumed
@@ -95,11 +167,21 @@ kind_stopped n k r h = record { pid = h.pid; parent = h.parent; credentials = h.
 pub kind_ring : (now : ℕ) → KeepsKind (ring_at now)
 unfolding rung with_alarm
 kind_ring now r h = cond_both (is_due now r.alarm) _ _ IsKind
-    (λ t. let k = kind_signalled alarm_signal refl r h in record { pid = k.pid; parent = k.parent; credentials = k.credentials; signals = k.signals; life = k.life; news = k.news; cpu = k.cpu }) (λ t. h)
+    (λ t. let k = kind_standard alarm_signal refl refl r h in record { pid = k.pid; parent = k.parent; credentials = k.credentials; signals = k.signals; life = k.life; news = k.news; cpu = k.cpu }) (λ t. h)
+
+kind_taken_out : (n : ℕ) (g : Signals) → AreSignals g → AreSignals (taken n g)
+unfolding taken
+kind_taken_out n g h = cond_both (is_realtime n) (with_queue (without_first n g.queue) g) (with_pending n None g) AreSignals (λ t. kind_left (without_first n g.queue) g (left_first n g.queue h.queue) h) (λ t. kind_pending n None g refl h)
+
+kind_discarded : (n : ℕ) (g : Signals) → AreSignals g → AreSignals (discarded n g)
+unfolding discarded
+kind_discarded n g h =
+    let stays : PendingSignal → Bool = λ m. not (has_sig n m) in
+    cond_both (is_realtime n) (with_queue (filter stays g.queue) g) (with_pending n None g) AreSignals (λ t. kind_left (filter stays g.queue) g (left_passing stays g.queue h.queue) h) (λ t. kind_pending n None g refl h)
 
 pub kind_take_out : (n : ℕ) → KeepsKind (take_out n)
-unfolding take_out taken
-kind_take_out n r h = kind_with r (with_pending n None r.signals) (kind_pending n None r.signals refl h.signals) h
+unfolding take_out
+kind_take_out n r h = kind_with r (taken n r.signals) (kind_taken_out n r.signals h.signals) h
 
 -- ---- ends and births
 
@@ -109,7 +191,7 @@ nothing_kind = refl
 
 pub kind_made_zombie : (w : ℕ) → is_end_word w ≡ true → KeepsKind (made_zombie w)
 unfolding made_zombie
-kind_made_zombie w k r h = record { pid = h.pid; parent = h.parent; credentials = h.credentials; signals = record { pending = nothing_kind; actions = h.signals.actions; frames = refl }; life = k; news = refl; cpu = h.cpu }
+kind_made_zombie w k r h = record { pid = h.pid; parent = h.parent; credentials = h.credentials; signals = record { pending = nothing_kind; queue = refl; few = refl; actions = h.signals.actions; frames = refl }; life = k; news = refl; cpu = h.cpu }
 
 pub kind_ended : (w : ℕ) → is_end_word w ≡ true → KeepsKind (ended w)
 unfolding ended
@@ -160,7 +242,7 @@ kind_child birth me n k h = record {
   pid = k;
   parent = h.pid;
   credentials = h.credentials;
-  signals = record { pending = nothing_kind; actions = h.signals.actions; frames = h.signals.frames };
+  signals = record { pending = nothing_kind; queue = refl; few = refl; actions = h.signals.actions; frames = h.signals.frames };
   life = h.life;
   news = refl;
   cpu = kind_move_on _ (kind_register me.cpu 0 (pos 0) refl h.cpu);
@@ -198,6 +280,8 @@ kind_handles signal address k carried r h =
       credentials = h.credentials;
       signals = record {
         pending = h.signals.pending;
+        queue = h.signals.queue;
+        few = h.signals.few;
         actions = all_set is_action r.signals.actions (signal.sig - 1) (after_entry a) h.signals.actions (kind_after_entry a (kind_action r.signals signal.sig h.signals));
         frames = all_append is_frame r.signals.frames _ h.signals.frames (and_both _ _ one refl);
       };
@@ -215,7 +299,7 @@ kind_returned frame k r h = record {
   pid = h.pid;
   parent = h.parent;
   credentials = h.credentials;
-  signals = record { pending = h.signals.pending; actions = h.signals.actions; frames = all_take is_frame (length r.signals.frames - 1) r.signals.frames h.signals.frames };
+  signals = record { pending = h.signals.pending; queue = h.signals.queue; few = h.signals.few; actions = h.signals.actions; frames = all_take is_frame (length r.signals.frames - 1) r.signals.frames h.signals.frames };
   life = h.life;
   news = h.news;
   cpu = record { registers = k; memory = h.cpu.memory };
@@ -227,7 +311,7 @@ kind_waiting : (b : Blocked) (z : ℤ) (g : Signals) → AreSignals g → AreSig
 kind_waiting blocked.Waitpid z g h = h
 kind_waiting blocked.Read z g h = h
 kind_waiting blocked.Pause z g h = h
-kind_waiting (blocked.Sigsuspend earlier) z g h = record { pending = h.pending; actions = h.actions; frames = h.frames }
+kind_waiting (blocked.Sigsuspend earlier) z g h = record { pending = h.pending; queue = h.queue; few = h.few; actions = h.actions; frames = h.frames }
 
 pub kind_enter : (b : Blocked) → KeepsKind (enter b)
 unfolding enter
@@ -279,11 +363,10 @@ kind_handler (negsuc n) h = h
 
 -- a new action
 kind_given : (n : ℕ) (a : Action) (g : Signals) → is_action a ≡ true → AreSignals g → AreSignals (give_action n a g)
-unfolding taken
 kind_given n a g k s =
     let one : AreSignals (record g { actions = slice_set g.actions (n - 1) (record a { mask = maskable a.mask }) }) =
-    record { pending = s.pending; actions = all_set is_action g.actions (n - 1) (record a { mask = maskable a.mask }) s.actions k; frames = s.frames } in
-    cond_both (does_nothing a.handler n) _ _ AreSignals (λ t. kind_pending n None _ refl one) (λ t. one)
+    record { pending = s.pending; queue = s.queue; few = s.few; actions = all_set is_action g.actions (n - 1) (record a { mask = maskable a.mask }) s.actions k; frames = s.frames } in
+    cond_both (does_nothing a.handler n) _ _ AreSignals (λ t. kind_discarded n _ one) (λ t. one)
 
 pub kind_set_action : (n : ℕ) (me : Process) (g h : Signals) → IsKind me → AreSignals g → set_action n (action_in me) g ≡ Ok h → AreSignals h
 unfolding set_action
@@ -297,9 +380,9 @@ kind_set_action n me g h k s e = by (n == KILL || n == STOP) e
 
 pub kind_mask : (what : How) (set : ℕ) (g : Signals) → AreSignals g → AreSignals (set_mask what set g)
 unfolding set_mask
-kind_mask how.Block set g h = record { pending = h.pending; actions = h.actions; frames = h.frames }
-kind_mask how.Unblock set g h = record { pending = h.pending; actions = h.actions; frames = h.frames }
-kind_mask how.Set set g h = record { pending = h.pending; actions = h.actions; frames = h.frames }
+kind_mask how.Block set g h = record { pending = h.pending; queue = h.queue; few = h.few; actions = h.actions; frames = h.frames }
+kind_mask how.Unblock set g h = record { pending = h.pending; queue = h.queue; few = h.few; actions = h.actions; frames = h.frames }
+kind_mask how.Set set g h = record { pending = h.pending; queue = h.queue; few = h.few; actions = h.actions; frames = h.frames }
 
 -- ---- ids
 
@@ -396,6 +479,8 @@ kind_executed number program k r h =
       credentials = record { user = kind_ids_on_exec program.setuid r.credentials.user p.0 h.credentials.user; group = kind_ids_on_exec program.setgid r.credentials.group q.0 h.credentials.group };
       signals = record {
         pending = h.signals.pending;
+        queue = h.signals.queue;
+        few = h.signals.few;
         actions = all_map is_action is_action action_on_exec (λ a t. kind_action_on_exec a.handler) r.signals.actions h.signals.actions;
         frames = refl;
       };

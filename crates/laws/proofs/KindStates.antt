@@ -1,14 +1,14 @@
 -- States keep the kinds of their parts.
-use Rattle.std.proofs.Common.{◌≡◌, ℕ, zero, suc, ◌+◌, ◌-◌, ◌%◌, ◌≤◌, ◌<◌, true, cond, not, ◌&&◌, ◌==◌, refl, ap, sym, ◌∙◌, arith, subst, List, [], ◌∷◌, ◌++◌, map, filter, length, Option, Some, None, pos, nat_le, nat_lt, inl, inr}
+use Rattle.std.proofs.Common.{◌≡◌, ◌≢◌, ℕ, zero, suc, ◌+◌, ◌-◌, ◌%◌, ◌≤◌, ◌<◌, Bool, true, false, cond, not, ◌&&◌, ◌==◌, refl, ap, sym, ◌∙◌, arith, subst, List, [], ◌∷◌, ◌++◌, map, filter, length, Option, Some, None, pos, nat_le, nat_lt, inl, inr}
 use Rattle.std.specs.List.{list_all, AllByRecursion}
-use Rattle.std.proofs.lemmas.Bool.{cond_both, and_parts, leb-true, or_cases, cases_eq}
+use Rattle.std.proofs.lemmas.Bool.{cond_both, and_parts, leb-true, eqb-true, ne_eqb, or_cases, cases_eq}
 use Rattle.std.proofs.lemmas.Bool.Decides.{nat_tests}
 use Rattle.posix.specs.declared.process.Effect.{Effect}
 use Rattle.posix.specs.declared.process.Effect.TheVariants as effect
 use Rattle.posix.specs.declared.process.Life.{Life}
 use Rattle.posix.specs.declared.process.Life.TheVariants.{Running, Stopped, Zombie}
 use Rattle.posix.specs.declared.process.PendingSignal.{PendingSignal}
-use Rattle.posix.specs.SignalNumbers.{CONT, HUP, is_signal, is_standard, is_realtime}
+use Rattle.posix.specs.SignalNumbers.{CONT, HUP, INT, QUIT, TSTP, is_signal, is_standard, is_realtime}
 use Rattle.posix.specs.Statuses.{continued, stopped}
 use Rattle.posix.specs.Processes.{Process, is_zombie}
 use Rattle.posix.specs.Tables.{IsRising, lookup, at, changed, inserted, removed, is_child, children_in, reparented, adopted, pids, members_in}
@@ -27,16 +27,16 @@ use Rattle.posix.specs.Settle.{is_fresh, refreshed, give_places, clear_foregroun
 use Rattle.posix.specs.Step.{signalled_from, key_on, key, rotate, tick}
 use Rattle.posix.specs.Terminals.{terminal}
 use Rattle.laws.specs.TraceLines.{is_i64, is_end_word, is_exit_word}
-use Rattle.laws.specs.Kinds.{is_id, is_byte, is_carried, is_console, IsKind, IsCpu, IsWorld, AreKinds}
-use Rattle.posix.proofs.TableLemmas.{pid_reparented, rising_filter}
+use Rattle.laws.specs.Kinds.{is_id, is_byte, is_carried, is_console, IsKind, IsWorld, AreKinds}
+use Rattle.posix.proofs.TableLemmas.{pid_looked, pid_reparented, lookup_changed, rising_filter}
 use Rattle.posix.proofs.MapLemmas.{at_pid, lookup_back}
 use Rattle.posix.proofs.RegularLemmas.{lookup_left, lookup_inserted, lookup_new}
 use Rattle.posix.proofs.WalkLemmas.{all_looked, in_filter}
 use Rattle.posix.proofs.TouchLemmas.{unseen_signalled, unseen_noticed, unseen_ring}
-use Rattle.posix.proofs.ChangeLemmas.{unseen_noticed_of_change}
+use Rattle.posix.proofs.ChangeLemmas.{continued_cont, unseen_noticed_of_change}
 use Rattle.posix.proofs.ConsoleLemmas.{place_of}
 use Rattle.laws.proofs.KindLemmas.{and_both, all_set, all_found, all_append, all_take, all_drop, all_map, small_i64}
-use Rattle.laws.proofs.KindChanges.{KeepsKind, kind_signalled, kind_noticed, kind_noticed_of_change, kind_resumed, kind_ring, kind_made_zombie, kind_ended, kind_reparented}
+use Rattle.laws.proofs.KindChanges.{KeepsKind, HasRoom, standard_room, kind_signalled, kind_noticed, kind_noticed_of_change, kind_resumed, kind_ring, kind_made_zombie, kind_ended, kind_reparented}
 
 abbrev pub AllKind : List Process → Type 0
 AllKind rs = (p : ℕ) (r : Process) → lookup p rs ≡ Some r → IsKind r
@@ -49,6 +49,15 @@ kinds_map g pid keeps rs h p r e = let b = lookup_back g pid p rs r e in subst I
 pub kinds_changed : (p : ℕ) (f : Process → Process) → ((r : Process) → (f r).pid ≡ r.pid) → KeepsKind f → (rs : List Process) → AllKind rs → AllKind (changed p f rs)
 unfolding changed
 kinds_changed p f pid keeps rs h = kinds_map (at p f) (at_pid p f pid) (λ r k. cond_both (r.pid == p) (f r) r IsKind (λ t. keeps r k) (λ t. k)) rs h
+
+-- it is enough that the change keeps the kind of the record that is found
+kinds_changed_at : (p : ℕ) (f : Process → Process) → ((r : Process) → (f r).pid ≡ r.pid) → (rs : List Process) → ((r : Process) → lookup p rs ≡ Some r → IsKind r → IsKind (f r)) → AllKind rs → AllKind (changed p f rs)
+unfolding changed
+kinds_changed_at p f pid rs keeps h q r e =
+    let b = lookup_back (at p f) (at_pid p f pid) q rs r e in
+    subst IsKind (sym b.is)
+    (cond_both (b.what.pid == p) (f b.what) b.what IsKind
+    (λ t. keeps b.what (ap (λ n. lookup n rs) (sym (eqb-true b.what.pid p t) ∙ pid_looked q rs b.what b.found) ∙ b.found) (h q b.what b.found)) (λ t. h q b.what b.found))
 
 pub kinds_removed : (c : ℕ) (rs : List Process) → AllKind rs → AllKind (removed c rs)
 kinds_removed c rs h p r e = h p r (lookup_left c p rs r e)
@@ -69,40 +78,84 @@ kinds_told_of_change : (status : ℕ) (r : Process) (rs : List Process) → stat
 unfolding told_of_change
 kinds_told_of_change status r rs l k h =
     let signal = child_signal r.pid status in
-    kinds_changed r.parent (noticed_of_change signal) (unseen_noticed_of_change signal).pid (kind_noticed_of_change signal (carried_child r.pid status k.pid l)) rs h
+    kinds_changed r.parent (noticed_of_change signal) (unseen_noticed_of_change signal).pid (kind_noticed_of_change signal (carried_child r.pid status k.pid l) refl) rs h
 
 pub kinds_stop_told : (n : ℕ) (r : Process) (rs : List Process) → n ≤ 64 → IsKind r → AllKind rs → AllKind (told_of_change (stopped n) r rs)
 kinds_stop_told n r rs few k h = kinds_told_of_change (stopped n) r rs (omega (arith, few)) k h
 
-kinds_generated : (signal : PendingSignal) → is_carried signal.carried ≡ true → (p : ℕ) (rs : List Process) → AllKind rs → AllKind (generated_for signal (lookup p rs) rs)
+-- for one, where there is room
+kinds_generated : (signal : PendingSignal) → is_carried signal.carried ≡ true → (p : ℕ) (rs : List Process) → ((r : Process) → lookup p rs ≡ Some r → HasRoom signal.sig r) → AllKind rs → AllKind (generated_for signal (lookup p rs) rs)
 unfolding resumed
-kinds_generated signal c p rs h = by (lookup p rs) refl
+kinds_generated signal c p rs room h = by (lookup p rs) refl
   where
-    acts : (r : Process) → IsKind r → (w : Effect) → AllKind (acted_upon w r (changed r.pid (signalled signal) rs))
-    acts r k effect.Nothing = kinds_changed r.pid (signalled signal) (unseen_signalled signal).pid (kind_signalled signal c) rs h
-    acts r k effect.Continued =
-        kinds_told_of_change continued r _ (omega arith) k (kinds_changed r.pid resumed (λ r. refl) kind_resumed _ (kinds_changed r.pid (signalled signal) (unseen_signalled signal).pid (kind_signalled signal c) rs h))
+    told : (r : Process) → lookup p rs ≡ Some r → AllKind (changed r.pid (signalled signal) rs)
+    told r e =
+        kinds_changed_at r.pid (signalled signal) (unseen_signalled signal).pid rs
+        (λ q f k. kind_signalled signal c q (room q (ap (λ n. lookup n rs) (sym (pid_looked p rs r e)) ∙ f)) k) h
+
+    acts : (r : Process) → lookup p rs ≡ Some r → (w : Effect) → AllKind (acted_upon w r (changed r.pid (signalled signal) rs))
+    acts r e effect.Nothing = told r e
+    acts r e effect.Continued = kinds_told_of_change continued r _ (omega arith) (h p r e) (kinds_changed r.pid resumed (λ r. refl) kind_resumed _ (told r e))
 
     by : (o : Option Process) → lookup p rs ≡ o → AllKind (generated_for signal o rs)
     by None e = h
-    by (Some r) e = acts r (h p r e) (effect_of r.pid r.life signal r.signals)
+    by (Some r) e = acts r e (effect_of r.pid r.life signal r.signals)
 
-pub kinds_signalled : (signal : PendingSignal) → is_carried signal.carried ≡ true → (ps : List ℕ) (rs : List Process) → AllKind rs → AllKind (signalled_all signal ps rs)
+-- a standard signal, for several
+pub kinds_signalled : (signal : PendingSignal) → is_carried signal.carried ≡ true → is_realtime signal.sig ≡ false → (ps : List ℕ) (rs : List Process) → AllKind rs → AllKind (signalled_all signal ps rs)
 unfolding signalled_all
-kinds_signalled signal c [] rs h = h
-kinds_signalled signal c (p ∷ ps) rs h = kinds_signalled signal c ps (generated_for signal (lookup p rs) rs) (kinds_generated signal c p rs h)
+kinds_signalled signal c standard [] rs h = h
+kinds_signalled signal c standard (p ∷ ps) rs h =
+    kinds_signalled signal c standard ps (generated_for signal (lookup p rs) rs) (kinds_generated signal c p rs (λ r e. standard_room signal.sig r standard) h)
 
-kinds_members : (n group : ℕ) (rs : List Process) → AllKind rs → AllKind (signalled_members (record { sig = n; carried = from_kernel }) group rs)
+-- a real-time signal that is generated for one process leaves the others
+others_stay : (signal : PendingSignal) (p q : ℕ) (rs : List Process) → is_realtime signal.sig ≡ true → q ≢ p → lookup q (generated_for signal (lookup p rs) rs) ≡ lookup q rs
+others_stay signal p q rs real other = by (lookup p rs) refl
+  where
+    never_continues : (r : Process) → effect_of r.pid r.life signal r.signals ≡ effect.Continued → ⊥
+    never_continues r e =
+        let is : signal.sig ≡ CONT = eqb-true signal.sig CONT (continued_cont r.pid signal r e) in
+        let no : is_realtime CONT ≡ true = sym (ap is_realtime is) ∙ real in
+        absurd (cc)
+
+    acts : (r : Process) → lookup p rs ≡ Some r → (w : Effect) → effect_of r.pid r.life signal r.signals ≡ w → lookup q (acted_upon w r (changed r.pid (signalled signal) rs)) ≡ lookup q rs
+    acts r e effect.Nothing w =
+        let apart : (q == r.pid) ≡ false = ap (λ n. q == n) (pid_looked p rs r e) ∙ ne_eqb q p other in
+        lookup_changed r.pid q (signalled signal) (unseen_signalled signal).pid rs ∙ rw apart refl
+    acts r e effect.Continued w = absurd (never_continues r w)
+
+    by : (o : Option Process) → lookup p rs ≡ o → lookup q (generated_for signal o rs) ≡ lookup q rs
+    by None e = refl
+    by (Some r) e = acts r e (effect_of r.pid r.life signal r.signals) refl
+
+-- the process is there, and where the signal would be queued for it there is room
+abbrev pub IsThereWithRoom : List Process → ℕ → Process → Type 0
+IsThereWithRoom rs n q = (lookup q.pid rs ≡ Some q) × HasRoom n q
+
+-- a real-time signal, for several that are there with room, each once as their numbers rise
+pub kinds_queued : (signal : PendingSignal) → is_carried signal.carried ≡ true → is_realtime signal.sig ≡ true → (qs rs : List Process) → IsRising qs
+    → AllByRecursion (IsThereWithRoom rs signal.sig) qs → AllKind rs → AllKind (signalled_all signal (pids qs) rs)
+unfolding signalled_all IsRising
+kinds_queued signal c real [] rs up there h = h
+kinds_queued signal c real (q ∷ qs) rs up there h =
+    kinds_queued signal c real qs (generated_for signal (lookup q.pid rs) rs) up.1 (later qs up.0 there.1) (kinds_generated signal c q.pid rs (λ r e. let same : q ≡ r = let both = sym there.0.0 ∙ e in cc in subst (HasRoom signal.sig) same there.0.1) h)
+  where
+    later : (xs : List Process) → AllByRecursion (λ x. q.pid < x.pid) xs → AllByRecursion (IsThereWithRoom rs signal.sig) xs
+        → AllByRecursion (IsThereWithRoom (generated_for signal (lookup q.pid rs) rs) signal.sig) xs
+    later [] above t = tt
+    later (x ∷ xs) above t = let l = above.0 in ((others_stay signal q.pid x.pid rs real (λ e. absurd (omega (arith, l, e))) ∙ t.0.0, t.0.1), later xs above.1 t.1)
+
+kinds_members : (n group : ℕ) (rs : List Process) → is_realtime n ≡ false → AllKind rs → AllKind (signalled_members (record { sig = n; carried = from_kernel }) group rs)
 unfolding signalled_members
-kinds_members n group rs h = kinds_signalled (record { sig = n; carried = from_kernel }) refl (pids (members_in group rs)) rs h
+kinds_members n group rs standard h = kinds_signalled (record { sig = n; carried = from_kernel }) refl standard (pids (members_in group rs)) rs h
 
-pub kinds_group : (n group : ℕ) (rs : List Process) → AllKind rs → AllKind (signalled_group n group rs)
-kinds_group n group rs h = cond_both (group == 0) rs _ AllKind (λ t. h) (λ t. kinds_members n group rs h)
+pub kinds_group : (n group : ℕ) (rs : List Process) → is_realtime n ≡ false → AllKind rs → AllKind (signalled_group n group rs)
+kinds_group n group rs standard h = cond_both (group == 0) rs _ AllKind (λ t. h) (λ t. kinds_members n group rs standard h)
 
 kinds_hup_and_cont : (gs : List ℕ) (rs : List Process) → AllKind rs → AllKind (hup_and_cont_all gs rs)
 unfolding hup_and_cont_all
 kinds_hup_and_cont [] rs h = h
-kinds_hup_and_cont (g ∷ gs) rs h = kinds_hup_and_cont gs (hup_and_cont g rs) (kinds_members CONT g _ (kinds_members HUP g rs h))
+kinds_hup_and_cont (g ∷ gs) rs h = kinds_hup_and_cont gs (hup_and_cont g rs) (kinds_members CONT g _ refl (kinds_members HUP g rs refl h))
 
 -- ---- ends
 
@@ -121,7 +174,7 @@ unfolding notice_of_end
 kinds_notice s parent child status k l h =
     let signal = child_signal child status in
     let told = change s parent (noticed signal) in
-    let one = kinds_changed parent (noticed signal) (unseen_noticed signal).pid (kind_noticed signal (carried_child child status k l)) s.processes h in
+    let one = kinds_changed parent (noticed signal) (unseen_noticed signal).pid (kind_noticed signal (carried_child child status k l) refl) s.processes h in
     cond_both (is_dropping parent s.processes) (drop_child told child) told (λ (t : State). AllKind t.processes) (λ t. kinds_removed child told.processes one) (λ t. one)
 
 status_kind : (r : Process) → IsKind r → status_of r.life < 9223372036854775808
@@ -184,7 +237,7 @@ kinds_hung_up s r h = cond_both (not (r.pid == 1) && r.session == r.pid) _ _ Are
   where
     of : (c : Option Console) → AreKinds (hung_up s r.session c)
     of None = h
-    of (Some c) = record { world = h.world; records = kinds_group HUP c.foreground s.processes h.records; consoles = kind_consoles r.session released kind_released s.consoles h.consoles }
+    of (Some c) = record { world = h.world; records = kinds_group HUP c.foreground s.processes refl h.records; consoles = kind_consoles r.session released kind_released s.consoles h.consoles }
 
 kinds_gone : (s : State) (p parent w : ℕ) → IsRising s.processes → is_id p ≡ true → is_end_word w ≡ true → AreKinds s
     → AllKind (notice_of_end (hup_and_cont_orphans s.processes (tell_of_all (leave_children_and_die s p 1 w) 1 (zombies_of p s.processes))) parent p w).processes
@@ -269,9 +322,20 @@ kind_taken n c h =
         let p = and_parts (list_all is_byte line) (list_all (list_all is_byte) rest) h in
         cond_both (nat_le (length line) n) _ _ (λ ls. list_all (list_all is_byte) ls ≡ true) (λ t. p.1) (λ t. and_both _ (list_all (list_all is_byte) rest) (all_drop is_byte n line p.0) p.1)
 
-kinds_from : (o : Option ℕ) (group : ℕ) (rs : List Process) → AllKind rs → AllKind (signalled_from o group rs)
-kinds_from None group rs h = h
-kinds_from (Some n) group rs h = kinds_group n group rs h
+kinds_from : (o : Option ℕ) (group : ℕ) (rs : List Process) → ((n : ℕ) → o ≡ Some n → is_realtime n ≡ false) → AllKind rs → AllKind (signalled_from o group rs)
+kinds_from None group rs standard h = h
+kinds_from (Some n) group rs standard h = kinds_group n group rs (standard n refl) h
+
+-- a key gives a standard signal
+key_standard : (byte n : ℕ) → key_signal byte ≡ Some n → is_realtime n ≡ false
+unfolding key_signal
+key_standard byte n e = by (byte == 3) (byte == 28) (byte == 26) e
+  where
+    by : (a b c : Bool) → cond a (Some INT) (cond b (Some QUIT) (cond c (Some TSTP) None)) ≡ Some n → is_realtime n ≡ false
+    by true b c h = let same : INT ≡ n = cc in subst (λ m. is_realtime m ≡ false) same refl
+    by false true c h = let same : QUIT ≡ n = cc in subst (λ m. is_realtime m ≡ false) same refl
+    by false false true h = let same : TSTP ≡ n = cc in subst (λ m. is_realtime m ≡ false) same refl
+    by false false false h = absurd (cc)
 
 pub kinds_key : (s : State) (console byte : ℕ) → byte < 256 → AreKinds s → AreKinds (key s console byte)
 unfolding key
@@ -286,7 +350,7 @@ kinds_key s console byte small h = on (console_at console s.consoles) refl
 
     on : (o : Option Console) → console_at console s.consoles ≡ o → AreKinds (key_on s console byte o)
     on None e = h
-    on (Some c) e = record { world = h.world; records = kinds_from (key_signal byte) c.foreground s.processes h.records; consoles = put console c e }
+    on (Some c) e = record { world = h.world; records = kinds_from (key_signal byte) c.foreground s.processes (key_standard byte) h.records; consoles = put console c e }
 
 -- ---- ticks, and to settle
 

@@ -1,8 +1,9 @@
 -- What is fixed where the host grants all the memory that is asked for.
-use Rattle.std.proofs.Common.{◌≡◌, ℕ, zero, suc, ◌+◌, Bool, true, false, cond, refl, ap, sym, ◌∙◌, arith, subst, List, [], ◌∷◌, ◌++◌, Option, Some, None, Contains, inl, inr, ◌⊎◌}
+use Rattle.std.proofs.Common.{◌≡◌, ℕ, zero, suc, ◌+◌, Bool, true, false, cond, ℤ, pos, Result, Ok, Err, refl, ap, sym, ◌∙◌, arith, subst, List, [], ◌∷◌, ◌++◌, Option, Some, None, Contains, inl, inr, ◌⊎◌}
+use Rattle.std.specs.List.{list_any}
 use Rattle.std.proofs.lemmas.List.Elements.{Contains-append_left, Contains-append_right, Contains-append_cases}
 use Rattle.posix.specs.declared.call.Call.{Call}
-use Rattle.posix.specs.declared.call.Call.TheVariants.{Fork}
+use Rattle.posix.specs.declared.call.Call.TheVariants.{Fork, Kill, Sigqueue}
 use Rattle.posix.specs.declared.instr.Trap.{Trap}
 use Rattle.posix.specs.declared.instr.Trap.TheVariants as trap
 use Rattle.posix.specs.declared.event.Event.{Event}
@@ -10,15 +11,21 @@ use Rattle.posix.specs.declared.event.Event.TheVariants.{Step, Tick, Key}
 use Rattle.posix.specs.declared.entry.Entry.{Entry}
 use Rattle.posix.specs.declared.entry.Entry.TheVariants.{NoMemory}
 use Rattle.posix.specs.declared.process.Blocked.{Blocked}
+use Rattle.posix.specs.declared.errno.Errno.{Errno}
+use Rattle.posix.specs.declared.process.Sending.{Sending}
+use Rattle.posix.specs.declared.process.Sending.TheVariants as sends
+use Rattle.posix.specs.declared.target.Target.{Target}
 use Rattle.posix.specs.SignalNumbers.{KILL}
 use Rattle.posix.specs.Statuses.{killed}
-use Rattle.posix.specs.Processes.{Process, Cpu}
+use Rattle.posix.specs.Processes.{Process, Cpu, argument}
 use Rattle.posix.specs.States.{State, current_process, next_pid}
 use Rattle.posix.specs.Execute.{exec_one}
 use Rattle.posix.specs.Outcomes.{Outcome, silent, no_memory}
 use Rattle.posix.specs.Generation.{is_pending}
 use Rattle.posix.specs.Choice.{chosen}
 use Rattle.posix.specs.Births.{fork_as}
+use Rattle.posix.specs.Targets.{target_in, process_in}
+use Rattle.posix.specs.Sends.{sending, has_full_queue, queued_for, queuers_among, sending_granted, message, send_with, signal_or_none, send, kill, sigqueue}
 use Rattle.posix.specs.Ends.{end_process}
 use Rattle.posix.specs.Attempts.{attempt}
 use Rattle.posix.specs.Entries.{Line, line, numbered}
@@ -45,10 +52,32 @@ granted_fork true s me n = inl refl
 granted_fork false s me None = inl refl
 granted_fork false s me (Some n) = inr refl
 
+-- what a send comes to
+granted_queued : (granted : Bool) (qs : List Process) (other : Sending) → (queued_for granted qs other ≡ queued_for true qs other) ⊎ (queued_for granted qs other ≡ sends.NoMemory)
+granted_queued true qs other = inl refl
+granted_queued false [] other = inl refl
+granted_queued false (q ∷ qs) other = by (list_any has_full_queue (q ∷ qs))
+  where
+    by : (b : Bool) → (cond b sends.QueueFull sends.NoMemory ≡ cond b sends.QueueFull other) ⊎ (cond b sends.QueueFull sends.NoMemory ≡ sends.NoMemory)
+    by true = inl refl
+    by false = inr refl
+
+-- a signal that is sent
+granted_send : (granted : Bool) (s : State) (me : Process) (call : Call) (target : Target) (value : ℤ) (sig : Result (Option ℕ) Errno)
+    → (send granted s me call target value sig ≡ send true s me call target value sig) ⊎ (send granted s me call target value sig ≡ no_memory s me.pid call)
+unfolding sending_granted
+granted_send granted s me call target value (Err why) = inl refl
+granted_send granted s me call target value (Ok n) = elim (granted_queued granted (queuers_among me target n s.processes) (sending me target n s.processes)) [
+  | inl same ↦ inl (ap (send_with s me call target (message me.pid value n)) same)
+  | inr none ↦ inr (ap (send_with s me call target (message me.pid value n)) none)
+]
+
 -- each call
-granted_attempt : (granted : Bool) (s : State) (me : Process) (call : Call) → (attempt granted s me call ≡ attempt true s me call) ⊎ (attempt granted s me call ≡ no_memory s me.pid Fork)
-unfolding attempt
+granted_attempt : (granted : Bool) (s : State) (me : Process) (call : Call) → (attempt granted s me call ≡ attempt true s me call) ⊎ (attempt granted s me call ≡ no_memory s me.pid call)
+unfolding attempt kill sigqueue
 granted_attempt granted s me Fork = granted_fork granted s me (next_pid s)
+granted_attempt granted s me Kill = granted_send granted s me Kill (target_in (argument me 1)) (pos 0) (signal_or_none (argument me 2))
+granted_attempt granted s me Sigqueue = granted_send granted s me Sigqueue (process_in (argument me 1)) (argument me 3) (signal_or_none (argument me 2))
 granted_attempt granted s me call = inl refl
 
 -- what follows an instruction
@@ -56,7 +85,7 @@ granted_trap : (granted : Bool) (s : State) (r : Process) (c : Cpu) (t : Trap) �
 unfolding after_trap
 granted_trap granted s r c (trap.Call call) = elim (granted_attempt granted s r call) [
   | inl same ↦ inl (ap (begin_call s r) same)
-  | inr none ↦ inr (r.pid, Fork, subst (λ a. Contains (begin_call s r a).entries (NoMemory r.pid Fork)) (sym none) (0, omega arith, refl))
+  | inr none ↦ inr (r.pid, call, subst (λ a. Contains (begin_call s r a).entries (NoMemory r.pid call)) (sym none) (0, omega arith, refl))
 ]
 granted_trap granted s r c t = inl refl
 

@@ -1,20 +1,20 @@
 -- Signals, notices, alarms and places: no line tells of them.
 use Rattle.std.proofs.Common.{◌≡◌, ◌≢◌, ℕ, ◌+◌, ◌-◌, ◌<◌, Bool, true, false, cond, not, ◌&&◌, ◌||◌, ◌==◌, List, [], ◌∷◌, ◌++◌, filter, Option, Some, None, option_map, is_some, refl, ap, sym, ◌∙◌, arith, subst, inl, inr}
 use Rattle.std.specs.Prelude.{slice_index_or}
-use Rattle.std.specs.List.{AllByRecursion}
+use Rattle.std.specs.List.{AllByRecursion, list_any}
 use Rattle.std.proofs.lemmas.Bool.{eqb-true, cond_both, and_parts, or_cases}
 use Rattle.std.proofs.lemmas.List.{get_or-set_other}
 use Rattle.posix.specs.declared.process.Carried.{Carried}
 use Rattle.posix.specs.declared.process.Effect.{Effect}
 use Rattle.posix.specs.declared.process.Effect.TheVariants as effect
 use Rattle.posix.specs.declared.process.PendingSignal.{PendingSignal}
-use Rattle.posix.specs.SignalNumbers.{KILL, CONT, STOP, TSTP, TTIN, TTOU, HUP, is_stop_signal}
+use Rattle.posix.specs.SignalNumbers.{KILL, CONT, STOP, TSTP, TTIN, TTOU, HUP, is_realtime, is_stop_signal}
 use Rattle.posix.specs.Statuses.{continued}
 use Rattle.posix.specs.Processes.{Process, Signals, is_zombie, is_running, is_stopped, is_living}
 use Rattle.posix.specs.Tables.{IsRising, lookup, changed, pids, members_in}
 use Rattle.posix.specs.States.{State, change, is_in, without, lose_place, go_last, current}
 use Rattle.posix.specs.Consoles.{Console, console_at, console_of, key_signal}
-use Rattle.posix.specs.Generation.{is_pending, with_pending, make_pending, gets_no_signals, keeps, without_stops, after_discards, generated, effect_of, signalled}
+use Rattle.posix.specs.Generation.{has_sig, is_pending, with_pending, with_queue, make_pending, gets_no_signals, keeps, without_stops, after_discards, generated, effect_of, signalled}
 use Rattle.posix.specs.Choice.{from_kernel, chosen}
 use Rattle.posix.specs.Notices.{child_signal, ignores_children, noticed, ignores_stops, noticed_of_change, told_of_change, resumed, acted_upon, generated_for, signalled_all}
 use Rattle.posix.specs.Ends.{signalled_members, signalled_group, hup_and_cont, hup_and_cont_all, hung_up, hang_up, is_dropping, drop_child, notice_of_end, tell_of_all, status_of}
@@ -39,12 +39,18 @@ untold f u = record { pid = u.pid; parent = u.parent; life = u.life; news = u.ne
 kill_other : (s : ℕ) (c : Option Carried) (g : Signals) → 8 ≢ s - 1 → is_pending g KILL ≡ true → is_pending (with_pending s c g) KILL ≡ true
 kill_other s c g other e = ap is_some (get_or-set_other g.standard (s - 1) 8 c None other) ∙ e
 
+-- a standard signal that isn't pending is made so
+kill_made_standard : (signal : PendingSignal) (g : Signals) → is_some (slice_index_or g.standard (signal.sig - 1) None) ≡ false → is_pending g KILL ≡ true → is_pending (with_pending signal.sig (Some signal.carried) g) KILL ≡ true
+kill_made_standard signal g t e = kill_other signal.sig (Some signal.carried) g (λ same. let no : true ≡ false = sym e ∙ ap (λ n. is_some (slice_index_or g.standard n None)) same ∙ t in absurd (cc)) e
+
 kill_made : (signal : PendingSignal) (g : Signals) → is_pending g KILL ≡ true → is_pending (make_pending signal g) KILL ≡ true
-kill_made signal g e = by (is_pending g signal.sig) refl
+kill_made signal g e = by (is_realtime signal.sig) (list_any (has_sig signal.sig) g.queue) (is_some (slice_index_or g.standard (signal.sig - 1) None)) refl
   where
-    by : (b : Bool) → is_pending g signal.sig ≡ b → is_pending (cond b g (with_pending signal.sig (Some signal.carried) g)) KILL ≡ true
-    by true t = e
-    by false t = kill_other signal.sig (Some signal.carried) g (λ same. let no : true ≡ false = sym e ∙ ap (λ n. is_some (slice_index_or g.standard n None)) same ∙ t in absurd (cc)) e
+    by : (real queued b : Bool) → is_some (slice_index_or g.standard (signal.sig - 1) None) ≡ b
+        → is_pending (cond real (with_queue (g.queue ++ signal ∷ []) g) (cond (cond real queued b) g (with_pending signal.sig (Some signal.carried) g))) KILL ≡ true
+    by true queued b t = e
+    by false queued true t = e
+    by false queued false t = kill_made_standard signal g t e
 
 kill_without_stops : (g : Signals) → is_pending g KILL ≡ true → is_pending (without_stops g) KILL ≡ true
 unfolding without_stops

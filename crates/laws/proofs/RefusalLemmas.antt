@@ -1,9 +1,9 @@
 -- What the entries of an event tell: what a refused call changes, and that who is born has a free number.
 use Rattle.std.proofs.Common.{◌≡◌, ◌≢◌, ℕ, zero, suc, Bool, true, false, cond, not, ◌&&◌, refl, ap, sym, ◌∙◌, arith, subst, List, [], ◌∷◌, ◌++◌, Option, Some, None, option_and_then, ◌==◌, Contains, pos, negsuc, ℤ, Result, Ok, Err, slice_get, ◌||◌}
 use Rattle.std.specs.Int.{cast_unsigned, w64}
-use Rattle.std.specs.List.{AllByRecursion}
+use Rattle.std.specs.List.{AllByRecursion, list_any}
 use Rattle.posix.specs.declared.call.Call.{Call}
-use Rattle.posix.specs.declared.call.Call.TheVariants.{Exit, Fork, Waitpid, Pause, SchedYield, Getpid, Getppid, Getuid, Geteuid, Getgid, Getegid, Setuid, Seteuid, Setgid, Setegid, Kill, Sigaction, Sigprocmask, Sigpending, Sigsuspend, Sigreturn, Alarm, Exec, Getpgid, Getsid, Setpgid, Setsid, Setctty, Tcgetpgrp, Tcsetpgrp, Settostop, Read, Write}
+use Rattle.posix.specs.declared.call.Call.TheVariants.{Exit, Fork, Waitpid, Pause, SchedYield, Getpid, Getppid, Getuid, Geteuid, Getgid, Getegid, Setuid, Seteuid, Setgid, Setegid, Kill, Sigqueue, Sigaction, Sigprocmask, Sigpending, Sigsuspend, Sigreturn, Alarm, Exec, Getpgid, Getsid, Setpgid, Setsid, Setctty, Tcgetpgrp, Tcsetpgrp, Settostop, Read, Write}
 use Rattle.posix.specs.declared.instr.Trap.{Trap}
 use Rattle.posix.specs.declared.instr.Trap.TheVariants as trap
 use Rattle.posix.specs.declared.event.Event.{Event}
@@ -42,10 +42,10 @@ use Rattle.posix.specs.Choice.{chosen, carried_by, from_kernel}
 use Rattle.posix.specs.Handlers.{handles, is_full, is_interrupted, newest_frame, set_action}
 use Rattle.posix.specs.Births.{fork_as}
 use Rattle.posix.specs.Ends.{hang_up, end_with_heir, end_process}
-use Rattle.posix.specs.Targets.{target_in}
+use Rattle.posix.specs.Targets.{target_in, process_in}
 use Rattle.posix.specs.Waits.{wait, wait_with, report, options_in, are_known, has_option}
 use Rattle.posix.specs.Delivery.{call_of, interruption, handle, stop_process, act_by_default, act_on, take_out, deliver, fault_with, fault, return_to, return_from_handler}
-use Rattle.posix.specs.Sends.{sending, send_with, signal_in, signal_or_none, kill_with, kill}
+use Rattle.posix.specs.Sends.{permitted, targets, sending_permitted, sending_found, sending, has_full_queue, queued_for, queuers_among, sending_granted, message, send_with, signal_in, signal_or_none, send, kill, sigqueue}
 use Rattle.posix.specs.SignalCalls.{set_credentials, is_question, are_flags, action_in, sigaction_with, sigaction_of, sigaction, how_in, sigprocmask_with, sigprocmask, sigpending}
 use Rattle.posix.specs.Alarms.{ticks_in, alarm_in, alarm}
 use Rattle.posix.specs.Programs.{exec_as, exec_of, exec}
@@ -102,21 +102,56 @@ explained_ids : (c : Result Credentials Errno) → IsExplained (set_credentials 
 explained_ids (Ok c) = λ C s p call other. (gives_other s call _ other, tt)
 explained_ids (Err why) = λ C s p call other. explained_refused C s p call why
 
--- a signal that is sent, by whom it finds
-explained_send : (C : Terms) (s : State) (me : Process) (target : Target) (sig : Option ℕ) (what : Sending) → ExplainedIf C s me.pid (send_with s me target sig what)
-explained_send C s me target sig sends.NobodyFound = explained_refused C s me.pid Kill ESRCH
-explained_send C s me target sig sends.NobodyPermitted = explained_refused C s me.pid Kill EPERM
-explained_send C s me target sig sends.Permitted = (tt, tt)
+-- whom a signal finds is no matter of memory
+never_wanting : (me : Process) (n : Option ℕ) (rs : List Process) → sending_found me n rs ≡ sends.NoMemory → ⊥
+never_wanting me n [] e = absurd (cc)
+never_wanting me n (r ∷ rs) e = by (permitted me n (r ∷ rs)) e
+  where
+    by : (qs : List Process) → sending_permitted qs ≡ sends.NoMemory → ⊥
+    by [] e = absurd (cc)
+    by (q ∷ qs) e = absurd (cc)
+
+-- memory is wanting for the queues alone, and where it isn't granted
+wanting_memory : (granted : Bool) (me : Process) (target : Target) (n : Option ℕ) (rs : List Process) → sending_granted granted me target n rs ≡ sends.NoMemory → granted ≡ false
+unfolding sending_granted sending
+wanting_memory granted me target n rs e = by granted (queuers_among me target n rs) e
+  where
+    none : sending_found me n (targets me target rs) ≡ sends.NoMemory → ⊥
+    none e = never_wanting me n (targets me target rs) e
+
+    full : (b granted : Bool) → cond b sends.QueueFull (cond granted (sending_found me n (targets me target rs)) sends.NoMemory) ≡ sends.NoMemory → granted ≡ false
+    full true granted e = absurd (cc)
+    full false true e = absurd (none e)
+    full false false e = refl
+
+    by : (granted : Bool) (qs : List Process) → queued_for granted qs (sending_found me n (targets me target rs)) ≡ sends.NoMemory → granted ≡ false
+    by granted [] e = absurd (none e)
+    by granted (q ∷ qs) e = full (list_any has_full_queue (q ∷ qs)) granted e
+
+-- a signal that is sent, by what comes of it
+explained_sending : (C : Terms) (s : State) (me : Process) (call : Call) (target : Target) (signal : Option PendingSignal) (what : Sending) → is_fork call ≡ false → (what ≡ sends.NoMemory → C.wanting)
+    → ExplainedIf C s me.pid (send_with s me call target signal what)
+explained_sending C s me call target signal sends.NobodyFound other want = explained_refused C s me.pid call ESRCH
+explained_sending C s me call target signal sends.NobodyPermitted other want = explained_refused C s me.pid call EPERM
+explained_sending C s me call target signal sends.QueueFull other want = explained_refused C s me.pid call EAGAIN
+explained_sending C s me call target signal sends.NoMemory other want = ((want refl, refl, refl), tt)
+explained_sending C s me call target signal sends.Permitted other want = (gives_other s call 0 other, tt)
 
 -- a signal that is sent, by what it is
-explained_kill_with : (C : Terms) (s : State) (me : Process) (target : Target) (sig : Result (Option ℕ) Errno) → ExplainedIf C s me.pid (kill_with s me target sig)
-explained_kill_with C s me target (Ok sig) = explained_send C s me target sig (sending me target sig s.processes)
-explained_kill_with C s me target (Err why) = explained_refused C s me.pid Kill why
+explained_send : (C : Terms) (granted : Bool) → (granted ≡ false → C.wanting) → (s : State) (me : Process) (call : Call) (target : Target) (value : ℤ) (sig : Result (Option ℕ) Errno) → is_fork call ≡ false
+    → ExplainedIf C s me.pid (send granted s me call target value sig)
+explained_send C granted want s me call target value (Ok n) other =
+    explained_sending C s me call target (message me.pid value n) (sending_granted granted me target n s.processes) other (λ e. want (wanting_memory granted me target n s.processes e))
+explained_send C granted want s me call target value (Err why) other = explained_refused C s me.pid call why
 
 -- a signal that is sent
-explained_kill : (C : Terms) (s : State) (me : Process) → ExplainedIf C s me.pid (kill s me)
+explained_kill : (C : Terms) (granted : Bool) → (granted ≡ false → C.wanting) → (s : State) (me : Process) → ExplainedIf C s me.pid (kill granted s me)
 unfolding kill
-explained_kill C s me = explained_kill_with C s me (target_in (argument me 1)) (signal_or_none (argument me 2))
+explained_kill C granted want s me = explained_send C granted want s me Kill (target_in (argument me 1)) (pos 0) (signal_or_none (argument me 2)) refl
+
+explained_sigqueue : (C : Terms) (granted : Bool) → (granted ≡ false → C.wanting) → (s : State) (me : Process) → ExplainedIf C s me.pid (sigqueue granted s me)
+unfolding sigqueue
+explained_sigqueue C granted want s me = explained_send C granted want s me Sigqueue (process_in (argument me 1)) (argument me 3) (signal_or_none (argument me 2)) refl
 
 -- another program is run, if there is one
 explained_exec_as : (C : Terms) (s : State) (me : Process) (n : ℕ) (program : Option Program) → ExplainedIf C s me.pid (exec_as s me n program)
@@ -322,7 +357,8 @@ explained_attempt granted s me Setuid = explained_ids (setuid me.credentials (ar
 explained_attempt granted s me Seteuid = explained_ids (seteuid me.credentials (argument me 1)) (NotInterrupted granted) s me.pid Seteuid refl
 explained_attempt granted s me Setgid = explained_ids (setgid me.credentials (argument me 1)) (NotInterrupted granted) s me.pid Setgid refl
 explained_attempt granted s me Setegid = explained_ids (setegid me.credentials (argument me 1)) (NotInterrupted granted) s me.pid Setegid refl
-explained_attempt granted s me Kill = explained_kill (NotInterrupted granted) s me
+explained_attempt granted s me Kill = explained_kill (NotInterrupted granted) granted (λ e. e) s me
+explained_attempt granted s me Sigqueue = explained_sigqueue (NotInterrupted granted) granted (λ e. e) s me
 explained_attempt granted s me Sigaction = explained_action me (NotInterrupted granted) s me.pid Sigaction refl
 explained_attempt granted s me Sigprocmask = explained_mask me (NotInterrupted granted) s me.pid Sigprocmask refl
 explained_attempt granted s me Sigpending = explained_pending me (NotInterrupted granted) s me.pid Sigpending refl

@@ -4,7 +4,7 @@ use Rattle.std.specs.Int.{cast_unsigned, w64}
 use Rattle.std.specs.List.{AllByRecursion}
 use Rattle.std.proofs.lemmas.Bool.{eqb-true, eqb-false, eq-eqb, cond_both, or_cases, or_parts, or_from, false_from_ne_true, leb-true}
 use Rattle.posix.specs.declared.call.Call.{Call}
-use Rattle.posix.specs.declared.call.Call.TheVariants.{Exit, Fork, Waitpid, Pause, SchedYield, Getpid, Getppid, Getuid, Geteuid, Getgid, Getegid, Setuid, Seteuid, Setgid, Setegid, Kill, Sigaction, Sigprocmask, Sigpending, Sigsuspend, Sigreturn, Alarm, Exec, Getpgid, Getsid, Setpgid, Setsid, Setctty, Tcgetpgrp, Tcsetpgrp, Settostop, Read, Write}
+use Rattle.posix.specs.declared.call.Call.TheVariants.{Exit, Fork, Waitpid, Pause, SchedYield, Getpid, Getppid, Getuid, Geteuid, Getgid, Getegid, Setuid, Seteuid, Setgid, Setegid, Kill, Sigqueue, Sigaction, Sigprocmask, Sigpending, Sigsuspend, Sigreturn, Alarm, Exec, Getpgid, Getsid, Setpgid, Setsid, Setctty, Tcgetpgrp, Tcsetpgrp, Settostop, Read, Write}
 use Rattle.posix.specs.declared.instr.Trap.{Trap}
 use Rattle.posix.specs.declared.instr.Trap.TheVariants as trap
 use Rattle.posix.specs.declared.event.Event.{Event}
@@ -43,10 +43,10 @@ use Rattle.posix.specs.Choice.{chosen, carried_by, from_kernel}
 use Rattle.posix.specs.Handlers.{handles, is_full, newest_frame, returned, set_action}
 use Rattle.posix.specs.Births.{born, child_of, fork_as}
 use Rattle.posix.specs.Ends.{made_zombie, leave_children_and_die, is_dropping, drop_child, notice_of_end, zombies_of, tell_of_all, status_of, hup_and_cont_orphans, hang_up, end_with_heir, end_process}
-use Rattle.posix.specs.Targets.{target_in}
+use Rattle.posix.specs.Targets.{target_in, process_in}
 use Rattle.posix.specs.Waits.{wait, wait_with, report, options_in, are_known, has_option, WNOHANG, news_told}
 use Rattle.posix.specs.Delivery.{handle, act_by_default, act_on, take_out, deliver, fault_with, fault, return_to, return_from_handler}
-use Rattle.posix.specs.Sends.{sent, sent_by, sent_among, permitted, targets, sending, send_with, signal_in, signal_or_none, kill_with, kill}
+use Rattle.posix.specs.Sends.{sent, sent_among, permitted, targets, sending_granted, message, send_with, signal_in, signal_or_none, send, kill, sigqueue}
 use Rattle.posix.specs.SignalCalls.{set_credentials, give_credentials, give_signals, holding, is_question, are_flags, action_in, sigaction_with, sigaction_of, sigaction, how_in, sigprocmask_with, sigprocmask, sigpending}
 use Rattle.posix.specs.Programs.{executed, exec_as, exec_of, exec}
 use Rattle.posix.specs.GroupCalls.{named, tells, getpgid, getsid, move_of, setpgid_with, setpgid_to, setpgid, is_group_of_others, in_group, in_session, setsid}
@@ -356,26 +356,33 @@ regular_wait s me c =
     (λ t. regular_gives s me.pid Waitpid (refusal EINVAL) c.regular)
 
 -- a signal that is sent
-regular_sent : (s : State) (me : Process) (target : Target) (sig : Option ℕ) → IsRegular s → IsRegular (record s { processes = sent me target sig s.processes })
+regular_sent : (s : State) (me : Process) (target : Target) (signal : Option PendingSignal) → IsRegular s → IsRegular (record s { processes = sent me target signal s.processes })
 unfolding sent sent_among
 regular_sent s me target None i = i
-regular_sent s me target (Some n) i = regular_signalled (sent_by me.pid n) (pids (permitted me (Some n) (targets me target s.processes))) s i
+regular_sent s me target (Some signal) i = regular_signalled signal (pids (permitted me (Some signal.sig) (targets me target s.processes))) s i
 
--- by whom it finds
-regular_send : (s : State) (me : Process) (target : Target) (sig : Option ℕ) (what : Sending) → IsRegular s → RegularIf (send_with s me target sig what)
-regular_send s me target sig sends.NobodyFound i = regular_gives s me.pid Kill (refusal ESRCH) i
-regular_send s me target sig sends.NobodyPermitted i = regular_gives s me.pid Kill (refusal EPERM) i
-regular_send s me target sig sends.Permitted i = regular_gives (record s { processes = sent me target sig s.processes }) me.pid Kill (pos 0) (regular_sent s me target sig i)
+-- by what comes of it
+regular_sending : (s : State) (me : Process) (call : Call) (target : Target) (signal : Option PendingSignal) (what : Sending) → IsRegular s → RegularIf (send_with s me call target signal what)
+regular_sending s me call target signal sends.NobodyFound i = regular_gives s me.pid call (refusal ESRCH) i
+regular_sending s me call target signal sends.NobodyPermitted i = regular_gives s me.pid call (refusal EPERM) i
+regular_sending s me call target signal sends.QueueFull i = regular_gives s me.pid call (refusal EAGAIN) i
+regular_sending s me call target signal sends.NoMemory i = regular_change me.pid (finished ((0, refusal EAGAIN) ∷ [])) s (keeps_finished ((0, refusal EAGAIN) ∷ [])) i
+regular_sending s me call target signal sends.Permitted i = regular_gives (record s { processes = sent me target signal s.processes }) me.pid call (pos 0) (regular_sent s me target signal i)
 
 -- by what it is
-regular_kill_with : (s : State) (me : Process) (target : Target) (sig : Result (Option ℕ) Errno) → IsRegular s → RegularIf (kill_with s me target sig)
-regular_kill_with s me target (Ok sig) i = regular_send s me target sig (sending me target sig s.processes) i
-regular_kill_with s me target (Err why) i = regular_gives s me.pid Kill (refusal why) i
+regular_send : (granted : Bool) (s : State) (me : Process) (call : Call) (target : Target) (value : ℤ) (sig : Result (Option ℕ) Errno) → IsRegular s → RegularIf (send granted s me call target value sig)
+regular_send granted s me call target value (Ok n) i = regular_sending s me call target (message me.pid value n) (sending_granted granted me target n s.processes) i
+regular_send granted s me call target value (Err why) i = regular_gives s me.pid call (refusal why) i
 
 -- a call of kill
-regular_kill : (s : State) (me : Process) → IsRegular s → RegularIf (kill s me)
+regular_kill : (granted : Bool) (s : State) (me : Process) → IsRegular s → RegularIf (kill granted s me)
 unfolding kill
-regular_kill s me i = regular_kill_with s me (target_in (argument me 1)) (signal_or_none (argument me 2)) i
+regular_kill granted s me i = regular_send granted s me Kill (target_in (argument me 1)) (pos 0) (signal_or_none (argument me 2)) i
+
+-- a call of sigqueue
+regular_sigqueue : (granted : Bool) (s : State) (me : Process) → IsRegular s → RegularIf (sigqueue granted s me)
+unfolding sigqueue
+regular_sigqueue granted s me i = regular_send granted s me Sigqueue (process_in (argument me 1)) (argument me 3) (signal_or_none (argument me 2)) i
 
 -- new ids, or a refusal
 keeps_ids : {now : ℕ} (c : Result Credentials Errno) → Keeps now (set_credentials c).changes
@@ -497,7 +504,8 @@ regular_attempt granted s me Setuid c = regular_answers s me.pid Setuid _ (keeps
 regular_attempt granted s me Seteuid c = regular_answers s me.pid Seteuid _ (keeps_ids (seteuid me.credentials (argument me 1))) c.regular
 regular_attempt granted s me Setgid c = regular_answers s me.pid Setgid _ (keeps_ids (setgid me.credentials (argument me 1))) c.regular
 regular_attempt granted s me Setegid c = regular_answers s me.pid Setegid _ (keeps_ids (setegid me.credentials (argument me 1))) c.regular
-regular_attempt granted s me Kill c = regular_kill s me c.regular
+regular_attempt granted s me Kill c = regular_kill granted s me c.regular
+regular_attempt granted s me Sigqueue c = regular_sigqueue granted s me c.regular
 regular_attempt granted s me Sigaction c = regular_answers s me.pid Sigaction (sigaction me) (keeps_action me) c.regular
 regular_attempt granted s me Sigprocmask c = regular_answers s me.pid Sigprocmask (sigprocmask me) (keeps_mask me) c.regular
 regular_attempt granted s me Sigpending c = regular_answers s me.pid Sigpending (sigpending me) (keeps_pending me) c.regular

@@ -8,7 +8,7 @@ use Rattle.posix.specs.declared.instr.Instr.{Instr}
 use Rattle.posix.specs.declared.instr.Instr.TheVariants.{Set, Compute, Jump, JumpIf, Note, Sys}
 use Rattle.posix.specs.declared.instr.Operator.TheVariants.{Div, Rem}
 use Rattle.posix.specs.declared.instr.Condition.TheVariants.{Zero}
-use Rattle.posix.specs.declared.call.Call.TheVariants.{Exit, Fork, Waitpid, Pause, SchedYield, Getpid, Setuid, Kill, Sigaction, Sigprocmask, Sigsuspend, Sigreturn, Alarm, Exec, Setpgid, Setsid, Geteuid, Getuid, Setctty, Tcgetpgrp, Tcsetpgrp, Read}
+use Rattle.posix.specs.declared.call.Call.TheVariants.{Exit, Fork, Waitpid, Pause, SchedYield, Getpid, Setuid, Kill, Sigqueue, Sigaction, Sigprocmask, Sigpending, Sigsuspend, Sigreturn, Alarm, Exec, Setpgid, Setsid, Geteuid, Getuid, Setctty, Tcgetpgrp, Tcsetpgrp, Read}
 use Rattle.posix.specs.Processes.{nothing_pending, default_actions, zero_registers, zero_memory}
 use Rattle.posix.specs.Numbers.{with_number}
 use Rattle.posix.specs.Tables.{lookup, changed, inserted, removed, children_in, adopted, members_in}
@@ -23,11 +23,11 @@ use Rattle.posix.specs.Credentials.{setuid, seteuid, setgid, setegid}
 use Rattle.posix.specs.Generation.{without_stops, generated, effect_of, signalled}
 use Rattle.posix.specs.Notices.{noticed, noticed_of_change, told_of_change, stopped_by, resumed, signalled_all}
 use Rattle.posix.specs.Groups.{is_anchor, is_orphaned, group_numbers, has_stopped, is_newly_orphaned, newly_orphaned}
-use Rattle.posix.specs.Choice.{least_ready, chosen, taken}
+use Rattle.posix.specs.Choice.{least_ready, chosen, first_carried, without_first, taken, discarded}
 use Rattle.posix.specs.Handlers.{entered, at_handler, handles, returned, set_action, set_mask}
 use Rattle.posix.specs.Delivery.{handle, stop_process, take_out, deliver, fault, return_from_handler}
-use Rattle.posix.specs.Sends.{targets, permitted, sending, sent_among, sent, kill}
-use Rattle.posix.specs.SignalCalls.{give_credentials, give_signals, sigaction, sigprocmask, set_of, sigpending}
+use Rattle.posix.specs.Sends.{targets, permitted, sending, queuers, queuers_among, sending_granted, sent_among, sent, kill, sigqueue}
+use Rattle.posix.specs.SignalCalls.{give_credentials, give_signals, sigaction, sigprocmask, set_of, pending_set, sigpending}
 use Rattle.posix.specs.Births.{child_of, fork_as}
 use Rattle.posix.specs.Ends.{ended, made_zombie, notice_of_end, zombies_of, tell_of_all, signalled_members, hup_and_cont_all, hang_up, end_process}
 use Rattle.posix.specs.Waits.{report_of, report, news_told, wait}
@@ -58,7 +58,7 @@ trace w events = trace_from 1 (boot w) (λ k. true) events
 
 -- opens every definition of an operation
 unfoldable pub everything : Unit {0}
-unfolding nothing_pending default_actions zero_registers zero_memory exec_one digits lookup changed inserted removed children_in adopted members_in is_free next_free is_in without finished written setuid seteuid setgid setegid without_stops generated effect_of signalled noticed_of_change told_of_change stopped_by resumed signalled_all with_number is_anchor is_orphaned group_numbers has_stopped is_newly_orphaned newly_orphaned least_ready chosen taken entered at_handler handles returned set_action set_mask child_of fork_as ended made_zombie noticed notice_of_end zombies_of tell_of_all signalled_members hup_and_cont_all hang_up end_process report_of report news_told wait handle stop_process take_out deliver fault return_from_handler targets permitted sending sent_among sent kill give_credentials give_signals sigaction sigprocmask set_of sigpending attempt attempt_again can_act give_places clear_foregrounds settle set_cpu enter after_trap out_of_call act_in act step with_alarm rung ring_all alarm executed exec is_group_of getpgid getsid in_group setpgid in_session setsid waiting has_room finish_line erased with_byte edit key_signal flushed keyed line_taken acquired released with_foreground with_tostop console_of changed_console stored bytes_in setctty tcgetpgrp tcsetpgrp settostop with_bytes read write tick key happens next hex
+unfolding nothing_pending default_actions zero_registers zero_memory exec_one digits lookup changed inserted removed children_in adopted members_in is_free next_free is_in without finished written setuid seteuid setgid setegid without_stops generated effect_of signalled noticed_of_change told_of_change stopped_by resumed signalled_all with_number is_anchor is_orphaned group_numbers has_stopped is_newly_orphaned newly_orphaned least_ready chosen first_carried without_first taken discarded entered at_handler handles returned set_action set_mask child_of fork_as ended made_zombie noticed notice_of_end zombies_of tell_of_all signalled_members hup_and_cont_all hang_up end_process report_of report news_told wait handle stop_process take_out deliver fault return_from_handler targets permitted sending queuers queuers_among sending_granted sent_among sent kill sigqueue give_credentials give_signals sigaction sigprocmask set_of pending_set sigpending attempt attempt_again can_act give_places clear_foregrounds settle set_cpu enter after_trap out_of_call act_in act step with_alarm rung ring_all alarm executed exec is_group_of getpgid getsid in_group setpgid in_session setsid waiting has_room finish_line erased with_byte edit key_signal flushed keyed line_taken acquired released with_foreground with_tostop console_of changed_console stored bytes_in setctty tcgetpgrp tcsetpgrp settostop with_bytes read write tick key happens next hex
 everything = tt
 
 abbrev pub note_and_exit : World
@@ -189,6 +189,35 @@ row_stop_without_effect : trace (world 40 1 (program None None (Sys Fork ∷ Jum
     ≡ line 1 (Called 1 Fork (pos 2)) ∷ line 5 (Called 1 Kill (pos 0)) ∷ line 7 (Discarded 2 20) ∷ []
 unfolding everything
 row_stop_without_effect = refl
+
+-- ---- real-time signals
+
+-- standard signals first; of one real-time signal the first to come
+row_order_of_delivery : trace (world 40 1 (program None None (Set 1 (pos 10) ∷ Set 2 (pos 42) ∷ Set 3 (negsuc 0) ∷ Set 4 (pos 4) ∷ Sys Sigaction ∷ Set 1 (pos 35) ∷ Set 2 (pos 42) ∷ Set 3 (negsuc 0) ∷ Set 4 (pos 4) ∷ Sys Sigaction ∷ Set 1 (pos 2) ∷ Set 2 (negsuc 0) ∷ Sys Sigprocmask ∷ Set 1 (pos 1) ∷ Set 2 (pos 35) ∷ Set 3 (pos 1) ∷ Sys Sigqueue ∷ Set 3 (pos 2) ∷ Sys Sigqueue ∷ Set 2 (pos 10) ∷ Sys Kill ∷ Sys Kill ∷ Set 1 (pos 2) ∷ Set 2 (pos 0) ∷ Sys Sigprocmask ∷ Sys Pause ∷ Note 2 ∷ Sys Sigreturn ∷ []) ∷ [])) (replicate 34 Step)
+    ≡ line 5 (Called 1 Sigaction (pos 0)) ∷ line 10 (Called 1 Sigaction (pos 0)) ∷ line 13 (Called 1 Sigprocmask (pos 0)) ∷ line 17 (Called 1 Sigqueue (pos 0)) ∷ line 19 (Called 1 Sigqueue (pos 0)) ∷ line 21 (Called 1 Kill (pos 0)) ∷ line 22 (Called 1 Kill (pos 0)) ∷ line 25 (Called 1 Sigprocmask (pos 0)) ∷ line 26 (Handled 1 10 (pos 0) 1) ∷ line 27 (Noted 1 (pos 0)) ∷ line 28 (Returned 1) ∷ line 29 (Handled 1 35 (pos 1) 1) ∷ line 30 (Noted 1 (pos 1)) ∷ line 31 (Returned 1) ∷ line 32 (Handled 1 35 (pos 2) 1) ∷ line 33 (Noted 1 (pos 2)) ∷ line 34 (Returned 1) ∷ []
+unfolding everything
+row_order_of_delivery = refl
+
+-- the queue of process 1 is full with 32
+row_full_queue : trace (world 40 1 (program None None (Set 1 (pos 35) ∷ Set 2 (pos 26) ∷ Sys Sigaction ∷ Set 1 (pos 2) ∷ Set 2 (negsuc 0) ∷ Sys Sigprocmask ∷ Set 1 (pos 1) ∷ Set 2 (pos 35) ∷ Sys Sigqueue ∷ Jump 24 ∷ Sys Sigreturn ∷ []) ∷ [])) (replicate 73 Step)
+    ≡ line 3 (Called 1 Sigaction (pos 0)) ∷ line 6 (Called 1 Sigprocmask (pos 0)) ∷ line 9 (Called 1 Sigqueue (pos 0)) ∷ line 11 (Called 1 Sigqueue (pos 0)) ∷ line 13 (Called 1 Sigqueue (pos 0)) ∷ line 15 (Called 1 Sigqueue (pos 0)) ∷ line 17 (Called 1 Sigqueue (pos 0)) ∷ line 19 (Called 1 Sigqueue (pos 0)) ∷ line 21 (Called 1 Sigqueue (pos 0)) ∷ line 23 (Called 1 Sigqueue (pos 0)) ∷ line 25 (Called 1 Sigqueue (pos 0)) ∷ line 27 (Called 1 Sigqueue (pos 0)) ∷ line 29 (Called 1 Sigqueue (pos 0)) ∷ line 31 (Called 1 Sigqueue (pos 0)) ∷ line 33 (Called 1 Sigqueue (pos 0)) ∷ line 35 (Called 1 Sigqueue (pos 0)) ∷ line 37 (Called 1 Sigqueue (pos 0)) ∷ line 39 (Called 1 Sigqueue (pos 0)) ∷ line 41 (Called 1 Sigqueue (pos 0)) ∷ line 43 (Called 1 Sigqueue (pos 0)) ∷ line 45 (Called 1 Sigqueue (pos 0)) ∷ line 47 (Called 1 Sigqueue (pos 0)) ∷ line 49 (Called 1 Sigqueue (pos 0)) ∷ line 51 (Called 1 Sigqueue (pos 0)) ∷ line 53 (Called 1 Sigqueue (pos 0)) ∷ line 55 (Called 1 Sigqueue (pos 0)) ∷ line 57 (Called 1 Sigqueue (pos 0)) ∷ line 59 (Called 1 Sigqueue (pos 0)) ∷ line 61 (Called 1 Sigqueue (pos 0)) ∷ line 63 (Called 1 Sigqueue (pos 0)) ∷ line 65 (Called 1 Sigqueue (pos 0)) ∷ line 67 (Called 1 Sigqueue (pos 0)) ∷ line 69 (Called 1 Sigqueue (pos 0)) ∷ line 71 (Called 1 Sigqueue (pos 0)) ∷ line 73 (Called 1 Sigqueue (negsuc 10)) ∷ []
+unfolding everything
+row_full_queue = refl
+
+-- process 1 queues a signal for itself, and once more, and asks each time what is pending
+abbrev queues_twice : World
+queues_twice = world 40 1 (program None None (Set 1 (pos 35) ∷ Set 2 (pos 32) ∷ Sys Sigaction ∷ Set 1 (pos 2) ∷ Set 2 (negsuc 0) ∷ Sys Sigprocmask ∷ Set 1 (pos 1) ∷ Set 2 (pos 35) ∷ Set 3 (pos 9) ∷ Sys Sigqueue ∷ Sys Sigpending ∷ Note 1 ∷ Set 1 (pos 1) ∷ Sys Sigqueue ∷ Sys Sigpending ∷ Note 1 ∷ Sys Sigreturn ∷ []) ∷ [])
+
+-- the first time there is no memory
+row_refused_queuing : trace_from 1 (boot queues_twice) (λ k. if k == 10 then false else true) (replicate 16 Step)
+    ≡ line 3 (Called 1 Sigaction (pos 0)) ∷ line 6 (Called 1 Sigprocmask (pos 0)) ∷ line 10 (NoMemory 1 Sigqueue) ∷ line 11 (Called 1 Sigpending (pos 0)) ∷ line 12 (Noted 1 (pos 0)) ∷ line 14 (Called 1 Sigqueue (pos 0)) ∷ line 15 (Called 1 Sigpending (pos 0)) ∷ line 16 (Noted 1 (pos 17179869184)) ∷ []
+unfolding everything
+row_refused_queuing = refl
+
+row_refused_queuing_printed : print (trace_from 1 (boot queues_twice) (λ k. if k == 10 then false else true) (replicate 16 Step))
+    ≡ codes "3 call 1 sigaction = 0\n6 call 1 sigprocmask = 0\n10 call 1 sigqueue = -11 memory\n11 call 1 sigpending = 0\n12 note 1 0\n14 call 1 sigqueue = 0\n15 call 1 sigpending = 0\n16 note 1 17179869184\n"
+unfolding everything
+row_refused_queuing_printed = refl
 
 -- ---- process groups, sessions and other programs
 

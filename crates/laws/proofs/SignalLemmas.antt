@@ -1,6 +1,7 @@
 -- Signals that are chosen, that a fault raises and that stop are such signals.
-use Rattle.std.proofs.Common.{◌≡◌, ℕ, zero, suc, ◌+◌, ◌≤◌, ◌<◌, Bool, true, false, cond, ◌||◌, ◌==◌, refl, arith, subst, find, List, Option, Some, None, ℤ, nat_le}
+use Rattle.std.proofs.Common.{◌≡◌, ℕ, zero, suc, ◌+◌, ◌≤◌, ◌<◌, Bool, true, false, cond, ◌||◌, ◌==◌, refl, arith, subst, find, List, [], ◌∷◌, ◌++◌, Option, Some, None, ℤ, nat_le, inl, inr, ◌⊎◌}
 use Rattle.std.specs.List.{range_with_len}
+use Rattle.std.proofs.lemmas.Bool.{or_right}
 use Rattle.std.proofs.lemmas.Bool.Decides.{nat_tests}
 use Rattle.posix.specs.declared.instr.Instr.{Instr}
 use Rattle.posix.specs.declared.instr.Instr.TheVariants.{Set, Move, Compute, Load, Store, Jump, JumpIf, Note, Sys}
@@ -8,10 +9,10 @@ use Rattle.posix.specs.declared.instr.Trap.{Trap}
 use Rattle.posix.specs.declared.instr.Trap.TheVariants as trap
 use Rattle.posix.specs.declared.process.Life.{Life}
 use Rattle.posix.specs.declared.sig.DefaultAction.TheVariants as default
-use Rattle.posix.specs.SignalNumbers.{KILL, CHLD, URG, WINCH, CONT, is_signal, is_stop_signal, default_action}
+use Rattle.posix.specs.SignalNumbers.{KILL, CHLD, URG, WINCH, CONT, is_signal, is_standard, is_realtime, is_stop_signal, default_action}
 use Rattle.posix.specs.Processes.{Cpu, Signals, is_running}
 use Rattle.posix.specs.Generation.{is_pending}
-use Rattle.posix.specs.Choice.{is_ready, least_ready, chosen}
+use Rattle.posix.specs.Choice.{is_ready, all_signals, least_ready, chosen}
 use Rattle.posix.specs.Execute.{execute, execute_fetched, exec_one, fetched, computed, register, put_result, load_from, store_at, address_of}
 
 -- ---- the signal that is chosen
@@ -30,13 +31,33 @@ standard_signal s low high =
     let b : nat_le s 31 ≡ true = grind (arith, nat_tests, high) in
     rw (a, b) refl
 
+realtime_signal : (s : ℕ) → 34 ≤ s → s < 65 → is_signal s ≡ true
+realtime_signal s low high =
+    let a : nat_le 34 s ≡ true = grind (arith, nat_tests, low) in
+    let b : nat_le s 64 ≡ true = grind (arith, nat_tests, high) in
+    or_right (is_standard s) (is_realtime s) (rw (a, b) refl)
+
+-- who is found in one list behind another is found in one of them
+found_in : (t : ℕ → Bool) (xs ys : List ℕ) (k : ℕ) → find t (xs ++ ys) ≡ Some k → (find t xs ≡ Some k) ⊎ (find t ys ≡ Some k)
+found_in t [] ys k e = inr e
+found_in t (x ∷ xs) ys k e = elim (t x) as (λ b. cond b (Some x) (find t (xs ++ ys)) ≡ Some k → (cond b (Some x) (find t xs) ≡ Some k) ⊎ (find t ys ≡ Some k)) [
+  | true ↦ λ h. inl h
+  | false ↦ λ h. found_in t xs ys k h
+] e
+
+ready_signal : (g : Signals) (n : ℕ) → find (is_ready g) all_signals ≡ Some n → is_signal n ≡ true
+ready_signal g n e = elim (found_in (is_ready g) (range_with_len 1 31) (range_with_len 34 31) n e) [
+  | inl one ↦ let i = in_range (is_ready g) 1 31 n one in standard_signal n i.0 (omega (arith, i.1))
+  | inr one ↦ let i = in_range (is_ready g) 34 31 n one in realtime_signal n i.0 (omega (arith, i.1))
+]
+
 pub chosen_signal : (life : Life) (g : Signals) (n : ℕ) → chosen life g ≡ Some n → is_signal n ≡ true
 unfolding chosen least_ready
 chosen_signal life g n e = kill (is_pending g KILL) (is_running life) e
   where
-    kill : (a b : Bool) → cond a (Some KILL) (cond b (find (is_ready g) (range_with_len 1 31)) None) ≡ Some n → is_signal n ≡ true
+    kill : (a b : Bool) → cond a (Some KILL) (cond b (find (is_ready g) all_signals) None) ≡ Some n → is_signal n ≡ true
     kill true b h = let same : KILL ≡ n = cc in subst (λ s. is_signal s ≡ true) same refl
-    kill false true h = let i = in_range (is_ready g) 1 31 n h in standard_signal n i.0 (omega (arith, i.1))
+    kill false true h = ready_signal g n h
     kill false false h = absurd (cc)
 
 -- one whose default is to stop is a stop signal

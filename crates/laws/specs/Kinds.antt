@@ -1,5 +1,5 @@
 -- States whose parts are of their kinds: what lines show is within its range.
-use Rattle.std.specs.Prelude.{◌≡◌, ℕ, ◌≤◌, ◌<◌, ◌&&◌, Bool, true, Option, Some, None, nat_le, nat_lt}
+use Rattle.std.specs.Prelude.{◌≡◌, ℕ, ◌≤◌, ◌<◌, ◌&&◌, Bool, true, Option, Some, None, length, nat_le, nat_lt}
 use Rattle.std.specs.List.{list_all}
 use Rattle.posix.specs.declared.event.Event.{Event}
 use Rattle.posix.specs.declared.event.Event.TheVariants.{Step, Tick, Key}
@@ -15,11 +15,13 @@ use Rattle.posix.specs.declared.process.Life.{Life}
 use Rattle.posix.specs.declared.process.Life.TheVariants.{Running, Stopped, Zombie}
 use Rattle.posix.specs.declared.process.News.{News}
 use Rattle.posix.specs.declared.process.News.TheVariants as news
-use Rattle.posix.specs.SignalNumbers.{is_stop_signal}
+use Rattle.posix.specs.declared.process.PendingSignal.{PendingSignal}
+use Rattle.posix.specs.SignalNumbers.{is_realtime, is_stop_signal}
 use Rattle.posix.specs.Processes.{Process, Signals, Credentials, Cpu}
 use Rattle.posix.specs.Tables.{lookup}
 use Rattle.posix.specs.Consoles.{Console}
 use Rattle.posix.specs.States.{State, World, Program}
+use Rattle.posix.specs.Sends.{most_queued}
 use Rattle.laws.specs.TraceLines.{is_i64, is_end_word}
 
 -- a number of a process, a group or a user is at most this (pid_t, uid_t as here)
@@ -38,6 +40,10 @@ is_carried c = is_i64 c.value && is_id c.sender
 abbrev pub is_pending_kind : Option Carried → Bool
 is_pending_kind None = true
 is_pending_kind (Some c) = is_carried c
+
+-- a signal that is queued is a real-time signal
+abbrev pub is_queued_kind : PendingSignal → Bool
+is_queued_kind m = is_realtime m.sig && is_carried m.carried
 
 abbrev pub is_handler : Handler → Bool
 is_handler handler.Default = true
@@ -60,8 +66,11 @@ is_news_kind news.Nothing = true
 is_news_kind (news.StoppedBy s) = is_stop_signal s
 is_news_kind news.Continued = true
 
+-- the queue holds real-time signals alone, and no more of them than may be queued
 pub record AreSignals (g : Signals) : Type 0 where
   pub pending : list_all is_pending_kind g.standard ≡ true
+  pub queue : list_all is_queued_kind g.queue ≡ true
+  pub few : nat_le (length g.queue) most_queued ≡ true
   pub actions : list_all is_action g.actions ≡ true
   pub frames : list_all is_frame g.frames ≡ true
 

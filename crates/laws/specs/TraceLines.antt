@@ -4,7 +4,7 @@ use Rattle.std.specs.List.{list_all}
 use Rattle.posix.specs.declared.entry.Entry.{Entry}
 use Rattle.posix.specs.declared.entry.Entry.TheVariants.{Noted, Called, Moved, Reported, NoMemory, Handled, Discarded, Stopped, Returned, Ended, Halted}
 use Rattle.posix.specs.declared.call.Call.{Call}
-use Rattle.posix.specs.declared.call.Call.TheVariants.{Exit, Fork, Waitpid, Kill, Sigreturn, Read, Write}
+use Rattle.posix.specs.declared.call.Call.TheVariants.{Exit, Fork, Waitpid, Kill, Sigqueue, Sigreturn, Read, Write}
 use Rattle.posix.specs.Entries.{Line}
 use Rattle.posix.specs.SignalNumbers.{is_signal, is_stop_signal}
 use Rattle.posix.specs.Statuses.{continued}
@@ -51,6 +51,7 @@ moves_bytes _ = false
 abbrev pub asks_memory : Call → Bool
 asks_memory Fork = true
 asks_memory Kill = true
+asks_memory Sigqueue = true
 asks_memory _ = false
 
 abbrev pub is_entry : Entry → Bool

@@ -141,9 +141,10 @@ pub fn refusals_change_little()
 
 /// Runs are determined.
 ///
-/// The host decides one thing alone: whether it grants the memory that a fork needs; and where it does
-/// not, a line says so. So from each state, as from the start of each world, the events have just one run
-/// in which no line says that there was no memory.
+/// The host decides one thing alone: whether it grants the memory that a call needs. A fork needs some for
+/// the child, a kill and a sigqueue where they would queue a real-time signal; and where it does not grant
+/// it, a line says so. So from each state, as from the start of each world, the events have just one run in
+/// which no line says that there was no memory.
 pub fn determined()
     ensures exists { (k : ℕ) (old : State) (events : List Event) → (last : State) × (lines : List Line) × RunsFrom k old events lines last × LinesGrantAll lines }
     ensures step { (old new other : State) (event : Event) (shown others : List Entry) → IsStep old event shown new → IsStep old event others other

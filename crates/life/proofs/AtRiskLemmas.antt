@@ -158,7 +158,8 @@ unfolding permitted targets members_in
 members_meant c all n group rs = all_pass (may (process_like c) (Some n)) (λ q. may_signal_all (process_like c) (Some n) q all) (members_in group rs)
 
 -- it is generated for each of them, and they are asked
-pub members_get : (c : Caller) → c.pid ≡ 0 → c.creds ≡ root → (n group : ℕ) (rs : List Process) (order ns : List ℕ)
-    → (sent (process_like c) (whom.Group group) (Some n) rs ≡ signalled_members (record { sig = n; carried = from_kernel }) group rs) × (rechecking_signalled (process_like c) (Some n) (targets (process_like c) (whom.Group group) rs) rs order ns ≡ rechecking_members n group rs order ns)
+pub members_get : (c : Caller) → c.creds ≡ root → (n group : ℕ) (rs : List Process) (order ns : List ℕ)
+    → (sent (process_like c) (whom.Group group) (Some (record { sig = n; carried = from_kernel })) rs ≡ signalled_members (record { sig = n; carried = from_kernel }) group rs)
+    × (rechecking_signalled (process_like c) (Some (record { sig = n; carried = from_kernel })) (targets (process_like c) (whom.Group group) rs) rs order ns ≡ rechecking_members n group rs order ns)
 unfolding sent sent_among signalled_members rechecking_signalled
-members_get c none all n group rs order ns = rw (members_meant c all n group rs, none) (refl, refl)
+members_get c all n group rs order ns = rw (members_meant c all n group rs) (refl, refl)

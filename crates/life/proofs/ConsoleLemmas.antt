@@ -4,7 +4,7 @@ use Rattle.std.proofs.lemmas.Bool.{false_from_ne_true, true_from_ne_false, or_ca
 use Rattle.std.proofs.lemmas.Option.{get_or_from_slice_get, slice_get_read, same_Some}
 use Rattle.posix.specs.declared.process.Blocked.{Blocked}
 use Rattle.posix.specs.declared.process.Blocked.TheVariants as blocked
-use Rattle.posix.specs.SignalNumbers.{CONT, HUP, INT, QUIT, TSTP}
+use Rattle.posix.specs.SignalNumbers.{CONT, HUP, INT, QUIT, TSTP, is_realtime}
 use Rattle.posix.specs.Processes.{Process, is_running}
 use Rattle.posix.specs.States.{State, process, is_in, has_place}
 use Rattle.posix.specs.Consoles.{Console, console_of, changed_console, key_signal, keyed, edit, flushed, finish_line, released}
@@ -259,8 +259,16 @@ leader_hangs_up s k p me c i found leads at own = grind (arith, i, found, leads,
 
 -- ---- how many slots are read
 
--- the signal of a key continues nobody
--- no key continues anybody
+-- the signal of a key is a standard signal
+pub key_standard : (byte sig : ℕ) → Some sig ≡ key_signal byte → is_realtime sig ≡ false
+unfolding key_signal
+key_standard byte sig e = by (byte == 3) (byte == 28) (byte == 26) e
+  where
+    by : (a b c : Bool) → Some sig ≡ cond a (Some INT) (cond b (Some QUIT) (cond c (Some TSTP) None)) → is_realtime sig ≡ false
+    by false false false e = absurd (cc)
+    by a b c e = rw (same_Some _ _ e) refl
+
+-- and continues nobody
 pub key_plain : (byte sig : ℕ) → Some sig ≡ key_signal byte → (sig == CONT) ≡ false
 unfolding key_signal
 key_plain byte sig e = by (byte == 3) (byte == 28) (byte == 26) e

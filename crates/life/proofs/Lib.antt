@@ -9,7 +9,9 @@ pub mod CodeLemmas
 pub mod NotedBurstLemmas
 pub mod ChildLemmas
 pub mod MemberLemmas
+pub mod QueueLemmas
 pub mod SendLemmas
+pub mod SurveyLemmas
 pub mod SignalLemmas
 pub mod LoanLemmas
 pub mod ViewLemmas

@@ -19,11 +19,12 @@ use Rattle.posix.specs.Credentials.{may}
 use Rattle.posix.specs.Statuses.{continued}
 use Rattle.posix.specs.Generation.{signalled, effect_of}
 use Rattle.posix.specs.Notices.{ignores_stops, noticed_of_change, child_signal, told_of_change, resumed, acted_upon, generated_for, signalled_all}
-use Rattle.posix.specs.Sends.{is_target, targets, permitted, sending_permitted, sending_found, sent_by, sent_among}
+use Rattle.posix.specs.Sends.{is_target, targets, permitted, sending_permitted, sending_found, number_of, sent_among}
 use Rattle.posix.proofs.MapLemmas.{at_keeps, filter_map}
 use Rattle.posix.proofs.WalkLemmas.{AtOne, numbered, numbered_one, numbered_none, one_less, rest_of_walk, walk_splits}
 use Rattle.proctable.specs.declared.snapshot.Snapshot.{Snapshot}
 use Rattle.proctable.specs.Records.{snapshot_of}
+use Rattle.life.specs.Queues.{joined}
 use Rattle.life.specs.Rechecks.{rechecking_generated, rechecking_all, rechecking_signalled, is_candidate}
 
 -- ---- what a sender asks of a process
@@ -125,20 +126,21 @@ permitted_append : (me : Process) (s : Option ℕ) (xs ys : List Process) → pi
 unfolding permitted
 permitted_append me s xs ys = ap pids (filter-append (may me s) xs ys) ∙ map-append (λ r. r.pid) (filter (may me s) xs) (filter (may me s) ys)
 
--- whom a signal to some and then to others finds
-abbrev pub joined : Sending → Sending → Sending
-joined found.NobodyFound b = b
-joined found.Permitted b = found.Permitted
-joined found.NobodyPermitted found.Permitted = found.Permitted
-joined found.NobodyPermitted b = found.NobodyPermitted
-
 -- brackets don't count
-joined_twice : (a b c : Sending) → joined (joined a b) c ≡ joined a (joined b c)
+pub joined_twice : (a b c : Sending) → joined (joined a b) c ≡ joined a (joined b c)
 joined_twice found.NobodyPermitted found.NobodyPermitted found.Permitted = refl
+joined_twice found.NobodyPermitted found.Permitted found.Permitted = refl
+joined_twice found.NobodyPermitted found.QueueFull found.Permitted = refl
+joined_twice found.Permitted found.NobodyPermitted found.Permitted = refl
+joined_twice found.Permitted found.Permitted found.Permitted = refl
+joined_twice found.Permitted found.QueueFull found.Permitted = refl
+joined_twice found.QueueFull found.NobodyPermitted found.Permitted = refl
+joined_twice found.QueueFull found.Permitted found.Permitted = refl
+joined_twice found.QueueFull found.QueueFull found.Permitted = refl
 joined_twice a b c = refl
 
 -- nor does nobody
-joined_none : (a : Sending) → joined a found.NobodyFound ≡ a
+pub joined_none : (a : Sending) → joined a found.NobodyFound ≡ a
 joined_none found.Permitted = refl
 joined_none a = refl
 
@@ -147,15 +149,18 @@ joined_max : (a b : Sending) → ord_max sendings.cmp-value.it a b ≡ joined a 
 joined_max found.NobodyFound found.Permitted = refl
 joined_max found.NobodyPermitted found.Permitted = refl
 joined_max found.Permitted found.Permitted = refl
+joined_max found.QueueFull found.Permitted = refl
+joined_max found.NoMemory found.Permitted = refl
 joined_max a b = refl
 
 -- among some and then others
 joined_permitted : (xs ys : List Process) → joined (sending_permitted xs) (sending_permitted ys) ≡ sending_permitted (xs ++ ys)
 joined_permitted [] [] = refl
+joined_permitted (x ∷ xs) [] = refl
 joined_permitted xs ys = refl
 
 -- whom a signal to all of them finds
-sending_append : (me : Process) (s : Option ℕ) (xs ys : List Process) → joined (sending_found me s xs) (sending_found me s ys) ≡ sending_found me s (xs ++ ys)
+pub sending_append : (me : Process) (s : Option ℕ) (xs ys : List Process) → joined (sending_found me s xs) (sending_found me s ys) ≡ sending_found me s (xs ++ ys)
 unfolding permitted
 sending_append me s [] ys = refl
 sending_append me s (x ∷ xs) [] = joined_none _ ∙ ap (λ l. sending_permitted (filter (may me s) (x ∷ l))) (sym (append-nil xs))
@@ -170,70 +175,70 @@ pub record Sent : Type 0 where
   pub to_recheck : List ℕ
 
 -- so it is once the signal found some more, and was generated for those with the numbers ps
-abbrev pub given : Process → Option ℕ → List ℕ → Sending → List ℕ → Sent → Sent
+abbrev pub given : Process → Option PendingSignal → List ℕ → Sending → List ℕ → Sent → Sent
 given me None order more ps k = record k { sending = joined k.sending more }
-given me (Some n) order more ps k = record {
+given me (Some m) order more ps k = record {
   sending = joined k.sending more;
-  processes = signalled_all (sent_by me.pid n) ps k.processes;
-  to_recheck = rechecking_all (sent_by me.pid n) ps k.processes order k.to_recheck;
+  processes = signalled_all m ps k.processes;
+  to_recheck = rechecking_all m ps k.processes order k.to_recheck;
 }
 
 -- once it was sent to the processes qs
-abbrev pub sent_to : Process → Option ℕ → List ℕ → List Process → Sent → Sent
-sent_to me s order qs k = given me s order (sending_found me s qs) (pids (permitted me s qs)) k
+abbrev pub sent_to : Process → Option PendingSignal → List ℕ → List Process → Sent → Sent
+sent_to me s order qs k = given me s order (sending_found me (number_of s) qs) (pids (permitted me (number_of s) qs)) k
 
-sent_is : (me : Process) (s : Option ℕ) (order : List ℕ) (qs : List Process) (k : Sent)
-    → record { sending = joined k.sending (sending_found me s qs); processes = sent_among me s qs k.processes; to_recheck = rechecking_signalled me s qs k.processes order k.to_recheck } ≡ sent_to me s order qs k
+sent_is : (me : Process) (s : Option PendingSignal) (order : List ℕ) (qs : List Process) (k : Sent)
+    → record { sending = joined k.sending (sending_found me (number_of s) qs); processes = sent_among me s qs k.processes; to_recheck = rechecking_signalled me s qs k.processes order k.to_recheck } ≡ sent_to me s order qs k
 unfolding sent_among rechecking_signalled
 sent_is me None order qs k = refl
-sent_is me (Some n) order qs k = refl
+sent_is me (Some m) order qs k = refl
 
 -- to send it to one more
-pub sent_on : (me : Process) (s : Option ℕ) (order : List ℕ) (qs : List Process) (k : Sent) (more now : Sending) (rs : List Process) (ns : List ℕ) → more ≡ sending_found me s qs → now ≡ ord_max sendings.cmp-value.it k.sending more → rs ≡ sent_among me s qs k.processes
+pub sent_on : (me : Process) (s : Option PendingSignal) (order : List ℕ) (qs : List Process) (k : Sent) (more now : Sending) (rs : List Process) (ns : List ℕ) → more ≡ sending_found me (number_of s) qs → now ≡ ord_max sendings.cmp-value.it k.sending more → rs ≡ sent_among me s qs k.processes
     → ns ≡ rechecking_signalled me s qs k.processes order k.to_recheck → record { sending = now; processes = rs; to_recheck = ns } ≡ sent_to me s order qs k
 sent_on me s order qs k more now rs ns found most rest asked = rw (most ∙ joined_max k.sending more, found, rest, asked) (sent_is me s order qs k)
 
 -- it stays where the processes qs agree with others on what it asks
-sent_blank : (me : Process) (s : Option ℕ) (order : List ℕ) (k : Sent) (qs : List Process) → sent_to me s order (map blank qs) k ≡ sent_to me s order qs k
+sent_blank : (me : Process) (s : Option PendingSignal) (order : List ℕ) (k : Sent) (qs : List Process) → sent_to me s order (map blank qs) k ≡ sent_to me s order qs k
 unfolding permitted
 sent_blank me s order k qs =
-    ap (λ more. given me s order more (pids (permitted me s (map blank qs))) k) (found_blank qs)
-    ∙ ap (λ ps. given me s order (sending_found me s qs) ps k) (ap pids (filter_map (may me s) blank (λ r. refl) qs) ∙ map-map (λ (r : Process). r.pid) blank (filter (may me s) qs))
+    ap (λ more. given me s order more (pids (permitted me (number_of s) (map blank qs))) k) (found_blank qs)
+    ∙ ap (λ ps. given me s order (sending_found me (number_of s) qs) ps k) (ap pids (filter_map (may me (number_of s)) blank (λ r. refl) qs) ∙ map-map (λ (r : Process). r.pid) blank (filter (may me (number_of s)) qs))
   where
     some_blank : (qs : List Process) → sending_permitted (map blank qs) ≡ sending_permitted qs
     some_blank [] = refl
     some_blank (q ∷ qs) = refl
 
-    found_blank : (qs : List Process) → sending_found me s (map blank qs) ≡ sending_found me s qs
+    found_blank : (qs : List Process) → sending_found me (number_of s) (map blank qs) ≡ sending_found me (number_of s) qs
     found_blank [] = refl
-    found_blank (q ∷ qs) = ap sending_permitted (filter_map (may me s) blank (λ r. refl) (q ∷ qs)) ∙ some_blank (filter (may me s) (q ∷ qs))
+    found_blank (q ∷ qs) = ap sending_permitted (filter_map (may me (number_of s)) blank (λ r. refl) (q ∷ qs)) ∙ some_blank (filter (may me (number_of s)) (q ∷ qs))
 
 -- and the table agrees with what it was
-pub blank_sent : (me : Process) (s : Option ℕ) (order : List ℕ) (qs : List Process) (k l : Sent) → l ≡ sent_to me s order qs k → map blank l.processes ≡ map blank k.processes
+pub blank_sent : (me : Process) (s : Option PendingSignal) (order : List ℕ) (qs : List Process) (k l : Sent) → l ≡ sent_to me s order qs k → map blank l.processes ≡ map blank k.processes
 blank_sent me None order qs k l e = ap (λ (l : Sent). map blank l.processes) e
-blank_sent me (Some n) order qs k l e = ap (λ (l : Sent). map blank l.processes) e ∙ blank_signalled_all (sent_by me.pid n) _ k.processes
+blank_sent me (Some m) order qs k l e = ap (λ (l : Sent). map blank l.processes) e ∙ blank_signalled_all m _ k.processes
 
 -- some get it and then others
-given_append : (me : Process) (s : Option ℕ) (order : List ℕ) (a b : Sending) (ps qs : List ℕ) (k : Sent) → given me s order (joined a b) (ps ++ qs) k ≡ given me s order b qs (given me s order a ps k)
+given_append : (me : Process) (s : Option PendingSignal) (order : List ℕ) (a b : Sending) (ps qs : List ℕ) (k : Sent) → given me s order (joined a b) (ps ++ qs) k ≡ given me s order b qs (given me s order a ps k)
 unfolding signalled_all rechecking_all
 given_append me None order a b ps qs k = ap (λ x. record k { sending = x }) (sym (joined_twice k.sending a b))
-given_append me (Some n) order a b [] qs k = ap (λ x. record (given me (Some n) order b qs k) { sending = x }) (sym (joined_twice k.sending a b))
-given_append me (Some n) order a b (p ∷ ps) qs k =
-    given_append me (Some n) order a b ps qs (record {
+given_append me (Some m) order a b [] qs k = ap (λ x. record (given me (Some m) order b qs k) { sending = x }) (sym (joined_twice k.sending a b))
+given_append me (Some m) order a b (p ∷ ps) qs k =
+    given_append me (Some m) order a b ps qs (record {
       sending = k.sending;
-      processes = generated_for (sent_by me.pid n) (lookup p k.processes) k.processes;
-      to_recheck = rechecking_generated (sent_by me.pid n) (lookup p k.processes) k.processes order k.to_recheck;
+      processes = generated_for m (lookup p k.processes) k.processes;
+      to_recheck = rechecking_generated m (lookup p k.processes) k.processes order k.to_recheck;
     })
 
 -- to send it to some and then to others is to send it to all of them
-sent_append : (me : Process) (s : Option ℕ) (order : List ℕ) (xs ys : List Process) (k : Sent) → sent_to me s order (xs ++ ys) k ≡ sent_to me s order ys (sent_to me s order xs k)
+sent_append : (me : Process) (s : Option PendingSignal) (order : List ℕ) (xs ys : List Process) (k : Sent) → sent_to me s order (xs ++ ys) k ≡ sent_to me s order ys (sent_to me s order xs k)
 sent_append me s order xs ys k =
-    ap (λ more. given me s order more (pids (permitted me s (xs ++ ys))) k) (sym (sending_append me s xs ys))
-    ∙ ap (λ ps. given me s order (joined (sending_found me s xs) (sending_found me s ys)) ps k) (permitted_append me s xs ys)
-    ∙ given_append me s order (sending_found me s xs) (sending_found me s ys) (pids (permitted me s xs)) (pids (permitted me s ys)) k
+    ap (λ more. given me s order more (pids (permitted me (number_of s) (xs ++ ys))) k) (sym (sending_append me (number_of s) xs ys))
+    ∙ ap (λ ps. given me s order (joined (sending_found me (number_of s) xs) (sending_found me (number_of s) ys)) ps k) (permitted_append me (number_of s) xs ys)
+    ∙ given_append me s order (sending_found me (number_of s) xs) (sending_found me (number_of s) ys) (pids (permitted me (number_of s) xs)) (pids (permitted me (number_of s) ys)) k
 
 -- What is left to do once p was asked gives what was left before. Now is l, and next comes after p.
-pub sent_step : (me : Process) (target : Target) (s : Option ℕ) (order : List ℕ) (p : ℕ) (next : Option ℕ) (k l : Sent) → IsRising k.processes → IsRising l.processes → l ≡ sent_to me s order (targets me target (numbered p k.processes)) k → IsNext (is_target me target) p l.processes next
+pub sent_step : (me : Process) (target : Target) (s : Option PendingSignal) (order : List ℕ) (p : ℕ) (next : Option ℕ) (k l : Sent) → IsRising k.processes → IsRising l.processes → l ≡ sent_to me s order (targets me target (numbered p k.processes)) k → IsNext (is_target me target) p l.processes next
     → sent_to me s order (targets me target (left_of next l.processes)) l ≡ sent_to me s order (targets me target (left_of (Some p) k.processes)) k
 unfolding targets
 sent_step me target s order p next k l up up_now sent comes =
@@ -245,14 +250,14 @@ sent_step me target s order p next k l up up_now sent comes =
     ∙ ap (λ qs. sent_to me s order qs k) (sym (walk_splits t p k.processes up))
 
 -- at the end it was sent to all that it was meant for
-pub sent_ends : (me : Process) (target : Target) (s : Option ℕ) (order : List ℕ) (next : Option ℕ) (k l : Sent) (qs : List Process) → next ≡ None → sent_to me s order (targets me target (left_of next k.processes)) k ≡ sent_to me s order qs l
-    → k ≡ record { sending = joined l.sending (sending_found me s qs); processes = sent_among me s qs l.processes; to_recheck = rechecking_signalled me s qs l.processes order l.to_recheck }
+pub sent_ends : (me : Process) (target : Target) (s : Option PendingSignal) (order : List ℕ) (next : Option ℕ) (k l : Sent) (qs : List Process) → next ≡ None → sent_to me s order (targets me target (left_of next k.processes)) k ≡ sent_to me s order qs l
+    → k ≡ record { sending = joined l.sending (sending_found me (number_of s) qs); processes = sent_among me s qs l.processes; to_recheck = rechecking_signalled me s qs l.processes order l.to_recheck }
 unfolding targets permitted signalled_all rechecking_all
 sent_ends me target s order next k l qs none todo = sym (nobody s) ∙ ap (λ o. sent_to me s order (filter (is_target me target) (left_of o k.processes)) k) (sym none) ∙ todo ∙ sym (sent_is me s order qs l)
   where
-    nobody : (s : Option ℕ) → sent_to me s order [] k ≡ k
+    nobody : (s : Option PendingSignal) → sent_to me s order [] k ≡ k
     nobody None = ap (λ x. record k { sending = x }) (joined_none k.sending)
-    nobody (Some n) = ap (λ x. record k { sending = x }) (joined_none k.sending)
+    nobody (Some m) = ap (λ x. record k { sending = x }) (joined_none k.sending)
 
 -- ---- one number
 
@@ -299,19 +304,19 @@ unfolding targets
 targets_numbered me p rs = filter_twice (has_pid p) rs
 
 -- nobody is signalled where nobody is meant
-pub sent_nobody : (me : Process) (s : Option ℕ) (rs : List Process) → sent_among me s [] rs ≡ rs
+pub sent_nobody : (me : Process) (s : Option PendingSignal) (rs : List Process) → sent_among me s [] rs ≡ rs
 unfolding sent_among permitted signalled_all
 sent_nobody me None rs = refl
-sent_nobody me (Some n) rs = refl
+sent_nobody me (Some m) rs = refl
 
 -- nor asked
-pub rechecked_nobody : (me : Process) (s : Option ℕ) (rs : List Process) (order ns : List ℕ) → rechecking_signalled me s [] rs order ns ≡ ns
+pub rechecked_nobody : (me : Process) (s : Option PendingSignal) (rs : List Process) (order ns : List ℕ) → rechecking_signalled me s [] rs order ns ≡ ns
 unfolding rechecking_signalled permitted rechecking_all
 rechecked_nobody me None rs order ns = refl
-rechecked_nobody me (Some n) rs order ns = refl
+rechecked_nobody me (Some m) rs order ns = refl
 
 -- nor who may not be
-pub not_sent : (me : Process) (s : Option ℕ) (q : Process) (rs : List Process) (order ns : List ℕ) → may me s q ≡ false → (sent_among me s (q ∷ []) rs ≡ rs) × (rechecking_signalled me s (q ∷ []) rs order ns ≡ ns)
+pub not_sent : (me : Process) (s : Option PendingSignal) (q : Process) (rs : List Process) (order ns : List ℕ) → may me (number_of s) q ≡ false → (sent_among me s (q ∷ []) rs ≡ rs) × (rechecking_signalled me s (q ∷ []) rs order ns ≡ ns)
 unfolding sent_among permitted signalled_all rechecking_signalled rechecking_all
 not_sent me None q rs order ns e = (refl, refl)
-not_sent me (Some n) q rs order ns e = rw e (refl, refl)
+not_sent me (Some m) q rs order ns e = rw e (refl, refl)

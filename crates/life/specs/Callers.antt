@@ -11,6 +11,7 @@ caller_of r = record {
   creds = r.credentials;
   r1 = argument r 1;
   r2 = argument r 2;
+  r3 = argument r 3;
 }
 
 -- a caller as a process, of which all else is as at boot
@@ -20,5 +21,5 @@ process_like c = record first_process {
   group = c.group;
   session = c.session;
   credentials = c.creds;
-  cpu = record fresh_cpu { registers = pos 0 ∷ c.r1 ∷ c.r2 ∷ [] };
+  cpu = record fresh_cpu { registers = pos 0 ∷ c.r1 ∷ c.r2 ∷ c.r3 ∷ [] };
 }

@@ -9,3 +9,4 @@ pub mod Consoles
 pub mod NotedBursts
 pub mod Changes
 pub mod Ends
+pub mod Queues

@@ -1,5 +1,5 @@
 -- Who is to be rechecked: asked after this event whether it can act.
-use Rattle.std.specs.Prelude.{◌≡◌, ℕ, Bool, true, false, not, ◌||◌, ◌&&◌, ◌==◌, if◌then◌else◌, List, [], ◌∷◌, Option, Some, None}
+use Rattle.std.specs.Prelude.{◌≡◌, ℕ, ◌+◌, ◌*◌, Bool, true, false, not, ◌||◌, ◌&&◌, ◌==◌, if◌then◌else◌, List, [], ◌∷◌, Option, Some, None}
 use Rattle.posix.specs.declared.process.Blocked.{Blocked}
 use Rattle.posix.specs.declared.process.Blocked.TheVariants as blocked
 use Rattle.posix.specs.declared.process.Effect.{Effect}
@@ -7,7 +7,7 @@ use Rattle.posix.specs.declared.process.Effect.TheVariants as effect
 use Rattle.posix.specs.declared.process.PendingSignal.{PendingSignal}
 use Rattle.posix.specs.declared.target.Target.{Target}
 use Rattle.posix.specs.declared.target.Target.TheVariants as whom
-use Rattle.posix.specs.SignalNumbers.{CONT}
+use Rattle.posix.specs.SignalNumbers.{CONT, is_realtime}
 use Rattle.posix.specs.Processes.{Process, argument}
 use Rattle.posix.specs.Targets.{target_in}
 use Rattle.posix.specs.Waits.{is_named, reports, options_in}
@@ -17,7 +17,7 @@ use Rattle.posix.specs.States.{is_in, without}
 use Rattle.posix.specs.Generation.{effect_of, signalled}
 use Rattle.jobs.specs.JobTables.{takes_signal}
 use Rattle.posix.specs.Notices.{generated_for, resumed}
-use Rattle.posix.specs.Sends.{permitted, sent_by}
+use Rattle.posix.specs.Sends.{permitted}
 use Rattle.pidset.specs.Numbers.{with_number}
 use Rattle.life.specs.Machines.{MachineView}
 
@@ -89,9 +89,9 @@ rechecking_all signal [] rs order ns = ns
 rechecking_all signal (p ∷ ps) rs order ns = rechecking_all signal ps (generated_for signal (lookup p rs) rs) order (rechecking_generated signal (lookup p rs) rs order ns)
 
 -- a signal was sent to those who may be signalled; signal 0 only checks
-unfoldable pub rechecking_signalled : Process → Option ℕ → List Process → List Process → List ℕ → List ℕ → List ℕ
+unfoldable pub rechecking_signalled : Process → Option PendingSignal → List Process → List Process → List ℕ → List ℕ → List ℕ
 rechecking_signalled me None qs rs order ns = ns
-rechecking_signalled me (Some n) qs rs order ns = rechecking_all (sent_by me.pid n) (pids (permitted me (Some n) qs)) rs order ns
+rechecking_signalled me (Some signal) qs rs order ns = rechecking_all signal (pids (permitted me (Some signal.sig) qs)) rs order ns
 
 -- a signal of the kernel was generated for the members of a process group
 abbrev pub rechecking_members : ℕ → ℕ → List Process → List ℕ → List ℕ → List ℕ
@@ -113,6 +113,16 @@ slots_of_signal n = if n == CONT then 4 else 1
 abbrev pub slots_of_send : Option ℕ → ℕ
 slots_of_send None = 0
 slots_of_send (Some n) = slots_of_signal n
+
+-- for how many slots those are looked at whom a sender may mean, before a real-time signal is queued for anybody: of one
+-- number, and of so many candidates
+abbrev pub slots_of_survey_of_one : Option ℕ → ℕ
+slots_of_survey_of_one None = 0
+slots_of_survey_of_one (Some n) = if is_realtime n then 2 else 0
+
+abbrev pub slots_of_survey : Option ℕ → ℕ → ℕ
+slots_of_survey None many = 0
+slots_of_survey (Some n) many = if is_realtime n then 1 + 3 * many else 0
 
 -- whether a sender looks at a process for whom it means: it does at the members of a process group, or else at all
 abbrev pub is_candidate : Process → Target → Process → Bool

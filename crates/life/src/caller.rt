@@ -29,6 +29,8 @@ pub struct Caller {
     pub r1: i64,
     /// The second argument of the call.
     pub r2: i64,
+    /// The third argument of the call.
+    pub r3: i64,
 }
 
 impl Caller {
@@ -44,6 +46,7 @@ impl Caller {
             creds: Creds::root(),
             r1: 0,
             r2: 0,
+            r3: 0,
         }
     }
 
@@ -78,5 +81,6 @@ fn caller_in(pid: Pid, fields: &Record) -> Caller
         creds: fields.own.creds,
         r1: fields.own.cpu.register(Register::FIRST_ARGUMENT),
         r2: fields.own.cpu.register(Register::SECOND_ARGUMENT),
+        r3: fields.own.cpu.register(Register::THIRD_ARGUMENT),
     }
 }

@@ -4,6 +4,7 @@
 ghost use Rattle.std.specs.Prelude.{◌≡◌, ◌≢◌, ◌+◌, ◌*◌, ◌<◌, ◌≤◌, ◌==◌, ◌&&◌, ◌||◌, ℕ, IfOk, IfSome, IsSome, MatchOption, Option, Some, None, [], count_by, length, false, true, if◌then◌else◌, option_map, map, replicate, slice_get, slice_set};
 ghost use Rattle.std.specs.List.{AllByRecursion};
 ghost use Rattle.posix.specs.Processes.{Process};
+ghost use Rattle.posix.specs.SignalNumbers.{is_realtime};
 ghost use Rattle.posix.specs.States.{process, has_place as has_place_in, is_in, without};
 ghost use Rattle.posix.specs.Consoles.{Console as ConsoleValue, unused_console, console_of, console_at, with_console, changed_console, keyed, key_signal, acquired, released, with_foreground, with_tostop, line_taken};
 ghost use Rattle.posix.specs.GroupCalls.{is_group_of};
@@ -385,9 +386,10 @@ impl<K: Kin> Machine<K> {
 
     // ---- signals
 
-    /// A signal of the kernel is generated for each member of a process group, zombies included, in rising order;
-    /// number 0 is no group's.
+    /// A standard signal of the kernel is generated for each member of a process group, zombies included, in rising
+    /// order; number 0 is no group's.
     pub fn signal_group(&mut self, group: Pid, sig: Sig)
+        requires { is_realtime sig ≡ false }
         ensures { Changes (1 + (2 + slots_of_signal sig) * length (members_in group self.old.state.processes)) self.old self.new (with_processes self.old.state (signalled_group sig group self.old.state.processes)) (if group == 0 then self.old.to_recheck else rechecking_members sig group self.old.state.processes self.old.state.order self.old.to_recheck) }
     {
         let _ = &self.table;

@@ -22,7 +22,7 @@ use jobs::JobTable;
 use pidalloc::PidTable;
 use pidset::PidSet;
 use posix::{Pid, Sig, Trap};
-use proctable::{Kin, OwnPart, Record, Snapshot};
+use proctable::{Kin, OwnPart, Record, Snapshot, Stock};
 use sched::Order;
 use std::alloc::{AllocError, Global};
 use std::marker::Model;
@@ -47,6 +47,8 @@ pub struct Machine<K: Kin> {
     /// Whose foreground process group may have lost its members: a record went, one changed its process group or
     /// session, or a foreground was set.
     pub(crate) foregrounds_unchecked: Unchecked,
+    /// Pools for the queues of real-time signals.
+    pub(crate) stock: Stock,
     pub(crate) births: u64,
     pub(crate) ticks: u64,
     pub(crate) dropped: u64,
@@ -98,6 +100,7 @@ impl<K: Kin> Machine<K> {
             consoles,
             readers,
             foregrounds_unchecked: Unchecked::Nothing,
+            stock: Stock::new(alloc),
             births: 1,
             ticks: 0,
             dropped: 0,

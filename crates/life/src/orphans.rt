@@ -2,6 +2,7 @@
 
 ghost use Rattle.std.specs.Prelude.{◌≡◌, ◌≢◌, ◌+◌, ◌*◌, ◌≤◌, ◌&&◌, ℕ, IsSome, Some, true, false, if◌then◌else◌, filter, length};
 ghost use Rattle.posix.specs.Processes.{Process, is_zombie};
+ghost use Rattle.posix.specs.SignalNumbers.{is_realtime};
 ghost use Rattle.posix.specs.Numbers.{with_number};
 ghost use Rattle.posix.specs.States.{process, is_in, without};
 ghost use Rattle.posix.specs.Tables.{children_in, members_in};
@@ -16,7 +17,7 @@ ghost use Rattle.life.specs.Machines.{Changes, Costs, Notes, IsThere, IfThere, w
 
 use crate::caller::Caller;
 use crate::machine::Machine;
-use posix::{Pid, Sig, Status, Target};
+use posix::{Carried, PendingSignal, Pid, Sig, Status, Target};
 use proctable::Kin;
 
 impl<K: Kin> Machine<K> {
@@ -76,13 +77,24 @@ impl<K: Kin> Machine<K> {
         }
     }
 
-    /// A signal of the kernel is generated for each member of a process group, zombies included, in rising
+    /// A standard signal of the kernel is generated for each member of a process group, zombies included, in rising
     /// order.
     #[tactic(auto, using(crate::proofs::AtRiskLemmas::members_get), unfolding(posix::specs::Tables::members_in))]
     pub(crate) fn signal_members(&mut self, group: Pid, sig: Sig)
+        requires { is_realtime sig ≡ false }
         ensures { Changes (1 + (2 + slots_of_signal sig) * length (members_in group self.old.state.processes)) self.old self.new (with_processes self.old.state (signalled_members (record { sig = sig; carried = from_kernel }) group self.old.state.processes)) (rechecking_members sig group self.old.state.processes self.old.state.order self.old.to_recheck) }
     {
-        self.send(&Caller::kernel(), Target::Group(group), Some(sig));
+        let signal = PendingSignal {
+            sig,
+            carried: Carried::FROM_KERNEL,
+        };
+        let mut none = self.stock.none();
+        self.send_with(
+            &Caller::kernel(),
+            Target::Group(group),
+            Some(signal),
+            &mut none,
+        );
     }
 
     /// Each member of a process group gets HUP, and then each gets CONT.

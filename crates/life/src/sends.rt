@@ -1,24 +1,28 @@
 //! Signals that processes send.
 
-ghost use Rattle.std.specs.Prelude.{◌≡◌, ℕ, ◌+◌, ◌*◌, ◌≤◌, IsSome, [], ◌∷◌, filter, length};
+ghost use Rattle.std.specs.Prelude.{◌≡◌, ℕ, Bool, true, false, ◌+◌, ◌*◌, ◌<◌, ◌≤◌, Some, None, IfSome, IsSome, [], ◌∷◌, filter, length};
+ghost use Rattle.posix.specs.declared.process.PendingSignal.{PendingSignal as PendingValue};
 ghost use Rattle.posix.specs.Processes.{Process};
 ghost use Rattle.posix.specs.Tables.{IsNext, above, first_pid, has_pid};
+ghost use Rattle.posix.specs.SignalNumbers.{is_realtime};
 ghost use Rattle.posix.specs.States.{process};
 ghost use Rattle.posix.specs.Regular.{IsRegular};
 ghost use Rattle.posix.specs.Credentials.{may};
-ghost use Rattle.posix.specs.Sends.{is_target as is_target_of, targets, permitted, sending_permitted, sending as sending_of, sent_among, sent as sent_to, sent_by};
+ghost use Rattle.posix.specs.Sends.{is_target as is_target_of, targets, permitted, sending_permitted, sending as sending_of, sending_granted, queuers, queuers_among, number_of as number_in, sent_among, sent as sent_to};
 ghost use Rattle.proctable.specs.Records.{snapshot_of};
 ghost use Rattle.life.specs.Callers.{process_like};
-ghost use Rattle.life.specs.Rechecks.{rechecking_signalled, slots_of_send, is_candidate};
-ghost use Rattle.life.specs.Machines.{Costs, Finds, Changes, IsThere, with_processes};
+ghost use Rattle.life.specs.Queues.{HaveRoom, Sends};
+ghost use Rattle.life.specs.Rechecks.{rechecking_signalled, slots_of_send, slots_of_survey, slots_of_survey_of_one, is_candidate};
+ghost use Rattle.life.specs.Machines.{Costs, Finds, Changes, IsThere, IfThere, with_processes};
 
 use crate::caller::Caller;
 use crate::machine::Machine;
-use posix::{Carried, PendingSignal, Pid, Sending, Sig, Target};
-use proctable::{Kin, Snapshot};
+use posix::{PendingSignal, Pid, Sending, Sig, Target};
+use proctable::{Kin, Snapshot, Stock};
+use std::mem::replace;
 
 /// Whether a sender means a process by a target; all are those but the sender and process 1 (XSH kill).
-fn is_target(me: &Caller, target: &Target, it: &Snapshot) -> bool
+pub(crate) fn is_target(me: &Caller, target: &Target, it: &Snapshot) -> bool
     ensures { (q : Process) → it.now ≡ snapshot_of q → result ≡ is_target_of (process_like me.now) target.now q }
 {
     match *target {
@@ -31,58 +35,88 @@ fn is_target(me: &Caller, target: &Target, it: &Snapshot) -> bool
 }
 
 /// Whether a sender may signal a process (XSH kill).
-fn may_signal(me: &Caller, sig: Option<Sig>, it: &Snapshot) -> bool
+pub(crate) fn may_signal(me: &Caller, sig: Option<Sig>, it: &Snapshot) -> bool
     ensures { (q : Process) → it.now ≡ snapshot_of q → result ≡ may (process_like me.now) sig q }
 {
     me.creds
         .may_signal(&it.creds, sig, me.session == it.session)
 }
 
-/// The signal as a process sends it by kill: with value 0 and its number.
-fn sent(sender: Pid, sig: Sig) -> PendingSignal
-    ensures { result ≡ sent_by sender sig }
+/// The number of a signal that is sent, if it is one.
+fn number_of(signal: &Option<PendingSignal>) -> Option<Sig>
+    ensures { result ≡ number_in signal.now }
 {
-    PendingSignal {
-        sig,
-        carried: Carried { value: 0, sender },
+    match signal {
+        Some(signal) => Some(signal.sig),
+        None => None,
+    }
+}
+
+/// A signal that is sent, if it is a real-time signal.
+fn realtime(signal: &Option<PendingSignal>) -> Option<PendingSignal>
+    ensures some { IfSome result (λ m. (signal.now ≡ Some m) × (is_realtime m.sig ≡ true)) }
+    ensures none { result ≡ None → (m : PendingValue) → signal.now ≡ Some m → is_realtime m.sig ≡ false }
+{
+    match signal {
+        Some(signal) if signal.sig.is_realtime() => Some(*signal),
+        _ => None,
     }
 }
 
 impl<K: Kin> Machine<K> {
     /// Sends a signal to a process that is there, with this snapshot, where the sender may; `None` only
-    /// checks.
-    fn send_to(&mut self, me: &Caller, sig: &Option<Sig>, it: &Snapshot) -> Sending
-        requires { IsThere it.now.pid self.old }
-        ensures sending { (q : Process) → it.now ≡ snapshot_of q → result ≡ sending_permitted (permitted (process_like me.now) sig.now (q ∷ [])) }
-        ensures state { (q : Process) → it.now ≡ snapshot_of q → self.new.state ≡ with_processes self.old.state (sent_among (process_like me.now) sig.now (q ∷ []) self.old.state.processes) }
-        ensures to_recheck { (q : Process) → it.now ≡ snapshot_of q → self.new.to_recheck ≡ rechecking_signalled (process_like me.now) sig.now (q ∷ []) self.old.state.processes self.old.state.order self.old.to_recheck }
+    /// checks. Where it would be queued its queue isn't full, and a pool waits for it.
+    fn send_to(
+        &mut self,
+        me: &Caller,
+        signal: &Option<PendingSignal>,
+        it: &Snapshot,
+        stock: &mut Stock,
+    ) -> Sending
+        requires there { IsThere it.now.pid self.old }
+        requires is { IfThere it.now.pid self.old (λ q. it.now ≡ snapshot_of q) }
+        requires room { IfThere it.now.pid self.old (λ q. HaveRoom stock.old.pools (queuers (number_in signal.now) (permitted (process_like me.now) (number_in signal.now) (q ∷ [])))) }
+        ensures sending { IfThere it.now.pid self.old (λ q. result ≡ sending_permitted (permitted (process_like me.now) (number_in signal.now) (q ∷ []))) }
+        ensures state { IfThere it.now.pid self.old (λ q. self.new.state ≡ with_processes self.old.state (sent_among (process_like me.now) signal.now (q ∷ []) self.old.state.processes)) }
+        ensures to_recheck { IfThere it.now.pid self.old (λ q. self.new.to_recheck ≡ rechecking_signalled (process_like me.now) signal.now (q ∷ []) self.old.state.processes self.old.state.order self.old.to_recheck) }
         ensures foregrounds_unchecked { self.new.foregrounds_unchecked ≡ self.old.foregrounds_unchecked }
-        ensures costs { Costs (slots_of_send sig.now) self.old self.new }
+        ensures costs { Costs (slots_of_send (number_in signal.now)) self.old self.new }
+        ensures stock { IfThere it.now.pid self.old (λ q. stock.old.pools ≤ stock.new.pools + length (queuers (number_in signal.now) (permitted (process_like me.now) (number_in signal.now) (q ∷ [])))) }
     {
         let _ = &self.table;
-        if !may_signal(me, *sig, it) {
+        if !may_signal(me, number_of(signal), it) {
             return Sending::NobodyPermitted;
         }
-        if let Some(sig) = *sig {
-            self.signal(it.pid, sent(me.pid, sig));
+        if let Some(signal) = *signal {
+            self.generate(it.pid, signal, stock);
         }
         Sending::Permitted
     }
 
-    /// Sends a signal to the process with a number, if it is there and the sender means it.
-    fn send_to_one(&mut self, me: &Caller, sig: &Option<Sig>, target: &Target, pid: Pid) -> Sending
-        ensures sending { result ≡ sending_of (process_like me.now) target.now sig.now (filter (has_pid pid) self.old.state.processes) }
-        ensures changes { Changes (1 + slots_of_send sig.now) self.old self.new (with_processes self.old.state (sent_among (process_like me.now) sig.now (targets (process_like me.now) target.now (filter (has_pid pid) self.old.state.processes)) self.old.state.processes)) (rechecking_signalled (process_like me.now) sig.now (targets (process_like me.now) target.now (filter (has_pid pid) self.old.state.processes)) self.old.state.processes self.old.state.order self.old.to_recheck) }
+    /// Sends a signal to the process with a number, if it is there and the sender means it. Where it would be queued
+    /// its queue isn't full, and a pool waits for it.
+    fn send_to_one(
+        &mut self,
+        me: &Caller,
+        signal: &Option<PendingSignal>,
+        target: &Target,
+        pid: Pid,
+        stock: &mut Stock,
+    ) -> Sending
+        requires room { HaveRoom stock.old.pools (queuers_among (process_like me.now) target.now (number_in signal.now) (filter (has_pid pid) self.old.state.processes)) }
+        ensures sending { result ≡ sending_of (process_like me.now) target.now (number_in signal.now) (filter (has_pid pid) self.old.state.processes) }
+        ensures changes { Changes (1 + slots_of_send (number_in signal.now)) self.old self.new (with_processes self.old.state (sent_among (process_like me.now) signal.now (targets (process_like me.now) target.now (filter (has_pid pid) self.old.state.processes)) self.old.state.processes)) (rechecking_signalled (process_like me.now) signal.now (targets (process_like me.now) target.now (filter (has_pid pid) self.old.state.processes)) self.old.state.processes self.old.state.order self.old.to_recheck) }
+        ensures stock { stock.old.pools ≤ stock.new.pools + length (queuers_among (process_like me.now) target.now (number_in signal.now) (filter (has_pid pid) self.old.state.processes)) }
     {
         match self.snapshot(pid) {
-            Some(it) if is_target(me, target, &it) => self.send_to(me, sig, &it),
+            Some(it) if is_target(me, target, &it) => self.send_to(me, signal, &it, stock),
             _ => Sending::NobodyFound,
         }
     }
 
     /// Who comes next, after the number `after`, of the candidates of a sender: of those among whom it finds whom it
     /// means.
-    fn next_target(&mut self, me: &Caller, target: &Target, after: Pid) -> Option<Pid>
+    pub(crate) fn next_target(&mut self, me: &Caller, target: &Target, after: Pid) -> Option<Pid>
         ensures finds { Finds 1 self.old self.new (IsNext (is_target_of (process_like me.now) target.now) after self.old.state.processes result) }
         ensures is { result ≡ first_pid (above after (filter (is_candidate (process_like me.now) target.now) self.old.state.processes)) }
     {
@@ -93,34 +127,99 @@ impl<K: Kin> Machine<K> {
         }
     }
 
-    /// Sends a signal to all processes that the sender means, in rising order.
-    fn send_to_all(&mut self, me: &Caller, sig: &Option<Sig>, target: &Target) -> Sending
-        ensures sending { result ≡ sending_of (process_like me.now) target.now sig.now self.old.state.processes }
-        ensures changes { Changes (1 + (2 + slots_of_send sig.now) * length (filter (is_candidate (process_like me.now) target.now) self.old.state.processes)) self.old self.new (with_processes self.old.state (sent_to (process_like me.now) target.now sig.now self.old.state.processes)) (rechecking_signalled (process_like me.now) sig.now (targets (process_like me.now) target.now self.old.state.processes) self.old.state.processes self.old.state.order self.old.to_recheck) }
+    /// Sends a signal to all processes that the sender means, in rising order. No queue is full for which it would be
+    /// queued, and a pool waits for each.
+    fn send_to_all(
+        &mut self,
+        me: &Caller,
+        signal: &Option<PendingSignal>,
+        target: &Target,
+        stock: &mut Stock,
+    ) -> Sending
+        requires room { HaveRoom stock.old.pools (queuers_among (process_like me.now) target.now (number_in signal.now) self.old.state.processes) }
+        ensures sending { result ≡ sending_of (process_like me.now) target.now (number_in signal.now) self.old.state.processes }
+        ensures changes { Changes (1 + (2 + slots_of_send (number_in signal.now)) * length (filter (is_candidate (process_like me.now) target.now) self.old.state.processes)) self.old self.new (with_processes self.old.state (sent_to (process_like me.now) target.now signal.now self.old.state.processes)) (rechecking_signalled (process_like me.now) signal.now (targets (process_like me.now) target.now self.old.state.processes) self.old.state.processes self.old.state.order self.old.to_recheck) }
     {
         let mut sending = Sending::NobodyFound;
         let mut next = self.next_target(me, target, Pid::NONE);
         while let Some(pid) = next {
-            sending = sending.max(self.send_to_one(me, sig, target, pid));
+            sending = sending.max(self.send_to_one(me, signal, target, pid, stock));
             next = self.next_target(me, target, pid);
         }
         sending
     }
 
     /// Sends a signal of a caller to those that its target means and it may signal, and tells whom it found;
-    /// `None` only checks. Where nobody is found or may be signalled nothing changes (XSH kill).
-    pub fn send(&mut self, me: &Caller, target: Target, sig: Option<Sig>) -> Sending
-        ensures sending { result ≡ sending_of (process_like me.now) target sig self.old.state.processes }
-        ensures changes { Changes (1 + (2 + slots_of_send sig) * length (filter (is_candidate (process_like me.now) target) self.old.state.processes)) self.old self.new (with_processes self.old.state (sent_to (process_like me.now) target sig self.old.state.processes)) (rechecking_signalled (process_like me.now) sig (targets (process_like me.now) target self.old.state.processes) self.old.state.processes self.old.state.order self.old.to_recheck) }
-        ensures visits { (p : ℕ) → target ≡ Target.Process p → self.new.visits ≤ self.old.visits + 1 + slots_of_send sig }
+    /// `None` only checks. No queue is full for which it would be queued, and a pool waits for each. Where nobody is
+    /// found or may be signalled nothing changes (XSH kill).
+    pub(crate) fn send_with(
+        &mut self,
+        me: &Caller,
+        target: Target,
+        signal: Option<PendingSignal>,
+        stock: &mut Stock,
+    ) -> Sending
+        requires room { HaveRoom stock.old.pools (queuers_among (process_like me.now) target (number_in signal) self.old.state.processes) }
+        ensures sending { result ≡ sending_of (process_like me.now) target (number_in signal) self.old.state.processes }
+        ensures changes { Changes (1 + (2 + slots_of_send (number_in signal)) * length (filter (is_candidate (process_like me.now) target) self.old.state.processes)) self.old self.new (with_processes self.old.state (sent_to (process_like me.now) target signal self.old.state.processes)) (rechecking_signalled (process_like me.now) signal (targets (process_like me.now) target self.old.state.processes) self.old.state.processes self.old.state.order self.old.to_recheck) }
+        ensures visits { (p : ℕ) → target ≡ Target.Process p → self.new.visits ≤ self.old.visits + 1 + slots_of_send (number_in signal) }
     {
         let _ = &self.table;
         match target {
-            Target::Process(pid) => self.send_to_one(me, &sig, &target, pid),
+            Target::Process(pid) => self.send_to_one(me, &signal, &target, pid, stock),
             Target::OwnGroup | Target::Group(_) | Target::All => {
-                self.send_to_all(me, &sig, &target)
+                self.send_to_all(me, &signal, &target, stock)
             }
             Target::Nobody => Sending::NobodyFound,
+        }
+    }
+
+    /// Makes so many pools wait, if any. Whether they do: else the host has no memory for them.
+    fn reserve_pools(&mut self, stock: &mut Stock, count: usize) -> bool
+        ensures enough { result ≡ true → count ≤ stock.new.pools }
+        ensures lack { result ≡ false → 0 < count }
+        ensures same { self.new ≡ self.old }
+    {
+        count == 0 || self.table.reserve_pools(stock, count).is_ok()
+    }
+
+    /// Sends a real-time signal as [`Machine::send`] says.
+    fn send_realtime(&mut self, me: &Caller, target: Target, signal: PendingSignal) -> Sending
+        requires { is_realtime signal.sig ≡ true }
+        ensures sending { (granted : Bool) × (result ≡ sending_granted granted (process_like me.now) target (Some signal.sig) self.old.state.processes) }
+        ensures changes { Sends result (process_like me.now) target (Some signal) (1 + (2 + slots_of_send (Some signal.sig)) * length (filter (is_candidate (process_like me.now) target) self.old.state.processes) + (1 + 3 * length (filter (is_candidate (process_like me.now) target) self.old.state.processes))) self.old self.new }
+        ensures visits { (p : ℕ) → target ≡ Target.Process p → self.new.visits ≤ self.old.visits + 3 + slots_of_send (Some signal.sig) }
+    {
+        let survey = self.survey(me, signal.sig, &target);
+        if survey.is_full {
+            return Sending::QueueFull;
+        }
+        let none = self.stock.none();
+        let mut stock = replace(&mut self.stock, none);
+        let sending = if self.reserve_pools(&mut stock, survey.queuers) {
+            self.send_with(me, target, Some(signal), &mut stock)
+        } else {
+            Sending::NoMemory
+        };
+        self.stock = stock;
+        sending
+    }
+
+    /// Sends a signal of a caller to those that its target means and it may signal, and tells what became of it;
+    /// `None` only checks. A real-time signal is queued for all of them that keep it, or for none: where the queue of
+    /// one is full, or the host has no memory for the queues, nothing changes; nor does it where nobody is found or
+    /// may be signalled (XSH kill, XSH sigqueue).
+    pub fn send(&mut self, me: &Caller, target: Target, signal: Option<PendingSignal>) -> Sending
+        ensures sending { (granted : Bool) × (result ≡ sending_granted granted (process_like me.now) target (number_in signal) self.old.state.processes) }
+        ensures changes { Sends result (process_like me.now) target signal (1 + (2 + slots_of_send (number_in signal)) * length (filter (is_candidate (process_like me.now) target) self.old.state.processes) + slots_of_survey (number_in signal) (length (filter (is_candidate (process_like me.now) target) self.old.state.processes))) self.old self.new }
+        ensures visits { (p : ℕ) → target ≡ Target.Process p → self.new.visits ≤ self.old.visits + 1 + slots_of_send (number_in signal) + slots_of_survey_of_one (number_in signal) }
+    {
+        match realtime(&signal) {
+            Some(signal) => self.send_realtime(me, target, signal),
+            None => {
+                let mut none = self.stock.none();
+                self.send_with(me, target, signal, &mut none)
+            }
         }
     }
 }

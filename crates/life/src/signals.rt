@@ -1,25 +1,59 @@
 //! Signals that are generated for a process.
 
-ghost use Rattle.std.specs.Prelude.{◌≡◌, ◌+◌, ◌≤◌, IsSome};
+ghost use Rattle.std.specs.Prelude.{◌≡◌, ◌+◌, ◌≤◌, ◌∷◌, [], IsSome, Some, true, false, length};
+ghost use Rattle.posix.specs.Processes.{Process};
+ghost use Rattle.posix.specs.SignalNumbers.{is_realtime};
 ghost use Rattle.posix.specs.States.{process};
 ghost use Rattle.posix.specs.Notices.{generated_for};
+ghost use Rattle.posix.specs.Sends.{queuers};
+ghost use Rattle.life.specs.Queues.{HaveRoom};
 ghost use Rattle.life.specs.Rechecks.{rechecking_generated, slots_of_signal};
-ghost use Rattle.life.specs.Machines.{Changes, IsThere, with_processes};
+ghost use Rattle.life.specs.Machines.{Changes, IsThere, IfThere, with_processes};
 
 use crate::machine::Machine;
 use posix::{Effect, PendingSignal, Pid};
-use proctable::Kin;
+use proctable::{Kin, Stock};
 
 impl<K: Kin> Machine<K> {
-    /// A signal is generated for a process that is there. CONT continues one that is stopped, and its parent
+    /// A standard signal is generated for a process that is there. CONT continues one that is stopped, and its parent
     /// gets notice (XSH 2.4.1, 2.4.3).
-    pub fn signal(&mut self, pid: Pid, signal: PendingSignal)
-        requires { IsThere pid self.old }
+    fn signal(&mut self, pid: Pid, signal: PendingSignal)
+        requires there { IsThere pid self.old }
+        requires standard { is_realtime signal.sig ≡ false }
         ensures { Changes (slots_of_signal signal.sig) self.old self.new (with_processes self.old.state (generated_for signal (process self.old.state pid) self.old.state.processes)) (rechecking_generated signal (process self.old.state pid) self.old.state.processes self.old.state.order self.old.to_recheck) }
     {
         match self.change(pid, |fields| fields.signal(pid, signal)) {
             Effect::Nothing => {}
             Effect::Continued => self.continue_process(pid),
+        }
+    }
+
+    /// A real-time signal is generated for a process that is there. Where the process keeps it, it is queued: its queue
+    /// isn't full, and a pool waits for it, which is taken if the process has none (XSH 2.4.2).
+    fn queue(&mut self, pid: Pid, signal: PendingSignal, stock: &mut Stock)
+        requires there { IsThere pid self.old }
+        requires realtime { is_realtime signal.sig ≡ true }
+        requires room { IfThere pid self.old (λ q. HaveRoom stock.old.pools (queuers (Some signal.sig) (q ∷ []))) }
+        ensures changes { Changes (slots_of_signal signal.sig) self.old self.new (with_processes self.old.state (generated_for signal (process self.old.state pid) self.old.state.processes)) (rechecking_generated signal (process self.old.state pid) self.old.state.processes self.old.state.order self.old.to_recheck) }
+        ensures stock { IfThere pid self.old (λ q. stock.old.pools ≤ stock.new.pools + length (queuers (Some signal.sig) (q ∷ []))) }
+    {
+        let pool = stock.take();
+        let left = self.change(pid, |fields| fields.queue(pid, signal, pool));
+        stock.put(left);
+    }
+
+    /// A signal is generated for a process that is there. Where it would be queued the queue isn't full, and a pool waits
+    /// for it (XSH 2.4.1).
+    pub(crate) fn generate(&mut self, pid: Pid, signal: PendingSignal, stock: &mut Stock)
+        requires there { IsThere pid self.old }
+        requires room { IfThere pid self.old (λ q. HaveRoom stock.old.pools (queuers (Some signal.sig) (q ∷ []))) }
+        ensures changes { Changes (slots_of_signal signal.sig) self.old self.new (with_processes self.old.state (generated_for signal (process self.old.state pid) self.old.state.processes)) (rechecking_generated signal (process self.old.state pid) self.old.state.processes self.old.state.order self.old.to_recheck) }
+        ensures stock { IfThere pid self.old (λ q. stock.old.pools ≤ stock.new.pools + length (queuers (Some signal.sig) (q ∷ []))) }
+    {
+        if signal.sig.is_realtime() {
+            self.queue(pid, signal, stock);
+        } else {
+            self.signal(pid, signal);
         }
     }
 }

@@ -2,7 +2,7 @@
 use Rattle.std.proofs.Common.{◌≡◌, ◌≤◌, ℕ, ◌+◌, Bool, true, false, cond, not, ◌&&◌, refl, ap, sym, ◌∙◌, arith, subst, List, [], ◌∷◌, ◌++◌, take, Option, Some, None, ◌==◌, ◌||◌, ℤ, pos, negsuc, slice_get, inl, inr, ◌⊎◌, Result, Ok, Err}
 use Rattle.std.proofs.lemmas.Bool.{eqb-true}
 use Rattle.posix.specs.declared.call.Call.{Call}
-use Rattle.posix.specs.declared.call.Call.TheVariants.{Exit, Fork, Waitpid, Pause, SchedYield, Getpid, Getppid, Getuid, Geteuid, Getgid, Getegid, Setuid, Seteuid, Setgid, Setegid, Kill, Sigaction, Sigprocmask, Sigpending, Sigsuspend, Sigreturn, Alarm, Exec, Getpgid, Getsid, Setpgid, Setsid, Setctty, Tcgetpgrp, Tcsetpgrp, Settostop, Read, Write}
+use Rattle.posix.specs.declared.call.Call.TheVariants.{Exit, Fork, Waitpid, Pause, SchedYield, Getpid, Getppid, Getuid, Geteuid, Getgid, Getegid, Setuid, Seteuid, Setgid, Setegid, Kill, Sigqueue, Sigaction, Sigprocmask, Sigpending, Sigsuspend, Sigreturn, Alarm, Exec, Getpgid, Getsid, Setpgid, Setsid, Setctty, Tcgetpgrp, Tcsetpgrp, Settostop, Read, Write}
 use Rattle.posix.specs.declared.instr.Trap.{Trap}
 use Rattle.posix.specs.declared.instr.Trap.TheVariants as trap
 use Rattle.posix.specs.declared.errno.Errno.{Errno}
@@ -35,10 +35,10 @@ use Rattle.posix.specs.Choice.{chosen, carried_by, from_kernel}
 use Rattle.posix.specs.Handlers.{handles, is_full, newest_frame}
 use Rattle.posix.specs.Births.{fork_as}
 use Rattle.posix.specs.Ends.{end_with_heir, hang_up, end_process}
-use Rattle.posix.specs.Targets.{target_in}
+use Rattle.posix.specs.Targets.{target_in, process_in}
 use Rattle.posix.specs.Waits.{wait, wait_with, report, options_in, are_known, has_option, WNOHANG}
 use Rattle.posix.specs.Delivery.{handle, stop_process, act_by_default, act_on, take_out, deliver, fault_with, fault, return_to, return_from_handler}
-use Rattle.posix.specs.Sends.{sending, send_with, signal_or_none, kill_with, kill}
+use Rattle.posix.specs.Sends.{sending_granted, message, send_with, signal_or_none, send, kill, sigqueue}
 use Rattle.posix.specs.Alarms.{alarm}
 use Rattle.posix.specs.Programs.{exec_as, exec_of, exec}
 use Rattle.posix.specs.GroupCalls.{named, tells, getpgid, getsid, move_of, setpgid_with, setpgid_to, setpgid, is_group_of, is_group_of_others, setsid}
@@ -189,21 +189,26 @@ acted_wait s me =
 acted_answers : (s : State) (p : ℕ) (call : Call) (reply : Reply) → ActedIf p s (finish_call s p call reply)
 acted_answers s p call reply = stays p s _ refl refl refl
 
--- a signal that is sent, by whom it finds
-acted_send : (s : State) (me : Process) (target : Target) (sig : Option ℕ) (what : Sending) → ActedIf me.pid s (send_with s me target sig what)
-acted_send s me target sig sends.NobodyFound = stays me.pid s _ refl refl refl
-acted_send s me target sig sends.NobodyPermitted = stays me.pid s _ refl refl refl
-acted_send s me target sig sends.Permitted = stays me.pid s _ refl refl refl
-
--- a signal that is sent, by what it is
-acted_kill_with : (s : State) (me : Process) (target : Target) (sig : Result (Option ℕ) Errno) → ActedIf me.pid s (kill_with s me target sig)
-acted_kill_with s me target (Ok sig) = acted_send s me target sig (sending me target sig s.processes)
-acted_kill_with s me target (Err why) = stays me.pid s _ refl refl refl
+-- a signal that is sent, by what comes of it
+acted_sending : (s : State) (me : Process) (call : Call) (target : Target) (signal : Option PendingSignal) (what : Sending) → ActedIf me.pid s (send_with s me call target signal what)
+acted_sending s me call target signal sends.NobodyFound = stays me.pid s _ refl refl refl
+acted_sending s me call target signal sends.NobodyPermitted = stays me.pid s _ refl refl refl
+acted_sending s me call target signal sends.QueueFull = stays me.pid s _ refl refl refl
+acted_sending s me call target signal sends.NoMemory = stays me.pid s _ refl refl refl
+acted_sending s me call target signal sends.Permitted = stays me.pid s _ refl refl refl
 
 -- a signal that is sent
-acted_kill : (s : State) (me : Process) → ActedIf me.pid s (kill s me)
+acted_send : (granted : Bool) (s : State) (me : Process) (call : Call) (target : Target) (value : ℤ) (sig : Result (Option ℕ) Errno) → ActedIf me.pid s (send granted s me call target value sig)
+acted_send granted s me call target value (Ok n) = acted_sending s me call target (message me.pid value n) (sending_granted granted me target n s.processes)
+acted_send granted s me call target value (Err why) = stays me.pid s _ refl refl refl
+
+acted_kill : (granted : Bool) (s : State) (me : Process) → ActedIf me.pid s (kill granted s me)
 unfolding kill
-acted_kill s me = acted_kill_with s me (target_in (argument me 1)) (signal_or_none (argument me 2))
+acted_kill granted s me = acted_send granted s me Kill (target_in (argument me 1)) (pos 0) (signal_or_none (argument me 2))
+
+acted_sigqueue : (granted : Bool) (s : State) (me : Process) → ActedIf me.pid s (sigqueue granted s me)
+unfolding sigqueue
+acted_sigqueue granted s me = acted_send granted s me Sigqueue (process_in (argument me 1)) (argument me 3) (signal_or_none (argument me 2))
 
 -- another program is run, if there is one
 acted_exec_as : (s : State) (me : Process) (n : ℕ) (program : Option Program) → ActedIf me.pid s (exec_as s me n program)
@@ -355,7 +360,8 @@ acted_attempt granted s me Setuid = acted_answers s me.pid Setuid (set_credentia
 acted_attempt granted s me Seteuid = acted_answers s me.pid Seteuid (set_credentials (seteuid me.credentials (argument me 1)))
 acted_attempt granted s me Setgid = acted_answers s me.pid Setgid (set_credentials (setgid me.credentials (argument me 1)))
 acted_attempt granted s me Setegid = acted_answers s me.pid Setegid (set_credentials (setegid me.credentials (argument me 1)))
-acted_attempt granted s me Kill = acted_kill s me
+acted_attempt granted s me Kill = acted_kill granted s me
+acted_attempt granted s me Sigqueue = acted_sigqueue granted s me
 acted_attempt granted s me Sigaction = acted_answers s me.pid Sigaction (sigaction me)
 acted_attempt granted s me Sigprocmask = acted_answers s me.pid Sigprocmask (sigprocmask me)
 acted_attempt granted s me Sigpending = acted_answers s me.pid Sigpending (sigpending me)

@@ -1,7 +1,7 @@
 -- Attempts of system calls.
 use Rattle.std.specs.Prelude.{Bool, pos}
 use Rattle.posix.specs.declared.call.Call.{Call}
-use Rattle.posix.specs.declared.call.Call.TheVariants.{Exit, Fork, Waitpid, Pause, SchedYield, Getpid, Getppid, Getuid, Geteuid, Getgid, Getegid, Setuid, Seteuid, Setgid, Setegid, Kill, Sigaction, Sigprocmask, Sigpending, Sigsuspend, Sigreturn, Alarm, Exec, Getpgid, Getsid, Setpgid, Setsid, Setctty, Tcgetpgrp, Tcsetpgrp, Settostop, Read, Write}
+use Rattle.posix.specs.declared.call.Call.TheVariants.{Exit, Fork, Waitpid, Pause, SchedYield, Getpid, Getppid, Getuid, Geteuid, Getgid, Getegid, Setuid, Seteuid, Setgid, Setegid, Kill, Sigqueue, Sigaction, Sigprocmask, Sigpending, Sigsuspend, Sigreturn, Alarm, Exec, Getpgid, Getsid, Setpgid, Setsid, Setctty, Tcgetpgrp, Tcsetpgrp, Settostop, Read, Write}
 use Rattle.posix.specs.declared.process.Blocked.{Blocked}
 use Rattle.posix.specs.declared.process.Blocked.TheVariants as blocked
 use Rattle.posix.specs.Statuses.{exited}
@@ -13,15 +13,16 @@ use Rattle.posix.specs.Ends.{end_process}
 use Rattle.posix.specs.Waits.{wait}
 use Rattle.posix.specs.Credentials.{setuid, seteuid, setgid, setegid}
 use Rattle.posix.specs.Delivery.{return_from_handler}
-use Rattle.posix.specs.Sends.{kill}
+use Rattle.posix.specs.Sends.{kill, sigqueue}
 use Rattle.posix.specs.Alarms.{alarm}
 use Rattle.posix.specs.Programs.{exec}
 use Rattle.posix.specs.GroupCalls.{getpgid, getsid, setpgid, setsid}
 use Rattle.posix.specs.Terminals.{setctty, tcgetpgrp, tcsetpgrp, settostop, read, write}
 use Rattle.posix.specs.SignalCalls.{set_credentials, sigaction, sigprocmask, sigpending}
 
--- What each call does, XSH under its name. Whether the host grants memory matters where a call needs
--- some: a fork with a number for the child.
+-- What each call does, XSH under its name. Whether the host grants memory matters where a call needs some: a fork with a
+-- number for the child, and a kill or sigqueue of a real-time signal that would be queued for somebody, and for nobody
+-- who is full.
 unfoldable pub attempt : Bool → State → Process → Call → Attempted
 attempt granted s me Exit = Done (end_process s me (exited (argument me 1)))
 attempt granted s me Fork = fork_as granted s me (next_pid s)
@@ -38,7 +39,8 @@ attempt granted s me Setuid = finish_call s me.pid Setuid (set_credentials (setu
 attempt granted s me Seteuid = finish_call s me.pid Seteuid (set_credentials (seteuid me.credentials (argument me 1)))
 attempt granted s me Setgid = finish_call s me.pid Setgid (set_credentials (setgid me.credentials (argument me 1)))
 attempt granted s me Setegid = finish_call s me.pid Setegid (set_credentials (setegid me.credentials (argument me 1)))
-attempt granted s me Kill = kill s me
+attempt granted s me Kill = kill granted s me
+attempt granted s me Sigqueue = sigqueue granted s me
 attempt granted s me Sigaction = finish_call s me.pid Sigaction (sigaction me)
 attempt granted s me Sigprocmask = finish_call s me.pid Sigprocmask (sigprocmask me)
 attempt granted s me Sigpending = finish_call s me.pid Sigpending (sigpending me)

@@ -1,5 +1,6 @@
 -- Generation of signals: what a signal that is sent to a process does to its signals, XSH 2.4.1 and 2.4.3.
-use Rattle.std.specs.Prelude.{ℕ, ◌-◌, Bool, true, false, ◌&&◌, ◌||◌, not, if◌then◌else◌, ◌==◌, Option, Some, None, is_some, slice_index_or, slice_set, bit_and}
+use Rattle.std.specs.Prelude.{ℕ, ◌-◌, Bool, true, false, ◌&&◌, ◌||◌, not, if◌then◌else◌, ◌==◌, List, [], ◌∷◌, ◌++◌, Option, Some, None, is_some, slice_index_or, slice_set, bit_and}
+use Rattle.std.specs.List.{list_any}
 use Rattle.posix.specs.declared.sig.DefaultAction.{DefaultAction}
 use Rattle.posix.specs.declared.sig.DefaultAction.TheVariants as default
 use Rattle.posix.specs.declared.process.Action.{Action}
@@ -10,7 +11,7 @@ use Rattle.posix.specs.declared.process.PendingSignal.{PendingSignal}
 use Rattle.posix.specs.declared.process.Handler.{Handler}
 use Rattle.posix.specs.declared.process.Handler.TheVariants as handler
 use Rattle.posix.specs.declared.process.Life.{Life}
-use Rattle.posix.specs.SignalNumbers.{CONT, STOP, TSTP, TTIN, TTOU, is_stop_signal, default_action}
+use Rattle.posix.specs.SignalNumbers.{CONT, STOP, TSTP, TTIN, TTOU, is_realtime, is_stop_signal, default_action}
 use Rattle.posix.specs.SignalSets.{has}
 use Rattle.posix.specs.Processes.{Process, Signals, initial_action, is_zombie, is_stopped}
 
@@ -66,17 +67,28 @@ has_flag a flag = bit_and a.flags.0 flag == flag
 
 -- ---- pending signals
 
-abbrev pub is_pending : Signals → ℕ → Bool
-is_pending g s = is_some (slice_index_or g.standard (s - 1) None)
+abbrev pub has_sig : ℕ → PendingSignal → Bool
+has_sig s m = m.sig == s
 
--- the pending signal s is this, or none is
+-- a standard signal is pending or it isn't; a real-time signal is where at least one of its number is queued
+abbrev pub is_pending : Signals → ℕ → Bool
+is_pending g s = if is_realtime s then list_any (has_sig s) g.queue else is_some (slice_index_or g.standard (s - 1) None)
+
+-- the pending standard signal s is this, or none is
 abbrev pub with_pending : ℕ → Option Carried → Signals → Signals
 with_pending s c g = record g { standard = slice_set g.standard (s - 1) c }
 
--- A standard signal that is pending already keeps the value and the sender that it came with first
--- (own). Real-time signals aren't kept yet: nothing sends one.
+-- these are queued
+abbrev pub with_queue : List PendingSignal → Signals → Signals
+with_queue q g = record g { queue = q }
+
+-- A real-time signal is queued each time, behind those that came before, XSH 2.4.2. A standard signal that is pending
+-- already keeps the value and the sender that it came with first (own).
 abbrev pub make_pending : PendingSignal → Signals → Signals
-make_pending signal g = if is_pending g signal.sig then g else with_pending signal.sig (Some signal.carried) g
+make_pending signal g =
+    if is_realtime signal.sig then with_queue (g.queue ++ signal ∷ []) g
+    else if is_pending g signal.sig then g
+    else with_pending signal.sig (Some signal.carried) g
 
 -- Nothing is generated for a zombie, nor for process 1 where it has no handler for the signal, kill(2);
 -- Linux keeps one that process 1 blocks.

@@ -16,7 +16,7 @@ use Rattle.posix.specs.Processes.{Cpu, Process, Signals}
 use Rattle.posix.specs.Execute.{set_register, move_on}
 use Rattle.posix.specs.Outcomes.{refusal}
 use Rattle.posix.specs.Generation.{has_flag, SA_SIGINFO, SA_RESTART, SA_NODEFER, SA_RESETHAND, action, does_nothing}
-use Rattle.posix.specs.Choice.{taken}
+use Rattle.posix.specs.Choice.{discarded}
 
 -- ---- the call that a process is blocked in as a handler is entered
 
@@ -110,11 +110,12 @@ returned frame r = record r { signals = left frame r.signals; cpu = restore fram
 
 -- ---- actions and masks, XSH sigaction and sigprocmask
 
--- An action that does nothing with the signal discards it where it is pending, blocked or not.
+-- An action that does nothing with the signal discards it where it is pending, blocked or not, all that are queued of
+-- its number.
 abbrev pub give_action : ℕ → Action → Signals → Signals
 give_action s a g =
     let h = record g { actions = slice_set g.actions (s - 1) (record a { mask = maskable a.mask }) } in
-    if does_nothing a.handler s then taken s h else h
+    if does_nothing a.handler s then discarded s h else h
 
 -- KILL and STOP can't be caught or ignored
 unfoldable pub set_action : ℕ → Action → Signals → Result Signals Errno

@@ -1,20 +1,23 @@
--- Signals that processes send, XSH kill and kill(2).
-use Rattle.std.specs.Prelude.{ℕ, zero, suc, Bool, false, not, ◌||◌, ◌==◌, if◌then◌else◌, List, [], ◌∷◌, filter, Option, Some, None, ℤ, pos, negsuc, Result, Ok, Err}
-use Rattle.posix.specs.declared.call.Call.TheVariants.{Kill}
+-- Signals that processes send, XSH kill, XSH sigqueue and kill(2).
+use Rattle.std.specs.Prelude.{ℕ, zero, suc, Bool, false, not, ◌&&◌, ◌||◌, ◌==◌, if◌then◌else◌, nat_le, List, [], ◌∷◌, filter, length, Option, Some, None, ℤ, pos, negsuc, Result, Ok, Err}
+use Rattle.std.specs.List.{list_any}
+use Rattle.posix.specs.declared.call.Call.{Call}
+use Rattle.posix.specs.declared.call.Call.TheVariants.{Kill, Sigqueue}
 use Rattle.posix.specs.declared.errno.Errno.{Errno}
-use Rattle.posix.specs.declared.errno.Errno.TheVariants.{EPERM, ESRCH, EINVAL}
+use Rattle.posix.specs.declared.errno.Errno.TheVariants.{EPERM, ESRCH, EAGAIN, EINVAL}
 use Rattle.posix.specs.declared.process.PendingSignal.{PendingSignal}
 use Rattle.posix.specs.declared.process.Sending.{Sending}
 use Rattle.posix.specs.declared.process.Sending.TheVariants as found
 use Rattle.posix.specs.declared.target.Target.{Target}
 use Rattle.posix.specs.declared.target.Target.TheVariants as whom
-use Rattle.posix.specs.SignalNumbers.{is_standard}
+use Rattle.posix.specs.SignalNumbers.{is_realtime, is_signal}
 use Rattle.posix.specs.Processes.{Process, argument}
 use Rattle.posix.specs.Tables.{pids}
-use Rattle.posix.specs.Targets.{target_in}
+use Rattle.posix.specs.Targets.{target_in, process_in}
 use Rattle.posix.specs.States.{State}
-use Rattle.posix.specs.Outcomes.{Attempted, finish_with, refused}
+use Rattle.posix.specs.Outcomes.{Attempted, finish_with, refused, no_memory}
 use Rattle.posix.specs.Credentials.{may}
+use Rattle.posix.specs.Generation.{gets_no_signals, keeps}
 use Rattle.posix.specs.Notices.{signalled_all}
 
 -- All are the processes but the sender and process 1, kill(2).
@@ -45,40 +48,94 @@ sending_found me s (r ∷ rs) = sending_permitted (permitted me s (r ∷ rs))
 unfoldable pub sending : Process → Target → Option ℕ → List Process → Sending
 sending me target s rs = sending_found me s (targets me target rs)
 
--- a signal of a process comes with value 0 and its number
-abbrev pub sent_by : ℕ → ℕ → PendingSignal
-sent_by p n = record { sig = n; carried = record { value = pos 0; sender = p } }
+-- ---- queues
+
+-- at most so many real-time signals are queued for one process (own)
+abbrev pub most_queued : ℕ
+most_queued = 32
+
+abbrev pub has_full_queue : Process → Bool
+has_full_queue r = nat_le most_queued (length r.signals.queue)
+
+-- a real-time signal would be queued for it
+abbrev pub is_queuer : ℕ → Process → Bool
+is_queuer n r = is_realtime n && (not (gets_no_signals r.pid r.life r.signals n) && keeps r.signals n)
+
+-- those of these for whom the signal would be queued: no standard signal is
+unfoldable pub queuers : Option ℕ → List Process → List Process
+queuers None rs = []
+queuers (Some n) rs = filter (is_queuer n) rs
+
+-- Where one of them is full the signal is queued for nobody; nor is it without the memory that their queues may need
+-- (own). In Linux those get it that come before.
+abbrev pub queued_for : Bool → List Process → Sending → Sending
+queued_for granted [] other = other
+queued_for granted (q ∷ qs) other =
+    if list_any has_full_queue (q ∷ qs) then found.QueueFull
+    else if granted then other
+    else found.NoMemory
+
+-- those for whom a signal that is sent would be queued
+unfoldable pub queuers_among : Process → Target → Option ℕ → List Process → List Process
+queuers_among me target s rs = queuers s (permitted me s (targets me target rs))
+
+-- what a send comes to, where memory is granted or not
+unfoldable pub sending_granted : Bool → Process → Target → Option ℕ → List Process → Sending
+sending_granted granted me target s rs = queued_for granted (queuers_among me target s rs) (sending me target s rs)
+
+-- ---- what is sent
+
+-- a signal of process p comes with a value and its number
+abbrev pub sent_by : ℕ → ℤ → ℕ → PendingSignal
+sent_by p value n = record { sig = n; carried = record { value = value; sender = p } }
+
+abbrev pub message : ℕ → ℤ → Option ℕ → Option PendingSignal
+message p value None = None
+message p value (Some n) = Some (sent_by p value n)
+
+-- its number; none for signal 0
+abbrev pub number_of : Option PendingSignal → Option ℕ
+number_of None = None
+number_of (Some signal) = Some signal.sig
 
 -- The signal is generated for those that may be signalled; signal 0 only checks.
-unfoldable pub sent_among : Process → Option ℕ → List Process → List Process → List Process
+unfoldable pub sent_among : Process → Option PendingSignal → List Process → List Process → List Process
 sent_among me None qs rs = rs
-sent_among me (Some n) qs rs = signalled_all (sent_by me.pid n) (pids (permitted me (Some n) qs)) rs
+sent_among me (Some signal) qs rs = signalled_all signal (pids (permitted me (Some signal.sig) qs)) rs
 
 -- for those that are meant
-unfoldable pub sent : Process → Target → Option ℕ → List Process → List Process
-sent me target s rs = sent_among me s (targets me target rs) rs
+unfoldable pub sent : Process → Target → Option PendingSignal → List Process → List Process
+sent me target signal rs = sent_among me signal (targets me target rs) rs
 
-abbrev pub send_with : State → Process → Target → Option ℕ → Sending → Attempted
-send_with s me target sig found.NobodyFound = refused s me.pid Kill ESRCH
-send_with s me target sig found.NobodyPermitted = refused s me.pid Kill EPERM
-send_with s me target sig found.Permitted = finish_with (record s { processes = sent me target sig s.processes }) me.pid Kill (pos 0)
+-- ---- kill and sigqueue
 
--- the signal that a register names, of the signals that kill and sigaction know: the standard ones, as yet
+abbrev pub send_with : State → Process → Call → Target → Option PendingSignal → Sending → Attempted
+send_with s me call target signal found.NobodyFound = refused s me.pid call ESRCH
+send_with s me call target signal found.NobodyPermitted = refused s me.pid call EPERM
+send_with s me call target signal found.QueueFull = refused s me.pid call EAGAIN
+send_with s me call target signal found.NoMemory = no_memory s me.pid call
+send_with s me call target signal found.Permitted = finish_with (record s { processes = sent me target signal s.processes }) me.pid call (pos 0)
+
+-- the signal that a register names
 abbrev pub signal_in : ℤ → Option ℕ
-signal_in (pos n) = if is_standard n then Some n else None
+signal_in (pos n) = if is_signal n then Some n else None
 signal_in (negsuc n) = None
 
 -- a signal, or signal 0, which is none
 abbrev pub signal_or_none : ℤ → Result (Option ℕ) Errno
 signal_or_none (pos zero) = Ok None
-signal_or_none (pos (suc n)) = if is_standard (suc n) then Ok (Some (suc n)) else Err EINVAL
+signal_or_none (pos (suc n)) = if is_signal (suc n) then Ok (Some (suc n)) else Err EINVAL
 signal_or_none (negsuc n) = Err EINVAL
 
 -- the signal is judged first; Linux looks for the processes first
-abbrev pub kill_with : State → Process → Target → Result (Option ℕ) Errno → Attempted
-kill_with s me target (Ok sig) = send_with s me target sig (sending me target sig s.processes)
-kill_with s me target (Err why) = refused s me.pid Kill why
+abbrev pub send : Bool → State → Process → Call → Target → ℤ → Result (Option ℕ) Errno → Attempted
+send granted s me call target value (Ok n) = send_with s me call target (message me.pid value n) (sending_granted granted me target n s.processes)
+send granted s me call target value (Err why) = refused s me.pid call why
 
--- the target is in r1, the signal in r2
-unfoldable pub kill : State → Process → Attempted
-kill s me = kill_with s me (target_in (argument me 1)) (signal_or_none (argument me 2))
+-- the target is in r1, the signal in r2; the value is 0
+unfoldable pub kill : Bool → State → Process → Attempted
+kill granted s me = send granted s me Kill (target_in (argument me 1)) (pos 0) (signal_or_none (argument me 2))
+
+-- the process is in r1, the signal in r2, the value in r3
+unfoldable pub sigqueue : Bool → State → Process → Attempted
+sigqueue granted s me = send granted s me Sigqueue (process_in (argument me 1)) (argument me 3) (signal_or_none (argument me 2))

@@ -1,19 +1,19 @@
 -- Calls by which a process changes its own ids, actions and signal mask: XSH setuid, seteuid, setgid, setegid, sigaction,
 -- sigprocmask and sigpending.
-use Rattle.std.specs.Prelude.{ℕ, zero, suc, ◌+◌, ◌*◌, ◌==◌, Bool, false, if◌then◌else◌, List, [], ◌∷◌, Option, Some, None, ℤ, pos, negsuc, bit_and, Result, Ok, Err}
+use Rattle.std.specs.Prelude.{ℕ, zero, suc, ◌+◌, ◌*◌, ◌==◌, Bool, true, false, if◌then◌else◌, List, [], ◌∷◌, map, Option, Some, None, ℤ, pos, negsuc, bit_and, Result, Ok, Err}
 use Rattle.std.specs.Int.{cast_signed, cast_unsigned, w64}
+use Rattle.std.specs.List.{range_with_len}
 use Rattle.posix.specs.declared.errno.Errno.{Errno}
 use Rattle.posix.specs.declared.errno.Errno.TheVariants.{EINVAL}
 use Rattle.posix.specs.declared.how.How.{How}
 use Rattle.posix.specs.declared.how.How.TheVariants as how
 use Rattle.posix.specs.declared.process.Action.{Action}
-use Rattle.posix.specs.declared.process.Carried.{Carried}
 use Rattle.posix.specs.declared.process.Handler.{Handler}
 use Rattle.posix.specs.declared.process.Handler.TheVariants as handler
 use Rattle.posix.specs.SignalSets.{set_in, word_of}
 use Rattle.posix.specs.Processes.{Process, Credentials, Signals, argument}
 use Rattle.posix.specs.Outcomes.{Reply, refusing, written}
-use Rattle.posix.specs.Generation.{action}
+use Rattle.posix.specs.Generation.{action, is_pending}
 use Rattle.posix.specs.Handlers.{set_action, set_mask}
 use Rattle.posix.specs.Sends.{signal_in}
 
@@ -107,14 +107,19 @@ sigprocmask me = sigprocmask_with me (how_in (argument me 1))
 
 -- ---- what is pending
 
-abbrev pub bit_of : Option Carried → ℕ
-bit_of None = 0
-bit_of (Some c) = 1
+abbrev pub bit_of : Bool → ℕ
+bit_of false = 0
+bit_of true = 1
 
-unfoldable pub set_of : List (Option Carried) → ℕ
+-- a set as 64 bits, the first one the lowest
+unfoldable pub set_of : List Bool → ℕ
 set_of [] = 0
-set_of (c ∷ cs) = 2 * set_of cs + bit_of c
+set_of (b ∷ bs) = 2 * set_of bs + bit_of b
 
--- the set of pending signals, in r1
+-- the signals that are pending, signal s as bit s - 1
+unfoldable pub pending_set : Signals → ℕ
+pending_set g = set_of (map (is_pending g) (range_with_len 1 64))
+
+-- in r1; with signal 64 the number is negative
 unfoldable pub sigpending : Process → Reply
-sigpending me = record { value = pos 0; changes = written 1 (word_of (set_of me.signals.standard)) }
+sigpending me = record { value = pos 0; changes = written 1 (word_of (pending_set me.signals)) }

@@ -138,8 +138,8 @@ settled o = record o { state = settle o.state }
 unfoldable pub next : Bool → State → Event → Outcome
 next granted s event = if s.halted then silent s else settled (happens granted s event)
 
--- From old, the event may show these entries and lead to new. All is fixed but for one choice: whether
--- the host grants the memory that a fork needs.
+-- From old, the event may show these entries and lead to new. All is fixed but for one choice: whether the host grants
+-- the memory that a fork needs, or the queuing of a real-time signal.
 pub record IsStep (old : State) (event : Event) (entries : List Entry) (new : State) : Type 0 where
   pub granted : Bool
   pub comes : next granted old event ≡ record { state = new; entries = entries }

@@ -14,3 +14,9 @@ target_in (pos zero) = whom.OwnGroup
 target_in (pos (suc n)) = if nat_le (suc n) greatest_pid then whom.Process (suc n) else whom.Nobody
 target_in (negsuc zero) = whom.All
 target_in (negsuc (suc n)) = if nat_le (n + 2) greatest_pid then whom.Group (n + 2) else whom.Nobody
+
+-- A call that means one process by its number means nobody else.
+abbrev pub process_in : ℤ → Target
+process_in (pos zero) = whom.Nobody
+process_in (pos (suc n)) = if nat_le (suc n) greatest_pid then whom.Process (suc n) else whom.Nobody
+process_in (negsuc n) = whom.Nobody

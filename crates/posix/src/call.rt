@@ -37,6 +37,8 @@ pub enum Call {
     Setegid,
     /// Sends the signal in r2, or with 0 none, to the processes that r1 names (XSH kill).
     Kill,
+    /// Sends the signal in r2, or with 0 none, with the value in r3 to the process in r1 (XSH sigqueue).
+    Sigqueue,
     /// Sets the action for the signal in r1 to the handler in r2 with the mask in r3 and the flags in r4,
     /// and gives the old ones (XSH sigaction).
     Sigaction,
@@ -80,7 +82,7 @@ impl Call {
     ghost use Rattle.posix.specs.Calls.{call_named, call_text};
 
     /// Every call.
-    pub const ALL: [Call; 33] = [
+    pub const ALL: [Call; 34] = [
         Call::Exit,
         Call::Fork,
         Call::Waitpid,
@@ -97,6 +99,7 @@ impl Call {
         Call::Setgid,
         Call::Setegid,
         Call::Kill,
+        Call::Sigqueue,
         Call::Sigaction,
         Call::Sigprocmask,
         Call::Sigpending,
@@ -138,6 +141,7 @@ impl Call {
             Call::Setgid => b"setgid",
             Call::Setegid => b"setegid",
             Call::Kill => b"kill",
+            Call::Sigqueue => b"sigqueue",
             Call::Sigaction => b"sigaction",
             Call::Sigprocmask => b"sigprocmask",
             Call::Sigpending => b"sigpending",

@@ -97,7 +97,7 @@ pub enum Effect {
     Continued,
 }
 
-/// Whom a signal that is sent finds (XSH kill).
+/// What becomes of a signal that is sent (XSH kill, XSH sigqueue).
 #[derive(Clone, Copy, Debug, PartialEq, Eq, PartialOrd, Ord)]
 pub enum Sending {
     /// No process is meant.
@@ -106,6 +106,10 @@ pub enum Sending {
     NobodyPermitted,
     /// At least one may be signalled.
     Permitted,
+    /// It would be queued for a process whose queue is full.
+    QueueFull,
+    /// The host has no memory for the queues.
+    NoMemory,
 }
 
 /// What a wait has to report of the children that it names (XSH waitpid).

@@ -1,7 +1,7 @@
 //! Signals.
 
 ghost use Rattle.std.specs.Prelude.{◌≡◌, ◌↔◌, IsSome, IfSome, true};
-ghost use Rattle.posix.specs.SignalNumbers.{is_signal, default_action as default_action_of};
+ghost use Rattle.posix.specs.SignalNumbers.{is_signal, is_realtime as is_realtime_number, default_action as default_action_of};
 
 use std::marker::Model;
 
@@ -84,6 +84,13 @@ impl Sig {
         ensures range { is_signal result ≡ true }
     {
         self.number
+    }
+
+    /// Whether it is a real-time signal (signal(7), "Real-time signals").
+    pub fn is_realtime(self) -> bool
+        ensures { result ≡ is_realtime_number self }
+    {
+        matches!(self.number, 34..=64)
     }
 
     /// What it does where the action for it is the default.

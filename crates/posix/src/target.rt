@@ -1,7 +1,7 @@
 //! Whom kill and waitpid mean by a number.
 
 ghost use Rattle.std.specs.Prelude.{◌≡◌};
-ghost use Rattle.posix.specs.Targets.{target_in};
+ghost use Rattle.posix.specs.Targets.{process_in, target_in};
 
 use crate::pid::Pid;
 
@@ -39,6 +39,17 @@ impl Target {
             None => Target::Nobody,
             Some(pid) if word > 0 => Target::Process(pid),
             Some(group) => Target::Group(group),
+        }
+    }
+
+    /// The one process that a register means by its number; nobody where no process can have that number (XSH
+    /// sigqueue).
+    pub fn process_from_word(word: i64) -> Target
+        ensures { result ≡ process_in word }
+    {
+        match Target::from_word(word) {
+            Target::Process(pid) => Target::Process(pid),
+            _ => Target::Nobody,
         }
     }
 }

@@ -1,7 +1,10 @@
 -- A process as a table keeps it.
-use Rattle.std.specs.Prelude.{ℕ, false, [], List, None, pos}
+use Rattle.std.specs.Prelude.{ℕ, Bool, false, ◌&&◌, not, if◌then◌else◌, [], List, None, pos}
 use Rattle.std.specs.Borrow.{RattleType}
+use Rattle.posix.specs.declared.process.PendingSignal.{PendingSignal}
 use Rattle.posix.specs.Processes.{Process, first_process, nothing_pending}
+use Rattle.posix.specs.Generation.{signalled}
+use Rattle.posix.specs.Sends.{has_full_queue}
 use Rattle.posix.specs.Execute.{set_register, move_on}
 use Rattle.posix.specs.Choice.{chosen}
 use Rattle.posix.specs.Tables.{changed}
@@ -47,6 +50,10 @@ process_of p q b = record first_process {
   program = b.own.program;
   cpu = b.own.cpu;
 }
+
+-- a real-time signal is generated where there is a pool for it, and room in the queue; else it is lost
+unfoldable pub queued : Bool → PendingSignal → Process → Process
+queued pool signal r = if pool && not (has_full_queue r) then signalled signal r else r
 
 -- the process with another record
 unfoldable pub give_record : Record → Process → Process

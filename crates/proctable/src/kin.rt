@@ -11,6 +11,7 @@ use crate::records::Record;
 use crate::snapshot::Snapshot;
 use crate::spare::Spare;
 use posix::Pid;
+use signal::Stock;
 use std::alloc::{AllocError, Global};
 
 /// A table of processes, zombies included, seen as the list of their records in rising order of their
@@ -45,6 +46,15 @@ pub trait Kin: Drop {
         ensures ok { OnOk result (0 < room self.new) }
         ensures rising { IsRising (contents self.old) }
         ensures room { room self.old ≤ room self.new }
+        ensures contents { contents self.new ≡ contents self.old }
+        ensures visits { visits self.new ≡ visits self.old };
+
+    /// Makes so many pools wait for the queues of real-time signals, where fewer do. At an error the host has no memory
+    /// for them, and none is gone. The processes and the room are unchanged.
+    fn reserve_pools(&mut self, stock: &mut Stock, count: usize) -> Result<(), AllocError>
+        ensures enough { OnOk result (count ≤ stock.new.pools) }
+        ensures more { stock.old.pools ≤ stock.new.pools }
+        ensures room { room self.new ≡ room self.old }
         ensures contents { contents self.new ≡ contents self.old }
         ensures visits { visits self.new ≡ visits self.old };
 

@@ -12,6 +12,7 @@ use crate::records::Record;
 use crate::snapshot::Snapshot;
 use crate::spare::{Spare, Spares};
 use posix::Pid;
+use signal::Stock;
 use std::alloc::{AllocError, Global};
 use std::marker::Model;
 
@@ -77,6 +78,10 @@ impl Kin for ProcTable {
     fn reserve(&mut self) -> Result<(), AllocError> {
         self.spares.reserve(self.cells.len() + 1)?;
         self.cells.reserve()
+    }
+
+    fn reserve_pools(&mut self, stock: &mut Stock, count: usize) -> Result<(), AllocError> {
+        stock.reserve(count)
     }
 
     fn insert(&mut self, pid: Pid, parent: Pid, fields: Record) {

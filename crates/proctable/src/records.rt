@@ -1,19 +1,22 @@
 //! What a table keeps of a process beside its number and its parent's.
 
-ghost use Rattle.std.specs.Prelude.{◌≡◌, IfOk, ℕ};
+ghost use Rattle.std.specs.Prelude.{◌≡◌, ◌⊎◌, true, false, is_some, IfOk, ℕ};
+ghost use Rattle.posix.specs.SignalNumbers.{is_realtime};
 ghost use Rattle.posix.specs.Processes.{first_process};
 ghost use Rattle.posix.specs.Births.{child_of};
 ghost use Rattle.posix.specs.Ends.{made_zombie, ended};
 ghost use Rattle.posix.specs.Notices.{noticed, noticed_of_change, stopped_by, resumed};
 ghost use Rattle.posix.specs.Generation.{signalled, effect_of};
+ghost use Rattle.posix.specs.Sends.{is_queuer};
 ghost use Rattle.posix.specs.Waits.{news_told};
 ghost use Rattle.posix.specs.Alarms.{ring_at as ring_at_tick, with_alarm};
-ghost use Rattle.proctable.specs.Records.{process_of, snapshot_of};
+ghost use Rattle.proctable.specs.Records.{process_of, queued, snapshot_of};
 
 use crate::own_part::OwnPart;
 use crate::snapshot::Snapshot;
 use crate::spare::Spare;
 use posix::{Carried, Effect, Life, News, PendingSignal, Pid, Sig, Status};
+use signal::RtPool;
 use std::alloc::{AllocError, Global};
 
 /// A process without its number and its parent.
@@ -118,14 +121,30 @@ impl Record {
         self.news = News::Nothing;
     }
 
-    /// A signal is generated for the process, whose number this is (XSH 2.4.1). The effect is what it does
+    /// A standard signal is generated for the process, whose number this is (XSH 2.4.1). The effect is what it does
     /// at once, which isn't done here.
     #[tactic(auto, unfolding(posix::specs::Generation::signalled))]
     pub fn signal(&mut self, pid: Pid, signal: PendingSignal) -> Effect
+        requires standard { is_realtime signal.sig ≡ false }
         ensures state { (q : ℕ) → process_of pid q self.new ≡ signalled signal (process_of pid q self.old) }
         ensures effect { result ≡ effect_of pid self.old.life signal self.old.own.signals }
     {
         self.own.signals.generate(pid, self.life, signal)
+    }
+
+    /// A real-time signal is generated for the process, whose number this is: it is queued where it is kept (XSH
+    /// 2.4.2). Without a pool, or where the queue is full, nothing changes. What comes back is the pool where it isn't
+    /// needed, as where the signal isn't kept.
+    #[tactic(auto, unfolding(crate::specs::Records::queued, posix::specs::Generation::signalled))]
+    pub fn queue(&mut self, pid: Pid, signal: PendingSignal, pool: Option<RtPool>) -> Option<RtPool>
+        requires { is_realtime signal.sig ≡ true }
+        ensures state { (q : ℕ) → process_of pid q self.new ≡ queued (is_some pool) signal (process_of pid q self.old) }
+        ensures back { (is_queuer signal.sig (process_of pid 0 self.old) ≡ true) ⊎ (result ≡ pool) }
+    {
+        if pool.is_none() || self.own.signals.is_queue_full() {
+            return pool;
+        }
+        self.own.signals.queue(pid, self.life, signal, pool)
     }
 
     /// The alarm of the process, whose number this is, rings if it is due at this tick, and isn't set any more
@@ -158,6 +177,7 @@ impl Record {
     /// _exit).
     #[tactic(auto, unfolding(posix::specs::Notices::noticed))]
     pub fn notice(&mut self, pid: Pid, signal: PendingSignal)
+        requires standard { is_realtime signal.sig ≡ false }
         ensures { (q : ℕ) → process_of pid q self.new ≡ noticed signal (process_of pid q self.old) }
     {
         if !self.own.signals.ignores_children() {
@@ -169,6 +189,7 @@ impl Record {
     /// unless it ignores CHLD or has SA_NOCLDSTOP (XSH sigaction).
     #[tactic(auto, unfolding(posix::specs::Notices::noticed_of_change))]
     pub fn notice_of_change(&mut self, pid: Pid, signal: PendingSignal)
+        requires standard { is_realtime signal.sig ≡ false }
         ensures { (q : ℕ) → process_of pid q self.new ≡ noticed_of_change signal (process_of pid q self.old) }
     {
         if !self.own.signals.ignores_stops() {

@@ -13,6 +13,7 @@ use crate::spare::{Spare, Spares};
 use pidset::Numbered;
 use pidset::numbered::{found, item_of, next_above, put_in, take_out};
 use posix::Pid;
+use signal::Stock;
 use std::alloc::{AllocError, Global};
 use std::marker::Model;
 
@@ -66,6 +67,10 @@ impl Kin for ScanTable {
     fn reserve(&mut self) -> Result<(), AllocError> {
         self.spares.reserve(self.slots.len() + 1)?;
         self.slots.reserve(1)
+    }
+
+    fn reserve_pools(&mut self, stock: &mut Stock, count: usize) -> Result<(), AllocError> {
+        stock.reserve(count)
     }
 
     fn insert(&mut self, pid: Pid, parent: Pid, fields: Record) {

@@ -1,2 +1,3 @@
 pub mod FieldLemmas
+pub mod QueueLemmas
 pub mod SetLemmas

@@ -1,36 +1,54 @@
 -- The set of the signals that are pending, bit by bit.
-use Rattle.std.proofs.Common.{◌≡◌, ℕ, zero, suc, ◌+◌, ◌-◌, ◌*◌, ◌/◌, ◌^◌, ◌<◌, ◌≤◌, min, max, Bool, true, false, not, ◌&&◌, ◌==◌, List, [], ◌∷◌, length, refl, sym, ap, ◌∙◌, arith, get_or, set, Option, Some, None, is_some, find, bit_and, bit_or, inl, inr}
+use Rattle.std.proofs.Common.{◌≡◌, ◌≢◌, ℕ, zero, suc, ◌+◌, ◌-◌, ◌*◌, ◌/◌, ◌^◌, ◌<◌, ◌≤◌, min, max, Bool, true, false, not, ◌&&◌, ◌==◌, nat_le, List, [], ◌∷◌, ◌++◌, length, map, refl, sym, ap, ◌∙◌, arith, get_or, set, Option, Some, None, is_some, find, bit_and, bit_or, inl, inr}
 use Rattle.std.specs.Prelude.{replicate, if◌then◌else◌, unwrap_or}
 use Rattle.std.specs.Int.{bit_at, trailing_zeros, w64}
-use Rattle.std.specs.List.{range_with_len}
-use Rattle.std.proofs.lemmas.Bool.{cases_lt}
+use Rattle.std.specs.List.{list_any, range_with_len}
+use Rattle.std.proofs.lemmas.Bool.{cases_lt, and_from, le-leb, lt-leb, or_left, or_right}
 use Rattle.std.proofs.lemmas.List.{get_or-replicate, get_or-set_same, get_or-set_other, get_or_past, length-replicate}
-use Rattle.std.proofs.lemmas.List.FromFn.{length-map-range_with_len, fill_by_all}
+use Rattle.std.proofs.lemmas.List.FromFn.{get_or-map-range_with_len, length-map-range_with_len, fill_by_all}
 use Rattle.std.proofs.lemmas.Nat.Bits.{bit_at_lowest, bit_at-suc, bit_at-zero, bit_at_and, bit_at_or, bit_at_not, bit_at-pow_same, bit_at-pow_other, bit_at-trailing_zeros, bit_at-lt, bit_at_above, same_from_bits}
 use Rattle.std.proofs.lemmas.Nat.{pow_below}
 use Rattle.posix.proofs.RangeLemmas.{find_range_none, find_range_first}
 use Rattle.posix.specs.declared.process.Carried.{Carried}
+use Rattle.posix.specs.SignalNumbers.{is_realtime, is_signal}
+use Rattle.posix.specs.SignalSets.{has}
 use Rattle.posix.specs.Processes.{nothing_pending}
+use Rattle.posix.specs.Generation.{has_sig, is_pending}
 use Rattle.posix.specs.SignalCalls.{set_of, bit_of}
-use Rattle.posix.specs.Choice.{from_kernel}
-use Rattle.signal.specs.SignalTables.{TablesView, pending_at, signals_of, standard_of}
+use Rattle.posix.specs.Choice.{all_signals, carried_by, first_carried, from_kernel, is_ready}
+use Rattle.signal.specs.SignalTables.{TablesView, MarksQueued, pending_at, signals_of, standard_of}
 use Rattle.signal.proofs.FieldLemmas.{made_at, set_made}
 
-bit_below : (o : Option Carried) → bit_of o < 2
-bit_below None = omega arith
-bit_below (Some c) = omega arith
+bit_below : (b : Bool) → bit_of b < 2
+bit_below false = omega arith
+bit_below true = omega arith
 
--- bit i says whether signal i + 1 is pending
-pub bit_of_set : (xs : List (Option Carried)) (i : ℕ) → bit_at (set_of xs) i ≡ bit_of (get_or xs i None)
+-- bit i is the i-th of a set's bits
+bit_of_set : (bs : List Bool) (i : ℕ) → bit_at (set_of bs) i ≡ bit_of (get_or bs i false)
 unfolding set_of
 bit_of_set [] i = bit_at-zero i
-bit_of_set (x ∷ xs) zero =
-    let l = bit_below x in
-    bit_at_lowest (2 * set_of xs + bit_of x) ∙ omega arith
-bit_of_set (x ∷ xs) (suc i) =
-    let l = bit_below x in
-    let others : (2 * set_of xs + bit_of x) / 2 ≡ set_of xs = omega arith in
-    bit_at-suc (2 * set_of xs + bit_of x) i ∙ ap (λ n. bit_at n i) others ∙ bit_of_set xs i
+bit_of_set (b ∷ bs) zero =
+    let l = bit_below b in
+    bit_at_lowest (2 * set_of bs + bit_of b) ∙ omega arith
+bit_of_set (b ∷ bs) (suc i) =
+    let l = bit_below b in
+    let others : (2 * set_of bs + bit_of b) / 2 ≡ set_of bs = omega arith in
+    bit_at-suc (2 * set_of bs + bit_of b) i ∙ ap (λ n. bit_at n i) others ∙ bit_of_set bs i
+
+bit_kept : (n : ℕ) → n < 2 → bit_of (n == 1) ≡ n
+bit_kept zero l = refl
+bit_kept (suc zero) l = refl
+bit_kept (suc (suc n)) l = absurd (omega (arith, l))
+
+one_back : (j : ℕ) → j + 1 - 1 ≡ j
+one_back j = omega arith
+
+-- a set is that of the signals that it has
+pub set_is : (f : ℕ → Bool) (p : ℕ) → p < 2 ^ 64 → ((s : ℕ) → f s ≡ has p s) → set_of (map f (range_with_len 1 64)) ≡ p
+set_is f p small same = same_from_bits (set_of (map f (range_with_len 1 64))) p (λ j. bit_of_set (map f (range_with_len 1 64)) j ∙ elim (cases_lt j 64) [
+  | inl l ↦ ap bit_of (get_or-map-range_with_len f 1 64 j (j + 1) false l (omega arith) ∙ same (j + 1) ∙ ap (λ i. bit_at p i == 1) (one_back j)) ∙ bit_kept (bit_at p j) (bit_at-lt p j)
+  | inr past ↦ ap bit_of (get_or_past (map f (range_with_len 1 64)) j false (omega (arith, past, length-map-range_with_len f 1 64))) ∙ sym (bit_at_above p 64 j small past)
+])
 
 -- of 64 bits those that aren't in another set
 not_in : (b j : ℕ) → b < 2 ^ 64 → j < 64 → bit_at (2 ^ 64 - 1 - b) j ≡ 1 - bit_at b j
@@ -58,43 +76,54 @@ none_pending cs = sym (fill_by_all (pending_at 0 cs) (replicate 31 None) 31 None
 pub without_pending : (mask : ℕ) (t : TablesView) → signals_of mask 0 t ≡ record (signals_of mask 0 t) { standard = nothing_pending }
 without_pending mask t = ap (λ (xs : List (Option Carried)). record (signals_of mask 0 t) { standard = xs }) (none_pending t.carried)
 
-bit_kept : (n : ℕ) (c : Carried) → n < 2 → bit_of (if n == 1 then Some c else None) ≡ n
-bit_kept zero c l = refl
-bit_kept (suc zero) c l = refl
-bit_kept (suc (suc n)) c l = absurd (omega (arith, l))
+-- ---- one bit more or less
 
--- the set is that of what is pending
-pub set_is : (p : ℕ) (cs : List Carried) → p < 2 ^ 31 → set_of (standard_of p cs) ≡ p
-set_is p cs small = same_from_bits (set_of (standard_of p cs)) p (λ j. bit_of_set (standard_of p cs) j ∙ elim (cases_lt j 31) [
-  | inl l ↦ ap bit_of (pending_there p cs j l) ∙ bit_kept (bit_at p j) (get_or cs j from_kernel) (bit_at-lt p j)
-  | inr past ↦ ap bit_of (get_or_past (standard_of p cs) j None (omega (arith, past, length_standard p cs))) ∙ sym (bit_at_above p 31 j small past)
-])
+pub more_same : (p i : ℕ) → bit_at (bit_or p (2 ^ i)) i ≡ 1
+more_same p i = bit_at_or p (2 ^ i) i ∙ ap (max (bit_at p i)) (bit_at-pow_same i) ∙ omega (arith, bit_at-lt p i)
+
+pub more_other : (p i j : ℕ) → j ≢ i → bit_at (bit_or p (2 ^ i)) j ≡ bit_at p j
+more_other p i j ne = bit_at_or p (2 ^ i) j ∙ ap (max (bit_at p j)) (bit_at-pow_other i j ne) ∙ omega arith
+
+pub less_same : (p i : ℕ) → i < 64 → bit_at (bit_and p (2 ^ 64 - 1 - 2 ^ i)) i ≡ 0
+less_same p i l =
+    bit_at_and p (2 ^ 64 - 1 - 2 ^ i) i
+    ∙ ap (min (bit_at p i)) (not_in (2 ^ i) i (pow_below i 64 l) l)
+    ∙ ap (λ n. min (bit_at p i) (1 - n)) (bit_at-pow_same i)
+    ∙ omega arith
+
+pub less_other : (p i j : ℕ) → p < 2 ^ 64 → i < 64 → j ≢ i → bit_at (bit_and p (2 ^ 64 - 1 - 2 ^ i)) j ≡ bit_at p j
+less_other p i j small l ne = bit_at_and p (2 ^ 64 - 1 - 2 ^ i) j ∙ elim (cases_lt j 64) [
+  | inl low ↦ ap (min (bit_at p j)) (not_in (2 ^ i) j (pow_below i 64 l) low ∙ ap (λ n. 1 - n) (bit_at-pow_other i j ne)) ∙ omega (arith, bit_at-lt p j)
+  | inr past ↦ let none = bit_at_above p 64 j small past in omega (arith, none)
+]
+
+-- ---- the signals of a process by the set
+
+-- only the bits of standard signals count
+pub same_standard : (p q : ℕ) (cs : List Carried) → ((i : ℕ) → i < 31 → bit_at p i ≡ bit_at q i) → standard_of p cs ≡ standard_of q cs
+unfolding standard_of
+same_standard p q cs same = fill_by_all (pending_at q cs) (standard_of p cs) 31 None (length_standard p cs) (λ k l. pending_there p cs k l ∙ pending_by _ _ _ _ (same k l) refl)
 
 -- one signal more, with what it came with
 pub one_more : (p : ℕ) (cs : List Carried) (i : ℕ) (c : Carried) → i < 31 → length cs ≡ 31 → standard_of (bit_or p (2 ^ i)) (set cs i c) ≡ set (standard_of p cs) i (Some c)
 unfolding standard_of
 one_more p cs i c l n =
     let g = pending_at (bit_or p (2 ^ i)) (set cs i c) in
-    let there : bit_at (bit_or p (2 ^ i)) i ≡ 1 = bit_at_or p (2 ^ i) i ∙ ap (max (bit_at p i)) (bit_at-pow_same i) ∙ omega (arith, bit_at-lt p i) in
-    let is : g i ≡ Some c = pending_by _ 1 _ c there (get_or-set_same cs i c from_kernel (omega (arith, l, n))) in
+    let is : g i ≡ Some c = pending_by _ 1 _ c (more_same p i) (get_or-set_same cs i c from_kernel (omega (arith, l, n))) in
     sym (ap (set (standard_of p cs) i) (sym is) ∙ set_made (pending_at p cs) g 31 i None (λ j low ne.
-    let same : bit_at (bit_or p (2 ^ i)) j ≡ bit_at p j = bit_at_or p (2 ^ i) j ∙ ap (max (bit_at p j)) (bit_at-pow_other i j ne) ∙ omega arith in
-    pending_by _ _ _ _ (sym same) (sym (get_or-set_other cs i j c from_kernel ne))))
+    pending_by _ _ _ _ (sym (more_other p i j ne)) (sym (get_or-set_other cs i j c from_kernel ne))))
 
 -- one signal less
-pub one_less : (p : ℕ) (cs : List Carried) (i : ℕ) → i < 64 → standard_of (bit_and p (2 ^ 64 - 1 - 2 ^ i)) cs ≡ set (standard_of p cs) i None
+pub one_less : (p : ℕ) (cs : List Carried) (i : ℕ) → p < 2 ^ 64 → i < 64 → standard_of (bit_and p (2 ^ 64 - 1 - 2 ^ i)) cs ≡ set (standard_of p cs) i None
 unfolding standard_of
-one_less p cs i l =
+one_less p cs i small l =
     let q = bit_and p (2 ^ 64 - 1 - 2 ^ i) in
-    let bits : (j : ℕ) → j < 64 → bit_at q j ≡ min (bit_at p j) (1 - bit_at (2 ^ i) j) = λ j low. bit_at_and p (2 ^ 64 - 1 - 2 ^ i) j ∙ ap (min (bit_at p j)) (not_in (2 ^ i) j (pow_below i 64 l) low) in
-    let gone : bit_at q i ≡ 0 = bits i l ∙ ap (λ n. min (bit_at p i) (1 - n)) (bit_at-pow_same i) ∙ omega arith in
-    let is : pending_at q cs i ≡ None = ap (λ n. if n == 1 then Some (get_or cs i from_kernel) else None) gone in
+    let is : pending_at q cs i ≡ None = ap (λ n. if n == 1 then Some (get_or cs i from_kernel) else None) (less_same p i l) in
     sym (ap (set (standard_of p cs) i) (sym is) ∙ set_made (pending_at p cs) (pending_at q cs) 31 i None (λ j low ne.
-    let same : bit_at q j ≡ bit_at p j = bits j (omega (arith, low)) ∙ ap (λ n. min (bit_at p j) (1 - n)) (bit_at-pow_other i j ne) ∙ omega (arith, bit_at-lt p j) in
-    pending_by _ _ _ _ (sym same) refl))
+    pending_by _ _ _ _ (sym (less_other p i j small l ne)) refl))
 
 -- what a pending signal came with stands at its place
-pub carried_there : (p : ℕ) (cs : List Carried) (i : ℕ) → is_some (get_or (standard_of p cs) i None) ≡ true → get_or cs i from_kernel ≡ unwrap_or (get_or (standard_of p cs) i None) from_kernel
+carried_there : (p : ℕ) (cs : List Carried) (i : ℕ) → is_some (get_or (standard_of p cs) i None) ≡ true → get_or cs i from_kernel ≡ unwrap_or (get_or (standard_of p cs) i None) from_kernel
 carried_there p cs i e = elim (cases_lt i 31) [
   | inl l ↦ by_bit (bit_at p i == 1) (sym (ap is_some (pending_there p cs i l)) ∙ e) ∙ sym (ap (λ o. unwrap_or o from_kernel) (pending_there p cs i l))
   | inr past ↦ absurd (let none = ap is_some (get_or_past (standard_of p cs) i None (omega (arith, past, length_standard p cs))) in cc)
@@ -104,68 +133,91 @@ carried_there p cs i e = elim (cases_lt i 31) [
     by_bit true e = refl
     by_bit false e = absurd (cc)
 
--- ---- one signal
+-- ---- what the set says of one signal
 
-is_there : (o : Option Carried) → (bit_of o == 1) ≡ is_some o
-is_there None = refl
-is_there (Some c) = refl
+no_realtime : (s : ℕ) → s ≤ 31 → is_realtime s ≡ false
+no_realtime s l = ap (λ b. b && nat_le s 64) (lt-leb 34 s (omega (arith, l)))
 
--- the test of a bit of the set
-pub has_is_some : (xs : List (Option Carried)) (i : ℕ) → (bit_at (set_of xs) i == 1) ≡ is_some (get_or xs i None)
-has_is_some xs i = ap (λ b. b == 1) (bit_of_set xs i) ∙ is_there (get_or xs i None)
+pub is_pending_by : (mask p : ℕ) (t : TablesView) → MarksQueued p t.queue → (s : ℕ) → is_pending (signals_of mask p t) s ≡ has p s
+is_pending_by mask p t marks s = elim (cases_lt 31 s) [
+  | inl past ↦ above (is_realtime s) (list_any (has_sig s) t.queue) _ _ (ap is_some (get_or_past (standard_of p t.carried) (s - 1) None (omega (arith, past, length_standard p t.carried)))) (marks s past)
+  | inr low ↦ below (is_realtime s) (list_any (has_sig s) t.queue) _ _ (no_realtime s low) (ap is_some (pending_there p t.carried (s - 1) (omega (arith, low))) ∙ by_bit (has p s) (get_or t.carried (s - 1) from_kernel))
+]
+  where
+    above : (b x y z : Bool) → y ≡ false → z ≡ (b && x) → (if b then x else y) ≡ z
+    above true x y z e f = sym f
+    above false x y z e f = e ∙ sym f
+
+    below : (b x y z : Bool) → b ≡ false → y ≡ z → (if b then x else y) ≡ z
+    below true x y z e f = absurd (cc)
+    below false x y z e f = f
+
+    by_bit : (b : Bool) (c : Carried) → is_some (if b then Some c else None) ≡ b
+    by_bit true c = refl
+    by_bit false c = refl
+
+-- what a standard signal that is pending came with
+pub carried_standard : (mask p : ℕ) (t : TablesView) (s : ℕ) → is_realtime s ≡ false → is_pending (signals_of mask p t) s ≡ true → get_or t.carried (s - 1) from_kernel ≡ carried_by s (signals_of mask p t)
+carried_standard mask p t s standard pending =
+    let o = get_or (standard_of p t.carried) (s - 1) None in
+    let there : is_pending (signals_of mask p t) s ≡ is_some o = ap (λ b. if b then list_any (has_sig s) t.queue else is_some o) standard in
+    carried_there p t.carried (s - 1) (sym there ∙ pending)
+    ∙ sym (ap (λ b. unwrap_or (if b then first_carried s t.queue else o) from_kernel) standard)
 
 -- ---- the least signal that is ready
 
--- signal s is pending and not blocked
-abbrev pub is_ready_in : List (Option Carried) → ℕ → ℕ → Bool
-is_ready_in xs mask s = is_some (get_or xs (s - 1) None) && not (bit_at mask (s - 1) == 1)
+abbrev pub ready_set : ℕ → ℕ → ℕ
+ready_set p mask = bit_and p (2 ^ 64 - 1 - mask)
 
-abbrev pub ready_set : List (Option Carried) → ℕ → ℕ
-ready_set xs mask = bit_and (set_of xs) (2 ^ 64 - 1 - mask)
+two_bits : (m n : ℕ) → m < 2 → n < 2 → (min m (1 - n) == 1) ≡ ((m == 1) && not (n == 1))
+two_bits zero zero l k = refl
+two_bits zero (suc zero) l k = refl
+two_bits (suc zero) zero l k = refl
+two_bits (suc zero) (suc zero) l k = refl
+two_bits (suc (suc m)) n l k = absurd (omega arith)
+two_bits zero (suc (suc n)) l k = absurd (omega arith)
+two_bits (suc zero) (suc (suc n)) l k = absurd (omega arith)
 
-two_bits : (o : Option Carried) (n : ℕ) → n < 2 → (min (bit_of o) (1 - n) == 1) ≡ (is_some o && not (n == 1))
-two_bits None zero l = refl
-two_bits (Some c) zero l = refl
-two_bits None (suc zero) l = refl
-two_bits (Some c) (suc zero) l = refl
-two_bits o (suc (suc n)) l = absurd (omega arith)
+-- signal s is in the set of those that are ready
+pub is_ready_by : (mask p : ℕ) (t : TablesView) → MarksQueued p t.queue → mask < 2 ^ 64 → (s : ℕ) → s < 65 → is_ready (signals_of mask p t) s ≡ has (ready_set p mask) s
+is_ready_by mask p t marks small s l =
+    ap (λ b. b && not (has mask s)) (is_pending_by mask p t marks s)
+    ∙ sym (two_bits (bit_at p (s - 1)) (bit_at mask (s - 1)) (bit_at-lt p (s - 1)) (bit_at-lt mask (s - 1)))
+    ∙ ap (λ n. n == 1) (sym (bit_at_and p (2 ^ 64 - 1 - mask) (s - 1) ∙ ap (min (bit_at p (s - 1))) (not_in mask (s - 1) small (omega (arith, l)))))
 
-one_back : (j : ℕ) → j ≡ j + 1 - 1
-one_back j = omega arith
+-- above 31 none is but the real-time signals
+pub is_unready : (mask p : ℕ) (t : TablesView) → MarksQueued p t.queue → (s : ℕ) → 31 < s → is_realtime s ≡ false → is_ready (signals_of mask p t) s ≡ false
+is_unready mask p t marks s past e = ap (λ b. b && not (has mask s)) (is_pending_by mask p t marks s ∙ marks s past ∙ ap (λ b. b && list_any (has_sig s) t.queue) e)
 
-ready_bit : (xs : List (Option Carried)) (mask j : ℕ) → mask < 2 ^ 64 → j < 64 → (bit_at (ready_set xs mask) j == 1) ≡ is_ready_in xs mask (j + 1)
-ready_bit xs mask j h l =
-    ap (λ b. b == 1) (bit_at_and (set_of xs) (2 ^ 64 - 1 - mask) j ∙ ap (λ b. min b (bit_at (2 ^ 64 - 1 - mask) j)) (bit_of_set xs j) ∙ ap (λ b. min (bit_of (get_or xs j None)) b) (not_in mask j h l))
-    ∙ two_bits (get_or xs j None) (bit_at mask j) (bit_at-lt mask j)
-    ∙ ap (λ i. is_some (get_or xs i None) && not (bit_at mask i == 1)) (one_back j)
+-- a search through the signals may look at 32 and 33, too, where they don't pass
+find_signal : (f : ℕ → Bool) → f 32 ≡ false → f 33 ≡ false → find f all_signals ≡ find f (range_with_len 1 64)
+find_signal f e e2 = gap (range_with_len 1 31)
+  where
+    gap : (xs : List ℕ) → find f (xs ++ range_with_len 34 31) ≡ find f (xs ++ 32 ∷ 33 ∷ range_with_len 34 31)
+    gap [] = rw (e, e2) refl
+    gap (x ∷ xs) = ap (λ o. if f x then Some x else o) (gap xs)
 
-unready : (xs : List (Option Carried)) (mask k : ℕ) → mask < 2 ^ 64 → 1 ≤ k → k < 65 → bit_at (ready_set xs mask) (k - 1) ≡ 0 → is_ready_in xs mask k ≡ false
-unready xs mask k h lo hi e =
-    let same : k - 1 + 1 ≡ k = omega arith in
-    ap (is_ready_in xs mask) (sym same) ∙ sym (ready_bit xs mask (k - 1) h (omega arith)) ∙ ap (λ b. b == 1) e
-
-pub none_ready : (xs : List (Option Carried)) (mask : ℕ) → mask < 2 ^ 64 → ready_set xs mask ≡ 0 → find (is_ready_in xs mask) (range_with_len 1 31) ≡ None
-none_ready xs mask h e = find_range_none (is_ready_in xs mask) 1 31 (λ k lo hi.
-    unready xs mask k h lo (omega (arith, hi)) (ap (λ n. bit_at n (k - 1)) e ∙ bit_at-zero (k - 1)))
-
-there_within : (xs : List (Option Carried)) (mask j : ℕ) → bit_at (ready_set xs mask) j ≡ 1 → j < length xs
-there_within xs mask j e = elim (cases_lt j (length xs)) [
-  | inl l ↦ l
-  | inr past ↦ absurd (
-      let none : bit_at (set_of xs) j ≡ 0 = bit_of_set xs j ∙ ap bit_of (get_or_past xs j None past) in
-      let both = sym e ∙ bit_at_and (set_of xs) (2 ^ 64 - 1 - mask) j in
-      omega (arith, none, both))
+-- the number of a signal but for 32 and 33
+is_number : (s : ℕ) → 1 ≤ s → s ≤ 64 → s ≢ 32 → s ≢ 33 → is_signal s ≡ true
+is_number s lo hi ne ne2 = elim (cases_lt s 32) [
+  | inl low ↦ or_left _ _ (and_from _ _ (le-leb 1 s lo) (le-leb s 31 (omega (arith, low))))
+  | inr past ↦ or_right _ _ (and_from _ _ (le-leb 34 s (omega (arith, past, ne, ne2))) (le-leb s 64 hi))
 ]
 
+-- where the set of those that are ready is empty there is none
+pub none_ready : (f : ℕ → Bool) (r : ℕ) → ((s : ℕ) → s < 65 → f s ≡ has r s) → f 32 ≡ false → f 33 ≡ false → r ≡ 0 → find f all_signals ≡ None
+none_ready f r same e e2 none = find_signal f e e2 ∙ find_range_none f 1 64 (λ k lo hi.
+    same k hi ∙ ap (λ n. bit_at n (k - 1) == 1) none ∙ ap (λ b. b == 1) (bit_at-zero (k - 1)))
+
 -- the lowest bit of the set that is ready is the least signal
-pub least_is : (xs : List (Option Carried)) (mask : ℕ) → length xs ≡ 31 → mask < 2 ^ 64 → 0 < ready_set xs mask → ready_set xs mask < 2 ^ 64
-    → (trailing_zeros w64 (ready_set xs mask) < 31) × (find (is_ready_in xs mask) (range_with_len 1 31) ≡ Some (trailing_zeros w64 (ready_set xs mask) + 1))
-least_is xs mask n h some small =
-    let t : ℕ = trailing_zeros w64 (ready_set xs mask) in
-    let low = bit_at-trailing_zeros w64 (ready_set xs mask) some small in
-    let l : t < 31 = let w = there_within xs mask t low.1 in omega (arith, w, n) in (
-      l,
-      find_range_first (is_ready_in xs mask) 1 31 (t + 1) (omega arith) (omega (arith, l))
-          (λ k lo hi. unready xs mask k h lo (omega (arith, hi, l)) (low.2 (k - 1) (omega (arith, lo, hi))))
-          (sym (ready_bit xs mask t h low.0) ∙ ap (λ b. b == 1) low.1),
+pub least_is : (f : ℕ → Bool) (r : ℕ) → ((s : ℕ) → s < 65 → f s ≡ has r s) → f 32 ≡ false → f 33 ≡ false → 0 < r → r < 2 ^ 64
+    → (is_signal (trailing_zeros w64 r + 1) ≡ true) × (find f all_signals ≡ Some (trailing_zeros w64 r + 1))
+least_is f r same e e2 some small =
+    let t : ℕ = trailing_zeros w64 r in
+    let low = bit_at-trailing_zeros w64 r some small in
+    let l : t < 64 = low.0 in
+    let there : f (t + 1) ≡ true = same (t + 1) (omega (arith, l)) ∙ ap (λ i. bit_at r i == 1) (one_back t) ∙ ap (λ b. b == 1) low.1 in (
+      is_number (t + 1) (omega arith) (omega (arith, l)) (λ is. let g = ap f is in cc) (λ is. let g = ap f is in cc),
+      find_signal f e e2 ∙ find_range_first f 1 64 (t + 1) (omega arith) (omega (arith, l)) (λ k lo hi.
+          same k (omega (arith, hi, l)) ∙ ap (λ b. b == 1) (low.2 (k - 1) (omega (arith, lo, hi)))) there,
     )

@@ -1,2 +1,3 @@
 pub mod ActionFields
 pub mod SignalTables
+pub mod Stocks

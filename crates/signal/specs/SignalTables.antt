@@ -1,11 +1,15 @@
 -- The tables of a process for signals.
-use Rattle.std.specs.Prelude.{ℕ, ◌==◌, if◌then◌else◌, List, [], Option, Some, None, map, replicate, slice_index_or}
+use Rattle.std.specs.Prelude.{◌≡◌, ℕ, ◌<◌, ◌==◌, ◌&&◌, if◌then◌else◌, List, [], Option, Some, None, map, replicate, slice_index_or}
 use Rattle.std.specs.Int.{bit_at}
-use Rattle.std.specs.List.{range_with_len}
+use Rattle.std.specs.List.{list_any, range_with_len}
 use Rattle.posix.specs.declared.process.Action.{Action}
 use Rattle.posix.specs.declared.process.Carried.{Carried}
 use Rattle.posix.specs.declared.process.Frame.{Frame}
+use Rattle.posix.specs.declared.process.PendingSignal.{PendingSignal}
+use Rattle.posix.specs.SignalNumbers.{is_realtime}
+use Rattle.posix.specs.SignalSets.{has}
 use Rattle.posix.specs.Processes.{Signals, default_actions}
+use Rattle.posix.specs.Generation.{has_sig}
 use Rattle.posix.specs.Choice.{from_kernel}
 use Rattle.signal.specs.declared.action_fields.Actions.{Actions}
 use Rattle.signal.specs.ActionFields.{actions_of, actions_or_blank}
@@ -13,6 +17,7 @@ use Rattle.signal.specs.ActionFields.{actions_of, actions_or_blank}
 pub record TablesView : Type 0 where
   pub actions : List Action
   pub carried : List Carried  -- by the standard signals
+  pub queue : List PendingSignal  -- of real-time signals
   pub frames : List Frame
 
 -- nothing came with anything
@@ -21,7 +26,7 @@ nothing_carried = replicate 31 from_kernel
 
 -- of process 1 at boot
 abbrev pub initial_tables : TablesView
-initial_tables = record { actions = default_actions; carried = nothing_carried; frames = [] }
+initial_tables = record { actions = default_actions; carried = nothing_carried; queue = []; frames = [] }
 
 -- what signal i + 1 came with counts where it is in the set of those that are pending
 abbrev pub pending_at : ℕ → List Carried → ℕ → Option Carried
@@ -32,7 +37,11 @@ standard_of pending carried = map (pending_at pending carried) (range_with_len 0
 
 -- the signals of a process with a mask, a set of pending signals and tables
 abbrev pub signals_of : ℕ → ℕ → TablesView → Signals
-signals_of mask pending t = record { mask = mask; standard = standard_of pending t.carried; queue = []; actions = t.actions; frames = t.frames }
+signals_of mask pending t = record { mask = mask; standard = standard_of pending t.carried; queue = t.queue; actions = t.actions; frames = t.frames }
+
+-- Of the signals above 31 a set holds those that are queued, which are real-time signals.
+abbrev pub MarksQueued : ℕ → List PendingSignal → Type 0
+MarksQueued pending queue = (s : ℕ) → 31 < s → has pending s ≡ (is_realtime s && list_any (has_sig s) queue)
 
 -- ---- in memory
 
@@ -40,6 +49,11 @@ signals_of mask pending t = record { mask = mask; standard = standard_of pending
 abbrev pub carried_or_blank : List (List Carried) → List Carried
 carried_or_blank kept = slice_index_or kept 0 nothing_carried
 
+-- without a pool nothing is queued
+abbrev pub queue_in : Option (List PendingSignal) → List PendingSignal
+queue_in None = []
+queue_in (Some queue) = queue
+
 -- what they are worth
-abbrev pub view_of : List Actions → List (List Carried) → List Frame → TablesView
-view_of actions carried frames = record { actions = actions_of (actions_or_blank actions); carried = carried_or_blank carried; frames = frames }
+abbrev pub view_of : List Actions → List (List Carried) → Option (List PendingSignal) → List Frame → TablesView
+view_of actions carried queue frames = record { actions = actions_of (actions_or_blank actions); carried = carried_or_blank carried; queue = queue_in queue; frames = frames }

@@ -1,16 +1,19 @@
 //! The signals of one process.
 
-ghost use Rattle.std.specs.Prelude.{◌≡◌, [], true, false, None, Some, Ok, Err, OnOk, OnErr, IfOk, IfErr, IfSome, IsSome};
+ghost use Rattle.std.specs.Prelude.{◌≡◌, ◌⊎◌, ◌<◌, ◌≤◌, ◌&&◌, [], true, false, not, nat_le, length, None, Some, Ok, Err, OnOk, OnErr, IfOk, IfErr, IfSome, IsSome};
+ghost use Rattle.posix.specs.SignalNumbers.{is_realtime};
 ghost use Rattle.posix.specs.Processes.{initial_signals, nothing_pending};
 ghost use Rattle.posix.specs.Ends.{forgotten, drops_children as drops_children_of};
 ghost use Rattle.posix.specs.Notices.{ignores_children as ignores_children_of, ignores_stops as ignores_stops_of};
 ghost use Rattle.posix.specs.Generation.{action as action_of, is_pending as is_pending_of, with_pending, without_stops, after_discards, gets_no_signals as gets_no_signals_of, keeps as keeps_of, generated, effect_of};
-ghost use Rattle.posix.specs.Choice.{chosen, least_ready as least_ready_of, carried_by, taken};
+ghost use Rattle.posix.specs.Choice.{chosen, least_ready as least_ready_of, carried_by, discarded, taken};
+ghost use Rattle.posix.specs.Sends.{most_queued};
 ghost use Rattle.posix.specs.Handlers.{is_full as is_full_of, handler_mask as handler_mask_of, entered, at_handler, after_entry as after_entry_of, handler_arguments, newest_frame, left, restore, set_action as set_action_of, set_mask as set_mask_of, give_mask};
 ghost use Rattle.posix.specs.Programs.{signals_on_exec};
-ghost use Rattle.posix.specs.SignalCalls.{set_of};
+ghost use Rattle.posix.specs.SignalCalls.{pending_set};
 
 use crate::actions::{does_nothing, is_caught, is_stop_signal};
+use crate::rt_pool::RtPool;
 use crate::tables::{FramesFull, LazyTables, NoFrame};
 use arena::Arena;
 use bitflags::Flags;
@@ -29,20 +32,20 @@ pub struct Signals {
     mask: SigSet,
     /// Which signals are pending.
     pending: SigSet,
-    /// The actions, what the pending signals came with, and the frames of handlers.
+    /// The actions, what the pending signals came with, those that are queued, and the frames of handlers.
     tables: LazyTables,
 }
 
 impl Model for Signals {
     ghost use Rattle.std.specs.Prelude.{◌≡◌, ◌<◌, ◌^◌, length};
     ghost use Rattle.posix.specs.Processes.{Signals as SignalsOf};
-    ghost use Rattle.signal.specs.SignalTables.{signals_of};
+    ghost use Rattle.signal.specs.SignalTables.{MarksQueued, signals_of};
 
     ghost Value = { SignalsOf };
 
     ghost view = { λ s. signals_of s.mask s.pending s.tables };
 
-    ghost invariant = { λ s. (s.pending < 2 ^ 31) × (length s.tables.carried ≡ 31) };
+    ghost invariant = { λ s. (s.pending < 2 ^ 64) × (length s.tables.carried ≡ 31) × MarksQueued s.pending s.tables.queue };
 }
 
 impl Signals {
@@ -80,7 +83,7 @@ impl Signals {
         ensures { self.new ≡ forgotten self.old }
     {
         self.pending = SigSet::EMPTY;
-        self.tables.clear_frames();
+        self.tables.forget();
     }
 
     // ---- what there is
@@ -94,7 +97,7 @@ impl Signals {
 
     /// The set of pending signals (XSH sigpending).
     pub fn pending(&self) -> SigSet
-        ensures { result ≡ set_of self.now.standard }
+        ensures { result ≡ pending_set self.now }
     {
         self.pending
     }
@@ -138,8 +141,9 @@ impl Signals {
         self.pending.contains(sig)
     }
 
-    /// What a signal came with, or value 0 and sender 0 where it isn't pending.
+    /// What a standard signal came with, or value 0 and sender 0 where it isn't pending.
     fn carried(&self, sig: Sig) -> Carried
+        requires { is_realtime sig ≡ false }
         ensures { result ≡ carried_by sig self.now }
     {
         if self.is_pending(sig) {
@@ -149,21 +153,49 @@ impl Signals {
         }
     }
 
-    /// A signal becomes pending, with this; one that isn't a standard signal doesn't.
+    /// A standard signal becomes pending, with this.
     fn insert(&mut self, sig: Sig, carried: Carried)
+        requires { is_realtime sig ≡ false }
         ensures { self.new ≡ with_pending sig (Some carried) self.old }
     {
-        if sig.number() <= 31 {
-            self.tables.set_carried(sig, carried);
-            self.pending = self.pending.union(SigSet::just(sig));
-        }
+        self.tables.set_carried(sig, carried);
+        self.pending = self.pending.union(SigSet::just(sig));
     }
 
-    /// A signal is no longer pending.
+    /// A standard signal is no longer pending.
     fn remove(&mut self, sig: Sig)
+        requires { is_realtime sig ≡ false }
         ensures { self.new ≡ with_pending sig None self.old }
     {
         self.pending = self.pending.except(SigSet::just(sig));
+    }
+
+    /// No signal with this number is pending any more.
+    #[tactic(auto, unfolding(posix::specs::Choice::discarded))]
+    fn discard(&mut self, sig: Sig)
+        ensures { self.new ≡ discarded sig self.old }
+    {
+        if sig.is_realtime() {
+            self.tables.discard_queued(sig);
+            self.pending = self.pending.except(SigSet::just(sig));
+        } else {
+            self.remove(sig);
+        }
+    }
+
+    /// The first real-time signal with this number is no longer queued. This is what it came with, or value 0 and
+    /// sender 0 where there was none.
+    #[tactic(auto, unfolding(posix::specs::Choice::taken))]
+    fn take_queued(&mut self, sig: Sig) -> Carried
+        requires { is_realtime sig ≡ true }
+        ensures value { result ≡ carried_by sig self.old }
+        ensures state { self.new ≡ taken sig self.old }
+    {
+        let carried = self.tables.take_queued(sig);
+        if !self.tables.is_queued(sig) {
+            self.pending = self.pending.except(SigSet::just(sig));
+        }
+        carried.unwrap_or(Carried::FROM_KERNEL)
     }
 
     // ---- generation and choice
@@ -206,7 +238,7 @@ impl Signals {
         }
     }
 
-    /// A signal is generated for the process, which has this number and life. For a zombie, and for process
+    /// A standard signal is generated for the process, which has this number and life. For a zombie, and for process
     /// 1 where it has no handler for the signal, nothing is. Else what it discards goes first: CONT discards
     /// the stop signals that are pending, and a stop signal a CONT, whether or not they are blocked or
     /// ignored. The signal itself isn't kept where it isn't blocked and its action does nothing; else it is
@@ -215,6 +247,7 @@ impl Signals {
     /// ignored (XSH 2.4.3).
     #[tactic(auto, unfolding(posix::specs::Generation::generated, posix::specs::Generation::effect_of))]
     pub fn generate(&mut self, pid: Pid, life: Life, signal: PendingSignal) -> Effect
+        requires standard { is_realtime signal.sig ≡ false }
         ensures state { self.new ≡ generated pid life signal self.old }
         ensures effect { result ≡ effect_of pid life signal self.old }
     {
@@ -233,6 +266,45 @@ impl Signals {
         } else {
             Effect::Nothing
         }
+    }
+
+    /// Whether a signal that is generated for the process, which has this number and life, would be queued: a
+    /// real-time signal that is kept.
+    pub fn queues(&self, pid: Pid, life: Life, sig: Sig) -> bool
+        ensures { result ≡ (is_realtime sig && (not (gets_no_signals_of pid life self.now sig) && keeps_of self.now sig)) }
+    {
+        sig.is_realtime() && !self.gets_no_signals(pid, life, sig) && self.keeps(sig)
+    }
+
+    /// Whether no more real-time signals can be queued.
+    pub fn is_queue_full(&self) -> bool
+        ensures { result ≡ nat_le most_queued (length self.now.queue) }
+    {
+        self.tables.is_queue_full()
+    }
+
+    /// A real-time signal is generated for the process, which has this number and life. It is queued behind those
+    /// that came before, unless nothing is generated for the process, or the signal isn't kept (XSH 2.4.2). Where it
+    /// is queued there must be room for it, and a pool for the queue that has none. What comes back is the pool
+    /// where it isn't needed.
+    #[tactic(auto, unfolding(posix::specs::Generation::generated))]
+    pub fn queue(
+        &mut self,
+        pid: Pid,
+        life: Life,
+        signal: PendingSignal,
+        pool: Option<RtPool>,
+    ) -> Option<RtPool>
+        requires realtime { is_realtime signal.sig ≡ true }
+        requires room { (not (gets_no_signals_of pid life self.old signal.sig) && keeps_of self.old signal.sig) ≡ true → (nat_le most_queued (length self.old.queue) ≡ false) × IsSome pool }
+        ensures state { self.new ≡ generated pid life signal self.old }
+        ensures back { ((not (gets_no_signals_of pid life self.old signal.sig) && keeps_of self.old signal.sig) ≡ true) ⊎ (result ≡ pool) }
+    {
+        if !self.queues(pid, life, signal.sig) {
+            return pool;
+        }
+        self.pending = self.pending.union(SigSet::just(signal.sig));
+        self.tables.push_queued(signal, pool)
     }
 
     /// The least pending signal that isn't blocked.
@@ -262,12 +334,16 @@ impl Signals {
         }
     }
 
-    /// A signal is no longer pending. This is what it came with, or value 0 and sender 0 where it wasn't.
+    /// A pending signal goes; of real-time signals with one number the first. This is what it came with, or value 0
+    /// and sender 0 where none is pending.
     #[tactic(auto, unfolding(posix::specs::Choice::taken))]
     pub fn take(&mut self, sig: Sig) -> Carried
         ensures value { result ≡ carried_by sig self.old }
         ensures state { self.new ≡ taken sig self.old }
     {
+        if sig.is_realtime() {
+            return self.take_queued(sig);
+        }
         let carried = self.carried(sig);
         self.remove(sig);
         carried
@@ -346,9 +422,9 @@ impl Signals {
     // ---- actions and masks
 
     /// Sets the action for a signal; its mask can't hold KILL and STOP. Where the action does nothing with
-    /// the signal, one that is pending goes, blocked or not. At the error EINVAL, for KILL and STOP, nothing
+    /// the signal, all that are pending go, blocked or not. At the error EINVAL, for KILL and STOP, nothing
     /// changes (XSH sigaction).
-    #[tactic(auto, unfolding(posix::specs::Handlers::set_action, posix::specs::Choice::taken))]
+    #[tactic(auto, unfolding(posix::specs::Handlers::set_action))]
     pub fn set_action(&mut self, sig: Sig, action: Action) -> Result<(), Errno>
         ensures ok { OnOk result (set_action_of sig action self.old ≡ Ok self.new) }
         ensures err { IfErr result (λ why. set_action_of sig action self.old ≡ Err why) }
@@ -360,7 +436,7 @@ impl Signals {
         let mask = action.mask.maskable();
         self.tables.set_action(sig, Action { mask, ..action });
         if does_nothing(action.handler, sig) {
-            self.remove(sig);
+            self.discard(sig);
         }
         Ok(())
     }

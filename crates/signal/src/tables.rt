@@ -1,30 +1,36 @@
 //! The tables of a process for signals.
 
-ghost use Rattle.std.specs.Prelude.{◌≡◌, ◌-◌, ◌<◌, ◌≤◌, ◌++◌, ◌∷◌, [], false, true, None, IfOk, OnOk, OnErr, length, map, take, nat_le, slice_get, slice_index_or, slice_set, vec_capacity};
+ghost use Rattle.std.specs.Prelude.{◌≡◌, ◌-◌, ◌<◌, ◌≤◌, ◌++◌, ◌∷◌, [], false, true, not, None, IsSome, IfOk, OnOk, OnErr, filter, length, map, take, nat_le, slice_get, slice_index_or, slice_set, vec_capacity};
+ghost use Rattle.std.specs.List.{list_any};
 ghost use Rattle.posix.specs.Processes.{initial_action};
-ghost use Rattle.posix.specs.Choice.{from_kernel};
+ghost use Rattle.posix.specs.Generation.{has_sig};
+ghost use Rattle.posix.specs.Choice.{from_kernel, first_carried, without_first};
+ghost use Rattle.posix.specs.Sends.{most_queued};
 ghost use Rattle.posix.specs.Handlers.{most_frames};
 ghost use Rattle.posix.specs.Programs.{action_on_exec};
-ghost use Rattle.signal.specs.SignalTables.{initial_tables, nothing_carried, carried_or_blank};
+ghost use Rattle.signal.specs.SignalTables.{initial_tables, nothing_carried, carried_or_blank, queue_in};
 
 use crate::action_fields::{Actions, keep_actions, row_of};
+use crate::rt_pool::RtPool;
 use arena::{Arena, refill};
 use bitflags::Flags;
-use posix::{Action, Carried, Frame, Handler, SaFlags, Sig, SigSet};
+use posix::{Action, Carried, Frame, Handler, PendingSignal, SaFlags, Sig, SigSet};
 use std::alloc::AllocError;
 use std::marker::Model;
 
-/// The actions of a process for signals, what its pending standard signals came with (XSH 2.4.1), and the
-/// frames of its handlers that haven't returned. Real-time signals, which nothing sends yet, aren't kept.
+/// The actions of a process for signals, what its pending standard signals came with (XSH 2.4.1), the queue of
+/// its pending real-time signals (XSH 2.4.2), and the frames of its handlers that haven't returned.
 ///
 /// Its memory is taken at once, and written to as it is needed: until the first change all is as at boot, and only
-/// frames that are in use are kept.
+/// frames that are in use are kept. That of the queue comes with the first real-time signal.
 #[derive(Drop)]
 pub struct LazyTables {
     /// At most one item, with room for it: without it they are the default ones.
     actions: Vec<Actions, Arena>,
     /// At most one item, with room for it: what the standard signal s came with, at s - 1, where it is pending.
     carried: Vec<[Carried; 31], Arena>,
+    /// Without it nothing is queued.
+    queue: Option<RtPool>,
     /// The newest last, with room for 16.
     frames: Vec<Frame, Arena>,
 }
@@ -36,7 +42,7 @@ impl Model for LazyTables {
 
     ghost Value = { TablesView };
 
-    ghost view = { λ t. view_of t.actions.items t.carried.items t.frames.items };
+    ghost view = { λ t. view_of t.actions.items t.carried.items t.queue t.frames.items };
 
     ghost invariant = { λ t. (1 ≤ vec_capacity t.actions) × (1 ≤ vec_capacity t.carried) × (16 ≤ vec_capacity t.frames) × AreFields (actions_or_blank t.actions.items) × (length (carried_or_blank t.carried.items) ≡ 31) × (length t.frames.items ≤ 16) };
 }
@@ -58,18 +64,20 @@ impl LazyTables {
         Ok(LazyTables {
             actions: Vec::with_capacity(arena.clone()?, 1)?,
             carried: Vec::with_capacity(arena.clone()?, 1)?,
+            queue: None,
             frames: Vec::with_capacity(arena, 16)?,
         })
     }
 
-    /// Those of a child that is born now: the same, but nothing came with anything. They are in the place of
-    /// `spare`, if there is one; without it an error where the host has no memory for them.
+    /// Those of a child that is born now: the same, but nothing came with anything, and nothing is queued. They are
+    /// in the place of `spare`, if there is one; without it an error where the host has no memory for them.
     pub fn fork(&self, spare: Option<LazyTables>) -> Result<LazyTables, AllocError>
-        ensures { IfOk result (λ t. t ≡ record self.now { carried = nothing_carried }) }
+        ensures { IfOk result (λ t. t ≡ record self.now { carried = nothing_carried; queue = [] }) }
     {
         let LazyTables {
             mut actions,
             mut carried,
+            mut queue,
             mut frames,
         } = match spare {
             Some(tables) => tables,
@@ -77,10 +85,12 @@ impl LazyTables {
         };
         refill(&mut actions, self.actions.as_slice())?;
         carried.clear();
+        empty(&mut queue);
         refill(&mut frames, self.frames.as_slice())?;
         Ok(LazyTables {
             actions,
             carried,
+            queue,
             frames,
         })
     }
@@ -141,6 +151,68 @@ impl LazyTables {
         self.carried[0][row_of(sig)] = carried;
     }
 
+    // ---- the queue
+
+    /// Whether a real-time signal is queued.
+    pub fn is_queued(&self, sig: Sig) -> bool
+        ensures { result ≡ list_any (has_sig sig) self.now.queue }
+    {
+        match &self.queue {
+            None => false,
+            Some(pool) => pool.holds(sig),
+        }
+    }
+
+    /// Whether no more real-time signals can be queued.
+    pub fn is_queue_full(&self) -> bool
+        ensures { result ≡ nat_le most_queued (length self.now.queue) }
+    {
+        match &self.queue {
+            None => false,
+            Some(pool) => pool.is_full(),
+        }
+    }
+
+    /// A real-time signal is queued behind the others, where there are less than 32: in the pool that there is, else
+    /// in this one. What comes back is this one where it isn't needed.
+    pub fn push_queued(&mut self, signal: PendingSignal, pool: Option<RtPool>) -> Option<RtPool>
+        requires few { length self.old.queue < most_queued }
+        requires there { IsSome pool }
+        ensures { self.new ≡ record self.old { queue = self.old.queue ++ signal ∷ [] } }
+    {
+        if let Some(kept) = &mut self.queue {
+            kept.push(signal);
+            return pool;
+        }
+        if let Some(mut pool) = pool {
+            pool.clear();
+            pool.push(signal);
+            self.queue = Some(pool);
+        }
+        None
+    }
+
+    /// Takes the first real-time signal with this number out of the queue, if there is one.
+    #[tactic(auto, unfolding(posix::specs::Choice::first_carried, posix::specs::Choice::without_first))]
+    pub fn take_queued(&mut self, sig: Sig) -> Option<Carried>
+        ensures value { result ≡ first_carried sig self.old.queue }
+        ensures rest { self.new ≡ record self.old { queue = without_first sig self.old.queue } }
+    {
+        match &mut self.queue {
+            None => None,
+            Some(pool) => pool.take(sig),
+        }
+    }
+
+    /// No real-time signal with this number is queued any more.
+    pub fn discard_queued(&mut self, sig: Sig)
+        ensures { self.new ≡ record self.old { queue = filter (λ m. not (has_sig sig m)) self.old.queue } }
+    {
+        if let Some(pool) = &mut self.queue {
+            pool.discard(sig);
+        }
+    }
+
     // ---- frames
 
     /// Adds a frame. At an error there are 16 already, and nothing changes.
@@ -165,11 +237,21 @@ impl LazyTables {
         self.frames.pop()
     }
 
-    /// Drops all frames.
-    pub fn clear_frames(&mut self)
-        ensures { self.new ≡ record self.old { frames = [] } }
+    /// Drops all frames, and all that is queued.
+    pub fn forget(&mut self)
+        ensures { self.new ≡ record self.old { queue = []; frames = [] } }
     {
+        empty(&mut self.queue);
         self.frames.clear();
+    }
+}
+
+/// Nothing is queued any more.
+fn empty(queue: &mut Option<RtPool>)
+    ensures { queue_in queue.new ≡ [] }
+{
+    if let Some(pool) = queue {
+        pool.clear();
     }
 }
 

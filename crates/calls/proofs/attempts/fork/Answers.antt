@@ -1,18 +1,14 @@
-use Rattle.std.proofs.Common.{◌≡◌, ◌∙◌, ◌+◌, ◌∷◌, [], ℕ, ap, sym, refl, subst, true, false, pos, rules, to_z, of_z, w64, Option, Some, None}
+use Rattle.std.proofs.Common.{◌≡◌, ◌∙◌, ◌+◌, ap, sym, refl, subst, true, false, pos, rules, to_z, of_z, w64, Some, None}
 use Rattle.std.specs.Option.{IsSome}
 use Rattle.posix.specs.declared.call.Call.TheVariants.{Fork}
 use Rattle.posix.specs.declared.errno.Errno.TheVariants.{EAGAIN}
-use Rattle.posix.specs.States.{State, process, next_pid, change}
-use Rattle.posix.specs.Outcomes.{refusal, finish, finished, finish_with, no_memory}
+use Rattle.posix.specs.States.{State, process, next_pid}
+use Rattle.posix.specs.Outcomes.{refusal, finish_with, no_memory}
 use Rattle.posix.specs.Births.{fork_as, born, child_of}
 use Rattle.posix.specs.Attempts.{attempt}
 use Rattle.posix.proofs.OrderLemmas.{placed_some}
 use Rattle.posix.proofs.TableLemmas.{pid_looked}
-use Rattle.proctable.specs.Records.{give_own}
-use Rattle.life.proofs.LoanLemmas.{was_written}
-use Rattle.calls.specs.declared.outcome.Attempt.TheVariants as came
-use Rattle.calls.specs.Outcomes.{Comes}
-use Rattle.calls.proofs.CallLemmas.{gives_is}
+use Rattle.calls.proofs.CallLemmas.{gives_is, wants_memory}
 use Rattle.posix.proofs.RegularLemmas.{some_inserted}
 use Rattle.calls.proofs.attempts.fork.Goals as goal
 
@@ -49,8 +45,8 @@ returns-in-Ok g c = λ me e.
           c.finish_with.ensures.done c.finish_with.ensures.state (c.in-Ok.ensures.ok me e) c.finish_with.ensures.shown value,
     )
 
-pub own-requires : goal.own-requires
-own-requires g c =
+pub refuse_memory-requires-clause-there : goal.refuse_memory-requires-clause-there
+refuse_memory-requires-clause-there g c =
     let s = c.args.machine.now.state in
     subst (λ (t : State). IsSome (process t c.args.pid)) (sym c.in-Err.ensures.err.state) (placed_some s.processes c.args.pid c.requires.acting.placed)
 
@@ -58,16 +54,8 @@ pub returns-in-Err : goal.returns-in-Err
 unfolding attempt fork_as
 returns-in-Err g c = λ me e.
     let s = c.args.machine.now.state in
-    let p = c.args.pid in
-    let t = c.fork.new.self.state in
-    let named = pid_looked p s.processes me e in
-    let some : next_pid s ≡ Some c.in-Some.child = sym c.next_pid.ensures ∙ c.in-Some.is in
-    let kept : to_z w64 (of_z w64 c.refusal.result) ≡ c.refusal.result = search rules in
-    let value = kept ∙ c.refusal.ensures in
-    let state = was_written t p c.own.result.now c.finish.new.self (finished ((0, to_z w64 (of_z w64 c.refusal.result)) ∷ [])) c.own.ensures.regular c.own.ensures.value c.finish.ensures
-    ∙ ap (λ z. finish t p ((0, z) ∷ [])) value ∙ ap (λ (u : State). finish u p ((0, refusal EAGAIN) ∷ [])) c.in-Err.ensures.err.state in (
+    let named = pid_looked c.args.pid s.processes me e in
+    let some : next_pid s ≡ Some c.in-Some.child = sym c.next_pid.ensures ∙ c.in-Some.is in (
       false,
-      subst (λ (o : Option ℕ). Comes s (fork_as false s me o) came.Done c.args.entries.now.items c.push.new.self.items (change t p (give_own c.finish.new.self))) (sym some)
-          (subst (λ q. Comes s (no_memory s q Fork) came.Done c.args.entries.now.items c.push.new.self.items (change t p (give_own c.finish.new.self))) (sym named)
-          (c.push.ensures.items, state)),
+      wants_memory s _ _ _ c.args.pid Fork _ _ _ (ap (fork_as false s me) some ∙ ap (λ q. no_memory s q Fork) named) c.refuse_memory.ensures.done c.refuse_memory.ensures.state c.in-Err.ensures.err.state c.refuse_memory.ensures.shown,
     )

@@ -4,7 +4,7 @@ use Rattle.posix.specs.States.{State}
 use Rattle.posix.specs.Step.{signalled_from}
 use Rattle.life.specs.Machines.{MachineView}
 use Rattle.life.proofs.TakingLemmas.{brief_none, brief_group}
-use Rattle.life.proofs.ConsoleLemmas.{key_plain, lent_at, not_both, key_nowhere, key_past, key_on_it, slots_of_signalled}
+use Rattle.life.proofs.ConsoleLemmas.{key_plain, key_standard, lent_at, not_both, key_nowhere, key_past, key_on_it, slots_of_signalled}
 use Rattle.life.proofs.ViewLemmas.{state_is, costs_then, cost_more}
 use Rattle.life.proofs.machine.Machine.key.Goals as goal
 use Rattle.life.proofs.CodeLemmas.{past_none}
@@ -12,6 +12,9 @@ use Rattle.life.proofs.CodeLemmas.{past_none}
 -- the console that was read is the one in its place
 there : {m n : MachineView} {cs : List Console} → m ≡ n → cs ≡ m.state.consoles → (k : ℕ) (c : Console) → true ≡ nat_lt k (length cs) → c ≡ slice_index_or cs k c → slice_get n.state.consoles k ≡ Some c
 there same all k c within is = ap (λ cs. slice_get cs k) (sym (all ∙ ap (λ (s : State). s.consoles) (state_is same))) ∙ lent_at _ k c within is
+
+pub signal_group-requires : goal.signal_group-requires
+signal_group-requires g c = key_standard c.args.byte c.in-Some-signal.sig (sym c.in-Some-signal.is ∙ c.in-Some-type_byte.ensures.signal)
 
 pub returns-in_default-clause-state : goal.returns-in_default-clause-state
 returns-in_default-clause-state g c =

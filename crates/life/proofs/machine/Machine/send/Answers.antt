@@ -1,41 +1,26 @@
-use Rattle.std.proofs.Common.{rules, ap, refl, true, ◌∙◌, arith, ◌+◌, ◌≤◌, filter, length}
-use Rattle.std.proofs.Math.Nat.{mul-le-mul_left}
-use Rattle.posix.specs.Sends.{sending, sent}
-use Rattle.posix.proofs.TableLemmas.{length_removed}
-use Rattle.life.specs.Rechecks.{slots_of_send, is_candidate}
+use Rattle.std.proofs.Common.{◌∙◌, true, length, filter}
+use Rattle.posix.specs.Sends.{queuers_among, number_of, sending, sending_granted}
 use Rattle.life.specs.Callers.{process_like}
-use Rattle.life.proofs.SendLemmas.{all_pass, targets_numbered, targets_nobody, sent_nobody, rechecked_nobody}
+use Rattle.life.specs.Rechecks.{is_candidate, slots_of_survey}
+use Rattle.life.proofs.QueueLemmas.{room_none, sends_found, sends_more, standard_goes, standard_queuers}
 use Rattle.life.proofs.machine.Machine.send.Goals as goal
 
-pub returns-in-Process-clause-sending : goal.returns-in-Process-clause-sending
-unfolding sending
-returns-in-Process-clause-sending g c = rw (c.in-Process.is, ← targets_numbered (process_like c.args.me.now) c.in-Process.pid c.args.self.now.state.processes) c.send_to_one.ensures.sending
+pub send_with-requires : goal.send_with-requires
+send_with-requires g c =
+    let none = standard_queuers (process_like c.args.me.now) c.args.target c.args.signal c.args.self.now.state.processes (c.realtime.ensures.none c.in-None.is) in
+    record { room = room_none c.none-none.result.pools _ none }
 
--- process 1 is there
-pub returns-in-Process-clause-changes : goal.returns-in-Process-clause-changes
-unfolding sent
-returns-in-Process-clause-changes g c =
-    let me = process_like c.args.me.now in
+pub returns-in-None-clause-sending : goal.returns-in-None-clause-sending
+unfolding sending_granted
+returns-in-None-clause-sending g c =
+    let r = process_like c.args.me.now in
     let rs = c.args.self.now.state.processes in
-    let changes = c.send_to_one.ensures.changes in
-    let first = changes.costs.regular.first in
-    let some = length_removed 1 first.what rs changes.costs.regular.rising first.found in
-    let all = ap (λ x. length (filter (is_candidate me x) rs)) c.in-Process.is ∙ ap length (all_pass (λ r. true) (λ r. refl) rs) in
-    let least : 1 ≤ length (filter (is_candidate me c.args.target) rs) = omega (arith, some, all) in
-    let product = mul-le-mul_left (2 + slots_of_send c.args.sig) least in
-    record {
-      state = rw (c.in-Process.is, ← targets_numbered me c.in-Process.pid rs) changes.state;
-      to_recheck = rw (c.in-Process.is, ← targets_numbered me c.in-Process.pid rs) changes.to_recheck;
-      foregrounds_unchecked = changes.foregrounds_unchecked;
-      costs = record { visits = omega (arith, product, changes.costs.visits); groups_at_risk = changes.costs.groups_at_risk; regular = changes.costs.regular };
-    }
+    let none = standard_queuers r c.args.target c.args.signal rs (c.realtime.ensures.none c.in-None.is) in
+    (true, c.send_with.ensures.sending ∙ standard_goes (queuers_among r c.args.target (number_of c.args.signal) rs) (sending r c.args.target (number_of c.args.signal) rs) none)
 
-pub returns-in-Nobody-clause-sending : goal.returns-in-Nobody-clause-sending
-unfolding sending
-returns-in-Nobody-clause-sending g c = rw (c.in-Nobody.is, targets_nobody (process_like c.args.me.now) c.args.self.now.state.processes) refl
-
-pub returns-in-Nobody-clause-changes : goal.returns-in-Nobody-clause-changes
-unfolding sent
-returns-in-Nobody-clause-changes g c =
-    let nobody = targets_nobody (process_like c.args.me.now) c.args.self.now.state.processes in
-    record { state = rw (c.in-Nobody.is, nobody, sent_nobody) refl; to_recheck = rw (c.in-Nobody.is, nobody, rechecked_nobody) refl; foregrounds_unchecked = refl; costs = search rules }
+pub returns-in-None-clause-changes : goal.returns-in-None-clause-changes
+returns-in-None-clause-changes g c =
+    let r = process_like c.args.me.now in
+    let target = c.args.target in
+    let old = c.args.self.now in
+    sends_more (slots_of_survey (number_of c.args.signal) (length (filter (is_candidate r target) old.state.processes))) r target c.args.signal old _ _ (sends_found r target c.args.signal old _ _ c.send_with.ensures.sending c.send_with.ensures.changes)

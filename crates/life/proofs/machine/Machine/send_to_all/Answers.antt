@@ -1,20 +1,23 @@
-use Rattle.std.proofs.Common.{ap, sym, ◌∙◌, arith, filter, length, Option, ℕ, ◌+◌, ◌*◌, refl}
+use Rattle.std.proofs.Common.{subst, List, ap, sym, ◌∙◌, arith, filter, length, Option, ℕ, ◌+◌, ◌*◌, refl}
 use Rattle.posix.specs.declared.process.Sending.TheVariants.{NobodyFound}
 use Rattle.posix.specs.Tables.{left_of}
 use Rattle.posix.specs.States.{State}
-use Rattle.posix.specs.Sends.{is_target, targets, sending, sent}
+use Rattle.posix.specs.Sends.{is_target, targets, permitted, queuers, queuers_among, number_of, sending, sent}
 use Rattle.posix.proofs.WalkLemmas.{numbered, walk_begins, next_begins, one_here}
 use Rattle.std.proofs.Math.Nat.{mul-le-mul_left}
 use Rattle.posix.proofs.PassingLemmas.{left_at_most}
 use Rattle.life.specs.Rechecks.{rechecking_signalled, slots_of_send, is_candidate}
 use Rattle.life.specs.Callers.{process_like}
+use Rattle.posix.specs.Processes.{Process}
+use Rattle.life.specs.Queues.{HaveRoom}
+use Rattle.life.proofs.QueueLemmas.{room_here, room_left}
 use Rattle.life.proofs.SendLemmas.{blank_sent, candidates_less, Sent, sent_to, sent_on, sent_step, sent_ends}
 use Rattle.life.specs.Machines.{with_processes}
 use Rattle.jobs.proofs.ReadLemmas.{reads_on}
 use Rattle.life.proofs.machine.Machine.send_to_all.Goals as goal
 
 pub loop-next-init : goal.loop-next-init
-unfolding targets
+unfolding targets queuers_among
 loop-next-init g c =
     let s = c.args.self.now.state in
     let r = process_like c.args.me.now in
@@ -27,10 +30,20 @@ loop-next-init g c =
       begins = next_begins 0 (filter (is_candidate r c.args.target.now) s.processes) c.next_target-next.result c.next_target-next.ensures.is;
       read =
           let less = left_at_most c.next_target-next.result (filter (is_candidate r c.args.target.now) s.processes) in
-          let product = mul-le-mul_left (2 + slots_of_send c.args.sig.now) less in
+          let product = mul-le-mul_left (2 + slots_of_send (number_of c.args.signal.now)) less in
           omega (arith, product, finds.looks.visits);
+      rising = finds.looks.regular.rising;
+      room = subst (λ (l : List Process). HaveRoom c.args.stock.now.pools (queuers (number_of c.args.signal.now) (permitted r (number_of c.args.signal.now) l))) (sym all) c.requires.room;
       rest = refl;
-      todo = ap (λ qs. sent_to r c.args.sig.now s.order qs (record { sending = NobodyFound; processes = s.processes; to_recheck = c.args.self.now.to_recheck })) all;
+      todo = ap (λ qs. sent_to r c.args.signal.now s.order qs (record { sending = NobodyFound; processes = s.processes; to_recheck = c.args.self.now.to_recheck })) all;
+    }
+
+pub send_to_one-requires : goal.send_to_one-requires
+send_to_one-requires g c =
+    let i = c.loop-next.invariant in
+    record {
+      room = room_here c.loop-next.stock.pools (process_like c.args.me.now) c.args.target.now (number_of c.args.signal.now) c.in-Some.pid c.loop-next.self.state.processes i.rising
+          (subst (λ o. HaveRoom c.loop-next.stock.pools (queuers_among (process_like c.args.me.now) c.args.target.now (number_of c.args.signal.now) (left_of o c.loop-next.self.state.processes))) c.in-Some.is i.room);
     }
 
 pub loop-next-preserved : goal.loop-next-preserved
@@ -38,7 +51,7 @@ unfolding sending
 loop-next-preserved g c =
     let r = process_like c.args.me.now in
     let target = c.args.target.now in
-    let sig = c.args.sig.now in
+    let sig = c.args.signal.now in
     let pid = c.in-Some.pid in
     let next = c.next_target-next-in-Some.result in
     let finds = c.next_target-next-in-Some.ensures.finds in
@@ -59,8 +72,12 @@ loop-next-preserved g c =
       read =
           let at = one_here (is_candidate r target) pid rs c.loop-next.next changes.costs.regular.rising c.in-Some.is i.begins in
           let less = candidates_less r target pid rs mid c.loop-next.next next at c.in-Some.is (blank_sent r sig order _ k l sent) c.next_target-next-in-Some.ensures.is in
-          let on = reads_on (1 + slots_of_send sig) (length (left_of c.loop-next.next (filter (is_candidate r target) rs))) (length (left_of next (filter (is_candidate r target) mid))) c.loop-next.self.visits c.next_target-next-in-Some.new.self.visits (c.loop-next.self.visits + (1 + (1 + slots_of_send sig)) * length (left_of c.loop-next.next (filter (is_candidate r target) rs))) (omega (arith, less)) (omega (arith, changes.costs.visits, finds.looks.visits)) (omega arith) in
+          let on = reads_on (1 + slots_of_send (number_of sig)) (length (left_of c.loop-next.next (filter (is_candidate r target) rs))) (length (left_of next (filter (is_candidate r target) mid))) c.loop-next.self.visits c.next_target-next-in-Some.new.self.visits (c.loop-next.self.visits + (1 + (1 + slots_of_send (number_of sig))) * length (left_of c.loop-next.next (filter (is_candidate r target) rs))) (omega (arith, less)) (omega (arith, changes.costs.visits, finds.looks.visits)) (omega arith) in
           omega (arith, on, i.read);
+      rising = finds.looks.regular.rising;
+      room =
+          let left = subst (λ o. HaveRoom c.loop-next.stock.pools (queuers_among r target (number_of sig) (left_of o rs))) c.in-Some.is i.room in
+          room_left c.loop-next.stock.pools c.send_to_one.new.stock.pools r target sig pid next rs mid changes.costs.regular.rising finds.looks.regular.rising (ap (λ (t : State). t.processes) changes.state) finds.value c.send_to_one.ensures.stock left;
       rest = ap (λ (t : State). with_processes t c.args.self.now.state.processes) changes.state ∙ i.rest;
       todo =
           sent_step r target sig order pid next k l changes.costs.regular.rising finds.looks.regular.rising sent finds.value
@@ -76,7 +93,7 @@ returns g c =
     let i = c.loop-next.invariant in
     let k : Sent = record { sending = c.loop-next.sending; processes = c.loop-next.self.state.processes; to_recheck = c.loop-next.self.to_recheck } in
     let l : Sent = record { sending = NobodyFound; processes = s.processes; to_recheck = c.args.self.now.to_recheck } in
-    let done = sent_ends r c.args.target.now c.args.sig.now s.order c.loop-next.next k l (targets r c.args.target.now s.processes) c.in_default.is i.todo in
+    let done = sent_ends r c.args.target.now c.args.signal.now s.order c.loop-next.next k l (targets r c.args.target.now s.processes) c.in_default.is i.todo in
     record {
       sending = ap (λ (k : Sent). k.sending) done;
       changes = record {

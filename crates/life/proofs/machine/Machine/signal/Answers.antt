@@ -23,7 +23,7 @@ responds signal r e = e ≡ effect_of r.pid r.life signal r.signals
 
 pub continue_process-requires : goal.continue_process-requires
 continue_process-requires g c =
-    let ran = has_run (signalled c.args.signal) (responds c.args.signal) c.change.ensures.run c.change.ensures.changes.costs.regular.rising c.requires (λ b d r k q. (search rules, search rules)) in
+    let ran = has_run (signalled c.args.signal) (responds c.args.signal) c.change.ensures.run c.change.ensures.changes.costs.regular.rising c.requires.there (λ b d r k q. (search rules, search rules)) in
     let it = record (ran.me.what) { pid = c.args.pid } in
     rw ran.is (record {
       what = signalled c.args.signal it;
@@ -34,11 +34,11 @@ continue_process-requires g c =
 pub returns-in-Nothing : goal.returns-in-Nothing
 returns-in-Nothing g c =
     let did = c.change.ensures.changes in
-    let ran = has_run (signalled c.args.signal) (responds c.args.signal) c.change.ensures.run did.costs.regular.rising c.requires (λ b d r k q. (search rules, search rules)) in
+    let ran = has_run (signalled c.args.signal) (responds c.args.signal) c.change.ensures.run did.costs.regular.rising c.requires.there (λ b d r k q. (search rules, search rules)) in
     signal_ends c.args.signal c.args.pid _ _ ran.me.what ran.me.found (sym c.in-Nothing.is ∙ ran.says) (did.state ∙ ap (with_processes c.args.self.now.state) ran.is) did.to_recheck did.foregrounds_unchecked did.costs
 
 pub returns-in-Continued : goal.returns-in-Continued
 returns-in-Continued g c =
     let did = c.change.ensures.changes in
-    let ran = has_run (signalled c.args.signal) (responds c.args.signal) c.change.ensures.run did.costs.regular.rising c.requires (λ b d r k q. (search rules, search rules)) in
+    let ran = has_run (signalled c.args.signal) (responds c.args.signal) c.change.ensures.run did.costs.regular.rising c.requires.there (λ b d r k q. (search rules, search rules)) in
     signal_continues c.args.signal c.args.pid _ _ _ ran.me.what ran.me.found (sym c.in-Continued.is ∙ ran.says) (did.state ∙ ap (with_processes c.args.self.now.state) ran.is) did.to_recheck did.foregrounds_unchecked did.costs c.continue_process.ensures

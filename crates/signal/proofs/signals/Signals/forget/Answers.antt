@@ -7,4 +7,4 @@ use Rattle.signal.proofs.signals.Signals.forget.Goals as goal
 pub returns : goal.returns
 returns c =
     let t = c.self.inside.tables in
-    ap (signals_of c.self.inside.mask 0) c.clear_frames.ensures ∙ without_pending c.self.inside.mask (record t { frames = [] }) ∙ ap forgotten c.self.view_is
+    ap (signals_of c.self.inside.mask 0) c.forget.ensures ∙ without_pending c.self.inside.mask (record t { queue = []; frames = [] }) ∙ ap forgotten c.self.view_is

@@ -1,8 +1,14 @@
 use Rattle.std.proofs.Common.{◌∙◌, ap, sym}
+use Rattle.posix.specs.Generation.{is_pending}
 use Rattle.posix.specs.Processes.{Signals}
-use Rattle.posix.specs.SignalCalls.{set_of}
-use Rattle.signal.proofs.SetLemmas.{set_is}
+use Rattle.posix.specs.SignalCalls.{pending_set}
+use Rattle.signal.specs.SignalTables.{signals_of}
+use Rattle.signal.proofs.SetLemmas.{is_pending_by, set_is}
 use Rattle.signal.proofs.signals.Signals.pending.Goals as goal
 
 pub returns : goal.returns
-returns c = sym (set_is c.self.inside.pending c.self.inside.tables.carried c.self.invariant.0) ∙ ap (λ (g : Signals). set_of g.standard) c.self.view_is
+unfolding pending_set
+returns c =
+    let s = c.self.inside in
+    sym (set_is (is_pending (signals_of s.mask s.pending s.tables)) s.pending c.self.invariant.0 (is_pending_by s.mask s.pending s.tables c.self.invariant.2))
+    ∙ ap (λ (g : Signals). pending_set g) c.self.view_is

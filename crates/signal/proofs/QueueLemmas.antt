@@ -1,0 +1,189 @@
+-- The queue of real-time signals, and the bits that say which of them are queued.
+use Rattle.std.proofs.Common.{◌≡◌, ◌≢◌, ℕ, zero, suc, ◌-◌, ◌^◌, ◌<◌, ◌≤◌, Bool, true, false, not, ◌&&◌, ◌||◌, ◌==◌, nat_le, nat_lt, List, [], ◌∷◌, ◌++◌, length, refl, sym, ap, ◌∙◌, subst, arith, bit_and, filter, get_or, Option, Some, None, inl, inr}
+use Rattle.std.specs.Prelude.{if◌then◌else◌}
+use Rattle.std.specs.Int.{bit_at}
+use Rattle.std.specs.List.{list_any, position, position_or_len, remove}
+use Rattle.std.proofs.lemmas.Bool.{and_parts, and_right, cases_eq, cond_both, cond-true, eq-eqb, eqb-true, false_from_ne_true, leb-true, lt-leb, ltb-false, ne_eqb, not-true, or_left, or_right}
+use Rattle.std.proofs.lemmas.List.Folds.{list_any-append}
+use Rattle.std.proofs.lemmas.List.Quantifiers.{position-Some}
+use Rattle.std.proofs.lemmas.List.Sums.{fails_before_first}
+use Rattle.posix.specs.declared.process.Carried.{Carried}
+use Rattle.posix.specs.declared.process.Life.{Life}
+use Rattle.posix.specs.declared.process.PendingSignal.{PendingSignal}
+use Rattle.posix.specs.SignalNumbers.{CONT, STOP, TTOU, is_realtime, is_stop_signal}
+use Rattle.posix.specs.SignalSets.{has}
+use Rattle.posix.specs.Processes.{Signals}
+use Rattle.posix.specs.Generation.{after_discards, generated, gets_no_signals, has_sig, is_pending, keeps, make_pending, with_pending, with_queue, without_stops}
+use Rattle.posix.specs.Choice.{first_carried, from_kernel, taken, without_first}
+use Rattle.signal.specs.SignalTables.{TablesView, MarksQueued, signals_of}
+use Rattle.signal.proofs.SetLemmas.{less_other, less_same, same_standard}
+
+-- ---- the numbers of real-time signals
+
+pub above_33 : (s : ℕ) → is_realtime s ≡ true → 33 < s
+above_33 s is = leb-true 34 s (and_parts _ _ is).0
+
+pub at_most_64 : (s : ℕ) → is_realtime s ≡ true → s ≤ 64
+at_most_64 s is = leb-true s 64 (and_parts _ _ is).1
+
+-- ---- the first signal with a number
+
+-- it stands where none before it has the number
+first_at : (s i : ℕ) (q : List PendingSignal) (d : PendingSignal) → i < length q → has_sig s (get_or q i d) ≡ true → ((k : ℕ) → k < i → has_sig s (get_or q k d) ≡ false)
+    → (first_carried s q ≡ Some (get_or q i d).carried) × (without_first s q ≡ remove q i)
+unfolding first_carried without_first
+first_at s i [] d l e before = absurd (omega arith)
+first_at s zero (m ∷ q) d l e before = (
+  ap (λ b. if b then Some m.carried else first_carried s q) e,
+  ap (λ b. if b then q else m ∷ without_first s q) e,
+)
+first_at s (suc i) (m ∷ q) d l e before =
+    let here : has_sig s m ≡ false = before 0 (omega arith) in
+    let later = first_at s i q d (omega (arith, l)) e (λ k low. before (suc k) (omega (arith, low))) in (
+      ap (λ b. if b then Some m.carried else first_carried s q) here ∙ later.0,
+      ap (λ b. if b then q else m ∷ without_first s q) here ∙ ap (λ (ms : List PendingSignal). m ∷ ms) later.1,
+    )
+
+-- without one nothing is taken
+none_at : (s : ℕ) (q : List PendingSignal) (d : PendingSignal) → ((k : ℕ) → k < length q → has_sig s (get_or q k d) ≡ false) → (first_carried s q ≡ None) × (without_first s q ≡ q)
+unfolding first_carried without_first
+none_at s [] d none = (refl, refl)
+none_at s (m ∷ q) d none =
+    let here : has_sig s m ≡ false = none 0 (omega arith) in
+    let later = none_at s q d (λ k low. none (suc k) (omega (arith, low))) in (
+      ap (λ b. if b then Some m.carried else first_carried s q) here ∙ later.0,
+      ap (λ b. if b then q else m ∷ without_first s q) here ∙ ap (λ (ms : List PendingSignal). m ∷ ms) later.1,
+    )
+
+-- what is taken where a search finds its place, and where it finds none
+pub taken_at : (s i : ℕ) (q : List PendingSignal) (d : PendingSignal) → position (has_sig s) q ≡ Some i → (first_carried s q ≡ Some (get_or q i d).carried) × (without_first s q ≡ remove q i)
+taken_at s i q d e =
+    let first = position-Some (has_sig s) q i d e in
+    first_at s i q d first.0 first.1 first.2
+
+pub taken_nowhere : (s : ℕ) (q : List PendingSignal) → position (has_sig s) q ≡ None → (first_carried s q ≡ None) × (without_first s q ≡ q)
+taken_nowhere s q e = none_at s q d (λ k l. fails_before_first (has_sig s) q k d (omega (arith, l, behind)))
+  where
+    d : PendingSignal
+    d = record { sig = s; carried = from_kernel }
+
+    behind : length q ≤ position_or_len (has_sig s) q
+    behind = ltb-false _ _ (false_from_ne_true _ (λ t. let there = cond-true (nat_lt (position_or_len (has_sig s) q) (length q)) (Some (position_or_len (has_sig s) q)) None t in cc))
+
+-- ---- which numbers are queued
+
+-- once a signal is queued its number is, and the others are where they were
+pub queued_own : (m : PendingSignal) (q : List PendingSignal) → list_any (has_sig m.sig) (q ++ m ∷ []) ≡ true
+queued_own m q = list_any-append (has_sig m.sig) q (m ∷ []) ∙ or_right _ _ (or_left _ _ (eq-eqb m.sig m.sig refl))
+
+pub queued_others : (m : PendingSignal) (q : List PendingSignal) (n : ℕ) → n ≢ m.sig → list_any (has_sig n) (q ++ m ∷ []) ≡ list_any (has_sig n) q
+queued_others m q n ne = list_any-append (has_sig n) q (m ∷ []) ∙ no_more (list_any (has_sig n) q) (has_sig n m) (ne_eqb m.sig n (λ e. ne (sym e)))
+  where
+    no_more : (b c : Bool) → c ≡ false → (b || (c || false)) ≡ b
+    no_more true c e = refl
+    no_more false c e = ap (λ x. x || false) e
+
+-- a signal with one number has no other
+no_other : (s n : ℕ) (m : PendingSignal) → n ≢ s → has_sig s m ≡ true → has_sig n m ≡ false
+no_other s n m ne e = ne_eqb m.sig n (λ is. ne (sym is ∙ eqb-true m.sig s e))
+
+-- once the first with a number is taken the others are queued as before; the number itself only where it was
+pub taken_others : (s n : ℕ) (q : List PendingSignal) → n ≢ s → list_any (has_sig n) (without_first s q) ≡ list_any (has_sig n) q
+unfolding without_first
+taken_others s n [] ne = refl
+taken_others s n (m ∷ q) ne = cond_both (has_sig s m) q (m ∷ without_first s q) (λ ms. list_any (has_sig n) ms ≡ list_any (has_sig n) (m ∷ q))
+    (λ is. ap (λ b. b || list_any (has_sig n) q) (sym (no_other s n m ne is)))
+    (λ _. ap (λ b. has_sig n m || b) (taken_others s n q ne))
+
+pub taken_own : (s : ℕ) (q : List PendingSignal) → list_any (has_sig s) (without_first s q) ≡ true → list_any (has_sig s) q ≡ true
+unfolding without_first
+taken_own s [] e = e
+taken_own s (m ∷ q) e = by_first (has_sig s m) (taken_own s q) e
+  where
+    by_rest : (b : Bool) → (list_any (has_sig s) (without_first s q) ≡ true → list_any (has_sig s) q ≡ true) → (b || list_any (has_sig s) (without_first s q)) ≡ true → (b || list_any (has_sig s) q) ≡ true
+    by_rest true later e = refl
+    by_rest false later e = later e
+
+    by_first : (b : Bool) → (list_any (has_sig s) (without_first s q) ≡ true → list_any (has_sig s) q ≡ true) → list_any (has_sig s) (if b then q else m ∷ without_first s q) ≡ true → list_any (has_sig s) (m ∷ q) ≡ true
+    by_first true later e = or_right _ _ e
+    by_first false later e = by_rest (has_sig s m) later e
+
+abbrev pub has_other : ℕ → PendingSignal → Bool
+has_other s m = not (has_sig s m)
+
+-- once all with a number are discarded the others are queued as before, and none of that number is
+pub discarded_others : (s n : ℕ) (q : List PendingSignal) → n ≢ s → list_any (has_sig n) (filter (has_other s) q) ≡ list_any (has_sig n) q
+discarded_others s n [] ne = refl
+discarded_others s n (m ∷ q) ne = by_first (has_sig s m) (no_other s n m ne) (discarded_others s n q ne)
+  where
+    by_first : (b : Bool) → (b ≡ true → has_sig n m ≡ false) → list_any (has_sig n) (filter (has_other s) q) ≡ list_any (has_sig n) q
+        → list_any (has_sig n) (if not b then m ∷ filter (has_other s) q else filter (has_other s) q) ≡ (has_sig n m || list_any (has_sig n) q)
+    by_first true fails later = later ∙ ap (λ b. b || list_any (has_sig n) q) (sym (fails refl))
+    by_first false fails later = ap (λ b. has_sig n m || b) later
+
+pub discarded_own : (s : ℕ) (q : List PendingSignal) → list_any (has_sig s) (filter (has_other s) q) ≡ false
+discarded_own s [] = refl
+discarded_own s (m ∷ q) = by_first (has_sig s m) refl (discarded_own s q)
+  where
+    by_first : (b : Bool) → has_sig s m ≡ b → list_any (has_sig s) (filter (has_other s) q) ≡ false
+        → list_any (has_sig s) (if not b then m ∷ filter (has_other s) q else filter (has_other s) q) ≡ false
+    by_first true e later = later
+    by_first false e later = ap (λ b. b || list_any (has_sig s) (filter (has_other s) q)) e ∙ later
+
+-- ---- what is generated
+
+-- a real-time signal discards nothing
+no_discards : (s : ℕ) (g : Signals) → 33 < s → after_discards s g ≡ g
+no_discards s g above =
+    ap (λ b. if b then without_stops g else if is_stop_signal s then with_pending CONT None g else g) (ne_eqb s CONT (λ e. omega (arith, above, e)))
+    ∙ ap (λ b. if b then with_pending CONT None g else g) (and_right (nat_le STOP s) (nat_le s TTOU) (lt-leb s TTOU (omega (arith, above))))
+
+-- one that is kept is queued
+pub generated_queued : (p : ℕ) (life : Life) (signal : PendingSignal) (g : Signals) → is_realtime signal.sig ≡ true → (not (gets_no_signals p life g signal.sig) && keeps g signal.sig) ≡ true
+    → generated p life signal g ≡ with_queue (g.queue ++ signal ∷ []) g
+unfolding generated
+generated_queued p life signal g is kept =
+    let s = signal.sig in
+    let both = and_parts _ _ kept in
+    ap (λ b. if b then g else (let h = after_discards s g in if keeps g s then make_pending signal h else h)) (not-true _ both.0)
+    ∙ ap (λ b. let h = after_discards s g in if b then make_pending signal h else h) both.1
+    ∙ ap (make_pending signal) (no_discards s g (above_33 s is))
+    ∙ ap (λ b. if b then with_queue (g.queue ++ signal ∷ []) g else if is_pending g s then g else with_pending s (Some signal.carried) g) is
+
+-- ---- the bits that say so
+
+-- a standard signal changes none of them
+pub marks_stay : (p p' s : ℕ) (q : List PendingSignal) → MarksQueued p q → s ≤ 31 → ((j : ℕ) → j ≢ s - 1 → bit_at p' j ≡ bit_at p j) → MarksQueued p' q
+marks_stay p p' s q marks low same n past = ap (λ b. b == 1) (same (n - 1) (λ e. omega (arith, past, low, e))) ∙ marks n past
+
+-- a real-time signal changes its own alone
+pub marks_change : (p p' s : ℕ) (q q' : List PendingSignal) → MarksQueued p q → is_realtime s ≡ true → has p' s ≡ list_any (has_sig s) q'
+    → ((j : ℕ) → j ≢ s - 1 → bit_at p' j ≡ bit_at p j) → ((n : ℕ) → n ≢ s → list_any (has_sig n) q' ≡ list_any (has_sig n) q) → MarksQueued p' q'
+marks_change p p' s q q' marks is own bits others n past = elim (cases_eq n s) [
+  | inl e ↦ subst (λ k. has p' k ≡ (is_realtime k && list_any (has_sig k) q')) (sym e) (own ∙ ap (λ b. b && list_any (has_sig s) q') (sym is))
+  | inr ne ↦ ap (λ b. b == 1) (bits (n - 1) (λ e. ne (omega (arith, past, above_33 s is, e)))) ∙ marks n past ∙ ap (λ b. is_realtime n && b) (sym (others n ne))
+]
+
+-- the last one with its number is taken
+pub marks_last_taken : (p s : ℕ) (q : List PendingSignal) → MarksQueued p q → p < 2 ^ 64 → is_realtime s ≡ true → list_any (has_sig s) (without_first s q) ≡ false
+    → MarksQueued (bit_and p (2 ^ 64 - 1 - 2 ^ (s - 1))) (without_first s q)
+marks_last_taken p s q marks small is last =
+    let within : s - 1 < 64 = omega (arith, above_33 s is, at_most_64 s is) in
+    marks_change p (bit_and p (2 ^ 64 - 1 - 2 ^ (s - 1))) s q (without_first s q) marks is (ap (λ b. b == 1) (less_same p (s - 1) within) ∙ sym last)
+    (λ j ne. less_other p (s - 1) j small within ne) (λ n ne. taken_others s n q ne)
+
+-- one of several is
+pub marks_taken : (p s : ℕ) (q : List PendingSignal) → MarksQueued p q → is_realtime s ≡ true → list_any (has_sig s) (without_first s q) ≡ true → MarksQueued p (without_first s q)
+marks_taken p s q marks is more =
+    let own : has p s ≡ list_any (has_sig s) (without_first s q) =
+    marks s (omega (arith, above_33 s is)) ∙ ap (λ b. b && list_any (has_sig s) q) is ∙ taken_own s q more ∙ sym more in
+    marks_change p p s q (without_first s q) marks is own (λ j ne. refl) (λ n ne. taken_others s n q ne)
+
+-- what is left of the signals of a process
+pub taken_queued : (mask p p' s : ℕ) (t : TablesView) → is_realtime s ≡ true → ((j : ℕ) → j < 31 → bit_at p' j ≡ bit_at p j)
+    → signals_of mask p' (record t { queue = without_first s t.queue }) ≡ taken s (signals_of mask p t)
+unfolding taken
+taken_queued mask p p' s t is same =
+    let g : Signals = signals_of mask p t in
+    ap (λ (xs : List (Option Carried)). record g { standard = xs; queue = without_first s t.queue }) (same_standard p' p t.carried same)
+    ∙ ap (λ b. if b then with_queue (without_first s g.queue) g else with_pending s None g) (sym is)

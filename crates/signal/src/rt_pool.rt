@@ -1,0 +1,175 @@
+//! Room for the real-time signals that are queued for processes.
+
+ghost use Rattle.std.specs.Prelude.{◌≡◌, ◌+◌, ◌-◌, ◌<◌, ◌≤◌, ◌++◌, ◌∷◌, [], not, nat_le, IsSome, Some, None, IfOk, OnOk, OnErr, filter, length};
+ghost use Rattle.std.specs.List.{list_any, position};
+ghost use Rattle.posix.specs.Choice.{first_carried, without_first};
+ghost use Rattle.posix.specs.Generation.{has_sig};
+ghost use Rattle.posix.specs.Sends.{most_queued};
+
+use posix::{Carried, PendingSignal, Sig};
+use std::alloc::{AllocError, Global};
+use std::marker::Model;
+
+/// The real-time signals that are queued for one process, the first to come first (XSH 2.4.2).
+#[derive(Drop)]
+pub struct RtPool {
+    /// With room for 32.
+    signals: Vec<PendingSignal>,
+}
+
+impl Model for RtPool {
+    ghost use Rattle.std.specs.Prelude.{◌≤◌, List, length, vec_capacity};
+    ghost use Rattle.posix.specs.declared.process.PendingSignal.{PendingSignal};
+
+    ghost Value = { List PendingSignal };
+
+    ghost view = { λ p. p.signals.items };
+
+    ghost invariant = { λ p. (32 ≤ vec_capacity p.signals) × (length p.signals.items ≤ 32) };
+}
+
+impl RtPool {
+    /// One in which nothing is queued. An error where the host has no memory for it.
+    pub fn new(alloc: Global) -> Result<RtPool, AllocError>
+        ensures { IfOk result (λ p. p ≡ []) }
+    {
+        Ok(RtPool {
+            signals: Vec::with_capacity(alloc, 32)?,
+        })
+    }
+
+    /// Whether no more signals can be queued.
+    pub fn is_full(&self) -> bool
+        ensures { result ≡ nat_le most_queued (length self.now) }
+    {
+        self.signals.len() == 32
+    }
+
+    /// Where the first of the signals with this number stands.
+    fn place(&self, sig: Sig) -> Option<usize>
+        ensures { result ≡ position (has_sig sig) self.now }
+    {
+        self.signals.iter().position(|signal| signal.sig == sig)
+    }
+
+    /// Whether a signal with this number is queued.
+    pub fn holds(&self, sig: Sig) -> bool
+        ensures { result ≡ list_any (has_sig sig) self.now }
+    {
+        self.signals.iter().any(|signal| signal.sig == sig)
+    }
+
+    /// A signal is queued behind the others.
+    pub fn push(&mut self, signal: PendingSignal)
+        requires { length self.old < most_queued }
+        ensures { self.new ≡ self.old ++ signal ∷ [] }
+    {
+        self.signals.push_reserved(signal);
+    }
+
+    /// Takes out the first of the signals with this number, if there is one.
+    pub fn take(&mut self, sig: Sig) -> Option<Carried>
+        ensures value { result ≡ first_carried sig self.old }
+        ensures rest { self.new ≡ without_first sig self.old }
+    {
+        match self.place(sig) {
+            None => None,
+            Some(place) => Some(self.signals.remove(place).carried),
+        }
+    }
+
+    /// No signal with this number is queued any more.
+    pub fn discard(&mut self, sig: Sig)
+        ensures { self.new ≡ filter (λ m. not (has_sig sig m)) self.old }
+    {
+        self.signals.retain(move |signal| signal.sig != sig);
+    }
+
+    /// Nothing is queued any more.
+    pub fn clear(&mut self)
+        ensures { self.new ≡ [] }
+    {
+        self.signals.clear();
+    }
+}
+
+/// Pools that wait for signals: the memory that sends have been granted.
+#[derive(Drop)]
+pub struct Stock {
+    pools: Vec<RtPool>,
+}
+
+/// Its value is how many there are, and for how many it has room.
+impl Model for Stock {
+    ghost use Rattle.std.specs.Prelude.{length, vec_capacity};
+    ghost use Rattle.signal.specs.Stocks.{StockView};
+
+    ghost Value = { StockView };
+
+    ghost view = { λ s. record { pools = length s.pools.items; room = vec_capacity s.pools } };
+}
+
+impl Stock {
+    /// No pool. It takes no memory.
+    pub fn new(alloc: Global) -> Stock
+        ensures { result.pools ≡ 0 }
+    {
+        Stock {
+            pools: Vec::new(alloc),
+        }
+    }
+
+    /// No pool, in a stock of its own. It takes no memory.
+    pub fn none(&self) -> Stock
+        ensures { result.pools ≡ 0 }
+    {
+        Stock::new(*self.pools.allocator())
+    }
+
+    /// Makes so many pools wait, where fewer do. At an error the host has no memory for them, and none is gone;
+    /// where so many wait already it takes none.
+    pub fn reserve(&mut self, count: usize) -> Result<(), AllocError>
+        ensures enough { OnOk result (count ≤ self.new.pools) }
+        ensures lack { OnErr result (self.old.pools < count) }
+        ensures more { self.old.pools ≤ self.new.pools }
+    {
+        let waiting = self.pools.len();
+        if count <= waiting {
+            return Ok(());
+        }
+        let alloc = *self.pools.allocator();
+        self.pools.reserve(count - waiting)?;
+        for _ in waiting..count {
+            self.pools.push_reserved(RtPool::new(alloc)?);
+        }
+        Ok(())
+    }
+
+    /// Takes out a pool in which nothing is queued, if one waits.
+    pub fn take(&mut self) -> Option<RtPool>
+        ensures pool { 0 < self.old.pools → result ≡ Some [] }
+        ensures none { self.old.pools ≡ 0 → result ≡ None }
+        ensures rest { self.new ≡ record (self.old) { pools = self.old.pools - 1 } }
+        ensures room { 0 < self.old.pools → self.new.pools < self.new.room }
+    {
+        match self.pools.pop() {
+            None => None,
+            Some(mut pool) => {
+                pool.clear();
+                Some(pool)
+            }
+        }
+    }
+
+    /// Keeps a pool, if there is one, and room for it; else it is dropped. It takes no memory.
+    pub fn put(&mut self, pool: Option<RtPool>)
+        ensures kept { IsSome pool → self.old.pools < self.old.room → self.new.pools ≡ self.old.pools + 1 }
+        ensures more { self.old.pools ≤ self.new.pools }
+    {
+        if let Some(pool) = pool {
+            if self.pools.len() < self.pools.capacity() {
+                self.pools.push_reserved(pool);
+            }
+        }
+    }
+}
