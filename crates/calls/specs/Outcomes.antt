@@ -93,11 +93,12 @@ slots_before (Err why) = 0
 abbrev pub slots_of_kill : List Process → Target → Result (Option ℕ) Errno → ℕ
 slots_of_kill rs target sig = if is_cont sig then 13 + slots_of_continued rs (meant_in rs target) else 4 + slots_before sig
 
--- How many slots a wait reads at most, by its caller, and a signal that is sent to one process by its number, with those
--- that settling reads. No count is given of other calls that aren't their caller's alone.
+-- the same with its caller, where it is one process
 abbrev pub slots_of_sending : List Process → Process → Target → Option ℕ
 slots_of_sending rs me target = if is_one target then Some (slots_of_kill rs target (signal_or_none (argument me 2)) + 1) else None
 
+-- How many slots a wait reads at most, by its caller, and a signal that is sent to one process by its number, with those
+-- that settling reads. No count is given of other calls that aren't their caller's alone.
 abbrev pub slots_of_brief : Call → List Process → Process → Option ℕ
 slots_of_brief Waitpid rs me = Some (11 + 2 * length (children_in me.pid rs))
 slots_of_brief Kill rs me = slots_of_sending rs me (target_in (argument me 1))

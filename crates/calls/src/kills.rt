@@ -41,6 +41,7 @@ fn message(sender: Pid, value: i64, sig: Option<Sig>) -> Option<PendingSignal>
 }
 
 /// Sends the signal that the second argument names to a target, with a value, by this call of a caller that is there.
+#[inline(always)]
 fn send<K: Kin>(
     machine: &mut Machine<K>,
     me: &Caller,

@@ -152,6 +152,7 @@ impl<K: Kin> Machine<K> {
     /// Sends a signal of a caller to those that its target means and it may signal, and tells whom it found;
     /// `None` only checks. No queue is full for which it would be queued, and a pool waits for each. Where nobody is
     /// found or may be signalled nothing changes (XSH kill).
+    #[inline(always)]
     pub(crate) fn send_with(
         &mut self,
         me: &Caller,
