@@ -1,7 +1,8 @@
 -- What the words of the command line ask for.
-use Rattle.std.proofs.Common.{◌≡◌, ◌⊎◌, ◌∙◌, List, [], ◌∷◌, Option, Some, None, true, ap, ap₂, refl, sym, subst, inl, inr, Bor, codes, option_and_then, option_map, slice_get, find, Result, Ok, Err, IfErr, IsErrAnd, unwrap_or, Bool, if◌then◌else◌}
+use Rattle.std.proofs.Common.{◌≡◌, ◌⊎◌, ◌∙◌, List, [], ◌∷◌, Option, Some, None, true, false, ap, ap₂, refl, sym, subst, inl, inr, Bor, codes, option_and_then, option_map, slice_get, find, Result, Ok, Err, IfErr, IsErrAnd, unwrap_or}
 use Rattle.std.specs.Str.{bytes_eq}
 use Rattle.std.proofs.lemmas.Option.{slice_get-map}
+use Rattle.std.proofs.lemmas.Slice.Eq.{bytes_eq-Decides}
 use Rattle.clap.proofs.OnLiterals.{clap_on_literals}
 use Rattle.clap.proofs.WalkLemmas.{find_row}
 use Rattle.clap.specs.Facts.{Entry}
@@ -17,7 +18,7 @@ use Rattle.clap.specs.declared.error.kind.ErrorKind.{ErrorKind}
 use Rattle.clap.specs.declared.error.kind.ErrorKind.TheVariants as kind
 use Rattle.clap.specs.declared.parser.matches.ArgMatches.{ArgMatches}
 use Rattle.clap.specs.declared.parser.matches.Found.{Found}
-use Rattle.jobk.specs.Words.{command_line, names_in, run_names, unless_refused}
+use Rattle.jobk.specs.Words.{Asked, audit_asked, command_line, request_in, request_of_words, run_asked, unless_refused}
 
 simple_and_free : is_simple_and_free command_line ≡ true
 unfolding clap_on_literals
@@ -27,7 +28,7 @@ simple : is_simple command_line ≡ true
 unfolding clap_on_literals
 simple = refl
 
-where_refused : (kinds : Kinds) (k : ErrorKind) (names : Option (Text × Text)) → IsAmong k kinds → unless_refused kinds names ≡ None
+where_refused : (kinds : Kinds) (k : ErrorKind) (names : Option Asked) → IsAmong k kinds → unless_refused kinds names ≡ None
 where_refused [] k names h = absurd h
 where_refused (x ∷ xs) k names h = refl
 
@@ -37,7 +38,7 @@ err_of (Err x) P e is h = subst P (sym is) h
 
 -- words that are refused for their own sake are no run's
 pub refused_words : (a : App) (words : List Text) (e : Error) → a ≡ command_line
-    → (is_simple_and_free a ≡ true → HasKind (fault_of a words) e) → (kind_of e ≡ kind.OutOfMemory) ⊎ (run_names words ≡ None)
+    → (is_simple_and_free a ≡ true → HasKind (fault_of a words) e) → (kind_of e ≡ kind.OutOfMemory) ⊎ (request_of_words words ≡ None)
 refused_words a words e is_command fails =
     let P : App → Type 0 = λ b. is_simple_and_free b ≡ true → HasKind (fault_of b words) e in
     elim (subst P is_command fails simple_and_free) [
@@ -48,15 +49,15 @@ refused_words a words e is_command fails =
 -- the names in the matches of words that are taken
 pub taken_words : (a : App) (words : List Text) (m : ArgMatches) → a ≡ command_line
     → (is_simple_and_free a ≡ true → fault_of a words ≡ []) → HasMatchesOf a words m
-    → option_and_then names_in (subcommand_rows_of m) ≡ run_names words
+    → option_and_then request_in (subcommand_rows_of m) ≡ request_of_words words
 taken_words a words m is_command fails matches =
     let P : App → Type 0 = λ b. is_simple_and_free b ≡ true → fault_of b words ≡ [] in
     let Q : App → Type 0 = λ b. HasMatchesOf b words m in
     let none : fault_of command_line words ≡ [] = subst P is_command fails simple_and_free in
     let read = (subst Q is_command matches simple).1 in
-    let taken : (kinds : Kinds) → kinds ≡ [] → (names : Option (Text × Text)) → names ≡ unless_refused kinds names =
+    let taken : (kinds : Kinds) → kinds ≡ [] → (names : Option Asked) → names ≡ unless_refused kinds names =
     λ kinds h names. sym (ap (λ k. unless_refused k names) h) in
-    ap (option_and_then names_in) read ∙ taken (fault_of command_line words) none _
+    ap (option_and_then request_in) read ∙ taken (fault_of command_line words) none _
 
 value_of_row : (id : Text) (o : Option Entry)
     → option_and_then (λ r. slice_get r.values 0) (option_map row_of o)
@@ -79,35 +80,28 @@ both_of (Some a) None name rows = cc
 both_of (Some a) (Some b) name rows =
     ap₂ (λ x y. Some (x, y)) (ap (λ o. unwrap_or o a.0) name) (ap (λ o. unwrap_or o a.1) rows)
 
-abbrev named : Option Text → Option Text → Option (Text × Text)
-named world events = option_and_then (λ w. option_map (λ e. (w, e)) events) world
-
-names_now : (world events : Option (Bor Text))
-    → option_and_then {U = Text × Text} (λ w. option_map (λ e. (w.now, e.now)) events) world
-    ≡ named (option_map (λ s. s.now) world) (option_map (λ s. s.now) events)
-names_now None events = refl
-names_now (Some w) None = refl
-names_now (Some w) (Some e) = refl
-
 name_read : {Z : Type 0} (o : Option (Box SubCommand Z))
     → option_map (λ b. (out-SubCommand (box_value b)).name.now) o ≡ option_map (λ (p : Text × List Row). p.0) (subcommand_rows o)
 name_read None = refl
 name_read (Some b) = refl
 
--- the names are those of the two arguments of `run`
-pub names_read : (name : Bor Text) (run : Bor ArgMatches) (m : ArgMatches) (world events : Option (Bor Text))
-    → Some name.now ≡ subcommand_name_of m
-    → Some (rows_of (found_of run.now)) ≡ option_map (λ (p : Text × List Row). p.1) (subcommand_rows_of m)
-    → bytes_eq name.now (codes "run") ≡ true
-    → option_map (λ s. s.now) world ≡ first_value (found_of run.now) (codes "world")
-    → option_map (λ s. s.now) events ≡ first_value (found_of run.now) (codes "events")
-    → option_and_then {U = Text × Text} (λ w. option_map (λ e. (w.now, e.now)) events) world ≡ option_and_then names_in (subcommand_rows_of m)
-names_read name run m world events is_name is_rows is_run is_world is_events =
-    let rows : List Row = rows_of (found_of run.now) in
-    let found : Some (name.now, rows) ≡ subcommand_rows_of m =
-    both_of (Some (name.now, rows)) _ (is_name ∙ name_read (out-ArgMatches m).subcommand) is_rows in
-    let w : option_map (λ s. s.now) world ≡ first_of (codes "world") rows = is_world ∙ sym (first_value_of_row (found_of run.now) (codes "world")) in
-    let e : option_map (λ s. s.now) events ≡ first_of (codes "events") rows = is_events ∙ sym (first_value_of_row (found_of run.now) (codes "events")) in
-    let here : Option (Text × Text) = named (first_of (codes "world") rows) (first_of (codes "events") rows) in
-    let P : Bool → Type 0 = λ b. here ≡ (if b then here else None) in
-    names_now world events ∙ ap₂ named w e ∙ subst P (sym is_run) refl ∙ ap (option_and_then names_in) found
+-- the subcommand that was matched, with its arguments
+pub command_read : (name : Bor Text) (sub : Bor ArgMatches) (m : ArgMatches) → Some name.now ≡ subcommand_name_of m
+    → Some (rows_of (found_of sub.now)) ≡ option_map (λ (p : Text × List Row). p.1) (subcommand_rows_of m) → Some (name.now, rows_of (found_of sub.now)) ≡ subcommand_rows_of m
+command_read name sub m is_name is_rows = both_of (Some (name.now, rows_of (found_of sub.now))) _ (is_name ∙ name_read (out-ArgMatches m).subcommand) is_rows
+
+-- an argument that was matched
+pub argument_read : (sub : Bor ArgMatches) (id : Text) (value : Option (Bor Text)) → option_map (λ s. s.now) value ≡ first_value (found_of sub.now) id
+    → option_map (λ s. s.now) value ≡ first_of id (rows_of (found_of sub.now))
+argument_read sub id value is = is ∙ sym (first_value_of_row (found_of sub.now) id)
+
+-- what is asked for by `run`, and by `audit`
+pub run_read : (name : Text) (rows : List Row) (read : Option (Text × List Row)) → Some (name, rows) ≡ read → bytes_eq name (codes "run") ≡ true
+    → run_asked (first_of (codes "world") rows) (first_of (codes "events") rows) ≡ option_and_then request_in read
+run_read name rows read is run = rw (← is, run) refl
+
+pub audit_read : (name : Text) (rows : List Row) (read : Option (Text × List Row)) → Some (name, rows) ≡ read → bytes_eq name (codes "audit") ≡ true
+    → audit_asked (first_of (codes "trace") rows) ≡ option_and_then request_in read
+audit_read name rows read is audit =
+    let run : bytes_eq name (codes "run") ≡ false = ap (λ n. bytes_eq n (codes "run")) ((bytes_eq-Decides name (codes "audit")).0 audit) in
+    rw (← is, run, audit) refl

@@ -7,12 +7,20 @@ use Rattle.clap.specs.declared.builder.ArgAction.TheVariants.{Set}
 use Rattle.jobk.specs.declared.words.Request.{Request}
 use Rattle.jobk.specs.declared.words.Request.TheVariants as request
 
--- `run WORLD EVENTS`
+-- what words ask for, with the names of files
+pub data Asked : Type 0 where
+  AsksRun : Text → Text → Asked  -- world and events
+  AsksAudit : Text → Asked  -- trace
+
+-- `run WORLD EVENTS` and `audit TRACE`
 abbrev pub required_rule : Text → Rule
 required_rule id = record (new_rule id) { required = true; action = Some Set }
 
 abbrev pub run_command : App
 run_command = with_rule (with_rule (new_app (codes "run")) (required_rule (codes "world"))) (required_rule (codes "events"))
+
+abbrev pub audit_command : App
+audit_command = with_rule (new_app (codes "audit")) (required_rule (codes "trace"))
 
 abbrev pub without_program_name : Shape → Shape
 without_program_name command = record command { no_binary_name = true }
@@ -21,31 +29,40 @@ abbrev pub with_required_subcommand : Shape → Shape
 with_required_subcommand command = record command { subcommand_required = true }
 
 abbrev pub command_line : App
-command_line = with_subcommand (on_top with_required_subcommand (on_top without_program_name (new_app (codes "jobk")))) run_command.top
+command_line = with_subcommand (with_subcommand (on_top with_required_subcommand (on_top without_program_name (new_app (codes "jobk")))) run_command.top) audit_command.top
 
--- The names of the two files behind `run`, of the words that were read.
-abbrev pub names_in : Text × List Row → Option (Text × Text)
-names_in read = if bytes_eq read.0 (codes "run")
-    then option_and_then (λ world. option_map (λ events. (world, events)) (first_of (codes "events") read.1)) (first_of (codes "world") read.1)
+-- A run is asked for by two names, and an audit by one.
+abbrev pub run_asked : Option Text → Option Text → Option Asked
+run_asked world events = option_and_then (λ w. option_map (λ e. AsksRun w e) events) world
+
+abbrev pub audit_asked : Option Text → Option Asked
+audit_asked trace = option_map (λ t. AsksAudit t) trace
+
+-- What a subcommand's name and arguments ask for.
+abbrev pub request_in : Text × List Row → Option Asked
+request_in read = if bytes_eq read.0 (codes "run") then run_asked (first_of (codes "world") read.1) (first_of (codes "events") read.1)
+    else if bytes_eq read.0 (codes "audit") then audit_asked (first_of (codes "trace") read.1)
     else None
 
--- The names, where the words aren't refused.
-abbrev pub unless_refused : Kinds → Option (Text × Text) → Option (Text × Text)
-unless_refused [] names = names
-unless_refused (kind ∷ more) names = None
+-- What is asked for, where the words aren't refused.
+abbrev pub unless_refused : Kinds → Option Asked → Option Asked
+unless_refused [] asked = asked
+unless_refused (kind ∷ more) asked = None
 
--- The names of the two files, where the words are a run's.
-abbrev pub run_names : List Text → Option (Text × Text)
-run_names words = unless_refused (fault_of command_line words) (option_and_then names_in (subcommand_of command_line words))
+-- What words ask for, if they aren't refused.
+abbrev pub request_of_words : List Text → Option Asked
+request_of_words words = unless_refused (fault_of command_line words) (option_and_then request_in (subcommand_of command_line words))
 
--- The names in a request.
-abbrev pub names_of : Request → Option (Text × Text)
-names_of (request.Run world events) = Some (world.now, events.now)
-names_of request.Usage = None
-names_of request.NoMemory = None
+-- What a request asks for.
+abbrev pub said : Request → Option Asked
+said (request.Run world events) = Some (AsksRun world.now events.now)
+said (request.Audit trace) = Some (AsksAudit trace.now)
+said request.Usage = None
+said request.NoMemory = None
 
 -- The request is what these words ask for, or there was no memory to read them.
 abbrev pub IsAskedBy : List Text → Request → Type 0
 IsAskedBy words request.NoMemory = Unit {0}
-IsAskedBy words (request.Run world events) = Some (world.now, events.now) ≡ run_names words
-IsAskedBy words request.Usage = None ≡ run_names words
+IsAskedBy words (request.Run world events) = Some (AsksRun world.now events.now) ≡ request_of_words words
+IsAskedBy words (request.Audit trace) = Some (AsksAudit trace.now) ≡ request_of_words words
+IsAskedBy words request.Usage = None ≡ request_of_words words

@@ -1,4 +1,4 @@
-//! `jobk`: runs a world of small programs over a list of events, and prints the trace.
+//! `jobk`: runs a world of small programs over a list of events, and prints the trace; or audits a trace.
 #![tactic(auto)]
 
 #[cfg(test)]

@@ -1,10 +1,12 @@
 //! What the program does: its texts and its statuses.
 
-ghost use Rattle.std.specs.Prelude.{◌≡◌, ◌≤◌, IfOk, IfSome, map};
-ghost use Rattle.jobk.specs.Serving.{AreInFiles, AreOther, AskFor, Contents, Ends, Means, failure_of, status_of};
+ghost use Rattle.std.specs.Prelude.{◌≡◌, ◌≤◌, IfOk, IfErr, IfSome, OnOk, map};
+ghost use Rattle.sink.specs.Sinks.{TakesAll};
+ghost use Rattle.jobk.specs.Serving.{AreInFiles, AreOther, AskFor, AskForAudit, Contents, Ends, Means, failure_of, status_of};
 
 use crate::words::{Request, requested};
 use arrayvec::ArrayString;
+use audit::{AuditFault, TraceFault, audit_text};
 use kernel::{RunError, Sink, SinkFault, put_all, run};
 use std::alloc::Global;
 use std::fmt::Write;
@@ -44,6 +46,8 @@ enum Failure<'a> {
     Usage,
     CannotRead(&'a str),
     Run(RunError),
+    /// An audit found a fault, and told it.
+    Faulty,
 }
 
 const USAGE: &[u8] = b"usage: jobk run WORLD EVENTS | jobk audit TRACE\n";
@@ -70,7 +74,7 @@ impl<'a> Failure<'a> {
         ensures { result ≡ status_of self.entry }
     {
         match self {
-            Failure::Run(RunError::World(_) | RunError::Events(_)) => 1,
+            Failure::Faulty | Failure::Run(RunError::World(_) | RunError::Events(_)) => 1,
             Failure::Usage => 2,
             Failure::CannotRead(_) | Failure::Run(RunError::Memory | RunError::Write) => 3,
         }
@@ -84,7 +88,7 @@ fn run_texts<'a, O: Sink>(
     events: &[u8],
     out: &mut O,
 ) -> Result<(), Failure<'a>>
-    ensures { Ends (λ w e. (w ≡ world.now) × (e ≡ events.now)) ⊥
+    ensures { Ends (λ w e. (w ≡ world.now) × (e ≡ events.now)) (λ t. ⊥) ⊥
         out.old out.new (O.seen out.old) (O.seen out.new) result }
 {
     match run(alloc, world, events, out) {
@@ -101,7 +105,7 @@ fn run_files<'a, F: ReadFiles, O: Sink>(
     events: &'a str,
     out: &mut O,
 ) -> Result<(), Failure<'a>>
-    ensures { Ends (AreInFiles (F.contents files.now) (world.entry.now, events.entry.now)) ⊥
+    ensures { Ends (AreInFiles (F.contents files.now) (world.entry.now, events.entry.now)) (λ t. ⊥) ⊥
         out.old out.new (O.seen out.old) (O.seen out.new) result }
 {
     let world_bytes = files
@@ -113,6 +117,54 @@ fn run_files<'a, F: ReadFiles, O: Sink>(
     run_texts(alloc, world_bytes.as_slice(), event_bytes.as_slice(), out)
 }
 
+/// Puts the answer of an audit.
+fn put_answer<'a, O: Sink>(answer: &[u8], out: &mut O) -> Result<(), Failure<'a>>
+    ensures ok { OnOk result (TakesAll (O.seen out.old) (O.seen out.new) answer.now) }
+    ensures err { IfErr result (λ why. why ≡ Failure.Run RunError.Write) }
+{
+    put_all(out, answer).map_err(|_| Failure::Run(RunError::Write))
+}
+
+/// Tells the first fault of a trace. The longest of these texts has less than 40 bytes.
+fn put_fault<'a, O: Sink>(why: TraceFault, out: &mut O) -> Result<(), Failure<'a>>
+    ensures { IfErr result (λ why. why ≡ Failure.Run RunError.Write) }
+{
+    let mut text = ArrayString::<64>::new();
+    let _ = writeln!(text, "line {}: fault {}", why.line, why.fault.number());
+    put_answer(text.as_str().as_bytes(), out)
+}
+
+/// Audits a trace.
+fn audit_trace<'a, O: Sink>(alloc: Global, trace: &[u8], out: &mut O) -> Result<(), Failure<'a>>
+    ensures { Ends (λ w e. ⊥) (λ t. t ≡ trace.now) ⊥
+        out.old out.new (O.seen out.old) (O.seen out.new) result }
+{
+    match audit_text(alloc, trace) {
+        Ok(()) => put_answer(b"ok\n", out),
+        Err(why) if why.fault == AuditFault::Memory => Err(Failure::Run(RunError::Memory)),
+        Err(why) => {
+            put_fault(why, out)?;
+            Err(Failure::Faulty)
+        }
+    }
+}
+
+/// Audits a file.
+fn audit_file<'a, F: ReadFiles, O: Sink>(
+    alloc: Global,
+    files: &F,
+    trace: &'a str,
+    out: &mut O,
+) -> Result<(), Failure<'a>>
+    ensures { Ends (λ w e. ⊥) (λ t. IfSome (F.contents files.now trace.entry.now) (λ known. t ≡ known)) ⊥
+        out.old out.new (O.seen out.old) (O.seen out.new) result }
+{
+    let bytes = files
+        .read_file(trace)
+        .map_err(|fault| Failure::of_file(fault, trace))?;
+    audit_trace(alloc, bytes.as_slice(), out)
+}
+
 /// Does what the words ask for.
 fn serve_words<'a, F: ReadFiles, O: Sink>(
     alloc: Global,
@@ -121,7 +173,7 @@ fn serve_words<'a, F: ReadFiles, O: Sink>(
     out: &mut O,
 ) -> Result<(), Failure<'a>>
     ensures { let texts = map (λ w. w.now) words.entry.now in
-        Ends (AskFor (F.contents files.now) texts) (AreOther texts)
+        Ends (AskFor (F.contents files.now) texts) (AskForAudit (F.contents files.now) texts) (AreOther texts)
         out.old out.new (O.seen out.old) (O.seen out.new) result }
 {
     if words.is_empty() {
@@ -129,6 +181,7 @@ fn serve_words<'a, F: ReadFiles, O: Sink>(
     }
     match requested(alloc, words) {
         Request::Run { world, events } => run_files(alloc, files, world, events, out),
+        Request::Audit { trace } => audit_file(alloc, files, trace, out),
         Request::Usage => Err(Failure::Usage),
         Request::NoMemory => Err(Failure::Run(RunError::Memory)),
     }
@@ -144,6 +197,7 @@ fn tell<E: Sink>(failure: Failure<'_>, err: &mut E) -> Result<(), SinkFault> {
             put_all(err, b"\n")
         }
         Failure::Run(why) => tell_run_error(why, err),
+        Failure::Faulty => Ok(()),
     }
 }
 
@@ -155,9 +209,9 @@ fn tell_run_error<E: Sink>(why: RunError, err: &mut E) -> Result<(), SinkFault> 
 }
 
 /// Does what the words of the command line ask for, without the program's name, and gives the status
-/// of the program: 0 when it is done, 1 for a refused text, 2 for other words, 3 for a device or
-/// memory. Traces go to `out` and messages to `err`; a failing `err` changes no status. Without any
-/// words the program runs its own stored world.
+/// of the program: 0 when it is done, 1 for a refused text or a faulty trace, 2 for other words, 3 for a
+/// device or memory. Traces and the answers of audits go to `out` and messages to `err`; a failing `err`
+/// changes no status. Without any words the program runs its own stored world.
 pub fn serve<'a, F: ReadFiles, O: Sink, E: Sink>(
     alloc: Global,
     words: Result<&'a [&'a str], WordsFault>,

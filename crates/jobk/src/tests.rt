@@ -52,6 +52,9 @@ const UNKNOWN_NAME: &[u8] = b"pidmax 40\nconsoles 1\nprogram init\njmp away\nend
 
 const TRACE: &[u8] = b"2 note 1 7\n3 end 1 1792\n3 halt\n";
 
+const REPORTED_TWICE: &[u8] =
+    b"1 call 1 fork = 2\n3 end 2 0\n5 call 1 waitpid = 2 status 0\n7 call 1 waitpid = 2 status 0\n";
+
 const USAGE: &[u8] = b"usage: jobk run WORLD EVENTS | jobk audit TRACE\n";
 
 const NO_MEMORY: &[u8] = b"jobk: out of memory\n";
@@ -189,7 +192,8 @@ fn words_are_served_or_refused(rt: HostRuntime) {
     expect_words(&rt, Ok(&["run", "--", "world", "events"]), TRACE, b"", 0);
     expect_words(&rt, Ok(&["run", "world"]), b"", USAGE, 2);
     expect_words(&rt, Ok(&["run", "world", "events", "more"]), b"", USAGE, 2);
-    expect_words(&rt, Ok(&["audit", "world"]), b"", USAGE, 2);
+    expect_words(&rt, Ok(&["audit"]), b"", USAGE, 2);
+    expect_words(&rt, Ok(&["audit", "world", "events"]), b"", USAGE, 2);
     expect_words(&rt, Ok(&["--help"]), b"", USAGE, 2);
     expect_words(&rt, Err(WordsFault::NotText), b"", USAGE, 2);
     expect_words(&rt, Err(WordsFault::Memory), b"", NO_MEMORY, 3);
@@ -201,6 +205,44 @@ fn files_are_refused(rt: HostRuntime) {
     expect_words(&rt, Ok(&["run", "gone", "lost"]), b"", gone, 3);
     expect_words(&rt, Ok(&["run", "world", "gone"]), b"", gone, 3);
     expect_words(&rt, Ok(&["run", "too_large", "events"]), b"", NO_MEMORY, 3);
+    expect_words(&rt, Ok(&["audit", "gone"]), b"", gone, 3);
+    expect_words(&rt, Ok(&["audit", "too_large"]), b"", NO_MEMORY, 3);
+}
+
+/// A trace in a file is audited with this answer and this status.
+fn expect_audit<R: Abort + AllocGlobal>(rt: &R, trace: &'static [u8], answer: &[u8], status: u8) {
+    let files = MemoryFiles {
+        alloc: rt.alloc(),
+        world: trace,
+        events: b"",
+    };
+    expect_served(rt, &files, Ok(&["audit", "world"]), answer, b"", status);
+}
+
+#[test]
+fn traces_are_audited(rt: HostRuntime) {
+    expect_audit(&rt, TRACE, b"ok\n", 0);
+    expect_audit(&rt, b"", b"ok\n", 0);
+    expect_audit(&rt, b"2 note 1 7", b"line 1: fault 1\n", 1);
+    expect_audit(&rt, REPORTED_TWICE, b"line 4: fault 4\n", 1);
+    expect_audit(&rt, NOTE_AND_EXIT, b"line 1: fault 1\n", 1);
+}
+
+#[test]
+fn an_output_takes_no_answer(rt: HostRuntime) {
+    let files = MemoryFiles {
+        alloc: rt.alloc(),
+        world: TRACE,
+        events: b"",
+    };
+    let mut out = WriteSink::new(ArrayVec::<u8, 2>::new());
+    let mut err = WriteSink::new(Vec::<u8>::new(rt.alloc()));
+    let words = ["audit", "world"];
+    let status = serve(rt.alloc(), Ok(&words), &files, &mut out, &mut err);
+    expect_equal(&rt, status, 3);
+    expect_equal(&rt, out.into_writer().as_slice(), b"ok".as_slice());
+    let told = b"jobk: cannot write\n".as_slice();
+    expect_equal(&rt, err.into_writer().as_slice(), told);
 }
 
 #[test]

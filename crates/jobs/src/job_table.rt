@@ -223,6 +223,7 @@ impl<K: Kin> JobTable<K> {
 
     /// Changes the signals of a process that is there, and its alarm, which moves in the index. Each such change goes
     /// by this, but a loan. What the closure gave, and whether a signal is chosen for the process now.
+    #[inline(always)]
     pub fn change<T, F: FnOnce(&mut Record) -> T>(&mut self, pid: Pid, change: F) -> (T, bool)
         requires there { IsSome (lookup pid self.old.processes) }
         requires callable { F.IsAlwaysCallable change }

@@ -33,7 +33,8 @@ use Rattle.posix.proofs.MapLemmas.{at_pid, lookup_back}
 use Rattle.posix.proofs.RegularLemmas.{lookup_left, lookup_inserted, lookup_new}
 use Rattle.posix.proofs.WalkLemmas.{all_looked, in_filter}
 use Rattle.posix.proofs.TouchLemmas.{unseen_signalled, unseen_noticed, unseen_ring}
-use Rattle.posix.proofs.ChangeLemmas.{continued_cont, unseen_noticed_of_change}
+use Rattle.posix.proofs.ChangeLemmas.{unseen_noticed_of_change}
+use Rattle.posix.proofs.RealtimeLemmas.{generated_alone, key_standard}
 use Rattle.posix.proofs.ConsoleLemmas.{place_of}
 use Rattle.laws.proofs.KindLemmas.{and_both, all_set, all_found, all_append, all_take, all_drop, all_map, small_i64}
 use Rattle.laws.proofs.KindChanges.{KeepsKind, HasRoom, standard_room, kind_signalled, kind_noticed, kind_noticed_of_change, kind_resumed, kind_ring, kind_made_zombie, kind_ended, kind_reparented}
@@ -112,21 +113,9 @@ kinds_signalled signal c standard (p ∷ ps) rs h =
 others_stay : (signal : PendingSignal) (p q : ℕ) (rs : List Process) → is_realtime signal.sig ≡ true → q ≢ p → lookup q (generated_for signal (lookup p rs) rs) ≡ lookup q rs
 others_stay signal p q rs real other = by (lookup p rs) refl
   where
-    never_continues : (r : Process) → effect_of r.pid r.life signal r.signals ≡ effect.Continued → ⊥
-    never_continues r e =
-        let is : signal.sig ≡ CONT = eqb-true signal.sig CONT (continued_cont r.pid signal r e) in
-        let no : is_realtime CONT ≡ true = sym (ap is_realtime is) ∙ real in
-        absurd (cc)
-
-    acts : (r : Process) → lookup p rs ≡ Some r → (w : Effect) → effect_of r.pid r.life signal r.signals ≡ w → lookup q (acted_upon w r (changed r.pid (signalled signal) rs)) ≡ lookup q rs
-    acts r e effect.Nothing w =
-        let apart : (q == r.pid) ≡ false = ap (λ n. q == n) (pid_looked p rs r e) ∙ ne_eqb q p other in
-        lookup_changed r.pid q (signalled signal) (unseen_signalled signal).pid rs ∙ rw apart refl
-    acts r e effect.Continued w = absurd (never_continues r w)
-
     by : (o : Option Process) → lookup p rs ≡ o → lookup q (generated_for signal o rs) ≡ lookup q rs
     by None e = refl
-    by (Some r) e = acts r e (effect_of r.pid r.life signal r.signals) refl
+    by (Some r) e = ap (lookup q) (generated_alone signal p r rs real e) ∙ lookup_changed p q (signalled signal) (unseen_signalled signal).pid rs ∙ rw (ne_eqb q p other) refl
 
 -- the process is there, and where the signal would be queued for it there is room
 abbrev pub IsThereWithRoom : List Process → ℕ → Process → Type 0
@@ -326,17 +315,6 @@ kinds_from : (o : Option ℕ) (group : ℕ) (rs : List Process) → ((n : ℕ) �
 kinds_from None group rs standard h = h
 kinds_from (Some n) group rs standard h = kinds_group n group rs (standard n refl) h
 
--- a key gives a standard signal
-key_standard : (byte n : ℕ) → key_signal byte ≡ Some n → is_realtime n ≡ false
-unfolding key_signal
-key_standard byte n e = by (byte == 3) (byte == 28) (byte == 26) e
-  where
-    by : (a b c : Bool) → cond a (Some INT) (cond b (Some QUIT) (cond c (Some TSTP) None)) ≡ Some n → is_realtime n ≡ false
-    by true b c h = let same : INT ≡ n = cc in subst (λ m. is_realtime m ≡ false) same refl
-    by false true c h = let same : QUIT ≡ n = cc in subst (λ m. is_realtime m ≡ false) same refl
-    by false false true h = let same : TSTP ≡ n = cc in subst (λ m. is_realtime m ≡ false) same refl
-    by false false false h = absurd (cc)
-
 pub kinds_key : (s : State) (console byte : ℕ) → byte < 256 → AreKinds s → AreKinds (key s console byte)
 unfolding key
 kinds_key s console byte small h = on (console_at console s.consoles) refl
@@ -350,7 +328,7 @@ kinds_key s console byte small h = on (console_at console s.consoles) refl
 
     on : (o : Option Console) → console_at console s.consoles ≡ o → AreKinds (key_on s console byte o)
     on None e = h
-    on (Some c) e = record { world = h.world; records = kinds_from (key_signal byte) c.foreground s.processes (key_standard byte) h.records; consoles = put console c e }
+    on (Some c) e = record { world = h.world; records = kinds_from (key_signal byte) c.foreground s.processes (λ n given. (key_standard byte n given).0) h.records; consoles = put console c e }
 
 -- ---- ticks, and to settle
 

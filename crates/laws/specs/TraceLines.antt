@@ -1,11 +1,12 @@
--- Lines of a trace: status words, and the ranges of what each form holds.
-use Rattle.std.specs.Prelude.{ℕ, ◌/◌, ◌%◌, ◌==◌, ◌&&◌, ◌||◌, Bool, true, false, length, nat_le, nat_lt, ℤ, pos, negsuc, int_le}
+-- Lines of a trace: status words, the ranges of what each form holds, and which text says a line.
+use Rattle.std.specs.Prelude.{ℕ, ◌/◌, ◌%◌, ◌≡◌, ◌==◌, ◌&&◌, ◌||◌, Bool, true, false, List, [], ◌∷◌, ◌++◌, length, nat_le, nat_lt, ℤ, pos, negsuc, int_le}
 use Rattle.std.specs.List.{list_all}
 use Rattle.posix.specs.declared.entry.Entry.{Entry}
 use Rattle.posix.specs.declared.entry.Entry.TheVariants.{Noted, Called, Moved, Reported, NoMemory, Handled, Discarded, Stopped, Returned, Ended, Halted}
 use Rattle.posix.specs.declared.call.Call.{Call}
 use Rattle.posix.specs.declared.call.Call.TheVariants.{Exit, Fork, Waitpid, Kill, Sigqueue, Sigreturn, Read, Write}
 use Rattle.posix.specs.Entries.{Line}
+use Rattle.posix.specs.Printing.{print_line}
 use Rattle.posix.specs.SignalNumbers.{is_signal, is_stop_signal}
 use Rattle.posix.specs.Statuses.{continued}
 
@@ -70,3 +71,7 @@ is_entry Halted = true
 -- an event has a number from 1 to 1,000,000,000,000
 abbrev pub is_line : Line → Bool
 is_line l = nat_le 1 l.event && nat_le l.event 1000000000000 && is_entry l.entry
+
+-- a text without its line feed says a line: it is the line as printed, which has one of the forms
+abbrev pub Says : List ℕ → Line → Type 0
+Says text l = (text ++ 10 ∷ [] ≡ print_line l) × (is_line l ≡ true)

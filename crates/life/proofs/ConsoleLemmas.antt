@@ -1,10 +1,10 @@
 -- A machine that gets another console in the place of one.
-use Rattle.std.proofs.Common.{◌≡◌, ◌≢◌, ℕ, suc, ◌+◌, ◌*◌, ◌≤◌, ◌==◌, Bool, true, false, cond, not, ◌&&◌, ◌||◌, refl, ap, sym, ◌∙◌, arith, subst, List, [], Option, Some, None, is_some, length, nat_lt, slice_get, slice_set, slice_index_or, inl, inr, ⊎_elim, rules}
+use Rattle.std.proofs.Common.{◌≡◌, ◌≢◌, ℕ, suc, ◌+◌, ◌*◌, ◌≤◌, ◌==◌, true, false, cond, not, ◌&&◌, ◌||◌, refl, ap, sym, ◌∙◌, arith, subst, List, [], Option, Some, None, is_some, length, nat_lt, slice_get, slice_set, slice_index_or, inl, inr, ⊎_elim, rules}
 use Rattle.std.proofs.lemmas.Bool.{false_from_ne_true, true_from_ne_false, or_cases, eqb-true, eqb-false, and_parts, not-true, or_right, ltb-true, cond_both, both_ways}
 use Rattle.std.proofs.lemmas.Option.{get_or_from_slice_get, slice_get_read, same_Some}
 use Rattle.posix.specs.declared.process.Blocked.{Blocked}
 use Rattle.posix.specs.declared.process.Blocked.TheVariants as blocked
-use Rattle.posix.specs.SignalNumbers.{CONT, HUP, INT, QUIT, TSTP, is_realtime}
+use Rattle.posix.specs.SignalNumbers.{HUP}
 use Rattle.posix.specs.Processes.{Process, is_running}
 use Rattle.posix.specs.States.{State, process, is_in, has_place}
 use Rattle.posix.specs.Consoles.{Console, console_of, changed_console, key_signal, keyed, edit, flushed, finish_line, released}
@@ -19,6 +19,7 @@ use Rattle.posix.proofs.TableLemmas.{pid_looked}
 use Rattle.posix.proofs.SeeLemmas.{block_read, acts_reading}
 use Rattle.posix.proofs.ConsoleLemmas.{consoles_set, consoles_freed, consoles_acquired, none_of, changed_at_place, regular_consoles, console_is, found_put, changed_none}
 use Rattle.posix.proofs.ReaderLemmas.{IsOfOrFree, console_of_set, touches_unread}
+use Rattle.posix.proofs.RealtimeLemmas.{key_standard}
 use Rattle.pidalloc.specs.Rows.{Pids}
 use Rattle.sched.specs.Places.{Places}
 use Rattle.pidset.specs.Numbers.{PidSetView}
@@ -259,25 +260,7 @@ leader_hangs_up s k p me c i found leads at own = grind (arith, i, found, leads,
 
 -- ---- how many slots are read
 
--- the signal of a key is a standard signal
-pub key_standard : (byte sig : ℕ) → Some sig ≡ key_signal byte → is_realtime sig ≡ false
-unfolding key_signal
-key_standard byte sig e = by (byte == 3) (byte == 28) (byte == 26) e
-  where
-    by : (a b c : Bool) → Some sig ≡ cond a (Some INT) (cond b (Some QUIT) (cond c (Some TSTP) None)) → is_realtime sig ≡ false
-    by false false false e = absurd (cc)
-    by a b c e = rw (same_Some _ _ e) refl
-
--- and continues nobody
-pub key_plain : (byte sig : ℕ) → Some sig ≡ key_signal byte → (sig == CONT) ≡ false
-unfolding key_signal
-key_plain byte sig e = by (byte == 3) (byte == 28) (byte == 26) e
-  where
-    by : (a b c : Bool) → Some sig ≡ cond a (Some INT) (cond b (Some QUIT) (cond c (Some TSTP) None)) → (sig == CONT) ≡ false
-    by false false false e = absurd (cc)
-    by a b c e = rw (same_Some _ _ e) refl
-
--- and none that gives a signal ends a line
+-- no key that gives a signal ends a line
 pub key_is_no_end : (byte : ℕ) → key_signal byte ≢ None → (byte == 10 || byte == 4) ≡ false
 unfolding key_signal
 key_is_no_end byte some = false_from_ne_true _ (λ e. ⊎_elim (λ k. some (rw (eqb-true byte 10 k) refl)) (λ k. some (rw (eqb-true byte 4 k) refl)) (or_cases _ _ e))
@@ -285,7 +268,7 @@ key_is_no_end byte some = false_from_ne_true _ (λ e. ⊎_elim (λ k. some (rw (
 -- where a key gives a signal
 pub slots_of_signalled : (m : MachineView) (console k byte sig group : ℕ) (c : Console) (rs : List Process) → console ≡ suc k → slice_get m.state.consoles k ≡ Some c → Some sig ≡ key_signal byte → group ≡ c.foreground → rs ≡ m.state.processes
     → 1 + (2 + slots_of_signal sig) * length (members_in group rs) ≤ slots_of_key console byte m
-slots_of_signalled m console k byte sig group c rs number found signal foreground same = rw (number, found, ← signal, foreground, same, key_plain byte sig signal) (omega arith)
+slots_of_signalled m console k byte sig group c rs number found signal foreground same = rw (number, found, ← signal, foreground, same, (key_standard byte sig (sym signal)).1) (omega arith)
 
 -- where a session's terminal hangs up
 pub slots_hung_up : (m : MachineView) (me : Process) (k group : ℕ) (c : Console) (rs : List Process) → hangs_up (snapshot_of me) ≡ true → rs ≡ m.state.processes → slice_get m.state.consoles k ≡ Some c

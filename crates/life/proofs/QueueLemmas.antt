@@ -8,24 +8,22 @@ use Rattle.std.proofs.lemmas.Option.{same_Some}
 use Rattle.std.proofs.lemmas.List.{length-append}
 use Rattle.std.proofs.lemmas.List.Elements.{filter-append}
 use Rattle.std.proofs.lemmas.List.Folds.{list_any-append}
-use Rattle.posix.specs.declared.process.Effect.TheVariants as effect
-use Rattle.posix.specs.declared.process.Life.{Life}
 use Rattle.posix.specs.declared.process.PendingSignal.{PendingSignal}
 use Rattle.posix.specs.declared.process.Sending.{Sending}
 use Rattle.posix.specs.declared.process.Sending.TheVariants as found
 use Rattle.posix.specs.declared.target.Target.{Target}
-use Rattle.posix.specs.SignalNumbers.{is_realtime, is_stop_signal, CONT}
+use Rattle.posix.specs.SignalNumbers.{is_realtime}
 use Rattle.posix.specs.Processes.{Process, Signals}
 use Rattle.posix.specs.Tables.{IsRising, IsNext, lookup, changed, pids, above, left_of}
 use Rattle.posix.specs.Credentials.{may}
-use Rattle.posix.specs.Generation.{signalled, generated, effect_of, gets_no_signals, keeps, after_discards, make_pending}
-use Rattle.posix.specs.Notices.{acted_upon, generated_for, signalled_all}
+use Rattle.posix.specs.Generation.{signalled, generated, gets_no_signals, keeps, after_discards, make_pending}
+use Rattle.posix.specs.Notices.{generated_for, signalled_all}
 use Rattle.posix.specs.Sends.{sending, sending_found, sending_permitted, sent, queued_for, has_full_queue, is_queuer, is_target, targets, permitted, queuers, queuers_among, number_of, sent_among}
 use Rattle.posix.proofs.TableLemmas.{pid_looked}
+use Rattle.posix.proofs.RealtimeLemmas.{realtime_not, generated_alone}
 use Rattle.posix.proofs.WalkLemmas.{numbered, numbered_one, numbered_none, rest_of_walk, walk_splits}
 use Rattle.posix.proofs.RegularLemmas.{Keeps, keeps_cond, keeps_none, keeps_signalled}
 use Rattle.signal.specs.declared.rt_pool.RtPool.{RtPool}
-use Rattle.signal.specs.Stocks.{StockView}
 use Rattle.proctable.specs.Records.{queued}
 use Rattle.jobs.proofs.RunLemmas.{OnlySignals}
 use Rattle.life.specs.Queues.{HaveRoom, survey_of, Sends, is_sent, sent_as, rechecking_as}
@@ -36,15 +34,6 @@ use Rattle.life.specs.Rechecks.{rechecking_all, rechecking_generated, rechecking
 use Rattle.life.proofs.SignalLemmas.{only_signalled}
 
 -- ---- real-time signals
-
--- none is CONT or stops
-realtime_not : (n : ℕ) → is_realtime n ≡ true → ((n == CONT) ≡ false) × (is_stop_signal n ≡ false)
-realtime_not n e = (grind (arith, nat_tests, e), grind (arith, nat_tests, e))
-
--- it does nothing at once
-pub realtime_effect : (p : ℕ) (life : Life) (m : PendingSignal) (g : Signals) → is_realtime m.sig ≡ true → effect_of p life m g ≡ effect.Nothing
-unfolding effect_of
-realtime_effect p life m g e = rw (realtime_not m.sig e).0 refl
 
 -- a process that doesn't queue it stays as it is
 pub unqueued_same : (m : PendingSignal) (r : Process) → is_realtime m.sig ≡ true → is_queuer m.sig r ≡ false → signalled m r ≡ r
@@ -115,10 +104,7 @@ pid_signalled m r = refl
 
 behind_generated : (m : PendingSignal) (p : ℕ) (o : Option Process) (rs : List Process) → is_realtime m.sig ≡ true → lookup p rs ≡ o → above p (generated_for m o rs) ≡ above p rs
 behind_generated m p None rs e is = refl
-behind_generated m p (Some r) rs e is =
-    ap (λ w. above p (acted_upon w r (changed r.pid (signalled m) rs))) (realtime_effect r.pid r.life m r.signals e)
-    ∙ ap (λ q. above p (changed q (signalled m) rs)) (pid_looked p rs r is)
-    ∙ behind_changed p (signalled m) (pid_signalled m) rs
+behind_generated m p (Some r) rs e is = ap (above p) (generated_alone m p r rs e is) ∙ behind_changed p (signalled m) (pid_signalled m) rs
 
 -- so it is once p got it, if it did
 behind_all : (m : PendingSignal) (p : ℕ) (rs : List Process) (qs : List Process) → is_realtime m.sig ≡ true → (qs ≡ []) ⊎ ((q : Process) × (qs ≡ q ∷ []) × (q.pid ≡ p)) → above p (signalled_all m (pids qs) rs) ≡ above p rs
@@ -205,15 +191,15 @@ pools_left n m s r most none = elim (is_queuer s r) as (λ b. is_queuer s r ≡ 
 abbrev pub comes_back : ℕ → Option RtPool → Process → Option RtPool → Type 0
 comes_back n pool r left = (is_queuer n r ≡ true) ⊎ (left ≡ pool)
 
--- a stock from which a pool is taken, if there is one, to which comes back what is left
-pub stock_left : (s n : ℕ) (pool left : Option RtPool) (mid new : StockView) (r : Process) → mid.pools ≡ n - 1 → (0 < n → pool ≡ Some []) → (0 < n → mid.pools < mid.room)
-    → (IsSome left → mid.pools < mid.room → new.pools ≡ mid.pools + 1) → mid.pools ≤ new.pools → comes_back s pool r left → n ≤ new.pools + length (queuers (Some s) (r ∷ []))
-stock_left s n pool left mid new r rest some room kept more says = pools_left n new.pools s r (omega (arith, rest, more)) (λ none. by (cases_lt 0 n) none says)
+-- where a pool is taken, if there is one, and what is left comes back
+pub pools_put : (s n mid room new : ℕ) (pool left : Option RtPool) (r : Process) → mid ≡ n - 1 → (0 < n → pool ≡ Some []) → (0 < n → mid < room)
+    → (IsSome left → mid < room → new ≡ mid + 1) → mid ≤ new → comes_back s pool r left → n ≤ new + length (queuers (Some s) (r ∷ []))
+pools_put s n mid room new pool left r rest some free kept more says = pools_left n new s r (omega (arith, rest, more)) (λ none. by (cases_lt 0 n) none says)
   where
-    by : (0 < n) ⊎ (n ≤ 0) → is_queuer s r ≡ false → comes_back s pool r left → n ≤ new.pools
+    by : (0 < n) ⊎ (n ≤ 0) → is_queuer s r ≡ false → comes_back s pool r left → n ≤ new
     by (inr nothing) none says = omega (arith, nothing)
     by (inl there) none (inl keeps) = absurd (true≢false (sym keeps ∙ none))
-    by (inl there) none (inr back) = let one = kept (subst IsSome (sym (back ∙ some there)) refl) (room there) in omega (arith, rest, one, there)
+    by (inl there) none (inr back) = let one = kept (subst IsSome (sym (back ∙ some there)) refl) (free there) in omega (arith, rest, one, there)
 
 -- ---- one process that is meant
 

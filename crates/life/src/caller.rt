@@ -60,6 +60,7 @@ impl Caller {
 
 impl<K: Kin> Machine<K> {
     /// A process that is there as the caller of a call. Nothing changes.
+    #[inline(always)]
     pub fn caller(&mut self, pid: Pid) -> Caller
         requires { IsThere pid self.old }
         ensures pid { result.pid ≡ pid }

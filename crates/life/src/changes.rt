@@ -31,6 +31,7 @@ impl<K: Kin> Machine<K> {
     /// Changes the signals of a process that is there, and its alarm: the process is to be rechecked where a signal is
     /// chosen for it then and it has no place, as otherwise it can act no more than before. Each such change goes by
     /// this, but a loan ([`Machine::own`]).
+    #[inline(always)]
     pub(crate) fn change<T, F: FnOnce(&mut Record) -> T>(&mut self, pid: Pid, change: F) -> T
         requires there { IsThere pid self.old }
         requires callable { F.IsAlwaysCallable change }

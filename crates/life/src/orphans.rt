@@ -18,7 +18,7 @@ ghost use Rattle.life.specs.Machines.{Changes, Costs, Notes, IsThere, IfThere, w
 use crate::caller::Caller;
 use crate::machine::Machine;
 use posix::{Carried, PendingSignal, Pid, Sig, Status, Target};
-use proctable::Kin;
+use proctable::{Kin, NoPools};
 
 impl<K: Kin> Machine<K> {
     // ---- before the end
@@ -88,12 +88,11 @@ impl<K: Kin> Machine<K> {
             sig,
             carried: Carried::FROM_KERNEL,
         };
-        let mut none = self.stock.none();
         self.send_with(
             &Caller::kernel(),
             Target::Group(group),
             Some(signal),
-            &mut none,
+            &mut NoPools,
         );
     }
 

@@ -18,10 +18,11 @@ ghost use Rattle.life.specs.Machines.{Costs, Finds, Changes, IsThere, IfThere, w
 use crate::caller::Caller;
 use crate::machine::Machine;
 use posix::{PendingSignal, Pid, Sending, Sig, Target};
-use proctable::{Kin, Snapshot, Stock};
+use proctable::{Kin, NoPools, Pools, Snapshot, Stock};
 use std::mem::replace;
 
 /// Whether a sender means a process by a target; all are those but the sender and process 1 (XSH kill).
+#[inline(always)]
 pub(crate) fn is_target(me: &Caller, target: &Target, it: &Snapshot) -> bool
     ensures { (q : Process) → it.now ≡ snapshot_of q → result ≡ is_target_of (process_like me.now) target.now q }
 {
@@ -35,6 +36,7 @@ pub(crate) fn is_target(me: &Caller, target: &Target, it: &Snapshot) -> bool
 }
 
 /// Whether a sender may signal a process (XSH kill).
+#[inline(always)]
 pub(crate) fn may_signal(me: &Caller, sig: Option<Sig>, it: &Snapshot) -> bool
     ensures { (q : Process) → it.now ≡ snapshot_of q → result ≡ may (process_like me.now) sig q }
 {
@@ -43,6 +45,7 @@ pub(crate) fn may_signal(me: &Caller, sig: Option<Sig>, it: &Snapshot) -> bool
 }
 
 /// The number of a signal that is sent, if it is one.
+#[inline(always)]
 fn number_of(signal: &Option<PendingSignal>) -> Option<Sig>
     ensures { result ≡ number_in signal.now }
 {
@@ -53,6 +56,7 @@ fn number_of(signal: &Option<PendingSignal>) -> Option<Sig>
 }
 
 /// A signal that is sent, if it is a real-time signal.
+#[inline(always)]
 fn realtime(signal: &Option<PendingSignal>) -> Option<PendingSignal>
     ensures some { IfSome result (λ m. (signal.now ≡ Some m) × (is_realtime m.sig ≡ true)) }
     ensures none { result ≡ None → (m : PendingValue) → signal.now ≡ Some m → is_realtime m.sig ≡ false }
@@ -66,50 +70,50 @@ fn realtime(signal: &Option<PendingSignal>) -> Option<PendingSignal>
 impl<K: Kin> Machine<K> {
     /// Sends a signal to a process that is there, with this snapshot, where the sender may; `None` only
     /// checks. Where it would be queued its queue isn't full, and a pool waits for it.
-    fn send_to(
+    fn send_to<S: Pools>(
         &mut self,
         me: &Caller,
         signal: &Option<PendingSignal>,
         it: &Snapshot,
-        stock: &mut Stock,
+        pools: &mut S,
     ) -> Sending
         requires there { IsThere it.now.pid self.old }
         requires is { IfThere it.now.pid self.old (λ q. it.now ≡ snapshot_of q) }
-        requires room { IfThere it.now.pid self.old (λ q. HaveRoom stock.old.pools (queuers (number_in signal.now) (permitted (process_like me.now) (number_in signal.now) (q ∷ [])))) }
+        requires room { IfThere it.now.pid self.old (λ q. HaveRoom (S.pools pools.old) (queuers (number_in signal.now) (permitted (process_like me.now) (number_in signal.now) (q ∷ [])))) }
         ensures sending { IfThere it.now.pid self.old (λ q. result ≡ sending_permitted (permitted (process_like me.now) (number_in signal.now) (q ∷ []))) }
         ensures state { IfThere it.now.pid self.old (λ q. self.new.state ≡ with_processes self.old.state (sent_among (process_like me.now) signal.now (q ∷ []) self.old.state.processes)) }
         ensures to_recheck { IfThere it.now.pid self.old (λ q. self.new.to_recheck ≡ rechecking_signalled (process_like me.now) signal.now (q ∷ []) self.old.state.processes self.old.state.order self.old.to_recheck) }
         ensures foregrounds_unchecked { self.new.foregrounds_unchecked ≡ self.old.foregrounds_unchecked }
         ensures costs { Costs (slots_of_send (number_in signal.now)) self.old self.new }
-        ensures stock { IfThere it.now.pid self.old (λ q. stock.old.pools ≤ stock.new.pools + length (queuers (number_in signal.now) (permitted (process_like me.now) (number_in signal.now) (q ∷ [])))) }
+        ensures pools { IfThere it.now.pid self.old (λ q. S.pools pools.old ≤ S.pools pools.new + length (queuers (number_in signal.now) (permitted (process_like me.now) (number_in signal.now) (q ∷ [])))) }
     {
         let _ = &self.table;
         if !may_signal(me, number_of(signal), it) {
             return Sending::NobodyPermitted;
         }
         if let Some(signal) = *signal {
-            self.generate(it.pid, signal, stock);
+            self.generate(it.pid, signal, pools);
         }
         Sending::Permitted
     }
 
     /// Sends a signal to the process with a number, if it is there and the sender means it. Where it would be queued
     /// its queue isn't full, and a pool waits for it.
-    fn send_to_one(
+    fn send_to_one<S: Pools>(
         &mut self,
         me: &Caller,
         signal: &Option<PendingSignal>,
         target: &Target,
         pid: Pid,
-        stock: &mut Stock,
+        pools: &mut S,
     ) -> Sending
-        requires room { HaveRoom stock.old.pools (queuers_among (process_like me.now) target.now (number_in signal.now) (filter (has_pid pid) self.old.state.processes)) }
+        requires room { HaveRoom (S.pools pools.old) (queuers_among (process_like me.now) target.now (number_in signal.now) (filter (has_pid pid) self.old.state.processes)) }
         ensures sending { result ≡ sending_of (process_like me.now) target.now (number_in signal.now) (filter (has_pid pid) self.old.state.processes) }
         ensures changes { Changes (1 + slots_of_send (number_in signal.now)) self.old self.new (with_processes self.old.state (sent_among (process_like me.now) signal.now (targets (process_like me.now) target.now (filter (has_pid pid) self.old.state.processes)) self.old.state.processes)) (rechecking_signalled (process_like me.now) signal.now (targets (process_like me.now) target.now (filter (has_pid pid) self.old.state.processes)) self.old.state.processes self.old.state.order self.old.to_recheck) }
-        ensures stock { stock.old.pools ≤ stock.new.pools + length (queuers_among (process_like me.now) target.now (number_in signal.now) (filter (has_pid pid) self.old.state.processes)) }
+        ensures pools { S.pools pools.old ≤ S.pools pools.new + length (queuers_among (process_like me.now) target.now (number_in signal.now) (filter (has_pid pid) self.old.state.processes)) }
     {
         match self.snapshot(pid) {
-            Some(it) if is_target(me, target, &it) => self.send_to(me, signal, &it, stock),
+            Some(it) if is_target(me, target, &it) => self.send_to(me, signal, &it, pools),
             _ => Sending::NobodyFound,
         }
     }
@@ -129,21 +133,21 @@ impl<K: Kin> Machine<K> {
 
     /// Sends a signal to all processes that the sender means, in rising order. No queue is full for which it would be
     /// queued, and a pool waits for each.
-    fn send_to_all(
+    fn send_to_all<S: Pools>(
         &mut self,
         me: &Caller,
         signal: &Option<PendingSignal>,
         target: &Target,
-        stock: &mut Stock,
+        pools: &mut S,
     ) -> Sending
-        requires room { HaveRoom stock.old.pools (queuers_among (process_like me.now) target.now (number_in signal.now) self.old.state.processes) }
+        requires room { HaveRoom (S.pools pools.old) (queuers_among (process_like me.now) target.now (number_in signal.now) self.old.state.processes) }
         ensures sending { result ≡ sending_of (process_like me.now) target.now (number_in signal.now) self.old.state.processes }
         ensures changes { Changes (1 + (2 + slots_of_send (number_in signal.now)) * length (filter (is_candidate (process_like me.now) target.now) self.old.state.processes)) self.old self.new (with_processes self.old.state (sent_to (process_like me.now) target.now signal.now self.old.state.processes)) (rechecking_signalled (process_like me.now) signal.now (targets (process_like me.now) target.now self.old.state.processes) self.old.state.processes self.old.state.order self.old.to_recheck) }
     {
         let mut sending = Sending::NobodyFound;
         let mut next = self.next_target(me, target, Pid::NONE);
         while let Some(pid) = next {
-            sending = sending.max(self.send_to_one(me, signal, target, pid, stock));
+            sending = sending.max(self.send_to_one(me, signal, target, pid, pools));
             next = self.next_target(me, target, pid);
         }
         sending
@@ -153,23 +157,23 @@ impl<K: Kin> Machine<K> {
     /// `None` only checks. No queue is full for which it would be queued, and a pool waits for each. Where nobody is
     /// found or may be signalled nothing changes (XSH kill).
     #[inline(always)]
-    pub(crate) fn send_with(
+    pub(crate) fn send_with<S: Pools>(
         &mut self,
         me: &Caller,
         target: Target,
         signal: Option<PendingSignal>,
-        stock: &mut Stock,
+        pools: &mut S,
     ) -> Sending
-        requires room { HaveRoom stock.old.pools (queuers_among (process_like me.now) target (number_in signal) self.old.state.processes) }
+        requires room { HaveRoom (S.pools pools.old) (queuers_among (process_like me.now) target (number_in signal) self.old.state.processes) }
         ensures sending { result ≡ sending_of (process_like me.now) target (number_in signal) self.old.state.processes }
         ensures changes { Changes (1 + (2 + slots_of_send (number_in signal)) * length (filter (is_candidate (process_like me.now) target) self.old.state.processes)) self.old self.new (with_processes self.old.state (sent_to (process_like me.now) target signal self.old.state.processes)) (rechecking_signalled (process_like me.now) signal (targets (process_like me.now) target self.old.state.processes) self.old.state.processes self.old.state.order self.old.to_recheck) }
         ensures visits { (p : ℕ) → target ≡ Target.Process p → self.new.visits ≤ self.old.visits + 1 + slots_of_send (number_in signal) }
     {
         let _ = &self.table;
         match target {
-            Target::Process(pid) => self.send_to_one(me, &signal, &target, pid, stock),
+            Target::Process(pid) => self.send_to_one(me, &signal, &target, pid, pools),
             Target::OwnGroup | Target::Group(_) | Target::All => {
-                self.send_to_all(me, &signal, &target, stock)
+                self.send_to_all(me, &signal, &target, pools)
             }
             Target::Nobody => Sending::NobodyFound,
         }
@@ -185,6 +189,7 @@ impl<K: Kin> Machine<K> {
     }
 
     /// Sends a real-time signal as [`Machine::send`] says.
+    #[inline(never)]
     fn send_realtime(&mut self, me: &Caller, target: Target, signal: PendingSignal) -> Sending
         requires { is_realtime signal.sig ≡ true }
         ensures sending { (granted : Bool) × (result ≡ sending_granted granted (process_like me.now) target (Some signal.sig) self.old.state.processes) }
@@ -210,6 +215,7 @@ impl<K: Kin> Machine<K> {
     /// `None` only checks. A real-time signal is queued for all of them that keep it, or for none: where the queue of
     /// one is full, or the host has no memory for the queues, nothing changes; nor does it where nobody is found or
     /// may be signalled (XSH kill, XSH sigqueue).
+    #[inline(always)]
     pub fn send(&mut self, me: &Caller, target: Target, signal: Option<PendingSignal>) -> Sending
         ensures sending { (granted : Bool) × (result ≡ sending_granted granted (process_like me.now) target (number_in signal) self.old.state.processes) }
         ensures changes { Sends result (process_like me.now) target signal (1 + (2 + slots_of_send (number_in signal)) * length (filter (is_candidate (process_like me.now) target) self.old.state.processes) + slots_of_survey (number_in signal) (length (filter (is_candidate (process_like me.now) target) self.old.state.processes))) self.old self.new }
@@ -217,10 +223,7 @@ impl<K: Kin> Machine<K> {
     {
         match realtime(&signal) {
             Some(signal) => self.send_realtime(me, target, signal),
-            None => {
-                let mut none = self.stock.none();
-                self.send_with(me, target, signal, &mut none)
-            }
+            None => self.send_with(me, target, signal, &mut NoPools),
         }
     }
 }

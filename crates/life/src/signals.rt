@@ -12,11 +12,12 @@ ghost use Rattle.life.specs.Machines.{Changes, IsThere, IfThere, with_processes}
 
 use crate::machine::Machine;
 use posix::{Effect, PendingSignal, Pid};
-use proctable::{Kin, Stock};
+use proctable::{Kin, Pools};
 
 impl<K: Kin> Machine<K> {
     /// A standard signal is generated for a process that is there. CONT continues one that is stopped, and its parent
     /// gets notice (XSH 2.4.1, 2.4.3).
+    #[inline(always)]
     fn signal(&mut self, pid: Pid, signal: PendingSignal)
         requires there { IsThere pid self.old }
         requires standard { is_realtime signal.sig ≡ false }
@@ -30,28 +31,29 @@ impl<K: Kin> Machine<K> {
 
     /// A real-time signal is generated for a process that is there. Where the process keeps it, it is queued: its queue
     /// isn't full, and a pool waits for it, which is taken if the process has none (XSH 2.4.2).
-    fn queue(&mut self, pid: Pid, signal: PendingSignal, stock: &mut Stock)
+    #[inline(never)]
+    fn queue<S: Pools>(&mut self, pid: Pid, signal: PendingSignal, pools: &mut S)
         requires there { IsThere pid self.old }
         requires realtime { is_realtime signal.sig ≡ true }
-        requires room { IfThere pid self.old (λ q. HaveRoom stock.old.pools (queuers (Some signal.sig) (q ∷ []))) }
+        requires room { IfThere pid self.old (λ q. HaveRoom (S.pools pools.old) (queuers (Some signal.sig) (q ∷ []))) }
         ensures changes { Changes (slots_of_signal signal.sig) self.old self.new (with_processes self.old.state (generated_for signal (process self.old.state pid) self.old.state.processes)) (rechecking_generated signal (process self.old.state pid) self.old.state.processes self.old.state.order self.old.to_recheck) }
-        ensures stock { IfThere pid self.old (λ q. stock.old.pools ≤ stock.new.pools + length (queuers (Some signal.sig) (q ∷ []))) }
+        ensures pools { IfThere pid self.old (λ q. S.pools pools.old ≤ S.pools pools.new + length (queuers (Some signal.sig) (q ∷ []))) }
     {
-        let pool = stock.take();
+        let pool = pools.take();
         let left = self.change(pid, |fields| fields.queue(pid, signal, pool));
-        stock.put(left);
+        pools.put(left);
     }
 
     /// A signal is generated for a process that is there. Where it would be queued the queue isn't full, and a pool waits
     /// for it (XSH 2.4.1).
-    pub(crate) fn generate(&mut self, pid: Pid, signal: PendingSignal, stock: &mut Stock)
+    pub(crate) fn generate<S: Pools>(&mut self, pid: Pid, signal: PendingSignal, pools: &mut S)
         requires there { IsThere pid self.old }
-        requires room { IfThere pid self.old (λ q. HaveRoom stock.old.pools (queuers (Some signal.sig) (q ∷ []))) }
+        requires room { IfThere pid self.old (λ q. HaveRoom (S.pools pools.old) (queuers (Some signal.sig) (q ∷ []))) }
         ensures changes { Changes (slots_of_signal signal.sig) self.old self.new (with_processes self.old.state (generated_for signal (process self.old.state pid) self.old.state.processes)) (rechecking_generated signal (process self.old.state pid) self.old.state.processes self.old.state.order self.old.to_recheck) }
-        ensures stock { IfThere pid self.old (λ q. stock.old.pools ≤ stock.new.pools + length (queuers (Some signal.sig) (q ∷ []))) }
+        ensures pools { IfThere pid self.old (λ q. S.pools pools.old ≤ S.pools pools.new + length (queuers (Some signal.sig) (q ∷ []))) }
     {
         if signal.sig.is_realtime() {
-            self.queue(pid, signal, stock);
+            self.queue(pid, signal, pools);
         } else {
             self.signal(pid, signal);
         }

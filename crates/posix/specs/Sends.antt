@@ -67,7 +67,7 @@ queuers None rs = []
 queuers (Some n) rs = filter (is_queuer n) rs
 
 -- Where one of them is full the signal is queued for nobody; nor is it without the memory that their queues may need
--- (own). In Linux those get it that come before.
+-- (own). In Linux a kill is then pending once, without its value and sender, and a sigqueue is refused.
 abbrev pub queued_for : Bool → List Process → Sending → Sending
 queued_for granted [] other = other
 queued_for granted (q ∷ qs) other =

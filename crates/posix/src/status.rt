@@ -25,6 +25,13 @@ impl Model for Status {
 }
 
 impl Status {
+    /// The status with a word.
+    pub fn from_word(word: u16) -> Status
+        ensures { result ≡ word }
+    {
+        Status { word }
+    }
+
     /// The process exited. Of the code the low eight bits count (XSH _exit).
     pub fn exited(code: i64) -> Status
         ensures { result ≡ exited_word code }

@@ -21,6 +21,6 @@ pub use own_part::OwnPart;
 pub use proc_table::ProcTable;
 pub use records::Record;
 pub use scan::ScanTable;
-pub use signal::{RtPool, Stock};
+pub use signal::{NoPools, Pools, RtPool, Stock};
 pub use snapshot::Snapshot;
 pub use spare::Spare;

@@ -11,7 +11,7 @@ mod tables;
 
 pub use interrupts::{is_interrupted, leave_call, mask_before};
 pub use posix::{Action, Carried, Frame, Handler, PendingSignal, SaFlags, Sig, SigSet};
-pub use rt_pool::{RtPool, Stock};
+pub use rt_pool::{NoPools, Pools, RtPool, Stock};
 pub use signals::Signals;
 pub use tables::{FramesFull, LazyTables, NoFrame};
 

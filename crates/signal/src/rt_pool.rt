@@ -1,6 +1,6 @@
 //! Room for the real-time signals that are queued for processes.
 
-ghost use Rattle.std.specs.Prelude.{◌≡◌, ◌+◌, ◌-◌, ◌<◌, ◌≤◌, ◌++◌, ◌∷◌, [], not, nat_le, IsSome, Some, None, IfOk, OnOk, OnErr, filter, length};
+ghost use Rattle.std.specs.Prelude.{ℕ, ◌≡◌, ◌+◌, ◌-◌, ◌<◌, ◌≤◌, ◌++◌, ◌∷◌, [], not, nat_le, IsSome, Some, None, IfOk, OnOk, OnErr, filter, length};
 ghost use Rattle.std.specs.List.{list_any, position};
 ghost use Rattle.posix.specs.Choice.{first_carried, without_first};
 ghost use Rattle.posix.specs.Generation.{has_sig};
@@ -144,14 +144,36 @@ impl Stock {
         }
         Ok(())
     }
+}
 
-    /// Takes out a pool in which nothing is queued, if one waits.
-    pub fn take(&mut self) -> Option<RtPool>
-        ensures pool { 0 < self.old.pools → result ≡ Some [] }
-        ensures none { self.old.pools ≡ 0 → result ≡ None }
-        ensures rest { self.new ≡ record (self.old) { pools = self.old.pools - 1 } }
-        ensures room { 0 < self.old.pools → self.new.pools < self.new.room }
-    {
+/// Where pools for signals come from, and where those go that aren't needed.
+pub trait Pools: Drop {
+    /// How many there are.
+    ghost pools: { Self → ℕ };
+
+    /// For how many there is room.
+    ghost room: { Self → ℕ };
+
+    /// Takes out a pool in which nothing is queued, if there is one.
+    fn take(&mut self) -> Option<RtPool>
+        ensures pool { 0 < pools self.old → result ≡ Some [] }
+        ensures none { pools self.old ≡ 0 → result ≡ None }
+        ensures rest { pools self.new ≡ pools self.old - 1 }
+        ensures room { 0 < pools self.old → pools self.new < room self.new };
+
+    /// Keeps a pool, if one is given and there is room for it; else it is dropped. It takes no memory.
+    fn put(&mut self, pool: Option<RtPool>)
+        ensures kept { IsSome pool → pools self.old < room self.old → pools self.new ≡ pools self.old + 1 }
+        ensures more { pools self.old ≤ pools self.new };
+}
+
+impl Pools for Stock {
+    ghost pools = { λ s. s.pools };
+
+    ghost room = { λ s. s.room };
+
+    #[inline]
+    fn take(&mut self) -> Option<RtPool> {
         match self.pools.pop() {
             None => None,
             Some(mut pool) => {
@@ -161,15 +183,32 @@ impl Stock {
         }
     }
 
-    /// Keeps a pool, if there is one, and room for it; else it is dropped. It takes no memory.
-    pub fn put(&mut self, pool: Option<RtPool>)
-        ensures kept { IsSome pool → self.old.pools < self.old.room → self.new.pools ≡ self.old.pools + 1 }
-        ensures more { self.old.pools ≤ self.new.pools }
-    {
+    #[inline]
+    fn put(&mut self, pool: Option<RtPool>) {
         if let Some(pool) = pool {
             if self.pools.len() < self.pools.capacity() {
                 self.pools.push_reserved(pool);
             }
         }
+    }
+}
+
+/// No pools: for a standard signal, which isn't queued.
+#[derive(Drop)]
+pub struct NoPools;
+
+impl Pools for NoPools {
+    ghost pools = { λ s. 0 };
+
+    ghost room = { λ s. 0 };
+
+    #[inline]
+    fn take(&mut self) -> Option<RtPool> {
+        None
+    }
+
+    #[inline]
+    fn put(&mut self, pool: Option<RtPool>) {
+        drop(pool);
     }
 }

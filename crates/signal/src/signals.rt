@@ -209,6 +209,7 @@ impl Signals {
     }
 
     /// Whether a signal is kept: it is blocked, or its action does something.
+    #[inline(always)]
     fn keeps(&self, sig: Sig) -> bool
         ensures { result ≡ keeps_of self.now sig }
     {

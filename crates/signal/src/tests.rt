@@ -1,6 +1,6 @@
 //! Pools that are made, wait for signals and are taken.
 
-use crate::{RtPool, Stock};
+use crate::{Pools, RtPool, Stock};
 
 #[test]
 fn pools_are_made_and_taken(rt: HostRuntime) {

@@ -4,7 +4,8 @@ use Rattle.posix.specs.States.{State}
 use Rattle.posix.specs.Step.{signalled_from}
 use Rattle.life.specs.Machines.{MachineView}
 use Rattle.life.proofs.TakingLemmas.{brief_none, brief_group}
-use Rattle.life.proofs.ConsoleLemmas.{key_plain, key_standard, lent_at, not_both, key_nowhere, key_past, key_on_it, slots_of_signalled}
+use Rattle.life.proofs.ConsoleLemmas.{lent_at, not_both, key_nowhere, key_past, key_on_it, slots_of_signalled}
+use Rattle.posix.proofs.RealtimeLemmas.{key_standard}
 use Rattle.life.proofs.ViewLemmas.{state_is, costs_then, cost_more}
 use Rattle.life.proofs.machine.Machine.key.Goals as goal
 use Rattle.life.proofs.CodeLemmas.{past_none}
@@ -14,7 +15,7 @@ there : {m n : MachineView} {cs : List Console} → m ≡ n → cs ≡ m.state.c
 there same all k c within is = ap (λ cs. slice_get cs k) (sym (all ∙ ap (λ (s : State). s.consoles) (state_is same))) ∙ lent_at _ k c within is
 
 pub signal_group-requires : goal.signal_group-requires
-signal_group-requires g c = key_standard c.args.byte c.in-Some-signal.sig (sym c.in-Some-signal.is ∙ c.in-Some-type_byte.ensures.signal)
+signal_group-requires g c = (key_standard c.args.byte c.in-Some-signal.sig (sym c.in-Some-type_byte.ensures.signal ∙ c.in-Some-signal.is)).0
 
 pub returns-in_default-clause-state : goal.returns-in_default-clause-state
 returns-in_default-clause-state g c =
@@ -74,7 +75,7 @@ returns-in-Some-signal-clause-brief g c = λ none awake.
     let typed = ap (λ (s : State). s.processes) (c.type_byte.ensures.state c.in-Some-get.console.now found) in
     let quiet = c.type_byte.ensures.quiet (λ e. let no = signal ∙ e in absurd (cc)) in
     rw (number, found, ← c.foreground-foreground.ensures.is, ← typed)
-    (brief_group c.in-Some-signal.sig c.foreground-foreground.result _ _ _ _ _ (key_plain c.args.byte c.in-Some-signal.sig signal) c.signal_group.ensures.costs.regular.rising (quiet ∙ none) (ap (λ (s : State). s.processes) c.signal_group.ensures.state) c.signal_group.ensures.to_recheck)
+    (brief_group c.in-Some-signal.sig c.foreground-foreground.result _ _ _ _ _ (key_standard c.args.byte c.in-Some-signal.sig (sym signal)).1 c.signal_group.ensures.costs.regular.rising (quiet ∙ none) (ap (λ (s : State). s.processes) c.signal_group.ensures.state) c.signal_group.ensures.to_recheck)
 
 pub returns-in_default-signal-clause-brief : goal.returns-in_default-signal-clause-brief
 returns-in_default-signal-clause-brief g c = λ none awake.

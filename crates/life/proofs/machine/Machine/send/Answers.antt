@@ -8,7 +8,7 @@ use Rattle.life.proofs.machine.Machine.send.Goals as goal
 pub send_with-requires : goal.send_with-requires
 send_with-requires g c =
     let none = standard_queuers (process_like c.args.me.now) c.args.target c.args.signal c.args.self.now.state.processes (c.realtime.ensures.none c.in-None.is) in
-    record { room = room_none c.none-none.result.pools _ none }
+    record { room = room_none 0 _ none }
 
 pub returns-in-None-clause-sending : goal.returns-in-None-clause-sending
 unfolding sending_granted

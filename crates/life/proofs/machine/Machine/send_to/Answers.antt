@@ -19,8 +19,8 @@ pub generate-requires-clause-room : goal.generate-requires-clause-room
 generate-requires-clause-room g c = λ q e.
     let r = process_like c.args.me.now in
     let can : may r (number_of c.args.signal.now) q ≡ true = ap (λ s. may r s q) (sym c.number_of.ensures) ∙ sym (c.may_signal.ensures q (c.requires.is q e)) ∙ c.if-not-may_signal.false in
-    subst (λ (x : Option PendingSignal). HaveRoom c.args.stock.now.pools (queuers (number_of x) (q ∷ []))) c.in-Some.is
-    (subst (λ l. HaveRoom c.args.stock.now.pools (queuers (number_of c.args.signal.now) l)) (permitted_one r (number_of c.args.signal.now) q can) (c.requires.room q e))
+    subst (λ (x : Option PendingSignal). HaveRoom (g.S.Pools.pools c.args.pools.now) (queuers (number_of x) (q ∷ []))) c.in-Some.is
+    (subst (λ l. HaveRoom (g.S.Pools.pools c.args.pools.now) (queuers (number_of c.args.signal.now) l)) (permitted_one r (number_of c.args.signal.now) q can) (c.requires.room q e))
 
 pub returns-then-not-may_signal : goal.returns-then-not-may_signal
 returns-then-not-may_signal g c =
@@ -33,7 +33,7 @@ returns-then-not-may_signal g c =
       to_recheck = λ q e. sym (not_sent r c.args.signal.now q s.processes s.order c.args.self.now.to_recheck (can q (c.requires.is q e))).1;
       foregrounds_unchecked = refl;
       costs = search rules;
-      stock = λ q e. omega arith;
+      pools = λ q e. omega arith;
     }
 
 pub returns-in-Some : goal.returns-in-Some
@@ -53,9 +53,9 @@ returns-in-Some g c =
       to_recheck = λ q e. did.to_recheck ∙ sym (one q e).1 ∙ ap (λ (x : Option PendingSignal). rechecking_signalled r x (q ∷ []) s.processes s.order old.to_recheck) (sym c.in-Some.is);
       foregrounds_unchecked = did.foregrounds_unchecked;
       costs = subst (λ (x : Option PendingSignal). Costs (slots_of_send (number_of x)) old c.generate.new.self) (sym c.in-Some.is) did.costs;
-      stock = λ q e.
-          subst (λ l. c.args.stock.now.pools ≤ c.generate.new.stock.pools + length (queuers (number_of k) l)) (sym (permitted_one r (number_of k) q (can q (c.requires.is q e))))
-          (subst (λ (x : Option PendingSignal). c.args.stock.now.pools ≤ c.generate.new.stock.pools + length (queuers (number_of x) (q ∷ []))) (sym c.in-Some.is) (c.generate.ensures.stock q e));
+      pools = λ q e.
+          subst (λ l. (g.S.Pools.pools c.args.pools.now) ≤ (g.S.Pools.pools c.generate.new.pools) + length (queuers (number_of k) l)) (sym (permitted_one r (number_of k) q (can q (c.requires.is q e))))
+          (subst (λ (x : Option PendingSignal). (g.S.Pools.pools c.args.pools.now) ≤ (g.S.Pools.pools c.generate.new.pools) + length (queuers (number_of x) (q ∷ []))) (sym c.in-Some.is) (c.generate.ensures.pools q e));
     }
 
 pub returns-in_default : goal.returns-in_default
@@ -70,5 +70,5 @@ returns-in_default g c =
       to_recheck = λ q e. ap (λ (x : Option PendingSignal). rechecking_signalled r x (q ∷ []) s.processes s.order c.args.self.now.to_recheck) (sym c.in_default.is);
       foregrounds_unchecked = refl;
       costs = search rules;
-      stock = λ q e. omega arith;
+      pools = λ q e. omega arith;
     }

@@ -33,7 +33,7 @@ loop-next-init g c =
           let product = mul-le-mul_left (2 + slots_of_send (number_of c.args.signal.now)) less in
           omega (arith, product, finds.looks.visits);
       rising = finds.looks.regular.rising;
-      room = subst (λ (l : List Process). HaveRoom c.args.stock.now.pools (queuers (number_of c.args.signal.now) (permitted r (number_of c.args.signal.now) l))) (sym all) c.requires.room;
+      room = subst (λ (l : List Process). HaveRoom (g.S.Pools.pools c.args.pools.now) (queuers (number_of c.args.signal.now) (permitted r (number_of c.args.signal.now) l))) (sym all) c.requires.room;
       rest = refl;
       todo = ap (λ qs. sent_to r c.args.signal.now s.order qs (record { sending = NobodyFound; processes = s.processes; to_recheck = c.args.self.now.to_recheck })) all;
     }
@@ -42,8 +42,8 @@ pub send_to_one-requires : goal.send_to_one-requires
 send_to_one-requires g c =
     let i = c.loop-next.invariant in
     record {
-      room = room_here c.loop-next.stock.pools (process_like c.args.me.now) c.args.target.now (number_of c.args.signal.now) c.in-Some.pid c.loop-next.self.state.processes i.rising
-          (subst (λ o. HaveRoom c.loop-next.stock.pools (queuers_among (process_like c.args.me.now) c.args.target.now (number_of c.args.signal.now) (left_of o c.loop-next.self.state.processes))) c.in-Some.is i.room);
+      room = room_here (g.S.Pools.pools c.loop-next.pools) (process_like c.args.me.now) c.args.target.now (number_of c.args.signal.now) c.in-Some.pid c.loop-next.self.state.processes i.rising
+          (subst (λ o. HaveRoom (g.S.Pools.pools c.loop-next.pools) (queuers_among (process_like c.args.me.now) c.args.target.now (number_of c.args.signal.now) (left_of o c.loop-next.self.state.processes))) c.in-Some.is i.room);
     }
 
 pub loop-next-preserved : goal.loop-next-preserved
@@ -76,8 +76,8 @@ loop-next-preserved g c =
           omega (arith, on, i.read);
       rising = finds.looks.regular.rising;
       room =
-          let left = subst (λ o. HaveRoom c.loop-next.stock.pools (queuers_among r target (number_of sig) (left_of o rs))) c.in-Some.is i.room in
-          room_left c.loop-next.stock.pools c.send_to_one.new.stock.pools r target sig pid next rs mid changes.costs.regular.rising finds.looks.regular.rising (ap (λ (t : State). t.processes) changes.state) finds.value c.send_to_one.ensures.stock left;
+          let left = subst (λ o. HaveRoom (g.S.Pools.pools c.loop-next.pools) (queuers_among r target (number_of sig) (left_of o rs))) c.in-Some.is i.room in
+          room_left (g.S.Pools.pools c.loop-next.pools) (g.S.Pools.pools c.send_to_one.new.pools) r target sig pid next rs mid changes.costs.regular.rising finds.looks.regular.rising (ap (λ (t : State). t.processes) changes.state) finds.value c.send_to_one.ensures.pools left;
       rest = ap (λ (t : State). with_processes t c.args.self.now.state.processes) changes.state ∙ i.rest;
       todo =
           sent_step r target sig order pid next k l changes.costs.regular.rising finds.looks.regular.rising sent finds.value

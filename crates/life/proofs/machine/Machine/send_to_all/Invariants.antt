@@ -22,7 +22,7 @@ invariant-loop-next g l =
       begins : first_pid (left_of l.next (filter (is_candidate r l.target) now.processes)) ≡ l.next;
       read : l.self.visits + (2 + slots_of_send (number_of l.signal)) * length (left_of l.next (filter (is_candidate r l.target) now.processes)) ≤ l.fn.self.visits + 1 + (2 + slots_of_send (number_of l.signal)) * length (filter (is_candidate r l.fn.target) first.processes);
       rising : IsRising now.processes;
-      room : HaveRoom l.stock.pools (queuers_among r l.target (number_of l.signal) (left_of l.next now.processes));
+      room : HaveRoom (g.S.Pools.pools l.pools) (queuers_among r l.target (number_of l.signal) (left_of l.next now.processes));
       rest : with_processes now first.processes ≡ first;
       todo : sent_to r l.signal first.order (targets r l.target (left_of l.next now.processes)) (record { sending = l.sending; processes = now.processes; to_recheck = l.self.to_recheck }) ≡ sent_to r l.signal first.order (targets r l.fn.target first.processes) (record { sending = NobodyFound; processes = first.processes; to_recheck = l.fn.self.to_recheck });
     }

@@ -34,7 +34,7 @@ send_to-requires-clause-room g c = λ q e.
     let named : c.in-Some.it.pid ≡ c.args.pid = ap (λ (f : Snapshot). f.pid) it.snapshot ∙ pid_looked c.args.pid _ it.what it.found in
     let same : it.what ≡ q = same_Some _ _ (sym it.found ∙ ap (λ t. process t c.args.pid) (sym c.snapshot.ensures.looks.same.state) ∙ ap (process c.snapshot.new.self.state) (sym named) ∙ e) in
     let target = target_one r c.args.target.now c.args.pid _ c.snapshot.ensures.looks.regular.rising it.what it.found (sym (c.is_target.ensures it.what it.snapshot) ∙ c.if-is_target.true) in
-    subst (λ (l : List Process). HaveRoom c.args.stock.now.pools (queuers k (permitted r k l))) (target ∙ ap (λ x. x ∷ []) same) c.requires.room
+    subst (λ (l : List Process). HaveRoom (g.S.Pools.pools c.args.pools.now) (queuers k (permitted r k l))) (target ∙ ap (λ x. x ∷ []) same) c.requires.room
 
 pub returns-in-Some : goal.returns-in-Some
 unfolding sending queuers_among
@@ -52,7 +52,7 @@ returns-in-Some g c =
         foregrounds_unchecked = search rules;
         costs = search rules;
       };
-      stock = c.send_to.ensures.stock it.what there;
+      pools = c.send_to.ensures.pools it.what there;
     }
 
 pub returns-in_default : goal.returns-in_default
@@ -61,11 +61,11 @@ returns-in_default g c =
     let it = is_read _ _ (sym c.in-Some.is ∙ c.snapshot.ensures.value) in
     let looks = c.snapshot.ensures.looks in
     rw (target_other (process_like c.args.me.now) c.args.target.now c.args.pid _ looks.regular.rising it.what it.found (sym (c.is_target.ensures it.what it.snapshot) ∙ c.if-is_target.false), sent_nobody, rechecked_nobody)
-    record { sending = refl; changes = record { state = looks.same.state; to_recheck = looks.same.to_recheck; foregrounds_unchecked = looks.same.foregrounds_unchecked; costs = search rules }; stock = omega arith }
+    record { sending = refl; changes = record { state = looks.same.state; to_recheck = looks.same.to_recheck; foregrounds_unchecked = looks.same.foregrounds_unchecked; costs = search rules }; pools = omega arith }
 
 pub returns-in_default-2 : goal.returns-in_default-2
 unfolding sending
 returns-in_default-2 g c =
     let looks = c.snapshot.ensures.looks in
     rw (target_none (process_like c.args.me.now) c.args.target.now c.args.pid _ (none_read _ (sym c.in_default.is ∙ c.snapshot.ensures.value)), sent_nobody, rechecked_nobody)
-    record { sending = refl; changes = record { state = looks.same.state; to_recheck = looks.same.to_recheck; foregrounds_unchecked = looks.same.foregrounds_unchecked; costs = search rules }; stock = omega arith }
+    record { sending = refl; changes = record { state = looks.same.state; to_recheck = looks.same.to_recheck; foregrounds_unchecked = looks.same.foregrounds_unchecked; costs = search rules }; pools = omega arith }

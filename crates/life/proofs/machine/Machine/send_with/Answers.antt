@@ -16,7 +16,7 @@ send_to_one-requires g c =
     let r = process_like c.args.me.now in
     let k = number_of c.args.signal in
     let rs = c.args.self.now.state.processes in
-    let pools = c.args.stock.now.pools in
+    let pools = (g.S.Pools.pools c.args.pools.now) in
     record {
       room =
           subst (λ (l : List Process). HaveRoom pools (queuers k (permitted r k l))) (sym (targets_numbered r c.in-Process.pid rs))

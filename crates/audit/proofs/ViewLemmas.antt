@@ -1,0 +1,72 @@
+-- What an audit keeps is what its fields keep.
+use Rattle.std.proofs.Common.{◌≡◌, ℕ, List, Option, Some, None, Result, Ok, Err, OnOk, OnErr, true, false, refl, ap, sym, ◌∙◌, subst, nat_eq, nat_cmp, [], ◌∷◌, option_map}
+use Rattle.std.specs.Option.{unwrap_or}
+use Rattle.std.specs.Map.{lookup}
+use Rattle.std.specs.BTreeMap.{is_at}
+use Rattle.audit.proofs.RecordLemmas.{at_is}
+use Rattle.std.specs.Result.{is_err}
+use Rattle.std.proofs.lemmas.Map.Made.{lookup-map_values}
+use mathlib.Core.Path.{fun_ext}
+use Rattle.posix.specs.Entries.{Line}
+use Rattle.laws.specs.Keeping.{Kept, NeverBorn, kept_after, phase_after, fault_of}
+use Rattle.audit.specs.declared.fault.AuditFault.{AuditFault}
+use Rattle.audit.specs.declared.known.Record.{Record}
+use Rattle.audit.specs.declared.tests_of_lines.Phase.{Phase}
+use Rattle.audit.specs.Phases.{phase_said}
+use Rattle.audit.specs.Records.{kept_with, kept_by, kept_all, record_in}
+use Rattle.audit.specs.Knowing.{AuditView, kept_at, Heard, StaysWith, IsNewBirth}
+
+known_or : (f : ℕ → Option Record) (o : Option Record) → unwrap_or (option_map (λ r. kept_with f (Some r)) o) NeverBorn ≡ kept_with f o
+known_or f None = refl
+known_or f (Some r) = refl
+
+-- the look-ups of a map find what an equal number finds
+found_at : (entries : List (ℕ × Kept)) (c : ℕ) → lookup (nat_eq c) entries ≡ lookup (is_at (nat_cmp c)) entries
+found_at [] c = refl
+found_at (e ∷ es) c = rw (at_is c e.0, found_at es c) refl
+
+-- what is kept of c
+pub all_at : (entries : List (ℕ × Record)) (c : ℕ) → kept_at (kept_all entries) c ≡ kept_by entries c
+unfolding kept_at kept_all kept_by
+all_at entries c =
+    ap (λ (o : Option Kept). unwrap_or o NeverBorn) (found_at (kept_all entries) c ∙ lookup-map_values (λ r. kept_with (record_in entries) (Some r)) (is_at (nat_cmp c)) entries)
+    ∙ known_or (record_in entries) (record_in entries c)
+
+all_kept : (entries : List (ℕ × Record)) → kept_by entries ≡ kept_at (kept_all entries)
+all_kept entries = sym (fun_ext (all_at entries))
+
+-- ---- an audit by its fields
+
+abbrev pub view_of : List (ℕ × Record) → ℕ → Phase → Option AuditFault → AuditView
+view_of entries last phase fault = record { numbers = kept_all entries; last = last; phase = phase_said phase; fault = fault }
+
+pub fault_seen : (entries : List (ℕ × Record)) (last : ℕ) (phase : Phase) (fault : Option AuditFault) (a : AuditView) (l : Line) → view_of entries last phase fault ≡ a
+    → fault_of (kept_by entries) last (phase_said phase) l ≡ fault_of (kept_at a.numbers) a.last a.phase l
+fault_seen entries last phase fault a l same =
+    ap (λ (f : ℕ → Kept). fault_of f last (phase_said phase) l) (all_kept entries) ∙ ap (λ (v : AuditView). fault_of (kept_at v.numbers) v.last v.phase l) same
+
+pub birth_seen : (entries : List (ℕ × Record)) (last : ℕ) (phase : Phase) (fault : Option AuditFault) (a : AuditView) (l : Line) → view_of entries last phase fault ≡ a
+    → IsNewBirth (kept_by entries) l → IsNewBirth (kept_at a.numbers) l
+birth_seen entries last phase fault a l same h = subst (λ v. IsNewBirth (kept_at v.numbers) l) same (subst (λ f. IsNewBirth f l) (all_kept entries) h)
+
+pub stays_seen : (entries new : List (ℕ × Record)) (last : ℕ) (phase : Phase) (fault : Option AuditFault) (a : AuditView) → view_of entries last phase fault ≡ a
+    → ((c : ℕ) → kept_by new c ≡ kept_by entries c) → StaysWith a.fault a (view_of new last phase fault)
+stays_seen entries new last phase fault a same h =
+    subst (λ v. StaysWith v.fault v (view_of new last phase fault)) same
+    (record { kept = λ c. all_at new c ∙ h c ∙ sym (all_at entries c); last = refl; phase = refl; fault = refl })
+
+pub heard_seen : (entries new : List (ℕ × Record)) (last : ℕ) (phase after : Phase) (fault : Option AuditFault) (a : AuditView) (l : Line) → view_of entries last phase fault ≡ a
+    → ((c : ℕ) → kept_by new c ≡ kept_after (kept_by entries) l.entry c) → phase_said after ≡ phase_after l.entry → Heard l a (view_of new l.event after fault)
+heard_seen entries new last phase after fault a l same h next =
+    subst (λ v. Heard l v (view_of new l.event after fault)) same
+    (record { kept = λ c. all_at new c ∙ h c ∙ ap (λ (f : ℕ → Kept). kept_after f l.entry c) (all_kept entries); last = refl; phase = next; fault = refl })
+
+-- ---- what holds of an answer
+
+pub at_err : {T E P : Type 0} (r : Result T E) → is_err r ≡ true → OnErr r P → P
+at_err (Ok x) h p = absurd (cc)
+at_err (Err e) h p = p
+
+pub at_ok : {T E P : Type 0} (r : Result T E) → is_err r ≡ false → OnOk r P → P
+at_ok (Ok x) h p = p
+at_ok (Err e) h p = absurd (cc)

@@ -1,0 +1,5 @@
+pub mod Faults
+pub mod Records
+pub mod Phases
+pub mod Knowing
+pub mod Texts

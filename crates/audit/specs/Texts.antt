@@ -1,0 +1,58 @@
+-- Whole traces as texts.
+use Rattle.std.specs.Prelude.{ℕ, ◌≡◌, ◌≢◌, ◌+◌, ◌==◌, ◌⊎◌, not, Bool, true, List, [], ◌∷◌, ◌++◌, length, Err}
+use Rattle.std.specs.List.{list_all}
+use Rattle.posix.specs.Entries.{Line}
+use Rattle.posix.specs.Printing.{print}
+use Rattle.laws.specs.TraceLines.{is_line}
+use Rattle.laws.specs.Lives.{Laws}
+use Rattle.audit.specs.declared.fault.AuditFault.{AuditFault}
+use Rattle.audit.specs.declared.fault.AuditFault.TheVariants.{NoLine}
+use Rattle.audit.specs.declared.texts.TraceFault.{TraceFault}
+use Rattle.audit.specs.Knowing.{IsAnswer}
+
+-- A text is the print of lines, each of one of the forms, of which the laws of a trace hold.
+pub record IsLawful (text : List ℕ) : Type 0 where
+  pub lines : List Line
+  pub is : text ≡ print lines
+  pub forms : list_all is_line lines ≡ true
+  pub laws : Laws lines
+
+-- A text begins with the print of such lines, which are all those before the line with this number.
+pub record IsLawfulBefore (text : List ℕ) (number : ℕ) : Type 0 where
+  pub lines : List Line
+  pub rest : List ℕ
+  pub is : text ≡ print lines ++ rest
+  pub forms : list_all is_line lines ≡ true
+  pub laws : Laws lines
+  pub counted : number ≡ length lines + 1
+
+-- ---- lines of a text
+
+-- no line feed stands in it
+abbrev pub is_one_line : List ℕ → Bool
+is_one_line text = list_all (λ b. not (b == 10)) text
+
+-- a text is cut at its first line feed
+pub record IsCut (text line rest : List ℕ) : Type 0 where
+  pub is : text ≡ line ++ 10 ∷ rest
+  pub one : is_one_line line ≡ true
+
+-- ---- the first fault
+
+-- what follows lawful lines begins with a line that is answered with a fault
+pub record IsFaultyLine (lines : List Line) (text : List ℕ) (fault : AuditFault) : Type 0 where
+  pub line : List ℕ
+  pub rest : List ℕ
+  pub cut : IsCut text line rest
+  pub answer : IsAnswer lines line (Err fault)
+
+-- it is a line that has no line feed
+pub record IsUnfinished (text : List ℕ) (fault : AuditFault) : Type 0 where
+  pub some : text ≢ []
+  pub one : is_one_line text ≡ true
+  pub is : fault ≡ NoLine
+
+-- The first fault of a text: lawful lines come before it, and the next line is refused by the first test that it fails.
+pub record IsFirstFault (text : List ℕ) (fault : TraceFault) : Type 0 where
+  pub before : IsLawfulBefore text fault.line
+  pub faulty : IsFaultyLine before.lines before.rest fault.fault ⊎ IsUnfinished before.rest fault.fault

@@ -1,0 +1,64 @@
+//! What a line says.
+
+ghost use Rattle.std.specs.Prelude.{◌≡◌, true};
+ghost use Rattle.laws.specs.TraceLines.{is_end_word as is_end, is_stopped_word as is_stopped, is_continued_word as is_continued, is_entry};
+ghost use Rattle.laws.specs.Lives.{process_of as process_said, born_by as birth_said};
+
+use posix::{Call, Entry, Pid, Status};
+
+/// The process of a line; none of `halt`.
+pub(crate) fn process_of(entry: &Entry) -> Option<Pid>
+    ensures { result ≡ process_said entry.now }
+{
+    match *entry {
+        Entry::Noted { pid, .. }
+        | Entry::Called { pid, .. }
+        | Entry::Moved { pid, .. }
+        | Entry::Reported { pid, .. }
+        | Entry::NoMemory { pid, .. }
+        | Entry::Handled { pid, .. }
+        | Entry::Discarded { pid, .. }
+        | Entry::Stopped { pid, .. }
+        | Entry::Returned { pid }
+        | Entry::Ended { pid, .. } => Some(pid),
+        Entry::Halted => None,
+    }
+}
+
+/// The number whose life a line begins: the positive result of a fork.
+pub(crate) fn born_by(entry: &Entry) -> Option<Pid>
+    requires { is_entry entry.now ≡ true }
+    ensures { result ≡ birth_said entry.now }
+{
+    match *entry {
+        Entry::Called {
+            call: Call::Fork,
+            result,
+            ..
+        } if result > 0 => Pid::new(result as u32),
+        _ => None,
+    }
+}
+
+/// Whether a status is that of an exit, or of a death by a signal.
+pub(crate) fn is_end_word(status: Status) -> bool
+    ensures { result ≡ is_end status }
+{
+    let word = status.word();
+    word % 256 == 0 && word <= 65280 || matches!(word, 1..=31 | 34..=64)
+}
+
+/// Whether a status is that of a stop.
+pub(crate) fn is_stopped_word(status: Status) -> bool
+    ensures { result ≡ is_stopped status }
+{
+    let word = status.word();
+    word % 256 == 127 && matches!(word / 256, 19..=22)
+}
+
+/// Whether a status is that of a continuation.
+pub(crate) fn is_continued_word(status: Status) -> bool
+    ensures { result ≡ is_continued status }
+{
+    status.word() == 65535
+}

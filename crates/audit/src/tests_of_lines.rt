@@ -1,0 +1,181 @@
+//! The tests of a line, by what is known of the numbers.
+
+ghost use Rattle.std.specs.Prelude.{◌≡◌, ℕ, true};
+ghost use Rattle.posix.specs.Entries.{line};
+ghost use Rattle.laws.specs.TraceLines.{is_entry};
+ghost use Rattle.laws.specs.Keeping.{number_fault, place_fault, birth_fault, report_fault, word_fault, fault_of_living, fault_of_ended, fault_of, phase_after as phase_said_after};
+ghost use Rattle.laws.specs.Lives.{born_by as birth_said};
+ghost use Rattle.audit.specs.Records.{kept_as, kept_by};
+ghost use Rattle.audit.specs.Faults.{fault_number};
+ghost use Rattle.audit.specs.Phases.{phase_said};
+
+use crate::fault::AuditFault;
+use crate::known::{Known, State};
+use crate::lines::{born_by, is_continued_word, is_end_word, is_stopped_word, process_of};
+use posix::{Entry, Pid, Sig, Status};
+
+/// Whether `halt` comes next, or nothing.
+#[derive(Clone, Copy, Debug, PartialEq, Eq)]
+pub(crate) enum Phase {
+    /// The last line, if any, is neither the end of process 1 nor `halt`.
+    Going,
+    /// The last line is the end of process 1: `halt` comes next.
+    FirstEnded,
+    /// The last line is `halt`: nothing comes next.
+    Over,
+}
+
+impl Phase {
+    /// The phase after a line.
+    pub(crate) fn after(entry: &Entry) -> Phase
+        ensures { phase_said result ≡ phase_said_after entry.now }
+    {
+        match *entry {
+            Entry::Halted => Phase::Over,
+            Entry::Ended { pid, .. } if pid == Pid::INIT => Phase::FirstEnded,
+            _ => Phase::Going,
+        }
+    }
+}
+
+/// The first test that a line fails, after a line with the number `last`.
+#[tactic(auto, unfolding(laws::specs::Keeping::fault_of))]
+pub(crate) fn test(
+    known: &Known,
+    last: u64,
+    phase: Phase,
+    event: u64,
+    entry: &Entry,
+) -> Result<(), AuditFault>
+    requires { is_entry entry.now ≡ true }
+    ensures { fault_number result ≡ fault_of (kept_by known.now) last (phase_said phase) (line event entry.now) }
+{
+    test_number(last, event)?;
+    test_place(known, phase, entry)?;
+    test_birth(known, entry)?;
+    test_report(known, entry)
+}
+
+/// The numbers of events don't fall.
+fn test_number(last: u64, event: u64) -> Result<(), AuditFault>
+    ensures { fault_number result ≡ number_fault last event }
+{
+    if event < last {
+        return Err(AuditFault::NoLine);
+    }
+    Ok(())
+}
+
+/// The process of a line lives, and `halt` comes right after the end of process 1 and last.
+fn test_place(known: &Known, phase: Phase, entry: &Entry) -> Result<(), AuditFault>
+    ensures { fault_number result ≡ place_fault (kept_by known.now) (phase_said phase) entry.now }
+{
+    let is_in_place = match phase {
+        Phase::Going => match process_of(entry) {
+            Some(pid) => known.is_living(pid),
+            None => false,
+        },
+        Phase::FirstEnded => matches!(*entry, Entry::Halted),
+        Phase::Over => false,
+    };
+    if is_in_place {
+        Ok(())
+    } else {
+        Err(AuditFault::OutOfPlace)
+    }
+}
+
+/// Who is born isn't living.
+fn test_birth(known: &Known, entry: &Entry) -> Result<(), AuditFault>
+    requires { is_entry entry.now ≡ true }
+    ensures { fault_number result ≡ birth_fault (kept_by known.now) (birth_said entry.now) }
+{
+    match born_by(entry) {
+        Some(child) if known.is_living(child) => Err(AuditFault::BornWhileLiving),
+        _ => Ok(()),
+    }
+}
+
+/// A report is made by the parent, and due.
+fn test_report(known: &Known, entry: &Entry) -> Result<(), AuditFault>
+    ensures { fault_number result ≡ report_fault (kept_by known.now) entry.now }
+{
+    let Entry::Reported { pid, child, status } = *entry else {
+        return Ok(());
+    };
+    let Some(newest) = known.newest(child) else {
+        return Err(AuditFault::NotHappened);
+    };
+    if newest.parent != pid {
+        return Err(AuditFault::NotTheParent);
+    }
+    newest.state.test_report(status)
+}
+
+impl State {
+    /// A report by the parent with a status is due.
+    fn test_report(self, word: Status) -> Result<(), AuditFault>
+        ensures { (p : ℕ) → fault_number result ≡ word_fault p word (kept_as p self) }
+    {
+        match self {
+            State::Living {
+                has_stopped,
+                stop,
+                may_continue,
+            } => test_living(has_stopped, stop, may_continue, word),
+            State::Ended { status, reported } => test_ended(status, reported, word),
+        }
+    }
+}
+
+/// The same, of a life that goes on.
+fn test_living(
+    has_stopped: bool,
+    stop: Option<Sig>,
+    may_continue: bool,
+    word: Status,
+) -> Result<(), AuditFault>
+    ensures { (p : ℕ) → fault_number result ≡ fault_of_living p word (record { parent = p; has_stopped = has_stopped; stop = stop; may_continue = may_continue }) }
+{
+    if is_end_word(word) {
+        Err(AuditFault::NotHappened)
+    } else if is_stopped_word(word) {
+        if !has_stopped {
+            return Err(AuditFault::NotHappened);
+        }
+        match stop {
+            None => Err(AuditFault::ReportedBefore),
+            Some(sig) if u16::from(sig.number()) == word.word() / 256 => Ok(()),
+            Some(_) => Err(AuditFault::OtherStatus),
+        }
+    } else if is_continued_word(word) {
+        if !has_stopped {
+            Err(AuditFault::NotHappened)
+        } else if may_continue {
+            Ok(())
+        } else {
+            Err(AuditFault::ReportedBefore)
+        }
+    } else {
+        Err(AuditFault::OtherStatus)
+    }
+}
+
+/// The same, of one that ended with a status.
+fn test_ended(ended: Status, reported: bool, word: Status) -> Result<(), AuditFault>
+    ensures { (p : ℕ) → fault_number result ≡ fault_of_ended p word (record { parent = p; status = ended; reported = reported }) }
+{
+    if is_end_word(word) {
+        if reported {
+            Err(AuditFault::ReportedBefore)
+        } else if ended == word {
+            Ok(())
+        } else {
+            Err(AuditFault::OtherStatus)
+        }
+    } else if is_stopped_word(word) || is_continued_word(word) {
+        Err(AuditFault::NotHappened)
+    } else {
+        Err(AuditFault::OtherStatus)
+    }
+}

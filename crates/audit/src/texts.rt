@@ -1,0 +1,83 @@
+//! Whole traces.
+
+ghost use Rattle.std.specs.Prelude.{◌≡◌, ◌≢◌, ◌<◌, ◌≤◌, length, true, List, MatchOption, IfSome, Err, OnOk};
+ghost use Rattle.std.specs.List.{AllByRecursion};
+ghost use Rattle.posix.specs.declared.event.Event.{Event};
+ghost use Rattle.posix.specs.Entries.{Line};
+ghost use Rattle.posix.specs.Printing.{print};
+ghost use Rattle.posix.specs.Runs.{Runs};
+ghost use Rattle.posix.specs.States.{State, World};
+ghost use Rattle.laws.specs.Kinds.{IsEvent, IsWorld};
+ghost use Rattle.audit.specs.declared.fault.AuditFault.TheVariants.{Memory};
+ghost use Rattle.audit.specs.Texts.{IsLawful, IsLawfulBefore, IsCut, IsFirstFault, is_one_line};
+
+use crate::audit::Audit;
+use crate::fault::AuditFault;
+use std::alloc::Global;
+use thiserror::Error;
+
+/// The first faulty line of a trace.
+#[derive(Clone, Copy, Debug, PartialEq, Eq, Error)]
+#[error("line {line}: {fault}")]
+pub struct TraceFault {
+    /// Its number, from 1.
+    pub line: u64,
+    pub fault: AuditFault,
+}
+
+/// Audits a whole trace, each line with its line feed.
+///
+/// Ok where the text is the print of lines of which the laws of a trace hold, as the empty text is. The error is the
+/// first line that an [`Audit`] refuses, and why. What follows the last line feed, if anything, is a line that none
+/// of the forms has, so its fault is [`AuditFault::NoLine`]. Where memory is refused, the fault is
+/// [`AuditFault::Memory`], and the lines before are lawful; at line 1 it may be refused before that is read.
+pub fn audit_text(alloc: Global, text: &[u8]) -> Result<(), TraceFault>
+    ensures ok { OnOk result (IsLawful text.now) }
+    ensures memory { (fault : TraceFault) → result ≡ Err fault → fault.fault ≡ Memory → IsLawfulBefore text.now fault.line }
+    ensures refused { (fault : TraceFault) → result ≡ Err fault → fault.fault ≢ Memory → IsLawful text.now → ⊥ }
+    ensures first { (fault : TraceFault) → result ≡ Err fault → fault.fault ≢ Memory → IsFirstFault text.now fault }
+{
+    let mut number: u64 = 1;
+    let Ok(mut audit) = Audit::new(alloc) else {
+        return Err(TraceFault {
+            line: number,
+            fault: AuditFault::Memory,
+        });
+    };
+    let mut rest = text;
+    while let Some((line, more)) = next_line(rest) {
+        if let Err(fault) = audit.line(line) {
+            return Err(TraceFault {
+                line: number,
+                fault,
+            });
+        }
+        rest = more;
+        number += 1;
+    }
+    if rest.is_empty() {
+        return Ok(());
+    }
+    Err(TraceFault {
+        line: number,
+        fault: AuditFault::NoLine,
+    })
+}
+
+/// The first line of a text, without its line feed, and what follows that; none where no line feed comes.
+fn next_line(text: &[u8]) -> Option<(&[u8], &[u8])>
+    ensures cut { MatchOption result (is_one_line text.now ≡ true) (λ f. IsCut text.now f.0.now f.1.now) }
+    ensures less { IfSome result (λ f. length f.1.now < length text.now) }
+{
+    let end = text.iter().position(|byte| *byte == b'\n')?;
+    Some((&text[..end], &text[end + 1..]))
+}
+
+/// The trace of each run is lawful.
+///
+/// So [`audit_text`] is Ok on the printed trace of each run of at most 1,000,000,000,000 events, unless there is no
+/// memory.
+pub fn runs_are_lawful()
+    ensures { (w : World) (events : List Event) (lines : List Line) (last : State) → 1 ≤ w.pidmax → IsWorld w → AllByRecursion IsEvent events
+        → length events ≤ 1000000000000 → Runs w events lines last → IsLawful (print lines) }
+{}

@@ -1,0 +1,38 @@
+-- Real-time signals do nothing at once, so that one for a process leaves the others; the signal of a key is none of them.
+use Rattle.std.proofs.Common.{◌≡◌, ℕ, Bool, true, false, cond, refl, ap, ◌∙◌, arith, List, Option, Some, None, ◌==◌}
+use Rattle.std.proofs.lemmas.Bool.Decides.{nat_tests}
+use Rattle.std.proofs.lemmas.Option.{same_Some}
+use Rattle.posix.specs.declared.process.Effect.TheVariants as effect
+use Rattle.posix.specs.declared.process.Life.{Life}
+use Rattle.posix.specs.declared.process.PendingSignal.{PendingSignal}
+use Rattle.posix.specs.SignalNumbers.{is_realtime, is_stop_signal, CONT, INT, QUIT, TSTP}
+use Rattle.posix.specs.Processes.{Process, Signals}
+use Rattle.posix.specs.Tables.{lookup, changed}
+use Rattle.posix.specs.Consoles.{key_signal}
+use Rattle.posix.specs.Generation.{signalled, effect_of}
+use Rattle.posix.specs.Notices.{acted_upon, generated_for}
+use Rattle.posix.proofs.TableLemmas.{pid_looked}
+
+-- none is CONT or stops
+pub realtime_not : (n : ℕ) → is_realtime n ≡ true → ((n == CONT) ≡ false) × (is_stop_signal n ≡ false)
+realtime_not n e = (grind (arith, nat_tests, e), grind (arith, nat_tests, e))
+
+-- it does nothing at once
+pub realtime_effect : (p : ℕ) (life : Life) (m : PendingSignal) (g : Signals) → is_realtime m.sig ≡ true → effect_of p life m g ≡ effect.Nothing
+unfolding effect_of
+realtime_effect p life m g e = rw (realtime_not m.sig e).0 refl
+
+-- so it changes the process that it is generated for, and no other
+pub generated_alone : (m : PendingSignal) (p : ℕ) (r : Process) (rs : List Process) → is_realtime m.sig ≡ true → lookup p rs ≡ Some r → generated_for m (Some r) rs ≡ changed p (signalled m) rs
+generated_alone m p r rs e is =
+    ap (λ w. acted_upon w r (changed r.pid (signalled m) rs)) (realtime_effect r.pid r.life m r.signals e)
+    ∙ ap (λ q. changed q (signalled m) rs) (pid_looked p rs r is)
+
+-- the signal of a key is a standard signal, and continues nobody
+pub key_standard : (byte sig : ℕ) → key_signal byte ≡ Some sig → (is_realtime sig ≡ false) × ((sig == CONT) ≡ false)
+unfolding key_signal
+key_standard byte sig e = by (byte == 3) (byte == 28) (byte == 26) e
+  where
+    by : (a b c : Bool) → cond a (Some INT) (cond b (Some QUIT) (cond c (Some TSTP) None)) ≡ Some sig → (is_realtime sig ≡ false) × ((sig == CONT) ≡ false)
+    by false false false e = absurd (cc)
+    by a b c e = rw (← same_Some _ _ e) (refl, refl)
