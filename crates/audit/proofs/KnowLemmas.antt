@@ -11,6 +11,7 @@ use Rattle.laws.proofs.KeptLemmas.{kept_more, last_where_more}
 use Rattle.laws.proofs.TestLemmas.{tests_are_laws}
 use Rattle.laws.proofs.LawfulLemmas.{laws_more, laws_at}
 use Rattle.traceline.proofs.EntryLemmas.{says_guess}
+use Rattle.audit.proofs.PassLemmas.{tested_other}
 use Rattle.audit.specs.Knowing.{AuditView, kept_at, AllSay, AreLawful, Knows, Heard, StaysWith, IsRead, IsAnswer, IsNewBirth}
 use Rattle.audit.specs.Faults.{number_of, fault_tested}
 use Rattle.audit.specs.declared.fault.AuditFault.{AuditFault}
@@ -140,16 +141,6 @@ new_read text old new h texts k = elim h.read [
   | inl d ↦ (d.0, d.1, subst (λ f. IsNewBirth f d.0) (fun_ext k.kept) (d.4 refl))
   | inr n ↦ let no : Err Memory ≡ Err NoLine = n.1 in absurd (cc)
 ]
-
-tested_other : (f : AuditFault) → f ≢ Memory → fault_tested {A = Unit {0}} (Err f) ≡ Some (number_of f)
-tested_other NoLine h = refl
-tested_other BornWhileLiving h = refl
-tested_other NotHappened h = refl
-tested_other ReportedBefore h = refl
-tested_other NotTheParent h = refl
-tested_other OtherStatus h = refl
-tested_other OutOfPlace h = refl
-tested_other Memory h = absurd (h refl)
 
 pub refused_read : (text : List ℕ) (f : AuditFault) (old new : AuditView) → f ≢ Memory → IsRead text (Err f) old new → (texts : List (List ℕ)) → Knows texts old → AreLawful (texts ++ text ∷ []) → ⊥
 refused_read text f old new other h texts k = elim h.read [

@@ -1,5 +1,5 @@
 -- What a line that passes all tests says.
-use Rattle.std.proofs.Common.{◌≡◌, ℕ, ◌≤◌, ◌/◌, ◌==◌, not, nat_lt, lit≤, subst, Result, Ok, Err, Bool, true, false, if◌then◌else◌, Option, Some, None, IfSome, refl, ap, sym, ◌∙◌, arith}
+use Rattle.std.proofs.Common.{◌≡◌, ◌≢◌, ℕ, ◌≤◌, ◌/◌, ◌==◌, not, nat_lt, lit≤, subst, Result, Ok, Err, Bool, true, false, if◌then◌else◌, Option, Some, None, IfSome, refl, ap, sym, ◌∙◌, arith}
 use Rattle.posix.specs.Entries.{Line}
 use Rattle.posix.specs.declared.entry.Entry.{Entry}
 use Rattle.posix.specs.declared.entry.Entry.TheVariants.{Noted, Called, Moved, Reported, NoMemory, Handled, Discarded, Stopped, Returned, Ended, Halted}
@@ -123,20 +123,24 @@ is_test kept last phase l =
     test_unless (number_fault last l.event) _ (test_if (nat_lt l.event last) (Some 1) None (lit≤ tt) tt)
     (test_unless (place_fault kept phase l.entry) _ (test_place kept phase l.entry) (test_unless (birth_fault kept (born_by l.entry)) _ (test_birth kept (born_by l.entry)) (test_report kept l.entry)))
 
-tested_if : (fault : AuditFault) → number_of fault ≤ 7 → fault_tested {A = Unit {0}} (Err fault) ≡ Some (number_of fault)
-tested_if NoLine h = refl
-tested_if BornWhileLiving h = refl
-tested_if NotHappened h = refl
-tested_if ReportedBefore h = refl
-tested_if NotTheParent h = refl
-tested_if OtherStatus h = refl
-tested_if OutOfPlace h = refl
-tested_if Memory h = absurd (omega (arith, h))
+-- a fault that isn't want of memory is one that a test found
+pub tested_other : (f : AuditFault) → f ≢ Memory → fault_tested {A = Unit {0}} (Err f) ≡ Some (number_of f)
+tested_other NoLine h = refl
+tested_other BornWhileLiving h = refl
+tested_other NotHappened h = refl
+tested_other ReportedBefore h = refl
+tested_other NotTheParent h = refl
+tested_other OtherStatus h = refl
+tested_other OutOfPlace h = refl
+tested_other Memory h = absurd (h refl)
+
+no_test : (f : AuditFault) → number_of f ≤ 7 → f ≢ Memory
+no_test f h e = absurd (omega (arith, subst (λ (x : AuditFault). number_of x ≤ 7) e h))
 
 -- an answer with the number of the first test that fails
 pub tested : (r : Result (Unit {0}) AuditFault) (kept : ℕ → Kept) (last : ℕ) (phase : Phase) (l : Line) → fault_number r ≡ fault_of kept last phase l → fault_tested r ≡ fault_of kept last phase l
 tested (Ok x) kept last phase l h = h
-tested (Err fault) kept last phase l h = tested_if fault (subst IsTest (sym h) (is_test kept last phase l)) ∙ h
+tested (Err fault) kept last phase l h = tested_other fault (no_test fault (subst IsTest (sym h) (is_test kept last phase l))) ∙ h
 
 -- and it isn't fault 8
 pub not_memory : (r : Result (Unit {0}) AuditFault) (kept : ℕ → Kept) (last : ℕ) (phase : Phase) (l : Line) → fault_number r ≡ fault_of kept last phase l → r ≡ Err Memory → ⊥

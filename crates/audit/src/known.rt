@@ -8,11 +8,12 @@ ghost use Rattle.laws.specs.TraceLines.{is_entry};
 ghost use Rattle.laws.specs.Lives.{process_of as process_said, born_by as birth_said};
 ghost use Rattle.audit.specs.Records.{is_living_state, kept_as, kept_newest, kept_by, parent_now, with_state, kept_in, is_life, without_parent, NameParents, IsNextLife};
 
-use crate::lines::{born_by, is_continued_word, is_end_word, is_stopped_word};
+use crate::lines::{born_by, is_continued_word, is_stopped_word};
 use posix::{Entry, Pid, Sig, Status};
 use std::alloc::{AllocError, Global};
 use std::collections::BTreeMap;
 use std::marker::Model;
+use traceline::is_end_word;
 
 /// What the lines so far say of a life.
 #[derive(Clone, Copy)]

@@ -1,7 +1,7 @@
 //! What a line says.
 
 ghost use Rattle.std.specs.Prelude.{◌≡◌, true};
-ghost use Rattle.laws.specs.TraceLines.{is_end_word as is_end, is_stopped_word as is_stopped, is_continued_word as is_continued, is_entry};
+ghost use Rattle.laws.specs.TraceLines.{is_stopped_word as is_stopped, is_continued_word as is_continued, is_entry};
 ghost use Rattle.laws.specs.Lives.{process_of as process_said, born_by as birth_said};
 
 use posix::{Call, Entry, Pid, Status};
@@ -38,14 +38,6 @@ pub(crate) fn born_by(entry: &Entry) -> Option<Pid>
         } if result > 0 => Pid::new(result as u32),
         _ => None,
     }
-}
-
-/// Whether a status is that of an exit, or of a death by a signal.
-pub(crate) fn is_end_word(status: Status) -> bool
-    ensures { result ≡ is_end status }
-{
-    let word = status.word();
-    word % 256 == 0 && word <= 65280 || matches!(word, 1..=31 | 34..=64)
 }
 
 /// Whether a status is that of a stop.

@@ -11,8 +11,9 @@ ghost use Rattle.audit.specs.Phases.{phase_said};
 
 use crate::fault::AuditFault;
 use crate::known::{Known, State};
-use crate::lines::{born_by, is_continued_word, is_end_word, is_stopped_word, process_of};
+use crate::lines::{born_by, is_continued_word, is_stopped_word, process_of};
 use posix::{Entry, Pid, Sig, Status};
+use traceline::is_end_word;
 
 /// Whether `halt` comes next, or nothing.
 #[derive(Clone, Copy, Debug, PartialEq, Eq)]

@@ -326,16 +326,8 @@ fn an_event_text_comes_in_pieces(rt: HostRuntime) -> Result<(), Fail> {
     Ok(())
 }
 
-const STEP: EventRun = EventRun {
-    event: Event::Step,
-    count: 1,
-};
-
-fn keys(console: u8, byte: u8, count: u64) -> EventRun {
-    EventRun {
-        event: Event::Key { console, byte },
-        count,
-    }
+fn keys(console: u8, byte: u8, count: u32) -> EventRun {
+    EventRun::new(Event::Key { console, byte }, u64::from(count))
 }
 
 #[test]
@@ -347,7 +339,12 @@ fn keys_come_in_pieces(rt: HostRuntime) -> Result<(), Fail> {
     reader.feed(b"\nkey 1 ff")?;
     let events = reader.finish()?;
     expect_equal(&rt, events.len(), 5);
-    let runs = [STEP, keys(2, 0x68, 1), keys(2, 0xff, 2), keys(1, 0xff, 1)];
+    let runs = [
+        EventRun::new(Event::Step, 1),
+        keys(2, 0x68, 1),
+        keys(2, 0xff, 2),
+        keys(1, 0xff, 1),
+    ];
     expect_equal(&rt, events.runs(), runs.as_slice());
     Ok(())
 }

@@ -15,8 +15,7 @@ use Rattle.posix.specs.Step.{IsStep}
 use Rattle.posix.proofs.CountLemmas.{Counts, counts_next}
 use Rattle.life.specs.NotedBursts.{StepsTaken}
 use Rattle.kernel.specs.Steps.{last_given, is_followed_by_step, with_step_behind, taken_at_once}
-use Rattle.text.specs.declared.event_list.EventRun.{EventRun}
-use Rattle.text.specs.EventLists.{expanded, run_events}
+use Rattle.text.specs.EventLists.{CountedEvent, expanded, run_events}
 
 pub replicate_joined : (a b n : ℕ) (x : Event) → a + b ≡ n → replicate a x ++ replicate b x ≡ replicate n x
 replicate_joined a b n x e = replicate-append-replicate a b x ∙ ap (λ (m : ℕ). replicate m x) e
@@ -24,37 +23,37 @@ replicate_joined a b n x e = replicate-append-replicate a b x ∙ ap (λ (m : �
 pub replicate_three : (a b c n : ℕ) (x : Event) → (a + b) + c ≡ n → (replicate a x ++ replicate b x) ++ replicate c x ≡ replicate n x
 replicate_three a b c n x e = ap (λ (l : List Event). l ++ replicate c x) (replicate_joined a b (a + b) x refl) ∙ replicate_joined (a + b) c n x e
 
-pub expanded_more : (rs : List EventRun) (i : ℕ) (d : EventRun) → i < length rs → expanded (take (i + 1) rs) ≡ expanded (take i rs) ++ run_events (get_or rs i d)
-expanded_more rs i d lt =
-    ap expanded (take_more rs i d lt) ∙ flat_map-append run_events (take i rs) (get_or rs i d ∷ [])
-    ∙ ap (λ (l : List Event). expanded (take i rs) ++ l) (append-nil (run_events (get_or rs i d)))
+-- the run at i adds its events to those of the runs before it
+pub expanded_more : (rs : List CountedEvent) (i : ℕ) (r : CountedEvent) → i < length rs → r ≡ get_or rs i r → expanded (take (i + 1) rs) ≡ expanded (take i rs) ++ run_events r
+expanded_more rs i r lt is =
+    ap expanded (take_more rs i r lt) ∙ flat_map-append run_events (take i rs) (get_or rs i r ∷ [])
+    ∙ ap (λ (l : List Event). expanded (take i rs) ++ l) (append-nil (run_events (get_or rs i r)))
+    ∙ ap (λ (q : CountedEvent). expanded (take i rs) ++ run_events q) (sym is)
 
-pub expanded_split : (rs : List EventRun) (i : ℕ) (d : EventRun) → i < length rs → (expanded (take i rs) ++ run_events (get_or rs i d)) ++ expanded (drop (i + 1) rs) ≡ expanded rs
-expanded_split rs i d lt =
-    ap (λ (l : List Event). l ++ expanded (drop (i + 1) rs)) (sym (expanded_more rs i d lt)) ∙ sym (flat_map-append run_events (take (i + 1) rs) (drop (i + 1) rs))
+pub expanded_split : (rs : List CountedEvent) (i : ℕ) (r : CountedEvent) → i < length rs → r ≡ get_or rs i r → (expanded (take i rs) ++ run_events r) ++ expanded (drop (i + 1) rs) ≡ expanded rs
+expanded_split rs i r lt is =
+    ap (λ (l : List Event). l ++ expanded (drop (i + 1) rs)) (sym (expanded_more rs i r lt is)) ∙ sym (flat_map-append run_events (take (i + 1) rs) (drop (i + 1) rs))
     ∙ ap expanded (take-append-drop (i + 1) rs)
 
 -- the run at i is within the limit that all are within
-pub run_fits : (rs : List EventRun) (d : EventRun) (now old i most : ℕ) (all : List Event) → i < length rs → expanded rs ≡ all → now ≡ old + length (expanded (take i rs)) →
-    old + length all ≤ most → now + (get_or rs i d).count ≤ most
-run_fits rs d now old i most all lt same at fits =
-    let split = ap length (expanded_split rs i d lt ∙ same) in
-    let len : length ((expanded (take i rs) ++ run_events (get_or rs i d)) ++ expanded (drop (i + 1) rs)) ≡
-    (length (expanded (take i rs)) + (get_or rs i d).count) + length (expanded (drop (i + 1) rs)) =
+pub run_fits : (rs : List CountedEvent) (r : CountedEvent) (now old i most : ℕ) (all : List Event) → i < length rs → r ≡ get_or rs i r → expanded rs ≡ all → now ≡ old + length (expanded (take i rs)) →
+    old + length all ≤ most → now + r.count ≤ most
+run_fits rs r now old i most all lt is same at fits =
+    let split = ap length (expanded_split rs i r lt is ∙ same) in
+    let len : length ((expanded (take i rs) ++ run_events r) ++ expanded (drop (i + 1) rs)) ≡ (length (expanded (take i rs)) + r.count) + length (expanded (drop (i + 1) rs)) =
     simp (length-append, length-replicate) in
     omega (arith, split, len)
 
 -- four ends for each event that was given, the run at i included
-pub ends_fit : (rs : List EventRun) (d : EventRun) (now old i most ends more : ℕ) (all : List Event) → i < length rs → expanded rs ≡ all → now ≡ old + length (expanded (take i rs)) →
-    old + length all ≤ most → ends ≤ 4 * length (expanded (take i rs)) → more ≤ 4 * length (replicate (get_or rs i d).count (get_or rs i d).event) → ends + more ≤ 4 * most
-ends_fit rs d now old i most ends more all lt same at fits a b =
-    omega (arith, run_fits rs d now old i most all lt same at fits, length-replicate (get_or rs i d).count (get_or rs i d).event)
+pub ends_fit : (rs : List CountedEvent) (r : CountedEvent) (now old i most ends more : ℕ) (all : List Event) → i < length rs → r ≡ get_or rs i r → expanded rs ≡ all → now ≡ old + length (expanded (take i rs)) →
+    old + length all ≤ most → ends ≤ 4 * length (expanded (take i rs)) → more ≤ 4 * length (replicate r.count r.event) → ends + more ≤ 4 * most
+ends_fit rs r now old i most ends more all lt is same at fits a b = omega (arith, run_fits rs r now old i most all lt is same at fits, length-replicate r.count r.event)
 
-pub events_more : (rs : List EventRun) (d : EventRun) (i old now new : ℕ) → i < length rs → now ≡ old + length (expanded (take i rs)) → new ≡ now + (get_or rs i d).count →
+pub events_more : (rs : List CountedEvent) (r : CountedEvent) (i old now new : ℕ) → i < length rs → r ≡ get_or rs i r → now ≡ old + length (expanded (take i rs)) → new ≡ now + r.count →
     new ≡ old + length (expanded (take (i + 1) rs))
-events_more rs d i old now new lt at more =
-    let len : length (expanded (take i rs) ++ run_events (get_or rs i d)) ≡ length (expanded (take i rs)) + (get_or rs i d).count = simp (length-append, length-replicate) in
-    let step = ap length (expanded_more rs i d lt) in
+events_more rs r i old now new lt is at more =
+    let len : length (expanded (take i rs) ++ run_events r) ≡ length (expanded (take i rs)) + r.count = simp (length-append, length-replicate) in
+    let step = ap length (expanded_more rs i r lt is) in
     omega (arith, step, len)
 
 -- there are no more births and ticks than events, after one more, too

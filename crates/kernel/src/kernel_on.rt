@@ -2,7 +2,7 @@
 
 ghost use Rattle.std.specs.Prelude.{◌≡◌, ◌+◌, ◌-◌, ◌++◌, ◌<◌, ◌≤◌, ℕ, List, [], Contains, Some, IfOk, IfSome, true, replicate};
 ghost use Rattle.std.specs.List.{list_all};
-ghost use Rattle.posix.specs.States.{boot as boot_of};
+ghost use Rattle.posix.specs.States.{boot as boot_of, current as current_of};
 ghost use Rattle.posix.specs.declared.entry.Entry.{Entry};
 ghost use Rattle.posix.specs.Entries.{Line, numbered};
 ghost use Rattle.posix.specs.NextPid.{is_free};
@@ -86,6 +86,21 @@ impl<K: Kin> KernelOn<K> {
         ensures { result ≡ self.now.visits }
     {
         self.machine.visits()
+    }
+
+    /// Whether the machine has halted.
+    pub fn is_halted(&self) -> bool
+        ensures { result ≡ self.now.state.halted }
+    {
+        self.machine.is_halted()
+    }
+
+    /// The process that is first in the order of turns, so acts at the next step unless the machine has halted; none
+    /// where no process can act.
+    pub fn current(&self) -> Option<Pid>
+        ensures { result ≡ current_of self.now.state }
+    {
+        self.machine.current()
     }
 
     /// The number of consoles.

@@ -130,23 +130,23 @@ fn run_some<K: Kin, S: Sink>(
 /// Gives so many times one event.
 fn run_many<K: Kin, S: Sink>(
     kernel: &mut KernelOn<K>,
-    run: EventRun,
+    run: &EventRun,
     pending: &mut LineBuffer,
     out: &mut S,
 ) -> Result<u64, SinkFault>
-    requires { kernel.old.events + run.count ≤ most_events }
-    ensures ok { IfOk result (Writes (kernel.old.events + 1) kernel.old.state (replicate run.count run.event) kernel.new.state (S.seen out.old) pending.old (S.seen out.new) pending.new) }
-    ensures err { OnErr result (Stops (kernel.old.events + 1) kernel.old.state (replicate run.count run.event) (S.seen out.old) pending.old (S.seen out.new)) }
-    ensures events { OnOk result (kernel.new.events ≡ kernel.old.events + run.count) }
+    requires { kernel.old.events + run.now.count ≤ most_events }
+    ensures ok { IfOk result (Writes (kernel.old.events + 1) kernel.old.state (replicate run.now.count run.now.event) kernel.new.state (S.seen out.old) pending.old (S.seen out.new) pending.new) }
+    ensures err { OnErr result (Stops (kernel.old.events + 1) kernel.old.state (replicate run.now.count run.now.event) (S.seen out.old) pending.old (S.seen out.new)) }
+    ensures events { OnOk result (kernel.new.events ≡ kernel.old.events + run.now.count) }
 {
-    let last = kernel.events() + run.count;
+    let last = kernel.events() + run.count();
     let mut ends = 0;
     let mut notes = ArrayVec::new();
     let mut entries = ArrayVec::new();
     while kernel.events() < last {
         ends += run_some(
             kernel,
-            run.event,
+            run.event(),
             last,
             &mut notes,
             &mut entries,
@@ -171,7 +171,7 @@ fn run_events<K: Kin, S: Sink>(
 {
     let mut ends = 0;
     for run in events.runs() {
-        ends += run_many(kernel, *run, pending, out)?;
+        ends += run_many(kernel, run, pending, out)?;
     }
     Ok(ends)
 }

@@ -1,5 +1,5 @@
 -- States keep the kinds of their parts.
-use Rattle.std.proofs.Common.{◌≡◌, ◌≢◌, ℕ, zero, suc, ◌+◌, ◌-◌, ◌%◌, ◌≤◌, ◌<◌, Bool, true, false, cond, not, ◌&&◌, ◌==◌, refl, ap, sym, ◌∙◌, arith, subst, List, [], ◌∷◌, ◌++◌, map, filter, length, Option, Some, None, pos, nat_le, nat_lt, inl, inr}
+use Rattle.std.proofs.Common.{◌≡◌, ◌≢◌, ℕ, zero, suc, ◌+◌, ◌-◌, ◌%◌, ◌≤◌, ◌<◌, true, false, cond, not, ◌&&◌, ◌==◌, refl, ap, sym, ◌∙◌, arith, subst, List, [], ◌∷◌, ◌++◌, map, filter, length, Option, Some, None, pos, nat_le, nat_lt, inl, inr}
 use Rattle.std.specs.List.{list_all, AllByRecursion}
 use Rattle.std.proofs.lemmas.Bool.{cond_both, and_parts, leb-true, eqb-true, ne_eqb, or_cases, cases_eq}
 use Rattle.std.proofs.lemmas.Bool.Decides.{nat_tests}
@@ -8,7 +8,7 @@ use Rattle.posix.specs.declared.process.Effect.TheVariants as effect
 use Rattle.posix.specs.declared.process.Life.{Life}
 use Rattle.posix.specs.declared.process.Life.TheVariants.{Running, Stopped, Zombie}
 use Rattle.posix.specs.declared.process.PendingSignal.{PendingSignal}
-use Rattle.posix.specs.SignalNumbers.{CONT, HUP, INT, QUIT, TSTP, is_signal, is_standard, is_realtime}
+use Rattle.posix.specs.SignalNumbers.{CONT, HUP, is_signal, is_standard, is_realtime}
 use Rattle.posix.specs.Statuses.{continued, stopped}
 use Rattle.posix.specs.Processes.{Process, is_zombie}
 use Rattle.posix.specs.Tables.{IsRising, lookup, at, changed, inserted, removed, is_child, children_in, reparented, adopted, pids, members_in}

@@ -200,8 +200,8 @@ impl<K: Kin> Machine<K> {
         if survey.is_full {
             return Sending::QueueFull;
         }
-        let none = self.stock.none();
-        let mut stock = replace(&mut self.stock, none);
+        let empty = self.stock.without_pools();
+        let mut stock = replace(&mut self.stock, empty);
         let sending = if self.reserve_pools(&mut stock, survey.queuers) {
             self.send_with(me, target, Some(signal), &mut stock)
         } else {

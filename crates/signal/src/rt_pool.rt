@@ -120,7 +120,7 @@ impl Stock {
     }
 
     /// No pool, in a stock of its own. It takes no memory.
-    pub fn none(&self) -> Stock
+    pub fn without_pools(&self) -> Stock
         ensures { result.pools ≡ 0 }
     {
         Stock::new(*self.pools.allocator())

@@ -1,19 +1,18 @@
 -- Laws of events that are kept as runs.
-use Rattle.std.proofs.Common.{◌≡◌, ℕ, ◌+◌, ◌<◌, ◌≤◌, List, [], ◌∷◌, ◌++◌, length, get_or, ap, sym, ◌∙◌, append_assoc, append-nil, arith, length-append, zero, suc}
+use Rattle.std.proofs.Common.{◌≡◌, ℕ, ◌+◌, List, [], ◌∷◌, ◌++◌, length, get_or, ap, sym, ◌∙◌, append_assoc, append-nil, arith, zero, suc}
 use Rattle.std.proofs.Math.ListN.{set}
-use Rattle.std.proofs.lemmas.List.{length-replicate, replicate-append-replicate, get_or_default}
+use Rattle.std.proofs.lemmas.List.{replicate-append-replicate, get_or_default}
 use Rattle.std.specs.Prelude.{replicate}
 use Rattle.std.proofs.lemmas.Grind.{common_steps}
 use Rattle.posix.specs.declared.event.Event.{Event}
-use Rattle.text.specs.declared.event_list.EventRun.{EventRun}
-use Rattle.text.specs.EventLists.{expanded}
+use Rattle.text.specs.EventLists.{CountedEvent, expanded}
 
 -- another run adds its events at the end
-pub expanded_push : (rs : List EventRun) (r : EventRun) → expanded (rs ++ r ∷ []) ≡ expanded rs ++ replicate r.count r.event
+pub expanded_push : (rs : List CountedEvent) (r : CountedEvent) → expanded (rs ++ r ∷ []) ≡ expanded rs ++ replicate r.count r.event
 expanded_push rs r = grind (arith, common_steps)
 
 -- the last run grows by n, and n of its events come at the end
-last_grow : (rs : List EventRun) (i n : ℕ) (d : EventRun) → i + 1 ≡ length rs →
+last_grow : (rs : List CountedEvent) (i n : ℕ) (d : CountedEvent) → i + 1 ≡ length rs →
     expanded (set rs i (record { event = (get_or rs i d).event; count = (get_or rs i d).count + n })) ≡ expanded rs ++ replicate n (get_or rs i d).event
 last_grow [] i n d h = absurd (omega arith)
 last_grow (r ∷ []) zero n d h =
@@ -25,21 +24,11 @@ last_grow (r ∷ q ∷ rs) (suc i) n d h =
     ∙ sym (append_assoc (replicate r.count r.event) (expanded (q ∷ rs)) (replicate n (get_or (q ∷ rs) i d).event))
 
 -- the last run grows
-pub expanded_grow : (rs : List EventRun) (i n : ℕ) (r q : EventRun) (event : Event) → i + 1 ≡ length rs → r ≡ get_or rs i r → q ≡ get_or rs i q → q.event ≡ event →
-    expanded (set rs i (record { event = r.event; count = r.count + n })) ≡ expanded rs ++ replicate n event
+pub expanded_grow : (rs : List CountedEvent) (i n : ℕ) (r q : CountedEvent) (event : Event) → i + 1 ≡ length rs → r ≡ get_or rs i r → q ≡ get_or rs i q → q.event ≡ event →
+    expanded (set rs i (record { event = event; count = r.count + n })) ≡ expanded rs ++ replicate n event
 expanded_grow rs i n r q event last r_is q_is same =
     let e : r ≡ get_or rs i q = r_is ∙ get_or_default rs i r q (omega arith) in
-    let f : (get_or rs i q).event ≡ event = ap (λ (x : EventRun). x.event) (sym q_is) ∙ same in
+    let f : (get_or rs i q).event ≡ event = ap (λ (x : CountedEvent). x.event) (sym q_is) ∙ same in
     rw (e, ← f) (last_grow rs i n q last)
-
--- the run at a place is no longer than all
-within_all : (rs : List EventRun) (i : ℕ) (d : EventRun) → i < length rs → (get_or rs i d).count ≤ length (expanded rs)
-within_all [] i d h = absurd (omega arith)
-within_all (r ∷ rs) zero d h = omega (arith, length-append (replicate r.count r.event) (expanded rs), length-replicate r.count r.event)
-within_all (r ∷ rs) (suc i) d h = omega (arith, within_all rs i d (omega arith), length-append (replicate r.count r.event) (expanded rs))
-
--- a run is no longer than all
-pub count_within : (rs : List EventRun) (i : ℕ) (r : EventRun) → i < length rs → r ≡ get_or rs i r → r.count ≤ length (expanded rs)
-count_within rs i r h e = rw e (within_all rs i r h)
 
 pub ruleset expanded_rules = (expanded_push)

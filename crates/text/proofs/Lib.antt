@@ -1,5 +1,6 @@
 pub mod WordLemmas
 pub mod LineLemmas
+pub mod NameLemmas
 pub mod EventLemmas
 pub mod KeyLemmas
 pub mod ReaderLemmas

@@ -1,5 +1,5 @@
 -- Names, and what they stand for.
-use Rattle.std.specs.Prelude.{ℕ, List, if◌then◌else◌, Option, is_some, option_map, find, Result, Ok, Err, bytes_eq}
+use Rattle.std.specs.Prelude.{ℕ, ◌+◌, ◌*◌, List, [], ◌∷◌, if◌then◌else◌, Option, is_some, option_map, find, Result, Ok, Err, bytes_eq}
 use Rattle.text.specs.declared.fault.Reason.{Reason}
 use Rattle.text.specs.declared.fault.Reason.TheVariants.{UnknownWord, NameTwice}
 use Rattle.text.specs.declared.names.Definition.{Definition}
@@ -13,6 +13,11 @@ name w = if is_name w then Ok w else Err UnknownWord
 -- the code address or the number of a program that a name stands for, where it is defined
 unfoldable pub defined : List ℕ → List Definition → Option ℕ
 defined n ds = option_map (λ d. d.number) (find (λ d. bytes_eq d.name n) ds)
+
+-- a name as one number: its first byte in the lowest eight bits
+abbrev pub key_of : List ℕ → ℕ
+key_of [] = 0
+key_of (b ∷ bs) = b + 256 * key_of bs
 
 -- a name that isn't defined yet
 abbrev pub new_name : List Definition → List ℕ → Result (List ℕ) Reason

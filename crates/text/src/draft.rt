@@ -8,7 +8,7 @@ ghost use Rattle.text.specs.WorldTexts.{Becomes, before_colon as before_colon_of
 
 use crate::fault::{Reason, TextFault};
 use crate::instructions::{Operation, operands, operation_named};
-use crate::names::{Definition, new_name};
+use crate::names::Definitions;
 use crate::numbers::number_in;
 use crate::outline::{Outline, programs};
 use crate::words::{first_word, next_word, no_more_words, words_within};
@@ -38,7 +38,7 @@ pub struct Draft {
     pidmax: u32,
     consoles: u8,
     /// The names of the programs that began.
-    names: Vec<Definition>,
+    names: Definitions,
     /// The programs that ended.
     programs: Vec<Outline>,
     /// The program that is open.
@@ -51,7 +51,7 @@ impl Model for Draft {
 
     ghost Value = { DraftOf };
 
-    ghost view = { λ d. record { section = d.section; pidmax = d.pidmax; consoles = d.consoles; names = d.names.items; programs = d.programs.items; opened = d.opened } };
+    ghost view = { λ d. record { section = d.section; pidmax = d.pidmax; consoles = d.consoles; names = d.names; programs = d.programs.items; opened = d.opened } };
 
     ghost invariant = { λ d. (2 ≤ d.pidmax) × (d.pidmax ≤ 32768) × (d.consoles ≤ 8) × (length d.programs.items + opened_at d.section ≤ 32) };
 }
@@ -101,7 +101,7 @@ impl Draft {
             section: Section::BeforePidmax,
             pidmax: 2,
             consoles: 0,
-            names: Vec::new(alloc),
+            names: Definitions::new(alloc),
             programs: Vec::new(alloc),
             opened: Outline::new(alloc, None, None),
         }
@@ -170,14 +170,12 @@ impl Draft {
             return Err(Reason::OutOfRange);
         }
         let (word, rest) = first_word(rest)?;
-        let name = new_name(self.names.as_slice(), word)?;
+        let name = self.names.new_name(word)?;
         let (user, rest) = setting(b"setuid", rest)?;
         let (group, rest) = setting(b"setgid", rest)?;
         no_more_words(rest)?;
         let number = self.programs.len() as u16;
-        self.names
-            .push(Definition { name, number })
-            .map_err(|_| Reason::Memory)?;
+        self.names.push(name, number).map_err(|_| Reason::Memory)?;
         self.opened = Outline::new(
             self.alloc,
             user.and_then(Uid::new),
@@ -254,7 +252,7 @@ impl Draft {
         ensures answer { AnswersAs result (λ v. v.items) (programs_of self.now) }
         ensures len { IfOk result (λ v. length v.items ≡ length (outlines_at self.now.section self.now.programs self.now.opened)) }
     {
-        let names = self.names.as_slice();
+        let names = &self.names;
         let mut programs = programs(self.alloc, names, self.programs.as_slice(), line)?;
         if self.section == Section::InProgram {
             let program = self.opened.program(self.alloc, names, line)?;

@@ -8,14 +8,60 @@ use posix::Event;
 use std::alloc::{AllocError, Global};
 use std::marker::Model;
 
-/// So many times one event.
+/// What a count is kept in units of, and their rest.
+const UNIT: u64 = 1 << 32;
+
+/// So many times one event, fewer than 2^40. It takes eight bytes, as a text can have a run for each key.
 #[derive(Clone, Copy, Debug, PartialEq, Eq)]
 pub struct EventRun {
-    pub event: Event,
-    pub count: u64,
+    event: Event,
+    units: u8,
+    rest: u32,
 }
 
-/// A list of events. It takes memory for each run of equal events, whatever their number.
+impl Model for EventRun {
+    ghost use Rattle.std.specs.Prelude.{◌+◌, ◌*◌, ◌/◌, ◌%◌, ◌<◌, ◌^◌};
+    ghost use Rattle.std.proofs.Common.{arith};
+    ghost use Rattle.text.specs.EventLists.{CountedEvent};
+
+    ghost Value = { CountedEvent };
+
+    ghost view = { λ r. record { event = r.event; count = r.units * 2 ^ 32 + r.rest } };
+
+    ghost invariant = { λ r. (r.units < 2 ^ 8) × (r.rest < 2 ^ 32) };
+
+    ghost inverse = { λ c. record { event = c.event; units = c.count / 2 ^ 32; rest = c.count % 2 ^ 32 } };
+}
+
+impl EventRun {
+    /// So many times one event.
+    pub fn new(event: Event, count: u64) -> EventRun
+        requires { count < 2 ^ 40 }
+        ensures { result ≡ record { event = event; count = count } }
+    {
+        EventRun {
+            event,
+            units: (count / UNIT) as u8,
+            rest: (count % UNIT) as u32,
+        }
+    }
+
+    /// The event.
+    pub fn event(self) -> Event
+        ensures { result ≡ self.event }
+    {
+        self.event
+    }
+
+    /// How often.
+    pub fn count(self) -> u64
+        ensures { result ≡ self.count }
+    {
+        u64::from(self.units) * UNIT + u64::from(self.rest)
+    }
+}
+
+/// A list of fewer than 2^40 events. It takes memory for each run of equal events, whatever their number.
 #[derive(Drop)]
 pub struct EventList {
     runs: Vec<EventRun>,
@@ -37,14 +83,14 @@ impl Model for EventList {
 /// Adds one event so many times to the last run, where that is of the same event. The answer is whether
 /// it is; else the runs are unchanged.
 fn grow_last(runs: &mut Vec<EventRun>, event: Event, count: u64) -> bool
-    requires { length (expanded runs.old.items) + count < 2 ^ 64 }
+    requires { length (expanded runs.old.items) + count < 2 ^ 40 }
     ensures items { MatchBool result (expanded runs.new.items ≡ expanded runs.old.items ++ replicate count event) (runs.new.items ≡ runs.old.items) }
     ensures len { vec_len runs.new ≡ vec_len runs.old }
     ensures capacity { vec_capacity runs.new ≡ vec_capacity runs.old }
 {
     let len = runs.len();
-    if len > 0 && runs[len - 1].event == event {
-        runs[len - 1].count += count;
+    if len > 0 && runs[len - 1].event() == event {
+        runs[len - 1] = EventRun::new(event, runs[len - 1].count() + count);
         return true;
     }
     false
@@ -54,12 +100,12 @@ fn grow_last(runs: &mut Vec<EventRun>, event: Event, count: u64) -> bool
 /// runs are unchanged.
 #[tactic(auto, using(crate::proofs::EventLemmas::expanded_rules))]
 fn push_run(runs: &mut Vec<EventRun>, event: Event, count: u64) -> Result<(), AllocError>
-    requires { length (expanded runs.old.items) + count < 2 ^ 64 }
+    requires { length (expanded runs.old.items) + count < 2 ^ 40 }
     ensures ok { OnOk result (expanded runs.new.items ≡ expanded runs.old.items ++ replicate count event) }
     ensures err { OnErr result (runs.new.items ≡ runs.old.items) }
 {
     if !grow_last(runs, event, count) {
-        runs.push(EventRun { event, count })?;
+        runs.push(EventRun::new(event, count))?;
     }
     Ok(())
 }
@@ -68,7 +114,7 @@ fn push_run(runs: &mut Vec<EventRun>, event: Event, count: u64) -> Result<(), Al
 #[tactic(auto, using(crate::proofs::EventLemmas::expanded_rules))]
 fn push_key_runs(runs: &mut Vec<EventRun>, console: u8, bytes: &[u8])
     requires room { vec_len runs.old + length bytes.now ≤ vec_capacity runs.old }
-    requires count { length (expanded runs.old.items) + length bytes.now < 2 ^ 64 }
+    requires count { length (expanded runs.old.items) + length bytes.now < 2 ^ 40 }
     ensures { expanded runs.new.items ≡ expanded runs.old.items ++ map (Key console) bytes.now }
 {
     for byte in bytes {
@@ -77,7 +123,7 @@ fn push_key_runs(runs: &mut Vec<EventRun>, console: u8, bytes: &[u8])
             byte: *byte,
         };
         if !grow_last(runs, event, 1) {
-            runs.push_reserved(EventRun { event, count: 1 });
+            runs.push_reserved(EventRun::new(event, 1));
         }
     }
 }
@@ -109,7 +155,7 @@ impl EventList {
 
     /// Adds one event so many times. Without memory the list is unchanged.
     pub fn push(&mut self, event: Event, count: u64) -> Result<(), AllocError>
-        requires { length self.old + count < 2 ^ 64 }
+        requires { length self.old + count < 2 ^ 40 }
         ensures ok { OnOk result (self.new ≡ self.old ++ replicate count event) }
         ensures err { OnErr result (self.new ≡ self.old) }
     {
@@ -120,7 +166,7 @@ impl EventList {
 
     /// Adds a key on a console for each byte. Without memory the list is unchanged.
     pub fn push_keys(&mut self, console: u8, bytes: &[u8]) -> Result<(), AllocError>
-        requires { length self.old + length bytes.now < 2 ^ 64 }
+        requires { length self.old + length bytes.now < 2 ^ 40 }
         ensures ok { OnOk result (self.new ≡ self.old ++ map (Key console) bytes.now) }
         ensures err { OnErr result (self.new ≡ self.old) }
     {

@@ -1,12 +1,17 @@
 //! Names, and what they stand for.
 
-ghost use Rattle.std.specs.Prelude.{◌≡◌, ◌++◌, ◌∷◌, [], OnOk, OnErr};
-ghost use Rattle.text.specs.Names.{defined, name as name_of, new_name as new_name_of};
+ghost use Rattle.std.specs.Prelude.{◌≡◌, ◌<◌, ◌≤◌, ◌^◌, ◌++◌, ◌∷◌, [], List, ℕ, true, Some, None, length, bytes_eq, if◌then◌else◌, OnOk, OnErr};
+ghost use Rattle.std.specs.Option.{option_or};
+ghost use Rattle.std.specs.BTreeMap.{get};
+ghost use Rattle.std.specs.Ordering.{nat_cmp};
+ghost use Rattle.text.specs.Words.{is_name as is_name_of};
+ghost use Rattle.text.specs.Names.{defined, key_of, name as name_of, new_name as new_name_of};
 
 use crate::fault::Reason;
 use crate::words::is_name;
 use arrayvec::ArrayVec;
 use std::alloc::{AllocError, Global};
+use std::collections::BTreeMap;
 use std::marker::Model;
 
 /// A letter a to z, and then at most 15 of a to z, 0 to 9 and `_`.
@@ -16,11 +21,26 @@ pub struct Name {
 }
 
 impl Model for Name {
-    ghost use Rattle.std.specs.Prelude.{List, ℕ};
+    ghost use Rattle.std.specs.Prelude.{List, ℕ, ◌≡◌, true};
+    ghost use Rattle.text.specs.Words.{is_name};
 
     ghost Value = { List ℕ };
 
     ghost view = { λ n. n.bytes.items };
+
+    ghost invariant = { λ n. is_name n.bytes.items ≡ true };
+}
+
+/// Some bytes as one number, the first in its lowest eight bits.
+fn key_in(bytes: &[u8]) -> u128
+    requires { length bytes.now ≤ 16 }
+    ensures value { result ≡ key_of bytes.now }
+    ensures range { result < 256 ^ length bytes.now }
+{
+    match bytes.split_first() {
+        None => 0,
+        Some((byte, rest)) => u128::from(*byte) + 256 * key_in(rest),
+    }
 }
 
 impl Name {
@@ -36,11 +56,12 @@ impl Name {
         Ok(Name { bytes })
     }
 
-    /// Its bytes.
-    pub fn as_bytes(&self) -> &[u8]
-        ensures { result.now ≡ self.now }
+    /// A number that no other name has.
+    fn key(&self) -> u128
+        ensures value { result ≡ key_of self.now }
+        ensures name { is_name_of self.now ≡ true }
     {
-        self.bytes.as_slice()
+        key_in(self.bytes.as_slice())
     }
 }
 
@@ -51,25 +72,83 @@ pub struct Definition {
     pub number: u16,
 }
 
-/// What a name stands for, where it is defined.
-#[tactic(auto, unfolding(crate::specs::Names::defined))]
-pub fn number_of(definitions: &[Definition], name: &Name) -> Option<u16>
-    ensures { result ≡ defined name.now definitions.now }
+/// Has a name stand for a number, unless it stands for one already. At an error there is no memory for it, and nothing
+/// changes.
+fn index(numbers: &mut BTreeMap<u128, u16>, name: &Name, number: u16) -> Result<(), AllocError>
+    ensures ok { OnOk result ((n : List ℕ) → is_name_of n ≡ true → get nat_cmp numbers.new (key_of n) ≡ option_or (get nat_cmp numbers.old (key_of n)) (if bytes_eq name.now n then Some number else None)) }
+    ensures err { OnErr result ((key : ℕ) → get nat_cmp numbers.new key ≡ get nat_cmp numbers.old key) }
 {
-    definitions
-        .iter()
-        .find(|d| d.name.as_bytes() == name.as_bytes())
-        .map(|d| d.number)
+    let key = name.key();
+    if numbers.get(&key).is_some() {
+        return Ok(());
+    }
+    numbers.insert(key, number)?;
+    Ok(())
 }
 
-/// The name that a word is, which no definition has yet. A word that is no name is `UnknownWord`, and a
-/// name that one has `NameTwice`.
-pub fn new_name(definitions: &[Definition], word: &[u8]) -> Result<Name, Reason>
-    ensures { result ≡ new_name_of definitions.now word.now }
-{
-    let name = Name::new(word)?;
-    if number_of(definitions, &name).is_some() {
-        return Err(Reason::NameTwice);
+/// Names with what they stand for, in the order in which they were defined. A name is found in time that grows with the
+/// logarithm of their number, as a text can define as many as it has lines.
+#[derive(Drop)]
+pub struct Definitions {
+    list: Vec<Definition>,
+    /// What each name of the list stands for.
+    numbers: BTreeMap<u128, u16>,
+}
+
+impl Model for Definitions {
+    ghost use Rattle.std.specs.Prelude.{List, ℕ, ◌≡◌, true};
+    ghost use Rattle.std.specs.Ordering.{nat_cmp};
+    ghost use Rattle.std.specs.BTreeMap.{get};
+    ghost use Rattle.text.specs.Words.{is_name};
+    ghost use Rattle.text.specs.Names.{defined, key_of};
+    ghost use Rattle.text.specs.declared.names.Definition.{Definition};
+
+    ghost Value = { List Definition };
+
+    ghost view = { λ d. d.list.items };
+
+    ghost invariant = { λ d. (n : List ℕ) → is_name n ≡ true → get nat_cmp d.numbers (key_of n) ≡ defined n d.list.items };
+}
+
+impl Definitions {
+    /// No names.
+    pub fn new(alloc: Global) -> Definitions
+        ensures { result ≡ [] }
+    {
+        Definitions {
+            list: Vec::new(alloc),
+            numbers: BTreeMap::new(alloc),
+        }
     }
-    Ok(name)
+
+    /// What a name stands for, where it is defined.
+    pub fn number_of(&self, name: &Name) -> Option<u16>
+        ensures { result ≡ defined name.now self.now }
+    {
+        self.numbers.get(&name.key()).copied()
+    }
+
+    /// The name that a word is, which isn't defined yet. A word that is no name is `UnknownWord`, and a name that is
+    /// defined `NameTwice`.
+    pub fn new_name(&self, word: &[u8]) -> Result<Name, Reason>
+        ensures { result ≡ new_name_of self.now word.now }
+    {
+        let name = Name::new(word)?;
+        if self.number_of(&name).is_some() {
+            return Err(Reason::NameTwice);
+        }
+        Ok(name)
+    }
+
+    /// Defines a name, which goes on to stand for what it stood for before, if anything. At an error there is no memory
+    /// for it, and nothing changes.
+    pub fn push(&mut self, name: Name, number: u16) -> Result<(), AllocError>
+        ensures ok { OnOk result (self.new ≡ self.old ++ record { name = name; number = number } ∷ []) }
+        ensures err { OnErr result (self.new ≡ self.old) }
+    {
+        self.list.reserve(1)?;
+        index(&mut self.numbers, &name, number)?;
+        self.list.push_reserved(Definition { name, number });
+        Ok(())
+    }
 }

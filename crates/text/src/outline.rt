@@ -7,7 +7,7 @@ ghost use Rattle.text.specs.Reading.{Answers, AnswersAs, each};
 ghost use Rattle.text.specs.WorldTexts.{empty_outline};
 
 use crate::fault::{Reason, TextFault};
-use crate::names::{Definition, Name, new_name, number_of};
+use crate::names::{Definitions, Name};
 use crate::sketch::{Sketch, Use, Written};
 use posix::{Gid, Instr, Uid};
 use std::alloc::{AllocError, Global};
@@ -19,7 +19,7 @@ use umach::Program;
 pub struct Outline {
     setuid: Option<Uid>,
     setgid: Option<Gid>,
-    labels: Vec<Definition>,
+    labels: Definitions,
     code: Vec<Written>,
 }
 
@@ -29,7 +29,7 @@ impl Model for Outline {
 
     ghost Value = { OutlineOf };
 
-    ghost view = { λ p. record { setuid = p.setuid; setgid = p.setgid; labels = p.labels.items; code = p.code.items } };
+    ghost view = { λ p. record { setuid = p.setuid; setgid = p.setgid; labels = p.labels; code = p.code.items } };
 
     ghost invariant = { λ p. length p.code.items ≤ 1000 };
 }
@@ -42,7 +42,7 @@ impl Outline {
         Outline {
             setuid,
             setgid,
-            labels: Vec::new(alloc),
+            labels: Definitions::new(alloc),
             code: Vec::new(alloc),
         }
     }
@@ -59,7 +59,7 @@ impl Outline {
     pub fn new_label(&self, word: &[u8]) -> Result<Name, Reason>
         ensures { result ≡ new_name_of self.now.labels word.now }
     {
-        new_name(self.labels.as_slice(), word)
+        self.labels.new_name(word)
     }
 
     /// Adds a label, which stands for the code address of the next instruction. At an error there is no
@@ -69,8 +69,7 @@ impl Outline {
         ensures err { OnErr result (self.new ≡ self.old) }
     {
         let number = FIRST_ADDRESS + self.code.len() as u16;
-        self.labels.push(Definition { name, number })?;
-        Ok(())
+        self.labels.push(name, number)
     }
 
     /// Adds an instruction to fewer than 1,000. At an error there is no memory for it, and the outline is
@@ -90,14 +89,14 @@ impl Outline {
     pub fn program(
         &self,
         alloc: Global,
-        programs: &[Definition],
+        programs: &Definitions,
         line: u64,
     ) -> Result<Program, TextFault>
         ensures { Answers result (program_of programs.now self.now) }
     {
         let names = Names {
             programs,
-            labels: self.labels.as_slice(),
+            labels: &self.labels,
         };
         let instructions = instructions(alloc, names, self.code.as_slice(), line)?;
         Ok(Program::from_parts(self.setuid, self.setgid, instructions))
@@ -110,13 +109,13 @@ const FIRST_ADDRESS: u16 = 16;
 /// The names that a program may use.
 #[derive(Clone, Copy)]
 struct Names<'a> {
-    programs: &'a [Definition],
-    labels: &'a [Definition],
+    programs: &'a Definitions,
+    labels: &'a Definitions,
 }
 
 impl<'a> Names<'a> {
     /// Those that a use looks its name up in.
-    fn of(self, need: Use) -> &'a [Definition]
+    fn of(self, need: Use) -> &'a Definitions
         ensures { result.now ≡ names_for self.entry.programs.now self.entry.labels.now need }
     {
         match need {
@@ -133,7 +132,7 @@ fn complete(names: Names<'_>, written: &Written) -> Result<Instr, TextFault>
 {
     match &written.sketch {
         Sketch::Ready(instr) => Ok(*instr),
-        Sketch::Lacks(need, name) => match number_of(names.of(*need), name) {
+        Sketch::Lacks(need, name) => match names.of(*need).number_of(name) {
             Some(number) => Ok(need.with_number(number)),
             None => Err(TextFault {
                 line: written.line,
@@ -168,7 +167,7 @@ fn instructions(
 /// These programs with their names looked up, in their order, as [`Outline::program`] says.
 pub fn programs(
     alloc: Global,
-    names: &[Definition],
+    names: &Definitions,
     outlines: &[Outline],
     line: u64,
 ) -> Result<Vec<Program>, TextFault>

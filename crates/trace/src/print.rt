@@ -99,6 +99,7 @@ fn put_pid_and_sig(room: &mut [u8], at: usize, pid: Pid, sig: Sig) -> usize
 }
 
 /// Writes the words of a call of a process, up to its result.
+#[inline(always)]
 fn put_call(room: &mut [u8], at: usize, pid: Pid, call: Call) -> usize
     requires { at + 45 ≤ length room.old }
     ensures text { take result room.new ≡ take at room.old ++ codes " call " ++ decimal pid ++ codes " " ++ call_text call ++ codes " =" }

@@ -202,7 +202,6 @@ impl Form {
 }
 
 /// An entry of a form, behind its first word.
-
 fn guess_entry(form: Form, words: &[u8]) -> Option<Entry>
     ensures { result ≡ guess_entry_of form words.now }
 {

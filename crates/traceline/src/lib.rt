@@ -12,4 +12,5 @@ mod reading;
 mod tests;
 mod words;
 
+pub use forms::is_end_word;
 pub use reading::read_line;

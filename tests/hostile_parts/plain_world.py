@@ -1,0 +1,55 @@
+"""The trace of a small world by plain rules. The world has one program, of `set`, `note`, jumps and `sys exit`, and
+plain_reader accepts it. One process has all turns, and it has no terminal, so ticks and keys show nothing.
+"""
+
+from hostile_parts.plain_reader import Words, lines_of
+
+FIRST_ADDRESS = 16
+JUMPS = {b'jmp': lambda _: True, b'jz': lambda value: value == 0, b'jnz': lambda value: value != 0,
+         b'jlt': lambda value: value < 0}
+
+
+def instructions(world):
+    """The instructions of the program, and where each label points."""
+    code, labels = [], {}
+    lines = [words for words in (Words(line).words for line in lines_of(world)) if words]
+    for words in lines[3:-1]:
+        if words[0].endswith(b':'):
+            labels[words[0][:-1]] = len(code)
+        else:
+            code.append(words)
+    return code, labels
+
+
+def kinds(events):
+    """The kind of each event."""
+    for words in (Words(line).words for line in lines_of(events)):
+        if words:
+            yield from words[:1] * (len(words) - 2 if words[0] == b'key' else int(words[1]))
+
+
+def value_of(word, labels):
+    if word[:1] == b'@':
+        return FIRST_ADDRESS + labels[word[1:]]
+    return 0 if word[:1] == b'$' else int(word)         # there is one program
+
+
+def trace(world, events):
+    code, labels = instructions(world)
+    shown, registers, place = [], {b'r%d' % number: 0 for number in range(8)}, 0
+    for event, kind in enumerate(kinds(events), 1):
+        if kind != b'step':
+            continue
+        word, *operands = code[place] if place < len(code) else [b'fault']
+        place += 1
+        if word == b'set':
+            registers[operands[0]] = value_of(operands[1], labels)
+        elif word == b'note':
+            shown.append(b'%d note 1 %d\n' % (event, registers[operands[0]]))
+        elif word in JUMPS:
+            if JUMPS[word](registers.get(operands[0])):
+                place = labels[operands[-1]]
+        else:
+            status = 11 if word == b'fault' else registers[b'r1'] % 256 * 256
+            return b''.join(shown) + b'%d end 1 %d\n%d halt\n' % (event, status, event)
+    return b''.join(shown)

@@ -1,0 +1,122 @@
+"""Runs the program many times, in as many processes as there are processors, and counts what it answers."""
+
+import collections
+import functools
+import multiprocessing
+import os
+import signal
+import sys
+
+# The exit status, or minus the number of the signal that ended it; what stood on standard output and standard error.
+Answer = collections.namedtuple('Answer', 'status out err')
+
+SECONDS = 60        # a run that takes longer is ended, and has failed
+FIRST_TEXT = 50     # the descriptor by which the program reads the first text
+SHOWN = 5           # so many failures of each kind are shown
+
+program = None      # its absolute path
+
+
+def read_file(name):
+    with open(name, 'rb') as file:
+        return file.read()
+
+
+def clip(content, place=0):
+    """The bytes of a text around a place, for people."""
+    begin = content.rfind(b'\n', 0, max(place, 1) - 1) + 1
+    return '..' * (begin > 0) + repr(content[begin:begin + 200]) + '..' * (begin + 200 < len(content))
+
+
+@functools.lru_cache(maxsize=None)
+def memory_file(name):
+    """A file in memory, one of each name."""
+    return os.memfd_create(name)
+
+
+def fill(name, pieces=()):
+    """The file in memory of that name, which holds these pieces."""
+    file = memory_file(name)
+    os.lseek(file, 0, os.SEEK_SET)
+    os.truncate(file, 0)
+    for piece in pieces:
+        while piece:
+            piece = piece[os.write(file, piece):]
+    return file
+
+
+def start(word, *texts, stdin=None, environment=None):
+    """Starts the program with that word and files. A file is given by its content, by pieces of it, or by its name. Its
+    outputs go to the files in memory `out` and `err`. It is ended after SECONDS."""
+    words, actions = [word], [(os.POSIX_SPAWN_OPEN, 0, '/dev/null', os.O_RDONLY, 0)]
+    if stdin is not None:
+        actions = [(os.POSIX_SPAWN_DUP2, stdin, 0)]
+    actions += [(os.POSIX_SPAWN_DUP2, fill('out'), 1), (os.POSIX_SPAWN_DUP2, fill('err'), 2)]
+    for number, text in enumerate(texts):
+        if isinstance(text, str):
+            words.append(text)
+            continue
+        file = fill(f'text {number}', [text] if isinstance(text, bytes) else text)
+        actions.append((os.POSIX_SPAWN_DUP2, file, FIRST_TEXT + number))
+        words.append(f'/dev/fd/{FIRST_TEXT + number}')
+    child = os.posix_spawn(program, [program, *words], environment or {}, file_actions=actions)
+    signal.signal(signal.SIGALRM, lambda *_: os.kill(child, signal.SIGKILL))
+    signal.alarm(SECONDS)
+    return child
+
+
+def finish(child):
+    """The answer of a program that was started, the seconds of a processor that it took, and its peak of memory."""
+    _, status, used = os.wait4(child, 0)
+    signal.alarm(0)
+    outputs = [read_file(f'/dev/fd/{memory_file(name)}') for name in ('out', 'err')]
+    return Answer(os.waitstatus_to_exitcode(status), *outputs), used.ru_utime + used.ru_stime, used.ru_maxrss * 1024
+
+
+def answer(word, *texts, environment=None):
+    """What the program answers to that word and files of these contents."""
+    return finish(start(word, *texts, environment=environment))[0]
+
+
+def difference(name, wanted, got):
+    """None where the answers are the same, else what differs, for people."""
+    if wanted == got:
+        return None
+    place = len(os.path.commonprefix([wanted.out, got.out]))
+    return (f'{name}\n  wanted status {wanted.status}, {clip(wanted.out, place)}, {clip(wanted.err)}'
+            f'\n  got    status {got.status}, {clip(got.out, place)}, {clip(got.err)}')
+
+
+def begin_worker():
+    """A process that runs the program leaves signals that end the tests to the first process, which ends it."""
+    signal.signal(signal.SIGINT, signal.SIG_IGN)
+    signal.signal(signal.SIGTERM, signal.SIG_DFL)
+    memory_file.cache_clear()
+
+
+class Checks:
+    """Counts checks, and shows those that fail."""
+
+    def __init__(self):
+        self.passed = 0
+        self.failed = 0
+
+    def judge_each(self, kind, judge, items):
+        """Calls judge, which answers None or what failed, for each item; as many at once as there are processors."""
+        with multiprocessing.Pool(os.cpu_count(), begin_worker) as pool:
+            self.count(kind, pool.imap(judge, items, 32))
+
+    def count(self, kind, failures):
+        """Counts answers of a judge."""
+        passed = failed = 0
+        for failure in failures:
+            if failure is None:
+                passed += 1
+                continue
+            failed += 1
+            if failed <= SHOWN:
+                print(f'failed: {kind}: {failure}')
+        print(f'{kind}: {passed} passed, {failed} failed')
+        sys.stdout.flush()
+        self.passed += passed
+        self.failed += failed
