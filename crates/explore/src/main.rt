@@ -1,0 +1,121 @@
+//! `explore`: runs a world of small programs over all schedules of a list of events: the list with a few ticks put in.
+#![tactic(auto)]
+
+mod event_text;
+mod report;
+mod serving;
+#[cfg(test)]
+mod tests;
+mod words;
+
+use exploring::Progress;
+use kernel::WriteSink;
+use serving::{FileFault, ReadFiles, WordsFault, serve};
+use std::alloc::Global;
+use std::io::IsTerminal;
+use std::process::ExitCode;
+use std::rt::{Clock, Env, Files};
+use std::time::{Duration, Instant};
+use std::{env, fs, io};
+
+/// The files of the host.
+#[derive(Drop)]
+struct HostFiles<'a, R: Files + AllocGlobal> {
+    rt: &'a R,
+}
+
+impl<R: Files + AllocGlobal> ReadFiles for HostFiles<'_, R> {
+    ghost use Rattle.std.specs.Prelude.{None};
+
+    ghost contents = { λ files name. None };
+
+    fn read_file(&self, name: &str) -> Result<Vec<u8>, FileFault> {
+        fs::read(self.rt, name).map_err(|e| {
+            if e.kind() == io::ErrorKind::OutOfMemory {
+                FileFault::Memory
+            } else {
+                FileFault::Device
+            }
+        })
+    }
+}
+
+/// Tells a person how far the schedules have come, once a second.
+#[derive(Drop)]
+struct Terminal<'a, R: Clock + Eprint> {
+    rt: &'a R,
+    /// When it was told last, or it began; none where the error output is no terminal, or the clock fails.
+    told: Option<Instant>,
+}
+
+impl<R: Clock + Eprint> Progress for Terminal<'_, R> {
+    fn hear(&mut self, done: u64, size: u64) {
+        let Some(told) = self.told else {
+            return;
+        };
+        let Ok(now) = Instant::now(self.rt) else {
+            self.told = None;
+            return;
+        };
+        if now.duration_since(told) >= Duration::from_secs(1) {
+            self.told = Some(now);
+            let _ = eprintln!(self.rt; "explore: {done} of {size} schedules");
+        }
+    }
+}
+
+/// The words of the command line behind the program's name.
+fn read_words<R: Env + AllocGlobal>(rt: &R) -> Result<Vec<String>, WordsFault> {
+    let args = env::args(rt).map_err(|e| {
+        if e.kind() == io::ErrorKind::OutOfMemory {
+            WordsFault::Memory
+        } else {
+            WordsFault::NotText
+        }
+    })?;
+    let mut words = Vec::new(rt.alloc());
+    for word in args.skip(1) {
+        words.push(word).map_err(|_| WordsFault::Memory)?;
+    }
+    Ok(words)
+}
+
+/// The texts of the words.
+fn as_texts(alloc: Global, words: &[String]) -> Result<Vec<&str>, WordsFault> {
+    let mut texts = Vec::new(alloc);
+    for word in words {
+        texts.push(word.as_str()).map_err(|_| WordsFault::Memory)?;
+    }
+    Ok(texts)
+}
+
+/// Serves the words.
+fn serve_host(rt: &HostRuntime, words: Result<&[&str], WordsFault>) -> u8 {
+    let mut out = WriteSink::new(rt.stdout());
+    let mut err = WriteSink::new(rt.stderr());
+    let told = if rt.stderr().is_terminal() {
+        Instant::now(rt).ok()
+    } else {
+        None
+    };
+    let mut progress = Terminal { rt, told };
+    serve(
+        rt.alloc(),
+        words,
+        &HostFiles { rt },
+        &mut out,
+        &mut err,
+        &mut progress,
+    )
+}
+
+fn main(rt: HostRuntime) -> ExitCode {
+    let status = match read_words(&rt) {
+        Ok(words) => match as_texts(rt.alloc(), words.as_slice()) {
+            Ok(texts) => serve_host(&rt, Ok(texts.as_slice())),
+            Err(fault) => serve_host(&rt, Err(fault)),
+        },
+        Err(fault) => serve_host(&rt, Err(fault)),
+    };
+    ExitCode::from(status)
+}

@@ -1,0 +1,7 @@
+mod PlacingLemmas
+mod TextLemmas
+mod LineLemmas
+mod BookLemmas
+mod CourseLemmas
+mod CountLemmas
+mod TellingLemmas

@@ -1,0 +1,59 @@
+-- A walk through a family, and what the book tells on the way.
+use Rattle.std.proofs.Common.{MatchBool, IsTrue, ◌≡◌, ℕ, ◌+◌, ◌<◌, ◌≤◌, Bool, true, false, List, [], ◌∷◌, ◌++◌, length, refl, ap, sym, subst, ◌∙◌, arith, length-append, append_assoc}
+use Rattle.posix.specs.declared.event.Event.{Event}
+use Rattle.posix.specs.States.{World}
+use Rattle.posix.specs.Entries.{Line}
+use Rattle.schedules.specs.Families.{Places}
+use Rattle.schedules.specs.Schedules.{scheduled}
+use Rattle.schedules.specs.Walks.{Comes}
+use Rattle.exploring.specs.declared.ending.Ending.{Ending}
+use Rattle.exploring.specs.Books.{BookView, empty_book, with_run}
+use Rattle.exploring.specs.Counts.{book_over}
+use Rattle.exploring.specs.Courses.{IsCourse}
+use Rattle.exploring.specs.Walks.{HasCome, IsOnItsWay}
+use Rattle.exploring.proofs.CountLemmas.{book_more}
+
+pub has_come : (b : Bool) (all : List Places) (ps : Places) (told : List Places → BookView) (book : BookView) → b ≡ true → IsOnItsWay b all ps told book → HasCome all ps told book
+has_come true all ps told book e h = h
+has_come false all ps told book e h = cc
+
+pub has_told : (b : Bool) (all : List Places) (ps : Places) (told : List Places → BookView) (book : BookView) → b ≡ false → IsOnItsWay b all ps told book → book ≡ told all
+has_told true all ps told book e h = cc
+has_told false all ps told book e h = h
+
+-- before the last schedule there are fewer told of than there are
+pub fewer_told : (world : World) (events : List Event) (texts : List (List ℕ)) (all : List Places) (ps : Places) (book : BookView) → HasCome all ps (book_over world events texts) book → book.total < length all
+fewer_told world events texts all ps book h =
+    let told : book.total ≡ length h.done = ap (λ (b : BookView). b.total) h.tells in
+    let size : length all ≡ length h.done + length (ps ∷ h.late) = ap length h.whole ∙ length-append h.done (ps ∷ h.late) in
+    omega (arith, told, size)
+
+pub first_come : (world : World) (events : List Event) (texts : List (List ℕ)) (all : List Places) (ps : Places) (book : BookView) → (rest : List Places) × (all ≡ ps ∷ rest) → book ≡ empty_book texts
+    → HasCome all ps (book_over world events texts) book
+first_come world events texts all ps book begins is = record { done = []; late = begins.0; whole = begins.1; tells = is }
+
+comes_on : (more : Bool) (all : List Places) (ps next : Places) (told : List Places → BookView) (new : BookView) (done late : List Places) → all ≡ done ++ ps ∷ late → new ≡ told (done ++ ps ∷ []) → Comes more next late
+    → IsOnItsWay more all next told new
+comes_on true all ps next told new done late whole is comes = record {
+  done = done ++ ps ∷ [];
+  late = comes.0;
+  whole = whole ∙ ap (λ xs. done ++ ps ∷ xs) comes.1 ∙ sym (append_assoc done (ps ∷ []) (next ∷ comes.0));
+  tells = is;
+}
+comes_on false all ps next told new done late whole is none = is ∙ ap told (sym (whole ∙ ap (λ xs. done ++ ps ∷ xs) none))
+
+-- to the next schedule, after one was run
+pub goes_on : (world : World) (events : List Event) (texts : List (List ℕ)) (all : List Places) (ps next : Places) (book new : BookView) (lines : List Line) (ending : Ending) (more : Bool)
+    → HasCome all ps (book_over world events texts) book → IsCourse world (scheduled events ps) lines ending → new ≡ with_run lines ending ps book
+    → ((done late : List Places) → all ≡ done ++ ps ∷ late → Comes more next late) → IsOnItsWay more all next (book_over world events texts) new
+goes_on world events texts all ps next book new lines ending more h course is comes =
+    comes_on more all ps next (book_over world events texts) new h.done h.late h.whole
+    (is ∙ ap (with_run lines ending ps) h.tells ∙ sym (book_more world events texts h.done ps lines ending course))
+    (comes h.done h.late h.whole)
+
+pub where_true : (b : Bool) (A B : Type 0) → MatchBool b A B → IsTrue b → A
+where_true b A B h is = by b h is
+  where
+    by : (c : Bool) → MatchBool c A B → IsTrue c → A
+    by true held t = held
+    by false held t = let no : false ≡ true = t in absurd (cc)

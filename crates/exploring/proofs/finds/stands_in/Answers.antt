@@ -1,0 +1,7 @@
+use Rattle.std.proofs.Common.{rules, ◌∙◌, sym, ap, is_some}
+use Rattle.exploring.proofs.TextLemmas.{stands}
+use Rattle.exploring.specs.Texts.{has_text}
+use Rattle.exploring.proofs.finds.stands_in.Goals as goal
+
+pub returns : goal.returns
+returns c = search (rules, stands c.args.line.now c.as_bytes.result.now c.find.result c.find.ensures)

@@ -1,0 +1,24 @@
+-- How many schedules have a property, and which is the first.
+use Rattle.std.specs.Prelude.{ℕ, ◌+◌, Bool, true, false, List, Option, Some, None}
+use Rattle.schedules.specs.Families.{Places}
+
+pub record TallyView : Type 0 where
+  pub count : ℕ
+  pub first : Option Places
+
+abbrev pub no_schedules : TallyView
+no_schedules = record { count = 0; first = None }
+
+-- this one, where none was before
+abbrev pub or_else : Option Places → Places → Option Places
+or_else (Some first) ps = Some first
+or_else None ps = Some ps
+
+-- with one more schedule, which comes behind those that were counted
+abbrev pub with_schedule : Places → TallyView → TallyView
+with_schedule ps t = record { count = t.count + 1; first = or_else t.first ps }
+
+-- the same, where it has the property
+abbrev pub with_schedule_if : Bool → Places → TallyView → TallyView
+with_schedule_if true ps t = with_schedule ps t
+with_schedule_if false ps t = t

@@ -1,0 +1,47 @@
+-- Texts that are looked for in the lines of a trace.
+use Rattle.std.specs.Prelude.{ℕ, ◌==◌, ◌||◌, ◌&&◌, Bool, true, false, List, [], ◌∷◌}
+use Rattle.std.specs.List.{join_with_byte, list_any}
+use Rattle.posix.specs.declared.entry.Entry.{Entry}
+use Rattle.posix.specs.Entries.{Line}
+use Rattle.posix.specs.Printing.{words_of}
+use Rattle.schedules.specs.Families.{Places}
+use Rattle.exploring.specs.Tallies.{TallyView, with_schedule_if}
+
+-- what stands in a line behind the number of the event and the space
+abbrev pub shown : Entry → List ℕ
+shown entry = join_with_byte 32 (words_of entry)
+
+abbrev pub begins_with : List ℕ → List ℕ → Bool
+begins_with line [] = true
+begins_with [] (x ∷ text) = false
+begins_with (y ∷ line) (x ∷ text) = y == x && begins_with line text
+
+-- the text stands somewhere in the line
+abbrev pub has_text : List ℕ → List ℕ → Bool
+has_text text [] = begins_with [] text
+has_text text (y ∷ line) = begins_with (y ∷ line) text || has_text text line
+
+-- one of the lines has the text, behind the number of its event
+abbrev pub have_text : List ℕ → List Line → Bool
+have_text text lines = list_any (λ l. has_text text (shown l.entry)) lines
+
+-- What is known of a text: whether the lines that were looked at since the last schedule have it, and how many schedules have it.
+pub record FindView : Type 0 where
+  pub text : List ℕ
+  pub is_there : Bool
+  pub tally : TallyView
+
+abbrev pub tally_of : FindView → TallyView
+tally_of f = f.tally
+
+-- after a line was looked at
+abbrev pub looked_at : List ℕ → FindView → FindView
+looked_at line f = record f { is_there = f.is_there || has_text f.text line }
+
+-- after the last line of the run of a schedule
+abbrev pub after_run : Places → FindView → FindView
+after_run ps f = record f { is_there = false; tally = with_schedule_if f.is_there ps f.tally }
+
+-- after the lines of a run were looked at
+abbrev pub saw : List Line → FindView → FindView
+saw lines f = record f { is_there = f.is_there || have_text f.text lines }

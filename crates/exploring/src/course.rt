@@ -1,0 +1,173 @@
+//! The run of a list of events in a world.
+
+ghost use Rattle.std.specs.Prelude.{◌≡◌, ◌+◌, ◌-◌, ◌<◌, ◌≤◌, ◌^◌, ◌++◌, [], All, IsTrue, length, IfOk, OnOk, false, true, replicate};
+ghost use Rattle.posix.specs.Entries.{numbered};
+ghost use Rattle.posix.specs.Outcomes.{silent};
+ghost use Rattle.posix.specs.Regular.{IsRegular};
+ghost use Rattle.posix.specs.Runs.{RunsFrom};
+ghost use Rattle.posix.specs.Settle.{IsSettled};
+ghost use Rattle.posix.specs.Step.{next};
+ghost use Rattle.text.specs.EventTexts.{most_events};
+ghost use Rattle.kernel.specs.Steps.{noted_lines};
+ghost use Rattle.exploring.specs.Courses.{Adds, IsCourse, later, one_denies};
+ghost use Rattle.exploring.specs.Endings.{ending_of as ending_in};
+
+use crate::ending::Ending;
+use crate::lines::{Line, denies_memory};
+use arrayvec::ArrayVec;
+use kernel::{Entries, Kernel};
+use life::{Note, Notes};
+use posix::{Entry, Event, Pid};
+use std::alloc::{AllocError, Global};
+use text::{EventList, EventRun, World};
+
+/// How it stands with a machine.
+fn ending_of(kernel: &Kernel) -> Ending
+    ensures { result ≡ ending_in kernel.now.state }
+{
+    if kernel.is_halted() {
+        Ending::Halted
+    } else if kernel.current().is_none() {
+        Ending::AtRest
+    } else {
+        Ending::Going
+    }
+}
+
+/// Whether an event changes and shows nothing: after a halt none does, and where no process can act a step doesn't.
+fn is_idle(kernel: &Kernel, event: Event) -> bool
+    requires regular { IsRegular kernel.now.state }
+    requires settled { IsSettled kernel.now.state }
+    ensures { IsTrue result → next true kernel.now.state event ≡ silent kernel.now.state }
+{
+    match ending_of(kernel) {
+        Ending::Halted => true,
+        Ending::AtRest => matches!(event, Event::Step),
+        Ending::Going => false,
+    }
+}
+
+/// Adds the notes of a process, whose numbers grow by `more`.
+fn add_notes(lines: &mut Vec<Line>, more: u64, pid: Pid, notes: &[Note]) -> Result<(), AllocError>
+    requires { All (λ note. more + note.step < 2 ^ 64) notes.now }
+    ensures { OnOk result (lines.new.items ≡ lines.old.items ++ later more (noted_lines pid notes.now)) }
+{
+    for note in notes {
+        let entry = Entry::Noted {
+            pid,
+            value: note.value,
+        };
+        lines.push(Line::new(more + note.step, entry))?;
+    }
+    Ok(())
+}
+
+/// Adds the entries of an event. One that tells of no memory is an error, too.
+fn add_entries(lines: &mut Vec<Line>, event: u64, entries: &[Entry]) -> Result<(), AllocError>
+    ensures lines { OnOk result (lines.new.items ≡ lines.old.items ++ numbered event entries.now) }
+    ensures granted { OnOk result (one_denies (numbered event entries.now) ≡ false) }
+{
+    for entry in entries {
+        if denies_memory(entry) {
+            return Err(AllocError);
+        }
+        lines.push(Line::new(event, *entry))?;
+    }
+    Ok(())
+}
+
+/// Gives one event as often as can be at once, up to the one with this number. The notes, and what the last one shows
+/// besides, are added to lists that are empty. Whose notes they are, where there are any.
+fn feed(
+    kernel: &mut Kernel,
+    event: Event,
+    last: u64,
+    notes: &mut Notes,
+    entries: &mut Entries,
+) -> Pid
+    requires few { last ≤ most_events }
+    requires some { kernel.old.events < last }
+    requires no_notes { notes.old.items ≡ [] }
+    requires none { entries.old.items ≡ [] }
+    ensures from { kernel.old.events < kernel.new.events }
+    ensures within { kernel.new.events ≤ last }
+    ensures runs { RunsFrom (kernel.old.events + 1) kernel.old.state (replicate (kernel.new.events - kernel.old.events) event) (noted_lines result notes.new.items ++ numbered kernel.new.events entries.new.items) kernel.new.state }
+    ensures regular { IsRegular kernel.new.state }
+    ensures settled { IsSettled kernel.new.state }
+{
+    match event {
+        Event::Step => kernel.steps(last, notes, entries),
+        Event::Tick | Event::Key { .. } => {
+            kernel.event_into(event, entries);
+            Pid::NONE
+        }
+    }
+}
+
+/// Gives one event as often as can be at once, up to the one with this number, and adds what they show, with numbers
+/// that grow by `left_out`.
+fn run_some(
+    kernel: &mut Kernel,
+    event: Event,
+    last: u64,
+    left_out: u64,
+    lines: &mut Vec<Line>,
+) -> Result<(), AllocError>
+    requires few { last ≤ most_events }
+    requires some { kernel.old.events < last }
+    requires left_out { left_out ≤ most_events }
+    ensures ok { OnOk result (Adds (left_out + (kernel.old.events + 1)) kernel.old.state (replicate (kernel.new.events - kernel.old.events) event) kernel.new.state lines.old.items lines.new.items) }
+    ensures from { kernel.old.events < kernel.new.events }
+    ensures within { kernel.new.events ≤ last }
+    ensures regular { IsRegular kernel.new.state }
+    ensures settled { IsSettled kernel.new.state }
+{
+    let mut notes = ArrayVec::new();
+    let mut entries = ArrayVec::new();
+    let pid = feed(kernel, event, last, &mut notes, &mut entries);
+    add_notes(lines, left_out, pid, notes.as_slice())?;
+    add_entries(lines, left_out + kernel.events(), entries.as_slice())
+}
+
+/// Gives so many times one event, but for those that change and show nothing, and adds what they show. `left_out` were
+/// left out before; how many were by now.
+fn run_many(
+    kernel: &mut Kernel,
+    run: EventRun,
+    left_out: u64,
+    lines: &mut Vec<Line>,
+) -> Result<u64, AllocError>
+    requires few { left_out + kernel.old.events + run.count ≤ most_events }
+    requires regular { IsRegular kernel.old.state }
+    requires settled { IsSettled kernel.old.state }
+    ensures ok { OnOk result (Adds (left_out + (kernel.old.events + 1)) kernel.old.state (replicate run.count run.event) kernel.new.state lines.old.items lines.new.items) }
+    ensures left { IfOk result (λ left. left + kernel.new.events ≡ left_out + kernel.old.events + run.count) }
+    ensures regular { IsRegular kernel.new.state }
+    ensures settled { IsSettled kernel.new.state }
+{
+    let last = kernel.events() + run.count();
+    while kernel.events() < last && !is_idle(kernel, run.event()) {
+        run_some(kernel, run.event(), last, left_out, lines)?;
+    }
+    Ok(left_out + (last - kernel.events()))
+}
+
+/// Runs a list of events in a world, from its start on; the lines are those of its trace. An error where there is no
+/// memory for it, or for what a process of the world asks.
+pub fn run_list(
+    alloc: Global,
+    world: &World,
+    events: &EventList,
+    lines: &mut Vec<Line>,
+) -> Result<Ending, AllocError>
+    requires { length events.now ≤ most_events }
+    ensures { IfOk result (λ ending. IsCourse world.now events.now lines.new.items ending) }
+{
+    lines.clear();
+    let mut kernel = Kernel::boot(alloc, world)?;
+    let mut left_out = 0;
+    for run in events.runs() {
+        left_out = run_many(&mut kernel, *run, left_out, lines)?;
+    }
+    Ok(ending_of(&kernel))
+}

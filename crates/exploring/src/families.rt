@@ -1,0 +1,116 @@
+//! All schedules of a family are run, one after another, and counted.
+
+ghost use Rattle.std.specs.Prelude.{◌≡◌, ◌≤◌, ◌<◌, ◌+◌, All, length, map, IsTrue, IfOk};
+ghost use Rattle.std.specs.List.Sorted.{IsNonDecreasing};
+ghost use Rattle.text.specs.EventTexts.{most_events};
+ghost use Rattle.schedules.specs.Families.{IsSchedule, family as family_of};
+ghost use Rattle.schedules.specs.Schedules.{scheduled as scheduled_events};
+ghost use Rattle.exploring.specs.Courses.{IsCourse};
+ghost use Rattle.exploring.specs.Counts.{book_over};
+
+use crate::book::Book;
+use crate::course::run_list;
+use crate::ending::Ending;
+use crate::lines::Line;
+use crate::placing::scheduled;
+use schedules::Schedule;
+use std::alloc::{AllocError, Global};
+use text::{EventList, World};
+
+/// Hears how far the schedules have come.
+pub trait Progress {
+    /// So many of them have been run, of so many.
+    fn hear(&mut self, done: u64, size: u64);
+}
+
+/// What is explored: the schedules of a world, by its events and the places that ticks may have.
+#[derive(Drop)]
+pub struct Family<'a> {
+    pub world: &'a World,
+    pub events: &'a EventList,
+    /// The ticks stand before the first so many events.
+    pub upto: u64,
+    /// At most so many ticks are put in.
+    pub ticks: usize,
+    /// How many schedules these are.
+    pub size: u64,
+    ghost within: { upto ≤ length events.now },
+    ghost few: { ticks ≤ 8 },
+    ghost short: { length events.now + ticks ≤ most_events },
+    ghost counted: { size ≡ length (family_of upto ticks) },
+}
+
+/// Whether the places rise, not strictly.
+fn do_rise(places: &[u64]) -> bool
+    ensures { IsTrue result → IsNonDecreasing places.now }
+{
+    places.is_sorted()
+}
+
+/// Whether all places are below `upto`.
+fn are_below(places: &[u64], upto: u64) -> bool
+    ensures { IsTrue result → All (λ p. p < upto) places.now }
+{
+    places.iter().all(|place| *place < upto)
+}
+
+/// Whether these are the places of a schedule of the family.
+pub fn is_schedule(family: &Family<'_>, places: &[u64]) -> bool
+    ensures { IsTrue result → IsSchedule family.now.upto family.now.ticks places.now }
+{
+    if places.len() > family.ticks {
+        return false;
+    }
+    do_rise(places) && are_below(places, family.upto)
+}
+
+/// The events of a schedule of the family.
+pub fn events_of(
+    alloc: Global,
+    family: &Family<'_>,
+    places: &[u64],
+) -> Result<EventList, AllocError>
+    requires { IsSchedule family.now.upto family.now.ticks places.now }
+    ensures events { IfOk result (λ list. list ≡ scheduled_events family.now.events.now places.now) }
+    ensures len { IfOk result (λ list. length list ≤ most_events) }
+{
+    scheduled(alloc, family.events, places)
+}
+
+/// Runs a schedule of the family; the lines are those of its trace.
+pub fn run_schedule(
+    alloc: Global,
+    family: &Family<'_>,
+    places: &[u64],
+    lines: &mut Vec<Line>,
+) -> Result<Ending, AllocError>
+    requires { IsSchedule family.now.upto family.now.ticks places.now }
+    ensures { IfOk result (λ ending. IsCourse family.now.world.now (scheduled_events family.now.events.now places.now) lines.new.items ending) }
+{
+    let events = events_of(alloc, family, places)?;
+    run_list(alloc, family.world, &events, lines)
+}
+
+/// Runs all schedules of a family, with texts that are looked for in their lines. The book tells of all of them, in the
+/// family's order.
+pub fn explore<'a, P: Progress>(
+    alloc: Global,
+    family: &Family<'_>,
+    texts: &[&'a str],
+    progress: &mut P,
+) -> Result<Book<'a>, AllocError>
+    ensures { IfOk result (λ book. book ≡ book_over family.now.world.now family.now.events.now (map (λ t. t.now) texts.now) (family_of family.now.upto family.now.ticks)) }
+{
+    let mut book = Book::new(alloc, texts)?;
+    let mut schedule = Schedule::first(family.upto, family.ticks);
+    let mut lines = Vec::new(alloc);
+    let size = family.size;
+    let mut is_more = true;
+    while is_more {
+        let ending = run_schedule(alloc, family, schedule.places(), &mut lines)?;
+        book.add(&mut lines, ending, schedule.places())?;
+        progress.hear(book.total(), size);
+        is_more = schedule.next();
+    }
+    Ok(book)
+}

@@ -1,0 +1,101 @@
+//! Texts that are looked for in the lines of runs.
+
+ghost use Rattle.std.specs.Prelude.{◌≡◌, ◌<◌, ◌≤◌, ◌^◌, ◌-◌, ◌||◌, false, length, map, All};
+ghost use Rattle.exploring.specs.Tallies.{no_schedules};
+ghost use Rattle.exploring.specs.Texts.{FindView, has_text, looked_at, after_run};
+
+use crate::tally::Tally;
+use memchr::memmem;
+use std::marker::Model;
+
+/// A text that is looked for, and what is known of it from the runs so far.
+#[derive(Drop)]
+pub struct Find<'a> {
+    text: &'a str,
+    /// Whether a line of the run that is looked at has it.
+    is_there: bool,
+    tally: Tally,
+}
+
+impl<'a> Model for Find<'a> {
+    ghost use Rattle.exploring.specs.Texts.{FindView};
+
+    ghost Value = { FindView };
+
+    ghost view = { λ f. record { text = f.text.now; is_there = f.is_there; tally = f.tally } };
+}
+
+/// Whether a text stands in a line.
+fn stands_in(text: &str, line: &[u8]) -> bool
+    ensures { result ≡ has_text text.now line.now }
+{
+    memmem::find(line, text.as_bytes()).is_some()
+}
+
+impl<'a> Find<'a> {
+    /// Before the first run.
+    pub fn new(text: &'a str) -> Self
+        ensures { result ≡ record { text = text.entry.now; is_there = false; tally = no_schedules } }
+    {
+        Find {
+            text,
+            is_there: false,
+            tally: Tally::new(),
+        }
+    }
+
+    /// The text.
+    pub fn text(&self) -> &'a str
+        ensures { result.now ≡ self.now.text }
+    {
+        self.text
+    }
+
+    /// The schedules that have it in a line of their run.
+    pub fn tally(&self) -> &Tally
+        ensures { result.now ≡ self.now.tally }
+    {
+        &self.tally
+    }
+
+    /// Looks at a line.
+    fn look(&mut self, line: &[u8])
+        ensures { self.new ≡ looked_at line.now self.old }
+    {
+        if !self.is_there {
+            self.is_there = stands_in(self.text, line);
+        }
+    }
+
+    /// Counts the schedule whose run was looked at.
+    fn end_run(&mut self, places: &[u64])
+        requires few { length places.now ≤ 8 }
+        requires count { self.old.tally.count < 2 ^ 64 - 1 }
+        ensures { self.new ≡ after_run places.now self.old }
+    {
+        if self.is_there {
+            self.tally.add(places);
+        }
+        self.is_there = false;
+    }
+}
+
+/// Looks for each text in a line.
+pub fn look_all(finds: &mut [Find<'_>], line: &[u8])
+    ensures { finds.new ≡ map (looked_at line.now) finds.old }
+{
+    for find in finds.iter_mut() {
+        find.look(line);
+    }
+}
+
+/// Counts the schedule whose run was looked at with each text.
+pub fn end_run_all(finds: &mut [Find<'_>], places: &[u64])
+    requires few { length places.now ≤ 8 }
+    requires counts { All (λ f. f.tally.count < 2 ^ 64 - 1) finds.old }
+    ensures { finds.new ≡ map (after_run places.now) finds.old }
+{
+    for find in finds.iter_mut() {
+        find.end_run(places);
+    }
+}

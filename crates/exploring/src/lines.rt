@@ -1,0 +1,94 @@
+//! Lines of a trace that are kept.
+
+ghost use Rattle.std.specs.Prelude.{◌≡◌, Some, None, option_map, if◌then◌else◌};
+ghost use Rattle.posix.specs.Entries.{line};
+ghost use Rattle.laws.specs.Lives.{process_of as process_in};
+ghost use Rattle.exploring.specs.Texts.{shown as shown_of};
+ghost use Rattle.exploring.specs.Courses.{denies};
+
+use posix::{Entry, Pid};
+use std::marker::Model;
+use trace::write_entry;
+
+/// What an event shows, with the number of the event.
+#[derive(Clone, Copy)]
+pub struct Line {
+    event: u64,
+    entry: Entry,
+}
+
+impl Model for Line {
+    ghost use Rattle.posix.specs.Entries.{Line, line};
+
+    ghost Value = { Line };
+
+    ghost view = { λ l. line l.event l.entry };
+
+    ghost inverse = { λ l. record { event = l.event; entry = l.entry } };
+}
+
+impl Line {
+    /// What an event shows, with the number of the event.
+    pub fn new(event: u64, entry: Entry) -> Line
+        ensures { result ≡ line event entry }
+    {
+        Line { event, entry }
+    }
+
+    /// The number of the event.
+    pub fn event(&self) -> u64
+        ensures { result ≡ self.now.event }
+    {
+        self.event
+    }
+
+    /// What it shows.
+    pub fn entry(&self) -> &Entry
+        ensures { result.now ≡ self.now.entry }
+    {
+        &self.entry
+    }
+}
+
+/// The process whose line an entry is; none for a halt.
+pub fn process_of(entry: &Entry) -> Option<Pid>
+    ensures { result ≡ process_in entry.now }
+{
+    match entry {
+        Entry::Noted { pid, .. }
+        | Entry::Called { pid, .. }
+        | Entry::Moved { pid, .. }
+        | Entry::Reported { pid, .. }
+        | Entry::NoMemory { pid, .. }
+        | Entry::Handled { pid, .. }
+        | Entry::Discarded { pid, .. }
+        | Entry::Stopped { pid, .. }
+        | Entry::Returned { pid }
+        | Entry::Ended { pid, .. } => Some(*pid),
+        Entry::Halted => None,
+    }
+}
+
+/// The number of the process whose line it is; 0 for a halt.
+pub fn process_number(line: &Line) -> u32 {
+    process_of(line.entry()).map_or(0, Pid::number)
+}
+
+/// Whether an entry tells that the host had no memory for a call.
+pub fn denies_memory(entry: &Entry) -> bool
+    ensures { result ≡ denies entry.now }
+{
+    matches!(entry, Entry::NoMemory { .. })
+}
+
+/// Room for a printed line.
+pub type Room = [u8; 128];
+
+/// Prints what an event shows as a line of a trace has it behind the event's number and a space, without a line
+/// feed.
+pub fn shown<'a>(entry: &Entry, room: &'a mut Room) -> &'a [u8]
+    ensures { result.now ≡ shown_of entry.now }
+{
+    let end = write_entry(room, 0, 0, entry);
+    &room[2..end - 1]
+}

@@ -1,0 +1,95 @@
+//! The outcomes of schedules: schedules are alike where each process shows the same lines, without their numbers.
+
+ghost use Rattle.std.specs.Prelude.{◌≡◌, ◌+◌, ◌<◌, ◌≤◌, ◌^◌, ◌-◌, length, All, OnOk, OnErr};
+
+use crate::tally::Tally;
+use std::alloc::{AllocError, Global};
+use std::collections::HashMap;
+use std::marker::Model;
+
+/// Counts a schedule to the outcome that has this number. Of `total` schedules before it each outcome has some.
+fn add_to(outcomes: &mut [Tally], number: usize, places: &[u64], total: u64)
+    requires few { length places.now ≤ 8 }
+    requires total { total < 2 ^ 64 - 1 }
+    requires counts { All (λ t. t.count ≤ total) outcomes.old }
+    ensures { All (λ t. t.count ≤ total + 1) outcomes.new }
+{
+    if number < outcomes.len() {
+        outcomes[number].add(places);
+    }
+}
+
+/// The outcomes so far, in the order of their first schedules.
+#[derive(Drop)]
+pub struct Outcomes {
+    alloc: Global,
+    /// Which outcome has these lines.
+    numbers: HashMap<Vec<u8>, usize>,
+    outcomes: Vec<Tally>,
+    /// How many schedules have been counted.
+    total: u64,
+}
+
+impl Model for Outcomes {
+    ghost use Rattle.std.specs.Prelude.{ℕ, ◌≤◌, All};
+
+    ghost Value = { ℕ };
+
+    ghost view = { λ o. o.total };
+
+    ghost invariant = { λ o. All (λ t. t.count ≤ o.total) o.outcomes.items };
+}
+
+impl Outcomes {
+    /// No outcomes.
+    pub fn new(alloc: Global) -> Self
+        ensures { result ≡ 0 }
+    {
+        Outcomes {
+            alloc,
+            numbers: HashMap::new(alloc),
+            outcomes: Vec::new(alloc),
+            total: 0,
+        }
+    }
+
+    /// Counts a schedule whose run has these lines: those of each process after those of the processes with lesser
+    /// numbers.
+    pub fn add(&mut self, lines: &[u8], places: &[u64]) -> Result<(), AllocError>
+        requires few { length places.now ≤ 8 }
+        requires total { self.old < 2 ^ 64 - 1 }
+        ensures ok { OnOk result (self.new ≡ self.old + 1) }
+        ensures err { OnErr result (self.new ≡ self.old) }
+    {
+        let number = match self.numbers.get(lines) {
+            Some(number) => *number,
+            None => {
+                let key = Vec::from_slice(self.alloc, lines)?;
+                let number = self.outcomes.len();
+                self.outcomes.push(Tally::new())?;
+                self.numbers.insert(key, number)?;
+                number
+            }
+        };
+        add_to(self.outcomes.as_mut_slice(), number, places, self.total);
+        self.total += 1;
+        Ok(())
+    }
+
+    /// How many schedules were counted.
+    pub fn total(&self) -> u64
+        ensures { result ≡ self.now }
+    {
+        self.total
+    }
+
+    /// The outcomes, the most frequent first, and else in the order of their first schedules.
+    pub fn by_count(&self) -> Result<Vec<&Tally>, AllocError> {
+        let mut sorted = Vec::new(self.alloc);
+        for outcome in &self.outcomes {
+            sorted.push(outcome)?;
+        }
+        sorted.sort_by_key(|outcome| u64::MAX - outcome.count())?;
+        Ok(sorted)
+    }
+}

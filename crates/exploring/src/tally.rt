@@ -1,0 +1,77 @@
+//! How many schedules have a property, and which is the first.
+
+ghost use Rattle.std.specs.Prelude.{◌≡◌, ◌<◌, ◌≤◌, ◌^◌, ◌-◌, length, option_map};
+ghost use Rattle.exploring.specs.Tallies.{no_schedules, with_schedule};
+
+use arrayvec::ArrayVec;
+use std::marker::Model;
+
+/// The places of a schedule's ticks.
+pub type Places = ArrayVec<u64, 8>;
+
+/// The places, copied.
+fn copied(places: &[u64]) -> Places
+    requires { length places.now ≤ 8 }
+    ensures { result.items ≡ places.now }
+{
+    let mut copy = Places::new();
+    let _ = copy.try_extend_from_slice(places);
+    copy
+}
+
+/// How many schedules have a property, and the first of them.
+#[derive(Drop)]
+pub struct Tally {
+    count: u64,
+    first: Option<Places>,
+}
+
+impl Model for Tally {
+    ghost use Rattle.std.specs.Prelude.{option_map};
+    ghost use Rattle.exploring.specs.Tallies.{TallyView};
+
+    ghost Value = { TallyView };
+
+    ghost view = { λ t. record { count = t.count; first = option_map (λ ps. ps.items) t.first } };
+}
+
+impl Tally {
+    /// Before the first schedule.
+    pub fn new() -> Self
+        ensures { result ≡ no_schedules }
+    {
+        Tally {
+            count: 0,
+            first: None,
+        }
+    }
+
+    /// How many schedules have the property.
+    pub fn count(&self) -> u64
+        ensures { result ≡ self.now.count }
+    {
+        self.count
+    }
+
+    /// The places of the first of them.
+    pub fn first(&self) -> Option<&[u64]>
+        ensures { option_map (λ ps. ps.now) result ≡ self.now.first }
+    {
+        match &self.first {
+            Some(places) => Some(places.as_slice()),
+            None => None,
+        }
+    }
+
+    /// Counts a schedule that has the property.
+    pub fn add(&mut self, places: &[u64])
+        requires few { length places.now ≤ 8 }
+        requires count { self.old.count < 2 ^ 64 - 1 }
+        ensures { self.new ≡ with_schedule places.now self.old }
+    {
+        self.count += 1;
+        if self.first.is_none() {
+            self.first = Some(copied(places));
+        }
+    }
+}

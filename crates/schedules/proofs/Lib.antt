@@ -1,0 +1,6 @@
+pub mod FamilyLemmas
+pub mod SizeLemmas
+pub mod ScheduledLemmas
+pub mod GivenLemmas
+pub mod WalkLemmas
+pub mod Rows

@@ -1,0 +1,10 @@
+use Rattle.std.proofs.Common.{arith}
+use Rattle.schedules.proofs.WalkLemmas.{begins, first_among}
+use Rattle.schedules.proofs.schedule.Schedule.first.Goals as goal
+
+pub invariant_of-result : goal.invariant_of-result
+invariant_of-result c =
+    (c.requires, rw c.new.ensures (omega arith), rw c.new.ensures (first_among c.args.upto c.args.ticks))
+
+pub returns-clause-begins : goal.returns-clause-begins
+returns-clause-begins c = rw c.new.ensures (begins c.args.upto c.args.ticks)
