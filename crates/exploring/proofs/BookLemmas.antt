@@ -1,5 +1,5 @@
 -- What is told of the texts that are looked for.
-use Rattle.std.proofs.Common.{Bor, Result, Ok, Err, OnOk, ◌≡◌, ℕ, ◌+◌, ◌<◌, ◌≤◌, Bool, true, false, ◌||◌, List, [], ◌∷◌, ◌++◌, length, map, take, get_or, refl, ap, ap₂, sym, ◌∙◌, subst, arith}
+use Rattle.std.proofs.Common.{Bor, Result, Ok, Err, OnOk, ◌≡◌, ℕ, ◌+◌, ◌<◌, ◌≤◌, Bool, true, false, ◌||◌, List, [], ◌∷◌, ◌++◌, length, map, take, get_or, refl, ap, ap₂, sym, ◌∙◌, arith}
 use Rattle.std.specs.List.{All, AllByRecursion, list_any}
 use Rattle.std.specs.List.Sorted.{IsPermutation}
 use Rattle.std.proofs.lemmas.List.{take_more, take_all, take-append-le}
@@ -12,7 +12,7 @@ use Rattle.exploring.specs.declared.ending.Ending.{Ending}
 use Rattle.exploring.specs.declared.ending.Ending.TheVariants.{Halted, AtRest, Going}
 use Rattle.exploring.specs.declared.ending.Endings.{Endings}
 use Rattle.exploring.specs.Tallies.{TallyView, with_schedule_if}
-use Rattle.exploring.specs.Texts.{FindView, has_text, shown, have_text, looked_at, saw, tally_of, after_run}
+use Rattle.exploring.specs.Texts.{FindView, has_text, shown, looked_at, saw, tally_of, after_run}
 use Rattle.exploring.specs.Endings.{no_endings, with_ending}
 use Rattle.exploring.specs.Books.{AreCounted, BookView, empty_book, unseen, with_run}
 

@@ -1,5 +1,5 @@
 -- What is counted with one more schedule.
-use Rattle.std.proofs.Common.{◌≡◌, ℕ, ◌+◌, Bool, true, false, ◌||◌, Option, Some, None, cond, List, [], ◌∷◌, ◌++◌, length, map, find, refl, ap, ap₂, sym, ◌∙◌, arith, length-append, add-zero, zero-add}
+use Rattle.std.proofs.Common.{◌≡◌, ℕ, ◌+◌, Bool, true, false, Option, Some, None, cond, List, [], ◌∷◌, ◌++◌, map, find, refl, ap, ap₂, sym, ◌∙◌, length-append, add-zero, zero-add}
 use Rattle.std.specs.Prelude.{count_by}
 use Rattle.std.specs.Option.{option_or}
 use Rattle.std.proofs.lemmas.List.Sums.{sum_by-append}
@@ -13,7 +13,7 @@ use Rattle.exploring.specs.declared.ending.Ending.{Ending}
 use Rattle.exploring.specs.declared.ending.Ending.TheVariants.{Halted, AtRest, Going}
 use Rattle.exploring.specs.declared.ending.Endings.{Endings}
 use Rattle.exploring.specs.Tallies.{with_schedule_if}
-use Rattle.exploring.specs.Texts.{FindView, have_text, saw, after_run}
+use Rattle.exploring.specs.Texts.{have_text, saw, after_run}
 use Rattle.exploring.specs.Endings.{ending_of, is_halted, is_at_rest, is_going, with_ending}
 use Rattle.exploring.specs.Courses.{IsCourse, course_of}
 use Rattle.exploring.specs.Books.{empty_book, with_run}

@@ -1,31 +1,28 @@
 -- Runs, one after another, where all memory is granted.
-use Rattle.posix.proofs.UnseenLemmas.{covers_none}
 use Rattle.kernel.proofs.RunLemmas.{runs_then}
-use Rattle.std.proofs.Common.{Result, Ok, Err, OnOk, ◌≡◌, ℕ, zero, suc, ◌+◌, ◌-◌, ◌<◌, ◌≤◌, Bool, true, false, ◌||◌, not, ◌&&◌, Option, Some, None, List, [], ◌∷◌, ◌++◌, length, map, take, get_or, Contains, refl, ap, ap₂, sym, subst, ◌∙◌, append_assoc, append-nil, add-zero, arith}
+use Rattle.std.proofs.Common.{Result, Ok, Err, OnOk, ◌≡◌, ℕ, zero, suc, ◌+◌, ◌-◌, ◌<◌, ◌≤◌, Bool, true, false, ◌||◌, Option, Some, None, List, [], ◌∷◌, ◌++◌, length, map, take, get_or, Contains, refl, ap, ap₂, sym, subst, ◌∙◌, append_assoc, append-nil, arith}
 use Rattle.std.specs.Prelude.{replicate, option_and_then, if◌then◌else◌}
-use Rattle.std.specs.List.{All, AllByRecursion, list_any}
+use Rattle.std.specs.List.{All, AllByRecursion}
 use Rattle.std.proofs.lemmas.List.{length-replicate, map-append, take_more}
 use Rattle.kernel.proofs.EventLemmas.{replicate_joined}
 use Rattle.std.proofs.lemmas.List.Elements.{All-from_recursion}
 use Rattle.std.proofs.lemmas.List.Folds.{list_any-append}
 use Rattle.posix.specs.declared.event.Event.{Event}
-use Rattle.posix.specs.declared.event.Event.TheVariants.{Step, Tick, Key}
+use Rattle.posix.specs.declared.event.Event.TheVariants.{Step}
 use Rattle.posix.specs.declared.entry.Entry.{Entry}
 use Rattle.posix.specs.declared.call.Call.{Call}
 use Rattle.posix.specs.declared.entry.Entry.TheVariants.{NoMemory, Noted}
 use Rattle.posix.specs.Entries.{Line, line, numbered}
-use Rattle.posix.specs.States.{State, World, boot, current, current_process, process, is_in}
-use Rattle.posix.specs.Outcomes.{Outcome, silent}
-use Rattle.posix.specs.Step.{IsStep, next, happens, step, settled}
+use Rattle.posix.specs.States.{State, World, boot, current, current_process, process}
+use Rattle.posix.specs.Outcomes.{silent}
+use Rattle.posix.specs.Step.{next, happens, step, settled}
 use Rattle.posix.specs.Runs.{RunsFrom}
 use Rattle.posix.specs.Regular.{IsRegular}
-use Rattle.posix.specs.Settle.{settle, IsSettled, NoWakeIsLost, Covers}
+use Rattle.posix.specs.Settle.{settle, IsSettled}
 use Rattle.laws.specs.Memory.{EntriesGrantAll}
 use Rattle.laws.proofs.MemoryLemmas.{step_determined}
 use Rattle.laws.proofs.RefusalLemmas.{memory_refused}
-use Rattle.posix.proofs.TableLemmas.{pid_looked}
-use Rattle.posix.proofs.UnseenLemmas.{settle_none}
-use Rattle.std.proofs.lemmas.Bool.{not-true, and_parts}
+use Rattle.posix.proofs.UnseenLemmas.{covers_none, settle_none}
 use Rattle.schedules.specs.Families.{Places}
 use Rattle.schedules.specs.Schedules.{scheduled}
 use Rattle.exploring.specs.declared.ending.Ending.{Ending}

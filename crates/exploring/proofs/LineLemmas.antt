@@ -1,12 +1,11 @@
 -- What stands in a line behind the number of its event.
 use Rattle.std.proofs.Common.{◌≡◌, ℕ, ◌+◌, ◌-◌, ◌≤◌, List, [], ◌∷◌, ◌++◌, length, take, drop, refl, ap, sym, ◌∙◌, arith, length-append}
 use Rattle.std.specs.Prelude.{decimal}
-use Rattle.std.specs.List.{join_with_byte}
 use Rattle.std.proofs.lemmas.Fmt.{decimal_digit}
 use Rattle.std.proofs.lemmas.List.{length-take-le, drop-take, take-take, take_all, take-append-le}
 use Rattle.posix.specs.declared.entry.Entry.{Entry}
 use Rattle.posix.specs.declared.entry.Entry.TheVariants.{Noted, Called, Moved, Reported, NoMemory, Handled, Discarded, Stopped, Returned, Ended, Halted}
-use Rattle.posix.specs.Printing.{printed, words_of}
+use Rattle.posix.specs.Printing.{printed}
 use Rattle.exploring.specs.Texts.{shown}
 
 numbered_line : (k : ℕ) (e : Entry) → printed k e ≡ (decimal k ++ 32 ∷ shown e) ++ 10 ∷ []

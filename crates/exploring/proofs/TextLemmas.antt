@@ -1,5 +1,5 @@
 -- Where a text stands in a line, and what is told of several texts.
-use Rattle.std.proofs.Common.{◌≡◌, ℕ, zero, suc, ◌+◌, ◌<◌, ◌≤◌, ◌||◌, ◌&&◌, ◌==◌, Bool, true, false, Option, Some, None, List, [], ◌∷◌, ◌++◌, length, map, take, drop, set, get_or, slice_index, is_some, refl, ap, sym, ◌∙◌, subst, arith}
+use Rattle.std.proofs.Common.{◌≡◌, ℕ, zero, suc, ◌+◌, ◌<◌, Bool, true, false, Option, Some, None, List, [], ◌∷◌, length, slice_index, is_some, refl, ap, sym, ◌∙◌, subst, arith}
 use Rattle.memchr.specs.Find.{FindsNeedle, OccursAt}
 use Rattle.exploring.specs.Texts.{begins_with, has_text}
 

@@ -1,11 +1,11 @@
 -- What is kept of the runs of schedules.
-use Rattle.std.specs.Prelude.{ℕ, ◌+◌, ◌≤◌, Bool, false, List, [], map}
+use Rattle.std.specs.Prelude.{ℕ, ◌+◌, ◌≤◌, false, List, map}
 use Rattle.std.specs.List.{All}
 use Rattle.posix.specs.Entries.{Line}
 use Rattle.schedules.specs.Families.{Places}
 use Rattle.exploring.specs.declared.ending.Ending.{Ending}
 use Rattle.exploring.specs.declared.ending.Endings.{Endings}
-use Rattle.exploring.specs.Tallies.{TallyView, no_schedules}
+use Rattle.exploring.specs.Tallies.{no_schedules}
 use Rattle.exploring.specs.Texts.{FindView, saw, tally_of, after_run}
 use Rattle.exploring.specs.Endings.{no_endings, with_ending}
 

@@ -7,7 +7,7 @@ use Rattle.posix.specs.declared.entry.Entry.TheVariants.{Noted, Called, Moved, R
 use Rattle.posix.specs.Entries.{Line, line, numbered}
 use Rattle.posix.specs.States.{State, World, boot}
 use Rattle.posix.specs.Step.{next}
-use Rattle.posix.specs.Runs.{RunsFrom, Runs}
+use Rattle.posix.specs.Runs.{RunsFrom}
 use Rattle.schedules.specs.Families.{Places}
 use Rattle.schedules.specs.Schedules.{scheduled}
 use Rattle.exploring.specs.declared.ending.Ending.{Ending}

@@ -1,11 +1,11 @@
 -- How a run ends.
-use Rattle.std.specs.Prelude.{Bool, true, false, Option, Some, None, is_some, if◌then◌else◌, ℕ}
+use Rattle.std.specs.Prelude.{Bool, true, false, Option, Some, None, if◌then◌else◌, ℕ}
 use Rattle.posix.specs.States.{State, current}
 use Rattle.schedules.specs.Families.{Places}
 use Rattle.exploring.specs.declared.ending.Ending.{Ending}
 use Rattle.exploring.specs.declared.ending.Ending.TheVariants.{Halted, AtRest, Going}
 use Rattle.exploring.specs.declared.ending.Endings.{Endings}
-use Rattle.exploring.specs.Tallies.{TallyView, no_schedules, with_schedule}
+use Rattle.exploring.specs.Tallies.{no_schedules, with_schedule}
 
 -- how it stands with a machine that hasn't halted
 abbrev pub going_or_at_rest : Option ℕ → Ending

@@ -1,5 +1,5 @@
 -- How many schedules have a property, and which is the first.
-use Rattle.std.specs.Prelude.{ℕ, ◌+◌, Bool, true, false, List, Option, Some, None}
+use Rattle.std.specs.Prelude.{ℕ, ◌+◌, Bool, true, false, Option, Some, None}
 use Rattle.schedules.specs.Families.{Places}
 
 pub record TallyView : Type 0 where

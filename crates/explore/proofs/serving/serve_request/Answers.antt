@@ -1,4 +1,4 @@
-use Rattle.std.proofs.Common.{rules, ap, map, ◌∙◌, ◌≡◌, Option, None, Ok}
+use Rattle.std.proofs.Common.{ap, ◌∙◌}
 use Rattle.explore.specs.Serving.{is_told}
 use Rattle.explore.proofs.serving.serve_request.Goals as goal
 

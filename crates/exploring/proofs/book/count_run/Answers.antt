@@ -1,4 +1,4 @@
-use Rattle.std.proofs.Common.{rules, arith}
+use Rattle.std.proofs.Common.{rules}
 use Rattle.exploring.proofs.BookLemmas.{book_counted, counts_below}
 use Rattle.exploring.proofs.book.count_run.Goals as goal
 

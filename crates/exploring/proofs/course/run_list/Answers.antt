@@ -1,4 +1,4 @@
-use Rattle.std.proofs.Common.{rules, arith, sym, take, ◌+◌, ◌++◌, ◌∙◌}
+use Rattle.std.proofs.Common.{arith, sym, take, ◌+◌}
 use Rattle.std.specs.Prelude.{replicate}
 use Rattle.text.specs.EventLists.{expanded}
 use Rattle.kernel.proofs.EventLemmas.{expanded_more}

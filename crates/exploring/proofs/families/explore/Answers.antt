@@ -1,4 +1,4 @@
-use Rattle.std.proofs.Common.{rules, arith, map, ◌∙◌, ap, sym, List, ℕ}
+use Rattle.std.proofs.Common.{rules, map, ◌∙◌}
 use Rattle.schedules.specs.Families.{family}
 use Rattle.exploring.proofs.TellingLemmas.{fewer_told, first_come, goes_on, has_come}
 use Rattle.exploring.proofs.families.explore.Goals as goal

@@ -1,4 +1,4 @@
-use Rattle.std.proofs.Common.{◌≡◌, ◌+◌, ◌-◌, ◌≤◌, cond, map}
+use Rattle.std.proofs.Common.{◌≡◌, ◌+◌, ◌-◌, cond, map}
 use Rattle.schedules.specs.Families.{family}
 use Rattle.exploring.specs.Counts.{book_over}
 use Rattle.exploring.specs.Walks.{IsOnItsWay}

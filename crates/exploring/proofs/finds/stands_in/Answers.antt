@@ -1,6 +1,5 @@
-use Rattle.std.proofs.Common.{rules, ◌∙◌, sym, ap, is_some}
+use Rattle.std.proofs.Common.{rules}
 use Rattle.exploring.proofs.TextLemmas.{stands}
-use Rattle.exploring.specs.Texts.{has_text}
 use Rattle.exploring.proofs.finds.stands_in.Goals as goal
 
 pub returns : goal.returns

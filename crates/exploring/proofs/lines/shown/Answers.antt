@@ -1,4 +1,4 @@
-use Rattle.std.proofs.Common.{rules, arith}
+use Rattle.std.proofs.Common.{rules}
 use Rattle.exploring.proofs.LineLemmas.{behind_number}
 use Rattle.exploring.proofs.lines.shown.Goals as goal
 

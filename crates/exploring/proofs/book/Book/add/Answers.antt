@@ -1,4 +1,4 @@
-use Rattle.std.proofs.Common.{rules, ap, ap₂, map, ◌∙◌}
+use Rattle.std.proofs.Common.{rules, ap₂, map, ◌∙◌}
 use Rattle.exploring.specs.Texts.{after_run, saw}
 use Rattle.exploring.proofs.BookLemmas.{book_with_run, on_ok, written}
 use Rattle.exploring.proofs.book.Book.add.Goals as goal
