@@ -1,9 +1,9 @@
 -- What a line that passes all tests says.
 use Rattle.std.proofs.Common.{◌≡◌, ◌≢◌, ℕ, ◌≤◌, ◌/◌, ◌==◌, not, nat_lt, lit≤, subst, Result, Ok, Err, Bool, true, false, if◌then◌else◌, Option, Some, None, IfSome, refl, ap, sym, ◌∙◌, arith}
-use Rattle.posix.specs.Entries.{Line}
+use Rattle.posix.specs.Entries.{Line, process_of}
 use Rattle.posix.specs.declared.entry.Entry.{Entry}
 use Rattle.posix.specs.declared.entry.Entry.TheVariants.{Noted, Called, Moved, Reported, NoMemory, Handled, Discarded, Stopped, Returned, Ended, Halted}
-use Rattle.laws.specs.Lives.{process_of, is_halt, born_by, is_change_word}
+use Rattle.laws.specs.Lives.{is_halt, born_by, is_change_word}
 use Rattle.laws.specs.TraceLines.{is_end_word, is_stopped_word, is_continued_word}
 use Rattle.audit.specs.declared.fault.AuditFault.{AuditFault}
 use Rattle.audit.specs.declared.fault.AuditFault.TheVariants.{NoLine, BornWhileLiving, NotHappened, ReportedBefore, NotTheParent, OtherStatus, OutOfPlace, Memory}

@@ -5,7 +5,8 @@ ghost use Rattle.std.specs.BTreeMap.{get};
 ghost use Rattle.std.specs.Ordering.{nat_cmp};
 ghost use Rattle.laws.specs.Keeping.{NeverBorn, kept_of, kept_after, lives_now, newborn, after_stop, after_report, ended_with, given_on};
 ghost use Rattle.laws.specs.TraceLines.{is_entry};
-ghost use Rattle.laws.specs.Lives.{process_of as process_said, born_by as birth_said};
+ghost use Rattle.posix.specs.Entries.{process_of as process_said};
+ghost use Rattle.laws.specs.Lives.{born_by as birth_said};
 ghost use Rattle.audit.specs.Records.{is_living_state, kept_as, kept_newest, kept_by, parent_now, with_state, kept_in, is_life, without_parent, NameParents, IsNextLife};
 
 use crate::lines::{born_by, is_continued_word, is_stopped_word};

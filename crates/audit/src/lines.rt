@@ -2,28 +2,9 @@
 
 ghost use Rattle.std.specs.Prelude.{◌≡◌, true};
 ghost use Rattle.laws.specs.TraceLines.{is_stopped_word as is_stopped, is_continued_word as is_continued, is_entry};
-ghost use Rattle.laws.specs.Lives.{process_of as process_said, born_by as birth_said};
+ghost use Rattle.laws.specs.Lives.{born_by as birth_said};
 
 use posix::{Call, Entry, Pid, Status};
-
-/// The process of a line; none of `halt`.
-pub(crate) fn process_of(entry: &Entry) -> Option<Pid>
-    ensures { result ≡ process_said entry.now }
-{
-    match *entry {
-        Entry::Noted { pid, .. }
-        | Entry::Called { pid, .. }
-        | Entry::Moved { pid, .. }
-        | Entry::Reported { pid, .. }
-        | Entry::NoMemory { pid, .. }
-        | Entry::Handled { pid, .. }
-        | Entry::Discarded { pid, .. }
-        | Entry::Stopped { pid, .. }
-        | Entry::Returned { pid }
-        | Entry::Ended { pid, .. } => Some(pid),
-        Entry::Halted => None,
-    }
-}
 
 /// The number whose life a line begins: the positive result of a fork.
 pub(crate) fn born_by(entry: &Entry) -> Option<Pid>

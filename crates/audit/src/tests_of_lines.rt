@@ -11,7 +11,7 @@ ghost use Rattle.audit.specs.Phases.{phase_said};
 
 use crate::fault::AuditFault;
 use crate::known::{Known, State};
-use crate::lines::{born_by, is_continued_word, is_stopped_word, process_of};
+use crate::lines::{born_by, is_continued_word, is_stopped_word};
 use posix::{Entry, Pid, Sig, Status};
 use traceline::is_end_word;
 
@@ -72,7 +72,7 @@ fn test_place(known: &Known, phase: Phase, entry: &Entry) -> Result<(), AuditFau
     ensures { fault_number result ≡ place_fault (kept_by known.now) (phase_said phase) entry.now }
 {
     let is_in_place = match phase {
-        Phase::Going => match process_of(entry) {
+        Phase::Going => match entry.process() {
             Some(pid) => known.is_living(pid),
             None => false,
         },

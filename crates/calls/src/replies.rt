@@ -100,7 +100,7 @@ fn flags_in(word: i64) -> Option<SaFlags>
 }
 
 /// The action in r2, r3 and r4 of a process with this of its own; none where r4 has a bit that is no
-/// flag's.
+/// flag's (own).
 fn action_in(own: &OwnPart) -> Option<Action>
     ensures known { (r : Process) → is_some result ≡ are_flags (cast_unsigned w64 (argument (give_own own.now r) 4)) }
     ensures value { (r : Process) → IfSome result (λ a. a ≡ action_held_in (give_own own.now r)) }

@@ -156,7 +156,7 @@ fn tcsetpgrp_on<K: Kin>(
 
 /// The process group in r1 becomes the foreground one of the caller's terminal. ENOTTY where the caller's session has no
 /// terminal; EIO, or TTOU for the caller's process group and the call again, in the background (XBD 11.1.4); EINVAL where
-/// the group is negative; EPERM where no process of the caller's session is in it (XSH tcsetpgrp). In Linux the
+/// the group is negative; EPERM where no process of the caller's session is in it (XSH tcsetpgrp); in Linux the
 /// background's error is ENOTTY, and that of a number which nobody bears ESRCH.
 #[tactic(auto, unfolding(posix::specs::Attempts::attempt, posix::specs::Terminals::tcsetpgrp))]
 pub fn tcsetpgrp<K: Kin>(machine: &mut Machine<K>, pid: Pid, entries: &mut Entries) -> Attempt

@@ -1,7 +1,6 @@
 //! `explore`: runs a world of small programs over all schedules of a list of events: the list with a few ticks put in.
 #![tactic(auto)]
 
-mod event_text;
 mod report;
 mod serving;
 #[cfg(test)]
@@ -9,36 +8,13 @@ mod tests;
 mod words;
 
 use exploring::Progress;
+use host::{HostFiles, WordsFault, as_texts, read_words};
 use kernel::WriteSink;
-use serving::{FileFault, ReadFiles, WordsFault, serve};
-use std::alloc::Global;
+use serving::serve;
 use std::io::IsTerminal;
 use std::process::ExitCode;
-use std::rt::{Clock, Env, Files};
+use std::rt::Clock;
 use std::time::{Duration, Instant};
-use std::{env, fs, io};
-
-/// The files of the host.
-#[derive(Drop)]
-struct HostFiles<'a, R: Files + AllocGlobal> {
-    rt: &'a R,
-}
-
-impl<R: Files + AllocGlobal> ReadFiles for HostFiles<'_, R> {
-    ghost use Rattle.std.specs.Prelude.{None};
-
-    ghost contents = { λ files name. None };
-
-    fn read_file(&self, name: &str) -> Result<Vec<u8>, FileFault> {
-        fs::read(self.rt, name).map_err(|e| {
-            if e.kind() == io::ErrorKind::OutOfMemory {
-                FileFault::Memory
-            } else {
-                FileFault::Device
-            }
-        })
-    }
-}
 
 /// Tells a person how far the schedules have come, once a second.
 #[derive(Drop)]
@@ -62,31 +38,6 @@ impl<R: Clock + Eprint> Progress for Terminal<'_, R> {
             let _ = eprintln!(self.rt; "explore: {done} of {size} schedules");
         }
     }
-}
-
-/// The words of the command line behind the program's name.
-fn read_words<R: Env + AllocGlobal>(rt: &R) -> Result<Vec<String>, WordsFault> {
-    let args = env::args(rt).map_err(|e| {
-        if e.kind() == io::ErrorKind::OutOfMemory {
-            WordsFault::Memory
-        } else {
-            WordsFault::NotText
-        }
-    })?;
-    let mut words = Vec::new(rt.alloc());
-    for word in args.skip(1) {
-        words.push(word).map_err(|_| WordsFault::Memory)?;
-    }
-    Ok(words)
-}
-
-/// The texts of the words.
-fn as_texts(alloc: Global, words: &[String]) -> Result<Vec<&str>, WordsFault> {
-    let mut texts = Vec::new(alloc);
-    for word in words {
-        texts.push(word.as_str()).map_err(|_| WordsFault::Memory)?;
-    }
-    Ok(texts)
 }
 
 /// Serves the words.

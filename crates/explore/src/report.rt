@@ -1,6 +1,6 @@
 //! What is told of a family whose schedules were run.
 
-use crate::event_text::write_events;
+use eventtext::write_events;
 use exploring::course::run_list;
 use exploring::{Book, Ending, Endings, Family, Find, Line, Tally, events_of, is_schedule};
 use std::alloc::{AllocError, Global};

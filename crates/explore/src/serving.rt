@@ -11,41 +11,13 @@ use crate::report::report;
 use crate::words::{NoRequest, Request, requested};
 use arrayvec::ArrayString;
 use exploring::{Book, Family, Progress, explore};
+use host::{ReadFiles, WordsFault};
+use inputs::{InputFault, number, read_inputs};
 use kernel::{Sink, SinkFault, put_all};
 use schedules::family_size;
 use std::alloc::{AllocError, Global};
 use std::fmt::Write;
-use text::{EventList, Reason, TextFault, World, read_events, read_world};
 use thiserror::Error;
-
-/// Why a file isn't read.
-#[derive(Clone, Copy, Debug, PartialEq, Eq)]
-pub enum FileFault {
-    /// There is no such file, or the device failed.
-    Device,
-    /// There was no memory for its bytes.
-    Memory,
-}
-
-/// Why the words aren't known.
-#[derive(Clone, Copy, Debug, PartialEq, Eq)]
-pub enum WordsFault {
-    /// A word is no text in UTF-8.
-    NotText,
-    /// There was no memory for the words.
-    Memory,
-}
-
-/// Reads named files.
-pub trait ReadFiles {
-    // The bytes of each name, where they are known.
-    ghost contents: { Self → List ℕ → Option (List ℕ) };
-
-    /// The bytes of a file.
-    fn read_file(&self, name: &str) -> Result<Vec<u8>, FileFault>
-        ensures { IfOk result (λ read.
-            IfSome (contents self.now name.now) (λ known. read.items ≡ known)) };
-}
 
 /// Why the program doesn't end with status 0.
 #[derive(Clone, Copy, Debug, PartialEq, Eq, Error)]
@@ -64,12 +36,8 @@ enum Failure<'a> {
     TooManySchedules(u64),
     #[error("explore: {0} schedules of up to {1} events: more than {2} events in all are run with --all alone; say fewer by --ticks or --upto")]
     ManyEvents(u64, u64, u64),
-    #[error("explore: cannot read {0}")]
-    CannotRead(&'a str),
-    #[error("explore: world: {0}")]
-    World(TextFault),
-    #[error("explore: events: {0}")]
-    Events(TextFault),
+    #[error("explore: {0}")]
+    Input(InputFault<'a>),
     #[error("explore: out of memory")]
     Memory,
     #[error("explore: cannot write")]
@@ -109,38 +77,20 @@ impl From<NoRequest> for Failure<'_> {
     }
 }
 
-impl<'a> Failure<'a> {
-    /// Why a file of this name isn't read.
-    fn of_file(fault: FileFault, name: &'a str) -> Self {
-        match fault {
-            FileFault::Device => Failure::CannotRead(name),
-            FileFault::Memory => Failure::Memory,
-        }
+impl<'a> From<InputFault<'a>> for Failure<'a> {
+    fn from(why: InputFault<'a>) -> Self {
+        Failure::Input(why)
     }
+}
 
-    /// Why a world isn't read. Want of memory is no fault of its text.
-    fn of_world(fault: TextFault) -> Self {
-        match fault.reason {
-            Reason::Memory => Failure::Memory,
-            _ => Failure::World(fault),
-        }
-    }
-
-    /// Why events aren't read.
-    fn of_events(fault: TextFault) -> Self {
-        match fault.reason {
-            Reason::Memory => Failure::Memory,
-            _ => Failure::Events(fault),
-        }
-    }
-
+impl Failure<'_> {
     /// The status of the program.
     fn status(self) -> u8
         ensures least { 1 ≤ result }
         ensures most { result ≤ 3 }
     {
         match self {
-            Failure::World(_) | Failure::Events(_) => 1,
+            Failure::Input(why) => why.status(),
             Failure::Usage
             | Failure::Ticks
             | Failure::Upto
@@ -148,17 +98,9 @@ impl<'a> Failure<'a> {
             | Failure::ManySchedules(_, _)
             | Failure::TooManySchedules(_)
             | Failure::ManyEvents(_, _, _) => 2,
-            Failure::CannotRead(_) | Failure::Memory | Failure::Write => 3,
+            Failure::Memory | Failure::Write => 3,
         }
     }
-}
-
-/// The number that a word of digits stands for.
-fn number(word: &str) -> Option<u64> {
-    if word.as_bytes().first() == Some(&b'+') {
-        return None;
-    }
-    word.parse::<u64>().ok()
 }
 
 /// How many ticks are put in at most: 2, if not named.
@@ -215,48 +157,6 @@ fn size_of<'a>(upto: u64, ticks: usize, events: u64, all: bool) -> Result<u64, F
     Ok(size)
 }
 
-/// The world of a text.
-fn world_of<'a>(alloc: Global, text: &[u8]) -> Result<World, Failure<'a>>
-    ensures { IfOk result (λ world. world_text text.now ≡ Ok world) }
-{
-    match read_world(alloc, text) {
-        Ok(world) => Ok(world),
-        Err(fault) => Err(Failure::of_world(fault)),
-    }
-}
-
-/// The events of a text for a world.
-fn events_of<'a>(alloc: Global, world: &World, text: &[u8]) -> Result<EventList, Failure<'a>>
-    ensures events { IfOk result (λ events. event_text world.now.consoles text.now ≡ Ok events) }
-    ensures within { IfOk result (λ events. length events ≤ most_events) }
-{
-    match read_events(alloc, world.consoles(), text) {
-        Ok(events) => Ok(events),
-        Err(fault) => Err(Failure::of_events(fault)),
-    }
-}
-
-/// Reads the two texts. Both files are read before either text is judged, the world first.
-fn read_texts<'a, F: ReadFiles>(
-    alloc: Global,
-    request: &Request<'a>,
-    files: &F,
-) -> Result<(World, EventList), Failure<'a>>
-    ensures world { IfOk result (λ texts. IfSome (F.contents files.now request.now.world.now) (λ bytes. world_text bytes ≡ Ok texts.0)) }
-    ensures events { IfOk result (λ texts. IfSome (F.contents files.now request.now.events.now) (λ bytes. event_text texts.0.consoles bytes ≡ Ok texts.1)) }
-    ensures within { IfOk result (λ texts. length texts.1 ≤ most_events) }
-{
-    let world = files
-        .read_file(request.world)
-        .map_err(|fault| Failure::of_file(fault, request.world))?;
-    let events = files
-        .read_file(request.events)
-        .map_err(|fault| Failure::of_file(fault, request.events))?;
-    let world = world_of(alloc, world.as_slice())?;
-    let events = events_of(alloc, &world, events.as_slice())?;
-    Ok((world, events))
-}
-
 /// Whether a schedule has a text that is looked for.
 fn is_found(book: &Book<'_>) -> bool
     ensures { result ≡ has_found book.now }
@@ -289,14 +189,14 @@ fn serve_request<'a, F: ReadFiles, O: Sink, P: Progress>(
     ensures { IfOk result (λ told. IsExplored (F.contents files.now) request.now told) }
 {
     let ticks = ticks_of(request.ticks)?;
-    let (world, events) = read_texts(alloc, request, files)?;
-    let upto = upto_of(request.upto, events.len())?;
+    let inputs = read_inputs(alloc, files, request.world, request.events)?;
+    let upto = upto_of(request.upto, inputs.events.len())?;
     let family = Family {
-        world: &world,
-        events: &events,
+        world: &inputs.world,
+        events: &inputs.events,
         upto,
         ticks,
-        size: size_of(upto, ticks, events.len(), request.all)?,
+        size: size_of(upto, ticks, inputs.events.len(), request.all)?,
     };
     let book = explore(alloc, &family, request.finds.as_slice(), progress)?;
     let text = report(alloc, &family, &book)?;
@@ -306,7 +206,7 @@ fn serve_request<'a, F: ReadFiles, O: Sink, P: Progress>(
 
 /// Tells a failure, as far as the error output takes it. It takes no memory.
 fn tell<E: Sink>(failure: Failure<'_>, err: &mut E) -> Result<(), SinkFault> {
-    if let Failure::CannotRead(name) = failure {
+    if let Failure::Input(InputFault::CannotRead(name)) = failure {
         put_all(err, b"explore: cannot read ")?;
         put_all(err, name.as_bytes())?;
         return put_all(err, b"\n");

@@ -1,7 +1,8 @@
 //! What no clause says: that schedules are explored where there is memory, and what is printed.
 
-use crate::serving::{FileFault, ReadFiles, serve};
+use crate::serving::serve;
 use exploring::Progress;
+use host::{FileFault, ReadFiles};
 use kernel::WriteSink;
 use std::alloc::Global;
 

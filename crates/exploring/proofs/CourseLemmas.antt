@@ -31,7 +31,7 @@ use Rattle.life.specs.declared.noted_bursts.Note.{Note}
 use Rattle.kernel.specs.Steps.{noted_lines}
 use Rattle.posix.proofs.CountLemmas.{next_halted}
 use Rattle.exploring.specs.Endings.{ending_of, going_or_at_rest}
-use Rattle.exploring.specs.Courses.{Adds, Course, Grants, IsCourse, course_from, course_of, denies, later, one_denies}
+use Rattle.exploring.specs.Courses.{Adds, Course, RunsGranted, IsCourse, course_from, course_of, denies_memory, later, one_denies_memory}
 
 -- ---- runs
 
@@ -63,53 +63,53 @@ none_of_both : (a b : Bool) → a ≡ false → b ≡ false → (a || b) ≡ fal
 none_of_both false b p q = q
 none_of_both true b p q = cc
 
-both_grant : (ls ms : List Line) → one_denies ls ≡ false → one_denies ms ≡ false → one_denies (ls ++ ms) ≡ false
-both_grant ls ms p q = list_any-append (λ (l : Line). denies l.entry) ls ms ∙ none_of_both (one_denies ls) (one_denies ms) p q
+both_grant : (ls ms : List Line) → one_denies_memory ls ≡ false → one_denies_memory ms ≡ false → one_denies_memory (ls ++ ms) ≡ false
+both_grant ls ms p q = list_any-append (λ (l : Line). denies_memory l.entry) ls ms ∙ none_of_both (one_denies_memory ls) (one_denies_memory ms) p q
 
-later_denies : (n : ℕ) (ls : List Line) → one_denies (later n ls) ≡ one_denies ls
+later_denies : (n : ℕ) (ls : List Line) → one_denies_memory (later n ls) ≡ one_denies_memory ls
 later_denies n [] = refl
-later_denies n (l ∷ ls) = ap (λ b. denies l.entry || b) (later_denies n ls)
+later_denies n (l ∷ ls) = ap (λ b. denies_memory l.entry || b) (later_denies n ls)
 
-pub grants_none : (k : ℕ) (s : State) → Grants k s [] [] s
+pub grants_none : (k : ℕ) (s : State) → RunsGranted k s [] [] s
 grants_none k s = record { runs = (refl, refl); all = refl }
 
-pub grants_then : (xs ys : List Event) (k j : ℕ) (a b c : State) (ls ms : List Line) → j ≡ k + length xs → Grants k a xs ls b → Grants j b ys ms c → Grants k a (xs ++ ys) (ls ++ ms) c
+pub grants_then : (xs ys : List Event) (k j : ℕ) (a b c : State) (ls ms : List Line) → j ≡ k + length xs → RunsGranted k a xs ls b → RunsGranted j b ys ms c → RunsGranted k a (xs ++ ys) (ls ++ ms) c
 grants_then xs ys k j a b c ls ms at p q = record {
   runs = runs_then xs ys k a b c ls ms p.runs (subst (λ n. RunsFrom n b ys ms c) at q.runs);
   all = both_grant ls ms p.all q.all;
 }
 
-pub grants_later : (n k : ℕ) (xs : List Event) (a b : State) (ls : List Line) → RunsFrom k a xs ls b → one_denies (later n ls) ≡ false → Grants (n + k) a xs (later n ls) b
+pub grants_later : (n k : ℕ) (xs : List Event) (a b : State) (ls : List Line) → RunsFrom k a xs ls b → one_denies_memory (later n ls) ≡ false → RunsGranted (n + k) a xs (later n ls) b
 grants_later n k xs a b ls p all = record { runs = runs_later n xs k a b ls p; all = all }
 
-pub grants_idle : (n k : ℕ) (s : State) (x : Event) → next true s x ≡ silent s → Grants k s (replicate n x) [] s
+pub grants_idle : (n k : ℕ) (s : State) (x : Event) → next true s x ≡ silent s → RunsGranted k s (replicate n x) [] s
 grants_idle n k s x idle = record { runs = runs_idle n k s x idle; all = refl }
 
 -- so the run is that of the definitions
 
-an_entry_denies : (k : ℕ) (entries : List Entry) (p : ℕ) (call : Call) → Contains entries (NoMemory p call) → one_denies (numbered k entries) ≡ true
+an_entry_denies : (k : ℕ) (entries : List Entry) (p : ℕ) (call : Call) → Contains entries (NoMemory p call) → one_denies_memory (numbered k entries) ≡ true
 an_entry_denies k [] p call c = let l = c.1 in absurd (omega arith)
-an_entry_denies k (e ∷ es) p call (zero, l, is) = ap (λ (x : Entry). denies x || one_denies (numbered k es)) is
+an_entry_denies k (e ∷ es) p call (zero, l, is) = ap (λ (x : Entry). denies_memory x || one_denies_memory (numbered k es)) is
 an_entry_denies k (e ∷ es) p call (suc i, l, is) = let rest = an_entry_denies k es p call (i, omega arith, is) in grind (arith, rest)
 
-parts_grant : (ls ms : List Line) → one_denies (ls ++ ms) ≡ false → (one_denies ls ≡ false) × (one_denies ms ≡ false)
-parts_grant ls ms none = both (one_denies ls) (one_denies ms) (sym (list_any-append (λ (l : Line). denies l.entry) ls ms) ∙ none)
+parts_grant : (ls ms : List Line) → one_denies_memory (ls ++ ms) ≡ false → (one_denies_memory ls ≡ false) × (one_denies_memory ms ≡ false)
+parts_grant ls ms none = both (one_denies_memory ls) (one_denies_memory ms) (sym (list_any-append (λ (l : Line). denies_memory l.entry) ls ms) ∙ none)
   where
     both : (a b : Bool) → (a || b) ≡ false → (a ≡ false) × (b ≡ false)
     both false b p = (refl, p)
     both true b p = cc
 
-entries_grant : (k : ℕ) (entries : List Entry) → one_denies (numbered k entries) ≡ false → EntriesGrantAll entries
+entries_grant : (k : ℕ) (entries : List Entry) → one_denies_memory (numbered k entries) ≡ false → EntriesGrantAll entries
 entries_grant k entries none p call c = let no = sym none ∙ an_entry_denies k entries p call c in absurd (cc)
 
 true_grants : (s : State) (event : Event) → EntriesGrantAll (next true s event).entries
 true_grants s event p call c = let no = memory_refused true s event p call c in absurd (cc)
 
-pub granted_course : (k : ℕ) (s last : State) (events : List Event) (lines : List Line) → RunsFrom k s events lines last → one_denies lines ≡ false → course_from k s events ≡ record { lines = lines; last = last }
+pub granted_course : (k : ℕ) (s last : State) (events : List Event) (lines : List Line) → RunsFrom k s events lines last → one_denies_memory lines ≡ false → course_from k s events ≡ record { lines = lines; last = last }
 granted_course k s last [] lines (none, same) all = ap₂ (λ ls (t : State). record { lines = ls; last = t }) (sym none) (sym same)
 granted_course k s last (x ∷ xs) lines (mid, entries, rest, step, is, p) all =
     let o = next true s x in
-    let parts = parts_grant (numbered k entries) rest (ap one_denies (sym is) ∙ all) in
+    let parts = parts_grant (numbered k entries) rest (ap one_denies_memory (sym is) ∙ all) in
     let one = step_determined s mid o.state x entries o.entries step (record { granted = true; comes = refl }) (entries_grant k entries parts.0) (true_grants s x) in
     ap₂ (λ (es : List Entry) (t : State). let c = course_from (k + 1) t xs in record { lines = numbered k es ++ c.lines; last = c.last }) (sym one.0) (sym one.1)
     ∙ ap (λ (c : Course). record { lines = numbered k entries ++ c.lines; last = c.last }) (granted_course (k + 1) mid last xs rest p parts.1)
@@ -172,7 +172,7 @@ notes_more n p notes i note lt is =
 pub added_more : (before now next ls : List Line) (l : Line) → now ≡ before ++ ls → next ≡ now ++ l ∷ [] → next ≡ before ++ (ls ++ l ∷ [])
 added_more before now next ls l a b = b ∙ ap (λ xs. xs ++ l ∷ []) a ∙ append_assoc before ls (l ∷ [])
 
-notes_grant : (n p : ℕ) (notes : List Note) → one_denies (later n (noted_lines p notes)) ≡ false
+notes_grant : (n p : ℕ) (notes : List Note) → one_denies_memory (later n (noted_lines p notes)) ≡ false
 notes_grant n p [] = refl
 notes_grant n p (x ∷ xs) = notes_grant n p xs
 
@@ -201,7 +201,7 @@ notes_fit k a b xs p notes more n limit run l =
 
 -- what a run shows is added with greater numbers
 pub adds_later : (n k e p : ℕ) (a b : State) (xs : List Event) (notes : List Note) (entries : List Entry) (before mid after : List Line) → RunsFrom k a xs (noted_lines p notes ++ numbered e entries) b
-    → mid ≡ before ++ later n (noted_lines p notes) → after ≡ mid ++ numbered (n + e) entries → one_denies (numbered (n + e) entries) ≡ false → Adds (n + k) a xs b before after
+    → mid ≡ before ++ later n (noted_lines p notes) → after ≡ mid ++ numbered (n + e) entries → one_denies_memory (numbered (n + e) entries) ≡ false → Adds (n + k) a xs b before after
 adds_later n k e p a b xs notes entries before mid after run first last granted =
     let parts : later n (noted_lines p notes ++ numbered e entries) ≡ later n (noted_lines p notes) ++ numbered (n + e) entries =
     map-append (λ (l : Line). line (n + l.event) l.entry) (noted_lines p notes) (numbered e entries) ∙ ap (λ ls. later n (noted_lines p notes) ++ ls) (later_numbered n e entries) in
@@ -209,7 +209,7 @@ adds_later n k e p a b xs notes entries before mid after run first last granted 
       shows = later n (noted_lines p notes ++ numbered e entries);
       added = last ∙ ap (λ ls. ls ++ numbered (n + e) entries) first ∙ append_assoc before (later n (noted_lines p notes)) (numbered (n + e) entries) ∙ ap (λ ls. before ++ ls) (sym parts);
       grants = grants_later n k xs a b (noted_lines p notes ++ numbered e entries) run
-          (ap one_denies parts ∙ both_grant (later n (noted_lines p notes)) (numbered (n + e) entries) (notes_grant n p notes) granted);
+          (ap one_denies_memory parts ∙ both_grant (later n (noted_lines p notes)) (numbered (n + e) entries) (notes_grant n p notes) granted);
     }
 
 pub adds_none : (k : ℕ) (s : State) (lines : List Line) → Adds k s [] s lines lines
@@ -219,7 +219,7 @@ pub adds_then : (xs ys zs : List Event) (k j : ℕ) (a b c : State) (before mid 
 adds_then xs ys zs k j a b c before mid after at all p q = record {
   shows = p.shows ++ q.shows;
   added = q.added ∙ ap (λ ls. ls ++ q.shows) p.added ∙ append_assoc before p.shows q.shows;
-  grants = subst (λ (es : List Event). Grants k a es (p.shows ++ q.shows) c) all (grants_then xs ys k j a b c p.shows q.shows at p.grants q.grants);
+  grants = subst (λ (es : List Event). RunsGranted k a es (p.shows ++ q.shows) c) all (grants_then xs ys k j a b c p.shows q.shows at p.grants q.grants);
 }
 
 pub adds_idle : (n k : ℕ) (s : State) (x : Event) (lines : List Line) → next true s x ≡ silent s → Adds k s (replicate n x) s lines lines
@@ -230,7 +230,7 @@ pub adds_course : (world : World) (events : List Event) (last start : State) (li
     → IsCourse world events lines ending
 adds_course world events last start lines ending is p ends = record {
   last = last;
-  grants = subst (λ (s : State). Grants 1 s events lines last) is (subst (λ (ls : List Line). Grants 1 start events ls last) (sym p.added) p.grants);
+  grants = subst (λ (s : State). RunsGranted 1 s events lines last) is (subst (λ (ls : List Line). RunsGranted 1 start events ls last) (sym p.added) p.grants);
   ends = ends;
 }
 

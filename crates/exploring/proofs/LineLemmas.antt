@@ -4,25 +4,12 @@ use Rattle.std.specs.Prelude.{decimal}
 use Rattle.std.proofs.lemmas.Fmt.{decimal_digit}
 use Rattle.std.proofs.lemmas.List.{length-take-le, drop-take, take-take, take_all, take-append-le}
 use Rattle.posix.specs.declared.entry.Entry.{Entry}
-use Rattle.posix.specs.declared.entry.Entry.TheVariants.{Noted, Called, Moved, Reported, NoMemory, Handled, Discarded, Stopped, Returned, Ended, Halted}
 use Rattle.posix.specs.Printing.{printed}
+use Rattle.posix.proofs.PrintingLemmas.{number_and_words}
 use Rattle.exploring.specs.Texts.{shown}
 
-numbered_line : (k : ℕ) (e : Entry) → printed k e ≡ (decimal k ++ 32 ∷ shown e) ++ 10 ∷ []
-numbered_line k (Noted pid value) = refl
-numbered_line k (Called pid call result) = refl
-numbered_line k (Moved pid call bytes) = refl
-numbered_line k (Reported pid child status) = refl
-numbered_line k (NoMemory pid call) = refl
-numbered_line k (Handled pid sig value sender) = refl
-numbered_line k (Discarded pid sig) = refl
-numbered_line k (Stopped pid sig) = refl
-numbered_line k (Returned pid) = refl
-numbered_line k (Ended pid status) = refl
-numbered_line k Halted = refl
-
 printed_0 : (e : Entry) → printed 0 e ≡ 48 ∷ 32 ∷ (shown e ++ 10 ∷ [])
-printed_0 e = numbered_line 0 e ∙ ap (λ (d : List ℕ). (d ++ 32 ∷ shown e) ++ 10 ∷ []) (decimal_digit 0 (omega arith))
+printed_0 e = ap (λ (t : List ℕ). t ++ 10 ∷ []) (number_and_words (decimal 0) e ∙ ap (λ (d : List ℕ). d ++ 32 ∷ shown e) (decimal_digit 0 (omega arith)))
 
 -- of a line that is written with number 0
 pub behind_number : (room : List ℕ) (end : ℕ) (e : Entry) → take end room ≡ printed 0 e → end ≤ length room → take (end - 1 - 2) (drop 2 room) ≡ shown e

@@ -35,40 +35,40 @@ course_of world events places = course_from 1 (boot world) (scheduled events pla
 -- ---- how it is told
 
 -- it says of a call that there was no memory for it
-abbrev pub denies : Entry → Bool
-denies (Noted pid value) = false
-denies (Called pid call result) = false
-denies (Moved pid call bytes) = false
-denies (Reported pid child status) = false
-denies (NoMemory pid call) = true
-denies (Handled pid sig value sender) = false
-denies (Discarded pid sig) = false
-denies (Stopped pid sig) = false
-denies (Returned pid) = false
-denies (Ended pid status) = false
-denies Halted = false
+abbrev pub denies_memory : Entry → Bool
+denies_memory (Noted pid value) = false
+denies_memory (Called pid call result) = false
+denies_memory (Moved pid call bytes) = false
+denies_memory (Reported pid child status) = false
+denies_memory (NoMemory pid call) = true
+denies_memory (Handled pid sig value sender) = false
+denies_memory (Discarded pid sig) = false
+denies_memory (Stopped pid sig) = false
+denies_memory (Returned pid) = false
+denies_memory (Ended pid status) = false
+denies_memory Halted = false
 
 -- a line says so
-abbrev pub one_denies : List Line → Bool
-one_denies lines = list_any (λ l. denies l.entry) lines
+abbrev pub one_denies_memory : List Line → Bool
+one_denies_memory lines = list_any (λ l. denies_memory l.entry) lines
 
 -- the lines with numbers that are greater by n
 abbrev pub later : ℕ → List Line → List Line
 later n lines = map (λ l. line (n + l.event) l.entry) lines
 
 -- From old, the events with the numbers from k on show these lines, where all memory is granted, and lead to new.
-pub record Grants (k : ℕ) (old : State) (events : List Event) (lines : List Line) (new : State) : Type 0 where
+pub record RunsGranted (k : ℕ) (old : State) (events : List Event) (lines : List Line) (new : State) : Type 0 where
   pub runs : RunsFrom k old events lines new
-  pub all : one_denies lines ≡ false
+  pub all : one_denies_memory lines ≡ false
 
 -- In a world the events show these lines, where all memory is granted, and the run ends so.
 pub record IsCourse (world : World) (events : List Event) (lines : List Line) (ending : Ending) : Type 0 where
   pub last : State
-  pub grants : Grants 1 (boot world) events lines last
+  pub grants : RunsGranted 1 (boot world) events lines last
   pub ends : ending ≡ ending_of last
 
 -- To the lines before, the events with the numbers from k on, where all memory is granted, add what they show, and lead from old to new.
 pub record Adds (k : ℕ) (old : State) (events : List Event) (new : State) (before after : List Line) : Type 0 where
   pub shows : List Line
   pub added : after ≡ before ++ shows
-  pub grants : Grants k old events shows new
+  pub grants : RunsGranted k old events shows new

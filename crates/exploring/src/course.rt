@@ -9,7 +9,7 @@ ghost use Rattle.posix.specs.Settle.{IsSettled};
 ghost use Rattle.posix.specs.Step.{next};
 ghost use Rattle.text.specs.EventTexts.{most_events};
 ghost use Rattle.kernel.specs.Steps.{noted_lines};
-ghost use Rattle.exploring.specs.Courses.{Adds, IsCourse, later, one_denies};
+ghost use Rattle.exploring.specs.Courses.{Adds, IsCourse, later, one_denies_memory};
 ghost use Rattle.exploring.specs.Endings.{ending_of as ending_in};
 
 use crate::ending::Ending;
@@ -65,7 +65,7 @@ fn add_notes(lines: &mut Vec<Line>, more: u64, pid: Pid, notes: &[Note]) -> Resu
 /// Adds the entries of an event. One that tells of no memory is an error, too.
 fn add_entries(lines: &mut Vec<Line>, event: u64, entries: &[Entry]) -> Result<(), AllocError>
     ensures lines { OnOk result (lines.new.items ≡ lines.old.items ++ numbered event entries.now) }
-    ensures granted { OnOk result (one_denies (numbered event entries.now) ≡ false) }
+    ensures granted { OnOk result (one_denies_memory (numbered event entries.now) ≡ false) }
 {
     for entry in entries {
         if denies_memory(entry) {

@@ -2,9 +2,8 @@
 
 ghost use Rattle.std.specs.Prelude.{◌≡◌, Some, None, option_map, if◌then◌else◌};
 ghost use Rattle.posix.specs.Entries.{line};
-ghost use Rattle.laws.specs.Lives.{process_of as process_in};
 ghost use Rattle.exploring.specs.Texts.{shown as shown_of};
-ghost use Rattle.exploring.specs.Courses.{denies};
+ghost use Rattle.exploring.specs.Courses.{denies_memory as denies};
 
 use posix::{Entry, Pid};
 use std::marker::Model;
@@ -50,28 +49,9 @@ impl Line {
     }
 }
 
-/// The process whose line an entry is; none for a halt.
-pub fn process_of(entry: &Entry) -> Option<Pid>
-    ensures { result ≡ process_in entry.now }
-{
-    match entry {
-        Entry::Noted { pid, .. }
-        | Entry::Called { pid, .. }
-        | Entry::Moved { pid, .. }
-        | Entry::Reported { pid, .. }
-        | Entry::NoMemory { pid, .. }
-        | Entry::Handled { pid, .. }
-        | Entry::Discarded { pid, .. }
-        | Entry::Stopped { pid, .. }
-        | Entry::Returned { pid }
-        | Entry::Ended { pid, .. } => Some(*pid),
-        Entry::Halted => None,
-    }
-}
-
 /// The number of the process whose line it is; 0 for a halt.
 pub fn process_number(line: &Line) -> u32 {
-    process_of(line.entry()).map_or(0, Pid::number)
+    line.entry().process().map_or(0, Pid::number)
 }
 
 /// Whether an entry tells that the host had no memory for a call.

@@ -15,10 +15,10 @@ use Rattle.audit.specs.Texts.{IsLawful}
 use Rattle.jobk.specs.Words.{AsksAudit, AsksRun, request_of_words}
 use Rattle.jobk.specs.declared.serving.Failure.{Failure}
 use Rattle.jobk.specs.declared.serving.Failure.TheVariants as failure
-use Rattle.jobk.specs.declared.serving.FileFault.{FileFault}
-use Rattle.jobk.specs.declared.serving.FileFault.TheVariants as file
-use Rattle.jobk.specs.declared.serving.WordsFault.{WordsFault}
-use Rattle.jobk.specs.declared.serving.WordsFault.TheVariants as word
+use Rattle.host.specs.declared.files.FileFault.{FileFault}
+use Rattle.host.specs.declared.files.FileFault.TheVariants as file
+use Rattle.host.specs.declared.words.WordsFault.{WordsFault}
+use Rattle.host.specs.declared.words.WordsFault.TheVariants as word
 use Rattle.jobk.specs.declared.serving.TheConstants.{STORED_EVENTS, STORED_WORLD}
 
 -- Of some files, the bytes of each name, where they are known.

@@ -7,38 +7,10 @@ ghost use Rattle.jobk.specs.Serving.{AreInFiles, AreOther, AskFor, AskForAudit, 
 use crate::words::{Request, requested};
 use arrayvec::ArrayString;
 use audit::{AuditFault, TraceFault, audit_text};
+use host::{FileFault, ReadFiles, WordsFault};
 use kernel::{RunError, Sink, SinkFault, put_all, run};
 use std::alloc::Global;
 use std::fmt::Write;
-
-/// Why a file isn't read.
-#[derive(Clone, Copy, Debug, PartialEq, Eq)]
-pub enum FileFault {
-    /// There is no such file, or the device failed.
-    Device,
-    /// There was no memory for its bytes.
-    Memory,
-}
-
-/// Why the words aren't known.
-#[derive(Clone, Copy, Debug, PartialEq, Eq)]
-pub enum WordsFault {
-    /// A word is no text in UTF-8.
-    NotText,
-    /// There was no memory for the words.
-    Memory,
-}
-
-/// Reads named files.
-pub trait ReadFiles {
-    // The bytes of each name, where they are known.
-    ghost contents: { Self → Contents };
-
-    /// The bytes of a file.
-    fn read_file(&self, name: &str) -> Result<Vec<u8>, FileFault>
-        ensures { IfOk result (λ read.
-            IfSome (contents self.now name.now) (λ known. read.items ≡ known)) };
-}
 
 /// Why the program doesn't end with status 0.
 #[derive(Clone, Copy, Debug, PartialEq, Eq)]

@@ -1,8 +1,9 @@
 //! Runs through `serve` with files in memory, and each call that takes memory once with enough of it.
 
-use crate::serving::{FileFault, ReadFiles, WordsFault, serve};
+use crate::serving::serve;
 use arena::new_arena;
 use arrayvec::ArrayVec;
+use host::{FileFault, ReadFiles, WordsFault};
 use kernel::{Kernel, RunError, Summary, WriteSink, run, run_on};
 use posix::{Entry, Event, Pid, Sig, Status};
 use proctable::{Kin, ScanTable};

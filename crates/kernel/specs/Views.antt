@@ -7,3 +7,7 @@ pub record KernelView : Type 0 where
   pub state : State
   pub events : ℕ
   pub visits : ℕ
+
+-- one more slot was read
+abbrev pub looked : (ℕ → ℕ) → KernelView → KernelView
+looked more k = record k { visits = more k.visits }

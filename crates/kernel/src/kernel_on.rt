@@ -1,8 +1,12 @@
 //! The kernel of one world.
 
-ghost use Rattle.std.specs.Prelude.{◌≡◌, ◌+◌, ◌-◌, ◌++◌, ◌<◌, ◌≤◌, ℕ, List, [], Contains, Some, IfOk, IfSome, true, replicate};
+ghost use Rattle.std.specs.Prelude.{◌≡◌, ◌+◌, ◌-◌, ◌++◌, ◌<◌, ◌≤◌, ℕ, List, [], ⊤, Contains, Some, IfOk, IfSome, IsSome, true, option_map, replicate, slice_get};
+ghost use mathlib.Core.Option.{none};
+ghost use Rattle.std.specs.Borrow.{sem, follows_so};
 ghost use Rattle.std.specs.List.{list_all};
-ghost use Rattle.posix.specs.States.{boot as boot_of, current as current_of};
+ghost use Rattle.std.specs.Option.{option_copied};
+ghost use Rattle.posix.specs.States.{boot as boot_of, current as current_of, process};
+ghost use Rattle.posix.specs.Tables.{next_above};
 ghost use Rattle.posix.specs.declared.entry.Entry.{Entry};
 ghost use Rattle.posix.specs.Entries.{Line, numbered};
 ghost use Rattle.posix.specs.NextPid.{is_free};
@@ -13,8 +17,11 @@ ghost use Rattle.posix.specs.Settle.{IsSettled};
 ghost use Rattle.text.specs.EventTexts.{most_events};
 ghost use Rattle.kernel.specs.Counts.{slots_of_event, slots_of_steps};
 ghost use Rattle.kernel.specs.Steps.{last_given, noted_lines};
-ghost use Rattle.kernel.specs.Views.{KernelView};
+ghost use Rattle.kernel.specs.Views.{KernelView, looked};
+ghost use Rattle.kernel.specs.contracts.kernel_on.KernelOn.{the_row as kernel_row};
 ghost use Rattle.life.specs.Censuses.{census_of};
+ghost use Rattle.proctable.specs.Records.{snapshot_of, own_of};
+ghost use Rattle.sched.specs.Places.{next_behind};
 ghost use Rattle.laws.specs.Agree.{Agree, IsOrderly};
 ghost use Rattle.laws.specs.Kinds.{IsEvent, IsWorld};
 ghost use Rattle.laws.specs.Lives.{born_by};
@@ -25,9 +32,10 @@ use arrayvec::ArrayVec;
 use calls::Entries;
 use life::{Census, Machine, Notes};
 use posix::{Event, Pid, Trap};
-use proctable::{Kin, ProcTable};
+use proctable::{Kin, OwnPart, ProcTable, Snapshot};
 use std::alloc::{AllocError, Global};
 use std::marker::Model;
+use tty::Console;
 use umach::World;
 
 /// The kernel of one world.
@@ -103,11 +111,59 @@ impl<K: Kin> KernelOn<K> {
         self.machine.current()
     }
 
+    /// Who acts after a process, as the order of turns is now; none after the last one, and after one that has no
+    /// place in it.
+    pub fn behind(&self, pid: Pid) -> Option<Pid>
+        ensures { result ≡ next_behind pid self.now.state.order }
+    {
+        self.machine.behind(pid)
+    }
+
+    /// How many ticks have passed.
+    pub fn ticks(&self) -> u64
+        ensures { result ≡ self.now.state.ticks }
+    {
+        self.machine.ticks()
+    }
+
     /// The number of consoles.
     pub fn consoles(&self) -> u8
         ensures { result ≡ self.now.state.world.consoles }
     {
         self.machine.consoles()
+    }
+
+    /// The console with this index, from 0 on; none where there is none.
+    pub fn console(&self, console_index: usize) -> Option<&Console>
+        ensures { option_copied result ≡ slice_get self.now.state.consoles console_index }
+    {
+        self.machine.console(console_index)
+    }
+
+    /// The process with the least number above `pid`; none where there is none. With [`Pid::NONE`] the first one.
+    pub fn next_process(&mut self, pid: Pid) -> Option<Pid>
+        ensures value { result ≡ next_above pid self.old.state.processes }
+        ensures same { (self.new.state ≡ self.old.state) × (self.new.events ≡ self.old.events) }
+    {
+        self.machine.next_after(pid)
+    }
+
+    /// The small fields of a process; none where it isn't there.
+    pub fn snapshot(&mut self, pid: Pid) -> Option<Snapshot>
+        ensures value { result ≡ option_map snapshot_of (process self.old.state pid) }
+        ensures same { (self.new.state ≡ self.old.state) × (self.new.events ≡ self.old.events) }
+    {
+        self.machine.snapshot(pid)
+    }
+
+    /// Shows the registers and the signals of a process that is there, and what else it may change of itself. Nothing
+    /// changes.
+    pub fn look(&mut self, pid: Pid) -> &OwnPart
+        requires { IsSome (process self.old.state pid) }
+        ensures* lends { sem 𝓛 (follows_so (kernel_row K.row K.Kin) (kernel_row K.row K.Kin) self.entry.ghost_name none (λ _ _. ⊤) (λ n. n ≡ looked K.one_more self.old)) }
+        ensures value { IfSome (process self.old.state pid) (λ me. result.now ≡ own_of me) }
+    {
+        self.machine.look(pid)
     }
 
     /// One event, of which fewer than 1,000,000,000,000 were given before: the machine takes the step that

@@ -3,11 +3,11 @@ use Rattle.std.proofs.Common.{◌≡◌, ℕ, Bool, true, false, cond, not, ◌&
 use Rattle.std.specs.List.{list_any}
 use Rattle.std.proofs.lemmas.Bool.{eqb-true, eqb-false, cases_Bool}
 use Rattle.std.proofs.lemmas.List.Folds.{list_any-append}
-use Rattle.posix.specs.Entries.{Line}
+use Rattle.posix.specs.Entries.{Line, process_of}
 use Rattle.posix.specs.declared.entry.Entry.{Entry}
 use Rattle.posix.specs.declared.entry.Entry.TheVariants.{Noted, Called, Moved, Reported, NoMemory, Handled, Discarded, Stopped, Returned, Ended, Halted}
 use Rattle.laws.specs.TraceLines.{is_end_word, is_continued_word}
-use Rattle.laws.specs.Lives.{LastOf, last_where, newest_life, life_after, LifeSoFar, the_end, EndOf, or_later, parent_of, begins, is_just, born_by, last_stop, process_of, or_zero, reports, reports_in, stop_in, end_in, is_change_word}
+use Rattle.laws.specs.Lives.{LastOf, last_where, newest_life, life_after, LifeSoFar, the_end, EndOf, or_later, parent_of, begins, is_just, born_by, last_stop, or_zero, reports, reports_in, stop_in, end_in, is_change_word}
 use Rattle.laws.specs.Keeping.{Alive, Dead, Kept, NeverBorn, Lives, Died, kept_of, kept_of_life, kept_since, alive_since, kept_after, newborn, after_report, after_stop, ended_with, given_on, moved_from}
 
 -- what a line makes of what was kept of c

@@ -6,9 +6,9 @@ use Rattle.std.proofs.lemmas.List.Folds.{list_any-append}
 use Rattle.posix.specs.declared.entry.Entry.{Entry}
 use Rattle.posix.specs.declared.entry.Entry.TheVariants.{Reported, Ended}
 use Rattle.posix.specs.Statuses.{continued}
-use Rattle.posix.specs.Entries.{Line, line}
+use Rattle.posix.specs.Entries.{Line, line, process_of}
 use Rattle.laws.specs.TraceLines.{is_end_word, is_stopped_word, is_continued_word}
-use Rattle.laws.specs.Lives.{LastOf, last_where, or_this, LifeSoFar, life_after, newest_life, EndOf, the_end, or_later, parent_of, parent_in, parent_in_life, end_in, reports_in, reports, begins, born_by, is_just, is_change_word, process_of, none_or, is_halt, is_due, is_due_to, end_report, is_living, Everywhere, Laws, numbers_rise, within_life, begins_apart, report_law, reports_due, halts_last, last_line, was_halt, ends_first, number_from, ends, stops, IsOfEnd}
+use Rattle.laws.specs.Lives.{LastOf, last_where, or_this, LifeSoFar, life_after, newest_life, EndOf, the_end, or_later, parent_of, parent_in, parent_in_life, end_in, reports_in, reports, begins, born_by, is_just, is_change_word, none_or, is_halt, is_due, is_due_to, end_report, is_living, Everywhere, Laws, numbers_rise, within_life, begins_apart, report_law, reports_due, halts_last, last_line, was_halt, ends_first, number_from, ends, stops, IsOfEnd}
 use Rattle.laws.specs.Keeping.{Dead, Kept, NeverBorn, Lives, Died, kept_of, kept_after, lives_now, word_fault, stop_fault, report_fault}
 use Rattle.laws.proofs.KeptLemmas.{last_where_more, line_makes, makes_same, told_is_kept, unborn_stays, begun, kept_more}
 use Rattle.laws.proofs.TestLemmas.{living_kept, report_tested}

@@ -12,14 +12,14 @@ use Rattle.posix.specs.Statuses.{stopped, continued, tells_end}
 use Rattle.posix.specs.Processes.{Process, is_zombie, is_stopped, is_running}
 use Rattle.posix.specs.Tables.{IsRising, lookup, changed, inserted, removed, reparented, adopted}
 use Rattle.posix.specs.States.{State, process, change}
-use Rattle.posix.specs.Entries.{Line, line, reports_end}
+use Rattle.posix.specs.Entries.{Line, line, reports_end, process_of}
 use Rattle.posix.specs.Outcomes.{finished}
 use Rattle.posix.specs.Births.{child_of, born}
 use Rattle.posix.specs.Ends.{ended, made_zombie, halt, leave_children_and_die}
 use Rattle.posix.specs.Notices.{stopped_by}
 use Rattle.posix.specs.Waits.{news_told}
 use Rattle.laws.specs.TraceLines.{is_end_word}
-use Rattle.laws.specs.Lives.{LastOf, LifeSoFar, EndOf, newest_life, the_end, last_stop, parent_of, process_of, born_by}
+use Rattle.laws.specs.Lives.{LastOf, LifeSoFar, EndOf, newest_life, the_end, last_stop, parent_of, born_by}
 use Rattle.laws.specs.Keeping.{Alive, Kept, NeverBorn, Lives, Died, Phase, Going, FirstEnded, Over, kept_of, kept_of_life, kept_since, alive_since, kept_after, newborn, after_report, after_stop, ended_with, given_on, moved_from, lives_now, place_fault, report_fault, word_fault, phase_after}
 use Rattle.laws.specs.Agree.{NewsAgree, AgreeOn, AgreeIn}
 use Rattle.laws.proofs.KeptLemmas.{and_true}

@@ -13,7 +13,7 @@ use Rattle.posix.specs.Tables.{IsRising, lookup, changed, inserted, removed, is_
 use Rattle.posix.specs.States.{State, change, lose_place, is_in}
 use Rattle.posix.specs.Consoles.{Console, console_of}
 use Rattle.posix.specs.Choice.{from_kernel}
-use Rattle.posix.specs.Entries.{Line, line, numbered}
+use Rattle.posix.specs.Entries.{Line, line, numbered, process_of}
 use Rattle.posix.specs.Outcomes.{Outcome, silent}
 use Rattle.posix.specs.Generation.{is_pending}
 use Rattle.posix.specs.Births.{child_of, born}
@@ -24,7 +24,6 @@ use Rattle.posix.specs.Delivery.{stop_process}
 use Rattle.posix.specs.Waits.{news_told}
 use Rattle.laws.specs.TraceLines.{is_end_word}
 use Rattle.laws.specs.Keeping.{Phase, Going, Over, kept_of}
-use Rattle.laws.specs.Lives.{process_of}
 use Rattle.laws.specs.Agree.{AgreeIn, AreTurns, phase_between}
 use Rattle.posix.proofs.MemberLemmas.{is_other}
 use Rattle.posix.proofs.TableLemmas.{lookup_changed, pid_looked, rising_changed, rising_adopted, rising_filter}

@@ -5,24 +5,10 @@ use Rattle.posix.specs.declared.entry.Entry.{Entry}
 use Rattle.posix.specs.declared.entry.Entry.TheVariants.{Noted, Called, Moved, Reported, NoMemory, Handled, Discarded, Stopped, Returned, Ended, Halted}
 use Rattle.posix.specs.declared.call.Call.{Call}
 use Rattle.posix.specs.declared.call.Call.TheVariants.{Fork}
-use Rattle.posix.specs.Entries.{Line, line}
+use Rattle.posix.specs.Entries.{Line, line, process_of}
 use Rattle.laws.specs.TraceLines.{is_end_word, is_stopped_word, is_continued_word}
 
 -- ---- what a line says
-
--- the process of a line; none of `halt`
-abbrev pub process_of : Entry → Option ℕ
-process_of (Noted p z) = Some p
-process_of (Called p call z) = Some p
-process_of (Moved p call bytes) = Some p
-process_of (Reported p c w) = Some p
-process_of (NoMemory p call) = Some p
-process_of (Handled p s value sender) = Some p
-process_of (Discarded p s) = Some p
-process_of (Stopped p s) = Some p
-process_of (Returned p) = Some p
-process_of (Ended p w) = Some p
-process_of Halted = None
 
 abbrev pub is_halt : Entry → Bool
 is_halt Halted = true

@@ -17,7 +17,7 @@ ghost use Rattle.posix.specs.Outcomes.{Outcome, silent, Done, Again, finish, ref
 ghost use Rattle.posix.specs.Terminals.{waits_to_read};
 ghost use Rattle.posix.specs.Attempts.{attempt, attempt_again};
 ghost use Rattle.posix.specs.Step.{IsStep, begin_call, go_on, out_of_call};
-ghost use Rattle.posix.specs.Entries.{Line};
+ghost use Rattle.posix.specs.Entries.{Line, process_of};
 ghost use Rattle.posix.specs.Runs.{RunsFrom, Runs};
 ghost use Rattle.posix.specs.Regular.{IsRegular, IsDistinct};
 ghost use Rattle.laws.specs.Stamps.{Stamps, without_stamp, IsRisingOrder, HasLeastStamp, Stamping, IsStamped, first_stamping, Move, Leads, stamping_after};
@@ -30,7 +30,7 @@ ghost use Rattle.std.specs.Prelude.{count_by};
 ghost use Rattle.std.specs.List.{list_any};
 ghost use Rattle.posix.specs.declared.entry.Entry.TheVariants.{Reported};
 ghost use Rattle.laws.specs.TraceLines.{is_end_word, is_stopped_word, is_continued_word};
-ghost use Rattle.laws.specs.Lives.{Laws, laws, IsOfEnd, born_by, begins, ends, stops, reports, is_change_word, process_of, is_halt, ends_first, last_line, is_living, parent_in};
+ghost use Rattle.laws.specs.Lives.{Laws, laws, IsOfEnd, born_by, begins, ends, stops, reports, is_change_word, is_halt, ends_first, last_line, is_living, parent_in};
 ghost use Rattle.laws.specs.Keeping.{Died, kept_of};
 ghost use Rattle.laws.specs.Kinds.{IsEvent, IsWorld};
 ghost use Rattle.laws.specs.Agree.{Agree, IsOrderly, IsTraceOf, LivesAndNews, is_birth, count_living, count_zombies};

@@ -3,6 +3,7 @@
 
 ghost use Rattle.std.specs.Prelude.{◌≡◌, ◌≢◌, ◌+◌, ◌*◌, ◌<◌, ◌≤◌, ◌==◌, ◌&&◌, ◌||◌, ℕ, IfOk, IfSome, IsSome, MatchOption, Option, Some, None, [], count_by, length, false, true, if◌then◌else◌, option_map, map, replicate, slice_get, slice_set};
 ghost use Rattle.std.specs.List.{AllByRecursion};
+ghost use Rattle.std.specs.Option.{option_copied};
 ghost use Rattle.posix.specs.Processes.{Process};
 ghost use Rattle.posix.specs.SignalNumbers.{is_realtime};
 ghost use Rattle.posix.specs.States.{process, has_place as has_place_in, is_in, without};
@@ -245,6 +246,13 @@ impl<K: Kin> Machine<K> {
             tostop: console.tostop(),
             has_line: console.has_line(),
         })
+    }
+
+    /// The console with this index; none where there is none.
+    pub fn console(&self, console_index: usize) -> Option<&Console>
+        ensures value { option_copied result ≡ slice_get self.now.state.consoles console_index }
+    {
+        self.consoles.get(console_index)
     }
 
     /// Whose controlling terminal the console with this index is, number 0 for nobody's; none where there is no console.

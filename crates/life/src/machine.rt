@@ -14,6 +14,7 @@ ghost use Rattle.life.specs.Loans.{lent, looked};
 ghost use Rattle.life.specs.Machines.{Finds, Runs, IsThere, IfThere};
 ghost use Rattle.life.specs.NotedBursts.{most_notes, exec_with_notes};
 ghost use Rattle.pidset.specs.Numbers.{with_number};
+ghost use Rattle.sched.specs.Places.{next_behind};
 
 use crate::consoles::{Unchecked, no_readers, unused};
 use crate::noted_bursts::{Notes, run_with_notes};
@@ -140,6 +141,13 @@ impl<K: Kin> Machine<K> {
         self.births
     }
 
+    /// How many ticks have passed.
+    pub fn ticks(&self) -> u64
+        ensures { result ≡ self.now.state.ticks }
+    {
+        self.ticks
+    }
+
     /// How many ended children were dropped, since their parent drops its children.
     pub fn dropped(&self) -> u64
         ensures { result ≡ self.now.state.dropped }
@@ -152,6 +160,13 @@ impl<K: Kin> Machine<K> {
         ensures { result ≡ current_of self.now.state }
     {
         self.order.current()
+    }
+
+    /// Who comes after a process in the order; none after the last one, and after one that has no place.
+    pub fn behind(&self, pid: Pid) -> Option<Pid>
+        ensures { result ≡ next_behind pid self.now.state.order }
+    {
+        self.order.behind(pid)
     }
 
     /// Whether a process has a place in the order.

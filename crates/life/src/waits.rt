@@ -253,7 +253,7 @@ impl<K: Kin> Machine<K> {
     }
 
     /// What a wait has to report: of the children of a caller that is there which the target means, the one
-    /// with the least number that has something to report (XSH waitpid). Nothing changes.
+    /// with the least number that has something to report (own; XSH waitpid). Nothing changes.
     #[tactic(auto, using(crate::proofs::ChildLemmas::report_any, crate::proofs::ChildLemmas::report_in, posix::proofs::ReportingLemmas::report_own, posix::proofs::ReportingLemmas::report_none_meant))]
     pub fn wait_attempt(&mut self, me: &Caller, target: Target, options: WaitOptions) -> Report
         requires { IsThere me.now.pid self.old }

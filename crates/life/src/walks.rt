@@ -16,7 +16,7 @@ use proctable::Kin;
 
 impl<K: Kin> Machine<K> {
     /// The process with the least number above `pid`.
-    pub(crate) fn next_after(&mut self, pid: Pid) -> Option<Pid>
+    pub fn next_after(&mut self, pid: Pid) -> Option<Pid>
         ensures { Finds 1 self.old self.new (result ≡ next_above pid self.old.state.processes) }
     {
         self.table.next_after(pid)
@@ -56,6 +56,7 @@ impl<K: Kin> Machine<K> {
     {
         self.to_recheck.first()
     }
+
     /// Who is to be rechecked after the first one.
     pub fn second_to_recheck(&self, first: Pid) -> Option<Pid>
         requires { slice_get self.now.to_recheck 0 ≡ Some first }

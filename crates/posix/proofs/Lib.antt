@@ -14,6 +14,7 @@ pub mod OrderLemmas
 pub mod SeeLemmas
 pub mod SettleLemmas
 pub mod NoticeLemmas
+pub mod PrintingLemmas
 pub mod RealtimeLemmas
 pub mod ActLemmas
 pub mod PassingLemmas

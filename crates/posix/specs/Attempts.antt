@@ -59,8 +59,8 @@ attempt granted s me Settostop = settostop s me
 attempt granted s me Read = read s me
 attempt granted s me Write = write s me
 
--- The call that a process is blocked in, attempted afresh. In Linux a child that changes its group wakes no waiting
--- parent, and a reader isn't judged again that has come into the background or lost its terminal.
+-- The call that a process is blocked in, attempted afresh (own); in Linux a child that changes its group wakes no
+-- waiting parent, and a read is judged only as it begins.
 unfoldable pub attempt_again : State → Process → Blocked → Attempted
 attempt_again s me blocked.Waitpid = wait s me
 attempt_again s me blocked.Read = read s me

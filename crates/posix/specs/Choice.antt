@@ -21,7 +21,8 @@ all_signals = range_with_len 1 31 ++ range_with_len 34 31
 unfoldable pub least_ready : Signals → Option ℕ
 least_ready g = find (is_ready g) all_signals
 
--- KILL first, and then the least number (own). A process that is stopped takes KILL alone.
+-- KILL first, and then the least number (own); in Linux SEGV, BUS, ILL, TRAP, FPE and SYS before others. A process
+-- that is stopped takes KILL alone.
 unfoldable pub chosen : Life → Signals → Option ℕ
 chosen life g =
     if is_pending g KILL then Some KILL

@@ -11,7 +11,7 @@ pub record Console : Type 0 where
   pub edited : List ℕ
   pub tostop : Bool  -- TOSTOP, XBD 11.2.5
 
--- at most so many bytes are edited; a further one is dropped (own)
+-- at most so many bytes are edited; a further one is dropped (own); in Linux beyond 4,095
 abbrev pub most_edited : ℕ
 most_edited = 255
 

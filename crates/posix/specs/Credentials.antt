@@ -46,7 +46,7 @@ all_ids_set privileged ids (Some n) =
     else if is_own ids n then Ok (record ids { effective = n })
     else Err EPERM
 
--- the effective one alone
+-- the effective one alone; in Linux the present effective one is accepted, too
 abbrev pub effective_id_set : Bool → Ids ℕ → Option ℕ → Result (Ids ℕ) Errno
 effective_id_set privileged ids None = Err EINVAL
 effective_id_set privileged ids (Some n) = if privileged || is_own ids n then Ok (record ids { effective = n }) else Err EPERM

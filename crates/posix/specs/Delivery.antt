@@ -53,7 +53,7 @@ abbrev pub discard : State → ℕ → ℕ → Outcome
 discard s p n = record { state = s; entries = Discarded p n ∷ [] }
 
 -- The process is stopped and loses its place, and its parent gets notice. A call that it is blocked in
--- stays (own).
+-- stays (own); in Linux the mask before sigsuspend is back for an instant.
 unfoldable pub stop_process : State → Process → ℕ → Outcome
 stop_process s r n = record {
   state = record (lose_place s r.pid) { processes = told_of_change (stopped n) r (changed r.pid (stopped_by n) s.processes) };

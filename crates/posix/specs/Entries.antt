@@ -1,5 +1,5 @@
 -- What one event shows in the trace, and lines of a trace.
-use Rattle.std.specs.Prelude.{ℕ, Bool, false, List, map, count_by}
+use Rattle.std.specs.Prelude.{ℕ, Bool, false, List, map, count_by, Option, Some, None}
 use Rattle.posix.specs.Statuses.{tells_end}
 use Rattle.posix.specs.declared.entry.Entry.{Entry}
 use Rattle.posix.specs.declared.entry.Entry.TheVariants.{Noted, Called, Moved, Reported, NoMemory, Handled, Discarded, Stopped, Returned, Ended, Halted}
@@ -15,6 +15,20 @@ line k e = record { event = k; entry = e }
 -- the entries of event k
 abbrev pub numbered : ℕ → List Entry → List Line
 numbered k entries = map (line k) entries
+
+-- the process of a line; none of `halt`
+abbrev pub process_of : Entry → Option ℕ
+process_of (Noted p z) = Some p
+process_of (Called p call z) = Some p
+process_of (Moved p call bytes) = Some p
+process_of (Reported p c w) = Some p
+process_of (NoMemory p call) = Some p
+process_of (Handled p s value sender) = Some p
+process_of (Discarded p s) = Some p
+process_of (Stopped p s) = Some p
+process_of (Returned p) = Some p
+process_of (Ended p w) = Some p
+process_of Halted = None
 
 -- a wait reports that a process ended
 abbrev pub reports_end : Entry → Bool

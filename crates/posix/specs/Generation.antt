@@ -90,8 +90,8 @@ make_pending signal g =
     else if is_pending g signal.sig then g
     else with_pending signal.sig (Some signal.carried) g
 
--- Nothing is generated for a zombie, nor for process 1 where it has no handler for the signal, kill(2);
--- Linux keeps one that process 1 blocks.
+-- Nothing is generated for a zombie, nor for process 1 where it has no handler for the signal, kill(2), also
+-- where that is blocked (own); in Linux it is kept then.
 abbrev pub gets_no_signals : ℕ → Life → Signals → ℕ → Bool
 gets_no_signals p life g s = is_zombie life || (p == 1 && not (is_caught (action g s).handler))
 
@@ -104,7 +104,7 @@ unfoldable pub without_stops : Signals → Signals
 without_stops g = with_pending STOP None (with_pending TSTP None (with_pending TTIN None (with_pending TTOU None g)))
 
 -- CONT discards the stop signals that are pending, and a stop signal a CONT that is, whether or not they are
--- blocked or ignored, XSH 2.4.1; in Linux those of process 1, too, where it has no handler.
+-- blocked or ignored, XSH 2.4.1.
 abbrev pub after_discards : ℕ → Signals → Signals
 after_discards s g =
     if s == CONT then without_stops g
@@ -112,7 +112,7 @@ after_discards s g =
     else g
 
 -- The signals of process p after one is generated for it: discards come first, also where the signal
--- itself isn't kept.
+-- itself isn't kept. Where nothing is generated nothing is discarded (own); in Linux process 1 discards all the same.
 unfoldable pub generated : ℕ → Life → PendingSignal → Signals → Signals
 generated p life signal g =
     if gets_no_signals p life g signal.sig then g

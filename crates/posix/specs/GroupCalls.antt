@@ -60,7 +60,7 @@ abbrev pub move_of : Process → Option Process → ℕ → List Process → Res
 move_of me None group rs = Err ESRCH
 move_of me (Some r) group rs = can_move me r (group_meant r group) rs
 
--- a negative group is judged first; Linux puts the process's number for 0 before that
+-- a negative group is judged first (own); in Linux the process's number is put for 0 before that
 abbrev pub move_to : Process → Option Process → ℤ → List Process → Result ℕ Errno
 move_to me target (pos group) rs = move_of me target group rs
 move_to me target (negsuc n) rs = Err EINVAL

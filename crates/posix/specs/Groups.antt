@@ -38,7 +38,8 @@ some_stopped rs = list_any (λ r. is_stopped r.life) rs
 unfoldable pub has_stopped : ℕ → List Process → Bool
 has_stopped group rs = some_stopped (members_in group rs)
 
--- it was not orphaned, is now, and has a stopped member now, XSH _exit; Linux signals the group of a child also where it was orphaned before
+-- it was not orphaned, is now, and has a stopped member now, XSH _exit; in Linux a child's group
+-- also where it was orphaned before
 unfoldable pub is_newly_orphaned : List Process → List Process → ℕ → Bool
 is_newly_orphaned before now group = not (is_orphaned group before) && (is_orphaned group now && has_stopped group now)
 

@@ -16,6 +16,7 @@ abbrev pub or_else : Option ℕ → Option ℕ → Option ℕ
 or_else (Some n) other = Some n
 or_else None other = other
 
--- the least free number above the last one given up to pidmax, else the least from 2 on up to pidmax
+-- the least free number above the last one given up to pidmax, else the least from 2 on up to pidmax (own);
+-- in Linux from 300 on
 unfoldable pub next_free : (ℕ → Bool) → ℕ → ℕ → Option ℕ
 next_free free last pidmax = or_else (first_free free (last + 1) (pidmax - last)) (first_free free 2 (pidmax - 1))

@@ -48,8 +48,8 @@ abbrev pub acted_upon : Effect → Process → List Process → List Process
 acted_upon effect.Nothing r rs = rs
 acted_upon effect.Continued r rs = told_of_change continued r (changed r.pid resumed rs)
 
--- A signal is generated for one process. As nobody is its own parent it doesn't matter that the parent of one
--- that is continued gets notice last; Linux gives it as that process next runs.
+-- A signal is generated for one process. The parent of one that is continued gets notice at once (own); in Linux that
+-- process gives it as it next runs. As nobody is its own parent it doesn't matter that notice comes last.
 abbrev pub generated_for : PendingSignal → Option Process → List Process → List Process
 generated_for signal None rs = rs
 generated_for signal (Some r) rs = acted_upon (effect_of r.pid r.life signal r.signals) r (changed r.pid (signalled signal) rs)

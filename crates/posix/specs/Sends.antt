@@ -35,7 +35,7 @@ targets me target rs = filter (is_target me target) rs
 unfoldable pub permitted : Process → Option ℕ → List Process → List Process
 permitted me s rs = filter (may me s) rs
 
--- where there are such; Linux gives 0 for -1 where none may be signalled
+-- where there are such; in Linux -1 gives 0 where none may be signalled
 abbrev pub sending_permitted : List Process → Sending
 sending_permitted [] = found.NobodyPermitted
 sending_permitted (r ∷ rs) = found.Permitted
@@ -67,7 +67,7 @@ queuers None rs = []
 queuers (Some n) rs = filter (is_queuer n) rs
 
 -- Where one of them is full the signal is queued for nobody; nor is it without the memory that their queues may need
--- (own). In Linux a kill is then pending once, without its value and sender, and a sigqueue is refused.
+-- (own); in Linux a kill is then pending once, without its value and sender, and a sigqueue is refused.
 abbrev pub queued_for : Bool → List Process → Sending → Sending
 queued_for granted [] other = other
 queued_for granted (q ∷ qs) other =
@@ -127,7 +127,7 @@ signal_or_none (pos zero) = Ok None
 signal_or_none (pos (suc n)) = if is_signal (suc n) then Ok (Some (suc n)) else Err EINVAL
 signal_or_none (negsuc n) = Err EINVAL
 
--- the signal is judged first; Linux looks for the processes first
+-- the signal is judged first (own); in Linux the processes are looked for first
 abbrev pub send : Bool → State → Process → Call → Target → ℤ → Result (Option ℕ) Errno → Attempted
 send granted s me call target value (Ok n) = send_with s me call target (message me.pid value n) (sending_granted granted me target n s.processes)
 send granted s me call target value (Err why) = refused s me.pid call why

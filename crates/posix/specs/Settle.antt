@@ -23,7 +23,8 @@ abbrev pub can_go_on : State → Process → Option Blocked → Bool
 can_go_on s r None = true
 can_go_on s r (Some b) = not (is_block (attempt_again s r b))
 
--- KILL is pending for it, or it runs and goes on or takes a signal; in Linux a stopped process is dying from KILL on
+-- It runs and goes on or takes a signal, or KILL is pending for it. Until its turn one that is stopped stays so (own);
+-- in Linux a stopped process is dying from KILL on.
 unfoldable pub can_act : State → Process → Bool
 can_act s r =
     is_living r && is_pending r.signals KILL
@@ -33,8 +34,8 @@ abbrev pub wakes : State → Process → Bool
 wakes s r = not (has_place s r.pid) && can_act s r
 
 -- The places are given at the end of the order, in the rising order of the numbers. All processes are
--- asked. A process that had a place and can't act any more keeps the place until its turn (own): so of several readers
--- the first that has its turn takes the line, and in Linux the one that began first.
+-- asked. A process that had a place and can't act any more keeps the place until its turn (own). So of several readers
+-- the first that has its turn takes the line (own); in Linux the one that began first has it.
 unfoldable pub give_places : State → State
 give_places s = record s { order = s.order ++ pids (filter (wakes s) s.processes) }
 
@@ -42,8 +43,8 @@ give_places s = record s { order = s.order ++ pids (filter (wakes s) s.processes
 abbrev pub is_fresh : List Process → Console → Bool
 is_fresh rs c = c.foreground == 0 || is_group_of c.session c.foreground rs
 
--- A console whose foreground process group has no member left in its session has none from then on; in Linux it has it
--- again where the process with that number makes its group again.
+-- A console whose foreground process group has no member left in its session has none from then on; in Linux the group
+-- is it again where its leader makes it again.
 abbrev pub refreshed : List Process → Console → Console
 refreshed rs c = if is_fresh rs c then c else with_foreground 0 c
 

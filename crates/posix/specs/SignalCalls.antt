@@ -52,7 +52,7 @@ is_question (negsuc n) = n == 0
 abbrev pub all_flags : ℕ
 all_flags = 1 + 2 + 4 + 268435456 + 1073741824 + 2147483648
 
--- other flags are EINVAL (own): Linux leaves them out
+-- other flags are EINVAL (own); in Linux they are accepted
 abbrev pub are_flags : ℕ → Bool
 are_flags n = bit_and n all_flags == n
 

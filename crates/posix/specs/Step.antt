@@ -64,8 +64,8 @@ deliver_or s r None other = other
 unfoldable pub out_of_call : Process → Process
 out_of_call r = record r { blocked = None }
 
--- A call that can be completed goes before any signal but KILL; in Linux a wait goes before KILL, too. Where the
--- process still has to wait, a signal is delivered; without one it loses its place.
+-- A call that can be completed goes before any signal but KILL (own); in Linux a wait goes before KILL, too.
+-- Where the process still has to wait, a signal is delivered; without one it loses its place.
 abbrev pub go_on : State → Process → Attempted → Outcome
 go_on s r (Done outcome) = outcome
 go_on s r (Again t) = silent (change t r.pid out_of_call)
@@ -86,7 +86,7 @@ act_in granted s r None =
     let done = exec_one (code_of s r) r.cpu in
     deliver_or s r (chosen r.life r.signals) (after_trap granted s r done.cpu done.trap)
 
--- KILL goes before all
+-- KILL goes before all (own)
 unfoldable pub act : Bool → State → Process → Outcome
 act granted s r = if is_pending r.signals KILL then end_process s r (killed KILL) else act_in granted s r r.blocked
 

@@ -42,8 +42,8 @@ blocks_or_ignores me n = has me.signals.mask n || is_ignored (action me.signals 
 abbrev pub signal_own_group : State → Process → ℕ → Attempted
 signal_own_group s me n = Again (record s { processes = signalled_group n me.group s.processes })
 
--- what a call comes to that changes a terminal or writes to it, XBD 11.1.4; this is it where it is allowed. For
--- tcsetpgrp Linux gives ENOTTY in place of EIO.
+-- what a call comes to that changes a terminal or writes to it, XBD 11.1.4; this is it where it is allowed;
+-- in Linux tcsetpgrp gives ENOTTY in place of EIO.
 abbrev pub if_allowed : State → Process → Call → Console → Attempted → Attempted
 if_allowed s me call c allowed =
     if not (is_in_background me c) || blocks_or_ignores me TTOU then allowed
@@ -58,7 +58,8 @@ console_named (pos zero) = None
 console_named (pos (suc k)) = Some k
 console_named (negsuc n) = None
 
--- The leader of a session that has none may acquire a terminal that is nobody's; in Linux its own one again, too.
+-- The leader of a session that has none may acquire a terminal that is nobody's (own); in Linux its own one
+-- again, too.
 abbrev pub may_acquire : State → Process → Console → Bool
 may_acquire s me c = me.session == me.pid && (not (is_some (terminal s me)) && c.session == 0)
 
@@ -91,8 +92,8 @@ tcgetpgrp s me = tcgetpgrp_on s me (terminal s me)
 
 -- ---- tcsetpgrp
 
--- A group in which a process of the caller's session is, XSH tcsetpgrp. Linux gives ESRCH where nobody bears the
--- number, and takes that of a process which leads no group.
+-- A group in which a process of the caller's session is, XSH tcsetpgrp; in Linux it is ESRCH where nobody bears
+-- the number, and that of a member which leads no group is taken.
 abbrev pub put_foreground : State → Process → ℤ → Attempted
 put_foreground s me (negsuc n) = refused s me.pid Tcsetpgrp EINVAL
 put_foreground s me (pos g) =

@@ -43,8 +43,9 @@ has_option options option = bit_and options option == option
 
 -- ---- what there is to report
 
--- Whether a caller in this process group names a child. The caller's own group is the one that it has at the attempt,
--- not at the call (own). The least number names nobody, which is ECHILD (own): Linux answers ESRCH.
+-- Whether a caller in this process group names a child. The caller's own group is the one that it has at the attempt
+-- (own); in Linux the one that it had at the call. The least number names nobody, which is ECHILD (own); in Linux it
+-- is ESRCH.
 abbrev pub is_named : ℕ → Target → Process → Bool
 is_named group (whom.Process p) r = r.pid == p
 is_named group whom.OwnGroup r = r.group == group
@@ -79,7 +80,7 @@ abbrev pub report_found : ℕ → Option Process → Report
 report_found options None = found.Nothing
 report_found options (Some r) = report_of options r
 
--- of the named children the least that has something to report (own)
+-- of the named children the least that has something to report (own); in Linux the first born, adopted ones last
 abbrev pub report_among : ℕ → List Process → Report
 report_among options [] = found.NoChild
 report_among options (r ∷ rs) = report_found options (find (reports options) (r ∷ rs))

@@ -1,5 +1,8 @@
 //! Entries of a trace.
 
+ghost use Rattle.std.specs.Prelude.{◌≡◌};
+ghost use Rattle.posix.specs.Entries.{process_of};
+
 use crate::bytes::Bytes;
 use crate::call::Call;
 use crate::pid::Pid;
@@ -67,4 +70,25 @@ pub enum Entry {
     /// The machine halted, since process 1 ended.
     #[default]
     Halted,
+}
+
+impl Entry {
+    /// The process that it is of; none of a halt.
+    pub fn process(&self) -> Option<Pid>
+        ensures { result ≡ process_of self.now }
+    {
+        match *self {
+            Entry::Noted { pid, .. }
+            | Entry::Called { pid, .. }
+            | Entry::Moved { pid, .. }
+            | Entry::Reported { pid, .. }
+            | Entry::NoMemory { pid, .. }
+            | Entry::Handled { pid, .. }
+            | Entry::Discarded { pid, .. }
+            | Entry::Stopped { pid, .. }
+            | Entry::Returned { pid }
+            | Entry::Ended { pid, .. } => Some(pid),
+            Entry::Halted => None,
+        }
+    }
 }

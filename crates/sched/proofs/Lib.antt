@@ -2,3 +2,4 @@ pub mod MemberLemmas
 pub mod LinkLemmas
 pub mod RingLemmas
 pub mod ListLemmas
+pub mod BehindLemmas

@@ -16,7 +16,7 @@ use Rattle.sched.proofs.LinkLemmas.{joined_next, joined_prev, other_next, other_
 -- ---- what a ring says of its nodes
 
 -- the room is no number of the ring
-room_out : {ns : List Node} {room : ℕ} {ps : List ℕ} → IsRing ns room ps → is_in room ps ≡ false
+pub room_out : {ns : List Node} {room : ℕ} {ps : List ℕ} → IsRing ns room ps → is_in room ps ≡ false
 room_out {room = room} {ps = ps} r = elim (is_in room ps) as (λ b. is_in room ps ≡ b → b ≡ false) [ true ↦ λ t. let l = r.below room t in absurd (omega (arith, l)) | false ↦ λ t. refl ] refl
 
 -- who is the room or in the ring is at most the room

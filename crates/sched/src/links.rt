@@ -4,6 +4,7 @@ ghost use Rattle.std.specs.Prelude.{◌≡◌, ℕ, ◌+◌, ◌<◌, ◌==◌, 
 ghost use Rattle.posix.specs.States.{is_in, without};
 ghost use Rattle.posix.specs.Regular.{IsDistinct};
 ghost use Rattle.sched.specs.Links.{IsJoined, IsJoinedLast, prev_of, next_of};
+ghost use Rattle.sched.specs.Places.{next_behind};
 
 use std::alloc::{AllocError, Global};
 use std::marker::Model;
@@ -86,6 +87,17 @@ impl Links {
         ensures { result ≡ is_in number self.now.numbers }
     {
         number < u32::from(self.room) && self.nodes[number as usize].next != Node::NOWHERE.next
+    }
+
+    /// The number after another one; none after the last, and where the other one isn't in the list.
+    pub fn behind(&self, number: u32) -> Option<u16>
+        ensures { result ≡ next_behind number self.now.numbers }
+    {
+        if !self.has(number) {
+            return None;
+        }
+        let next = self.nodes[number as usize].next;
+        if next == self.room { None } else { Some(next) }
     }
 
     /// Adds a number at the end.

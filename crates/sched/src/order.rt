@@ -3,6 +3,7 @@
 ghost use Rattle.std.specs.Prelude.{◌≡◌, ◌+◌, ◌<◌, ◌≤◌, ◌==◌, true, false, [], ◌∷◌, ◌++◌, length, slice_get, IfOk};
 ghost use Rattle.posix.specs.States.{is_in, without};
 ghost use Rattle.posix.specs.Regular.{IsDistinct};
+ghost use Rattle.sched.specs.Places.{next_behind};
 
 use crate::links::Links;
 use posix::Pid;
@@ -55,6 +56,16 @@ impl Order {
         ensures { result ≡ slice_get self.now.pids 0 }
     {
         match self.links.first() {
+            Some(number) => Pid::new(u32::from(number)),
+            None => None,
+        }
+    }
+
+    /// Who comes after a process; none after the last one, and after one that has no place.
+    pub fn behind(&self, pid: Pid) -> Option<Pid>
+        ensures { result ≡ next_behind pid self.now.pids }
+    {
+        match self.links.behind(pid.number()) {
             Some(number) => Pid::new(u32::from(number)),
             None => None,
         }

@@ -45,8 +45,11 @@ fn expect_all(rt: &impl Abort, order: &mut Order, numbers: &[u32]) -> Result<(),
         let pid = Pid::new(*number).ok_or("no number")?;
         assert!(rt; order.has(pid));
         assert_eq!(rt; order.current(), Some(pid));
+        let next = order.behind(pid);
         order.drop_place(pid);
         assert!(rt; !order.has(pid));
+        assert_eq!(rt; order.current(), next);
+        assert_eq!(rt; order.behind(pid), None);
     }
     assert!(rt; order.is_empty());
     assert_eq!(rt; order.current(), None);

@@ -1,6 +1,6 @@
 //! Room for the real-time signals that are queued for processes.
 
-ghost use Rattle.std.specs.Prelude.{ℕ, ◌≡◌, ◌+◌, ◌-◌, ◌<◌, ◌≤◌, ◌++◌, ◌∷◌, [], not, nat_le, IsSome, Some, None, IfOk, OnOk, OnErr, filter, length};
+ghost use Rattle.std.specs.Prelude.{ℕ, ◌≡◌, ◌+◌, ◌-◌, ◌<◌, ◌≤◌, ◌++◌, ◌∷◌, [], not, nat_le, IsSome, Some, None, IfOk, OnOk, OnErr, filter, length, slice_get};
 ghost use Rattle.std.specs.List.{list_any, position};
 ghost use Rattle.posix.specs.Choice.{first_carried, without_first};
 ghost use Rattle.posix.specs.Generation.{has_sig};
@@ -57,6 +57,13 @@ impl RtPool {
         ensures { result ≡ list_any (has_sig sig) self.now }
     {
         self.signals.iter().any(|signal| signal.sig == sig)
+    }
+
+    /// The signal that stands at a place, the first at 0.
+    pub fn get(&self, place: usize) -> Option<PendingSignal>
+        ensures { result ≡ slice_get self.now place }
+    {
+        self.signals.get(place).copied()
     }
 
     /// A signal is queued behind the others.

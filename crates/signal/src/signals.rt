@@ -1,6 +1,6 @@
 //! The signals of one process.
 
-ghost use Rattle.std.specs.Prelude.{◌≡◌, ◌⊎◌, ◌<◌, ◌≤◌, ◌&&◌, [], true, false, not, nat_le, length, None, Some, Ok, Err, OnOk, OnErr, IfOk, IfErr, IfSome, IsSome};
+ghost use Rattle.std.specs.Prelude.{◌≡◌, ◌⊎◌, ◌<◌, ◌≤◌, ◌&&◌, [], true, false, not, nat_le, length, slice_get, None, Some, Ok, Err, OnOk, OnErr, IfOk, IfErr, IfSome, IsSome};
 ghost use Rattle.posix.specs.SignalNumbers.{is_realtime};
 ghost use Rattle.posix.specs.Processes.{initial_signals, nothing_pending};
 ghost use Rattle.posix.specs.Ends.{forgotten, drops_children as drops_children_of};
@@ -100,6 +100,20 @@ impl Signals {
         ensures { result ≡ pending_set self.now }
     {
         self.pending
+    }
+
+    /// The real-time signal that stands at a place of the queue, the first at 0 (XSH 2.4.2).
+    pub fn queued(&self, place: usize) -> Option<PendingSignal>
+        ensures { result ≡ slice_get self.now.queue place }
+    {
+        self.tables.queued(place)
+    }
+
+    /// How many handlers have been entered and haven't returned.
+    pub fn handlers(&self) -> usize
+        ensures { result ≡ length self.now.frames }
+    {
+        self.tables.frames()
     }
 
     /// The action for a signal.
@@ -321,7 +335,7 @@ impl Signals {
     }
 
     /// The signal that is delivered next: KILL before all, and then the least one that is pending and
-    /// isn't blocked; of a process that doesn't run KILL alone.
+    /// isn't blocked (own); of a process that doesn't run KILL alone.
     #[tactic(auto, unfolding(posix::specs::Choice::chosen))]
     pub fn choose(&self, life: Life) -> Option<Sig>
         ensures { result ≡ chosen life self.now }

@@ -153,6 +153,13 @@ impl LazyTables {
 
     // ---- the queue
 
+    /// The real-time signal that stands at a place of the queue, the first at 0.
+    pub fn queued(&self, place: usize) -> Option<PendingSignal>
+        ensures { result ≡ slice_get self.now.queue place }
+    {
+        self.queue.as_ref()?.get(place)
+    }
+
     /// Whether a real-time signal is queued.
     pub fn is_queued(&self, sig: Sig) -> bool
         ensures { result ≡ list_any (has_sig sig) self.now.queue }
@@ -214,6 +221,13 @@ impl LazyTables {
     }
 
     // ---- frames
+
+    /// How many frames there are: at most 16.
+    pub fn frames(&self) -> usize
+        ensures { result ≡ length self.now.frames }
+    {
+        self.frames.len()
+    }
 
     /// Adds a frame. At an error there are 16 already, and nothing changes.
     pub fn push_frame(&mut self, frame: Frame) -> Result<(), FramesFull>

@@ -8,6 +8,7 @@ use Rattle.std.proofs.lemmas.Bool.Decides.{nat_tests}
 use Rattle.std.proofs.lemmas.List.{append_cancel_right}
 use Rattle.posix.specs.SignalNumbers.{is_signal, is_stop_signal}
 use Rattle.posix.specs.Printing.{hex, words_of, printed}
+use Rattle.posix.proofs.PrintingLemmas.{number_and_words}
 use Rattle.posix.specs.Calls.{call_text}
 use Rattle.posix.specs.Entries.{Line, line}
 use Rattle.posix.specs.declared.call.Call.{Call}
@@ -138,22 +139,9 @@ entry_back Halted h = (halt_back, omega arith)
 
 -- ---- a line
 
-joined : (number : List ℕ) (e : Entry) → join_with_byte 32 (number ∷ words_of e) ≡ number ++ 32 ∷ join_with_byte 32 (words_of e)
-joined number (Noted p z) = refl
-joined number (Called p call z) = refl
-joined number (Moved p call bytes) = refl
-joined number (Reported p c w) = refl
-joined number (NoMemory p call) = refl
-joined number (Handled p s z q) = refl
-joined number (Discarded p s) = refl
-joined number (Stopped p s) = refl
-joined number (Returned p) = refl
-joined number (Ended p w) = refl
-joined number Halted = refl
-
 -- the text of a line, without its line feed
 line_text : (text : List ℕ) (l : Line) → Says text l → text ≡ decimal l.event ++ 32 ∷ join_with_byte 32 (words_of l.entry)
-line_text text l says = append_cancel_right text (join_with_byte 32 (decimal l.event ∷ words_of l.entry)) (10 ∷ []) says.0 ∙ joined (decimal l.event) l.entry
+line_text text l says = append_cancel_right text (join_with_byte 32 (decimal l.event ∷ words_of l.entry)) (10 ∷ []) says.0 ∙ number_and_words (decimal l.event) l.entry
 
 event_size : (l : Line) → is_line l ≡ true → l.event < 2 ^ 64
 event_size l h =

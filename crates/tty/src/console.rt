@@ -164,6 +164,20 @@ impl Console {
 
     // ---- what is typed
 
+    /// The bytes of the line that is edited.
+    pub fn edited(&self) -> &[u8]
+        ensures { result.now ≡ self.now.edited }
+    {
+        &self.edited
+    }
+
+    /// How many lines are finished, and wait to be read.
+    pub fn finished_lines(&self) -> usize
+        ensures { result ≡ length self.now.lines }
+    {
+        self.lines.len()
+    }
+
     /// A key is pressed (XBD 11.1.6, 11.1.9). A signal key discards all input, edited and finished. ERASE and KILL
     /// edit the line; NL finishes it, and so does EOF, which isn't put into it. A line that has no room, as the 65th
     /// or beyond 1,024 bytes, is dropped whole (own). Any other byte is edited, and dropped where 255 are (own).

@@ -54,6 +54,13 @@ impl LineQueue {
         self.lengths.is_empty()
     }
 
+    /// How many lines there are.
+    pub fn len(&self) -> usize
+        ensures { result ≡ length self.now }
+    {
+        self.lengths.len()
+    }
+
     /// Drops all lines.
     pub fn clear(&mut self)
         ensures { self.new ≡ [] }

@@ -1,5 +1,5 @@
 use Rattle.std.proofs.Common.{◌≡◌, refl, rules, Err}
-use Rattle.jobk.specs.declared.serving.WordsFault.TheVariants as word
+use Rattle.host.specs.declared.words.WordsFault.TheVariants as word
 use Rattle.jobk.proofs.ServingLemmas.{means_served}
 use Rattle.jobk.proofs.serving.serve.Goals as goal
 use Rattle.jobk.proofs.serving.serve.Goals.{in-Ok, in-Err-NotText, in-Err-Memory}

@@ -1,0 +1,4 @@
+mod LineLemmas
+mod NumberLemmas
+mod SayLemmas
+mod AddLemmas

@@ -1,0 +1,130 @@
+//! What the programs beside `jobk` are given: a world and its events, by the names of their files, and numbers.
+#![tactic(auto)]
+
+ghost use Rattle.std.specs.Prelude.{◌≡◌, ◌≤◌, ◌⊎◌, Ok, IfOk, IfSome, length};
+ghost use Rattle.text.specs.WorldTexts.{world_text as world_of_text};
+ghost use Rattle.text.specs.EventTexts.{event_text, most_events};
+
+use host::{FileFault, ReadFiles};
+use std::alloc::Global;
+use text::{EventList, Reason, TextFault, World, read_events, read_world};
+use thiserror::Error;
+
+/// A world and its events.
+#[derive(Drop)]
+pub struct Inputs {
+    /// The text of the world.
+    pub world_text: Vec<u8>,
+    pub world: World,
+    pub events: EventList,
+}
+
+/// Why a world and its events aren't read.
+#[derive(Clone, Copy, Debug, PartialEq, Eq, Error)]
+pub enum InputFault<'a> {
+    /// There is no file with this name, or the device failed.
+    #[error("cannot read {0}")]
+    CannotRead(&'a str),
+    /// The world is refused.
+    #[error("world: {0}")]
+    World(TextFault),
+    /// The events are refused.
+    #[error("events: {0}")]
+    Events(TextFault),
+    /// There was no memory.
+    #[error("out of memory")]
+    Memory,
+}
+
+impl<'a> InputFault<'a> {
+    /// Why a file of this name isn't read.
+    fn of_file(fault: FileFault, name: &'a str) -> Self {
+        match fault {
+            FileFault::Device => InputFault::CannotRead(name),
+            FileFault::Memory => InputFault::Memory,
+        }
+    }
+
+    /// Why a world isn't read. Want of memory is no fault of its text.
+    fn of_world(fault: TextFault) -> Self {
+        match fault.reason {
+            Reason::Memory => InputFault::Memory,
+            _ => InputFault::World(fault),
+        }
+    }
+
+    /// Why events aren't read.
+    fn of_events(fault: TextFault) -> Self {
+        match fault.reason {
+            Reason::Memory => InputFault::Memory,
+            _ => InputFault::Events(fault),
+        }
+    }
+
+    /// The status of a program: 1 for a refused text, 3 for a device or memory.
+    pub fn status(self) -> u8
+        ensures { (result ≡ 1) ⊎ (result ≡ 3) }
+    {
+        match self {
+            InputFault::World(_) | InputFault::Events(_) => 1,
+            InputFault::CannotRead(_) | InputFault::Memory => 3,
+        }
+    }
+}
+
+/// The world of a text.
+fn world_of<'a>(alloc: Global, text: &[u8]) -> Result<World, InputFault<'a>>
+    ensures { IfOk result (λ world. world_of_text text.now ≡ Ok world) }
+{
+    match read_world(alloc, text) {
+        Ok(world) => Ok(world),
+        Err(fault) => Err(InputFault::of_world(fault)),
+    }
+}
+
+/// The events of a text for a world.
+fn events_of<'a>(alloc: Global, world: &World, text: &[u8]) -> Result<EventList, InputFault<'a>>
+    ensures events { IfOk result (λ events. event_text world.now.consoles text.now ≡ Ok events) }
+    ensures within { IfOk result (λ events. length events ≤ most_events) }
+{
+    match read_events(alloc, world.consoles(), text) {
+        Ok(events) => Ok(events),
+        Err(fault) => Err(InputFault::of_events(fault)),
+    }
+}
+
+/// Reads a world and its events from files with these names. Both files are read before either text is judged, the
+/// world first. An error where a file isn't read, a text is refused, or there is no memory.
+pub fn read_inputs<'a, F: ReadFiles>(
+    alloc: Global,
+    files: &F,
+    world: &'a str,
+    events: &'a str,
+) -> Result<Inputs, InputFault<'a>>
+    ensures text { IfOk result (λ inputs. world_of_text inputs.world_text.items ≡ Ok inputs.world) }
+    ensures world { IfOk result (λ inputs. IfSome (F.contents files.now world.entry.now) (λ bytes. world_of_text bytes ≡ Ok inputs.world)) }
+    ensures events { IfOk result (λ inputs. IfSome (F.contents files.now events.entry.now) (λ bytes. event_text inputs.world.consoles bytes ≡ Ok inputs.events)) }
+    ensures within { IfOk result (λ inputs. length inputs.events ≤ most_events) }
+{
+    let world_text = files
+        .read_file(world)
+        .map_err(|fault| InputFault::of_file(fault, world))?;
+    let event_text = files
+        .read_file(events)
+        .map_err(|fault| InputFault::of_file(fault, events))?;
+    let world = world_of(alloc, world_text.as_slice())?;
+    let events = events_of(alloc, &world, event_text.as_slice())?;
+    Ok(Inputs {
+        world_text,
+        world,
+        events,
+    })
+}
+
+/// The number that a word of digits stands for; none where the word has another form, or the number 2^64 or more.
+pub fn number(word: &str) -> Option<u64> {
+    if word.as_bytes().first() == Some(&b'+') {
+        return None;
+    }
+    word.parse::<u64>().ok()
+}

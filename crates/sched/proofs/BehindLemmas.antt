@@ -1,0 +1,52 @@
+-- Who comes after a number in a list that is linked.
+use Rattle.std.proofs.Common.{◌≡◌, ◌≢◌, ℕ, true, false, cond, refl, ap, sym, ◌∙◌, List, [], ◌∷◌, Some, None, slice_get, get_or, ◌==◌}
+use Rattle.std.proofs.lemmas.Bool.{eqb-true, eqb-false, eq-eqb, ne_eqb}
+use Rattle.posix.specs.States.{is_in}
+use Rattle.posix.proofs.MemberLemmas.{in_first, in_rest, in_none}
+use Rattle.sched.specs.declared.links.Node.{Node}
+use Rattle.sched.specs.Links.{Linked, next_of, read_off, IsLinked, IsKept}
+use Rattle.sched.specs.Places.{next_behind}
+use Rattle.sched.proofs.MemberLemmas.{differ, in_longer}
+use Rattle.sched.proofs.LinkLemmas.{next_read}
+use Rattle.sched.proofs.RingLemmas.{room_out}
+use Rattle.sched.proofs.ListLemmas.{seen, known}
+
+-- one that isn't there
+pub behind_absent : (p : ℕ) (ps : List ℕ) → is_in p ps ≡ false → next_behind p ps ≡ None
+unfolding next_behind
+behind_absent p [] out = refl
+behind_absent p (q ∷ qs) out =
+    let apart : q ≢ p = λ e. differ q p (q ∷ qs) (in_first q qs) out e in
+    ap (λ b. cond b (slice_get qs 0) (next_behind p qs)) (ne_eqb q p apart) ∙ behind_absent p qs (sym (in_rest p q qs apart) ∙ out)
+
+-- what the nodes lead to behind q
+follows : (ns : List Node) (q : ℕ) (qs : List ℕ) (a : ℕ) → IsLinked ns q qs a → is_in a qs ≡ false → slice_get qs 0 ≡ cond (next_of ns q == a) None (Some (next_of ns q))
+unfolding IsLinked
+follows ns q [] a l out = rw (l.0, eq-eqb a a refl) refl
+follows ns q (x ∷ xs) a l out =
+    let apart : x ≢ a = λ e. differ x a (x ∷ xs) (in_first x xs) out e in
+    rw (l.0, ne_eqb x a apart) refl
+
+-- so many as come after one that is there
+pub behind_linked : (ns : List Node) (b : ℕ) (ps : List ℕ) (a p : ℕ) → IsLinked ns b ps a → is_in p ps ≡ true → is_in a ps ≡ false → next_behind p ps ≡ cond (next_of ns p == a) None (Some (next_of ns p))
+unfolding IsLinked next_behind
+behind_linked ns b [] a p l there out = absurd (in_none p there)
+behind_linked ns b (q ∷ qs) a p l there out =
+    let away : is_in a qs ≡ false = elim (is_in a qs) as (λ t. is_in a qs ≡ t → is_in a qs ≡ false) [
+      | true ↦ λ e. absurd (differ a a (q ∷ qs) (in_longer a q qs e) out refl)
+      | false ↦ λ e. e
+    ] refl in
+    elim (q == p) as (λ t. (q == p) ≡ t → cond t (slice_get qs 0) (next_behind p qs) ≡ cond (next_of ns p == a) None (Some (next_of ns p))) [
+      | true ↦ λ e. let same = eqb-true q p e in follows ns q qs a l.2 away ∙ ap (λ n. cond (next_of ns n == a) None (Some (next_of ns n))) same
+      | false ↦ λ e. behind_linked ns q qs a p l.2 (sym (in_rest p q qs (eqb-false q p e)) ∙ there) away
+    ] refl
+
+-- of a list that is read off: what its node says of one that stands in it
+pub node_says : (ns : List Node) (room n p : ℕ) (v : Linked) (node : Node) → IsKept ns room (read_off n ns room) → seen ns room n ≡ v → is_in p v.numbers ≡ true → node ≡ get_or ns p node
+    → next_behind p v.numbers ≡ cond (node.next == room) None (Some node.next)
+node_says ns room n p v node kept view there read =
+    let at = known ns room n p v kept view there in
+    let next : node.next ≡ next_of ns p = next_read ns p node at.inside read in
+    ap (λ (l : Linked). next_behind p l.numbers) (sym view)
+    ∙ behind_linked ns room (read_off n ns room) room p kept.ring.linked at.there (room_out kept.ring)
+    ∙ ap (λ k. cond (k == room) None (Some k)) (sym next)
