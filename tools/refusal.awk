@@ -695,7 +695,7 @@ function next_line(    line) {
     sub(/:$/, "", kind)
     refused_line = $4 + 0
     reason = $0
-    sub(/^jobk: [a-z]+: line [0-9]+: /, "", reason)
+    sub(/^[a-z]+: [a-z]+: line [0-9]+: /, "", reason)
     file = next_line()
     consoles = next_line() + 0
     count = next_line() + 0

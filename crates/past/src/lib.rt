@@ -1,0 +1,241 @@
+//! A run, event by event, up to one of its events, and since when each process does what it does.
+#![tactic(auto)]
+
+ghost use Rattle.std.specs.Prelude.{◌≡◌, ◌+◌, ◌<◌, ◌≤◌, List, IfOk, OnOk, length, max, min};
+ghost use Rattle.posix.specs.declared.event.Event.{Event as EventValue};
+ghost use Rattle.posix.specs.States.{World as WorldValue};
+ghost use Rattle.text.specs.EventTexts.{most_events};
+ghost use Rattle.past.specs.Pasts.{AreGiven, IsReached, IsSame};
+
+#[cfg(test)]
+mod tests;
+
+use kernel::Kernel;
+use posix::{Entry, Event, Pid};
+use std::alloc::{AllocError, Global};
+use std::collections::BTreeMap;
+use text::EventList;
+use umach::World;
+
+/// The events at which a process began to wait in its call, was stopped, by the signal with which number, and ended; 0
+/// for none.
+#[derive(Clone, Copy, Default)]
+pub struct Times {
+    pub wait: u64,
+    pub stop: u64,
+    pub stopped_by: u8,
+    pub end: u64,
+}
+
+/// A kernel after some events, and what they told of each number.
+#[derive(Drop)]
+pub struct Past {
+    pub kernel: Kernel,
+    times: BTreeMap<u32, Times>,
+}
+
+/// Whether a process waits in a call.
+fn is_blocked(kernel: &mut Kernel, pid: Pid) -> bool
+    ensures { IsSame kernel.old kernel.new }
+{
+    match kernel.snapshot(pid) {
+        Some(it) => it.blocked.is_some(),
+        None => false,
+    }
+}
+
+/// When the process with this number did what it does now.
+fn times_of(times: &BTreeMap<u32, Times>, pid: Pid) -> Times {
+    match times.get(&pid.number()) {
+        Some(times) => *times,
+        None => Times::default(),
+    }
+}
+
+/// Sets the times of a process.
+fn set_times(times: &mut BTreeMap<u32, Times>, pid: Pid, of_pid: Times) -> Result<(), AllocError> {
+    match times.insert(pid.number(), of_pid) {
+        Ok(_) => Ok(()),
+        Err(_) => Err(AllocError),
+    }
+}
+
+/// Notes what an entry of an event tells.
+fn note_entry(
+    times: &mut BTreeMap<u32, Times>,
+    event: u64,
+    entry: &Entry,
+) -> Result<(), AllocError> {
+    match *entry {
+        Entry::Stopped { pid, sig } => {
+            let mut of_pid = times_of(times, pid);
+            of_pid.stop = event;
+            of_pid.stopped_by = sig.number();
+            set_times(times, pid, of_pid)
+        }
+        Entry::Ended { pid, .. } => {
+            let mut of_pid = times_of(times, pid);
+            of_pid.end = event;
+            set_times(times, pid, of_pid)
+        }
+        _ => Ok(()),
+    }
+}
+
+/// Notes what the entries of an event tell.
+fn note_entries(
+    times: &mut BTreeMap<u32, Times>,
+    event: u64,
+    entries: &[Entry],
+) -> Result<(), AllocError> {
+    for entry in entries {
+        note_entry(times, event, entry)?;
+    }
+    Ok(())
+}
+
+impl Past {
+    /// A world at its start; an error where there is no memory for it.
+    pub fn boot(alloc: Global, world: &World) -> Result<Past, AllocError>
+        ensures reached { (events : List EventValue) → IfOk result (λ past. IsReached world.now events past.kernel) }
+        ensures events { IfOk result (λ past. past.kernel.events ≡ 0) }
+    {
+        Ok(Past {
+            kernel: Kernel::boot(alloc, world)?,
+            times: BTreeMap::new(alloc),
+        })
+    }
+
+    /// When the process with this number did what it does now.
+    pub fn times(&self, pid: Pid) -> Times {
+        times_of(&self.times, pid)
+    }
+
+    /// The process that acts next, unless it waits in a call already.
+    fn acting(&mut self) -> Option<Pid>
+        ensures { IsSame self.old.kernel self.new.kernel }
+    {
+        match self.kernel.current() {
+            Some(pid) if !is_blocked(&mut self.kernel, pid) => Some(pid),
+            _ => None,
+        }
+    }
+
+    /// Notes what the last event told by its entries, and that the process that acted waits from then on, if it does.
+    fn note(&mut self, entries: &[Entry], acting: Option<Pid>) -> Result<(), AllocError>
+        ensures { IsSame self.old.kernel self.new.kernel }
+    {
+        let event = self.kernel.events();
+        note_entries(&mut self.times, event, entries)?;
+        match acting {
+            Some(pid) if is_blocked(&mut self.kernel, pid) => {
+                let mut of_pid = times_of(&self.times, pid);
+                of_pid.wait = event;
+                set_times(&mut self.times, pid, of_pid)
+            }
+            _ => Ok(()),
+        }
+    }
+}
+
+/// Hears of each event of a run, before and after it. It looks at the run, and changes nothing of it.
+pub trait Hear {
+    /// The event is given next.
+    fn before(&mut self, past: &mut Past, event: Event) -> Result<(), AllocError>
+        ensures { IsSame past.old.kernel past.new.kernel };
+
+    /// The event was given, and showed these entries.
+    fn after(&mut self, past: &mut Past, event: Event, entries: &[Entry]) -> Result<(), AllocError>
+        ensures { IsSame past.old.kernel past.new.kernel };
+}
+
+/// Hears of nothing.
+#[derive(Drop)]
+pub struct Silent;
+
+impl Hear for Silent {
+    fn before(&mut self, _past: &mut Past, _event: Event) -> Result<(), AllocError> {
+        Ok(())
+    }
+
+    fn after(
+        &mut self,
+        _past: &mut Past,
+        _event: Event,
+        _entries: &[Entry],
+    ) -> Result<(), AllocError> {
+        Ok(())
+    }
+}
+
+/// Gives an event. An error where there is no memory to note what it tells, or whoever hears of it has none.
+fn give<H: Hear>(past: &mut Past, event: Event, hear: &mut H) -> Result<(), AllocError>
+    requires few { past.old.kernel.events < most_events }
+    ensures given { AreGiven event past.old.kernel past.new.kernel }
+    ensures within { past.new.kernel.events ≤ past.old.kernel.events + 1 }
+    ensures at { OnOk result (past.new.kernel.events ≡ past.old.kernel.events + 1) }
+{
+    hear.before(past, event)?;
+    let acting = past.acting();
+    let entries = past.kernel.event(event);
+    past.note(entries.as_slice(), acting)?;
+    hear.after(past, event, entries.as_slice())
+}
+
+/// Gives one event, as long as fewer than `last` were given.
+fn give_many<H: Hear>(
+    past: &mut Past,
+    event: Event,
+    last: u64,
+    hear: &mut H,
+) -> Result<(), AllocError>
+    requires few { last ≤ most_events }
+    requires from { past.old.kernel.events ≤ last }
+    ensures given { AreGiven event past.old.kernel past.new.kernel }
+    ensures within { past.new.kernel.events ≤ last }
+    ensures at { OnOk result (past.new.kernel.events ≡ last) }
+{
+    for _ in past.kernel.events()..last {
+        give(past, event, hear)?;
+    }
+    Ok(())
+}
+
+/// Gives the events behind those that were given, up to the one with number `last`, or to the last one. So the state
+/// is that of a run of the first events, where it was that of a run before. An error where there is no memory.
+pub fn run_to<H: Hear>(
+    past: &mut Past,
+    events: &EventList,
+    last: u64,
+    hear: &mut H,
+) -> Result<(), AllocError>
+    requires { length events.now ≤ most_events }
+    ensures reached { (world : WorldValue) → IsReached world events.now past.old.kernel → IsReached world events.now past.new.kernel }
+    ensures at { OnOk result (past.new.kernel.events ≡ max past.old.kernel.events (min last (length events.now))) }
+{
+    let mut end = 0;
+    for run in events.runs() {
+        end += run.count();
+        let stop = end.min(last);
+        if past.kernel.events() < stop {
+            give_many(past, run.event(), stop, hear)?;
+        }
+    }
+    Ok(())
+}
+
+/// A world after the event with number `last`, or after the last one. An error where there is no memory.
+pub fn past_at(
+    alloc: Global,
+    world: &World,
+    events: &EventList,
+    last: u64,
+) -> Result<Past, AllocError>
+    requires { length events.now ≤ most_events }
+    ensures reached { IfOk result (λ past. IsReached world.now events.now past.kernel) }
+    ensures at { IfOk result (λ past. past.kernel.events ≡ min last (length events.now)) }
+{
+    let mut past = Past::boot(alloc, world)?;
+    run_to(&mut past, events, last, &mut Silent)?;
+    Ok(past)
+}

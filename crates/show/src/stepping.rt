@@ -1,0 +1,202 @@
+//! A run that a person goes through, event by event.
+
+ghost use Rattle.std.specs.Prelude.{◌≤◌, length};
+ghost use Rattle.text.specs.EventTexts.{most_events};
+
+use crate::state::{View, put_head, put_state};
+use crate::telling::Teller;
+use kernel::{Sink, SinkFault, put_all};
+use past::{Past, Silent, run_to};
+use posix::Pid;
+use std::alloc::AllocError;
+use text::{EventList, World};
+
+/// Asks a person for commands.
+pub trait Ask {
+    /// Whether there is a person to be asked.
+    fn is_terminal(&self) -> bool;
+
+    /// Adds the next line; whether there was one.
+    fn ask(&mut self, line: &mut String) -> Result<bool, AskFault>;
+}
+
+/// Why there is no next line.
+#[derive(Clone, Copy, Debug, PartialEq, Eq)]
+pub enum AskFault {
+    /// The device failed, or the line is no text in UTF-8.
+    Device,
+    /// There was no memory for it.
+    Memory,
+}
+
+/// Why a run isn't gone through any more.
+#[derive(Clone, Copy, Debug, PartialEq, Eq)]
+pub enum StepFault {
+    Memory,
+    Write,
+    Read,
+}
+
+impl From<AllocError> for StepFault {
+    fn from(_: AllocError) -> Self {
+        StepFault::Memory
+    }
+}
+
+impl From<SinkFault> for StepFault {
+    fn from(_: SinkFault) -> Self {
+        StepFault::Write
+    }
+}
+
+impl From<AskFault> for StepFault {
+    fn from(why: AskFault) -> Self {
+        match why {
+            AskFault::Device => StepFault::Read,
+            AskFault::Memory => StepFault::Memory,
+        }
+    }
+}
+
+/// What a person asks for.
+#[derive(Clone, Copy, Debug, PartialEq, Eq)]
+enum Command {
+    /// So many events more.
+    Next(u64),
+    /// So many events less.
+    Back(u64),
+    /// To the state after this event.
+    Go(u64),
+    /// On until this process acts.
+    Process(u32),
+    /// On until an event shows a line of the trace.
+    Line,
+    /// The state.
+    State,
+    Quit,
+    Help,
+}
+
+const HELP: &str =
+    "n [N]  the next event, or the next N; so does an empty line\nb [N]  back by one event, or by N\ng E    to the state after event E\np P    on until process P acts\nl      on until an event shows a line of the trace\ns      the state\nq      the end\n";
+
+/// What a line asks for.
+fn command_of(line: &str) -> Command {
+    let mut words = line.split_whitespace();
+    let word = words.next();
+    let number = words.next().map(str::parse::<u64>);
+    if words.next().is_some() {
+        return Command::Help;
+    }
+    match (word, number) {
+        (None | Some("n"), None) => Command::Next(1),
+        (Some("n"), Some(Ok(count))) => Command::Next(count),
+        (Some("b"), None) => Command::Back(1),
+        (Some("b"), Some(Ok(count))) => Command::Back(count),
+        (Some("g"), Some(Ok(event))) => Command::Go(event),
+        (Some("p"), Some(Ok(number))) => match u32::try_from(number) {
+            Ok(number) => Command::Process(number),
+            Err(_) => Command::Help,
+        },
+        (Some("l"), None) => Command::Line,
+        (Some("s"), None) => Command::State,
+        (Some("q"), None) => Command::Quit,
+        _ => Command::Help,
+    }
+}
+
+/// A run that is gone through.
+#[derive(Drop)]
+pub struct Steps<'l, 't> {
+    view: View<'l, 't>,
+    world: &'t World,
+    events: &'t EventList,
+    past: Past,
+    teller: Teller<'l, 't>,
+    ghost few: { length events.now ≤ most_events },
+}
+
+impl<'l, 't> Steps<'l, 't> {
+    /// A run before its first event.
+    pub fn new(
+        view: View<'l, 't>,
+        world: &'t World,
+        events: &'t EventList,
+    ) -> Result<Steps<'l, 't>, AllocError>
+        requires { length events.now ≤ most_events }
+    {
+        Ok(Steps {
+            view,
+            world,
+            events,
+            past: Past::boot(view.alloc, world)?,
+            teller: Teller::new(view, world.programs()),
+        })
+    }
+
+    /// Goes on to the state after an event, or after the last one, and tells the events.
+    fn go_on(&mut self, event: u64) -> Result<(), AllocError> {
+        run_to(&mut self.past, self.events, event, &mut self.teller)
+    }
+
+    /// Goes to the state after an event: back by running again.
+    fn go(&mut self, event: u64) -> Result<(), AllocError> {
+        if event < self.past.kernel.events() {
+            self.past = Past::boot(self.view.alloc, self.world)?;
+        }
+        run_to(&mut self.past, self.events, event, &mut Silent)
+    }
+
+    /// Goes on until an event is of interest, and tells that one.
+    fn go_until(&mut self, pid: Option<Pid>) -> Result<(), AllocError> {
+        for _ in self.past.kernel.events()..self.events.len() {
+            self.teller.text.clear();
+            let next = self.past.kernel.events().saturating_add(1);
+            self.go_on(next)?;
+            let is_found = match pid {
+                Some(pid) => self.teller.acted() == Some(pid),
+                None => self.teller.showed,
+            };
+            if is_found {
+                return Ok(());
+            }
+        }
+        Ok(())
+    }
+
+    /// Does what is asked for; whether it goes on.
+    fn follow(&mut self, command: Command) -> Result<bool, AllocError> {
+        self.teller.text.clear();
+        let now = self.past.kernel.events();
+        match command {
+            Command::Next(count) => self.go_on(now.saturating_add(count))?,
+            Command::Back(count) => self.go(now.saturating_sub(count))?,
+            Command::Go(event) => self.go(event)?,
+            Command::Process(number) => self.go_until(Pid::new(number))?,
+            Command::Line => self.go_until(None)?,
+            Command::State => put_state(self.view, &mut self.teller.text, &mut self.past)?,
+            Command::Help => self.teller.text.push_str(HELP)?,
+            Command::Quit => return Ok(false),
+        }
+        Ok(true)
+    }
+
+    /// Goes through the run as it is asked for.
+    pub fn follow_all<A: Ask, O: Sink>(
+        &mut self,
+        ask: &mut A,
+        out: &mut O,
+    ) -> Result<(), StepFault> {
+        let mut line = String::new(self.view.alloc);
+        for _ in 0..u64::MAX {
+            put_head(&mut self.teller.text, &self.past.kernel, self.view.events)?;
+            self.teller.text.push_str("> ")?;
+            put_all(out, self.teller.text.as_str().as_bytes())?;
+            line.clear();
+            if !ask.ask(&mut line)? || !self.follow(command_of(line.as_str()))? {
+                return Ok(());
+            }
+        }
+        Ok(())
+    }
+}

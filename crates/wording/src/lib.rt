@@ -1,0 +1,14 @@
+//! What a world and its machine are told by: names of signals, sets, errors, statuses and options, calls with their
+//! arguments, and the lines and labels of a world's text.
+#![tactic(auto)]
+
+mod arguments;
+mod listing;
+mod names;
+
+pub use arguments::{
+    Arguments, place_of, put_address, put_call, put_label, put_moved, put_quoted, put_report,
+    put_result,
+};
+pub use listing::{Label, Listing, Source, Written};
+pub use names::{put_flags, put_set, put_set_or_none, put_signal, put_status};

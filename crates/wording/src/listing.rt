@@ -1,0 +1,121 @@
+//! The lines of a world, by program and instruction.
+
+use std::alloc::{AllocError, Global};
+use std::str;
+
+/// An instruction as its world writes it.
+#[derive(Clone, Copy)]
+pub struct Written<'t> {
+    /// The number of its line, from 1 on.
+    pub line: u64,
+    pub text: &'t str,
+}
+
+/// A label, and the place of the instruction behind it.
+#[derive(Clone, Copy)]
+pub struct Label<'t> {
+    pub name: &'t str,
+    pub place: usize,
+}
+
+/// A program as its world writes it.
+#[derive(Drop)]
+pub struct Source<'t> {
+    pub name: &'t str,
+    /// One for each instruction.
+    instructions: Vec<Written<'t>>,
+    /// In the order of their places.
+    labels: Vec<Label<'t>>,
+}
+
+/// The programs of a world as it writes them.
+#[derive(Drop)]
+pub struct Listing<'t> {
+    programs: Vec<Source<'t>>,
+}
+
+/// Whether a character separates words.
+fn is_separator(c: char) -> bool {
+    c == ' ' || c == '\t' || c == '\r' || c == ','
+}
+
+/// What stands in a line before its comment, without the blanks around it.
+fn code_of(line: &[u8]) -> &str {
+    let bytes = match line.iter().position(|byte| *byte == b'#') {
+        Some(end) => line.get(..end).unwrap_or(line),
+        None => line,
+    };
+    str::from_utf8(bytes).unwrap_or("").trim()
+}
+
+/// The words of a line: the first, and the second.
+fn first_words(code: &str) -> (&str, &str) {
+    let mut words = code.split(is_separator).filter(|word| !word.is_empty());
+    let first = words.next().unwrap_or("");
+    (first, words.next().unwrap_or(""))
+}
+
+impl<'t> Source<'t> {
+    /// The instruction at a place, from 0 on; none where there is none.
+    pub fn at(&self, place: usize) -> Option<Written<'t>> {
+        self.instructions.get(place).copied()
+    }
+
+    /// The label that stands nearest before the instruction at a place, or right before it.
+    pub fn label_of(&self, place: usize) -> Option<Label<'t>> {
+        let mut nearest = None;
+        for label in &self.labels {
+            if label.place <= place {
+                nearest = Some(*label);
+            }
+        }
+        nearest
+    }
+
+    /// Takes one of its lines, in their order.
+    fn take(&mut self, line: u64, code: &'t str) -> Result<(), AllocError> {
+        let (first, _) = first_words(code);
+        let place = self.instructions.len();
+        if let Some(name) = first.strip_suffix(":") {
+            self.labels.push(Label { name, place })?;
+        } else {
+            self.instructions.push(Written { line, text: code })?;
+        }
+        Ok(())
+    }
+}
+
+impl<'t> Listing<'t> {
+    /// The programs of a world text.
+    pub fn new(alloc: Global, text: &'t [u8]) -> Result<Listing<'t>, AllocError> {
+        let mut programs = Vec::new(alloc);
+        let mut open: Option<Source<'t>> = None;
+        let mut number = 0u64;
+        for line in text.split(|byte| *byte == b'\n') {
+            number = number.saturating_add(1);
+            let code = code_of(line);
+            match (first_words(code), open.take()) {
+                (("", _), source) => open = source,
+                (("program", name), None) => {
+                    open = Some(Source {
+                        name,
+                        instructions: Vec::new(alloc),
+                        labels: Vec::new(alloc),
+                    });
+                }
+                (_, None) => {}
+                (("end", _), Some(source)) => programs.push(source)?,
+                (_, Some(mut source)) => {
+                    source.take(number, code)?;
+                    open = Some(source);
+                }
+            }
+        }
+        Ok(Listing { programs })
+    }
+
+    /// The program with a number, from 0 on; none where there is none.
+    pub fn program(&self, number: usize) -> Option<&Source<'t>> {
+        self.programs.get(number)
+    }
+}

@@ -1,0 +1,259 @@
+//! The names of signals, sets, errors, statuses and options.
+
+ghost use Rattle.std.specs.Prelude.{◌≡◌, IfSome, pos};
+
+use bitflags::Flags;
+use posix::{SaFlags, Sig, SigSet, Status, WaitOptions};
+use std::alloc::AllocError;
+use std::fmt::Write;
+
+/// The names of the standard signals, from 1 on (signal(7)).
+const SIGNALS: [&str; 31] = [
+    "SIGHUP",
+    "SIGINT",
+    "SIGQUIT",
+    "SIGILL",
+    "SIGTRAP",
+    "SIGABRT",
+    "SIGBUS",
+    "SIGFPE",
+    "SIGKILL",
+    "SIGUSR1",
+    "SIGSEGV",
+    "SIGUSR2",
+    "SIGPIPE",
+    "SIGALRM",
+    "SIGTERM",
+    "SIGSTKFLT",
+    "SIGCHLD",
+    "SIGCONT",
+    "SIGSTOP",
+    "SIGTSTP",
+    "SIGTTIN",
+    "SIGTTOU",
+    "SIGURG",
+    "SIGXCPU",
+    "SIGXFSZ",
+    "SIGVTALRM",
+    "SIGPROF",
+    "SIGWINCH",
+    "SIGIO",
+    "SIGPWR",
+    "SIGSYS",
+];
+
+/// The first real-time signal.
+const SIGRTMIN: u8 = 34;
+
+/// The last one.
+const SIGRTMAX: u8 = 64;
+
+/// So many signals there are.
+const SIGNAL_COUNT: usize = 62;
+
+/// Writes the name of a signal.
+pub fn put_signal(text: &mut String, sig: Sig) -> Result<(), AllocError> {
+    let number = sig.number();
+    match number {
+        SIGRTMIN => return text.push_str("SIGRTMIN"),
+        SIGRTMAX => return text.push_str("SIGRTMAX"),
+        35..=63 => return write!(text, "SIGRTMIN+{}", number - SIGRTMIN),
+        _ => {}
+    }
+    match SIGNALS.get(usize::from(number).saturating_sub(1)) {
+        Some(name) => text.push_str(name),
+        None => write!(text, "{number}"),
+    }
+}
+
+/// The signal of a word; none where the word is none.
+fn signal_in(word: i64) -> Option<Sig>
+    ensures { IfSome result (λ sig. word ≡ pos sig) }
+{
+    Sig::new(u8::try_from(word).ok()?)
+}
+
+/// Writes the name of the signal that a word is, or the word.
+pub fn put_signal_word(text: &mut String, word: i64) -> Result<(), AllocError> {
+    match signal_in(word) {
+        Some(sig) => put_signal(text, sig),
+        None => write!(text, "{word}"),
+    }
+}
+
+/// Writes the signals that are in a set, or that aren't, with blanks between them.
+fn put_signals(text: &mut String, set: SigSet, is_in: bool) -> Result<(), AllocError> {
+    let mut blank = "";
+    for number in 1..65u8 {
+        if let Some(sig) = Sig::new(number) {
+            if set.contains(sig) == is_in {
+                text.push_str(blank)?;
+                put_signal(text, sig)?;
+                blank = " ";
+            }
+        }
+    }
+    Ok(())
+}
+
+/// How many signals are in a set.
+fn count_of(set: SigSet) -> usize {
+    let mut count = 0usize;
+    for number in 1..65u8 {
+        if Sig::new(number).is_some_and(|sig| set.contains(sig)) {
+            count = count.saturating_add(1);
+        }
+    }
+    count
+}
+
+/// Writes a set of signals: `{SIGINT SIGCHLD}`, or `~{SIGKILL SIGSTOP}` for all but these, where most are in it.
+pub fn put_set(text: &mut String, set: SigSet) -> Result<(), AllocError> {
+    let most = count_of(set) > SIGNAL_COUNT / 2;
+    text.push_str(if most { "~{" } else { "{" })?;
+    put_signals(text, set, !most)?;
+    text.push_str("}")
+}
+
+/// Writes a set of signals, and `-` for none.
+pub fn put_set_or_none(text: &mut String, set: SigSet) -> Result<(), AllocError> {
+    if count_of(set) == 0 {
+        text.push_str("-")
+    } else {
+        put_set(text, set)
+    }
+}
+
+/// The name of an error number; none where it has none.
+pub fn errno_name(number: i64) -> Option<&'static str> {
+    match number {
+        1 => Some("EPERM"),
+        2 => Some("ENOENT"),
+        3 => Some("ESRCH"),
+        4 => Some("EINTR"),
+        5 => Some("EIO"),
+        10 => Some("ECHILD"),
+        11 => Some("EAGAIN"),
+        13 => Some("EACCES"),
+        14 => Some("EFAULT"),
+        22 => Some("EINVAL"),
+        25 => Some("ENOTTY"),
+        _ => None,
+    }
+}
+
+/// Writes a signal by its number, or the number where it is none.
+fn put_signal_number(text: &mut String, number: u16) -> Result<(), AllocError> {
+    put_signal_word(text, i64::from(number))
+}
+
+/// Writes what a status word says of a process.
+pub fn put_status(text: &mut String, status: Status) -> Result<(), AllocError> {
+    let word = status.word();
+    let (low, high) = (word % 256, word / 256);
+    if low == 0 {
+        return write!(text, "exit {high}");
+    }
+    if low == 127 {
+        text.push_str("stopped by ")?;
+        return put_signal_number(text, high);
+    }
+    if low == 255 {
+        return text.push_str("continued");
+    }
+    text.push_str("killed by ")?;
+    put_signal_number(text, low)
+}
+
+/// Writes a name of a joined list where it is in that list. Whether names are in it so far, as some were before.
+fn put_name(text: &mut String, is_in: bool, name: &str, follows: bool) -> Result<bool, AllocError> {
+    if !is_in {
+        return Ok(follows);
+    }
+    if follows {
+        text.push_str("|")?;
+    }
+    text.push_str(name)?;
+    Ok(true)
+}
+
+/// Writes the names of options, joined by `|`; `0` for none.
+fn put_wait_options(text: &mut String, options: WaitOptions) -> Result<(), AllocError> {
+    let some = put_name(
+        text,
+        options.contains(WaitOptions::WNOHANG),
+        "WNOHANG",
+        false,
+    )?;
+    let some = put_name(
+        text,
+        options.contains(WaitOptions::WUNTRACED),
+        "WUNTRACED",
+        some,
+    )?;
+    let some = put_name(
+        text,
+        options.contains(WaitOptions::WCONTINUED),
+        "WCONTINUED",
+        some,
+    )?;
+    if some { Ok(()) } else { text.push_str("0") }
+}
+
+/// Writes the names of flags, joined by `|`; `0` for none.
+pub fn put_flags(text: &mut String, flags: SaFlags) -> Result<(), AllocError> {
+    let some = put_name(
+        text,
+        flags.contains(SaFlags::SA_NOCLDSTOP),
+        "SA_NOCLDSTOP",
+        false,
+    )?;
+    let some = put_name(
+        text,
+        flags.contains(SaFlags::SA_NOCLDWAIT),
+        "SA_NOCLDWAIT",
+        some,
+    )?;
+    let some = put_name(
+        text,
+        flags.contains(SaFlags::SA_SIGINFO),
+        "SA_SIGINFO",
+        some,
+    )?;
+    let some = put_name(
+        text,
+        flags.contains(SaFlags::SA_RESTART),
+        "SA_RESTART",
+        some,
+    )?;
+    let some = put_name(
+        text,
+        flags.contains(SaFlags::SA_NODEFER),
+        "SA_NODEFER",
+        some,
+    )?;
+    let some = put_name(
+        text,
+        flags.contains(SaFlags::SA_RESETHAND),
+        "SA_RESETHAND",
+        some,
+    )?;
+    if some { Ok(()) } else { text.push_str("0") }
+}
+
+/// Writes the options of a wait that a word is, or the word.
+pub fn put_options(text: &mut String, word: i64) -> Result<(), AllocError> {
+    match WaitOptions::from_bits(word.cast_unsigned()) {
+        Some(options) => put_wait_options(text, options),
+        None => write!(text, "{word}"),
+    }
+}
+
+/// Writes the flags of an action that a word is, or the word.
+pub fn put_action_flags(text: &mut String, word: i64) -> Result<(), AllocError> {
+    let flags = u32::try_from(word).ok().and_then(SaFlags::from_bits);
+    match flags {
+        Some(flags) => put_flags(text, flags),
+        None => write!(text, "{word}"),
+    }
+}
