@@ -88,4 +88,25 @@ unsafe impl<B: Allocator> Allocator for Shared<B> {
     unsafe fn deallocate(&self, ptr: *mut u8, size: usize, align: usize) {
         self.lent().deallocate(ptr, size, align);
     }
+
+    // (by hand, since the default's proof can't be kept: each crate above would prove again what rests on it)
+    unsafe fn grow<T>(
+        &self,
+        ptr: *mut T,
+        len: usize,
+        old_cap: usize,
+        new_cap: usize,
+    ) -> Result<*mut T, AllocError> {
+        self.lent().grow(ptr, len, old_cap, new_cap)
+    }
+
+    unsafe fn shrink<T>(
+        &self,
+        ptr: *mut T,
+        len: usize,
+        old_cap: usize,
+        new_cap: usize,
+    ) -> Result<*mut T, AllocError> {
+        self.lent().shrink(ptr, len, old_cap, new_cap)
+    }
 }

@@ -13,9 +13,9 @@ use Rattle.laws.proofs.LawfulLemmas.{laws_more, laws_at}
 use Rattle.traceline.proofs.EntryLemmas.{says_guess}
 use Rattle.audit.proofs.PassLemmas.{tested_other}
 use Rattle.audit.specs.Knowing.{AuditView, kept_at, AllSay, AreLawful, Knows, Heard, StaysWith, IsRead, IsAnswer, IsNewBirth}
-use Rattle.audit.specs.Faults.{number_of, fault_tested}
+use Rattle.audit.specs.Faults.{number_of}
 use Rattle.audit.specs.declared.fault.AuditFault.{AuditFault}
-use Rattle.audit.specs.declared.fault.AuditFault.TheVariants.{NoLine, BornWhileLiving, NotHappened, ReportedBefore, NotTheParent, OtherStatus, OutOfPlace, Memory}
+use Rattle.audit.specs.declared.fault.AuditFault.TheVariants.{NoLine, Memory}
 
 -- ---- the lines that texts say
 

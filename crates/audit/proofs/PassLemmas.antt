@@ -4,7 +4,7 @@ use Rattle.posix.specs.Entries.{Line, process_of}
 use Rattle.posix.specs.declared.entry.Entry.{Entry}
 use Rattle.posix.specs.declared.entry.Entry.TheVariants.{Noted, Called, Moved, Reported, NoMemory, Handled, Discarded, Stopped, Returned, Ended, Halted}
 use Rattle.laws.specs.Lives.{is_halt, born_by, is_change_word}
-use Rattle.laws.specs.TraceLines.{is_end_word, is_stopped_word, is_continued_word}
+use Rattle.posix.specs.Statuses.{is_end_word, is_stopped_word, is_continued_word}
 use Rattle.audit.specs.declared.fault.AuditFault.{AuditFault}
 use Rattle.audit.specs.declared.fault.AuditFault.TheVariants.{NoLine, BornWhileLiving, NotHappened, ReportedBefore, NotTheParent, OtherStatus, OutOfPlace, Memory}
 use Rattle.audit.specs.Faults.{number_of, fault_number, fault_tested}

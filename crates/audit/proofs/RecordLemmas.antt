@@ -6,7 +6,7 @@ use Rattle.laws.specs.Keeping.{Kept, NeverBorn, lives_now, moved_from, given_on}
 use Rattle.audit.specs.declared.known.Record.{Record}
 use Rattle.audit.specs.declared.known.State.{State}
 use Rattle.audit.specs.declared.known.State.TheVariants.{Living, Ended}
-use Rattle.audit.specs.Records.{NamesParent, NameParents, lives_had, with_state, in_state, is_life, is_living_state, parent_now, kept_in, kept_with, kept_as, kept_by, record_in}
+use Rattle.audit.specs.Records.{with_state, in_state, is_life, is_living_state, parent_now, kept_in, kept_with, kept_as, kept_by, record_in}
 use Rattle.std.proofs.Common.{nat_cmp, nat_lt, Less, Equal, Greater}
 use Rattle.std.specs.Ordering.{is_eq}
 use Rattle.std.specs.BTreeMap.{is_at}
@@ -23,25 +23,6 @@ at_is n q = by (nat_lt n q) (n == q) (λ l. ne_eqb n q (λ e. omega (arith, ltb-
 -- a look-up after a change at n
 pub looked_up : (n : ℕ) (x : Record) (f f' : ℕ → Option Record) → ((q : ℕ) → f' q ≡ cond (is_at (nat_cmp n) q) (Some x) (f q)) → (q : ℕ) → f' q ≡ cond (n == q) (Some x) (f q)
 looked_up n x f f' is q = is q ∙ ap (λ (b : Bool). cond b (Some x) (f q)) (at_is n q)
-
--- ---- names
-
-had_if : (b : Bool) (s : State) (o : Option Record) → lives_had (if b then option_map (in_state s) o else o) ≡ lives_had o
-had_if true s None = refl
-had_if true s (Some r) = refl
-had_if false s o = refl
-
-named_if : (f f' : ℕ → Option Record) → ((q : ℕ) → lives_had (f' q) ≡ lives_had (f q)) → (b : Bool) (s : State) (o : Option Record) → NamesParent f o → NamesParent f' (if b then option_map (in_state s) o else o)
-named_if f f' had true s None h = tt
-named_if f f' had true s (Some r) h = λ two. rw (had r.parent) (h two)
-named_if f f' had false s None h = tt
-named_if f f' had false s (Some r) h = λ two. rw (had r.parent) (h two)
-
--- parents are named as before when a state changes
-pub names_stay : (p : ℕ) (s : State) (f f' : ℕ → Option Record) → ((q : ℕ) → f' q ≡ with_state p s f q) → NameParents f → NameParents f'
-unfolding with_state
-names_stay p s f f' is h c =
-    rw (is c) (named_if f f' (λ q. rw (is q) (had_if (p == q) s (f q))) (p == c) s (f c) (h c))
 
 -- ---- a state of a life that goes on as before
 
@@ -134,31 +115,23 @@ no_state p n f s same e q = elim (cases_eq n q) [
 
 -- ---- the same, of the entries of a map
 
--- what is read at a number that is p
-pub read : (p n : ℕ) (f : ℕ → Option Record) (found : Option Record) → n ≡ p → f n ≡ found → f p ≡ found
-read p n f found same e = ap f (sym same) ∙ e
-
-pub entries_stay : (g : Kept → Kept) (p : ℕ) (s : State) (now old new : List (ℕ × Record)) (r : Record) → old ≡ now → record_in old p ≡ Some r → ((q : ℕ) → record_in new q ≡ with_state p s (record_in old) q)
-    → is_living_state s ≡ is_living_state r.state → ((n : ℕ) → kept_as n s ≡ g (kept_as n r.state)) → (c : ℕ) → kept_by new c ≡ (if p == c then g (kept_by now c) else kept_by now c)
+pub entries_stay : (g : Kept → Kept) (p : ℕ) (s : State) (old new : List (ℕ × Record)) (r : Record) → record_in old p ≡ Some r → ((q : ℕ) → record_in new q ≡ with_state p s (record_in old) q)
+    → is_living_state s ≡ is_living_state r.state → ((n : ℕ) → kept_as n s ≡ g (kept_as n r.state)) → (c : ℕ) → kept_by new c ≡ (if p == c then g (kept_by old c) else kept_by old c)
 unfolding kept_by
-entries_stay g p s now old new r same e is living told c =
-    kept_stays g p s (record_in old) (record_in new) r e is living told c ∙ ap (λ (es : List (ℕ × Record)). if p == c then g (kept_in (record_in es) c) else kept_in (record_in es) c) same
+entries_stay g p s old new r e is living told c = kept_stays g p s (record_in old) (record_in new) r e is living told c
 
-pub entries_none : (g : Kept → Kept) (p : ℕ) (now old : List (ℕ × Record)) → old ≡ now → record_in old p ≡ None → g NeverBorn ≡ NeverBorn → (c : ℕ) → kept_by now c ≡ (if p == c then g (kept_by now c) else kept_by now c)
+pub entries_none : (g : Kept → Kept) (p : ℕ) (old : List (ℕ × Record)) → record_in old p ≡ None → g NeverBorn ≡ NeverBorn → (c : ℕ) → kept_by old c ≡ (if p == c then g (kept_by old c) else kept_by old c)
 unfolding kept_by
-entries_none g p now old same e none c =
-    let there : record_in now p ≡ None = ap (λ (es : List (ℕ × Record)). record_in es p) (sym same) ∙ e in none_stays g p (record_in now) there none c
+entries_none g p old e none c = none_stays g p (record_in old) e none c
 
-pub entries_ended : (g : Kept → Kept) (p : ℕ) (s : State) (now old new : List (ℕ × Record)) (r : Record) → 1 ≤ p → old ≡ now → record_in old p ≡ Some r → ((q : ℕ) → record_in new q ≡ with_state p s (record_in old) q)
-    → is_living_state s ≡ false → ((n : ℕ) → kept_as n s ≡ g (kept_as n r.state)) → (c : ℕ) → kept_by new c ≡ (if p == c then g (given_on p 1 (kept_by now c)) else given_on p 1 (kept_by now c))
+pub entries_ended : (g : Kept → Kept) (p : ℕ) (s : State) (old new : List (ℕ × Record)) (r : Record) → 1 ≤ p → record_in old p ≡ Some r → ((q : ℕ) → record_in new q ≡ with_state p s (record_in old) q)
+    → is_living_state s ≡ false → ((n : ℕ) → kept_as n s ≡ g (kept_as n r.state)) → (c : ℕ) → kept_by new c ≡ (if p == c then g (given_on p 1 (kept_by old c)) else given_on p 1 (kept_by old c))
 unfolding kept_by
-entries_ended g p s now old new r one same e is dead told c =
-    kept_ended g p s (record_in old) (record_in new) r one e is dead told c ∙ ap (λ (es : List (ℕ × Record)). if p == c then g (given_on p 1 (kept_in (record_in es) c)) else given_on p 1 (kept_in (record_in es) c)) same
+entries_ended g p s old new r one e is dead told c = kept_ended g p s (record_in old) (record_in new) r one e is dead told c
 
 -- who lives has a record
-pub living_there : (p : ℕ) (now old : List (ℕ × Record)) → old ≡ now → lives_now (kept_by now p) ≡ true → record_in old p ≡ None → ⊥
+pub living_there : (p : ℕ) (old : List (ℕ × Record)) → lives_now (kept_by old p) ≡ true → record_in old p ≡ None → ⊥
 unfolding kept_by
-living_there p now old same lives e =
-    let k : lives_now (kept_in (record_in old) p) ≡ true = ap (λ (es : List (ℕ × Record)). lives_now (kept_in (record_in es) p)) same ∙ lives in
-    let n : false ≡ true = ap (λ (o : Option Record). lives_now (kept_with (record_in old) o)) (sym e) ∙ k in
+living_there p old lives e =
+    let n : false ≡ true = ap (λ (o : Option Record). lives_now (kept_with (record_in old) o)) (sym e) ∙ lives in
     cc

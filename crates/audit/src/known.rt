@@ -7,14 +7,13 @@ ghost use Rattle.laws.specs.Keeping.{NeverBorn, kept_of, kept_after, lives_now, 
 ghost use Rattle.laws.specs.TraceLines.{is_entry};
 ghost use Rattle.posix.specs.Entries.{process_of as process_said};
 ghost use Rattle.laws.specs.Lives.{born_by as birth_said};
-ghost use Rattle.audit.specs.Records.{is_living_state, kept_as, kept_newest, kept_by, parent_now, with_state, kept_in, is_life, without_parent, NameParents, IsNextLife};
+ghost use Rattle.audit.specs.Records.{is_living_state, kept_as, kept_newest, kept_by, parent_now, with_state, kept_in, is_life, without_parent, record_in, NameParents, IsNextLife};
 
-use crate::lines::{born_by, is_continued_word, is_stopped_word};
+use crate::lines::born_by;
 use posix::{Entry, Pid, Sig, Status};
 use std::alloc::{AllocError, Global};
 use std::collections::BTreeMap;
 use std::marker::Model;
-use traceline::is_end_word;
 
 /// What the lines so far say of a life.
 #[derive(Clone, Copy)]
@@ -119,16 +118,16 @@ impl State {
                 may_continue,
             } => State::Living {
                 has_stopped,
-                stop: if is_stopped_word(word) || is_continued_word(word) {
+                stop: if word.is_stop() || word.is_continuation() {
                     None
                 } else {
                     stop
                 },
-                may_continue: may_continue && !is_continued_word(word),
+                may_continue: may_continue && !word.is_continuation(),
             },
             State::Ended { status, reported } => State::Ended {
                 status,
-                reported: reported || is_end_word(word),
+                reported: reported || word.is_end(),
             },
         }
     }
@@ -258,8 +257,8 @@ impl Known {
     pub(crate) fn stop(&mut self, pid: Pid, sig: Sig)
         ensures { (c : ℕ) → kept_by self.new c ≡ (if pid == c then after_stop sig (kept_by self.old c) else kept_by self.old c) }
     {
-        if let Some(record) = self.records.get(&pid.number()).copied() {
-            set_state(&mut self.records, pid, record.state.stopped(sig));
+        if let Some(record) = self.record(pid) {
+            self.set_state(pid, record.state.stopped(sig));
         }
     }
 
@@ -267,8 +266,8 @@ impl Known {
     pub(crate) fn report(&mut self, pid: Pid, status: Status)
         ensures { (c : ℕ) → kept_by self.new c ≡ (if pid == c then after_report status (kept_by self.old c) else kept_by self.old c) }
     {
-        if let Some(record) = self.records.get(&pid.number()).copied() {
-            set_state(&mut self.records, pid, record.state.reported(status));
+        if let Some(record) = self.record(pid) {
+            self.set_state(pid, record.state.reported(status));
         }
     }
 
@@ -278,9 +277,26 @@ impl Known {
         requires living { lives_now (kept_by self.old pid) ≡ true }
         ensures { (c : ℕ) → kept_by self.new c ≡ (if pid == c then ended_with status (given_on pid 1 (kept_by self.old c)) else given_on pid 1 (kept_by self.old c)) }
     {
-        if let Some(record) = self.records.get(&pid.number()).copied() {
-            set_state(&mut self.records, pid, record.state.ended(status));
+        if let Some(record) = self.record(pid) {
+            self.set_state(pid, record.state.ended(status));
         }
+    }
+
+    /// The record of a number, if it was ever born.
+    fn record(&self, pid: Pid) -> Option<Record>
+        ensures { result ≡ record_in self.now pid }
+    {
+        self.records.get(&pid.number()).copied()
+    }
+
+    /// A record's state is another from now on, where there is a record.
+    fn set_state(&mut self, pid: Pid, state: State)
+        ensures { (q : ℕ) → record_in self.new q ≡ with_state pid state (record_in self.old) q }
+    {
+        let Some(record) = self.records.get_mut(&pid.number()) else {
+            return;
+        };
+        record.state = state;
     }
 }
 
@@ -292,15 +308,6 @@ fn life_of(records: &BTreeMap<u32, Record>, pid: Pid) -> u32
     match records.get(&pid.number()) {
         Some(record) => record.life,
         None => 0,
-    }
-}
-
-/// A record's state is another from now on, where there is a record.
-fn set_state(records: &mut BTreeMap<u32, Record>, pid: Pid, state: State)
-    ensures { (q : ℕ) → get nat_cmp records.new q ≡ with_state pid state (get nat_cmp records.old) q }
-{
-    if let Some(record) = records.get_mut(&pid.number()) {
-        record.state = state;
     }
 }
 

@@ -11,6 +11,3 @@ pub mod texts;
 pub use audit::Audit;
 pub use fault::AuditFault;
 pub use texts::{TraceFault, audit_text, runs_are_lawful};
-
-#[cfg(test)]
-mod tests;

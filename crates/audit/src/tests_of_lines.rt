@@ -11,12 +11,11 @@ ghost use Rattle.audit.specs.Phases.{phase_said};
 
 use crate::fault::AuditFault;
 use crate::known::{Known, State};
-use crate::lines::{born_by, is_continued_word, is_stopped_word};
+use crate::lines::born_by;
 use posix::{Entry, Pid, Sig, Status};
-use traceline::is_end_word;
 
 /// Whether `halt` comes next, or nothing.
-#[derive(Clone, Copy, Debug, PartialEq, Eq)]
+#[derive(Clone, Copy)]
 pub(crate) enum Phase {
     /// The last line, if any, is neither the end of process 1 nor `halt`.
     Going,
@@ -138,9 +137,9 @@ fn test_living(
 ) -> Result<(), AuditFault>
     ensures { (p : ℕ) → fault_number result ≡ fault_of_living p word (record { parent = p; has_stopped = has_stopped; stop = stop; may_continue = may_continue }) }
 {
-    if is_end_word(word) {
+    if word.is_end() {
         Err(AuditFault::NotHappened)
-    } else if is_stopped_word(word) {
+    } else if word.is_stop() {
         if !has_stopped {
             return Err(AuditFault::NotHappened);
         }
@@ -149,7 +148,7 @@ fn test_living(
             Some(sig) if u16::from(sig.number()) == word.word() / 256 => Ok(()),
             Some(_) => Err(AuditFault::OtherStatus),
         }
-    } else if is_continued_word(word) {
+    } else if word.is_continuation() {
         if !has_stopped {
             Err(AuditFault::NotHappened)
         } else if may_continue {
@@ -166,7 +165,7 @@ fn test_living(
 fn test_ended(ended: Status, reported: bool, word: Status) -> Result<(), AuditFault>
     ensures { (p : ℕ) → fault_number result ≡ fault_of_ended p word (record { parent = p; status = ended; reported = reported }) }
 {
-    if is_end_word(word) {
+    if word.is_end() {
         if reported {
             Err(AuditFault::ReportedBefore)
         } else if ended == word {
@@ -174,7 +173,7 @@ fn test_ended(ended: Status, reported: bool, word: Status) -> Result<(), AuditFa
         } else {
             Err(AuditFault::OtherStatus)
         }
-    } else if is_stopped_word(word) || is_continued_word(word) {
+    } else if word.is_stop() || word.is_continuation() {
         Err(AuditFault::NotHappened)
     } else {
         Err(AuditFault::OtherStatus)

@@ -5,7 +5,7 @@ use Rattle.std.proofs.lemmas.List.{length-map}
 use Rattle.posix.specs.declared.target.Target.{Target}
 use Rattle.posix.specs.declared.target.Target.TheVariants as whom
 use Rattle.posix.specs.declared.errno.Errno.{Errno}
-use Rattle.posix.specs.Processes.{Process}
+use Rattle.posix.specs.Processes.{Process, argument}
 use Rattle.posix.specs.Tables.{IsRising, has_pid, lookup, at, changed, pids, removed}
 use Rattle.posix.specs.States.{State, process, is_in, without, has_place}
 use Rattle.posix.specs.Credentials.{may}
@@ -21,11 +21,14 @@ use Rattle.calls.proofs.ContinueLemmas.{sent_slots}
 use Rattle.posix.proofs.WalkLemmas.{numbered_one, numbered_none}
 use Rattle.pidset.specs.Numbers.{with_number}
 use Rattle.jobs.specs.JobTables.{takes_signal}
-use Rattle.life.specs.Machines.{MachineView, AreSame, with_processes}
-use Rattle.life.specs.Queues.{Sends, is_sent}
+use Rattle.life.specs.declared.caller.Caller.{Caller}
+use Rattle.life.specs.Callers.{caller_of}
+use Rattle.life.specs.Machines.{MachineView, AreSame, Looks, with_processes}
+use Rattle.life.specs.Queues.{is_sent, sent_as, rechecking_as}
 use Rattle.life.specs.Rechecks.{AreTaking, AreBrief, rechecking_signalled, slots_of_send, slots_of_survey_of_one, without_gone}
 use Rattle.life.specs.Foregrounds.{after_loss}
-use Rattle.life.proofs.TakingLemmas.{taking_all, rising_distinct}
+use Rattle.posix.proofs.OrderLemmas.{distinct_pids}
+use Rattle.life.proofs.TakingLemmas.{taking_all}
 use Rattle.calls.specs.Outcomes.{CostsAtMost, IsQuiet, IsBrief, AreFew, is_one, is_cont, slots_of_kill, slots_of_continued, slots_before, meant_in}
 use Rattle.calls.proofs.ChosenLemmas.{changed_there}
 use Rattle.calls.proofs.KillLemmas.{number_is}
@@ -138,7 +141,7 @@ taking_sent me p None rs order plain up = (λ q e. absurd (cc), omega arith)
 taking_sent me p (Some m) rs order plain up =
     let qs = permitted me (Some m.sig) (targets me (whom.Process p) rs) in
     let one = one_target me p (Some m.sig) rs up in
-    let all = taking_all m (pids qs) order rs plain (rising_distinct qs one.0) in
+    let all = taking_all m (pids qs) order rs plain (distinct_pids qs one.0) in
     let many = length-map qs (λ r. r.pid) in
     let few = all.1 in
     let most = one.1 in
@@ -213,14 +216,26 @@ brief_unsent me whom.All k results old mid new one h is list still read done cos
 brief_unsent me whom.Nobody k results old mid new one h is list still read done costs = absurd (cc)
 
 -- so it is whatever comes of it, where it means one process
-pub brief_send : {n : ℕ} (me : Process) (to : Target) (named : Result (Option ℕ) Errno) (word : ℤ) (sig : Option ℕ) (value : ℤ) (k : Option PendingSignal) (answer : Sending) (results : List (ℕ × ℤ)) (old mid new : MachineView) → is_one to ≡ true → IsQuiet me.pid old → named ≡ signal_or_none word → named ≡ Ok sig → k ≡ message me.pid value sig
-    → Sends answer me to k n old mid → ((p : ℕ) → to ≡ whom.Process p → mid.visits ≤ old.visits + 1 + slots_of_send (number_of k) + slots_of_survey_of_one (number_of k)) → new.state ≡ finish mid.state me.pid results → (has_place mid.state me.pid ≡ true → CostsAtMost 1 mid new)
+pub brief_send : (me : Process) (to : Target) (named : Result (Option ℕ) Errno) (word : ℤ) (sig : Option ℕ) (value : ℤ) (k : Option PendingSignal) (answer : Sending) (results : List (ℕ × ℤ)) (old mid new : MachineView) → is_one to ≡ true → IsQuiet me.pid old → named ≡ signal_or_none word → named ≡ Ok sig → k ≡ message me.pid value sig
+    → IsRegular old.state → mid.state ≡ with_processes old.state (sent_as answer me to k old.state.processes) → mid.to_recheck ≡ rechecking_as answer me k to old.state.processes old.state.order old.to_recheck → mid.foregrounds_unchecked ≡ old.foregrounds_unchecked
+    → ((p : ℕ) → to ≡ whom.Process p → mid.visits ≤ old.visits + 1 + slots_of_send (number_of k) + slots_of_survey_of_one (number_of k)) → new.state ≡ finish mid.state me.pid results → (has_place mid.state me.pid ≡ true → CostsAtMost 1 mid new)
     → IsBrief (slots_of_kill old.state.processes to (signal_or_none word)) old new
-brief_send me to named word sig value k answer results old mid new one quiet known ok is sends read done costs =
+brief_send me to named word sig value k answer results old mid new one quiet known ok is regular state list still read done costs =
     subst (λ w. IsBrief (slots_of_kill old.state.processes to w) old new) (ap Ok (number_is me.pid value sig k is) ∙ sym ok ∙ known) (by (is_sent answer) refl)
   where
     by : (b : Bool) → is_sent answer ≡ b → IsBrief (slots_of_kill old.state.processes to (Ok (number_of k))) old new
-    by true e = brief_killed me to k results old mid new one quiet sends.costs.regular (sends.state ∙ ap (λ b. with_processes old.state (cond b (sent me to k old.state.processes) old.state.processes)) e)
-        (sends.to_recheck ∙ ap (λ b. cond b (rechecking_signalled me k (targets me to old.state.processes) old.state.processes old.state.order old.to_recheck) old.to_recheck) e) sends.foregrounds_unchecked read done costs
-    by false e = brief_unsent me to k results old mid new one quiet (sends.state ∙ ap (λ b. with_processes old.state (cond b (sent me to k old.state.processes) old.state.processes)) e)
-        (sends.to_recheck ∙ ap (λ b. cond b (rechecking_signalled me k (targets me to old.state.processes) old.state.processes old.state.order old.to_recheck) old.to_recheck) e) sends.foregrounds_unchecked read done costs
+    by true e = brief_killed me to k results old mid new one quiet regular (state ∙ ap (λ b. with_processes old.state (cond b (sent me to k old.state.processes) old.state.processes)) e)
+        (list ∙ ap (λ b. cond b (rechecking_signalled me k (targets me to old.state.processes) old.state.processes old.state.order old.to_recheck) old.to_recheck) e) still read done costs
+    by false e = brief_unsent me to k results old mid new one quiet (state ∙ ap (λ b. with_processes old.state (cond b (sent me to k old.state.processes) old.state.processes)) e)
+        (list ∙ ap (λ b. cond b (rechecking_signalled me k (targets me to old.state.processes) old.state.processes old.state.order old.to_recheck) old.to_recheck) e) still read done costs
+
+-- so it is by a caller that was looked at, who tells the target
+pub brief_sent_as : (p : ℕ) (old mid new : MachineView) (me : Process) (d : Caller) (f : Caller → Target) (to : Target) → Looks 1 old mid → d.pid ≡ p → d ≡ caller_of me → to ≡ f d → is_one (f (caller_of me)) ≡ true → IsQuiet p old
+    → (is_one to ≡ true → IsQuiet d.pid mid → IsBrief (slots_of_kill mid.state.processes to (signal_or_none d.r2)) mid new) → IsBrief (slots_of_kill old.state.processes (f (caller_of me)) (signal_or_none (argument me 2)) + 1) old new
+brief_sent_as p old mid new me d f to looks named is target one quiet brief =
+    let same : to ≡ f (caller_of me) = target ∙ ap f is in
+    let sent = brief (ap is_one same ∙ one) (subst (λ q. IsQuiet q mid) (sym named) (quiet_on p old mid looks.same quiet)) in
+    brief_on _ 1 _ old mid _ looks.same looks.visits (omega arith)
+    (subst (λ (t : State). IsBrief (slots_of_kill t.processes (f (caller_of me)) (signal_or_none (argument me 2))) mid new) looks.same.state
+    (subst (λ (k : Caller). IsBrief (slots_of_kill mid.state.processes (f (caller_of me)) (signal_or_none k.r2)) mid new) is
+    (subst (λ (x : Target). IsBrief (slots_of_kill mid.state.processes x (signal_or_none d.r2)) mid new) same sent)))

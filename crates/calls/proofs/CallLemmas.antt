@@ -17,7 +17,6 @@ use Rattle.posix.specs.States.{State, change}
 use Rattle.posix.specs.Outcomes as outcome
 use Rattle.posix.specs.Targets.{target_in}
 use Rattle.posix.specs.Ends.{end_process}
-use Rattle.posix.specs.Sends.{kill, sigqueue, sending, sending_granted, queuers_among, targets, permitted, sent, sent_among}
 use Rattle.posix.specs.Waits.{wait, wait_with, gives_report, report, options_in, are_known}
 use Rattle.life.specs.declared.caller.Caller.{Caller}
 use Rattle.life.specs.Callers.{caller_of}
@@ -89,28 +88,13 @@ reports_is s t b n a p child status xs ys r is done state before shown =
 pub caller_is : (o : Option Process) (me : Process) (c : Caller) → IfSome o (λ r. c ≡ caller_of r) → o ≡ Some me → c ≡ caller_of me
 caller_is o me c h e = subst (λ x. IfSome x (λ r. c ≡ caller_of r)) e h
 
--- its wait and its kill
+-- its wait
 wait_like : (s : State) (me : Process) → wait s (process_like (caller_of me)) ≡ wait s me
 unfolding wait
 wait_like s me = refl
 
 pub wait_of : (s : State) (o : Option Process) (me : Process) (c : Caller) → IfSome o (λ r. c ≡ caller_of r) → o ≡ Some me → wait s (process_like c) ≡ wait s me
 wait_of s o me c h e = ap (λ d. wait s (process_like d)) (caller_is o me c h e) ∙ wait_like s me
-
-kill_like : (granted : Bool) (s : State) (me : Process) → kill granted s (process_like (caller_of me)) ≡ kill granted s me
-unfolding kill sending targets permitted sent sent_among sending_granted queuers_among
-kill_like granted s me = refl
-
-pub kill_of : (granted : Bool) (s : State) (o : Option Process) (me : Process) (c : Caller) → IfSome o (λ r. c ≡ caller_of r) → o ≡ Some me → kill granted s (process_like c) ≡ kill granted s me
-kill_of granted s o me c h e = ap (λ d. kill granted s (process_like d)) (caller_is o me c h e) ∙ kill_like granted s me
-
--- and its sigqueue
-sigqueue_like : (granted : Bool) (s : State) (me : Process) → sigqueue granted s (process_like (caller_of me)) ≡ sigqueue granted s me
-unfolding sigqueue sending targets permitted sent sent_among sending_granted queuers_among
-sigqueue_like granted s me = refl
-
-pub sigqueue_of : (granted : Bool) (s : State) (o : Option Process) (me : Process) (c : Caller) → IfSome o (λ r. c ≡ caller_of r) → o ≡ Some me → sigqueue granted s (process_like c) ≡ sigqueue granted s me
-sigqueue_of granted s o me c h e = ap (λ d. sigqueue granted s (process_like d)) (caller_is o me c h e) ∙ sigqueue_like granted s me
 
 -- ---- an end
 

@@ -2,7 +2,6 @@
 -- that waits for just this child.
 use Rattle.std.proofs.Common.{◌≡◌, ℕ, ℤ, ◌+◌, ◌*◌, ◌≤◌, Bool, true, false, cond, not, ◌||◌, ◌==◌, refl, ap, sym, ◌∙◌, inl, inr, arith, List, [], ◌∷◌, length, filter, find, Option, Some, None}
 use Rattle.std.proofs.lemmas.Bool.{eq-eqb, both_ways, or_left, or_right, or_cases, and_parts}
-use Rattle.std.proofs.lemmas.List.{length-map}
 use Rattle.posix.specs.declared.process.Effect.{Effect}
 use Rattle.posix.specs.declared.process.Effect.TheVariants as effect
 use Rattle.posix.specs.declared.process.PendingSignal.{PendingSignal}
@@ -23,7 +22,7 @@ use Rattle.posix.specs.Sends.{targets, permitted, sent, sent_among}
 use Rattle.posix.specs.Settle.{is_block}
 use Rattle.posix.specs.Waits.{are_known, report, report_among, wait, wait_with, is_named, is_something, options_in, report_life, report_of, reports}
 use Rattle.posix.proofs.ChangeLemmas.{continued_stopped}
-use Rattle.posix.proofs.MapLemmas.{at_keeps, at_pid, children_map, lookup_on}
+use Rattle.posix.proofs.MapLemmas.{at_keeps, at_pid, length_children, lookup_on}
 use Rattle.posix.proofs.SeeLemmas.{seen}
 use Rattle.posix.proofs.TableLemmas.{pid_looked}
 use Rattle.posix.proofs.WalkLemmas.{numbered_one, numbered_none}
@@ -91,12 +90,6 @@ first_reported s me (Some q) told known = rw known (by (report s.processes me.pi
     by found.Nothing e = absurd (reports_something s.processes q me.pid me.group (target_in (argument me 1)) (options_in (argument me 2)) (lookup q s.processes) refl told e)
     by (found.End c w) e = refl
     by (found.Change c w) e = refl
-
--- ---- how many children there are
-
-kids_kept : (x : ℕ) (f : Process → Process) → ((r : Process) → (f r).parent ≡ r.parent) → (p : ℕ) (rs : List Process) → length (children_in p (changed x f rs)) ≡ length (children_in p rs)
-unfolding changed
-kids_kept x f k p rs = ap length (children_map (at x f) (at_keeps (λ r. r.parent) x f k) p rs) ∙ length-map (children_in p rs) (at x f)
 
 -- ---- one process
 
@@ -196,7 +189,7 @@ told_slots results c signal r rs order ns found stopped alone = by (lookup q mid
     its = like.parent ∙ at_keeps (λ r. r.parent) q g same_parent child
 
     kids : length (children_in p ts) ≡ length (children_in p rs)
-    kids = kids_kept c (finished results) (λ r. refl) p mid ∙ kids_kept q g same_parent p before ∙ kids_kept p resumed (λ r. refl) p (changed p f rs) ∙ kids_kept p f (λ r. refl) p rs
+    kids = length_children c (finished results) (λ r. refl) p mid ∙ length_children q g same_parent p before ∙ length_children p resumed (λ r. refl) p (changed p f rs) ∙ length_children p f (λ r. refl) p rs
 
     in_call : told.blocked ≡ r.blocked
     in_call = at_keeps (λ r. r.blocked) q g (λ r. ap (λ (q : Process). q.blocked) (only_noticed_of_change (child_signal p continued) r)) child

@@ -1,14 +1,15 @@
 -- How many slots rechecking reads.
-use Rattle.std.proofs.Common.{◌≡◌, ℕ, ◌+◌, ◌*◌, ◌<◌, ◌≤◌, Bool, true, false, cond, not, ◌||◌, refl, ap, arith, List, [], ◌∷◌, length, subst, Some, None, Option, slice_get, ◌==◌, is_some, nat_lt}
-use Rattle.std.specs.List.{AllByRecursion}
-use Rattle.std.proofs.lemmas.Bool.{eq-eqb, ne_eqb, or_left, or_right}
+use Rattle.std.proofs.Common.{◌≡◌, ℕ, ◌+◌, ◌*◌, ◌≤◌, Bool, true, false, cond, not, ◌||◌, refl, ap, arith, List, [], ◌∷◌, length, subst, Some, None, Option, slice_get, ◌==◌, is_some, nat_lt}
+use Rattle.std.proofs.lemmas.Bool.{eq-eqb, or_left, or_right}
 use Rattle.posix.specs.declared.process.Blocked.{Blocked}
 use Rattle.posix.specs.declared.process.Blocked.TheVariants as blocked
 use Rattle.posix.specs.Processes.{Process, argument}
 use Rattle.posix.specs.Tables.{lookup, children_in}
 use Rattle.posix.specs.States.{is_in, without}
 use Rattle.posix.specs.Choice.{chosen}
+use Rattle.posix.proofs.OrderLemmas.{without_absent}
 use Rattle.pidset.specs.Numbers.{Rises, with_number}
+use Rattle.pidset.proofs.NumberLemmas.{not_in_above}
 use Rattle.life.specs.Rechecks.{AreTaking, AreBrief, is_in_wait}
 use Rattle.calls.specs.Counts.{neighbour, slots_of_call, slots_of_rechecking, slots_of_rechecks, reports_first, slots_of_first}
 use Rattle.posix.specs.declared.target.Target.{Target}
@@ -21,19 +22,13 @@ use Rattle.std.proofs.lemmas.List.Sums.{length-filter, count_by-le-length}
 
 -- ---- those to recheck
 
--- where the first of them goes, the others stay
-others_stay : (n : ℕ) (ms : List ℕ) → AllByRecursion (λ m. n < m) ms → without n ms ≡ ms
-unfolding without
-others_stay n [] h = refl
-others_stay n (m ∷ ms) h = rw (ne_eqb m n (λ same. omega (arith, same, h.0))) (ap (λ l. m ∷ l) (others_stay n ms h.1))
-
 -- what the first one reads, and what the others do
 pub rechecks_first : (rs : List Process) (last : Option ℕ) (ns : List ℕ) (p : ℕ) → Rises ns → slice_get ns 0 ≡ Some p → slots_of_rechecking rs (neighbour last ns) (lookup p rs) + slots_of_rechecks rs (Some p) (without p ns) ≡ slots_of_rechecks rs last ns
 unfolding slots_of_rechecks without Rises
 rechecks_first rs last [] p up first = absurd (cc)
 rechecks_first rs last (n ∷ ns) p up first =
     let same : n ≡ p = cc in
-    let others : without n (n ∷ ns) ≡ ns = rw (eq-eqb n n refl) (others_stay n ns up.0) in
+    let others : without n (n ∷ ns) ≡ ns = rw (eq-eqb n n refl) (without_absent n ns (not_in_above n n ns (omega arith) up.0)) in
     subst (λ q. slots_of_rechecking rs (neighbour last (n ∷ ns)) (lookup q rs) + slots_of_rechecks rs (Some q) (without q (n ∷ ns)) ≡ slots_of_rechecks rs last (n ∷ ns)) same
     (ap (λ l. slots_of_rechecking rs (neighbour last (n ∷ ns)) (lookup n rs) + slots_of_rechecks rs (Some n) l) others)
 

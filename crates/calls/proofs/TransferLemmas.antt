@@ -32,10 +32,10 @@ console_there (Some c) h = record { what = c; found = refl }
 -- ---- bytes moved
 
 -- at least one was moved, and shown
-pub moved_is : (s n : State) (p : ℕ) (call : Call) (bytes : List ℕ) (z : ℤ) (xs ys : List Entry) → length bytes ≢ 0 → z ≡ pos (length bytes) → n ≡ outcome.finish s p ((0, z) ∷ [])
-    → ys ≡ xs ++ Moved p call bytes ∷ [] → Comes s (finish_moved s p call bytes) came.Done xs ys n
-moved_is s n p call [] z xs ys some value state shown = absurd (some refl)
-moved_is s n p call (b ∷ bs) z xs ys some value state shown = (shown, state ∙ ap (λ x. outcome.finish s p ((0, x) ∷ [])) value)
+pub moved_is : (s n : State) (p : ℕ) (call : Call) (bytes : List ℕ) (z : ℤ) (xs ys : List Entry) (r : Attempt) → length bytes ≢ 0 → z ≡ pos (length bytes) → r ≡ came.Done → n ≡ outcome.finish s p ((0, z) ∷ [])
+    → ys ≡ xs ++ Moved p call bytes ∷ [] → Comes s (finish_moved s p call bytes) r xs ys n
+moved_is s n p call [] z xs ys r some value done state shown = absurd (some refl)
+moved_is s n p call (b ∷ bs) z xs ys r some value done state shown = rw done (shown, state ∙ ap (λ x. outcome.finish s p ((0, x) ∷ [])) value)
 
 -- it is done, whatever state that began in
 pub moved_since : (s t u : State) (p : ℕ) (call : Call) (bytes : List ℕ) (r : Attempt) (xs ys : List Entry) (n : State) → Comes t (finish_moved u p call bytes) r xs ys n → Comes s (finish_moved u p call bytes) r xs ys n

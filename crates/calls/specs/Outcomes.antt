@@ -3,8 +3,11 @@ use Rattle.std.specs.Prelude.{◌≡◌, ◌≢◌, ◌==◌, ◌&&◌, not, ⊤
 use Rattle.posix.specs.declared.call.Call.{Call}
 use Rattle.posix.specs.declared.call.Call.TheVariants.{Exit, Fork, Waitpid, Pause, SchedYield, Getppid, Kill, Sigqueue, Sigsuspend, Sigreturn, Alarm, Exec, Getpgid, Getsid, Setpgid, Setsid, Setctty, Tcgetpgrp, Tcsetpgrp, Settostop, Read, Write}
 use Rattle.posix.specs.declared.entry.Entry.{Entry}
-use Rattle.posix.specs.declared.entry.Entry.TheVariants.{Called}
+use Rattle.posix.specs.declared.entry.Entry.TheVariants.{Called, NoMemory}
 use Rattle.posix.specs.declared.errno.Errno.{Errno}
+use Rattle.posix.specs.declared.errno.Errno.TheVariants.{EPERM, ESRCH, EAGAIN}
+use Rattle.posix.specs.declared.process.Sending.{Sending}
+use Rattle.posix.specs.declared.process.Sending.TheVariants as found
 use Rattle.posix.specs.declared.target.Target.{Target}
 use Rattle.posix.specs.declared.target.Target.TheVariants as whom
 use Rattle.posix.specs.SignalNumbers.{CONT}
@@ -26,6 +29,7 @@ use Rattle.posix.specs.Regular.{IsPlaced}
 use Rattle.posix.specs.Outcomes as outcome
 use Rattle.posix.specs.Attempts.{attempt}
 use Rattle.proctable.specs.declared.own_part.OwnPart.{OwnPart}
+use Rattle.proctable.specs.declared.snapshot.Snapshot.{Snapshot}
 use Rattle.proctable.specs.Records.{give_own}
 use Rattle.life.specs.Machines.{MachineView}
 use Rattle.calls.specs.declared.outcome.Attempt.{Attempt}
@@ -132,6 +136,24 @@ Comes old (outcome.Again t) (came.Block c) before after new = ⊥
 -- The call of p may come to this.
 abbrev pub Attempts : State → ℕ → Call → Attempt → List Entry → List Entry → State → Type 0
 Attempts old p call result before after new = (me : Process) → process old p ≡ Some me → (granted : Bool) × Comes old (attempt granted old me call) result before after new
+
+-- what a call gives, by what became of its signal
+abbrev pub value_of_sending : Sending → ℤ
+value_of_sending found.NobodyFound = outcome.refusal ESRCH
+value_of_sending found.NobodyPermitted = outcome.refusal EPERM
+value_of_sending found.QueueFull = outcome.refusal EAGAIN
+value_of_sending found.NoMemory = outcome.refusal EAGAIN
+value_of_sending found.Permitted = pos 0
+
+-- how it is shown
+abbrev pub entry_of_sending : ℕ → Call → Sending → Entry
+entry_of_sending p call found.NoMemory = NoMemory p call
+entry_of_sending p call answer = Called p call (value_of_sending answer)
+
+-- what a getpgid or a getsid tells of a process
+abbrev pub id_told : Call → Snapshot → ℕ
+id_told Getsid it = it.session
+id_told call it = it.group
 
 -- p has a place, and is a record that is no zombie.
 pub record IsActing (s : State) (p : ℕ) : Type 0 where

@@ -19,13 +19,33 @@ use crate::groups::{getpgid, getsid, setpgid, setsid};
 use crate::kills::{kill, sigqueue};
 use crate::outcome::Attempt;
 use crate::programs::exec;
-use crate::replies::{finish_call, own_call, refusal};
+use crate::replies::{own_call, refusal};
 use crate::terminals::{setctty, settostop, tcgetpgrp, tcsetpgrp};
 use crate::transfers::{read, write};
 use crate::waits::wait;
 use life::Machine;
 use posix::{Blocked, Call, Entry, Errno, Pid, Register, Status};
 use proctable::Kin;
+
+/// The call of a process that is there gives a value, and an entry shows the call.
+pub(crate) fn finish_shown<K: Kin>(
+    machine: &mut Machine<K>,
+    pid: Pid,
+    value: i64,
+    entry: Entry,
+    entries: &mut Entries,
+) -> Attempt
+    requires there { IsSome (process machine.old.state pid) }
+    requires room { length entries.old.items ≤ 3 }
+    ensures done { result ≡ Attempt.Done }
+    ensures state { machine.new.state ≡ finish machine.old.state pid ((0, value) ∷ []) }
+    ensures shown { entries.new.items ≡ entries.old.items ++ entry ∷ [] }
+    ensures costs { has_place machine.old.state pid ≡ true → CostsAtMost 1 machine.old machine.new }
+{
+    machine.own(pid).finish(value);
+    entries.push(entry);
+    Attempt::Done
+}
 
 /// The call of a process that is there gives a value.
 pub fn finish_with<K: Kin>(
@@ -42,8 +62,12 @@ pub fn finish_with<K: Kin>(
     ensures shown { entries.new.items ≡ entries.old.items ++ Called pid call value ∷ [] }
     ensures costs { has_place machine.old.state pid ≡ true → CostsAtMost 1 machine.old machine.new }
 {
-    finish_call(machine.own(pid), pid, call, value, entries);
-    Attempt::Done
+    let entry = Entry::Called {
+        pid,
+        call,
+        result: value,
+    };
+    finish_shown(machine, pid, value, entry, entries)
 }
 
 /// The call of a process that is there is refused.
@@ -78,13 +102,11 @@ pub fn refuse_memory<K: Kin>(
     ensures shown { entries.new.items ≡ entries.old.items ++ NoMemory pid call ∷ [] }
     ensures costs { has_place machine.old.state pid ≡ true → CostsAtMost 1 machine.old machine.new }
 {
-    machine.own(pid).finish(refusal(Errno::EAGAIN));
-    entries.push(Entry::NoMemory { pid, call });
-    Attempt::Done
+    let entry = Entry::NoMemory { pid, call };
+    finish_shown(machine, pid, refusal(Errno::EAGAIN), entry, entries)
 }
 
 /// The number of the caller's parent (XSH getppid).
-#[tactic(auto, unfolding(posix::specs::Attempts::attempt))]
 fn getppid<K: Kin>(machine: &mut Machine<K>, pid: Pid, entries: &mut Entries) -> Attempt
     requires there { IsSome (process machine.old.state pid) }
     requires room { length entries.old.items ≤ 1 }
@@ -101,7 +123,6 @@ fn getppid<K: Kin>(machine: &mut Machine<K>, pid: Pid, entries: &mut Entries) ->
 }
 
 /// The caller goes to the end of the order (XSH sched_yield).
-#[tactic(auto, unfolding(posix::specs::Attempts::attempt))]
 fn sched_yield<K: Kin>(machine: &mut Machine<K>, pid: Pid, entries: &mut Entries) -> Attempt
     requires acting { IsActing machine.old.state pid }
     requires room { length entries.old.items ≤ 1 }
@@ -112,7 +133,6 @@ fn sched_yield<K: Kin>(machine: &mut Machine<K>, pid: Pid, entries: &mut Entries
 }
 
 /// A child like the caller is born (XSH fork).
-#[tactic(auto, unfolding(posix::specs::Attempts::attempt, posix::specs::Births::fork_as))]
 fn fork<K: Kin>(machine: &mut Machine<K>, pid: Pid, entries: &mut Entries) -> Attempt
     requires acting { IsActing machine.old.state pid }
     requires births { machine.old.state.births + 1 < 2 ^ 64 }

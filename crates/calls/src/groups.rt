@@ -4,9 +4,9 @@ ghost use Rattle.std.specs.Prelude.{◌≡◌, ◌≤◌, length, IsSome, Some, 
 ghost use Rattle.posix.specs.Processes.{Process, argument};
 ghost use Rattle.posix.specs.States.{process};
 ghost use Rattle.posix.specs.Regular.{IsPlaced};
-ghost use Rattle.posix.specs.GroupCalls.{named as named_by};
+ghost use Rattle.posix.specs.GroupCalls.{named as named_by, tells};
 ghost use Rattle.proctable.specs.Records.{snapshot_of};
-ghost use Rattle.calls.specs.Outcomes.{Attempts};
+ghost use Rattle.calls.specs.Outcomes.{Attempts, Comes, id_told};
 
 use crate::attempts::{finish_with, refuse};
 use crate::entries::Entries;
@@ -26,6 +26,30 @@ fn named<K: Kin>(machine: &mut Machine<K>, pid: Pid) -> Option<Snapshot>
     machine.named(pid, word)
 }
 
+/// What a call tells of a process: its session by a getsid, and else its process group.
+fn told_by(call: Call, it: &Snapshot) -> Pid
+    ensures { result ≡ id_told call it.now }
+{
+    match call {
+        Call::Getsid => it.session,
+        _ => it.group,
+    }
+}
+
+/// Tells by a getpgid or a getsid what the call tells of the process that r1 names, 0 being the caller; ESRCH where no
+/// process has that number.
+fn tell<K: Kin>(machine: &mut Machine<K>, pid: Pid, call: Call, entries: &mut Entries) -> Attempt
+    requires there { IsSome (process machine.old.state pid) }
+    requires room { length entries.old.items ≤ 1 }
+    ensures { (me : Process) → process machine.old.state pid ≡ Some me → Comes machine.old.state (tells machine.old.state me call (λ r. id_told call (snapshot_of r)) (named_by me (argument me 1) machine.old.state.processes)) result entries.old.items entries.new.items machine.new.state }
+{
+    let Some(it) = named(machine, pid) else {
+        return refuse(machine, pid, call, Errno::ESRCH, entries);
+    };
+    let id = told_by(call, &it);
+    finish_with(machine, pid, call, i64::from(id.number()), entries)
+}
+
 /// The process group of the process that r1 names, 0 being the caller (XSH getpgid).
 #[tactic(auto, unfolding(posix::specs::Attempts::attempt, posix::specs::GroupCalls::getpgid))]
 pub fn getpgid<K: Kin>(machine: &mut Machine<K>, pid: Pid, entries: &mut Entries) -> Attempt
@@ -33,16 +57,7 @@ pub fn getpgid<K: Kin>(machine: &mut Machine<K>, pid: Pid, entries: &mut Entries
     requires room { length entries.old.items ≤ 1 }
     ensures { Attempts machine.old.state pid Call.Getpgid result entries.old.items entries.new.items machine.new.state }
 {
-    let Some(it) = named(machine, pid) else {
-        return refuse(machine, pid, Call::Getpgid, Errno::ESRCH, entries);
-    };
-    finish_with(
-        machine,
-        pid,
-        Call::Getpgid,
-        i64::from(it.group.number()),
-        entries,
-    )
+    tell(machine, pid, Call::Getpgid, entries)
 }
 
 /// The session of the process that r1 names, 0 being the caller (XSH getsid).
@@ -52,16 +67,7 @@ pub fn getsid<K: Kin>(machine: &mut Machine<K>, pid: Pid, entries: &mut Entries)
     requires room { length entries.old.items ≤ 1 }
     ensures { Attempts machine.old.state pid Call.Getsid result entries.old.items entries.new.items machine.new.state }
 {
-    let Some(it) = named(machine, pid) else {
-        return refuse(machine, pid, Call::Getsid, Errno::ESRCH, entries);
-    };
-    finish_with(
-        machine,
-        pid,
-        Call::Getsid,
-        i64::from(it.session.number()),
-        entries,
-    )
+    tell(machine, pid, Call::Getsid, entries)
 }
 
 /// Moves the process that r1 names, the caller or a child, to the process group in r2 (XSH setpgid).

@@ -6,14 +6,14 @@ ghost use Rattle.posix.specs.States.{process};
 ghost use Rattle.life.specs.Callers.{process_like};
 ghost use Rattle.posix.specs.Processes.{Process, argument};
 ghost use Rattle.posix.specs.Targets.{process_in, target_in};
-ghost use Rattle.calls.specs.Outcomes.{Attempts, Comes, IsQuiet, IsBrief, is_one, slots_of_kill};
+ghost use Rattle.calls.specs.Outcomes.{Attempts, Comes, IsQuiet, IsBrief, entry_of_sending, is_one, slots_of_kill, value_of_sending};
 
-use crate::attempts::{finish_with, refuse, refuse_memory};
+use crate::attempts::{finish_shown, refuse};
 use crate::entries::Entries;
 use crate::outcome::Attempt;
-use crate::replies::signal_in;
+use crate::replies::{refusal, signal_in};
 use life::{Caller, Machine};
-use posix::{Call, Carried, Errno, PendingSignal, Pid, Sending, Sig, Target};
+use posix::{Call, Carried, Entry, Errno, PendingSignal, Pid, Sending, Sig, Target};
 use proctable::Kin;
 
 /// The signal that the second argument names; none for signal 0. EINVAL where it is neither.
@@ -40,6 +40,32 @@ fn message(sender: Pid, value: i64, sig: Option<Sig>) -> Option<PendingSignal>
     })
 }
 
+/// What a call gives, by what became of its signal.
+fn value_of(sending: Sending) -> i64
+    ensures { result ≡ value_of_sending sending }
+{
+    match sending {
+        Sending::NobodyFound => refusal(Errno::ESRCH),
+        Sending::NobodyPermitted => refusal(Errno::EPERM),
+        Sending::QueueFull | Sending::NoMemory => refusal(Errno::EAGAIN),
+        Sending::Permitted => 0,
+    }
+}
+
+/// How a call of a process is shown, by what became of its signal.
+fn entry_of(pid: Pid, call: Call, sending: Sending) -> Entry
+    ensures { result ≡ entry_of_sending pid call sending }
+{
+    match sending {
+        Sending::NoMemory => Entry::NoMemory { pid, call },
+        _ => Entry::Called {
+            pid,
+            call,
+            result: value_of(sending),
+        },
+    }
+}
+
 /// Sends the signal that the second argument names to a target, with a value, by this call of a caller that is there.
 #[inline(always)]
 fn send<K: Kin>(
@@ -60,17 +86,12 @@ fn send<K: Kin>(
         Ok(sig) => sig,
         Err(errno) => return refuse(machine, me.pid, call, errno, entries),
     };
-    match machine.send(me, target, message(me.pid, value, sig)) {
-        Sending::NobodyFound => refuse(machine, me.pid, call, Errno::ESRCH, entries),
-        Sending::NobodyPermitted => refuse(machine, me.pid, call, Errno::EPERM, entries),
-        Sending::QueueFull => refuse(machine, me.pid, call, Errno::EAGAIN, entries),
-        Sending::NoMemory => refuse_memory(machine, me.pid, call, entries),
-        Sending::Permitted => finish_with(machine, me.pid, call, 0, entries),
-    }
+    let sending = machine.send(me, target, message(me.pid, value, sig));
+    let entry = entry_of(me.pid, call, sending);
+    finish_shown(machine, me.pid, value_of(sending), entry, entries)
 }
 
 /// Sends a signal, with value 0, to those whom the first argument means.
-#[tactic(auto, unfolding(posix::specs::Attempts::attempt, posix::specs::Sends::kill))]
 pub fn kill<K: Kin>(machine: &mut Machine<K>, pid: Pid, entries: &mut Entries) -> Attempt
     requires there { IsSome (process machine.old.state pid) }
     requires room { length entries.old.items ≤ 1 }
@@ -83,7 +104,6 @@ pub fn kill<K: Kin>(machine: &mut Machine<K>, pid: Pid, entries: &mut Entries) -
 }
 
 /// Sends a signal, with the value in the third argument, to the process that the first argument means.
-#[tactic(auto, unfolding(posix::specs::Attempts::attempt, posix::specs::Sends::sigqueue))]
 pub fn sigqueue<K: Kin>(machine: &mut Machine<K>, pid: Pid, entries: &mut Entries) -> Attempt
     requires there { IsSome (process machine.old.state pid) }
     requires room { length entries.old.items ≤ 1 }

@@ -1,10 +1,9 @@
 //! Calls that change their process alone: its number, ids, actions and signal mask.
 
-ghost use Rattle.std.specs.Prelude.{◌≡◌, ◌≤◌, ◌++◌, ◌∷◌, [], length, pos, true, is_some, IfSome};
+ghost use Rattle.std.specs.Prelude.{◌≡◌, ◌≤◌, length, pos, true, is_some, IfSome};
 ghost use Rattle.std.specs.Int.{cast_unsigned, w64};
-ghost use Rattle.posix.specs.declared.entry.Entry.TheVariants.{Called};
 ghost use Rattle.posix.specs.Processes.{Process, argument};
-ghost use Rattle.posix.specs.Outcomes.{finished, refusal as refusal_of};
+ghost use Rattle.posix.specs.Outcomes.{refusal as refusal_of};
 ghost use Rattle.posix.specs.Sends.{signal_in as signal_number_in};
 ghost use Rattle.posix.specs.SignalCalls.{handler_word as handler_word_of, handler_in as handler_held_in, is_question as is_question_in, are_flags, action_in as action_held_in, sigaction as sigaction_of, sigprocmask as sigprocmask_of, sigpending as sigpending_of, holding};
 ghost use Rattle.proctable.specs.Records.{give_own};
@@ -33,20 +32,6 @@ fn word_of(done: Result<(), Errno>) -> i64
         Ok(()) => 0,
         Err(errno) => refusal(errno),
     }
-}
-
-/// The call of a process, with this of its own, gives a value, and the process leaves it.
-pub fn finish_call(own: &mut OwnPart, pid: Pid, call: Call, value: i64, entries: &mut Entries)
-    requires { length entries.old.items ≤ 3 }
-    ensures left { (r : Process) → give_own own.new r ≡ finished ((0, value) ∷ []) (give_own own.old r) }
-    ensures shown { entries.new.items ≡ entries.old.items ++ Called pid call value ∷ [] }
-{
-    own.finish(value);
-    entries.push(Entry::Called {
-        pid,
-        call,
-        result: value,
-    });
 }
 
 // ---- arguments
@@ -210,6 +195,11 @@ pub fn own_call(own: &mut OwnPart, pid: Pid, call: Call, entries: &mut Entries) 
     ensures answers { (r : Process) → Answers (with_own pid own.old r) call own.old own.new entries.old.items entries.new.items }
 {
     let value = reply(own, pid, call);
-    finish_call(own, pid, call, value, entries);
+    own.finish(value);
+    entries.push(Entry::Called {
+        pid,
+        call,
+        result: value,
+    });
     Attempt::Done
 }

@@ -13,7 +13,7 @@ ghost use Rattle.life.specs.Machines.{AreSame};
 ghost use Rattle.calls.specs.Outcomes.{Comes};
 ghost use Rattle.calls.specs.Terminals.{first_bytes};
 
-use crate::attempts::{finish_with, refuse};
+use crate::attempts::{finish_shown, finish_with, refuse};
 use crate::background::{Access, read_access, signal_own_group, write_access};
 use crate::entries::Entries;
 use crate::outcome::Attempt;
@@ -38,9 +38,8 @@ fn finish_moved<K: Kin>(
     if count == 0 {
         return finish_with(machine, pid, call, 0, entries);
     }
-    machine.own(pid).finish(count as i64);
-    entries.push(Entry::Moved { pid, call, bytes });
-    Attempt::Done
+    let entry = Entry::Moved { pid, call, bytes };
+    finish_shown(machine, pid, count as i64, entry, entries)
 }
 
 // ---- read
@@ -124,7 +123,6 @@ fn read_span<K: Kin>(
 /// terminal; EINVAL for a count outside 0 to 16; EFAULT where a word is none of the process; EIO, or TTIN for the
 /// caller's process group and the call again, in the background (XBD 11.1.4, 11.1.6, XSH read). Where no line is
 /// finished the caller has to wait.
-#[tactic(auto, unfolding(posix::specs::Terminals::read))]
 pub fn read<K: Kin>(machine: &mut Machine<K>, pid: Pid, entries: &mut Entries) -> Attempt
     requires there { IsSome (process machine.old.state pid) }
     requires room { length entries.old.items ≤ 1 }
@@ -143,7 +141,6 @@ pub fn read<K: Kin>(machine: &mut Machine<K>, pid: Pid, entries: &mut Entries) -
 /// Whether a read of a process that is there, with this snapshot, would have to wait: its process group is the
 /// foreground one of its controlling terminal, it asks for bytes, and no line is finished (XBD 11.1.4,
 /// 11.1.6).
-#[tactic(auto, unfolding(posix::specs::Terminals::waits_to_read))]
 pub fn has_to_read<K: Kin>(machine: &mut Machine<K>, pid: Pid, snapshot: Snapshot) -> bool
     requires there { IsSome (process machine.old.state pid) }
     requires snapshot { Some snapshot ≡ option_map snapshot_of (process machine.old.state pid) }
@@ -194,7 +191,6 @@ fn write_span<K: Kin>(
 /// ENOTTY where the caller's session has no terminal; EINVAL for a count outside 0 to 16; EFAULT where a word is none of
 /// the process; EIO, or TTOU for the caller's process group and the call again, in the background where TOSTOP is set
 /// (XBD 11.1.4, XSH write).
-#[tactic(auto, unfolding(posix::specs::Terminals::write))]
 pub fn write<K: Kin>(machine: &mut Machine<K>, pid: Pid, entries: &mut Entries) -> Attempt
     requires there { IsSome (process machine.old.state pid) }
     requires room { length entries.old.items ≤ 1 }

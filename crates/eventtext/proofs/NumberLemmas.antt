@@ -1,43 +1,25 @@
 -- Numbers and bytes are read back from their digits.
 use Rattle.std.proofs.Common.{◌≡◌, ℕ, ◌+◌, ◌-◌, ◌*◌, ◌/◌, ◌%◌, ◌^◌, ◌<◌, ◌≤◌, ◌==◌, true, false, List, [], ◌∷◌, length, Some, Ok, refl, arith}
-use Rattle.std.specs.Prelude.{fold, decimal, nat_lt, nat_le, pos, map}
+use Rattle.std.specs.Prelude.{decimal, nat_lt, nat_le, pos, map}
 use Rattle.std.specs.List.{list_all}
 use Rattle.std.specs.Char.{is_ascii_digit, is_digit, digit_value}
 use Rattle.std.specs.Fmt.{digit_glyph}
 use Rattle.std.specs.Str.Parse.{AllDigits}
-use Rattle.std.proofs.lemmas.Str.Parse.{FoldsDigits, numerals_by_fold, tells_digits, digit_from_value}
-use Rattle.std.proofs.lemmas.Fmt.{digits_value-decimal, decimal_is_IsNumeral, decimal_nonempty}
+use Rattle.std.proofs.lemmas.Str.Parse.{digit_from_value}
+use Rattle.std.proofs.lemmas.Fmt.{decimal_is_IsNumeral, decimal_nonempty}
 use Rattle.std.proofs.lemmas.Bool.{and_parts, lt-ltb, ltb-true}
 use Rattle.std.proofs.lemmas.Bool.Decides.{nat_tests}
-use Rattle.text.specs.Numbers.{value_of, number, number_in, byte_in, hex_digit}
+use Rattle.posix.specs.Decimals.{value_of}
+use Rattle.posix.proofs.DecimalLemmas.{digits_all, value_back}
+use Rattle.text.specs.Numbers.{number, number_in, byte_in, hex_digit}
 use Rattle.text.specs.EventTexts.{bytes_within}
 use Rattle.eventtext.specs.EventLines.{two_digits}
 use Rattle.eventtext.proofs.LineLemmas.{is_plain, is_plain_word}
 
 -- ---- decimal digits
 
-are_digits : (ds : List ℕ) → AllDigits 10 ds → list_all is_ascii_digit ds ≡ true
-are_digits [] d = refl
-are_digits (c ∷ cs) d =
-    let k = digit_from_value c d.0 in
-    let here : is_ascii_digit c ≡ true = grind (arith, nat_tests, k.0, k.1) in
-    rw (here, are_digits cs d.1) refl
-
-plain_digits : (ds : List ℕ) → AllDigits 10 ds → list_all is_plain ds ≡ true
-plain_digits [] d = refl
-plain_digits (c ∷ cs) d =
-    let k = digit_from_value c d.0 in
-    let here : is_plain c ≡ true = grind (arith, nat_tests, k.0, k.1) in
-    rw (here, plain_digits cs d.1) refl
-
 pub decimal_plain : (n : ℕ) → n < 2 ^ 64 → is_plain_word (decimal n) ≡ true
-decimal_plain n h = rw (lt-ltb 0 (length (decimal n)) (decimal_nonempty n h), plain_digits (decimal n) (decimal_is_IsNumeral n h).0.1) refl
-
-value_folds : FoldsDigits (λ n ds. fold (λ m d. m * 10 + (d - 48)) n ds)
-value_folds = record { empty = λ n. refl; more = λ n c cs k. refl }
-
-value_decimal : (n : ℕ) → n < 2 ^ 64 → value_of (decimal n) ≡ n
-value_decimal n h = digits_value-decimal (numerals_by_fold (AllDigits 10) tells_digits (λ m ds. fold (λ k d. k * 10 + (d - 48)) m ds) value_folds) n h
+decimal_plain n h = rw (lt-ltb 0 (length (decimal n)) (decimal_nonempty n h), digits_all is_plain (λ b low high. grind (arith, nat_tests)) (decimal n) (decimal_is_IsNumeral n h).0.1) refl
 
 -- digits have no sign
 unsigned : (ds : List ℕ) → 0 < length ds → AllDigits 10 ds → number ds ≡ Some (pos (value_of ds))
@@ -45,14 +27,14 @@ unsigned [] some d = absurd (omega arith)
 unsigned (c ∷ cs) some d =
     let k = digit_from_value c d.0 in
     let plain : (c == 45) ≡ false = grind (arith, nat_tests, k.0, k.1) in
-    let digits : list_all is_ascii_digit (c ∷ cs) ≡ true = are_digits (c ∷ cs) d in
+    let digits : list_all is_ascii_digit (c ∷ cs) ≡ true = digits_all is_ascii_digit (λ b low high. grind (arith, nat_tests)) (c ∷ cs) d in
     rw (plain, lt-ltb 0 (length (c ∷ cs)) some, digits) refl
 
 pub number_back : (low high n : ℕ) → n < 2 ^ 64 → low ≤ n → n ≤ high → number_in low high (decimal n) ≡ Ok n
 number_back low high n h least most =
     let from : nat_le low n ≡ true = grind (arith, nat_tests, least) in
     let to : nat_le n high ≡ true = grind (arith, nat_tests, most) in
-    rw (unsigned (decimal n) (decimal_nonempty n h) (decimal_is_IsNumeral n h).0.1, value_decimal n h, from, to) refl
+    rw (unsigned (decimal n) (decimal_nonempty n h) (decimal_is_IsNumeral n h).0.1, value_back n h, from, to) refl
 
 -- ---- hexadecimal digits
 

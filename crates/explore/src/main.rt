@@ -3,8 +3,6 @@
 
 mod report;
 mod serving;
-#[cfg(test)]
-mod tests;
 mod words;
 
 use exploring::Progress;

@@ -106,6 +106,16 @@ fn write_lines(text: &mut String, lines: &[Line]) -> Result<(), AllocError> {
     Ok(())
 }
 
+/// Writes the last lines of a run.
+fn write_last(text: &mut String, lines: &[Line]) -> Result<(), AllocError> {
+    if lines.is_empty() {
+        return text.push_str("  without a line\n");
+    }
+    text.push_str("  with the last lines\n")?;
+    let from = lines.len().saturating_sub(LAST_LINES);
+    write_lines(text, &lines[from..])
+}
+
 /// Writes the first schedule of an outcome, and the last lines of its run.
 fn write_run(
     alloc: Global,
@@ -122,12 +132,7 @@ fn write_run(
     let ends = ending_words(ending);
     writeln!(text, ", the first of which {ends}")?;
     write_events(text, &events)?;
-    if lines.is_empty() {
-        return text.push_str("  without a line\n");
-    }
-    text.push_str("  with the last lines\n")?;
-    let from = lines.len().saturating_sub(LAST_LINES);
-    write_lines(text, &lines.as_slice()[from..])
+    write_last(text, lines.as_slice())
 }
 
 /// Writes the most frequent outcomes.

@@ -44,29 +44,35 @@ impl From<Error> for NoRequest {
     }
 }
 
-/// A required argument.
-fn required<'a>(alloc: Global, name: &'a str) -> Arg<'a> {
-    Arg::new(alloc, name).required(true).action(ArgAction::Set)
+/// The program's arguments: the required ones, and each option but `--find` with what its use does.
+const ARGUMENTS: [(&str, Option<ArgAction>); 6] = [
+    ("world", None),
+    ("events", None),
+    ("ticks", Some(ArgAction::Set)),
+    ("upto", Some(ArgAction::Set)),
+    ("must-halt", Some(ArgAction::SetTrue)),
+    ("all", Some(ArgAction::SetTrue)),
+];
+
+/// An argument: an option, where its use does something, else a required one.
+fn argument<'a>(alloc: Global, name: &'a str, action: Option<ArgAction>) -> Arg<'a> {
+    let argument = Arg::new(alloc, name);
+    match action {
+        Some(action) => argument.long(name).action(action),
+        None => argument.required(true).action(ArgAction::Set),
+    }
 }
 
-/// An option with a value.
-fn option<'a>(alloc: Global, name: &'a str, action: ArgAction) -> Arg<'a> {
-    Arg::new(alloc, name).long(name).action(action)
-}
-
-/// The program's command line.
+/// The program's command line. A text behind `--find` may begin with a hyphen.
 fn command<'a>(alloc: Global) -> Result<Command<'a>, Error> {
-    Ok(
-        Command::new(alloc, "explore")
-            .no_binary_name(true)
-            .arg(required(alloc, "world"))?
-            .arg(required(alloc, "events"))?
-            .arg(option(alloc, "ticks", ArgAction::Set))?
-            .arg(option(alloc, "upto", ArgAction::Set))?
-            .arg(option(alloc, "find", ArgAction::Append).allow_hyphen_values(true))?
-            .arg(option(alloc, "must-halt", ArgAction::SetTrue))?
-            .arg(option(alloc, "all", ArgAction::SetTrue))?,
-    )
+    let find = argument(alloc, "find", Some(ArgAction::Append)).allow_hyphen_values(true);
+    let mut command = Command::new(alloc, "explore")
+        .no_binary_name(true)
+        .arg(find)?;
+    for (name, action) in ARGUMENTS {
+        command = command.arg(argument(alloc, name, action))?;
+    }
+    Ok(command)
 }
 
 /// The texts behind each `--find`.
@@ -77,9 +83,8 @@ fn finds_of<'a>(alloc: Global, matches: &ArgMatches<'a>) -> Result<Vec<&'a str>,
     }
 }
 
-/// What the words ask for; the program's name isn't one of them.
-pub fn requested<'a>(alloc: Global, words: &'a [&'a str]) -> Result<Request<'a>, NoRequest> {
-    let matches = command(alloc)?.try_get_matches_from(words)?;
+/// What the words ask for, once they are told apart.
+fn request_of<'a>(alloc: Global, matches: &ArgMatches<'a>) -> Result<Request<'a>, NoRequest> {
     let (Some(world), Some(events)) = (matches.get_str("world"), matches.get_str("events")) else {
         return Err(NoRequest::Usage);
     };
@@ -88,8 +93,13 @@ pub fn requested<'a>(alloc: Global, words: &'a [&'a str]) -> Result<Request<'a>,
         events,
         ticks: matches.get_str("ticks"),
         upto: matches.get_str("upto"),
-        finds: finds_of(alloc, &matches)?,
+        finds: finds_of(alloc, matches)?,
         must_halt: matches.get_flag("must-halt"),
         all: matches.get_flag("all"),
     })
+}
+
+/// What the words ask for; the program's name isn't one of them.
+pub fn requested<'a>(alloc: Global, words: &'a [&'a str]) -> Result<Request<'a>, NoRequest> {
+    request_of(alloc, &command(alloc)?.try_get_matches_from(words)?)
 }

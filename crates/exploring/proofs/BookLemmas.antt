@@ -1,5 +1,6 @@
 -- What is told of the texts that are looked for.
 use Rattle.std.proofs.Common.{Bor, Result, Ok, Err, OnOk, ◌≡◌, ℕ, ◌+◌, ◌<◌, ◌≤◌, Bool, true, false, ◌||◌, List, [], ◌∷◌, ◌++◌, length, map, take, get_or, refl, ap, ap₂, sym, ◌∙◌, arith}
+use Rattle.std.proofs.Math.Bool.{or-false}
 use Rattle.std.specs.List.{All, AllByRecursion, list_any}
 use Rattle.std.specs.List.Sorted.{IsPermutation}
 use Rattle.std.proofs.lemmas.List.{take_more, take_all, take-append-le}
@@ -22,10 +23,6 @@ or_more false true c = refl
 or_more false false true = refl
 or_more false false false = refl
 
-or_nothing : (a : Bool) → (a || false) ≡ a
-or_nothing true = refl
-or_nothing false = refl
-
 saw_more : (lines : List Line) (l : Line) (f : FindView) → looked_at (shown l.entry) (saw lines f) ≡ saw (lines ++ l ∷ []) f
 saw_more lines l f =
     let p : Line → Bool = λ x. has_text f.text (shown x.entry) in
@@ -45,7 +42,7 @@ all_saw_more lines i l finds now next lt is before after =
 
 pub none_seen : (finds : List FindView) → finds ≡ map (saw []) finds
 none_seen [] = refl
-none_seen (f ∷ fs) = ap₂ (λ x xs. x ∷ xs) (ap (λ b. record f { is_there = b }) (sym (or_nothing f.is_there))) (none_seen fs)
+none_seen (f ∷ fs) = ap₂ (λ x xs. x ∷ xs) (ap (λ b. record f { is_there = b }) (sym (or-false f.is_there))) (none_seen fs)
 
 -- who looks counts none
 saw_tallies : (lines : List Line) (finds : List FindView) → map tally_of (map (saw lines) finds) ≡ map tally_of finds

@@ -3,6 +3,7 @@ use Rattle.kernel.proofs.RunLemmas.{runs_then}
 use Rattle.std.proofs.Common.{Result, Ok, Err, OnOk, ◌≡◌, ℕ, zero, suc, ◌+◌, ◌-◌, ◌<◌, ◌≤◌, Bool, true, false, ◌||◌, Option, Some, None, List, [], ◌∷◌, ◌++◌, length, map, take, get_or, Contains, refl, ap, ap₂, sym, subst, ◌∙◌, append_assoc, append-nil, arith}
 use Rattle.std.specs.Prelude.{replicate, option_and_then, if◌then◌else◌}
 use Rattle.std.specs.List.{All, AllByRecursion}
+use Rattle.std.specs.Result.{IfOk}
 use Rattle.std.proofs.lemmas.List.{length-replicate, map-append, take_more}
 use Rattle.kernel.proofs.EventLemmas.{replicate_joined}
 use Rattle.std.proofs.lemmas.List.Elements.{All-from_recursion}
@@ -20,8 +21,7 @@ use Rattle.posix.specs.Runs.{RunsFrom}
 use Rattle.posix.specs.Regular.{IsRegular}
 use Rattle.posix.specs.Settle.{settle, IsSettled}
 use Rattle.laws.specs.Memory.{EntriesGrantAll}
-use Rattle.laws.proofs.MemoryLemmas.{step_determined}
-use Rattle.laws.proofs.RefusalLemmas.{memory_refused}
+use Rattle.laws.proofs.MemoryLemmas.{step_determined, true_grants}
 use Rattle.posix.proofs.UnseenLemmas.{covers_none, settle_none}
 use Rattle.schedules.specs.Families.{Places}
 use Rattle.schedules.specs.Schedules.{scheduled}
@@ -101,9 +101,6 @@ parts_grant ls ms none = both (one_denies_memory ls) (one_denies_memory ms) (sym
 
 entries_grant : (k : ℕ) (entries : List Entry) → one_denies_memory (numbered k entries) ≡ false → EntriesGrantAll entries
 entries_grant k entries none p call c = let no = sym none ∙ an_entry_denies k entries p call c in absurd (cc)
-
-true_grants : (s : State) (event : Event) → EntriesGrantAll (next true s event).entries
-true_grants s event p call c = let no = memory_refused true s event p call c in absurd (cc)
 
 pub granted_course : (k : ℕ) (s last : State) (events : List Event) (lines : List Line) → RunsFrom k s events lines last → one_denies_memory lines ≡ false → course_from k s events ≡ record { lines = lines; last = last }
 granted_course k s last [] lines (none, same) all = ap₂ (λ ls (t : State). record { lines = ls; last = t }) (sym none) (sym same)
@@ -225,14 +222,15 @@ adds_then xs ys zs k j a b c before mid after at all p q = record {
 pub adds_idle : (n k : ℕ) (s : State) (x : Event) (lines : List Line) → next true s x ≡ silent s → Adds k s (replicate n x) s lines lines
 adds_idle n k s x lines idle = record { shows = []; added = sym (append-nil lines); grants = grants_idle n k s x idle }
 
--- from the start of a world on
-pub adds_course : (world : World) (events : List Event) (last start : State) (lines : List Line) (ending : Ending) → start ≡ boot world → Adds 1 start events last [] lines → ending ≡ ending_of last
-    → IsCourse world events lines ending
-adds_course world events last start lines ending is p ends = record {
+-- what is added to no lines from a world's start on is its course
+pub adds_course : {E : Type 0} (r : Result Ending E) (world : World) (old last : State) (events : List Event) (lines : List Line) → old ≡ boot world →
+    OnOk r (Adds 1 old events last [] lines) → IfOk r (λ ending. ending ≡ ending_of last) → IfOk r (λ ending. IsCourse world events lines ending)
+adds_course (Ok ending) world old last events lines booted adds ends = record {
   last = last;
-  grants = subst (λ (s : State). RunsGranted 1 s events lines last) is (subst (λ (ls : List Line). RunsGranted 1 start events ls last) (sym p.added) p.grants);
+  grants = subst (λ (s : State). RunsGranted 1 s events lines last) booted (subst (λ (ls : List Line). RunsGranted 1 old events ls last) (sym adds.added) adds.grants);
   ends = ends;
 }
+adds_course (Err e) world old last events lines booted adds ends = tt
 
 -- two facts of a success give a third
 pub on_ok_both : {T E : Type 0} (r : Result T E) (A B C : Type 0) → OnOk r A → OnOk r B → (A → B → C) → OnOk r C

@@ -4,7 +4,6 @@ ghost use Rattle.std.specs.Prelude.{◌≡◌, ◌+◌, ◌-◌, ◌<◌, ◌≤
 ghost use Rattle.posix.specs.Entries.{numbered};
 ghost use Rattle.posix.specs.Outcomes.{silent};
 ghost use Rattle.posix.specs.Regular.{IsRegular};
-ghost use Rattle.posix.specs.Runs.{RunsFrom};
 ghost use Rattle.posix.specs.Settle.{IsSettled};
 ghost use Rattle.posix.specs.Step.{next};
 ghost use Rattle.text.specs.EventTexts.{most_events};
@@ -15,8 +14,8 @@ ghost use Rattle.exploring.specs.Endings.{ending_of as ending_in};
 use crate::ending::Ending;
 use crate::lines::{Line, denies_memory};
 use arrayvec::ArrayVec;
-use kernel::{Entries, Kernel};
-use life::{Note, Notes};
+use kernel::Kernel;
+use life::Note;
 use posix::{Entry, Event, Pid};
 use std::alloc::{AllocError, Global};
 use text::{EventList, EventRun, World};
@@ -76,34 +75,6 @@ fn add_entries(lines: &mut Vec<Line>, event: u64, entries: &[Entry]) -> Result<(
     Ok(())
 }
 
-/// Gives one event as often as can be at once, up to the one with this number. The notes, and what the last one shows
-/// besides, are added to lists that are empty. Whose notes they are, where there are any.
-fn feed(
-    kernel: &mut Kernel,
-    event: Event,
-    last: u64,
-    notes: &mut Notes,
-    entries: &mut Entries,
-) -> Pid
-    requires few { last ≤ most_events }
-    requires some { kernel.old.events < last }
-    requires no_notes { notes.old.items ≡ [] }
-    requires none { entries.old.items ≡ [] }
-    ensures from { kernel.old.events < kernel.new.events }
-    ensures within { kernel.new.events ≤ last }
-    ensures runs { RunsFrom (kernel.old.events + 1) kernel.old.state (replicate (kernel.new.events - kernel.old.events) event) (noted_lines result notes.new.items ++ numbered kernel.new.events entries.new.items) kernel.new.state }
-    ensures regular { IsRegular kernel.new.state }
-    ensures settled { IsSettled kernel.new.state }
-{
-    match event {
-        Event::Step => kernel.steps(last, notes, entries),
-        Event::Tick | Event::Key { .. } => {
-            kernel.event_into(event, entries);
-            Pid::NONE
-        }
-    }
-}
-
 /// Gives one event as often as can be at once, up to the one with this number, and adds what they show, with numbers
 /// that grow by `left_out`.
 fn run_some(
@@ -124,7 +95,7 @@ fn run_some(
 {
     let mut notes = ArrayVec::new();
     let mut entries = ArrayVec::new();
-    let pid = feed(kernel, event, last, &mut notes, &mut entries);
+    let pid = kernel.repeat(event, last, &mut notes, &mut entries);
     add_notes(lines, left_out, pid, notes.as_slice())?;
     add_entries(lines, left_out + kernel.events(), entries.as_slice())
 }
@@ -152,6 +123,28 @@ fn run_many(
     Ok(left_out + (last - kernel.events()))
 }
 
+/// Gives all events of a list to a kernel that was given none, and adds what they show to lines, of which there are
+/// none. How it stands with the machine then.
+fn run_all(
+    kernel: &mut Kernel,
+    events: &EventList,
+    lines: &mut Vec<Line>,
+) -> Result<Ending, AllocError>
+    requires few { length events.now ≤ most_events }
+    requires first { kernel.old.events ≡ 0 }
+    requires regular { IsRegular kernel.old.state }
+    requires settled { IsSettled kernel.old.state }
+    requires none { lines.old.items ≡ [] }
+    ensures adds { OnOk result (Adds 1 kernel.old.state events.now kernel.new.state [] lines.new.items) }
+    ensures ending { IfOk result (λ ending. ending ≡ ending_in kernel.new.state) }
+{
+    let mut left_out = 0;
+    for run in events.runs() {
+        left_out = run_many(kernel, *run, left_out, lines)?;
+    }
+    Ok(ending_of(kernel))
+}
+
 /// Runs a list of events in a world, from its start on; the lines are those of its trace. An error where there is no
 /// memory for it, or for what a process of the world asks.
 pub fn run_list(
@@ -165,9 +158,5 @@ pub fn run_list(
 {
     lines.clear();
     let mut kernel = Kernel::boot(alloc, world)?;
-    let mut left_out = 0;
-    for run in events.runs() {
-        left_out = run_many(&mut kernel, *run, left_out, lines)?;
-    }
-    Ok(ending_of(&kernel))
+    run_all(&mut kernel, events, lines)
 }

@@ -1,12 +1,12 @@
 -- What the words of the command line ask for.
-use Rattle.std.proofs.Common.{◌≡◌, ◌⊎◌, ◌∙◌, List, [], ◌∷◌, Option, Some, None, true, false, ap, ap₂, refl, sym, subst, inl, inr, Bor, codes, option_and_then, option_map, slice_get, find, Result, Ok, Err, IfErr, IsErrAnd, unwrap_or}
+use Rattle.std.proofs.Common.{◌≡◌, ◌⊎◌, ◌∙◌, List, [], ◌∷◌, Option, Some, None, true, false, ap, ap₂, refl, sym, subst, inl, inr, Bor, codes, option_and_then, option_map, slice_get, find, Result, Ok, Err, IfErr, IfOk, unwrap_or}
 use Rattle.std.specs.Str.{bytes_eq}
 use Rattle.std.proofs.lemmas.Option.{slice_get-map}
 use Rattle.std.proofs.lemmas.Slice.Eq.{bytes_eq-Decides}
 use Rattle.clap.proofs.OnLiterals.{clap_on_literals}
 use Rattle.clap.proofs.WalkLemmas.{find_row}
 use Rattle.clap.specs.Facts.{Entry}
-use Rattle.clap.specs.Kinds.{HasKind, IsAmong, Kinds}
+use Rattle.clap.specs.Kinds.{FailsBy, HasKind, IsAmong, Kinds}
 use Rattle.clap.specs.Walk.{row_of}
 use Rattle.clap.specs.Words.{App, Row, Text, HasMatchesOf, fault_of, first_of, first_value, found_of, is_simple, is_simple_and_free, kind_of, rows_of, subcommand_rows, subcommand_name_of, subcommand_rows_of}
 use Rattle.std.specs.Prelude.{Box}
@@ -32,12 +32,8 @@ where_refused : (kinds : Kinds) (k : ErrorKind) (names : Option Asked) → IsAmo
 where_refused [] k names h = absurd h
 where_refused (x ∷ xs) k names h = refl
 
-pub err_of : {T : Type 0} (result : Result T Error) (P : Error → Type 0) (e : Error) → IsErrAnd result (λ x. x ≡ e) → P e → IfErr result P
-err_of (Ok x) P e is h = tt
-err_of (Err x) P e is h = subst P (sym is) h
-
 -- words that are refused for their own sake are no run's
-pub refused_words : (a : App) (words : List Text) (e : Error) → a ≡ command_line
+refused_words : (a : App) (words : List Text) (e : Error) → a ≡ command_line
     → (is_simple_and_free a ≡ true → HasKind (fault_of a words) e) → (kind_of e ≡ kind.OutOfMemory) ⊎ (request_of_words words ≡ None)
 refused_words a words e is_command fails =
     let P : App → Type 0 = λ b. is_simple_and_free b ≡ true → HasKind (fault_of b words) e in
@@ -47,7 +43,7 @@ refused_words a words e is_command fails =
     ]
 
 -- the names in the matches of words that are taken
-pub taken_words : (a : App) (words : List Text) (m : ArgMatches) → a ≡ command_line
+taken_words : (a : App) (words : List Text) (m : ArgMatches) → a ≡ command_line
     → (is_simple_and_free a ≡ true → fault_of a words ≡ []) → HasMatchesOf a words m
     → option_and_then request_in (subcommand_rows_of m) ≡ request_of_words words
 taken_words a words m is_command fails matches =
@@ -58,6 +54,19 @@ taken_words a words m is_command fails matches =
     let taken : (kinds : Kinds) → kinds ≡ [] → (names : Option Asked) → names ≡ unless_refused kinds names =
     λ kinds h names. sym (ap (λ k. unless_refused k names) h) in
     ap (option_and_then request_in) read ∙ taken (fault_of command_line words) none _
+
+-- what is asked for by matches, and why there are none
+pub asked_by_matches : (a : App) (words : List Text) (result : Result ArgMatches Error) → a ≡ command_line
+    → (is_simple_and_free a ≡ true → FailsBy (fault_of a words) result) → IfOk result (HasMatchesOf a words)
+    → IfOk result (λ m. option_and_then request_in (subcommand_rows_of m) ≡ request_of_words words)
+asked_by_matches a words (Ok m) is_command fails matches = taken_words a words m is_command fails matches
+asked_by_matches a words (Err e) is_command fails matches = tt
+
+pub asked_by_none : (a : App) (words : List Text) (result : Result ArgMatches Error) → a ≡ command_line
+    → (is_simple_and_free a ≡ true → FailsBy (fault_of a words) result)
+    → IfErr result (λ e. (kind_of e ≡ kind.OutOfMemory) ⊎ (request_of_words words ≡ None))
+asked_by_none a words (Ok m) is_command fails = tt
+asked_by_none a words (Err e) is_command fails = refused_words a words e is_command fails
 
 value_of_row : (id : Text) (o : Option Entry)
     → option_and_then (λ r. slice_get r.values 0) (option_map row_of o)
@@ -96,12 +105,12 @@ pub argument_read : (sub : Bor ArgMatches) (id : Text) (value : Option (Bor Text
 argument_read sub id value is = is ∙ sym (first_value_of_row (found_of sub.now) id)
 
 -- what is asked for by `run`, and by `audit`
-pub run_read : (name : Text) (rows : List Row) (read : Option (Text × List Row)) → Some (name, rows) ≡ read → bytes_eq name (codes "run") ≡ true
-    → run_asked (first_of (codes "world") rows) (first_of (codes "events") rows) ≡ option_and_then request_in read
-run_read name rows read is run = rw (← is, run) refl
+pub run_read : (name : Text) (rows : List Row) → bytes_eq name (codes "run") ≡ true
+    → run_asked (first_of (codes "world") rows) (first_of (codes "events") rows) ≡ request_in (name, rows)
+run_read name rows run = rw run refl
 
-pub audit_read : (name : Text) (rows : List Row) (read : Option (Text × List Row)) → Some (name, rows) ≡ read → bytes_eq name (codes "audit") ≡ true
-    → audit_asked (first_of (codes "trace") rows) ≡ option_and_then request_in read
-audit_read name rows read is audit =
+pub audit_read : (name : Text) (rows : List Row) → bytes_eq name (codes "audit") ≡ true
+    → audit_asked (first_of (codes "trace") rows) ≡ request_in (name, rows)
+audit_read name rows audit =
     let run : bytes_eq name (codes "run") ≡ false = ap (λ n. bytes_eq n (codes "run")) ((bytes_eq-Decides name (codes "audit")).0 audit) in
-    rw (← is, run, audit) refl
+    rw (run, audit) refl

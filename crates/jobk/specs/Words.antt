@@ -28,8 +28,11 @@ without_program_name command = record command { no_binary_name = true }
 abbrev pub with_required_subcommand : Shape → Shape
 with_required_subcommand command = record command { subcommand_required = true }
 
+abbrev pub command_to_run : App
+command_to_run = with_subcommand (on_top with_required_subcommand (on_top without_program_name (new_app (codes "jobk")))) run_command.top
+
 abbrev pub command_line : App
-command_line = with_subcommand (with_subcommand (on_top with_required_subcommand (on_top without_program_name (new_app (codes "jobk")))) run_command.top) audit_command.top
+command_line = with_subcommand command_to_run audit_command.top
 
 -- A run is asked for by two names, and an audit by one.
 abbrev pub run_asked : Option Text → Option Text → Option Asked

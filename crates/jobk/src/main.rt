@@ -1,21 +1,7 @@
 //! `jobk`: runs a world of small programs over a list of events, and prints the trace; or audits a trace.
 #![tactic(auto)]
 
-#[cfg(test)]
-mod console_tests;
-#[cfg(test)]
-mod count_tests;
-#[cfg(test)]
-mod group_tests;
-#[cfg(test)]
-mod machine_tests;
-#[cfg(test)]
-mod process_tests;
 mod serving;
-#[cfg(test)]
-mod signal_tests;
-#[cfg(test)]
-mod tests;
 mod words;
 
 use host::{HostFiles, as_texts, read_words};

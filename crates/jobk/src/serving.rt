@@ -1,6 +1,7 @@
 //! What the program does: its texts and its statuses.
 
 ghost use Rattle.std.specs.Prelude.{◌≡◌, ◌≤◌, IfOk, IfErr, IfSome, OnOk, map};
+ghost use Rattle.host.specs.declared.files.FileFault.{FileFault};
 ghost use Rattle.sink.specs.Sinks.{TakesAll};
 ghost use Rattle.jobk.specs.Serving.{AreInFiles, AreOther, AskFor, AskForAudit, Contents, Ends, Means, failure_of, status_of};
 
@@ -53,6 +54,17 @@ impl<'a> Failure<'a> {
     }
 }
 
+/// The bytes of a file.
+fn read<'a, F: ReadFiles>(files: &F, name: &'a str) -> Result<Vec<u8>, Failure<'a>>
+    ensures ok { IfOk result (λ read. IfSome (F.contents files.now name.entry.now) (λ known. read.items ≡ known)) }
+    ensures err { IfErr result (λ why. (fault : FileFault) × (why ≡ failure_of fault name.entry)) }
+{
+    match files.read_file(name) {
+        Ok(bytes) => Ok(bytes),
+        Err(fault) => Err(Failure::of_file(fault, name)),
+    }
+}
+
 /// Runs the two texts.
 fn run_texts<'a, O: Sink>(
     alloc: Global,
@@ -80,12 +92,8 @@ fn run_files<'a, F: ReadFiles, O: Sink>(
     ensures { Ends (AreInFiles (F.contents files.now) (world.entry.now, events.entry.now)) (λ t. ⊥) ⊥
         out.old out.new (O.seen out.old) (O.seen out.new) result }
 {
-    let world_bytes = files
-        .read_file(world)
-        .map_err(|fault| Failure::of_file(fault, world))?;
-    let event_bytes = files
-        .read_file(events)
-        .map_err(|fault| Failure::of_file(fault, events))?;
+    let world_bytes = read(files, world)?;
+    let event_bytes = read(files, events)?;
     run_texts(alloc, world_bytes.as_slice(), event_bytes.as_slice(), out)
 }
 
@@ -131,9 +139,7 @@ fn audit_file<'a, F: ReadFiles, O: Sink>(
     ensures { Ends (λ w e. ⊥) (λ t. IfSome (F.contents files.now trace.entry.now) (λ known. t ≡ known)) ⊥
         out.old out.new (O.seen out.old) (O.seen out.new) result }
 {
-    let bytes = files
-        .read_file(trace)
-        .map_err(|fault| Failure::of_file(fault, trace))?;
+    let bytes = read(files, trace)?;
     audit_trace(alloc, bytes.as_slice(), out)
 }
 

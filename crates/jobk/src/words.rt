@@ -1,12 +1,13 @@
 //! The words of the command line.
 
 ghost use Rattle.std.specs.Prelude.{◌≡◌, ◌⊎◌, IfOk, IfErr, None, false, map, option_and_then, option_map};
-ghost use Rattle.clap.specs.Words.{app_of, kind_of, rule_of, subcommand_rows_of};
-ghost use Rattle.jobk.specs.Words.{IsAskedBy, audit_asked, command_line, request_in, request_of_words, required_rule, run_asked, said};
+ghost use Rattle.clap.specs.Words.{app_of, found_of, kind_of, rows_of, rule_of, subcommand_rows_of, with_rule};
+ghost use Rattle.clap.specs.declared.builder.command.Command.TheViews.{out-Command as fields_of};
+ghost use Rattle.jobk.specs.Words.{IsAskedBy, audit_asked, audit_command, command_line, command_to_run, request_in, request_of_words, required_rule, run_asked, run_command, said};
 
 use clap::error::ErrorKind;
 use clap::{Arg, ArgAction, ArgMatches, Command, Error};
-use std::alloc::Global;
+use std::alloc::{AllocError, Global};
 
 /// What the words ask for.
 #[derive(Debug, Drop, PartialEq, Eq)]
@@ -29,22 +30,52 @@ fn required<'a>(alloc: Global, name: &'a str) -> Arg<'a>
     Arg::new(alloc, name).required(true).action(ArgAction::Set)
 }
 
-/// The program's command line.
-fn command<'a>(alloc: Global) -> Result<Command<'a>, Error>
-    ensures ok { IfOk result (λ c. app_of c ≡ command_line) }
-    ensures err { IfErr result (λ e. kind_of e ≡ ErrorKind.OutOfMemory) }
+/// A command with one more argument, which is required.
+fn with_required<'a>(
+    alloc: Global,
+    command: Command<'a>,
+    name: &'a str,
+) -> Result<Command<'a>, AllocError>
+    ensures rule { IfOk result (λ c. app_of c ≡ with_rule (app_of command.entry) (required_rule name.entry.now)) }
+    ensures local { IfOk result (λ c. (fields_of command.entry).has_globals ≡ false → (fields_of c).has_globals ≡ false) }
 {
-    let run = Command::new(alloc, "run")
-        .arg(required(alloc, "world"))?
-        .arg(required(alloc, "events"))?;
-    let audit = Command::new(alloc, "audit").arg(required(alloc, "trace"))?;
-    Ok(
-        Command::new(alloc, "jobk")
-            .no_binary_name(true)
-            .subcommand_required(true)
-            .subcommand(run)?
-            .subcommand(audit)?,
-    )
+    command.arg(required(alloc, name))
+}
+
+/// The subcommand `run WORLD EVENTS`.
+fn run_command<'a>(alloc: Global) -> Result<Command<'a>, AllocError>
+    ensures is { IfOk result (λ c. app_of c ≡ run_command) }
+    ensures local { IfOk result (λ c. (fields_of c).has_globals ≡ false) }
+{
+    let of_world = with_required(alloc, Command::new(alloc, "run"), "world")?;
+    with_required(alloc, of_world, "events")
+}
+
+/// The subcommand `audit TRACE`.
+fn audit_command<'a>(alloc: Global) -> Result<Command<'a>, AllocError>
+    ensures is { IfOk result (λ c. app_of c ≡ audit_command) }
+    ensures local { IfOk result (λ c. (fields_of c).has_globals ≡ false) }
+{
+    with_required(alloc, Command::new(alloc, "audit"), "trace")
+}
+
+/// The program's command line, of which `run` is the only subcommand.
+fn command_to_run<'a>(alloc: Global) -> Result<Command<'a>, AllocError>
+    ensures { IfOk result (λ c. app_of c ≡ command_to_run) }
+{
+    let run = run_command(alloc)?;
+    Command::new(alloc, "jobk")
+        .no_binary_name(true)
+        .subcommand_required(true)
+        .subcommand(run)
+}
+
+/// The program's command line.
+fn command<'a>(alloc: Global) -> Result<Command<'a>, AllocError>
+    ensures { IfOk result (λ c. app_of c ≡ command_line) }
+{
+    let audit = audit_command(alloc)?;
+    command_to_run(alloc)?.subcommand(audit)
 }
 
 /// What the two names behind `run` ask for, where both are there.
@@ -67,33 +98,42 @@ fn audit_with<'a>(trace: Option<&'a str>) -> Request<'a>
     }
 }
 
+/// What a subcommand's name and arguments ask for.
+fn asked_by<'a>(name: &str, arguments: &ArgMatches<'a>) -> Request<'a>
+    ensures { said result ≡ request_in (name.now, rows_of (found_of arguments.now)) }
+{
+    match name {
+        "run" => run_with(arguments.get_str("world"), arguments.get_str("events")),
+        "audit" => audit_with(arguments.get_str("trace")),
+        _ => Request::Usage,
+    }
+}
+
 /// What the matches of the words ask for.
 fn request_of<'a>(matches: &ArgMatches<'a>) -> Request<'a>
     ensures { said result ≡ option_and_then request_in (subcommand_rows_of matches.now) }
 {
     match matches.subcommand() {
-        Some(("run", run)) => run_with(run.get_str("world"), run.get_str("events")),
-        Some(("audit", audit)) => audit_with(audit.get_str("trace")),
-        _ => Request::Usage,
+        Some((name, arguments)) => asked_by(name, arguments),
+        None => Request::Usage,
     }
 }
 
-/// Parses the words.
-fn parsed<'a>(alloc: Global, words: &'a [&'a str]) -> Result<Request<'a>, Error>
-    ensures ok { IfOk result (λ r. said r ≡ request_of_words (map (λ w. w.now) words.entry.now)) }
+/// Matches the words with the program's command line.
+fn matched<'a>(alloc: Global, words: &'a [&'a str]) -> Result<ArgMatches<'a>, Error>
+    ensures ok { IfOk result (λ m. option_and_then request_in (subcommand_rows_of m) ≡ request_of_words (map (λ w. w.now) words.entry.now)) }
     ensures err { IfErr result (λ e. (kind_of e ≡ ErrorKind.OutOfMemory)
         ⊎ (request_of_words (map (λ w. w.now) words.entry.now) ≡ None)) }
 {
-    let matches = command(alloc)?.try_get_matches_from(words)?;
-    Ok(request_of(&matches))
+    command(alloc)?.try_get_matches_from(words)
 }
 
 /// What the words ask for; the program's name isn't one of them.
 pub fn requested<'a>(alloc: Global, words: &'a [&'a str]) -> Request<'a>
     ensures { IsAskedBy (map (λ w. w.now) words.entry.now) result }
 {
-    match parsed(alloc, words) {
-        Ok(request) => request,
+    match matched(alloc, words) {
+        Ok(matches) => request_of(&matches),
         Err(e) => {
             if e.kind() == ErrorKind::OutOfMemory {
                 Request::NoMemory

@@ -13,7 +13,7 @@ use Rattle.posix.specs.Alarms.{is_due}
 use Rattle.pidset.specs.Indexes.{IsRekeyed, IsNextPair, IsAt, anchor_key, is_key, key_of}
 use Rattle.pidset.specs.Lists.{ListsView}
 use Rattle.pidset.proofs.IndexLemmas.{IsElsewhere, can_replace, unmoved, indexed_moved, indexed_map, indexed_adopted, index_moved, index_map, index_empty, rekeyed, next_pair, members_passing}
-use Rattle.posix.proofs.TableLemmas.{pid_reparented}
+use Rattle.posix.proofs.TableLemmas.{pid_reparented, reparented_keeps}
 use Rattle.posix.proofs.WalkLemmas.{both_pass}
 use Rattle.jobs.specs.declared.books.Books.{Books}
 use Rattle.jobs.specs.declared.books.Seen.{Seen}
@@ -77,17 +77,13 @@ books_unmoved p parent it rs b h s = record {
 
 -- ---- all processes
 
--- what doesn't look at the parent is the same of a process with another
-pub unadopted : {A : Type 0} (f : Process → A) (from to : ℕ) → ((r : Process) → f (record r { parent = to }) ≡ f r) → (r : Process) → f (reparented from to r) ≡ f r
-unadopted f from to k r = elim (r.parent == from) as (λ b. f (cond b (record r { parent = to }) r) ≡ f r) [ true ↦ k r | false ↦ refl ]
-
 pub books_adopted : (from to : ℕ) → from ≢ to → (rs : List Process) (old new : Books) → AreBooks rs old → new.members ≡ old.members → IsRekeyed from to old.reporting new.reporting → new.stopped ≡ old.stopped → new.alarmed ≡ old.alarmed → AreBooks (adopted from to rs) new
 unfolding adopted
 books_adopted from to ne rs old new h m k e g = record {
-  members = rw m (index_map member_key (reparented from to) (pid_reparented from to) (unadopted member_key from to (λ r. refl)) rs old.members.pairs h.members);
+  members = rw m (index_map member_key (reparented from to) (pid_reparented from to) (reparented_keeps member_key from to (λ r. refl)) rs old.members.pairs h.members);
   reporting = indexed_adopted report_key from to ne reports rs old.reporting new.reporting h.reporting k;
-  stopped = rw e (indexed_map stopped_key (reparented from to) (pid_reparented from to) (unadopted stopped_key from to (λ r. refl)) rs old.stopped h.stopped);
-  alarmed = rw g (indexed_map alarm_key (reparented from to) (pid_reparented from to) (unadopted alarm_key from to (λ r. refl)) rs old.alarmed h.alarmed);
+  stopped = rw e (indexed_map stopped_key (reparented from to) (pid_reparented from to) (reparented_keeps stopped_key from to (λ r. refl)) rs old.stopped h.stopped);
+  alarmed = rw g (indexed_map alarm_key (reparented from to) (pid_reparented from to) (reparented_keeps alarm_key from to (λ r. refl)) rs old.alarmed h.alarmed);
 }
   where
     reports : (r : Process) → report_key (reparented from to r) ≡ rekeyed from to (report_key r)

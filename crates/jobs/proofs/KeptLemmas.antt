@@ -9,8 +9,8 @@ use Rattle.std.proofs.lemmas.List.{length-map}
 use Rattle.posix.specs.Processes.{Process, is_zombie}
 use Rattle.posix.specs.Tables.{IsRising, lookup, at, changed, inserted, removed, adopted, reparented, parent_of, children_in, is_member}
 use Rattle.posix.specs.Targets.{greatest_pid}
-use Rattle.posix.proofs.TableLemmas.{pid_looked, lookup_changed, remove_none, rising_inserted, rising_removed, rising_adopted, length_inserted, length_removed, pid_reparented}
-use Rattle.posix.proofs.MapLemmas.{children_map, lookup_map, lookup_back, at_pid, at_keeps}
+use Rattle.posix.proofs.TableLemmas.{pid_looked, lookup_changed, remove_none, rising_inserted, rising_removed, rising_adopted, length_inserted, length_removed, pid_reparented, reparented_keeps}
+use Rattle.posix.proofs.MapLemmas.{lookup_map, lookup_back, at_pid, at_keeps}
 use Rattle.posix.proofs.RegularLemmas.{lookup_new, lookup_removed}
 use Rattle.posix.proofs.WalkLemmas.{all_looked, some_looked}
 use Rattle.pidset.specs.Indexes.{AreTurned, HaveParents, IndexView, key_of, IsAnchorIndex, IsMoved, IsReplaced, IsRekeyed}
@@ -25,7 +25,7 @@ use Rattle.jobs.specs.Books.{AreMoved, CanMove, snapshot_seen, IsInside, anchor_
 use Rattle.jobs.specs.JobTables.{AreNumbers, AreWithin, HasParent, IsGroupFor, IsKept, IsRun, StaysGrouped}
 use Rattle.proctable.specs.declared.snapshot.Snapshot.{Snapshot}
 use Rattle.jobs.proofs.SnapshotLemmas.{is_there, some_read, none_read, snapshot_are}
-use Rattle.jobs.proofs.BookLemmas.{Fits, Sees, can_move, sees, sees_none, fits, books_moved, books_unmoved, books_adopted, unadopted}
+use Rattle.jobs.proofs.BookLemmas.{Fits, Sees, can_move, sees, sees_none, fits, books_moved, books_unmoved, books_adopted}
 use Rattle.pidset.proofs.AnchorLemmas.{anchors_inserted, anchors_removed, anchors_adopted}
 use Rattle.proctable.proofs.LinkLemmas.{no_child}
 use Rattle.jobs.proofs.AnchorLemmas.{seen_at, seen_found, key_at, child_is, stance_in, anchors_same, number_within}
@@ -81,11 +81,6 @@ pub length_record : (rs : List Process) (p : ℕ) (c : Record) → length (with_
 unfolding changed
 length_record rs p c = length-map rs (at p (give_record c))
 
--- as many are children of each
-pub children_record : (rs : List Process) (p : ℕ) (c : Record) (q : ℕ) → length (children_in q (with_record rs p c)) ≡ length (children_in q rs)
-unfolding give_record changed
-children_record rs p c q = ap length (children_map (at p (give_record c)) (at_keeps (λ r. r.parent) p (give_record c) (λ r. refl)) q rs) ∙ length-map (children_in q rs) (at p (give_record c))
-
 -- p has the other record
 pub record_found : (rs : List Process) (p : ℕ) (b c : Record) → lookup p rs ≡ Some (process_of p (parent_of p rs) b) → lookup p (with_record rs p c) ≡ Some (process_of p (parent_of p rs) c)
 unfolding give_record
@@ -95,8 +90,6 @@ record_found rs p b c e = lookup_changed p p (give_record c) (λ r. refl) rs ∙
 pub none_record : (rs : List Process) (p : ℕ) (c : Record) → AreNumbers rs → lookup 0 (with_record rs p c) ≡ None
 unfolding give_record
 none_record rs p c numbers = absent_changed p (give_record c) (λ r. refl) 0 rs (numbers 0 (inl refl))
-
-pub ruleset record_rules = (record_found, none_record)
 
 pub elsewhere_record : (rs : List Process) (p : ℕ) (c : Record) → IsElsewhere p rs (with_record rs p c)
 unfolding give_record
@@ -199,7 +192,7 @@ kept_adopted n rs new from to old now ne is members moved same still heir there 
   numbers = λ q out. lookup_map (reparented from to) (pid_reparented from to) q rs ∙ ap (option_map (reparented from to)) (k.numbers q out);
   within = rw members (λ q r e.
       let was = lookup_back (reparented from to) (pid_reparented from to) q rs r e in
-      rw (was.is, pid_reparented from to was.what, unadopted (λ (r : Process). r.group) from to (λ r. refl) was.what) (k.within q was.what was.found));
+      rw (was.is, pid_reparented from to was.what, reparented_keeps (λ (r : Process). r.group) from to (λ r. refl) was.what) (k.within q was.what was.found));
   limit = rw members k.limit;
   count = k.count ∙ sym (length-map rs (reparented from to));
   books = books_adopted from to ne rs old now k.books members moved same still;

@@ -80,7 +80,6 @@ fn turn<K: Kin>(table: &mut K, anchors: &mut Lists, pid: Pid, parent: &Seen)
 }
 
 /// The children of a process that is there stand among the anchors, or don't, as those of one that is seen so.
-#[tactic(auto, using(crate::proofs::AnchorLemmas::child_rules))]
 pub(crate) fn turn_children<K: Kin>(table: &mut K, anchors: &mut Lists, pid: Pid, parent: &Seen)
     requires there { IsSome (lookup pid (K.contents table.old)) }
     requires none { lookup 0 (K.contents table.old) ≡ None }

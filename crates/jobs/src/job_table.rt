@@ -71,7 +71,6 @@ impl<K: Kin> JobTable<K> {
 
     /// Makes room for one more process, with a number up to `greatest`. At an error the host has no memory for it,
     /// and the processes are unchanged.
-    #[tactic(auto, using(crate::proofs::KeptLemmas::size_of))]
     pub fn reserve(&mut self, greatest: Pid) -> Result<(), AllocError>
         ensures ok { OnOk result (0 < self.new.room) }
         ensures limit { OnOk result (greatest < self.new.limit) }
@@ -94,7 +93,6 @@ impl<K: Kin> JobTable<K> {
 
     /// Puts in a process that isn't there, where there is room for one with this number. Its number isn't 0, its parent
     /// is there, or number 0, and there is room for the number of its process group. The others are unchanged.
-    #[tactic(auto, using(crate::proofs::KeptLemmas::size_of))]
     pub fn insert(&mut self, pid: Pid, parent: Pid, fields: Record)
         requires room { 0 < self.old.room }
         requires number { pid ≢ 0 }
@@ -124,7 +122,6 @@ impl<K: Kin> JobTable<K> {
     }
 
     /// Takes out a process without children. Its small fields; none, and nothing changes, where it isn't there.
-    #[tactic(auto, using(crate::proofs::KeptLemmas::leave_rules))]
     pub fn remove(&mut self, pid: Pid) -> Option<Snapshot>
         requires { children_in pid self.old.processes ≡ [] }
         ensures value { result ≡ option_map snapshot_of (lookup pid self.old.processes) }
@@ -244,7 +241,6 @@ impl<K: Kin> JobTable<K> {
 
     /// Changes a process that is there, and moves it in the indexes, and its children where they see a change of it.
     /// Each change goes by this that the parent of the process sees. What was seen of it before and after.
-    #[tactic(auto, using(crate::proofs::KeptLemmas::record_rules))]
     pub fn change_seen<F: FnOnce(&mut Record)>(&mut self, pid: Pid, change: F) -> Change
         requires there { IsSome (lookup pid self.old.processes) }
         requires callable { F.IsAlwaysCallable change }

@@ -10,8 +10,6 @@ pub mod books;
 pub mod groups;
 pub mod job_table;
 pub mod moves;
-#[cfg(test)]
-mod tests;
 
 pub use books::{Change, Seen};
 pub use job_table::JobTable;

@@ -1,6 +1,7 @@
 -- Whole runs keep the laws of a trace.
 use Rattle.std.proofs.Common.{◌≡◌, ℕ, ◌+◌, ◌≤◌, List, ap, sym, subst, ◌∙◌, arith, ◌<◌, Bool, true, [], ◌∷◌, Option, Some, None, ℤ, pos, negsuc, nat_le, refl}
-use Rattle.std.specs.Prelude.{Ok}
+use Rattle.std.specs.Prelude.{Result, Ok, Err}
+use Rattle.std.specs.Result.{IfOk}
 use Rattle.std.specs.List.{list_all, AllByRecursion}
 use Rattle.std.proofs.lemmas.Bool.{leb-true, and_parts}
 use Rattle.std.proofs.lemmas.Bool.Decides.{nat_tests}
@@ -19,7 +20,8 @@ use Rattle.posix.specs.Regular.{IsRegular}
 use Rattle.kernel.specs.declared.summary.Summary.{Summary}
 use Rattle.sink.specs.Sinks.{Seen}
 use Rattle.text.specs.WorldTexts.{world_text}
-use Rattle.kernel.specs.Headline.{Traces}
+use Rattle.kernel.specs.declared.texts.RunError.{RunError}
+use Rattle.kernel.specs.Headline.{Traces, Headline}
 use Rattle.kernel.specs.Accounts.{Accounts}
 use Rattle.laws.proofs.AgreeRuns.{run_trace}
 
@@ -73,7 +75,7 @@ events_kind (e ∷ es) h = (event_kind e h.0, events_kind es h.1)
 -- ---- traces
 
 -- a trace keeps the laws
-pub accounts : (world_bytes event_bytes : List ℕ) (a b : Seen) (summary : Summary) (w : World) → world_text world_bytes ≡ Ok w → 1 ≤ w.pidmax → Traces world_bytes event_bytes a b summary → Accounts a b summary
+accounts : (world_bytes event_bytes : List ℕ) (a b : Seen) (summary : Summary) (w : World) → world_text world_bytes ≡ Ok w → 1 ≤ w.pidmax → Traces world_bytes event_bytes a b summary → Accounts a b summary
 accounts world_bytes event_bytes a b summary w is most t =
     let same : w ≡ t.run.world = let both = sym is ∙ t.run.world_is in cc in
     let events = text_events t.run.world.consoles event_bytes t.events t.run.events_are in
@@ -85,3 +87,9 @@ accounts world_bytes event_bytes a b summary w is most t =
       laws = h.agree.laws;
       counts = ap (λ (s : Summary). s.births) t.counted ∙ h.agree.counts ∙ sym (ap (λ (s : Summary). s.living + s.zombies + s.reported + s.dropped) t.counted);
     }
+
+-- so does the trace of a run that came to its end
+pub all_accounts : {S : Type 0} (old new : S) (world_bytes event_bytes : List ℕ) (a b : Seen) (r : Result Summary RunError) (w : World) → world_text world_bytes ≡ Ok w → 1 ≤ w.pidmax →
+    Headline world_bytes event_bytes old new a b r → IfOk r (λ summary. Accounts a b summary)
+all_accounts old new world_bytes event_bytes a b (Ok summary) w is most h = accounts world_bytes event_bytes a b summary w is most h
+all_accounts old new world_bytes event_bytes a b (Err why) w is most h = tt

@@ -34,19 +34,19 @@ pub ok_holds : {A E F : Type 0} (r : Result A E) (m : Result A F) (x : A) (P : A
 ok_holds {A = A} {E = E} r m x P Q h e a = subst (λ (n : Result A E). IfOk n P) (ok_before r m x Q h e) a
 
 -- a kernel that was booted, whose trace was written and counted, traces the run of the texts
-pub traces : (world_bytes event_bytes : List ℕ) (w : World) (consoles : ℕ) (events : List Event) (old new : KernelView) (a b : Seen) (ends : ℕ) (summary : Summary) →
-    world_text world_bytes ≡ Ok w → consoles ≡ w.consoles → event_text consoles event_bytes ≡ Ok events →
+pub traces : (world_bytes event_bytes : List ℕ) (w : World) (events : List Event) (old new : KernelView) (a b : Seen) (ends : ℕ) (summary : Summary) →
+    world_text world_bytes ≡ Ok w → event_text w.consoles event_bytes ≡ Ok events →
     old.state ≡ boot w → old.events ≡ 0 → WritesTrace (old.events + 1) old.state events new.state a b ends →
     new.events ≡ old.events + length events → ((lines : List Line) → reported lines ≡ ends → summary ≡ summary_of new.events lines new.state) →
     Traces world_bytes event_bytes a b summary
-traces world_bytes event_bytes w consoles events old new a b ends summary world_is same events_are booted none writes count counted = record {
+traces world_bytes event_bytes w events old new a b ends summary world_is events_are booted none writes count counted = record {
   events = events;
   lines = writes.lines;
   last = new.state;
   run = record {
     world = w;
     world_is = world_is;
-    events_are = subst (λ (n : ℕ). event_text n event_bytes ≡ Ok events) same events_are;
+    events_are = events_are;
     run = subst (λ (n : ℕ). RunsFrom (n + 1) (boot w) events writes.lines new.state) none (subst (λ (s : State). RunsFrom (old.events + 1) s events writes.lines new.state) booted writes.run);
   };
   taken = writes.taken;
@@ -55,17 +55,17 @@ traces world_bytes event_bytes w consoles events old new a b ends summary world_
 }
 
 -- a kernel that was booted, whose trace broke off, cuts the run of the texts short
-pub cuts_short : (world_bytes event_bytes : List ℕ) (w : World) (consoles : ℕ) (events : List Event) (old : KernelView) (a b : Seen) →
-    world_text world_bytes ≡ Ok w → consoles ≡ w.consoles → event_text consoles event_bytes ≡ Ok events →
+pub cuts_short : (world_bytes event_bytes : List ℕ) (w : World) (events : List Event) (old : KernelView) (a b : Seen) →
+    world_text world_bytes ≡ Ok w → event_text w.consoles event_bytes ≡ Ok events →
     old.state ≡ boot w → old.events ≡ 0 → BreaksTrace (old.events + 1) old.state events a b → CutsShort world_bytes event_bytes a b
-cuts_short world_bytes event_bytes w consoles events old a b world_is same events_are booted none breaks = record {
+cuts_short world_bytes event_bytes w events old a b world_is events_are booted none breaks = record {
   events = events;
   lines = breaks.lines;
   last = breaks.last;
   run = record {
     world = w;
     world_is = world_is;
-    events_are = subst (λ (n : ℕ). event_text n event_bytes ≡ Ok events) same events_are;
+    events_are = events_are;
     run = subst (λ (n : ℕ). RunsFrom (n + 1) (boot w) events breaks.lines breaks.last) none (subst (λ (s : State). RunsFrom (old.events + 1) s events breaks.lines breaks.last) booted breaks.run);
   };
   broken = breaks.broken;

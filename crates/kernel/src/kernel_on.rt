@@ -241,6 +241,37 @@ impl<K: Kin> KernelOn<K> {
         pid
     }
 
+    /// One event, as often as can be at once, up to the one with number `last`: once, but a `Step` as
+    /// [`KernelOn::steps`] gives it. The notes, and what the last one shows besides, are added to lists that are empty.
+    /// Whose notes they are, where there are any.
+    #[inline]
+    pub fn repeat(
+        &mut self,
+        event: Event,
+        last: u64,
+        notes: &mut Notes,
+        entries: &mut Entries,
+    ) -> Pid
+        requires few { last ≤ most_events }
+        requires some { self.old.events < last }
+        requires no_notes { notes.old.items ≡ [] }
+        requires none { entries.old.items ≡ [] }
+        ensures events { self.new.events ≡ last_given event self.old.events last self.old.state }
+        ensures from { self.old.events < self.new.events }
+        ensures within { self.new.events ≤ last }
+        ensures runs { RunsFrom (self.old.events + 1) self.old.state (replicate (self.new.events - self.old.events) event) (noted_lines result notes.new.items ++ numbered self.new.events entries.new.items) self.new.state }
+        ensures regular { IsRegular self.new.state }
+        ensures settled { IsSettled self.new.state }
+    {
+        match event {
+            Event::Step => self.steps(last, notes, entries),
+            Event::Tick | Event::Key { .. } => {
+                self.event_into(event, entries);
+                Pid::NONE
+            }
+        }
+    }
+
     /// [`KernelOn::event`], whose entries are added to a list that is empty.
     #[inline]
     pub fn event_into(&mut self, event: Event, entries: &mut Entries)

@@ -1,8 +1,7 @@
 //! Events, one after another, to a printed trace.
 
-ghost use Rattle.std.specs.Prelude.{◌≡◌, ◌+◌, ◌-◌, ◌≤◌, ◌<◌, ◌++◌, [], length, IfOk, OnOk, OnErr, replicate};
+ghost use Rattle.std.specs.Prelude.{◌≡◌, ◌+◌, ◌-◌, ◌≤◌, ◌<◌, ◌++◌, length, IfOk, OnOk, OnErr, replicate};
 ghost use Rattle.posix.specs.Entries.{numbered, reported, reports_end as reports_end_of};
-ghost use Rattle.posix.specs.Runs.{RunsFrom};
 ghost use Rattle.posix.specs.Printing.{print};
 ghost use Rattle.text.specs.EventTexts.{most_events};
 ghost use Rattle.sink.specs.Sinks.{Gathers, BreaksOff};
@@ -72,34 +71,6 @@ fn write_notes<S: Sink>(
     Ok(())
 }
 
-/// Gives the kernel one event as often as can be at once, up to the one with this number. The notes, and what
-/// the last one shows besides, are added to lists that are empty. Whose notes they are, where there are any.
-#[inline]
-fn feed<K: Kin>(
-    kernel: &mut KernelOn<K>,
-    event: Event,
-    last: u64,
-    notes: &mut Notes,
-    entries: &mut Entries,
-) -> Pid
-    requires few { last ≤ most_events }
-    requires some { kernel.old.events < last }
-    requires no_notes { notes.old.items ≡ [] }
-    requires none { entries.old.items ≡ [] }
-    ensures events { kernel.new.events ≡ last_given event kernel.old.events last kernel.old.state }
-    ensures from { kernel.old.events < kernel.new.events }
-    ensures within { kernel.new.events ≤ last }
-    ensures runs { RunsFrom (kernel.old.events + 1) kernel.old.state (replicate (kernel.new.events - kernel.old.events) event) (noted_lines result notes.new.items ++ numbered kernel.new.events entries.new.items) kernel.new.state }
-{
-    match event {
-        Event::Step => kernel.steps(last, notes, entries),
-        Event::Tick | Event::Key { .. } => {
-            kernel.event_into(event, entries);
-            Pid::NONE
-        }
-    }
-}
-
 /// Gives one event as often as can be at once, up to the one with this number, and prints what they show; the
 /// lists are room for it.
 #[inline]
@@ -122,7 +93,7 @@ fn run_some<K: Kin, S: Sink>(
 {
     notes.clear();
     entries.clear();
-    let pid = feed(kernel, event, last, notes, entries);
+    let pid = kernel.repeat(event, last, notes, entries);
     write_notes(pid, notes.as_slice(), pending, out)?;
     write_entries(kernel.events(), entries.as_slice(), pending, out)
 }

@@ -1,6 +1,9 @@
 //! A run, from two texts to a printed trace.
 
-ghost use Rattle.std.specs.Prelude.{◌≡◌, IfOk};
+ghost use Rattle.std.specs.Prelude.{◌≡◌, ◌+◌, ◌≤◌, ℕ, List, Ok, IfOk, length};
+ghost use Rattle.posix.specs.States.{World as WorldValue, boot as boot_of};
+ghost use Rattle.text.specs.EventTexts.{event_text, most_events};
+ghost use Rattle.text.specs.WorldTexts.{world_text};
 ghost use Rattle.kernel.specs.Headline.{Headline, refused};
 ghost use Rattle.kernel.specs.Accounts.{Accounts};
 
@@ -10,7 +13,7 @@ use crate::summary::Summary;
 use proctable::{Kin, ProcTable};
 use sink::Sink;
 use std::alloc::Global;
-use text::{Reason, TextFault, read_events, read_world};
+use text::{EventList, Reason, TextFault, read_events, read_world};
 use thiserror::Error;
 
 /// Why a run didn't come to its end.
@@ -50,6 +53,22 @@ fn events_error(fault: TextFault) -> RunError
     }
 }
 
+/// Gives all events to a kernel of a world, which none was given before, and puts the printed trace into a sink. What
+/// it says of texts that stand for both is what [`run_on`] says.
+fn run_kernel<K: Kin, S: Sink>(
+    kernel: &mut KernelOn<K>,
+    events: &EventList,
+    out: &mut S,
+) -> Result<Summary, RunError>
+    requires few { kernel.old.events + length events.now ≤ most_events }
+    ensures { (world_bytes event_bytes : List ℕ) (world : WorldValue) → world_text world_bytes ≡ Ok world → event_text world.consoles event_bytes ≡ Ok events.now → kernel.old.state ≡ boot_of world → kernel.old.events ≡ 0 → Headline world_bytes event_bytes out.old out.new (S.seen out.old) (S.seen out.new) result }
+{
+    match write_trace(kernel, events, out) {
+        Ok(ends) => Ok(kernel.summary(ends)),
+        Err(_) => Err(RunError::Write),
+    }
+}
+
 /// Runs the events of a text in the world of another, on a table of processes, and puts the printed
 /// trace into a sink.
 ///
@@ -70,10 +89,7 @@ pub fn run_on<K: Kin, S: Sink>(
     let world = read_world(alloc, world).map_err(world_error)?;
     let events = read_events(alloc, world.consoles(), events).map_err(events_error)?;
     let mut kernel = KernelOn::<K>::boot(alloc, &world).map_err(|_| RunError::Memory)?;
-    match write_trace(&mut kernel, &events, out) {
-        Ok(ends) => Ok(kernel.summary(ends)),
-        Err(_) => Err(RunError::Write),
-    }
+    run_kernel(&mut kernel, &events, out)
 }
 
 /// [`run_on`] the table of processes that the program uses.

@@ -16,7 +16,8 @@ use Rattle.posix.specs.States.{World, State, boot, process, is_in}
 use Rattle.posix.specs.Entries.{Line, numbered, reported}
 use Rattle.posix.specs.Generation.{is_pending}
 use Rattle.posix.specs.Step.{next}
-use Rattle.laws.specs.TraceLines.{is_line, is_end_word}
+use Rattle.laws.specs.TraceLines.{is_line}
+use Rattle.posix.specs.Statuses.{is_end_word}
 use Rattle.laws.specs.Lives.{newest_life, is_living, last_line, lawful}
 use Rattle.laws.specs.Keeping.{Alive, Kept, NeverBorn, Lives, Died, Phase, Going, FirstEnded, Over, kept_of, phase_of, last_number}
 use Rattle.laws.specs.Agree.{is_birth, count_living, count_zombies}

@@ -29,7 +29,7 @@ use Rattle.posix.specs.declared.process.Sending.TheVariants as sends
 use Rattle.posix.specs.declared.target.Target.{Target}
 use Rattle.posix.specs.SignalNumbers.{KILL, SEGV, STOP, is_signal, is_stop_signal, default_action, is_standard, is_realtime}
 use Rattle.posix.specs.SignalSets.{has, word_of, set_in}
-use Rattle.posix.specs.Statuses.{exited, killed, stopped, continued}
+use Rattle.posix.specs.Statuses.{exited, killed, stopped, continued, is_end_word}
 use Rattle.posix.specs.Processes.{Process, Signals, Credentials, Cpu, argument, zero_registers, zero_memory, first_process, default_actions, nothing_pending}
 use Rattle.posix.specs.Tables.{IsRising, lookup, removed, pids}
 use Rattle.posix.specs.States.{Program, State, change, lose_place, go_last, current, next_pid, process, World, boot}
@@ -70,7 +70,7 @@ use Rattle.posix.specs.Regular.{IsRegular, IsAhead}
 use Rattle.posix.specs.Entries.{line, numbered}
 use Rattle.posix.specs.Notices.{stopped_by, signalled_all}
 use Rattle.posix.specs.Consoles.{unused_console}
-use Rattle.laws.specs.TraceLines.{is_number, is_i64, is_result, asks_memory, is_entry, is_line, is_end_word}
+use Rattle.laws.specs.TraceLines.{is_number, is_i64, is_result, asks_memory, is_entry, is_line}
 use Rattle.posix.proofs.CountLemmas.{next_halted}
 use Rattle.posix.proofs.WakeLemmas.{next_awake}
 use Rattle.posix.proofs.NextLemmas.{new_number}

@@ -1,12 +1,13 @@
 -- What the lines say of each number changes, line by line, as what is kept of it does.
 use Rattle.std.proofs.Common.{◌≡◌, ℕ, Bool, true, false, cond, not, ◌&&◌, ◌||◌, if◌then◌else◌, ◌==◌, List, [], ◌∷◌, ◌++◌, Option, Some, None, option_map, is_some, refl, ap, sym, ◌∙◌, arith}
 use Rattle.std.specs.List.{list_any}
+use Rattle.std.proofs.Math.Bool.{or-false}
 use Rattle.std.proofs.lemmas.Bool.{eqb-true, eqb-false, cases_Bool}
 use Rattle.std.proofs.lemmas.List.Folds.{list_any-append}
 use Rattle.posix.specs.Entries.{Line, process_of}
 use Rattle.posix.specs.declared.entry.Entry.{Entry}
 use Rattle.posix.specs.declared.entry.Entry.TheVariants.{Noted, Called, Moved, Reported, NoMemory, Handled, Discarded, Stopped, Returned, Ended, Halted}
-use Rattle.laws.specs.TraceLines.{is_end_word, is_continued_word}
+use Rattle.posix.specs.Statuses.{is_end_word, is_continued_word}
 use Rattle.laws.specs.Lives.{LastOf, last_where, newest_life, life_after, LifeSoFar, the_end, EndOf, or_later, parent_of, begins, is_just, born_by, last_stop, or_zero, reports, reports_in, stop_in, end_in, is_change_word}
 use Rattle.laws.specs.Keeping.{Alive, Dead, Kept, NeverBorn, Lives, Died, kept_of, kept_of_life, kept_since, alive_since, kept_after, newborn, after_report, after_stop, ended_with, given_on, moved_from}
 
@@ -55,13 +56,9 @@ unborn_stays (Returned p) c h = refl
 unborn_stays (Ended p w) c h = grind (arith, cases_Bool)
 unborn_stays Halted c h = refl
 
-or_false : (b : Bool) → (b || false) ≡ b
-or_false true = refl
-or_false false = refl
-
 -- whether one passes of a list with one more
 any_more : {A : Type 0} (test : A → Bool) (xs : List A) (x : A) → list_any test (xs ++ x ∷ []) ≡ (list_any test xs || test x)
-any_more test xs x = list_any-append test xs (x ∷ []) ∙ ap (λ b. list_any test xs || b) (or_false (test x))
+any_more test xs x = list_any-append test xs (x ∷ []) ∙ ap (λ b. list_any test xs || b) (or-false (test x))
 
 -- ---- the newest life
 
@@ -194,7 +191,7 @@ alive_same : (parent : ℕ) (a : Alive) → Lives (record { parent = parent; has
 alive_same parent a = ap (λ (b : Bool). Lives (record { parent = parent; has_stopped = a.has_stopped; stop = a.stop; may_continue = b })) (and_true a.may_continue)
 
 dead_same : (parent : ℕ) (d : Dead) → Died (record { parent = parent; status = d.status; reported = d.reported || false }) ≡ Died (record d { parent = parent })
-dead_same parent d = ap (λ (b : Bool). Died (record { parent = parent; status = d.status; reported = b })) (or_false d.reported)
+dead_same parent d = ap (λ (b : Bool). Died (record { parent = parent; status = d.status; reported = b })) (or-false d.reported)
 
 -- a line that is no stop, end or report of c
 plain_told : (entry : Entry) (c : ℕ) (k : Kept) → stop_in c entry ≡ None → reports_in c is_change_word entry ≡ false

@@ -1,9 +1,10 @@
 -- What each change of a record keeps of its kinds.
-use Rattle.std.proofs.Common.{◌≡◌, ℕ, zero, suc, ◌-◌, ◌≤◌, ◌<◌, Bool, true, false, ◌&&◌, refl, arith, subst, List, [], ◌∷◌, ◌++◌, ◌∙◌, map, take, drop, replicate, Some, ℤ, pos, negsuc, nat_lt}
+use Rattle.std.proofs.Common.{◌≡◌, ℕ, zero, suc, ◌-◌, ◌≤◌, ◌<◌, Bool, true, false, refl, arith, subst, List, [], ◌∷◌, ◌++◌, ◌∙◌, map, take, drop, replicate, Some, ℤ, pos, negsuc, nat_lt}
 use Rattle.std.specs.Prelude.{slice_set, slice_index_or, slice_get, int_rem, unsigned_abs}
 use Rattle.std.specs.Int.{w64, cast_signed}
 use Rattle.std.specs.List.{list_all}
 use Rattle.std.proofs.lemmas.Bool.{and_parts, leb-true}
+pub use Rattle.std.proofs.lemmas.Bool.{and_from as and_both}
 use Rattle.std.proofs.lemmas.Bool.Decides.{nat_tests}
 use Rattle.std.proofs.lemmas.List.Folds.{list_all-append}
 use Rattle.std.proofs.lemmas.Int.{rem_below}
@@ -12,11 +13,6 @@ use Rattle.laws.specs.TraceLines.{is_i64}
 use Rattle.laws.specs.Kinds.{is_id}
 
 -- ---- lists
-
-pub and_both : (a b : Bool) → a ≡ true → b ≡ true → (a && b) ≡ true
-and_both true true h k = refl
-and_both true false h k = k
-and_both false b h k = h
 
 pub all_set : {A : Type 0} (t : A → Bool) (xs : List A) (i : ℕ) (x : A) → list_all t xs ≡ true → t x ≡ true → list_all t (slice_set xs i x) ≡ true
 all_set t [] i x h k = h

@@ -9,7 +9,7 @@ use Rattle.posix.specs.declared.process.Life.{Life}
 use Rattle.posix.specs.declared.process.Life.TheVariants.{Running, Stopped, Zombie}
 use Rattle.posix.specs.declared.process.PendingSignal.{PendingSignal}
 use Rattle.posix.specs.SignalNumbers.{CONT, HUP, is_signal, is_standard, is_realtime}
-use Rattle.posix.specs.Statuses.{continued, stopped}
+use Rattle.posix.specs.Statuses.{continued, stopped, is_end_word, is_exit_word}
 use Rattle.posix.specs.Processes.{Process, is_zombie}
 use Rattle.posix.specs.Tables.{IsRising, lookup, at, changed, inserted, removed, is_child, children_in, reparented, adopted, pids, members_in}
 use Rattle.posix.specs.Outcomes.{Outcome}
@@ -26,7 +26,7 @@ use Rattle.posix.specs.Alarms.{ring_at, ring_all, pass_time}
 use Rattle.posix.specs.Settle.{is_fresh, refreshed, give_places, clear_foregrounds, settle}
 use Rattle.posix.specs.Step.{signalled_from, key_on, key, rotate, tick}
 use Rattle.posix.specs.Terminals.{terminal}
-use Rattle.laws.specs.TraceLines.{is_i64, is_end_word, is_exit_word}
+use Rattle.laws.specs.TraceLines.{is_i64}
 use Rattle.laws.specs.Kinds.{is_id, is_byte, is_carried, is_console, IsKind, IsWorld, AreKinds}
 use Rattle.posix.proofs.TableLemmas.{pid_looked, pid_reparented, lookup_changed, rising_filter}
 use Rattle.posix.proofs.MapLemmas.{at_pid, lookup_back}
@@ -111,11 +111,7 @@ kinds_signalled signal c standard (p ∷ ps) rs h =
 
 -- a real-time signal that is generated for one process leaves the others
 others_stay : (signal : PendingSignal) (p q : ℕ) (rs : List Process) → is_realtime signal.sig ≡ true → q ≢ p → lookup q (generated_for signal (lookup p rs) rs) ≡ lookup q rs
-others_stay signal p q rs real other = by (lookup p rs) refl
-  where
-    by : (o : Option Process) → lookup p rs ≡ o → lookup q (generated_for signal o rs) ≡ lookup q rs
-    by None e = refl
-    by (Some r) e = ap (lookup q) (generated_alone signal p r rs real e) ∙ lookup_changed p q (signalled signal) (unseen_signalled signal).pid rs ∙ rw (ne_eqb q p other) refl
+others_stay signal p q rs real other = ap (lookup q) (generated_alone signal p (lookup p rs) rs real refl) ∙ lookup_changed p q (signalled signal) (unseen_signalled signal).pid rs ∙ rw (ne_eqb q p other) refl
 
 -- the process is there, and where the signal would be queued for it there is room
 abbrev pub IsThereWithRoom : List Process → ℕ → Process → Type 0

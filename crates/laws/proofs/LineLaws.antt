@@ -1,13 +1,12 @@
 -- What the laws of a trace say of its lines.
 use Rattle.std.proofs.Common.{◌≡◌, ◌≤◌, ◌<◌, ℕ, ◌%◌, Bool, true, false, cond, ◌&&◌, ◌||◌, not, if◌then◌else◌, ◌==◌, List, [], ◌∷◌, ◌++◌, append_assoc, append-nil, Option, Some, None, is_some, is_none, refl, ap, sym, ◌∙◌, arith, subst}
 use Rattle.std.specs.List.{list_any}
-use Rattle.std.proofs.lemmas.Bool.{eqb-true, eq-eqb, and_parts, leb-true, ltb-true, true_from_ne_false, false_from_ne_true}
+use Rattle.std.proofs.lemmas.Bool.{eqb-true, eq-eqb, and_parts, or_parts, leb-true, ltb-true, true_from_ne_false, false_from_ne_true}
 use Rattle.std.proofs.lemmas.List.Folds.{list_any-append}
 use Rattle.posix.specs.declared.entry.Entry.{Entry}
 use Rattle.posix.specs.declared.entry.Entry.TheVariants.{Reported, Ended}
-use Rattle.posix.specs.Statuses.{continued}
+use Rattle.posix.specs.Statuses.{continued, is_end_word, is_stopped_word, is_continued_word}
 use Rattle.posix.specs.Entries.{Line, line, process_of}
-use Rattle.laws.specs.TraceLines.{is_end_word, is_stopped_word, is_continued_word}
 use Rattle.laws.specs.Lives.{LastOf, last_where, or_this, LifeSoFar, life_after, newest_life, EndOf, the_end, or_later, parent_of, parent_in, parent_in_life, end_in, reports_in, reports, begins, born_by, is_just, is_change_word, none_or, is_halt, is_due, is_due_to, end_report, is_living, Everywhere, Laws, numbers_rise, within_life, begins_apart, report_law, reports_due, halts_last, last_line, was_halt, ends_first, number_from, ends, stops, IsOfEnd}
 use Rattle.laws.specs.Keeping.{Dead, Kept, NeverBorn, Lives, Died, kept_of, kept_after, lives_now, word_fault, stop_fault, report_fault}
 use Rattle.laws.proofs.KeptLemmas.{last_where_more, line_makes, makes_same, told_is_kept, unborn_stays, begun, kept_more}
@@ -16,10 +15,6 @@ use Rattle.laws.proofs.LawfulLemmas.{everywhere_at, everywhere_first}
 use Rattle.laws.proofs.StatusLemmas.{end_tells}
 
 -- ---- what is kept, line by line
-
-neither : (a b : Bool) → (a || b) ≡ false → (a ≡ false) × (b ≡ false)
-neither true b h = absurd (cc)
-neither false b h = (refl, h)
 
 -- what is kept after one line more
 pub kept_next : (before : List Line) (l : Line) (c : ℕ) → line_makes l.entry c (kept_of before c) ≡ kept_of (before ++ l ∷ []) c
@@ -30,7 +25,7 @@ kept_through : (P : Kept → Type 0) (c : ℕ) (t : Line → Bool) → ((l : Lin
     → (before between : List Line) → list_any t between ≡ false → P (kept_of before c) → P (kept_of (before ++ between) c)
 kept_through P c t stays before [] none h = subst (λ ls. P (kept_of ls c)) (sym (append-nil before)) h
 kept_through P c t stays before (l ∷ ls) none h =
-    let both = neither (t l) (list_any t ls) none in
+    let both = or_parts (t l) (list_any t ls) none in
     let one : P (kept_of (before ++ l ∷ []) c) = subst P (kept_next before l c) (stays l (kept_of before c) both.0 h) in
     subst (λ ls. P (kept_of ls c)) (append_assoc before (l ∷ []) ls) (kept_through P c t stays (before ++ l ∷ []) ls both.1 one)
 
@@ -463,7 +458,7 @@ reported_to_parent before after l p c w h is word =
           event = b.event;
           later = e.after;
           ended = subst (λ v. before ≡ (a.earlier ++ b.earlier) ++ line b.event (Ended c v) ∷ e.after) status lines;
-          same_life = (neither (list_any (begins c) b.earlier) (list_any (begins c) e.after) unborn).1;
+          same_life = (or_parts (list_any (begins c) b.earlier) (list_any (begins c) e.after) unborn).1;
           unreported = none;
           parent = ap (parent_in_life before) life ∙ ap Some parent;
         }

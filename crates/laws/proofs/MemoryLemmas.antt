@@ -174,7 +174,7 @@ run_determined k old last end (event ∷ events) lines others run also all both 
 -- ---- a run for which all is granted
 
 -- where all is granted no entry says otherwise
-true_grants : (s : State) (event : Event) → EntriesGrantAll (next true s event).entries
+pub true_grants : (s : State) (event : Event) → EntriesGrantAll (next true s event).entries
 true_grants s event p call c = let no = memory_refused true s event p call c in absurd (cc)
 
 -- an entry in a line of an event is one of the event

@@ -1,7 +1,7 @@
 -- Who is given a place by an event, and how the order moves.
 use Rattle.std.proofs.Common.{◌≡◌, ◌≢◌, ℕ, Bool, true, false, not, ◌&&◌, ◌||◌, is_some, Some, refl, ap, sym, ◌∙◌, subst, List, [], ◌∷◌, ◌++◌, map, append-nil, append_assoc, Option, ◌==◌, slice_get, inl, inr}
 use Rattle.std.specs.Option.{IsSomeAnd}
-use Rattle.std.proofs.lemmas.Bool.{ne_eqb, or_from, or_cases, or_right, false_from_ne_true}
+use Rattle.std.proofs.lemmas.Bool.{ne_eqb, or_from, or_cases, or_right}
 use Rattle.posix.specs.declared.event.Event.{Event}
 use Rattle.posix.specs.declared.entry.Entry.{Entry}
 use Rattle.posix.specs.declared.process.Blocked.TheVariants as blocked
@@ -14,7 +14,7 @@ use Rattle.posix.specs.Regular.{IsRegular, IsDistinct}
 use Rattle.posix.specs.Outcomes.{Outcome}
 use Rattle.posix.specs.Settle.{give_places, clear_foregrounds, settle, can_go_on, can_act}
 use Rattle.posix.specs.Step.{IsStep, next, happens}
-use Rattle.posix.proofs.MemberLemmas.{in_append, in_first, in_last, in_rest, is_other}
+use Rattle.posix.proofs.MemberLemmas.{in_append, in_first, in_last, in_rest, still_out}
 use Rattle.posix.proofs.OrderLemmas.{first_in}
 use Rattle.posix.proofs.ActLemmas.{Turned}
 use Rattle.posix.proofs.CountLemmas.{next_halted}
@@ -27,17 +27,13 @@ use Rattle.laws.proofs.RegularStays.{happens_regular}
 
 -- ---- who is given a place can act
 
--- what is left of an order gives nobody a place
-none_by_loss : (p q : ℕ) (order : List ℕ) → is_in q order ≡ false → is_in q (without p order) ≡ false
-none_by_loss p q order e = false_from_ne_true _ (λ t. let no = sym e ∙ (is_other p q order t).among in absurd (cc))
-
 -- a turn of p, which has a place, gives nobody one
 none_by_turn : (p q : ℕ) (old new : List ℕ) → is_in p old ≡ true → Turned p old new → is_in q old ≡ false → is_in q new ≡ false
 none_by_turn p q old new e (inl same) out = ap (is_in q) same ∙ out
-none_by_turn p q old new e (inr (inl less)) out = ap (is_in q) less ∙ none_by_loss p q old out
+none_by_turn p q old new e (inr (inl less)) out = ap (is_in q) less ∙ still_out p q old out
 none_by_turn p q old new e (inr (inr last)) out =
     let apart : (p == q) ≡ false = ne_eqb p q (λ k. let no = sym e ∙ ap (λ n. is_in n old) k ∙ out in absurd (cc)) in
-    ap (is_in q) last ∙ in_last q p (without p old) ∙ or_from _ _ (none_by_loss p q old out) apart
+    ap (is_in q) last ∙ in_last q p (without p old) ∙ or_from _ _ (still_out p q old out) apart
 
 -- before places are given an event gives nobody one
 none_before : (granted : Bool) (s : State) (event : Event) (q : ℕ) → is_in q s.order ≡ false → is_in q (happens granted s event).state.order ≡ false

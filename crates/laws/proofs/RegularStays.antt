@@ -55,7 +55,7 @@ use Rattle.posix.specs.Attempts.{attempt, attempt_again}
 use Rattle.posix.specs.Regular.{IsRegular, IsPlaced, CanInherit, IsDistinct}
 use Rattle.posix.specs.Settle.{give_places, clear_foregrounds, settle}
 use Rattle.posix.specs.Step.{IsStep, next, happens, step, tick, rotate, act, act_in, after_trap, begin_call, enter, set_cpu, deliver_or, out_of_call, go_on, code_of}
-use Rattle.posix.proofs.TableLemmas.{pid_looked, pid_reparented, remove_none, rising_filter}
+use Rattle.posix.proofs.TableLemmas.{pid_looked, pid_reparented, reparented_keeps, remove_none, rising_filter}
 use Rattle.posix.proofs.MapLemmas.{at_pid, lookup_back}
 use Rattle.posix.proofs.MemberLemmas.{in_append, in_first, apart_rest}
 use Rattle.posix.proofs.RegularLemmas.{Keeps, keeps_none, keeps_at, keeps_set_cpu, keeps_news_told, keeps_handles, keeps_take_out, keeps_noticed, keeps_with_alarm, due_ahead, lookup_left, placed_least, regular_as, regular_change, regular_lose, regular_depart, regular_halt, regular_inserted, regular_removed, regular_pass}
@@ -180,7 +180,7 @@ dead_told s heir (z ∷ zs) c h = dead_told (notice_of_end s heir z.pid (status_
 
 -- a zombie that gets another parent
 zombie_reparented : (p heir : ℕ) (r : Process) → is_zombie r.life ≡ true → is_zombie (reparented p heir r).life ≡ true
-zombie_reparented p heir r z = cond_both (r.parent == p) (record r { parent = heir }) r (λ (q : Process). is_zombie q.life ≡ true) (λ e. z) (λ e. z)
+zombie_reparented p heir r z = reparented_keeps (λ r. is_zombie r.life) p heir (λ r. refl) r ∙ z
 
 -- after a departure who was dead is dead
 dead_departed : (s : State) (p heir w c : ℕ) → IsDead s.processes c → IsDead (leave_children_and_die s p heir w).processes c

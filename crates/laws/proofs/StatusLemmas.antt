@@ -4,8 +4,7 @@ use Rattle.std.specs.Int.{cast_unsigned, w64}
 use Rattle.std.proofs.lemmas.Bool.{eqb-true, eq-eqb, cases_eq, and_parts, or_cases, leb-true}
 use Rattle.std.proofs.lemmas.Bool.Decides.{nat_tests}
 use Rattle.posix.specs.SignalNumbers.{is_signal, is_standard, is_realtime, is_stop_signal}
-use Rattle.posix.specs.Statuses.{exited, stopped, tells_end}
-use Rattle.laws.specs.TraceLines.{is_exit_word, is_end_word, is_stopped_word, is_continued_word}
+use Rattle.posix.specs.Statuses.{exited, stopped, tells_end, is_exit_word, is_end_word, is_stopped_word, is_continued_word}
 
 -- what holds of STOP, TSTP, TTIN and TTOU holds of each stop signal
 stop_cases : (P : ℕ → Type 0) → P 19 → P 20 → P 21 → P 22 → (s : ℕ) → is_stop_signal s ≡ true → P s

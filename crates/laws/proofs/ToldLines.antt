@@ -1,6 +1,6 @@
 -- What lines tell of: births, ends, stops and reports; and lines that tell of nothing.
 use Rattle.std.proofs.Common.{◌≡◌, ◌≢◌, ℕ, zero, suc, ◌+◌, ◌/◌, ◌≤◌, Bool, true, false, cond, ◌==◌, List, [], ◌∷◌, ◌++◌, length, Option, Some, None, option_map, is_none, refl, ap, sym, ◌∙◌, arith, subst, pos, inl, inr}
-use Rattle.std.proofs.lemmas.Bool.{eqb-true, eqb-false, eq-eqb, ne_eqb, cond_both}
+use Rattle.std.proofs.lemmas.Bool.{eqb-true, eqb-false, eq-eqb, ne_eqb}
 use Rattle.posix.specs.declared.entry.Entry.{Entry}
 use Rattle.posix.specs.declared.entry.Entry.TheVariants.{Noted, Called, Moved, Reported, NoMemory, Handled, Discarded, Stopped, Returned, Ended, Halted}
 use Rattle.posix.specs.declared.call.Call.TheVariants.{Fork}
@@ -8,7 +8,7 @@ use Rattle.posix.specs.declared.process.Life.{Life}
 use Rattle.posix.specs.declared.process.Life.TheVariants.{Running, Stopped as Halting, Zombie}
 use Rattle.posix.specs.declared.process.News.TheVariants as news
 use Rattle.posix.specs.SignalNumbers.{is_stop_signal}
-use Rattle.posix.specs.Statuses.{stopped, continued, tells_end}
+use Rattle.posix.specs.Statuses.{stopped, continued, tells_end, is_end_word}
 use Rattle.posix.specs.Processes.{Process, is_zombie, is_stopped, is_running}
 use Rattle.posix.specs.Tables.{IsRising, lookup, changed, inserted, removed, reparented, adopted}
 use Rattle.posix.specs.States.{State, process, change}
@@ -18,13 +18,12 @@ use Rattle.posix.specs.Births.{child_of, born}
 use Rattle.posix.specs.Ends.{ended, made_zombie, halt, leave_children_and_die}
 use Rattle.posix.specs.Notices.{stopped_by}
 use Rattle.posix.specs.Waits.{news_told}
-use Rattle.laws.specs.TraceLines.{is_end_word}
 use Rattle.laws.specs.Lives.{LastOf, LifeSoFar, EndOf, newest_life, the_end, last_stop, parent_of, born_by}
 use Rattle.laws.specs.Keeping.{Alive, Kept, NeverBorn, Lives, Died, Phase, Going, FirstEnded, Over, kept_of, kept_of_life, kept_since, alive_since, kept_after, newborn, after_report, after_stop, ended_with, given_on, moved_from, lives_now, place_fault, report_fault, word_fault, phase_after}
 use Rattle.laws.specs.Agree.{NewsAgree, AgreeOn, AgreeIn}
 use Rattle.laws.proofs.KeptLemmas.{and_true}
 use Rattle.laws.proofs.NextLineLemmas.{lives_kept, free_kept, agree_says}
-use Rattle.posix.proofs.TableLemmas.{lookup_changed, pid_looked, pid_reparented, length_inserted}
+use Rattle.posix.proofs.TableLemmas.{lookup_changed, pid_looked, pid_reparented, reparented_keeps, length_inserted}
 use Rattle.posix.proofs.MapLemmas.{lookup_map}
 use Rattle.std.proofs.lemmas.List.{length-map}
 use Rattle.posix.proofs.RegularLemmas.{lookup_kept, lookup_removed, lookup_inserted, lookup_new}
@@ -111,10 +110,10 @@ parent_reparented : (p heir : ℕ) (r : Process) → (reparented p heir r).paren
 parent_reparented p heir r = elim (r.parent == p) as (λ b. (cond b (record r { parent = heir }) r).parent ≡ cond b heir r.parent) [ true ↦ refl | false ↦ refl ]
 
 life_reparented : (p heir : ℕ) (r : Process) → (reparented p heir r).life ≡ r.life
-life_reparented p heir r = cond_both (r.parent == p) (record r { parent = heir }) r (λ (q : Process). q.life ≡ r.life) (λ e. refl) (λ e. refl)
+life_reparented p heir r = reparented_keeps (λ r. r.life) p heir (λ r. refl) r
 
 news_reparented : (p heir : ℕ) (r : Process) → (reparented p heir r).news ≡ r.news
-news_reparented p heir r = cond_both (r.parent == p) (record r { parent = heir }) r (λ (q : Process). q.news ≡ r.news) (λ e. refl) (λ e. refl)
+news_reparented p heir r = reparented_keeps (λ r. r.news) p heir (λ r. refl) r
 
 -- children that are given on
 agree_given : (p heir : ℕ) (k : Kept) (o : Option Process) → AgreeOn k o → AgreeOn (given_on p heir k) (option_map (reparented p heir) o)

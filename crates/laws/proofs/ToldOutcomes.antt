@@ -1,13 +1,13 @@
 -- What a process does in its turn, and the lines that tell of it.
 use Rattle.std.proofs.Common.{◌≡◌, ◌≢◌, ℕ, ◌+◌, ◌≤◌, Bool, true, false, cond, not, ◌&&◌, ◌==◌, List, [], ◌∷◌, ◌++◌, append_assoc, append-nil, filter, Option, Some, None, option_map, refl, ap, sym, ◌∙◌, arith, subst, pos, inl, inr, ◌⊎◌}
-use Rattle.std.proofs.lemmas.Bool.{eqb-true, eqb-false, eq-eqb, ne_eqb, cases_eq, cond_both, false_from_ne_true}
+use Rattle.std.proofs.lemmas.Bool.{eqb-true, eqb-false, eq-eqb, ne_eqb, cases_eq, cond_both}
 use Rattle.posix.specs.declared.call.Call.TheVariants.{Fork}
 use Rattle.posix.specs.declared.entry.Entry.{Entry}
 use Rattle.posix.specs.declared.entry.Entry.TheVariants.{Called, Reported, Stopped, Ended, Halted}
 use Rattle.posix.specs.declared.process.Life.{Life}
 use Rattle.posix.specs.declared.process.Life.TheVariants.{Running, Stopped as Halting, Zombie}
 use Rattle.posix.specs.SignalNumbers.{KILL, HUP, is_stop_signal}
-use Rattle.posix.specs.Statuses.{stopped}
+use Rattle.posix.specs.Statuses.{stopped, is_end_word}
 use Rattle.posix.specs.Processes.{Process, is_zombie, is_stopped, is_running}
 use Rattle.posix.specs.Tables.{IsRising, lookup, changed, inserted, removed, is_child, children_in, reparented, pids}
 use Rattle.posix.specs.States.{State, change, lose_place, is_in}
@@ -22,15 +22,14 @@ use Rattle.posix.specs.Ends.{ended, made_zombie, halt, leave_children_and_die, z
 use Rattle.posix.specs.Notices.{stopped_by}
 use Rattle.posix.specs.Delivery.{stop_process}
 use Rattle.posix.specs.Waits.{news_told}
-use Rattle.laws.specs.TraceLines.{is_end_word}
 use Rattle.laws.specs.Keeping.{Phase, Going, Over, kept_of}
 use Rattle.laws.specs.Agree.{AgreeIn, AreTurns, phase_between}
 use Rattle.posix.proofs.MemberLemmas.{is_other}
-use Rattle.posix.proofs.TableLemmas.{lookup_changed, pid_looked, rising_changed, rising_adopted, rising_filter}
-use Rattle.posix.proofs.WalkLemmas.{all_looked, in_filter, pid_found}
+use Rattle.posix.proofs.TableLemmas.{lookup_changed, pid_looked, rising_changed, rising_adopted, rising_filter, reparented_keeps}
+use Rattle.posix.proofs.WalkLemmas.{all_looked, in_filter}
 use Rattle.posix.proofs.RegularLemmas.{lookup_left, lookup_inserted, lookup_new}
 use Rattle.posix.proofs.HupAndContLemmas.{lasts_members, lasts_hup_and_cont_all, still_there}
-use Rattle.posix.proofs.OrphanLemmas.{lasting_told}
+use Rattle.posix.proofs.OrphanLemmas.{lasting_told, not_told}
 use Rattle.laws.proofs.NextLineLemmas.{counted_all}
 use Rattle.laws.proofs.QuietLemmas.{Quiet, quiet_then, IsRunning, runs_on}
 use Rattle.laws.proofs.QuietOperations.{quiet_hup_and_cont, quiet_hung_up, IsGone, AllGone, quiet_notice, quiet_told, quiet_told_of_change}
@@ -99,7 +98,7 @@ unfolding made_zombie
 gone_departed s p heir w me = record {
   what = reparented p heir (made_zombie w me.what);
   found = departed s p heir w p ∙ rw (eq-eqb p p refl, me.found) refl;
-  dead = cond_both (me.what.parent == p) _ _ (λ (q : Process). is_zombie q.life ≡ true) (λ e. refl) (λ e. refl);
+  dead = reparented_keeps (λ r. is_zombie r.life) p heir (λ r. refl) (made_zombie w me.what);
 }
 
 -- so are those that were
@@ -107,12 +106,12 @@ gone_before : (s : State) (p heir w c : ℕ) → IsGone s.processes c → IsGone
 unfolding made_zombie
 gone_before s p heir w c g = by (c == p) refl
   where
-    zombie : (q : Process) → is_zombie q.life ≡ true → is_zombie (reparented p heir q).life ≡ true
-    zombie q z = cond_both (q.parent == p) _ _ (λ (q : Process). is_zombie q.life ≡ true) (λ e. z) (λ e. z)
+    zombie : (q : Process) → is_zombie (reparented p heir q).life ≡ is_zombie q.life
+    zombie q = reparented_keeps (λ r. is_zombie r.life) p heir (λ r. refl) q
 
     by : (b : Bool) → (c == p) ≡ b → IsGone (leave_children_and_die s p heir w).processes c
-    by true t = record { what = reparented p heir (made_zombie w g.what); found = departed s p heir w c ∙ rw (t, g.found) refl; dead = zombie (made_zombie w g.what) refl }
-    by false t = record { what = reparented p heir g.what; found = departed s p heir w c ∙ rw (t, g.found) refl; dead = zombie g.what g.dead }
+    by true t = record { what = reparented p heir (made_zombie w g.what); found = departed s p heir w c ∙ rw (t, g.found) refl; dead = zombie (made_zombie w g.what) }
+    by false t = record { what = reparented p heir g.what; found = departed s p heir w c ∙ rw (t, g.found) refl; dead = zombie g.what ∙ g.dead }
 
 -- zombies among the children are gone
 children_gone : (s : State) (p heir w : ℕ) → IsRising s.processes → AllGone (leave_children_and_die s p heir w).processes (zombies_of p s.processes)
@@ -132,14 +131,7 @@ zombies_rise s p up = rising_filter _ (filter (is_child p) s.processes) (rising_
 
 -- who lives is none of them
 not_among : (s : State) (p q : ℕ) → IsRising s.processes → IsLiving s q → is_in q (pids (zombies_of p s.processes)) ≡ false
-unfolding zombies_of children_in
-not_among s p q up me = false_from_ne_true _ (λ k.
-    let kids = filter (is_child p) s.processes in
-    let z = pid_found q (filter (λ r. is_zombie r.life) kids) k in
-    let a = in_filter (λ r. is_zombie r.life) kids (rising_filter (is_child p) s.processes up) q z.0 z.1 in
-    let b = in_filter (is_child p) s.processes up q z.0 a.found in
-    let same : z.0 ≡ me.what = let both = sym b.found ∙ me.found in cc in
-    let no : false ≡ true = sym me.lives ∙ ap (λ (r : Process). is_zombie r.life) (sym same) ∙ a.passes in absurd (cc))
+not_among s p q up me = not_told s up p q me.what me.found (λ dead. let no : false ≡ true = sym me.lives ∙ dead in absurd (cc))
 
 -- it stays gone while its children's ends are told
 gone_told : (s : State) (heir : ℕ) (zs : List Process) (c : ℕ) → is_in c (pids zs) ≡ false → IsGone s.processes c → IsGone (tell_of_all s heir zs).processes c
@@ -160,10 +152,10 @@ turns_departed s p heir w a = record { turns = λ q r e found stops. let other =
     there q ne = sym (departed s p heir w q ∙ rw (ne_eqb q p ne) refl)
 
     life : (x : Process) → is_stopped (reparented p heir x).life ≡ is_stopped x.life
-    life x = cond_both (x.parent == p) _ _ (λ (q : Process). is_stopped q.life ≡ is_stopped x.life) (λ e. refl) (λ e. refl)
+    life x = reparented_keeps (λ r. is_stopped r.life) p heir (λ r. refl) x
 
     signals : (x : Process) → is_pending (reparented p heir x).signals KILL ≡ is_pending x.signals KILL
-    signals x = cond_both (x.parent == p) _ _ (λ (q : Process). is_pending q.signals KILL ≡ is_pending x.signals KILL) (λ e. refl) (λ e. refl)
+    signals x = reparented_keeps (λ r. is_pending r.signals KILL) p heir (λ r. refl) x
 
     by : (q : ℕ) (r : Process) → is_in q s.order ≡ true → (o : Option Process) → lookup q s.processes ≡ o → option_map (reparented p heir) o ≡ Some r → is_stopped r.life ≡ true → is_pending r.signals KILL ≡ true
     by q r e None was is stops = absurd (cc)

@@ -1,25 +1,14 @@
 -- Who is given a place as an event is settled.
-use Rattle.std.proofs.Common.{◌≡◌, ℕ, true, false, not, refl, ap, sym, ◌∙◌, arith, List, [], ◌∷◌, ◌++◌, filter, Some}
-use Rattle.std.proofs.lemmas.Bool.{ne_eqb, or_from, and_parts, not-true}
+use Rattle.std.proofs.Common.{◌≡◌, ℕ, true, false, not, refl, ap, sym, ◌∙◌, List, ◌++◌, filter, Some}
+use Rattle.std.proofs.lemmas.Bool.{and_parts, not-true}
 use Rattle.posix.specs.Processes.{Process}
 use Rattle.posix.specs.Tables.{IsRising, lookup, pids}
 use Rattle.posix.specs.States.{State, is_in}
 use Rattle.posix.specs.Regular.{IsDistinct}
 use Rattle.posix.specs.Settle.{wakes, can_act, clear_foregrounds, give_places, settle}
-use Rattle.posix.proofs.TableLemmas.{Above, pid_looked, rising_filter}
+use Rattle.posix.proofs.TableLemmas.{pid_looked, rising_filter}
+use Rattle.posix.proofs.OrderLemmas.{distinct_pids}
 use Rattle.posix.proofs.WalkLemmas.{in_filter, pid_found}
-
--- numbers of some processes are above a number where all are
-pids_above : (n : ℕ) (rs : List Process) → Above n rs → is_in n (pids rs) ≡ false
-unfolding is_in
-pids_above n [] a = refl
-pids_above n (r ∷ rs) a = or_from _ _ (ne_eqb r.pid n (λ e. omega (arith, a.0, e))) (pids_above n rs a.1)
-
--- the numbers of rising processes are distinct
-distinct_pids : (rs : List Process) → IsRising rs → IsDistinct (pids rs)
-unfolding IsDistinct IsRising
-distinct_pids [] up = tt
-distinct_pids (r ∷ rs) up = (pids_above r.pid rs up.0, distinct_pids rs up.1)
 
 -- the numbers of those who are given a place
 abbrev pub given_places : State → List ℕ

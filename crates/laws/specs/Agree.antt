@@ -10,7 +10,8 @@ use Rattle.posix.specs.Entries.{Line, reported}
 use Rattle.posix.specs.Generation.{is_pending}
 use Rattle.posix.specs.Tables.{lookup}
 use Rattle.std.specs.List.{list_all}
-use Rattle.laws.specs.TraceLines.{is_line, is_end_word}
+use Rattle.laws.specs.TraceLines.{is_line}
+use Rattle.posix.specs.Statuses.{is_end_word}
 use Rattle.laws.specs.Kinds.{AreKinds}
 use Rattle.laws.specs.Lives.{Laws, born_by, last_line}
 use Rattle.laws.specs.Keeping.{Alive, Dead, Kept, NeverBorn, Lives, Died, Phase, Going, Over, kept_of, phase_of, last_number}

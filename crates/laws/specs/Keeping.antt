@@ -4,7 +4,7 @@ use Rattle.std.specs.List.{list_any}
 use Rattle.posix.specs.declared.entry.Entry.{Entry}
 use Rattle.posix.specs.declared.entry.Entry.TheVariants.{Noted, Called, Moved, Reported, NoMemory, Handled, Discarded, Stopped, Returned, Ended, Halted}
 use Rattle.posix.specs.Entries.{Line, process_of}
-use Rattle.laws.specs.TraceLines.{is_end_word, is_stopped_word, is_continued_word}
+use Rattle.posix.specs.Statuses.{is_end_word, is_stopped_word, is_continued_word}
 use Rattle.laws.specs.Lives.{is_halt, born_by, is_just, end_in, stop_in, reports, LastOf, LifeSoFar, EndOf, newest_life, the_end, last_stop, parent_of, is_change_word}
 
 -- a life that hasn't ended

@@ -22,7 +22,8 @@ use Rattle.posix.specs.Tables.{lookup}
 use Rattle.posix.specs.Consoles.{Console}
 use Rattle.posix.specs.States.{State, World, Program}
 use Rattle.posix.specs.Sends.{most_queued}
-use Rattle.laws.specs.TraceLines.{is_i64, is_end_word}
+use Rattle.laws.specs.TraceLines.{is_i64}
+use Rattle.posix.specs.Statuses.{is_end_word}
 
 -- a number of a process, a group or a user is at most this (pid_t, uid_t as here)
 abbrev pub is_id : ℕ → Bool

@@ -2,11 +2,11 @@
 use Rattle.std.specs.Prelude.{ℕ, zero, suc, ◌/◌, ◌≡◌, ◌==◌, ◌&&◌, ◌||◌, not, Bool, true, false, List, [], ◌∷◌, ◌++◌, if◌then◌else◌, nat_le, Option, Some, None, is_some, slice_get, take, ℤ, pos, negsuc}
 use Rattle.std.specs.List.{list_any}
 use Rattle.posix.specs.declared.entry.Entry.{Entry}
-use Rattle.posix.specs.declared.entry.Entry.TheVariants.{Noted, Called, Moved, Reported, NoMemory, Handled, Discarded, Stopped, Returned, Ended, Halted}
+use Rattle.posix.specs.declared.entry.Entry.TheVariants.{Called, Reported, Stopped, Ended, Halted}
 use Rattle.posix.specs.declared.call.Call.{Call}
 use Rattle.posix.specs.declared.call.Call.TheVariants.{Fork}
 use Rattle.posix.specs.Entries.{Line, line, process_of}
-use Rattle.laws.specs.TraceLines.{is_end_word, is_stopped_word, is_continued_word}
+use Rattle.posix.specs.Statuses.{is_end_word, is_stopped_word, is_continued_word}
 
 -- ---- what a line says
 

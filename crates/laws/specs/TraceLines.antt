@@ -1,5 +1,5 @@
--- Lines of a trace: status words, the ranges of what each form holds, and which text says a line.
-use Rattle.std.specs.Prelude.{ℕ, ◌/◌, ◌%◌, ◌≡◌, ◌==◌, ◌&&◌, ◌||◌, Bool, true, false, List, [], ◌∷◌, ◌++◌, length, nat_le, nat_lt, ℤ, pos, negsuc, int_le}
+-- Lines of a trace: the ranges of what each form holds, and which text says a line.
+use Rattle.std.specs.Prelude.{ℕ, ◌≡◌, ◌&&◌, Bool, true, false, List, [], ◌∷◌, ◌++◌, length, nat_le, nat_lt, ℤ, pos, negsuc, int_le}
 use Rattle.std.specs.List.{list_all}
 use Rattle.posix.specs.declared.entry.Entry.{Entry}
 use Rattle.posix.specs.declared.entry.Entry.TheVariants.{Noted, Called, Moved, Reported, NoMemory, Handled, Discarded, Stopped, Returned, Ended, Halted}
@@ -8,24 +8,7 @@ use Rattle.posix.specs.declared.call.Call.TheVariants.{Exit, Fork, Waitpid, Kill
 use Rattle.posix.specs.Entries.{Line}
 use Rattle.posix.specs.Printing.{print_line}
 use Rattle.posix.specs.SignalNumbers.{is_signal, is_stop_signal}
-use Rattle.posix.specs.Statuses.{continued}
-
--- ---- status words, waitpid(2)
-
-abbrev pub is_exit_word : ℕ → Bool
-is_exit_word w = w % 256 == 0 && nat_le w 65280
-
--- it exited, or a signal killed it
-abbrev pub is_end_word : ℕ → Bool
-is_end_word w = is_exit_word w || is_signal w
-
-abbrev pub is_stopped_word : ℕ → Bool
-is_stopped_word w = w % 256 == 127 && is_stop_signal (w / 256)
-
-abbrev pub is_continued_word : ℕ → Bool
-is_continued_word w = w == continued
-
--- ---- forms
+use Rattle.posix.specs.Statuses.{is_end_word}
 
 abbrev pub is_number : ℕ → Bool
 is_number p = nat_le 1 p && nat_le p 2147483647

@@ -29,7 +29,7 @@ ghost use Rattle.posix.specs.declared.process.Life.TheVariants.{Zombie};
 ghost use Rattle.std.specs.Prelude.{count_by};
 ghost use Rattle.std.specs.List.{list_any};
 ghost use Rattle.posix.specs.declared.entry.Entry.TheVariants.{Reported};
-ghost use Rattle.laws.specs.TraceLines.{is_end_word, is_stopped_word, is_continued_word};
+ghost use Rattle.posix.specs.Statuses.{is_end_word, is_stopped_word, is_continued_word};
 ghost use Rattle.laws.specs.Lives.{Laws, laws, IsOfEnd, born_by, begins, ends, stops, reports, is_change_word, is_halt, ends_first, last_line, is_living, parent_in};
 ghost use Rattle.laws.specs.Keeping.{Died, kept_of};
 ghost use Rattle.laws.specs.Kinds.{IsEvent, IsWorld};

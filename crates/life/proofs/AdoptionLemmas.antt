@@ -1,5 +1,5 @@
 -- What an adoption is for the heir: where none of the children has anything to report, it can act no more than before.
-use Rattle.std.proofs.Common.{◌≡◌, ◌≤◌, ℕ, Bool, true, false, cond, refl, ap, sym, ◌∙◌, subst, List, [], ◌∷◌, filter, find, Some, None, ◌==◌, arith, inl, inr}
+use Rattle.std.proofs.Common.{◌≡◌, ◌≤◌, ℕ, Bool, true, refl, ap, sym, ◌∙◌, subst, List, [], ◌∷◌, filter, find, Some, None, arith, inl, inr}
 use Rattle.std.specs.List.{list_any}
 use Rattle.std.proofs.lemmas.Bool.{cases_eq, ne_eqb, eqb-true, eqb-false}
 use Rattle.posix.specs.declared.process.Report.TheVariants as found
@@ -10,12 +10,12 @@ use Rattle.posix.specs.Targets.{target_in}
 use Rattle.posix.specs.Tables.{IsRising, lookup, children_in, first_pid, above, reparented, adopted}
 use Rattle.posix.specs.States.{State, is_in}
 use Rattle.posix.specs.Waits.{is_named, report, report_of, report_found, report_among, reports, reporting_in, options_in}
-use Rattle.posix.proofs.TableLemmas.{pid_looked, pid_reparented}
+use Rattle.posix.proofs.TableLemmas.{pid_looked, pid_reparented, reparented_keeps}
 use Rattle.posix.proofs.MapLemmas.{lookup_back}
 use Rattle.posix.proofs.MemberLemmas.{apart_first}
 use Rattle.posix.proofs.ReportingLemmas.{report_begins, report_over, reported, unreported}
-use Rattle.posix.proofs.SeeLemmas.{Alike, can_act_alike}
-use Rattle.posix.proofs.TouchLemmas.{Touches, touches_adopted}
+use Rattle.posix.proofs.SeeLemmas.{Alike, reparented_alike, can_act_alike}
+use Rattle.posix.proofs.TouchLemmas.{Touches, stands_alike, touches_adopted}
 use Rattle.life.proofs.NewsLemmas.{acts_no_more, quiet}
 use Rattle.life.proofs.SendLemmas.{all_pass}
 
@@ -40,10 +40,6 @@ named_adopted p heir group whom.OwnGroup r = grind arith
 named_adopted p heir group (whom.Group g) r = grind arith
 named_adopted p heir group target r = refl
 
-reports_adopted : (p heir options : ℕ) (r : Process) → reports options (reparented p heir r) ≡ reports options r
-unfolding report_of
-reports_adopted p heir options r = elim (r.parent == p) as (λ b. reports options (cond b (record r { parent = heir }) r) ≡ reports options r) [ true ↦ refl | false ↦ refl ]
-
 -- neither its own children nor those that it gets report
 none_adopted : (named t : Process → Bool) (p heir : ℕ) → ((r : Process) → named (reparented p heir r) ≡ named r) → ((r : Process) → t (reparented p heir r) ≡ t r) → (rs : List Process)
     → find t (children_in p rs) ≡ None → find t (filter named (children_in heir rs)) ≡ None → find t (filter named (children_in heir (adopted p heir rs))) ≡ None
@@ -58,7 +54,7 @@ some_adopted named p heir same [] e = refl
 some_adopted named p heir same (r ∷ rs) e = grind (arith, e, same r, some_adopted named p heir same rs, eqb-true, eqb-false)
 
 report_adopted : (rs : List Process) (p heir group options : ℕ) (target : Target) → AreQuiet p rs → report rs heir group target options ≡ found.Nothing → report (adopted p heir rs) heir group target options ≡ found.Nothing
-unfolding report
+unfolding report report_of
 report_adopted rs p heir group options target silent e = by (filter named (children_in heir rs)) refl e (filter named (children_in heir (adopted p heir rs))) refl
   where
     named : Process → Bool
@@ -68,13 +64,10 @@ report_adopted rs p heir group options target silent e = by (filter named (child
     by [] was e ls now = absurd (cc)
     by (k ∷ ks) was e [] now = let none = sym was ∙ some_adopted named p heir (named_adopted p heir group target) rs now in absurd (cc)
     by (k ∷ ks) was e (l ∷ ls) now =
-        let none = none_adopted named (reports options) p heir (named_adopted p heir group target) (reports_adopted p heir options) rs (silent options) (ap (find (reports options)) was ∙ quiet options (k ∷ ks) e) in
+        let none = none_adopted named (reports options) p heir (named_adopted p heir group target) (reparented_keeps (reports options) p heir (λ r. refl)) rs (silent options) (ap (find (reports options)) was ∙ quiet options (k ∷ ks) e) in
         ap (report_found options) (sym (ap (find (reports options)) now) ∙ none)
 
 -- ---- whom it touches
-
-reparented_alike : (p heir : ℕ) (r : Process) → Alike r (reparented p heir r)
-reparented_alike p heir r = elim (r.parent == p) as (λ b. Alike r (cond b (record r { parent = heir }) r)) [ true ↦ record { parent = heir; is = refl } | false ↦ record { parent = r.parent; is = refl } ]
 
 -- nobody can act by it who couldn't, but who gave the children away
 pub touches_quiet : (s : State) (p heir : ℕ) → AreQuiet p s.processes → Touches s (record s { processes = adopted p heir s.processes }) (p ∷ [])
@@ -86,17 +79,9 @@ touches_quiet s p heir silent q r e out = elim (cases_eq q heir) [
       let b = lookup_back (reparented p heir) (pid_reparented p heir) q s.processes r e in
       let alike : Alike b.what r = subst (Alike b.what) (sym b.is) (reparented_alike p heir b.what) in
       let named : b.what.pid ≡ heir = pid_looked q s.processes b.what b.found ∙ same in
-      record {
-        placed = λ h. h;
-        old = b.what;
-        found = b.found;
-        blocked = ap (λ q. q.blocked) alike.is;
-        session = ap (λ q. q.session) alike.is;
-        life = ap (λ q. q.life) alike.is;
-        acts = λ h.
-            acts_no_more s t.processes b.what (λ waits.
-            subst (λ n. report s.processes n b.what.group (target_in (argument b.what 1)) (options_in (argument b.what 2)) ≡ found.Nothing → report t.processes n b.what.group (target_in (argument b.what 1)) (options_in (argument b.what 2)) ≡ found.Nothing) (sym named)
-            (report_adopted s.processes p heir b.what.group (options_in (argument b.what 2)) (target_in (argument b.what 1)) silent))
-            (sym (can_act_alike t t b.what r alike refl refl) ∙ h);
-      }
+      stands_alike s t q b.what r (λ h. h) b.found alike (λ h.
+      acts_no_more s t.processes b.what (λ waits.
+      subst (λ n. report s.processes n b.what.group (target_in (argument b.what 1)) (options_in (argument b.what 2)) ≡ found.Nothing → report t.processes n b.what.group (target_in (argument b.what 1)) (options_in (argument b.what 2)) ≡ found.Nothing) (sym named)
+      (report_adopted s.processes p heir b.what.group (options_in (argument b.what 2)) (target_in (argument b.what 1)) silent))
+      (sym (can_act_alike t t b.what r alike refl refl) ∙ h))
 ]

@@ -3,7 +3,7 @@ use Rattle.std.proofs.Common.{◌≡◌, ℕ, ◌+◌, ◌≤◌, Bool, true, fa
 use Rattle.std.specs.List.{list_any}
 use Rattle.std.specs.Prelude.{option_and_then}
 use Rattle.std.proofs.lemmas.Bool.{eqb-true, and_parts, or_cases, or_right}
-use Rattle.posix.specs.Processes.{Process, root}
+use Rattle.posix.specs.Processes.{Process}
 use Rattle.posix.specs.Numbers.{with_number}
 use Rattle.posix.specs.Tables.{IsRising, lookup, has_pid, is_child, is_member, members_in, children_in, left_of, next_sibling}
 use Rattle.posix.proofs.HupAndContLemmas.{Lasts, lasting, lasts_hup_and_cont, lasts_then}
@@ -11,26 +11,18 @@ use Rattle.posix.proofs.MapLemmas.{filter_map}
 use Rattle.std.proofs.lemmas.List.{length-map}
 use Rattle.posix.specs.Regular.{IsRegular}
 use Rattle.posix.specs.States.{State, is_in, without}
-use Rattle.posix.specs.Choice.{from_kernel}
 use Rattle.posix.specs.Groups.{is_anchor, loses_anchor}
-use Rattle.posix.specs.Ends.{signalled_members, hup_and_cont, hup_and_cont_all}
-use Rattle.posix.specs.declared.target.Target.TheVariants as whom
-use Rattle.posix.specs.Credentials.{may}
-use Rattle.posix.specs.Sends.{targets, permitted, sent_among, sent}
+use Rattle.posix.specs.Ends.{hup_and_cont, hup_and_cont_all}
 use Rattle.posix.proofs.WalkLemmas.{numbered, numbered_one, AtChild}
-use Rattle.life.proofs.SendLemmas.{all_pass}
 use Rattle.pidset.proofs.WalkLemmas.{IsWalking, walk_on}
 use Rattle.pidset.specs.Indexes.{anchor_key, key_of}
 use Rattle.pidset.specs.Numbers.{PidSetView, Rises, numbers_above}
 use Rattle.pidset.proofs.NumberLemmas.{in_above, rises_with, rises_without, in_with, few}
 use Rattle.posix.proofs.MemberLemmas.{in_without}
-use Rattle.life.specs.declared.caller.Caller.{Caller}
-use Rattle.life.specs.Callers.{process_like}
 use Rattle.pidalloc.specs.Rows.{Pids}
 use Rattle.sched.specs.Places.{Places}
 use Rattle.life.specs.Ends.{slots_of_hup_and_cont, slots_of_hups}
 use Rattle.life.specs.Machines.{IsMachine, IsNoted, Terminals}
-use Rattle.life.specs.Rechecks.{rechecking_signalled, rechecking_members}
 
 -- ---- the list of those that are noted
 
@@ -145,21 +137,3 @@ signalling_goes_on {ns = ns} {before = before} {now = now} {next = next} {after 
       lasts = subst (Lasts before) (sym is) (lasts_then before now _ k.lasts (lasts_hup_and_cont g now k.lasts.rising));
       read = let read = k.read in omega (arith, few, many, slots, read);
     }
-
--- ---- signals of the kernel
-
--- whoever may signal all may signal these
-may_signal_all : (r : Process) (s : Option ℕ) (q : Process) → r.credentials ≡ root → may r s q ≡ true
-may_signal_all r s q e = rw e (grind arith)
-
--- so who is meant by a signal of the kernel to a group are all its members
-members_meant : (c : Caller) → c.creds ≡ root → (n group : ℕ) (rs : List Process) → permitted (process_like c) (Some n) (targets (process_like c) (whom.Group group) rs) ≡ members_in group rs
-unfolding permitted targets members_in
-members_meant c all n group rs = all_pass (may (process_like c) (Some n)) (λ q. may_signal_all (process_like c) (Some n) q all) (members_in group rs)
-
--- it is generated for each of them, and they are asked
-pub members_get : (c : Caller) → c.creds ≡ root → (n group : ℕ) (rs : List Process) (order ns : List ℕ)
-    → (sent (process_like c) (whom.Group group) (Some (record { sig = n; carried = from_kernel })) rs ≡ signalled_members (record { sig = n; carried = from_kernel }) group rs)
-    × (rechecking_signalled (process_like c) (Some (record { sig = n; carried = from_kernel })) (targets (process_like c) (whom.Group group) rs) rs order ns ≡ rechecking_members n group rs order ns)
-unfolding sent sent_among signalled_members rechecking_signalled
-members_get c all n group rs order ns = rw (members_meant c all n group rs) (refl, refl)

@@ -2,6 +2,8 @@
 use Rattle.std.proofs.Common.{◌≡◌, ◌≢◌, ℕ, suc, ◌+◌, ◌*◌, ◌≤◌, ◌==◌, true, false, cond, not, ◌&&◌, ◌||◌, refl, ap, sym, ◌∙◌, arith, subst, List, [], Option, Some, None, is_some, length, nat_lt, slice_get, slice_set, slice_index_or, inl, inr, ⊎_elim, rules}
 use Rattle.std.proofs.lemmas.Bool.{false_from_ne_true, true_from_ne_false, or_cases, eqb-true, eqb-false, and_parts, not-true, or_right, ltb-true, cond_both, both_ways}
 use Rattle.std.proofs.lemmas.Option.{get_or_from_slice_get, slice_get_read, same_Some}
+use Rattle.std.specs.Borrow.{MutBor}
+use Rattle.std.specs.Fn.{Once, FnOnceReturnsAtMut}
 use Rattle.posix.specs.declared.process.Blocked.{Blocked}
 use Rattle.posix.specs.declared.process.Blocked.TheVariants as blocked
 use Rattle.posix.specs.SignalNumbers.{HUP}
@@ -25,8 +27,9 @@ use Rattle.sched.specs.Places.{Places}
 use Rattle.pidset.specs.Numbers.{PidSetView}
 use Rattle.life.specs.Machines.{IsListed, IsWaiting, IsMachine, MachineView, readers_at}
 use Rattle.proctable.specs.Records.{snapshot_of}
-use Rattle.life.specs.Consoles.{AreReaders, hangs_up, slots_of_key, slots_of_hangup}
+use Rattle.life.specs.Consoles.{AreReaders, CanBecome, HasChanged, IsTerminalIndex, hangs_up, slots_of_key, slots_of_hangup}
 use Rattle.life.specs.Rechecks.{slots_of_signal}
+use Rattle.life.proofs.ForegroundLemmas.{fresh_alike, fresh_put}
 use Rattle.life.proofs.ReaderLemmas.{set_same, set_other}
 use Rattle.posix.specs.Tables.{members_in}
 use Rattle.life.specs.declared.consoles.Unchecked.{Unchecked}
@@ -120,7 +123,7 @@ put_unread s l k c d i h at owner foreground lines = record {
 }
 
 -- where whoever waits to read from it is rechecked, one with the same session, or nobody's
-pub put_rechecked : {readers : List PidSetView} (s : State) (l : PidSetView) (k : ℕ) (c d : Console) → IsRegular s → IsListed s l readers → slice_get s.consoles k ≡ Some c
+put_rechecked : {readers : List PidSetView} (s : State) (l : PidSetView) (k : ℕ) (c d : Console) → IsRegular s → IsListed s l readers → slice_get s.consoles k ≡ Some c
     → AreReaders s k l.pids → IsOfOrFree c.session d → CanPut s l.pids readers k d
 unfolding waits_to_read
 put_rechecked {readers = readers} s l k c d i h at to_recheck kind = record {
@@ -158,7 +161,7 @@ reads_on s r runs visits none =
     goes b e = absurd (cc)
 
 -- in the place of one that was nobody's, one of a session that had none: its reads were refused, and needn't wait
-pub put_acquired : {readers : List PidSetView} (s : State) (l : PidSetView) (k : ℕ) (c d : Console) → IsRegular s → IsListed s l readers → slice_get s.consoles k ≡ Some c
+put_acquired : {readers : List PidSetView} (s : State) (l : PidSetView) (k : ℕ) (c d : Console) → IsRegular s → IsListed s l readers → slice_get s.consoles k ≡ Some c
     → c.session ≡ 0 → console_of d.session s.consoles ≡ None → CanPut s l.pids readers k d
 unfolding waits_to_read
 put_acquired {readers = readers} s l k c d i h at free none = record {
@@ -182,6 +185,20 @@ put_acquired {readers = readers} s l k c d i h at free none = record {
     nobody : (r : Process) → 1 ≤ r.session → c.session ≢ r.session
     nobody r least same = omega (arith, free, same, least)
 
+-- ---- what a console can become
+
+-- the machine stays one
+pub machine_became : {pids : Pids} {places : Places} {groups_at_risk : PidSetView} (m : MachineView) (to_recheck : PidSetView) (k : ℕ) (c d : Console) → to_recheck.pids ≡ m.to_recheck → slice_get m.state.consoles k ≡ Some c → CanBecome m k c d
+    → IsMachine m.state pids places to_recheck groups_at_risk (record { readers = m.readers; foregrounds_unchecked = m.foregrounds_unchecked })
+    → IsMachine (put m.state k d) pids places to_recheck groups_at_risk (record { readers = m.readers; foregrounds_unchecked = m.foregrounds_unchecked })
+machine_became m to_recheck k c d list at h i = machine_put _ _ _ _ _ _ _ _ k d i
+    (⊎_elim (λ quiet. put_unread _ _ k c d i.sound.regular i.listed at quiet.0.0 quiet.0.1 quiet.1) (λ those. rechecked (subst (AreReaders m.state k) (sym list) those)) h.readers)
+    (⊎_elim (λ same. fresh_alike _ _ _ k c d at same.0 same.1 i.fresh) (fresh_put _ _ _ k d i.fresh) h.foreground)
+  where
+    rechecked : AreReaders m.state k to_recheck.pids → CanPut m.state to_recheck.pids m.readers k d
+    rechecked theirs = ⊎_elim (λ same. put_rechecked _ _ k c d i.sound.regular i.listed at theirs (inl same))
+        (λ other. ⊎_elim (λ free. put_rechecked _ _ k c d i.sound.regular i.listed at theirs (inr free)) (λ new. put_acquired _ _ k c d i.sound.regular i.listed at new.0 new.1) other) h.session
+
 -- ---- the console in a place
 
 -- what the test of a place says
@@ -196,16 +213,20 @@ found_there {ds = ds} {c = c} k other all at read = let here = ap (λ cs. slice_
 pub not_both : (o : Option Console) (c : Console) → o ≡ Some c → o ≡ None → ⊥
 not_both o c some none = absurd (cc)
 
--- the same change of equal states
-pub put_is : (s t : State) (k : ℕ) (c d : Console) (f : Console → Console) → s ≡ t → slice_get s.consoles k ≡ Some c → slice_get t.consoles k ≡ Some d → put s k (f c) ≡ put t k (f d)
-put_is s t k c d f same at found = grind (arith, same, at, found)
-
 -- ---- the console of a session
 
 -- it is changed in its place
 pub put_changed : (s : State) (k session : ℕ) (c : Console) (f : Console → Console) → IsRegular s → slice_get s.consoles k ≡ Some c → c.session ≡ session → session ≢ 0
     → put s k (f c) ≡ record s { consoles = changed_console session f s.consoles }
 put_changed s k session c f i at own some = ap (λ cs. record s { consoles = cs }) (sym (changed_at_place s.world.consoles s.consoles k session c f i.consoles at own some))
+
+-- by a closure that does so
+pub terminal_changed : {F T : Type 0} {g : Once F (MutBor Console × Unit {0}) (T × (MutBor Console × Unit {0}))} {change : F} (s t : State) (k : ℕ) (o : Option T) {cs : List Console} (session : ℕ) (f : Console → Console) → IsRegular s
+    → session ≢ 0 → cs ≡ s.consoles → IsTerminalIndex session cs (Some k) → HasChanged g change s t k o → ((c d : Console) (r : T) → FnOnceReturnsAtMut g change c r d → d ≡ f c) → t ≡ record s { consoles = changed_console session f s.consoles }
+terminal_changed s t k o session f i some all it h did =
+    let here = ap (λ cs. slice_get cs k) (sym all) ∙ it.1 in
+    let run = rw here at h in
+    run.4 ∙ ap (put s k) (did it.0 run.0 run.1 run.3) ∙ put_changed s k session it.0 f i here it.3 some
 
 -- and nothing is changed where it has none
 pub none_changed : {s t : State} {cs : List Console} (session : ℕ) (f : Console → Console) → s ≡ t → cs ≡ s.consoles → console_of session cs ≡ None → t ≡ record t { consoles = changed_console session f t.consoles }

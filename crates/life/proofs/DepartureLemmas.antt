@@ -12,7 +12,7 @@ use Rattle.posix.specs.Ends.{made_zombie, leave_children_and_die}
 use Rattle.posix.proofs.TableLemmas.{pid_looked, pid_reparented, lookup_changed, rising_changed}
 use Rattle.posix.proofs.MapLemmas.{at_pid, some_map, lookup_back}
 use Rattle.posix.proofs.RegularLemmas.{lookup_other}
-use Rattle.posix.proofs.MemberLemmas.{each, in_append, others_stay}
+use Rattle.posix.proofs.MemberLemmas.{each, in_append, others_stay, still_out}
 use Rattle.posix.proofs.TouchLemmas.{Touches, touches_both, touches_shown, touches_lost, touches_adopted}
 use Rattle.pidset.specs.Numbers.{PidSetView, with_number}
 use Rattle.pidset.proofs.NumberLemmas.{in_with}
@@ -21,9 +21,10 @@ use Rattle.jobs.specs.Books.{seen_of}
 use Rattle.life.specs.Machines.{IsListed}
 use Rattle.life.specs.Rechecks.{awaits, rechecking, with_numbers}
 use Rattle.life.proofs.AdoptionLemmas.{AreQuiet, quiet_children, touches_quiet}
+use Rattle.life.proofs.EndLemmas.{keeps_made_zombie}
 use Rattle.life.proofs.FunnelLemmas.{seen_is}
-use Rattle.life.proofs.NewsLemmas.{KeepsNumbers, touches_unawaited}
-use Rattle.life.proofs.RecheckLemmas.{listed_more, listed_same, listed_where, still_out}
+use Rattle.life.proofs.NewsLemmas.{touches_unawaited}
+use Rattle.life.proofs.RecheckLemmas.{listed_more, listed_same, listed_where}
 
 -- p is on this list, or has a place
 abbrev pub IsAsked : State → ℕ → List ℕ → Type 0
@@ -39,11 +40,6 @@ stays_where s p q ns acts e = grind (arith, e, in_with q p ns)
 
 asked_still : (s : State) (p q : ℕ) (ns : List ℕ) (acts : Bool) → IsAsked s q ns → IsAsked s q (cond acts (rechecking p s.order ns) ns)
 asked_still s p q ns acts e = in_append q (cond acts (rechecking p s.order ns) ns) s.order ∙ ⊎_elim (λ on. or_left _ _ (stays_where s p q ns acts on)) (λ placed. or_right (is_in q (cond acts (rechecking p s.order ns) ns)) _ placed) (or_cases _ _ (sym (in_append q ns s.order) ∙ e))
-
--- a zombie has the numbers that it had
-pub keeps_made_zombie : (w : ℕ) → KeepsNumbers (made_zombie w)
-unfolding made_zombie
-keeps_made_zombie w = record { pid = λ r. refl; parent = λ r. refl; group = λ r. refl; session = λ r. refl }
 
 -- ---- what was read of the others, once the process is a zombie
 

@@ -13,11 +13,12 @@ use Rattle.posix.specs.Notices.{child_signal, noticed}
 use Rattle.posix.proofs.TableLemmas.{pid_looked, pid_reparented, lookup_changed}
 use Rattle.posix.proofs.MapLemmas.{at_pid, lookup_on, some_map, removed_map, changed_changed, adopted_changed}
 use Rattle.posix.proofs.RegularLemmas.{keeps_noticed, regular_leave}
+use Rattle.life.proofs.NewsLemmas.{KeepsNumbers}
 
--- a zombie keeps its number
-keeps_pid : (w : ℕ) (r : Process) → (made_zombie w r).pid ≡ r.pid
+-- a zombie has the numbers that it had
+pub keeps_made_zombie : (w : ℕ) → KeepsNumbers (made_zombie w)
 unfolding made_zombie
-keeps_pid w r = refl
+keeps_made_zombie w = record { pid = λ r. refl; parent = λ r. refl; group = λ r. refl; session = λ r. refl }
 
 -- a notice and an adoption of one record may come in either order
 noticed_reparented : (signal : PendingSignal) (p q : ℕ) (r : Process) → noticed signal (reparented p q r) ≡ reparented p q (noticed signal r)
@@ -35,7 +36,8 @@ dropping_departed p heir w ne (r ∷ rs) = grind (arith, ne, dropping_departed p
 -- a removal and a departure may come in either order
 removed_departed : (c p heir w : ℕ) (rs : List Process) → removed c (adopted p heir (changed p (made_zombie w) rs)) ≡ adopted p heir (changed p (made_zombie w) (removed c rs))
 unfolding adopted changed
-removed_departed c p heir w rs = grind (arith, at_pid, keeps_pid, pid_reparented, removed_map)
+removed_departed c p heir w rs =
+    removed_map c (reparented p heir) (pid_reparented p heir) _ ∙ ap (map (reparented p heir)) (removed_map c (at p (made_zombie w)) (at_pid p (made_zombie w) (keeps_made_zombie w).pid) rs)
 
 -- a notice of an end to the heir, and the departure of another, may come in either order
 notice_after : (s : State) (p heir w c v : ℕ) → heir ≢ p → notice_of_end (leave_children_and_die s p heir w) heir c v ≡ leave_children_and_die (notice_of_end s heir c v) p heir w
@@ -43,7 +45,7 @@ unfolding notice_of_end
 notice_after s p heir w c v ne =
     let signal = child_signal c v in
     let told = adopted_changed p heir heir (noticed signal) (noticed_reparented signal p heir) (changed p (made_zombie w) s.processes)
-    ∙ ap (adopted p heir) (changed_changed heir p (noticed signal) (made_zombie w) (keeps_noticed {now = 0} signal).pid (keeps_pid w) ne s.processes) in
+    ∙ ap (adopted p heir) (changed_changed heir p (noticed signal) (made_zombie w) (keeps_noticed {now = 0} signal).pid (keeps_made_zombie w).pid ne s.processes) in
     rw (dropping_departed p heir w ne s.processes, told)
     (elim (is_dropping heir s.processes) as (λ b. cond {A = State} b (drop_child (leave_children_and_die (change s heir (noticed signal)) p heir w) c) (leave_children_and_die (change s heir (noticed signal)) p heir w)
     ≡ leave_children_and_die (cond {A = State} b (drop_child (change s heir (noticed signal)) c) (change s heir (noticed signal))) p heir w) [
@@ -72,7 +74,7 @@ there_after s p heir w q h = some_map (reparented p heir) (pid_reparented p heir
 pub zombie_after : (s : State) (p heir w : ℕ) (me : Process) → process s p ≡ Some me → (x : Process) × (process (leave_children_and_die s p heir w) p ≡ Some x) × (is_zombie x.life ≡ true)
 unfolding adopted made_zombie
 zombie_after s p heir w me e =
-    let here : lookup p (changed p (made_zombie w) s.processes) ≡ Some (made_zombie w me) = lookup_changed p p (made_zombie w) (keeps_pid w) s.processes ∙ rw (eq-eqb p p refl, e) refl in
+    let here : lookup p (changed p (made_zombie w) s.processes) ≡ Some (made_zombie w me) = lookup_changed p p (made_zombie w) (keeps_made_zombie w).pid s.processes ∙ rw (eq-eqb p p refl, e) refl in
     (reparented p heir (made_zombie w me), lookup_on (reparented p heir) (pid_reparented p heir) p _ (made_zombie w me) here, cond_both (me.parent == p) (record (made_zombie w me) { parent = heir }) (made_zombie w me) (λ q. is_zombie q.life ≡ true) (λ e. refl) (λ e. refl))
 
 -- process 1 may end once it has lost its place

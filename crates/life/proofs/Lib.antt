@@ -18,6 +18,7 @@ pub mod ViewLemmas
 pub mod PartLemmas
 pub mod RecheckLemmas
 pub mod AtRiskLemmas
+pub mod GroupSignalLemmas
 pub mod OrphanLemmas
 pub mod MoveLemmas
 pub mod ConsoleLemmas

@@ -1,8 +1,8 @@
 -- Queues: for whom a signal that is sent would be queued, part by part, and that pools are enough for all of them.
-use Rattle.std.proofs.Common.{◌≡◌, ◌≤◌, ◌<◌, ◌+◌, ◌-◌, ◌||◌, ◌&&◌, not, ℕ, Bool, true, false, true≢false, cond, refl, ap, sym, ◌∙◌, arith, subst, inl, inr, ◌⊎◌, List, [], ◌∷◌, ◌++◌, filter, length, nat_lt, Option, Some, None, ◌==◌}
+use Rattle.std.proofs.Common.{is_some, ◌≡◌, ◌≤◌, ◌<◌, ◌+◌, ◌-◌, ◌&&◌, not, ℕ, Bool, true, false, true≢false, cond, refl, ap, sym, ◌∙◌, arith, subst, inl, inr, ◌⊎◌, List, [], ◌∷◌, ◌++◌, filter, length, nat_lt, Option, Some, None, ◌==◌}
 use Rattle.std.specs.List.{list_any}
 use Rattle.std.specs.Option.{IsSome}
-use Rattle.std.proofs.lemmas.Bool.{cases_lt, cond_both, eqb-true}
+use Rattle.std.proofs.lemmas.Bool.{cases_lt, cond_both, eqb-true, or_parts}
 use Rattle.std.proofs.lemmas.Bool.Decides.{nat_tests}
 use Rattle.std.proofs.lemmas.Option.{same_Some}
 use Rattle.std.proofs.lemmas.List.{length-append}
@@ -19,18 +19,20 @@ use Rattle.posix.specs.Credentials.{may}
 use Rattle.posix.specs.Generation.{signalled, generated, gets_no_signals, keeps, after_discards, make_pending}
 use Rattle.posix.specs.Notices.{generated_for, signalled_all}
 use Rattle.posix.specs.Sends.{sending, sending_found, sending_permitted, sent, queued_for, has_full_queue, is_queuer, is_target, targets, permitted, queuers, queuers_among, number_of, sent_among}
-use Rattle.posix.proofs.TableLemmas.{pid_looked}
-use Rattle.posix.proofs.RealtimeLemmas.{realtime_not, generated_alone}
+use Rattle.posix.proofs.TableLemmas.{changed_same, pid_looked}
+use Rattle.posix.proofs.RealtimeLemmas.{realtime_effect, realtime_not, generated_alone}
+use Rattle.posix.proofs.TouchLemmas.{unseen_signalled}
 use Rattle.posix.proofs.WalkLemmas.{numbered, numbered_one, numbered_none, rest_of_walk, walk_splits}
 use Rattle.posix.proofs.RegularLemmas.{Keeps, keeps_cond, keeps_none, keeps_signalled}
 use Rattle.signal.specs.declared.rt_pool.RtPool.{RtPool}
 use Rattle.proctable.specs.Records.{queued}
 use Rattle.jobs.proofs.RunLemmas.{OnlySignals}
 use Rattle.life.specs.Queues.{HaveRoom, survey_of, Sends, is_sent, sent_as, rechecking_as}
-use Rattle.life.specs.Machines.{Changes, Looks, MachineView, with_processes}
-use Rattle.posix.specs.States.{State}
+use Rattle.life.specs.Machines.{Changes, IfThere, Looks, MachineView, with_processes}
+use Rattle.posix.specs.States.{State, process}
 use Rattle.life.specs.declared.surveys.Survey.{Survey}
-use Rattle.life.specs.Rechecks.{rechecking_all, rechecking_generated, rechecking_signalled}
+use Rattle.life.specs.Rechecks.{rechecking_all, rechecking_generated, rechecking_signalled, rechecks_by_signals, slots_of_signal}
+use Rattle.life.proofs.FunnelLemmas.{HasRun, signal_ends}
 use Rattle.life.proofs.SignalLemmas.{only_signalled}
 
 -- ---- real-time signals
@@ -57,20 +59,16 @@ none_queued n (q ∷ qs) e = rw e (none_queued n qs e)
 
 -- ---- of two parts
 
-any_false : (a b : Bool) → (a || b) ≡ false → (a ≡ false) × (b ≡ false)
-any_false false b e = (refl, e)
-any_false true b e = absurd (cc)
-
 -- there is room for the first part, and then for the rest
 pub room_first : (n : ℕ) (xs ys : List Process) → HaveRoom n (xs ++ ys) → HaveRoom n xs
 room_first n xs ys h = record {
-  free = (any_false _ _ (sym (list_any-append has_full_queue xs ys) ∙ h.free)).0;
+  free = (or_parts _ _ (sym (list_any-append has_full_queue xs ys) ∙ h.free)).0;
   enough = omega (arith, h.enough, length-append xs ys);
 }
 
 pub room_rest : (n m : ℕ) (xs ys : List Process) → n ≤ m + length xs → HaveRoom n (xs ++ ys) → HaveRoom m ys
 room_rest n m xs ys less h = record {
-  free = (any_false _ _ (sym (list_any-append has_full_queue xs ys) ∙ h.free)).1;
+  free = (or_parts _ _ (sym (list_any-append has_full_queue xs ys) ∙ h.free)).1;
   enough = omega (arith, h.enough, less, length-append xs ys);
 }
 
@@ -98,19 +96,11 @@ behind_changed p f keeps (r ∷ rs) = elim (r.pid == p) as (λ b. (r.pid == p) �
   | false ↦ λ e. ap (λ l. cond (nat_lt p r.pid) (r ∷ l) l) (behind_changed p f keeps rs)
 ] refl
 
-pid_signalled : (m : PendingSignal) (r : Process) → (signalled m r).pid ≡ r.pid
-unfolding signalled
-pid_signalled m r = refl
-
-behind_generated : (m : PendingSignal) (p : ℕ) (o : Option Process) (rs : List Process) → is_realtime m.sig ≡ true → lookup p rs ≡ o → above p (generated_for m o rs) ≡ above p rs
-behind_generated m p None rs e is = refl
-behind_generated m p (Some r) rs e is = ap (above p) (generated_alone m p r rs e is) ∙ behind_changed p (signalled m) (pid_signalled m) rs
-
 -- so it is once p got it, if it did
 behind_all : (m : PendingSignal) (p : ℕ) (rs : List Process) (qs : List Process) → is_realtime m.sig ≡ true → (qs ≡ []) ⊎ ((q : Process) × (qs ≡ q ∷ []) × (q.pid ≡ p)) → above p (signalled_all m (pids qs) rs) ≡ above p rs
 unfolding signalled_all
 behind_all m p rs qs e (inl none) = ap (λ l. above p (signalled_all m (pids l) rs)) none
-behind_all m p rs qs e (inr one) = ap (λ l. above p (signalled_all m (pids l) rs)) one.1 ∙ ap (λ n. above p (generated_for m (lookup n rs) rs)) one.2 ∙ behind_generated m p (lookup p rs) rs e refl
+behind_all m p rs qs e (inr one) = ap (λ l. above p (signalled_all m (pids l) rs)) one.1 ∙ ap (λ n. above p (generated_for m (lookup n rs) rs)) one.2 ∙ ap (above p) (generated_alone m p (lookup p rs) rs e refl) ∙ behind_changed p (signalled m) (unseen_signalled m).pid rs
 
 -- of one process those that pass are none or it
 one_passes : (t : Process → Bool) (p : ℕ) (qs : List Process) → (qs ≡ []) ⊎ ((q : Process) × (qs ≡ q ∷ []) × (q.pid ≡ p)) → (filter t qs ≡ []) ⊎ ((q : Process) × (filter t qs ≡ q ∷ []) × (q.pid ≡ p))
@@ -171,7 +161,7 @@ unfolding queued
 keeps_queued pool m = keeps_cond (λ r. pool && not (has_full_queue r)) (signalled m) (λ r. r) (keeps_signalled m) keeps_none
 
 -- where there is room for it and a pool it is generated
-pub queued_is : (n : ℕ) (pool : Bool) (m : PendingSignal) (r : Process) → is_realtime m.sig ≡ true → HaveRoom n (queuers (Some m.sig) (r ∷ [])) → (0 < n → pool ≡ true) → queued pool m r ≡ signalled m r
+queued_is : (n : ℕ) (pool : Bool) (m : PendingSignal) (r : Process) → is_realtime m.sig ≡ true → HaveRoom n (queuers (Some m.sig) (r ∷ [])) → (0 < n → pool ≡ true) → queued pool m r ≡ signalled m r
 unfolding queued queuers
 queued_is n pool m r e room some = by (is_queuer m.sig r) refl
   where
@@ -192,7 +182,7 @@ abbrev pub comes_back : ℕ → Option RtPool → Process → Option RtPool → 
 comes_back n pool r left = (is_queuer n r ≡ true) ⊎ (left ≡ pool)
 
 -- where a pool is taken, if there is one, and what is left comes back
-pub pools_put : (s n mid room new : ℕ) (pool left : Option RtPool) (r : Process) → mid ≡ n - 1 → (0 < n → pool ≡ Some []) → (0 < n → mid < room)
+pools_put : (s n mid room new : ℕ) (pool left : Option RtPool) (r : Process) → mid ≡ n - 1 → (0 < n → pool ≡ Some []) → (0 < n → mid < room)
     → (IsSome left → mid < room → new ≡ mid + 1) → mid ≤ new → comes_back s pool r left → n ≤ new + length (queuers (Some s) (r ∷ []))
 pools_put s n mid room new pool left r rest some free kept more says = pools_left n new s r (omega (arith, rest, more)) (λ none. by (cases_lt 0 n) none says)
   where
@@ -200,6 +190,23 @@ pools_put s n mid room new pool left r rest some free kept more says = pools_lef
     by (inr nothing) none says = omega (arith, nothing)
     by (inl there) none (inl keeps) = absurd (true≢false (sym keeps ∙ none))
     by (inl there) none (inr back) = let one = kept (subst IsSome (sym (back ∙ some there)) refl) (free there) in omega (arith, rest, one, there)
+
+-- who queued it, where there is room for it and a pool, got it
+pub queue_ends : (n p : ℕ) (m : PendingSignal) (pool left : Option RtPool) (old new : MachineView) → HasRun (queued (is_some pool) m) (comes_back m.sig pool) old.state.processes new.state.processes p left → is_realtime m.sig ≡ true
+    → IfThere p old (λ q. HaveRoom n (queuers (Some m.sig) (q ∷ []))) → (0 < n → is_some pool ≡ true) → Changes 1 old new (with_processes old.state new.state.processes) (rechecks_by_signals (process new.state p) old)
+    → Changes (slots_of_signal m.sig) old new (with_processes old.state (generated_for m (process old.state p) old.state.processes)) (rechecking_generated m (process old.state p) old.state.processes old.state.order old.to_recheck)
+queue_ends n p m pool left old new ran realtime room some did =
+    let it = record (ran.me.what) { pid = p } in
+    let same = queued_is n (is_some pool) m it realtime (room it ran.me.found) some in
+    let is = ran.is ∙ changed_same p (queued (is_some pool) m) (signalled m) old.state.processes did.costs.regular.rising it ran.me.found same in
+    signal_ends m p old new ran.me.what ran.me.found (sym (realtime_effect p it.life m it.signals realtime)) (did.state ∙ ap (with_processes old.state) is) did.to_recheck did.foregrounds_unchecked did.costs
+
+-- and no more pools are gone then than were needed
+pub queue_leaves : (n mid room after p : ℕ) (m : PendingSignal) (pool left : Option RtPool) (rs ts : List Process) → HasRun (queued (is_some pool) m) (comes_back m.sig pool) rs ts p left → mid ≡ n - 1 → (0 < n → pool ≡ Some []) → (0 < n → mid < room)
+    → (IsSome left → mid < room → after ≡ mid + 1) → mid ≤ after → (r : Process) → lookup p rs ≡ Some r → n ≤ after + length (queuers (Some m.sig) (r ∷ []))
+queue_leaves n mid room after p m pool left rs ts ran rest some free kept more r e =
+    let it : r ≡ record (ran.me.what) { pid = p } = same_Some _ _ (sym e ∙ ran.me.found) in
+    pools_put m.sig n mid room after pool left r rest some free kept more (subst (λ q. comes_back m.sig pool q left) (sym it) ran.says)
 
 -- ---- one process that is meant
 

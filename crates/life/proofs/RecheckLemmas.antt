@@ -13,7 +13,7 @@ use Rattle.posix.proofs.TableLemmas.{pid_looked}
 use Rattle.posix.proofs.MapLemmas.{at_pid, some_map}
 use Rattle.posix.proofs.RegularLemmas.{lookup_new, some_inserted, lookup_kept, lookup_removed}
 use Rattle.posix.proofs.TouchLemmas.{Touches, goes_on, touches_born, touches_none, touches_unseen, touches_removed, Untouched}
-use Rattle.posix.proofs.MemberLemmas.{each, in_append, in_none, in_one, is_other, others_stay, in_without}
+use Rattle.posix.proofs.MemberLemmas.{each, in_append, in_none, in_one, is_other, others_stay}
 use Rattle.posix.proofs.OrderLemmas.{without_absent}
 use Rattle.posix.proofs.UnseenLemmas.{covers_none}
 use Rattle.posix.proofs.WakeLemmas.{first_has_place}
@@ -53,10 +53,6 @@ rises_numbers (p ∷ ps) ns h = rises_with p (with_numbers ps ns) (rises_numbers
 -- of a state that was changed: its world and its consoles stay, and of those who aren't touched nobody gets a place
 abbrev pub IsBeside : State → State → List ℕ → Type 0
 IsBeside s t touched = (t.world ≡ s.world) × (t.consoles ≡ s.consoles) × ((q : ℕ) → is_in q touched ≡ false → is_in q s.order ≡ false → is_in q t.order ≡ false)
-
--- who has no place has none where another loses one
-pub still_out : (p q : ℕ) (ns : List ℕ) → is_in q ns ≡ false → is_in q (without p ns) ≡ false
-still_out p q ns e = in_without q p ns ∙ ap (λ b. not (q == p) && b) e ∙ elim (q == p) as (λ b. (not b && false) ≡ false) [ true ↦ refl | false ↦ refl ]
 
 -- who is not touched and waits to read did so before
 reads_still : (session : ℕ) (old new : Process) → new.blocked ≡ old.blocked → new.session ≡ old.session → new.life ≡ old.life → is_reader session new ≡ is_reader session old

@@ -3,7 +3,7 @@ use Rattle.std.proofs.Common.{rules, ◌≡◌, ◌≢◌, ℕ, ◌+◌, ◌<◌
 use Rattle.std.specs.Option.{IsSome}
 use Rattle.std.proofs.lemmas.List.{length-map, length-replicate}
 use Rattle.posix.specs.Processes.{Process, is_zombie, first_process}
-use Rattle.posix.specs.Tables.{at, children_in, lookup, changed, inserted, adopted, reparented}
+use Rattle.posix.specs.Tables.{at, lookup, changed, inserted, adopted, reparented}
 use Rattle.posix.specs.Consoles.{Console, unused_console}
 use Rattle.posix.specs.States.{World, State, boot, process, next_pid}
 use Rattle.posix.specs.NextPid.{next_free}
@@ -12,8 +12,9 @@ use Rattle.posix.specs.Ends.{made_zombie, leave_children_and_die}
 use Rattle.posix.proofs.NextLemmas.{IsNew, new_number}
 use Rattle.posix.proofs.RegularLemmas.{regular_as, regular_inserted, regular_first, regular_depart, heir_there}
 use Rattle.posix.proofs.TableLemmas.{length_inserted}
-use Rattle.posix.proofs.MapLemmas.{at_pid, some_map, children_map}
+use Rattle.posix.proofs.MapLemmas.{at_pid}
 use Rattle.posix.proofs.WalkLemmas.{all_looked}
+use Rattle.posix.proofs.ReportLemmas.{some_changed}
 use Rattle.pidalloc.specs.Rows.{Pids, IsPids, is_free_in, unborne_table, born_in}
 use Rattle.pidalloc.specs.Tallies.{IsTallied}
 use Rattle.pidalloc.proofs.TallyLemmas.{CanBear, can_bear, next_same, tallied_unborne, tallied_born, tallied_map}
@@ -50,13 +51,8 @@ sound_order s order pids a b e regular i = let room = i.kept.room in search (rul
 
 -- who is there is still there where a process was made a zombie
 pub there_made_zombie : (p w q : ℕ) (rs : List Process) → IsSome (lookup q rs) → IsSome (lookup q (changed p (made_zombie w) rs))
-unfolding changed made_zombie
-there_made_zombie p w q rs there = some_map (at p (made_zombie w)) (at_pid p (made_zombie w) (λ r. refl)) q rs there
-
--- and everybody has as many children
-pub kids_made_zombie : (p w q : ℕ) (rs : List Process) → length (children_in q (changed p (made_zombie w) rs)) ≡ length (children_in q rs)
-unfolding changed made_zombie
-kids_made_zombie p w q rs = ap length (children_map (at p (made_zombie w)) (λ r. grind arith) q rs) ∙ length-map (children_in q rs) (at p (made_zombie w))
+unfolding made_zombie
+there_made_zombie p w q rs there = some_changed p q (made_zombie w) (λ r. refl) rs there
 
 -- a process departs, and the machine stays sound
 pub sound_departed : (p heir w : ℕ) (s : State) (pids : Pids) (a b : Places) → 1 ≤ p → p ≢ 1 → CanInherit s.processes p heir → a.room ≤ b.room → IsSound s pids a → IsSound (leave_children_and_die s p heir w) pids b

@@ -1,6 +1,6 @@
 -- Signals that continue nobody are generated for several processes: who is rechecked then takes one.
 use Rattle.std.proofs.Common.{◌≡◌, ℕ, ◌+◌, ◌≤◌, Bool, true, false, cond, refl, ap, sym, ◌∙◌, arith, subst, List, [], ◌∷◌, length, Option, Some, None, ◌==◌, ◌||◌, ⊎_elim, rules}
-use Rattle.std.proofs.lemmas.Bool.{eqb-true, ne_eqb, or_cases, or_left, or_parts}
+use Rattle.std.proofs.lemmas.Bool.{eqb-true, or_cases, or_left, or_parts}
 use Rattle.std.proofs.lemmas.List.{length-map}
 use Rattle.posix.specs.declared.process.Effect.TheVariants as effect
 use Rattle.posix.specs.declared.process.PendingSignal.{PendingSignal}
@@ -13,8 +13,9 @@ use Rattle.posix.specs.States.{is_in}
 use Rattle.posix.specs.Regular.{IsDistinct}
 use Rattle.posix.specs.Generation.{signalled, effect_of}
 use Rattle.posix.specs.Notices.{generated_for, signalled_all}
-use Rattle.posix.proofs.TableLemmas.{Above, pid_looked, rising_filter}
+use Rattle.posix.proofs.TableLemmas.{pid_looked, rising_filter}
 use Rattle.posix.proofs.MemberLemmas.{apart_first}
+use Rattle.posix.proofs.OrderLemmas.{distinct_pids}
 use Rattle.posix.proofs.RegularLemmas.{lookup_other}
 use Rattle.posix.proofs.ChangeLemmas.{continued_cont, lookup_signalled}
 use Rattle.pidset.specs.Numbers.{with_number}
@@ -88,17 +89,6 @@ pub taking_all : (signal : PendingSignal) (ps order : List ℕ) (rs : List Proce
 unfolding is_in
 taking_all signal ps order rs plain apart = let on = taking_on signal ps order rs [] plain apart (λ q e. absurd (cc)) in let few = on.1 in (on.0, omega (arith, few))
 
-not_among : (p : ℕ) (rs : List Process) → Above p rs → is_in p (pids rs) ≡ false
-unfolding is_in
-not_among p [] a = refl
-not_among p (r ∷ rs) a = rw (ne_eqb r.pid p (λ same. omega (arith, same, a.0))) (not_among p rs a.1)
-
--- rising numbers are distinct
-pub rising_distinct : (rs : List Process) → IsRising rs → IsDistinct (pids rs)
-unfolding IsRising IsDistinct
-rising_distinct [] up = tt
-rising_distinct (r ∷ rs) up = (not_among r.pid rs up.0, rising_distinct rs up.1)
-
 -- nobody is told anything of where nobody is to be rechecked
 pub brief_none : (rs : List Process) (ns : List ℕ) (k : ℕ) → ns ≡ [] → AreBrief rs ns × (length ns ≤ k)
 unfolding is_in
@@ -113,7 +103,7 @@ brief_group n group rs ts order ns new plain up none does puts = by (group == 0)
     by : (b : Bool) → ts ≡ cond b rs (signalled_members (record { sig = n; carried = from_kernel }) group rs) → new ≡ cond b ns (rechecking_members n group rs order ns) → AreBrief ts new × (length new ≤ length (members_in group rs))
     by true does puts = brief_none ts new _ (puts ∙ none)
     by false does puts =
-        let all = taking_all (record { sig = n; carried = from_kernel }) (pids (members_in group rs)) order rs plain (rising_distinct (members_in group rs) (rising_filter (is_member group) rs up)) in
+        let all = taking_all (record { sig = n; carried = from_kernel }) (pids (members_in group rs)) order rs plain (distinct_pids (members_in group rs) (rising_filter (is_member group) rs up)) in
         let many = length-map (members_in group rs) (λ r. r.pid) in
         rw (does, puts, none) (λ q e. let it = all.0 q e in (it.0, it.1, or_left _ _ it.2), omega (arith, many, all.1))
 

@@ -1,16 +1,20 @@
 -- Consoles as a machine shows them, and who waits to read from one.
-use Rattle.std.specs.Prelude.{option_map, ◌≡◌, ◌+◌, ◌*◌, ◌==◌, ◌&&◌, ℕ, zero, suc, Bool, not, true, false, if◌then◌else◌, List, [], length, Option, Some, None, slice_get, slice_set, MatchOption}
+use Rattle.std.specs.Prelude.{option_map, ◌≡◌, ◌+◌, ◌*◌, ◌==◌, ◌&&◌, ◌||◌, ◌⊎◌, ℕ, zero, suc, Bool, not, true, false, if◌then◌else◌, List, [], length, Option, Some, None, slice_get, slice_set, MatchOption}
 use Rattle.posix.specs.Processes.{Process, is_running}
 use Rattle.std.specs.Option.{option_map_or}
 use Rattle.posix.specs.Consoles.{Console, console_of, console_at, key_signal}
 use Rattle.posix.specs.States.{State, process, is_in, has_place, without}
 use Rattle.posix.specs.Tables.{members_in}
+use Rattle.posix.specs.Settle.{is_fresh}
 use Rattle.posix.specs.Terminals.{is_reader, is_in_read}
 use Rattle.pidset.specs.Numbers.{PidSetView, with_number}
 use Rattle.proctable.specs.Records.{snapshot_of}
 use Rattle.proctable.specs.declared.snapshot.Snapshot.{Snapshot}
 use Rattle.life.specs.declared.consoles.Terminal.{Terminal}
-use Rattle.life.specs.Machines.{MachineView}
+use Rattle.std.specs.Borrow.{MutBor}
+use Rattle.std.specs.Fn.{Once, FnOnceReturnsAtMut}
+use Rattle.life.specs.Foregrounds.{is_unchecked}
+use Rattle.life.specs.Machines.{MachineView, with_consoles}
 
 abbrev pub terminal_of : Console → Terminal
 terminal_of c = record { foreground = c.foreground; tostop = c.tostop; has_line = not (length c.lines == 0) }
@@ -27,6 +31,24 @@ IsTerminalIndex session cs (Some k) = (c : Console) × (slice_get cs k ≡ Some 
 -- whoever waits to read from the console with this index, and has no place in the order, is to be rechecked
 abbrev pub AreReaders : State → ℕ → List ℕ → Type 0
 AreReaders s k to_recheck = (p : ℕ) (c : Console) (r : Process) → slice_get s.consoles k ≡ Some c → process s p ≡ Some r → is_reader c.session r ≡ true → has_place s p ≡ false → is_in p to_recheck ≡ true
+
+-- it is the terminal of the same session, with the same foreground process group
+abbrev pub IsSameTerminal : Console → Console → Type 0
+IsSameTerminal c d = (d.session ≡ c.session) × (d.foreground ≡ c.foreground)
+
+-- The console with this index can become another: it isn't the second one of a session, whoever can act by it is to be
+-- rechecked, and its foreground process group has a member where none is unchecked.
+pub record CanBecome (m : MachineView) (k : ℕ) (c d : Console) : Type 0 where
+  pub session : (d.session ≡ c.session) ⊎ ((d.session ≡ 0) ⊎ ((c.session ≡ 0) × (console_of d.session m.state.consoles ≡ None)))
+  pub readers : (IsSameTerminal c d × (c.lines ≡ [] → d.lines ≡ [])) ⊎ AreReaders m.state k m.to_recheck
+  pub foreground : IsSameTerminal c d ⊎ ((is_unchecked m.foregrounds_unchecked d || is_fresh m.state.processes d) ≡ true)
+
+abbrev pub CanChange : {F T : Type 0} → Once F (MutBor Console × Unit {0}) (T × (MutBor Console × Unit {0})) → F → MachineView → ℕ → Type 0
+CanChange {T = T} g change m k = (c d : Console) (r : T) → slice_get m.state.consoles k ≡ Some c → FnOnceReturnsAtMut g change c r d → CanBecome m k c d
+
+-- it became what the closure made of it, if it is there
+abbrev pub HasChanged : {F T : Type 0} → Once F (MutBor Console × Unit {0}) (T × (MutBor Console × Unit {0})) → F → State → State → ℕ → Option T → Type 0
+HasChanged {T = T} g change old new k o = MatchOption (slice_get old.consoles k) ((o ≡ None) × (new ≡ old)) (λ c. (d : Console) × (r : T) × (o ≡ Some r) × FnOnceReturnsAtMut g change c r d × (new ≡ with_consoles old (slice_set old.consoles k d)))
 
 -- the session from whose terminal p waits to read
 abbrev pub reads_in : Option Process → Option ℕ

@@ -1,6 +1,6 @@
 //! Alarms, and the time (XSH alarm).
 
-ghost use Rattle.std.specs.Prelude.{◌≡◌, [], ◌+◌, ◌<◌, ◌≤◌, ◌^◌, ℕ, IsSome, Some, None, false, true, filter, length};
+ghost use Rattle.std.specs.Prelude.{◌≡◌, [], ◌+◌, ◌<◌, ◌≤◌, ◌^◌, ℕ, Some, None, false, true, filter, length};
 ghost use Rattle.posix.specs.Processes.{Process};
 ghost use Rattle.posix.specs.States.{process, change};
 ghost use Rattle.posix.specs.Tables.{IsNext};

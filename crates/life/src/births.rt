@@ -1,8 +1,7 @@
 //! Births.
 
-ghost use Rattle.std.specs.Prelude.{◌≡◌, ◌+◌, ◌≤◌, ◌<◌, ◌^◌, length, Some, OnOk, OnErr};
-ghost use Rattle.posix.specs.Processes.{Process};
-ghost use Rattle.posix.specs.States.{process, next_pid as next_pid_of};
+ghost use Rattle.std.specs.Prelude.{◌≡◌, ◌+◌, ◌<◌, ◌^◌, length, Some, OnOk, OnErr};
+ghost use Rattle.posix.specs.States.{next_pid as next_pid_of};
 ghost use Rattle.posix.specs.Births.{born};
 ghost use Rattle.posix.specs.Tables.{children_in};
 ghost use Rattle.posix.specs.Regular.{IsPlaced};

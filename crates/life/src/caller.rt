@@ -1,9 +1,7 @@
 //! The caller of a system call.
 
-ghost use Rattle.std.specs.Prelude.{◌≡◌, ◌+◌, ◌≤◌, Some, IsSome, IfSome};
-ghost use Rattle.posix.specs.Processes.{Process, root as root_credentials};
+ghost use Rattle.std.specs.Prelude.{◌≡◌, IfSome};
 ghost use Rattle.posix.specs.States.{process};
-ghost use Rattle.posix.specs.Regular.{IsRegular};
 ghost use Rattle.posix.specs.Targets.{target_in};
 ghost use Rattle.proctable.specs.Records.{process_of};
 ghost use Rattle.life.specs.Callers.{caller_of};
@@ -34,22 +32,6 @@ pub struct Caller {
 }
 
 impl Caller {
-    /// The kernel, which may signal all processes; its signals come with value 0 and from number 0.
-    pub(crate) fn kernel() -> Caller
-        ensures pid { result.pid ≡ 0 }
-        ensures creds { result.creds ≡ root_credentials }
-    {
-        Caller {
-            pid: Pid::NONE,
-            group: Pid::NONE,
-            session: Pid::NONE,
-            creds: Creds::root(),
-            r1: 0,
-            r2: 0,
-            r3: 0,
-        }
-    }
-
     /// Whom its first argument means (XSH kill, waitpid).
     pub fn target(&self) -> Target
         ensures { result ≡ target_in self.now.r1 }

@@ -1,12 +1,12 @@
 //! A change of one process, with what is kept beside the records: who is to be rechecked, which numbers are borne,
 //! and whether a foreground process group may have lost its members.
 
-ghost use Rattle.std.specs.Prelude.{◌≡◌, ◌≢◌, ◌+◌, ◌*◌, ◌<◌, ◌≤◌, ◌&&◌, ◌||◌, not, IsSome, Some, length, option_map, if◌then◌else◌, false};
+ghost use Rattle.std.specs.Prelude.{◌≡◌, ◌≢◌, ◌+◌, ◌*◌, ◌<◌, ◌&&◌, ◌||◌, not, IsSome, Some, length, if◌then◌else◌, false};
 ghost use Rattle.posix.specs.Processes.{Process, is_zombie};
 ghost use Rattle.posix.specs.States.{is_in, process};
 ghost use Rattle.posix.specs.Tables.{IsRising, changed, children_in, lookup, parent_of};
 ghost use Rattle.posix.specs.Notices.{child_signal as child_signal_of, noticed_of_change, told_of_change};
-ghost use Rattle.posix.specs.Regular.{IsPlaced, IsRegular};
+ghost use Rattle.posix.specs.Regular.{IsPlaced};
 ghost use Rattle.pidalloc.specs.Rows.{regrouped};
 ghost use Rattle.pidset.specs.Numbers.{with_number};
 ghost use Rattle.jobs.specs.Books.{seen_of};

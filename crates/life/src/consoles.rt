@@ -1,27 +1,24 @@
 //! Consoles: whose terminal each is, who waits to read from it, and what a key, a hangup and a lost foreground
 //! process group do (XBD 11.1).
 
-ghost use Rattle.std.specs.Prelude.{◌≡◌, ◌≢◌, ◌+◌, ◌*◌, ◌<◌, ◌≤◌, ◌==◌, ◌&&◌, ◌||◌, ℕ, IfOk, IfSome, IsSome, MatchOption, Option, Some, None, [], count_by, length, false, true, if◌then◌else◌, option_map, map, replicate, slice_get, slice_set};
+ghost use Rattle.std.specs.Prelude.{◌≡◌, ◌≢◌, ◌==◌, ◌+◌, ◌<◌, ◌≤◌, ◌||◌, ℕ, IfOk, IfSome, MatchOption, Some, None, [], count_by, length, false, true, if◌then◌else◌, option_map, map, replicate, slice_get, slice_set};
 ghost use Rattle.std.specs.List.{AllByRecursion};
 ghost use Rattle.std.specs.Option.{option_copied};
 ghost use Rattle.posix.specs.Processes.{Process};
-ghost use Rattle.posix.specs.SignalNumbers.{is_realtime};
-ghost use Rattle.posix.specs.States.{process, has_place as has_place_in, is_in, without};
-ghost use Rattle.posix.specs.Consoles.{Console as ConsoleValue, unused_console, console_of, console_at, with_console, changed_console, keyed, key_signal, acquired, released, with_foreground, with_tostop, line_taken};
+ghost use Rattle.posix.specs.States.{process, is_in, without};
+ghost use Rattle.posix.specs.Consoles.{Console as ConsoleValue, unused_console, console_of, changed_console, keyed, key_signal, acquired, released, with_foreground, with_tostop, line_taken};
 ghost use Rattle.posix.specs.GroupCalls.{is_group_of};
-ghost use Rattle.posix.specs.Terminals.{is_reader, is_nonzero};
-ghost use Rattle.posix.specs.Ends.{signalled_group, hang_up as hanging_up};
+ghost use Rattle.posix.specs.Ends.{hang_up as hanging_up};
 ghost use Rattle.posix.specs.Settle.{wakes, refreshed, clear_foregrounds as clearing_foregrounds, NoWakeIsLost};
 ghost use Rattle.posix.specs.Step.{key as keying};
 ghost use Rattle.posix.specs.Regular.{AreGrouped, IsRegular};
 ghost use Rattle.posix.specs.Tables.{members_in, pids};
-ghost use Rattle.pidset.specs.Numbers.{PidSetView, numbers_above, with_number};
-ghost use Rattle.life.specs.Machines.{Changes, Costs, Finds, IsThere, IfThere, with_processes, with_consoles, IfConsole, AreWatched, HaveRoom, AreUnread, IsReaders, readers_at};
-ghost use Rattle.life.specs.Rechecks.{AreBrief, rechecking_members, slots_of_signal};
-ghost use Rattle.posix.specs.declared.process.Blocked.TheVariants as blocked;
+ghost use Rattle.pidset.specs.Numbers.{numbers_above, with_number};
+ghost use Rattle.life.specs.Machines.{Costs, Finds, IsThere, IfThere, with_consoles, IfConsole, AreWatched, HaveRoom, AreUnread, IsReaders, readers_at};
+ghost use Rattle.life.specs.Rechecks.{AreBrief};
 ghost use Rattle.proctable.specs.Records.{snapshot_of};
 ghost use Rattle.life.specs.Foregrounds.{after_loss as after_loss_of, is_unchecked as is_unchecked_by, refreshed_where};
-ghost use Rattle.life.specs.Consoles.{terminal_of, hangs_up as hangs_up_with, reads as reads_from, reads_in as reads_in_session, is_terminal_of as is_terminal, marked, IsMarked, IsTerminalIndex, IsForgottenAt, AreReaders, foreground_members, slots_of_key, slots_of_hangup};
+ghost use Rattle.life.specs.Consoles.{terminal_of, hangs_up as hangs_up_with, reads as reads_from, reads_in as reads_in_session, is_terminal_of as is_terminal, marked, IsMarked, IsTerminalIndex, IsForgottenAt, AreReaders, CanChange, HasChanged, foreground_members, slots_of_key, slots_of_hangup};
 ghost use Rattle.tty.specs.Lines.{Takes};
 
 use crate::machine::Machine;
@@ -301,7 +298,7 @@ impl<K: Kin> Machine<K> {
     /// Whoever waits to read from the console with this index is to be rechecked, and isn't known by it any more.
     fn recheck_readers(&mut self, console_index: usize)
         ensures rest { self.new ≡ record (self.old) { to_recheck = self.new.to_recheck; readers = self.new.readers } }
-        ensures to_recheck { AreReaders self.old.state console_index self.new.to_recheck }
+        ensures to_recheck { AreReaders self.new.state console_index self.new.to_recheck }
         ensures those { (p : ℕ) → is_in p self.new.to_recheck ≡ true → (is_in p self.old.to_recheck || is_in p (readers_at console_index self.old.readers)) ≡ true }
         ensures readers { readers_at console_index self.new.readers ≡ [] }
         ensures watched { AreWatched self.old }
@@ -336,6 +333,22 @@ impl<K: Kin> Machine<K> {
         clear_readers(&mut self.readers, console_index);
     }
 
+    /// Changes the console with this index as the closure does; none where there is none. Each change of one console
+    /// goes by this, but a line that is taken.
+    fn change_console<T, F: FnOnce(&mut Console) -> T>(
+        &mut self,
+        console_index: usize,
+        change: F,
+    ) -> Option<T>
+        requires callable { F.IsAlwaysCallable change }
+        requires can { CanChange F.FnOnce change self.old console_index }
+        ensures rest { self.new ≡ record (self.old) { state = self.new.state } }
+        ensures state { HasChanged F.FnOnce change self.old.state self.new.state console_index result }
+        ensures regular { IsRegular self.old.state }
+    {
+        Some(change(self.consoles.get_mut(console_index)?))
+    }
+
     // ---- whose terminal it is
 
     /// The console with this index, nobody's terminal, becomes that of a session that has none, with a foreground
@@ -348,10 +361,8 @@ impl<K: Kin> Machine<K> {
         ensures those { (p : ℕ) → is_in p self.new.to_recheck ≡ true → (is_in p self.old.to_recheck || is_in p (readers_at console_index self.old.readers)) ≡ true }
     {
         self.recheck_readers(console_index);
-        if let Some(console) = self.consoles.get_mut(console_index) {
-            console.acquire(session, group);
-            self.foregrounds_unchecked = Unchecked::All;
-        }
+        self.foregrounds_unchecked = Unchecked::All;
+        self.change_console(console_index, |console| console.acquire(session, group));
     }
 
     /// A process group becomes the foreground one of a session's terminal.
@@ -363,8 +374,8 @@ impl<K: Kin> Machine<K> {
     {
         if let Some(console_index) = terminal_index(&self.consoles, session) {
             self.recheck_readers(console_index);
-            self.consoles[console_index].set_foreground(group);
             self.foregrounds_unchecked = Unchecked::All;
+            self.change_console(console_index, |console| console.set_foreground(group));
         }
     }
 
@@ -375,7 +386,7 @@ impl<K: Kin> Machine<K> {
         ensures state { self.new.state ≡ with_consoles self.old.state (changed_console session (with_tostop tostop) self.old.state.consoles) }
     {
         if let Some(console_index) = terminal_index(&self.consoles, session) {
-            self.consoles[console_index].set_tostop(tostop);
+            self.change_console(console_index, |console| console.set_tostop(tostop));
         }
     }
 
@@ -392,21 +403,23 @@ impl<K: Kin> Machine<K> {
         self.consoles[console_index].take(out)
     }
 
-    // ---- signals
+    // ---- keys, hangups, foregrounds
 
-    /// A standard signal of the kernel is generated for each member of a process group, zombies included, in rising
-    /// order; number 0 is no group's.
-    pub fn signal_group(&mut self, group: Pid, sig: Sig)
-        requires { is_realtime sig ≡ false }
-        ensures { Changes (1 + (2 + slots_of_signal sig) * length (members_in group self.old.state.processes)) self.old self.new (with_processes self.old.state (signalled_group sig group self.old.state.processes)) (if group == 0 then self.old.to_recheck else rechecking_members sig group self.old.state.processes self.old.state.order self.old.to_recheck) }
+    /// Where a byte ends a line, whoever waits to read from the console with this index is to be rechecked, and isn't
+    /// known by it any more.
+    fn recheck_at_line_end(&mut self, console_index: usize, byte: u8)
+        ensures rest { self.new ≡ record (self.old) { to_recheck = self.new.to_recheck; readers = self.new.readers } }
+        ensures to_recheck { (byte == 10 || byte == 4) ≡ true → AreReaders self.new.state console_index self.new.to_recheck }
+        ensures those { (p : ℕ) → is_in p self.new.to_recheck ≡ true → (is_in p self.old.to_recheck || is_in p (readers_at console_index self.old.readers)) ≡ true }
+        ensures quiet { (byte == 10 || byte == 4) ≡ false → self.new.to_recheck ≡ self.old.to_recheck }
+        ensures watched { AreWatched self.old }
+        ensures regular { IsRegular self.old.state }
     {
         let _ = &self.table;
-        if group != Pid::NONE {
-            self.signal_members(group, sig);
+        if ends_line(byte) {
+            self.recheck_readers(console_index);
         }
     }
-
-    // ---- keys, hangups, foregrounds
 
     /// A byte comes on the console with this index.
     fn type_byte(&mut self, console_index: usize, byte: u8) -> Option<KeyEffect>
@@ -418,10 +431,9 @@ impl<K: Kin> Machine<K> {
         ensures readers { self.old.to_recheck ≡ [] → NoWakeIsLost self.old.state → IfConsole console_index self.old (λ c. AreBrief self.new.state.processes self.new.to_recheck × (length self.new.to_recheck ≤ length (members_in c.foreground self.old.state.processes))) }
         ensures costs { Costs 0 self.old self.new }
     {
-        if ends_line(byte) {
-            self.recheck_readers(console_index);
-        }
-        Some(self.consoles.get_mut(console_index)?.key(byte))
+        self.recheck_at_line_end(console_index, byte);
+        let _ = &self.table;
+        self.change_console(console_index, |console| console.key(byte))
     }
 
     /// A byte comes on a console, which counts from 1. INTR, QUIT and SUSP discard all input, and each member of the
@@ -481,9 +493,7 @@ impl<K: Kin> Machine<K> {
         ensures those { (p : ℕ) → is_in p self.new.to_recheck ≡ true → (is_in p self.old.to_recheck || is_in p (readers_at console_index self.old.readers)) ≡ true }
     {
         self.recheck_readers(console_index);
-        if let Some(console) = self.consoles.get_mut(console_index) {
-            console.release();
-        }
+        self.change_console(console_index, |console| console.release());
     }
 
     /// A console whose foreground process group has no member left in its session has none from then on. One slot is

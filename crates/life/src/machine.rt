@@ -1,9 +1,13 @@
 //! The machine: all that the state of a world consists of.
 
-ghost use Rattle.std.specs.Prelude.{◌≡◌, ◌≢◌, ◌+◌, ◌<◌, ◌≤◌, ◌^◌, ◌++◌, ◌∷◌, [], ⊤, IfOk, IfSome, IsSome, Some, length, option_map, false, true, if◌then◌else◌};
+ghost use Rattle.std.specs.Prelude.{◌≡◌, ◌≢◌, ◌+◌, ◌<◌, ◌≤◌, ◌^◌, ◌++◌, ◌∷◌, [], ⊤, IfOk, IfSome, length, option_map, replicate, false, true, if◌then◌else◌};
+ghost use Rattle.std.specs.List.{AllByRecursion};
+ghost use Rattle.posix.specs.Consoles.{unused_console};
+ghost use Rattle.pidalloc.specs.Rows.{IsPids, born_in, unborne_table};
+ghost use Rattle.life.specs.Machines.{IsReaders, AreUnread};
 ghost use mathlib.Core.Option.{none};
 ghost use Rattle.std.specs.Borrow.{sem, Lends, follows_so};
-ghost use Rattle.posix.specs.Processes.{Process};
+ghost use Rattle.posix.specs.Processes.{first_process};
 ghost use Rattle.posix.specs.States.{boot as boot_of, process, change, current as current_of, lose_place as losing_place, go_last as going_last, has_place as has_place_in, is_in};
 ghost use Rattle.posix.specs.Regular.{IsRegular, IsPlaced};
 ghost use Rattle.posix.specs.Execute.{exec_one as executed, StaysUnlessRun};
@@ -66,6 +70,90 @@ impl<K: Kin> Model for Machine<K> {
     ghost invariant = { λ m. IsMachine (state_of m.world (m.table.processes) m.consoles.items m.pids m.order m.births m.ticks m.dropped m.halted) m.pids m.order m.to_recheck m.groups_at_risk (record { readers = m.readers.items; foregrounds_unchecked = m.foregrounds_unchecked }) };
 }
 
+/// What a machine begins with beside its table: who bears number 1, the order, and room for those to be rechecked.
+#[derive(Drop)]
+struct Lists {
+    pids: PidTable,
+    order: Order,
+    to_recheck: PidSet,
+    groups_at_risk: PidSet,
+}
+
+impl Lists {
+    /// Those of process 1 alone; an error where the host has no memory for them.
+    #[tactic(auto, unfolding(posix::specs::States::is_in))]
+    fn first(alloc: Global, pidmax: u32) -> Result<Lists, AllocError>
+        requires { (2 ≤ pidmax) × (pidmax ≤ 32768) }
+        ensures pids { IfOk result (λ l. l.pids ≡ born_in (unborne_table pidmax) 1 1 1) }
+        ensures last { IfOk result (λ l. l.pids.last ≡ 1) }
+        ensures pidmax { IfOk result (λ l. l.pids.pidmax ≡ pidmax) }
+        ensures kept { IfOk result (λ l. IsPids l.pids) }
+        ensures order { IfOk result (λ l. l.order.pids ≡ 1 ∷ []) }
+        ensures places { IfOk result (λ l. l.order.room ≡ pidmax + 1) }
+        ensures nobody { IfOk result (λ l. l.to_recheck.pids ≡ []) }
+        ensures rechecks { IfOk result (λ l. pidmax + 1 ≤ l.to_recheck.room) }
+        ensures no_group { IfOk result (λ l. l.groups_at_risk.pids ≡ []) }
+        ensures groups { IfOk result (λ l. pidmax + 2 ≤ l.groups_at_risk.room) }
+    {
+        let mut pids = PidTable::new(alloc, pidmax)?;
+        pids.bear_all(Pid::INIT, Pid::INIT, Pid::INIT);
+        let mut order = Order::new(alloc, pidmax)?;
+        order.place(Pid::INIT);
+        Ok(Lists {
+            pids,
+            order,
+            to_recheck: room_for(alloc, pidmax as usize + 1)?,
+            groups_at_risk: room_for(alloc, pidmax as usize + 2)?,
+        })
+    }
+}
+
+/// The terminals of a machine, and who waits to read from them.
+#[derive(Drop)]
+struct Terminals {
+    consoles: Vec<Console>,
+    readers: Vec<PidSet>,
+}
+
+impl Terminals {
+    /// So many that nobody uses; an error where the host has no memory for them.
+    fn unused(alloc: Global, count: u8, pidmax: u32) -> Result<Terminals, AllocError>
+        requires { pidmax ≤ 32768 }
+        ensures consoles { IfOk result (λ t. t.consoles.items ≡ replicate count unused_console) }
+        ensures each { IfOk result (λ t. AllByRecursion (IsReaders pidmax) t.readers.items) }
+        ensures many { IfOk result (λ t. length t.readers.items ≡ count) }
+        ensures none { IfOk result (λ t. AreUnread t.readers.items) }
+    {
+        Ok(Terminals {
+            consoles: unused(alloc, count)?,
+            readers: no_readers(alloc, count, pidmax)?,
+        })
+    }
+}
+
+/// An empty set with room for so many numbers; an error where the host has no memory for them.
+fn room_for(alloc: Global, capacity: usize) -> Result<PidSet, AllocError>
+    requires { capacity < 2 ^ 63 }
+    ensures pids { IfOk result (λ s. s.pids ≡ []) }
+    ensures room { IfOk result (λ s. capacity ≤ s.room) }
+{
+    let mut set = PidSet::new(alloc);
+    set.reserve(capacity)?;
+    Ok(set)
+}
+
+/// A table of process 1 alone; an error where the host has no memory for it.
+#[tactic(auto, using(jobs::proofs::NumberLemmas::nobody_there), unfolding(posix::specs::Tables::children_in))]
+fn first_table<K: Kin>(alloc: Global) -> Result<JobTable<K>, AllocError>
+    ensures processes { IfOk result (λ t. t.processes ≡ first_process ∷ []) }
+    ensures visits { IfOk result (λ t. t.visits ≤ 6) }
+{
+    let mut table = JobTable::empty(alloc);
+    table.reserve(Pid::INIT)?;
+    table.insert(Pid::INIT, Pid::NONE, Record::first(alloc)?);
+    Ok(table)
+}
+
 impl<K: Kin> Machine<K> {
     /// The machine at its start; an error where the host has no memory for it.
     #[tactic(auto, using(jobs::proofs::NumberLemmas::nobody_there), unfolding(posix::specs::States::is_in, posix::specs::Tables::children_in))]
@@ -77,29 +165,19 @@ impl<K: Kin> Machine<K> {
         ensures regular { IfOk result (λ m. IsRegular m.state) }
     {
         let world = world.try_clone(alloc)?;
-        let mut pids = PidTable::new(alloc, world.pidmax())?;
-        let mut table = JobTable::empty(alloc);
-        table.reserve(Pid::INIT)?;
-        let mut order = Order::new(alloc, world.pidmax())?;
-        let mut to_recheck = PidSet::new(alloc);
-        to_recheck.reserve(world.pidmax() as usize + 1)?;
-        let mut groups_at_risk = PidSet::new(alloc);
-        groups_at_risk.reserve(world.pidmax() as usize + 2)?;
-        let consoles = unused(alloc, world.consoles())?;
-        let readers = no_readers(alloc, world.consoles(), world.pidmax())?;
-        let first = Record::first(alloc)?;
-        table.insert(Pid::INIT, Pid::NONE, first);
-        pids.bear_all(Pid::INIT, Pid::INIT, Pid::INIT);
-        order.place(Pid::INIT);
+        let pidmax = world.pidmax();
+        let table = first_table(alloc)?;
+        let terminals = Terminals::unused(alloc, world.consoles(), pidmax)?;
+        let lists = Lists::first(alloc, pidmax)?;
         Ok(Machine {
             world,
             table,
-            pids,
-            order,
-            to_recheck,
-            groups_at_risk,
-            consoles,
-            readers,
+            pids: lists.pids,
+            order: lists.order,
+            to_recheck: lists.to_recheck,
+            groups_at_risk: lists.groups_at_risk,
+            consoles: terminals.consoles,
+            readers: terminals.readers,
             foregrounds_unchecked: Unchecked::Nothing,
             stock: Stock::new(alloc),
             births: 1,

@@ -1,6 +1,6 @@
 //! Moves from one process group to another, and new sessions (XSH setpgid, setsid).
 
-ghost use Rattle.std.specs.Prelude.{◌≡◌, ◌==◌, ◌||◌, ◌+◌, ◌*◌, ◌≤◌, length, Some, Ok, Err, true, false, IfOk, OnErr, OnOk};
+ghost use Rattle.std.specs.Prelude.{◌≡◌, ◌==◌, ◌||◌, ◌+◌, ◌*◌, length, Some, Ok, Err, true, false, IfOk, OnErr, OnOk};
 ghost use Rattle.posix.specs.declared.errno.Errno.TheVariants.{EPERM};
 ghost use Rattle.posix.specs.Processes.{Process};
 ghost use Rattle.posix.specs.States.{process, change};

@@ -1,24 +1,20 @@
 //! Process groups that an end orphans (XSH _exit, Consequences of Process Termination).
 
-ghost use Rattle.std.specs.Prelude.{◌≡◌, ◌≢◌, ◌+◌, ◌*◌, ◌≤◌, ◌&&◌, ℕ, IsSome, Some, true, false, if◌then◌else◌, filter, length};
+ghost use Rattle.std.specs.Prelude.{◌≡◌, ◌≢◌, ◌+◌, ◌*◌, ◌≤◌, ◌&&◌, ℕ, Some, true, if◌then◌else◌, filter, length};
 ghost use Rattle.posix.specs.Processes.{Process, is_zombie};
-ghost use Rattle.posix.specs.SignalNumbers.{is_realtime};
 ghost use Rattle.posix.specs.Numbers.{with_number};
 ghost use Rattle.posix.specs.States.{process, is_in, without};
-ghost use Rattle.posix.specs.Tables.{children_in, members_in};
-ghost use Rattle.posix.specs.Choice.{from_kernel};
+ghost use Rattle.posix.specs.Tables.{children_in};
 ghost use Rattle.posix.specs.Groups.{is_anchor as is_anchor_of, is_orphaned as is_orphaned_of, has_stopped as has_stopped_of, loses_anchor};
-ghost use Rattle.posix.specs.Ends.{signalled_members, hup_and_cont as hup_and_cont_of, hup_and_cont_all as hup_and_cont_all_of, hup_and_cont_orphans, leave_children_and_die as departing, tell_of_all, zombies_of};
+ghost use Rattle.posix.specs.Ends.{hup_and_cont as hup_and_cont_of, hup_and_cont_all as hup_and_cont_all_of, hup_and_cont_orphans, leave_children_and_die as departing, tell_of_all, zombies_of};
 ghost use Rattle.pidset.specs.Numbers.{Rises};
 ghost use Rattle.life.specs.Ends.{slots_of_hup_and_cont, slots_of_hups, slots_of_orphans};
-ghost use Rattle.life.specs.Rechecks.{rechecking_members, slots_of_signal};
 ghost use Rattle.posix.specs.Regular.{IsRegular, CanInherit};
-ghost use Rattle.life.specs.Machines.{Changes, Costs, Notes, IsThere, IfThere, with_processes};
+ghost use Rattle.life.specs.Machines.{Notes, IsThere, IfThere, with_processes};
 
-use crate::caller::Caller;
 use crate::machine::Machine;
-use posix::{Carried, PendingSignal, Pid, Sig, Status, Target};
-use proctable::{Kin, NoPools};
+use posix::{Pid, Sig, Status};
+use proctable::Kin;
 
 impl<K: Kin> Machine<K> {
     // ---- before the end
@@ -75,25 +71,6 @@ impl<K: Kin> Machine<K> {
             self.keep_orphan_with_stopped(group);
             next = self.groups_at_risk.next_above(group);
         }
-    }
-
-    /// A standard signal of the kernel is generated for each member of a process group, zombies included, in rising
-    /// order.
-    #[tactic(auto, using(crate::proofs::AtRiskLemmas::members_get), unfolding(posix::specs::Tables::members_in))]
-    pub(crate) fn signal_members(&mut self, group: Pid, sig: Sig)
-        requires { is_realtime sig ≡ false }
-        ensures { Changes (1 + (2 + slots_of_signal sig) * length (members_in group self.old.state.processes)) self.old self.new (with_processes self.old.state (signalled_members (record { sig = sig; carried = from_kernel }) group self.old.state.processes)) (rechecking_members sig group self.old.state.processes self.old.state.order self.old.to_recheck) }
-    {
-        let signal = PendingSignal {
-            sig,
-            carried: Carried::FROM_KERNEL,
-        };
-        self.send_with(
-            &Caller::kernel(),
-            Target::Group(group),
-            Some(signal),
-            &mut NoPools,
-        );
     }
 
     /// Each member of a process group gets HUP, and then each gets CONT.

@@ -1,17 +1,19 @@
-//! Signals that are generated for a process.
+//! Signals that are generated for a process, and for each member of a process group.
 
-ghost use Rattle.std.specs.Prelude.{◌≡◌, ◌+◌, ◌≤◌, ◌∷◌, [], IsSome, Some, true, false, length};
-ghost use Rattle.posix.specs.Processes.{Process};
+ghost use Rattle.std.specs.Prelude.{◌≡◌, ◌+◌, ◌*◌, ◌≤◌, ◌==◌, ◌∷◌, [], Some, true, false, if◌then◌else◌, length};
 ghost use Rattle.posix.specs.SignalNumbers.{is_realtime};
 ghost use Rattle.posix.specs.States.{process};
+ghost use Rattle.posix.specs.Tables.{members_in};
+ghost use Rattle.posix.specs.Choice.{from_kernel};
 ghost use Rattle.posix.specs.Notices.{generated_for};
+ghost use Rattle.posix.specs.Ends.{signalled_group, signalled_members};
 ghost use Rattle.posix.specs.Sends.{queuers};
 ghost use Rattle.life.specs.Queues.{HaveRoom};
-ghost use Rattle.life.specs.Rechecks.{rechecking_generated, slots_of_signal};
+ghost use Rattle.life.specs.Rechecks.{rechecking_generated, rechecking_members, slots_of_signal};
 ghost use Rattle.life.specs.Machines.{Changes, IsThere, IfThere, with_processes};
 
 use crate::machine::Machine;
-use posix::{Effect, PendingSignal, Pid};
+use posix::{Carried, Effect, PendingSignal, Pid, Sig};
 use proctable::{Kin, Pools};
 
 impl<K: Kin> Machine<K> {
@@ -56,6 +58,34 @@ impl<K: Kin> Machine<K> {
             self.queue(pid, signal, pools);
         } else {
             self.signal(pid, signal);
+        }
+    }
+
+    /// A standard signal of the kernel is generated for each member of a process group, zombies included, in rising
+    /// order.
+    pub(crate) fn signal_members(&mut self, group: Pid, sig: Sig)
+        requires { is_realtime sig ≡ false }
+        ensures { Changes (1 + (2 + slots_of_signal sig) * length (members_in group self.old.state.processes)) self.old self.new (with_processes self.old.state (signalled_members (record { sig = sig; carried = from_kernel }) group self.old.state.processes)) (rechecking_members sig group self.old.state.processes self.old.state.order self.old.to_recheck) }
+    {
+        let mut next = self.next_member(group, Pid::NONE);
+        while let Some(pid) = next {
+            let signal = PendingSignal {
+                sig,
+                carried: Carried::FROM_KERNEL,
+            };
+            self.signal(pid, signal);
+            next = self.next_member(group, pid);
+        }
+    }
+
+    /// So it is for each member of a process group; number 0 is no group's.
+    pub fn signal_group(&mut self, group: Pid, sig: Sig)
+        requires { is_realtime sig ≡ false }
+        ensures { Changes (1 + (2 + slots_of_signal sig) * length (members_in group self.old.state.processes)) self.old self.new (with_processes self.old.state (signalled_group sig group self.old.state.processes)) (if group == 0 then self.old.to_recheck else rechecking_members sig group self.old.state.processes self.old.state.order self.old.to_recheck) }
+    {
+        let _ = &self.table;
+        if group != Pid::NONE {
+            self.signal_members(group, sig);
         }
     }
 }

@@ -1,15 +1,12 @@
 //! Stops and continuations.
-
-ghost use Rattle.std.specs.Prelude.{◌≡◌, ◌≢◌, ◌+◌, ◌≤◌, ◌==◌, if◌then◌else◌, Some, IsSome};
-ghost use Rattle.posix.specs.Processes.{Process};
 ghost use Rattle.posix.specs.Statuses.{continued};
 ghost use Rattle.posix.specs.Tables.{changed};
-ghost use Rattle.posix.specs.States.{process, change, without};
+ghost use Rattle.posix.specs.States.{process, without};
 ghost use Rattle.posix.specs.Regular.{IsPlaced};
 ghost use Rattle.posix.specs.Notices.{resumed, stopped_by, told_of_change};
 ghost use Rattle.posix.specs.Delivery.{stop_process as stopping};
 ghost use Rattle.life.specs.Rechecks.{rechecking_told};
-ghost use Rattle.life.specs.Machines.{Changes, IsThere, IfThere, with_processes};
+ghost use Rattle.life.specs.Machines.{Changes, IfThere, with_processes};
 
 use crate::machine::Machine;
 use posix::{Life, News, Pid, Sig, Status};

@@ -1,10 +1,8 @@
 //! A look at those whom a real-time signal would be queued for, before it is.
 
-ghost use Rattle.std.specs.Prelude.{◌≡◌, ◌+◌, ◌*◌, ◌<◌, ◌≤◌, ◌^◌, ℕ, filter, length, option_map};
+ghost use Rattle.std.specs.Prelude.{◌≡◌, ◌+◌, ◌*◌, ◌<◌, ◌≤◌, ◌^◌, ℕ, filter, length};
 ghost use Rattle.posix.specs.Tables.{has_pid};
 ghost use Rattle.posix.specs.Sends.{targets};
-ghost use Rattle.posix.specs.States.{process};
-ghost use Rattle.proctable.specs.Records.{snapshot_of};
 ghost use Rattle.life.specs.Callers.{process_like};
 ghost use Rattle.life.specs.Queues.{joined_surveys, survey_of};
 ghost use Rattle.life.specs.Rechecks.{is_candidate};
@@ -14,7 +12,7 @@ use crate::caller::Caller;
 use crate::machine::Machine;
 use crate::sends::{is_target, may_signal};
 use posix::{Pid, Sending, Sig, Target};
-use proctable::{Kin, Snapshot};
+use proctable::Kin;
 
 /// What a look at those whom a sender means tells of a real-time signal.
 #[derive(Clone, Copy, Debug, PartialEq, Eq)]
@@ -49,20 +47,11 @@ impl Survey {
 }
 
 impl<K: Kin> Machine<K> {
-    /// The small fields of a process; none where it isn't there.
-    fn read(&mut self, pid: Pid) -> Option<Snapshot>
-        ensures finds { Finds 1 self.old self.new (result ≡ option_map snapshot_of (process self.old.state pid)) }
-        ensures size { length self.old.state.processes < 2 ^ 63 }
-    {
-        self.table.get(pid)
-    }
-
     /// The survey of the process with a number, if it is there and the sender means it.
     fn survey_one(&mut self, me: &Caller, sig: Sig, target: &Target, pid: Pid) -> Survey
-        ensures finds { Finds 2 self.old self.new (result ≡ survey_of (process_like me.now) sig (targets (process_like me.now) target.now (filter (has_pid pid) self.old.state.processes))) }
-        ensures size { length self.old.state.processes < 2 ^ 63 }
+        ensures { Finds 2 self.old self.new (result ≡ survey_of (process_like me.now) sig (targets (process_like me.now) target.now (filter (has_pid pid) self.old.state.processes))) }
     {
-        let Some(it) = self.read(pid) else {
+        let Some(it) = self.snapshot(pid) else {
             return Survey::NOBODY;
         };
         if !is_target(me, target, &it) {
@@ -87,6 +76,7 @@ impl<K: Kin> Machine<K> {
     fn survey_all(&mut self, me: &Caller, sig: Sig, target: &Target) -> Survey
         ensures { Finds (1 + 3 * length (filter (is_candidate (process_like me.now) target.now) self.old.state.processes)) self.old self.new (result ≡ survey_of (process_like me.now) sig (targets (process_like me.now) target.now self.old.state.processes)) }
     {
+        let _ = &self.table;
         let mut survey = Survey::NOBODY;
         let mut next = self.next_target(me, target, Pid::NONE);
         while let Some(pid) = next {

@@ -1,6 +1,6 @@
 //! Waits.
 
-ghost use Rattle.std.specs.Prelude.{◌≡◌, ◌≢◌, ◌<◌, ◌≤◌, ◌+◌, ◌*◌, ℕ, length, option_map, IsSome, Some, true, if◌then◌else◌};
+ghost use Rattle.std.specs.Prelude.{◌≡◌, ◌≢◌, ◌<◌, ◌≤◌, ◌+◌, ◌*◌, ℕ, length, option_map, Some, true, if◌then◌else◌};
 ghost use Rattle.std.specs.List.{list_any};
 ghost use Rattle.posix.specs.Processes.{Process, is_zombie};
 ghost use Rattle.posix.specs.Tables.{lookup, removed, children_in, is_member, parent_of};

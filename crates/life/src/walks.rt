@@ -1,11 +1,10 @@
 //! Walks over processes, from the least number on. Whoever goes over several processes does it by these, or
 //! from member to member of a process group.
 
-ghost use Rattle.std.specs.Prelude.{◌≡◌, ◌+◌, ◌≤◌, IsSome, slice_get};
+ghost use Rattle.std.specs.Prelude.{◌≡◌, slice_get};
 ghost use Rattle.posix.specs.Tables.{IsNext, first_pid, above, next_above, children_in, next_sibling as next_sibling_of};
-ghost use Rattle.posix.specs.States.{process};
 ghost use Rattle.posix.specs.Regular.{IsRegular};
-ghost use Rattle.posix.specs.Settle.{wakes, NoWakeIsLost};
+ghost use Rattle.posix.specs.Settle.{wakes};
 ghost use Rattle.posix.specs.Waits.{reporting_in};
 ghost use Rattle.life.specs.Machines.{Finds, IsThere};
 ghost use Rattle.pidset.specs.Numbers.{Rises};

@@ -15,9 +15,6 @@ use Rattle.kernel.proofs.EventLemmas.{expanded_split, replicate_joined, run_fits
 use Rattle.kernel.proofs.RunLemmas.{runs_then}
 use Rattle.past.specs.Pasts.{IsReached, IsSame, AreGiven}
 
-pub same_none : (k : KernelView) → IsSame k k
-same_none k = record { state = refl; events = refl }
-
 pub same_then : {a b c : KernelView} → IsSame a b → IsSame b c → IsSame a c
 same_then p q = record { state = q.state ∙ p.state; events = q.events ∙ p.events }
 

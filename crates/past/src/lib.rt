@@ -7,9 +7,6 @@ ghost use Rattle.posix.specs.States.{World as WorldValue};
 ghost use Rattle.text.specs.EventTexts.{most_events};
 ghost use Rattle.past.specs.Pasts.{AreGiven, IsReached, IsSame};
 
-#[cfg(test)]
-mod tests;
-
 use kernel::Kernel;
 use posix::{Entry, Event, Pid};
 use std::alloc::{AllocError, Global};

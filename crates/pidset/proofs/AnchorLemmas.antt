@@ -9,7 +9,7 @@ use Rattle.std.proofs.lemmas.Bool.{cases_eq, eq-eqb, ne_eqb}
 use Rattle.posix.specs.Processes.{Process, is_living}
 use Rattle.posix.specs.Tables.{lookup, has_pid, is_child, children_in, left_of, next_sibling, inserted, removed, reparented, adopted}
 use Rattle.posix.specs.Groups.{is_anchor, is_outside}
-use Rattle.posix.proofs.TableLemmas.{pid_looked, pid_reparented}
+use Rattle.posix.proofs.TableLemmas.{pid_looked, pid_reparented, reparented_keeps}
 use Rattle.posix.proofs.MapLemmas.{lookup_map}
 use Rattle.posix.proofs.WalkLemmas.{AtChild, any_filter, any_looked}
 use Rattle.pidset.specs.declared.index.Pair.{Pair}
@@ -126,7 +126,7 @@ anchors_adopted from to key rs old new turned keys h = keyed_turned from key rs 
     stays : (q : ℕ) → stance_of q ts ≡ stance_of q rs
     stays q = ap (option_map stance) (found q (lookup q rs) refl) ∙ elim (lookup q rs) as (λ o. option_map stance (option_map (reparented from to) o) ≡ option_map stance o) [
       | None ↦ refl
-      | Some r ↦ elim (r.parent == from) as (λ b. Some (stance (cond b (record r { parent = to }) r)) ≡ Some (stance r)) [ true ↦ refl | false ↦ refl ]
+      | Some r ↦ ap Some (reparented_keeps stance from to (λ r. refl) r)
     ]
 
 -- ---- a walk over the children

@@ -164,7 +164,8 @@ above_pids : (n : ℕ) (rs : List Process) → AllByRecursion (λ (r : Process).
 above_pids n [] h = tt
 above_pids n (r ∷ rs) h = (h.0, above_pids n rs h.1)
 
-rises_pids : (rs : List Process) → IsRising rs → Rises (pids rs)
+-- the numbers of processes in rising order rise
+pub rises_pids : (rs : List Process) → IsRising rs → Rises (pids rs)
 unfolding IsRising Rises
 rises_pids [] u = tt
 rises_pids (r ∷ rs) u = (above_pids r.pid rs u.0, rises_pids rs u.1)

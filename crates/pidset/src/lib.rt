@@ -11,6 +11,3 @@ pub use lists::Lists;
 pub use numbered::Numbered;
 pub use pid_set::PidSet;
 pub use posix::Pid;
-
-#[cfg(test)]
-mod tests;

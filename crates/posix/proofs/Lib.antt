@@ -15,6 +15,7 @@ pub mod SeeLemmas
 pub mod SettleLemmas
 pub mod NoticeLemmas
 pub mod PrintingLemmas
+pub mod DecimalLemmas
 pub mod RealtimeLemmas
 pub mod ActLemmas
 pub mod PassingLemmas

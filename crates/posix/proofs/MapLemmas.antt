@@ -1,7 +1,8 @@
 -- What is done to each record of a table.
-use Rattle.std.proofs.Common.{◌≡◌, ◌≢◌, ℕ, Bool, not, refl, ap, sym, ◌∙◌, arith, List, [], ◌∷◌, map, filter, Option, Some, None, option_map, ◌==◌, inl, inr}
+use Rattle.std.proofs.Common.{◌≡◌, ◌≢◌, ℕ, Bool, not, refl, ap, sym, ◌∙◌, arith, List, [], ◌∷◌, length, map, filter, Option, Some, None, option_map, ◌==◌, inl, inr}
 use Rattle.std.specs.Option.{IsSome}
 use Rattle.std.proofs.lemmas.Bool.{eqb-true, eqb-false, cases_eq, cond_both}
+use Rattle.std.proofs.lemmas.List.{length-map}
 use Rattle.posix.specs.Processes.{Process}
 use Rattle.posix.specs.Tables.{lookup, at, changed, removed, is_child, children_in, first_pid, reparented, adopted}
 
@@ -51,6 +52,11 @@ filter_map t g same (r ∷ rs) = grind (arith, same r, filter_map t g same rs)
 pub children_map : (g : Process → Process) → ((r : Process) → (g r).parent ≡ r.parent) → (p : ℕ) (rs : List Process) → children_in p (map g rs) ≡ map g (children_in p rs)
 unfolding children_in
 children_map g keeps p rs = filter_map (is_child p) g (λ r. ap (λ n. n == p) (keeps r)) rs
+
+-- and as many of them, where the parent of one that is changed stays
+pub length_children : (p : ℕ) (f : Process → Process) → ((r : Process) → (f r).parent ≡ r.parent) → (q : ℕ) (rs : List Process) → length (children_in q (changed p f rs)) ≡ length (children_in q rs)
+unfolding changed
+length_children p f keeps q rs = ap length (children_map (at p f) (at_keeps (λ r. r.parent) p f keeps) q rs) ∙ length-map (children_in q rs) (at p f)
 
 -- a removal and a change of each record may come in either order
 pub removed_map : (c : ℕ) (g : Process → Process) → ((r : Process) → (g r).pid ≡ r.pid) → (rs : List Process) → removed c (map g rs) ≡ map g (removed c rs)

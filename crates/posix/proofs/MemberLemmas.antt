@@ -1,6 +1,6 @@
 -- Who is in a list of numbers.
 use Rattle.std.proofs.Common.{◌≡◌, ◌≢◌, ℕ, Bool, true, false, not, ◌&&◌, ◌||◌, refl, ap, sym, ◌∙◌, subst, List, [], ◌∷◌, ◌++◌, filter, ◌==◌, inl, inr}
-use Rattle.std.proofs.Math.Bool.{or-false}
+use Rattle.std.proofs.Math.Bool.{and-false, or-false}
 use Rattle.std.specs.List.{AllByRecursion}
 use Rattle.std.proofs.lemmas.Bool.{eqb-true, eqb-false, eq-eqb, ne_eqb, not-true, and_parts, or_left, or_parts, or_cases}
 use Rattle.std.proofs.lemmas.List.Folds.{list_any-append}
@@ -31,6 +31,10 @@ out_of p ns = in_without p p ns ∙ ap (λ b. not b && is_in p ns) (eq-eqb p p r
 -- others stay
 pub others_stay : (p q : ℕ) (ns : List ℕ) → q ≢ p → is_in q (without p ns) ≡ is_in q ns
 others_stay p q ns ne = in_without q p ns ∙ ap (λ b. not b && is_in q ns) (ne_eqb q p ne)
+
+-- who is out stays out
+pub still_out : (p q : ℕ) (ns : List ℕ) → is_in q ns ≡ false → is_in q (without p ns) ≡ false
+still_out p q ns e = in_without q p ns ∙ ap (λ b. not (q == p) && b) e ∙ and-false (not (q == p))
 
 -- who is in what is left is another, and was there
 pub record IsOther (p q : ℕ) (ns : List ℕ) : Type 0 where

@@ -3,9 +3,10 @@ use Rattle.std.proofs.Common.{◌≡◌, ℕ, ◌+◌, ◌≤◌, true, false, r
 use Rattle.std.specs.Option.{IsSome}
 use Rattle.std.proofs.lemmas.Bool.{eqb-true, eq-eqb, ne_eqb, or_from, or_cases, cases_Bool}
 use Rattle.posix.specs.Processes.{Process}
-use Rattle.posix.specs.Tables.{lookup}
+use Rattle.posix.specs.Tables.{IsRising, lookup, pids}
 use Rattle.posix.specs.States.{State, is_in, without, lose_place, go_last}
 use Rattle.posix.specs.Regular.{IsRegular, IsPlaced, IsDistinct}
+use Rattle.posix.proofs.TableLemmas.{Above}
 use Rattle.posix.proofs.MemberLemmas.{in_last, apart_first, apart_rest, out_of}
 use Rattle.posix.proofs.RegularLemmas.{regular_lose}
 
@@ -33,6 +34,18 @@ one_less_at_most p o d = elim (cases_Bool (is_in p o)) [
 -- who is placed is found
 pub placed_some : (rs : List Process) (p : ℕ) → IsPlaced rs p → IsSome (lookup p rs)
 placed_some rs p h = rw h.found refl
+
+-- a number below those of all is none of them
+out_below : (n : ℕ) (rs : List Process) → Above n rs → is_in n (pids rs) ≡ false
+unfolding is_in
+out_below n [] h = refl
+out_below n (r ∷ rs) h = or_from _ _ (ne_eqb r.pid n (λ e. omega (arith, h.0, e))) (out_below n rs h.1)
+
+-- the numbers of rising processes are distinct
+pub distinct_pids : (rs : List Process) → IsRising rs → IsDistinct (pids rs)
+unfolding IsRising IsDistinct
+distinct_pids [] up = tt
+distinct_pids (r ∷ rs) up = (out_below r.pid rs up.0, distinct_pids rs up.1)
 
 -- a new last one leaves each number once
 pub distinct_last : (p : ℕ) (o : List ℕ) → IsDistinct o → is_in p o ≡ false → IsDistinct (o ++ p ∷ [])

@@ -13,7 +13,7 @@ use Rattle.posix.specs.Groups.{is_outside, is_anchor, is_orphaned, loses_anchor}
 use Rattle.posix.specs.Ends.{made_zombie, leave_children_and_die, is_dropping, drop_child, notice_of_end, status_of, zombies_of, tell_of_all}
 use Rattle.posix.specs.Regular.{IsRegular}
 use Rattle.posix.proofs.MemberLemmas.{apart_first, apart_rest}
-use Rattle.posix.proofs.TableLemmas.{pid_looked, pid_reparented, rising_filter}
+use Rattle.posix.proofs.TableLemmas.{pid_looked, pid_reparented, reparented_keeps, rising_filter}
 use Rattle.posix.proofs.MapLemmas.{at_keeps, lookup_on}
 use Rattle.posix.proofs.WalkLemmas.{in_filter, any_looked, some_looked, any_filter, pid_found, none_passes_before}
 use Rattle.posix.proofs.RegularLemmas.{keeps_at, keeps_noticed, lookup_other, lookup_kept}
@@ -50,13 +50,13 @@ lasting_told s heir (z ∷ zs) q r e out =
     lasting_one _ k.what r k.found (k.same ∙ i.same)
 
 -- who is no zombie among the children of p isn't among those whose end is told
-not_told : (s : State) → IsRegular s → (p q : ℕ) (r : Process) → process s q ≡ Some r → (is_zombie r.life ≡ true → r.parent ≢ p) → is_in q (pids (zombies_of p s.processes)) ≡ false
+pub not_told : (s : State) → IsRising s.processes → (p q : ℕ) (r : Process) → process s q ≡ Some r → (is_zombie r.life ≡ true → r.parent ≢ p) → is_in q (pids (zombies_of p s.processes)) ≡ false
 unfolding zombies_of children_in
-not_told s i p q r e other = false_from_ne_true _ (λ k.
+not_told s up p q r e other = false_from_ne_true _ (λ k.
     let kids = filter (is_child p) s.processes in
     let z = pid_found q (filter (λ r. is_zombie r.life) kids) k in
-    let a = in_filter (λ r. is_zombie r.life) kids (rising_filter (is_child p) s.processes i.rising) q z.0 z.1 in
-    let b = in_filter (is_child p) s.processes i.rising q z.0 a.found in
+    let a = in_filter (λ r. is_zombie r.life) kids (rising_filter (is_child p) s.processes up) q z.0 z.1 in
+    let b = in_filter (is_child p) s.processes up q z.0 a.found in
     let same : z.0 ≡ r = let both = sym b.found ∙ e in cc in
     other (ap (λ (r : Process). is_zombie r.life) (sym same) ∙ a.passes) (ap (λ (r : Process). r.parent) (sym same) ∙ eqb-true _ _ b.passes))
 
@@ -80,13 +80,13 @@ remains s i p heir status q r e ne other =
     let given = reparented p heir r in
     let gone : process (leave_children_and_die s p heir status) q ≡ Some given =
     lookup_on (reparented p heir) (pid_reparented p heir) q (changed p (made_zombie status) s.processes) r (lookup_other p q (made_zombie status) (λ r. refl) ne s.processes r e) in
-    let k = lasting_told (leave_children_and_die s p heir status) heir (zombies_of p s.processes) q given gone (not_told s i p q r e other) in
+    let k = lasting_told (leave_children_and_die s p heir status) heir (zombies_of p s.processes) q given gone (not_told s i.rising p q r e other) in
     record {
       what = k.what;
       found = k.found;
-      group = k.group ∙ cond_both (r.parent == p) (record r { parent = heir }) r (λ q. q.group ≡ r.group) (λ e. refl) (λ e. refl);
-      session = k.session ∙ cond_both (r.parent == p) (record r { parent = heir }) r (λ q. q.session ≡ r.session) (λ e. refl) (λ e. refl);
-      zombie = k.zombie ∙ cond_both (r.parent == p) (record r { parent = heir }) r (λ q. is_zombie q.life ≡ is_zombie r.life) (λ e. refl) (λ e. refl);
+      group = k.group ∙ reparented_keeps (λ r. r.group) p heir (λ r. refl) r;
+      session = k.session ∙ reparented_keeps (λ r. r.session) p heir (λ r. refl) r;
+      zombie = k.zombie ∙ reparented_keeps (λ r. is_zombie r.life) p heir (λ r. refl) r;
       parent = λ away. k.parent ∙ cond_both (r.parent == p) (record r { parent = heir }) r (λ q. q.parent ≡ r.parent) (λ e. absurd (away (eqb-true _ _ e))) (λ e. refl);
     }
 

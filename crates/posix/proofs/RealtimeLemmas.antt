@@ -1,5 +1,5 @@
 -- Real-time signals do nothing at once, so that one for a process leaves the others; the signal of a key is none of them.
-use Rattle.std.proofs.Common.{◌≡◌, ℕ, Bool, true, false, cond, refl, ap, ◌∙◌, arith, List, Some, None, ◌==◌}
+use Rattle.std.proofs.Common.{◌≡◌, ℕ, Bool, true, false, cond, refl, ap, sym, ◌∙◌, arith, List, Option, Some, None, ◌==◌}
 use Rattle.std.proofs.lemmas.Bool.Decides.{nat_tests}
 use Rattle.std.proofs.lemmas.Option.{same_Some}
 use Rattle.posix.specs.declared.process.Effect.TheVariants as effect
@@ -11,7 +11,7 @@ use Rattle.posix.specs.Tables.{lookup, changed}
 use Rattle.posix.specs.Consoles.{key_signal}
 use Rattle.posix.specs.Generation.{signalled, effect_of}
 use Rattle.posix.specs.Notices.{acted_upon, generated_for}
-use Rattle.posix.proofs.TableLemmas.{pid_looked}
+use Rattle.posix.proofs.TableLemmas.{pid_looked, changed_absent}
 
 -- none is CONT or stops
 pub realtime_not : (n : ℕ) → is_realtime n ≡ true → ((n == CONT) ≡ false) × (is_stop_signal n ≡ false)
@@ -23,8 +23,9 @@ unfolding effect_of
 realtime_effect p life m g e = rw (realtime_not m.sig e).0 refl
 
 -- so it changes the process that it is generated for, and no other
-pub generated_alone : (m : PendingSignal) (p : ℕ) (r : Process) (rs : List Process) → is_realtime m.sig ≡ true → lookup p rs ≡ Some r → generated_for m (Some r) rs ≡ changed p (signalled m) rs
-generated_alone m p r rs e is =
+pub generated_alone : (m : PendingSignal) (p : ℕ) (o : Option Process) (rs : List Process) → is_realtime m.sig ≡ true → lookup p rs ≡ o → generated_for m o rs ≡ changed p (signalled m) rs
+generated_alone m p None rs e is = sym (changed_absent p (signalled m) rs is)
+generated_alone m p (Some r) rs e is =
     ap (λ w. acted_upon w r (changed r.pid (signalled m) rs)) (realtime_effect r.pid r.life m r.signals e)
     ∙ ap (λ q. changed q (signalled m) rs) (pid_looked p rs r is)
 

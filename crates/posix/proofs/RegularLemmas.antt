@@ -19,7 +19,7 @@ use Rattle.posix.specs.Delivery.{take_out}
 use Rattle.posix.specs.Step.{set_cpu}
 use Rattle.posix.specs.Alarms.{most_ticks, due_in, is_due, ring_at, rung, with_alarm, ring_all, pass_time}
 use Rattle.posix.proofs.MemberLemmas.{in_without, is_other}
-use Rattle.posix.proofs.TableLemmas.{rising_map, rising_changed, rising_adopted, rising_inserted, rising_removed, pid_reparented, pid_looked}
+use Rattle.posix.proofs.TableLemmas.{rising_map, rising_changed, rising_adopted, rising_inserted, rising_removed, reparented_keeps, pid_reparented, pid_looked}
 use Rattle.posix.proofs.WalkLemmas.{children_removed}
 use Rattle.posix.proofs.NextLemmas.{IsNew}
 use Rattle.posix.proofs.GroupedLemmas.{FitsIn, grouped_left, grouped_map, grouped_with}
@@ -265,7 +265,7 @@ regular_adopted p heir least s i h = record {
   bounded = λ q r e.
       let b = lookup_back (reparented p heir) (pid_reparented p heir) q s.processes r e in
       bounded_as s.world.pidmax r b.what (i.bounded q b.what b.found) (ap (λ (r : Process). r.pid) b.is ∙ pid_reparented p heir b.what)
-      (ap (λ (r : Process). r.group) b.is ∙ group_reparented b.what) (ap (λ (r : Process). r.session) b.is ∙ session_reparented b.what);
+      (ap (λ (r : Process). r.group) b.is ∙ reparented_keeps (λ r. r.group) p heir (λ r. refl) b.what) (ap (λ (r : Process). r.session) b.is ∙ reparented_keeps (λ r. r.session) p heir (λ r. refl) b.what);
   first = record {
     what = reparented p heir i.first.what;
     found = lookup_on (reparented p heir) (pid_reparented p heir) 1 s.processes i.first.what i.first.found;
@@ -273,30 +273,18 @@ regular_adopted p heir least s i h = record {
   };
   placed = λ q e.
       let o = i.placed q e in
-      record { what = reparented p heir o.what; found = lookup_on (reparented p heir) (pid_reparented p heir) q s.processes o.what o.found; living = ap is_zombie (life_reparented o.what) ∙ o.living };
+      record { what = reparented p heir o.what; found = lookup_on (reparented p heir) (pid_reparented p heir) q s.processes o.what o.found; living = reparented_keeps (λ r. is_zombie r.life) p heir (λ r. refl) o.what ∙ o.living };
   distinct = i.distinct;
   childless = λ q r other e z.
       let b = lookup_back (reparented p heir) (pid_reparented p heir) q s.processes r e in
-      let old : is_zombie b.what.life ≡ true = sym (ap is_zombie (ap (λ (r : Process). r.life) b.is ∙ life_reparented b.what)) ∙ z in
+      let old : is_zombie b.what.life ≡ true = sym (ap (λ (r : Process). is_zombie r.life) b.is ∙ reparented_keeps (λ r. is_zombie r.life) p heir (λ r. refl) b.what) ∙ z in
       children_elsewhere p heir q (heir_living s.processes p heir q b.what h other b.found old) s.processes (i.childless q b.what other b.found old);
   alarms = λ q r e.
       let b = lookup_back (reparented p heir) (pid_reparented p heir) q s.processes r e in
-      subst (λ (r : Process). IsAhead s.ticks r.alarm) (sym b.is) (subst (IsAhead s.ticks) (sym (alarm_reparented b.what)) (i.alarms q b.what b.found));
-  grouped = grouped_map (reparented p heir) (pid_reparented p heir) group_reparented session_reparented s.processes i.grouped;
+      subst (λ (r : Process). IsAhead s.ticks r.alarm) (sym b.is) (subst (IsAhead s.ticks) (sym (reparented_keeps (λ r. r.alarm) p heir (λ r. refl) b.what)) (i.alarms q b.what b.found));
+  grouped = grouped_map (reparented p heir) (pid_reparented p heir) (reparented_keeps (λ r. r.group) p heir (λ r. refl)) (reparented_keeps (λ r. r.session) p heir (λ r. refl)) s.processes i.grouped;
   consoles = i.consoles;
 }
-  where
-    group_reparented : (r : Process) → (reparented p heir r).group ≡ r.group
-    group_reparented r = grind arith
-
-    session_reparented : (r : Process) → (reparented p heir r).session ≡ r.session
-    session_reparented r = grind arith
-
-    alarm_reparented : (r : Process) → (reparented p heir r).alarm ≡ r.alarm
-    alarm_reparented r = grind arith
-
-    life_reparented : (r : Process) → (reparented p heir r).life ≡ r.life
-    life_reparented r = elim (r.parent == p) as (λ b. (cond b (record r { parent = heir }) r).life ≡ r.life) [ true ↦ refl | false ↦ refl ]
 
 -- a record may be made a zombie and adopted in either order
 commutes : (p heir w : ℕ) (r : Process) → made_zombie w (reparented p heir r) ≡ reparented p heir (made_zombie w r)

@@ -1,5 +1,5 @@
 -- What decides whether a process can act: its record but for its parent, and what it sees of its children.
-use Rattle.std.proofs.Common.{◌≡◌, ℕ, Bool, true, false, cond, not, ◌&&◌, ◌||◌, refl, ap, sym, ◌∙◌, subst, List, [], ◌∷◌, map, filter, find, Option, Some, None, is_some, Result, Ok, Err, arith}
+use Rattle.std.proofs.Common.{◌≡◌, ℕ, Bool, true, false, cond, not, ◌&&◌, ◌||◌, refl, ap, sym, ◌∙◌, subst, List, [], ◌∷◌, map, filter, find, Option, Some, None, is_some, Result, Ok, Err, ◌==◌, arith}
 use Rattle.std.proofs.lemmas.Bool.{ne_eqb}
 use Rattle.posix.specs.declared.process.Life.{Life}
 use Rattle.posix.specs.declared.process.News.{News}
@@ -13,7 +13,7 @@ use Rattle.posix.specs.declared.errno.Errno.{Errno}
 use Rattle.posix.specs.declared.span.Span.{Span}
 use Rattle.posix.specs.SignalNumbers.{KILL}
 use Rattle.posix.specs.Processes.{Process, first_process, is_running, is_living, argument}
-use Rattle.posix.specs.Tables.{children_in}
+use Rattle.posix.specs.Tables.{children_in, reparented}
 use Rattle.posix.specs.States.{State}
 use Rattle.posix.specs.Consoles.{Console}
 use Rattle.posix.specs.Transfers.{span_in}
@@ -44,6 +44,9 @@ sees p rs = map seen (children_in p rs)
 pub record Alike (old new : Process) : Type 0 where
   pub parent : ℕ
   pub is : new ≡ record old { parent = parent }
+
+pub reparented_alike : (from to : ℕ) (r : Process) → Alike r (reparented from to r)
+reparented_alike from to r = elim (r.parent == from) as (λ b. Alike r (cond b (record r { parent = to }) r)) [ true ↦ record { parent = to; is = refl } | false ↦ record { parent = r.parent; is = refl } ]
 
 -- ---- what a wait finds
 

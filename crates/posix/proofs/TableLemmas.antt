@@ -104,9 +104,13 @@ unfolding IsRising
 rising_map f keeps [] h = tt
 rising_map f keeps (r ∷ rs) h = (rw (keeps r) (above_map r.pid f keeps rs h.0), rising_map f keeps rs h.1)
 
--- a process that gets another parent keeps its pid
+-- a process that gets another parent keeps all that does not depend on the parent
+pub reparented_keeps : {A : Type 0} (field : Process → A) (from to : ℕ) → ((r : Process) → field (record r { parent = to }) ≡ field r) → (r : Process) → field (reparented from to r) ≡ field r
+reparented_keeps field from to keeps r = elim (r.parent == from) as (λ b. field (cond b (record r { parent = to }) r) ≡ field r) [ true ↦ keeps r | false ↦ refl ]
+
+-- its pid, say
 pub pid_reparented : (from to : ℕ) (r : Process) → (reparented from to r).pid ≡ r.pid
-pid_reparented from to r = elim (r.parent == from) as (λ b. (cond b (record r { parent = to }) r).pid ≡ r.pid) [ true ↦ refl | false ↦ refl ]
+pid_reparented from to r = reparented_keeps (λ r. r.pid) from to (λ r. refl) r
 
 -- the order stays where children get another parent
 pub rising_adopted : (from to : ℕ) (rs : List Process) → IsRising rs → IsRising (adopted from to rs)

@@ -1,5 +1,5 @@
 -- Whom a change of the state can let act, who couldn't before.
-use Rattle.std.proofs.Common.{◌≡◌, ◌≢◌, ℕ, true, false, cond, not, refl, ap, sym, ◌∙◌, subst, List, [], ◌∷◌, ◌++◌, map, filter, Option, Some, None, ◌==◌, arith}
+use Rattle.std.proofs.Common.{◌≡◌, ◌≢◌, ℕ, true, false, cond, not, refl, ap, sym, ◌∙◌, subst, List, [], ◌∷◌, ◌++◌, map, filter, Option, Some, None, arith}
 use Rattle.std.specs.Option.{IfSome, IsSome}
 use Rattle.std.proofs.lemmas.Bool.{eqb-true, ne_eqb, cond_both, not-true, and_parts, or_parts}
 use Rattle.posix.specs.declared.process.PendingSignal.{PendingSignal}
@@ -16,7 +16,7 @@ use Rattle.posix.proofs.TableLemmas.{Above, above_filter, lookup_above, changed_
 use Rattle.posix.proofs.MapLemmas.{at_keeps, lookup_back, children_map, children_others}
 use Rattle.posix.proofs.RegularLemmas.{lookup_inserted, lookup_kept, lookup_removed, other_back, children_inserted}
 use Rattle.posix.proofs.WalkLemmas.{children_removed}
-use Rattle.posix.proofs.SeeLemmas.{seen, sees, Alike, can_act_alike}
+use Rattle.posix.proofs.SeeLemmas.{seen, sees, Alike, reparented_alike, can_act_alike}
 
 -- a process that the change of state didn't touch: it lost no place, is in the same call, session and life, and can't
 -- act where it couldn't
@@ -29,9 +29,21 @@ pub record Untouched (s t : State) (q : ℕ) (new : Process) : Type 0 where
   pub life : new.life ≡ old.life
   pub acts : can_act t new ≡ true → can_act s old ≡ true
 
--- one whose record is as it was
+-- one whose record is as it was, but for its parent
+pub stands_alike : (s t : State) (q : ℕ) (old new : Process) → (is_in q t.order ≡ false → is_in q s.order ≡ false) → lookup q s.processes ≡ Some old → Alike old new → (can_act t new ≡ true → can_act s old ≡ true) → Untouched s t q new
+stands_alike s t q old new placed found alike acts = record {
+  placed = placed;
+  old = old;
+  found = found;
+  blocked = ap (λ r. r.blocked) alike.is;
+  session = ap (λ r. r.session) alike.is;
+  life = ap (λ r. r.life) alike.is;
+  acts = acts;
+}
+
+-- and one whose record is as it was
 pub stands : (s t : State) (q : ℕ) (r : Process) → (is_in q t.order ≡ false → is_in q s.order ≡ false) → lookup q s.processes ≡ Some r → (can_act t r ≡ true → can_act s r ≡ true) → Untouched s t q r
-stands s t q r placed found acts = record { placed = placed; old = r; found = found; blocked = refl; session = refl; life = refl; acts = acts }
+stands s t q r placed found acts = stands_alike s t q r r placed found (record { parent = r.parent; is = refl }) acts
 
 -- all but those of the list are untouched
 abbrev pub Touches : State → State → List ℕ → Type 0
@@ -217,16 +229,5 @@ unfolding sees adopted
 touches_adopted s p t q r e out =
     let b = lookup_back (reparented p t) (pid_reparented p t) q s.processes r e in
     let same = ap (map seen) (children_others p t q (apart_first q p (t ∷ []) out) (apart_first q t [] (apart_rest q p (t ∷ []) out)) s.processes) in
-    let alike = other b.what r b.is in
-    record {
-      placed = λ h. h;
-      old = b.what;
-      found = b.found;
-      blocked = ap (λ q. q.blocked) alike.is;
-      session = ap (λ q. q.session) alike.is;
-      life = ap (λ q. q.life) alike.is;
-      acts = acts_alike s _ q b.what r b.found alike refl same;
-    }
-  where
-    other : (old new : Process) → new ≡ reparented p t old → Alike old new
-    other old new e = elim (old.parent == p) as (λ w. new ≡ cond w (record old { parent = t }) old → Alike old new) [ true ↦ λ k. record { parent = t; is = k } | false ↦ λ k. record { parent = old.parent; is = k } ] e
+    let alike : Alike b.what r = subst (Alike b.what) (sym b.is) (reparented_alike p t b.what) in
+    stands_alike s _ q b.what r (λ h. h) b.found alike (acts_alike s _ q b.what r b.found alike refl same)

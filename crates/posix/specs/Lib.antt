@@ -5,6 +5,7 @@ pub mod Errnos
 pub mod Calls
 pub mod Processes
 pub mod Numbers
+pub mod Decimals
 pub mod Tables
 pub mod NextPid
 pub mod Consoles

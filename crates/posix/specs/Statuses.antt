@@ -1,6 +1,7 @@
 -- Status words, as waitpid(2) gives them.
-use Rattle.std.specs.Prelude.{ℕ, Bool, ◌+◌, ◌*◌, ◌%◌, nat_lt, ℤ}
+use Rattle.std.specs.Prelude.{ℕ, Bool, ◌+◌, ◌*◌, ◌/◌, ◌%◌, ◌==◌, ◌&&◌, ◌||◌, nat_le, nat_lt, ℤ}
 use Rattle.std.specs.Int.{cast_unsigned, w64}
+use Rattle.posix.specs.SignalNumbers.{is_signal, is_stop_signal}
 
 -- of an exit code the low eight bits count (XSH _exit)
 abbrev pub exited : ℤ → ℕ
@@ -20,3 +21,18 @@ continued = 65535
 -- where it was continued, waitpid(2)
 abbrev pub tells_end : ℕ → Bool
 tells_end status = nat_lt (status % 256) 127
+
+-- ---- which words there are
+
+abbrev pub is_exit_word : ℕ → Bool
+is_exit_word w = w % 256 == 0 && nat_le w 65280
+
+-- it exited, or a signal killed it
+abbrev pub is_end_word : ℕ → Bool
+is_end_word w = is_exit_word w || is_signal w
+
+abbrev pub is_stopped_word : ℕ → Bool
+is_stopped_word w = w % 256 == 127 && is_stop_signal (w / 256)
+
+abbrev pub is_continued_word : ℕ → Bool
+is_continued_word w = w == continued

@@ -6,6 +6,7 @@
 
 pub mod bytes;
 pub mod call;
+pub mod decimal;
 pub mod entry;
 pub mod errno;
 pub mod event;
@@ -24,6 +25,7 @@ pub mod wait_options;
 
 pub use bytes::Bytes;
 pub use call::Call;
+pub use decimal::decimal_value;
 pub use entry::Entry;
 pub use errno::Errno;
 pub use event::Event;

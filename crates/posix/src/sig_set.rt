@@ -1,7 +1,7 @@
 //! Sets of signals.
 
-ghost use Rattle.std.specs.Prelude.{◌≡◌, ◌==◌, pos};
-ghost use Rattle.std.specs.Int.{cast_signed, cast_unsigned, w64};
+ghost use Rattle.std.specs.Prelude.{◌≡◌, ◌==◌};
+ghost use Rattle.std.specs.Int.{cast_signed, cast_unsigned};
 ghost use Rattle.posix.specs.SignalSets.{has, just, union as union_of, except as except_of, maskable as maskable_of, set_in, word_of};
 
 use crate::sig::Sig;

@@ -1,7 +1,7 @@
 //! Wait statuses.
 
 ghost use Rattle.std.specs.Prelude.{◌≡◌, ◌<◌, ◌^◌};
-ghost use Rattle.posix.specs.Statuses.{exited as exited_word, killed as killed_word, stopped as stopped_word, continued as continued_word, tells_end as word_tells_end};
+ghost use Rattle.posix.specs.Statuses.{exited as exited_word, killed as killed_word, stopped as stopped_word, continued as continued_word, tells_end as word_tells_end, is_end_word, is_stopped_word, is_continued_word};
 
 use crate::sig::Sig;
 use std::marker::Model;
@@ -72,6 +72,28 @@ impl Status {
         ensures { result ≡ word_tells_end self }
     {
         self.word % 256 < 127
+    }
+
+    /// Whether it is that of an exit, or of a death by a signal.
+    pub fn is_end(self) -> bool
+        ensures { result ≡ is_end_word self }
+    {
+        self.word % 256 == 0
+            || u8::try_from(self.word).is_ok_and(|number| Sig::new(number).is_some())
+    }
+
+    /// Whether it is that of a stop, by a signal that stops by default.
+    pub fn is_stop(self) -> bool
+        ensures { result ≡ is_stopped_word self }
+    {
+        self.word % 256 == 127 && matches!(self.word / 256, 19..=22)
+    }
+
+    /// Whether it is that of a continuation.
+    pub fn is_continuation(self) -> bool
+        ensures { result ≡ is_continued_word self }
+    {
+        self == Status::continued()
     }
 
     /// The status word.

@@ -1,6 +1,6 @@
 //! Options of a wait.
 
-ghost use Rattle.std.specs.Prelude.{◌≡◌, ◌∷◌, [], codes};
+ghost use Rattle.std.specs.Prelude.{◌∷◌, [], codes};
 
 use bitflags::{Flag, Flags, bitflag_items};
 

@@ -4,26 +4,16 @@ use Rattle.std.specs.Option.{option_map}
 use Rattle.std.proofs.lemmas.Option.{slice_get-map}
 use Rattle.posix.specs.Processes.{Process}
 use Rattle.posix.specs.Tables.{IsRising, lookup, is_child, children_in, first_pid, above, parent_of, next_sibling, inserted, pids}
-use Rattle.posix.proofs.TableLemmas.{Above, lookup_at, changed_at}
+use Rattle.posix.proofs.TableLemmas.{lookup_at, changed_at}
 use Rattle.posix.proofs.WalkLemmas.{filters_commute}
-use Rattle.pidset.specs.Numbers.{Rises, IsNumberAt, inserted_in_order}
-use Rattle.pidset.proofs.NumberLemmas.{AllAbove}
+use Rattle.pidset.specs.Numbers.{IsNumberAt, inserted_in_order}
+use Rattle.pidset.proofs.IndexLemmas.{rises_pids}
 use Rattle.pidset.proofs.ItemLemmas.{above_at, read_at as item_read}
 use Rattle.proctable.specs.declared.records.Record.{Record}
 use Rattle.proctable.specs.Records.{process_of, give_record, with_record}
 use Rattle.proctable.proofs.RecordLemmas.{record_rises}
 
 -- ---- records as rows
-
-above_numbers : (n : ℕ) (rs : List Process) → Above n rs → AllAbove n (pids rs)
-above_numbers n [] a = tt
-above_numbers n (r ∷ rs) a = (a.0, above_numbers n rs a.1)
-
--- the numbers of records in rising order rise
-pub rises_pids : (rs : List Process) → IsRising rs → Rises (pids rs)
-unfolding IsRising Rises
-rises_pids [] u = tt
-rises_pids (r ∷ rs) u = (above_numbers r.pid rs u.0, rises_pids rs u.1)
 
 -- a record goes in as a row does
 pub inserted_same : (new : Process) (rs : List Process) → inserted_in_order (λ (r : Process). r.pid) new rs ≡ inserted new rs

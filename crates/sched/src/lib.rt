@@ -3,8 +3,6 @@
 
 pub mod links;
 pub mod order;
-#[cfg(test)]
-mod tests;
 
 pub use order::Order;
 pub use posix::Pid;

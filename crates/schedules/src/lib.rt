@@ -10,8 +10,6 @@ ghost use Rattle.schedules.specs.Schedules.{scheduled, from_front};
 mod places;
 pub mod schedule;
 pub mod sizes;
-#[cfg(test)]
-mod tests;
 
 pub use schedule::Schedule;
 pub use sizes::family_size;

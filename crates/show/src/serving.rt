@@ -135,7 +135,26 @@ fn processes_of<'a>(alloc: Global, words: &[&str]) -> Result<Vec<Pid>, Failure<'
 /// So many events are told before their lines are put.
 const TOLD_AT_ONCE: u64 = 1_000;
 
-/// Puts a line for each event up to the one with number `last`.
+/// Gives the events up to the one with number `last`, and puts a line for each.
+fn put_events<'a, O: Sink>(
+    past: &mut Past,
+    teller: &mut Teller<'_, '_>,
+    events: &EventList,
+    last: u64,
+    out: &mut O,
+) -> Result<(), Failure<'a>>
+    requires { length events.now ≤ most_events }
+{
+    for _ in 0..=last / TOLD_AT_ONCE {
+        let next = past.kernel.events().saturating_add(TOLD_AT_ONCE);
+        run_to(past, events, next.min(last), teller)?;
+        put_all(out, teller.text.as_str().as_bytes())?;
+        teller.text.clear();
+    }
+    Ok(())
+}
+
+/// Puts a line for each event of a world up to the one with number `last`.
 fn put_calls<'a, 'l, 't, O: Sink>(
     view: View<'l, 't>,
     world: &'t World,
@@ -147,12 +166,18 @@ fn put_calls<'a, 'l, 't, O: Sink>(
 {
     let mut past = Past::boot(view.alloc, world)?;
     let mut teller = Teller::new(view, world.programs());
-    for _ in 0..=last / TOLD_AT_ONCE {
-        let next = past.kernel.events().saturating_add(TOLD_AT_ONCE);
-        run_to(&mut past, events, next.min(last), &mut teller)?;
-        put_all(out, teller.text.as_str().as_bytes())?;
-        teller.text.clear();
-    }
+    put_events(&mut past, &mut teller, events, last, out)
+}
+
+/// Puts the state as it is now.
+fn put_now<'a, O: Sink>(
+    view: View<'_, '_>,
+    past: &mut Past,
+    out: &mut O,
+) -> Result<(), Failure<'a>> {
+    let mut text = String::new(view.alloc);
+    put_state(view, &mut text, past)?;
+    put_all(out, text.as_str().as_bytes())?;
     Ok(())
 }
 
@@ -166,11 +191,19 @@ fn put_state_at<'a, O: Sink>(
 ) -> Result<(), Failure<'a>>
     requires { length events.now ≤ most_events }
 {
-    let mut past = past_at(view.alloc, world, events, last)?;
-    let mut text = String::new(view.alloc);
-    put_state(view, &mut text, &mut past)?;
-    put_all(out, text.as_str().as_bytes())?;
-    Ok(())
+    put_now(view, &mut past_at(view.alloc, world, events, last)?, out)
+}
+
+/// Lets a person go through the events of a world.
+fn step_through<'l, 't, O: Sink, A: Ask>(
+    view: View<'l, 't>,
+    inputs: &'t Inputs,
+    out: &mut O,
+    ask: &mut A,
+) -> Result<(), StepFault>
+    requires { length inputs.now.events ≤ most_events }
+{
+    Steps::new(view, &inputs.world, &inputs.events)?.follow_all(ask, out)
 }
 
 /// Does what is asked for of a world and its events, of which this is the listing.
@@ -193,10 +226,9 @@ fn serve_listed<'a, 'l, 't, O: Sink, A: Ask>(
         only,
     };
     if request.step {
-        Steps::new(view, &inputs.world, &inputs.events)?.follow_all(ask, out)?;
-        return Ok(());
-    }
-    if request.calls {
+        step_through(view, inputs, out, ask)?;
+        Ok(())
+    } else if request.calls {
         put_calls(view, &inputs.world, &inputs.events, last, out)
     } else {
         put_state_at(view, &inputs.world, &inputs.events, last, out)

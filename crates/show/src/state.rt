@@ -44,14 +44,42 @@ struct Shown<'l, 't> {
     source: Option<&'l Source<'t>>,
 }
 
-/// Writes a cell of a row, and blanks up to the width of its column, at least two.
-pub fn put_cell(text: &mut String, cell: &str, width: usize) -> Result<(), AllocError> {
-    text.push_str(cell)?;
+/// Ends a cell of a row, which begins behind so many bytes of the text: writes blanks up to the width of its column, at
+/// least two.
+pub fn end_cell(text: &mut String, start: usize, width: usize) -> Result<(), AllocError> {
     text.push_str("  ")?;
-    for _ in cell.len().saturating_add(2)..width {
+    for _ in text.len().saturating_sub(start)..width {
         text.push_str(" ")?;
     }
     Ok(())
+}
+
+/// Writes the cell with the number of a process and the name of its program.
+pub fn put_name(
+    text: &mut String,
+    pid: Pid,
+    source: Option<&Source<'_>>,
+) -> Result<(), AllocError> {
+    let start = text.len();
+    let name = match source {
+        Some(source) => source.name,
+        None => "-",
+    };
+    write!(text, "{} {name}", pid.number())?;
+    end_cell(text, start, 13)
+}
+
+/// Writes the cell of a set of signals.
+fn put_set_cell(
+    text: &mut String,
+    name: &str,
+    set: SigSet,
+    width: usize,
+) -> Result<(), AllocError> {
+    let start = text.len();
+    text.push_str(name)?;
+    put_set_or_none(text, set)?;
+    end_cell(text, start, width)
 }
 
 /// Writes where a process stands in its program: the line of the world, and the label before it.
@@ -152,37 +180,30 @@ fn put_doing(
     }
 }
 
+/// Writes the cells of the mask and of the pending signals; a zombie has neither.
+fn put_signals(text: &mut String, own: &OwnPart, is_zombie: bool) -> Result<(), AllocError> {
+    if is_zombie {
+        let start = text.len();
+        return end_cell(text, start, 38);
+    }
+    put_set_cell(text, "mask ", own.signals.mask(), 18)?;
+    put_set_cell(text, "pending ", own.signals.pending(), 20)
+}
+
 /// Writes the row of a process.
 fn put_row(
-    view: View<'_, '_>,
     text: &mut String,
     shown: &Shown<'_, '_>,
     own: &OwnPart,
+    listing: &Listing<'_>,
 ) -> Result<(), AllocError> {
     let it = shown.it;
-    let mut cell = String::new(view.alloc);
     let is_zombie = matches!(it.life, Life::Zombie(_));
-    let name = match shown.source {
-        Some(source) if !is_zombie => source.name,
-        _ => "-",
-    };
-    write!(cell, "{} {name}", it.pid.number())?;
-    put_cell(text, cell.as_str(), 13)?;
-    cell.clear();
-    put_doing(&mut cell, shown, own, view.listing)?;
-    put_cell(text, cell.as_str(), 45)?;
-    cell.clear();
-    if !is_zombie {
-        cell.push_str("mask ")?;
-        put_set_or_none(&mut cell, own.signals.mask())?;
-    }
-    put_cell(text, cell.as_str(), 18)?;
-    cell.clear();
-    if !is_zombie {
-        cell.push_str("pending ")?;
-        put_set_or_none(&mut cell, own.signals.pending())?;
-    }
-    put_cell(text, cell.as_str(), 20)?;
+    put_name(text, it.pid, if is_zombie { None } else { shown.source })?;
+    let start = text.len();
+    put_doing(text, shown, own, listing)?;
+    end_cell(text, start, 45)?;
+    put_signals(text, own, is_zombie)?;
     writeln!(
         text,
         "parent {}  group {}  session {}",
@@ -291,7 +312,7 @@ fn put_catches(text: &mut String, shown: &Shown<'_, '_>, own: &OwnPart) -> Resul
 }
 
 /// The signals that a process ignores by their actions.
-fn ignored(own: &OwnPart) -> SigSet {
+fn ignored_by(own: &OwnPart) -> SigSet {
     let mut set = SigSet::EMPTY;
     for number in 1..65u8 {
         if let Some((sig, action)) = action_of(own, number) {
@@ -301,6 +322,25 @@ fn ignored(own: &OwnPart) -> SigSet {
         }
     }
     set
+}
+
+/// Writes the signals that a process ignores by their actions, where there are any.
+fn put_ignored(text: &mut String, own: &OwnPart) -> Result<(), AllocError> {
+    let ignored = ignored_by(own);
+    if ignored.is_empty() {
+        return Ok(());
+    }
+    text.push_str("    ignores ")?;
+    put_set(text, ignored)?;
+    text.push_str("\n")
+}
+
+/// Writes in how many ticks an alarm is due.
+fn put_alarm(text: &mut String, left: u64) -> Result<(), AllocError> {
+    match left {
+        1 => text.push_str("    alarm in 1 tick\n"),
+        _ => writeln!(text, "    alarm in {left} ticks"),
+    }
 }
 
 /// Writes the queue of real-time signals: each with its value and its sender.
@@ -358,22 +398,14 @@ fn put_details(
     ticks: u64,
 ) -> Result<(), AllocError> {
     put_catches(text, shown, own)?;
-    let ignored = ignored(own);
-    if !ignored.is_empty() {
-        text.push_str("    ignores ")?;
-        put_set(text, ignored)?;
-        text.push_str("\n")?;
-    }
+    put_ignored(text, own)?;
     put_queue(text, own)?;
     let handlers = own.signals.handlers();
     if handlers != 0 {
         writeln!(text, "    handlers that haven't returned: {handlers}")?;
     }
     if let Some(due) = shown.it.alarm {
-        match due.saturating_sub(ticks) {
-            1 => text.push_str("    alarm in 1 tick\n")?,
-            left => writeln!(text, "    alarm in {left} ticks")?,
-        }
+        put_alarm(text, due.saturating_sub(ticks))?;
     }
     put_ids(text, &shown.it)?;
     if view.only.is_empty() {
@@ -432,7 +464,7 @@ fn put_known(
         times: around.times,
         source,
     };
-    put_row(view, text, &shown, own)?;
+    put_row(text, &shown, own, view.listing)?;
     if is_zombie {
         return Ok(());
     }

@@ -80,27 +80,37 @@ enum Command {
 const HELP: &str =
     "n [N]  the next event, or the next N; so does an empty line\nb [N]  back by one event, or by N\ng E    to the state after event E\np P    on until process P acts\nl      on until an event shows a line of the trace\ns      the state\nq      the end\n";
 
+/// What a word alone asks for; no word is as `n`.
+fn command_alone(word: &str) -> Command {
+    match word {
+        "n" => Command::Next(1),
+        "b" => Command::Back(1),
+        "l" => Command::Line,
+        "s" => Command::State,
+        "q" => Command::Quit,
+        _ => Command::Help,
+    }
+}
+
+/// What a word with a number asks for.
+fn command_with(word: &str, number: u64) -> Command {
+    match (word, u32::try_from(number)) {
+        ("n", _) => Command::Next(number),
+        ("b", _) => Command::Back(number),
+        ("g", _) => Command::Go(number),
+        ("p", Ok(number)) => Command::Process(number),
+        _ => Command::Help,
+    }
+}
+
 /// What a line asks for.
 fn command_of(line: &str) -> Command {
     let mut words = line.split_whitespace();
-    let word = words.next();
+    let word = words.next().unwrap_or("n");
     let number = words.next().map(str::parse::<u64>);
-    if words.next().is_some() {
-        return Command::Help;
-    }
-    match (word, number) {
-        (None | Some("n"), None) => Command::Next(1),
-        (Some("n"), Some(Ok(count))) => Command::Next(count),
-        (Some("b"), None) => Command::Back(1),
-        (Some("b"), Some(Ok(count))) => Command::Back(count),
-        (Some("g"), Some(Ok(event))) => Command::Go(event),
-        (Some("p"), Some(Ok(number))) => match u32::try_from(number) {
-            Ok(number) => Command::Process(number),
-            Err(_) => Command::Help,
-        },
-        (Some("l"), None) => Command::Line,
-        (Some("s"), None) => Command::State,
-        (Some("q"), None) => Command::Quit,
+    match (number, words.next()) {
+        (None, _) => command_alone(word),
+        (Some(Ok(number)), None) => command_with(word, number),
         _ => Command::Help,
     }
 }

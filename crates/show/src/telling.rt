@@ -2,7 +2,7 @@
 
 ghost use Rattle.past.specs.Pasts.{IsSame};
 
-use crate::state::{MOST_NUMBERS, View, call_of, put_cell, turns};
+use crate::state::{MOST_NUMBERS, View, call_of, end_cell, put_name, turns};
 use kernel::Kernel;
 use past::{Hear, Past};
 use posix::{Call, Entry, Event, Instr, Life, Pid, Sig, SigSet};
@@ -226,21 +226,15 @@ impl<'l, 't> Teller<'l, 't> {
 
     /// Writes who acts, and at which line.
     fn put_actor(&mut self, actor: &Actor) -> Result<(), AllocError> {
-        let mut cell = String::new(self.view.alloc);
         let source = self.view.listing.program(usize::from(actor.it.program));
-        let name = match source {
-            Some(source) => source.name,
-            None => "-",
-        };
-        write!(cell, "{} {name}", actor.it.pid.number())?;
-        put_cell(&mut self.line, cell.as_str(), 13)?;
-        cell.clear();
+        put_name(&mut self.line, actor.it.pid, source)?;
+        let start = self.line.len();
         if let (Some(source), Some(place)) = (source, place_of(actor.pc)) {
             if let Some(written) = source.at(place) {
-                write!(cell, "line {}", written.line)?;
+                write!(self.line, "line {}", written.line)?;
             }
         }
-        put_cell(&mut self.line, cell.as_str(), 10)
+        end_cell(&mut self.line, start, 10)
     }
 
     /// Writes what became of a call that shows nothing: the process waits in it, or it begins again.

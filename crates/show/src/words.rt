@@ -42,28 +42,32 @@ impl From<Error> for NoRequest {
     }
 }
 
-/// A required argument.
-fn required<'a>(alloc: Global, name: &'a str) -> Arg<'a> {
-    Arg::new(alloc, name).required(true).action(ArgAction::Set)
-}
+/// The program's arguments: the required ones, and each option with what its use does.
+const ARGUMENTS: [(&str, Option<ArgAction>); 6] = [
+    ("world", None),
+    ("events", None),
+    ("at", Some(ArgAction::Set)),
+    ("process", Some(ArgAction::Append)),
+    ("calls", Some(ArgAction::SetTrue)),
+    ("step", Some(ArgAction::SetTrue)),
+];
 
-/// An option with a value.
-fn option<'a>(alloc: Global, name: &'a str, action: ArgAction) -> Arg<'a> {
-    Arg::new(alloc, name).long(name).action(action)
+/// An argument: an option, where its use does something, else a required one.
+fn argument<'a>(alloc: Global, name: &'a str, action: Option<ArgAction>) -> Arg<'a> {
+    let argument = Arg::new(alloc, name);
+    match action {
+        Some(action) => argument.long(name).action(action),
+        None => argument.required(true).action(ArgAction::Set),
+    }
 }
 
 /// The program's command line.
 fn command<'a>(alloc: Global) -> Result<Command<'a>, Error> {
-    Ok(
-        Command::new(alloc, "show")
-            .no_binary_name(true)
-            .arg(required(alloc, "world"))?
-            .arg(required(alloc, "events"))?
-            .arg(option(alloc, "at", ArgAction::Set))?
-            .arg(option(alloc, "process", ArgAction::Append))?
-            .arg(option(alloc, "calls", ArgAction::SetTrue))?
-            .arg(option(alloc, "step", ArgAction::SetTrue))?,
-    )
+    let mut command = Command::new(alloc, "show").no_binary_name(true);
+    for (name, action) in ARGUMENTS {
+        command = command.arg(argument(alloc, name, action))?;
+    }
+    Ok(command)
 }
 
 /// The words behind each `--process`.
@@ -74,9 +78,8 @@ fn processes_of<'a>(alloc: Global, matches: &ArgMatches<'a>) -> Result<Vec<&'a s
     }
 }
 
-/// What the words ask for; the program's name isn't one of them.
-pub fn requested<'a>(alloc: Global, words: &'a [&'a str]) -> Result<Request<'a>, NoRequest> {
-    let matches = command(alloc)?.try_get_matches_from(words)?;
+/// What the words ask for, once they are told apart.
+fn request_of<'a>(alloc: Global, matches: &ArgMatches<'a>) -> Result<Request<'a>, NoRequest> {
     let (Some(world), Some(events)) = (matches.get_str("world"), matches.get_str("events")) else {
         return Err(NoRequest::Usage);
     };
@@ -84,8 +87,13 @@ pub fn requested<'a>(alloc: Global, words: &'a [&'a str]) -> Result<Request<'a>,
         world,
         events,
         at: matches.get_str("at"),
-        processes: processes_of(alloc, &matches)?,
+        processes: processes_of(alloc, matches)?,
         calls: matches.get_flag("calls"),
         step: matches.get_flag("step"),
     })
+}
+
+/// What the words ask for; the program's name isn't one of them.
+pub fn requested<'a>(alloc: Global, words: &'a [&'a str]) -> Result<Request<'a>, NoRequest> {
+    request_of(alloc, &command(alloc)?.try_get_matches_from(words)?)
 }

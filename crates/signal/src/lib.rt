@@ -14,6 +14,3 @@ pub use posix::{Action, Carried, Frame, Handler, PendingSignal, SaFlags, Sig, Si
 pub use rt_pool::{NoPools, Pools, RtPool, Stock};
 pub use signals::Signals;
 pub use tables::{FramesFull, LazyTables, NoFrame};
-
-#[cfg(test)]
-mod tests;

@@ -1,5 +1,6 @@
 -- What a list's elements give, one after another.
-use Rattle.std.proofs.Common.{◌≡◌, List, [], ◌∷◌, ◌++◌, refl}
+use Rattle.std.proofs.Common.{◌≡◌, ◌∙◌, ◌+◌, ◌<◌, ◌≤◌, ℕ, List, [], ◌∷◌, ◌++◌, length, get_or, drop, drop-cons, refl, ap, append_assoc, append-nil, arith}
+use Rattle.std.proofs.lemmas.Grind.{common_steps}
 use Rattle.std.specs.Prelude.{Result, Ok, Err}
 use Rattle.text.specs.Reading.{◌>>=◌, each}
 
@@ -22,5 +23,32 @@ one (Err e) = refl
 pub each-last : {A B E : Type 0} (f : A → Result B E) (xs : List A) (x : A) → each f (xs ++ x ∷ []) ≡ and_last (each f xs) (f x)
 each-last f [] x = one (f x)
 each-last f (a ∷ xs) x = rw (each-last f xs x) (before-last (f a) (each f xs) (f x))
+
+after-first : {B E : Type 0} (y : B) (front : List B) (r : Result (List B) E) →
+    ((r >>= λ ys. Ok (y ∷ ys)) >>= λ rest. Ok (front ++ rest)) ≡ (r >>= λ rest. Ok ((front ++ y ∷ []) ++ rest))
+after-first y front (Ok ys) = rw append_assoc refl
+after-first y front (Err e) = refl
+
+-- A loop that has come to `i`, where the next element gives `y`, comes to `i + 1`.
+pub each-next : {A B E : Type 0} (f : A → Result B E) (xs : List A) (i : ℕ) (x : A) (y : B) (front : List B) (whole : Result (List B) E) →
+    i < length xs → x ≡ get_or xs i x → f x ≡ Ok y → whole ≡ (each f (drop i xs) >>= λ rest. Ok (front ++ rest)) →
+    whole ≡ (each f (drop (i + 1) xs) >>= λ rest. Ok ((front ++ y ∷ []) ++ rest))
+each-next f xs i x y front whole below is gives so =
+    let split : drop i xs ≡ x ∷ drop (i + 1) xs = grind (arith, drop-cons xs i x) in
+    so ∙ (ap (λ l. each f l >>= λ rest. Ok (front ++ rest)) split ∙ (ap (λ r. (r >>= λ b. (each f (drop (i + 1) xs) >>= λ ys. Ok (b ∷ ys))) >>= λ rest. Ok (front ++ rest)) gives ∙ after-first y front (each f (drop (i + 1) xs))))
+
+-- A loop that has come to `i`, where the next element gives an error, gives it.
+pub each-fails : {A B E : Type 0} (f : A → Result B E) (xs : List A) (i : ℕ) (x : A) (e : E) (front : List B) (whole : Result (List B) E) →
+    i < length xs → x ≡ get_or xs i x → f x ≡ Err e → whole ≡ (each f (drop i xs) >>= λ rest. Ok (front ++ rest)) → whole ≡ Err e
+each-fails f xs i x e front whole below is gives so =
+    let split : drop i xs ≡ x ∷ drop (i + 1) xs = grind (arith, drop-cons xs i x) in
+    so ∙ (ap (λ l. each f l >>= λ rest. Ok (front ++ rest)) split ∙ ap (λ r. (r >>= λ b. (each f (drop (i + 1) xs) >>= λ ys. Ok (b ∷ ys))) >>= λ rest. Ok (front ++ rest)) gives)
+
+-- A loop that has come to the end gives what it has.
+pub each-ends : {A B E : Type 0} (f : A → Result B E) (xs : List A) (i : ℕ) (front : List B) (whole : Result (List B) E) →
+    length xs ≤ i → whole ≡ (each f (drop i xs) >>= λ rest. Ok (front ++ rest)) → whole ≡ Ok front
+each-ends f xs i front whole above so =
+    let none : drop i xs ≡ [] = grind (arith, common_steps) in
+    so ∙ (ap (λ l. each f l >>= λ rest. Ok (front ++ rest)) none ∙ ap Ok (append-nil front))
 
 pub ruleset each_rules = (each-last)

@@ -12,10 +12,12 @@ use Rattle.posix.specs.States.{Program, World}
 use Rattle.text.specs.declared.fault.Reason.{Reason}
 use Rattle.text.specs.declared.fault.Reason.TheVariants.{UnknownWord, BadNumber, OutOfRange, NameUnknown, NameTwice, LineTooLong, EndMissing, NoProgram}
 use Rattle.text.specs.declared.fault.TextFault.{TextFault}
+use Rattle.text.specs.declared.sketch.Sketch.TheVariants.{Ready}
+use Rattle.text.specs.declared.draft.Section.TheVariants.{InProgram}
 use Rattle.text.specs.Names.{defined}
 use Rattle.text.specs.Instructions.{operation_named, two_registers, target, operands}
 use Rattle.text.specs.Outlines.{completed, program_of}
-use Rattle.text.specs.WorldTexts.{world_text, world_of, header, setting, program_line, label_line, instruction_line, inner_line, pidmax_line, consoles_line, outer_line, line_at}
+use Rattle.text.specs.WorldTexts.{Draft, empty_outline, empty_draft, world_line, world_text, world_of, header, setting, program_line, label_line, instruction_line, inner_line, pidmax_line, consoles_line, outer_line, line_at}
 use Rattle.text.specs.Numbers.{ranged}
 use Rattle.text.specs.EventTexts.{event_text, counted, keys, HasRead}
 
@@ -261,19 +263,21 @@ row_33_programs_unknown : world_text (header_text ++ some_programs (codes "abcde
 unfolding everything
 row_33_programs_unknown = refl
 
-abbrev thousand : List ℕ
-thousand = header_text ++ codes "program a\njmp x\n" ++ flat_map (λ (n : ℕ). codes "note r1\n") (replicate 999 0)
-
--- a label may stand behind the last
-row_1000_instructions : world_text (thousand ++ codes "x:\nend\n") ≡ world 2 0 (Jump 1016 ∷ replicate 999 (Note 1))
+-- a label may stand behind 1,000 instructions
+row_1000_instructions : world_text (header_text ++ codes "program a\njmp x\n" ++ flat_map (λ (n : ℕ). codes "note r1\n") (replicate 999 0) ++ codes "x:\nend\n")
+    ≡ world 2 0 (Jump 1016 ∷ replicate 999 (Note 1))
 unfolding everything
 row_1000_instructions = refl
 
-row_1001_instructions : world_text (thousand ++ codes "x:\nnote x\nend\n") ≡ refused 1005 OutOfRange
+-- a program of which so many came
+abbrev with_instructions : ℕ → Draft
+with_instructions n = record empty_draft { section = InProgram; opened = record (empty_outline None None) { code = replicate n (record { line = 4; sketch = Ready (Note 1) }) } }
+
+row_1001_instructions : world_line 1005 (with_instructions 1000) (codes "note x") ≡ Err OutOfRange
 unfolding everything
 row_1001_instructions = refl
 
-row_1001_instructions_unknown : world_text (thousand ++ codes "x:\nnotes r1\nend\n") ≡ refused 1005 UnknownWord
+row_1001_instructions_unknown : world_line 1005 (with_instructions 1000) (codes "notes r1") ≡ Err UnknownWord
 unfolding everything
 row_1001_instructions_unknown = refl
 

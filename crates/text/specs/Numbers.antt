@@ -1,14 +1,11 @@
 -- Numbers in words.
-use Rattle.std.specs.Prelude.{ℕ, ◌+◌, ◌-◌, ◌*◌, fold, length, nat_lt, ◌==◌, ◌&&◌, ℤ, pos, neg_ℤ, negsuc, Bool, List, [], ◌∷◌, if◌then◌else◌, Option, Some, None, Result, Ok, Err, int_le, unsigned_abs, option_map}
+use Rattle.std.specs.Prelude.{ℕ, ◌+◌, ◌*◌, length, nat_lt, ◌==◌, ◌&&◌, ℤ, pos, neg_ℤ, negsuc, Bool, List, [], ◌∷◌, if◌then◌else◌, Option, Some, None, Result, Ok, Err, int_le, unsigned_abs, option_map}
 use Rattle.std.specs.List.{list_all}
 use Rattle.std.specs.Char.{is_ascii_digit, is_digit, digit_value}
+use Rattle.posix.specs.Decimals.{value_of}
 use Rattle.text.specs.declared.fault.Reason.{Reason}
 use Rattle.text.specs.declared.fault.Reason.TheVariants.{BadNumber, OutOfRange}
 use Rattle.text.specs.Reading.{◌>>=◌}
-
--- the number that decimal digits stand for
-abbrev pub value_of : List ℕ → ℕ
-value_of ds = fold (λ n d. n * 10 + (d - 48)) 0 ds
 
 -- one or more decimal digits
 abbrev pub is_numeral : List ℕ → Bool

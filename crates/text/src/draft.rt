@@ -22,7 +22,7 @@ use umach::{Program, World};
 const MAX_PROGRAMS: usize = 32;
 
 /// What may come next in a world text.
-#[derive(Clone, Copy, Debug, PartialEq, Eq)]
+#[derive(Clone, Copy, PartialEq, Eq)]
 pub enum Section {
     BeforePidmax,
     BeforeConsoles,
@@ -298,8 +298,8 @@ impl Draft {
     /// fault of the end stands: `EndMissing` within the header or a program, `NoProgram` after the
     /// header. A name that the text doesn't define comes before it.
     #[tactic(auto, unfolding(crate::specs::WorldTexts::world_of))]
-    pub fn finish(self, line: u64) -> Result<World, TextFault>
-        ensures { Answers result (world_at_end self line) }
+    pub fn finish(&self, line: u64) -> Result<World, TextFault>
+        ensures { Answers result (world_at_end self.now line) }
     {
         if let Some(fault) = self.fault_at_end(line) {
             return Err(self.refused(fault));

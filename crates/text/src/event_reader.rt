@@ -93,11 +93,14 @@ fn add_line(list: &mut EventList, consoles: u8, line: &[u8]) -> Result<(), Reaso
     let Some((word, rest)) = next_word(words_within(line)?) else {
         return Ok(());
     };
-    match word {
-        b"step" => add_counted(list, Event::Step, rest),
-        b"tick" => add_counted(list, Event::Tick, rest),
-        b"key" => add_keys(list, consoles, rest),
-        _ => Err(Reason::UnknownWord),
+    if word == b"step".as_slice() {
+        add_counted(list, Event::Step, rest)
+    } else if word == b"tick".as_slice() {
+        add_counted(list, Event::Tick, rest)
+    } else if word == b"key".as_slice() {
+        add_keys(list, consoles, rest)
+    } else {
+        Err(Reason::UnknownWord)
     }
 }
 

@@ -1,9 +1,8 @@
 //! Instructions in a world text.
 
 ghost use Rattle.std.specs.Prelude.{◌≡◌};
-ghost use Rattle.posix.specs.Calls.{call_named as call_named_of};
 ghost use Rattle.text.specs.Words.{words};
-ghost use Rattle.text.specs.Instructions.{lacking as lacking_of, operands as operands_of, operation_named as operation_named_of, operation_text as operation_text_of, register as register_of, set_value as set_value_of, target as target_of, two_registers as two_registers_of};
+ghost use Rattle.text.specs.Instructions.{lacking as lacking_of, operands as operands_of, operation_named as operation_named_of, register as register_of, set_value as set_value_of, target as target_of, two_registers as two_registers_of};
 
 use crate::fault::Reason;
 use crate::names::Name;
@@ -13,7 +12,7 @@ use crate::words::{first_word, no_more_words};
 use posix::{Call, Condition, Instr, Operator, Register};
 
 /// What the first word of an instruction names.
-#[derive(Clone, Copy, Debug, PartialEq, Eq)]
+#[derive(Clone, Copy)]
 pub enum Operation {
     Set,
     Move,
@@ -26,32 +25,69 @@ pub enum Operation {
     Sys,
 }
 
+impl Operation {
+    ghost use Rattle.std.specs.Prelude.{◌≤◌, length};
+    ghost use Rattle.text.specs.Instructions.{operation_text};
+
+    /// Every operation.
+    const ALL: [Operation; 18] = [
+        Operation::Set,
+        Operation::Move,
+        Operation::Compute(Operator::Add),
+        Operation::Compute(Operator::Sub),
+        Operation::Compute(Operator::Mul),
+        Operation::Compute(Operator::Div),
+        Operation::Compute(Operator::Rem),
+        Operation::Compute(Operator::And),
+        Operation::Compute(Operator::Or),
+        Operation::Compute(Operator::Xor),
+        Operation::Load,
+        Operation::Store,
+        Operation::Jump,
+        Operation::JumpIf(Condition::Zero),
+        Operation::JumpIf(Condition::NotZero),
+        Operation::JumpIf(Condition::Negative),
+        Operation::Note,
+        Operation::Sys,
+    ];
+
+    /// How it is written: at most 4 bytes.
+    fn text(self) -> &'static [u8]
+        ensures text { result.now ≡ operation_text self }
+        ensures len { length result.now ≤ 4 }
+    {
+        match self {
+            Operation::Set => b"set",
+            Operation::Move => b"mov",
+            Operation::Compute(Operator::Add) => b"add",
+            Operation::Compute(Operator::Sub) => b"sub",
+            Operation::Compute(Operator::Mul) => b"mul",
+            Operation::Compute(Operator::Div) => b"div",
+            Operation::Compute(Operator::Rem) => b"rem",
+            Operation::Compute(Operator::And) => b"and",
+            Operation::Compute(Operator::Or) => b"or",
+            Operation::Compute(Operator::Xor) => b"xor",
+            Operation::Load => b"ld",
+            Operation::Store => b"st",
+            Operation::Jump => b"jmp",
+            Operation::JumpIf(Condition::Zero) => b"jz",
+            Operation::JumpIf(Condition::NotZero) => b"jnz",
+            Operation::JumpIf(Condition::Negative) => b"jlt",
+            Operation::Note => b"note",
+            Operation::Sys => b"sys",
+        }
+    }
+}
+
 /// The operation that a word names.
 #[tactic(auto, unfolding(crate::specs::Instructions::operation_named))]
 pub fn operation_named(word: &[u8]) -> Option<Operation>
     ensures { result ≡ operation_named_of word.now }
 {
-    match word {
-        b"set" => Some(Operation::Set),
-        b"mov" => Some(Operation::Move),
-        b"add" => Some(Operation::Compute(Operator::Add)),
-        b"sub" => Some(Operation::Compute(Operator::Sub)),
-        b"mul" => Some(Operation::Compute(Operator::Mul)),
-        b"div" => Some(Operation::Compute(Operator::Div)),
-        b"rem" => Some(Operation::Compute(Operator::Rem)),
-        b"and" => Some(Operation::Compute(Operator::And)),
-        b"or" => Some(Operation::Compute(Operator::Or)),
-        b"xor" => Some(Operation::Compute(Operator::Xor)),
-        b"ld" => Some(Operation::Load),
-        b"st" => Some(Operation::Store),
-        b"jmp" => Some(Operation::Jump),
-        b"jz" => Some(Operation::JumpIf(Condition::Zero)),
-        b"jnz" => Some(Operation::JumpIf(Condition::NotZero)),
-        b"jlt" => Some(Operation::JumpIf(Condition::Negative)),
-        b"note" => Some(Operation::Note),
-        b"sys" => Some(Operation::Sys),
-        _ => None,
-    }
+    Operation::ALL
+        .iter()
+        .copied()
+        .find(|operation| word == operation.text())
 }
 
 /// The register that a word names, `r0` to `r7`.

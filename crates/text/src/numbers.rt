@@ -1,11 +1,12 @@
 //! Numbers in words: an optional `-` and one or more decimal digits, or two hexadecimal digits for a byte.
 
-ghost use Rattle.std.specs.Prelude.{◌≡◌, ◌≤◌, ◌<◌, ◌^◌, ◌-◌, true, min, IfOk};
+ghost use Rattle.std.specs.Prelude.{◌≡◌, ◌≤◌, ◌<◌, IfOk};
 ghost use Rattle.std.specs.List.{list_all};
 ghost use Rattle.std.specs.Char.{is_ascii_digit};
-ghost use Rattle.text.specs.Numbers.{byte_in as byte_in_of, hex_digit as hex_digit_of, integer as integer_of, is_numeral, number_in as number_in_of, value_of};
+ghost use Rattle.text.specs.Numbers.{byte_in as byte_in_of, hex_digit as hex_digit_of, integer as integer_of, is_numeral, number_in as number_in_of};
 
 use crate::fault::Reason;
+use posix::decimal_value;
 
 /// Whether all bytes are digits.
 fn are_digits(text: &[u8]) -> bool
@@ -21,22 +22,8 @@ fn is_number(text: &[u8]) -> bool
     !text.is_empty() && are_digits(text)
 }
 
-/// The value of digits, or the greatest u64 where it is greater.
-#[tactic(auto, using(std::proofs::lemmas::List::Sums::fold_more))]
-fn magnitude(text: &[u8]) -> u64
-    requires { is_numeral text.now ≡ true }
-    ensures { result ≡ min (value_of text.now) (2 ^ 64 - 1) }
-{
-    let mut value: u64 = 0;
-    for b in text {
-        value = value
-            .saturating_mul(10)
-            .saturating_add(u64::from(b.saturating_sub(b'0')));
-    }
-    value
-}
-
 /// The i64 that a word says. No number is `BadNumber`, and one outside i64 `OutOfRange`.
+#[tactic(auto, unfolding(posix::specs::Decimals::decimal_value))]
 pub fn integer(word: &[u8]) -> Result<i64, Reason>
     ensures { result ≡ integer_of word.now }
 {
@@ -45,7 +32,7 @@ pub fn integer(word: &[u8]) -> Result<i64, Reason>
     if !is_number(digits) {
         return Err(Reason::BadNumber);
     }
-    let magnitude = magnitude(digits);
+    let magnitude = decimal_value(digits);
     match i64::try_from(magnitude) {
         Ok(value) => Ok(if negative { -value } else { value }),
         Err(_) if negative && magnitude == i64::MIN.unsigned_abs() => Ok(i64::MIN),

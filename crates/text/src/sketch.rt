@@ -7,7 +7,7 @@ use crate::names::Name;
 use posix::{Condition, Instr, Register};
 
 /// An instruction that a name is missing from.
-#[derive(Clone, Copy, Debug, PartialEq, Eq)]
+#[derive(Clone, Copy)]
 pub enum Use {
     /// `set rA, @label`.
     SetLabel(Register),

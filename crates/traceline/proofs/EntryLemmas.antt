@@ -16,11 +16,13 @@ use Rattle.posix.specs.declared.call.Call.TheVariants.{Waitpid}
 use Rattle.posix.specs.declared.entry.Entry.{Entry}
 use Rattle.posix.specs.declared.entry.Entry.TheVariants.{Noted, Called, Moved, Reported, NoMemory, Handled, Discarded, Stopped, Returned, Ended, Halted}
 use Rattle.laws.specs.Kinds.{is_byte}
-use Rattle.laws.specs.TraceLines.{is_i64, is_number, is_result, moves_bytes, asks_memory, is_end_word, is_entry, is_line, Says}
+use Rattle.laws.specs.TraceLines.{is_i64, is_number, is_result, moves_bytes, asks_memory, is_entry, is_line, Says}
+use Rattle.posix.specs.Statuses.{is_end_word}
 use Rattle.traceline.specs.Guesses.{form_named, guess, guess_entry}
 use Rattle.traceline.specs.declared.guesses.Form.TheVariants as form
 use Rattle.traceline.proofs.WordLemmas.{joined_len, behind_back, word_back}
-use Rattle.traceline.proofs.NumberLemmas.{decimal_clean, decimal_len, signed_len, sig_size, natural_back, pid_back}
+use Rattle.posix.proofs.DecimalLemmas.{decimal_back}
+use Rattle.traceline.proofs.NumberLemmas.{decimal_clean, decimal_len, signed_len, sig_size, pid_back}
 use Rattle.traceline.proofs.BytesLemmas.{hex_len}
 use Rattle.traceline.proofs.CallLemmas.{name_back}
 use Rattle.traceline.proofs.FormLemmas.{formed_back, note_back, handler_back, discard_back, stop_back, end_back, call_back, value_back, moved_back, report_back, memory_back}
@@ -57,7 +59,7 @@ call_back_with p call e rest hp is few = (
 halt_back : (k : ℕ) → k < 2 ^ 64 → guess (decimal k ++ 32 ∷ codes "halt") ≡ Some (k, Halted)
 unfolding guess form_named
 halt_back k h =
-    rw (behind_back (decimal k) (codes "halt") (decimal_clean k h), word_back (decimal k) (codes "halt") (decimal_clean k h), natural_back k h) refl
+    rw (behind_back (decimal k) (codes "halt") (decimal_clean k h), word_back (decimal k) (codes "halt") (decimal_clean k h), decimal_back k h) refl
 
 entry_back : (e : Entry) → is_entry e ≡ true → Back e
 unfolding form_named

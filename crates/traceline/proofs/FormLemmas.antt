@@ -16,7 +16,8 @@ use Rattle.traceline.specs.Words.{word, behind}
 use Rattle.traceline.specs.Guesses.{form_named, shown_by, guess, guess_entry, guess_note, guess_call, guess_result, guess_handler, guess_discard, guess_stop, guess_end}
 use Rattle.traceline.specs.declared.guesses.Form.{Form}
 use Rattle.traceline.proofs.WordLemmas.{is_clean, word_back, behind_back, last_word, last_behind}
-use Rattle.traceline.proofs.NumberLemmas.{decimal_clean, signed_clean, natural_back, pid_back, sig_back, sig_size, status_back, integer_back}
+use Rattle.posix.proofs.DecimalLemmas.{decimal_back}
+use Rattle.traceline.proofs.NumberLemmas.{decimal_clean, signed_clean, pid_back, sig_back, sig_size, status_back, integer_back}
 use Rattle.traceline.proofs.BytesLemmas.{bytes_back}
 use Rattle.traceline.proofs.CallLemmas.{name_back}
 
@@ -33,7 +34,7 @@ formed_back name rest form e clean named entry k h =
       behind_back name rest clean,
       named,
       entry,
-      natural_back k h,
+      decimal_back k h,
     ) refl
 
 pub note_back : (p : ℕ) (z : ℤ) → p ≤ 2147483647 → is_i64 z ≡ true → guess_note (decimal p ++ 32 ∷ signed_decimal z) ≡ Some (Noted p z)

@@ -1,6 +1,7 @@
 -- What a line may say, by its words at their places. It may be any nonsense: it is tested and printed.
 use Rattle.std.specs.Prelude.{ℕ, List, [], ◌∷◌, Option, Some, codes, find, bytes_eq}
 use Rattle.posix.specs.Calls.{call_named}
+use Rattle.posix.specs.Decimals.{decimal_value}
 use Rattle.posix.specs.declared.call.Call.{Call as SystemCall}
 use Rattle.posix.specs.declared.entry.Entry.{Entry}
 use Rattle.posix.specs.declared.entry.Entry.TheVariants.{Noted, Called, Moved, Reported, Handled, Discarded, Stopped, Returned, Ended, Halted}
@@ -9,7 +10,7 @@ use Rattle.traceline.specs.declared.guesses.Shown.{Shown}
 use Rattle.traceline.specs.declared.guesses.Shown.TheVariants.{Value, Bytes, Status, NoMemory}
 use Rattle.traceline.specs.declared.guesses.Form.{Form}
 use Rattle.traceline.specs.declared.guesses.Form.TheVariants.{Note, Call, Handler, Discard, Stop, Return, End, Halt}
-use Rattle.traceline.specs.Words.{◌>>=◌, word, behind, natural, integer, pid_in, sig_in, status_in, bytes_in}
+use Rattle.traceline.specs.Words.{◌>>=◌, word, behind, integer, pid_in, sig_in, status_in, bytes_in}
 
 unfoldable pub guess_note : List ℕ → Option Entry
 guess_note ws = do
@@ -107,4 +108,4 @@ unfoldable pub guess : List ℕ → Option (ℕ × Entry)
 guess text = do
   form ← form_named (word (behind text))
   entry ← guess_entry form (behind (behind text))
-  Some (natural (word text), entry)
+  Some (decimal_value (word text), entry)

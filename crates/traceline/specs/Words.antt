@@ -1,9 +1,10 @@
 -- Words of a line by their places, and what they stand for. The printed words of a line stand for what was
 -- printed; of other words it is no more than a guess.
-use Rattle.std.specs.Prelude.{ℕ, ◌+◌, ◌-◌, ◌*◌, ◌/◌, ◌^◌, ◌==◌, min, length, fold, nat_le, ℤ, pos, neg_ℤ, List, [], ◌∷◌, if◌then◌else◌, Option, Some, None, Result, Ok, Err}
+use Rattle.std.specs.Prelude.{ℕ, ◌/◌, ◌==◌, length, nat_le, ℤ, pos, neg_ℤ, List, [], ◌∷◌, if◌then◌else◌, Option, Some, None, Result, Ok, Err}
 use Rattle.std.specs.List.{before_first, after_first}
 use Rattle.hex.specs.Hex.{decode_of}
 use Rattle.hex.specs.declared.error.FromHexError.{FromHexError}
+use Rattle.posix.specs.Decimals.{decimal_value}
 use Rattle.posix.specs.SignalNumbers.{is_signal}
 use Rattle.laws.specs.TraceLines.{is_i64}
 
@@ -20,34 +21,26 @@ word text = before_first (λ b. b == 32) text
 abbrev pub behind : List ℕ → List ℕ
 behind text = after_first (λ b. b == 32) text
 
--- the number that decimal digits stand for
-abbrev pub value_of : List ℕ → ℕ
-value_of ds = fold (λ n d. n * 10 + (d - 48)) 0 ds
-
--- likewise, as a u64
-unfoldable pub natural : List ℕ → ℕ
-natural ds = min (value_of ds) (2 ^ 64 - 1)
-
 -- an i64
 abbrev pub fitting : ℤ → Option ℤ
 fitting z = if is_i64 z then Some z else None
 
 -- a number behind a `-`, if one stands there
 unfoldable pub integer : List ℕ → Option ℤ
-integer [] = fitting (pos (natural []))
-integer (b ∷ bs) = if b == 45 then fitting (neg_ℤ (pos (natural bs))) else fitting (pos (natural (b ∷ bs)))
+integer [] = fitting (pos (decimal_value []))
+integer (b ∷ bs) = if b == 45 then fitting (neg_ℤ (pos (decimal_value bs))) else fitting (pos (decimal_value (b ∷ bs)))
 
 -- the number of a process, or 0
 unfoldable pub pid_in : List ℕ → Option ℕ
-pid_in w = if nat_le (natural w) 2147483647 then Some (natural w) else None
+pid_in w = if nat_le (decimal_value w) 2147483647 then Some (decimal_value w) else None
 
 -- the number of a signal
 unfoldable pub sig_in : List ℕ → Option ℕ
-sig_in w = if is_signal (natural w) then Some (natural w) else None
+sig_in w = if is_signal (decimal_value w) then Some (decimal_value w) else None
 
 -- a status word
 unfoldable pub status_in : List ℕ → Option ℕ
-status_in w = if nat_le (natural w) 65535 then Some (natural w) else None
+status_in w = if nat_le (decimal_value w) 65535 then Some (decimal_value w) else None
 
 abbrev pub decoded : Result (List ℕ) FromHexError → Option (List ℕ)
 decoded (Ok bytes) = Some bytes

@@ -5,9 +5,9 @@ ghost use Rattle.std.specs.List.{list_all};
 ghost use Rattle.posix.specs.Entries.{line};
 ghost use Rattle.posix.specs.SignalNumbers.{is_stop_signal as is_stop_signal_of};
 ghost use Rattle.laws.specs.Kinds.{is_byte};
-ghost use Rattle.laws.specs.TraceLines.{asks_memory as asks_memory_of, is_end_word as is_end_word_of, is_entry as is_entry_of, is_line as is_line_of, is_number, is_result as is_result_of, moves_bytes as moves_bytes_of};
+ghost use Rattle.laws.specs.TraceLines.{asks_memory as asks_memory_of, is_entry as is_entry_of, is_line as is_line_of, is_number, is_result as is_result_of, moves_bytes as moves_bytes_of};
 
-use posix::{Call, DefaultAction, Entry, Pid, Sig, Status};
+use posix::{Call, DefaultAction, Entry, Pid, Sig};
 
 /// The greatest number of an event.
 const MAX_EVENT: u64 = 1_000_000_000_000;
@@ -59,14 +59,6 @@ fn is_stop_signal(sig: Sig) -> bool
     sig.default_action() == DefaultAction::Stop
 }
 
-/// Whether a status is that of an exit or of a death by a signal.
-pub fn is_end_word(status: Status) -> bool
-    ensures { result ≡ is_end_word_of status }
-{
-    let word = status.word();
-    word % 256 == 0 || u8::try_from(word).is_ok_and(|number| Sig::new(number).is_some())
-}
-
 /// Whether what an event shows has one of the forms.
 fn is_entry(entry: Entry) -> bool
     ensures { result ≡ is_entry_of entry }
@@ -87,7 +79,7 @@ fn is_entry(entry: Entry) -> bool
         Entry::Discarded { pid, sig: _ } => is_process(pid),
         Entry::Stopped { pid, sig } => is_process(pid) && is_stop_signal(sig),
         Entry::Returned { pid } => is_process(pid),
-        Entry::Ended { pid, status } => is_process(pid) && is_end_word(status),
+        Entry::Ended { pid, status } => is_process(pid) && status.is_end(),
         Entry::Halted => true,
     }
 }

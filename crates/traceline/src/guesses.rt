@@ -4,8 +4,8 @@
 ghost use Rattle.std.specs.Prelude.{◌≡◌};
 ghost use Rattle.traceline.specs.Guesses.{guess as guess_of, guess_call as guess_call_of, guess_discard as guess_discard_of, guess_end as guess_end_of, guess_entry as guess_entry_of, guess_handler as guess_handler_of, guess_note as guess_note_of, guess_result as guess_result_of, guess_stop as guess_stop_of};
 
-use crate::words::{bytes_in, integer, natural, pid_in, sig_in, split_word, status_in};
-use posix::{Call, Entry, Pid};
+use crate::words::{bytes_in, integer, pid_in, sig_in, split_word, status_in};
+use posix::{Call, Entry, Pid, decimal_value};
 
 /// A note, behind its first word.
 #[tactic(auto, unfolding(crate::specs::Guesses::guess_note))]
@@ -20,7 +20,7 @@ fn guess_note(words: &[u8]) -> Option<Entry>
 }
 
 /// What a line shows of a call.
-#[derive(Clone, Copy, Debug, PartialEq, Eq)]
+#[derive(Clone, Copy)]
 enum Shown {
     Value,
     Bytes,
@@ -149,7 +149,7 @@ fn guess_end(words: &[u8]) -> Option<Entry>
 }
 
 /// What a first word begins.
-#[derive(Clone, Copy, Debug, PartialEq, Eq)]
+#[derive(Clone, Copy)]
 enum Form {
     Note,
     Call,
@@ -227,5 +227,5 @@ pub fn guess(text: &[u8]) -> Option<(u64, Entry)>
     let (event, words) = split_word(text);
     let (name, words) = split_word(words);
     let entry = guess_entry(Form::named(name)?, words)?;
-    Some((natural(event), entry))
+    Some((decimal_value(event), entry))
 }

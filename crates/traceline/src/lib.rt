@@ -8,9 +8,6 @@
 mod forms;
 mod guesses;
 mod reading;
-#[cfg(test)]
-mod tests;
 mod words;
 
-pub use forms::is_end_word;
 pub use reading::read_line;

@@ -3,10 +3,10 @@
 
 ghost use Rattle.std.specs.Prelude.{◌≡◌, ◌==◌};
 ghost use Rattle.std.specs.List.{position};
-ghost use Rattle.traceline.specs.Words.{behind as behind_of, bytes_in as bytes_in_of, integer as integer_of, natural as natural_of, pid_in as pid_in_of, sig_in as sig_in_of, status_in as status_in_of, word};
+ghost use Rattle.traceline.specs.Words.{behind as behind_of, bytes_in as bytes_in_of, integer as integer_of, pid_in as pid_in_of, sig_in as sig_in_of, status_in as status_in_of, word};
 
 use hex::decode_to_slice;
-use posix::{Bytes, Pid, Sig, Status};
+use posix::{Bytes, Pid, Sig, Status, decimal_value};
 
 /// Where the first space stands, if there is one.
 fn first_space(text: &[u8]) -> Option<usize>
@@ -27,28 +27,14 @@ pub fn split_word(text: &[u8]) -> (&[u8], &[u8])
     }
 }
 
-/// The number that decimal digits say, or the greatest u64 where it is greater.
-#[tactic(auto, unfolding(crate::specs::Words::natural), using(std::proofs::lemmas::List::Sums::fold_more))]
-pub fn natural(word: &[u8]) -> u64
-    ensures { result ≡ natural_of word.now }
-{
-    let mut value: u64 = 0;
-    for b in word {
-        value = value
-            .saturating_mul(10)
-            .saturating_add(u64::from(b.saturating_sub(b'0')));
-    }
-    value
-}
-
 /// The number that decimal digits say behind a `-`, if one stands there; none outside i64.
 #[tactic(auto, unfolding(crate::specs::Words::integer))]
 pub fn integer(word: &[u8]) -> Option<i64>
     ensures { result ≡ integer_of word.now }
 {
     match word {
-        [b'-', digits @ ..] => i64::try_from(-i128::from(natural(digits))).ok(),
-        _ => i64::try_from(natural(word)).ok(),
+        [b'-', digits @ ..] => i64::try_from(-i128::from(decimal_value(digits))).ok(),
+        _ => i64::try_from(decimal_value(word)).ok(),
     }
 }
 
@@ -57,7 +43,7 @@ pub fn integer(word: &[u8]) -> Option<i64>
 pub fn pid_in(word: &[u8]) -> Option<Pid>
     ensures { result ≡ pid_in_of word.now }
 {
-    Pid::new(u32::try_from(natural(word)).ok()?)
+    Pid::new(u32::try_from(decimal_value(word)).ok()?)
 }
 
 /// The signal with a number; none where no signal has it.
@@ -65,7 +51,7 @@ pub fn pid_in(word: &[u8]) -> Option<Pid>
 pub fn sig_in(word: &[u8]) -> Option<Sig>
     ensures { result ≡ sig_in_of word.now }
 {
-    Sig::new(u8::try_from(natural(word)).ok()?)
+    Sig::new(u8::try_from(decimal_value(word)).ok()?)
 }
 
 /// The status with a word; none above 65,535.
@@ -73,7 +59,7 @@ pub fn sig_in(word: &[u8]) -> Option<Sig>
 pub fn status_in(word: &[u8]) -> Option<Status>
     ensures { result ≡ status_in_of word.now }
 {
-    Some(Status::from_word(u16::try_from(natural(word)).ok()?))
+    Some(Status::from_word(u16::try_from(decimal_value(word)).ok()?))
 }
 
 /// The bytes that digits to base 16 say, two digits a byte and at most 16 bytes; none of other words.

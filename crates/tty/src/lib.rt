@@ -3,8 +3,6 @@
 
 pub mod console;
 pub mod lines;
-#[cfg(test)]
-mod tests;
 
 pub use console::{Console, KeyEffect, ends_line};
 pub use posix::{Pid, Sig};

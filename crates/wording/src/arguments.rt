@@ -43,6 +43,14 @@ pub fn place_of(address: i64) -> Option<usize>
     usize::try_from(address.checked_sub(FIRST_ADDRESS)?).ok()
 }
 
+/// Writes how far a place is behind a label; nothing where it is right behind it.
+fn put_distance(text: &mut String, distance: usize) -> Result<(), AllocError> {
+    match distance {
+        0 => Ok(()),
+        _ => write!(text, "+{distance}"),
+    }
+}
+
 /// Writes the label nearest before a place, and how far behind it the place is: `loop`, `loop+2`; nothing where no label
 /// stands before it. Whether one does.
 pub fn put_label(
@@ -56,10 +64,7 @@ pub fn put_label(
     };
     text.push_str(mark)?;
     text.push_str(label.name)?;
-    let behind = place.saturating_sub(label.place);
-    if behind != 0 {
-        write!(text, "+{behind}")?;
-    }
+    put_distance(text, place.saturating_sub(label.place))?;
     Ok(true)
 }
 
@@ -74,7 +79,7 @@ pub fn put_address(
             return Ok(());
         }
     }
-    write!(text, "{address}")
+    put_number(text, address)
 }
 
 /// Writes the handler in r2 of sigaction.
@@ -129,6 +134,16 @@ fn put_action(
     put_action_flags(text, with.fourth)
 }
 
+/// Writes a number.
+fn put_number(text: &mut String, number: i64) -> Result<(), AllocError> {
+    write!(text, "{number}")
+}
+
+/// Writes a number that others follow.
+fn put_one_of(text: &mut String, number: i64) -> Result<(), AllocError> {
+    write!(text, "{number}, ")
+}
+
 /// Writes the arguments of a call.
 fn put_arguments(
     text: &mut String,
@@ -162,20 +177,24 @@ fn put_arguments(
         | Call::Getsid
         | Call::Setctty
         | Call::Tcsetpgrp
-        | Call::Settostop => write!(text, "{first}"),
-        Call::Setpgid | Call::Read | Call::Write => write!(text, "{first}, {second}"),
+        | Call::Settostop => put_number(text, first),
+        Call::Setpgid | Call::Read | Call::Write => {
+            put_one_of(text, first)?;
+            put_number(text, second)
+        }
         Call::Waitpid => {
-            write!(text, "{first}, ")?;
+            put_one_of(text, first)?;
             put_options(text, second)
         }
         Call::Kill => {
-            write!(text, "{first}, ")?;
+            put_one_of(text, first)?;
             put_signal_word(text, second)
         }
         Call::Sigqueue => {
-            write!(text, "{first}, ")?;
+            put_one_of(text, first)?;
             put_signal_word(text, second)?;
-            write!(text, ", {}", with.third)
+            text.push_str(", ")?;
+            put_number(text, with.third)
         }
         Call::Sigaction => put_action(text, source, with),
         Call::Sigprocmask => {
@@ -186,7 +205,9 @@ fn put_arguments(
         Call::Sigsuspend => put_set(text, SigSet::from_word(first)),
         Call::Exec => {
             put_program(text, listing, first)?;
-            write!(text, ", {second}, {}", with.third)
+            text.push_str(", ")?;
+            put_one_of(text, second)?;
+            put_number(text, with.third)
         }
     }
 }

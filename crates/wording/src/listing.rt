@@ -56,6 +56,15 @@ fn first_words(code: &str) -> (&str, &str) {
 }
 
 impl<'t> Source<'t> {
+    /// A program of which no line has come.
+    fn new(alloc: Global, name: &'t str) -> Source<'t> {
+        Source {
+            name,
+            instructions: Vec::new(alloc),
+            labels: Vec::new(alloc),
+        }
+    }
+
     /// The instruction at a place, from 0 on; none where there is none.
     pub fn at(&self, place: usize) -> Option<Written<'t>> {
         self.instructions.get(place).copied()
@@ -88,30 +97,34 @@ impl<'t> Source<'t> {
 impl<'t> Listing<'t> {
     /// The programs of a world text.
     pub fn new(alloc: Global, text: &'t [u8]) -> Result<Listing<'t>, AllocError> {
-        let mut programs = Vec::new(alloc);
-        let mut open: Option<Source<'t>> = None;
+        let mut listing = Listing {
+            programs: Vec::new(alloc),
+        };
+        let mut is_open = false;
         let mut number = 0u64;
         for line in text.split(|byte| *byte == b'\n') {
             number = number.saturating_add(1);
             let code = code_of(line);
-            match (first_words(code), open.take()) {
-                (("", _), source) => open = source,
-                (("program", name), None) => {
-                    open = Some(Source {
-                        name,
-                        instructions: Vec::new(alloc),
-                        labels: Vec::new(alloc),
-                    });
+            match first_words(code) {
+                ("", _) => {}
+                ("program", name) if !is_open => {
+                    listing.programs.push(Source::new(alloc, name))?;
+                    is_open = true;
                 }
-                (_, None) => {}
-                (("end", _), Some(source)) => programs.push(source)?,
-                (_, Some(mut source)) => {
-                    source.take(number, code)?;
-                    open = Some(source);
-                }
+                ("end", _) => is_open = false,
+                _ if is_open => listing.take(number, code)?,
+                _ => {}
             }
         }
-        Ok(Listing { programs })
+        Ok(listing)
+    }
+
+    /// Takes a line of its last program.
+    fn take(&mut self, line: u64, code: &'t str) -> Result<(), AllocError> {
+        match self.programs.last_mut() {
+            Some(source) => source.take(line, code),
+            None => Ok(()),
+        }
     }
 
     /// The program with a number, from 0 on; none where there is none.

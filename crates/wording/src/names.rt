@@ -165,86 +165,28 @@ pub fn put_status(text: &mut String, status: Status) -> Result<(), AllocError> {
     put_signal_number(text, low)
 }
 
-/// Writes a name of a joined list where it is in that list. Whether names are in it so far, as some were before.
-fn put_name(text: &mut String, is_in: bool, name: &str, follows: bool) -> Result<bool, AllocError> {
-    if !is_in {
-        return Ok(follows);
+/// Writes the names of bits, joined by `|`; `0` for none.
+fn put_names<F: Flags>(text: &mut String, bits: &F) -> Result<(), AllocError> {
+    let mut is_empty = true;
+    for (name, _) in bits.iter_names() {
+        if !is_empty {
+            text.push_str("|")?;
+        }
+        text.push_str(name)?;
+        is_empty = false;
     }
-    if follows {
-        text.push_str("|")?;
-    }
-    text.push_str(name)?;
-    Ok(true)
-}
-
-/// Writes the names of options, joined by `|`; `0` for none.
-fn put_wait_options(text: &mut String, options: WaitOptions) -> Result<(), AllocError> {
-    let some = put_name(
-        text,
-        options.contains(WaitOptions::WNOHANG),
-        "WNOHANG",
-        false,
-    )?;
-    let some = put_name(
-        text,
-        options.contains(WaitOptions::WUNTRACED),
-        "WUNTRACED",
-        some,
-    )?;
-    let some = put_name(
-        text,
-        options.contains(WaitOptions::WCONTINUED),
-        "WCONTINUED",
-        some,
-    )?;
-    if some { Ok(()) } else { text.push_str("0") }
+    if is_empty { text.push_str("0") } else { Ok(()) }
 }
 
 /// Writes the names of flags, joined by `|`; `0` for none.
 pub fn put_flags(text: &mut String, flags: SaFlags) -> Result<(), AllocError> {
-    let some = put_name(
-        text,
-        flags.contains(SaFlags::SA_NOCLDSTOP),
-        "SA_NOCLDSTOP",
-        false,
-    )?;
-    let some = put_name(
-        text,
-        flags.contains(SaFlags::SA_NOCLDWAIT),
-        "SA_NOCLDWAIT",
-        some,
-    )?;
-    let some = put_name(
-        text,
-        flags.contains(SaFlags::SA_SIGINFO),
-        "SA_SIGINFO",
-        some,
-    )?;
-    let some = put_name(
-        text,
-        flags.contains(SaFlags::SA_RESTART),
-        "SA_RESTART",
-        some,
-    )?;
-    let some = put_name(
-        text,
-        flags.contains(SaFlags::SA_NODEFER),
-        "SA_NODEFER",
-        some,
-    )?;
-    let some = put_name(
-        text,
-        flags.contains(SaFlags::SA_RESETHAND),
-        "SA_RESETHAND",
-        some,
-    )?;
-    if some { Ok(()) } else { text.push_str("0") }
+    put_names(text, &flags)
 }
 
 /// Writes the options of a wait that a word is, or the word.
 pub fn put_options(text: &mut String, word: i64) -> Result<(), AllocError> {
     match WaitOptions::from_bits(word.cast_unsigned()) {
-        Some(options) => put_wait_options(text, options),
+        Some(options) => put_names(text, &options),
         None => write!(text, "{word}"),
     }
 }

@@ -1,52 +1,29 @@
-use Rattle.std.proofs.Common.{◌≡◌, ◌∙◌, ap, arith, sym, subst, rules, to_z, of_z, w64}
-use Rattle.std.specs.Option.{IsSome, IfSome}
+use Rattle.std.proofs.Common.{◌≡◌, ◌∙◌, ap, rules, to_z, of_z, w64}
 use Rattle.posix.specs.declared.call.Call.TheVariants.{Sigqueue}
-use Rattle.posix.specs.Processes.{argument}
-use Rattle.posix.specs.States.{State, process}
 use Rattle.posix.specs.Attempts.{attempt}
-use Rattle.posix.specs.Sends.{sigqueue, send, signal_or_none}
+use Rattle.posix.specs.Sends.{sigqueue}
 use Rattle.posix.specs.Targets.{process_in}
-use Rattle.life.specs.declared.caller.Caller.{Caller}
-use Rattle.life.specs.Callers.{caller_of, process_like}
-use Rattle.calls.specs.Outcomes.{Comes, IsBrief, IsQuiet, is_one, slots_of_kill}
-use Rattle.calls.proofs.BriefLemmas.{quiet_on, brief_on}
-use Rattle.calls.proofs.CallLemmas.{sigqueue_of}
+use Rattle.calls.proofs.BriefLemmas.{brief_sent_as}
+use Rattle.calls.proofs.CallLemmas.{caller_is}
+use Rattle.calls.proofs.KillLemmas.{sends_as}
 use Rattle.calls.proofs.kills.sigqueue.Goals as goal
 
 pub send-requires-clause-there : goal.send-requires-clause-there
-send-requires-clause-there g c =
-    subst (λ (t : State). IsSome (process t c.caller-me.result.pid)) (sym c.caller-me.ensures.finds.looks.same.state)
-    (subst (λ p. IsSome (process c.args.machine.now.state p)) (sym c.caller-me.ensures.pid) c.requires.there)
+send-requires-clause-there g c = rw (c.caller-me.ensures.finds.looks.same.state, c.caller-me.ensures.pid) c.requires.there
 
 pub returns-clause-attempts : goal.returns-clause-attempts
 unfolding attempt sigqueue
 returns-clause-attempts g c = λ me e.
-    let s = c.args.machine.now.state in
-    let mid = c.caller-me.new.self.state in
-    let cr = c.caller-me.result in
+    let finds = c.caller-me.ensures.finds in
+    let is = caller_is _ me c.caller-me.result finds.value e in
+    let first : to_z w64 (of_z w64 c.caller-me.result.r1) ≡ c.caller-me.result.r1 = search rules in
+    let given : to_z w64 (of_z w64 c.caller-me.result.r3) ≡ c.caller-me.result.r3 = search rules in
     let comes = c.send.ensures.comes in
-    let given : to_z w64 (of_z w64 cr.r3) ≡ cr.r3 = search rules in
-    let told : Comes mid (send comes.0 mid (process_like cr) Sigqueue c.process_from_word-target.result cr.r3 (signal_or_none cr.r2)) c.send.result c.args.entries.now.items c.send.new.entries.items c.send.new.machine.state =
-    subst (λ v. Comes mid (send comes.0 mid (process_like cr) Sigqueue c.process_from_word-target.result v (signal_or_none cr.r2)) c.send.result c.args.entries.now.items c.send.new.entries.items c.send.new.machine.state) given comes.1 in
-    let first : to_z w64 (of_z w64 cr.r1) ≡ cr.r1 = search rules in
-    let does : Comes mid (send comes.0 mid (process_like cr) Sigqueue (process_in cr.r1) cr.r3 (signal_or_none cr.r2)) c.send.result c.args.entries.now.items c.send.new.entries.items c.send.new.machine.state =
-    subst (λ to. Comes mid (send comes.0 mid (process_like cr) Sigqueue to cr.r3 (signal_or_none cr.r2)) c.send.result c.args.entries.now.items c.send.new.entries.items c.send.new.machine.state) (c.process_from_word-target.ensures ∙ ap process_in first) told in (
-      comes.0,
-      subst (λ a. Comes s a c.send.result c.args.entries.now.items c.send.new.entries.items c.send.new.machine.state) (sigqueue_of comes.0 s (process s c.args.pid) me cr c.caller-me.ensures.finds.value e)
-          (subst (λ (t : State). Comes t (sigqueue comes.0 t (process_like cr)) c.send.result c.args.entries.now.items c.send.new.entries.items c.send.new.machine.state) c.caller-me.ensures.finds.looks.same.state does),
-    )
+    (comes.0, sends_as comes.0 c.args.machine.now.state c.caller-me.new.self.state c.send.new.machine.state me c.caller-me.result Sigqueue (λ d. process_in d.r1) (λ d. d.r3) _ _ c.send.result c.args.entries.now.items c.send.new.entries.items finds.looks.same.state is (c.process_from_word-target.ensures ∙ ap process_in first) given comes.1)
 
 pub returns-clause-brief : goal.returns-clause-brief
 returns-clause-brief g c = λ me e one quiet.
-    let old = c.args.machine.now in
-    let mid = c.caller-me.new.self in
     let finds = c.caller-me.ensures.finds in
-    let is = subst (λ o. IfSome o (λ me. c.caller-me.result ≡ caller_of me)) e finds.value in
-    let quiet_mid = quiet_on c.args.pid old mid finds.looks.same quiet in
+    let is = caller_is _ me c.caller-me.result finds.value e in
     let first : to_z w64 (of_z w64 c.caller-me.result.r1) ≡ c.caller-me.result.r1 = search rules in
-    let to = c.process_from_word-target.ensures ∙ ap process_in first ∙ ap (λ (d : Caller). process_in d.r1) is in
-    let brief = c.send.ensures.brief (ap is_one to ∙ one) (subst (λ p. IsQuiet p mid) (sym c.caller-me.ensures.pid) quiet_mid) in
-    brief_on _ 1 _ old mid _ finds.looks.same finds.looks.visits (omega arith)
-    (subst (λ (t : State). IsBrief (slots_of_kill t.processes (process_in (argument me 1)) (signal_or_none (argument me 2))) mid c.send.new.machine) finds.looks.same.state
-    (subst (λ (d : Caller). IsBrief (slots_of_kill mid.state.processes (process_in (argument me 1)) (signal_or_none d.r2)) mid c.send.new.machine) is
-    (subst (λ x. IsBrief (slots_of_kill mid.state.processes x (signal_or_none c.caller-me.result.r2)) mid c.send.new.machine) to brief)))
+    brief_sent_as c.args.pid c.args.machine.now c.caller-me.new.self c.send.new.machine me c.caller-me.result (λ d. process_in d.r1) _ finds.looks c.caller-me.ensures.pid is (c.process_from_word-target.ensures ∙ ap process_in first) one quiet c.send.ensures.brief

@@ -3,7 +3,20 @@ use Rattle.posix.specs.Tables.{lookup}
 use Rattle.posix.proofs.WalkLemmas.{at_child}
 use Rattle.pidset.proofs.AnchorLemmas.{turned_one}
 use Rattle.jobs.specs.Books.{child_key}
+use Rattle.jobs.proofs.AnchorLemmas.{child_rules}
 use Rattle.jobs.proofs.anchors.turn_children.Goals as goal
+
+pub loop-next-init : goal.loop-next-init
+loop-next-init g c = grind (arith, child_rules)
+
+pub turn-requires-clause-there : goal.turn-requires-clause-there
+turn-requires-clause-there g c = grind (arith, child_rules)
+
+pub next_sibling-next-requires : goal.next_sibling-next-requires
+next_sibling-next-requires g c = grind (arith, child_rules)
+
+pub loop-next-smaller : goal.loop-next-smaller
+loop-next-smaller g c = grind (arith, child_rules)
 
 pub loop-next-preserved : goal.loop-next-preserved
 loop-next-preserved g c =

@@ -1,7 +1,8 @@
 use Rattle.std.proofs.Common.{◌∙◌, ◌+◌}
 use Rattle.std.proofs.lemmas.List.{take_rest}
 use Rattle.posix.specs.Tables.{lookup}
-use Rattle.proctable.proofs.ScanLemmas.{rises_pids, first_is, sibling_is}
+use Rattle.pidset.proofs.IndexLemmas.{rises_pids}
+use Rattle.proctable.proofs.ScanLemmas.{first_is, sibling_is}
 use Rattle.proctable.proofs.scan.next_child_in.Goals as goal
 
 pub found-at-requires-clause-rising : goal.found-at-requires-clause-rising

@@ -1,7 +1,11 @@
-use Rattle.std.proofs.Common.{arith, sym, subst, refl, rules, true, ◌≡◌, ◌∙◌}
+use Rattle.std.proofs.Common.{ap, arith, sym, subst, refl, rules, true, ◌≡◌, ◌∙◌}
+use Rattle.std.specs.Option.{option_map_or}
+use Rattle.posix.specs.Processes.{Process}
+use Rattle.posix.proofs.MapLemmas.{length_children}
+use Rattle.proctable.specs.Records.{give_record}
 use Rattle.jobs.specs.Books.{keeps_stance}
 use Rattle.jobs.specs.JobTables.{StaysPut}
-use Rattle.jobs.proofs.KeptLemmas.{children_record, record_found, elsewhere_record, kept_moved, kept_unseen, ready_run}
+use Rattle.jobs.proofs.KeptLemmas.{record_found, none_record, elsewhere_record, kept_moved, kept_unseen, ready_run}
 use Rattle.jobs.proofs.ReadLemmas.{processes_of}
 use Rattle.jobs.proofs.job_table.JobTable.change_seen.Goals as goal
 
@@ -13,11 +17,25 @@ reindex_change-requires-clause-can g c =
 pub reindex_change-requires-clause-inside : goal.reindex_change-requires-clause-inside
 reindex_change-requires-clause-inside g c = let r = c.change_in-seen.ensures.run in rw r.2 (ready_run r.0 (processes_of c.self.view_is) c.requires.grouped c.self.invariant).1
 
+pub reanchor-requires-clause-after : goal.reanchor-requires-clause-after
+reanchor-requires-clause-after g c = let r = c.change_in-seen.ensures.run in rw (r.0.is, record_found _ c.args.pid r.0.before r.0.after r.0.found, r.2) refl
+
+pub reanchor-requires-clause-parent : goal.reanchor-requires-clause-parent
+reanchor-requires-clause-parent g c =
+    let r = c.change_in-seen.ensures.run in
+    rw (c.change_in-seen.ensures.parent, r.0.is) (sym (ap (λ o. option_map_or (λ (q : Process). q.parent) o 0) (record_found _ c.args.pid r.0.before r.0.after r.0.found)))
+
+pub reanchor-requires-clause-none : goal.reanchor-requires-clause-none
+reanchor-requires-clause-none g c = let r = c.change_in-seen.ensures.run in rw r.0.is (none_record _ c.args.pid r.0.after c.self.invariant.numbers)
+
 pub reanchor-requires-clause-within : goal.reanchor-requires-clause-within
 reanchor-requires-clause-within g c = rw c.reindex_change.ensures.anchors (ready_run c.change_in-seen.ensures.run.0 (processes_of c.self.view_is) c.requires.grouped c.self.invariant).2
 
 pub returns-then-eq-clause-after : goal.returns-then-eq-clause-after
 returns-then-eq-clause-after g c = let r = c.change_in-seen.ensures.run in rw (r.0.is, record_found _ c.args.pid r.0.before r.0.after r.0.found, r.2) refl
+
+pub returns-clause-after : goal.returns-clause-after
+returns-clause-after g c = let r = c.change_in-seen.ensures.run in rw (c.reanchor.ensures.contents, r.0.is, record_found _ c.args.pid r.0.before r.0.after r.0.found, r.2) refl
 
 pub invariant_of-self : goal.invariant_of-self
 invariant_of-self g c =
@@ -35,9 +53,10 @@ invariant_of-self-2 g c =
     (ready_run r.0 (processes_of c.self.view_is) c.requires.grouped c.self.invariant).1 index (rw c.reindex_change.ensures.anchors at c.reanchor.ensures.numbers) c.self.invariant
 
 pub returns-clause-costs : goal.returns-clause-costs
+unfolding give_record
 returns-clause-costs g c =
     let r = c.change_in-seen.ensures.run in
-    let kids = rw (← r.0.is) at (children_record (g.K.Kin.contents c.self.inside.table) c.args.pid r.0.after c.args.pid) in
+    let kids = rw (← r.0.is) at (length_children c.args.pid (give_record r.0.after) (λ r. refl) c.args.pid (g.K.Kin.contents c.self.inside.table)) in
     rw (← c.self.view_is) record { room = search rules; visits = grind (arith, c.reanchor.ensures.visits, kids, c.change_in-seen.ensures.visits) }
 
 pub returns-clause-put : goal.returns-clause-put

@@ -2,13 +2,16 @@ use Rattle.std.proofs.Common.{arith, ◌∙◌, ap, None}
 use Rattle.posix.specs.Tables.{inserted}
 use Rattle.proctable.specs.Records.{process_of}
 use Rattle.jobs.proofs.BookLemmas.{fits_more, can_move, sees_none}
-use Rattle.jobs.proofs.KeptLemmas.{kept_inserted}
+use Rattle.jobs.proofs.KeptLemmas.{kept_inserted, size_of}
 use Rattle.jobs.proofs.job_table.JobTable.insert.Goals as goal
 
 pub reindex-requires-clause-can : goal.reindex-requires-clause-can
 reindex-requires-clause-can g c =
     let free = fits_more (g.K.Kin.room c.self.inside.table) c.self.inside.count c.self.inside.books (rw (← c.self.view_is) at c.requires.room) in
     can_move c.args.pid c.args.parent None _ c.self.inside.books c.self.invariant.rising c.self.invariant.books (sees_none c.args.pid c.args.parent _ (rw (← c.self.view_is) at c.requires.fresh)) (λ e. rw (← c.self.invariant.count) free)
+
+pub overflow_add-self : goal.overflow_add-self
+overflow_add-self g c = grind (arith, size_of)
 
 pub invariant_of-self : goal.invariant_of-self
 invariant_of-self g c =

@@ -2,10 +2,10 @@ use Rattle.std.proofs.lemmas.Bool.{ne_eqb, both_ways}
 use Rattle.std.proofs.Common.{◌∙◌, ap, ◌||◌, ◌==◌, ◌≡◌, refl, sym, subst, arith, true, []}
 use Rattle.posix.specs.States.{State, is_in}
 use Rattle.posix.proofs.OrderLemmas.{regular_last}
-use Rattle.posix.proofs.MemberLemmas.{in_none, in_last}
+use Rattle.posix.proofs.MemberLemmas.{in_none, in_last, still_out}
 use Rattle.posix.proofs.TouchLemmas.{touches_last}
 use Rattle.life.proofs.SoundLemmas.{sound_order}
-use Rattle.life.proofs.RecheckLemmas.{listed_same, still_out}
+use Rattle.life.proofs.RecheckLemmas.{listed_same}
 use Rattle.life.proofs.ViewLemmas.{state_is}
 use Rattle.life.proofs.machine.Machine.go_last.Goals as goal
 

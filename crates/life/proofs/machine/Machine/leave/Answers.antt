@@ -4,13 +4,14 @@ use Rattle.posix.specs.Ends.{made_zombie}
 use Rattle.posix.specs.States.{State, is_in}
 use Rattle.life.specs.Machines.{state_of}
 use Rattle.life.specs.Rechecks.{with_numbers}
+use Rattle.posix.proofs.MapLemmas.{length_children}
 use Rattle.posix.proofs.RegularLemmas.{heir_there}
 use Rattle.posix.proofs.TableLemmas.{pid_looked, rising_changed}
 use Rattle.jobs.proofs.RunLemmas.{run_as, parent_is, put_as, put_grouped}
-use Rattle.life.proofs.EndLemmas.{there_after, zombie_after}
+use Rattle.life.proofs.EndLemmas.{keeps_made_zombie, there_after, zombie_after}
 use Rattle.life.proofs.RecheckLemmas.{has_room, room_after, room_of, pids_of, listed_more, listed_where}
-use Rattle.life.proofs.DepartureLemmas.{listed_left, keeps_made_zombie, deaf_parent, quiet_zombie}
-use Rattle.life.proofs.SoundLemmas.{there, here_in, heir_in, found_in, sound_departed, kids_made_zombie, there_made_zombie}
+use Rattle.life.proofs.DepartureLemmas.{listed_left, deaf_parent, quiet_zombie}
+use Rattle.life.proofs.SoundLemmas.{there, here_in, heir_in, found_in, sound_departed, there_made_zombie}
 use Rattle.life.proofs.ForegroundLemmas.{fresh_all}
 use Rattle.life.proofs.ViewLemmas.{state_is}
 use Rattle.life.proofs.MoveLemmas.{zombie_put}
@@ -88,8 +89,8 @@ returns g c =
     let run = run_as (made_zombie w) c.change_seen-parent.ensures.run c.self.invariant.sound.regular.rising (λ b d r k q. search rules) in
     let me = there _ (here_in {s = s} p old c.requires.there) in
     let adopts = subst (λ ts. c.adopt.new.self.visits ≤ c.is_awaited-awaited.new.table.visits + (3 + 10 * length (children_in p ts) + length (children_in c.args.heir ts))) (c.is_awaited-awaited.ensures.same ∙ run ∙ ap (λ (s : State). changed p (made_zombie w) s.processes) old) c.adopt.ensures.costs.visits in
-    let mine = kids_made_zombie p w p rs in
-    let theirs = kids_made_zombie p w c.args.heir rs in
+    let mine = length_children p (made_zombie w) (keeps_made_zombie w).parent p rs in
+    let theirs = length_children p (made_zombie w) (keeps_made_zombie w).parent c.args.heir rs in
     let put = c.change_seen-parent.ensures.put (put_as p _ (made_zombie w) (λ r e. zombie_put w r) (λ b d r k q. search rules)) in
     record {
       state = rw (c.adopt.ensures.processes, c.is_awaited-awaited.ensures.same, run, c.drop_place.ensures.pids, ← c.self.view_is) refl;

@@ -1,12 +1,13 @@
 use Rattle.std.proofs.Common.{inl, ◌≡◌, ap, false, ◌∙◌, refl, sym, arith, [], ◌∷◌}
 use Rattle.posix.proofs.RegularLemmas.{regular_lose}
+use Rattle.posix.proofs.MemberLemmas.{still_out}
 use Rattle.posix.proofs.OrderLemmas.{placed_some}
 use Rattle.posix.specs.States.{State, is_in}
 use Rattle.life.specs.Machines.{MachineView}
 use Rattle.life.specs.Rechecks.{with_numbers}
 use Rattle.posix.proofs.TouchLemmas.{touches_lost}
 use Rattle.life.proofs.SoundLemmas.{sound_order}
-use Rattle.life.proofs.RecheckLemmas.{has_room, listed_with, loses_none, still_out}
+use Rattle.life.proofs.RecheckLemmas.{has_room, listed_with, loses_none}
 use Rattle.life.proofs.machine.Machine.lose_place.Goals as goal
 
 pub insert-requires : goal.insert-requires

@@ -15,7 +15,7 @@ pub returns-in-Process-clause-finds : goal.returns-in-Process-clause-finds
 returns-in-Process-clause-finds g c =
     let r = process_like c.args.me.now in
     let rs = c.args.self.now.state.processes in
-    let one = c.survey_one.ensures.finds in
+    let one = c.survey_one.ensures in
     let first = one.looks.regular.first in
     let some = length_removed 1 first.what rs one.looks.regular.rising first.found in
     let all = ap length (all_candidates r c.args.target.now rs (inl (c.in-Process.pid, c.in-Process.is))) in

@@ -1,4 +1,4 @@
-use Rattle.std.proofs.Common.{◌<◌, ◌^◌, ap, ◌∙◌, arith, filter, length, subst}
+use Rattle.std.proofs.Common.{ap, ◌∙◌, arith, filter, length, subst}
 use Rattle.posix.specs.Tables.{IsNext, above, first_pid}
 use Rattle.posix.specs.States.{State}
 use Rattle.posix.specs.Sends.{is_target, targets}
@@ -7,7 +7,8 @@ use Rattle.posix.proofs.PassingLemmas.{left_at_most}
 use Rattle.life.specs.Callers.{process_like}
 use Rattle.life.specs.Queues.{survey_of}
 use Rattle.life.specs.Rechecks.{is_candidate}
-use Rattle.life.proofs.ViewLemmas.{same_then}
+use Rattle.life.proofs.SoundLemmas.{not_many}
+use Rattle.life.proofs.ViewLemmas.{same_then, state_is}
 use Rattle.life.proofs.SurveyLemmas.{few_so_far, none_surveys, surveyed_all, surveyed_on}
 use Rattle.life.proofs.machine.Machine.survey_all.Goals as goal
 
@@ -31,9 +32,8 @@ and-survey-requires g c =
     let r = process_like c.args.me.now in
     let i = c.loop-next.invariant in
     let here = λ (s : State). survey_of r c.args.sig (targets r c.args.target.now (numbered c.in-Some.pid s.processes)) in
-    let few = few_so_far r c.args.sig c.args.target.now c.in-Some.pid c.args.self.now.state.processes c.loop-next.next c.loop-next.survey c.survey_one.result c.next_target-next.ensures.finds.looks.regular.rising c.in-Some.is (c.survey_one.ensures.finds.value ∙ ap here i.same.state) i.surveyed in
-    let size = subst (λ (s : State). length s.processes < 2 ^ 63) i.same.state c.survey_one.ensures.size in
-    omega (arith, few, size)
+    let few = few_so_far r c.args.sig c.args.target.now c.in-Some.pid c.args.self.now.state.processes c.loop-next.next c.loop-next.survey c.survey_one.result c.next_target-next.ensures.finds.looks.regular.rising c.in-Some.is (c.survey_one.ensures.value ∙ ap here i.same.state) i.surveyed in
+    omega (arith, few, ap (λ (s : State). length s.processes) (state_is c.self.view_is), not_many _ _ _ c.self.invariant.sound)
 
 pub loop-next-preserved : goal.loop-next-preserved
 loop-next-preserved g c =
@@ -42,7 +42,7 @@ loop-next-preserved g c =
     let rs = c.args.self.now.state.processes in
     let pid = c.in-Some.pid in
     let i = c.loop-next.invariant in
-    let one = c.survey_one.ensures.finds in
+    let one = c.survey_one.ensures in
     let comes = c.next_target-next-in-Some.ensures in
     let next = c.next_target-next-in-Some.result in
     let up = c.next_target-next.ensures.finds.looks.regular.rising in

@@ -15,43 +15,43 @@ use Rattle.life.proofs.machine.Machine.survey_one.Goals.{then-queues, else-queue
 
 pub returns-in_default : goal.returns-in_default
 returns-in_default g c =
-    let looks = c.read.ensures.finds.looks in
-    let value = survey_absent (process_like c.args.me.now) c.args.sig c.args.target.now c.args.pid _ (none_read _ (sym c.in_default.is ∙ c.read.ensures.finds.value)) in
-    record { finds = record { value = value; looks = search (rules, arith) }; size = c.read.ensures.size }
+    let looks = c.snapshot.ensures.looks in
+    let value = survey_absent (process_like c.args.me.now) c.args.sig c.args.target.now c.args.pid _ (none_read _ (sym c.in_default.is ∙ c.snapshot.ensures.value)) in
+    record { value = value; looks = search (rules, arith) }
 
 pub returns-then-not-is_target : goal.returns-then-not-is_target
 returns-then-not-is_target g c =
-    let looks = c.read.ensures.finds.looks in
-    let it = is_read _ _ (sym c.in-Some.is ∙ c.read.ensures.finds.value) in
+    let looks = c.snapshot.ensures.looks in
+    let it = is_read _ _ (sym c.in-Some.is ∙ c.snapshot.ensures.value) in
     let value = survey_other (process_like c.args.me.now) c.args.sig c.args.target.now c.args.pid _ looks.regular.rising it.what it.found (sym (c.is_target.ensures it.what it.snapshot) ∙ c.if-not-is_target.true) in
-    record { finds = record { value = value; looks = search (rules, arith) }; size = c.read.ensures.size }
+    record { value = value; looks = search (rules, arith) }
 
 pub returns-then-not-may_signal : goal.returns-then-not-may_signal
 returns-then-not-may_signal g c =
-    let looks = c.read.ensures.finds.looks in
-    let it = is_read _ _ (sym c.in-Some.is ∙ c.read.ensures.finds.value) in
+    let looks = c.snapshot.ensures.looks in
+    let it = is_read _ _ (sym c.in-Some.is ∙ c.snapshot.ensures.value) in
     let meant = sym (c.is_target.ensures it.what it.snapshot) ∙ c.if-not-is_target.false in
     let value = survey_forbidden (process_like c.args.me.now) c.args.sig c.args.target.now c.args.pid _ looks.regular.rising it.what it.found meant (sym (c.may_signal.ensures it.what it.snapshot) ∙ c.if-not-may_signal.true) in
-    record { finds = record { value = value; looks = search (rules, arith) }; size = c.read.ensures.size }
+    record { value = value; looks = search (rules, arith) }
 
 pub returns : goal.returns
 returns g c =
-    let looks = c.read.ensures.finds.looks in
-    let it = is_read _ _ (sym c.in-Some.is ∙ c.read.ensures.finds.value) in
+    let looks = c.snapshot.ensures.looks in
+    let it = is_read _ _ (sym c.in-Some.is ∙ c.snapshot.ensures.value) in
     let q = it.what in
     let meant = sym (c.is_target.ensures q it.snapshot) ∙ c.if-not-is_target.false in
     let may = sym (c.may_signal.ensures q it.snapshot) ∙ c.if-not-may_signal.false in
-    let own = own_is c.read.new.self.state c.args.pid c.look.result.now q c.look.ensures.value (ap (λ (s : State). process s c.args.pid) looks.same.state ∙ it.found) in
+    let own = own_is c.snapshot.new.self.state c.args.pid c.look.result.now q c.look.ensures.value (ap (λ (s : State). process s c.args.pid) looks.same.state ∙ it.found) in
     let queuer = c.queues-queues.ensures ∙ queuer_read c.args.sig c.args.pid c.in-Some.it.life c.look.result.now.signals q (pid_looked c.args.pid _ q it.found) (ap (λ (f : Snapshot). f.life) it.snapshot) (ap (λ (o : OwnPart). o.signals) own) in
     let value = λ (b : Bool) (is : c.queues-queues.result ≡ b). survey_permitted (process_like c.args.me.now) c.args.sig c.args.target.now c.args.pid _ looks.regular.rising q it.found meant may b (sym is ∙ queuer) in
-    let seen = one_seen g.K.Kin.one_more g.met.K.Kin.at_most_one c.args.self.now c.read.new.self looks in
+    let seen = one_seen g.K.Kin.one_more g.met.K.Kin.at_most_one c.args.self.now c.snapshot.new.self looks in
     elim c.if-queues.branch [
       | then-queues w ↦
           let full = w.result-is ∙ w.is_queue_full.ensures ∙ ap (λ (o : OwnPart). nat_le most_queued (length o.signals.queue)) own in
           let many = c.from.ensures ∙ ap bool_byte w.if-queues.true in
-          record { finds = record { value = ap (λ b. asked b c.from.result) full ∙ ap (asked _) many ∙ value true w.if-queues.true; looks = seen c.if-queues.self (w.self-is ∙ c.look.follows.holds-at-none) }; size = c.read.ensures.size }
+          record { value = ap (λ b. asked b c.from.result) full ∙ ap (asked _) many ∙ value true w.if-queues.true; looks = seen c.if-queues.self (w.self-is ∙ c.look.follows.holds-at-none) }
       | else-queues w ↦
           let full = w.result-is ∙ w.if-queues.false in
           let many = c.from.ensures ∙ ap bool_byte w.if-queues.false in
-          record { finds = record { value = ap (λ b. asked b c.from.result) full ∙ ap (asked _) many ∙ value false w.if-queues.false; looks = seen c.if-queues.self (w.self-is ∙ c.look.follows.holds-at-none) }; size = c.read.ensures.size }
+          record { value = ap (λ b. asked b c.from.result) full ∙ ap (asked _) many ∙ value false w.if-queues.false; looks = seen c.if-queues.self (w.self-is ∙ c.look.follows.holds-at-none) }
     ]

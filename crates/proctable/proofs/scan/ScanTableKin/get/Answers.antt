@@ -2,7 +2,7 @@ use Rattle.std.proofs.Common.{sym, ap, ◌∙◌}
 use Rattle.std.specs.Option.{option_map, option_copied}
 use Rattle.posix.specs.Tables.{lookup}
 use Rattle.proctable.specs.Records.{snapshot_of}
-use Rattle.proctable.proofs.ScanLemmas.{rises_pids}
+use Rattle.pidset.proofs.IndexLemmas.{rises_pids}
 use Rattle.proctable.proofs.scan.ScanTableKin.get.Goals as goal
 
 pub item_of-requires : goal.item_of-requires

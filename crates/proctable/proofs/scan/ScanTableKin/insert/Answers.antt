@@ -2,7 +2,8 @@ use Rattle.std.proofs.Common.{sym, ap, ◌∙◌, subst}
 use Rattle.posix.specs.Tables.{IsRising, lookup, inserted}
 use Rattle.posix.proofs.TableLemmas.{rising_inserted}
 use Rattle.proctable.specs.Records.{process_of}
-use Rattle.proctable.proofs.ScanLemmas.{rises_pids, inserted_same}
+use Rattle.pidset.proofs.IndexLemmas.{rises_pids}
+use Rattle.proctable.proofs.ScanLemmas.{inserted_same}
 use Rattle.proctable.proofs.scan.ScanTableKin.insert.Goals as goal
 
 pub put_in-requires-clause-rising : goal.put_in-requires-clause-rising

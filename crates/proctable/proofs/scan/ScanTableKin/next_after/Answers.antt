@@ -2,7 +2,8 @@ use Rattle.std.proofs.Common.{◌∙◌, ap, sym, slice_get}
 use Rattle.std.specs.Option.{option_map, option_copied}
 use Rattle.posix.specs.Processes.{Process}
 use Rattle.posix.specs.Tables.{above, next_above}
-use Rattle.proctable.proofs.ScanLemmas.{rises_pids, next_same}
+use Rattle.pidset.proofs.IndexLemmas.{rises_pids}
+use Rattle.proctable.proofs.ScanLemmas.{next_same}
 use Rattle.proctable.proofs.scan.ScanTableKin.next_after.Goals as goal
 
 pub next_above-requires : goal.next_above-requires

@@ -1,7 +1,7 @@
 use Rattle.std.proofs.Common.{refl}
 use Rattle.posix.specs.Tables.{removed}
 use Rattle.posix.proofs.TableLemmas.{rising_removed}
-use Rattle.proctable.proofs.ScanLemmas.{rises_pids}
+use Rattle.pidset.proofs.IndexLemmas.{rises_pids}
 use Rattle.proctable.proofs.scan.ScanTableKin.remove.Goals as goal
 
 pub take_out-slot-requires : goal.take_out-slot-requires

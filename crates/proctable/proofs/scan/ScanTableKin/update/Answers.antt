@@ -2,7 +2,8 @@ use Rattle.std.proofs.Common.{subst, refl, sym, ap, ◌∙◌}
 use Rattle.std.specs.Option.{IsSome}
 use Rattle.posix.specs.Tables.{lookup, pids}
 use Rattle.pidset.specs.Numbers.{IsNumberAt}
-use Rattle.proctable.proofs.ScanLemmas.{rises_pids, read_at, set_is, set_rises, value_is}
+use Rattle.pidset.proofs.IndexLemmas.{rises_pids}
+use Rattle.proctable.proofs.ScanLemmas.{read_at, set_is, set_rises, value_is}
 use Rattle.proctable.proofs.scan.ScanTableKin.update.Goals as goal
 
 pub found-at-requires-clause-rising : goal.found-at-requires-clause-rising

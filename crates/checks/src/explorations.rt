@@ -1,0 +1,46 @@
+//! Schedules that are explored.
+
+use crate::runs::NOTE_AND_EXIT;
+use exploring::{Family, Progress, explore};
+use schedules::family_size;
+use std::process::Abort;
+use std::test::Fail;
+use text::{read_events, read_world};
+
+/// Of how many schedules it heard, and how many it was told there are.
+#[derive(Drop)]
+struct Heard {
+    times: u64,
+    last: (u64, u64),
+}
+
+impl Progress for Heard {
+    fn hear(&mut self, done: u64, size: u64) {
+        self.times = self.times.wrapping_add(1);
+        self.last = (done, size);
+    }
+}
+
+#[test]
+fn each_schedule_is_heard_of(rt: HostRuntime) -> Result<(), Fail> {
+    let world = read_world(rt.alloc(), NOTE_AND_EXIT.world)?;
+    let events = read_events(rt.alloc(), world.consoles(), b"step 3\n")?;
+    let mut heard = Heard {
+        times: 0,
+        last: (0, 0),
+    };
+    if events.len() == 3
+        && let Some(size) = family_size(3, 2, 10)
+    {
+        let family = Family {
+            world: &world,
+            events: &events,
+            upto: 3,
+            ticks: 2,
+            size,
+        };
+        explore(rt.alloc(), &family, &[], &mut heard)?;
+    }
+    assert!(rt; heard.times == 10 && heard.last == (10, 10));
+    Ok(())
+}

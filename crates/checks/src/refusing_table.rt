@@ -1,0 +1,109 @@
+//! A table of processes that is refused memory once.
+
+ghost use Rattle.std.specs.Prelude.{◌≡◌, refl};
+ghost use Rattle.std.proofs.Common.{arith};
+ghost use Rattle.proctable.specs.ScanTable.{scan_with_record};
+
+use posix::Pid;
+use proctable::{Kin, Record, ScanTable, Snapshot, Spare, Stock};
+use std::alloc::{AllocError, Global};
+
+/// A table that scans, whose attempt number `REFUSED` to make room, from 1, finds no memory.
+#[derive(Drop)]
+pub(crate) struct RefusingTable<const REFUSED: usize> {
+    table: ScanTable,
+    attempts: usize,
+}
+
+impl<const REFUSED: usize> RefusingTable<REFUSED> {
+    /// Counts an attempt, and says whether it is the one that is refused.
+    fn is_refused(&mut self) -> bool
+        ensures { self.new.table ≡ self.old.table }
+    {
+        self.attempts = self.attempts.wrapping_add(1);
+        self.attempts == REFUSED
+    }
+}
+
+impl<const REFUSED: usize> Kin for RefusingTable<REFUSED> {
+    ghost contents = { λ t. t.table.processes };
+
+    ghost room = { λ t. t.table.room };
+
+    ghost visits = { λ t. 0 };
+
+    ghost one_more = { λ n. n };
+
+    ghost put = { λ t p b. record t { table = scan_with_record t.table p b } };
+
+    ghost puts = { λ t p b. refl };
+
+    ghost keeps_room = { λ t p b. refl };
+
+    ghost put_reads = { λ t p b. refl };
+
+    ghost at_most_one = { λ n. Prim.omega arith };
+
+    fn empty(alloc: Global) -> Self {
+        RefusingTable {
+            table: ScanTable::empty(alloc),
+            attempts: 0,
+        }
+    }
+
+    fn reserve(&mut self) -> Result<(), AllocError> {
+        let made = self.table.reserve();
+        if self.is_refused() {
+            return Err(AllocError);
+        }
+        made
+    }
+
+    fn reserve_pools(&mut self, stock: &mut Stock, count: usize) -> Result<(), AllocError> {
+        let made = stock.reserve(count);
+        if self.is_refused() {
+            return Err(AllocError);
+        }
+        made
+    }
+
+    fn insert(&mut self, pid: Pid, parent: Pid, fields: Record) {
+        self.table.insert(pid, parent, fields);
+    }
+
+    fn get(&mut self, pid: Pid) -> Option<Snapshot> {
+        self.table.get(pid)
+    }
+
+    fn update(&mut self, pid: Pid) -> &mut Record {
+        self.table.update(pid)
+    }
+
+    fn spare(&mut self) -> Option<Spare> {
+        self.table.spare()
+    }
+
+    fn remove(&mut self, pid: Pid) {
+        self.table.remove(pid);
+    }
+
+    fn first_child(&mut self, pid: Pid) -> Option<Pid> {
+        self.table.first_child(pid)
+    }
+
+    fn next_sibling(&mut self, pid: Pid) -> Option<Pid> {
+        self.table.next_sibling(pid)
+    }
+
+    fn next_after(&mut self, pid: Pid) -> Option<Pid> {
+        self.table.next_after(pid)
+    }
+
+    fn adopt(&mut self, from: Pid, to: Pid) {
+        self.table.adopt(from, to);
+    }
+
+    fn visits(&self) -> u128 {
+        0
+    }
+}
