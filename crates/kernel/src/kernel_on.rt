@@ -241,9 +241,9 @@ impl<K: Kin> KernelOn<K> {
         pid
     }
 
-    /// One event, as often as can be at once, up to the one with number `last`: once, but a `Step` as
-    /// [`KernelOn::steps`] gives it. The notes, and what the last one shows besides, are added to lists that are empty.
-    /// Whose notes they are, where there are any.
+    /// Gives one event several times at once, up to the event with number `last`: a `Step` as often as
+    /// [`KernelOn::steps`] gives it, any other event once. The notes, and what the last event shows besides, are added
+    /// to lists that are empty. The result is the process whose notes they are, where there are any.
     #[inline]
     pub fn repeat(
         &mut self,

@@ -53,8 +53,8 @@ fn events_error(fault: TextFault) -> RunError
     }
 }
 
-/// Gives all events to a kernel of a world, which none was given before, and puts the printed trace into a sink. What
-/// it says of texts that stand for both is what [`run_on`] says.
+/// Gives all events to a kernel that was given none before, and puts the printed trace into a sink. For texts that
+/// stand for the kernel's world and for these events its contract is that of [`run_on`].
 fn run_kernel<K: Kin, S: Sink>(
     kernel: &mut KernelOn<K>,
     events: &EventList,

@@ -333,8 +333,8 @@ impl<K: Kin> Machine<K> {
         clear_readers(&mut self.readers, console_index);
     }
 
-    /// Changes the console with this index as the closure does; none where there is none. Each change of one console
-    /// goes by this, but a line that is taken.
+    /// Changes the console with this index by a closure, and gives the closure's result; none, and nothing changes,
+    /// where there is no such console. All changes of one console but [`Machine::take_line`] go by this function.
     fn change_console<T, F: FnOnce(&mut Console) -> T>(
         &mut self,
         console_index: usize,

@@ -70,7 +70,8 @@ impl<K: Kin> Model for Machine<K> {
     ghost invariant = { λ m. IsMachine (state_of m.world (m.table.processes) m.consoles.items m.pids m.order m.births m.ticks m.dropped m.halted) m.pids m.order m.to_recheck m.groups_at_risk (record { readers = m.readers.items; foregrounds_unchecked = m.foregrounds_unchecked }) };
 }
 
-/// What a machine begins with beside its table: who bears number 1, the order, and room for those to be rechecked.
+/// The lists that a machine keeps beside its table: the numbers borne, the order of turns, the processes to recheck,
+/// and the process groups that an end may orphan.
 #[derive(Drop)]
 struct Lists {
     pids: PidTable,
@@ -80,7 +81,7 @@ struct Lists {
 }
 
 impl Lists {
-    /// Those of process 1 alone; an error where the host has no memory for them.
+    /// The lists at the start, when process 1 is the only process; an error where the host has no memory for them.
     #[tactic(auto, unfolding(posix::specs::States::is_in))]
     fn first(alloc: Global, pidmax: u32) -> Result<Lists, AllocError>
         requires { (2 ≤ pidmax) × (pidmax ≤ 32768) }
@@ -116,7 +117,8 @@ struct Terminals {
 }
 
 impl Terminals {
-    /// So many that nobody uses; an error where the host has no memory for them.
+    /// `count` consoles that no session has, from which nobody waits to read; an error where the host has no memory for
+    /// them.
     fn unused(alloc: Global, count: u8, pidmax: u32) -> Result<Terminals, AllocError>
         requires { pidmax ≤ 32768 }
         ensures consoles { IfOk result (λ t. t.consoles.items ≡ replicate count unused_console) }
@@ -131,7 +133,7 @@ impl Terminals {
     }
 }
 
-/// An empty set with room for so many numbers; an error where the host has no memory for them.
+/// An empty set with room for `capacity` numbers; an error where the host has no memory for them.
 fn room_for(alloc: Global, capacity: usize) -> Result<PidSet, AllocError>
     requires { capacity < 2 ^ 63 }
     ensures pids { IfOk result (λ s. s.pids ≡ []) }

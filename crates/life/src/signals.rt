@@ -78,7 +78,8 @@ impl<K: Kin> Machine<K> {
         }
     }
 
-    /// So it is for each member of a process group; number 0 is no group's.
+    /// [`Machine::signal_members`] of the process group with this number; nothing happens for number 0, which is no
+    /// group's.
     pub fn signal_group(&mut self, group: Pid, sig: Sig)
         requires { is_realtime sig ≡ false }
         ensures { Changes (1 + (2 + slots_of_signal sig) * length (members_in group self.old.state.processes)) self.old self.new (with_processes self.old.state (signalled_group sig group self.old.state.processes)) (if group == 0 then self.old.to_recheck else rechecking_members sig group self.old.state.processes self.old.state.order self.old.to_recheck) }

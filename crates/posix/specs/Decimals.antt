@@ -5,6 +5,6 @@ use Rattle.std.specs.Prelude.{ℕ, ◌+◌, ◌-◌, ◌*◌, ◌^◌, min, fold
 abbrev pub value_of : List ℕ → ℕ
 value_of ds = fold (λ n d. n * 10 + (d - 48)) 0 ds
 
--- likewise, as a u64
+-- the same number, or the greatest u64 where it is greater
 unfoldable pub decimal_value : List ℕ → ℕ
 decimal_value ds = min (value_of ds) (2 ^ 64 - 1)

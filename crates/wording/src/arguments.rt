@@ -139,7 +139,7 @@ fn put_number(text: &mut String, number: i64) -> Result<(), AllocError> {
     write!(text, "{number}")
 }
 
-/// Writes a number that others follow.
+/// Writes a number and a comma, as further arguments follow.
 fn put_one_of(text: &mut String, number: i64) -> Result<(), AllocError> {
     write!(text, "{number}, ")
 }
