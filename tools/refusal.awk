@@ -13,15 +13,15 @@ BEGIN {
     three = "mov add sub mul div rem and or xor ld st"
     instructions = "set " three " jmp jz jnz jlt note sys"
     calls = "getpid getppid getuid geteuid getgid getegid getpgid getsid setuid seteuid setgid setegid fork exec exit" \
-        " waitpid kill sigqueue sigaction sigprocmask sigpending sigsuspend pause sigreturn alarm setpgid setsid" \
-        " setctty tcgetpgrp tcsetpgrp settostop read write sched_yield"
+        " waitpid waitid kill sigqueue sigaction sigprocmask sigpending sigsuspend pause sigreturn alarm setpgid" \
+        " setsid setctty tcgetpgrp tcsetpgrp settostop read write sched_yield"
     listed(three, is_three)
     listed(instructions, is_instruction)
     listed(calls, is_call)
     for (i = 1; i < 256; i++) code[sprintf("%c", i)] = i
 
     # what others call it, or have, and what is here in its place
-    instead(other_call, "wait wait3 wait4 waitid", "waitpid, with -1 in r1 and 0 in r2")
+    instead(other_call, "wait wait3 wait4", "waitpid, with -1 in r1 and 0 in r2")
     instead(other_call, "yield pthread_yield", "sched_yield")
     instead(other_call, "_exit _Exit exit_group abort quit", "exit")
     instead(other_call, "signal sigset bsd_signal rt_sigaction", "sigaction")

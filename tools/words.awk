@@ -49,8 +49,8 @@ function nearest(word, list,    candidate, count, i, apart, least, found) {
 
 # the known name that is meant by one in capitals, or nothing
 function nearest_name(name,    i, prefix) {
-    split("SIG SIG_ SA_ W E", prefix, " ")
-    for (i = 1; i <= 5; i++) if ((prefix[i] name) in kinds) return prefix[i] name
+    split("SIG SIG_ SA_ W E P_", prefix, " ")
+    for (i = 1; i <= 6; i++) if ((prefix[i] name) in kinds) return prefix[i] name
     if (name ~ /^SIGRT/) return "SIGRTMIN+1"
     return nearest(name, known_names)
 }

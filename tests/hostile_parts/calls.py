@@ -11,7 +11,10 @@ STEPS = 100
 # So many registers, from r1 on, are read by the call; by all others none.
 READ = {'getpgid': 1, 'getsid': 1, 'setuid': 1, 'seteuid': 1, 'setgid': 1, 'setegid': 1, 'exit': 1, 'sigsuspend': 1,
         'alarm': 1, 'setctty': 1, 'tcsetpgrp': 1, 'settostop': 1, 'waitpid': 2, 'kill': 2, 'sigprocmask': 2,
-        'setpgid': 2, 'read': 2, 'write': 2, 'exec': 3, 'sigqueue': 3, 'sigaction': 4}
+        'setpgid': 2, 'read': 2, 'write': 2, 'exec': 3, 'waitid': 3, 'sigqueue': 3, 'sigaction': 4}
+
+# More values, by the call and the register: with the others alone each waitid would be refused for its options.
+MORE_VALUES = {('waitid', 1): (2, 3), ('waitid', 2): (2,), ('waitid', 3): (2, 5, 9, 16, 2**24 + 1, 2**24 + 5)}
 
 # Who calls: the lines before and behind those of the caller, the events before them, what these show, the number of the
 # caller's first event, and the caller.
@@ -122,14 +125,19 @@ def item(scene, name, values):
     return what, world.encode(), f'{scene.events}step {steps}\n'.encode(), runs.Answer(0, wanted.encode(), b'')
 
 
+def combinations(name, count):
+    """All values of a call in so many registers."""
+    return itertools.product(*(VALUES + MORE_VALUES.get((name, register), ()) for register in range(1, count + 1)))
+
+
 def items():
     """For process 1 alone all values in all registers; for others all in those that the call reads, and each of the
     others has one of them in turn."""
     for name in plain_calls.RULES:
-        for values in itertools.product(VALUES, repeat=4):
+        for values in combinations(name, 4):
             yield item(ALONE, name, values)
         for scene in OTHERS:
-            for turn, values in enumerate(itertools.product(VALUES, repeat=READ.get(name, 0))):
+            for turn, values in enumerate(combinations(name, READ.get(name, 0))):
                 rest = [VALUES[(turn + register) % 5] for register in range(4 - len(values))]
                 yield item(scene, name, [*values, *rest])
 

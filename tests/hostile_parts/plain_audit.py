@@ -3,9 +3,9 @@
 import re
 
 SIGNALS = [*range(1, 32), *range(34, 65)]
-CALLS = ('getpid getppid fork waitpid sched_yield getuid geteuid getgid getegid setuid setgid seteuid setegid kill '
-         'sigqueue sigaction sigprocmask sigpending pause sigsuspend alarm getpgid getsid setpgid setsid exec setctty '
-         'tcgetpgrp tcsetpgrp settostop read write').split()
+CALLS = ('getpid getppid fork waitpid waitid sched_yield getuid geteuid getgid getegid setuid setgid seteuid setegid '
+         'kill sigqueue sigaction sigprocmask sigpending pause sigsuspend alarm getpgid getsid setpgid setsid exec '
+         'setctty tcgetpgrp tcsetpgrp settostop read write').split()
 GREATEST_EVENT = 10**12
 GREATEST_PROCESS = 2**31 - 1
 
@@ -15,6 +15,7 @@ FORMS = [re.compile(' '.join(NUMBER % word if word in 'ECPQRNSVW' else word for 
     'E note P V',
     'E call P (?P<name>[a-z_]+) = R',
     'E call P (?P<name>waitpid) = C status W',
+    'E call P (?P<name>waitid) = 0 (?P<mark>take|look) C status W',
     'E call P (?P<name>read|write) = N bytes (?P<hex>[0-9a-f]+)',
     'E call P (?P<name>fork|kill|sigqueue) = -11 memory',
     'E handle P S V Q',
@@ -133,7 +134,7 @@ class Audit:
         self.before = form if form == 'halt' or form == 'end' and parts['P'] == 1 else None
         if parts.get('name') == 'fork' and parts.get('R', 0) > 0:
             self.lives[parts['R']] = Life(parts['P'])
-        elif 'C' in parts:
+        elif 'C' in parts and parts.get('mark') != 'look':
             self.keep_report(self.lives[parts['C']], parts['W'])
         elif form == 'stop':
             life = self.lives[parts['P']]

@@ -2,7 +2,8 @@
 
 A rule takes the process and its registers r1 to r4. It answers r0, or the bytes that were moved, and changes the
 registers and the process where the call does. ENDS and BLOCKS are answered by calls that give no result. Arguments are
--2**63, -1, 0, 1 and 2**63 - 1 alone, so the only signal is 1, and process 1 the only one that has a number of these.
+-2**63, -1, 0, 1 and 2**63 - 1 alone, so the only signal is 1, and process 1 the only one that has a number of these;
+but waitid has some more.
 """
 
 PERM, NOENT, SRCH, CHILD, FAULT, INVAL, NOTTY = -1, -2, -3, -10, -14, -22, -25
@@ -94,6 +95,21 @@ def waitpid(p, choice, options, *_):
     if not p.child or choice not in (p.child, -1, 0):       # the child is in the group of its parent
         return CHILD
     return 0 if options & 1 else BLOCKS             # it has nothing to report
+
+
+def waitid(p, kind, number, options, *_):
+    bits = options % 2**64
+    if kind not in (0, 1, 2) or bits & ~(1 | 2 | 4 | 8 | 2**24) or not bits & (2 | 4 | 8):
+        return INVAL
+    if kind == 1 and number < 1 or kind == 2 and number < 0:
+        return INVAL
+    named = kind == 0 or number == (p.child if kind == 1 else 1) or kind == 2 and number == 0
+    if not p.child or not named:                    # the child is in group 1, as its parent is
+        return CHILD
+    if not bits & 1:
+        return BLOCKS                               # it has nothing to report
+    p.registers[1] = p.registers[2] = 0
+    return 0
 
 
 def kill(p, target, signal, *_):
@@ -237,6 +253,7 @@ RULES = {
     'exec': exec_program,
     'exit': lambda p, code, *_: end(p, code % 256 * 256),
     'waitpid': waitpid,
+    'waitid': waitid,
     'kill': kill,
     'sigqueue': sigqueue,
     'sigaction': sigaction,

@@ -10,9 +10,9 @@ NAME = re.compile(rb'[a-z][a-z0-9_]{0,15}')
 NUMBER = re.compile(rb'-?[0-9]+')
 BYTE = re.compile(rb'[0-9A-Fa-f]{2}')
 REGISTER = re.compile(rb'r[0-7]')
-CALLS = (b'getpid getppid fork exit waitpid sched_yield getuid geteuid getgid getegid setuid setgid seteuid setegid '
-         b'kill sigqueue sigaction sigprocmask sigpending pause sigsuspend sigreturn alarm getpgid getsid setpgid '
-         b'setsid exec setctty tcgetpgrp tcsetpgrp settostop read write').split()
+CALLS = (b'getpid getppid fork exit waitpid waitid sched_yield getuid geteuid getgid getegid setuid setgid seteuid '
+         b'setegid kill sigqueue sigaction sigprocmask sigpending pause sigsuspend sigreturn alarm getpgid getsid '
+         b'setpgid setsid exec setctty tcgetpgrp tcsetpgrp settostop read write').split()
 GREATEST = 2**63 - 1
 
 # The operands of each instruction: r a register, v a value, l a label, c a call.

@@ -14,7 +14,10 @@ IGNORED_BY_DEFAULT = (CHLD, CONT, 23, 28)
 EPERM, ENOENT, ESRCH, EINTR, EIO, ECHILD, EAGAIN, EACCES, EFAULT, EINVAL, ENOTTY = 1, 2, 3, 4, 5, 10, 11, 13, 14, 22, 25
 NOCLDSTOP, NOCLDWAIT, SIGINFO, RESTART, NODEFER, RESETHAND = 1, 2, 4, 1 << 28, 1 << 30, 1 << 31
 FLAGS = NOCLDSTOP | NOCLDWAIT | SIGINFO | RESTART | NODEFER | RESETHAND
-NOHANG, UNTRACED, CONTINUED = 1, 2, 8
+# Options of waitpid and waitid: what stops is WUNTRACED of the one and WSTOPPED of the other.
+NOHANG, STOPPED, EXITED, CONTINUED, NOWAIT = 1, 2, 4, 8, 1 << 24
+SORTS = STOPPED | EXITED | CONTINUED
+ANY_CHILD, A_CHILD, A_GROUP = 0, 1, 2                       # the kinds of waitid
 DEFAULT, IGNORE = 0, 1
 KEYS = {0x03: INT, 0x1c: QUIT, 0x1a: TSTP}
 JUMPS = {'jz': lambda x: x == 0, 'jnz': lambda x: x != 0, 'jlt': lambda x: x < 0}
@@ -237,7 +240,8 @@ class Machine:
 
     def outcome(self, p):
         """What the call that p is blocked in would come to."""
-        return {'waitpid': self.wait_outcome, 'read': self.read_outcome}.get(p.call, lambda _: (BLOCK,))(p)
+        return {'waitpid': self.waitpid_outcome, 'waitid': self.waitid_outcome,
+                'read': self.read_outcome}.get(p.call, lambda _: (BLOCK,))(p)
 
     def lose_place(self, p):
         if p.number in self.order:
@@ -302,8 +306,9 @@ class Machine:
         if result in (AGAIN, SHOWN):
             return
         if isinstance(result, tuple):
-            p.r[0], p.r[1] = result
-            self.show('call', p.number, name, '=', result[0], 'status', result[1])
+            registers, words = result
+            p.r[:len(registers)] = registers
+            self.show('call', p.number, name, '=', *words)
         elif isinstance(result, bytes) and result:
             p.r[0] = len(result)
             self.show('call', p.number, name, '=', len(result), 'bytes', result.hex())
@@ -390,7 +395,7 @@ class Machine:
         handler, mask, flags = p.action(number)
         saved = p.mask
         if p.call:
-            if p.call not in ('waitpid', 'read') or not flags & RESTART:
+            if p.call not in ('waitpid', 'waitid', 'read') or not flags & RESTART:
                 self.show('call', p.number, p.call, '=', -EINTR)
                 p.r[0] = -EINTR
                 p.pc = signed(p.pc + 1)
@@ -492,29 +497,64 @@ class Machine:
             return child.number == choice
         return choice == -1 or child.group == (-choice if choice else p.group) and choice >= -GREATEST
 
-    def wait_outcome(self, p):
-        choice, options = p.r[1], p.r[2]
-        if options & ~(NOHANG | UNTRACED | CONTINUED):
+    def is_of_kind(self, p, kind, number, child):
+        if kind == A_CHILD:
+            return child.number == number
+        return kind == ANY_CHILD or child.group == (number or p.group)
+
+    def waitpid_outcome(self, p):
+        choice, options = p.r[1:3]
+        if options & ~(NOHANG | STOPPED | CONTINUED):
             return 'refused', -EINVAL
         named = [child for child in self.children(p) if self.is_named(p, choice, child)]
+        return self.wait_outcome(named, options | EXITED, 0)
+
+    def waitid_outcome(self, p):
+        kind, number, options = p.r[1:4]
+        if kind not in (ANY_CHILD, A_CHILD, A_GROUP) or options & ~(NOHANG | SORTS | NOWAIT):
+            return 'refused', -EINVAL
+        if not options & SORTS or kind == A_CHILD and number < 1 or kind == A_GROUP and number < 0:
+            return 'refused', -EINVAL
+        named = [child for child in self.children(p) if self.is_of_kind(p, kind, number, child)]
+        return self.wait_outcome(named, options, ((0, 0, 0), (0,)))
+
+    def wait_outcome(self, named, options, nothing):
+        """What a wait comes to; `nothing` is its result where it hasn't to wait for a report."""
         if not named:
             return 'refused', -ECHILD
         for child in named:
-            wanted = CONTINUED if child.news == CONTINUED_WORD else UNTRACED
-            if child.life == 'zombie' or child.news and options & wanted:
-                return 'report', child
-        return ('refused', 0) if options & NOHANG else (BLOCK,)
+            has, word = self.report(child)
+            if options & has:
+                return 'report', child, word
+        return ('refused', nothing) if options & NOHANG else (BLOCK,)
 
-    def waitpid(self, p):
-        kind, *what = self.wait_outcome(p)
-        if kind != 'report':
-            return what[0] if what else BLOCK
-        child = what[0]
-        word = child.word if child.life == 'zombie' else child.news
+    def report(self, child):
+        """What a child has to report, as the option that asks for it, or 0; and its status word."""
+        if child.life == 'zombie':
+            return EXITED, child.word
+        return (CONTINUED if child.news == CONTINUED_WORD else STOPPED if child.news else 0), child.news
+
+    def collect(self, child):
         child.news = None
         if child.life == 'zombie':
             del self.processes[child.number]
-        return child.number, word
+
+    def waitpid(self, p):
+        kind, *what = self.waitpid_outcome(p)
+        if kind != 'report':
+            return what[0] if what else BLOCK
+        child, word = what
+        self.collect(child)
+        return (child.number, word), (child.number, 'status', word)
+
+    def waitid(self, p):
+        kind, *what = self.waitid_outcome(p)
+        if kind != 'report':
+            return what[0] if what else BLOCK
+        child, word = what
+        if not p.r[3] & NOWAIT:
+            self.collect(child)
+        return (0, child.number, word), (0, 'look' if p.r[3] & NOWAIT else 'take', child.number, 'status', word)
 
     def exec(self, p):
         if not 0 <= p.r[1] < len(self.world.programs):

@@ -2,7 +2,7 @@
 use Rattle.std.proofs.Common.{◌≡◌, ◌≢◌, ℕ, ◌≤◌, ◌/◌, ◌==◌, not, nat_lt, lit≤, subst, Result, Ok, Err, Bool, true, false, if◌then◌else◌, Option, Some, None, IfSome, refl, ap, sym, ◌∙◌, arith}
 use Rattle.posix.specs.Entries.{Line, process_of}
 use Rattle.posix.specs.declared.entry.Entry.{Entry}
-use Rattle.posix.specs.declared.entry.Entry.TheVariants.{Noted, Called, Moved, Reported, NoMemory, Handled, Discarded, Stopped, Returned, Ended, Halted}
+use Rattle.posix.specs.declared.entry.Entry.TheVariants.{Noted, Called, Moved, Reported, Looked, NoMemory, Handled, Discarded, Stopped, Returned, Ended, Halted}
 use Rattle.laws.specs.Lives.{is_halt, born_by, is_change_word}
 use Rattle.posix.specs.Statuses.{is_end_word, is_stopped_word, is_continued_word}
 use Rattle.audit.specs.declared.fault.AuditFault.{AuditFault}
@@ -34,7 +34,8 @@ no_process : (kept : ℕ → Kept) (entry : Entry) → place_fault kept FirstEnd
 no_process kept (Noted p z) h = cc
 no_process kept (Called p call z) h = cc
 no_process kept (Moved p call bytes) h = cc
-no_process kept (Reported p c w) h = cc
+no_process kept (Reported p call c w) h = cc
+no_process kept (Looked p c w) h = cc
 no_process kept (NoMemory p call) h = cc
 no_process kept (Handled p s value sender) h = cc
 no_process kept (Discarded p s) h = cc
@@ -108,7 +109,8 @@ test_report : (kept : ℕ → Kept) (entry : Entry) → IsTest (report_fault kep
 test_report kept (Noted p z) = tt
 test_report kept (Called p call z) = tt
 test_report kept (Moved p call bytes) = tt
-test_report kept (Reported p c w) = test_word p w (kept c)
+test_report kept (Reported p call c w) = test_word p w (kept c)
+test_report kept (Looked p c w) = test_word p w (kept c)
 test_report kept (NoMemory p call) = tt
 test_report kept (Handled p s value sender) = tt
 test_report kept (Discarded p s) = tt

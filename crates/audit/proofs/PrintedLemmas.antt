@@ -14,9 +14,10 @@ use Rattle.posix.specs.Printing.{digit, hex, words_of}
 use Rattle.posix.specs.Calls.{call_text}
 use Rattle.posix.specs.Entries.{Line}
 use Rattle.posix.specs.declared.call.Call.{Call}
-use Rattle.posix.specs.declared.call.Call.TheVariants.{Exit, Fork, Waitpid, Pause, SchedYield, Getpid, Getppid, Getuid, Geteuid, Getgid, Getegid, Setuid, Seteuid, Setgid, Setegid, Kill, Sigqueue, Sigaction, Sigprocmask, Sigpending, Sigsuspend, Sigreturn, Alarm, Exec, Getpgid, Getsid, Setpgid, Setsid, Setctty, Tcgetpgrp, Tcsetpgrp, Settostop, Read, Write}
+use Rattle.posix.specs.declared.call.Call.TheVariants.{Exit, Fork, Waitpid, Waitid, Pause, SchedYield, Getpid, Getppid, Getuid, Geteuid, Getgid, Getegid, Setuid, Seteuid, Setgid, Setegid, Kill, Sigqueue, Sigaction, Sigprocmask, Sigpending, Sigsuspend, Sigreturn, Alarm, Exec, Getpgid, Getsid, Setpgid, Setsid, Setctty, Tcgetpgrp, Tcsetpgrp, Settostop, Read, Write}
 use Rattle.posix.specs.declared.entry.Entry.{Entry}
-use Rattle.posix.specs.declared.entry.Entry.TheVariants.{Noted, Called, Moved, Reported, NoMemory, Handled, Discarded, Stopped, Returned, Ended, Halted}
+use Rattle.posix.specs.declared.waits.WaitCall.TheVariants as wait
+use Rattle.posix.specs.declared.entry.Entry.TheVariants.{Noted, Called, Moved, Reported, Looked, NoMemory, Handled, Discarded, Stopped, Returned, Ended, Halted}
 use Rattle.laws.specs.TraceLines.{is_i64, is_number, is_result, moves_bytes, asks_memory, is_entry, is_line}
 use Rattle.posix.specs.Statuses.{is_end_word}
 use Rattle.audit.specs.Texts.{is_one_line}
@@ -41,6 +42,7 @@ name_one : (c : Call) → is_one_line (call_text c) ≡ true
 name_one Exit = refl
 name_one Fork = refl
 name_one Waitpid = refl
+name_one Waitid = refl
 name_one Pause = refl
 name_one SchedYield = refl
 name_one Getpid = refl
@@ -101,6 +103,13 @@ joined_one (w ∷ v ∷ ws) h =
 pid_one : (p : ℕ) → is_number p ≡ true → is_one_line (decimal p) ≡ true
 pid_one p h = decimal_one p (omega (arith, leb-true p 2147483647 (and_parts (nat_le 1 p) (nat_le p 2147483647) h).1))
 
+-- what is told of a child
+told_one : (p c w : ℕ) → (is_number p && is_number c && nat_le w 65535) ≡ true → (is_one_line (decimal p) ≡ true) × (is_one_line (decimal c) ≡ true) × (is_one_line (decimal w) ≡ true)
+told_one p c w h =
+    let a = and_parts (is_number p && is_number c) (nat_le w 65535) h in
+    let b = and_parts (is_number p) (is_number c) a.0 in
+    (pid_one p b.0, pid_one c b.1, decimal_one w (omega (arith, leb-true w 65535 a.1)))
+
 words_one : (e : Entry) → is_entry e ≡ true → are_one (words_of e) ≡ true
 words_one (Noted p z) h =
     let a = and_parts (is_number p) (is_i64 z) h in
@@ -115,10 +124,9 @@ words_one (Moved p call bytes) h =
     let d = and_parts (is_number p && moves_bytes call) (nat_le 1 (length bytes)) b.0 in
     let few : length bytes < 2 ^ 64 = omega (arith, leb-true (length bytes) 16 b.1) in
     rw (pid_one p (and_parts (is_number p) (moves_bytes call) d.0).0, name_one call, decimal_one (length bytes) few, hex_one bytes) refl
-words_one (Reported p c w) h =
-    let a = and_parts (is_number p && is_number c) (nat_le w 65535) h in
-    let b = and_parts (is_number p) (is_number c) a.0 in
-    rw (pid_one p b.0, pid_one c b.1, decimal_one w (omega (arith, leb-true w 65535 a.1))) refl
+words_one (Reported p wait.Waitpid c w) h = let one = told_one p c w h in rw (one.0, one.1, one.2) refl
+words_one (Reported p wait.Waitid c w) h = let one = told_one p c w h in rw (one.0, one.1, one.2) refl
+words_one (Looked p c w) h = let one = told_one p c w h in rw (one.0, one.1, one.2) refl
 words_one (NoMemory p call) h = rw (pid_one p (and_parts (is_number p) (asks_memory call) h).0, name_one call) refl
 words_one (Handled p s z q) h =
     let a = and_parts (is_number p && is_signal s && is_i64 z) (nat_le q 2147483647) h in

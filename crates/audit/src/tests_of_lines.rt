@@ -96,20 +96,33 @@ fn test_birth(known: &Known, entry: &Entry) -> Result<(), AuditFault>
     }
 }
 
-/// A report is made by the parent, and due.
+/// A report is made by the parent, and due, and so is what a look tells.
 fn test_report(known: &Known, entry: &Entry) -> Result<(), AuditFault>
     ensures { fault_number result ≡ report_fault (kept_by known.now) entry.now }
 {
-    let Entry::Reported { pid, child, status } = *entry else {
-        return Ok(());
-    };
+    match *entry {
+        Entry::Reported {
+            pid,
+            child,
+            status,
+            ..
+        } => test_told(known, pid, child, status),
+        Entry::Looked { pid, child, status } => test_told(known, pid, child, status),
+        _ => Ok(()),
+    }
+}
+
+/// What is told of a child is due to this process.
+fn test_told(known: &Known, pid: Pid, child: Pid, word: Status) -> Result<(), AuditFault>
+    ensures { fault_number result ≡ word_fault pid word (kept_by known.now child) }
+{
     let Some(newest) = known.newest(child) else {
         return Err(AuditFault::NotHappened);
     };
     if newest.parent != pid {
         return Err(AuditFault::NotTheParent);
     }
-    newest.state.test_report(status)
+    newest.state.test_report(word)
 }
 
 impl State {

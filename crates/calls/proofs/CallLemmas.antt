@@ -1,23 +1,20 @@
 -- What calls come to.
-use Rattle.std.proofs.Common.{◌≡◌, ◌↔◌, ℕ, Bool, true, false, cond, refl, ap, sym, ◌∙◌, subst, Option, Some, None, is_some, bit_and, List, map, [], ◌∷◌, ◌++◌, ℤ, pos, ◌==◌}
-use Rattle.std.specs.Option.{IsSome, IfSome}
-use Rattle.std.proofs.lemmas.Bool.{eqb-true, eq-eqb}
+use Rattle.std.proofs.Common.{◌≡◌, ℕ, Bool, true, false, cond, refl, ap, sym, ◌∙◌, subst, Option, Some, List, map, [], ◌∷◌, ◌++◌, ℤ, ◌==◌}
+use Rattle.std.specs.Option.{IfSome}
 use Rattle.posix.specs.declared.call.Call.{Call}
-use Rattle.posix.specs.declared.call.Call.TheVariants.{Waitpid}
-use Rattle.posix.specs.declared.errno.Errno.TheVariants.{EAGAIN, EINVAL}
+use Rattle.posix.specs.declared.waits.WaitCall.{WaitCall}
+use Rattle.posix.specs.declared.waits.Asked.{Asked}
+use Rattle.posix.specs.declared.errno.Errno.TheVariants.{EAGAIN}
 use Rattle.posix.specs.declared.entry.Entry.{Entry}
-use Rattle.posix.specs.declared.entry.Entry.TheVariants.{Called, NoMemory, Reported, Ended, Halted}
+use Rattle.posix.specs.declared.entry.Entry.TheVariants.{Called, NoMemory, Ended, Halted}
 use Rattle.posix.specs.declared.process.Blocked.{Blocked}
 use Rattle.posix.specs.declared.process.Report.{Report}
-use Rattle.posix.specs.declared.target.Target.{Target}
-use Rattle.posix.specs.declared.wait_options.WaitOptions.{WaitOptions}
-use Rattle.posix.specs.Processes.{Process, argument}
+use Rattle.posix.specs.Processes.{Process}
 use Rattle.posix.specs.Tables.{at, changed}
 use Rattle.posix.specs.States.{State, change}
 use Rattle.posix.specs.Outcomes as outcome
-use Rattle.posix.specs.Targets.{target_in}
 use Rattle.posix.specs.Ends.{end_process}
-use Rattle.posix.specs.Waits.{wait, wait_with, gives_report, report, options_in, are_known}
+use Rattle.posix.specs.Waits.{wait_by, wait_for, wait_with, asked_by, report}
 use Rattle.life.specs.declared.caller.Caller.{Caller}
 use Rattle.life.specs.Callers.{caller_of}
 use Rattle.calls.specs.declared.outcome.Attempt.{Attempt}
@@ -74,13 +71,13 @@ changed_then p f g keeps (r ∷ rs) = elim (r.pid == p) as (λ b. (r.pid == p) �
 pub answers_then : (s : State) (p : ℕ) (call : Call) (z : ℤ) (g : Process → Process) → ((r : Process) → (g r).pid ≡ r.pid) → outcome.finish_call s p call (record { value = z; changes = g }) ≡ outcome.finish_with (change s p g) p call z
 answers_then s p call z g keeps = ap (λ rs. outcome.Done (outcome_of (record s { processes = rs }) (Called p call z ∷ []))) (sym (changed_then p (outcome.finished ((0, z) ∷ [])) g keeps s.processes))
 
--- a call that reports a child in t: the code did so in b, which is the same
-pub reports_is : (s t b n : State) (a : outcome.Attempted) (p child status : ℕ) (xs ys : List Entry) (r : Attempt) → a ≡ gives_report t p child status
-    → r ≡ came.Done → n ≡ outcome.finish b p ((0, pos child) ∷ (1, pos status) ∷ []) → b ≡ t → ys ≡ xs ++ Reported p child status ∷ [] → Comes s a r xs ys n
-reports_is s t b n a p child status xs ys r is done state before shown =
+-- a call that gives these results in t, and shows this: the code did so in b, which is the same
+pub shows_is : (s t b n : State) (a : outcome.Attempted) (p : ℕ) (results : List (ℕ × ℤ)) (shown : Entry) (xs ys : List Entry) (r : Attempt) → a ≡ outcome.Done (outcome_of (outcome.finish t p results) (shown ∷ []))
+    → r ≡ came.Done → n ≡ outcome.finish b p results → b ≡ t → ys ≡ xs ++ shown ∷ [] → Comes s a r xs ys n
+shows_is s t b n a p results entry xs ys r is done state before shown =
     subst (λ x. Comes s x r xs ys n) (sym is)
-    (subst (λ q. Comes s (gives_report t p child status) q xs ys n) (sym done)
-    (shown, state ∙ ap (λ (u : State). outcome.finish u p ((0, pos child) ∷ (1, pos status) ∷ [])) before))
+    (subst (λ q. Comes s (outcome.Done (outcome_of (outcome.finish t p results) (entry ∷ []))) q xs ys n) (sym done)
+    (shown, state ∙ ap (λ (u : State). outcome.finish u p results) before))
 
 -- ---- the caller
 
@@ -89,12 +86,12 @@ pub caller_is : (o : Option Process) (me : Process) (c : Caller) → IfSome o (�
 caller_is o me c h e = subst (λ x. IfSome x (λ r. c ≡ caller_of r)) e h
 
 -- its wait
-wait_like : (s : State) (me : Process) → wait s (process_like (caller_of me)) ≡ wait s me
-unfolding wait
-wait_like s me = refl
+wait_like : (s : State) (me : Process) (call : WaitCall) → wait_by call s (process_like (caller_of me)) ≡ wait_by call s me
+unfolding wait_by
+wait_like s me call = refl
 
-pub wait_of : (s : State) (o : Option Process) (me : Process) (c : Caller) → IfSome o (λ r. c ≡ caller_of r) → o ≡ Some me → wait s (process_like c) ≡ wait s me
-wait_of s o me c h e = ap (λ d. wait s (process_like d)) (caller_is o me c h e) ∙ wait_like s me
+pub wait_of : (s : State) (o : Option Process) (me : Process) (c : Caller) (call : WaitCall) → IfSome o (λ r. c ≡ caller_of r) → o ≡ Some me → wait_by call s (process_like c) ≡ wait_by call s me
+wait_of s o me c call h e = ap (λ d. wait_by call s (process_like d)) (caller_is o me c h e) ∙ wait_like s me call
 
 -- ---- an end
 
@@ -106,29 +103,12 @@ end_entries s r status false e = rw e refl
 
 -- ---- a wait
 
--- a wait with an unknown option
-pub wait_unknown : (s : State) (me : Process) (read : Option WaitOptions) → is_some read ≡ are_known (options_in (argument me 2)) → read ≡ None → wait s me ≡ outcome.refused s me.pid Waitpid EINVAL
-unfolding wait
-wait_unknown s me read known none =
-    ap (λ b. cond b (wait_with s me.pid (options_in (argument me 2)) (report s.processes me.pid me.group (target_in (argument me 1)) (options_in (argument me 2)))) (outcome.refused s me.pid Waitpid EINVAL)) (sym known ∙ ap is_some none)
+-- a wait, by what it asks
+pub wait_is : (s : State) (me : Process) (call : WaitCall) (read : Option Asked) → read ≡ asked_by call me → wait_by call s me ≡ wait_for s me.pid me.group call read
+unfolding wait_by
+wait_is s me call read asks = ap (wait_for s me.pid me.group call) (sym asks)
 
--- a wait for this target, with these options, that finds o
-pub wait_finds : (s : State) (me : Process) (to : Target) (read : Option WaitOptions) (options : WaitOptions) (finds o : Report) → is_some read ≡ are_known (options_in (argument me 2)) → read ≡ Some options
-    → options.0 ≡ options_in (argument me 2) → to ≡ target_in (argument me 1) → finds ≡ report s.processes me.pid me.group to options.0 → finds ≡ o → wait s me ≡ wait_with s me.pid options.0 o
-unfolding wait
-wait_finds s me to read options finds o known some same target is that =
-    ap (λ b. cond b (wait_with s me.pid (options_in (argument me 2)) (report s.processes me.pid me.group (target_in (argument me 1)) (options_in (argument me 2)))) (outcome.refused s me.pid Waitpid EINVAL)) (sym known ∙ ap is_some some)
-    ∙ ap (λ n. wait_with s me.pid n (report s.processes me.pid me.group (target_in (argument me 1)) n)) (sym same)
-    ∙ ap (λ t. wait_with s me.pid options.0 (report s.processes me.pid me.group t options.0)) (sym target)
-    ∙ ap (wait_with s me.pid options.0) (sym is ∙ that)
-
--- bits are accepted where all are known
-pub some_bits : {A : Type 0} → (o : Option A) (n all : ℕ) → IsSome o ↔ (bit_and n all ≡ n) → is_some o ≡ (bit_and n all == n)
-some_bits o n all h =
-    elim (is_some o) as (λ b. is_some o ≡ b → b ≡ (bit_and n all == n)) [
-      | true ↦ λ t. sym (eq-eqb _ _ (h.0 t))
-      | false ↦ λ t. elim (bit_and n all == n) as (λ d. (bit_and n all == n) ≡ d → false ≡ d) [
-        | true ↦ λ u. let no : false ≡ true = sym t ∙ h.1 (eqb-true _ _ u) in absurd (cc)
-        | false ↦ λ u. refl
-      ] refl
-    ] refl
+-- one that finds o
+pub wait_finds : (s : State) (me : Process) (call : WaitCall) (read : Option Asked) (a : Asked) (finds o : Report) → read ≡ asked_by call me → read ≡ Some a
+    → finds ≡ report s.processes me.pid me.group a.target a.options.0 → finds ≡ o → wait_by call s me ≡ wait_with s me.pid call a.options.0 o
+wait_finds s me call read a finds o asks some is that = wait_is s me call read asks ∙ ap (wait_for s me.pid me.group call) some ∙ ap (wait_with s me.pid call a.options.0) (sym is ∙ that)

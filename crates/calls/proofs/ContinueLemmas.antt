@@ -9,18 +9,19 @@ use Rattle.posix.specs.declared.process.Report.{Report}
 use Rattle.posix.specs.declared.process.Report.TheVariants as found
 use Rattle.posix.specs.declared.target.Target.{Target}
 use Rattle.posix.specs.declared.target.Target.TheVariants as whom
-use Rattle.posix.specs.Processes.{Process, argument, is_stopped}
-use Rattle.posix.specs.Targets.{target_in}
+use Rattle.posix.specs.Processes.{Process, is_stopped}
+use Rattle.posix.specs.declared.waits.WaitCall.{WaitCall}
+use Rattle.posix.specs.declared.waits.Asked.{Asked}
 use Rattle.posix.specs.Tables.{IsRising, has_pid, is_child, lookup, at, changed, children_in}
 use Rattle.posix.specs.States.{State, is_in}
 use Rattle.posix.specs.Statuses.{continued}
 use Rattle.posix.specs.Credentials.{may}
-use Rattle.posix.specs.Outcomes.{finished}
+use Rattle.posix.specs.Outcomes.{Outcome, Done, finished}
 use Rattle.posix.specs.Generation.{signalled, effect_of}
 use Rattle.posix.specs.Notices.{acted_upon, child_signal, generated_for, noticed_of_change, resumed, told_of_change, signalled_all}
 use Rattle.posix.specs.Sends.{targets, permitted, sent, sent_among}
 use Rattle.posix.specs.Settle.{is_block}
-use Rattle.posix.specs.Waits.{are_known, report, report_among, wait, wait_with, is_named, is_something, options_in, report_life, report_of, reports}
+use Rattle.posix.specs.Waits.{report, report_among, wait_for, wait_with, has_option, WNOWAIT, is_named, is_something, report_life, report_of, reports}
 use Rattle.posix.proofs.ChangeLemmas.{continued_stopped}
 use Rattle.posix.proofs.MapLemmas.{at_keeps, at_pid, length_children, lookup_on}
 use Rattle.posix.proofs.SeeLemmas.{seen}
@@ -28,7 +29,7 @@ use Rattle.posix.proofs.TableLemmas.{pid_looked}
 use Rattle.posix.proofs.WalkLemmas.{numbered_one, numbered_none}
 use Rattle.pidset.specs.Numbers.{with_number}
 use Rattle.jobs.specs.JobTables.{takes_signal}
-use Rattle.life.specs.Rechecks.{awaits, is_in_wait, rechecking, rechecking_all, rechecking_by_signals, rechecking_effect, rechecking_generated, rechecking_signalled, rechecking_told}
+use Rattle.life.specs.Rechecks.{awaits, awaits_asked, asked_in, is_in_wait, rechecking, rechecking_all, rechecking_by_signals, rechecking_effect, rechecking_generated, rechecking_signalled, rechecking_told}
 use Rattle.life.specs.Waits.{is_reported}
 use Rattle.life.proofs.FunnelLemmas.{with_twice}
 use Rattle.life.proofs.NewsLemmas.{quiet}
@@ -36,7 +37,7 @@ use Rattle.life.proofs.SignalLemmas.{only_noticed_of_change}
 use Rattle.calls.specs.Counts.{reports_first, slots_of_rechecks}
 use Rattle.calls.specs.Outcomes.{slots_of_continued}
 use Rattle.calls.proofs.ChosenLemmas.{changed_there}
-use Rattle.calls.proofs.CountLemmas.{judged_brief, rechecks_one, rechecks_pair, slots_of_waiter}
+use Rattle.calls.proofs.CountLemmas.{judged_brief, reports_at_once, rechecks_one, rechecks_pair, slots_of_waiter}
 
 -- ---- what a parent sees of a child
 
@@ -52,12 +53,15 @@ unfolding report_of
 reports_alike options a b e = ap (λ s. is_something (report_life options s.pid s.life s.news)) e
 
 -- who waits for a child reports it, if it is looked at first
-awaited_first : (rs : List Process) (p : ℕ) (me child now : Process) → lookup p rs ≡ Some now → now.parent ≡ me.pid → seen now ≡ seen child → awaits me child ≡ true → reports_first rs (Some p) me ≡ true
+asked_first : (rs : List Process) (p : ℕ) (me child now : Process) (o : Option Asked) → lookup p rs ≡ Some now → now.parent ≡ me.pid → seen now ≡ seen child → awaits_asked me.group o child ≡ true → reports_at_once rs p me o ≡ true
+asked_first rs p me child now None found up same waits = refl
+asked_first rs p me child now (Some a) found up same waits =
+    let asks = and_parts (is_named me.group a.target child) _ waits in
+    rw (found, eq-eqb now.parent me.pid up, named_alike me.group a.target now child same, reports_alike a.options.0 now child same, asks.0, asks.1) refl
+
+awaited_first : (rs : List Process) (p : ℕ) (me child now : Process) → lookup p rs ≡ Some now → now.parent ≡ me.pid → seen now ≡ seen child → awaits me child ≡ true → reports_at_once rs p me (asked_in me me.blocked) ≡ true
 unfolding awaits
-awaited_first rs p me child now found up same waits =
-    let both = and_parts (is_in_wait me.blocked) _ waits in
-    let asks = and_parts (is_named me.group (target_in (argument me 1)) child) _ both.1 in
-    rw (found, eq-eqb now.parent me.pid up, named_alike me.group (target_in (argument me 1)) now child same, reports_alike (options_in (argument me 2)) now child same, asks.0, asks.1) refl
+awaited_first rs p me child now found up same waits = asked_first rs p me child now (asked_in me me.blocked) found up same waits
 
 -- ---- a wait that reports who is looked at first
 
@@ -80,16 +84,19 @@ reports_something rs q p group target options (Some r) e t none =
     both_ways _ (silent (reports options) (is_named group target) (is_child p) rs q r e meant.0 child.0 (nobody options _ none)) meant.1
 
 -- so it needn't wait
-pub first_reported : (s : State) (me : Process) (first : Option ℕ) → reports_first s.processes first me ≡ true → are_known (options_in (argument me 2)) ≡ true → is_block (wait s me) ≡ false
-unfolding wait
-first_reported s me None told known = absurd (cc)
-first_reported s me (Some q) told known = rw known (by (report s.processes me.pid me.group (target_in (argument me 1)) (options_in (argument me 2))) refl)
+pub first_reported : (s : State) (me : Process) (first : Option ℕ) (call : WaitCall) (a : Asked) → reports_first s.processes first me.pid me.group a ≡ true → is_block (wait_for s me.pid me.group call (Some a)) ≡ false
+first_reported s me None call a told = absurd (cc)
+first_reported s me (Some q) call a told = by (report s.processes me.pid me.group a.target a.options.0) refl
   where
-    by : (o : Report) → report s.processes me.pid me.group (target_in (argument me 1)) (options_in (argument me 2)) ≡ o → is_block (wait_with s me.pid (options_in (argument me 2)) o) ≡ false
+    done : (b : Bool) (x y : Outcome) → is_block (cond b (Done x) (Done y)) ≡ false
+    done true x y = refl
+    done false x y = refl
+
+    by : (o : Report) → report s.processes me.pid me.group a.target a.options.0 ≡ o → is_block (wait_with s me.pid call a.options.0 o) ≡ false
     by found.NoChild e = refl
-    by found.Nothing e = absurd (reports_something s.processes q me.pid me.group (target_in (argument me 1)) (options_in (argument me 2)) (lookup q s.processes) refl told e)
-    by (found.End c w) e = refl
-    by (found.Change c w) e = refl
+    by found.Nothing e = absurd (reports_something s.processes q me.pid me.group a.target a.options.0 (lookup q s.processes) refl told e)
+    by (found.End c w) e = done (has_option a.options.0 WNOWAIT) _ _
+    by (found.Change c w) e = done (has_option a.options.0 WNOWAIT) _ _
 
 -- ---- one process
 
@@ -123,11 +130,11 @@ seen_noticed signal r = ap seen (only_noticed_of_change signal r)
 
 -- a parent that acts by its child looks at no other child
 parent_told : (results : List (ℕ × ℤ)) (c p : ℕ) (ts : List Process) (up child now : Process) → lookup p ts ≡ Some now → now.parent ≡ up.pid → seen now ≡ seen child → (awaits up child || takes_signal up) ≡ true
-    → let u = at c (finished results) up in (takes_signal u || (not (is_in_wait u.blocked) || reports_first ts (Some p) u)) ≡ true
+    → let u = at c (finished results) up in (takes_signal u || (not (is_in_wait u.blocked) || reports_at_once ts p u (asked_in u u.blocked))) ≡ true
 unfolding finished
 parent_told results c p ts up child now found its same acts = by (up.pid == c)
   where
-    by : (b : Bool) → let u = cond b (finished results up) up in (takes_signal u || (not (is_in_wait u.blocked) || reports_first ts (Some p) u)) ≡ true
+    by : (b : Bool) → let u = cond b (finished results up) up in (takes_signal u || (not (is_in_wait u.blocked) || reports_at_once ts p u (asked_in u u.blocked))) ≡ true
     by true = or_right (takes_signal (finished results up)) _ refl
     by false = elim (or_cases _ _ acts) [
       | inl waits ↦ or_right (takes_signal up) _ (or_right (not (is_in_wait up.blocked)) _ (awaited_first ts p up child now found its same waits))

@@ -3,22 +3,21 @@ use Rattle.std.proofs.Common.{◌≡◌, ℕ, ◌+◌, ◌*◌, ◌≤◌, Bool,
 use Rattle.std.proofs.lemmas.Bool.{eq-eqb, or_left, or_right}
 use Rattle.posix.specs.declared.process.Blocked.{Blocked}
 use Rattle.posix.specs.declared.process.Blocked.TheVariants as blocked
-use Rattle.posix.specs.Processes.{Process, argument}
+use Rattle.posix.specs.declared.waits.Asked.{Asked}
+use Rattle.posix.specs.Processes.{Process}
 use Rattle.posix.specs.Tables.{lookup, children_in}
 use Rattle.posix.specs.States.{is_in, without}
 use Rattle.posix.specs.Choice.{chosen}
 use Rattle.posix.proofs.OrderLemmas.{without_absent}
 use Rattle.pidset.specs.Numbers.{Rises, with_number}
 use Rattle.pidset.proofs.NumberLemmas.{not_in_above}
-use Rattle.life.specs.Rechecks.{AreTaking, AreBrief, is_in_wait}
-use Rattle.calls.specs.Counts.{neighbour, slots_of_call, slots_of_rechecking, slots_of_rechecks, reports_first, slots_of_first}
+use Rattle.life.specs.Rechecks.{AreTaking, AreBrief, is_in_wait, asked_in}
+use Rattle.calls.specs.Counts.{neighbour, slots_of_call, slots_of_rechecking, slots_of_rechecks, slots_of_asking, reports_first, slots_of_first}
 use Rattle.posix.specs.declared.target.Target.{Target}
 use Rattle.posix.specs.declared.target.Target.TheVariants as whom
-use Rattle.posix.specs.Targets.{target_in}
-use Rattle.posix.specs.Waits.{has_report, reporting_in}
+use Rattle.posix.specs.Waits.{asked_by}
 use Rattle.life.specs.Waits.{slots_of_wait}
 use Rattle.jobs.specs.JobTables.{takes_signal}
-use Rattle.std.proofs.lemmas.List.Sums.{length-filter, count_by-le-length}
 
 -- ---- those to recheck
 
@@ -44,7 +43,7 @@ rechecks_taking rs last (n ∷ ns) h =
 -- a call that isn't a wait is told of by one more
 call_brief : (rs : List Process) (first : Option ℕ) (me : Process) (b : Option Blocked) → not (is_in_wait b) ≡ true → slots_of_call rs first me b ≤ 1
 call_brief rs first me None e = omega arith
-call_brief rs first me (Some blocked.Waitpid) e = absurd (cc)
+call_brief rs first me (Some (blocked.Wait call)) e = absurd (cc)
 call_brief rs first me (Some blocked.Read) e = omega arith
 call_brief rs first me (Some blocked.Pause) e = omega arith
 call_brief rs first me (Some (blocked.Sigsuspend mask)) e = omega arith
@@ -76,25 +75,33 @@ rechecks_none rs last ns none = rw none refl
 
 -- it reads two slots for each child at most
 pub wait_slots : (target : Target) (p : ℕ) (rs : List Process) → slots_of_wait target p rs ≤ 2 * length (children_in p rs)
-unfolding reporting_in
 wait_slots (whom.Process q) p rs = omega arith
 wait_slots whom.OwnGroup p rs = omega arith
 wait_slots (whom.Group g) p rs = omega arith
-wait_slots whom.All p rs = let few = length-filter has_report (children_in p rs) in let most = count_by-le-length has_report (children_in p rs) in omega (arith, few, most)
+wait_slots whom.All p rs = omega arith
 wait_slots whom.Nobody p rs = omega arith
 
 -- what it can be for who waits for a child
 abbrev pub slots_of_waiter : List Process → Process → ℕ
 slots_of_waiter rs r = cond (is_in_wait r.blocked) (2 * length (children_in r.pid rs)) 0
 
--- a parent whose wait reports the child that is looked at first
-pub judged_told : (rs : List Process) (q : ℕ) (r : Process) → (takes_signal r || (not (is_in_wait r.blocked) || reports_first rs (Some q) r)) ≡ true → slots_of_rechecking rs (Some q) (Some r) ≤ 3
+-- its wait reports the child that is looked at first
+abbrev pub reports_at_once : List Process → ℕ → Process → Option Asked → Bool
+reports_at_once rs q r None = true
+reports_at_once rs q r (Some a) = reports_first rs (Some q) r.pid r.group a
+
+asking_told : (rs : List Process) (q : ℕ) (r : Process) (o : Option Asked) → reports_at_once rs q r o ≡ true → slots_of_asking rs (Some q) r.pid r.group o ≤ 2
+asking_told rs q r None e = omega arith
+asking_told rs q r (Some a) e = rw e (omega arith)
+
+-- a parent whose wait does
+pub judged_told : (rs : List Process) (q : ℕ) (r : Process) → (takes_signal r || (not (is_in_wait r.blocked) || reports_at_once rs q r (asked_in r r.blocked))) ≡ true → slots_of_rechecking rs (Some q) (Some r) ≤ 3
 judged_told rs q r e = by (takes_signal r) r.blocked e
   where
-    by : (t : Bool) (b : Option Blocked) → (t || (not (is_in_wait b) || reports_first rs (Some q) r)) ≡ true → 1 + cond t 0 (slots_of_call rs (Some q) r b) ≤ 3
+    by : (t : Bool) (b : Option Blocked) → (t || (not (is_in_wait b) || reports_at_once rs q r (asked_in r b))) ≡ true → 1 + cond t 0 (slots_of_call rs (Some q) r b) ≤ 3
     by true b e = omega arith
     by false None e = omega arith
-    by false (Some blocked.Waitpid) e = rw e (omega arith)
+    by false (Some (blocked.Wait call)) e = let two = asking_told rs q r (asked_by call r) e in omega (arith, two)
     by false (Some blocked.Read) e = omega arith
     by false (Some blocked.Pause) e = omega arith
     by false (Some (blocked.Sigsuspend mask)) e = omega arith
@@ -107,13 +114,17 @@ judged_any rs first r = by (takes_signal r) r.blocked
     most None = omega arith
     most (Some q) = omega arith
 
+    asking : (o : Option Asked) → slots_of_asking rs first r.pid r.group o ≤ 3 + 2 * length (children_in r.pid rs)
+    asking None = omega arith
+    asking (Some a) = elim (reports_first rs first r.pid r.group a) as (λ k. cond k 2 (2 + slots_of_first first + slots_of_wait a.target r.pid rs) ≤ 3 + 2 * length (children_in r.pid rs)) [
+      | true ↦ omega arith
+      | false ↦ let one = most first in let all = wait_slots a.target r.pid rs in omega (arith, one, all)
+    ]
+
     by : (t : Bool) (b : Option Blocked) → 1 + cond t 0 (slots_of_call rs first r b) ≤ 4 + cond (is_in_wait b) (2 * length (children_in r.pid rs)) 0
     by true b = omega arith
     by false None = omega arith
-    by false (Some blocked.Waitpid) = elim (reports_first rs first r) as (λ k. 1 + cond k 2 (2 + slots_of_first first + slots_of_wait (target_in (argument r 1)) r.pid rs) ≤ 4 + 2 * length (children_in r.pid rs)) [
-      | true ↦ omega arith
-      | false ↦ let one = most first in let all = wait_slots (target_in (argument r 1)) r.pid rs in omega (arith, one, all)
-    ]
+    by false (Some (blocked.Wait call)) = let all = asking (asked_by call r) in omega (arith, all)
     by false (Some blocked.Read) = omega arith
     by false (Some blocked.Pause) = omega arith
     by false (Some (blocked.Sigsuspend mask)) = omega arith
@@ -124,7 +135,7 @@ unfolding slots_of_rechecks
 rechecks_one rs p r found = rw found (let one = judged_any rs None r in omega (arith, one))
 
 -- a child and its parent, which waits for just it, or looks at no child
-pub rechecks_pair : (rs : List Process) (p q : ℕ) (child parent : Process) → lookup p rs ≡ Some child → lookup q rs ≡ Some parent → (takes_signal parent || (not (is_in_wait parent.blocked) || reports_first rs (Some p) parent)) ≡ true
+pub rechecks_pair : (rs : List Process) (p q : ℕ) (child parent : Process) → lookup p rs ≡ Some child → lookup q rs ≡ Some parent → (takes_signal parent || (not (is_in_wait parent.blocked) || reports_at_once rs p parent (asked_in parent parent.blocked))) ≡ true
     → slots_of_rechecks rs None (with_number q (p ∷ [])) ≤ 7 + slots_of_waiter rs child
 unfolding slots_of_rechecks with_number
 rechecks_pair rs p q child parent here up told =

@@ -2,33 +2,38 @@
 use Rattle.std.specs.Prelude.{ℕ, ◌+◌, if◌then◌else◌, Bool, false, List, [], ◌∷◌, slice_get, Option, Some, None, is_some}
 use Rattle.posix.specs.declared.process.Blocked.{Blocked}
 use Rattle.posix.specs.declared.process.Blocked.TheVariants as blocked
-use Rattle.posix.specs.Processes.{Process, argument}
+use Rattle.posix.specs.declared.waits.WaitCall.{WaitCall}
+use Rattle.posix.specs.declared.waits.Asked.{Asked}
+use Rattle.posix.specs.Processes.{Process}
 use Rattle.posix.specs.Tables.{lookup}
-use Rattle.posix.specs.Targets.{target_in}
 use Rattle.posix.specs.Choice.{chosen}
-use Rattle.posix.specs.Waits.{options_in}
+use Rattle.posix.specs.Waits.{asked_by}
 use Rattle.life.specs.declared.consoles.Unchecked.{Unchecked}
 use Rattle.life.specs.declared.consoles.Unchecked.TheVariants.{Nothing, Group, All}
 use Rattle.life.specs.Waits.{is_reported, slots_of_wait}
 
--- whether the wait of a process reports this other process, if it gets to that
-abbrev pub reports_first : List Process → Option ℕ → Process → Bool
-reports_first rs None me = false
-reports_first rs (Some q) me = is_reported me.pid me.group (target_in (argument me 1)) (options_in (argument me 2)) (lookup q rs)
+-- whether a wait of p, in this process group, that asks this reports this other process, if it gets to that
+abbrev pub reports_first : List Process → Option ℕ → ℕ → ℕ → Asked → Bool
+reports_first rs None p group asks = false
+reports_first rs (Some q) p group asks = is_reported p group asks.target asks.options.0 (lookup q rs)
 
 abbrev pub slots_of_first : Option ℕ → ℕ
 slots_of_first None = 0
 slots_of_first (Some q) = 1
 
 -- To tell whether a wait goes on: another process, if there is one, is looked at first, and where the wait doesn't report
--- it the wait is attempted.
-abbrev pub slots_of_waiting : List Process → Option ℕ → Process → ℕ
-slots_of_waiting rs first me = if reports_first rs first me then 2 else 2 + slots_of_first first + slots_of_wait (target_in (argument me 1)) me.pid rs
+-- it the wait is attempted. One that is refused looks at nobody.
+abbrev pub slots_of_asking : List Process → Option ℕ → ℕ → ℕ → Option Asked → ℕ
+slots_of_asking rs first p group None = 1
+slots_of_asking rs first p group (Some asks) = if reports_first rs first p group asks then 2 else 2 + slots_of_first first + slots_of_wait asks.target p rs
+
+abbrev pub slots_of_waiting : List Process → Option ℕ → WaitCall → Process → ℕ
+slots_of_waiting rs first call me = slots_of_asking rs first me.pid me.group (asked_by call me)
 
 -- to tell whether a call goes on in which a process is
 abbrev pub slots_of_call : List Process → Option ℕ → Process → Option Blocked → ℕ
 slots_of_call rs first me None = 0
-slots_of_call rs first me (Some blocked.Waitpid) = slots_of_waiting rs first me
+slots_of_call rs first me (Some (blocked.Wait call)) = slots_of_waiting rs first call me
 slots_of_call rs first me (Some blocked.Read) = 1
 slots_of_call rs first me (Some blocked.Pause) = 0
 slots_of_call rs first me (Some (blocked.Sigsuspend mask)) = 0

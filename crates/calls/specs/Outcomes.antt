@@ -1,7 +1,7 @@
 -- What the functions of calls come to.
 use Rattle.std.specs.Prelude.{◌≡◌, ◌≢◌, ◌==◌, ◌&&◌, not, ⊤, ℕ, ◌+◌, ◌*◌, ◌≤◌, if◌then◌else◌, length, Option, None, Bool, true, false, List, [], ◌∷◌, ◌++◌, Some, ℤ, pos, Result, Ok, Err}
 use Rattle.posix.specs.declared.call.Call.{Call}
-use Rattle.posix.specs.declared.call.Call.TheVariants.{Exit, Fork, Waitpid, Pause, SchedYield, Getppid, Kill, Sigqueue, Sigsuspend, Sigreturn, Alarm, Exec, Getpgid, Getsid, Setpgid, Setsid, Setctty, Tcgetpgrp, Tcsetpgrp, Settostop, Read, Write}
+use Rattle.posix.specs.declared.call.Call.TheVariants.{Exit, Fork, Waitpid, Waitid, Pause, SchedYield, Getppid, Kill, Sigqueue, Sigsuspend, Sigreturn, Alarm, Exec, Getpgid, Getsid, Setpgid, Setsid, Setctty, Tcgetpgrp, Tcsetpgrp, Settostop, Read, Write}
 use Rattle.posix.specs.declared.entry.Entry.{Entry}
 use Rattle.posix.specs.declared.entry.Entry.TheVariants.{Called, NoMemory}
 use Rattle.posix.specs.declared.errno.Errno.{Errno}
@@ -105,6 +105,7 @@ slots_of_sending rs me target = if is_one target then Some (slots_of_kill rs tar
 -- that settling reads. No count is given of other calls that aren't their caller's alone.
 abbrev pub slots_of_brief : Call → List Process → Process → Option ℕ
 slots_of_brief Waitpid rs me = Some (11 + 2 * length (children_in me.pid rs))
+slots_of_brief Waitid rs me = Some (11 + 2 * length (children_in me.pid rs))
 slots_of_brief Kill rs me = slots_of_sending rs me (target_in (argument me 1))
 slots_of_brief Sigqueue rs me = slots_of_sending rs me (process_in (argument me 1))
 slots_of_brief call rs me = None
@@ -170,6 +171,7 @@ abbrev pub changes_caller_alone : Call → Bool
 changes_caller_alone Exit = false
 changes_caller_alone Fork = false
 changes_caller_alone Waitpid = false
+changes_caller_alone Waitid = false
 changes_caller_alone Pause = false
 changes_caller_alone SchedYield = false
 changes_caller_alone Getppid = false

@@ -1,8 +1,10 @@
 //! Attempts of system calls: each is done, and adds what it shows, or the process has to wait.
 
-ghost use Rattle.std.specs.Prelude.{◌≡◌, ◌⊎◌, ◌≢◌, ◌+◌, ◌<◌, ◌≤◌, ◌^◌, ◌++◌, ◌∷◌, [], ◌*◌, length, IsSome, IfSome, Some, true};
+ghost use Rattle.std.specs.Prelude.{◌≡◌, ◌⊎◌, ◌≢◌, ◌+◌, ◌<◌, ◌≤◌, ◌^◌, ◌++◌, ◌∷◌, [], ◌*◌, length, IsSome, IfSome, Some, is_some, true};
 ghost use Rattle.posix.specs.declared.entry.Entry.TheVariants.{Called, NoMemory};
 ghost use Rattle.posix.specs.Processes.{Process};
+ghost use Rattle.posix.specs.Calls.{wait_in};
+ghost use Rattle.life.specs.Rechecks.{is_in_wait};
 ghost use Rattle.posix.specs.declared.process.Blocked.{Blocked as BlockedValue};
 ghost use Rattle.posix.specs.States.{process, has_place};
 ghost use Rattle.posix.specs.Tables.{children_in};
@@ -24,7 +26,7 @@ use crate::terminals::{setctty, settostop, tcgetpgrp, tcsetpgrp};
 use crate::transfers::{read, write};
 use crate::waits::wait;
 use life::Machine;
-use posix::{Blocked, Call, Entry, Errno, Pid, Register, Status};
+use posix::{Blocked, Call, Entry, Errno, Pid, Register, Status, WaitCall};
 use proctable::Kin;
 
 /// The call of a process that is there gives a value, and an entry shows the call.
@@ -217,12 +219,13 @@ pub fn attempt<K: Kin>(
     ensures own { changes_caller_alone call ≡ true → (result ≡ Attempt.Done) × CostsAtMost 1 machine.old machine.new }
     ensures brief { (me : Process) → process machine.old.state pid ≡ Some me → IsQuiet pid machine.old → IfSome (slots_of_brief call machine.old.state.processes me) (λ n. IsBrief n machine.old machine.new) }
     ensures done { call ≡ Call.Kill ⊎ call ≡ Call.Sigqueue → result ≡ Attempt.Done }
-    ensures waits { (b : BlockedValue) → call ≡ Call.Waitpid → result ≡ Attempt.Block b → AreSame machine.old machine.new }
+    ensures waits { (b : BlockedValue) → is_some (wait_in call) ≡ true → result ≡ Attempt.Block b → AreSame machine.old machine.new }
 {
     match call {
         Call::Exit => exit(machine, pid, entries),
         Call::Fork => fork(machine, pid, entries),
-        Call::Waitpid => wait(machine, pid, entries),
+        Call::Waitpid => wait(machine, WaitCall::Waitpid, pid, entries),
+        Call::Waitid => wait(machine, WaitCall::Waitid, pid, entries),
         Call::Pause => Attempt::Block(Blocked::Pause),
         Call::SchedYield => sched_yield(machine, pid, entries),
         Call::Getppid => getppid(machine, pid, entries),
@@ -259,13 +262,14 @@ pub fn attempt_again<K: Kin>(
     requires placed { IsPlaced machine.old.state.processes pid }
     requires none { entries.old.items ≡ [] }
     ensures comes { (me : Process) → process machine.old.state pid ≡ Some me → Comes machine.old.state (attempting_again machine.old.state me blocked) result entries.old.items entries.new.items machine.new.state }
-    ensures brief { blocked ≡ Blocked.Waitpid → IsQuiet pid machine.old → IsBrief (11 + 2 * length (children_in pid machine.old.state.processes)) machine.old machine.new }
-    ensures once { blocked ≡ Blocked.Waitpid → result ≢ Attempt.Again }
-    ensures waits { (b : BlockedValue) → blocked ≡ Blocked.Waitpid → result ≡ Attempt.Block b → AreSame machine.old machine.new }
+    ensures brief { is_in_wait (Some blocked) ≡ true → IsQuiet pid machine.old → IsBrief (11 + 2 * length (children_in pid machine.old.state.processes)) machine.old machine.new }
+    ensures once { is_in_wait (Some blocked) ≡ true → result ≢ Attempt.Again }
+    ensures waits { (b : BlockedValue) → is_in_wait (Some blocked) ≡ true → result ≡ Attempt.Block b → AreSame machine.old machine.new }
 {
     match blocked {
-        Blocked::Waitpid => wait(machine, pid, entries),
+        Blocked::Wait(call) => wait(machine, call, pid, entries),
         Blocked::Read => read(machine, pid, entries),
-        _ => Attempt::Block(blocked),
+        Blocked::Pause => Attempt::Block(Blocked::Pause),
+        Blocked::Sigsuspend(mask) => Attempt::Block(Blocked::Sigsuspend(mask)),
     }
 }

@@ -43,7 +43,7 @@ fn call_of(blocked: Blocked) -> Call
     ensures { result ≡ call_in blocked }
 {
     match blocked {
-        Blocked::Waitpid => Call::Waitpid,
+        Blocked::Wait(call) => call.call(),
         Blocked::Read => Call::Read,
         Blocked::Pause => Call::Pause,
         Blocked::Sigsuspend(_) => Call::Sigsuspend,

@@ -18,7 +18,7 @@ use crate::background::{Access, read_access, signal_own_group, write_access};
 use crate::entries::Entries;
 use crate::outcome::Attempt;
 use life::{Caller, Machine, Terminal};
-use posix::{Blocked, Bytes, Call, Entry, Errno, Pid, Register, Sig, Span};
+use posix::{Blocked, Bytes, Call, Entry, Errno, Pid, Sig, Span};
 use proctable::{Kin, Snapshot};
 
 /// The call of a process that is there moved these bytes, and gives their number; where there are none it shows no
@@ -132,7 +132,7 @@ pub fn read<K: Kin>(machine: &mut Machine<K>, pid: Pid, entries: &mut Entries) -
     let Some(terminal) = machine.terminal(me.session) else {
         return refuse(machine, pid, Call::Read, Errno::ENOTTY, entries);
     };
-    match Span::from_words(me.r1, me.r2) {
+    match me.span() {
         Ok(span) => read_span(machine, &me, &terminal, span, entries),
         Err(errno) => refuse(machine, pid, Call::Read, errno, entries),
     }
@@ -151,10 +151,7 @@ pub fn has_to_read<K: Kin>(machine: &mut Machine<K>, pid: Pid, snapshot: Snapsho
     let Some(terminal) = machine.terminal(snapshot.session) else {
         return false;
     };
-    let cpu = &machine.look(pid).cpu;
-    let address = cpu.register(Register::FIRST_ARGUMENT);
-    let count = cpu.register(Register::SECOND_ARGUMENT);
-    match Span::from_words(address, count) {
+    match machine.caller(pid).span() {
         Ok(span) => snapshot.group == terminal.foreground && span.count != 0 && !terminal.has_line,
         Err(_) => false,
     }
@@ -200,7 +197,7 @@ pub fn write<K: Kin>(machine: &mut Machine<K>, pid: Pid, entries: &mut Entries) 
     let Some(terminal) = machine.terminal(me.session) else {
         return refuse(machine, pid, Call::Write, Errno::ENOTTY, entries);
     };
-    match Span::from_words(me.r1, me.r2) {
+    match me.span() {
         Ok(span) => write_span(machine, &me, &terminal, span, entries),
         Err(errno) => refuse(machine, pid, Call::Write, errno, entries),
     }

@@ -1,13 +1,13 @@
-//! Waits for children (XSH waitpid).
+//! Waits for children (XSH waitpid, XSH waitid).
 
 ghost use Rattle.std.specs.Prelude.{◌≡◌, ◌≢◌, ◌+◌, ◌*◌, ◌≤◌, ◌++◌, option_map, true, ◌∷◌, [], length, pos, IsSome, IfSome, Some, is_some};
-ghost use Rattle.posix.specs.declared.entry.Entry.TheVariants.{Reported};
-ghost use Rattle.posix.specs.Processes.{Process, argument};
-ghost use Rattle.posix.specs.Targets.{target_in};
+ghost use Rattle.posix.specs.declared.entry.Entry.TheVariants.{Called, Looked, Reported};
+ghost use Rattle.posix.specs.Processes.{Process};
+ghost use Rattle.posix.specs.Calls.{call_of_wait};
 ghost use Rattle.posix.specs.States.{process};
 ghost use Rattle.posix.specs.Regular.{IsPlaced, IsRegular};
 ghost use Rattle.posix.specs.Outcomes.{finish};
-ghost use Rattle.posix.specs.Waits.{wait as waiting, are_known, options_in};
+ghost use Rattle.posix.specs.Waits.{wait_by as waiting, results_of, results_of_nothing};
 ghost use Rattle.posix.specs.Settle.{is_block};
 ghost use Rattle.life.specs.Callers.{process_like};
 ghost use Rattle.life.specs.Machines.{AreSame};
@@ -17,27 +17,64 @@ ghost use Rattle.posix.specs.Tables.{children_in};
 ghost use Rattle.calls.specs.Counts.{reports_first as reporting_first, slots_of_first, slots_of_waiting};
 ghost use Rattle.calls.specs.Outcomes.{Comes, CostsAtMost, IsQuiet, IsBrief};
 
-use crate::attempts::{finish_with, refuse};
+use crate::attempts::refuse;
 use crate::entries::Entries;
 use crate::outcome::Attempt;
 use bitflags::Flags;
 use life::{Caller, Machine};
-use posix::{Blocked, Call, Entry, Errno, Pid, Report, Status, WaitOptions};
+use posix::{Asked, Blocked, Entry, Errno, Pid, Report, Status, WaitCall, WaitidOptions};
 use proctable::Kin;
 
-/// The options of a wait; none where a bit in r2 is unknown.
-fn options_of(me: &Caller) -> Option<WaitOptions>
-    ensures known { is_some result ≡ are_known (options_in me.now.r2) }
-    ensures value { IfSome result (λ options. options.0 ≡ options_in me.now.r2) }
-{
-    let bits = me.r2;
-    WaitOptions::from_bits(bits.cast_unsigned())
-}
-
-/// The wait of a process that is there reports a child.
+/// The wait of a process that is there gives a child, which this shows.
 fn report<K: Kin>(
     machine: &mut Machine<K>,
     pid: Pid,
+    call: WaitCall,
+    child: Pid,
+    status: Status,
+    shown: Entry,
+    entries: &mut Entries,
+) -> Attempt
+    requires there { IsSome (process machine.old.state pid) }
+    requires room { length entries.old.items ≤ 3 }
+    ensures done { result ≡ Attempt.Done }
+    ensures state { machine.new.state ≡ finish machine.old.state pid (results_of call child status) }
+    ensures shown { entries.new.items ≡ entries.old.items ++ shown ∷ [] }
+    ensures costs { has_place machine.old.state pid ≡ true → CostsAtMost 1 machine.old machine.new }
+{
+    machine.own(pid).finish_wait(call, child, status);
+    entries.push(shown);
+    Attempt::Done
+}
+
+/// The wait of a process that is there has nothing to report, and need not wait.
+fn find_nothing<K: Kin>(
+    machine: &mut Machine<K>,
+    pid: Pid,
+    call: WaitCall,
+    entries: &mut Entries,
+) -> Attempt
+    requires there { IsSome (process machine.old.state pid) }
+    requires room { length entries.old.items ≤ 3 }
+    ensures done { result ≡ Attempt.Done }
+    ensures state { machine.new.state ≡ finish machine.old.state pid (results_of_nothing call) }
+    ensures shown { entries.new.items ≡ entries.old.items ++ Called pid (call_of_wait call) (pos 0) ∷ [] }
+    ensures costs { has_place machine.old.state pid ≡ true → CostsAtMost 1 machine.old machine.new }
+{
+    machine.own(pid).finish_without_child(call);
+    entries.push(Entry::Called {
+        pid,
+        call: call.call(),
+        result: 0,
+    });
+    Attempt::Done
+}
+
+/// A wait of a caller that is there looks at a child, which stays as it is.
+fn look<K: Kin>(
+    machine: &mut Machine<K>,
+    pid: Pid,
+    call: WaitCall,
     child: Pid,
     status: Status,
     entries: &mut Entries,
@@ -45,98 +82,157 @@ fn report<K: Kin>(
     requires there { IsSome (process machine.old.state pid) }
     requires room { length entries.old.items ≤ 3 }
     ensures done { result ≡ Attempt.Done }
-    ensures state { machine.new.state ≡ finish machine.old.state pid ((0, pos child) ∷ (1, pos status) ∷ []) }
-    ensures shown { entries.new.items ≡ entries.old.items ++ Reported pid child status ∷ [] }
+    ensures state { machine.new.state ≡ finish machine.old.state pid (results_of call child status) }
+    ensures shown { entries.new.items ≡ entries.old.items ++ Looked pid child status ∷ [] }
     ensures costs { has_place machine.old.state pid ≡ true → CostsAtMost 1 machine.old machine.new }
 {
-    machine.own(pid).finish_wait(child, status);
-    entries.push(Entry::Reported { pid, child, status });
-    Attempt::Done
+    report(
+        machine,
+        pid,
+        call,
+        child,
+        status,
+        Entry::Looked { pid, child, status },
+        entries,
+    )
+}
+
+/// A wait of a caller that is there takes what a child has to report.
+fn take<K: Kin>(
+    machine: &mut Machine<K>,
+    pid: Pid,
+    call: WaitCall,
+    child: Pid,
+    status: Status,
+    entries: &mut Entries,
+) -> Attempt
+    requires there { IsSome (process machine.old.state pid) }
+    requires room { length entries.old.items ≤ 3 }
+    ensures done { result ≡ Attempt.Done }
+    ensures state { machine.new.state ≡ finish machine.old.state pid (results_of call child status) }
+    ensures shown { entries.new.items ≡ entries.old.items ++ Reported pid call child status ∷ [] }
+    ensures costs { has_place machine.old.state pid ≡ true → CostsAtMost 1 machine.old machine.new }
+{
+    report(
+        machine,
+        pid,
+        call,
+        child,
+        status,
+        Entry::Reported {
+            pid,
+            call,
+            child,
+            status,
+        },
+        entries,
+    )
 }
 
 /// Waits for a child, as a caller that is there and no zombie.
-#[tactic(auto, unfolding(posix::specs::Waits::wait))]
-fn wait_as<K: Kin>(machine: &mut Machine<K>, me: &Caller, entries: &mut Entries) -> Attempt
+#[tactic(auto, unfolding(posix::specs::Waits::wait_by))]
+fn wait_as<K: Kin>(
+    machine: &mut Machine<K>,
+    call: WaitCall,
+    me: &Caller,
+    entries: &mut Entries,
+) -> Attempt
     requires regular { IsRegular machine.old.state }
     requires placed { IsPlaced machine.old.state.processes me.now.pid }
     requires room { length entries.old.items ≤ 1 }
-    ensures comes { Comes machine.old.state (waiting machine.old.state (process_like me.now)) result entries.old.items entries.new.items machine.new.state }
+    ensures comes { Comes machine.old.state (waiting call machine.old.state (process_like me.now)) result entries.old.items entries.new.items machine.new.state }
     ensures brief { IsQuiet me.now.pid machine.old → IsBrief (10 + 2 * length (children_in me.now.pid machine.old.state.processes)) machine.old machine.new }
     ensures once { result ≢ Attempt.Again }
     ensures waits { (b : BlockedValue) → result ≡ Attempt.Block b → AreSame machine.old machine.new }
 {
-    let Some(options) = options_of(me) else {
-        return refuse(machine, me.pid, Call::Waitpid, Errno::EINVAL, entries);
+    let Some(asked) = me.asked(call) else {
+        return refuse(machine, me.pid, call.call(), Errno::EINVAL, entries);
     };
-    match machine.wait_attempt(me, me.target(), options) {
-        Report::NoChild => refuse(machine, me.pid, Call::Waitpid, Errno::ECHILD, entries),
+    let leaves = asked.options.contains(WaitidOptions::WNOWAIT);
+    match machine.wait_attempt(me, asked) {
+        Report::NoChild => refuse(machine, me.pid, call.call(), Errno::ECHILD, entries),
         Report::Nothing => {
-            if options.contains(WaitOptions::WNOHANG) {
-                finish_with(machine, me.pid, Call::Waitpid, 0, entries)
+            if asked.options.contains(WaitidOptions::WNOHANG) {
+                find_nothing(machine, me.pid, call, entries)
             } else {
-                Attempt::Block(Blocked::Waitpid)
+                Attempt::Block(Blocked::Wait(call))
             }
         }
         Report::End(child, status) => {
+            if leaves {
+                return look(machine, me.pid, call, child, status, entries);
+            }
             machine.reap(child);
-            report(machine, me.pid, child, status, entries)
+            take(machine, me.pid, call, child, status, entries)
         }
         Report::Change(child, status) => {
+            if leaves {
+                return look(machine, me.pid, call, child, status, entries);
+            }
             machine.tell_news(child);
-            report(machine, me.pid, child, status, entries)
+            take(machine, me.pid, call, child, status, entries)
         }
     }
 }
 
 /// Waits for a child.
-#[tactic(auto, unfolding(posix::specs::Waits::wait))]
-pub fn wait<K: Kin>(machine: &mut Machine<K>, pid: Pid, entries: &mut Entries) -> Attempt
+#[tactic(auto, unfolding(posix::specs::Waits::wait_by))]
+pub fn wait<K: Kin>(
+    machine: &mut Machine<K>,
+    call: WaitCall,
+    pid: Pid,
+    entries: &mut Entries,
+) -> Attempt
     requires placed { IsPlaced machine.old.state.processes pid }
     requires room { length entries.old.items ≤ 1 }
-    ensures comes { (me : Process) → process machine.old.state pid ≡ Some me → Comes machine.old.state (waiting machine.old.state me) result entries.old.items entries.new.items machine.new.state }
+    ensures comes { (me : Process) → process machine.old.state pid ≡ Some me → Comes machine.old.state (waiting call machine.old.state me) result entries.old.items entries.new.items machine.new.state }
     ensures brief { IsQuiet pid machine.old → IsBrief (11 + 2 * length (children_in pid machine.old.state.processes)) machine.old machine.new }
     ensures once { result ≢ Attempt.Again }
     ensures waits { (b : BlockedValue) → result ≡ Attempt.Block b → AreSame machine.old machine.new }
 {
     let me = machine.caller(pid);
-    wait_as(machine, &me, entries)
+    wait_as(machine, call, &me, entries)
 }
 
 /// Whether the wait of a caller reports the process `first`, if there is one and the wait gets to it.
 fn reports_first<K: Kin>(
     machine: &mut Machine<K>,
     me: &Caller,
-    options: WaitOptions,
+    asked: Asked,
     first: Option<Pid>,
 ) -> bool
-    requires { options.0 ≡ options_in me.now.r2 }
-    ensures value { result ≡ reporting_first machine.old.state.processes first (process_like me.now) }
+    ensures value { result ≡ reporting_first machine.old.state.processes first me.now.pid me.now.group asked }
     ensures same { AreSame machine.old machine.new }
     ensures visits { machine.new.visits ≤ machine.old.visits + slots_of_first first }
 {
     match first {
-        Some(child) => machine.has_report_of(me, me.target(), options, child),
+        Some(child) => machine.has_report_of(me, asked, child),
         None => false,
     }
 }
 
 /// Whether the wait of a caller that is there would have to wait. Where it reports the process `first`, no other is
 /// looked at.
-#[tactic(auto, unfolding(posix::specs::Waits::wait))]
-fn would_wait<K: Kin>(machine: &mut Machine<K>, me: &Caller, first: Option<Pid>) -> bool
+#[tactic(auto, unfolding(posix::specs::Waits::wait_by))]
+fn would_wait<K: Kin>(
+    machine: &mut Machine<K>,
+    call: WaitCall,
+    me: &Caller,
+    first: Option<Pid>,
+) -> bool
     requires { IsSome (process machine.old.state me.now.pid) }
-    ensures value { result ≡ is_block (waiting machine.old.state (process_like me.now)) }
+    ensures value { result ≡ is_block (waiting call machine.old.state (process_like me.now)) }
     ensures same { AreSame machine.old machine.new }
-    ensures visits { machine.new.visits + 1 ≤ machine.old.visits + slots_of_waiting machine.old.state.processes first (process_like me.now) }
+    ensures visits { machine.new.visits + 1 ≤ machine.old.visits + slots_of_waiting machine.old.state.processes first call (process_like me.now) }
 {
-    let Some(options) = options_of(me) else {
+    let Some(asked) = me.asked(call) else {
         return false;
     };
-    if reports_first(machine, me, options, first) {
+    if reports_first(machine, me, asked, first) {
         return false;
     }
-    match machine.wait_attempt(me, me.target(), options) {
-        Report::Nothing => !options.contains(WaitOptions::WNOHANG),
+    match machine.wait_attempt(me, asked) {
+        Report::Nothing => !asked.options.contains(WaitidOptions::WNOHANG),
         _ => false,
     }
 }
@@ -144,12 +240,17 @@ fn would_wait<K: Kin>(machine: &mut Machine<K>, me: &Caller, first: Option<Pid>)
 /// Whether the wait of a process that is there would have to wait. Where it reports the process `first`, no other is
 /// looked at. Nothing changes.
 #[inline(always)]
-pub fn has_to_wait<K: Kin>(machine: &mut Machine<K>, pid: Pid, first: Option<Pid>) -> bool
+pub fn has_to_wait<K: Kin>(
+    machine: &mut Machine<K>,
+    call: WaitCall,
+    pid: Pid,
+    first: Option<Pid>,
+) -> bool
     requires { IsSome (process machine.old.state pid) }
-    ensures value { (me : Process) → process machine.old.state pid ≡ Some me → result ≡ is_block (waiting machine.old.state me) }
+    ensures value { (me : Process) → process machine.old.state pid ≡ Some me → result ≡ is_block (waiting call machine.old.state me) }
     ensures same { AreSame machine.old machine.new }
-    ensures visits { (me : Process) → process machine.old.state pid ≡ Some me → machine.new.visits ≤ machine.old.visits + slots_of_waiting machine.old.state.processes first me }
+    ensures visits { (me : Process) → process machine.old.state pid ≡ Some me → machine.new.visits ≤ machine.old.visits + slots_of_waiting machine.old.state.processes first call me }
 {
     let me = machine.caller(pid);
-    would_wait(machine, &me, first)
+    would_wait(machine, call, &me, first)
 }

@@ -1,27 +1,35 @@
 -- What keeps the indexes of a table right, one line for each of them.
-use Rattle.std.proofs.Common.{◌≡◌, ◌≢◌, ℕ, ◌+◌, ◌<◌, ◌≤◌, true, false, cond, refl, ap, sym, ◌∙◌, arith, not, is_some, List, length, filter, Option, Some, None, ◌==◌, ◌&&◌}
+use Rattle.std.proofs.Common.{◌≡◌, ◌≢◌, ℕ, ◌+◌, ◌<◌, ◌≤◌, Bool, true, false, cond, refl, ap, sym, ◌∙◌, arith, not, is_some, List, [], ◌∷◌, length, filter, Option, Some, None, IfSome, option_map, nat_lt, ◌==◌, ◌&&◌, ◌||◌, inl, inr}
 use Rattle.std.specs.Prelude.{option_and_then}
 use Rattle.std.specs.List.{list_any}
 use Rattle.std.specs.Option.{option_map_or}
+use Rattle.std.proofs.lemmas.Bool.{eq-eqb, ne_eqb, cases_eq}
 use Rattle.std.proofs.lemmas.Bool.Decides.{nat_tests}
 use Rattle.std.proofs.lemmas.List.Elements.{filter_agree}
+use Rattle.posix.specs.declared.process.Life.{Life}
+use Rattle.posix.specs.declared.process.Life.TheVariants.{Running, Stopped as Halted, Zombie}
+use Rattle.posix.specs.declared.process.News.{News}
+use Rattle.posix.specs.declared.process.News.TheVariants as news
+use Rattle.std.proofs.lemmas.Option.{IfSome_then}
 use Rattle.posix.specs.Processes.{Process, is_stopped}
 use Rattle.posix.specs.Tables.{IsRising, lookup, adopted, reparented, above, first_pid, is_child, children_in, is_member, members_in}
 use Rattle.posix.specs.Groups.{is_anchor}
-use Rattle.posix.specs.Waits.{has_report, reporting_in}
+use Rattle.posix.specs.Waits.{WEXITED, WSTOPPED, WCONTINUED, has_option, is_something, report_life, report_of, reports, wanted_in}
 use Rattle.posix.specs.Alarms.{is_due}
-use Rattle.pidset.specs.Indexes.{IsRekeyed, IsNextPair, IsAt, anchor_key, is_key, key_of}
+use Rattle.pidset.specs.Indexes.{IndexView, IsRekeyed, IsNextPair, IsAt, anchor_key, is_key, key_of}
 use Rattle.pidset.specs.Lists.{ListsView}
-use Rattle.pidset.proofs.IndexLemmas.{IsElsewhere, can_replace, unmoved, indexed_moved, indexed_map, indexed_adopted, index_moved, index_map, index_empty, rekeyed, next_pair, members_passing}
-use Rattle.posix.proofs.TableLemmas.{pid_reparented, reparented_keeps}
-use Rattle.posix.proofs.WalkLemmas.{both_pass}
+use Rattle.pidset.proofs.IndexLemmas.{IsElsewhere, can_replace, unmoved, indexed_moved, indexed_map, indexed_rekeyed, index_moved, index_map, index_empty, rekeyed, next_pair, members_passing}
+use Rattle.posix.proofs.TableLemmas.{pid_reparented, reparented_keeps, rising_filter}
+use Rattle.posix.proofs.WalkLemmas.{Passes, both_pass, filters_commute, first_passes, found_above}
 use Rattle.jobs.specs.declared.books.Books.{Books}
 use Rattle.jobs.specs.declared.books.Seen.{Seen}
+use Rattle.jobs.specs.declared.books.Sort.{Sort}
+use Rattle.jobs.specs.declared.books.Sort.TheVariants.{End, Stop, Continue}
 use Rattle.jobs.specs.declared.groups.Counted.{Counted}
 use Rattle.jobs.specs.declared.groups.Counted.TheVariants.{Anchors, Stopped}
 use Rattle.jobs.specs.Counts.{counted_in}
 use Rattle.jobs.specs.JobTables.{AreAnchors}
-use Rattle.jobs.specs.Books.{AreBooks, CanMove, AreMoved, lesser, room_in, seen_of, report_in, report_key, stopped_in, stopped_key, alarm_in, alarm_key, member_in, member_key}
+use Rattle.jobs.specs.Books.{AreBooks, CanMove, AreMoved, lesser, room_in, seen_of, sort_of, is_of_sort, rank, sorted, least, report_in, report_key, stopped_in, stopped_key, alarm_in, alarm_key, member_in, member_key}
 
 -- ---- one process
 
@@ -77,16 +85,28 @@ books_unmoved p parent it rs b h s = record {
 
 -- ---- all processes
 
-pub books_adopted : (from to : ℕ) → from ≢ to → (rs : List Process) (old new : Books) → AreBooks rs old → new.members ≡ old.members → IsRekeyed from to old.reporting new.reporting → new.stopped ≡ old.stopped → new.alarmed ≡ old.alarmed → AreBooks (adopted from to rs) new
+-- the children of a process become those of another, sort by sort
+abbrev pub IsSortRekeyed : Sort → ℕ → ℕ → IndexView → IndexView → Type 0
+IsSortRekeyed sort from to old new = IsRekeyed (sorted from sort) (sorted to sort) old new
+
+pub books_adopted : (from to : ℕ) → from ≢ to → (rs : List Process) (old new : Books) (ended stopped : IndexView) → IsSortRekeyed End from to old.reporting ended → IsSortRekeyed Stop from to ended stopped → IsSortRekeyed Continue from to stopped new.reporting
+    → new.members ≡ old.members → new.stopped ≡ old.stopped → new.alarmed ≡ old.alarmed → AreBooks rs old → AreBooks (adopted from to rs) new
 unfolding adopted
-books_adopted from to ne rs old new h m k e g = record {
-  members = rw m (index_map member_key (reparented from to) (pid_reparented from to) (reparented_keeps member_key from to (λ r. refl)) rs old.members.pairs h.members);
-  reporting = indexed_adopted report_key from to ne reports rs old.reporting new.reporting h.reporting k;
-  stopped = rw e (indexed_map stopped_key (reparented from to) (pid_reparented from to) (reparented_keeps stopped_key from to (λ r. refl)) rs old.stopped h.stopped);
-  alarmed = rw g (indexed_map alarm_key (reparented from to) (pid_reparented from to) (reparented_keeps alarm_key from to (λ r. refl)) rs old.alarmed h.alarmed);
+books_adopted from to ne rs old new ended stopped k0 k1 k2 m e g h = record {
+  members = rw m (index_map member_key member_key (reparented from to) (pid_reparented from to) (reparented_keeps member_key from to (λ r. refl)) rs old.members.pairs h.members);
+  reporting = indexed_map report_key (λ r. moved Continue (moved Stop (moved End (report_key r)))) (reparented from to) (pid_reparented from to) reports rs new.reporting
+      (indexed_rekeyed _ _ _ (apart Continue) rs stopped new.reporting (indexed_rekeyed _ _ _ (apart Stop) rs ended stopped (indexed_rekeyed report_key _ _ (apart End) rs old.reporting ended h.reporting k0) k1) k2);
+  stopped = rw e (indexed_map stopped_key stopped_key (reparented from to) (pid_reparented from to) (reparented_keeps stopped_key from to (λ r. refl)) rs old.stopped h.stopped);
+  alarmed = rw g (indexed_map alarm_key alarm_key (reparented from to) (pid_reparented from to) (reparented_keeps alarm_key from to (λ r. refl)) rs old.alarmed h.alarmed);
 }
   where
-    reports : (r : Process) → report_key (reparented from to r) ≡ rekeyed from to (report_key r)
+    moved : Sort → Option ℕ → Option ℕ
+    moved sort o = rekeyed (sorted from sort) (sorted to sort) o
+
+    apart : (sort : Sort) → sorted from sort ≢ sorted to sort
+    apart sort same = absurd (ne (omega (arith, same)))
+
+    reports : (r : Process) → report_key (reparented from to r) ≡ moved Continue (moved Stop (moved End (report_key r)))
     reports r = grind arith
 
 -- ---- reading
@@ -104,12 +124,95 @@ is_listed group p rs b list h at = sym (at group) ∙ h.members p group ∙ elim
 pub none_stopped : (rs : List Process) (b : Books) → IsRising rs → AreBooks rs b → (length b.stopped.pairs == 0) ≡ not (list_any (λ r. is_stopped r.life) rs)
 none_stopped rs b up h = index_empty stopped_key (λ r. is_stopped r.life) (λ r. elim (is_stopped r.life) as (λ s. is_some (cond s (Some r.group) None) ≡ s) [ true ↦ refl | false ↦ refl ]) rs b.stopped.pairs up h.stopped.index
 
--- the next of the children that have something to report
-pub next_report : (parent n : ℕ) (rs : List Process) (b : Books) (next : Option ℕ) → IsRising rs → AreBooks rs b → IsNextPair parent n b.reporting.pairs next → next ≡ first_pid (above n (reporting_in parent rs))
-unfolding reporting_in children_in has_report
-next_report parent n rs b next up h i =
-    next_pair report_key rs b.reporting.pairs parent n next up h.reporting.index i
-    ∙ ap (λ l. first_pid (above n l)) (filter_agree _ (λ r. is_child parent r && has_report r) (λ r. grind arith) rs ∙ sym (both_pass (is_child parent) has_report rs))
+-- the next of the children that report a sort
+pub next_sorted : (parent : ℕ) (sort : Sort) (n : ℕ) (rs : List Process) (b : Books) (next : Option ℕ) (is_wanted : Bool) → is_wanted ≡ true → IsRising rs → AreBooks rs b → IsNextPair (sorted parent sort) n b.reporting.pairs next → next ≡ first_pid (above n (filter (λ r. is_wanted && is_of_sort sort r) (children_in parent rs)))
+unfolding children_in
+next_sorted parent sort n rs b next is_wanted e up h i =
+    rw e (next_pair report_key rs b.reporting.pairs (sorted parent sort) n next up h.reporting.index i
+    ∙ ap (λ l. first_pid (above n l)) (filter_agree _ (λ r. is_child parent r && is_of_sort sort r) (λ r. by r.parent (sort_of r.life r.news)) rs ∙ sym (both_pass (is_child parent) (is_of_sort sort) rs)))
+  where
+    few : (s : Sort) → rank s < 256
+    few End = omega arith
+    few Stop = omega arith
+    few Continue = omega arith
+
+    by : (p : ℕ) (o : Option Sort) → is_key (sorted parent sort) (option_map (sorted p) o) ≡ (p == parent && is_key (rank sort) (option_map rank o))
+    by p None = grind arith
+    by p (Some s) = elim (cases_eq p parent) [
+      | inl e ↦ elim (cases_eq (rank s) (rank sort)) [
+        | inl same ↦ rw (e, same) (rw (eq-eqb parent parent refl, eq-eqb (rank sort) (rank sort) refl, eq-eqb (sorted parent sort) (sorted parent sort) refl) refl)
+        | inr other ↦ rw (ne_eqb (sorted p s) (sorted parent sort) (λ k. other (omega (arith, k, e))), ne_eqb (rank s) (rank sort) other) (grind arith)
+      ]
+      | inr ne ↦ rw (ne_eqb (sorted p s) (sorted parent sort) (λ k. ne (omega (arith, k, few s, few sort))), ne_eqb p parent ne) refl
+    ]
+
+-- or none does that is wanted
+pub none_sorted : (sort : Sort) (n parent : ℕ) (rs : List Process) (is_wanted : Bool) → is_wanted ≡ false → None ≡ first_pid (above n (filter (λ r. is_wanted && is_of_sort sort r) (children_in parent rs)))
+none_sorted sort n parent rs is_wanted e = rw e (none (children_in parent rs))
+  where
+    none : (ks : List Process) → None ≡ first_pid (above n (filter (λ r. false) ks))
+    none [] = refl
+    none (k ∷ ks) = none ks
+
+-- of two tests, the least that passes either is the lesser of the least of each
+least_first : (f g : Process → Bool) (rs : List Process) → IsRising rs → least (first_pid (filter f rs)) (first_pid (filter g rs)) ≡ first_pid (filter (λ r. f r || g r) rs)
+unfolding IsRising
+least_first f g [] up = refl
+least_first f g (x ∷ xs) up = by (least_first f g xs up.1) (f x) (g x)
+  where
+    behind : (t : Process → Bool) → IfSome (first_pid (filter t xs)) (λ q. x.pid < q)
+    behind t = IfSome_then _ {P = Passes t xs} (first_passes t xs up.1) (λ q i. found_above x.pid q xs i.0 up.0 i.1)
+
+    first : (o : Option ℕ) → IfSome o (λ q. x.pid < q) → (least (Some x.pid) o ≡ Some x.pid) × (least o (Some x.pid) ≡ Some x.pid)
+    first None l = (refl, refl)
+    first (Some q) l = (grind (arith, nat_tests, l), grind (arith, nat_tests, l))
+
+    by : least (first_pid (filter f xs)) (first_pid (filter g xs)) ≡ first_pid (filter (λ r. f r || g r) xs) → (a b : Bool) → least (first_pid (cond a (x ∷ filter f xs) (filter f xs))) (first_pid (cond b (x ∷ filter g xs) (filter g xs))) ≡ first_pid (cond (a || b) (x ∷ filter (λ r. f r || g r) xs) (filter (λ r. f r || g r) xs))
+    by rest true true = grind (arith, nat_tests)
+    by rest true false = (first _ (behind g)).0
+    by rest false true = (first _ (behind f)).1
+    by rest false false = rest
+
+-- so of those above n
+least_above : (f g : Process → Bool) (n : ℕ) (rs : List Process) → IsRising rs → least (first_pid (above n (filter f rs))) (first_pid (above n (filter g rs))) ≡ first_pid (above n (filter (λ r. f r || g r) rs))
+least_above f g n rs up =
+    let high : Process → Bool = λ r. nat_lt n r.pid in
+    rw (filters_commute high f rs, filters_commute high g rs, filters_commute high (λ r. f r || g r) rs) (least_first f g (filter high rs) (rising_filter high rs up))
+
+-- a child of this sort, where a wait with these options wants it
+abbrev pub is_wanted_sort : ℕ → ℕ → Sort → Process → Bool
+is_wanted_sort options option sort r = has_option options option && is_of_sort sort r
+
+-- who reports is of one of the sorts that are wanted
+wanted_sorts : (options : ℕ) (r : Process) → ((is_wanted_sort options WEXITED End r || is_wanted_sort options WSTOPPED Stop r) || is_wanted_sort options WCONTINUED Continue r) ≡ reports options r
+unfolding report_of
+wanted_sorts options r = by r.life r.news
+  where
+    ends : Bool
+    ends = has_option options WEXITED
+
+    reported : Sort → Life → News → Bool
+    reported sort l n = is_key (rank sort) (option_map rank (sort_of l n))
+
+    by : (l : Life) (n : News) → ((ends && reported End l n || has_option options WSTOPPED && reported Stop l n) || has_option options WCONTINUED && reported Continue l n) ≡ is_something (report_life options r.pid l n)
+    by Running news.Nothing = grind arith
+    by Running (news.StoppedBy s) = grind arith
+    by Running news.Continued = grind arith
+    by Halted news.Nothing = grind arith
+    by Halted (news.StoppedBy s) = grind arith
+    by Halted news.Continued = grind arith
+    by (Zombie w) n = grind arith
+
+-- the next that a wait wants is the least of the next of each sort
+pub next_wanted : (parent n options : ℕ) (rs : List Process) (ended stopped continued : Option ℕ) → IsRising rs → ended ≡ first_pid (above n (filter (is_wanted_sort options WEXITED End) (children_in parent rs))) → stopped ≡ first_pid (above n (filter (is_wanted_sort options WSTOPPED Stop) (children_in parent rs)))
+    → continued ≡ first_pid (above n (filter (is_wanted_sort options WCONTINUED Continue) (children_in parent rs))) → least (least ended stopped) continued ≡ first_pid (above n (wanted_in options parent rs))
+unfolding wanted_in children_in
+next_wanted parent n options rs ended stopped continued up e s c =
+    let kids = children_in parent rs in
+    let kids_up = rising_filter (is_child parent) rs up in
+    let two : least ended stopped ≡ first_pid (above n (filter (λ r. is_wanted_sort options WEXITED End r || is_wanted_sort options WSTOPPED Stop r) kids)) = rw (e, s) (least_above _ _ n kids kids_up) in
+    let all : least (least ended stopped) continued ≡ first_pid (above n (filter (λ r. (is_wanted_sort options WEXITED End r || is_wanted_sort options WSTOPPED Stop r) || is_wanted_sort options WCONTINUED Continue r) kids)) = rw (two, c) (least_above _ _ n kids kids_up) in
+    all ∙ ap (λ l. first_pid (above n l)) (filter_agree _ (reports options) (wanted_sorts options) kids)
 
 -- the next of those whose alarm is due at a tick
 pub next_due : (tick n : ℕ) (rs : List Process) (b : Books) (next : Option ℕ) → IsRising rs → AreBooks rs b → IsNextPair tick n b.alarmed.pairs next → next ≡ first_pid (above n (filter (λ r. is_due tick r.alarm) rs))

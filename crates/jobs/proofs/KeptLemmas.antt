@@ -13,7 +13,7 @@ use Rattle.posix.proofs.TableLemmas.{pid_looked, lookup_changed, remove_none, ri
 use Rattle.posix.proofs.MapLemmas.{lookup_map, lookup_back, at_pid, at_keeps}
 use Rattle.posix.proofs.RegularLemmas.{lookup_new, lookup_removed}
 use Rattle.posix.proofs.WalkLemmas.{all_looked, some_looked}
-use Rattle.pidset.specs.Indexes.{AreTurned, HaveParents, IndexView, key_of, IsAnchorIndex, IsMoved, IsReplaced, IsRekeyed}
+use Rattle.pidset.specs.Indexes.{AreTurned, HaveParents, IndexView, key_of, IsAnchorIndex, IsMoved, IsReplaced}
 use Rattle.pidset.specs.Lists.{ListsView}
 use Rattle.pidset.proofs.IndexLemmas.{IsElsewhere, elsewhere_changed, elsewhere_inserted, elsewhere_removed}
 use Rattle.proctable.specs.declared.records.Record.{Record}
@@ -21,11 +21,11 @@ use Rattle.proctable.specs.Records.{process_of, snapshot_of, give_record, with_r
 use Rattle.proctable.proofs.RecordLemmas.{record_rises}
 use Rattle.jobs.specs.declared.books.Books.{Books}
 use Rattle.jobs.specs.declared.books.Seen.{Seen}
-use Rattle.jobs.specs.Books.{AreMoved, CanMove, snapshot_seen, IsInside, anchor_in, child_key, member_in, member_key, record_seen, seen_of}
+use Rattle.jobs.specs.Books.{AreBooks, AreMoved, CanMove, snapshot_seen, IsInside, anchor_in, child_key, member_in, member_key, record_seen, seen_of}
 use Rattle.jobs.specs.JobTables.{AreNumbers, AreWithin, HasParent, IsGroupFor, IsKept, IsRun, StaysGrouped}
 use Rattle.proctable.specs.declared.snapshot.Snapshot.{Snapshot}
 use Rattle.jobs.proofs.SnapshotLemmas.{is_there, some_read, none_read, snapshot_are}
-use Rattle.jobs.proofs.BookLemmas.{Fits, Sees, can_move, sees, sees_none, fits, books_moved, books_unmoved, books_adopted}
+use Rattle.jobs.proofs.BookLemmas.{Fits, Sees, can_move, sees, sees_none, fits, books_moved, books_unmoved}
 use Rattle.pidset.proofs.AnchorLemmas.{anchors_inserted, anchors_removed, anchors_adopted}
 use Rattle.proctable.proofs.LinkLemmas.{no_child}
 use Rattle.jobs.proofs.AnchorLemmas.{seen_at, seen_found, key_at, child_is, stance_in, anchors_same, number_within}
@@ -184,10 +184,10 @@ kept_removed n rs new p f old now set read none is moved anchor numbers k =
     rw is (kept_at n (n - 1) p f.parent None rs (removed p rs) old now set (elsewhere_removed p rs) goes.1.0 (goes.1.1, tt) (rising_removed p rs k.rising) (omega (arith, count)) (fits rs (n - 1) old k.books (omega (arith, k.count))) (sees_none p f.parent (removed p rs) (lookup_removed p rs)) moved
     (anchors_removed p rs old.anchors.pairs set.pairs (no_child p rs none) anchor k.anchors.index) numbers (parents_removed HasParent p rs (no_child p rs none) k.anchors.parents) k)
 
-pub kept_adopted : (n : ℕ) (rs new : List Process) (from to : ℕ) (old now : Books) → from ≢ to → new ≡ adopted from to rs → now.members ≡ old.members → IsRekeyed from to old.reporting now.reporting → now.stopped ≡ old.stopped → now.alarmed ≡ old.alarmed
+pub kept_adopted : (n : ℕ) (rs new : List Process) (from to : ℕ) (old now : Books) → from ≢ to → new ≡ adopted from to rs → (AreBooks rs old → AreBooks (adopted from to rs) now) → now.members ≡ old.members
     → (heir : Seen) → seen_at to rs ≡ Some heir → AreTurned from (child_key heir) rs old.anchors.pairs now.anchors.pairs → now.anchors.numbers ≡ old.anchors.numbers → IsKept n old rs → IsKept n now new
 unfolding adopted
-kept_adopted n rs new from to old now ne is members moved same still heir there turned numbers k = rw is (record {
+kept_adopted n rs new from to old now ne is books members heir there turned numbers k = rw is (record {
   rising = rising_adopted from to rs k.rising;
   numbers = λ q out. lookup_map (reparented from to) (pid_reparented from to) q rs ∙ ap (option_map (reparented from to)) (k.numbers q out);
   within = rw members (λ q r e.
@@ -195,7 +195,7 @@ kept_adopted n rs new from to old now ne is members moved same still heir there 
       rw (was.is, pid_reparented from to was.what, reparented_keeps (λ (r : Process). r.group) from to (λ r. refl) was.what) (k.within q was.what was.found));
   limit = rw members k.limit;
   count = k.count ∙ sym (length-map rs (reparented from to));
-  books = books_adopted from to ne rs old now k.books members moved same still;
+  books = books k.books;
   anchors = record {
     index = anchors_adopted from to (child_key heir) rs old.anchors.pairs now.anchors.pairs turned (λ r. child_is to rs heir there (record r { parent = to }) refl) k.anchors.index;
     wide = rw (members, numbers) k.anchors.wide;

@@ -1,13 +1,18 @@
 -- The indexes that a table of jobs keeps of its processes.
-use Rattle.std.specs.Prelude.{◌≡◌, ◌<◌, ◌≤◌, IfSome, ℕ, ◌-◌, Bool, false, not, ◌==◌, ◌&&◌, ◌||◌, if◌then◌else◌, nat_le, List, Option, Some, None}
+use Rattle.std.specs.Prelude.{◌≡◌, ◌<◌, ◌≤◌, IfSome, ℕ, ◌-◌, ◌*◌, ◌+◌, Bool, false, not, ◌==◌, ◌&&◌, ◌||◌, if◌then◌else◌, nat_le, nat_lt, List, Option, Some, None, option_map}
 use Rattle.std.specs.Option.{option_map_or}
 use Rattle.posix.specs.Processes.{Process, is_zombie, is_stopped}
-use Rattle.posix.specs.Waits.{is_news}
-use Rattle.pidset.specs.Indexes.{CanReplace, IsMoved, IsReplaced, IsIndex, IsIndexed}
+use Rattle.posix.specs.declared.process.Life.{Life}
+use Rattle.posix.specs.declared.process.Life.TheVariants.{Running, Stopped, Zombie}
+use Rattle.posix.specs.declared.process.News.{News}
+use Rattle.posix.specs.declared.process.News.TheVariants as news
+use Rattle.pidset.specs.Indexes.{is_key, CanReplace, IsMoved, IsReplaced, IsIndex, IsIndexed}
 use Rattle.proctable.specs.declared.records.Record.{Record}
 use Rattle.proctable.specs.declared.snapshot.Snapshot.{Snapshot}
 use Rattle.jobs.specs.declared.books.Books.{Books}
 use Rattle.jobs.specs.declared.books.Seen.{Seen}
+use Rattle.jobs.specs.declared.books.Sort.{Sort}
+use Rattle.jobs.specs.declared.books.Sort.TheVariants.{End, Stop, Continue}
 
 -- what the indexes see of a process but its parent, as it is, by its record and by its snapshot
 abbrev pub seen_of : Process → Seen
@@ -44,10 +49,33 @@ child_key up r = anchor_in (seen_of r) (Some up)
 abbrev pub keeps_stance : Seen → Seen → Bool
 keeps_stance old new = old.group == new.group && old.session == new.session && (is_zombie new.life || not (is_zombie old.life))
 
--- one that has something to report stands under its parent
+-- the sort of what a child has to report
+abbrev pub sort_of_news : News → Option Sort
+sort_of_news news.Nothing = None
+sort_of_news (news.StoppedBy s) = Some Stop
+sort_of_news news.Continued = Some Continue
+
+abbrev pub sort_of : Life → News → Option Sort
+sort_of Running n = sort_of_news n
+sort_of Stopped n = sort_of_news n
+sort_of (Zombie w) n = Some End
+
+-- the number of a sort within the keys of a parent
+abbrev pub rank : Sort → ℕ
+rank End = 0
+rank Stop = 1
+rank Continue = 2
+
+abbrev pub is_of_sort : Sort → Process → Bool
+is_of_sort sort r = is_key (rank sort) (option_map rank (sort_of r.life r.news))
+
+-- one that has something to report stands under its parent and the sort
+abbrev pub sorted : ℕ → Sort → ℕ
+sorted parent sort = parent * 256 + rank sort
+
 abbrev pub report_in : ℕ → Option Seen → Option ℕ
 report_in parent None = None
-report_in parent (Some w) = if is_zombie w.life || is_news w.news then Some parent else None
+report_in parent (Some w) = option_map (sorted parent) (sort_of w.life w.news)
 
 abbrev pub report_key : Process → Option ℕ
 report_key r = report_in r.parent (Some (seen_of r))
@@ -101,3 +129,9 @@ lesser a b = if nat_le a b then a else b
 -- how many processes more they have room for, of this many that there are
 abbrev pub room_in : ℕ → Books → ℕ
 room_in count b = lesser (lesser b.reporting.room b.stopped.room) b.alarmed.room - count
+
+-- the lesser of two numbers; where one isn't there the other
+abbrev pub least : Option ℕ → Option ℕ → Option ℕ
+least None b = b
+least (Some a) None = Some a
+least (Some a) (Some b) = if nat_lt b a then Some b else Some a

@@ -1,12 +1,15 @@
 //! The indexes that a table of jobs keeps of its processes.
 
-ghost use Rattle.std.specs.Prelude.{◌≡◌, ◌≢◌, ◌<◌, ◌≤◌, ◌^◌, [], Some, OnOk};
-ghost use Rattle.posix.specs.Processes.{is_zombie};
-ghost use Rattle.pidset.specs.Indexes.{IsNextPair, IsRekeyed};
-ghost use Rattle.jobs.specs.Books.{AreBooks, record_seen, snapshot_seen, member_in, anchor_in, report_in, stopped_in, alarm_in, CanMove, IsInside, AreMoved};
+ghost use Rattle.std.specs.Prelude.{◌≡◌, ◌≢◌, ◌<◌, ◌≤◌, ◌^◌, ◌&&◌, [], List, filter, Some, OnOk};
+ghost use Rattle.posix.specs.Processes.{Process, is_zombie};
+ghost use Rattle.posix.specs.Tables.{IsRising, above, adopted, children_in, first_pid};
+ghost use Rattle.posix.specs.Waits.{wanted_in};
+ghost use Rattle.pidset.specs.Indexes.{IsNextPair};
+ghost use Rattle.jobs.specs.Books.{AreBooks, record_seen, snapshot_seen, member_in, anchor_in, is_of_sort, report_in, sort_of, sorted, stopped_in, alarm_in, CanMove, IsInside, AreMoved, least};
 
+use bitflags::Flags;
 use pidset::{Index, Lists};
-use posix::{Life, News, Pid};
+use posix::{Life, News, Pid, WaitidOptions};
 use proctable::{Record, Snapshot};
 use std::alloc::{AllocError, Global};
 
@@ -36,6 +39,17 @@ pub struct Change {
     pub after: Seen,
 }
 
+/// The sort of what a child can report.
+#[derive(Clone, Copy)]
+enum Sort {
+    /// Its end.
+    End,
+    /// A stop that no wait has reported yet.
+    Stop,
+    /// A continue that no wait has reported yet.
+    Continue,
+}
+
 /// The indexes.
 #[derive(Drop)]
 pub struct Books {
@@ -43,7 +57,7 @@ pub struct Books {
     pub members: Lists,
     /// The processes that keep their process groups from being orphaned, by these groups.
     pub anchors: Lists,
-    /// The children that have something to report, by their parents.
+    /// The children that have something to report, by their parents and the sorts of what they report.
     pub reporting: Index,
     /// The processes that are stopped, by their process groups.
     pub stopped: Index,
@@ -118,16 +132,41 @@ pub(crate) fn anchor_key(it: &Seen, parent: &Option<Seen>) -> Option<Pid>
     }
 }
 
+/// The sort of what a process has to report, if it has something.
+#[inline(always)]
+fn sort_to_report(it: &Seen) -> Option<Sort>
+    ensures { result ≡ sort_of it.now.life it.now.news }
+{
+    match (it.life, it.news) {
+        (Life::Zombie(_), _) => Some(Sort::End),
+        (Life::Running | Life::Stopped, News::StoppedBy(_)) => Some(Sort::Stop),
+        (Life::Running | Life::Stopped, News::Continued) => Some(Sort::Continue),
+        (Life::Running | Life::Stopped, News::Nothing) => None,
+    }
+}
+
+/// The key of the children of a process that report this sort. Ends have the least, since the least keys stand where
+/// little is moved.
+#[inline(always)]
+fn sorted_key(parent: Pid, sort: Sort) -> u64
+    ensures { result ≡ sorted parent sort }
+{
+    let ends = key(parent) * 256;
+    match sort {
+        Sort::End => ends,
+        Sort::Stop => ends + 1,
+        Sort::Continue => ends + 2,
+    }
+}
+
 /// The key of a process among those that have something to report.
 #[inline(always)]
 fn report_key(parent: Pid, it: &Option<Seen>) -> Option<u64>
     ensures { result ≡ report_in parent it.now }
 {
-    match it {
-        Some(it) if matches!(it.life, Life::Zombie(_)) || it.news != News::Nothing => {
-            Some(key(parent))
-        }
-        _ => None,
+    match sort_to_report(it.as_ref()?) {
+        Some(sort) => Some(sorted_key(parent, sort)),
+        None => None,
     }
 }
 
@@ -150,6 +189,17 @@ fn alarm_key(it: &Option<Seen>) -> Option<u64>
     match it {
         Some(it) => it.alarm,
         None => None,
+    }
+}
+
+/// The lesser of two numbers; where one isn't there the other.
+fn lesser(a: Option<Pid>, b: Option<Pid>) -> Option<Pid>
+    ensures { result ≡ least a b }
+{
+    match (a, b) {
+        (Some(one), Some(other)) => if other < one { b } else { a },
+        (Some(_), None) => a,
+        (None, _) => b,
     }
 }
 
@@ -240,13 +290,21 @@ impl Books {
     /// The children of one process become those of another.
     pub(crate) fn reparent(&mut self, from: Pid, to: Pid)
         requires { from ≢ to }
+        ensures books { (rs : List Process) → AreBooks rs self.old → AreBooks (adopted from to rs) self.new }
         ensures members { self.new.members ≡ self.old.members }
         ensures anchors { self.new.anchors ≡ self.old.anchors }
-        ensures reporting { IsRekeyed from to self.old.reporting self.new.reporting }
+        ensures room { self.new.reporting.room ≡ self.old.reporting.room }
         ensures stopped { self.new.stopped ≡ self.old.stopped }
         ensures alarmed { self.new.alarmed ≡ self.old.alarmed }
     {
-        self.reporting.rekey(key(from), key(to));
+        self.reporting
+            .rekey(sorted_key(from, Sort::End), sorted_key(to, Sort::End));
+        self.reporting
+            .rekey(sorted_key(from, Sort::Stop), sorted_key(to, Sort::Stop));
+        self.reporting.rekey(
+            sorted_key(from, Sort::Continue),
+            sorted_key(to, Sort::Continue),
+        );
     }
 
     /// The member of a process group with the least number above `after`.
@@ -273,12 +331,29 @@ impl Books {
         self.stopped.next(key(group), after)
     }
 
-    /// The child of a process that has something to report, with the least number above `after`.
-    #[inline]
-    pub(crate) fn next_reporting(&self, parent: Pid, after: Pid) -> Option<Pid>
-        ensures { IsNextPair parent after self.now.reporting.pairs result }
+    /// The child of a process that reports this sort, with the least number above `after`, where that sort is wanted.
+    fn next_of_sort(&self, parent: Pid, sort: Sort, is_wanted: bool, after: Pid) -> Option<Pid>
+        ensures { (rs : List Process) → IsRising rs → AreBooks rs self.now → result ≡ first_pid (above after (filter (λ r. is_wanted && is_of_sort sort r) (children_in parent rs))) }
     {
-        self.reporting.next(key(parent), after)
+        if is_wanted {
+            self.reporting.next(sorted_key(parent, sort), after)
+        } else {
+            None
+        }
+    }
+
+    /// The child of a process that has something to report to a wait with these options, with the least number above
+    /// `after`. No child is looked at whose sort isn't wanted.
+    pub(crate) fn next_wanted(&self, parent: Pid, options: WaitidOptions, after: Pid) -> Option<Pid>
+        ensures { (rs : List Process) → IsRising rs → AreBooks rs self.now → result ≡ first_pid (above after (wanted_in options.0 parent rs)) }
+    {
+        let ends = options.contains(WaitidOptions::WEXITED);
+        let stops = options.contains(WaitidOptions::WSTOPPED);
+        let continues = options.contains(WaitidOptions::WCONTINUED);
+        let ended = self.next_of_sort(parent, Sort::End, ends, after);
+        let stopped = self.next_of_sort(parent, Sort::Stop, stops, after);
+        let continued = self.next_of_sort(parent, Sort::Continue, continues, after);
+        lesser(lesser(ended, stopped), continued)
     }
 
     /// The process whose alarm is due at a tick, with the least number above `after`.

@@ -9,7 +9,7 @@ ghost use Rattle.posix.specs.Tables.{lookup, inserted, removed, children_in, fir
 ghost use Rattle.posix.specs.Alarms.{is_due};
 ghost use Rattle.posix.specs.Choice.{chosen};
 ghost use Rattle.posix.specs.Births.{child_of};
-ghost use Rattle.posix.specs.Waits.{reporting_in};
+ghost use Rattle.posix.specs.Waits.{wanted_in};
 ghost use Rattle.proctable.specs.Records.{process_of, snapshot_of, own_of, own_row};
 ghost use Rattle.jobs.specs.contracts.job_table.JobTable.{the_row as jobs_row};
 ghost use Rattle.jobs.specs.Books.{record_seen, seen_of};
@@ -17,7 +17,7 @@ ghost use Rattle.jobs.specs.JobTables.{takes_signal, ChangesSignals, IsRun, Stay
 
 use crate::anchors::{reanchor, seen_above, seen_there, turn_children};
 use crate::books::{Books, Change, Seen, anchor_key, of_record, of_snapshot};
-use posix::Pid;
+use posix::{Pid, WaitidOptions};
 use proctable::{Kin, OwnPart, Record, Snapshot, Stock};
 use std::alloc::{AllocError, Global};
 use std::marker::Model;
@@ -187,12 +187,12 @@ impl<K: Kin> JobTable<K> {
         self.books.stopped.is_empty()
     }
 
-    /// The child of a process that has something to report, with the least number above `after`.
-    #[tactic(auto, using(crate::proofs::BookLemmas::next_report))]
-    pub fn next_reporting(&self, parent: Pid, after: Pid) -> Option<Pid>
-        ensures { result ≡ first_pid (above after (reporting_in parent self.now.processes)) }
+    /// The child of a process that has something to report to a wait with these options, with the least number above
+    /// `after`. No slot is read, and no child looked at whose sort isn't wanted.
+    pub fn next_wanted(&self, parent: Pid, options: WaitidOptions, after: Pid) -> Option<Pid>
+        ensures { result ≡ first_pid (above after (wanted_in options.0 parent self.now.processes)) }
     {
-        self.books.next_reporting(parent, after)
+        self.books.next_wanted(parent, options, after)
     }
 
     /// The process whose alarm is due at a tick, with the least number above `after`. No slot is read.

@@ -3,10 +3,9 @@ use Rattle.std.proofs.Common.{◌≡◌, ℕ, Bool, true, false, cond, ◌||◌,
 use Rattle.posix.specs.declared.call.Call.{Call}
 use Rattle.posix.specs.declared.call.Call.TheVariants.{Read}
 use Rattle.posix.specs.declared.errno.Errno.{Errno}
+use Rattle.posix.specs.declared.waits.WaitCall.{WaitCall}
 use Rattle.posix.specs.declared.process.Blocked.{Blocked}
 use Rattle.posix.specs.declared.process.Blocked.TheVariants as blocked
-use Rattle.posix.specs.declared.process.Report.{Report}
-use Rattle.posix.specs.declared.process.Report.TheVariants as found
 use Rattle.posix.specs.declared.span.Span.{Span}
 use Rattle.posix.specs.SignalNumbers.{TTIN}
 use Rattle.posix.specs.Processes.{Process, argument}
@@ -14,14 +13,14 @@ use Rattle.posix.specs.States.{State, is_in}
 use Rattle.posix.specs.Consoles.{Console}
 use Rattle.posix.specs.Transfers.{span_in}
 use Rattle.posix.specs.Outcomes.{Attempted, Done, Block, Again}
-use Rattle.posix.specs.Targets.{target_in}
 use Rattle.posix.specs.Groups.{is_orphaned}
 use Rattle.posix.specs.Ends.{signalled_group}
-use Rattle.posix.specs.Waits.{wait, wait_with, report, options_in, are_known, has_option}
+use Rattle.posix.specs.Waits.{wait_by}
 use Rattle.posix.specs.Terminals.{terminal, is_in_background, blocks_or_ignores, finish_moved, read, read_from, read_in, read_on}
 use Rattle.posix.specs.Attempts.{attempt_again}
 use Rattle.posix.specs.Regular.{IsPlaced, IsRegular}
 use Rattle.posix.proofs.ConsoleLemmas.{regular_signalled_group}
+use Rattle.posix.proofs.WaitLemmas.{by_wait}
 
 -- where the call begins again, a process group was signalled
 abbrev Signals : State → Attempted → Type 0
@@ -36,17 +35,8 @@ signals_if s false x y h k = k
 
 -- ---- a wait
 
-signals_with : (s : State) (p options : ℕ) (what : Report) → Signals s (wait_with s p options what)
-signals_with s p options found.NoChild = tt
-signals_with s p options found.Nothing = signals_if s (has_option options 1) _ _ tt tt
-signals_with s p options (found.End child status) = tt
-signals_with s p options (found.Change child status) = tt
-
-signals_wait : (s : State) (me : Process) → Signals s (wait s me)
-unfolding wait
-signals_wait s me =
-    let options = options_in (argument me 2) in
-    signals_if s (are_known options) _ _ (signals_with s me.pid options (report s.processes me.pid me.group (target_in (argument me 1)) options)) tt
+signals_wait : (s : State) (me : Process) (call : WaitCall) → Signals s (wait_by call s me)
+signals_wait s me call = by_wait (Signals s) call s me (λ why. tt) tt tt (λ target options child status e. (tt, tt)) (λ target options child status e. (tt, tt))
 
 -- ---- a read
 
@@ -76,7 +66,7 @@ signals_read s me = signals_on s me (terminal s me)
 
 signals_again : (s : State) (me : Process) (b : Blocked) → Signals s (attempt_again s me b)
 unfolding attempt_again
-signals_again s me blocked.Waitpid = signals_wait s me
+signals_again s me (blocked.Wait call) = signals_wait s me call
 signals_again s me blocked.Read = signals_read s me
 signals_again s me blocked.Pause = tt
 signals_again s me (blocked.Sigsuspend mask) = tt

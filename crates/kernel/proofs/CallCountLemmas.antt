@@ -3,16 +3,17 @@ use Rattle.std.proofs.Common.{◌≡◌, ℕ, zero, suc, arith, ◌≤◌, [], O
 use Rattle.std.specs.Option.{IfSome}
 use Rattle.std.proofs.Math.Bool.{and-false}
 use Rattle.std.proofs.lemmas.Bool.{both_ways}
+use Rattle.posix.specs.declared.waits.WaitCall.{WaitCall}
 use Rattle.posix.specs.declared.process.Blocked.{Blocked}
 use Rattle.posix.specs.declared.process.Blocked.TheVariants as blocked
 use Rattle.posix.specs.States.{State}
 use Rattle.posix.specs.Choice.{chosen}
-use Rattle.posix.specs.Waits.{wait}
+use Rattle.posix.specs.Calls.{wait_in}
+use Rattle.posix.specs.Waits.{wait_by}
 use Rattle.posix.specs.Settle.{is_block}
-use Rattle.life.specs.Rechecks.{is_in_wait}
-use Rattle.kernel.specs.Counts.{is_kill, delivers_nothing, slots_of_acting}
+use Rattle.kernel.specs.Counts.{is_kill, delivers_nothing, slots_of_acting, slots_of_blocking}
 use Rattle.posix.specs.declared.call.Call.{Call}
-use Rattle.posix.specs.declared.call.Call.TheVariants.{Waitpid, Kill, Sigqueue}
+use Rattle.posix.specs.declared.call.Call.TheVariants.{Waitpid, Waitid, Kill, Sigqueue}
 use Rattle.posix.specs.Processes.{Process}
 use Rattle.std.specs.Option.{option_map_or}
 use Rattle.posix.specs.Tables.{children_in, members_in}
@@ -21,29 +22,29 @@ use Rattle.life.specs.Machines.{MachineView}
 use Rattle.life.specs.Consoles.{foreground_members, slots_of_key, slots_of_signal_key}
 use Rattle.calls.specs.Outcomes.{slots_of_brief}
 
--- they are a wait, and sends, which needn't wait
-pub brief_call : (call : Call) (rs : List Process) (me : Process) (holds : ℕ → Type 0) → (call ≡ Waitpid → holds (11 + 2 * length (children_in me.pid rs))) → ((call ≡ Kill) ⊎ (call ≡ Sigqueue) → ⊥) → IfSome (slots_of_brief call rs me) holds
+-- they are waits, and sends, which needn't wait
+pub brief_call : (call : Call) (rs : List Process) (me : Process) (holds : ℕ → Type 0) → (is_some (wait_in call) ≡ true → holds (11 + 2 * length (children_in me.pid rs))) → ((call ≡ Kill) ⊎ (call ≡ Sigqueue) → ⊥) → IfSome (slots_of_brief call rs me) holds
 brief_call Waitpid rs me holds waits done = waits refl
+brief_call Waitid rs me holds waits done = waits refl
 brief_call Kill rs me holds waits done = absurd (done (inl refl))
 brief_call Sigqueue rs me holds waits done = absurd (done (inr refl))
 brief_call call rs me holds waits done = tt
 
--- who waits for a child does so
-pub in_wait_is : (b : Blocked) → is_in_wait (Some b) ≡ true → b ≡ blocked.Waitpid
-in_wait_is blocked.Waitpid e = refl
-in_wait_is blocked.Read e = absurd (cc)
-in_wait_is blocked.Pause e = absurd (cc)
-in_wait_is (blocked.Sigsuspend mask) e = absurd (cc)
+-- what a wait reads, and who is blocked in it
+pub wait_reads : (call : Call) (rs : List Process) (me : Process) → is_some (wait_in call) ≡ true → (slots_of_brief call rs me ≡ Some (11 + 2 * length (children_in me.pid rs))) × (slots_of_blocking call ≡ 1)
+wait_reads Waitpid rs me e = (refl, refl)
+wait_reads Waitid rs me e = (refl, refl)
+wait_reads call rs me e = absurd (cc)
 
 -- where a signal is chosen for who has to wait, it is delivered
-pub nothing_delivered : (s : State) (me : Process) (sig : ℕ) → chosen me.life me.signals ≡ Some sig → is_block (wait s me) ≡ true → delivers_nothing s me ≡ true → ⊥
-nothing_delivered s me sig takes waits nothing =
-    let no : (not (is_kill (Some sig)) && false) ≡ true = subst (λ b. (not (is_kill (Some sig)) && (false || not b)) ≡ true) waits (subst (λ o. (not (is_kill o) && (not (is_some o) || not (is_block (wait s me)))) ≡ true) takes nothing) in
+pub nothing_delivered : (s : State) (me : Process) (call : WaitCall) (sig : ℕ) → chosen me.life me.signals ≡ Some sig → is_block (wait_by call s me) ≡ true → delivers_nothing s call me ≡ true → ⊥
+nothing_delivered s me call sig takes waits nothing =
+    let no : (not (is_kill (Some sig)) && false) ≡ true = subst (λ b. (not (is_kill (Some sig)) && (false || not b)) ≡ true) waits (subst (λ o. (not (is_kill o) && (not (is_some o) || not (is_block (wait_by call s me)))) ≡ true) takes nothing) in
     both_ways _ (and-false (not (is_kill (Some sig)))) no
 
 -- so who is blocked in a call is counted where it waits, and no signal is delivered
-pub acting_blocked : (s : State) (me : Process) (b : Blocked) (holds : ℕ → Type 0) → (b ≡ blocked.Waitpid → delivers_nothing s me ≡ true → holds (11 + 2 * length (children_in me.pid s.processes))) → IfSome (slots_of_acting s me (Some b)) holds
-acting_blocked s me blocked.Waitpid holds h = elim (delivers_nothing s me) as (λ b. delivers_nothing s me ≡ b → IfSome (cond b (Some (11 + 2 * length (children_in me.pid s.processes))) None) holds) [ true ↦ λ e. h refl e | false ↦ λ e. tt ] refl
+pub acting_blocked : (s : State) (me : Process) (b : Blocked) (holds : ℕ → Type 0) → ((call : WaitCall) → b ≡ blocked.Wait call → delivers_nothing s call me ≡ true → holds (11 + 2 * length (children_in me.pid s.processes))) → IfSome (slots_of_acting s me (Some b)) holds
+acting_blocked s me (blocked.Wait call) holds h = elim (delivers_nothing s call me) as (λ b. delivers_nothing s call me ≡ b → IfSome (cond b (Some (11 + 2 * length (children_in me.pid s.processes))) None) holds) [ true ↦ λ e. h call refl e | false ↦ λ e. tt ] refl
 acting_blocked s me blocked.Read holds h = tt
 acting_blocked s me blocked.Pause holds h = tt
 acting_blocked s me (blocked.Sigsuspend mask) holds h = tt

@@ -3,18 +3,19 @@ use Rattle.std.specs.Prelude.{◌&&◌, ◌||◌, ◌==◌, not, Bool, false, op
 use Rattle.posix.specs.declared.event.Event.{Event}
 use Rattle.posix.specs.declared.event.Event.TheVariants.{Step, Tick, Key}
 use Rattle.posix.specs.declared.process.Blocked.{Blocked}
+use Rattle.posix.specs.declared.waits.WaitCall.{WaitCall}
 use Rattle.posix.specs.declared.process.Blocked.TheVariants as blocked
 use Rattle.posix.specs.Processes.{Process}
 use Rattle.posix.specs.Alarms.{is_due}
 use Rattle.posix.specs.States.{State, change, current_process}
 use Rattle.posix.specs.Choice.{chosen}
 use Rattle.posix.specs.declared.call.Call.{Call}
-use Rattle.posix.specs.declared.call.Call.TheVariants.{Waitpid}
+use Rattle.posix.specs.declared.call.Call.TheVariants.{Waitpid, Waitid}
 use Rattle.posix.specs.declared.instr.Trap.{Trap}
 use Rattle.posix.specs.declared.instr.Trap.TheVariants as trap
 use Rattle.posix.specs.SignalNumbers.{KILL}
 use Rattle.posix.specs.Tables.{children_in}
-use Rattle.posix.specs.Waits.{wait}
+use Rattle.posix.specs.Waits.{wait_by}
 use Rattle.posix.specs.Execute.{exec_one}
 use Rattle.posix.specs.Regular.{IsRegular}
 use Rattle.posix.specs.Settle.{IsSettled, is_block}
@@ -50,6 +51,7 @@ pub record IsAtRest (m : MachineView) : Type 0 where
 -- a process that begins a wait may be blocked in it
 abbrev pub slots_of_blocking : Call → ℕ
 slots_of_blocking Waitpid = 1
+slots_of_blocking Waitid = 1
 slots_of_blocking call = 0
 
 -- an instruction that comes out so: a wait, or a signal that is sent to one process
@@ -65,13 +67,13 @@ is_kill None = false
 is_kill (Some n) = n == KILL
 
 -- a process that is blocked in a wait attempts it again, and no signal is delivered to it then
-abbrev pub delivers_nothing : State → Process → Bool
-delivers_nothing s me = not (is_kill (chosen me.life me.signals)) && (not (is_some (chosen me.life me.signals)) || not (is_block (wait s me)))
+abbrev pub delivers_nothing : State → WaitCall → Process → Bool
+delivers_nothing s call me = not (is_kill (chosen me.life me.signals)) && (not (is_some (chosen me.life me.signals)) || not (is_block (wait_by call s me)))
 
 -- what a process in this call reads as it acts, beside its own snapshot, with what settling reads
 abbrev pub slots_of_acting : State → Process → Option Blocked → Option ℕ
 slots_of_acting s me None = if is_some (chosen me.life me.signals) then None else slots_of_trap s.processes me (exec_one (code_of s me) me.cpu).trap
-slots_of_acting s me (Some blocked.Waitpid) = if delivers_nothing s me then Some (11 + 2 * length (children_in me.pid s.processes)) else None
+slots_of_acting s me (Some (blocked.Wait call)) = if delivers_nothing s call me then Some (11 + 2 * length (children_in me.pid s.processes)) else None
 slots_of_acting s me (Some blocked.Read) = None
 slots_of_acting s me (Some blocked.Pause) = None
 slots_of_acting s me (Some (blocked.Sigsuspend mask)) = None

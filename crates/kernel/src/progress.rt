@@ -25,6 +25,7 @@ fn reports_end(entry: &Entry) -> bool
     match entry {
         Entry::Reported {
             pid: _,
+            call: _,
             child: _,
             status,
         } => status.tells_end(),

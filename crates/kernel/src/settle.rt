@@ -53,9 +53,9 @@ fn is_awake<K: Kin>(
     }
     match snapshot.blocked {
         None => true,
-        Some(Blocked::Waitpid) => {
+        Some(Blocked::Wait(call)) => {
             let first = neighbour(machine, pid, last);
-            !has_to_wait(machine, pid, first)
+            !has_to_wait(machine, call, pid, first)
         }
         Some(Blocked::Read) => !has_to_read(machine, pid, snapshot),
         Some(Blocked::Pause | Blocked::Sigsuspend(_)) => false,

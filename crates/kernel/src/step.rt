@@ -1,14 +1,16 @@
 //! One event of the machine. What it shows is added to a list of entries that is empty before, so that
 //! an instruction that shows nothing moves none.
 
-ghost use Rattle.std.specs.Prelude.{◌≡◌, ◌≢◌, ◌+◌, ◌*◌, ℕ, [], length, None, IfSome, ◌<◌, ◌≤◌, ◌^◌, IsSome, Some, option_map, false, true};
+ghost use Rattle.std.specs.Prelude.{◌≡◌, ◌≢◌, ◌+◌, ◌*◌, ℕ, [], length, None, IfSome, is_some, ◌<◌, ◌≤◌, ◌^◌, IsSome, Some, option_map, false, true};
 ghost use Rattle.posix.specs.declared.call.Call.{Call as CallValue};
 ghost use Rattle.posix.specs.NextPid.{is_free};
 ghost use Rattle.posix.specs.Processes.{Process};
 ghost use Rattle.posix.specs.Choice.{chosen};
 ghost use Rattle.posix.specs.States.{process, current_process, change, lose_place as losing_place};
 ghost use Rattle.posix.specs.Outcomes.{Block};
-ghost use Rattle.posix.specs.Waits.{wait};
+ghost use Rattle.posix.specs.Calls.{wait_in};
+ghost use Rattle.posix.specs.Waits.{wait_by};
+ghost use Rattle.posix.specs.declared.waits.WaitCall.{WaitCall as WaitCallValue};
 ghost use Rattle.posix.specs.Execute.{exec_one};
 ghost use Rattle.posix.specs.Step.{code_of, enter as entered, tick as ticking, go_on as going_on, IsStep};
 ghost use Rattle.posix.specs.Alarms.{most_ticks};
@@ -19,7 +21,7 @@ ghost use Rattle.proctable.specs.Records.{snapshot_of};
 ghost use Rattle.posix.specs.States.{has_place};
 ghost use Rattle.life.specs.Rechecks.{is_in_wait};
 ghost use Rattle.posix.specs.Tables.{children_in};
-ghost use Rattle.posix.specs.Settle.{is_block};
+ghost use Rattle.posix.specs.Settle.{can_go_on};
 ghost use Rattle.pidset.specs.Numbers.{with_number};
 ghost use Rattle.calls.specs.Outcomes.{IsActing, IsQuiet, IsBrief, CostsAtMost, changes_caller_alone, slots_of_brief};
 ghost use Rattle.kernel.specs.Counts.{IsAtRest, ReadsAtMost, after_taken, alarms_due, delivers_nothing, slots_of_acting, slots_of_blocking, slots_of_event, slots_of_own_step, slots_of_trap};
@@ -30,7 +32,7 @@ use calls::delivery::{deliver, end, fault};
 use calls::outcome::Attempt;
 use calls::{Entries, attempt, attempt_again};
 use life::{Machine, Notes, Unchecked};
-use posix::{Blocked, Call, Entry, Event, Pid, Sig, Status, Trap};
+use posix::{Blocked, Call, Entry, Event, Pid, Sig, Status, Trap, WaitCall};
 use proctable::{Kin, Snapshot};
 
 /// A process that is there is blocked in a call, and loses its place.
@@ -50,12 +52,12 @@ fn enter_call<K: Kin>(machine: &mut Machine<K>, pid: Pid, blocked: Blocked)
 fn block<K: Kin>(machine: &mut Machine<K>, pid: Pid, call: Call, blocked: Blocked)
     requires acting { IsActing machine.old.state pid }
     requires none_chosen { NoneChosen machine.old.state pid }
-    requires waits { (me : Process) → process machine.old.state pid ≡ Some me → call ≡ Call.Waitpid → wait machine.old.state me ≡ Block blocked }
+    requires waits { (me : Process) → process machine.old.state pid ≡ Some me → (how : WaitCallValue) → wait_in call ≡ Some how → wait_by how machine.old.state me ≡ Block blocked }
     ensures state { machine.new.state ≡ losing_place (change machine.old.state pid (entered blocked)) pid }
-    ensures brief { call ≡ Call.Waitpid → IsQuiet pid machine.old → IsBrief 1 machine.old machine.new }
+    ensures brief { is_some (wait_in call) ≡ true → IsQuiet pid machine.old → IsBrief 1 machine.old machine.new }
 {
     enter_call(machine, pid, blocked);
-    if let Call::Waitpid = call {
+    if let Some(_) = WaitCall::named_by(call) {
         machine.rechecked(pid, None);
     }
 }
@@ -64,7 +66,7 @@ fn block<K: Kin>(machine: &mut Machine<K>, pid: Pid, call: Call, blocked: Blocke
 fn is_wait(blocked: &Blocked) -> bool
     ensures { result ≡ is_in_wait (Some blocked.now) }
 {
-    matches!(blocked, Blocked::Waitpid)
+    matches!(blocked, Blocked::Wait(_))
 }
 
 /// A process for which no signal is chosen still has to wait in its call, and loses its place. Where it waits for a
@@ -72,8 +74,8 @@ fn is_wait(blocked: &Blocked) -> bool
 fn wait_on<K: Kin>(machine: &mut Machine<K>, pid: Pid, waits: bool)
     requires acting { IsActing machine.old.state pid }
     requires none_chosen { NoneChosen machine.old.state pid }
-    requires blocked { (me : Process) → process machine.old.state pid ≡ Some me → waits ≡ true → me.blocked ≡ Some Blocked.Waitpid }
-    requires waits { (me : Process) → process machine.old.state pid ≡ Some me → waits ≡ true → is_block (wait machine.old.state me) ≡ true }
+    requires blocked { (me : Process) → process machine.old.state pid ≡ Some me → waits ≡ true → is_in_wait me.blocked ≡ true }
+    requires waits { (me : Process) → process machine.old.state pid ≡ Some me → waits ≡ true → can_go_on machine.old.state me me.blocked ≡ false }
     ensures state { machine.new.state ≡ losing_place machine.old.state pid }
     ensures brief { waits ≡ true → IsQuiet pid machine.old → IsBrief 0 machine.old machine.new }
 {
@@ -119,7 +121,7 @@ fn go_on<K: Kin>(
     requires blocked { (me : Process) → process machine.old.state pid ≡ Some me → me.blocked ≡ Some blocked }
     requires none { entries.old.items ≡ [] }
     ensures goes_on { (me : Process) → process machine.old.state pid ≡ Some me → going_on machine.old.state me (attempt_again machine.old.state me blocked) ≡ record { state = machine.new.state; entries = entries.new.items } }
-    ensures brief { (me : Process) → process machine.old.state pid ≡ Some me → IsQuiet pid machine.old → blocked ≡ Blocked.Waitpid → delivers_nothing machine.old.state me ≡ true → IsBrief (11 + 2 * length (children_in pid machine.old.state.processes)) machine.old machine.new }
+    ensures brief { (me : Process) → process machine.old.state pid ≡ Some me → IsQuiet pid machine.old → (how : WaitCallValue) → blocked ≡ Blocked.Wait how → delivers_nothing machine.old.state how me ≡ true → IsBrief (11 + 2 * length (children_in pid machine.old.state.processes)) machine.old machine.new }
 {
     let waits = is_wait(&blocked);
     match attempt_again(machine, pid, blocked, entries) {

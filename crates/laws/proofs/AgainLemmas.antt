@@ -1,13 +1,11 @@
 -- What a call that begins again changes.
 use Rattle.std.proofs.Common.{◌≡◌, ℕ, Bool, true, false, cond, not, ◌||◌, refl, ap, subst, ◌==◌, List, [], ◌∷◌, take, Option, Some, None, ℤ, pos, negsuc, Result, Ok, Err, slice_get, inl, inr}
 use Rattle.posix.specs.declared.call.Call.{Call}
-use Rattle.posix.specs.declared.call.Call.TheVariants.{Exit, Fork, Waitpid, Pause, SchedYield, Getpid, Getppid, Getuid, Geteuid, Getgid, Getegid, Setuid, Seteuid, Setgid, Setegid, Kill, Sigqueue, Sigaction, Sigprocmask, Sigpending, Sigsuspend, Sigreturn, Alarm, Exec, Getpgid, Getsid, Setpgid, Setsid, Setctty, Tcgetpgrp, Tcsetpgrp, Settostop, Read, Write}
+use Rattle.posix.specs.declared.call.Call.TheVariants.{Exit, Fork, Waitpid, Waitid, Pause, SchedYield, Getpid, Getppid, Getuid, Geteuid, Getgid, Getegid, Setuid, Seteuid, Setgid, Setegid, Kill, Sigqueue, Sigaction, Sigprocmask, Sigpending, Sigsuspend, Sigreturn, Alarm, Exec, Getpgid, Getsid, Setpgid, Setsid, Setctty, Tcgetpgrp, Tcsetpgrp, Settostop, Read, Write}
 use Rattle.posix.specs.declared.errno.Errno.{Errno}
 use Rattle.posix.specs.declared.process.Blocked.{Blocked}
 use Rattle.posix.specs.declared.process.Blocked.TheVariants as blocked
 use Rattle.posix.specs.declared.process.PendingSignal.{PendingSignal}
-use Rattle.posix.specs.declared.process.Report.{Report}
-use Rattle.posix.specs.declared.process.Report.TheVariants as found
 use Rattle.posix.specs.declared.process.Sending.{Sending}
 use Rattle.posix.specs.declared.process.Sending.TheVariants as sends
 use Rattle.posix.specs.declared.span.Span.{Span}
@@ -21,13 +19,16 @@ use Rattle.posix.specs.Outcomes.{Attempted, Done, Block, Again, silent}
 use Rattle.posix.specs.Groups.{is_orphaned}
 use Rattle.posix.specs.Births.{fork_as}
 use Rattle.posix.specs.Targets.{target_in, process_in}
-use Rattle.posix.specs.Waits.{wait, wait_with, report, options_in, are_known, has_option, WNOHANG}
+use Rattle.posix.specs.declared.waits.WaitCall.{WaitCall}
+use Rattle.posix.specs.declared.waits.WaitCall.TheVariants as wait
+use Rattle.posix.specs.Waits.{wait_by}
 use Rattle.posix.specs.Sends.{sending_granted, message, send_with, signal_or_none, send, kill, sigqueue}
 use Rattle.posix.specs.Programs.{exec_as, exec_of, exec}
 use Rattle.posix.specs.GroupCalls.{named, tells, getpgid, getsid, move_of, setpgid_with, setpgid_to, setpgid, is_group_of, is_group_of_others, setsid}
 use Rattle.posix.specs.Terminals.{terminal, is_in_background, blocks_or_ignores, if_allowed, console_named, may_acquire, setctty_of, setctty_at, setctty, tcgetpgrp_on, tcgetpgrp, put_foreground, tcsetpgrp_on, tcsetpgrp, settostop_on, settostop, finish_moved, read_from, read_in, read_on, read, write_in, write_on, write}
 use Rattle.posix.specs.Attempts.{attempt, attempt_again}
 use Rattle.posix.specs.Step.{begin_call, go_on, out_of_call}
+use Rattle.posix.proofs.WaitLemmas.{by_wait}
 use Rattle.laws.specs.Background.{HasSignalledItsGroup}
 
 -- an attempt that begins again has signalled the caller's process group
@@ -48,17 +49,8 @@ unfolding fork_as
 signalled_fork granted s me None = tt
 signalled_fork granted s me (Some n) = signalled_if s me granted _ _ tt tt
 
-signalled_with : (s : State) (me : Process) (options : ℕ) (what : Report) → SignalledIf s me (wait_with s me.pid options what)
-signalled_with s me options found.NoChild = tt
-signalled_with s me options found.Nothing = signalled_if s me (has_option options WNOHANG) _ _ tt tt
-signalled_with s me options (found.End child status) = tt
-signalled_with s me options (found.Change child status) = tt
-
-signalled_wait : (s : State) (me : Process) → SignalledIf s me (wait s me)
-unfolding wait
-signalled_wait s me =
-    let options = options_in (argument me 2) in
-    signalled_if s me (are_known options) _ _ (signalled_with s me options (report s.processes me.pid me.group (target_in (argument me 1)) options)) tt
+signalled_wait : (call : WaitCall) (s : State) (me : Process) → SignalledIf s me (wait_by call s me)
+signalled_wait call s me = by_wait (SignalledIf s me) call s me (λ why. tt) tt tt (λ target options child status e. (tt, tt)) (λ target options child status e. (tt, tt))
 
 signalled_sending : (s : State) (me : Process) (call : Call) (target : Target) (signal : Option PendingSignal) (what : Sending) → SignalledIf s me (send_with s me call target signal what)
 signalled_sending s me call target signal sends.NobodyFound = tt
@@ -210,7 +202,8 @@ signalled_attempt : (granted : Bool) (s : State) (me : Process) (call : Call) �
 unfolding attempt
 signalled_attempt granted s me Exit = tt
 signalled_attempt granted s me Fork = signalled_fork granted s me (next_pid s)
-signalled_attempt granted s me Waitpid = signalled_wait s me
+signalled_attempt granted s me Waitpid = signalled_wait wait.Waitpid s me
+signalled_attempt granted s me Waitid = signalled_wait wait.Waitid s me
 signalled_attempt granted s me Pause = tt
 signalled_attempt granted s me SchedYield = tt
 signalled_attempt granted s me Getpid = tt
@@ -245,7 +238,7 @@ signalled_attempt granted s me Write = signalled_write s me
 
 signalled_again : (s : State) (me : Process) (b : Blocked) → SignalledIf s me (attempt_again s me b)
 unfolding attempt_again
-signalled_again s me blocked.Waitpid = signalled_wait s me
+signalled_again s me (blocked.Wait call) = signalled_wait call s me
 signalled_again s me blocked.Read = signalled_read s me
 signalled_again s me blocked.Pause = tt
 signalled_again s me (blocked.Sigsuspend mask) = tt

@@ -3,13 +3,13 @@ use Rattle.std.proofs.Common.{◌≡◌, ℕ, Bool, true, false, not, ◌&&◌, 
 use Rattle.std.specs.Int.{cast_unsigned, w64}
 use Rattle.std.proofs.lemmas.Bool.{cond_both}
 use Rattle.posix.specs.declared.call.Call.{Call}
-use Rattle.posix.specs.declared.call.Call.TheVariants.{Exit, Fork, Waitpid, Pause, SchedYield, Getpid, Getppid, Getuid, Geteuid, Getgid, Getegid, Setuid, Seteuid, Setgid, Setegid, Kill, Sigqueue, Sigaction, Sigprocmask, Sigpending, Sigsuspend, Sigreturn, Alarm, Exec, Getpgid, Getsid, Setpgid, Setsid, Setctty, Tcgetpgrp, Tcsetpgrp, Settostop, Read, Write}
+use Rattle.posix.specs.declared.call.Call.TheVariants.{Exit, Fork, Waitpid, Waitid, Pause, SchedYield, Getpid, Getppid, Getuid, Geteuid, Getgid, Getegid, Setuid, Seteuid, Setgid, Setegid, Kill, Sigqueue, Sigaction, Sigprocmask, Sigpending, Sigsuspend, Sigreturn, Alarm, Exec, Getpgid, Getsid, Setpgid, Setsid, Setctty, Tcgetpgrp, Tcsetpgrp, Settostop, Read, Write}
 use Rattle.posix.specs.declared.instr.Trap.{Trap}
 use Rattle.posix.specs.declared.instr.Trap.TheVariants as trap
 use Rattle.posix.specs.declared.errno.Errno.{Errno}
-use Rattle.posix.specs.declared.errno.Errno.TheVariants.{EPERM, ESRCH, ECHILD, EAGAIN, EINVAL, ENOENT, EINTR}
+use Rattle.posix.specs.declared.errno.Errno.TheVariants.{EPERM, ESRCH, EAGAIN, ENOENT, EINTR}
 use Rattle.posix.specs.declared.entry.Entry.{Entry}
-use Rattle.posix.specs.declared.entry.Entry.TheVariants.{Noted, Called, Reported, NoMemory, Handled, Discarded, Returned}
+use Rattle.posix.specs.declared.entry.Entry.TheVariants.{Noted, Called, Reported, Looked, NoMemory, Handled, Discarded, Returned}
 use Rattle.posix.specs.declared.how.How.{How}
 use Rattle.posix.specs.declared.sig.DefaultAction.{DefaultAction}
 use Rattle.posix.specs.declared.sig.DefaultAction.TheVariants as default
@@ -22,7 +22,6 @@ use Rattle.posix.specs.declared.process.Handler.TheVariants as handler
 use Rattle.posix.specs.declared.process.Life.{Life}
 use Rattle.posix.specs.declared.process.Life.TheVariants.{Running, Stopped, Zombie}
 use Rattle.posix.specs.declared.process.PendingSignal.{PendingSignal}
-use Rattle.posix.specs.declared.process.Report.{Report}
 use Rattle.posix.specs.declared.process.Report.TheVariants as found
 use Rattle.posix.specs.declared.process.Sending.{Sending}
 use Rattle.posix.specs.declared.process.Sending.TheVariants as sends
@@ -43,7 +42,10 @@ use Rattle.posix.specs.Handlers.{handles, is_full, is_interrupted, newest_frame,
 use Rattle.posix.specs.Births.{born, fork_as}
 use Rattle.posix.specs.Ends.{end_process}
 use Rattle.posix.specs.Targets.{target_in, process_in}
-use Rattle.posix.specs.Waits.{wait, wait_with, report, options_in, are_known, has_option, WNOHANG, news_told}
+use Rattle.posix.specs.declared.waits.WaitCall.{WaitCall}
+use Rattle.posix.specs.declared.waits.WaitCall.TheVariants as wait
+use Rattle.posix.specs.Calls.{call_of_wait}
+use Rattle.posix.specs.Waits.{wait_by, results_of, results_of_nothing, news_told}
 use Rattle.posix.specs.Delivery.{call_of, interruption, handle, act_by_default, act_on, take_out, deliver, fault_with, fault, return_to, return_from_handler}
 use Rattle.posix.specs.Sends.{sent, sent_among, permitted, targets, sending_granted, message, send_with, signal_in, signal_or_none, send, kill, sigqueue}
 use Rattle.posix.specs.SignalCalls.{set_credentials, give_credentials, give_signals, holding, is_question, are_flags, action_in, sigaction_with, sigaction_of, sigaction, how_in, sigprocmask_with, sigprocmask, sigpending}
@@ -55,13 +57,14 @@ use Rattle.posix.specs.Step.{act, act_in, after_trap, begin_call, enter, set_cpu
 use Rattle.laws.specs.Agree.{AreTurns}
 use Rattle.posix.proofs.NextLemmas.{new_number}
 use Rattle.posix.proofs.ReportLemmas.{reporting}
+use Rattle.posix.proofs.WaitLemmas.{by_wait, IfTold}
 use Rattle.laws.proofs.StatusLemmas.{killed_word, exited_word}
 use Rattle.laws.proofs.SignalLemmas.{chosen_signal, default_stop, IsSignalled, trap_signalled}
 use Rattle.laws.proofs.NewsLemmas.{end_of, change_of}
 use Rattle.laws.proofs.QuietLemmas.{Quiet, quiet_same, quiet_then, Untold, untold_none, untold_cond, quiet_change, IsRunning, quiet_own, running_own}
 use Rattle.laws.proofs.QuietOperations.{quiet_signalled, quiet_lose, quiet_last}
 use Rattle.laws.proofs.ToldLines.{is_plain, IsLiving}
-use Rattle.laws.proofs.ToldOutcomes.{IsTold, told_quiet, told_after, told_before, told_plain, told_line, told_end, told_stop, told_born, told_reaped, told_news, running_living}
+use Rattle.laws.proofs.ToldOutcomes.{IsTold, told_quiet, told_after, told_before, told_plain, told_line, told_end, told_stop, told_born, told_reaped, told_news, told_looked_at_end, told_looked_at_news, running_living}
 use Rattle.laws.proofs.AgreeTerminals.{IsTaking, taking_running, taking_living, TellsIf, quiet_finished, tells_gives, tells_plain, tells_answers, tells_setctty, tells_tcgetpgrp, tells_tcsetpgrp, tells_settostop, tells_read, tells_write}
 
 -- ---- changes of the caller
@@ -137,7 +140,8 @@ told_interrupted s p (Some b) a o me h = cond_both (is_interrupted (Some b) a) (
     (λ t. told_plain s p (Called p (call_of b) (refusal EINTR)) o me refl (silent_call b) h) (λ t. h)
   where
     silent_call : (b : Blocked) → is_plain (Called p (call_of b) (refusal EINTR)) ≡ true
-    silent_call blocked.Waitpid = refl
+    silent_call (blocked.Wait wait.Waitpid) = refl
+    silent_call (blocked.Wait wait.Waitid) = refl
     silent_call blocked.Read = refl
     silent_call blocked.Pause = refl
     silent_call (blocked.Sigsuspend mask) = refl
@@ -221,28 +225,32 @@ tells_fork granted s me (Some n) c e =
     (λ t. told_before s (born s me n) _ (Called me.pid Fork (pos n) ∷ []) (told_born s me n c.awake c.found c.runs new.least new.fresh) (quiet_finished (born s me n) me.pid ((0, pos n) ∷ [])))
     (λ t. told_line s _ me.pid (NoMemory me.pid Fork) c.awake (taking_living s me c) refl refl (quiet_finished s me.pid ((0, refusal EAGAIN) ∷ [])))
 
--- a wait, by what it found
-tells_with : (s : State) (me : Process) (target : Target) (options : ℕ) (what : Report) → IsTaking s me → report s.processes me.pid me.group target options ≡ what → TellsIf s (wait_with s me.pid options what)
-tells_with s me target options found.NoChild c e = tells_plain s me Waitpid (refusal ECHILD) c refl
-tells_with s me target options found.Nothing c e = cond_both (has_option options WNOHANG) _ _ (TellsIf s) (λ t. tells_plain s me Waitpid (pos 0) c refl) (λ t. tt)
-tells_with s me target options (found.End child status) c e =
+-- a wait
+tells_wait : (call : WaitCall) (s : State) (me : Process) → IsTaking s me → TellsIf s (wait_by call s me)
+tells_wait call s me c =
+    let me_lives = taking_living s me c in
+    by_wait (TellsIf s) call s me (λ why. tells_plain s me (call_of_wait call) (refusal why) c (plain call (refusal why)))
+    (told_line s _ me.pid (Called me.pid (call_of_wait call) (pos 0)) c.awake me_lives refl (plain call (pos 0)) (quiet_finished s me.pid (results_of_nothing call))) tt
+    (λ target options child status e.
     let h = reporting s.processes c.up me.pid me.group target options (found.End child status) child e refl in
-    told_before s (record s { processes = removed child s.processes }) _ (Reported me.pid child status ∷ [])
-    (told_reaped s me.pid child status h.what c.awake (taking_living s me c) c.up h.found h.parent (end_of options h.what child status h.says))
-    (quiet_finished (record s { processes = removed child s.processes }) me.pid ((0, pos child) ∷ (1, pos status) ∷ []))
-tells_with s me target options (found.Change child status) c e =
+    let life = end_of options h.what child status h.says in
+    tells_child s (record s { processes = removed child s.processes }) me call child status (told_looked_at_end s me.pid child status h.what c.awake me_lives h.found h.parent life)
+    (told_reaped s me.pid call child status h.what c.awake me_lives c.up h.found h.parent life))
+    (λ target options child status e.
     let h = reporting s.processes c.up me.pid me.group target options (found.Change child status) child e refl in
     let n = change_of options h.what child status h.says in
-    told_before s (change s child news_told) _ (Reported me.pid child status ∷ [])
-    (told_news s me.pid child status h.what c.awake (taking_living s me c) h.found h.parent n.0 n.1)
-    (quiet_finished (change s child news_told) me.pid ((0, pos child) ∷ (1, pos status) ∷ []))
+    tells_child s (change s child news_told) me call child status (told_looked_at_news s me.pid child status h.what c.awake me_lives h.found h.parent n.0 n.1)
+    (told_news s me.pid call child status h.what c.awake me_lives h.found h.parent n.0 n.1))
+  where
+    plain : (call : WaitCall) (z : ℤ) → is_plain (Called me.pid (call_of_wait call) z) ≡ true
+    plain wait.Waitpid z = refl
+    plain wait.Waitid z = refl
 
--- a wait
-tells_wait : (s : State) (me : Process) → IsTaking s me → TellsIf s (wait s me)
-unfolding wait
-tells_wait s me c =
-    cond_both (are_known (options_in (argument me 2))) _ _ (TellsIf s) (λ t. tells_with s me (target_in (argument me 1)) (options_in (argument me 2)) _ c refl)
-    (λ t. tells_plain s me Waitpid (refusal EINVAL) c refl)
+    tells_child : (s collected : State) (me : Process) (call : WaitCall) (child status : ℕ) → IsTold s (record { state = s; entries = Looked me.pid child status ∷ [] }) → IsTold s (record { state = collected; entries = Reported me.pid call child status ∷ [] })
+        → IfTold (TellsIf s) s collected me.pid call child status
+    tells_child s collected me call child status looked taken =
+        let results = results_of call child status in
+        (told_before s s _ (Looked me.pid child status ∷ []) looked (quiet_finished s me.pid results), told_before s collected _ (Reported me.pid call child status ∷ []) taken (quiet_finished collected me.pid results))
 
 -- a signal that is sent
 quiet_sent : (s : State) (me : Process) (target : Target) (signal : Option PendingSignal) → Quiet s (record s { processes = sent me target signal s.processes })
@@ -373,7 +381,8 @@ tells_attempt : (granted : Bool) (s : State) (me : Process) (call : Call) → Is
 unfolding attempt
 tells_attempt granted s me Exit c = told_end s me (exited (argument me 1)) c.awake c.up (taking_living s me c) (exited_word (argument me 1))
 tells_attempt granted s me Fork c = tells_fork granted s me (next_pid s) c refl
-tells_attempt granted s me Waitpid c = tells_wait s me c
+tells_attempt granted s me Waitpid c = tells_wait wait.Waitpid s me c
+tells_attempt granted s me Waitid c = tells_wait wait.Waitid s me c
 tells_attempt granted s me Pause c = tt
 tells_attempt granted s me SchedYield c = tells_gives s (go_last s me.pid) me SchedYield (pos 0) c (quiet_last s me.pid c.place) refl
 tells_attempt granted s me Getpid c = tells_plain s me Getpid _ c refl
@@ -409,7 +418,7 @@ tells_attempt granted s me Write c = tells_write s me c
 -- each call afresh
 tells_again : (s : State) (me : Process) (b : Blocked) → IsTaking s me → TellsIf s (attempt_again s me b)
 unfolding attempt_again
-tells_again s me blocked.Waitpid c = tells_wait s me c
+tells_again s me (blocked.Wait call) c = tells_wait call s me c
 tells_again s me blocked.Read c = tells_read s me c
 tells_again s me blocked.Pause c = tt
 tells_again s me (blocked.Sigsuspend mask) c = tt

@@ -1,6 +1,7 @@
 -- For each law a trace that keeps all of them, and a line that would break it.
 use Rattle.std.specs.Prelude.{◌≡◌, ◌&&◌, not, Bool, true, refl, List, [], ◌∷◌, ◌++◌, pos}
-use Rattle.posix.specs.declared.entry.Entry.TheVariants.{Noted, Called, Reported, Stopped, Ended, Halted}
+use Rattle.posix.specs.declared.waits.WaitCall.TheVariants as wait
+use Rattle.posix.specs.declared.entry.Entry.TheVariants.{Noted, Called, Reported, Looked, Stopped, Ended, Halted}
 use Rattle.posix.specs.declared.call.Call.TheVariants.{Fork, SchedYield}
 use Rattle.posix.specs.Entries.{Line, line}
 use Rattle.laws.specs.Lives.{newest_life, is_living, lawful}
@@ -13,35 +14,52 @@ breaks before l = lawful before && not (lawful (before ++ l ∷ []))
 abbrev child_ends : List Line
 child_ends = line 1 (Called 1 Fork (pos 2)) ∷ line 2 (Called 1 SchedYield (pos 0)) ∷ line 3 (Ended 2 0) ∷ []
 
-broken_end_reported_twice : breaks (child_ends ++ line 4 (Reported 1 2 0) ∷ []) (line 5 (Reported 1 2 0)) ≡ true
+broken_end_reported_twice : breaks (child_ends ++ line 4 (Reported 1 wait.Waitpid 2 0) ∷ []) (line 5 (Reported 1 wait.Waitpid 2 0)) ≡ true
 unfolding newest_life is_living
 broken_end_reported_twice = refl
 
-broken_status_of_another_end : breaks child_ends (line 4 (Reported 1 2 256)) ≡ true
+broken_status_of_another_end : breaks child_ends (line 4 (Reported 1 wait.Waitpid 2 256)) ≡ true
 unfolding newest_life is_living
 broken_status_of_another_end = refl
+
+broken_reported_end_is_looked_at : breaks (child_ends ++ line 4 (Reported 1 wait.Waitid 2 0) ∷ []) (line 5 (Looked 1 2 0)) ≡ true
+unfolding newest_life is_living
+broken_reported_end_is_looked_at = refl
+
+-- looks are no reports
+looked_at_end_is_reported : lawful (child_ends ++ line 4 (Looked 1 2 0) ∷ line 5 (Looked 1 2 0) ∷ line 6 (Reported 1 wait.Waitid 2 0) ∷ []) ≡ true
+unfolding newest_life is_living
+looked_at_end_is_reported = refl
 
 -- its child has one, too
 abbrev grandchild_ends : List Line
 grandchild_ends = line 1 (Called 1 Fork (pos 2)) ∷ line 2 (Called 1 SchedYield (pos 0)) ∷ line 3 (Called 2 Fork (pos 3)) ∷ line 4 (Called 2 SchedYield (pos 0)) ∷ line 5 (Ended 3 0) ∷ []
 
-broken_end_reported_to_a_grandparent : breaks grandchild_ends (line 6 (Reported 1 3 0)) ≡ true
+broken_end_reported_to_a_grandparent : breaks grandchild_ends (line 6 (Reported 1 wait.Waitpid 3 0)) ≡ true
 unfolding newest_life is_living
 broken_end_reported_to_a_grandparent = refl
 
-adopted_child_is_reported : lawful (grandchild_ends ++ line 6 (Ended 2 0) ∷ line 7 (Reported 1 3 0) ∷ []) ≡ true
+broken_end_looked_at_by_a_grandparent : breaks grandchild_ends (line 6 (Looked 1 3 0)) ≡ true
+unfolding newest_life is_living
+broken_end_looked_at_by_a_grandparent = refl
+
+adopted_child_is_reported : lawful (grandchild_ends ++ line 6 (Ended 2 0) ∷ line 7 (Reported 1 wait.Waitpid 3 0) ∷ []) ≡ true
 unfolding newest_life is_living
 adopted_child_is_reported = refl
 
 -- process 1 has a child, whose stop it reports
 abbrev stop_is_reported : List Line
-stop_is_reported = line 1 (Called 1 Fork (pos 2)) ∷ line 2 (Called 1 SchedYield (pos 0)) ∷ line 3 (Stopped 2 19) ∷ line 4 (Reported 1 2 4991) ∷ []
+stop_is_reported = line 1 (Called 1 Fork (pos 2)) ∷ line 2 (Called 1 SchedYield (pos 0)) ∷ line 3 (Stopped 2 19) ∷ line 4 (Reported 1 wait.Waitpid 2 4991) ∷ []
 
-broken_stop_reported_twice : breaks stop_is_reported (line 5 (Reported 1 2 4991)) ≡ true
+broken_stop_reported_twice : breaks stop_is_reported (line 5 (Reported 1 wait.Waitpid 2 4991)) ≡ true
 unfolding newest_life is_living
 broken_stop_reported_twice = refl
 
-broken_continue_reported_twice : breaks (stop_is_reported ++ line 5 (Reported 1 2 65535) ∷ []) (line 6 (Reported 1 2 65535)) ≡ true
+broken_reported_stop_is_looked_at : breaks stop_is_reported (line 5 (Looked 1 2 4991)) ≡ true
+unfolding newest_life is_living
+broken_reported_stop_is_looked_at = refl
+
+broken_continue_reported_twice : breaks (stop_is_reported ++ line 5 (Reported 1 wait.Waitpid 2 65535) ∷ []) (line 6 (Reported 1 wait.Waitpid 2 65535)) ≡ true
 unfolding newest_life is_living
 broken_continue_reported_twice = refl
 

@@ -3,15 +3,15 @@ use Rattle.std.proofs.Common.{◌≡◌, ℕ, ◌+◌, ◌≤◌, Bool, true, fa
 use Rattle.std.specs.Int.{cast_unsigned, w64, int_wrapping_div}
 use Rattle.std.proofs.lemmas.Bool.{eqb-false, cond_both, leb-true, and_parts, or_cases}
 use Rattle.posix.specs.declared.call.Call.{Call}
-use Rattle.posix.specs.declared.call.Call.TheVariants.{Exit, Fork, Waitpid, Pause, SchedYield, Getpid, Getppid, Getuid, Geteuid, Getgid, Getegid, Setuid, Seteuid, Setgid, Setegid, Kill, Sigqueue, Sigaction, Sigprocmask, Sigpending, Sigsuspend, Sigreturn, Alarm, Exec, Getpgid, Getsid, Setpgid, Setsid, Setctty, Tcgetpgrp, Tcsetpgrp, Settostop, Read, Write}
+use Rattle.posix.specs.declared.call.Call.TheVariants.{Exit, Fork, Waitpid, Waitid, Pause, SchedYield, Getpid, Getppid, Getuid, Geteuid, Getgid, Getegid, Setuid, Seteuid, Setgid, Setegid, Kill, Sigqueue, Sigaction, Sigprocmask, Sigpending, Sigsuspend, Sigreturn, Alarm, Exec, Getpgid, Getsid, Setpgid, Setsid, Setctty, Tcgetpgrp, Tcsetpgrp, Settostop, Read, Write}
 use Rattle.posix.specs.declared.instr.Trap.{Trap}
 use Rattle.posix.specs.declared.instr.Trap.TheVariants as trap
 use Rattle.posix.specs.declared.event.Event.{Event}
 use Rattle.posix.specs.declared.event.Event.TheVariants.{Step, Tick, Key}
 use Rattle.posix.specs.declared.errno.Errno.{Errno}
-use Rattle.posix.specs.declared.errno.Errno.TheVariants.{EPERM, ESRCH, ECHILD, EAGAIN, EINVAL, ENOENT, EINTR}
+use Rattle.posix.specs.declared.errno.Errno.TheVariants.{EPERM, ESRCH, EAGAIN, EINVAL, ENOENT, EINTR}
 use Rattle.posix.specs.declared.entry.Entry.{Entry}
-use Rattle.posix.specs.declared.entry.Entry.TheVariants.{Noted, Called, Reported, NoMemory, Handled, Discarded, Returned}
+use Rattle.posix.specs.declared.entry.Entry.TheVariants.{Noted, Called, Reported, Looked, NoMemory, Handled, Discarded, Returned}
 use Rattle.posix.specs.declared.how.How.{How}
 use Rattle.posix.specs.declared.sig.DefaultAction.{DefaultAction}
 use Rattle.posix.specs.declared.sig.DefaultAction.TheVariants as default
@@ -22,7 +22,6 @@ use Rattle.posix.specs.declared.process.Frame.{Frame}
 use Rattle.posix.specs.declared.process.Handler.{Handler}
 use Rattle.posix.specs.declared.process.Handler.TheVariants as handler
 use Rattle.posix.specs.declared.process.PendingSignal.{PendingSignal}
-use Rattle.posix.specs.declared.process.Report.{Report}
 use Rattle.posix.specs.declared.process.Report.TheVariants as found
 use Rattle.posix.specs.declared.process.Sending.{Sending}
 use Rattle.posix.specs.declared.process.Sending.TheVariants as sends
@@ -33,7 +32,7 @@ use Rattle.posix.specs.Statuses.{exited, killed, stopped, continued, is_end_word
 use Rattle.posix.specs.Processes.{Process, Signals, Credentials, Cpu, argument, zero_registers, zero_memory, first_process, default_actions, nothing_pending}
 use Rattle.posix.specs.Tables.{IsRising, lookup, removed, pids}
 use Rattle.posix.specs.States.{Program, State, change, lose_place, go_last, current, next_pid, process, World, boot}
-use Rattle.posix.specs.Outcomes.{Outcome, silent, Attempted, Done, Block, Again, Reply, finished, refusal, refusing, finish_with, finish_call, no_memory}
+use Rattle.posix.specs.Outcomes.{Outcome, silent, Attempted, Done, Block, Again, Reply, refusal, refusing, finish_with, finish_call, no_memory}
 use Rattle.posix.specs.Credentials.{may, setuid, seteuid, setgid, setegid}
 use Rattle.posix.specs.Generation.{action, has_sig, is_pending}
 use Rattle.posix.specs.Groups.{is_orphaned}
@@ -42,7 +41,10 @@ use Rattle.posix.specs.Handlers.{handles, is_full, is_interrupted, newest_frame,
 use Rattle.posix.specs.Births.{born, fork_as}
 use Rattle.posix.specs.Ends.{end_process}
 use Rattle.posix.specs.Targets.{target_in, process_in}
-use Rattle.posix.specs.Waits.{wait, wait_with, report, options_in, are_known, has_option, WNOHANG, news_told}
+use Rattle.posix.specs.declared.waits.WaitCall.{WaitCall}
+use Rattle.posix.specs.declared.waits.WaitCall.TheVariants as wait
+use Rattle.posix.specs.Calls.{call_of_wait}
+use Rattle.posix.specs.Waits.{wait_by, results_of, results_of_nothing, news_told}
 use Rattle.posix.specs.Delivery.{call_of, interruption, handle, act_by_default, act_on, take_out, deliver, fault_with, fault, return_to, return_from_handler, stop_process}
 use Rattle.posix.specs.Sends.{is_target, sent, sent_by, sent_among, permitted, targets, sending, has_full_queue, is_queuer, queuers, queued_for, queuers_among, sending_granted, message, send_with, signal_in, signal_or_none, send, kill, sigqueue}
 use Rattle.posix.specs.SignalCalls.{set_credentials, is_question, are_flags, action_in, sigaction_with, sigaction_of, sigaction, how_in, sigprocmask_with, sigprocmask, sigpending, pending_set}
@@ -78,12 +80,13 @@ use Rattle.laws.proofs.StatusLemmas.{killed_word, exited_word}
 use Rattle.laws.proofs.SignalLemmas.{chosen_signal, default_stop, IsSignalled, trap_signalled}
 use Rattle.laws.proofs.NewsLemmas.{end_of, change_of, IsNewsOf}
 use Rattle.posix.proofs.ReportLemmas.{reporting}
+use Rattle.posix.proofs.WaitLemmas.{by_wait, IfTold}
 use Rattle.laws.proofs.QuietLemmas.{Untold}
 use Rattle.laws.proofs.AgreeStays.{untold_enter, untold_returned, untold_handles, untold_take_out, untold_set_cpu, untold_executed, untold_out, untold_ids, untold_action, untold_mask, untold_pending, untold_alarm_call}
 use Rattle.laws.proofs.KindLemmas.{and_both, all_get, all_set, all_found, all_same, small_i64, id_i64, cast_i64, rem_i64}
 use Rattle.laws.proofs.KindChanges.{KeepsKind, HasRoom, kind_argument, kind_stopped, kind_take_out, kind_written, kind_set_cpu, kind_child, kind_action, kind_handles, kind_frame, kind_returned, kind_enter, kind_out, kind_told, kind_alarm, kind_grouped, kind_led, kind_credentials, kind_give, kind_holding, kind_set_action, kind_mask, CredentialsIf, kind_setuid, kind_seteuid, kind_setgid, kind_setegid, kind_executed}
 use Rattle.laws.proofs.KindStates.{AllKind, IsThereWithRoom, kinds_changed, kinds_removed, kinds_inserted, kinds_stop_told, kinds_signalled, kinds_queued, kinds_as, kinds_change, kinds_end, end_small, kinds_key, kinds_tick, kinds_settled}
-use Rattle.laws.proofs.FormTerminals.{IsFormed, FormsIf, IsSaying, saying_kind, number_there, saying_number, group_there, refusal_i64, form_called, kinds_finished, form_gives, form_plain, form_answers, form_setctty, form_tcgetpgrp, form_tcsetpgrp, form_settostop, form_read, form_write}
+use Rattle.laws.proofs.FormTerminals.{IsFormed, FormsIf, IsSaying, saying_kind, number_there, saying_number, group_there, refusal_i64, refusal_below, form_called, kinds_finished, form_gives, form_plain, form_answers, form_setctty, form_tcgetpgrp, form_tcsetpgrp, form_settostop, form_read, form_write}
 
 -- news of a stop or of a continue have a word
 news_few : (r : Process) (w : ℕ) → IsKind r → IsNewsOf r w → w ≤ 65535
@@ -141,7 +144,8 @@ form_interrupted p (Some b) a es n h = cond_both (is_interrupted (Some b) a) (Ca
     (λ t. and_both (is_entry (Called p (call_of b) (refusal EINTR))) (list_all is_entry es) (and_both (is_number p && true) (is_result (call_of b) (refusal EINTR)) (and_both (is_number p) true n refl) (of b)) h) (λ t. h)
   where
     of : (b : Blocked) → is_result (call_of b) (refusal EINTR) ≡ true
-    of blocked.Waitpid = refl
+    of (blocked.Wait wait.Waitpid) = refl
+    of (blocked.Wait wait.Waitid) = refl
     of blocked.Read = refl
     of blocked.Pause = refl
     of (blocked.Sigsuspend mask) = refl
@@ -265,38 +269,49 @@ form_fork granted s me (Some n) c e =
     (λ t. form_gives s (born s me n) me Fork (pos n) c kinds (id_i64 n id) id)
     (λ t. form_no_memory s me Fork c refl)
 
-form_report : (s t : State) (me : Process) (child w : ℕ) → IsSaying s me → AreKinds t → is_number child ≡ true → w ≤ 65535 → IsFormed (record { state = change t me.pid (finished ((0, pos child) ∷ (1, pos w) ∷ [])); entries = Reported me.pid child w ∷ [] })
-form_report s t me child w c k n few =
+-- what a report gives
+results_i64 : (call : WaitCall) (child w : ℕ) → is_id child ≡ true → w ≤ 65535 → list_all (λ (r : ℕ × ℤ). is_i64 r.1) (results_of call child w) ≡ true
+results_i64 wait.Waitpid child w id few = and_both (is_i64 (pos child)) _ (id_i64 child id) (and_both (is_i64 (pos w)) true (small_i64 w (omega (arith, few))) refl)
+results_i64 wait.Waitid child w id few = and_both (is_i64 (pos child)) _ (id_i64 child id) (and_both (is_i64 (pos w)) true (small_i64 w (omega (arith, few))) refl)
+
+-- a child that is looked at, or whose report is collected
+form_told : (s collected : State) (me : Process) (call : WaitCall) (child w : ℕ) → IsSaying s me → AreKinds collected → is_number child ≡ true → w ≤ 65535 → IfTold FormsIf s collected me.pid call child w
+form_told s collected me call child w c k n few =
     let small : nat_le w 65535 ≡ true = grind (arith, nat_tests, few) in
     let id : is_id child ≡ true = (and_parts (nat_le 1 child) (nat_le child 2147483647) n).1 in
-    record {
-      entries = one_formed (Reported me.pid child w) (and_both _ (nat_le w 65535) (and_both (is_number me.pid) (is_number child) (saying_number s me c) n) small);
-      kinds = kinds_finished t me.pid ((0, pos child) ∷ (1, pos w) ∷ []) (and_both (is_i64 (pos child)) _ (id_i64 child id) (and_both (is_i64 (pos w)) true (small_i64 w (omega (arith, few))) refl)) k;
-    }
+    let formed = and_both _ (nat_le w 65535) (and_both (is_number me.pid) (is_number child) (saying_number s me c) n) small in
+    let given = results_i64 call child w id few in (
+      record { entries = one_formed (Looked me.pid child w) formed; kinds = kinds_finished s me.pid (results_of call child w) given c.kinds },
+      record { entries = one_formed (Reported me.pid call child w) formed; kinds = kinds_finished collected me.pid (results_of call child w) given k },
+    )
 
-form_with : (s : State) (me : Process) (target : Target) (options : ℕ) (what : Report) → IsSaying s me → report s.processes me.pid me.group target options ≡ what → FormsIf (wait_with s me.pid options what)
-form_with s me target options found.NoChild c e = form_plain s me Waitpid (refusal ECHILD) c refl refl
-form_with s me target options found.Nothing c e = cond_both (has_option options WNOHANG) _ _ FormsIf (λ t. form_plain s me Waitpid (pos 0) c refl refl) (λ t. tt)
-form_with s me target options (found.End child status) c e =
+form_wait : (call : WaitCall) (s : State) (me : Process) → IsSaying s me → FormsIf (wait_by call s me)
+form_wait call s me c =
+    by_wait FormsIf call s me (λ why. form_plain s me (call_of_wait call) (refusal why) c (refusal_i64 why) (refused call why))
+    (record { entries = form_called me.pid (call_of_wait call) (pos 0) (saying_number s me c) refl (zero call); kinds = kinds_finished s me.pid (results_of_nothing call) (zeros call) c.kinds }) tt
+    (λ target options child status e.
     let h = reporting s.processes c.regular.rising me.pid me.group target options (found.End child status) child e refl in
-    let named = pid_looked child s.processes h.what h.found in
-    let number = subst (λ n. is_number n ≡ true) named (number_there s child h.what c.regular c.kinds h.found) in
     let word : is_end_word status ≡ true = sym (ap is_life (end_of options h.what child status h.says)) ∙ (c.kinds.records child h.what h.found).life in
     let small = end_small status word in
-    form_report s (record s { processes = removed child s.processes }) me child status c (kinds_as s _ refl refl (kinds_removed child s.processes c.kinds.records) c.kinds) number (omega (arith, small))
-form_with s me target options (found.Change child status) c e =
+    form_told s (record s { processes = removed child s.processes }) me call child status c (kinds_as s _ refl refl (kinds_removed child s.processes c.kinds.records) c.kinds) (number child h.what h.found) (omega (arith, small)))
+    (λ target options child status e.
     let h = reporting s.processes c.regular.rising me.pid me.group target options (found.Change child status) child e refl in
-    let named = pid_looked child s.processes h.what h.found in
-    let number = subst (λ n. is_number n ≡ true) named (number_there s child h.what c.regular c.kinds h.found) in
-    form_report s (change s child news_told) me child status c (kinds_told s child c.kinds) number (news_few h.what status (c.kinds.records child h.what h.found) (change_of options h.what child status h.says).1)
+    form_told s (change s child news_told) me call child status c (kinds_change s child news_told told_pid kind_told c.kinds) (number child h.what h.found) (news_few h.what status (c.kinds.records child h.what h.found) (change_of options h.what child status h.says).1))
   where
-    kinds_told : (s : State) (child : ℕ) → AreKinds s → AreKinds (change s child news_told)
-    kinds_told s child k = kinds_change s child news_told told_pid kind_told k
+    refused : (call : WaitCall) (why : Errno) → is_result (call_of_wait call) (refusal why) ≡ true
+    refused wait.Waitpid why = refusal_below why
+    refused wait.Waitid why = refl
 
-form_wait : (s : State) (me : Process) → IsSaying s me → FormsIf (wait s me)
-unfolding wait
-form_wait s me c =
-    cond_both (are_known (options_in (argument me 2))) _ _ FormsIf (λ t. form_with s me (target_in (argument me 1)) (options_in (argument me 2)) _ c refl) (λ t. form_plain s me Waitpid (refusal EINVAL) c refl refl)
+    zero : (call : WaitCall) → is_result (call_of_wait call) (pos 0) ≡ true
+    zero wait.Waitpid = refl
+    zero wait.Waitid = refl
+
+    zeros : (call : WaitCall) → list_all (λ (r : ℕ × ℤ). is_i64 r.1) (results_of_nothing call) ≡ true
+    zeros wait.Waitpid = refl
+    zeros wait.Waitid = refl
+
+    number : (child : ℕ) (r : Process) → lookup child s.processes ≡ Some r → is_number child ≡ true
+    number child r found = subst (λ n. is_number n ≡ true) (pid_looked child s.processes r found) (number_there s child r c.regular c.kinds found)
 
 -- where a send is permitted, nobody is full for whom the signal would be queued
 queued_room : (granted : Bool) (qs : List Process) (other : Sending) → queued_for granted qs other ≡ sends.Permitted → list_any has_full_queue qs ≡ false
@@ -510,7 +525,8 @@ form_attempt : (granted : Bool) (s : State) (me : Process) (call : Call) → IsS
 unfolding attempt
 form_attempt granted s me Exit c = form_end s me (exited (argument me 1)) (old_saying s me c) (exited_word (argument me 1))
 form_attempt granted s me Fork c = form_fork granted s me (next_pid s) c refl
-form_attempt granted s me Waitpid c = form_wait s me c
+form_attempt granted s me Waitpid c = form_wait wait.Waitpid s me c
+form_attempt granted s me Waitid c = form_wait wait.Waitid s me c
 form_attempt granted s me Pause c = tt
 form_attempt granted s me SchedYield c = form_gives s (go_last s me.pid) me SchedYield (pos 0) c (kinds_last s me.pid c.kinds) refl refl
 form_attempt granted s me Getpid c = form_id s me Getpid me.pid c (saying_kind s me c).pid refl
@@ -545,7 +561,7 @@ form_attempt granted s me Write c = form_write s me c
 
 form_again : (s : State) (me : Process) (b : Blocked) → IsSaying s me → FormsIf (attempt_again s me b)
 unfolding attempt_again
-form_again s me blocked.Waitpid c = form_wait s me c
+form_again s me (blocked.Wait call) c = form_wait call s me c
 form_again s me blocked.Read c = form_read s me c
 form_again s me blocked.Pause c = tt
 form_again s me (blocked.Sigsuspend mask) c = tt

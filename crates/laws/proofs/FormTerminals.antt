@@ -80,7 +80,7 @@ refusal_i64 EFAULT = refl
 refusal_i64 EINVAL = refl
 refusal_i64 ENOTTY = refl
 
-refusal_below : (e : Errno) → int_le (refusal e) (pos 0) ≡ true
+pub refusal_below : (e : Errno) → int_le (refusal e) (pos 0) ≡ true
 refusal_below EPERM = refl
 refusal_below ENOENT = refl
 refusal_below ESRCH = refl

@@ -6,7 +6,8 @@ use Rattle.std.proofs.lemmas.Bool.{eqb-true, eqb-false, cases_Bool}
 use Rattle.std.proofs.lemmas.List.Folds.{list_any-append}
 use Rattle.posix.specs.Entries.{Line, process_of}
 use Rattle.posix.specs.declared.entry.Entry.{Entry}
-use Rattle.posix.specs.declared.entry.Entry.TheVariants.{Noted, Called, Moved, Reported, NoMemory, Handled, Discarded, Stopped, Returned, Ended, Halted}
+use Rattle.posix.specs.declared.waits.WaitCall.{WaitCall}
+use Rattle.posix.specs.declared.entry.Entry.TheVariants.{Noted, Called, Moved, Reported, Looked, NoMemory, Handled, Discarded, Stopped, Returned, Ended, Halted}
 use Rattle.posix.specs.Statuses.{is_end_word, is_continued_word}
 use Rattle.laws.specs.Lives.{LastOf, last_where, newest_life, life_after, LifeSoFar, the_end, EndOf, or_later, parent_of, begins, is_just, born_by, last_stop, or_zero, reports, reports_in, stop_in, end_in, is_change_word}
 use Rattle.laws.specs.Keeping.{Alive, Dead, Kept, NeverBorn, Lives, Died, kept_of, kept_of_life, kept_since, alive_since, kept_after, newborn, after_report, after_stop, ended_with, given_on, moved_from}
@@ -21,7 +22,8 @@ unfolding kept_after
 makes_same kept (Noted p z) c = refl
 makes_same kept (Called p call z) c = refl
 makes_same kept (Moved p call bytes) c = refl
-makes_same kept (Reported p d w) c = refl
+makes_same kept (Reported p call d w) c = refl
+makes_same kept (Looked p d w) c = refl
 makes_same kept (NoMemory p call) c = refl
 makes_same kept (Handled p s value sender) c = refl
 makes_same kept (Discarded p s) c = refl
@@ -46,7 +48,8 @@ pub unborn_stays : (entry : Entry) (c : ℕ) → is_just c (born_by entry) ≡ f
 unfolding kept_after
 unborn_stays (Noted p z) c h = refl
 unborn_stays (Called p call z) c h = rw h refl
-unborn_stays (Reported p d w) c h = grind (arith, cases_Bool)
+unborn_stays (Reported p call d w) c h = grind (arith, cases_Bool)
+unborn_stays (Looked p d w) c h = refl
 unborn_stays (Moved p call bytes) c h = refl
 unborn_stays (NoMemory p call) c h = refl
 unborn_stays (Handled p s value sender) c h = refl
@@ -109,7 +112,8 @@ same_parent forker l None = refl
 parent_then : (forker : ℕ) (l : Line) (entry : Entry) (o : Option EndOf) → (if is_some (end_then o l (end_in forker entry)) then 1 else forker) ≡ told_parent entry (if is_some o then 1 else forker)
 parent_then forker l (Noted p z) o = same_parent forker l o
 parent_then forker l (Called p call z) o = same_parent forker l o
-parent_then forker l (Reported p d w) o = same_parent forker l o
+parent_then forker l (Reported p call d w) o = same_parent forker l o
+parent_then forker l (Looked p d w) o = same_parent forker l o
 parent_then forker l (Moved p call bytes) o = same_parent forker l o
 parent_then forker l (NoMemory p call) o = same_parent forker l o
 parent_then forker l (Handled p s value sender) o = same_parent forker l o
@@ -200,13 +204,13 @@ plain_told entry c NeverBorn s b r e = refl
 plain_told entry c (Lives a) s b r e = rw (s, b, r) (alive_same a.parent a)
 plain_told entry c (Died d) s b r e = rw e (dead_same d.parent d)
 
-told_reported : (p d w c : ℕ) (t : Bool) (k : Kept) → (d == c) ≡ t → told_kept_by None (Reported p d w) c (parent_in k) k ≡ (if t then after_report w k else k)
-told_reported p d w c true NeverBorn h = refl
-told_reported p d w c false NeverBorn h = refl
-told_reported p d w c true (Lives a) h = rw h refl
-told_reported p d w c false (Lives a) h = rw h (alive_same a.parent a)
-told_reported p d w c true (Died x) h = rw h refl
-told_reported p d w c false (Died x) h = rw h (dead_same x.parent x)
+told_reported : (p : ℕ) (call : WaitCall) (d w c : ℕ) (t : Bool) (k : Kept) → (d == c) ≡ t → told_kept_by None (Reported p call d w) c (parent_in k) k ≡ (if t then after_report w k else k)
+told_reported p call d w c true NeverBorn h = refl
+told_reported p call d w c false NeverBorn h = refl
+told_reported p call d w c true (Lives a) h = rw h refl
+told_reported p call d w c false (Lives a) h = rw h (alive_same a.parent a)
+told_reported p call d w c true (Died x) h = rw h refl
+told_reported p call d w c false (Died x) h = rw h (dead_same x.parent x)
 
 told_stopped : (p s c : ℕ) (t : Bool) (k : Kept) → (p == c) ≡ t → told_kept_by None (Stopped p s) c (parent_in k) k ≡ (if t then after_stop s k else k)
 told_stopped p s c true NeverBorn h = refl
@@ -228,7 +232,8 @@ pub told_is_kept : (entry : Entry) (c : ℕ) (k : Kept) → is_just c (born_by e
 unfolding kept_after
 told_is_kept (Noted p z) c k h = plain_told (Noted p z) c k refl refl refl refl
 told_is_kept (Called p call z) c k h = rw h (plain_told (Called p call z) c k refl refl refl refl)
-told_is_kept (Reported p d w) c k h = told_reported p d w c (d == c) k refl
+told_is_kept (Reported p call d w) c k h = told_reported p call d w c (d == c) k refl
+told_is_kept (Looked p d w) c k h = plain_told (Looked p d w) c k refl refl refl refl
 told_is_kept (Moved p call bytes) c k h = plain_told (Moved p call bytes) c k refl refl refl refl
 told_is_kept (NoMemory p call) c k h = plain_told (NoMemory p call) c k refl refl refl refl
 told_is_kept (Handled p s value sender) c k h = plain_told (Handled p s value sender) c k refl refl refl refl
@@ -270,7 +275,8 @@ pub begun : (entry : Entry) (c : ℕ) (k : Kept) → is_just c (born_by entry) �
 unfolding kept_after
 begun (Called p call z) c k h = rw h refl
 begun (Noted p z) c k h = cc
-begun (Reported p d w) c k h = cc
+begun (Reported p call d w) c k h = cc
+begun (Looked p d w) c k h = cc
 begun (Moved p call bytes) c k h = cc
 begun (NoMemory p call) c k h = cc
 begun (Handled p s value sender) c k h = cc

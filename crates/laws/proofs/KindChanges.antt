@@ -309,7 +309,7 @@ kind_returned frame k r h = record {
 -- ---- calls
 
 kind_waiting : (b : Blocked) (z : ℤ) (g : Signals) → AreSignals g → AreSignals (waiting_signals b z g)
-kind_waiting blocked.Waitpid z g h = h
+kind_waiting (blocked.Wait call) z g h = h
 kind_waiting blocked.Read z g h = h
 kind_waiting blocked.Pause z g h = h
 kind_waiting (blocked.Sigsuspend earlier) z g h = record { pending = h.pending; queue = h.queue; few = h.few; actions = h.actions; frames = h.frames }

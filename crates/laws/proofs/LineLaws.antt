@@ -4,10 +4,11 @@ use Rattle.std.specs.List.{list_any}
 use Rattle.std.proofs.lemmas.Bool.{eqb-true, eq-eqb, and_parts, or_parts, leb-true, ltb-true, true_from_ne_false, false_from_ne_true}
 use Rattle.std.proofs.lemmas.List.Folds.{list_any-append}
 use Rattle.posix.specs.declared.entry.Entry.{Entry}
-use Rattle.posix.specs.declared.entry.Entry.TheVariants.{Reported, Ended}
+use Rattle.posix.specs.declared.entry.Entry.TheVariants.{Reported, Looked, Ended}
+use Rattle.posix.specs.declared.waits.WaitCall.{WaitCall}
 use Rattle.posix.specs.Statuses.{continued, is_end_word, is_stopped_word, is_continued_word}
 use Rattle.posix.specs.Entries.{Line, line, process_of}
-use Rattle.laws.specs.Lives.{LastOf, last_where, or_this, LifeSoFar, life_after, newest_life, EndOf, the_end, or_later, parent_of, parent_in, parent_in_life, end_in, reports_in, reports, begins, born_by, is_just, is_change_word, none_or, is_halt, is_due, is_due_to, end_report, is_living, Everywhere, Laws, numbers_rise, within_life, begins_apart, report_law, reports_due, halts_last, last_line, was_halt, ends_first, number_from, ends, stops, IsOfEnd}
+use Rattle.laws.specs.Lives.{LastOf, last_where, or_this, LifeSoFar, life_after, newest_life, EndOf, the_end, or_later, parent_of, parent_in, parent_in_life, end_in, reports_in, reports, reports_or_looks_in, reports_or_looks, begins, born_by, is_just, is_change_word, none_or, is_halt, is_due, is_due_to, end_report, is_living, Everywhere, Laws, numbers_rise, within_life, begins_apart, report_law, reports_due, halts_last, last_line, was_halt, ends_first, number_from, ends, stops, IsOfEnd}
 use Rattle.laws.specs.Keeping.{Dead, Kept, NeverBorn, Lives, Died, kept_of, kept_after, lives_now, word_fault, stop_fault, report_fault}
 use Rattle.laws.proofs.KeptLemmas.{last_where_more, line_makes, makes_same, told_is_kept, unborn_stays, begun, kept_more}
 use Rattle.laws.proofs.TestLemmas.{living_kept, report_tested}
@@ -79,17 +80,38 @@ lives_stays c l (Lives a) none h = by (is_just c (born_by l.entry)) refl (end_in
 -- an entry that reports c
 record IsReport (c : ℕ) (test : ℕ → Bool) (e : Entry) : Type 0 where
   by : ℕ
+  call : WaitCall
   word : ℕ
-  is : e ≡ Reported by c word
+  is : e ≡ Reported by call c word
   passes : test word ≡ true
 
 report_in : (c : ℕ) (test : ℕ → Bool) (e : Entry) → reports_in c test e ≡ true → IsReport c test e
-report_in c test (Reported p d w) h = let both = and_parts (d == c) (test w) h in record { by = p; word = w; is = ap (λ n. Reported p n w) (eqb-true d c both.0); passes = both.1 }
+report_in c test (Reported p call d w) h = let both = and_parts (d == c) (test w) h in record { by = p; call = call; word = w; is = ap (λ n. Reported p call n w) (eqb-true d c both.0); passes = both.1 }
 report_in c test e h = absurd (cc)
 
--- no test of it fails
-report_due : (before : List Line) (l : Line) (p c w : ℕ) → reports_due before l ≡ true → l.entry ≡ Reported p c w → is_none (word_fault p w (kept_of before c)) ≡ true
-report_due before l p c w h is = subst (λ e. is_none (report_fault (kept_of before) e) ≡ true) is (report_tested before l.entry ∙ h)
+-- what is told of c is due
+record IsDue (before : List Line) (c : ℕ) (test : ℕ → Bool) : Type 0 where
+  by : ℕ
+  word : ℕ
+  passes : test word ≡ true
+  due : is_none (word_fault by word (kept_of before c)) ≡ true
+
+told_due : (before : List Line) (l : Line) (c : ℕ) (test : ℕ → Bool) → reports_due before l ≡ true → reports_or_looks c test l ≡ true → IsDue before c test
+told_due before l c test due h = of l.entry (report_tested before l.entry ∙ due) h
+  where
+    told : (p d w : ℕ) → is_none (word_fault p w (kept_of before d)) ≡ true → (d == c && test w) ≡ true → IsDue before c test
+    told p d w due h =
+        let both = and_parts (d == c) (test w) h in
+        record { by = p; word = w; passes = both.1; due = subst (λ n. is_none (word_fault p w (kept_of before n)) ≡ true) (eqb-true d c both.0) due }
+
+    of : (e : Entry) → is_none (report_fault (kept_of before) e) ≡ true → reports_or_looks_in c test e ≡ true → IsDue before c test
+    of (Reported p call d w) due h = told p d w due h
+    of (Looked p d w) due h = told p d w due h
+    of e due h = absurd (cc)
+
+-- no test of a report fails
+report_due : (before : List Line) (l : Line) (p : ℕ) (call : WaitCall) (c w : ℕ) → reports_due before l ≡ true → l.entry ≡ Reported p call c w → is_none (word_fault p w (kept_of before c)) ≡ true
+report_due before l p call c w h is = subst (λ e. is_none (report_fault (kept_of before) e) ≡ true) is (report_tested before l.entry ∙ h)
 
 -- an end that is reported is one of which no report came
 record IsUnreported (p w : ℕ) (k : Kept) : Type 0 where
@@ -124,8 +146,8 @@ reported_stays c l NeverBorn none h = absurd (h)
 reported_stays c l (Lives a) none h = absurd (h)
 reported_stays c l (Died d) none h = subst IsReported (told_is_kept l.entry c (Died d) none) (rw h refl)
 
-reported_made : (p c w : ℕ) (k : Kept) → is_end_word w ≡ true → IsUnreported p w k → IsReported (line_makes (Reported p c w) c k)
-reported_made p c w k word h = subst (λ k. IsReported (line_makes (Reported p c w) c k)) (sym h.is) (subst IsReported (told_is_kept (Reported p c w) c (Died h.dead) refl) (rw (eq-eqb c c refl, word) (or_true h.dead.reported)))
+reported_made : (p : ℕ) (call : WaitCall) (c w : ℕ) (k : Kept) → is_end_word w ≡ true → IsUnreported p w k → IsReported (line_makes (Reported p call c w) c k)
+reported_made p call c w k word h = subst (λ k. IsReported (line_makes (Reported p call c w) c k)) (sym h.is) (subst IsReported (told_is_kept (Reported p call c w) c (Died h.dead) refl) (rw (eq-eqb c c refl, word) (or_true h.dead.reported)))
   where
     or_true : (b : Bool) → (b || true) ≡ true
     or_true true = refl
@@ -174,21 +196,21 @@ continue_stays c l k none h = by (is_just c (born_by l.entry)) refl k h (end_in 
     by false born (Lives a) h None is = ap continue_left (sym (told_is_kept l.entry c (Lives a) born)) ∙ rw (is, none, h) refl
 
 -- a report of one leaves none
-stop_told : (p c w : ℕ) (k : Kept) → is_change_word w ≡ true → stop_left (line_makes (Reported p c w) c k) ≡ None
+stop_told : (p : ℕ) (call : WaitCall) (c w : ℕ) (k : Kept) → is_change_word w ≡ true → stop_left (line_makes (Reported p call c w) c k) ≡ None
 unfolding kept_after
-stop_told p c w NeverBorn word = rw (eq-eqb c c refl) refl
-stop_told p c w (Lives a) word = rw (eq-eqb c c refl, word) refl
-stop_told p c w (Died d) word = rw (eq-eqb c c refl) refl
+stop_told p call c w NeverBorn word = rw (eq-eqb c c refl) refl
+stop_told p call c w (Lives a) word = rw (eq-eqb c c refl, word) refl
+stop_told p call c w (Died d) word = rw (eq-eqb c c refl) refl
 
-continue_told : (p c w : ℕ) (k : Kept) → is_continued_word w ≡ true → continue_left (line_makes (Reported p c w) c k) ≡ false
+continue_told : (p : ℕ) (call : WaitCall) (c w : ℕ) (k : Kept) → is_continued_word w ≡ true → continue_left (line_makes (Reported p call c w) c k) ≡ false
 unfolding kept_after
-continue_told p c w NeverBorn word = rw (eq-eqb c c refl) refl
-continue_told p c w (Lives a) word = rw (eq-eqb c c refl, word) (and_none a.may_continue)
+continue_told p call c w NeverBorn word = rw (eq-eqb c c refl) refl
+continue_told p call c w (Lives a) word = rw (eq-eqb c c refl, word) (and_none a.may_continue)
   where
     and_none : (b : Bool) → (b && not true) ≡ false
     and_none true = refl
     and_none false = refl
-continue_told p c w (Died d) word = rw (eq-eqb c c refl) refl
+continue_told p call c w (Died d) word = rw (eq-eqb c c refl) refl
 
 -- the words are apart
 stop_no_end : (w : ℕ) → is_stopped_word w ≡ true → is_end_word w ≡ false
@@ -242,37 +264,35 @@ continue_once p w k word h due = all k h (subst (λ v. is_none (word_fault p v k
 law_first : (law : List Line → Line → Bool) (before : List Line) (a : Line) (between after : List Line) → Everywhere law (before ++ a ∷ between ++ after) → law before a ≡ true
 law_first law before a between after h = everywhere_at law before a between (everywhere_first law (before ++ a ∷ between) after h)
 
--- No end is reported twice.
+-- After its report no end is reported or looked at.
 pub no_end_twice : (before between after : List Line) (a b : Line) (c : ℕ) → Laws (before ++ a ∷ between ++ b ∷ after)
-    → reports c is_end_word a ≡ true → reports c is_end_word b ≡ true → list_any (begins c) between ≡ true
+    → reports c is_end_word a ≡ true → reports_or_looks c is_end_word b ≡ true → list_any (begins c) between ≡ true
 no_end_twice before between after a b c h first second =
     let x = report_in c is_end_word a.entry first in
-    let y = report_in c is_end_word b.entry second in
-    let one = end_due x.by x.word (kept_of before c) x.passes (report_due before a x.by c x.word (law_first reports_due before a between (b ∷ after) h.reports) x.is) in
-    let two = end_due y.by y.word (kept_of (before ++ a ∷ between) c) y.passes (report_due (before ++ a ∷ between) b y.by c y.word (everywhere_at reports_due (before ++ a ∷ between) b after h.reports) y.is) in
-    one_between IsReported c (begins c) (reported_stays c) before between a (subst (λ e. IsReported (line_makes e c (kept_of before c))) (sym x.is) (reported_made x.by c x.word (kept_of before c) x.passes one))
+    let y = told_due (before ++ a ∷ between) b c is_end_word (everywhere_at reports_due (before ++ a ∷ between) b after h.reports) second in
+    let one = end_due x.by x.word (kept_of before c) x.passes (report_due before a x.by x.call c x.word (law_first reports_due before a between (b ∷ after) h.reports) x.is) in
+    let two = end_due y.by y.word (kept_of (before ++ a ∷ between) c) y.passes y.due in
+    one_between IsReported c (begins c) (reported_stays c) before between a (subst (λ e. IsReported (line_makes e c (kept_of before c))) (sym x.is) (reported_made x.by x.call c x.word (kept_of before c) x.passes one))
     (λ reported. reported_once y.by y.word (kept_of (before ++ a ∷ between) c) reported two)
 
--- Of a stop that was reported, or whose continue was, no report comes.
+-- Nor is a stop after its report or that of its continue.
 pub no_stop_twice : (before between after : List Line) (a b : Line) (c : ℕ) → Laws (before ++ a ∷ between ++ b ∷ after)
-    → reports c is_change_word a ≡ true → reports c is_stopped_word b ≡ true → list_any (stops c) between ≡ true
+    → reports c is_change_word a ≡ true → reports_or_looks c is_stopped_word b ≡ true → list_any (stops c) between ≡ true
 no_stop_twice before between after a b c h first second =
     let x = report_in c is_change_word a.entry first in
-    let y = report_in c is_stopped_word b.entry second in
-    let due = report_due (before ++ a ∷ between) b y.by c y.word (everywhere_at reports_due (before ++ a ∷ between) b after h.reports) y.is in
-    one_between (λ k. stop_left k ≡ None) c (stops c) (stop_stays c) before between a (subst (λ e. stop_left (line_makes e c (kept_of before c)) ≡ None) (sym x.is) (stop_told x.by c x.word (kept_of before c) x.passes))
-    (λ none. stop_once y.by y.word (kept_of (before ++ a ∷ between) c) y.passes none due)
+    let y = told_due (before ++ a ∷ between) b c is_stopped_word (everywhere_at reports_due (before ++ a ∷ between) b after h.reports) second in
+    one_between (λ k. stop_left k ≡ None) c (stops c) (stop_stays c) before between a (subst (λ e. stop_left (line_makes e c (kept_of before c)) ≡ None) (sym x.is) (stop_told x.by x.call c x.word (kept_of before c) x.passes))
+    (λ none. stop_once y.by y.word (kept_of (before ++ a ∷ between) c) y.passes none y.due)
 
--- No continue is reported twice.
+-- Nor is a continue after its report.
 pub no_continue_twice : (before between after : List Line) (a b : Line) (c : ℕ) → Laws (before ++ a ∷ between ++ b ∷ after)
-    → reports c is_continued_word a ≡ true → reports c is_continued_word b ≡ true → list_any (stops c) between ≡ true
+    → reports c is_continued_word a ≡ true → reports_or_looks c is_continued_word b ≡ true → list_any (stops c) between ≡ true
 no_continue_twice before between after a b c h first second =
     let x = report_in c is_continued_word a.entry first in
-    let y = report_in c is_continued_word b.entry second in
-    let due = report_due (before ++ a ∷ between) b y.by c y.word (everywhere_at reports_due (before ++ a ∷ between) b after h.reports) y.is in
+    let y = told_due (before ++ a ∷ between) b c is_continued_word (everywhere_at reports_due (before ++ a ∷ between) b after h.reports) second in
     one_between (λ k. continue_left k ≡ false) c (stops c) (continue_stays c) before between a
-    (subst (λ e. continue_left (line_makes e c (kept_of before c)) ≡ false) (sym x.is) (continue_told x.by c x.word (kept_of before c) x.passes))
-    (λ none. continue_once y.by y.word (kept_of (before ++ a ∷ between) c) y.passes none due)
+    (subst (λ e. continue_left (line_makes e c (kept_of before c)) ≡ false) (sym x.is) (continue_told x.by x.call c x.word (kept_of before c) x.passes))
+    (λ none. continue_once y.by y.word (kept_of (before ++ a ∷ between) c) y.passes none y.due)
 
 -- Whose line stands there lives.
 lives_within : (before : List Line) (l : Line) (c : ℕ) → within_life before l ≡ true → process_of l.entry ≡ Some c → lives_now (kept_of before c) ≡ true
@@ -442,12 +462,10 @@ is_ending c (l ∷ ls) e h = of (end_in c l.entry) refl h (is_ending c ls e)
         subst (IsEnding c (l ∷ ls)) same (record { earlier = []; event = l.event; split = ap (λ (x : Entry). line l.event x ∷ ls) (ended l.entry w is) })
     of None is h rest = let i = rest h in record { earlier = l ∷ i.earlier; event = i.event; split = ap (λ xs. l ∷ xs) i.split }
 
--- An end is reported by the parent of that moment, with its status.
-pub reported_to_parent : (before after : List Line) (l : Line) (p c w : ℕ) → Laws (before ++ l ∷ after) → l.entry ≡ Reported p c w → is_end_word w ≡ true → IsOfEnd before p c w
+-- what is due of an end is told by the parent of that moment, with the status
+due_of_end : (before : List Line) (p c w : ℕ) → is_end_word w ≡ true → is_due_to before p c w (newest_life before c) ≡ true → IsOfEnd before p c w
 unfolding parent_in
-reported_to_parent before after l p c w h is word =
-    let due : is_due_to before p c w (newest_life before c) ≡ true = subst (λ e. report_law before e ≡ true) is (everywhere_at reports_due before l after h.reports) in
-    of (newest_life before c) refl due
+due_of_end before p c w word due = of (newest_life before c) refl due
   where
     split : (x : LifeSoFar) (e : EndOf) → IsSince before c x.since → IsEnding c x.since e → newest_life before c ≡ Some x → parent_of before x ≡ p → e.status ≡ w → list_any (reports c is_end_word) e.after ≡ false → IsOfEnd before p c w
     split x e a b life parent status none =
@@ -479,3 +497,11 @@ reported_to_parent before after l p c w h is word =
         let both = and_parts (parent_of before x == p) (is_due c w x.since) due in
         let asks : is_due c w x.since ≡ end_report c w (the_end c x.since) = rw word refl in
         ending x life (eqb-true (parent_of before x) p both.0) (the_end c x.since) refl (sym asks ∙ both.1)
+
+-- An end is reported by the parent of that moment, with its status.
+pub reported_to_parent : (before after : List Line) (l : Line) (p : ℕ) (call : WaitCall) (c w : ℕ) → Laws (before ++ l ∷ after) → l.entry ≡ Reported p call c w → is_end_word w ≡ true → IsOfEnd before p c w
+reported_to_parent before after l p call c w h is word = due_of_end before p c w word (subst (λ e. report_law before e ≡ true) is (everywhere_at reports_due before l after h.reports))
+
+-- And so is an end that is looked at.
+pub looked_at_by_parent : (before after : List Line) (l : Line) (p c w : ℕ) → Laws (before ++ l ∷ after) → l.entry ≡ Looked p c w → is_end_word w ≡ true → IsOfEnd before p c w
+looked_at_by_parent before after l p c w h is word = due_of_end before p c w word (subst (λ e. report_law before e ≡ true) is (everywhere_at reports_due before l after h.reports))

@@ -3,15 +3,15 @@ use Rattle.std.proofs.Common.{◌≡◌, ◌≢◌, ℕ, zero, suc, Bool, true, 
 use Rattle.std.specs.Int.{cast_unsigned, w64}
 use Rattle.std.specs.List.{AllByRecursion, list_any}
 use Rattle.posix.specs.declared.call.Call.{Call}
-use Rattle.posix.specs.declared.call.Call.TheVariants.{Exit, Fork, Waitpid, Pause, SchedYield, Getpid, Getppid, Getuid, Geteuid, Getgid, Getegid, Setuid, Seteuid, Setgid, Setegid, Kill, Sigqueue, Sigaction, Sigprocmask, Sigpending, Sigsuspend, Sigreturn, Alarm, Exec, Getpgid, Getsid, Setpgid, Setsid, Setctty, Tcgetpgrp, Tcsetpgrp, Settostop, Read, Write}
+use Rattle.posix.specs.declared.call.Call.TheVariants.{Exit, Fork, Waitpid, Waitid, Pause, SchedYield, Getpid, Getppid, Getuid, Geteuid, Getgid, Getegid, Setuid, Seteuid, Setgid, Setegid, Kill, Sigqueue, Sigaction, Sigprocmask, Sigpending, Sigsuspend, Sigreturn, Alarm, Exec, Getpgid, Getsid, Setpgid, Setsid, Setctty, Tcgetpgrp, Tcsetpgrp, Settostop, Read, Write}
 use Rattle.posix.specs.declared.instr.Trap.{Trap}
 use Rattle.posix.specs.declared.instr.Trap.TheVariants as trap
 use Rattle.posix.specs.declared.event.Event.{Event}
 use Rattle.posix.specs.declared.event.Event.TheVariants.{Step, Tick, Key}
 use Rattle.posix.specs.declared.errno.Errno.{Errno}
-use Rattle.posix.specs.declared.errno.Errno.TheVariants.{EPERM, ENOENT, ESRCH, EINTR, ECHILD, EAGAIN, EINVAL}
+use Rattle.posix.specs.declared.errno.Errno.TheVariants.{EPERM, ENOENT, ESRCH, EINTR, EAGAIN, EINVAL}
 use Rattle.posix.specs.declared.entry.Entry.{Entry}
-use Rattle.posix.specs.declared.entry.Entry.TheVariants.{Noted, Called, Moved, Reported, NoMemory, Handled, Discarded, Stopped, Returned, Ended, Halted}
+use Rattle.posix.specs.declared.entry.Entry.TheVariants.{Noted, Called, Moved, Reported, Looked, NoMemory, Handled, Discarded, Stopped, Returned, Ended, Halted}
 use Rattle.posix.specs.declared.how.How.{How}
 use Rattle.posix.specs.declared.sig.DefaultAction.{DefaultAction}
 use Rattle.posix.specs.declared.sig.DefaultAction.TheVariants as default
@@ -22,8 +22,6 @@ use Rattle.posix.specs.declared.process.Frame.{Frame}
 use Rattle.posix.specs.declared.process.Handler.{Handler}
 use Rattle.posix.specs.declared.process.Handler.TheVariants as handler
 use Rattle.posix.specs.declared.process.PendingSignal.{PendingSignal}
-use Rattle.posix.specs.declared.process.Report.{Report}
-use Rattle.posix.specs.declared.process.Report.TheVariants as found
 use Rattle.posix.specs.declared.process.Sending.{Sending}
 use Rattle.posix.specs.declared.process.Sending.TheVariants as sends
 use Rattle.posix.specs.declared.target.Target.{Target}
@@ -43,7 +41,10 @@ use Rattle.posix.specs.Handlers.{handles, is_full, is_interrupted, newest_frame,
 use Rattle.posix.specs.Births.{fork_as}
 use Rattle.posix.specs.Ends.{hang_up, end_with_heir, end_process}
 use Rattle.posix.specs.Targets.{target_in, process_in}
-use Rattle.posix.specs.Waits.{wait, wait_with, report, options_in, are_known, has_option}
+use Rattle.posix.specs.declared.waits.WaitCall.{WaitCall}
+use Rattle.posix.specs.declared.waits.WaitCall.TheVariants as wait
+use Rattle.posix.specs.Calls.{call_of_wait}
+use Rattle.posix.specs.Waits.{wait_by, gives_nothing}
 use Rattle.posix.specs.Delivery.{call_of, interruption, handle, stop_process, act_by_default, act_on, take_out, deliver, fault_with, fault, return_to, return_from_handler}
 use Rattle.posix.specs.Sends.{permitted, targets, sending_permitted, sending_found, sending, has_full_queue, queued_for, queuers_among, sending_granted, message, send_with, signal_in, signal_or_none, send, kill, sigqueue}
 use Rattle.posix.specs.SignalCalls.{set_credentials, is_question, are_flags, action_in, sigaction_with, sigaction_of, sigaction, how_in, sigprocmask_with, sigprocmask, sigpending}
@@ -61,25 +62,21 @@ use Rattle.posix.proofs.TouchLemmas.{Unseen}
 use Rattle.posix.proofs.UnseenLemmas.{settle_unseen}
 use Rattle.posix.specs.NextPid.{is_free}
 use Rattle.posix.proofs.NextLemmas.{new_number}
+use Rattle.posix.proofs.WaitLemmas.{by_wait}
 use Rattle.laws.specs.Lives.{is_fork, born_by}
 use Rattle.laws.proofs.RefusalTerminals.{Terms, GivesFree, gives_other, Explained, Any, NotInterrupted, ExplainedBy, ExplainedIf, explained_if, explained_either, explained_refused, explained_setctty, explained_tcgetpgrp, explained_tcsetpgrp, explained_settostop, explained_read, explained_write}
 
 -- ---- calls that no signal enters into
 
--- a wait by what it found
-explained_with : (C : Terms) (s : State) (p options : ℕ) (what : Report) → ExplainedIf C s p (wait_with s p options what)
-explained_with C s p options found.NoChild = explained_refused C s p Waitpid ECHILD
-explained_with C s p options found.Nothing = explained_if C s p (has_option options 1) _ _ (tt, tt) tt
-explained_with C s p options (found.End child status) = (tt, tt)
-explained_with C s p options (found.Change child status) = (tt, tt)
-
 -- a wait
-explained_wait : (C : Terms) (s : State) (me : Process) → ExplainedIf C s me.pid (wait s me)
-unfolding wait
-explained_wait C s me =
-    explained_if C s me.pid (are_known (options_in (argument me 2))) _ _
-    (explained_with C s me.pid (options_in (argument me 2)) (report s.processes me.pid me.group (target_in (argument me 1)) (options_in (argument me 2))))
-    (explained_refused C s me.pid Waitpid EINVAL)
+explained_wait : (C : Terms) (call : WaitCall) (s : State) (me : Process) → ExplainedIf C s me.pid (wait_by call s me)
+explained_wait C call s me =
+    by_wait (ExplainedIf C s me.pid) call s me (explained_refused C s me.pid (call_of_wait call)) (nothing call) tt
+    (λ target options child status e. ((tt, tt), (tt, tt))) (λ target options child status e. ((tt, tt), (tt, tt)))
+  where
+    nothing : (call : WaitCall) → ExplainedIf C s me.pid (gives_nothing s me.pid call)
+    nothing wait.Waitpid = (tt, tt)
+    nothing wait.Waitid = (tt, tt)
 
 -- a fork
 explained_fork : (C : Terms) (granted : Bool) → (granted ≡ false → C.wanting) → (s : State) (me : Process) (n : Option ℕ) → next_pid s ≡ n → ExplainedIf C s me.pid (fork_as granted s me n)
@@ -243,7 +240,7 @@ explained_alarm s me = explained_alarm_in s.ticks me (ticks_in (argument me 1))
 -- each call afresh
 explained_again : (C : Terms) (s : State) (me : Process) (b : Blocked) → ExplainedIf C s me.pid (attempt_again s me b)
 unfolding attempt_again
-explained_again C s me blocked.Waitpid = explained_wait C s me
+explained_again C s me (blocked.Wait call) = explained_wait C call s me
 explained_again C s me blocked.Read = explained_read C s me
 explained_again C s me blocked.Pause = tt
 explained_again C s me (blocked.Sigsuspend mask) = tt
@@ -344,7 +341,8 @@ explained_attempt : (granted : Bool) (s : State) (me : Process) (call : Call) �
 unfolding attempt
 explained_attempt granted s me Exit = none_end s me (exited (argument me 1)) granted s (end_process s me (exited (argument me 1))).state me.pid
 explained_attempt granted s me Fork = explained_fork (NotInterrupted granted) granted (λ e. e) s me (next_pid s) refl
-explained_attempt granted s me Waitpid = explained_wait (NotInterrupted granted) s me
+explained_attempt granted s me Waitpid = explained_wait (NotInterrupted granted) wait.Waitpid s me
+explained_attempt granted s me Waitid = explained_wait (NotInterrupted granted) wait.Waitid s me
 explained_attempt granted s me Pause = tt
 explained_attempt granted s me SchedYield = (tt, tt)
 explained_attempt granted s me Getpid = (tt, tt)
@@ -457,7 +455,8 @@ Told granted s new (Noted q value) = Unit {0}
 Told granted s new (Called q call (pos n)) = GivesFree s call n
 Told granted s new (Called q call (negsuc n)) = n ≢ 3 → (current s ≡ Some q) × (new ≡ finish s q ((0, negsuc n) ∷ []))
 Told granted s new (Moved q call bytes) = Unit {0}
-Told granted s new (Reported q child status) = Unit {0}
+Told granted s new (Reported q call child status) = Unit {0}
+Told granted s new (Looked q child status) = Unit {0}
 Told granted s new (NoMemory q call) = (granted ≡ false) × (current s ≡ Some q) × (new ≡ finish s q ((0, refusal EAGAIN) ∷ []))
 Told granted s new (Handled q sig value sender) = Unit {0}
 Told granted s new (Discarded q sig) = Unit {0}
@@ -472,7 +471,8 @@ told granted s p new (Noted q value) first h = tt
 told granted s p new (Called q call (pos n)) first h = h
 told granted s p new (Called q call (negsuc n)) first h = λ other. (first ∙ ap Some (sym (h other).0), (h other).1 ∙ ap (λ m. finish s m ((0, negsuc n) ∷ [])) (sym (h other).0))
 told granted s p new (Moved q call bytes) first h = tt
-told granted s p new (Reported q child status) first h = tt
+told granted s p new (Reported q call child status) first h = tt
+told granted s p new (Looked q child status) first h = tt
 told granted s p new (NoMemory q call) first h = (h.0, first ∙ ap Some (sym h.1), h.2 ∙ ap (λ m. finish s m ((0, refusal EAGAIN) ∷ [])) (sym h.1))
 told granted s p new (Handled q sig value sender) first h = tt
 told granted s p new (Discarded q sig) first h = tt

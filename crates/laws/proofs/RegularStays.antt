@@ -4,13 +4,13 @@ use Rattle.std.specs.Int.{cast_unsigned, w64}
 use Rattle.std.specs.List.{AllByRecursion}
 use Rattle.std.proofs.lemmas.Bool.{eqb-true, eqb-false, eq-eqb, cond_both, or_cases, or_parts, or_from, false_from_ne_true, leb-true}
 use Rattle.posix.specs.declared.call.Call.{Call}
-use Rattle.posix.specs.declared.call.Call.TheVariants.{Exit, Fork, Waitpid, Pause, SchedYield, Getpid, Getppid, Getuid, Geteuid, Getgid, Getegid, Setuid, Seteuid, Setgid, Setegid, Kill, Sigqueue, Sigaction, Sigprocmask, Sigpending, Sigsuspend, Sigreturn, Alarm, Exec, Getpgid, Getsid, Setpgid, Setsid, Setctty, Tcgetpgrp, Tcsetpgrp, Settostop, Read, Write}
+use Rattle.posix.specs.declared.call.Call.TheVariants.{Exit, Fork, Waitpid, Waitid, Pause, SchedYield, Getpid, Getppid, Getuid, Geteuid, Getgid, Getegid, Setuid, Seteuid, Setgid, Setegid, Kill, Sigqueue, Sigaction, Sigprocmask, Sigpending, Sigsuspend, Sigreturn, Alarm, Exec, Getpgid, Getsid, Setpgid, Setsid, Setctty, Tcgetpgrp, Tcsetpgrp, Settostop, Read, Write}
 use Rattle.posix.specs.declared.instr.Trap.{Trap}
 use Rattle.posix.specs.declared.instr.Trap.TheVariants as trap
 use Rattle.posix.specs.declared.event.Event.{Event}
 use Rattle.posix.specs.declared.event.Event.TheVariants.{Step, Tick, Key}
 use Rattle.posix.specs.declared.errno.Errno.{Errno}
-use Rattle.posix.specs.declared.errno.Errno.TheVariants.{EPERM, ESRCH, ECHILD, EAGAIN, EINVAL, ENOENT}
+use Rattle.posix.specs.declared.errno.Errno.TheVariants.{EPERM, ESRCH, EAGAIN, EINVAL, ENOENT}
 use Rattle.posix.specs.declared.entry.Entry.{Entry}
 use Rattle.posix.specs.declared.how.How.{How}
 use Rattle.posix.specs.declared.sig.DefaultAction.{DefaultAction}
@@ -22,7 +22,6 @@ use Rattle.posix.specs.declared.process.Frame.{Frame}
 use Rattle.posix.specs.declared.process.Handler.{Handler}
 use Rattle.posix.specs.declared.process.Handler.TheVariants as handler
 use Rattle.posix.specs.declared.process.PendingSignal.{PendingSignal}
-use Rattle.posix.specs.declared.process.Report.{Report}
 use Rattle.posix.specs.declared.process.Report.TheVariants as found
 use Rattle.posix.specs.declared.process.Sending.{Sending}
 use Rattle.posix.specs.declared.process.Sending.TheVariants as sends
@@ -44,7 +43,10 @@ use Rattle.posix.specs.Handlers.{handles, is_full, newest_frame, returned, set_a
 use Rattle.posix.specs.Births.{born, child_of, fork_as}
 use Rattle.posix.specs.Ends.{made_zombie, leave_children_and_die, is_dropping, drop_child, notice_of_end, zombies_of, tell_of_all, status_of, hup_and_cont_orphans, hang_up, end_with_heir, end_process}
 use Rattle.posix.specs.Targets.{target_in, process_in}
-use Rattle.posix.specs.Waits.{wait, wait_with, report, options_in, are_known, has_option, WNOHANG, news_told}
+use Rattle.posix.specs.declared.waits.WaitCall.{WaitCall}
+use Rattle.posix.specs.declared.waits.WaitCall.TheVariants as wait
+use Rattle.posix.specs.Calls.{call_of_wait}
+use Rattle.posix.specs.Waits.{wait_by, results_of, results_of_nothing, news_told}
 use Rattle.posix.specs.Delivery.{handle, act_by_default, act_on, take_out, deliver, fault_with, fault, return_to, return_from_handler}
 use Rattle.posix.specs.Sends.{sent, sent_among, permitted, targets, sending_granted, message, send_with, signal_in, signal_or_none, send, kill, sigqueue}
 use Rattle.posix.specs.SignalCalls.{set_credentials, give_credentials, give_signals, holding, is_question, are_flags, action_in, sigaction_with, sigaction_of, sigaction, how_in, sigprocmask_with, sigprocmask, sigpending}
@@ -70,6 +72,7 @@ use Rattle.posix.proofs.SettleLemmas.{wakes_placed}
 use Rattle.posix.proofs.CountLemmas.{next_halted}
 use Rattle.posix.proofs.WakeLemmas.{next_awake}
 use Rattle.posix.proofs.ConsoleLemmas.{regular_cleared, regular_hung_up, regular_key}
+use Rattle.posix.proofs.WaitLemmas.{by_wait}
 use Rattle.laws.proofs.WokenLemmas.{given_places, distinct_given, all_wake}
 use Rattle.laws.proofs.RegularTerminals.{RegularIf, keeps_finished, regular_answers, regular_gives, regular_setctty, regular_tcgetpgrp, regular_tcsetpgrp, regular_settostop, regular_read, regular_write}
 
@@ -337,23 +340,17 @@ regular_fork granted s me (Some n) c e =
     cond_both granted _ _ RegularIf (λ t. regular_gives (born s me n) me.pid Fork (pos n) (regular_born s me n c e))
     (λ t. regular_change me.pid (finished ((0, refusal EAGAIN) ∷ [])) s (keeps_finished ((0, refusal EAGAIN) ∷ [])) c.regular)
 
--- a wait, by what it found
-regular_with : (s : State) (me : Process) (target : Target) (options : ℕ) (what : Report) → IsCaller s me → report s.processes me.pid me.group target options ≡ what → RegularIf (wait_with s me.pid options what)
-regular_with s me target options found.NoChild c e = regular_gives s me.pid Waitpid (refusal ECHILD) c.regular
-regular_with s me target options found.Nothing c e = cond_both (has_option options WNOHANG) _ _ RegularIf (λ t. regular_gives s me.pid Waitpid (pos 0) c.regular) (λ t. tt)
-regular_with s me target options (found.End child status) c e =
+-- a wait
+regular_wait : (call : WaitCall) (s : State) (me : Process) → IsCaller s me → RegularIf (wait_by call s me)
+regular_wait call s me c =
+    let gives = λ (results : List (ℕ × ℤ)) (t : State). regular_change me.pid _ t (keeps_finished results) in
+    by_wait RegularIf call s me (λ why. regular_gives s me.pid (call_of_wait call) (refusal why) c.regular) (gives (results_of_nothing call) s c.regular) tt
+    (λ target options child status e.
     let h = reported s.processes c.regular.rising me.pid me.group target options (found.End child status) child e refl in
     let gone = regular_removed child h.what s c.regular (not_first s c.regular me.pid child true (least_caller s me c) h) h.found h.dead in
-    regular_change me.pid _ (record s { processes = removed child s.processes }) (keeps_finished ((0, pos child) ∷ (1, pos status) ∷ [])) gone
-regular_with s me target options (found.Change child status) c e =
-    regular_change me.pid _ (change s child news_told) (keeps_finished ((0, pos child) ∷ (1, pos status) ∷ [])) (regular_change child news_told s keeps_news_told c.regular)
-
--- a wait
-regular_wait : (s : State) (me : Process) → IsCaller s me → RegularIf (wait s me)
-unfolding wait
-regular_wait s me c =
-    cond_both (are_known (options_in (argument me 2))) _ _ RegularIf (λ t. regular_with s me (target_in (argument me 1)) (options_in (argument me 2)) _ c refl)
-    (λ t. regular_gives s me.pid Waitpid (refusal EINVAL) c.regular)
+    (gives (results_of call child status) s c.regular, gives (results_of call child status) (record s { processes = removed child s.processes }) gone))
+    (λ target options child status e.
+    (gives (results_of call child status) s c.regular, gives (results_of call child status) (change s child news_told) (regular_change child news_told s keeps_news_told c.regular)))
 
 -- a signal that is sent
 regular_sent : (s : State) (me : Process) (target : Target) (signal : Option PendingSignal) → IsRegular s → IsRegular (record s { processes = sent me target signal s.processes })
@@ -491,7 +488,8 @@ regular_attempt : (granted : Bool) (s : State) (me : Process) (call : Call) → 
 unfolding attempt
 regular_attempt granted s me Exit c = regular_end s me (exited (argument me 1)) (least_caller s me c) c.regular
 regular_attempt granted s me Fork c = regular_fork granted s me (next_pid s) c refl
-regular_attempt granted s me Waitpid c = regular_wait s me c
+regular_attempt granted s me Waitpid c = regular_wait wait.Waitpid s me c
+regular_attempt granted s me Waitid c = regular_wait wait.Waitid s me c
 regular_attempt granted s me Pause c = tt
 regular_attempt granted s me SchedYield c = regular_gives (go_last s me.pid) me.pid SchedYield (pos 0) (regular_last me.pid s c.regular c.place)
 regular_attempt granted s me Getpid c = regular_gives s me.pid Getpid _ c.regular
@@ -527,7 +525,7 @@ regular_attempt granted s me Write c = regular_write s me c.regular
 -- each call afresh
 regular_again : (s : State) (me : Process) (b : Blocked) → IsCaller s me → RegularIf (attempt_again s me b)
 unfolding attempt_again
-regular_again s me blocked.Waitpid c = regular_wait s me c
+regular_again s me (blocked.Wait call) c = regular_wait call s me c
 regular_again s me blocked.Read c = regular_read s me c.regular
 regular_again s me blocked.Pause c = tt
 regular_again s me (blocked.Sigsuspend mask) c = tt

@@ -3,12 +3,13 @@ use Rattle.std.specs.Prelude.{Some, ℕ, ◌≡◌, ◌==◌, if◌then◌else�
 use Rattle.std.specs.Fmt.{digits}
 use Rattle.posix.specs.declared.event.Event.{Event}
 use Rattle.posix.specs.declared.event.Event.TheVariants.{Step, Tick, Key}
-use Rattle.posix.specs.declared.entry.Entry.TheVariants.{Noted, Called, Moved, Reported, NoMemory, Handled, Discarded, Stopped, Returned, Ended, Halted}
+use Rattle.posix.specs.declared.waits.WaitCall.TheVariants as wait
+use Rattle.posix.specs.declared.entry.Entry.TheVariants.{Noted, Called, Moved, Reported, Looked, NoMemory, Handled, Discarded, Stopped, Returned, Ended, Halted}
 use Rattle.posix.specs.declared.instr.Instr.{Instr}
 use Rattle.posix.specs.declared.instr.Instr.TheVariants.{Set, Compute, Jump, JumpIf, Note, Sys}
 use Rattle.posix.specs.declared.instr.Operator.TheVariants.{Div, Rem}
 use Rattle.posix.specs.declared.instr.Condition.TheVariants.{Zero}
-use Rattle.posix.specs.declared.call.Call.TheVariants.{Exit, Fork, Waitpid, Pause, SchedYield, Getpid, Setuid, Kill, Sigqueue, Sigaction, Sigprocmask, Sigpending, Sigsuspend, Sigreturn, Alarm, Exec, Setpgid, Setsid, Geteuid, Getuid, Setctty, Tcgetpgrp, Tcsetpgrp, Read}
+use Rattle.posix.specs.declared.call.Call.TheVariants.{Exit, Fork, Waitpid, Waitid, Pause, SchedYield, Getpid, Setuid, Kill, Sigqueue, Sigaction, Sigprocmask, Sigpending, Sigsuspend, Sigreturn, Alarm, Exec, Setpgid, Setsid, Geteuid, Getuid, Setctty, Tcgetpgrp, Tcsetpgrp, Read}
 use Rattle.posix.specs.Processes.{nothing_pending, default_actions, zero_registers, zero_memory}
 use Rattle.posix.specs.Numbers.{with_number}
 use Rattle.posix.specs.Tables.{lookup, changed, inserted, removed, children_in, adopted, members_in}
@@ -30,7 +31,7 @@ use Rattle.posix.specs.Sends.{targets, permitted, sending, queuers, queuers_amon
 use Rattle.posix.specs.SignalCalls.{give_credentials, give_signals, sigaction, sigprocmask, set_of, pending_set, sigpending}
 use Rattle.posix.specs.Births.{child_of, fork_as}
 use Rattle.posix.specs.Ends.{ended, made_zombie, notice_of_end, zombies_of, tell_of_all, signalled_members, hup_and_cont_all, hang_up, end_process}
-use Rattle.posix.specs.Waits.{report_of, report, news_told, wait}
+use Rattle.posix.specs.Waits.{report_of, report, news_told, asked, wait_by}
 use Rattle.posix.specs.Alarms.{with_alarm, alarm, rung, ring_all}
 use Rattle.posix.specs.Programs.{executed, exec}
 use Rattle.posix.specs.GroupCalls.{is_group_of, getpgid, getsid, in_group, setpgid, in_session, setsid}
@@ -58,7 +59,7 @@ trace w events = trace_from 1 (boot w) (λ k. true) events
 
 -- opens every definition of an operation
 unfoldable pub everything : Unit {0}
-unfolding nothing_pending default_actions zero_registers zero_memory exec_one digits lookup changed inserted removed children_in adopted members_in is_free next_free is_in without finished written setuid seteuid setgid setegid without_stops generated effect_of signalled noticed_of_change told_of_change stopped_by resumed signalled_all with_number is_anchor is_orphaned group_numbers has_stopped is_newly_orphaned newly_orphaned least_ready chosen first_carried without_first taken discarded entered at_handler handles returned set_action set_mask child_of fork_as ended made_zombie noticed notice_of_end zombies_of tell_of_all signalled_members hup_and_cont_all hang_up end_process report_of report news_told wait handle stop_process take_out deliver fault return_from_handler targets permitted sending queuers queuers_among sending_granted sent_among sent kill sigqueue give_credentials give_signals sigaction sigprocmask set_of pending_set sigpending attempt attempt_again can_act give_places clear_foregrounds settle set_cpu enter after_trap out_of_call act_in act step with_alarm rung ring_all alarm executed exec is_group_of getpgid getsid in_group setpgid in_session setsid waiting has_room finish_line erased with_byte edit key_signal flushed keyed line_taken acquired released with_foreground with_tostop console_of changed_console stored bytes_in setctty tcgetpgrp tcsetpgrp settostop with_bytes read write tick key happens next hex
+unfolding nothing_pending default_actions zero_registers zero_memory exec_one digits lookup changed inserted removed children_in adopted members_in is_free next_free is_in without finished written setuid seteuid setgid setegid without_stops generated effect_of signalled noticed_of_change told_of_change stopped_by resumed signalled_all with_number is_anchor is_orphaned group_numbers has_stopped is_newly_orphaned newly_orphaned least_ready chosen first_carried without_first taken discarded entered at_handler handles returned set_action set_mask child_of fork_as ended made_zombie noticed notice_of_end zombies_of tell_of_all signalled_members hup_and_cont_all hang_up end_process report_of report news_told asked wait_by handle stop_process take_out deliver fault return_from_handler targets permitted sending queuers queuers_among sending_granted sent_among sent kill sigqueue give_credentials give_signals sigaction sigprocmask set_of pending_set sigpending attempt attempt_again can_act give_places clear_foregrounds settle set_cpu enter after_trap out_of_call act_in act step with_alarm rung ring_all alarm executed exec is_group_of getpgid getsid in_group setpgid in_session setsid waiting has_room finish_line erased with_byte edit key_signal flushed keyed line_taken acquired released with_foreground with_tostop console_of changed_console stored bytes_in setctty tcgetpgrp tcsetpgrp settostop with_bytes read write tick key happens next hex
 everything = tt
 
 abbrev pub note_and_exit : World
@@ -98,12 +99,12 @@ unfolding everything
 row_division = refl
 
 row_numbers_wrap_and_are_reused : trace (world 4 1 (program None None (Sys Fork ∷ JumpIf Zero 0 28 ∷ Sys Fork ∷ JumpIf Zero 0 29 ∷ Sys Fork ∷ JumpIf Zero 0 28 ∷ Set 1 (pos 3) ∷ Set 2 (pos 0) ∷ Sys Waitpid ∷ Sys Fork ∷ JumpIf Zero 0 28 ∷ Sys Fork ∷ Sys Pause ∷ Sys Exit ∷ []) ∷ [])) (replicate 19 Step)
-    ≡ line 1 (Called 1 Fork (pos 2)) ∷ line 3 (Called 1 Fork (pos 3)) ∷ line 5 (Called 1 Fork (pos 4)) ∷ line 13 (Ended 3 0) ∷ line 16 (Reported 1 3 0) ∷ line 17 (Called 1 Fork (pos 3)) ∷ line 19 (Called 1 Fork (negsuc 10)) ∷ []
+    ≡ line 1 (Called 1 Fork (pos 2)) ∷ line 3 (Called 1 Fork (pos 3)) ∷ line 5 (Called 1 Fork (pos 4)) ∷ line 13 (Ended 3 0) ∷ line 16 (Reported 1 wait.Waitpid 3 0) ∷ line 17 (Called 1 Fork (pos 3)) ∷ line 19 (Called 1 Fork (negsuc 10)) ∷ []
 unfolding everything
 row_numbers_wrap_and_are_reused = refl
 
 row_parent_dies_with_a_zombie_child : trace (world 40 1 (program None None (Sys Fork ∷ JumpIf Zero 0 21 ∷ Set 1 (negsuc 0) ∷ Sys Waitpid ∷ Jump 18 ∷ Sys Fork ∷ JumpIf Zero 0 26 ∷ Sys SchedYield ∷ Set 1 (pos 2) ∷ Sys Exit ∷ Set 1 (pos 5) ∷ Sys Exit ∷ []) ∷ [])) (replicate 20 Step)
-    ≡ line 1 (Called 1 Fork (pos 2)) ∷ line 6 (Called 2 Fork (pos 3)) ∷ line 8 (Called 2 SchedYield (pos 0)) ∷ line 11 (Ended 3 1280) ∷ line 13 (Ended 2 512) ∷ line 14 (Reported 1 2 512) ∷ line 17 (Reported 1 3 1280) ∷ line 20 (Called 1 Waitpid (negsuc 9)) ∷ []
+    ≡ line 1 (Called 1 Fork (pos 2)) ∷ line 6 (Called 2 Fork (pos 3)) ∷ line 8 (Called 2 SchedYield (pos 0)) ∷ line 11 (Ended 3 1280) ∷ line 13 (Ended 2 512) ∷ line 14 (Reported 1 wait.Waitpid 2 512) ∷ line 17 (Reported 1 wait.Waitpid 3 1280) ∷ line 20 (Called 1 Waitpid (negsuc 9)) ∷ []
 unfolding everything
 row_parent_dies_with_a_zombie_child = refl
 
@@ -142,7 +143,7 @@ unfolding everything
 row_children_ignored = refl
 
 row_completed_call_goes_first : trace (world 40 1 (program None None (Set 1 (pos 17) ∷ Set 2 (pos 25) ∷ Sys Sigaction ∷ Sys Fork ∷ JumpIf Zero 0 24 ∷ Set 1 (negsuc 0) ∷ Sys Waitpid ∷ Note 1 ∷ Sys Exit ∷ Sys Sigreturn ∷ []) ∷ [])) (replicate 13 Step)
-    ≡ line 3 (Called 1 Sigaction (pos 0)) ∷ line 4 (Called 1 Fork (pos 2)) ∷ line 9 (Ended 2 4352) ∷ line 10 (Reported 1 2 4352) ∷ line 11 (Handled 1 17 (pos 4352) 2) ∷ line 12 (Returned 1) ∷ line 13 (Noted 1 (pos 4352)) ∷ []
+    ≡ line 3 (Called 1 Sigaction (pos 0)) ∷ line 4 (Called 1 Fork (pos 2)) ∷ line 9 (Ended 2 4352) ∷ line 10 (Reported 1 wait.Waitpid 2 4352) ∷ line 11 (Handled 1 17 (pos 4352) 2) ∷ line 12 (Returned 1) ∷ line 13 (Noted 1 (pos 4352)) ∷ []
 unfolding everything
 row_completed_call_goes_first = refl
 
@@ -166,17 +167,23 @@ row_alarm : trace (world 40 1 (program None None (Set 1 (pos 14) ∷ Set 2 (pos 
 unfolding everything
 row_alarm = refl
 
+-- a look leaves what a report takes
+row_look_and_take : trace (world 40 1 (program None None (Sys Fork ∷ JumpIf Zero 0 28 ∷ Set 1 (pos 1) ∷ Set 2 (pos 2) ∷ Set 3 (pos 16777220) ∷ Sys Waitid ∷ Set 1 (negsuc 0) ∷ Set 2 (pos 0) ∷ Sys Waitpid ∷ Set 1 (pos 0) ∷ Set 3 (pos 4) ∷ Sys Waitid ∷ Set 1 (pos 3) ∷ Sys Exit ∷ []) ∷ [])) (replicate 16 Step)
+    ≡ line 1 (Called 1 Fork (pos 2)) ∷ line 9 (Ended 2 768) ∷ line 10 (Looked 1 2 768) ∷ line 13 (Reported 1 wait.Waitpid 2 768) ∷ line 16 (Called 1 Waitid (negsuc 9)) ∷ []
+unfolding everything
+row_look_and_take = refl
+
 -- process 1 stops its child, sends it TERM and then this signal, and waits
 abbrev pub stops_its_child : ℕ → World
 stops_its_child n = world 40 1 (program None None (Sys Fork ∷ JumpIf Zero 0 33 ∷ Set 1 (pos 2) ∷ Set 2 (pos 19) ∷ Sys Kill ∷ Set 2 (pos 2) ∷ Sys Waitpid ∷ Set 1 (pos 2) ∷ Set 2 (pos 15) ∷ Sys Kill ∷ Set 2 (pos n) ∷ Sys Kill ∷ Set 2 (pos 8) ∷ Sys Waitpid ∷ Set 1 (pos 2) ∷ Set 2 (pos 0) ∷ Sys Waitpid ∷ Jump 33 ∷ []) ∷ [])
 
 row_stop_and_continue : trace (stops_its_child 18) (replicate 21 Step)
-    ≡ line 1 (Called 1 Fork (pos 2)) ∷ line 5 (Called 1 Kill (pos 0)) ∷ line 8 (Stopped 2 19) ∷ line 9 (Reported 1 2 4991) ∷ line 12 (Called 1 Kill (pos 0)) ∷ line 14 (Called 1 Kill (pos 0)) ∷ line 16 (Reported 1 2 65535) ∷ line 20 (Ended 2 15) ∷ line 21 (Reported 1 2 15) ∷ []
+    ≡ line 1 (Called 1 Fork (pos 2)) ∷ line 5 (Called 1 Kill (pos 0)) ∷ line 8 (Stopped 2 19) ∷ line 9 (Reported 1 wait.Waitpid 2 4991) ∷ line 12 (Called 1 Kill (pos 0)) ∷ line 14 (Called 1 Kill (pos 0)) ∷ line 16 (Reported 1 wait.Waitpid 2 65535) ∷ line 20 (Ended 2 15) ∷ line 21 (Reported 1 wait.Waitpid 2 15) ∷ []
 unfolding everything
 row_stop_and_continue = refl
 
 row_kill_while_stopped : trace (stops_its_child 9) (replicate 18 Step)
-    ≡ line 1 (Called 1 Fork (pos 2)) ∷ line 5 (Called 1 Kill (pos 0)) ∷ line 8 (Stopped 2 19) ∷ line 9 (Reported 1 2 4991) ∷ line 12 (Called 1 Kill (pos 0)) ∷ line 14 (Called 1 Kill (pos 0)) ∷ line 17 (Ended 2 9) ∷ line 18 (Reported 1 2 9) ∷ []
+    ≡ line 1 (Called 1 Fork (pos 2)) ∷ line 5 (Called 1 Kill (pos 0)) ∷ line 8 (Stopped 2 19) ∷ line 9 (Reported 1 wait.Waitpid 2 4991) ∷ line 12 (Called 1 Kill (pos 0)) ∷ line 14 (Called 1 Kill (pos 0)) ∷ line 17 (Ended 2 9) ∷ line 18 (Reported 1 wait.Waitpid 2 9) ∷ []
 unfolding everything
 row_kill_while_stopped = refl
 
@@ -242,7 +249,7 @@ unfolding everything
 row_group_change_after_exec = refl
 
 row_group_outlives_its_leader : trace (world 3 1 (program None None (Sys Fork ∷ JumpIf Zero 0 26 ∷ Sys SchedYield ∷ Sys Fork ∷ JumpIf Zero 0 30 ∷ Sys SchedYield ∷ Set 1 (pos 2) ∷ Set 2 (pos 0) ∷ Sys Waitpid ∷ Sys Fork ∷ Set 1 (pos 0) ∷ Set 2 (pos 0) ∷ Sys Setpgid ∷ Sys Exit ∷ Set 1 (pos 0) ∷ Set 2 (pos 2) ∷ Sys Setpgid ∷ Sys Pause ∷ []) ∷ [])) (replicate 20 Step)
-    ≡ line 1 (Called 1 Fork (pos 2)) ∷ line 3 (Called 1 SchedYield (pos 0)) ∷ line 7 (Called 2 Setpgid (pos 0)) ∷ line 8 (Ended 2 0) ∷ line 9 (Called 1 Fork (pos 3)) ∷ line 11 (Called 1 SchedYield (pos 0)) ∷ line 15 (Called 3 Setpgid (pos 0)) ∷ line 19 (Reported 1 2 0) ∷ line 20 (Called 1 Fork (negsuc 10)) ∷ []
+    ≡ line 1 (Called 1 Fork (pos 2)) ∷ line 3 (Called 1 SchedYield (pos 0)) ∷ line 7 (Called 2 Setpgid (pos 0)) ∷ line 8 (Ended 2 0) ∷ line 9 (Called 1 Fork (pos 3)) ∷ line 11 (Called 1 SchedYield (pos 0)) ∷ line 15 (Called 3 Setpgid (pos 0)) ∷ line 19 (Reported 1 wait.Waitpid 2 0) ∷ line 20 (Called 1 Fork (negsuc 10)) ∷ []
 unfolding everything
 row_group_outlives_its_leader = refl
 
@@ -253,12 +260,12 @@ abbrev reads_lines : World
 reads_lines = world 40 1 (program None None (Set 1 (pos 1) ∷ Sys Setctty ∷ Set 1 (pos 0) ∷ Set 2 (pos 16) ∷ Sys Read ∷ Jump 20 ∷ []) ∷ [])
 
 row_shell_ends_with_a_stopped_job : trace (world 40 1 (program None None (Sys Fork ∷ JumpIf Zero 0 21 ∷ Set 1 (negsuc 0) ∷ Sys Waitpid ∷ Jump 18 ∷ Sys Setsid ∷ Set 1 (pos 1) ∷ Sys Setctty ∷ Sys Fork ∷ JumpIf Zero 0 35 ∷ Set 1 (pos 3) ∷ Set 2 (pos 3) ∷ Sys Setpgid ∷ Sys Tcsetpgrp ∷ Set 1 (negsuc 0) ∷ Set 2 (pos 2) ∷ Sys Waitpid ∷ Set 1 (pos 0) ∷ Sys Exit ∷ Jump 35 ∷ []) ∷ [])) (replicate 18 Step ++ (Key 1 26 ∷ []) ++ replicate 10 Step)
-    ≡ line 1 (Called 1 Fork (pos 2)) ∷ line 6 (Called 2 Setsid (pos 2)) ∷ line 8 (Called 2 Setctty (pos 0)) ∷ line 9 (Called 2 Fork (pos 3)) ∷ line 13 (Called 2 Setpgid (pos 0)) ∷ line 14 (Called 2 Tcsetpgrp (pos 0)) ∷ line 20 (Stopped 3 20) ∷ line 21 (Reported 2 3 5247) ∷ line 23 (Ended 2 0) ∷ line 24 (Reported 1 2 0) ∷ line 28 (Ended 3 1) ∷ line 29 (Reported 1 3 1) ∷ []
+    ≡ line 1 (Called 1 Fork (pos 2)) ∷ line 6 (Called 2 Setsid (pos 2)) ∷ line 8 (Called 2 Setctty (pos 0)) ∷ line 9 (Called 2 Fork (pos 3)) ∷ line 13 (Called 2 Setpgid (pos 0)) ∷ line 14 (Called 2 Tcsetpgrp (pos 0)) ∷ line 20 (Stopped 3 20) ∷ line 21 (Reported 2 wait.Waitpid 3 5247) ∷ line 23 (Ended 2 0) ∷ line 24 (Reported 1 wait.Waitpid 2 0) ∷ line 28 (Ended 3 1) ∷ line 29 (Reported 1 wait.Waitpid 3 1) ∷ []
 unfolding everything
 row_shell_ends_with_a_stopped_job = refl
 
 row_background_read : trace (world 40 1 (program None None (Sys Fork ∷ JumpIf Zero 0 19 ∷ Sys Pause ∷ Sys Setsid ∷ Set 1 (pos 1) ∷ Sys Setctty ∷ Sys Fork ∷ JumpIf Zero 0 31 ∷ Set 1 (pos 3) ∷ Set 2 (pos 3) ∷ Sys Setpgid ∷ Set 1 (negsuc 0) ∷ Set 2 (pos 2) ∷ Sys Waitpid ∷ Sys Pause ∷ Set 1 (pos 0) ∷ Set 2 (pos 16) ∷ Sys Read ∷ []) ∷ [])) (replicate 21 Step)
-    ≡ line 1 (Called 1 Fork (pos 2)) ∷ line 5 (Called 2 Setsid (pos 2)) ∷ line 7 (Called 2 Setctty (pos 0)) ∷ line 8 (Called 2 Fork (pos 3)) ∷ line 12 (Called 2 Setpgid (pos 0)) ∷ line 20 (Stopped 3 21) ∷ line 21 (Reported 2 3 5503) ∷ []
+    ≡ line 1 (Called 1 Fork (pos 2)) ∷ line 5 (Called 2 Setsid (pos 2)) ∷ line 7 (Called 2 Setctty (pos 0)) ∷ line 8 (Called 2 Fork (pos 3)) ∷ line 12 (Called 2 Setpgid (pos 0)) ∷ line 20 (Stopped 3 21) ∷ line 21 (Reported 2 wait.Waitpid 3 5503) ∷ []
 unfolding everything
 row_background_read = refl
 
@@ -285,6 +292,6 @@ unfolding everything
 row_long_line = refl
 
 row_reused_number_is_not_the_old_foreground : trace (world 3 1 (program None None (Sys Fork ∷ JumpIf Zero 0 19 ∷ Sys Pause ∷ Sys Setsid ∷ Set 1 (pos 1) ∷ Sys Setctty ∷ Sys Fork ∷ JumpIf Zero 0 36 ∷ Set 1 (pos 3) ∷ Set 2 (pos 3) ∷ Sys Setpgid ∷ Sys Tcsetpgrp ∷ Set 2 (pos 0) ∷ Sys Waitpid ∷ Sys Fork ∷ JumpIf Zero 0 37 ∷ Set 1 (pos 3) ∷ Set 2 (pos 3) ∷ Sys Setpgid ∷ Sys Tcgetpgrp ∷ Sys Exit ∷ Jump 37 ∷ []) ∷ [])) (replicate 24 Step)
-    ≡ line 1 (Called 1 Fork (pos 2)) ∷ line 5 (Called 2 Setsid (pos 2)) ∷ line 7 (Called 2 Setctty (pos 0)) ∷ line 8 (Called 2 Fork (pos 3)) ∷ line 12 (Called 2 Setpgid (pos 0)) ∷ line 13 (Called 2 Tcsetpgrp (pos 0)) ∷ line 17 (Ended 3 256) ∷ line 18 (Reported 2 3 256) ∷ line 19 (Called 2 Fork (pos 3)) ∷ line 23 (Called 2 Setpgid (pos 0)) ∷ line 24 (Called 2 Tcgetpgrp (pos 4)) ∷ []
+    ≡ line 1 (Called 1 Fork (pos 2)) ∷ line 5 (Called 2 Setsid (pos 2)) ∷ line 7 (Called 2 Setctty (pos 0)) ∷ line 8 (Called 2 Fork (pos 3)) ∷ line 12 (Called 2 Setpgid (pos 0)) ∷ line 13 (Called 2 Tcsetpgrp (pos 0)) ∷ line 17 (Ended 3 256) ∷ line 18 (Reported 2 wait.Waitpid 3 256) ∷ line 19 (Called 2 Fork (pos 3)) ∷ line 23 (Called 2 Setpgid (pos 0)) ∷ line 24 (Called 2 Tcgetpgrp (pos 4)) ∷ []
 unfolding everything
 row_reused_number_is_not_the_old_foreground = refl

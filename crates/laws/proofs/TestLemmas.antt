@@ -6,7 +6,7 @@ use Rattle.std.proofs.lemmas.Bool.{cases_Bool}
 use Rattle.std.proofs.lemmas.Bool.Decides.{nat_tests}
 use Rattle.posix.specs.Entries.{Line, process_of}
 use Rattle.posix.specs.declared.entry.Entry.{Entry}
-use Rattle.posix.specs.declared.entry.Entry.TheVariants.{Noted, Called, Moved, Reported, NoMemory, Handled, Discarded, Stopped, Returned, Ended, Halted}
+use Rattle.posix.specs.declared.entry.Entry.TheVariants.{Noted, Called, Moved, Reported, Looked, NoMemory, Handled, Discarded, Stopped, Returned, Ended, Halted}
 use Rattle.posix.specs.Statuses.{is_end_word, is_stopped_word, is_continued_word}
 use Rattle.laws.specs.Lives.{LastOf, newest_life, is_living, LifeSoFar, the_end, EndOf, is_unended, parent_of, is_just, born_by, laws, last_line, last_stop, number_from, none_or, is_halt, ends_first, was_halt, within_life, halts_last, begins_apart, report_law, is_due, is_due_to, reports, stop_in, end_in, stop_report, continue_report, is_change_word}
 use Rattle.laws.specs.Keeping.{Going, FirstEnded, Over, kept_of, kept_of_life, kept_since, alive_since, lives_now, fault_of, unless_fault, number_fault, place_fault, process_fault, birth_fault, report_fault, word_fault, fault_of_living, fault_of_ended, stop_fault, last_number, phase_of}
@@ -102,7 +102,8 @@ pub report_tested : (lines : List Line) (entry : Entry) → is_none (report_faul
 unfolding kept_of
 report_tested lines (Noted p z) = refl
 report_tested lines (Called p call z) = refl
-report_tested lines (Reported p c w) = word_tested lines p c w (newest_life lines c)
+report_tested lines (Reported p call c w) = word_tested lines p c w (newest_life lines c)
+report_tested lines (Looked p c w) = word_tested lines p c w (newest_life lines c)
 report_tested lines (Moved p call bytes) = refl
 report_tested lines (NoMemory p call) = refl
 report_tested lines (Handled p s value sender) = refl
@@ -115,7 +116,8 @@ report_tested lines Halted = refl
 halt_alone : (entry : Entry) → is_halt entry ≡ is_none (process_of entry)
 halt_alone (Noted p z) = refl
 halt_alone (Called p call z) = refl
-halt_alone (Reported p c w) = refl
+halt_alone (Reported p call c w) = refl
+halt_alone (Looked p c w) = refl
 halt_alone (Moved p call bytes) = refl
 halt_alone (NoMemory p call) = refl
 halt_alone (Handled p s value sender) = refl

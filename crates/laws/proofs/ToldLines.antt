@@ -2,7 +2,8 @@
 use Rattle.std.proofs.Common.{◌≡◌, ◌≢◌, ℕ, zero, suc, ◌+◌, ◌/◌, ◌≤◌, Bool, true, false, cond, ◌==◌, List, [], ◌∷◌, ◌++◌, length, Option, Some, None, option_map, is_none, refl, ap, sym, ◌∙◌, arith, subst, pos, inl, inr}
 use Rattle.std.proofs.lemmas.Bool.{eqb-true, eqb-false, eq-eqb, ne_eqb}
 use Rattle.posix.specs.declared.entry.Entry.{Entry}
-use Rattle.posix.specs.declared.entry.Entry.TheVariants.{Noted, Called, Moved, Reported, NoMemory, Handled, Discarded, Stopped, Returned, Ended, Halted}
+use Rattle.posix.specs.declared.waits.WaitCall.{WaitCall}
+use Rattle.posix.specs.declared.entry.Entry.TheVariants.{Noted, Called, Moved, Reported, Looked, NoMemory, Handled, Discarded, Stopped, Returned, Ended, Halted}
 use Rattle.posix.specs.declared.call.Call.TheVariants.{Fork}
 use Rattle.posix.specs.declared.process.Life.{Life}
 use Rattle.posix.specs.declared.process.Life.TheVariants.{Running, Stopped as Halting, Zombie}
@@ -37,7 +38,8 @@ abbrev pub is_plain : Entry → Bool
 is_plain (Noted p z) = true
 is_plain (Called p call z) = is_none (born_by (Called p call z))
 is_plain (Moved p call bytes) = true
-is_plain (Reported p c w) = false
+is_plain (Reported p call c w) = false
+is_plain (Looked p c w) = false
 is_plain (NoMemory p call) = true
 is_plain (Handled p s value sender) = true
 is_plain (Discarded p s) = true
@@ -64,7 +66,8 @@ tells_nothing kept (Called p call z) h =
     is_none_none None h = refl
     is_none_none (Some n) h = absurd (cc)
 tells_nothing kept (Moved p call bytes) h = record { born = refl; same = λ c. refl; report = refl; ends = refl; going = refl }
-tells_nothing kept (Reported p c w) h = absurd (cc)
+tells_nothing kept (Reported p call c w) h = absurd (cc)
+tells_nothing kept (Looked p c w) h = absurd (cc)
 tells_nothing kept (NoMemory p call) h = record { born = refl; same = λ c. refl; report = refl; ends = refl; going = refl }
 tells_nothing kept (Handled p s value sender) h = record { born = refl; same = λ c. refl; report = refl; ends = refl; going = refl }
 tells_nothing kept (Discarded p s) h = record { born = refl; same = λ c. refl; report = refl; ends = refl; going = refl }
@@ -283,15 +286,15 @@ none_dead w (Lives a) r life h = let no : true ≡ false = sym (ap is_zombie lif
 none_dead w (Died d) r life h = tt
 
 -- a wait reports that a child ended, and its record goes
-pub agree_reaped : (lines : List Line) (k : ℕ) (s : State) (p c w : ℕ) (r : Process) → AgreeIn Going lines k s → IsLiving s p → IsRising s.processes → lookup c s.processes ≡ Some r → r.parent ≡ p → r.life ≡ Zombie w
-    → AgreeIn Going (lines ++ line k (Reported p c w) ∷ []) k (record s { processes = removed c s.processes })
+pub agree_reaped : (lines : List Line) (k : ℕ) (s : State) (p : ℕ) (call : WaitCall) (c w : ℕ) (r : Process) → AgreeIn Going lines k s → IsLiving s p → IsRising s.processes → lookup c s.processes ≡ Some r → r.parent ≡ p → r.life ≡ Zombie w
+    → AgreeIn Going (lines ++ line k (Reported p call c w) ∷ []) k (record s { processes = removed c s.processes })
 unfolding kept_after
-agree_reaped lines k s p c w r h me up found parent life =
+agree_reaped lines k s p call c w r h me up found parent life =
     let kept = kept_of lines in
     let agrees : AgreeOn (kept c) (Some r) = subst (AgreeOn (kept c)) found (h.records c) in
     let word = end_worded w (kept c) r life agrees in
-    agree_says Going lines k (Reported p c w) s (record s { processes = removed c s.processes }) h (record {
-      place = may_say kept p (Reported p c w) (in_life Going lines k s p h me) refl;
+    agree_says Going lines k (Reported p call c w) s (record s { processes = removed c s.processes }) h (record {
+      place = may_say kept p (Reported p call c w) (in_life Going lines k s p h me) refl;
       birth = refl;
       report = end_passes p w (kept c) r life parent agrees;
       records = λ q. one agrees q (c == q) refl;
@@ -384,14 +387,14 @@ unfolding news_told
 told_pid r = refl
 
 -- a wait reports a child's news, which are none from then on
-agree_news : (lines : List Line) (k : ℕ) (s : State) (p c w : ℕ) (r : Process) → AgreeIn Going lines k s → IsLiving s p → lookup c s.processes ≡ Some r → ToldAs p w (kept_of lines c) r
-    → AgreeIn Going (lines ++ line k (Reported p c w) ∷ []) k (change s c news_told)
+agree_news : (lines : List Line) (k : ℕ) (s : State) (p : ℕ) (call : WaitCall) (c w : ℕ) (r : Process) → AgreeIn Going lines k s → IsLiving s p → lookup c s.processes ≡ Some r → ToldAs p w (kept_of lines c) r
+    → AgreeIn Going (lines ++ line k (Reported p call c w) ∷ []) k (change s c news_told)
 unfolding kept_after
-agree_news lines k s p c w r h me found told =
+agree_news lines k s p call c w r h me found told =
     let kept = kept_of lines in
     let l = length_changed c news_told s.processes in
-    agree_says Going lines k (Reported p c w) s (change s c news_told) h (record {
-      place = may_say kept p (Reported p c w) (in_life Going lines k s p h me) refl;
+    agree_says Going lines k (Reported p call c w) s (change s c news_told) h (record {
+      place = may_say kept p (Reported p call c w) (in_life Going lines k s p h me) refl;
       birth = refl;
       report = told.passes;
       records = λ q. one q (c == q) refl;
@@ -406,16 +409,42 @@ agree_news lines k s p c w r h me found told =
         (rw (lookup_changed c c news_told told_pid s.processes, eq-eqb c c refl, found) told.after)
     one q false t = rw (lookup_changed c q news_told told_pid s.processes, ne_eqb q c (λ e. eqb-false c q t (sym e))) (h.records q)
 
-pub agree_reported : (lines : List Line) (k : ℕ) (s : State) (p c w : ℕ) (r : Process) → AgreeIn Going lines k s → IsLiving s p → lookup c s.processes ≡ Some r → r.parent ≡ p → is_zombie r.life ≡ false → IsNewsOf r w
-    → AgreeIn Going (lines ++ line k (Reported p c w) ∷ []) k (change s c news_told)
-agree_reported lines k s p c w r h me found parent lives what =
-    let kept = kept_of lines in
-    let agrees : AgreeOn (kept c) (Some r) = subst (AgreeOn (kept c)) found (h.records c) in
-    agree_news lines k s p c w r h me found (by agrees what)
-  where
-    by : AgreeOn (kept_of lines c) (Some r) → IsNewsOf r w → ToldAs p w (kept_of lines c) r
-    by agrees (inl x) = subst (λ v. ToldAs p v (kept_of lines c) r) (sym x.2) (stop_told p x.0 (kept_of lines c) r (sound_kept lines c) lives parent x.1 agrees)
-    by agrees (inr x) = subst (λ v. ToldAs p v (kept_of lines c) r) (sym x.1) (continue_told p (kept_of lines c) r (sound_kept lines c) lives parent x.0 agrees)
+-- news that a living child has tell of its last stop, or of its continue
+news_are_told : (lines : List Line) (p c w : ℕ) (r : Process) → AgreeOn (kept_of lines c) (Some r) → r.parent ≡ p → is_zombie r.life ≡ false → IsNewsOf r w → ToldAs p w (kept_of lines c) r
+news_are_told lines p c w r agrees parent lives (inl x) = subst (λ v. ToldAs p v (kept_of lines c) r) (sym x.2) (stop_told p x.0 (kept_of lines c) r (sound_kept lines c) lives parent x.1 agrees)
+news_are_told lines p c w r agrees parent lives (inr x) = subst (λ v. ToldAs p v (kept_of lines c) r) (sym x.1) (continue_told p (kept_of lines c) r (sound_kept lines c) lives parent x.0 agrees)
+
+pub agree_reported : (lines : List Line) (k : ℕ) (s : State) (p : ℕ) (call : WaitCall) (c w : ℕ) (r : Process) → AgreeIn Going lines k s → IsLiving s p → lookup c s.processes ≡ Some r → r.parent ≡ p → is_zombie r.life ≡ false → IsNewsOf r w
+    → AgreeIn Going (lines ++ line k (Reported p call c w) ∷ []) k (change s c news_told)
+agree_reported lines k s p call c w r h me found parent lives what =
+    agree_news lines k s p call c w r h me found (news_are_told lines p c w r (subst (AgreeOn (kept_of lines c)) found (h.records c)) parent lives what)
+
+-- ---- looks
+
+-- A look tells what a report would, and changes nothing.
+agree_look : (lines : List Line) (k : ℕ) (s : State) (p c w : ℕ) → AgreeIn Going lines k s → IsLiving s p → word_fault p w (kept_of lines c) ≡ None → AgreeIn Going (lines ++ line k (Looked p c w) ∷ []) k s
+unfolding kept_after
+agree_look lines k s p c w h me passes =
+    agree_says Going lines k (Looked p c w) s s h (record {
+      place = may_say (kept_of lines) p (Looked p c w) (in_life Going lines k s p h me) refl;
+      birth = refl;
+      report = passes;
+      records = h.records;
+      births = omega arith;
+      total = omega arith;
+    })
+
+-- at the end of a child
+pub agree_looked_at_end : (lines : List Line) (k : ℕ) (s : State) (p c w : ℕ) (r : Process) → AgreeIn Going lines k s → IsLiving s p → lookup c s.processes ≡ Some r → r.parent ≡ p → r.life ≡ Zombie w
+    → AgreeIn Going (lines ++ line k (Looked p c w) ∷ []) k s
+agree_looked_at_end lines k s p c w r h me found parent life =
+    agree_look lines k s p c w h me (end_passes p w (kept_of lines c) r life parent (subst (AgreeOn (kept_of lines c)) found (h.records c)))
+
+-- at its news
+pub agree_looked_at_news : (lines : List Line) (k : ℕ) (s : State) (p c w : ℕ) (r : Process) → AgreeIn Going lines k s → IsLiving s p → lookup c s.processes ≡ Some r → r.parent ≡ p → is_zombie r.life ≡ false → IsNewsOf r w
+    → AgreeIn Going (lines ++ line k (Looked p c w) ∷ []) k s
+agree_looked_at_news lines k s p c w r h me found parent lives what =
+    agree_look lines k s p c w h me (news_are_told lines p c w r (subst (AgreeOn (kept_of lines c)) found (h.records c)) parent lives what).passes
 
 -- ---- births
 

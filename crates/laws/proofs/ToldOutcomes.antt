@@ -3,7 +3,8 @@ use Rattle.std.proofs.Common.{◌≡◌, ◌≢◌, ℕ, ◌+◌, ◌≤◌, Boo
 use Rattle.std.proofs.lemmas.Bool.{eqb-true, eqb-false, eq-eqb, ne_eqb, cases_eq, cond_both}
 use Rattle.posix.specs.declared.call.Call.TheVariants.{Fork}
 use Rattle.posix.specs.declared.entry.Entry.{Entry}
-use Rattle.posix.specs.declared.entry.Entry.TheVariants.{Called, Reported, Stopped, Ended, Halted}
+use Rattle.posix.specs.declared.waits.WaitCall.{WaitCall}
+use Rattle.posix.specs.declared.entry.Entry.TheVariants.{Called, Reported, Looked, Stopped, Ended, Halted}
 use Rattle.posix.specs.declared.process.Life.{Life}
 use Rattle.posix.specs.declared.process.Life.TheVariants.{Running, Stopped as Halting, Zombie}
 use Rattle.posix.specs.SignalNumbers.{KILL, HUP, is_stop_signal}
@@ -34,7 +35,7 @@ use Rattle.laws.proofs.NextLineLemmas.{counted_all}
 use Rattle.laws.proofs.QuietLemmas.{Quiet, quiet_then, IsRunning, runs_on}
 use Rattle.laws.proofs.QuietOperations.{quiet_hup_and_cont, quiet_hung_up, IsGone, AllGone, quiet_notice, quiet_told, quiet_told_of_change}
 use Rattle.laws.proofs.NewsLemmas.{IsNewsOf}
-use Rattle.laws.proofs.ToldLines.{is_plain, IsLiving, agree_plain, departed, agree_ended, agree_halted, agree_stopped, agree_reaped, agree_reported, agree_born, pid_child, life_child}
+use Rattle.laws.proofs.ToldLines.{is_plain, IsLiving, agree_plain, departed, agree_ended, agree_halted, agree_stopped, agree_reaped, agree_reported, agree_looked_at_end, agree_looked_at_news, agree_born, pid_child, life_child}
 
 -- ---- quiet changes
 
@@ -274,18 +275,18 @@ told_born s me n awake found runs least fresh =
 -- ---- reports
 
 -- the end of a child is reported
-pub told_reaped : (s : State) (p c w : ℕ) (r : Process) → s.halted ≡ false → IsLiving s p → IsRising s.processes → lookup c s.processes ≡ Some r → r.parent ≡ p → r.life ≡ Zombie w
-    → IsTold s (record { state = record s { processes = removed c s.processes }; entries = Reported p c w ∷ [] })
-told_reaped s p c w r awake me up found parent life =
-    told_one s (record s { processes = removed c s.processes }) (Reported p c w) awake (λ lines k a. agree_reaped lines k s p c w r a me up found parent life)
+pub told_reaped : (s : State) (p : ℕ) (call : WaitCall) (c w : ℕ) (r : Process) → s.halted ≡ false → IsLiving s p → IsRising s.processes → lookup c s.processes ≡ Some r → r.parent ≡ p → r.life ≡ Zombie w
+    → IsTold s (record { state = record s { processes = removed c s.processes }; entries = Reported p call c w ∷ [] })
+told_reaped s p call c w r awake me up found parent life =
+    told_one s (record s { processes = removed c s.processes }) (Reported p call c w) awake (λ lines k a. agree_reaped lines k s p call c w r a me up found parent life)
     (λ a. record { turns = λ q x e f stops. a.turns q x e (lookup_left c q s.processes x f) stops })
 
 -- a change is
-pub told_news : (s : State) (p c w : ℕ) (r : Process) → s.halted ≡ false → IsLiving s p → lookup c s.processes ≡ Some r → r.parent ≡ p → is_zombie r.life ≡ false → IsNewsOf r w
-    → IsTold s (record { state = change s c news_told; entries = Reported p c w ∷ [] })
+pub told_news : (s : State) (p : ℕ) (call : WaitCall) (c w : ℕ) (r : Process) → s.halted ≡ false → IsLiving s p → lookup c s.processes ≡ Some r → r.parent ≡ p → is_zombie r.life ≡ false → IsNewsOf r w
+    → IsTold s (record { state = change s c news_told; entries = Reported p call c w ∷ [] })
 unfolding news_told
-told_news s p c w r awake me found parent lives what =
-    told_one s (change s c news_told) (Reported p c w) awake (λ lines k a. agree_reported lines k s p c w r a me found parent lives what)
+told_news s p call c w r awake me found parent lives what =
+    told_one s (change s c news_told) (Reported p call c w) awake (λ lines k a. agree_reported lines k s p call c w r a me found parent lives what)
     (λ a. record { turns = λ q x e f stops. by a q x e (q == c) refl (sym (lookup_changed c q news_told (λ r. refl) s.processes) ∙ f) stops })
   where
     by : AreTurns s → (q : ℕ) (x : Process) → is_in q s.order ≡ true → (b : Bool) → (q == c) ≡ b → cond b (option_map news_told (lookup q s.processes)) (lookup q s.processes) ≡ Some x → is_stopped x.life ≡ true → is_pending x.signals KILL ≡ true
@@ -294,3 +295,10 @@ told_news s p c w r awake me found parent lives what =
         let is : news_told r ≡ x = let both = sym (ap (option_map news_told) here) ∙ f in cc in
         ap (λ (r : Process). is_pending r.signals KILL) (sym is) ∙ a.turns q r e here (ap (λ (r : Process). is_stopped r.life) is ∙ stops)
     by a q x e false t f stops = a.turns q x e f stops
+
+-- or a child is looked at
+pub told_looked_at_end : (s : State) (p c w : ℕ) (r : Process) → s.halted ≡ false → IsLiving s p → lookup c s.processes ≡ Some r → r.parent ≡ p → r.life ≡ Zombie w → IsTold s (record { state = s; entries = Looked p c w ∷ [] })
+told_looked_at_end s p c w r awake me found parent life = told_one s s (Looked p c w) awake (λ lines k a. agree_looked_at_end lines k s p c w r a me found parent life) (λ a. a)
+
+pub told_looked_at_news : (s : State) (p c w : ℕ) (r : Process) → s.halted ≡ false → IsLiving s p → lookup c s.processes ≡ Some r → r.parent ≡ p → is_zombie r.life ≡ false → IsNewsOf r w → IsTold s (record { state = s; entries = Looked p c w ∷ [] })
+told_looked_at_news s p c w r awake me found parent lives what = told_one s s (Looked p c w) awake (λ lines k a. agree_looked_at_news lines k s p c w r a me found parent lives what) (λ a. a)

@@ -2,7 +2,7 @@
 use Rattle.std.specs.Prelude.{ℕ, ◌/◌, ◌==◌, ◌&&◌, ◌||◌, not, Bool, true, false, List, if◌then◌else◌, nat_lt, Option, Some, None, is_some}
 use Rattle.std.specs.List.{list_any}
 use Rattle.posix.specs.declared.entry.Entry.{Entry}
-use Rattle.posix.specs.declared.entry.Entry.TheVariants.{Noted, Called, Moved, Reported, NoMemory, Handled, Discarded, Stopped, Returned, Ended, Halted}
+use Rattle.posix.specs.declared.entry.Entry.TheVariants.{Noted, Called, Moved, Reported, Looked, NoMemory, Handled, Discarded, Stopped, Returned, Ended, Halted}
 use Rattle.posix.specs.Entries.{Line, process_of}
 use Rattle.posix.specs.Statuses.{is_end_word, is_stopped_word, is_continued_word}
 use Rattle.laws.specs.Lives.{is_halt, born_by, is_just, end_in, stop_in, reports, LastOf, LifeSoFar, EndOf, newest_life, the_end, last_stop, parent_of, is_change_word}
@@ -103,7 +103,8 @@ unfoldable pub kept_after : (ℕ → Kept) → Entry → ℕ → Kept
 kept_after kept (Noted p z) c = kept c
 kept_after kept (Called p call z) c = if is_just c (born_by (Called p call z)) then newborn p else kept c
 kept_after kept (Moved p call bytes) c = kept c
-kept_after kept (Reported p d w) c = if d == c then after_report w (kept c) else kept c
+kept_after kept (Reported p call d w) c = if d == c then after_report w (kept c) else kept c
+kept_after kept (Looked p d w) c = kept c
 kept_after kept (NoMemory p call) c = kept c
 kept_after kept (Handled p s value sender) c = kept c
 kept_after kept (Discarded p s) c = kept c
@@ -158,14 +159,15 @@ fault_of_ended p w d =
     else if is_change_word w then Some 3
     else Some 6
 
--- a report by p with the word w
+-- a report by p with the word w, or a look
 abbrev pub word_fault : ℕ → ℕ → Kept → Option ℕ
 word_fault p w NeverBorn = Some 3
 word_fault p w (Lives a) = fault_of_living p w a
 word_fault p w (Died d) = fault_of_ended p w d
 
 abbrev pub report_fault : (ℕ → Kept) → Entry → Option ℕ
-report_fault kept (Reported p c w) = word_fault p w (kept c)
+report_fault kept (Reported p call c w) = word_fault p w (kept c)
+report_fault kept (Looked p c w) = word_fault p w (kept c)
 report_fault kept _ = None
 
 abbrev pub number_fault : ℕ → ℕ → Option ℕ

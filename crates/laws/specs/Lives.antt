@@ -2,7 +2,7 @@
 use Rattle.std.specs.Prelude.{ℕ, zero, suc, ◌/◌, ◌≡◌, ◌==◌, ◌&&◌, ◌||◌, not, Bool, true, false, List, [], ◌∷◌, ◌++◌, if◌then◌else◌, nat_le, Option, Some, None, is_some, slice_get, take, ℤ, pos, negsuc}
 use Rattle.std.specs.List.{list_any}
 use Rattle.posix.specs.declared.entry.Entry.{Entry}
-use Rattle.posix.specs.declared.entry.Entry.TheVariants.{Called, Reported, Stopped, Ended, Halted}
+use Rattle.posix.specs.declared.entry.Entry.TheVariants.{Called, Reported, Looked, Stopped, Ended, Halted}
 use Rattle.posix.specs.declared.call.Call.{Call}
 use Rattle.posix.specs.declared.call.Call.TheVariants.{Fork}
 use Rattle.posix.specs.Entries.{Line, line, process_of}
@@ -51,13 +51,22 @@ ends c l = is_some (end_in c l.entry)
 abbrev pub stops : ℕ → Line → Bool
 stops c l = is_some (stop_in c l.entry)
 
--- a report of c with a word that passes
+-- a report of c with a word that passes; a look is none
 abbrev pub reports_in : ℕ → (ℕ → Bool) → Entry → Bool
-reports_in c test (Reported p d w) = d == c && test w
+reports_in c test (Reported p call d w) = d == c && test w
 reports_in c test _ = false
 
 abbrev pub reports : ℕ → (ℕ → Bool) → Line → Bool
 reports c test l = reports_in c test l.entry
+
+-- a report of c, or a look at c, with a word that passes
+abbrev pub reports_or_looks_in : ℕ → (ℕ → Bool) → Entry → Bool
+reports_or_looks_in c test (Reported p call d w) = d == c && test w
+reports_or_looks_in c test (Looked p d w) = d == c && test w
+reports_or_looks_in c test _ = false
+
+abbrev pub reports_or_looks : ℕ → (ℕ → Bool) → Line → Bool
+reports_or_looks c test l = reports_or_looks_in c test l.entry
 
 -- ---- lives
 
@@ -190,9 +199,10 @@ within_life before l = none_or (is_living before) (process_of l.entry)
 abbrev pub begins_apart : List Line → Line → Bool
 begins_apart before l = none_or (λ c. not (is_living before c)) (born_by l.entry)
 
--- a report is one of the newest life, made by its parent, and due
+-- a report is one of the newest life, made by its parent, and due; so is what a look tells
 abbrev pub report_law : List Line → Entry → Bool
-report_law before (Reported p c w) = is_due_to before p c w (newest_life before c)
+report_law before (Reported p call c w) = is_due_to before p c w (newest_life before c)
+report_law before (Looked p c w) = is_due_to before p c w (newest_life before c)
 report_law before _ = true
 
 abbrev pub reports_due : List Line → Line → Bool

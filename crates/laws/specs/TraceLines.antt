@@ -2,7 +2,7 @@
 use Rattle.std.specs.Prelude.{ℕ, ◌≡◌, ◌&&◌, Bool, true, false, List, [], ◌∷◌, ◌++◌, length, nat_le, nat_lt, ℤ, pos, negsuc, int_le}
 use Rattle.std.specs.List.{list_all}
 use Rattle.posix.specs.declared.entry.Entry.{Entry}
-use Rattle.posix.specs.declared.entry.Entry.TheVariants.{Noted, Called, Moved, Reported, NoMemory, Handled, Discarded, Stopped, Returned, Ended, Halted}
+use Rattle.posix.specs.declared.entry.Entry.TheVariants.{Noted, Called, Moved, Reported, Looked, NoMemory, Handled, Discarded, Stopped, Returned, Ended, Halted}
 use Rattle.posix.specs.declared.call.Call.{Call}
 use Rattle.posix.specs.declared.call.Call.TheVariants.{Exit, Fork, Waitpid, Kill, Sigqueue, Sigreturn, Read, Write}
 use Rattle.posix.specs.Entries.{Line}
@@ -42,7 +42,8 @@ abbrev pub is_entry : Entry → Bool
 is_entry (Noted p z) = is_number p && is_i64 z
 is_entry (Called p call z) = is_number p && is_i64 z && is_result call z
 is_entry (Moved p call bytes) = is_number p && moves_bytes call && nat_le 1 (length bytes) && nat_le (length bytes) 16 && list_all (λ b. nat_lt b 256) bytes
-is_entry (Reported p c w) = is_number p && is_number c && nat_le w 65535
+is_entry (Reported p call c w) = is_number p && is_number c && nat_le w 65535
+is_entry (Looked p c w) = is_number p && is_number c && nat_le w 65535
 is_entry (NoMemory p call) = is_number p && asks_memory call
 is_entry (Handled p s value sender) = is_number p && is_signal s && is_i64 value && nat_le sender 2147483647
 is_entry (Discarded p s) = is_number p && is_signal s

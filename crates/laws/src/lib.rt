@@ -28,9 +28,10 @@ ghost use Rattle.std.specs.List.{AllByRecursion};
 ghost use Rattle.posix.specs.declared.process.Life.TheVariants.{Zombie};
 ghost use Rattle.std.specs.Prelude.{count_by};
 ghost use Rattle.std.specs.List.{list_any};
-ghost use Rattle.posix.specs.declared.entry.Entry.TheVariants.{Reported};
+ghost use Rattle.posix.specs.declared.entry.Entry.TheVariants.{Reported, Looked};
+ghost use Rattle.posix.specs.declared.waits.WaitCall.{WaitCall};
 ghost use Rattle.posix.specs.Statuses.{is_end_word, is_stopped_word, is_continued_word};
-ghost use Rattle.laws.specs.Lives.{Laws, laws, IsOfEnd, born_by, begins, ends, stops, reports, is_change_word, is_halt, ends_first, last_line, is_living, parent_in};
+ghost use Rattle.laws.specs.Lives.{Laws, laws, IsOfEnd, born_by, begins, ends, stops, reports, reports_or_looks, is_change_word, is_halt, ends_first, last_line, is_living, parent_in};
 ghost use Rattle.laws.specs.Keeping.{Died, kept_of};
 ghost use Rattle.laws.specs.Kinds.{IsEvent, IsWorld};
 ghost use Rattle.laws.specs.Agree.{Agree, IsOrderly, IsTraceOf, LivesAndNews, is_birth, count_living, count_zombies};
@@ -159,21 +160,23 @@ pub fn determined()
 /// [`lines_tell_of_states`] says. `before`, `between` and `after` are the other lines of the trace, `c` is a
 /// process, and a life begins with the line of a fork that gives the number, or with the trace for process 1.
 ///
-/// No end is reported twice: between two reports of an end of `c` it is born again. A report of an end comes
-/// from the parent of that moment, with the status of the end, of which no report came before. Neither a
-/// stop nor a continue is reported twice, nor a stop of whose continue a report came: between the two `c`
-/// stops again. After its end `c` has no line until it is born again, and is born again only after its end.
-/// `halt` comes right after the end of process 1, nothing else does, and nothing follows it. The numbers of
-/// events don't fall.
+/// After a report of an end of `c` no end of it is reported or looked at until it is born again. A report of an
+/// end comes from the parent of that moment, with the status of the end, of which no report came before. So does
+/// a look at an end, which is no report. After a report of a stop or a continue no stop is reported or looked at
+/// until `c` stops again, and after a report of a continue no continue. After its end `c` has no line until it is
+/// born again, and is born again only after its end. `halt` comes right after the end of process 1, nothing else
+/// does, and nothing follows it. The numbers of events don't fall.
 pub fn traces_keep_laws()
     ensures no_end_is_reported_twice { (before between after : List Line) (a b : Line) (c : ℕ) → Laws (before ++ a ∷ between ++ b ∷ after)
-        → reports c is_end_word a ≡ true → reports c is_end_word b ≡ true → list_any (begins c) between ≡ true }
-    ensures ends_are_reported_to_the_parent { (before after : List Line) (l : Line) (p c w : ℕ) → Laws (before ++ l ∷ after)
-        → l.entry ≡ Reported p c w → is_end_word w ≡ true → IsOfEnd before p c w }
+        → reports c is_end_word a ≡ true → reports_or_looks c is_end_word b ≡ true → list_any (begins c) between ≡ true }
+    ensures ends_are_reported_to_the_parent { (before after : List Line) (l : Line) (p : ℕ) (call : WaitCall) (c w : ℕ) → Laws (before ++ l ∷ after)
+        → l.entry ≡ Reported p call c w → is_end_word w ≡ true → IsOfEnd before p c w }
+    ensures ends_are_looked_at_by_the_parent { (before after : List Line) (l : Line) (p c w : ℕ) → Laws (before ++ l ∷ after)
+        → l.entry ≡ Looked p c w → is_end_word w ≡ true → IsOfEnd before p c w }
     ensures no_stop_is_reported_twice { (before between after : List Line) (a b : Line) (c : ℕ) → Laws (before ++ a ∷ between ++ b ∷ after)
-        → reports c is_change_word a ≡ true → reports c is_stopped_word b ≡ true → list_any (stops c) between ≡ true }
+        → reports c is_change_word a ≡ true → reports_or_looks c is_stopped_word b ≡ true → list_any (stops c) between ≡ true }
     ensures no_continue_is_reported_twice { (before between after : List Line) (a b : Line) (c : ℕ) → Laws (before ++ a ∷ between ++ b ∷ after)
-        → reports c is_continued_word a ≡ true → reports c is_continued_word b ≡ true → list_any (stops c) between ≡ true }
+        → reports c is_continued_word a ≡ true → reports_or_looks c is_continued_word b ≡ true → list_any (stops c) between ≡ true }
     ensures nothing_comes_after_an_end { (before between after : List Line) (a b : Line) (c : ℕ) → Laws (before ++ a ∷ between ++ b ∷ after)
         → ends c a ≡ true → process_of b.entry ≡ Some c → list_any (begins c) between ≡ true }
     ensures lives_are_apart { (before between after : List Line) (a b : Line) (c : ℕ) → Laws (before ++ a ∷ between ++ b ∷ after)

@@ -1,19 +1,21 @@
 -- What an adoption is for the heir: where none of the children has anything to report, it can act no more than before.
-use Rattle.std.proofs.Common.{◌≡◌, ◌≤◌, ℕ, Bool, true, refl, ap, sym, ◌∙◌, subst, List, [], ◌∷◌, filter, find, Some, None, arith, inl, inr}
-use Rattle.std.specs.List.{list_any}
+use Rattle.std.proofs.Common.{◌≡◌, ◌≤◌, ℕ, Bool, true, false, refl, ap, sym, ◌∙◌, subst, List, [], ◌∷◌, filter, find, Some, None, arith, inl, inr}
 use Rattle.std.proofs.lemmas.Bool.{cases_eq, ne_eqb, eqb-true, eqb-false}
 use Rattle.posix.specs.declared.process.Report.TheVariants as found
 use Rattle.posix.specs.declared.target.Target.{Target}
 use Rattle.posix.specs.declared.target.Target.TheVariants as whom
-use Rattle.posix.specs.Processes.{Process, argument}
-use Rattle.posix.specs.Targets.{target_in}
+use Rattle.posix.specs.declared.process.Life.{Life}
+use Rattle.posix.specs.declared.process.Life.TheVariants.{Running, Stopped, Zombie}
+use Rattle.posix.specs.declared.process.News.{News}
+use Rattle.posix.specs.declared.process.News.TheVariants as news
+use Rattle.posix.specs.Processes.{Process}
 use Rattle.posix.specs.Tables.{IsRising, lookup, children_in, first_pid, above, reparented, adopted}
 use Rattle.posix.specs.States.{State, is_in}
-use Rattle.posix.specs.Waits.{is_named, report, report_of, report_found, report_among, reports, reporting_in, options_in}
+use Rattle.posix.specs.Waits.{sorts, is_named, is_something, report, report_life, report_of, report_found, report_among, reports, wanted_in}
 use Rattle.posix.proofs.TableLemmas.{pid_looked, pid_reparented, reparented_keeps}
 use Rattle.posix.proofs.MapLemmas.{lookup_back}
 use Rattle.posix.proofs.MemberLemmas.{apart_first}
-use Rattle.posix.proofs.ReportingLemmas.{report_begins, report_over, reported, unreported}
+use Rattle.posix.proofs.ReportingLemmas.{wanted_begins, wanted_over}
 use Rattle.posix.proofs.SeeLemmas.{Alike, reparented_alike, can_act_alike}
 use Rattle.posix.proofs.TouchLemmas.{Touches, stands_alike, touches_adopted}
 use Rattle.life.proofs.NewsLemmas.{acts_no_more, quiet}
@@ -23,14 +25,28 @@ use Rattle.life.proofs.SendLemmas.{all_pass}
 abbrev pub AreQuiet : ℕ → List Process → Type 0
 AreQuiet p rs = (options : ℕ) → find (reports options) (children_in p rs) ≡ None
 
--- so where none of those is found that have
-pub quiet_children : (rs : List Process) → IsRising rs → ((q : ℕ) (r : Process) → lookup q rs ≡ Some r → 1 ≤ r.pid) → (p : ℕ) → None ≡ first_pid (above 0 (reporting_in p rs)) → AreQuiet p rs
-quiet_children rs up least p e options =
-    by (children_in p rs) (ap (report_among options) (sym (all_pass (λ r. true) (λ r. refl) (children_in p rs))) ∙ sym (reported rs p (λ r. true) options found.NoChild _ (report_over (report_begins rs up least p (λ r. true) options None e) refl) refl))
+-- who has nothing of any sort to report has nothing that a wait asks for
+silent : (options : ℕ) (r : Process) → reports sorts r ≡ false → reports options r ≡ false
+unfolding report_of
+silent options r e = by r.life r.news e
   where
-    by : (ks : List Process) → report_among options ks ≡ unreported (list_any (λ r. true) ks) → find (reports options) ks ≡ None
+    by : (l : Life) (n : News) → is_something (report_life sorts r.pid l n) ≡ false → is_something (report_life options r.pid l n) ≡ false
+    by Running news.Nothing e = refl
+    by Running (news.StoppedBy s) e = absurd (cc)
+    by Running news.Continued e = absurd (cc)
+    by Stopped news.Nothing e = refl
+    by Stopped (news.StoppedBy s) e = absurd (cc)
+    by Stopped news.Continued e = absurd (cc)
+    by (Zombie w) n e = absurd (cc)
+
+-- so where none of those is found that have
+pub quiet_children : (rs : List Process) → IsRising rs → ((q : ℕ) (r : Process) → lookup q rs ≡ Some r → 1 ≤ r.pid) → (p : ℕ) → None ≡ first_pid (above 0 (wanted_in sorts p rs)) → AreQuiet p rs
+unfolding wanted_in
+quiet_children rs up least p e options = by (children_in p rs) (wanted_over (wanted_begins rs up least p (λ r. true) sorts None e) refl ∙ ap first_pid (all_pass (λ r. true) (λ r. refl) (wanted_in sorts p rs)))
+  where
+    by : (ks : List Process) → None ≡ first_pid (filter (reports sorts) ks) → find (reports options) ks ≡ None
     by [] e = refl
-    by (k ∷ ks) e = quiet options (k ∷ ks) e
+    by (k ∷ ks) e = grind (arith, e, silent options k, by ks)
 
 -- ---- what a wait of the heir finds
 
@@ -80,8 +96,8 @@ touches_quiet s p heir silent q r e out = elim (cases_eq q heir) [
       let alike : Alike b.what r = subst (Alike b.what) (sym b.is) (reparented_alike p heir b.what) in
       let named : b.what.pid ≡ heir = pid_looked q s.processes b.what b.found ∙ same in
       stands_alike s t q b.what r (λ h. h) b.found alike (λ h.
-      acts_no_more s t.processes b.what (λ waits.
-      subst (λ n. report s.processes n b.what.group (target_in (argument b.what 1)) (options_in (argument b.what 2)) ≡ found.Nothing → report t.processes n b.what.group (target_in (argument b.what 1)) (options_in (argument b.what 2)) ≡ found.Nothing) (sym named)
-      (report_adopted s.processes p heir b.what.group (options_in (argument b.what 2)) (target_in (argument b.what 1)) silent))
+      acts_no_more s t.processes b.what (λ a waits.
+      subst (λ n. report s.processes n b.what.group a.target a.options.0 ≡ found.Nothing → report t.processes n b.what.group a.target a.options.0 ≡ found.Nothing) (sym named)
+      (report_adopted s.processes p heir b.what.group a.options.0 a.target silent))
       (sym (can_act_alike t t b.what r alike refl refl) ∙ h))
 ]

@@ -1,6 +1,5 @@
 -- The walk over the children of a process, and what a wait learns from one child, or from each.
-use Rattle.std.proofs.Common.{◌≡◌, ◌==◌, ◌<◌, ℕ, cond, option_map, refl, ap, sym, ◌∙◌, arith, List, [], ◌∷◌, length, Option, Some, None, is_some, Bool, ◌&&◌, ◌≤◌}
-use Rattle.posix.specs.declared.process.Report.{Report}
+use Rattle.std.proofs.Common.{◌≡◌, ◌==◌, ◌<◌, ℕ, cond, filter, option_map, refl, ap, sym, ◌∙◌, arith, List, [], ◌∷◌, length, Option, Some, None, is_some, Bool, ◌&&◌}
 use Rattle.posix.specs.declared.process.Report.TheVariants as found
 use Rattle.posix.specs.declared.target.Target.{Target}
 use Rattle.posix.specs.declared.target.Target.TheVariants as whom
@@ -10,16 +9,15 @@ use Rattle.std.specs.List.{list_any}
 use Rattle.std.specs.Option.{IsSome, option_map_or}
 use Rattle.posix.specs.States.{State}
 use Rattle.posix.specs.Regular.{IsRegular}
-use Rattle.posix.specs.Waits.{has_report, report, report_life, report_of, reporting_in, report_of_meant, is_named, reports}
+use Rattle.posix.specs.Waits.{report, report_life, report_of, wanted_in, report_of_meant, is_named, reports}
 use Rattle.posix.proofs.WalkLemmas.{AtChild, at_child, at_first}
 use Rattle.posix.proofs.TableLemmas.{pid_looked}
-use Rattle.posix.proofs.ReportingLemmas.{IsReportWalk, at_reporting, reporting_found, report_one, report_nobody}
+use Rattle.posix.proofs.ReportingLemmas.{wanted_some, report_one, report_nobody}
 use Rattle.proctable.specs.declared.snapshot.Snapshot.{Snapshot}
 use Rattle.proctable.specs.Records.{snapshot_of}
 use Rattle.life.proofs.SoundLemmas.{is_there, snapshot_are}
 use Rattle.std.proofs.lemmas.Option.{same_Some}
-use Rattle.life.specs.Waits.{is_reported, is_meant, slots_of_children}
-use Rattle.posix.proofs.PassingLemmas.{filter_at_most}
+use Rattle.life.specs.Waits.{is_reported, is_meant}
 
 -- the walk over the children of p is at the one that comes next
 pub record IsAtChild (rs : List Process) (p : ℕ) (next : Option ℕ) : Type 0 where
@@ -52,15 +50,9 @@ child_less w comes e = rw (comes, e) (omega (arith, ap length (child_here w come
 
 -- ---- a wait
 
--- the one that comes next is there
-pub reporting_there : {rs : List Process} {p options c : ℕ} {means : Process → Bool} {so_far : Report} {next : Option ℕ} → IsRising rs → IsReportWalk rs p means options so_far next → next ≡ Some c → IsSome (lookup c rs)
-reporting_there up w comes = let r = at_reporting up w comes in is_there _ r.what (reporting_found _ up _ _ r)
-
--- those that have something to report are no more than the slots that a wait may read
-pub few_reporting : (group : Option ℕ) (p : ℕ) (rs : List Process) → length (reporting_in p rs) ≤ slots_of_children group p rs
-unfolding reporting_in
-few_reporting None p rs = omega arith
-few_reporting (Some group) p rs = omega (arith, filter_at_most has_report (children_in p rs))
+-- the least of those that are meant and wanted is there
+pub wanted_there : (rs : List Process) → IsRising rs → (p : ℕ) (means : Process → Bool) (options c : ℕ) → Some c ≡ first_pid (filter means (wanted_in options p rs)) → IsSome (lookup c rs)
+wanted_there rs up p means options c e = let w = wanted_some rs up p means options c (sym e) in is_there _ w.what w.found
 
 -- any child is meant where any will do
 pub any_child : (rs : List Process) → is_some (first_pid rs) ≡ list_any (is_meant None) rs

@@ -5,7 +5,7 @@ use Rattle.std.specs.Option.{IsSome}
 use Rattle.std.proofs.lemmas.Bool.{cases_eq, eq-eqb, or_left, or_right, or_cases, both_ways, false_from_ne_true}
 use Rattle.posix.specs.Processes.{Process}
 use Rattle.posix.specs.Tables.{lookup, at, changed, first_pid, above, reparented, adopted}
-use Rattle.posix.specs.Waits.{reporting_in}
+use Rattle.posix.specs.Waits.{sorts, wanted_in}
 use Rattle.posix.specs.States.{State, process, is_in, change, lose_place}
 use Rattle.posix.specs.Regular.{IsRegular}
 use Rattle.posix.specs.Ends.{made_zombie, leave_children_and_die}
@@ -53,13 +53,13 @@ deaf_parent s p parent w me mid seen awaited found its is sees does none out up 
     sym (ap (λ b. not b && awaits up (made_zombie w me)) out) ∙ sym (does up (made_zombie w me) theirs (keeps me ∙ pid_looked p s.processes me found) (seen_is (lookup p mid) (made_zombie w me) seen sees mine)) ∙ none
 
 -- and where no child was found that has something to report
-pub quiet_zombie : (s : State) (p w : ℕ) (mid : List Process) (next : Option ℕ) → IsRegular s → mid ≡ changed p (made_zombie w) s.processes → next ≡ first_pid (above 0 (reporting_in p mid)) → is_some next ≡ false → AreQuiet p (changed p (made_zombie w) s.processes)
+pub quiet_zombie : (s : State) (p w : ℕ) (mid : List Process) (next : Option ℕ) → IsRegular s → mid ≡ changed p (made_zombie w) s.processes → next ≡ first_pid (above 0 (wanted_in sorts p mid)) → is_some next ≡ false → AreQuiet p (changed p (made_zombie w) s.processes)
 unfolding changed
 quiet_zombie s p w mid None i is e none =
     let keeps = (keeps_made_zombie w).pid in
     quiet_children (changed p (made_zombie w) s.processes) (rising_changed p (made_zombie w) keeps s.processes i.rising) (λ q r here.
     let b = lookup_back (at p (made_zombie w)) (at_pid p (made_zombie w) keeps) q s.processes r here in
-    omega (arith, (i.bounded q b.what b.found).least, pid_looked q s.processes b.what b.found, pid_looked q (changed p (made_zombie w) s.processes) r here)) p (e ∙ ap (λ rs. first_pid (above 0 (reporting_in p rs))) is)
+    omega (arith, (i.bounded q b.what b.found).least, pid_looked q s.processes b.what b.found, pid_looked q (changed p (made_zombie w) s.processes) r here)) p (e ∙ ap (λ rs. first_pid (above 0 (wanted_in sorts p rs))) is)
 quiet_zombie s p w mid (Some c) i is e none = absurd (cc)
 
 -- ---- the list

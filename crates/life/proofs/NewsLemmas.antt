@@ -1,6 +1,6 @@
 -- What a change of one child is for those who wait: a wait that had to wait finds no more than before, where no child that
 -- it means has more to report.
-use Rattle.std.proofs.Common.{◌≡◌, ℕ, Bool, true, false, cond, not, ◌&&◌, ◌||◌, is_some, pos, refl, ap, sym, ◌∙◌, subst, List, [], ◌∷◌, map, filter, find, Option, Some, None, ◌==◌, arith, ◌≢◌, inl, inr}
+use Rattle.std.proofs.Common.{◌≡◌, ℕ, Bool, true, false, cond, not, ◌&&◌, ◌||◌, is_some, refl, ap, sym, ◌∙◌, subst, List, [], ◌∷◌, map, filter, find, Option, Some, None, ◌==◌, arith, ◌≢◌, inl, inr}
 use Rattle.std.proofs.lemmas.Bool.{cond_both, cases_eq, ne_eqb, eq-eqb}
 use Rattle.posix.specs.declared.process.Blocked.{Blocked}
 use Rattle.posix.specs.declared.process.Blocked.TheVariants as blocked
@@ -12,24 +12,23 @@ use Rattle.posix.specs.declared.process.News.TheVariants as news
 use Rattle.posix.specs.declared.target.Target.{Target}
 use Rattle.posix.specs.declared.target.Target.TheVariants as whom
 use Rattle.posix.specs.SignalNumbers.{KILL}
-use Rattle.posix.specs.declared.call.Call.TheVariants.{Waitpid}
-use Rattle.posix.specs.declared.errno.Errno.TheVariants.{EINVAL}
+use Rattle.posix.specs.declared.waits.WaitCall.{WaitCall}
+use Rattle.posix.specs.declared.waits.Asked.{Asked}
 use Rattle.posix.specs.declared.process.News.{News}
-use Rattle.posix.specs.Processes.{Process, argument, is_running, is_living}
-use Rattle.posix.specs.Targets.{target_in}
-use Rattle.posix.specs.Outcomes.{Block, finish_with, refused}
+use Rattle.posix.specs.Processes.{Process, is_running, is_living}
+use Rattle.posix.specs.Outcomes.{Outcome, Done, Block}
 use Rattle.posix.specs.Generation.{is_pending}
 use Rattle.posix.specs.Choice.{chosen}
 use Rattle.posix.specs.Tables.{at, changed, children_in, lookup, IsRising, is_child}
 use Rattle.posix.specs.States.{State, change, process, is_in}
-use Rattle.posix.specs.Waits.{wait, wait_with, is_named, report, report_of, report_life, report_found, report_among, reports, is_something, news_told, options_in, are_known, has_option}
+use Rattle.posix.specs.Waits.{wait_by, wait_for, wait_with, asked_by, is_named, report, report_of, report_life, report_found, report_among, reports, is_something, news_told, has_option, WNOWAIT}
 use Rattle.posix.specs.Terminals.{waits_to_read}
 use Rattle.posix.specs.Attempts.{attempt_again}
 use Rattle.posix.specs.Settle.{can_act, can_go_on, is_block}
 use Rattle.posix.proofs.MapLemmas.{at_pid, at_keeps, lookup_back, children_map, filter_map}
 use Rattle.posix.proofs.SeeLemmas.{acts_less, block_read}
 use Rattle.std.specs.List.{AllByRecursion}
-use Rattle.life.specs.Rechecks.{awaits, is_in_wait}
+use Rattle.life.specs.Rechecks.{awaits, awaits_asked, asked_in}
 use Rattle.posix.proofs.TableLemmas.{pid_looked, rising_filter}
 use Rattle.posix.proofs.WalkLemmas.{all_looked, in_filter}
 use Rattle.posix.proofs.RegularLemmas.{other_back}
@@ -41,7 +40,7 @@ use Rattle.posix.proofs.TouchLemmas.{Touches, touches_shown, stands}
 
 -- a child reports no more than before
 told_life : (options p : ℕ) (l : Life) (n : News) → is_something (report_life options p l news.Nothing) ≡ true → is_something (report_life options p l n) ≡ true
-told_life options p (Zombie status) n e = refl
+told_life options p (Zombie status) n e = e
 told_life options p l n e = absurd (cc)
 
 told_less : (options : ℕ) (r : Process) → reports options (news_told r) ≡ true → reports options r ≡ true
@@ -100,37 +99,41 @@ report_still p f k rs up options caller group target less e =
     less r (ap (λ n. lookup n rs) (pid_looked q rs r it.found) ∙ it.found))) e
 
 -- a wait that has to wait found nothing
-block_nothing : (s : State) (p options : ℕ) (o : Report) → is_block (wait_with s p options o) ≡ true → o ≡ found.Nothing
-block_nothing s p options found.Nothing e = refl
-block_nothing s p options o e = absurd (cc)
+never_blocks : (b : Bool) (x y : Outcome) → is_block (cond b (Done x) (Done y)) ≡ true → ⊥
+never_blocks true x y e = cc
+never_blocks false x y e = cc
 
--- where these are the processes, a wait of this one still finds nothing if it found nothing
-abbrev FindsNoMore : State → List Process → Process → Type 0
-FindsNoMore s rs me =
-    let finds = λ (ps : List Process). report ps me.pid me.group (target_in (argument me 1)) (options_in (argument me 2)) in
+block_nothing : (s : State) (p : ℕ) (call : WaitCall) (options : ℕ) (o : Report) → is_block (wait_with s p call options o) ≡ true → o ≡ found.Nothing
+block_nothing s p call options found.NoChild e = absurd (cc)
+block_nothing s p call options found.Nothing e = refl
+block_nothing s p call options (found.End c w) e = absurd (never_blocks (has_option options WNOWAIT) _ _ e)
+block_nothing s p call options (found.Change c w) e = absurd (never_blocks (has_option options WNOWAIT) _ _ e)
+
+-- where these are the processes, a wait of this one that asks this still finds nothing if it found nothing
+abbrev pub FindsNoMore : State → List Process → Process → Asked → Type 0
+FindsNoMore s rs me asks =
+    let finds = λ (ps : List Process). report ps me.pid me.group asks.target asks.options.0 in
     finds s.processes ≡ found.Nothing → finds rs ≡ found.Nothing
 
 -- so it still has to wait
-block_still : (s : State) (rs : List Process) (me : Process) → FindsNoMore s rs me → is_block (wait s me) ≡ true → is_block (wait (record s { processes = rs }) me) ≡ true
-unfolding wait
-block_still s rs me less e =
-    let options = options_in (argument me 2) in
-    let target = target_in (argument me 1) in
-    let t = record s { processes = rs } in
-    elim (are_known options) as (λ b. is_block (cond b (wait_with s me.pid options (report s.processes me.pid me.group target options)) (refused s me.pid Waitpid EINVAL)) ≡ true
-    → is_block (cond b (wait_with t me.pid options (report rs me.pid me.group target options)) (refused t me.pid Waitpid EINVAL)) ≡ true) [
-      | true ↦ λ e.
-          let none = block_nothing s me.pid options (report s.processes me.pid me.group target options) e in
-          rw (less none) (still (has_option options 1) (subst (λ o. is_block (wait_with s me.pid options o) ≡ true) none e))
-      | false ↦ λ e. absurd (cc)
-    ] e
+block_for : (s : State) (rs : List Process) (me : Process) (call : WaitCall) (asks : Option Asked) → ((a : Asked) → asks ≡ Some a → FindsNoMore s rs me a)
+    → is_block (wait_for s me.pid me.group call asks) ≡ true → is_block (wait_for (record s { processes = rs }) me.pid me.group call asks) ≡ true
+block_for s rs me call None less e = absurd (cc)
+block_for s rs me call (Some a) less e =
+    let options = a.options.0 in
+    let none = block_nothing s me.pid call options (report s.processes me.pid me.group a.target options) e in
+    rw (less a refl none) (still (has_option options 1) _ _ (subst (λ o. is_block (wait_with s me.pid call options o) ≡ true) none e))
   where
-    still : (b : Bool) → is_block (cond b (finish_with s me.pid Waitpid (pos 0)) (Block blocked.Waitpid)) ≡ true → is_block (cond b (finish_with (record s { processes = rs }) me.pid Waitpid (pos 0)) (Block blocked.Waitpid)) ≡ true
-    still true e = e
-    still false e = refl
+    still : (b : Bool) (x y : Outcome) → is_block (cond b (Done x) (Block (blocked.Wait call))) ≡ true → is_block (cond b (Done y) (Block (blocked.Wait call))) ≡ true
+    still true x y e = absurd (cc)
+    still false x y e = refl
+
+block_still : (s : State) (rs : List Process) (me : Process) (call : WaitCall) → ((a : Asked) → asked_by call me ≡ Some a → FindsNoMore s rs me a) → is_block (wait_by call s me) ≡ true → is_block (wait_by call (record s { processes = rs }) me) ≡ true
+unfolding wait_by
+block_still s rs me call less e = block_for s rs me call (asked_by call me) less e
 
 -- whoever can act then could before, where its wait finds no more
-pub acts_no_more : (s : State) (rs : List Process) (r : Process) → (is_in_wait r.blocked ≡ true → FindsNoMore s rs r) → can_act (record s { processes = rs }) r ≡ true → can_act s r ≡ true
+pub acts_no_more : (s : State) (rs : List Process) (r : Process) → ((a : Asked) → asked_in r r.blocked ≡ Some a → FindsNoMore s rs r a) → can_act (record s { processes = rs }) r ≡ true → can_act s r ≡ true
 unfolding attempt_again waits_to_read
 acts_no_more s rs r finds e = acts_less s (record s { processes = rs }) r (λ l c. goes r.blocked finds c) e
   where
@@ -138,18 +141,18 @@ acts_no_more s rs r finds e = acts_less s (record s { processes = rs }) r (λ l 
     less true b k e = sym (ap not (k refl)) ∙ e
     less false b k e = refl
 
-    goes : (b : Option Blocked) → (is_in_wait b ≡ true → FindsNoMore s rs r) → can_go_on (record s { processes = rs }) r b ≡ true → can_go_on s r b ≡ true
-    goes (Some blocked.Waitpid) h c = less (is_block (wait s r)) (is_block (wait (record s { processes = rs }) r)) (block_still s rs r (h refl)) c
+    goes : (b : Option Blocked) → ((a : Asked) → asked_in r b ≡ Some a → FindsNoMore s rs r a) → can_go_on (record s { processes = rs }) r b ≡ true → can_go_on s r b ≡ true
+    goes (Some (blocked.Wait call)) h c = less (is_block (wait_by call s r)) (is_block (wait_by call (record s { processes = rs }) r)) (block_still s rs r call h) c
     goes (Some blocked.Read) h c = ap not (block_read s r ∙ sym (block_read (record s { processes = rs }) r)) ∙ c
     goes b h c = c
 
 -- who can be told nothing more by a change of p
-abbrev LearnsNoMore : State → ℕ → (Process → Process) → Process → Type 0
-LearnsNoMore s p f r = TellsNoMore f s.processes p r.group (target_in (argument r 1)) (options_in (argument r 2))
+abbrev LearnsNoMore : State → ℕ → (Process → Process) → Process → Asked → Type 0
+LearnsNoMore s p f r asks = TellsNoMore f s.processes p r.group asks.target asks.options.0
 
 -- and so can act no more than before
-acts_untold : (s : State) (p : ℕ) (f : Process → Process) → KeepsNumbers f → IsRising s.processes → (r : Process) → (is_in_wait r.blocked ≡ true → LearnsNoMore s p f r) → can_act (change s p f) r ≡ true → can_act s r ≡ true
-acts_untold s p f k up r learns e = acts_no_more s (changed p f s.processes) r (λ waits. report_still p f k s.processes up (options_in (argument r 2)) r.pid r.group (target_in (argument r 1)) (learns waits)) e
+acts_untold : (s : State) (p : ℕ) (f : Process → Process) → KeepsNumbers f → IsRising s.processes → (r : Process) → ((a : Asked) → asked_in r r.blocked ≡ Some a → LearnsNoMore s p f r a) → can_act (change s p f) r ≡ true → can_act s r ≡ true
+acts_untold s p f k up r learns e = acts_no_more s (changed p f s.processes) r (λ a waits. report_still p f k s.processes up a.options.0 r.pid r.group a.target (learns a waits)) e
 
 -- ---- a child that was stopped or continued
 
@@ -166,24 +169,24 @@ touches_unawaited s p f k up me found deaf q r e out = elim (cases_eq q me.paren
     apart : q ≢ p
     apart = apart_first q p [] out
 
-    both : (a b : Bool) → (true && (a && b)) ≡ false → a ≡ true → b ≡ true → ⊥
+    both : (a b : Bool) → (a && b) ≡ false → a ≡ true → b ≡ true → ⊥
     both a b e x y = absurd (grind (arith, e, x, y))
 
-    learns : awaits r (f me) ≡ false → is_in_wait r.blocked ≡ true → LearnsNoMore s p f r
-    learns none waits c here named says = elim (cases_eq c.pid p) [
-      | inr other ↦ sym (ap (λ b. reports (options_in (argument r 2)) (cond b (f c) c)) (ne_eqb c.pid p other)) ∙ says
+    learns : awaits r (f me) ≡ false → (a : Asked) → asked_in r r.blocked ≡ Some a → LearnsNoMore s p f r a
+    learns none a waits c here named says = elim (cases_eq c.pid p) [
+      | inr other ↦ sym (ap (λ b. reports a.options.0 (cond b (f c) c)) (ne_eqb c.pid p other)) ∙ says
       | inl mine ↦
           let one : c ≡ me = same_Some _ _ (sym here ∙ ap (process s) mine ∙ found) in
-          let asks = sym (ap (λ b. reports (options_in (argument r 2)) (cond b (f c) c)) (eq-eqb c.pid p mine)) ∙ says in
-          let meant = sym (ap (λ b. is_named r.group (target_in (argument r 1)) (cond b (f c) c)) (eq-eqb c.pid p mine)) ∙ named_kept p f k r.group (target_in (argument r 1)) c ∙ named in
-          absurd (both _ _ (subst (λ b. (b && (is_named r.group (target_in (argument r 1)) (f c) && reports (options_in (argument r 2)) (f c))) ≡ false) waits (subst (λ (m : Process). awaits r (f m) ≡ false) (sym one) none)) meant asks)
+          let asks = sym (ap (λ b. reports a.options.0 (cond b (f c) c)) (eq-eqb c.pid p mine)) ∙ says in
+          let meant = sym (ap (λ b. is_named r.group a.target (cond b (f c) c)) (eq-eqb c.pid p mine)) ∙ named_kept p f k r.group a.target c ∙ named in
+          absurd (both _ _ (subst (λ o. awaits_asked r.group o (f c) ≡ false) waits (subst (λ (m : Process). awaits r (f m) ≡ false) (sym one) none)) meant asks)
     ]
 
 -- ---- news that were told
 
 -- its own news don't count for it
 go_on_told : (s : State) (r : Process) (b : Option Blocked) → can_go_on s (news_told r) b ≡ can_go_on s r b
-unfolding attempt_again wait waits_to_read news_told
+unfolding attempt_again wait_by waits_to_read news_told
 go_on_told s r (Some blocked.Read) = ap not (block_read s (news_told r) ∙ sym (block_read s r))
 go_on_told s r b = refl
 
@@ -208,6 +211,6 @@ touches_told s p up q r e out =
       session = ap (λ q. q.session) b.is ∙ at_keeps (λ q. q.session) p news_told (λ q. refl) b.what;
       life = ap (λ q. q.life) b.is ∙ at_keeps (λ q. q.life) p news_told (λ q. refl) b.what;
       acts = λ h.
-          acts_untold s p news_told keeps_told up b.what (λ waits k here named. cond_both (k.pid == p) (news_told k) k (λ q. reports (options_in (argument b.what 2)) q ≡ true → reports (options_in (argument b.what 2)) k ≡ true) (λ e. told_less (options_in (argument b.what 2)) k) (λ e x. x))
+          acts_untold s p news_told keeps_told up b.what (λ a waits k here named. cond_both (k.pid == p) (news_told k) k (λ q. reports a.options.0 q ≡ true → reports a.options.0 k ≡ true) (λ e. told_less a.options.0 k) (λ e x. x))
           (sym (at_keeps (can_act (change s p news_told)) p news_told (can_act_told (change s p news_told)) b.what) ∙ sym (ap (can_act (change s p news_told)) b.is) ∙ h);
     }

@@ -97,5 +97,5 @@ readers_brief {readers = readers} s before ns k c i h awake none at up those = (
 
     reading : (b : Option Blocked) → is_in_read b ≡ true → not (is_in_wait b) ≡ true
     reading None e = absurd (cc)
-    reading (Some blocked.Waitpid) e = absurd (cc)
+    reading (Some (blocked.Wait call)) e = absurd (cc)
     reading b e = refl

@@ -14,7 +14,7 @@ use Rattle.posix.specs.Alarms.{is_due, ring_at, rung, with_alarm}
 use Rattle.jobs.proofs.RunLemmas.{OnlySignals}
 use Rattle.posix.specs.Choice.{chosen, least_ready}
 use Rattle.posix.specs.Attempts.{attempt_again}
-use Rattle.posix.specs.Waits.{wait}
+use Rattle.posix.specs.Waits.{wait_by}
 use Rattle.posix.specs.Terminals.{waits_to_read}
 use Rattle.posix.specs.Settle.{can_act, can_go_on}
 use Rattle.posix.proofs.TableLemmas.{pid_looked}
@@ -56,7 +56,7 @@ only_alarm due r = refl
 
 -- its call doesn't ask for its signals
 go_on_signals : (s : State) (g : Signals) (a : Option ℕ) (r : Process) (b : Option Blocked) → can_go_on s (with_signals g a r) b ≡ can_go_on s r b
-unfolding attempt_again wait waits_to_read
+unfolding attempt_again wait_by waits_to_read
 go_on_signals s g a r (Some blocked.Read) = ap not (block_read s (with_signals g a r) ∙ sym (block_read s r))
 go_on_signals s g a r b = refl
 

@@ -1,5 +1,5 @@
 -- Who is to be rechecked: asked after this event whether it can act.
-use Rattle.std.specs.Prelude.{◌≡◌, ℕ, ◌+◌, ◌*◌, Bool, true, false, not, ◌||◌, ◌&&◌, ◌==◌, if◌then◌else◌, List, [], ◌∷◌, Option, Some, None}
+use Rattle.std.specs.Prelude.{◌≡◌, ℕ, ◌+◌, ◌*◌, Bool, true, false, not, ◌||◌, ◌&&◌, ◌==◌, if◌then◌else◌, List, [], ◌∷◌, Option, Some, None, ℤ}
 use Rattle.posix.specs.declared.process.Blocked.{Blocked}
 use Rattle.posix.specs.declared.process.Blocked.TheVariants as blocked
 use Rattle.posix.specs.declared.process.Effect.{Effect}
@@ -8,9 +8,9 @@ use Rattle.posix.specs.declared.process.PendingSignal.{PendingSignal}
 use Rattle.posix.specs.declared.target.Target.{Target}
 use Rattle.posix.specs.declared.target.Target.TheVariants as whom
 use Rattle.posix.specs.SignalNumbers.{CONT, is_realtime}
+use Rattle.posix.specs.declared.waits.Asked.{Asked}
 use Rattle.posix.specs.Processes.{Process, argument}
-use Rattle.posix.specs.Targets.{target_in}
-use Rattle.posix.specs.Waits.{is_named, reports, options_in}
+use Rattle.posix.specs.Waits.{is_named, reports, asked}
 use Rattle.posix.specs.Tables.{lookup, pids, members_in}
 use Rattle.posix.specs.Choice.{from_kernel}
 use Rattle.posix.specs.States.{is_in, without}
@@ -47,14 +47,30 @@ rechecking_by_signals (Some r) order ns = if takes_signal r then rechecking r.pi
 -- its call is a wait for a child
 abbrev pub is_in_wait : Option Blocked → Bool
 is_in_wait None = false
-is_in_wait (Some blocked.Waitpid) = true
+is_in_wait (Some (blocked.Wait call)) = true
 is_in_wait (Some blocked.Read) = false
 is_in_wait (Some blocked.Pause) = false
 is_in_wait (Some (blocked.Sigsuspend mask)) = false
 
+-- a wait that asks this, by a caller in this process group, means the child, which has something to report for it
+abbrev pub awaits_asked : ℕ → Option Asked → Process → Bool
+awaits_asked group None child = false
+awaits_asked group (Some a) child = is_named group a.target child && reports a.options.0 child
+
+-- what the wait asks that a process is in, if it is in one, by its first three arguments
+abbrev pub asked_with : Option Blocked → ℤ → ℤ → ℤ → Option Asked
+asked_with None r1 r2 r3 = None
+asked_with (Some (blocked.Wait call)) r1 r2 r3 = asked call r1 r2 r3
+asked_with (Some blocked.Read) r1 r2 r3 = None
+asked_with (Some blocked.Pause) r1 r2 r3 = None
+asked_with (Some (blocked.Sigsuspend mask)) r1 r2 r3 = None
+
+abbrev pub asked_in : Process → Option Blocked → Option Asked
+asked_in me b = asked_with b (argument me 1) (argument me 2) (argument me 3)
+
 -- A process is blocked in a wait that means this child, and the child has something to report that the wait asks for.
 unfoldable pub awaits : Process → Process → Bool
-awaits me child = is_in_wait me.blocked && (is_named me.group (target_in (argument me 1)) child && reports (options_in (argument me 2)) child)
+awaits me child = awaits_asked me.group (asked_in me me.blocked) child
 
 -- A child was stopped or continued, and its parent, if it has one, got notice of it. The child is rechecked; its parent
 -- is, where it has no place, if it waits for just this child or a signal is chosen for it. Else the parent can act no more

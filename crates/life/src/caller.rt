@@ -1,15 +1,17 @@
 //! The caller of a system call.
 
-ghost use Rattle.std.specs.Prelude.{◌≡◌, IfSome};
+ghost use Rattle.std.specs.Prelude.{◌≡◌, ◌≤◌, ◌+◌, IfOk, IfSome};
 ghost use Rattle.posix.specs.States.{process};
 ghost use Rattle.posix.specs.Targets.{target_in};
+ghost use Rattle.posix.specs.Transfers.{span_in};
+ghost use Rattle.posix.specs.Waits.{asked_by};
 ghost use Rattle.proctable.specs.Records.{process_of};
-ghost use Rattle.life.specs.Callers.{caller_of};
+ghost use Rattle.life.specs.Callers.{caller_of, process_like};
 ghost use Rattle.life.specs.Machines.{Finds, IsThere};
 
 use crate::machine::Machine;
 use creds::Creds;
-use posix::{Pid, Register, Target};
+use posix::{Asked, Errno, Pid, Register, Span, Target, WaitCall};
 use proctable::{Kin, Record};
 
 /// What a call that concerns others reads of the process that makes it.
@@ -38,6 +40,21 @@ impl Caller {
     {
         Target::from_word(self.r1)
     }
+
+    /// What it asks in a wait; nothing where that is refused.
+    pub fn asked(&self, call: WaitCall) -> Option<Asked>
+        ensures { result ≡ asked_by call (process_like self.now) }
+    {
+        call.asks(self.r1, self.r2, self.r3)
+    }
+
+    /// The words that it names in a read or a write.
+    pub fn span(&self) -> Result<Span, Errno>
+        ensures value { result ≡ span_in self.now.r1 self.now.r2 }
+        ensures range { IfOk result (λ s. (s.count ≤ 16) × (s.address + s.count ≤ 256)) }
+    {
+        Span::from_words(self.r1, self.r2)
+    }
 }
 
 impl<K: Kin> Machine<K> {
@@ -53,8 +70,9 @@ impl<K: Kin> Machine<K> {
     }
 }
 
-/// The process with this number as a caller, by its record.
-fn caller_in(pid: Pid, fields: &Record) -> Caller
+/// The process with this number as a caller, by its record. What a wait, a read or a write asks is read from registers
+/// here alone.
+pub(crate) fn caller_in(pid: Pid, fields: &Record) -> Caller
     ensures { result ≡ caller_of (process_of pid 0 fields.now) }
 {
     Caller {

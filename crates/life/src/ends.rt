@@ -15,8 +15,9 @@ ghost use Rattle.life.specs.Machines.{Costs, Finds, Changes, Removes, IsThere, I
 use crate::changes::{is_awaited, recheck_where};
 use crate::consoles::Unchecked;
 use crate::machine::Machine;
+use bitflags::Flags;
 use jobs::Change;
-use posix::{Carried, Life, PendingSignal, Pid, Sig, Status};
+use posix::{Carried, Life, PendingSignal, Pid, Sig, Status, WaitidOptions};
 use proctable::Kin;
 
 impl<K: Kin> Machine<K> {
@@ -62,7 +63,8 @@ impl<K: Kin> Machine<K> {
             .change_seen(pid, |fields| fields.make_zombie(status));
         let awaited = is_awaited(&mut self.table, &self.order, parent, pid, &after);
         recheck_where(&mut self.to_recheck, &self.order, parent, awaited);
-        let told = self.table.next_reporting(pid, Pid::NONE).is_some();
+        let any_sort = WaitidOptions::from_bits_retain(WaitidOptions::SORTS);
+        let told = self.table.next_wanted(pid, any_sort, Pid::NONE).is_some();
         recheck_where(&mut self.to_recheck, &self.order, heir, told);
         self.table.adopt(pid, heir);
         self.order.drop_place(pid);

@@ -1,41 +1,41 @@
 //! Waits.
 
-ghost use Rattle.std.specs.Prelude.{◌≡◌, ◌≢◌, ◌<◌, ◌≤◌, ◌+◌, ◌*◌, ℕ, length, option_map, Some, true, if◌then◌else◌};
+ghost use Rattle.std.specs.Prelude.{◌≡◌, ◌≢◌, ◌<◌, ◌≤◌, ◌+◌, ◌*◌, ℕ, filter, length, option_map, Some, true, if◌then◌else◌};
 ghost use Rattle.std.specs.List.{list_any};
 ghost use Rattle.posix.specs.Processes.{Process, is_zombie};
-ghost use Rattle.posix.specs.Tables.{lookup, removed, children_in, is_member, parent_of};
+ghost use Rattle.posix.specs.Tables.{lookup, removed, children_in, first_pid, is_member, parent_of};
 ghost use Rattle.posix.specs.States.{process, change};
 ghost use Rattle.posix.specs.Regular.{IsRegular};
 ghost use Rattle.posix.specs.declared.process.Report.TheVariants.{NoChild, Nothing};
 ghost use Rattle.posix.specs.declared.target.Target.TheVariants as whom;
-ghost use Rattle.posix.specs.Waits.{is_named as is_named_by, is_something, look as look_of, report, report_change as report_change_of, report_life as report_life_of, report_of as report_of_child, reporting_in, report_of_meant, news_told};
+ghost use Rattle.posix.specs.Waits.{is_named as is_named_by, is_something, report, report_change as report_change_of, report_life as report_life_of, report_of as report_of_child, wanted_in, report_of_meant, news_told};
 ghost use Rattle.life.specs.Waits.{is_meant as is_meant_by, is_reported, slots_of_children, slots_of_wait};
 ghost use Rattle.proctable.specs.Records.{snapshot_of};
 ghost use Rattle.life.specs.Machines.{Finds, Changes, Removes, IsThere, IfThere, with_processes, CanGo, IsGone};
 ghost use Rattle.jobs.specs.Books.{seen_of};
-ghost use Rattle.life.specs.Rechecks.{awaits as awaiting, without_gone};
+ghost use Rattle.life.specs.Rechecks.{asked_in as asked_in_call, awaits as awaiting, without_gone};
 ghost use Rattle.proctable.specs.Records.{process_of};
 ghost use Rattle.life.specs.Foregrounds.{after_loss as after_loss_of};
 
-use crate::caller::Caller;
+use crate::caller::{Caller, caller_in};
 use crate::consoles::{after_loss, mark_reader};
 use crate::machine::Machine;
 use crate::rechecks::forget;
 use bitflags::Flags;
 use jobs::{JobTable, Seen};
 use pidalloc::PidTable;
-use posix::{Blocked, Life, News, Pid, Register, Report, Status, Target, WaitOptions};
+use posix::{Asked, Blocked, Life, News, Pid, Report, Status, Target, WaitidOptions};
 use proctable::{Kin, Record, Snapshot};
 
 /// What the news of a process are for a wait.
-fn report_change(options: WaitOptions, pid: Pid, news: News) -> Report
+fn report_change(options: WaitidOptions, pid: Pid, news: News) -> Report
     ensures { result ≡ report_change_of options.0 pid news }
 {
     match news {
-        News::StoppedBy(sig) if options.contains(WaitOptions::WUNTRACED) => {
+        News::StoppedBy(sig) if options.contains(WaitidOptions::WSTOPPED) => {
             Report::Change(pid, Status::stopped(sig))
         }
-        News::Continued if options.contains(WaitOptions::WCONTINUED) => {
+        News::Continued if options.contains(WaitidOptions::WCONTINUED) => {
             Report::Change(pid, Status::continued())
         }
         _ => Report::Nothing,
@@ -43,11 +43,14 @@ fn report_change(options: WaitOptions, pid: Pid, news: News) -> Report
 }
 
 /// What a child has to report.
-fn report_life(options: WaitOptions, pid: Pid, life: Life, news: News) -> Report
+fn report_life(options: WaitidOptions, pid: Pid, life: Life, news: News) -> Report
     ensures { result ≡ report_life_of options.0 pid life news }
 {
     match life {
-        Life::Zombie(status) => Report::End(pid, status),
+        Life::Zombie(status) if options.contains(WaitidOptions::WEXITED) => Report::End(
+            pid, status,
+        ),
+        Life::Zombie(_) => Report::Nothing,
         Life::Running | Life::Stopped => report_change(options, pid, news),
     }
 }
@@ -66,7 +69,7 @@ fn is_named(group: Pid, target: Target, child: Pid, child_group: Pid) -> bool
 }
 
 /// Whether a child has something to report.
-fn reports(options: WaitOptions, child: Pid, life: Life, news: News) -> bool
+fn reports(options: WaitidOptions, child: Pid, life: Life, news: News) -> bool
     ensures { result ≡ is_something (report_life_of options.0 child life news) }
 {
     match report_life(options, child, life, news) {
@@ -87,23 +90,31 @@ fn without_report(has_child: bool) -> Report
     }
 }
 
+/// What the wait asks that a process is blocked in, if it is in one.
+fn asked_in(me: &Record) -> Option<Asked>
+    ensures { (p q : ℕ) → result ≡ asked_in_call (process_of p q me.now) me.now.own.blocked }
+{
+    match me.own.blocked {
+        // It asks the same whatever its number.
+        Some(Blocked::Wait(call)) => caller_in(Pid::NONE, me).asked(call),
+        None => None,
+        Some(Blocked::Read) => None,
+        Some(Blocked::Pause | Blocked::Sigsuspend(_)) => None,
+    }
+}
+
 /// Whether a process is blocked in a wait that means this child, which is seen so, and asks for what it has to report.
 #[tactic(auto, unfolding(crate::specs::Rechecks::awaits, posix::specs::Waits::report_of))]
 pub(crate) fn awaits(me: &Record, child: Pid, seen: &Seen) -> bool
     ensures { (p q : ℕ) (it : Process) → it.pid ≡ child → seen.now ≡ seen_of it → result ≡ awaiting (process_of p q me.now) it }
 {
-    if me.own.blocked != Some(Blocked::Waitpid) {
-        return false;
+    match asked_in(me) {
+        Some(asked) => {
+            is_named(me.group, asked.target, child, seen.group)
+                && reports(asked.options, child, seen.life, seen.news)
+        }
+        None => false,
     }
-    let target = Target::from_word(me.own.cpu.register(Register::FIRST_ARGUMENT));
-    let options = me.own.cpu.register(Register::SECOND_ARGUMENT);
-    is_named(me.group, target, child, seen.group)
-        && reports(
-            WaitOptions::from_bits_retain(options.cast_unsigned()),
-            child,
-            seen.life,
-            seen.news,
-        )
 }
 
 /// The record of a process that is there, without children, goes, and it no longer bears its own number, its group's
@@ -125,7 +136,7 @@ pub(crate) fn discard<K: Kin>(table: &mut JobTable<K>, pids: &mut PidTable, pid:
 impl<K: Kin> Machine<K> {
     /// What a wait for one process has to report: `NoChild` where that isn't a child of the caller.
     #[tactic(auto, using(crate::proofs::ChildLemmas::report_read))]
-    fn report_of_one(&mut self, parent: Pid, child: Pid, options: WaitOptions) -> Report
+    fn report_of_one(&mut self, parent: Pid, child: Pid, options: WaitidOptions) -> Report
         ensures { Finds 1 self.old self.new ((own : ℕ) → result ≡ report self.old.state.processes parent own (whom.Process child) options.0) }
     {
         if let Some(snapshot) = self.snapshot(child) {
@@ -138,7 +149,7 @@ impl<K: Kin> Machine<K> {
 
     /// What a child that is there has to report.
     #[tactic(auto, using(crate::proofs::ChildLemmas::read_report))]
-    fn report_of(&mut self, child: Pid, options: WaitOptions) -> Report
+    fn report_of(&mut self, child: Pid, options: WaitidOptions) -> Report
         requires { IsThere child self.old }
         ensures { Finds 1 self.old self.new (IfThere child self.old (λ it. result ≡ report_of_child options.0 it)) }
     {
@@ -160,41 +171,20 @@ impl<K: Kin> Machine<K> {
         }
     }
 
-    /// What such a wait learns from a child that is there: `NoChild`, without a slot, where it isn't meant.
-    fn report_if_meant(&mut self, group: &Option<Pid>, child: Pid, options: WaitOptions) -> Report
-        requires { IsThere child self.old }
-        ensures finds { Finds 1 self.old self.new (IfThere child self.old (λ it. result ≡ look_of (is_meant_by group.now) options.0 it)) }
-        ensures unread { result ≡ NoChild → self.new.visits ≤ self.old.visits }
+    /// The least of the children that such a wait means and that have something to report to it. No slot is read, and no
+    /// child looked at of whom the wait doesn't want what there is to report.
+    fn first_wanted(&self, parent: Pid, group: &Option<Pid>, options: WaitidOptions) -> Option<Pid>
+        ensures value { result ≡ first_pid (filter (is_meant_by group.now) (wanted_in options.0 parent self.now.state.processes)) }
+        ensures regular { IsRegular self.now.state }
     {
-        if self.is_meant(group, child) {
-            self.report_of(child, options)
-        } else {
-            Report::NoChild
-        }
-    }
-
-    /// What the children that have something to report say to such a wait. No other is looked at.
-    #[tactic(auto, using(crate::proofs::ChildLemmas::reporting_there, posix::proofs::ReportingLemmas::reporting_less))]
-    fn report_of_reporting(
-        &mut self,
-        parent: Pid,
-        group: &Option<Pid>,
-        options: WaitOptions,
-    ) -> Report
-        ensures finds { Finds (length (reporting_in parent self.old.state.processes)) self.old self.new (result ≡ report_of_meant (is_meant_by group.now) options.0 (reporting_in parent self.old.state.processes)) }
-        ensures unread { result ≡ NoChild → self.new.visits ≤ self.old.visits }
-    {
-        let mut found = Report::NoChild;
-        let mut next = self.next_reporting(parent, Pid::NONE);
+        let mut next = self.next_wanted(parent, options, Pid::NONE);
         while let Some(child) = next {
-            match self.report_if_meant(group, child, options) {
-                Report::NoChild => {}
-                Report::Nothing => found = Report::Nothing,
-                report => return report,
+            if self.is_meant(group, child) {
+                return Some(child);
             }
-            next = self.next_reporting(parent, child);
+            next = self.next_wanted(parent, options, child);
         }
-        found
+        None
     }
 
     /// Whether a process that is there has a child in a process group. It goes over the members and the children side
@@ -234,32 +224,33 @@ impl<K: Kin> Machine<K> {
         }
     }
 
-    /// What a wait for any child, or for those in a process group, has to report. It asks those that have something to
-    /// report, and where it means none of these, whether there is another that it means.
-    #[tactic(auto, using(crate::proofs::ChildLemmas::few_reporting))]
+    /// What a wait for any child, or for those in a process group, has to report: what the least says that has something
+    /// to report to it, or where there is none, whether it means a child at all.
+    #[tactic(auto, using(crate::proofs::ChildLemmas::wanted_there))]
     fn report_of_children(
         &mut self,
         parent: Pid,
         group: &Option<Pid>,
-        options: WaitOptions,
+        options: WaitidOptions,
     ) -> Report
         requires { IsThere parent self.old }
         ensures { Finds (1 + slots_of_children group.now parent self.old.state.processes) self.old self.new (result ≡ report_of_meant (is_meant_by group.now) options.0 (children_in parent self.old.state.processes)) }
     {
-        match self.report_of_reporting(parent, group, options) {
-            Report::NoChild => without_report(self.has_child(parent, group)),
-            report => report,
+        match self.first_wanted(parent, group, options) {
+            Some(child) => self.report_of(child, options),
+            None => without_report(self.has_child(parent, group)),
         }
     }
 
     /// What a wait has to report: of the children of a caller that is there which the target means, the one
     /// with the least number that has something to report (own; XSH waitpid). Nothing changes.
     #[tactic(auto, using(crate::proofs::ChildLemmas::report_any, crate::proofs::ChildLemmas::report_in, posix::proofs::ReportingLemmas::report_own, posix::proofs::ReportingLemmas::report_none_meant))]
-    pub fn wait_attempt(&mut self, me: &Caller, target: Target, options: WaitOptions) -> Report
+    pub fn wait_attempt(&mut self, me: &Caller, asked: Asked) -> Report
         requires { IsThere me.now.pid self.old }
-        ensures { Finds (1 + slots_of_wait target me.now.pid self.old.state.processes) self.old self.new (result ≡ report self.old.state.processes me.now.pid me.now.group target options.0) }
+        ensures { Finds (1 + slots_of_wait asked.target me.now.pid self.old.state.processes) self.old self.new (result ≡ report self.old.state.processes me.now.pid me.now.group asked.target asked.options.0) }
     {
         let _ = &self.table;
+        let Asked { target, options } = asked;
         match target {
             Target::Process(pid) => self.report_of_one(me.pid, pid, options),
             Target::All => self.report_of_children(me.pid, &None, options),
@@ -272,20 +263,14 @@ impl<K: Kin> Machine<K> {
     /// Whether a wait of a caller reports, if it gets to it, the process with this number: that is a child of the caller,
     /// the wait means it, and it has something to report. Nothing changes.
     #[tactic(auto, using(crate::proofs::ChildLemmas::is_reported_read), unfolding(posix::specs::Waits::report_of))]
-    pub fn has_report_of(
-        &mut self,
-        me: &Caller,
-        target: Target,
-        options: WaitOptions,
-        child: Pid,
-    ) -> bool
-        ensures { Finds 1 self.old self.new (result ≡ is_reported me.now.pid me.now.group target options.0 (process self.old.state child)) }
+    pub fn has_report_of(&mut self, me: &Caller, asked: Asked, child: Pid) -> bool
+        ensures { Finds 1 self.old self.new (result ≡ is_reported me.now.pid me.now.group asked.target asked.options.0 (process self.old.state child)) }
     {
         match self.snapshot(child) {
             Some(it) => {
                 it.parent == me.pid
-                    && is_named(me.group, target, it.pid, it.group)
-                    && reports(options, it.pid, it.life, it.news)
+                    && is_named(me.group, asked.target, it.pid, it.group)
+                    && reports(asked.options, it.pid, it.life, it.news)
             }
             None => false,
         }

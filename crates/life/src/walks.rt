@@ -5,12 +5,12 @@ ghost use Rattle.std.specs.Prelude.{◌≡◌, slice_get};
 ghost use Rattle.posix.specs.Tables.{IsNext, first_pid, above, next_above, children_in, next_sibling as next_sibling_of};
 ghost use Rattle.posix.specs.Regular.{IsRegular};
 ghost use Rattle.posix.specs.Settle.{wakes};
-ghost use Rattle.posix.specs.Waits.{reporting_in};
+ghost use Rattle.posix.specs.Waits.{wanted_in};
 ghost use Rattle.life.specs.Machines.{Finds, IsThere};
 ghost use Rattle.pidset.specs.Numbers.{Rises};
 
 use crate::machine::Machine;
-use posix::Pid;
+use posix::{Pid, WaitidOptions};
 use proctable::Kin;
 
 impl<K: Kin> Machine<K> {
@@ -37,12 +37,13 @@ impl<K: Kin> Machine<K> {
         self.table.next_sibling(pid)
     }
 
-    /// The child of a process that has something to report, with the least number above `after`.
-    pub(crate) fn next_reporting(&self, parent: Pid, after: Pid) -> Option<Pid>
-        ensures value { result ≡ first_pid (above after (reporting_in parent self.now.state.processes)) }
+    /// The child of a process that has something to report to a wait with these options, with the least number above
+    /// `after`. No slot is read.
+    pub(crate) fn next_wanted(&self, parent: Pid, options: WaitidOptions, after: Pid) -> Option<Pid>
+        ensures value { result ≡ first_pid (above after (wanted_in options.0 parent self.now.state.processes)) }
         ensures regular { IsRegular self.now.state }
     {
-        self.table.next_reporting(parent, after)
+        self.table.next_wanted(parent, options, after)
     }
 
     /// Who is to be rechecked first: nobody with a lower number has to be given a place, and where

@@ -7,9 +7,9 @@ use Rattle.std.proofs.lemmas.Bool.{eqb-true, eq-eqb, ne_eqb, ltb-true, cases_eq,
 use Rattle.std.proofs.lemmas.Bool.Decides.{nat_tests}
 use Rattle.std.proofs.lemmas.List.{length-map}
 use Rattle.posix.specs.Processes.{Process}
-use Rattle.posix.specs.Tables.{IsRising, lookup, pids, members_in, above, first_pid, changed, inserted, removed, reparented, adopted}
+use Rattle.posix.specs.Tables.{IsRising, lookup, pids, members_in, above, first_pid, changed, inserted, removed}
 use Rattle.posix.specs.States.{is_in}
-use Rattle.posix.proofs.TableLemmas.{pid_looked, lookup_changed, pid_reparented, none_found, rising_removed}
+use Rattle.posix.proofs.TableLemmas.{pid_looked, lookup_changed, none_found, rising_removed}
 use Rattle.posix.proofs.MapLemmas.{lookup_map}
 use Rattle.posix.proofs.MemberLemmas.{in_first, in_rest, in_none}
 use Rattle.posix.proofs.RegularLemmas.{lookup_inserted, lookup_kept, lookup_removed}
@@ -71,27 +71,9 @@ at_once p (Some k) (Some n) pairs h i = ap Some (sym (eqb-true n k (sym (i k) �
 pub index_same : (key : Process → Option ℕ) (rs ts : List Process) (pairs : List Pair) → ((q : ℕ) → key_of key q ts ≡ key_of key q rs) → IsIndex key rs pairs → IsIndex key ts pairs
 index_same key rs ts pairs same h q k = h q k ∙ ap (is_key k) (sym (same q))
 
--- so where each record keeps its own
-pub index_map : (key : Process → Option ℕ) (g : Process → Process) → ((r : Process) → (g r).pid ≡ r.pid) → ((r : Process) → key (g r) ≡ key r) → (rs : List Process) (pairs : List Pair) → IsIndex key rs pairs → IsIndex key (map g rs) pairs
-index_map key g named keeps rs pairs h = index_same key rs (map g rs) pairs (λ q. ap (option_and_then key) (lookup_map g named q rs) ∙ elim (lookup q rs) as (λ o. option_and_then key (option_map g o) ≡ option_and_then key o) [ None ↦ refl | Some r ↦ keeps r ]) h
-
--- all that stand under one key come under another
-abbrev pub rekeyed : ℕ → ℕ → Option ℕ → Option ℕ
-rekeyed from to None = None
-rekeyed from to (Some k) = cond (k == from) (Some to) (Some k)
-
--- children that get another parent, where the key is the parent
-pub index_adopted : (key : Process → Option ℕ) (from to : ℕ) → from ≢ to → ((r : Process) → key (reparented from to r) ≡ rekeyed from to (key r)) → (rs : List Process) (old new : List Pair) → IsIndex key rs old
-    → ((k p : ℕ) → is_pair_in k p new ≡ (not (k == from) && (is_pair_in k p old || k == to && is_pair_in from p old))) → IsIndex key (adopted from to rs) new
-unfolding adopted
-index_adopted key from to ne moves rs old new h is q k =
-    let now : key_of key q (map (reparented from to) rs) ≡ rekeyed from to (key_of key q rs) =
-    ap (option_and_then key) (lookup_map (reparented from to) (pid_reparented from to) q rs) ∙ elim (lookup q rs) as (λ o. option_and_then key (option_map (reparented from to) o) ≡ rekeyed from to (option_and_then key o)) [ None ↦ refl | Some r ↦ moves r ] in
-    is k q ∙ rw (h q k, h q from) (told (key_of key q rs)) ∙ ap (is_key k) (sym now)
-  where
-    told : (o : Option ℕ) → (not (k == from) && (is_key k o || k == to && is_key from o)) ≡ is_key k (rekeyed from to o)
-    told None = grind arith
-    told (Some n) = grind (arith, eqb-true, eq-eqb, ne_eqb, ne)
+-- so where each record comes to have the key that it had by another rule
+pub index_map : (key was : Process → Option ℕ) (g : Process → Process) → ((r : Process) → (g r).pid ≡ r.pid) → ((r : Process) → key (g r) ≡ was r) → (rs : List Process) (pairs : List Pair) → IsIndex was rs pairs → IsIndex key (map g rs) pairs
+index_map key was g named is rs pairs h q k = h q k ∙ ap (is_key k) (sym (ap (option_and_then key) (lookup_map g named q rs) ∙ elim (lookup q rs) as (λ o. option_and_then key (option_map g o) ≡ option_and_then was o) [ None ↦ refl | Some r ↦ is r ]))
 
 -- ---- a walk
 
@@ -224,12 +206,24 @@ can_replace key p rs set up h free = record { at = h.index p; room = λ none. he
 pub indexed_moved : (key : Process → Option ℕ) (p : ℕ) (rs ts : List Process) (old new : IndexView) → IsElsewhere p rs ts → length ts ≤ old.room → IsIndexed key rs old → IsReplaced p (key_of key p ts) old new → IsIndexed key ts new
 indexed_moved key p rs ts old new same fits h k = record { index = index_moved key p rs ts old.pairs new.pairs same h.index k.moved; once = k.once; room = let e = k.room in omega (arith, e, fits) }
 
-pub indexed_map : (key : Process → Option ℕ) (g : Process → Process) → ((r : Process) → (g r).pid ≡ r.pid) → ((r : Process) → key (g r) ≡ key r) → (rs : List Process) (set : IndexView) → IsIndexed key rs set → IsIndexed key (map g rs) set
-indexed_map key g named keeps rs set h = record { index = index_map key g named keeps rs set.pairs h.index; once = h.once; room = let long = length-map rs g in let room = h.room in omega (arith, long, room) }
+pub indexed_map : (key was : Process → Option ℕ) (g : Process → Process) → ((r : Process) → (g r).pid ≡ r.pid) → ((r : Process) → key (g r) ≡ was r) → (rs : List Process) (set : IndexView) → IsIndexed was rs set → IsIndexed key (map g rs) set
+indexed_map key was g named is rs set h = record { index = index_map key was g named is rs set.pairs h.index; once = h.once; room = let long = length-map rs g in let room = h.room in omega (arith, long, room) }
 
-pub indexed_adopted : (key : Process → Option ℕ) (from to : ℕ) → from ≢ to → ((r : Process) → key (reparented from to r) ≡ rekeyed from to (key r)) → (rs : List Process) (old new : IndexView) → IsIndexed key rs old → IsRekeyed from to old new → IsIndexed key (adopted from to rs) new
-unfolding adopted
-indexed_adopted key from to ne moves rs old new h k = record { index = index_adopted key from to ne moves rs old.pairs new.pairs h.index k.pairs; once = k.once; room = let long = length-map rs (reparented from to) in let room = h.room in let e = k.room in omega (arith, long, room, e) }
+-- all that stand under one key come under another
+abbrev pub rekeyed : ℕ → ℕ → Option ℕ → Option ℕ
+rekeyed from to None = None
+rekeyed from to (Some k) = cond (k == from) (Some to) (Some k)
+
+pub indexed_rekeyed : (key : Process → Option ℕ) (from to : ℕ) → from ≢ to → (rs : List Process) (old new : IndexView) → IsIndexed key rs old → IsRekeyed from to old new → IsIndexed (λ r. rekeyed from to (key r)) rs new
+indexed_rekeyed key from to ne rs old new h is = record {
+  index = λ q k. is.pairs k q ∙ rw (h.index q k, h.index q from) (told k (key_of key q rs)) ∙ ap (is_key k) (elim (lookup q rs) as (λ o. rekeyed from to (option_and_then key o) ≡ option_and_then (λ r. rekeyed from to (key r)) o) [ None ↦ refl | Some r ↦ refl ]);
+  once = is.once;
+  room = let room = h.room in let e = is.room in omega (arith, room, e);
+}
+  where
+    told : (k : ℕ) (o : Option ℕ) → (not (k == from) && (is_key k o || k == to && is_key from o)) ≡ is_key k (rekeyed from to o)
+    told k None = grind arith
+    told k (Some n) = grind (arith, eqb-true, eq-eqb, ne_eqb, ne)
 
 -- at the start
 pub indexed_none : (key : Process → Option ℕ) (set : IndexView) → set.pairs ≡ [] → ArePairs set.pairs → IsIndexed key [] set

@@ -2,7 +2,7 @@
 use Rattle.std.proofs.Common.{◌≡◌, ◌≤◌, ℕ, ◌+◌, Bool, true, false, cond, not, ◌&&◌, refl, ap, sym, ◌∙◌, arith, subst, List, [], ◌∷◌, ◌++◌, take, Option, Some, None, ◌==◌, ◌||◌, ℤ, pos, negsuc, slice_get, inl, inr, ◌⊎◌, Result, Ok, Err}
 use Rattle.std.proofs.lemmas.Bool.{eqb-true}
 use Rattle.posix.specs.declared.call.Call.{Call}
-use Rattle.posix.specs.declared.call.Call.TheVariants.{Exit, Fork, Waitpid, Pause, SchedYield, Getpid, Getppid, Getuid, Geteuid, Getgid, Getegid, Setuid, Seteuid, Setgid, Setegid, Kill, Sigqueue, Sigaction, Sigprocmask, Sigpending, Sigsuspend, Sigreturn, Alarm, Exec, Getpgid, Getsid, Setpgid, Setsid, Setctty, Tcgetpgrp, Tcsetpgrp, Settostop, Read, Write}
+use Rattle.posix.specs.declared.call.Call.TheVariants.{Exit, Fork, Waitpid, Waitid, Pause, SchedYield, Getpid, Getppid, Getuid, Geteuid, Getgid, Getegid, Setuid, Seteuid, Setgid, Setegid, Kill, Sigqueue, Sigaction, Sigprocmask, Sigpending, Sigsuspend, Sigreturn, Alarm, Exec, Getpgid, Getsid, Setpgid, Setsid, Setctty, Tcgetpgrp, Tcsetpgrp, Settostop, Read, Write}
 use Rattle.posix.specs.declared.instr.Trap.{Trap}
 use Rattle.posix.specs.declared.instr.Trap.TheVariants as trap
 use Rattle.posix.specs.declared.errno.Errno.{Errno}
@@ -14,8 +14,6 @@ use Rattle.posix.specs.declared.process.Frame.{Frame}
 use Rattle.posix.specs.declared.process.Handler.{Handler}
 use Rattle.posix.specs.declared.process.Handler.TheVariants as handler
 use Rattle.posix.specs.declared.process.PendingSignal.{PendingSignal}
-use Rattle.posix.specs.declared.process.Report.{Report}
-use Rattle.posix.specs.declared.process.Report.TheVariants as found
 use Rattle.posix.specs.declared.process.Sending.{Sending}
 use Rattle.posix.specs.declared.process.Sending.TheVariants as sends
 use Rattle.posix.specs.declared.span.Span.{Span}
@@ -36,7 +34,9 @@ use Rattle.posix.specs.Handlers.{handles, is_full, newest_frame}
 use Rattle.posix.specs.Births.{fork_as}
 use Rattle.posix.specs.Ends.{end_with_heir, hang_up, end_process}
 use Rattle.posix.specs.Targets.{target_in, process_in}
-use Rattle.posix.specs.Waits.{wait, wait_with, report, options_in, are_known, has_option, WNOHANG}
+use Rattle.posix.specs.declared.waits.WaitCall.{WaitCall}
+use Rattle.posix.specs.declared.waits.WaitCall.TheVariants as wait
+use Rattle.posix.specs.Waits.{wait_by}
 use Rattle.posix.specs.Delivery.{handle, stop_process, act_by_default, act_on, take_out, deliver, fault_with, fault, return_to, return_from_handler}
 use Rattle.posix.specs.Sends.{sending_granted, message, send_with, signal_or_none, send, kill, sigqueue}
 use Rattle.posix.specs.Alarms.{alarm}
@@ -48,6 +48,7 @@ use Rattle.posix.specs.SignalCalls.{set_credentials, sigaction, sigprocmask, sig
 use Rattle.posix.specs.Attempts.{attempt, attempt_again}
 use Rattle.posix.specs.Step.{act, act_in, after_trap, begin_call, deliver_or, go_on, code_of}
 use Rattle.posix.proofs.NoticeLemmas.{end_first, end_other, only_hung_up}
+use Rattle.posix.proofs.WaitLemmas.{by_wait}
 
 -- nothing happens to the order, or p loses its place, or p goes last
 abbrev pub Turned : ℕ → List ℕ → List ℕ → Type 0
@@ -170,20 +171,12 @@ unfolding fork_as
 acted_fork granted s me None = stays me.pid s _ refl refl refl
 acted_fork granted s me (Some n) = acted_if me.pid s granted _ _ (record { births = omega arith; ticks = refl; order = inl refl }) (stays me.pid s _ refl refl refl)
 
--- a wait, by what it found
-acted_with : (s : State) (p options : ℕ) (what : Report) → ActedIf p s (wait_with s p options what)
-acted_with s p options found.NoChild = stays p s _ refl refl refl
-acted_with s p options found.Nothing = acted_if p s (has_option options WNOHANG) _ _ (stays p s _ refl refl refl) tt
-acted_with s p options (found.End child status) = stays p s _ refl refl refl
-acted_with s p options (found.Change child status) = stays p s _ refl refl refl
-
 -- a wait
-acted_wait : (s : State) (me : Process) → ActedIf me.pid s (wait s me)
-unfolding wait
-acted_wait s me =
-    acted_if me.pid s (are_known (options_in (argument me 2))) _ _
-    (acted_with s me.pid (options_in (argument me 2)) (report s.processes me.pid me.group (target_in (argument me 1)) (options_in (argument me 2))))
-    (stays me.pid s _ refl refl refl)
+acted_wait : (call : WaitCall) (s : State) (me : Process) → ActedIf me.pid s (wait_by call s me)
+acted_wait call s me =
+    by_wait (ActedIf me.pid s) call s me (λ why. stays me.pid s _ refl refl refl) (stays me.pid s _ refl refl refl) tt
+    (λ target options child status e. (stays me.pid s _ refl refl refl, stays me.pid s _ refl refl refl))
+    (λ target options child status e. (stays me.pid s _ refl refl refl, stays me.pid s _ refl refl refl))
 
 -- a call that changes its process alone
 acted_answers : (s : State) (p : ℕ) (call : Call) (reply : Reply) → ActedIf p s (finish_call s p call reply)
@@ -347,7 +340,8 @@ acted_attempt : (granted : Bool) (s : State) (me : Process) (call : Call) → Ac
 unfolding attempt
 acted_attempt granted s me Exit = acted_end s me (exited (argument me 1))
 acted_attempt granted s me Fork = acted_fork granted s me (next_pid s)
-acted_attempt granted s me Waitpid = acted_wait s me
+acted_attempt granted s me Waitpid = acted_wait wait.Waitpid s me
+acted_attempt granted s me Waitid = acted_wait wait.Waitid s me
 acted_attempt granted s me Pause = tt
 acted_attempt granted s me SchedYield = record { births = omega arith; ticks = refl; order = inr (inr refl) }
 acted_attempt granted s me Getpid = stays me.pid s _ refl refl refl
@@ -383,7 +377,7 @@ acted_attempt granted s me Write = acted_write s me
 -- each call afresh
 acted_again : (s : State) (me : Process) (b : Blocked) → ActedIf me.pid s (attempt_again s me b)
 unfolding attempt_again
-acted_again s me blocked.Waitpid = acted_wait s me
+acted_again s me (blocked.Wait call) = acted_wait call s me
 acted_again s me blocked.Read = acted_read s me
 acted_again s me blocked.Pause = tt
 acted_again s me (blocked.Sigsuspend mask) = tt

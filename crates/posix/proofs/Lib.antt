@@ -7,6 +7,7 @@ pub mod RegularLemmas
 pub mod ChangeLemmas
 pub mod ConsoleLemmas
 pub mod GroupLemmas
+pub mod FlagLemmas
 pub mod WaitLemmas
 pub mod ReportingLemmas
 pub mod ReportLemmas

@@ -32,13 +32,13 @@ is_end (found.Change p status) = false
 
 -- ---- what one child has to report
 
--- an end is that of a zombie
-of_zombie : (options : ℕ) (r : Process) → is_end (report_of options r) ≡ is_zombie r.life
-of_zombie options r = by_report (λ z o. is_end o ≡ z) options r refl (λ w. refl) (λ w. refl)
+-- what is reported is an end where it is that of a zombie
+of_zombie : (options : ℕ) (r : Process) (q : ℕ) → child_named (report_of options r) ≡ Some q → is_end (report_of options r) ≡ is_zombie r.life
+of_zombie options r q = by_report (λ z o. child_named o ≡ Some q → is_end o ≡ z) options r (λ z e. absurd (cc)) (λ w e. refl) (λ w e. refl)
 
 -- the child that is named is the one that reports
 of_named : (options : ℕ) (r : Process) (q : ℕ) → child_named (report_of options r) ≡ Some q → r.pid ≡ q
-of_named options r q = by_report (λ z o. child_named o ≡ Some q → r.pid ≡ q) options r (λ e. absurd (cc)) (λ w e. cc) (λ w e. cc)
+of_named options r q = by_report (λ z o. child_named o ≡ Some q → r.pid ≡ q) options r (λ z e. absurd (cc)) (λ w e. cc) (λ w e. cc)
 
 -- ---- what a wait finds
 
@@ -95,7 +95,7 @@ pub reported : (rs : List Process) → IsRising rs → (caller group : ℕ) (cho
     → report rs caller group choice options ≡ o → child_named o ≡ Some child → IsChild rs caller child (is_end o)
 reported rs up caller group choice options o child e named =
     let r = reporting rs up caller group choice options o child e named in
-    record { what = r.what; found = r.found; parent = r.parent; dead = sym (of_zombie options r.what) ∙ ap is_end r.says }
+    record { what = r.what; found = r.found; parent = r.parent; dead = sym (of_zombie options r.what child (ap child_named r.says ∙ named)) ∙ ap is_end r.says }
 
 -- ---- the table afterwards
 

@@ -1,19 +1,16 @@
--- A wait that asks those children alone that have something to report.
-use Rattle.std.proofs.Common.{◌≡◌, ◌<◌, ◌≤◌, ℕ, Bool, true, false, cond, refl, ap, sym, ◌∙◌, arith, List, [], ◌∷◌, length, filter, find, Option, Some, None, is_some, nat_lt, ◌==◌, ◌||◌}
+-- A wait that asks those children alone that it wants.
+use Rattle.std.proofs.Common.{◌≡◌, ◌<◌, ◌≤◌, ℕ, Bool, true, false, cond, refl, ap, sym, ◌∙◌, arith, List, [], ◌∷◌, length, filter, find, Option, Some, None, is_some, nat_lt, ◌==◌}
 use Rattle.std.specs.List.{list_any}
-use Rattle.posix.specs.declared.process.Life.{Life}
-use Rattle.posix.specs.declared.process.Life.TheVariants.{Running, Stopped, Zombie}
-use Rattle.posix.specs.declared.process.News.{News}
-use Rattle.posix.specs.declared.process.News.TheVariants as news
+use Rattle.std.proofs.lemmas.Bool.{eq-eqb, ne_eqb}
 use Rattle.posix.specs.declared.process.Report.{Report}
 use Rattle.posix.specs.declared.process.Report.TheVariants as found
 use Rattle.posix.specs.declared.target.Target.TheVariants as whom
-use Rattle.posix.specs.Processes.{Process, is_zombie}
+use Rattle.posix.specs.Processes.{Process}
 use Rattle.posix.specs.Tables.{IsRising, lookup, has_pid, is_child, children_in, first_pid, above, left_of}
-use Rattle.posix.specs.Waits.{is_named, is_something, is_news, has_report, reporting_in, report_life, report_of, reports, report_found, report_among, report, look, report_of_meant}
-use Rattle.posix.proofs.TableLemmas.{rising_filter}
-use Rattle.posix.proofs.WalkLemmas.{AtOne, one_here, one_less, passing_above, all_left, has_first, head_left_of, in_filter, numbered_one, numbered_none, filters_commute}
-use Rattle.posix.proofs.WaitLemmas.{report_or, or_no_child, found_there, found_or_nothing, after_look, one_among, look_first}
+use Rattle.posix.specs.Waits.{is_named, wanted_in, report_of, reports, report_found, report_among, report, report_of_meant}
+use Rattle.posix.proofs.TableLemmas.{pid_looked, rising_filter}
+use Rattle.posix.proofs.WalkLemmas.{AtOne, one_here, one_less, passing_above, all_left, has_first, head_left_of, next_begins, in_filter, found_above, numbered_one, numbered_none, filters_commute}
+use Rattle.posix.proofs.WaitLemmas.{one_among}
 
 -- ---- a wait for one process
 
@@ -45,89 +42,118 @@ report_none_meant rs p group options = ap (report_among options) (none_named (ch
     none_named [] = refl
     none_named (x ∷ xs) = none_named xs
 
--- ---- those that have something to report
+-- ---- those that it wants
 
--- without anything to report, nothing is reported
-silent_life : (options p : ℕ) (l : Life) (n : News) → (is_zombie l || is_news n) ≡ false → is_something (report_life options p l n) ≡ false
-silent_life options p Running news.Nothing e = refl
-silent_life options p Running (news.StoppedBy s) e = absurd (cc)
-silent_life options p Running news.Continued e = absurd (cc)
-silent_life options p Stopped news.Nothing e = refl
-silent_life options p Stopped (news.StoppedBy s) e = absurd (cc)
-silent_life options p Stopped news.Continued e = absurd (cc)
-silent_life options p (Zombie w) n e = absurd (cc)
+-- the least that passes a test is there, and is found
+record IsFirst (t : Process → Bool) (c : ℕ) (rs : List Process) : Type 0 where
+  what : Process
+  found : lookup c rs ≡ Some what
+  is : find t rs ≡ Some what
 
-silent : (options : ℕ) (r : Process) → has_report r ≡ false → reports options r ≡ false
-unfolding has_report report_of
-silent options r e = silent_life options r.pid r.life r.news e
+first_found : (t : Process → Bool) (c : ℕ) (rs : List Process) → IsRising rs → first_pid (filter t rs) ≡ Some c → IsFirst t c rs
+unfolding lookup IsRising
+first_found t c [] up e = absurd (cc)
+first_found t c (x ∷ xs) up e = elim (t x) as (λ b. t x ≡ b → first_pid (cond b (x ∷ filter t xs) (filter t xs)) ≡ Some c → IsFirst t c (x ∷ xs)) [
+  | true ↦ λ k e. let same : x.pid ≡ c = cc in record { what = x; found = rw (eq-eqb x.pid c same) refl; is = rw k refl }
+  | false ↦ λ k e.
+      let h = first_found t c xs up.1 e in
+      let low = found_above x.pid c xs h.what up.0 h.found in
+      record { what = h.what; found = rw (ne_eqb x.pid c (λ same. omega (arith, low, same))) h.found; is = rw k h.is }
+] refl e
 
--- who reports is found among those that have something to report
-found_among : (options : ℕ) (rs : List Process) → find (reports options) (filter has_report rs) ≡ find (reports options) rs
-found_among options [] = refl
-found_among options (x ∷ xs) = elim (has_report x) as (λ b. has_report x ≡ b → find (reports options) (cond b (x ∷ filter has_report xs) (filter has_report xs)) ≡ find (reports options) (x ∷ xs)) [
-  | true ↦ λ e. ap (cond (reports options x) (Some x)) (found_among options xs)
-  | false ↦ λ e. rw (silent options x e) (found_among options xs)
-] refl
+-- where there is none, nobody is found
+none_first : (t : Process → Bool) (rs : List Process) → first_pid (filter t rs) ≡ None → find t rs ≡ None
+none_first t [] e = refl
+none_first t (x ∷ xs) e = grind (arith, e, none_first t xs)
 
--- where none is there, there is no child, and else nothing to report
+-- the least of the children that are meant and wanted is there, and a wait reports it
+pub record IsWanted (rs : List Process) (p : ℕ) (means : Process → Bool) (options c : ℕ) : Type 0 where
+  pub what : Process
+  pub found : lookup c rs ≡ Some what
+  pub says : report_of_meant means options (children_in p rs) ≡ report_of options what
+
+pub wanted_some : (rs : List Process) → IsRising rs → (p : ℕ) (means : Process → Bool) (options c : ℕ) → first_pid (filter means (wanted_in options p rs)) ≡ Some c → IsWanted rs p means options c
+unfolding wanted_in children_in
+wanted_some rs up p means options c e =
+    let kids = filter (is_child p) rs in
+    let kids_up = rising_filter (is_child p) rs up in
+    let h = first_found (reports options) c (filter means kids) (rising_filter means kids kids_up) (ap first_pid (sym (filters_commute means (reports options) kids)) ∙ e) in
+    let found = in_filter (is_child p) rs up c h.what (in_filter means kids kids_up c h.what h.found).found in
+    record { what = h.what; found = found.found; says = among (filter means kids) h.what h.is }
+  where
+    among : (ks : List Process) (r : Process) → find (reports options) ks ≡ Some r → report_among options ks ≡ report_of options r
+    among [] r e = absurd (cc)
+    among (k ∷ ks) r e = ap (report_found options) e
+
+-- where there is none, there is no child that is meant, and else nothing to report
 abbrev pub unreported : Bool → Report
 unreported has_child = cond has_child found.Nothing found.NoChild
 
--- what children report is what those report that have something to report, or whether one is there
-reported_among : (options : ℕ) (rs : List Process) → report_or (report_among options (filter has_report rs)) (unreported (is_some (first_pid rs))) ≡ report_among options rs
-reported_among options [] = refl
-reported_among options (x ∷ xs) = sym (found_or_nothing options (filter has_report (x ∷ xs)) found.Nothing) ∙ found_there options _ found.Nothing ∙ ap (report_found options) (found_among options (x ∷ xs))
-
--- so it is of those that are meant
-pub reported : (rs : List Process) (p : ℕ) (means : Process → Bool) (options : ℕ) (o : Report) (has_child : Bool) → o ≡ report_of_meant means options (reporting_in p rs) → has_child ≡ list_any means (children_in p rs) → report_or o (unreported has_child) ≡ report_of_meant means options (children_in p rs)
-unfolding reporting_in
-reported rs p means options o has_child e h =
-    let all : report_of_meant means options (reporting_in p rs) ≡ report_among options (filter has_report (filter means (children_in p rs))) = ap (report_among options) (filters_commute means has_report (children_in p rs)) in
-    rw (e ∙ all, h, ← has_first means (children_in p rs)) (reported_among options (filter means (children_in p rs)))
+pub wanted_none : (rs : List Process) (p : ℕ) (means : Process → Bool) (options : ℕ) (has_child : Bool) → first_pid (filter means (wanted_in options p rs)) ≡ None → has_child ≡ list_any means (children_in p rs) → report_of_meant means options (children_in p rs) ≡ unreported has_child
+unfolding wanted_in
+wanted_none rs p means options has_child e h =
+    let kids = children_in p rs in
+    among (filter means kids) (none_first (reports options) (filter means kids) (ap first_pid (sym (filters_commute means (reports options) kids)) ∙ e)) ∙ ap unreported (has_first means kids ∙ sym h)
+  where
+    among : (ks : List Process) → find (reports options) ks ≡ None → report_among options ks ≡ unreported (is_some (first_pid ks))
+    among [] e = refl
+    among (k ∷ ks) e = ap (report_found options) e
 
 -- ---- the walk over them
 
--- What those that are left report, from the one that comes next, or what was found so far, is what all of them report.
-pub record IsReportWalk (rs : List Process) (p : ℕ) (means : Process → Bool) (options : ℕ) (so_far : Report) (next : Option ℕ) : Type 0 where
-  pub here : first_pid (left_of next (reporting_in p rs)) ≡ next
-  pub todo : report_or (report_of_meant means options (left_of next (reporting_in p rs))) so_far ≡ report_of_meant means options (reporting_in p rs)
+-- The one that comes next is the least that is left, and the least that is meant is left.
+pub record IsWantedWalk (rs : List Process) (p : ℕ) (means : Process → Bool) (options : ℕ) (next : Option ℕ) : Type 0 where
+  pub here : first_pid (left_of next (wanted_in options p rs)) ≡ next
+  pub todo : first_pid (filter means (left_of next (wanted_in options p rs))) ≡ first_pid (filter means (wanted_in options p rs))
 
 -- the walk begins with all of them
-pub report_begins : (rs : List Process) → IsRising rs → ((q : ℕ) (r : Process) → lookup q rs ≡ Some r → 1 ≤ r.pid) → (p : ℕ) (means : Process → Bool) (options : ℕ) (next : Option ℕ) → next ≡ first_pid (above 0 (reporting_in p rs)) → IsReportWalk rs p means options found.NoChild next
-unfolding reporting_in children_in
-report_begins rs up least p means options next e =
+pub wanted_begins : (rs : List Process) → IsRising rs → ((q : ℕ) (r : Process) → lookup q rs ≡ Some r → 1 ≤ r.pid) → (p : ℕ) (means : Process → Bool) (options : ℕ) (next : Option ℕ) → next ≡ first_pid (above 0 (wanted_in options p rs)) → IsWantedWalk rs p means options next
+unfolding wanted_in children_in
+wanted_begins rs up least p means options next e =
     let kids = filter (is_child p) rs in
-    let xs = filter has_report kids in
-    let all : above 0 xs ≡ xs = filters_commute (λ r. nat_lt 0 r.pid) has_report kids ∙ ap (filter has_report) (passing_above (is_child p) rs up least) in
+    let ws = filter (reports options) kids in
+    let all : above 0 ws ≡ ws = filters_commute (λ r. nat_lt 0 r.pid) (reports options) kids ∙ ap (filter (reports options)) (passing_above (is_child p) rs up least) in
     record {
-      here = rw e (head_left_of xs 0);
-      todo = ap (λ l. report_or (report_of_meant means options l) found.NoChild) (all_left xs next (rising_filter has_report kids (rising_filter (is_child p) rs up)) all e) ∙ or_no_child _;
+      here = rw e (head_left_of ws 0);
+      todo = ap (λ l. first_pid (filter means l)) (all_left ws next (rising_filter (reports options) kids (rising_filter (is_child p) rs up)) all e);
     }
 
 -- what the walk knows of the one that comes next
-pub at_reporting : {rs : List Process} {p c options : ℕ} {means : Process → Bool} {so_far : Report} {next : Option ℕ} → IsRising rs → IsReportWalk rs p means options so_far next → next ≡ Some c → AtOne has_report c (children_in p rs)
-unfolding reporting_in children_in
-at_reporting {rs = rs} {p = p} {c = c} {next = next} up w comes = one_here has_report c (filter (is_child p) rs) next (rising_filter (is_child p) rs up) comes w.here
+pub at_wanted : {rs : List Process} {p c options : ℕ} {means : Process → Bool} {next : Option ℕ} → IsRising rs → IsWantedWalk rs p means options next → next ≡ Some c → AtOne (reports options) c (children_in p rs)
+unfolding wanted_in children_in
+at_wanted {rs = rs} {p = p} {c = c} {options = options} {next = next} up w comes = one_here (reports options) c (filter (is_child p) rs) next (rising_filter (is_child p) rs up) comes w.here
 
 -- that it is there
-pub reporting_found : (rs : List Process) → IsRising rs → (p c : ℕ) (h : AtOne has_report c (children_in p rs)) → lookup c rs ≡ Some h.what
+pub wanted_found : (rs : List Process) → IsRising rs → (p c options : ℕ) (h : AtOne (reports options) c (children_in p rs)) → lookup c rs ≡ Some h.what
 unfolding children_in
-reporting_found rs up p c h = (in_filter (is_child p) rs up c h.what h.found).found
+wanted_found rs up p c options h = (in_filter (is_child p) rs up c h.what h.found).found
 
--- what it says, and then those behind it, is what all of them report
-pub report_here : {rs : List Process} {p c options : ℕ} {means : Process → Bool} {so_far : Report} {next after : Option ℕ} (up : IsRising rs) (w : IsReportWalk rs p means options so_far next) (comes : next ≡ Some c) → after ≡ first_pid (above c (reporting_in p rs))
-    → (o : Report) → o ≡ look means options (at_reporting up w comes).what → after_look o (report_of_meant means options (left_of after (reporting_in p rs))) so_far ≡ report_of_meant means options (reporting_in p rs)
-unfolding reporting_in
-report_here {rs = rs} {p = p} {c = c} {options = options} {means = means} {so_far = so_far} up w comes e o said =
-    let h = at_reporting up w comes in
-    rw (said, e) (sym (look_first means options h.what _ so_far) ∙ ap (λ l. report_or (report_of_meant means options l) so_far) (sym h.left ∙ ap (λ o. left_of o (reporting_in p rs)) (sym comes)) ∙ w.todo)
+-- where it is meant, it is the least
+pub wanted_here : {rs : List Process} {p c options : ℕ} {means : Process → Bool} {next : Option ℕ} (up : IsRising rs) (w : IsWantedWalk rs p means options next) (comes : next ≡ Some c) → means (at_wanted up w comes).what ≡ true → Some c ≡ first_pid (filter means (wanted_in options p rs))
+unfolding wanted_in
+wanted_here {rs = rs} {p = p} {c = c} {options = options} {means = means} up w comes is =
+    let h = at_wanted up w comes in
+    let named = pid_looked c (children_in p rs) h.what h.found in
+    let first : first_pid (filter means (left_of (Some c) (wanted_in options p rs))) ≡ Some h.what.pid = ap (λ l. first_pid (filter means l)) h.left ∙ rw is refl in
+    ap Some (sym named) ∙ sym first ∙ ap (λ o. first_pid (filter means (left_of o (wanted_in options p rs)))) (sym comes) ∙ w.todo
 
--- where none is left, this was found
-pub report_over : {rs : List Process} {p options : ℕ} {means : Process → Bool} {so_far : Report} {next : Option ℕ} → IsReportWalk rs p means options so_far next → next ≡ None → so_far ≡ report_of_meant means options (reporting_in p rs)
-report_over {rs = rs} {p = p} {options = options} {means = means} {so_far = so_far} w over = sym (ap (λ o. report_or (report_of_meant means options (left_of o (reporting_in p rs))) so_far) over) ∙ w.todo
+-- else the least is behind it
+pub wanted_on : {rs : List Process} {p c options : ℕ} {means : Process → Bool} {next after : Option ℕ} (up : IsRising rs) (w : IsWantedWalk rs p means options next) (comes : next ≡ Some c) → means (at_wanted up w comes).what ≡ false → after ≡ first_pid (above c (wanted_in options p rs)) → IsWantedWalk rs p means options after
+unfolding wanted_in
+wanted_on {rs = rs} {p = p} {c = c} {options = options} {means = means} up w comes isnt e =
+    let h = at_wanted up w comes in
+    let ws = wanted_in options p rs in
+    let rest : first_pid (filter means (left_of (Some c) ws)) ≡ first_pid (filter means (left_of (first_pid (above c ws)) ws)) = ap (λ l. first_pid (filter means l)) h.left ∙ rw isnt refl in
+    record {
+      here = next_begins c ws _ e;
+      todo = ap (λ o. first_pid (filter means (left_of o ws))) e ∙ sym rest ∙ ap (λ o. first_pid (filter means (left_of o ws))) (sym comes) ∙ w.todo;
+    }
+
+-- where none is left, none is meant
+pub wanted_over : {rs : List Process} {p options : ℕ} {means : Process → Bool} {next : Option ℕ} → IsWantedWalk rs p means options next → next ≡ None → None ≡ first_pid (filter means (wanted_in options p rs))
+wanted_over {rs = rs} {p = p} {options = options} {means = means} w over = sym (ap (λ o. first_pid (filter means (left_of o (wanted_in options p rs)))) over) ∙ w.todo
 
 -- fewer are left behind it
-pub reporting_less : {rs : List Process} {p c options : ℕ} {means : Process → Bool} {so_far : Report} {next after : Option ℕ} → IsRising rs → IsReportWalk rs p means options so_far next → next ≡ Some c → after ≡ first_pid (above c (reporting_in p rs))
-    → length (left_of after (reporting_in p rs)) < length (left_of next (reporting_in p rs))
-unfolding reporting_in
-reporting_less {rs = rs} {p = p} {c = c} {next = next} {after = after} up w comes e = let less = one_less has_report c (children_in p rs) next after (at_reporting up w comes) comes e in omega (arith, less)
+pub wanted_less : {rs : List Process} {p c options : ℕ} {means : Process → Bool} {next after : Option ℕ} → IsRising rs → IsWantedWalk rs p means options next → next ≡ Some c → after ≡ first_pid (above c (wanted_in options p rs)) → length (left_of after (wanted_in options p rs)) < length (left_of next (wanted_in options p rs))
+unfolding wanted_in
+wanted_less {rs = rs} {p = p} {c = c} {options = options} {next = next} {after = after} up w comes e = let less = one_less (reports options) c (children_in p rs) next after (at_wanted up w comes) comes e in omega (arith, less)

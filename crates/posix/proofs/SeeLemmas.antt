@@ -18,8 +18,9 @@ use Rattle.posix.specs.States.{State}
 use Rattle.posix.specs.Consoles.{Console}
 use Rattle.posix.specs.Transfers.{span_in}
 use Rattle.posix.specs.Outcomes.{Attempted}
-use Rattle.posix.specs.Targets.{target_in}
-use Rattle.posix.specs.Waits.{wait, wait_with, is_named, report, report_of, report_found, report_among, reports, options_in, are_known, has_option}
+use Rattle.posix.specs.declared.waits.WaitCall.{WaitCall}
+use Rattle.posix.specs.declared.waits.Asked.{Asked}
+use Rattle.posix.specs.Waits.{wait_by, wait_for, wait_with, asked_by, is_named, report, report_of, report_found, report_among, reports, has_option, WNOWAIT}
 use Rattle.posix.specs.Generation.{is_pending}
 use Rattle.posix.specs.Choice.{chosen}
 use Rattle.posix.specs.Terminals.{terminal, read, read_on, read_in, waits_in, waits_on, waits_to_read}
@@ -93,19 +94,21 @@ block_if true x y u v h k = h
 block_if false x y u v h k = k
 
 -- what was found decides alone
-block_with : (s t : State) (p options : ℕ) (what : Report) → is_block (wait_with s p options what) ≡ is_block (wait_with t p options what)
-block_with s t p options found.NoChild = refl
-block_with s t p options found.Nothing = block_if (has_option options 1) _ _ _ _ refl refl
-block_with s t p options (found.End c status) = refl
-block_with s t p options (found.Change c status) = refl
+block_with : (s t : State) (p : ℕ) (call : WaitCall) (options : ℕ) (what : Report) → is_block (wait_with s p call options what) ≡ is_block (wait_with t p call options what)
+block_with s t p call options found.NoChild = refl
+block_with s t p call options found.Nothing = block_if (has_option options 1) _ _ _ _ refl refl
+block_with s t p call options (found.End c status) = block_if (has_option options WNOWAIT) _ _ _ _ refl refl
+block_with s t p call options (found.Change c status) = block_if (has_option options WNOWAIT) _ _ _ _ refl refl
 
-block_wait : (s t : State) (me : Process) (n : ℕ) → sees me.pid t.processes ≡ sees me.pid s.processes → is_block (wait t (record me { parent = n })) ≡ is_block (wait s me)
-unfolding wait
-block_wait s t me n e =
-    let options = options_in (argument me 2) in
-    block_if (are_known options) _ _ _ _
-    (ap (λ w. is_block (wait_with t me.pid options w)) (report_sees t.processes s.processes me.pid me.group (target_in (argument me 1)) options e)
-    ∙ block_with t s me.pid options (report s.processes me.pid me.group (target_in (argument me 1)) options)) refl
+block_for : (s t : State) (me : Process) (n : ℕ) (call : WaitCall) (asks : Option Asked) → sees me.pid t.processes ≡ sees me.pid s.processes → is_block (wait_for t me.pid me.group call asks) ≡ is_block (wait_for s me.pid me.group call asks)
+block_for s t me n call None e = refl
+block_for s t me n call (Some a) e =
+    ap (λ w. is_block (wait_with t me.pid call a.options.0 w)) (report_sees t.processes s.processes me.pid me.group a.target a.options.0 e)
+    ∙ block_with t s me.pid call a.options.0 (report s.processes me.pid me.group a.target a.options.0)
+
+block_wait : (s t : State) (me : Process) (n : ℕ) (call : WaitCall) → sees me.pid t.processes ≡ sees me.pid s.processes → is_block (wait_by call t (record me { parent = n })) ≡ is_block (wait_by call s me)
+unfolding wait_by
+block_wait s t me n call e = block_for s t me n call (asked_by call me) e
 
 -- a read, by what its span is
 block_in : (s : State) (me : Process) (c : Console) (span : Result Span Errno) → is_block (read_in s me c span) ≡ waits_in me c span
@@ -126,7 +129,7 @@ go_on_alike : (s t : State) (me : Process) (n : ℕ) (b : Option Blocked) → wa
     → can_go_on t (record me { parent = n }) b ≡ can_go_on s me b
 unfolding attempt_again waits_to_read
 go_on_alike s t me n None same e = refl
-go_on_alike s t me n (Some blocked.Waitpid) same e = ap not (block_wait s t me n e)
+go_on_alike s t me n (Some (blocked.Wait call)) same e = ap not (block_wait s t me n call e)
 go_on_alike s t me n (Some blocked.Read) same e = ap not (block_read t (record me { parent = n }) ∙ same ∙ sym (block_read s me))
 go_on_alike s t me n (Some blocked.Pause) same e = refl
 go_on_alike s t me n (Some (blocked.Sigsuspend mask)) same e = refl
@@ -171,7 +174,7 @@ acts_reading s t r same h e = acts_less s t r (λ l k. goes r.blocked (h l) k) e
 
     goes : (b : Option Blocked) → (b ≡ Some blocked.Read → waits_to_read s.consoles r ≡ true → waits_to_read t.consoles r ≡ true) → can_go_on t r b ≡ true → can_go_on s r b ≡ true
     goes None k e = refl
-    goes (Some blocked.Waitpid) k e = sym (ap not (block_wait s t r r.parent (ap (sees r.pid) same))) ∙ e
+    goes (Some (blocked.Wait call)) k e = sym (ap not (block_wait s t r r.parent call (ap (sees r.pid) same))) ∙ e
     goes (Some blocked.Read) k e = less (is_block (read s r)) (is_block (read t r)) (λ w. block_read t r ∙ k refl (sym (block_read s r) ∙ w)) e
     goes (Some blocked.Pause) k e = e
     goes (Some (blocked.Sigsuspend mask)) k e = e

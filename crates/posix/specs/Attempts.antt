@@ -1,7 +1,8 @@
 -- Attempts of system calls.
 use Rattle.std.specs.Prelude.{Bool, pos}
 use Rattle.posix.specs.declared.call.Call.{Call}
-use Rattle.posix.specs.declared.call.Call.TheVariants.{Exit, Fork, Waitpid, Pause, SchedYield, Getpid, Getppid, Getuid, Geteuid, Getgid, Getegid, Setuid, Seteuid, Setgid, Setegid, Kill, Sigqueue, Sigaction, Sigprocmask, Sigpending, Sigsuspend, Sigreturn, Alarm, Exec, Getpgid, Getsid, Setpgid, Setsid, Setctty, Tcgetpgrp, Tcsetpgrp, Settostop, Read, Write}
+use Rattle.posix.specs.declared.call.Call.TheVariants.{Exit, Fork, Waitpid, Waitid, Pause, SchedYield, Getpid, Getppid, Getuid, Geteuid, Getgid, Getegid, Setuid, Seteuid, Setgid, Setegid, Kill, Sigqueue, Sigaction, Sigprocmask, Sigpending, Sigsuspend, Sigreturn, Alarm, Exec, Getpgid, Getsid, Setpgid, Setsid, Setctty, Tcgetpgrp, Tcsetpgrp, Settostop, Read, Write}
+use Rattle.posix.specs.declared.waits.WaitCall.TheVariants as wait
 use Rattle.posix.specs.declared.process.Blocked.{Blocked}
 use Rattle.posix.specs.declared.process.Blocked.TheVariants as blocked
 use Rattle.posix.specs.Statuses.{exited}
@@ -10,7 +11,7 @@ use Rattle.posix.specs.States.{State, go_last, next_pid}
 use Rattle.posix.specs.Outcomes.{Attempted, Done, Block, finish_call, finish_with}
 use Rattle.posix.specs.Births.{fork_as}
 use Rattle.posix.specs.Ends.{end_process}
-use Rattle.posix.specs.Waits.{wait}
+use Rattle.posix.specs.Waits.{wait_by}
 use Rattle.posix.specs.Credentials.{setuid, seteuid, setgid, setegid}
 use Rattle.posix.specs.Delivery.{return_from_handler}
 use Rattle.posix.specs.Sends.{kill, sigqueue}
@@ -26,7 +27,8 @@ use Rattle.posix.specs.SignalCalls.{set_credentials, sigaction, sigprocmask, sig
 unfoldable pub attempt : Bool → State → Process → Call → Attempted
 attempt granted s me Exit = Done (end_process s me (exited (argument me 1)))
 attempt granted s me Fork = fork_as granted s me (next_pid s)
-attempt granted s me Waitpid = wait s me
+attempt granted s me Waitpid = wait_by wait.Waitpid s me
+attempt granted s me Waitid = wait_by wait.Waitid s me
 attempt granted s me Pause = Block blocked.Pause
 attempt granted s me SchedYield = finish_with (go_last s me.pid) me.pid SchedYield (pos 0)
 attempt granted s me Getpid = finish_with s me.pid Getpid (pos me.pid)
@@ -62,7 +64,7 @@ attempt granted s me Write = write s me
 -- The call that a process is blocked in, attempted afresh (own); in Linux a child that changes its group wakes no
 -- waiting parent, and a read is judged only as it begins.
 unfoldable pub attempt_again : State → Process → Blocked → Attempted
-attempt_again s me blocked.Waitpid = wait s me
+attempt_again s me (blocked.Wait call) = wait_by call s me
 attempt_again s me blocked.Read = read s me
 attempt_again s me blocked.Pause = Block blocked.Pause
 attempt_again s me (blocked.Sigsuspend mask) = Block (blocked.Sigsuspend mask)

@@ -1,13 +1,16 @@
 -- System calls by their names.
-use Rattle.std.specs.Prelude.{ℕ, List, [], ◌∷◌, codes, Option, find, bytes_eq}
+use Rattle.std.specs.Prelude.{ℕ, List, [], ◌∷◌, codes, Option, Some, None, find, bytes_eq}
 use Rattle.posix.specs.declared.call.Call.{Call}
-use Rattle.posix.specs.declared.call.Call.TheVariants.{Exit, Fork, Waitpid, Pause, SchedYield, Getpid, Getppid, Getuid, Geteuid, Getgid, Getegid, Setuid, Seteuid, Setgid, Setegid, Kill, Sigqueue, Sigaction, Sigprocmask, Sigpending, Sigsuspend, Sigreturn, Alarm, Exec, Getpgid, Getsid, Setpgid, Setsid, Setctty, Tcgetpgrp, Tcsetpgrp, Settostop, Read, Write}
+use Rattle.posix.specs.declared.waits.WaitCall.{WaitCall}
+use Rattle.posix.specs.declared.waits.WaitCall.TheVariants as wait
+use Rattle.posix.specs.declared.call.Call.TheVariants.{Exit, Fork, Waitpid, Waitid, Pause, SchedYield, Getpid, Getppid, Getuid, Geteuid, Getgid, Getegid, Setuid, Seteuid, Setgid, Setegid, Kill, Sigqueue, Sigaction, Sigprocmask, Sigpending, Sigsuspend, Sigreturn, Alarm, Exec, Getpgid, Getsid, Setpgid, Setsid, Setctty, Tcgetpgrp, Tcsetpgrp, Settostop, Read, Write}
 
 -- how a call is written, in world texts and in traces
 abbrev pub call_text : Call → List ℕ
 call_text Exit = codes "exit"
 call_text Fork = codes "fork"
 call_text Waitpid = codes "waitpid"
+call_text Waitid = codes "waitid"
 call_text Pause = codes "pause"
 call_text SchedYield = codes "sched_yield"
 call_text Getpid = codes "getpid"
@@ -40,9 +43,20 @@ call_text Settostop = codes "settostop"
 call_text Read = codes "read"
 call_text Write = codes "write"
 
+-- a call that waits for a child
+abbrev pub call_of_wait : WaitCall → Call
+call_of_wait wait.Waitpid = Waitpid
+call_of_wait wait.Waitid = Waitid
+
+-- which of these a call is
+abbrev pub wait_in : Call → Option WaitCall
+wait_in Waitpid = Some wait.Waitpid
+wait_in Waitid = Some wait.Waitid
+wait_in call = None
+
 -- all calls, for looking one up
 abbrev pub all_calls : List Call
-all_calls = Exit ∷ Fork ∷ Waitpid ∷ Pause ∷ SchedYield ∷ Getpid ∷ Getppid
+all_calls = Exit ∷ Fork ∷ Waitpid ∷ Waitid ∷ Pause ∷ SchedYield ∷ Getpid ∷ Getppid
     ∷ Getuid ∷ Geteuid ∷ Getgid ∷ Getegid ∷ Setuid ∷ Seteuid ∷ Setgid ∷ Setegid
     ∷ Kill ∷ Sigqueue ∷ Sigaction ∷ Sigprocmask ∷ Sigpending ∷ Sigsuspend ∷ Sigreturn ∷ Alarm
     ∷ Exec ∷ Getpgid ∷ Getsid ∷ Setpgid ∷ Setsid ∷ Setctty ∷ Tcgetpgrp

@@ -16,6 +16,7 @@ use Rattle.posix.specs.declared.process.Handler.TheVariants as handler
 use Rattle.posix.specs.declared.process.PendingSignal.{PendingSignal}
 use Rattle.posix.specs.SignalNumbers.{SEGV, STOP, default_action}
 use Rattle.posix.specs.SignalSets.{has}
+use Rattle.posix.specs.Calls.{call_of_wait}
 use Rattle.posix.specs.Statuses.{killed, stopped}
 use Rattle.posix.specs.Processes.{Process}
 use Rattle.posix.specs.Tables.{changed}
@@ -30,7 +31,7 @@ use Rattle.posix.specs.Ends.{end_process}
 
 -- the call that it is
 abbrev pub call_of : Blocked → Call
-call_of blocked.Waitpid = call.Waitpid
+call_of (blocked.Wait c) = call_of_wait c
 call_of blocked.Read = call.Read
 call_of blocked.Pause = call.Pause
 call_of (blocked.Sigsuspend earlier) = call.Sigsuspend

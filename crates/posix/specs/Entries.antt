@@ -2,7 +2,7 @@
 use Rattle.std.specs.Prelude.{ℕ, Bool, false, List, map, count_by, Option, Some, None}
 use Rattle.posix.specs.Statuses.{tells_end}
 use Rattle.posix.specs.declared.entry.Entry.{Entry}
-use Rattle.posix.specs.declared.entry.Entry.TheVariants.{Noted, Called, Moved, Reported, NoMemory, Handled, Discarded, Stopped, Returned, Ended, Halted}
+use Rattle.posix.specs.declared.entry.Entry.TheVariants.{Noted, Called, Moved, Reported, Looked, NoMemory, Handled, Discarded, Stopped, Returned, Ended, Halted}
 
 -- an entry with the number of its event
 pub record Line : Type 0 where
@@ -21,7 +21,8 @@ abbrev pub process_of : Entry → Option ℕ
 process_of (Noted p z) = Some p
 process_of (Called p call z) = Some p
 process_of (Moved p call bytes) = Some p
-process_of (Reported p c w) = Some p
+process_of (Reported p call c w) = Some p
+process_of (Looked p c w) = Some p
 process_of (NoMemory p call) = Some p
 process_of (Handled p s value sender) = Some p
 process_of (Discarded p s) = Some p
@@ -30,12 +31,13 @@ process_of (Returned p) = Some p
 process_of (Ended p w) = Some p
 process_of Halted = None
 
--- a wait reports that a process ended
+-- a wait reports that a process ended, and collects it
 abbrev pub reports_end : Entry → Bool
 reports_end (Noted pid value) = false
 reports_end (Called pid call result) = false
 reports_end (Moved pid call bytes) = false
-reports_end (Reported pid child status) = tells_end status
+reports_end (Reported pid call child status) = tells_end status
+reports_end (Looked pid child status) = false
 reports_end (NoMemory pid call) = false
 reports_end (Handled pid sig value sender) = false
 reports_end (Discarded pid sig) = false

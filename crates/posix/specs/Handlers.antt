@@ -20,9 +20,9 @@ use Rattle.posix.specs.Choice.{discarded}
 
 -- ---- the call that a process is blocked in as a handler is entered
 
--- waitpid and read are begun again after the handler where the action asks for it
+-- a wait and a read are begun again after the handler where the action asks for it
 abbrev pub is_restarted : Blocked → Action → Bool
-is_restarted blocked.Waitpid a = has_flag a SA_RESTART
+is_restarted (blocked.Wait call) a = has_flag a SA_RESTART
 is_restarted blocked.Read a = has_flag a SA_RESTART
 is_restarted blocked.Pause a = false
 is_restarted (blocked.Sigsuspend earlier) a = false
@@ -39,7 +39,7 @@ leave_call b a c = if is_interrupted b a then move_on (set_register c 0 (refusal
 -- the mask to go back to: of sigsuspend the one before it
 abbrev pub mask_before : Option Blocked → ℕ → ℕ
 mask_before None mask = mask
-mask_before (Some blocked.Waitpid) mask = mask
+mask_before (Some (blocked.Wait call)) mask = mask
 mask_before (Some blocked.Read) mask = mask
 mask_before (Some blocked.Pause) mask = mask
 mask_before (Some (blocked.Sigsuspend earlier)) mask = earlier

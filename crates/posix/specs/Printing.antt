@@ -3,8 +3,9 @@ use Rattle.std.specs.Prelude.{ℕ, ◌/◌, ◌%◌, List, [], ◌∷◌, ◌++�
 use Rattle.std.specs.List.{join_with_byte}
 use Rattle.std.specs.Fmt.{signed_decimal}
 use Rattle.posix.specs.declared.entry.Entry.{Entry}
-use Rattle.posix.specs.declared.entry.Entry.TheVariants.{Noted, Called, Moved, Reported, NoMemory, Handled, Discarded, Stopped, Returned, Ended, Halted}
-use Rattle.posix.specs.declared.call.Call.TheVariants.{Waitpid}
+use Rattle.posix.specs.declared.entry.Entry.TheVariants.{Noted, Called, Moved, Reported, Looked, NoMemory, Handled, Discarded, Stopped, Returned, Ended, Halted}
+use Rattle.posix.specs.declared.call.Call.TheVariants.{Waitpid, Waitid}
+use Rattle.posix.specs.declared.waits.WaitCall.TheVariants as wait
 use Rattle.posix.specs.Calls.{call_text}
 use Rattle.posix.specs.Entries.{Line}
 
@@ -23,7 +24,9 @@ abbrev pub words_of : Entry → List (List ℕ)
 words_of (Noted pid value) = codes "note" ∷ decimal pid ∷ signed_decimal value ∷ []
 words_of (Called pid call result) = codes "call" ∷ decimal pid ∷ call_text call ∷ codes "=" ∷ signed_decimal result ∷ []
 words_of (Moved pid call bytes) = codes "call" ∷ decimal pid ∷ call_text call ∷ codes "=" ∷ decimal (length bytes) ∷ codes "bytes" ∷ hex bytes ∷ []
-words_of (Reported pid child status) = codes "call" ∷ decimal pid ∷ call_text Waitpid ∷ codes "=" ∷ decimal child ∷ codes "status" ∷ decimal status ∷ []
+words_of (Reported pid wait.Waitpid child status) = codes "call" ∷ decimal pid ∷ call_text Waitpid ∷ codes "=" ∷ decimal child ∷ codes "status" ∷ decimal status ∷ []
+words_of (Reported pid wait.Waitid child status) = codes "call" ∷ decimal pid ∷ call_text Waitid ∷ codes "=" ∷ codes "0" ∷ codes "take" ∷ decimal child ∷ codes "status" ∷ decimal status ∷ []
+words_of (Looked pid child status) = codes "call" ∷ decimal pid ∷ call_text Waitid ∷ codes "=" ∷ codes "0" ∷ codes "look" ∷ decimal child ∷ codes "status" ∷ decimal status ∷ []
 words_of (NoMemory pid call) = codes "call" ∷ decimal pid ∷ call_text call ∷ codes "=" ∷ codes "-11" ∷ codes "memory" ∷ []
 words_of (Handled pid sig value sender) = codes "handle" ∷ decimal pid ∷ decimal sig ∷ signed_decimal value ∷ decimal sender ∷ []
 words_of (Discarded pid sig) = codes "discard" ∷ decimal pid ∷ decimal sig ∷ []

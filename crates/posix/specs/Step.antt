@@ -33,7 +33,7 @@ set_cpu c r = record r { cpu = c }
 
 -- sigsuspend begins with the mask in r1
 abbrev pub waiting_signals : Blocked → ℤ → Signals → Signals
-waiting_signals blocked.Waitpid z g = g
+waiting_signals (blocked.Wait call) z g = g
 waiting_signals blocked.Read z g = g
 waiting_signals blocked.Pause z g = g
 waiting_signals (blocked.Sigsuspend earlier) z g = give_mask (set_in z) g

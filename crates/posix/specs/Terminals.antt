@@ -175,7 +175,7 @@ waits_to_read cs me = waits_on me (console_of me.session cs)
 
 abbrev pub is_in_read : Option Blocked → Bool
 is_in_read None = false
-is_in_read (Some blocked.Waitpid) = false
+is_in_read (Some (blocked.Wait call)) = false
 is_in_read (Some blocked.Read) = true
 is_in_read (Some blocked.Pause) = false
 is_in_read (Some (blocked.Sigsuspend earlier)) = false

@@ -1,9 +1,12 @@
--- Waits, XSH waitpid and waitpid(2).
-use Rattle.std.specs.Prelude.{ℕ, ◌+◌, ◌==◌, ◌||◌, Bool, true, false, if◌then◌else◌, List, [], ◌∷◌, filter, find, Option, Some, None, ℤ, pos, bit_and}
+-- Waits, XSH waitpid, XSH waitid and waitpid(2).
+use Rattle.std.specs.Prelude.{ℕ, ◌+◌, ◌==◌, ◌&&◌, not, Bool, true, false, if◌then◌else◌, List, [], ◌∷◌, filter, find, Option, Some, None, option_map, ℤ, pos, bit_and, bit_or}
 use Rattle.std.specs.Int.{cast_unsigned, w64}
-use Rattle.posix.specs.declared.call.Call.TheVariants.{Waitpid}
 use Rattle.posix.specs.declared.errno.Errno.TheVariants.{EINVAL, ECHILD}
-use Rattle.posix.specs.declared.entry.Entry.TheVariants.{Reported}
+use Rattle.posix.specs.declared.entry.Entry.{Entry}
+use Rattle.posix.specs.declared.entry.Entry.TheVariants.{Called, Reported, Looked}
+use Rattle.posix.specs.declared.waits.WaitCall.{WaitCall}
+use Rattle.posix.specs.declared.waits.WaitCall.TheVariants as wait
+use Rattle.posix.specs.declared.waits.Asked.{Asked}
 use Rattle.posix.specs.declared.process.Life.{Life}
 use Rattle.posix.specs.declared.process.Life.TheVariants.{Running, Stopped, Zombie}
 use Rattle.posix.specs.declared.process.News.{News}
@@ -13,12 +16,13 @@ use Rattle.posix.specs.declared.process.Report.{Report}
 use Rattle.posix.specs.declared.process.Report.TheVariants as found
 use Rattle.posix.specs.declared.target.Target.{Target}
 use Rattle.posix.specs.declared.target.Target.TheVariants as whom
+use Rattle.posix.specs.Calls.{call_of_wait}
 use Rattle.posix.specs.Statuses.{stopped, continued}
-use Rattle.posix.specs.Processes.{Process, is_zombie, argument}
+use Rattle.posix.specs.Processes.{Process, argument}
 use Rattle.posix.specs.Tables.{removed, children_in}
 use Rattle.posix.specs.States.{State, change}
-use Rattle.posix.specs.Targets.{target_in}
-use Rattle.posix.specs.Outcomes.{Attempted, Done, Block, finish_with, refused, finish}
+use Rattle.posix.specs.Targets.{target_in, target_of_kind}
+use Rattle.posix.specs.Outcomes.{Attempted, Done, Block, refused, finish}
 
 -- ---- options
 
@@ -28,18 +32,59 @@ WNOHANG = 1
 abbrev pub WUNTRACED : ℕ
 WUNTRACED = 2
 
+abbrev pub WSTOPPED : ℕ
+WSTOPPED = 2
+
+abbrev pub WEXITED : ℕ
+WEXITED = 4
+
 abbrev pub WCONTINUED : ℕ
 WCONTINUED = 8
+
+abbrev pub WNOWAIT : ℕ
+WNOWAIT = 16777216
+
+abbrev pub waitpid_options : ℕ
+waitpid_options = WNOHANG + WUNTRACED + WCONTINUED
+
+-- what waitid can ask for: stops, ends and continues
+abbrev pub sorts : ℕ
+sorts = WSTOPPED + WEXITED + WCONTINUED
+
+abbrev pub waitid_options : ℕ
+waitid_options = WNOHANG + sorts + WNOWAIT
 
 -- a register as a set of options: all 64 bits count (own)
 abbrev pub options_in : ℤ → ℕ
 options_in z = cast_unsigned w64 z
 
-abbrev pub are_known : ℕ → Bool
-are_known options = bit_and options (WNOHANG + WUNTRACED + WCONTINUED) == options
+abbrev pub are_known : ℕ → ℕ → Bool
+are_known all options = bit_and options all == options
 
 abbrev pub has_option : ℕ → ℕ → Bool
 has_option options option = bit_and options option == option
+
+-- ---- what a wait asks
+
+-- A waitpid asks for ends whatever its options, as in Linux: WUNTRACED is the WSTOPPED of waitid.
+abbrev pub asked_by_waitpid : Target → ℕ → Option Asked
+asked_by_waitpid target options =
+    if are_known waitpid_options options then Some (record { target = target; options = record { 0 = bit_or options WEXITED } }) else None
+
+-- one of the sorts is asked for
+abbrev pub asks_something : ℕ → Bool
+asks_something options = not (bit_and options sorts == 0)
+
+abbrev pub asked_by_waitid : Option Target → ℕ → Option Asked
+asked_by_waitid target options = if are_known waitid_options options && asks_something options then option_map (λ t. record { target = t; options = record { 0 = options } }) target else None
+
+-- What a wait asks by its first three arguments, in the options of waitid; nothing where the call is refused with EINVAL.
+unfoldable pub asked : WaitCall → ℤ → ℤ → ℤ → Option Asked
+asked wait.Waitpid r1 r2 r3 = asked_by_waitpid (target_in r1) (options_in r2)
+asked wait.Waitid r1 r2 r3 = asked_by_waitid (target_of_kind r1 r2) (options_in r3)
+
+abbrev pub asked_by : WaitCall → Process → Option Asked
+asked_by call me = asked call (argument me 1) (argument me 2) (argument me 3)
 
 -- ---- what there is to report
 
@@ -55,13 +100,13 @@ is_named group whom.Nobody r = false
 
 abbrev pub report_change : ℕ → ℕ → News → Report
 report_change options p news.Nothing = found.Nothing
-report_change options p (news.StoppedBy s) = if has_option options WUNTRACED then found.Change p (stopped s) else found.Nothing
+report_change options p (news.StoppedBy s) = if has_option options WSTOPPED then found.Change p (stopped s) else found.Nothing
 report_change options p news.Continued = if has_option options WCONTINUED then found.Change p continued else found.Nothing
 
 abbrev pub report_life : ℕ → ℕ → Life → News → Report
 report_life options p Running change = report_change options p change
 report_life options p Stopped change = report_change options p change
-report_life options p (Zombie status) change = found.End p status
+report_life options p (Zombie status) change = if has_option options WEXITED then found.End p status else found.Nothing
 
 -- what a child has to report
 unfoldable pub report_of : ℕ → Process → Report
@@ -94,17 +139,9 @@ is_news news.Nothing = false
 is_news (news.StoppedBy s) = true
 is_news news.Continued = true
 
--- whether a child has something to report to its parent, if the parent asks for it: it has ended, or has news
-unfoldable pub has_report : Process → Bool
-has_report r = is_zombie r.life || is_news r.news
-
--- the children of p that have
-unfoldable pub reporting_in : ℕ → List Process → List Process
-reporting_in p rs = filter has_report (children_in p rs)
-
--- what one child says: it isn't meant, or this is its report
-abbrev pub look : (Process → Bool) → ℕ → Process → Report
-look means options r = if means r then report_of options r else found.NoChild
+-- the children of p that have something to report to a wait with these options
+unfoldable pub wanted_in : ℕ → ℕ → List Process → List Process
+wanted_in options p rs = filter (reports options) (children_in p rs)
 
 -- what those of these children report that are meant
 abbrev pub report_of_meant : (Process → Bool) → ℕ → List Process → Report
@@ -115,23 +152,44 @@ report_of_meant means options rs = report_among options (filter means rs)
 unfoldable pub news_told : Process → Process
 news_told r = record r { news = news.Nothing }
 
+-- What a report gives in registers: of waitpid the child in r0 and its status in r1, of waitid 0 in r0, and these in r1
+-- and r2 (own).
+abbrev pub results_of : WaitCall → ℕ → ℕ → List (ℕ × ℤ)
+results_of wait.Waitpid child status = (0, pos child) ∷ (1, pos status) ∷ []
+results_of wait.Waitid child status = (0, pos 0) ∷ (1, pos child) ∷ (2, pos status) ∷ []
+
+-- where nothing is found and the call needn't wait: 0, for waitid in r1 and r2, too (own)
+abbrev pub results_of_nothing : WaitCall → List (ℕ × ℤ)
+results_of_nothing wait.Waitpid = (0, pos 0) ∷ []
+results_of_nothing wait.Waitid = (0, pos 0) ∷ (1, pos 0) ∷ (2, pos 0) ∷ []
+
+abbrev pub gives_nothing : State → ℕ → WaitCall → Attempted
+gives_nothing s p call = Done (record { state = finish s p (results_of_nothing call); entries = Called p (call_of_wait call) (pos 0) ∷ [] })
+
 -- the call of p reports a child with a status
-abbrev pub gives_report : State → ℕ → ℕ → ℕ → Attempted
-gives_report s p child status = Done (record {
-  state = finish s p ((0, pos child) ∷ (1, pos status) ∷ []);
-  entries = Reported p child status ∷ [];
-})
+abbrev pub gives_report : State → ℕ → WaitCall → ℕ → ℕ → Entry → Attempted
+gives_report s p call child status entry = Done (record { state = finish s p (results_of call child status); entries = entry ∷ [] })
 
--- The record of a child that ended goes; of another one the news become none.
-abbrev pub wait_with : State → ℕ → ℕ → Report → Attempted
-wait_with s p options found.NoChild = refused s p Waitpid ECHILD
-wait_with s p options found.Nothing = if has_option options WNOHANG then finish_with s p Waitpid (pos 0) else Block blocked.Waitpid
-wait_with s p options (found.End child status) = gives_report (record s { processes = removed child s.processes }) p child status
-wait_with s p options (found.Change child status) = gives_report (change s child news_told) p child status
+-- With WNOWAIT the child is looked at, and nothing else changes; else the report is collected, after which this is the
+-- state.
+abbrev pub tell_child : State → State → ℕ → WaitCall → ℕ → ℕ → ℕ → Attempted
+tell_child s collected p call options child status =
+    if has_option options WNOWAIT then gives_report s p call child status (Looked p child status)
+    else gives_report collected p call child status (Reported p call child status)
 
--- the target is in r1, the options are in r2
-unfoldable pub wait : State → Process → Attempted
-wait s me =
-    let options = options_in (argument me 2) in
-    if are_known options then wait_with s me.pid options (report s.processes me.pid me.group (target_in (argument me 1)) options)
-    else refused s me.pid Waitpid EINVAL
+-- Collected, the record of a child that ended goes; of another one the news become none.
+abbrev pub wait_with : State → ℕ → WaitCall → ℕ → Report → Attempted
+wait_with s p call options found.NoChild = refused s p (call_of_wait call) ECHILD
+wait_with s p call options found.Nothing = if has_option options WNOHANG then gives_nothing s p call else Block (blocked.Wait call)
+wait_with s p call options (found.End child status) = tell_child s (record s { processes = removed child s.processes }) p call options child status
+wait_with s p call options (found.Change child status) = tell_child s (change s child news_told) p call options child status
+
+-- the wait of p, a caller in this process group, by what it asks
+abbrev pub wait_for : State → ℕ → ℕ → WaitCall → Option Asked → Attempted
+wait_for s p group call None = refused s p (call_of_wait call) EINVAL
+wait_for s p group call (Some a) = wait_with s p call a.options.0 (report s.processes p group a.target a.options.0)
+
+-- A wait. The arguments are in r1 to r3: of waitpid the target and the options, of waitid the kind, the number and the
+-- options.
+unfoldable pub wait_by : WaitCall → State → Process → Attempted
+wait_by call s me = wait_for s me.pid me.group call (asked_by call me)

@@ -11,6 +11,8 @@ pub enum Call {
     Fork,
     /// Waits for a child that r1 names, with the options in r2 (XSH waitpid).
     Waitpid,
+    /// Waits for a child that r1 and r2 name, with the options in r3 (XSH waitid).
+    Waitid,
     /// Waits for a signal (XSH pause).
     Pause,
     /// The caller goes to the end of the order (XSH sched_yield).
@@ -82,10 +84,11 @@ impl Call {
     ghost use Rattle.posix.specs.Calls.{call_named, call_text};
 
     /// Every call.
-    pub const ALL: [Call; 34] = [
+    pub const ALL: [Call; 35] = [
         Call::Exit,
         Call::Fork,
         Call::Waitpid,
+        Call::Waitid,
         Call::Pause,
         Call::SchedYield,
         Call::Getpid,
@@ -128,6 +131,7 @@ impl Call {
             Call::Exit => b"exit",
             Call::Fork => b"fork",
             Call::Waitpid => b"waitpid",
+            Call::Waitid => b"waitid",
             Call::Pause => b"pause",
             Call::SchedYield => b"sched_yield",
             Call::Getpid => b"getpid",

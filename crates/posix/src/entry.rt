@@ -8,6 +8,7 @@ use crate::call::Call;
 use crate::pid::Pid;
 use crate::sig::Sig;
 use crate::status::Status;
+use crate::waits::WaitCall;
 
 /// What one event shows in the trace, without the event's number (own).
 #[derive(Clone, Copy, Debug, Default, PartialEq, Eq)]
@@ -30,8 +31,15 @@ pub enum Entry {
         call: Call,
         bytes: Bytes,
     },
-    /// A wait of a process reported the status of a child.
+    /// A wait of a process reported the status of a child, and collected it.
     Reported {
+        pid: Pid,
+        call: WaitCall,
+        child: Pid,
+        status: Status,
+    },
+    /// A waitid of a process reported the status of a child, and left it (WNOWAIT).
+    Looked {
         pid: Pid,
         child: Pid,
         status: Status,
@@ -82,6 +90,7 @@ impl Entry {
             | Entry::Called { pid, .. }
             | Entry::Moved { pid, .. }
             | Entry::Reported { pid, .. }
+            | Entry::Looked { pid, .. }
             | Entry::NoMemory { pid, .. }
             | Entry::Handled { pid, .. }
             | Entry::Discarded { pid, .. }

@@ -22,6 +22,7 @@ pub mod span;
 pub mod status;
 pub mod target;
 pub mod wait_options;
+pub mod waits;
 
 pub use bytes::Bytes;
 pub use call::Call;
@@ -42,4 +43,5 @@ pub use sig_set::SigSet;
 pub use span::Span;
 pub use status::Status;
 pub use target::Target;
-pub use wait_options::WaitOptions;
+pub use wait_options::{WaitOptions, WaitidOptions};
+pub use waits::{Asked, WaitCall};

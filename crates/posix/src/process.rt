@@ -5,6 +5,7 @@ use crate::sa_flags::SaFlags;
 use crate::sig::Sig;
 use crate::sig_set::SigSet;
 use crate::status::Status;
+use crate::waits::WaitCall;
 
 /// What comes with a signal: a value and its sender, number 0 where the kernel sent it.
 #[derive(Clone, Copy, Debug, PartialEq, Eq)]
@@ -82,7 +83,7 @@ pub enum News {
 /// The call that a process is blocked in; for sigsuspend with the signal mask before it.
 #[derive(Clone, Copy, Debug, PartialEq, Eq)]
 pub enum Blocked {
-    Waitpid,
+    Wait(WaitCall),
     Read,
     Pause,
     Sigsuspend(SigSet),
@@ -112,7 +113,7 @@ pub enum Sending {
     NoMemory,
 }
 
-/// What a wait has to report of the children that it names (XSH waitpid).
+/// What a wait has to report of the children that it names (XSH waitpid, XSH waitid).
 #[derive(Clone, Copy, Debug, PartialEq, Eq)]
 pub enum Report {
     /// No child is named.

@@ -1,11 +1,11 @@
-//! Whom kill and waitpid mean by a number.
+//! Whom kill and waits mean by a number.
 
 ghost use Rattle.std.specs.Prelude.{◌≡◌};
-ghost use Rattle.posix.specs.Targets.{process_in, target_in};
+ghost use Rattle.posix.specs.Targets.{numbered_group, process_in, target_in, target_of_kind};
 
 use crate::pid::Pid;
 
-/// Whom kill or waitpid means by a number (XSH kill, XSH waitpid).
+/// Whom kill or a wait means by a number (XSH kill, XSH waitpid, XSH waitid).
 #[derive(Clone, Copy, Debug, PartialEq, Eq)]
 pub enum Target {
     /// The process with this number.
@@ -14,7 +14,7 @@ pub enum Target {
     OwnGroup,
     /// The process group with this number.
     Group(Pid),
-    /// For kill all processes but the caller and process 1, for waitpid all children of the caller.
+    /// For kill all processes but the caller and process 1, for a wait all children of the caller.
     All,
     /// Nobody: no process and no group can have that number.
     Nobody,
@@ -39,6 +39,36 @@ impl Target {
             None => Target::Nobody,
             Some(pid) if word > 0 => Target::Process(pid),
             Some(group) => Target::Group(group),
+        }
+    }
+
+    /// The process group that a number means, 0 being the caller's; nothing below 0, and nobody where no group can have
+    /// that number.
+    fn group_from_word(word: i64) -> Option<Target>
+        ensures { result ≡ numbered_group word }
+    {
+        if word == 0 {
+            return Some(Target::OwnGroup);
+        }
+        if word < 0 {
+            return None;
+        }
+        match Target::from_word(word) {
+            Target::Process(pid) => Some(Target::Group(pid)),
+            _ => Some(Target::Nobody),
+        }
+    }
+
+    /// Whom waitid means by a kind and a number: with 0 any child, with 1 the process with the number, with 2 the process
+    /// group with it, 0 being the caller's; nothing for another kind, a process below 1 and a group below 0 (own).
+    pub fn from_kind(kind: i64, word: i64) -> Option<Target>
+        ensures { result ≡ target_of_kind kind word }
+    {
+        match kind {
+            0 => Some(Target::All),
+            1 if word > 0 => Some(Target::from_word(word)),
+            2 => Target::group_from_word(word),
+            _ => None,
         }
     }
 

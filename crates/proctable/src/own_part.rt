@@ -4,6 +4,7 @@ ghost use Rattle.std.specs.Prelude.{◌≡◌, IfOk, OnOk, OnErr, Some, None, po
 ghost use Rattle.posix.specs.declared.process.Frame.{Frame};
 ghost use Rattle.posix.specs.Processes.{Process, first_process};
 ghost use Rattle.posix.specs.Outcomes.{finished};
+ghost use Rattle.posix.specs.Waits.{results_of, results_of_nothing};
 ghost use Rattle.posix.specs.Handlers.{handles, is_full, newest_frame, returned};
 ghost use Rattle.posix.specs.Step.{enter, out_of_call};
 ghost use Rattle.posix.specs.States.{Program};
@@ -13,7 +14,7 @@ ghost use Rattle.proctable.specs.Records.{own_of, give_own, forked};
 use crate::spare::Spare;
 use arena::new_arena;
 use creds::Creds;
-use posix::{Blocked, Gid, PendingSignal, Pid, Register, SigSet, Status, Uid};
+use posix::{Blocked, Gid, PendingSignal, Pid, Register, SigSet, Status, Uid, WaitCall};
 use signal::{FramesFull, NoFrame, Signals, leave_call, mask_before};
 use std::alloc::{AllocError, Global};
 use umach::Cpu;
@@ -92,15 +93,39 @@ impl OwnPart {
         self.blocked = None;
     }
 
-    /// The call gives the number of a child and its status, and the process leaves it (XSH waitpid).
+    /// A wait gives the number of a child and its status, and the process leaves it (XSH waitpid, XSH waitid).
     #[tactic(auto, unfolding(posix::specs::Outcomes::finished))]
-    pub fn finish_wait(&mut self, child: Pid, status: Status)
-        ensures { (r : Process) → give_own self.new r ≡ finished ((0, pos child) ∷ (1, pos status) ∷ []) (give_own self.old r) }
+    pub fn finish_wait(&mut self, call: WaitCall, child: Pid, status: Status)
+        ensures { (r : Process) → give_own self.new r ≡ finished (results_of call child status) (give_own self.old r) }
     {
-        self.cpu
-            .set_register(Register::RESULT, i64::from(child.number()));
-        self.cpu
-            .set_register(Register::FIRST_ARGUMENT, i64::from(status.word()));
+        let child = i64::from(child.number());
+        let status = i64::from(status.word());
+        match call {
+            WaitCall::Waitpid => {
+                self.cpu.set_register(Register::RESULT, child);
+                self.cpu.set_register(Register::FIRST_ARGUMENT, status);
+            }
+            WaitCall::Waitid => {
+                self.cpu.set_register(Register::RESULT, 0);
+                self.cpu.set_register(Register::FIRST_ARGUMENT, child);
+                self.cpu.set_register(Register::SECOND_ARGUMENT, status);
+            }
+        }
+        self.cpu.move_on();
+        self.blocked = None;
+    }
+
+    /// A wait that need not wait and finds nothing gives 0, and the process leaves it. A waitid gives 0 in r1 and r2,
+    /// too (own).
+    #[tactic(auto, unfolding(posix::specs::Outcomes::finished))]
+    pub fn finish_without_child(&mut self, call: WaitCall)
+        ensures { (r : Process) → give_own self.new r ≡ finished (results_of_nothing call) (give_own self.old r) }
+    {
+        self.cpu.set_register(Register::RESULT, 0);
+        if let WaitCall::Waitid = call {
+            self.cpu.set_register(Register::FIRST_ARGUMENT, 0);
+            self.cpu.set_register(Register::SECOND_ARGUMENT, 0);
+        }
         self.cpu.move_on();
         self.blocked = None;
     }

@@ -5,7 +5,9 @@ ghost use Rattle.past.specs.Pasts.{IsSame};
 use bitflags::Flags;
 use kernel::Kernel;
 use past::{Past, Times};
-use posix::{Action, Blocked, Call, Handler, Life, News, Pid, Register, Sig, SigSet, WaitOptions};
+use posix::{
+    Action, Blocked, Call, Handler, Life, News, Pid, Sig, SigSet, Target, WaitCall, WaitidOptions,
+};
 use proctable::{OwnPart, Snapshot};
 use std::alloc::{AllocError, Global};
 use std::fmt::Write;
@@ -101,7 +103,7 @@ fn put_place(text: &mut String, shown: &Shown<'_, '_>, own: &OwnPart) -> Result<
 /// The call that a process waits in.
 pub fn call_of(blocked: Blocked) -> Call {
     match blocked {
-        Blocked::Waitpid => Call::Waitpid,
+        Blocked::Wait(call) => call.call(),
         Blocked::Read => Call::Read,
         Blocked::Pause => Call::Pause,
         Blocked::Sigsuspend(_) => Call::Sigsuspend,
@@ -214,29 +216,45 @@ fn put_row(
 }
 
 /// Writes the children that a wait is for.
-fn put_children(text: &mut String, choice: i64, group: Pid) -> Result<(), AllocError> {
-    match choice {
-        -1 => text.push_str("a child"),
-        0 => write!(text, "a child in group {}", group.number()),
-        1.. => write!(text, "child {choice}"),
-        _ => write!(text, "a child in group {}", choice.saturating_neg()),
+fn put_children(text: &mut String, target: Target, group: Pid) -> Result<(), AllocError> {
+    match target {
+        Target::All => text.push_str("a child"),
+        Target::OwnGroup => write!(text, "a child in group {}", group.number()),
+        Target::Process(pid) => write!(text, "child {}", pid.number()),
+        Target::Group(group) => write!(text, "a child in group {}", group.number()),
+        Target::Nobody => text.push_str("no child"),
     }
 }
 
-/// Writes what lets a wait for children go on.
-fn put_reports(text: &mut String, shown: &Shown<'_, '_>, own: &OwnPart) -> Result<(), AllocError> {
-    let choice = own.cpu.register(Register::FIRST_ARGUMENT);
-    let word = own.cpu.register(Register::SECOND_ARGUMENT);
-    put_children(text, choice, shown.it.group)?;
-    text.push_str(" that ends")?;
-    if let Some(options) = WaitOptions::from_bits(word.cast_unsigned()) {
-        if options.contains(WaitOptions::WUNTRACED) {
-            text.push_str(" or is stopped")?;
-        }
-        if options.contains(WaitOptions::WCONTINUED) {
-            text.push_str(" or is continued")?;
+/// Writes what a wait wants to hear of its children.
+fn put_sorts(text: &mut String, options: WaitidOptions) -> Result<(), AllocError> {
+    let mut joint = " that ";
+    for (sort, words) in [
+        (WaitidOptions::WEXITED, "ends"),
+        (WaitidOptions::WSTOPPED, "is stopped"),
+        (WaitidOptions::WCONTINUED, "is continued"),
+    ] {
+        if options.contains(sort) {
+            text.push_str(joint)?;
+            text.push_str(words)?;
+            joint = " or ";
         }
     }
+    Ok(())
+}
+
+/// Writes what lets a wait for children go on. One that is refused doesn't sleep.
+fn put_reports(
+    text: &mut String,
+    shown: &Shown<'_, '_>,
+    own: &OwnPart,
+    call: WaitCall,
+) -> Result<(), AllocError> {
+    let Some(asked) = Arguments::of(&own.cpu).asked(call) else {
+        return Ok(());
+    };
+    put_children(text, asked.target, shown.it.group)?;
+    put_sorts(text, asked.options)?;
     text.push_str(", or by ")
 }
 
@@ -255,7 +273,7 @@ fn put_wakers(
     };
     text.push_str("    is woken by ")?;
     match blocked {
-        Blocked::Waitpid => put_reports(text, shown, own)?,
+        Blocked::Wait(call) => put_reports(text, shown, own, call)?,
         Blocked::Read => {
             if let Some(console) = console {
                 write!(text, "a finished line of console {console}, or by ")?;

@@ -11,7 +11,8 @@ use signal::Signals;
 use std::alloc::{AllocError, Global};
 use std::fmt::Write;
 use wording::{
-    Arguments, place_of, put_call, put_moved, put_report, put_result, put_signal, put_status,
+    Arguments, place_of, put_call, put_look, put_moved, put_report, put_result, put_signal,
+    put_status,
 };
 
 /// So many real-time signals are queued for a process at most.
@@ -133,7 +134,13 @@ fn put_entry(text: &mut String, entry: &Entry) -> Result<(), AllocError> {
         Entry::Noted { value, .. } => write!(text, ": {value}"),
         Entry::Called { result, .. } => put_result(text, result),
         Entry::Moved { bytes, .. } => put_moved(text, &bytes),
-        Entry::Reported { child, status, .. } => put_report(text, child.number(), status),
+        Entry::Reported {
+            call,
+            child,
+            status,
+            ..
+        } => put_report(text, call, child.number(), status),
+        Entry::Looked { child, status, .. } => put_look(text, child.number(), status),
         Entry::NoMemory { .. } => text.push_str(" = -11 EAGAIN, no memory"),
         Entry::Handled {
             sig,
@@ -170,6 +177,7 @@ fn is_of_instruction(entry: &Entry) -> bool {
             | Entry::Called { .. }
             | Entry::Moved { .. }
             | Entry::Reported { .. }
+            | Entry::Looked { .. }
             | Entry::NoMemory { .. }
     )
 }

@@ -7,13 +7,13 @@ use bitflags::Flags;
 use posix::{Action, Blocked, Errno, Register, SaFlags, SigSet};
 use umach::Cpu;
 
-/// Whether a call is begun again after a handler with this action: waitpid and read with SA_RESTART
+/// Whether a call is begun again after a handler with this action: a wait and a read with SA_RESTART
 /// (sigaction(2)).
 fn is_restarted(blocked: Blocked, action: &Action) -> bool
     ensures { result ≡ is_restarted_by blocked action.now }
 {
     match blocked {
-        Blocked::Waitpid | Blocked::Read => action.flags.contains(SaFlags::SA_RESTART),
+        Blocked::Wait(_) | Blocked::Read => action.flags.contains(SaFlags::SA_RESTART),
         Blocked::Pause | Blocked::Sigsuspend(_) => false,
     }
 }
@@ -56,7 +56,7 @@ fn mask_before_call(blocked: Blocked, mask: SigSet) -> SigSet
     ensures { result ≡ mask_before_of (Some blocked) mask }
 {
     match blocked {
-        Blocked::Waitpid | Blocked::Read | Blocked::Pause => mask,
+        Blocked::Wait(_) | Blocked::Read | Blocked::Pause => mask,
         Blocked::Sigsuspend(earlier) => earlier,
     }
 }

@@ -12,7 +12,7 @@ ghost use Rattle.posix.specs.Printing.{hex, printed, words_of};
 use arrayvec::ArrayVec;
 use hex::encode_to_slice;
 use itoa::write_digits;
-use posix::{Bytes, Call, Entry, Pid, Sig, Status};
+use posix::{Bytes, Call, Entry, Pid, Sig, Status, WaitCall};
 
 /// Writes bytes.
 #[inline(always)]
@@ -146,16 +146,55 @@ fn put_moved(room: &mut [u8], at: usize, pid: Pid, call: Call, bytes: Bytes) -> 
     put_hex(room, at, bytes)
 }
 
-/// Writes the words of a wait that reported the status of a child.
+/// Writes the words of a waitpid that reported the status of a child.
 fn put_report(room: &mut [u8], at: usize, pid: Pid, child: Pid, status: Status) -> usize
     requires { at + 106 ≤ length room.old }
-    ensures text { take result room.new ≡ take at room.old ++ 32 ∷ join_with_byte 32 (words_of (Entry.Reported pid child status)) }
+    ensures text { take result room.new ≡ take at room.old ++ 32 ∷ join_with_byte 32 (words_of (Entry.Reported pid WaitCall.Waitpid child status)) }
     ensures end { result ≤ at + 106 }
 {
     let at = put_call(room, at, pid, Call::Waitpid);
     let at = put_next(room, at, u64::from(child.number()));
     let at = put(room, at, b" status");
     put_next(room, at, u64::from(status.word()))
+}
+
+/// Writes the words of a waitid that reported the status of a child, and what it did with that.
+fn put_waitid(
+    room: &mut [u8],
+    at: usize,
+    pid: Pid,
+    done: &[u8],
+    child: Pid,
+    status: Status,
+) -> usize
+    requires room { at + 106 ≤ length room.old }
+    requires done { length done.now ≡ 8 }
+    ensures text { take result room.new ≡ take at room.old ++ codes " call " ++ decimal pid ++ codes " waitid =" ++ done.now ++ decimal child ++ codes " status " ++ decimal status }
+    ensures end { result ≤ at + 106 }
+{
+    let at = put_call(room, at, pid, Call::Waitid);
+    let at = put(room, at, done);
+    let at = put_number(room, at, u64::from(child.number()));
+    let at = put(room, at, b" status");
+    put_next(room, at, u64::from(status.word()))
+}
+
+/// Writes the words of a waitid that collected what it reported.
+fn put_take(room: &mut [u8], at: usize, pid: Pid, child: Pid, status: Status) -> usize
+    requires { at + 106 ≤ length room.old }
+    ensures text { take result room.new ≡ take at room.old ++ 32 ∷ join_with_byte 32 (words_of (Entry.Reported pid WaitCall.Waitid child status)) }
+    ensures end { result ≤ at + 106 }
+{
+    put_waitid(room, at, pid, b" 0 take ", child, status)
+}
+
+/// Writes the words of a waitid that looked at a child.
+fn put_look(room: &mut [u8], at: usize, pid: Pid, child: Pid, status: Status) -> usize
+    requires { at + 106 ≤ length room.old }
+    ensures text { take result room.new ≡ take at room.old ++ 32 ∷ join_with_byte 32 (words_of (Entry.Looked pid child status)) }
+    ensures end { result ≤ at + 106 }
+{
+    put_waitid(room, at, pid, b" 0 look ", child, status)
 }
 
 /// Writes the words of a call that was refused for memory.
@@ -231,7 +270,19 @@ fn put_entry(room: &mut [u8], at: usize, entry: &Entry) -> usize
         Entry::Noted { pid, value } => put_note(room, at, *pid, *value),
         Entry::Called { pid, call, result } => put_result(room, at, *pid, *call, *result),
         Entry::Moved { pid, call, bytes } => put_moved(room, at, *pid, *call, *bytes),
-        Entry::Reported { pid, child, status } => put_report(room, at, *pid, *child, *status),
+        Entry::Reported {
+            pid,
+            call: WaitCall::Waitpid,
+            child,
+            status,
+        } => put_report(room, at, *pid, *child, *status),
+        Entry::Reported {
+            pid,
+            call: WaitCall::Waitid,
+            child,
+            status,
+        } => put_take(room, at, *pid, *child, *status),
+        Entry::Looked { pid, child, status } => put_look(room, at, *pid, *child, *status),
         Entry::NoMemory { pid, call } => put_no_memory(room, at, *pid, *call),
         Entry::Handled {
             pid,

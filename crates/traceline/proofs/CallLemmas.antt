@@ -3,7 +3,7 @@ use Rattle.std.proofs.Common.{◌≡◌, true, length, Some, refl}
 use Rattle.std.specs.Prelude.{nat_le}
 use Rattle.posix.specs.Calls.{call_text, call_named}
 use Rattle.posix.specs.declared.call.Call.{Call}
-use Rattle.posix.specs.declared.call.Call.TheVariants.{Exit, Fork, Waitpid, Pause, SchedYield, Getpid, Getppid, Getuid, Geteuid, Getgid, Getegid, Setuid, Seteuid, Setgid, Setegid, Kill, Sigqueue, Sigaction, Sigprocmask, Sigpending, Sigsuspend, Sigreturn, Alarm, Exec, Getpgid, Getsid, Setpgid, Setsid, Setctty, Tcgetpgrp, Tcsetpgrp, Settostop, Read, Write}
+use Rattle.posix.specs.declared.call.Call.TheVariants.{Exit, Fork, Waitpid, Waitid, Pause, SchedYield, Getpid, Getppid, Getuid, Geteuid, Getgid, Getegid, Setuid, Seteuid, Setgid, Setegid, Kill, Sigqueue, Sigaction, Sigprocmask, Sigpending, Sigsuspend, Sigreturn, Alarm, Exec, Getpgid, Getsid, Setpgid, Setsid, Setctty, Tcgetpgrp, Tcsetpgrp, Settostop, Read, Write}
 use Rattle.traceline.proofs.WordLemmas.{is_clean}
 
 -- what is known of the name of each call: it names the call, no space stands in it, and it is at most 16 bytes
@@ -14,6 +14,7 @@ pub name_back : (c : Call) → IsName c
 name_back Exit = (refl, refl, refl)
 name_back Fork = (refl, refl, refl)
 name_back Waitpid = (refl, refl, refl)
+name_back Waitid = (refl, refl, refl)
 name_back Pause = (refl, refl, refl)
 name_back SchedYield = (refl, refl, refl)
 name_back Getpid = (refl, refl, refl)

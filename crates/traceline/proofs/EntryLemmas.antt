@@ -12,9 +12,10 @@ use Rattle.posix.proofs.PrintingLemmas.{number_and_words}
 use Rattle.posix.specs.Calls.{call_text}
 use Rattle.posix.specs.Entries.{Line, line}
 use Rattle.posix.specs.declared.call.Call.{Call}
-use Rattle.posix.specs.declared.call.Call.TheVariants.{Waitpid}
+use Rattle.posix.specs.declared.call.Call.TheVariants.{Waitpid, Waitid}
+use Rattle.posix.specs.declared.waits.WaitCall.TheVariants as wait
 use Rattle.posix.specs.declared.entry.Entry.{Entry}
-use Rattle.posix.specs.declared.entry.Entry.TheVariants.{Noted, Called, Moved, Reported, NoMemory, Handled, Discarded, Stopped, Returned, Ended, Halted}
+use Rattle.posix.specs.declared.entry.Entry.TheVariants.{Noted, Called, Moved, Reported, Looked, NoMemory, Handled, Discarded, Stopped, Returned, Ended, Halted}
 use Rattle.laws.specs.Kinds.{is_byte}
 use Rattle.laws.specs.TraceLines.{is_i64, is_number, is_result, moves_bytes, asks_memory, is_entry, is_line, Says}
 use Rattle.posix.specs.Statuses.{is_end_word}
@@ -25,7 +26,7 @@ use Rattle.posix.proofs.DecimalLemmas.{decimal_back}
 use Rattle.traceline.proofs.NumberLemmas.{decimal_clean, decimal_len, signed_len, sig_size, pid_back}
 use Rattle.traceline.proofs.BytesLemmas.{hex_len}
 use Rattle.traceline.proofs.CallLemmas.{name_back}
-use Rattle.traceline.proofs.FormLemmas.{formed_back, note_back, handler_back, discard_back, stop_back, end_back, call_back, value_back, moved_back, report_back, memory_back}
+use Rattle.traceline.proofs.FormLemmas.{formed_back, note_back, handler_back, discard_back, stop_back, end_back, call_back, value_back, moved_back, told_words, report_back, take_back, look_back, memory_back}
 
 number_size : (p : ℕ) → is_number p ≡ true → p ≤ 2147483647
 number_size p h = leb-true p 2147483647 (and_parts (nat_le 1 p) (nat_le p 2147483647) h).1
@@ -61,6 +62,15 @@ unfolding guess form_named
 halt_back k h =
     rw (behind_back (decimal k) (codes "halt") (decimal_clean k h), word_back (decimal k) (codes "halt") (decimal_clean k h), decimal_back k h) refl
 
+-- the sizes of what is told of a child
+told_sizes : (p c w : ℕ) → (is_number p && is_number c && nat_le w 65535) ≡ true → (p ≤ 2147483647) × (c ≤ 2147483647) × (w ≤ 65535) × (length (told_words c w) ≤ 48)
+told_sizes p c w h =
+    let a = and_parts (is_number p && is_number c) (nat_le w 65535) h in
+    let b = and_parts (is_number p) (is_number c) a.0 in
+    let hc = number_size c b.1 in
+    let hw = leb-true w 65535 a.1 in
+    (number_size p b.0, hc, hw, omega (arith, joined_len (decimal c) (codes "status" ++ 32 ∷ decimal w), decimal_len c (omega arith), decimal_len w (omega arith)))
+
 entry_back : (e : Entry) → is_entry e ≡ true → Back e
 unfolding form_named
 entry_back (Noted p z) h =
@@ -83,15 +93,18 @@ entry_back (Moved p call bytes) h =
     let rest = decimal (length bytes) ++ 32 ∷ (codes "bytes" ++ 32 ∷ hex bytes) in
     call_back_with p call (Moved p call bytes) rest hp (call_back p call rest hp ∙ moved_back p call bytes few a.1)
     (omega (arith, joined_len (decimal (length bytes)) (codes "bytes" ++ 32 ∷ hex bytes), decimal_len (length bytes) (omega arith), hex_len bytes))
-entry_back (Reported p c w) h =
-    let a = and_parts (is_number p && is_number c) (nat_le w 65535) h in
-    let b = and_parts (is_number p) (is_number c) a.0 in
-    let hp = number_size p b.0 in
-    let hc = number_size c b.1 in
-    let hw = leb-true w 65535 a.1 in
-    let rest = decimal c ++ 32 ∷ (codes "status" ++ 32 ∷ decimal w) in
-    call_back_with p Waitpid (Reported p c w) rest hp (call_back p Waitpid rest hp ∙ report_back p c w hc hw)
-    (omega (arith, joined_len (decimal c) (codes "status" ++ 32 ∷ decimal w), decimal_len c (omega arith), decimal_len w (omega arith)))
+entry_back (Reported p wait.Waitpid c w) h =
+    let few = told_sizes p c w h in
+    let rest = told_words c w in
+    call_back_with p Waitpid (Reported p wait.Waitpid c w) rest few.0 (call_back p Waitpid rest few.0 ∙ report_back p c w few.1 few.2) (omega (arith, few.3))
+entry_back (Reported p wait.Waitid c w) h =
+    let few = told_sizes p c w h in
+    let rest = codes "0" ++ 32 ∷ (codes "take" ++ 32 ∷ told_words c w) in
+    call_back_with p Waitid (Reported p wait.Waitid c w) rest few.0 (call_back p Waitid rest few.0 ∙ take_back p c w (told_words c w) refl few.1 few.2) (omega (arith, few.3))
+entry_back (Looked p c w) h =
+    let few = told_sizes p c w h in
+    let rest = codes "0" ++ 32 ∷ (codes "look" ++ 32 ∷ told_words c w) in
+    call_back_with p Waitid (Looked p c w) rest few.0 (call_back p Waitid rest few.0 ∙ look_back p c w (told_words c w) refl few.1 few.2) (omega (arith, few.3))
 entry_back (NoMemory p call) h =
     let hp = number_size p (and_parts (is_number p) (asks_memory call) h).0 in
     let rest = codes "-11" ++ 32 ∷ codes "memory" in

@@ -6,14 +6,15 @@ use Rattle.posix.specs.SignalNumbers.{is_signal}
 use Rattle.posix.specs.Printing.{hex}
 use Rattle.posix.specs.Calls.{call_text}
 use Rattle.posix.specs.declared.call.Call.{Call}
-use Rattle.posix.specs.declared.call.Call.TheVariants.{Waitpid}
+use Rattle.posix.specs.declared.call.Call.TheVariants.{Waitpid, Waitid}
+use Rattle.posix.specs.declared.waits.WaitCall.TheVariants as wait
 use Rattle.posix.specs.declared.entry.Entry.{Entry}
-use Rattle.posix.specs.declared.entry.Entry.TheVariants.{Noted, Called, Moved, Reported, NoMemory, Handled, Discarded, Stopped, Ended}
+use Rattle.posix.specs.declared.entry.Entry.TheVariants.{Noted, Called, Moved, Reported, Looked, NoMemory, Handled, Discarded, Stopped, Ended}
 use Rattle.std.specs.List.{list_all}
 use Rattle.laws.specs.Kinds.{is_byte}
 use Rattle.laws.specs.TraceLines.{is_i64}
 use Rattle.traceline.specs.Words.{word, behind}
-use Rattle.traceline.specs.Guesses.{form_named, shown_by, guess, guess_entry, guess_note, guess_call, guess_result, guess_handler, guess_discard, guess_stop, guess_end}
+use Rattle.traceline.specs.Guesses.{form_named, shown_by, child_and_status, guess, guess_entry, guess_note, guess_call, guess_result, guess_handler, guess_discard, guess_stop, guess_end}
 use Rattle.traceline.specs.declared.guesses.Form.{Form}
 use Rattle.traceline.proofs.WordLemmas.{is_clean, word_back, behind_back, last_word, last_behind}
 use Rattle.posix.proofs.DecimalLemmas.{decimal_back}
@@ -111,8 +112,12 @@ moved_back p call bytes few h =
     let clean = decimal_clean (length bytes) (omega arith) in
     rw (behind_back (decimal (length bytes)) (codes "bytes" ++ 32 ∷ hex bytes) clean, bytes_back bytes few h) refl
 
+-- a child and its status
+abbrev pub told_words : ℕ → ℕ → List ℕ
+told_words c w = decimal c ++ 32 ∷ (codes "status" ++ 32 ∷ decimal w)
+
 pub report_back : (p c w : ℕ) → c ≤ 2147483647 → w ≤ 65535
-    → guess_result p Waitpid (word (decimal c ++ 32 ∷ (codes "status" ++ 32 ∷ decimal w))) (behind (decimal c ++ 32 ∷ (codes "status" ++ 32 ∷ decimal w))) ≡ Some (Reported p c w)
+    → guess_result p Waitpid (word (told_words c w)) (behind (told_words c w)) ≡ Some (Reported p wait.Waitpid c w)
 unfolding guess_result shown_by
 report_back p c w hc hw =
     let clean = decimal_clean c (omega arith) in
@@ -122,6 +127,29 @@ report_back p c w hc hw =
       pid_back c hc,
       status_back w hw,
     ) refl
+
+-- what a waitid did with a child, and which
+child_back : (c w : ℕ) → c ≤ 2147483647 → w ≤ 65535 → child_and_status (told_words c w) ≡ Some (c, w)
+unfolding child_and_status
+child_back c w hc hw =
+    let clean = decimal_clean c (omega arith) in
+    rw (
+      word_back (decimal c) (codes "status" ++ 32 ∷ decimal w) clean,
+      behind_back (decimal c) (codes "status" ++ 32 ∷ decimal w) clean,
+      behind_back (codes "status") (decimal w) refl,
+      pid_back c hc,
+      status_back w hw,
+    ) refl
+
+pub take_back : (p c w : ℕ) (rest : List ℕ) → rest ≡ told_words c w → c ≤ 2147483647 → w ≤ 65535
+    → guess_result p Waitid (word (codes "0" ++ 32 ∷ (codes "take" ++ 32 ∷ rest))) (behind (codes "0" ++ 32 ∷ (codes "take" ++ 32 ∷ rest))) ≡ Some (Reported p wait.Waitid c w)
+unfolding guess_result shown_by
+take_back p c w rest is hc hw = rw (is, child_back c w hc hw) refl
+
+pub look_back : (p c w : ℕ) (rest : List ℕ) → rest ≡ told_words c w → c ≤ 2147483647 → w ≤ 65535
+    → guess_result p Waitid (word (codes "0" ++ 32 ∷ (codes "look" ++ 32 ∷ rest))) (behind (codes "0" ++ 32 ∷ (codes "look" ++ 32 ∷ rest))) ≡ Some (Looked p c w)
+unfolding guess_result shown_by
+look_back p c w rest is hc hw = rw (is, child_back c w hc hw) refl
 
 pub memory_back : (p : ℕ) (call : Call)
     → guess_result p call (word (codes "-11" ++ 32 ∷ codes "memory")) (behind (codes "-11" ++ 32 ∷ codes "memory")) ≡ Some (NoMemory p call)

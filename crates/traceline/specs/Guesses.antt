@@ -4,10 +4,11 @@ use Rattle.posix.specs.Calls.{call_named}
 use Rattle.posix.specs.Decimals.{decimal_value}
 use Rattle.posix.specs.declared.call.Call.{Call as SystemCall}
 use Rattle.posix.specs.declared.entry.Entry.{Entry}
-use Rattle.posix.specs.declared.entry.Entry.TheVariants.{Noted, Called, Moved, Reported, Handled, Discarded, Stopped, Returned, Ended, Halted}
+use Rattle.posix.specs.declared.waits.WaitCall.TheVariants as wait
+use Rattle.posix.specs.declared.entry.Entry.TheVariants.{Noted, Called, Moved, Reported, Looked, Handled, Discarded, Stopped, Returned, Ended, Halted}
 use Rattle.posix.specs.declared.entry.Entry.TheVariants as entry
 use Rattle.traceline.specs.declared.guesses.Shown.{Shown}
-use Rattle.traceline.specs.declared.guesses.Shown.TheVariants.{Value, Bytes, Status, NoMemory}
+use Rattle.traceline.specs.declared.guesses.Shown.TheVariants.{Value, Bytes, Status, Take, Look, NoMemory}
 use Rattle.traceline.specs.declared.guesses.Form.{Form}
 use Rattle.traceline.specs.declared.guesses.Form.TheVariants.{Note, Call, Handler, Discard, Stop, Return, End, Halt}
 use Rattle.traceline.specs.Words.{◌>>=◌, word, behind, integer, pid_in, sig_in, status_in, bytes_in}
@@ -25,10 +26,19 @@ abbrev pub shown_text : Shown → List ℕ
 shown_text Value = codes ""
 shown_text Bytes = codes "bytes"
 shown_text Status = codes "status"
+shown_text Take = codes "take"
+shown_text Look = codes "look"
 shown_text NoMemory = codes "memory"
 
 unfoldable pub shown_by : List ℕ → Option Shown
-shown_by w = find (λ s. bytes_eq w (shown_text s)) (Value ∷ Bytes ∷ Status ∷ NoMemory ∷ [])
+shown_by w = find (λ s. bytes_eq w (shown_text s)) (Value ∷ Bytes ∷ Status ∷ Take ∷ Look ∷ NoMemory ∷ [])
+
+-- a child and its status, with a word between them
+unfoldable pub child_and_status : List ℕ → Option (ℕ × ℕ)
+child_and_status ws = do
+  child ← pid_in (word ws)
+  status ← status_in (behind (behind ws))
+  Some (child, status)
 
 abbrev pub guess_shown : Shown → ℕ → SystemCall → List ℕ → List ℕ → Option Entry
 guess_shown Value pid call value last = integer value >>= λ z. Some (Called pid call z)
@@ -36,7 +46,9 @@ guess_shown Bytes pid call value last = bytes_in last >>= λ bytes. Some (Moved 
 guess_shown Status pid call value last = do
   child ← pid_in value
   status ← status_in last
-  Some (Reported pid child status)
+  Some (Reported pid wait.Waitpid child status)
+guess_shown Take pid call value last = child_and_status last >>= λ it. Some (Reported pid wait.Waitid it.0 it.1)
+guess_shown Look pid call value last = child_and_status last >>= λ it. Some (Looked pid it.0 it.1)
 guess_shown NoMemory pid call value last = Some (entry.NoMemory pid call)
 
 -- from the number of the process, its call, the result and what follows

@@ -69,11 +69,9 @@ fn is_entry(entry: Entry) -> bool
         Entry::Moved { pid, call, bytes } => {
             is_process(pid) && moves_bytes(call) && can_be_moved(bytes.as_slice())
         }
-        Entry::Reported {
-            pid,
-            child,
-            status: _,
-        } => is_process(pid) && is_process(child),
+        Entry::Reported { pid, child, .. } | Entry::Looked { pid, child, .. } => {
+            is_process(pid) && is_process(child)
+        }
         Entry::NoMemory { pid, call } => is_process(pid) && asks_memory(call),
         Entry::Handled { pid, .. } => is_process(pid),
         Entry::Discarded { pid, sig: _ } => is_process(pid),

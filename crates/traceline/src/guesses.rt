@@ -2,10 +2,10 @@
 //! tests it, prints it and compares.
 
 ghost use Rattle.std.specs.Prelude.{◌≡◌};
-ghost use Rattle.traceline.specs.Guesses.{guess as guess_of, guess_call as guess_call_of, guess_discard as guess_discard_of, guess_end as guess_end_of, guess_entry as guess_entry_of, guess_handler as guess_handler_of, guess_note as guess_note_of, guess_result as guess_result_of, guess_stop as guess_stop_of};
+ghost use Rattle.traceline.specs.Guesses.{child_and_status as child_and_status_of, guess as guess_of, guess_call as guess_call_of, guess_discard as guess_discard_of, guess_end as guess_end_of, guess_entry as guess_entry_of, guess_handler as guess_handler_of, guess_note as guess_note_of, guess_result as guess_result_of, guess_stop as guess_stop_of};
 
 use crate::words::{bytes_in, integer, pid_in, sig_in, split_word, status_in};
-use posix::{Call, Entry, Pid, decimal_value};
+use posix::{Call, Entry, Pid, Status, WaitCall, decimal_value};
 
 /// A note, behind its first word.
 #[tactic(auto, unfolding(crate::specs::Guesses::guess_note))]
@@ -25,6 +25,8 @@ enum Shown {
     Value,
     Bytes,
     Status,
+    Take,
+    Look,
     NoMemory,
 }
 
@@ -32,7 +34,14 @@ impl Shown {
     ghost use Rattle.traceline.specs.Guesses.{shown_by, shown_text};
 
     /// Each of them.
-    const ALL: [Shown; 4] = [Shown::Value, Shown::Bytes, Shown::Status, Shown::NoMemory];
+    const ALL: [Shown; 6] = [
+        Shown::Value,
+        Shown::Bytes,
+        Shown::Status,
+        Shown::Take,
+        Shown::Look,
+        Shown::NoMemory,
+    ];
 
     /// The word behind a call's result that names it.
     fn text(self) -> &'static [u8]
@@ -42,6 +51,8 @@ impl Shown {
             Shown::Value => b"",
             Shown::Bytes => b"bytes",
             Shown::Status => b"status",
+            Shown::Take => b"take",
+            Shown::Look => b"look",
             Shown::NoMemory => b"memory",
         }
     }
@@ -56,6 +67,16 @@ impl Shown {
             .copied()
             .find(|shown| word == shown.text())
     }
+}
+
+/// A child and its status, with a word between them.
+#[tactic(auto, unfolding(crate::specs::Guesses::child_and_status))]
+fn child_and_status(words: &[u8]) -> Option<(Pid, Status)>
+    ensures { result ≡ child_and_status_of words.now }
+{
+    let (child, words) = split_word(words);
+    let (_, status) = split_word(words);
+    Some((pid_in(child)?, status_in(status)?))
 }
 
 /// What a call gave, from the process, the call, the result and what follows.
@@ -77,9 +98,23 @@ fn guess_result(pid: Pid, call: Call, value: &[u8], words: &[u8]) -> Option<Entr
         }),
         Shown::Status => Some(Entry::Reported {
             pid,
+            call: WaitCall::Waitpid,
             child: pid_in(value)?,
             status: status_in(last)?,
         }),
+        Shown::Take => {
+            let (child, status) = child_and_status(last)?;
+            Some(Entry::Reported {
+                pid,
+                call: WaitCall::Waitid,
+                child,
+                status,
+            })
+        }
+        Shown::Look => {
+            let (child, status) = child_and_status(last)?;
+            Some(Entry::Looked { pid, child, status })
+        }
         Shown::NoMemory => Some(Entry::NoMemory { pid, call }),
     }
 }

@@ -4,9 +4,10 @@ ghost use Rattle.std.specs.Prelude.{◌≡◌, ◌+◌, ◌<ℤ◌, IfSome, None
 
 use crate::listing::{Listing, Source};
 use crate::names::{
-    errno_name, put_action_flags, put_options, put_set, put_signal_word, put_status,
+    errno_name, put_action_flags, put_kind, put_options, put_set, put_signal_word, put_status,
+    put_waitid_options,
 };
-use posix::{Bytes, Call, Register, SigSet, Status};
+use posix::{Asked, Bytes, Call, Register, SigSet, Status, WaitCall};
 use std::alloc::AllocError;
 use std::fmt::Write;
 use umach::Cpu;
@@ -29,6 +30,11 @@ impl Arguments {
             third: cpu.register(Register::THIRD_ARGUMENT),
             fourth: cpu.register(Register::FOURTH_ARGUMENT),
         }
+    }
+
+    /// What a wait with these arguments asks; nothing where it is refused.
+    pub fn asked(&self, call: WaitCall) -> Option<Asked> {
+        call.asks(self.first, self.second, self.third)
     }
 }
 
@@ -186,6 +192,11 @@ fn put_arguments(
             put_one_of(text, first)?;
             put_options(text, second)
         }
+        Call::Waitid => {
+            put_kind(text, first)?;
+            write!(text, ", {second}, ")?;
+            put_waitid_options(text, with.third)
+        }
         Call::Kill => {
             put_one_of(text, first)?;
             put_signal_word(text, second)
@@ -271,8 +282,22 @@ pub fn put_moved(text: &mut String, bytes: &Bytes) -> Result<(), AllocError> {
     put_quoted(text, bytes.as_slice())
 }
 
-/// Writes the child that a wait reported, and its status.
-pub fn put_report(text: &mut String, child: u32, status: Status) -> Result<(), AllocError> {
-    write!(text, " = {child}, ")?;
+/// Writes the child of which a wait took the report, and its status.
+pub fn put_report(
+    text: &mut String,
+    call: WaitCall,
+    child: u32,
+    status: Status,
+) -> Result<(), AllocError> {
+    match call {
+        WaitCall::Waitpid => write!(text, " = {child}, ")?,
+        WaitCall::Waitid => write!(text, " = take {child} ")?,
+    }
+    put_status(text, status)
+}
+
+/// Writes the child that a wait looked at, and its status.
+pub fn put_look(text: &mut String, child: u32, status: Status) -> Result<(), AllocError> {
+    write!(text, " = look {child} ")?;
     put_status(text, status)
 }

@@ -7,8 +7,8 @@ mod listing;
 mod names;
 
 pub use arguments::{
-    Arguments, place_of, put_address, put_call, put_label, put_moved, put_quoted, put_report,
-    put_result,
+    Arguments, place_of, put_address, put_call, put_label, put_look, put_moved, put_quoted,
+    put_report, put_result,
 };
 pub use listing::{Label, Listing, Source, Written};
 pub use names::{put_flags, put_set, put_set_or_none, put_signal, put_status};

@@ -3,7 +3,7 @@
 ghost use Rattle.std.specs.Prelude.{◌≡◌, IfSome, pos};
 
 use bitflags::Flags;
-use posix::{SaFlags, Sig, SigSet, Status, WaitOptions};
+use posix::{SaFlags, Sig, SigSet, Status, WaitOptions, WaitidOptions};
 use std::alloc::AllocError;
 use std::fmt::Write;
 
@@ -183,9 +183,27 @@ pub fn put_flags(text: &mut String, flags: SaFlags) -> Result<(), AllocError> {
     put_names(text, &flags)
 }
 
-/// Writes the options of a wait that a word is, or the word.
+/// Writes the options of waitpid that a word is, or the word.
 pub fn put_options(text: &mut String, word: i64) -> Result<(), AllocError> {
     match WaitOptions::from_bits(word.cast_unsigned()) {
+        Some(options) => put_names(text, &options),
+        None => write!(text, "{word}"),
+    }
+}
+
+/// Writes by its name the kind of children that a word is for waitid, or the word.
+pub fn put_kind(text: &mut String, word: i64) -> Result<(), AllocError> {
+    match word {
+        0 => text.push_str("P_ALL"),
+        1 => text.push_str("P_PID"),
+        2 => text.push_str("P_PGID"),
+        _ => write!(text, "{word}"),
+    }
+}
+
+/// Writes the options of waitid that a word is, or the word.
+pub fn put_waitid_options(text: &mut String, word: i64) -> Result<(), AllocError> {
+    match WaitidOptions::from_bits(word.cast_unsigned()) {
         Some(options) => put_names(text, &options),
         None => write!(text, "{word}"),
     }

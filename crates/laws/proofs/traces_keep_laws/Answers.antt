@@ -1,7 +1,7 @@
 -- The laws that no search finds.
 use Rattle.std.proofs.Common.{◌∷◌}
 use Rattle.laws.proofs.LawfulLemmas.{laws_more, laws_first, laws_at}
-use Rattle.laws.proofs.LineLaws.{no_end_twice, reported_to_parent, no_stop_twice, no_continue_twice, nothing_after_end, lives_apart, halt_is_last, first_end_halts, numbers_never_fall}
+use Rattle.laws.proofs.LineLaws.{no_end_twice, reported_to_parent, looked_at_by_parent, no_stop_twice, no_continue_twice, nothing_after_end, lives_apart, halt_is_last, first_end_halts, numbers_never_fall}
 use Rattle.laws.proofs.traces_keep_laws.Goals as goal
 
 pub returns-clause-no_end_is_reported_twice : goal.returns-clause-no_end_is_reported_twice
@@ -9,6 +9,9 @@ returns-clause-no_end_is_reported_twice c = no_end_twice
 
 pub returns-clause-ends_are_reported_to_the_parent : goal.returns-clause-ends_are_reported_to_the_parent
 returns-clause-ends_are_reported_to_the_parent c = reported_to_parent
+
+pub returns-clause-ends_are_looked_at_by_the_parent : goal.returns-clause-ends_are_looked_at_by_the_parent
+returns-clause-ends_are_looked_at_by_the_parent c = looked_at_by_parent
 
 pub returns-clause-no_stop_is_reported_twice : goal.returns-clause-no_stop_is_reported_twice
 returns-clause-no_stop_is_reported_twice c = no_stop_twice

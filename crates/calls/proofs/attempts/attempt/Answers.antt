@@ -17,3 +17,6 @@ returns-in_default-clause-attempts g c = λ me e.
 
 pub returns-in-Waitpid-clause-brief : goal.returns-in-Waitpid-clause-brief
 returns-in-Waitpid-clause-brief g c = λ me e quiet. rw (c.in-Waitpid.is, pid_looked c.args.pid _ me e) (c.wait.ensures.brief quiet)
+
+pub returns-in-Waitid-clause-brief : goal.returns-in-Waitid-clause-brief
+returns-in-Waitid-clause-brief g c = λ me e quiet. rw (c.in-Waitid.is, pid_looked c.args.pid _ me e) (c.wait-in-Waitid.ensures.brief quiet)

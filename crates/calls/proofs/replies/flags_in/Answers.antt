@@ -2,7 +2,7 @@ use Rattle.std.proofs.Common.{◌≡◌, ◌∙◌, ap, rules, w64}
 use Rattle.std.specs.Int.{cast_unsigned}
 use Rattle.posix.specs.SignalCalls.{all_flags, are_flags}
 use Rattle.bitflags.specs.Sets.{known_from}
-use Rattle.calls.proofs.CallLemmas.{some_bits}
+use Rattle.posix.proofs.FlagLemmas.{some_bits}
 use Rattle.calls.proofs.replies.flags_in.Goals as goal
 
 pub returns-clause-known : goal.returns-clause-known

@@ -1,6 +1,6 @@
 use Rattle.std.proofs.Common.{◌∙◌, ap}
 use Rattle.posix.specs.States.{State, process}
-use Rattle.posix.specs.Waits.{wait}
+use Rattle.posix.specs.Waits.{wait_by}
 use Rattle.posix.specs.Settle.{is_block}
 use Rattle.life.specs.Callers.{process_like}
 use Rattle.calls.proofs.CallLemmas.{wait_of}
@@ -10,4 +10,4 @@ pub returns-clause-value : goal.returns-clause-value
 returns-clause-value g c = λ me e.
     let s = c.args.machine.now.state in
     let cr = c.caller-me.result in
-    c.would_wait.ensures.value ∙ ap (λ (t : State). is_block (wait t (process_like cr))) c.caller-me.ensures.finds.looks.same.state ∙ ap is_block (wait_of s (process s c.args.pid) me cr c.caller-me.ensures.finds.value e)
+    c.would_wait.ensures.value ∙ ap (λ (t : State). is_block (wait_by c.args.call t (process_like cr))) c.caller-me.ensures.finds.looks.same.state ∙ ap is_block (wait_of s (process s c.args.pid) me cr c.args.call c.caller-me.ensures.finds.value e)

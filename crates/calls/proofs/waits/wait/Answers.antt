@@ -1,7 +1,7 @@
 use Rattle.std.proofs.Common.{sym, subst}
 use Rattle.posix.specs.States.{State, process}
 use Rattle.posix.specs.Regular.{IsPlaced, IsRegular}
-use Rattle.posix.specs.Waits.{wait}
+use Rattle.posix.specs.Waits.{wait_by}
 use Rattle.calls.specs.Outcomes.{Comes}
 use Rattle.life.specs.Callers.{process_like}
 use Rattle.calls.proofs.CallLemmas.{wait_of}
@@ -18,5 +18,5 @@ pub returns-clause-comes : goal.returns-clause-comes
 returns-clause-comes g c = λ me e.
     let s = c.args.machine.now.state in
     let cr = c.caller-me.result in
-    subst (λ a. Comes s a c.wait_as.result c.args.entries.now.items c.wait_as.new.entries.items c.wait_as.new.machine.state) (wait_of s (process s c.args.pid) me cr c.caller-me.ensures.finds.value e)
-    (subst (λ (t : State). Comes t (wait t (process_like cr)) c.wait_as.result c.args.entries.now.items c.wait_as.new.entries.items c.wait_as.new.machine.state) c.caller-me.ensures.finds.looks.same.state c.wait_as.ensures.comes)
+    subst (λ a. Comes s a c.wait_as.result c.args.entries.now.items c.wait_as.new.entries.items c.wait_as.new.machine.state) (wait_of s (process s c.args.pid) me cr c.args.call c.caller-me.ensures.finds.value e)
+    (subst (λ (t : State). Comes t (wait_by c.args.call t (process_like cr)) c.wait_as.result c.args.entries.now.items c.wait_as.new.entries.items c.wait_as.new.machine.state) c.caller-me.ensures.finds.looks.same.state c.wait_as.ensures.comes)

@@ -1,7 +1,9 @@
-use Rattle.std.proofs.Common.{arith, ◌≡◌, ◌∙◌, ap, sym, refl, subst, true, false, cond, pos}
+use Rattle.std.proofs.Common.{arith, ◌≡◌, ◌∙◌, ap, sym, refl, subst, true, false, cond, pos, [], ◌∷◌, ◌++◌}
 use Rattle.std.specs.Option.{IsSome}
 use Rattle.posix.specs.declared.errno.Errno.TheVariants.{ECHILD, EINVAL}
-use Rattle.posix.specs.declared.call.Call.TheVariants.{Waitpid}
+use Rattle.posix.specs.declared.call.Call.{Call}
+use Rattle.posix.specs.declared.entry.Entry.TheVariants.{Called, Looked, Reported}
+use Rattle.posix.specs.Calls.{call_of_wait}
 use Rattle.posix.specs.declared.process.Blocked.TheVariants as blocked
 use Rattle.posix.specs.declared.process.Report.TheVariants as found
 use Rattle.posix.specs.Tables.{removed}
@@ -11,14 +13,14 @@ use Rattle.life.specs.Rechecks.{without_gone}
 use Rattle.life.proofs.SoundLemmas.{there}
 use Rattle.calls.proofs.BriefLemmas.{quiet_on, brief_on, brief_behind, brief_look, brief_more, brief_done, brief_reaped}
 use Rattle.calls.proofs.CountLemmas.{wait_slots}
-use Rattle.posix.specs.Outcomes.{Block, finish_with, refusal}
-use Rattle.posix.specs.Waits.{WNOHANG, has_option, news_told}
+use Rattle.posix.specs.Outcomes.{Block, refusal}
+use Rattle.posix.specs.Waits.{WNOHANG, WNOWAIT, has_option, news_told, wait_for, gives_nothing, gives_report, results_of, results_of_nothing}
 use Rattle.posix.proofs.OrderLemmas.{placed_some}
 use Rattle.posix.proofs.RegularLemmas.{keeps_news_told, placed_least}
 use Rattle.calls.specs.declared.outcome.Attempt.TheVariants as came
 use Rattle.calls.specs.Outcomes.{Comes}
 use Rattle.life.specs.Callers.{process_like}
-use Rattle.calls.proofs.CallLemmas.{gives_is, reports_is, wait_unknown, wait_finds}
+use Rattle.calls.proofs.CallLemmas.{shows_is, wait_is, wait_finds}
 use Rattle.posix.proofs.ReportLemmas.{reported, not_first, caller_stays, some_changed}
 use Rattle.calls.proofs.waits.wait_as.Goals as goal
 
@@ -26,8 +28,111 @@ pub returns-in_default-clause-comes : goal.returns-in_default-clause-comes
 returns-in_default-clause-comes g c =
     let s = c.args.machine.now.state in
     let me = c.args.me.now in
-    let is = wait_unknown s (process_like me) _ c.options_of.ensures.known c.in_default.is in
-    gives_is s s _ _ _ me.pid Waitpid (refusal EINVAL) (refusal EINVAL) _ _ _ is c.refuse.ensures.done c.refuse.ensures.state refl c.refuse.ensures.shown refl
+    let call = c.args.call in
+    let is = wait_is s (process_like me) call _ c.asked.ensures ∙ ap (wait_for s me.pid me.group call) c.in_default.is in
+    let shown = c.refuse.ensures.shown ∙ ap (λ (k : Call). c.args.entries.now.items ++ Called me.pid k (refusal EINVAL) ∷ []) c.call.ensures in
+    shows_is s s _ _ _ me.pid ((0, refusal EINVAL) ∷ []) (Called me.pid (call_of_wait call) (refusal EINVAL)) _ _ _ is c.refuse.ensures.done c.refuse.ensures.state refl shown
+
+pub returns-in-NoChild-clause-comes : goal.returns-in-NoChild-clause-comes
+returns-in-NoChild-clause-comes g c =
+    let s = c.args.machine.now.state in
+    let me = c.args.me.now in
+    let call = c.args.call in
+    let a = c.in-Some.asked in
+    let is = wait_finds s (process_like me) call _ a _ (found.NoChild) c.asked.ensures c.in-Some.is c.wait_attempt.ensures.value c.in-NoChild.is in
+    let r = c.refuse-in-NoChild in
+    let shown = r.ensures.shown ∙ ap (λ (k : Call). c.args.entries.now.items ++ Called me.pid k (refusal ECHILD) ∷ []) c.call-in-NoChild.ensures in
+    shows_is s s _ _ _ me.pid ((0, refusal ECHILD) ∷ []) (Called me.pid (call_of_wait call) (refusal ECHILD)) _ _ _ is r.ensures.done r.ensures.state c.wait_attempt.ensures.looks.same.state shown
+
+pub returns-then-contains-clause-comes : goal.returns-then-contains-clause-comes
+returns-then-contains-clause-comes g c =
+    let s = c.args.machine.now.state in
+    let me = c.args.me.now in
+    let call = c.args.call in
+    let a = c.in-Some.asked in
+    let is = wait_finds s (process_like me) call _ a _ (found.Nothing) c.asked.ensures c.in-Some.is c.wait_attempt.ensures.value c.in-Nothing.is in
+    let at_once : has_option a.options.0 WNOHANG ≡ true = sym {b = has_option a.options.0 WNOHANG} (c.contains.ensures tt) ∙ c.if-contains.true in
+    let value = is ∙ ap (λ b. cond b (gives_nothing s me.pid call) (Block (blocked.Wait call))) at_once in
+    shows_is s s _ _ _ me.pid (results_of_nothing call) (Called me.pid (call_of_wait call) (pos 0)) _ _ _ value c.find_nothing.ensures.done c.find_nothing.ensures.state c.wait_attempt.ensures.looks.same.state c.find_nothing.ensures.shown
+
+pub returns-else-contains-clause-comes : goal.returns-else-contains-clause-comes
+returns-else-contains-clause-comes g c =
+    let s = c.args.machine.now.state in
+    let me = c.args.me.now in
+    let call = c.args.call in
+    let a = c.in-Some.asked in
+    let is = wait_finds s (process_like me) call _ a _ (found.Nothing) c.asked.ensures c.in-Some.is c.wait_attempt.ensures.value c.in-Nothing.is in
+    let hangs : has_option a.options.0 WNOHANG ≡ false = sym {b = has_option a.options.0 WNOHANG} (c.contains.ensures tt) ∙ c.if-contains.false in
+    let value = is ∙ ap (λ b. cond b (gives_nothing s me.pid call) (Block (blocked.Wait call))) hangs in
+    subst (λ a. Comes s a (came.Block (blocked.Wait call)) c.args.entries.now.items c.args.entries.now.items c.wait_attempt.new.self.state) (sym value) (refl, refl, c.wait_attempt.ensures.looks.same.state)
+
+pub returns-then-leaves-clause-comes : goal.returns-then-leaves-clause-comes
+returns-then-leaves-clause-comes g c =
+    let s = c.args.machine.now.state in
+    let me = c.args.me.now in
+    let call = c.args.call in
+    let a = c.in-Some.asked in
+    let is = wait_finds s (process_like me) call _ a _ (found.End c.in-End.child c.in-End.status) c.asked.ensures c.in-Some.is c.wait_attempt.ensures.value c.in-End.is in
+    let leaves : has_option a.options.0 WNOWAIT ≡ true = sym {b = has_option a.options.0 WNOWAIT} (c.contains-leaves.ensures tt) ∙ c.if-leaves.true in
+    let child = c.in-End.child in
+    let status = c.in-End.status in
+    let value = is ∙ ap (λ b. cond b (gives_report s me.pid call child status (Looked me.pid child status)) (gives_report (record s { processes = removed c.in-End.child s.processes }) me.pid call child status (Reported me.pid call child status))) leaves in
+    let r = c.look in
+    shows_is s s _ _ _ me.pid (results_of call child status) (Looked me.pid child status) _ _ _ value r.ensures.done r.ensures.state c.wait_attempt.ensures.looks.same.state r.ensures.shown
+
+pub returns-else-leaves-clause-comes : goal.returns-else-leaves-clause-comes
+returns-else-leaves-clause-comes g c =
+    let s = c.args.machine.now.state in
+    let me = c.args.me.now in
+    let call = c.args.call in
+    let a = c.in-Some.asked in
+    let is = wait_finds s (process_like me) call _ a _ (found.End c.in-End.child c.in-End.status) c.asked.ensures c.in-Some.is c.wait_attempt.ensures.value c.in-End.is in
+    let takes : has_option a.options.0 WNOWAIT ≡ false = sym {b = has_option a.options.0 WNOWAIT} (c.contains-leaves.ensures tt) ∙ c.if-leaves.false in
+    let child = c.in-End.child in
+    let status = c.in-End.status in
+    let value = is ∙ ap (λ b. cond b (gives_report s me.pid call child status (Looked me.pid child status)) (gives_report (record s { processes = removed c.in-End.child s.processes }) me.pid call child status (Reported me.pid call child status))) takes in
+    let then = c.reap.ensures.changes.state ∙ ap (λ (t : State). record t { processes = removed child t.processes }) c.wait_attempt.ensures.looks.same.state in
+    let r = c.take in
+    shows_is s (record s { processes = removed c.in-End.child s.processes }) _ _ _ me.pid (results_of call child status) (Reported me.pid call child status) _ _ _ value r.ensures.done r.ensures.state then r.ensures.shown
+
+pub returns-then-leaves-2-clause-comes : goal.returns-then-leaves-2-clause-comes
+returns-then-leaves-2-clause-comes g c =
+    let s = c.args.machine.now.state in
+    let me = c.args.me.now in
+    let call = c.args.call in
+    let a = c.in-Some.asked in
+    let is = wait_finds s (process_like me) call _ a _ (found.Change c.in-Change.child c.in-Change.status) c.asked.ensures c.in-Some.is c.wait_attempt.ensures.value c.in-Change.is in
+    let leaves : has_option a.options.0 WNOWAIT ≡ true = sym {b = has_option a.options.0 WNOWAIT} (c.contains-leaves.ensures tt) ∙ c.if-leaves-2.true in
+    let child = c.in-Change.child in
+    let status = c.in-Change.status in
+    let value = is ∙ ap (λ b. cond b (gives_report s me.pid call child status (Looked me.pid child status)) (gives_report (change s c.in-Change.child news_told) me.pid call child status (Reported me.pid call child status))) leaves in
+    let r = c.look-then-leaves-2 in
+    shows_is s s _ _ _ me.pid (results_of call child status) (Looked me.pid child status) _ _ _ value r.ensures.done r.ensures.state c.wait_attempt.ensures.looks.same.state r.ensures.shown
+
+pub returns-else-leaves-2-clause-comes : goal.returns-else-leaves-2-clause-comes
+returns-else-leaves-2-clause-comes g c =
+    let s = c.args.machine.now.state in
+    let me = c.args.me.now in
+    let call = c.args.call in
+    let a = c.in-Some.asked in
+    let is = wait_finds s (process_like me) call _ a _ (found.Change c.in-Change.child c.in-Change.status) c.asked.ensures c.in-Some.is c.wait_attempt.ensures.value c.in-Change.is in
+    let takes : has_option a.options.0 WNOWAIT ≡ false = sym {b = has_option a.options.0 WNOWAIT} (c.contains-leaves.ensures tt) ∙ c.if-leaves-2.false in
+    let child = c.in-Change.child in
+    let status = c.in-Change.status in
+    let value = is ∙ ap (λ b. cond b (gives_report s me.pid call child status (Looked me.pid child status)) (gives_report (change s c.in-Change.child news_told) me.pid call child status (Reported me.pid call child status))) takes in
+    let then = c.tell_news.ensures.state ∙ ap (λ (t : State). change t child news_told) c.wait_attempt.ensures.looks.same.state in
+    let r = c.take-in-Change in
+    shows_is s (change s c.in-Change.child news_told) _ _ _ me.pid (results_of call child status) (Reported me.pid call child status) _ _ _ value r.ensures.done r.ensures.state then r.ensures.shown
+
+pub look-requires-clause-there : goal.look-requires-clause-there
+look-requires-clause-there g c =
+    let s = c.args.machine.now.state in
+    subst (λ (t : State). IsSome (process t c.args.me.now.pid)) (sym c.wait_attempt.ensures.looks.same.state) (placed_some s.processes c.args.me.now.pid c.requires.placed)
+
+pub look-requires-then-leaves-2-clause-there : goal.look-requires-then-leaves-2-clause-there
+look-requires-then-leaves-2-clause-there g c =
+    let s = c.args.machine.now.state in
+    subst (λ (t : State). IsSome (process t c.args.me.now.pid)) (sym c.wait_attempt.ensures.looks.same.state) (placed_some s.processes c.args.me.now.pid c.requires.placed)
 
 pub reap-requires-clause-other : goal.reap-requires-clause-other
 reap-requires-clause-other g c =
@@ -43,8 +148,8 @@ reap-requires-clause-zombie g c =
     let child = reported s.processes c.requires.regular.rising me.pid me.group _ _ (found.End c.in-End.child c.in-End.status) c.in-End.child (sym c.wait_attempt.ensures.value ∙ c.in-End.is) refl in
     (child.what, ap (λ (t : State). process t c.in-End.child) c.wait_attempt.ensures.looks.same.state ∙ child.found, child.dead)
 
-pub report-requires-clause-there : goal.report-requires-clause-there
-report-requires-clause-there g c =
+pub take-requires-clause-there : goal.take-requires-clause-there
+take-requires-clause-there g c =
     let s = c.args.machine.now.state in
     let me = c.args.me.now in
     let child = reported s.processes c.requires.regular.rising me.pid me.group _ _ (found.End c.in-End.child c.in-End.status) c.in-End.child (sym c.wait_attempt.ensures.value ∙ c.in-End.is) refl in
@@ -58,57 +163,13 @@ tell_news-requires g c =
     let child = reported s.processes c.requires.regular.rising me.pid me.group _ _ (found.Change c.in-Change.child c.in-Change.status) c.in-Change.child (sym c.wait_attempt.ensures.value ∙ c.in-Change.is) refl in
     subst (λ (t : State). IsSome (process t c.in-Change.child)) (sym c.wait_attempt.ensures.looks.same.state) (subst IsSome (sym child.found) refl)
 
-pub report-requires-in-Change-clause-there : goal.report-requires-in-Change-clause-there
-report-requires-in-Change-clause-there g c =
+pub take-requires-in-Change-clause-there : goal.take-requires-in-Change-clause-there
+take-requires-in-Change-clause-there g c =
     let s = c.args.machine.now.state in
     let me = c.args.me.now in
     let child = reported s.processes c.requires.regular.rising me.pid me.group _ _ (found.Change c.in-Change.child c.in-Change.status) c.in-Change.child (sym c.wait_attempt.ensures.value ∙ c.in-Change.is) refl in
     let told = (c.tell_news.ensures).state ∙ ap (λ (t : State). change t c.in-Change.child news_told) c.wait_attempt.ensures.looks.same.state in
     subst (λ (t : State). IsSome (process t me.pid)) (sym told) (some_changed c.in-Change.child me.pid news_told (keeps_news_told {now = 0}).pid s.processes (placed_some s.processes me.pid c.requires.placed))
-
-pub returns-in-NoChild-clause-comes : goal.returns-in-NoChild-clause-comes
-returns-in-NoChild-clause-comes g c =
-    let s = c.args.machine.now.state in
-    let me = c.args.me.now in
-    let is = wait_finds s (process_like me) _ _ c.in-Some.options _ found.NoChild c.options_of.ensures.known c.in-Some.is c.in-Some.ensures.value c.target.ensures c.wait_attempt.ensures.value c.in-NoChild.is in
-    let r = c.refuse-in-NoChild in
-    gives_is s s _ _ _ me.pid Waitpid (refusal ECHILD) (refusal ECHILD) _ _ _ is r.ensures.done r.ensures.state c.wait_attempt.ensures.looks.same.state r.ensures.shown refl
-
-pub returns-then-contains-clause-comes : goal.returns-then-contains-clause-comes
-returns-then-contains-clause-comes g c =
-    let s = c.args.machine.now.state in
-    let me = c.args.me.now in
-    let is = wait_finds s (process_like me) _ _ c.in-Some.options _ found.Nothing c.options_of.ensures.known c.in-Some.is c.in-Some.ensures.value c.target.ensures c.wait_attempt.ensures.value c.in-Nothing.is in
-    let at_once : has_option c.in-Some.options.0 WNOHANG ≡ true = sym {b = has_option c.in-Some.options.0 WNOHANG} (c.contains.ensures tt) ∙ c.if-contains.true in
-    let value = is ∙ ap (λ b. cond b (finish_with s me.pid Waitpid (pos 0)) (Block blocked.Waitpid)) at_once in
-    gives_is s s _ _ _ me.pid Waitpid (pos 0) (pos 0) _ _ _ value c.finish_with.ensures.done c.finish_with.ensures.state c.wait_attempt.ensures.looks.same.state c.finish_with.ensures.shown refl
-
-pub returns-else-contains-clause-comes : goal.returns-else-contains-clause-comes
-returns-else-contains-clause-comes g c =
-    let s = c.args.machine.now.state in
-    let me = c.args.me.now in
-    let is = wait_finds s (process_like me) _ _ c.in-Some.options _ found.Nothing c.options_of.ensures.known c.in-Some.is c.in-Some.ensures.value c.target.ensures c.wait_attempt.ensures.value c.in-Nothing.is in
-    let hangs : has_option c.in-Some.options.0 WNOHANG ≡ false = sym {b = has_option c.in-Some.options.0 WNOHANG} (c.contains.ensures tt) ∙ c.if-contains.false in
-    let value = is ∙ ap (λ b. cond b (finish_with s me.pid Waitpid (pos 0)) (Block blocked.Waitpid)) hangs in
-    subst (λ a. Comes s a (came.Block blocked.Waitpid) c.args.entries.now.items c.args.entries.now.items c.wait_attempt.new.self.state) (sym value) (refl, refl, c.wait_attempt.ensures.looks.same.state)
-
-pub returns-in-End-clause-comes : goal.returns-in-End-clause-comes
-returns-in-End-clause-comes g c =
-    let s = c.args.machine.now.state in
-    let me = c.args.me.now in
-    let is = wait_finds s (process_like me) _ _ c.in-Some.options _ (found.End c.in-End.child c.in-End.status) c.options_of.ensures.known c.in-Some.is c.in-Some.ensures.value c.target.ensures c.wait_attempt.ensures.value c.in-End.is in
-    let gone = c.reap.ensures.changes.state ∙ ap (λ (t : State). record t { processes = removed c.in-End.child t.processes }) c.wait_attempt.ensures.looks.same.state in
-    reports_is s (record s { processes = removed c.in-End.child s.processes }) _ _ _ me.pid c.in-End.child c.in-End.status _ _ _ is c.report.ensures.done c.report.ensures.state gone c.report.ensures.shown
-
-pub returns-in-Change-clause-comes : goal.returns-in-Change-clause-comes
-returns-in-Change-clause-comes g c =
-    let s = c.args.machine.now.state in
-    let me = c.args.me.now in
-    let is = wait_finds s (process_like me) _ _ c.in-Some.options _ (found.Change c.in-Change.child c.in-Change.status) c.options_of.ensures.known c.in-Some.is c.in-Some.ensures.value c.target.ensures c.wait_attempt.ensures.value c.in-Change.is in
-    let child = reported s.processes c.requires.regular.rising me.pid me.group _ _ (found.Change c.in-Change.child c.in-Change.status) c.in-Change.child (sym c.wait_attempt.ensures.value ∙ c.in-Change.is) refl in
-    let told = (c.tell_news.ensures).state ∙ ap (λ (t : State). change t c.in-Change.child news_told) c.wait_attempt.ensures.looks.same.state in
-    let r = c.report-in-Change in
-    reports_is s (change s c.in-Change.child news_told) _ _ _ me.pid c.in-Change.child c.in-Change.status _ _ _ is r.ensures.done r.ensures.state told r.ensures.shown
 
 pub returns-in_default-clause-brief : goal.returns-in_default-clause-brief
 returns-in_default-clause-brief g c = λ quiet. brief_more 1 _ c.args.machine.now _ (omega arith) (brief_done c.args.me.now.pid _ c.args.machine.now _ quiet c.refuse.ensures.state c.refuse.ensures.costs)
@@ -116,24 +177,24 @@ returns-in_default-clause-brief g c = λ quiet. brief_more 1 _ c.args.machine.no
 pub returns-in-NoChild-clause-brief : goal.returns-in-NoChild-clause-brief
 returns-in-NoChild-clause-brief g c = λ quiet.
     let looks = c.wait_attempt.ensures.looks in
-    let slots = wait_slots c.target.result c.args.me.now.pid c.args.machine.now.state.processes in
+    let slots = wait_slots c.in-Some.asked.target c.args.me.now.pid c.args.machine.now.state.processes in
     let r = c.refuse-in-NoChild in
     brief_on 1 _ _ c.args.machine.now c.wait_attempt.new.self _ looks.same looks.visits (omega (arith, slots)) (brief_done c.args.me.now.pid _ c.wait_attempt.new.self _ (quiet_on _ c.args.machine.now _ looks.same quiet) r.ensures.state r.ensures.costs)
 
 pub returns-then-contains-clause-brief : goal.returns-then-contains-clause-brief
 returns-then-contains-clause-brief g c = λ quiet.
     let looks = c.wait_attempt.ensures.looks in
-    let slots = wait_slots c.target.result c.args.me.now.pid c.args.machine.now.state.processes in
-    brief_on 1 _ _ c.args.machine.now c.wait_attempt.new.self _ looks.same looks.visits (omega (arith, slots)) (brief_done c.args.me.now.pid _ c.wait_attempt.new.self _ (quiet_on _ c.args.machine.now _ looks.same quiet) c.finish_with.ensures.state c.finish_with.ensures.costs)
+    let slots = wait_slots c.in-Some.asked.target c.args.me.now.pid c.args.machine.now.state.processes in
+    brief_on 1 _ _ c.args.machine.now c.wait_attempt.new.self _ looks.same looks.visits (omega (arith, slots)) (brief_done c.args.me.now.pid _ c.wait_attempt.new.self _ (quiet_on _ c.args.machine.now _ looks.same quiet) c.find_nothing.ensures.state c.find_nothing.ensures.costs)
 
 pub returns-else-contains-clause-brief : goal.returns-else-contains-clause-brief
 returns-else-contains-clause-brief g c = λ quiet.
     let looks = c.wait_attempt.ensures.looks in
-    let slots = wait_slots c.target.result c.args.me.now.pid c.args.machine.now.state.processes in
+    let slots = wait_slots c.in-Some.asked.target c.args.me.now.pid c.args.machine.now.state.processes in
     brief_more _ _ c.args.machine.now _ (omega (arith, slots)) (brief_look c.args.me.now.pid _ c.args.machine.now _ quiet looks.same looks.visits)
 
-pub returns-in-End-clause-brief : goal.returns-in-End-clause-brief
-returns-in-End-clause-brief g c = λ quiet.
+pub returns-else-leaves-clause-brief : goal.returns-else-leaves-clause-brief
+returns-else-leaves-clause-brief g c = λ quiet.
     let s = c.args.machine.now.state in
     let me = c.args.me.now in
     let looks = c.wait_attempt.ensures.looks in
@@ -143,20 +204,34 @@ returns-in-End-clause-brief g c = λ quiet.
     let gone = c.reap.ensures.changes.state ∙ ap (λ (t : State). record t { processes = removed c.in-End.child t.processes }) looks.same.state in
     let here = there _ (subst (λ (t : State). IsSome (process t me.pid)) (sym gone) (caller_stays s.processes me.pid c.in-End.child c.requires.placed child)) in
     let parent = parent_is c.in-End.child _ mid.state.processes child.what refl there_child ∙ child.parent in
-    let slots = wait_slots c.target.result me.pid s.processes in
+    let slots = wait_slots c.in-Some.asked.target me.pid s.processes in
     brief_on 9 _ _ c.args.machine.now mid _ looks.same looks.visits (omega (arith, slots))
     (brief_reaped me.pid c.in-End.child _ mid c.reap.new.self _ here.what child.what (c.requires.regular.bounded c.in-End.child child.what child.found).group_least (quiet_on _ c.args.machine.now _ looks.same quiet) c.reap.ensures.changes.state (c.reap.ensures.changes.to_recheck ∙ ap (λ p. without_gone c.in-End.child p mid.to_recheck) parent)
-    (c.reap.ensures.foregrounds_unchecked child.what there_child) c.reap.ensures.changes.costs.visits here.found c.report.ensures.state c.report.ensures.costs)
+    (c.reap.ensures.foregrounds_unchecked child.what there_child) c.reap.ensures.changes.costs.visits here.found c.take.ensures.state c.take.ensures.costs)
 
-pub returns-in-Change-clause-brief : goal.returns-in-Change-clause-brief
-returns-in-Change-clause-brief g c = λ quiet.
+pub returns-else-leaves-2-clause-brief : goal.returns-else-leaves-2-clause-brief
+returns-else-leaves-2-clause-brief g c = λ quiet.
     let me = c.args.me.now in
     let looks = c.wait_attempt.ensures.looks in
     let mid = c.wait_attempt.new.self in
     let told = c.tell_news.ensures in
     let still = quiet_on me.pid c.args.machine.now mid looks.same quiet in
-    let slots = wait_slots c.target.result me.pid c.args.machine.now.state.processes in
-    let r = c.report-in-Change in
+    let slots = wait_slots c.in-Some.asked.target me.pid c.args.machine.now.state.processes in
+    let r = c.take-in-Change in
     brief_on 3 _ _ c.args.machine.now mid _ looks.same looks.visits (omega (arith, slots))
     (brief_behind 1 2 3 mid c.tell_news.new.self _ (ap (λ (t : State). t.consoles) told.state) told.costs.visits (omega arith)
     (brief_done me.pid _ c.tell_news.new.self _ (record { none = told.to_recheck ∙ still.none; checked = told.foregrounds_unchecked ∙ still.checked; place = ap (λ (t : State). has_place t me.pid) told.state ∙ still.place }) r.ensures.state r.ensures.costs))
+
+pub returns-then-leaves-clause-brief : goal.returns-then-leaves-clause-brief
+returns-then-leaves-clause-brief g c = λ quiet.
+    let looks = c.wait_attempt.ensures.looks in
+    let slots = wait_slots c.in-Some.asked.target c.args.me.now.pid c.args.machine.now.state.processes in
+    let r = c.look in
+    brief_on 1 _ _ c.args.machine.now c.wait_attempt.new.self _ looks.same looks.visits (omega (arith, slots)) (brief_done c.args.me.now.pid _ c.wait_attempt.new.self _ (quiet_on _ c.args.machine.now _ looks.same quiet) r.ensures.state r.ensures.costs)
+
+pub returns-then-leaves-2-clause-brief : goal.returns-then-leaves-2-clause-brief
+returns-then-leaves-2-clause-brief g c = λ quiet.
+    let looks = c.wait_attempt.ensures.looks in
+    let slots = wait_slots c.in-Some.asked.target c.args.me.now.pid c.args.machine.now.state.processes in
+    let r = c.look-then-leaves-2 in
+    brief_on 1 _ _ c.args.machine.now c.wait_attempt.new.self _ looks.same looks.visits (omega (arith, slots)) (brief_done c.args.me.now.pid _ c.wait_attempt.new.self _ (quiet_on _ c.args.machine.now _ looks.same quiet) r.ensures.state r.ensures.costs)

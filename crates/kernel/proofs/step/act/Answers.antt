@@ -67,4 +67,4 @@ returns-in-Some-clause-brief g c = λ me e quiet.
     let in_call : me.blocked ≡ Some c.in-Some.blocked = ap (λ (f : Snapshot). f.blocked) (sym is) ∙ c.in-Some.is in
     subst (λ b. IfSome (slots_of_acting old.state me b) (λ n. IsBrief n old c.go_on.new.machine)) (sym in_call)
     (acting_blocked old.state me c.in-Some.blocked (λ n. IsBrief n old c.go_on.new.machine)
-    (λ waits nothing. subst (λ n. IsBrief (11 + 2 * length (children_in n old.state.processes)) old c.go_on.new.machine) (sym (pid_looked c.args.pid old.state.processes me e)) (c.go_on.ensures.brief me e quiet waits nothing)))
+    (λ call waits nothing. subst (λ n. IsBrief (11 + 2 * length (children_in n old.state.processes)) old c.go_on.new.machine) (sym (pid_looked c.args.pid old.state.processes me e)) (c.go_on.ensures.brief me e quiet call waits nothing)))

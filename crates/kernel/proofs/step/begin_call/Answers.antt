@@ -1,6 +1,12 @@
-use Rattle.std.proofs.Common.{◌+◌, ◌*◌, length, arith, ◌≡◌, ◌∙◌, ap, sym, subst, []}
+use Rattle.std.proofs.Common.{◌+◌, ◌*◌, length, arith, ◌≡◌, ◌∙◌, ap, sym, subst, [], Bool, Some}
 use Rattle.posix.specs.Outcomes.{Block}
-use Rattle.posix.specs.Waits.{wait}
+use Rattle.posix.specs.declared.call.Call.{Call}
+use Rattle.posix.specs.declared.call.Call.TheVariants.{Waitpid, Waitid}
+use Rattle.posix.specs.declared.waits.WaitCall.{WaitCall}
+use Rattle.posix.specs.Calls.{wait_in}
+use Rattle.posix.specs.Processes.{Process}
+use Rattle.posix.specs.Waits.{wait_by}
+use Rattle.std.proofs.lemmas.Option.{same_Some}
 use Rattle.posix.specs.States.{State, change, lose_place, process}
 use Rattle.posix.specs.Attempts.{attempt}
 use Rattle.posix.specs.Step.{begin_call, enter}
@@ -12,12 +18,18 @@ use Rattle.posix.specs.Tables.{children_in}
 use Rattle.calls.specs.Outcomes.{IsBrief, slots_of_brief}
 use Rattle.calls.proofs.BriefLemmas.{brief_more, brief_on, brief_visits, quiet_on}
 use Rattle.kernel.specs.Counts.{slots_of_blocking}
-use Rattle.kernel.proofs.CallCountLemmas.{brief_call}
+use Rattle.kernel.proofs.CallCountLemmas.{brief_call, wait_reads}
 use Rattle.kernel.proofs.step.begin_call.Goals as goal
 
-pub block-requires-clause-waits : goal.block-requires-clause-waits
+-- a call that is a wait is attempted as one
+attempt_wait : (granted : Bool) (s : State) (me : Process) (call : Call) (how : WaitCall) → wait_in call ≡ Some how → attempt granted s me call ≡ wait_by how s me
 unfolding attempt
-block-requires-clause-waits g c = λ me e is.
+attempt_wait granted s me Waitpid how is = ap (λ h. wait_by h s me) (same_Some _ _ is)
+attempt_wait granted s me Waitid how is = ap (λ h. wait_by h s me) (same_Some _ _ is)
+attempt_wait granted s me call how is = absurd (cc)
+
+pub block-requires-clause-waits : goal.block-requires-clause-waits
+block-requires-clause-waits g c = λ me e how is.
     let s = c.args.machine.now.state in
     let it = c.requires.acting.placed in
     let blocked = c.in-Block.blocked in
@@ -25,7 +37,7 @@ block-requires-clause-waits g c = λ me e is.
     let same = (block_is s (attempt first.0 s it.what c.args.call) blocked c.args.entries.now.items c.attempt.new.entries.items c.attempt.new.machine.state first.1).2 in
     let came = c.in-Block.ensures.attempts me (ap (λ (t : State). process t c.args.pid) (sym same) ∙ e) in
     let b = block_is s (attempt came.0 s me c.args.call) blocked c.args.entries.now.items c.attempt.new.entries.items c.attempt.new.machine.state came.1 in
-    subst (λ (t : State). wait t me ≡ Block blocked) (sym b.2) (ap (attempt came.0 s me) (sym is) ∙ b.0)
+    subst (λ (t : State). wait_by how t me ≡ Block blocked) (sym b.2) (sym (attempt_wait came.0 s me c.args.call how is) ∙ b.0)
 
 pub returns-in-Block-clause-begins : goal.returns-in-Block-clause-begins
 returns-in-Block-clause-begins g c = λ me e.
@@ -50,7 +62,8 @@ returns-in-Block-clause-brief g c = λ me e quiet.
     let old = c.args.machine.now in
     brief_call c.args.call old.state.processes me (λ n. IsBrief (n + slots_of_blocking c.args.call) old c.block.new.machine)
     (λ is.
+    let reads = wait_reads c.args.call old.state.processes me is in
     let same = c.attempt.ensures.waits c.in-Block.blocked is c.in-Block.is in
-    let h : IsBrief (11 + 2 * length (children_in me.pid old.state.processes)) old c.attempt.new.machine = subst (λ call. IfSome (slots_of_brief call old.state.processes me) (λ n. IsBrief n old c.attempt.new.machine)) is (c.attempt.ensures.brief me e quiet) in
-    rw is (brief_on 1 (11 + 2 * length (children_in me.pid old.state.processes)) _ old c.attempt.new.machine c.block.new.machine same (brief_visits _ old _ h) (omega arith) (c.block.ensures.brief is (quiet_on c.args.pid old c.attempt.new.machine same quiet))))
+    let h : IsBrief (11 + 2 * length (children_in me.pid old.state.processes)) old c.attempt.new.machine = subst (λ o. IfSome o (λ n. IsBrief n old c.attempt.new.machine)) reads.0 (c.attempt.ensures.brief me e quiet) in
+    rw reads.1 (brief_on 1 (11 + 2 * length (children_in me.pid old.state.processes)) _ old c.attempt.new.machine c.block.new.machine same (brief_visits _ old _ h) (omega arith) (c.block.ensures.brief is (quiet_on c.args.pid old c.attempt.new.machine same quiet))))
     (λ is. let no = sym c.in-Block.is ∙ c.attempt.ensures.done is in absurd (cc))

@@ -15,15 +15,15 @@ rechecked-requires-clause-waits g c =
     let b = c.args.blocked in
     let it = c.requires.acting.placed in
     subst (λ (t : State). (r : Process) → process t p ≡ Some r → wakes t r ≡ false) (sym c.enter_call.ensures.state)
-    (blocked_rests s p it.what b it.found (c.requires.none_chosen it.what it.found) (c.requires.waits it.what it.found c.in-Waitpid.is))
+    (blocked_rests s p it.what c.in-Some.field-0 b it.found (c.requires.none_chosen it.what it.found) (c.requires.waits it.what it.found c.in-Some.field-0 (sym c.named_by.ensures ∙ c.in-Some.is)))
 
 pub rechecked-requires-clause-session : goal.rechecked-requires-clause-session
 rechecked-requires-clause-session g c =
     let it = c.requires.acting.placed in
-    subst (λ (t : State). None ≡ reads t c.args.pid) (sym c.enter_call.ensures.state) (blocked_unread c.args.machine.now.state c.args.pid it.what c.args.blocked it.found (c.requires.waits it.what it.found c.in-Waitpid.is))
+    subst (λ (t : State). None ≡ reads t c.args.pid) (sym c.enter_call.ensures.state) (blocked_unread c.args.machine.now.state c.args.pid it.what c.in-Some.field-0 c.args.blocked it.found (c.requires.waits it.what it.found c.in-Some.field-0 (sym c.named_by.ensures ∙ c.in-Some.is)))
 
-pub returns-in-Waitpid-clause-brief : goal.returns-in-Waitpid-clause-brief
-returns-in-Waitpid-clause-brief g c = λ same quiet.
+pub returns-in-Some-clause-brief : goal.returns-in-Some-clause-brief
+returns-in-Some-clause-brief g c = λ same quiet.
     let rest = c.rechecked.ensures.rest in
     let none = ap (λ (m : MachineView). m.to_recheck) rest ∙ ap (without c.args.pid) (c.enter_call.ensures.to_recheck quiet.place) ∙ nobody_left c.args.pid _ quiet.none in
     brief_alone 1 c.args.machine.now _ none (ap (λ (m : MachineView). m.foregrounds_unchecked) rest ∙ c.enter_call.ensures.foregrounds_unchecked ∙ quiet.checked)

@@ -1,11 +1,13 @@
-use Rattle.std.proofs.Common.{◌≡◌, Some, true, arith, ◌∙◌, ap, sym, subst, is_some, []}
+use Rattle.std.proofs.Common.{◌≡◌, Some, true, false, not, arith, ◌∙◌, ap, sym, subst, is_some, []}
 use Rattle.posix.specs.States.{State, process, change, lose_place}
-use Rattle.posix.specs.Waits.{wait}
-use Rattle.posix.specs.Settle.{is_block}
+use Rattle.posix.specs.declared.process.Blocked.{Blocked}
+use Rattle.posix.specs.Outcomes.{Attempted}
+use Rattle.posix.specs.Waits.{wait_by}
+use Rattle.posix.specs.Settle.{is_block, can_go_on}
 use Rattle.life.specs.Rechecks.{is_in_wait}
 use Rattle.calls.specs.Outcomes.{IsActing}
 use Rattle.calls.proofs.BriefLemmas.{brief_on, brief_visits, quiet_on}
-use Rattle.kernel.proofs.CallCountLemmas.{in_wait_is, nothing_delivered}
+use Rattle.kernel.proofs.CallCountLemmas.{nothing_delivered}
 use Rattle.posix.specs.Regular.{IsPlaced}
 use Rattle.posix.specs.Outcomes.{silent}
 use Rattle.posix.specs.Attempts.{attempt_again}
@@ -74,36 +76,35 @@ pub wait_on-requires-clause-blocked : goal.wait_on-requires-clause-blocked
 wait_on-requires-clause-blocked g c = λ me e waits.
     let it = c.requires.acting.placed in
     let b = block_is _ (attempt_again c.args.machine.now.state it.what c.args.blocked) c.in-Block.field-0 c.args.entries.now.items c.attempt_again.new.entries.items c.attempt_again.new.machine.state (c.in-Block.ensures.comes it.what it.found) in
-    c.requires.blocked me (ap (λ (t : State). process t c.args.pid) (sym b.2) ∙ e) ∙ ap (λ b. Some b) (in_wait_is c.args.blocked (sym c.is_wait-waits.ensures ∙ waits))
+    ap is_in_wait (c.requires.blocked me (ap (λ (t : State). process t c.args.pid) (sym b.2) ∙ e)) ∙ sym c.is_wait-waits.ensures ∙ waits
 
 pub wait_on-requires-clause-waits : goal.wait_on-requires-clause-waits
-unfolding attempt_again
 wait_on-requires-clause-waits g c = λ me e waits.
     let s = c.args.machine.now.state in
     let it = c.requires.acting.placed in
     let b = block_is s (attempt_again s it.what c.args.blocked) c.in-Block.field-0 c.args.entries.now.items c.attempt_again.new.entries.items c.attempt_again.new.machine.state (c.in-Block.ensures.comes it.what it.found) in
     let here = ap (λ (t : State). process t c.args.pid) (sym b.2) ∙ e in
     let d = block_is s (attempt_again s me c.args.blocked) c.in-Block.field-0 c.args.entries.now.items c.attempt_again.new.entries.items c.attempt_again.new.machine.state (c.in-Block.ensures.comes me here) in
-    let again = ap (attempt_again s me) (sym (in_wait_is c.args.blocked (sym c.is_wait-waits.ensures ∙ waits))) ∙ d.0 in
-    subst (λ (t : State). is_block (wait t me) ≡ true) (sym b.2) (ap is_block again)
+    subst (λ (t : State). can_go_on t me me.blocked ≡ false) (sym b.2) (ap (can_go_on s me) (c.requires.blocked me here) ∙ ap (λ (a : Attempted). not (is_block a)) d.0)
 
 pub returns-in-Done-clause-brief : goal.returns-in-Done-clause-brief
-returns-in-Done-clause-brief g c = λ me e quiet is nothing. c.attempt_again.ensures.brief is quiet
+returns-in-Done-clause-brief g c = λ me e quiet call is nothing. c.attempt_again.ensures.brief (ap (λ (b : Blocked). is_in_wait (Some b)) is) quiet
 
 pub returns-in-Again-clause-brief : goal.returns-in-Again-clause-brief
-returns-in-Again-clause-brief g c = λ me e quiet is nothing. absurd (c.attempt_again.ensures.once is c.in-Again.is)
+returns-in-Again-clause-brief g c = λ me e quiet call is nothing. absurd (c.attempt_again.ensures.once (ap (λ (b : Blocked). is_in_wait (Some b)) is) c.in-Again.is)
 
 pub returns-in-Some-clause-brief : goal.returns-in-Some-clause-brief
 unfolding attempt_again
-returns-in-Some-clause-brief g c = λ me e quiet is nothing.
+returns-in-Some-clause-brief g c = λ me e quiet call is nothing.
     let s = c.args.machine.now.state in
     let b = block_is s (attempt_again s me c.args.blocked) c.in-Block.field-0 c.args.entries.now.items c.attempt_again.new.entries.items c.attempt_again.new.machine.state (c.in-Block.ensures.comes me e) in
-    let waits : is_block (wait s me) ≡ true = ap is_block (ap (attempt_again s me) (sym is) ∙ b.0) in
-    absurd (nothing_delivered s me c.in-Some.sig (sym (c.requires.signal me e) ∙ c.in-Some.is) waits nothing)
+    let waits : is_block (wait_by call s me) ≡ true = ap is_block (ap (attempt_again s me) (sym is) ∙ b.0) in
+    absurd (nothing_delivered s me call c.in-Some.sig (sym (c.requires.signal me e) ∙ c.in-Some.is) waits nothing)
 
 pub returns-in-None-clause-brief : goal.returns-in-None-clause-brief
-returns-in-None-clause-brief g c = λ me e quiet is nothing.
+returns-in-None-clause-brief g c = λ me e quiet call is nothing.
+    let in_wait = ap (λ (b : Blocked). is_in_wait (Some b)) is in
     let old = c.args.machine.now in
-    let same = c.attempt_again.ensures.waits c.in-Block.field-0 is c.in-Block.is in
-    let read = brief_visits _ old _ (c.attempt_again.ensures.brief is quiet) in
-    brief_on 0 _ _ old c.attempt_again.new.machine c.wait_on.new.machine same read (omega arith) (c.wait_on.ensures.brief (c.is_wait-waits.ensures ∙ ap (λ b. is_in_wait (Some b)) is) (quiet_on c.args.pid old c.attempt_again.new.machine same quiet))
+    let same = c.attempt_again.ensures.waits c.in-Block.field-0 in_wait c.in-Block.is in
+    let read = brief_visits _ old _ (c.attempt_again.ensures.brief in_wait quiet) in
+    brief_on 0 _ _ old c.attempt_again.new.machine c.wait_on.new.machine same read (omega arith) (c.wait_on.ensures.brief (c.is_wait-waits.ensures ∙ in_wait) (quiet_on c.args.pid old c.attempt_again.new.machine same quiet))

@@ -14,7 +14,7 @@ pub rechecked-requires-clause-waits : goal.rechecked-requires-clause-waits
 rechecked-requires-clause-waits g c =
     let it = c.requires.acting.placed in
     subst (λ (t : State). (r : Process) → process t c.args.pid ≡ Some r → wakes t r ≡ false) (sym (state_is c.lose_place.ensures.is))
-    (waits_rest c.args.machine.now.state c.args.pid it.what it.found (c.requires.blocked it.what it.found c.if-waits.true) (c.requires.none_chosen it.what it.found) (c.requires.waits it.what it.found c.if-waits.true))
+    (waits_rest c.args.machine.now.state c.args.pid it.what it.found (c.requires.none_chosen it.what it.found) (c.requires.waits it.what it.found c.if-waits.true))
 
 pub rechecked-requires-clause-session : goal.rechecked-requires-clause-session
 rechecked-requires-clause-session g c =

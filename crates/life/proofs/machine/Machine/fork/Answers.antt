@@ -8,7 +8,6 @@ use Rattle.jobs.proofs.ReadLemmas.{processes_of}
 use Rattle.life.specs.Rechecks.{with_numbers}
 use Rattle.life.proofs.RecheckLemmas.{room_after, listed_born}
 use Rattle.life.proofs.SoundLemmas.{is_there, found_in, next_is_new, room_to_bear, sound_born}
-use Rattle.posix.specs.Waits.{has_report}
 use Rattle.proctable.specs.Records.{process_of}
 use Rattle.life.proofs.ForegroundLemmas.{fresh_still}
 use Rattle.life.proofs.ViewLemmas.{state_is}
@@ -33,7 +32,7 @@ insert-requires-3 g c =
     record { room = λ out. room_after _ _ c.insert-2.new.self (c.args.parent ∷ []) c.self.invariant.sound.regular c.self.invariant.listed (is_there _ c.requires.parent.what (found_in _ _ (state_is c.self.view_is) c.args.parent c.requires.parent.what c.requires.parent.found), tt) c.insert-2.ensures.pids c.insert-2.ensures.room }
 
 pub invariant_of-self-2 : goal.invariant_of-self-2
-unfolding child_of finished has_report
+unfolding child_of finished
 invariant_of-self-2 g c =
     let me = c.requires.parent in
     let found = found_in _ _ (state_is c.self.view_is) c.args.parent me.what me.found in

@@ -1,0 +1,9 @@
+use Rattle.std.proofs.Common.{ap, ◌∙◌}
+use Rattle.jobs.specs.Books.{least}
+use Rattle.jobs.proofs.BookLemmas.{next_wanted}
+use Rattle.jobs.proofs.books.Books.next_wanted.Goals as goal
+
+pub returns : goal.returns
+returns c = λ rs up h.
+    c.lesser-2.ensures ∙ ap (λ o. least o c.next_of_sort-continued.result) c.lesser.ensures
+    ∙ next_wanted c.args.parent c.args.after c.args.options.0 rs _ _ _ up (rw c.contains-ends.ensures at (c.next_of_sort-ended.ensures rs up h)) (rw c.contains-stops.ensures at (c.next_of_sort-stopped.ensures rs up h)) (rw c.contains-continues.ensures at (c.next_of_sort-continued.ensures rs up h))
