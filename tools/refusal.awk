@@ -14,7 +14,7 @@ BEGIN {
     instructions = "set " three " jmp jz jnz jlt note sys"
     calls = "getpid getppid getuid geteuid getgid getegid getpgid getsid setuid seteuid setgid setegid fork exec exit" \
         " waitpid waitid kill sigqueue sigaction sigprocmask sigpending sigsuspend pause sigreturn alarm setpgid" \
-        " setsid setctty tcgetpgrp tcsetpgrp settostop read write sched_yield"
+        " setsid setctty tcgetpgrp tcsetpgrp settostop read write sched_yield subreaper"
     listed(three, is_three)
     listed(instructions, is_instruction)
     listed(calls, is_call)
@@ -37,6 +37,7 @@ BEGIN {
     instead(other_call, "sigwait sigwaitinfo sigtimedwait", "sigsuspend")
     instead(other_call, "sleep usleep nanosleep", "alarm and pause")
     instead(other_call, "setitimer", "alarm")
+    instead(other_call, "prctl", "subreaper, for PR_SET_CHILD_SUBREAPER")
     instead(other_call, "open openat creat close pipe dup dup2 stat lseek socket select poll", \
         "read or write, of the controlling terminal: there are no files")
     instead(other_word, "shl shr sal sar lsl lsr", "mul or div by a power of 2")

@@ -10,8 +10,8 @@ STEPS = 100
 
 # So many registers, from r1 on, are read by the call; by all others none.
 READ = {'getpgid': 1, 'getsid': 1, 'setuid': 1, 'seteuid': 1, 'setgid': 1, 'setegid': 1, 'exit': 1, 'sigsuspend': 1,
-        'alarm': 1, 'setctty': 1, 'tcsetpgrp': 1, 'settostop': 1, 'waitpid': 2, 'kill': 2, 'sigprocmask': 2,
-        'setpgid': 2, 'read': 2, 'write': 2, 'exec': 3, 'waitid': 3, 'sigqueue': 3, 'sigaction': 4}
+        'alarm': 1, 'setctty': 1, 'tcsetpgrp': 1, 'settostop': 1, 'subreaper': 1, 'waitpid': 2, 'kill': 2,
+        'sigprocmask': 2, 'setpgid': 2, 'read': 2, 'write': 2, 'exec': 3, 'waitid': 3, 'sigqueue': 3, 'sigaction': 4}
 
 # More values, by the call and the register: with the others alone each waitid would be refused for its options.
 MORE_VALUES = {('waitid', 1): (2, 3), ('waitid', 2): (2,), ('waitid', 3): (2, 5, 9, 16, 2**24 + 1, 2**24 + 5)}
@@ -93,6 +93,9 @@ def finish(p, result):
     if isinstance(result, bytes):
         p.registers[0] = len(result)
         return f'{len(result)} bytes {result.hex()}'
+    if isinstance(result, str):
+        p.registers[0] = 0
+        return f'0 {result}'
     p.registers[0] = result
     return result
 

@@ -10,14 +10,16 @@ GREATEST_EVENT = 10**12
 GREATEST_PROCESS = 2**31 - 1
 
 # The forms of a line. E is an event, P and C are processes, Q is a sender; of the other names each has its own range.
+# `subreaper` has one form alone, so it isn't among the calls that any result may follow.
 NUMBER = '(?P<%s>0|-?[1-9][0-9]*)'
-FORMS = [re.compile(' '.join(NUMBER % word if word in 'ECPQRNSVW' else word for word in form.split())) for form in (
+FORMS = [re.compile(' '.join(NUMBER % word if word in 'EBCPQRNSVW' else word for word in form.split())) for form in (
     'E note P V',
     'E call P (?P<name>[a-z_]+) = R',
     'E call P (?P<name>waitpid) = C status W',
     'E call P (?P<name>waitid) = 0 (?P<mark>take|look) C status W',
     'E call P (?P<name>read|write) = N bytes (?P<hex>[0-9a-f]+)',
     'E call P (?P<name>fork|kill|sigqueue) = -11 memory',
+    'E call P subreaper = 0 mark B',
     'E handle P S V Q',
     'E (?P<form>discard) P S',
     'E (?P<form>stop) P S',
@@ -25,7 +27,7 @@ FORMS = [re.compile(' '.join(NUMBER % word if word in 'ECPQRNSVW' else word for 
     'E (?P<form>end) P W',
     'E (?P<form>halt)')]
 RANGES = {'E': (1, GREATEST_EVENT), 'P': (1, GREATEST_PROCESS), 'C': (1, GREATEST_PROCESS), 'Q': (0, GREATEST_PROCESS),
-          'V': (-2**63, 2**63 - 1), 'R': (-2**63, 2**63 - 1), 'N': (1, 16), 'W': (0, 65535), 'S': (1, 64)}
+          'V': (-2**63, 2**63 - 1), 'R': (-2**63, 2**63 - 1), 'N': (1, 16), 'W': (0, 65535), 'S': (1, 64), 'B': (0, 1)}
 
 
 def is_end(word):
@@ -76,6 +78,7 @@ class Life:
 
     def __init__(self, parent):
         self.parent = parent
+        self.is_subreaper = False   # its last `subreaper` line has mark 1
         self.status = None          # the status word of its end
         self.reported = False       # its end was
         self.has_stopped = False
@@ -93,6 +96,13 @@ class Audit:
 
     def is_living(self, number):
         return number in self.lives and self.lives[number].status is None
+
+    def heir(self, number):
+        """Who gets the children of a number as it ends: the nearest living forebear with the mark, or process 1."""
+        forebear = self.lives[number].parent
+        while self.is_living(forebear) and not self.lives[forebear].is_subreaper:
+            forebear = self.lives[forebear].parent
+        return forebear if self.is_living(forebear) else 1
 
     def fault_of(self, line):
         """The fault of a line, or None; then it counts."""
@@ -139,11 +149,14 @@ class Audit:
         elif form == 'stop':
             life = self.lives[parts['P']]
             life.has_stopped, life.stop, life.may_continue = True, parts['S'], True
+        elif 'B' in parts:
+            self.lives[parts['P']].is_subreaper = parts['B'] == 1
         elif form == 'end':
+            heir = self.heir(parts['P'])
             self.lives[parts['P']].status = parts['W']
             for life in self.lives.values():
                 if life.parent == parts['P']:
-                    life.parent = 1
+                    life.parent = heir
 
     def keep_report(self, child, word):
         child.reported = is_end(word)

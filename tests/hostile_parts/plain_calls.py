@@ -1,9 +1,9 @@
 """The results of calls by plain rules, from docs/FORMATS.md, for one process that acts while others do nothing.
 
-A rule takes the process and its registers r1 to r4. It answers r0, or the bytes that were moved, and changes the
-registers and the process where the call does. ENDS and BLOCKS are answered by calls that give no result. Arguments are
--2**63, -1, 0, 1 and 2**63 - 1 alone, so the only signal is 1, and process 1 the only one that has a number of these;
-but waitid has some more.
+A rule takes the process and its registers r1 to r4. It answers r0, or the bytes that were moved, or, where r0 is 0,
+what the trace says behind that; and it changes the registers and the process where the call does. ENDS and BLOCKS are
+answered by calls that give no result. Arguments are -2**63, -1, 0, 1 and 2**63 - 1 alone, so the only signal is 1, and
+process 1 the only one that has a number of these; but waitid has some more.
 """
 
 PERM, NOENT, SRCH, CHILD, FAULT, INVAL, NOTTY = -1, -2, -3, -10, -14, -22, -25
@@ -271,5 +271,6 @@ RULES = {
     'settostop': settostop,
     'read': read,
     'write': write,
+    'subreaper': lambda p, mark, *_: f'mark {int(mark != 0)}',
     'sched_yield': lambda p, *_: 0,
 }

@@ -12,7 +12,7 @@ BYTE = re.compile(rb'[0-9A-Fa-f]{2}')
 REGISTER = re.compile(rb'r[0-7]')
 CALLS = (b'getpid getppid fork exit waitpid waitid sched_yield getuid geteuid getgid getegid setuid setgid seteuid '
          b'setegid kill sigqueue sigaction sigprocmask sigpending pause sigsuspend sigreturn alarm getpgid getsid '
-         b'setpgid setsid exec setctty tcgetpgrp tcsetpgrp settostop read write').split()
+         b'setpgid setsid exec setctty tcgetpgrp tcsetpgrp settostop read write subreaper').split()
 GREATEST = 2**63 - 1
 
 # The operands of each instruction: r a register, v a value, l a label, c a call.

@@ -43,52 +43,6 @@ def stopped_word(number):
     return number * 256 + 127
 
 
-class Program:
-    def __init__(self, words):
-        self.name = words[1]
-        ids = dict(zip(words[2::2], map(int, words[3::2])))
-        self.setuid, self.setgid = ids.get('setuid'), ids.get('setgid')
-        self.code, self.labels = [], {}
-
-
-class World:
-    """What the text of a world says."""
-
-    def __init__(self, text):
-        lines = filter(None, (line.split('#')[0].replace(',', ' ').split() for line in text.split('\n')))
-        self.pidmax, self.consoles = int(next(lines)[1]), int(next(lines)[1])
-        self.programs = []
-        is_open = False
-        for words in lines:
-            if not is_open:
-                self.programs.append(Program(words))
-                is_open = True
-            elif words == ['end']:
-                is_open = False
-            elif words[0].endswith(':'):
-                self.programs[-1].labels[words[0][:-1]] = 16 + len(self.programs[-1].code)
-            else:
-                self.programs[-1].code.append(words)
-
-    def value(self, program, word):
-        if word[0] == '@':
-            return program.labels[word[1:]]
-        if word[0] == '$':
-            return [other.name for other in self.programs].index(word[1:])
-        return int(word)
-
-
-def read_events(text):
-    """The events of a text: ('step',), ('tick',) and ('key', console, byte)."""
-    for line in text.split('\n'):
-        words = line.split('#')[0].replace(',', ' ').split()
-        if words[:1] == ['key']:
-            yield from (('key', int(words[1]), int(byte, 16)) for byte in words[2:])
-        elif words:
-            for _ in range(int(words[1])):
-                yield words[0],
-
-
 class Process:
     def __init__(self):
         self.number, self.parent, self.group, self.session = 1, 0, 1, 1
@@ -97,7 +51,7 @@ class Process:
         self.mask, self.earlier, self.frames = 0, None, []  # earlier: the mask before sigsuspend
         self.standard, self.queue = {}, []                  # (value, sender) by signal; (signal, value, sender)
         self.actions = {}                                   # (handler, mask, flags) by signal
-        self.ran_exec, self.alarm, self.call = False, None, None
+        self.ran_exec, self.is_subreaper, self.alarm, self.call = False, False, None, None
         self.program, self.pc, self.r, self.memory = 0, 16, [0] * 8, [0] * 256
 
     def action(self, number):
@@ -188,6 +142,13 @@ class Machine:
 
     def children(self, p):
         return [q for q in self.rising() if q.parent == p.number]
+
+    def heir(self, p):
+        """Who gets the children of p as it ends: the nearest of its living forebears that is marked, or process 1."""
+        forebear = self.processes.get(p.parent)
+        while forebear and (forebear.life == 'zombie' or not forebear.is_subreaper):
+            forebear = self.processes.get(forebear.parent)
+        return forebear.number if forebear else 1
 
     def is_group_of(self, session, group):
         return any(p.session == session and p.group == group for p in self.processes.values())
@@ -438,9 +399,9 @@ class Machine:
         were_orphaned = {group: self.is_orphaned(group) for group in {q.group for q in self.processes.values()}}
         p.life, p.word, p.news, p.alarm, p.call = 'zombie', word, None, None, None
         p.standard, p.queue, p.frames = {}, [], []
-        orphans = self.children(p)
+        orphans, heir = self.children(p), self.heir(p)
         for child in orphans:
-            child.parent = 1
+            child.parent = heir
         for child in orphans:
             if child.life == 'zombie':
                 self.tell_of_end(child)
@@ -481,12 +442,17 @@ class Machine:
             return -EAGAIN
         child = copy.deepcopy(p)
         child.number, child.parent = number, p.number
-        child.standard, child.queue, child.news, child.ran_exec, child.alarm = {}, [], None, False, None
+        child.standard, child.queue, child.news, child.alarm = {}, [], None, None
+        child.ran_exec = child.is_subreaper = False
         child.r[0] = 0
         child.pc = signed(child.pc + 1)
         self.processes[number] = child
         self.last = number
         return number
+
+    def subreaper(self, p):
+        p.is_subreaper = p.r[1] != 0
+        return (0,), (0, 'mark', int(p.is_subreaper))
 
     def exit(self, p):
         self.end(p, p.r[1] % 256 * 256)

@@ -1,5 +1,9 @@
 pub mod RecordLemmas
-pub mod BirthLemmas
+pub mod FieldLemmas
+pub mod ChildLemmas
+pub mod KeptLemmas
+pub mod GiveLemmas
+pub mod HeirLemmas
 pub mod PassLemmas
 pub mod KnowLemmas
 pub mod PrintedLemmas

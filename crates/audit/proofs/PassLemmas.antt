@@ -2,7 +2,7 @@
 use Rattle.std.proofs.Common.{◌≡◌, ◌≢◌, ℕ, ◌≤◌, ◌/◌, ◌==◌, not, nat_lt, lit≤, subst, Result, Ok, Err, Bool, true, false, if◌then◌else◌, Option, Some, None, IfSome, refl, ap, sym, ◌∙◌, arith}
 use Rattle.posix.specs.Entries.{Line, process_of}
 use Rattle.posix.specs.declared.entry.Entry.{Entry}
-use Rattle.posix.specs.declared.entry.Entry.TheVariants.{Noted, Called, Moved, Reported, Looked, NoMemory, Handled, Discarded, Stopped, Returned, Ended, Halted}
+use Rattle.posix.specs.declared.entry.Entry.TheVariants.{Noted, Called, Moved, Reported, Looked, NoMemory, Marked, Handled, Discarded, Stopped, Returned, Ended, Halted}
 use Rattle.laws.specs.Lives.{is_halt, born_by, is_change_word}
 use Rattle.posix.specs.Statuses.{is_end_word, is_stopped_word, is_continued_word}
 use Rattle.audit.specs.declared.fault.AuditFault.{AuditFault}
@@ -37,6 +37,7 @@ no_process kept (Moved p call bytes) h = cc
 no_process kept (Reported p call c w) h = cc
 no_process kept (Looked p c w) h = cc
 no_process kept (NoMemory p call) h = cc
+no_process kept (Marked p mark) h = cc
 no_process kept (Handled p s value sender) h = cc
 no_process kept (Discarded p s) h = cc
 no_process kept (Stopped p s) h = cc
@@ -112,6 +113,7 @@ test_report kept (Moved p call bytes) = tt
 test_report kept (Reported p call c w) = test_word p w (kept c)
 test_report kept (Looked p c w) = test_word p w (kept c)
 test_report kept (NoMemory p call) = tt
+test_report kept (Marked p mark) = tt
 test_report kept (Handled p s value sender) = tt
 test_report kept (Discarded p s) = tt
 test_report kept (Stopped p s) = tt

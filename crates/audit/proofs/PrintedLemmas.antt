@@ -1,5 +1,5 @@
 -- No line feed stands in what is printed before the line feed of a line.
-use Rattle.std.proofs.Common.{◌≡◌, ℕ, zero, suc, ◌/◌, ◌%◌, ◌^◌, ◌<◌, ◌≤◌, ◌==◌, ◌&&◌, Bool, true, not, List, [], ◌∷◌, length, refl, ◌∙◌, arith}
+use Rattle.std.proofs.Common.{◌≡◌, ℕ, zero, suc, ◌/◌, ◌%◌, ◌^◌, ◌<◌, ◌≤◌, ◌==◌, ◌&&◌, Bool, true, false, not, List, [], ◌∷◌, length, refl, ◌∙◌, arith}
 use Rattle.std.specs.Prelude.{codes, decimal, nat_le, nat_lt, ℤ, pos, negsuc, slice_index_or}
 use Rattle.std.specs.Fmt.{signed_decimal}
 use Rattle.std.specs.List.{list_all, join_with_byte}
@@ -14,10 +14,10 @@ use Rattle.posix.specs.Printing.{digit, hex, words_of}
 use Rattle.posix.specs.Calls.{call_text}
 use Rattle.posix.specs.Entries.{Line}
 use Rattle.posix.specs.declared.call.Call.{Call}
-use Rattle.posix.specs.declared.call.Call.TheVariants.{Exit, Fork, Waitpid, Waitid, Pause, SchedYield, Getpid, Getppid, Getuid, Geteuid, Getgid, Getegid, Setuid, Seteuid, Setgid, Setegid, Kill, Sigqueue, Sigaction, Sigprocmask, Sigpending, Sigsuspend, Sigreturn, Alarm, Exec, Getpgid, Getsid, Setpgid, Setsid, Setctty, Tcgetpgrp, Tcsetpgrp, Settostop, Read, Write}
+use Rattle.posix.specs.declared.call.Call.TheVariants.{Exit, Fork, Waitpid, Waitid, Pause, SchedYield, Getpid, Getppid, Getuid, Geteuid, Getgid, Getegid, Setuid, Seteuid, Setgid, Setegid, Kill, Sigqueue, Sigaction, Sigprocmask, Sigpending, Sigsuspend, Sigreturn, Alarm, Exec, Getpgid, Getsid, Setpgid, Setsid, Setctty, Tcgetpgrp, Tcsetpgrp, Settostop, Read, Write, Subreaper}
 use Rattle.posix.specs.declared.entry.Entry.{Entry}
 use Rattle.posix.specs.declared.waits.WaitCall.TheVariants as wait
-use Rattle.posix.specs.declared.entry.Entry.TheVariants.{Noted, Called, Moved, Reported, Looked, NoMemory, Handled, Discarded, Stopped, Returned, Ended, Halted}
+use Rattle.posix.specs.declared.entry.Entry.TheVariants.{Noted, Called, Moved, Reported, Looked, NoMemory, Marked, Handled, Discarded, Stopped, Returned, Ended, Halted}
 use Rattle.laws.specs.TraceLines.{is_i64, is_number, is_result, moves_bytes, asks_memory, is_entry, is_line}
 use Rattle.posix.specs.Statuses.{is_end_word}
 use Rattle.audit.specs.Texts.{is_one_line}
@@ -74,6 +74,7 @@ name_one Tcsetpgrp = refl
 name_one Settostop = refl
 name_one Read = refl
 name_one Write = refl
+name_one Subreaper = refl
 
 item_one : (bs : List ℕ) (n : ℕ) → is_one_line bs ≡ true → not (slice_index_or bs n 0 == 10) ≡ true
 item_one [] n h = refl
@@ -128,6 +129,8 @@ words_one (Reported p wait.Waitpid c w) h = let one = told_one p c w h in rw (on
 words_one (Reported p wait.Waitid c w) h = let one = told_one p c w h in rw (one.0, one.1, one.2) refl
 words_one (Looked p c w) h = let one = told_one p c w h in rw (one.0, one.1, one.2) refl
 words_one (NoMemory p call) h = rw (pid_one p (and_parts (is_number p) (asks_memory call) h).0, name_one call) refl
+words_one (Marked p true) h = rw (pid_one p h) refl
+words_one (Marked p false) h = rw (pid_one p h) refl
 words_one (Handled p s z q) h =
     let a = and_parts (is_number p && is_signal s && is_i64 z) (nat_le q 2147483647) h in
     let b = and_parts (is_number p && is_signal s) (is_i64 z) a.0 in

@@ -10,15 +10,15 @@ use mathlib.Core.Path.{fun_ext}
 use Rattle.posix.specs.Entries.{Line}
 use Rattle.laws.specs.Keeping.{Kept, NeverBorn, kept_after, phase_after, fault_of}
 use Rattle.audit.specs.declared.fault.AuditFault.{AuditFault}
-use Rattle.audit.specs.declared.known.Record.{Record}
+use Rattle.audit.specs.declared.records.Record.{Record}
 use Rattle.audit.specs.declared.tests_of_lines.Phase.{Phase}
 use Rattle.audit.specs.Phases.{phase_said}
-use Rattle.audit.specs.Records.{kept_with, kept_by, kept_all, record_in}
+use Rattle.audit.specs.Records.{kept_record, kept_by, kept_all, record_in}
 use Rattle.audit.specs.Knowing.{AuditView, kept_at, Heard, StaysWith, IsNewBirth}
 
-known_or : (f : ℕ → Option Record) (o : Option Record) → unwrap_or (option_map (λ r. kept_with f (Some r)) o) NeverBorn ≡ kept_with f o
-known_or f None = refl
-known_or f (Some r) = refl
+known_or : (o : Option Record) → unwrap_or (option_map (λ r. kept_record (Some r)) o) NeverBorn ≡ kept_record o
+known_or None = refl
+known_or (Some r) = refl
 
 -- the look-ups of a map find what an equal number finds
 found_at : (entries : List (ℕ × Kept)) (c : ℕ) → lookup (nat_eq c) entries ≡ lookup (is_at (nat_cmp c)) entries
@@ -29,8 +29,8 @@ found_at (e ∷ es) c = rw (at_is c e.0, found_at es c) refl
 pub all_at : (entries : List (ℕ × Record)) (c : ℕ) → kept_at (kept_all entries) c ≡ kept_by entries c
 unfolding kept_at kept_all kept_by
 all_at entries c =
-    ap (λ (o : Option Kept). unwrap_or o NeverBorn) (found_at (kept_all entries) c ∙ lookup-map_values (λ r. kept_with (record_in entries) (Some r)) (is_at (nat_cmp c)) entries)
-    ∙ known_or (record_in entries) (record_in entries c)
+    ap (λ (o : Option Kept). unwrap_or o NeverBorn) (found_at (kept_all entries) c ∙ lookup-map_values (λ r. kept_record (Some r)) (is_at (nat_cmp c)) entries)
+    ∙ known_or (record_in entries c)
 
 all_kept : (entries : List (ℕ × Record)) → kept_by entries ≡ kept_at (kept_all entries)
 all_kept entries = sym (fun_ext (all_at entries))

@@ -2,9 +2,11 @@
 #![tactic(auto)]
 
 pub mod audit;
+pub(crate) mod children;
 pub mod fault;
 pub(crate) mod known;
 pub(crate) mod lines;
+pub(crate) mod records;
 pub(crate) mod tests_of_lines;
 pub mod texts;
 

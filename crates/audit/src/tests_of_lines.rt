@@ -1,6 +1,6 @@
 //! The tests of a line, by what is known of the numbers.
 
-ghost use Rattle.std.specs.Prelude.{◌≡◌, ℕ, true};
+ghost use Rattle.std.specs.Prelude.{◌≡◌, ℕ, Bool, true};
 ghost use Rattle.posix.specs.Entries.{line};
 ghost use Rattle.laws.specs.TraceLines.{is_entry};
 ghost use Rattle.laws.specs.Keeping.{number_fault, place_fault, birth_fault, report_fault, word_fault, fault_of_living, fault_of_ended, fault_of, phase_after as phase_said_after};
@@ -10,8 +10,9 @@ ghost use Rattle.audit.specs.Faults.{fault_number};
 ghost use Rattle.audit.specs.Phases.{phase_said};
 
 use crate::fault::AuditFault;
-use crate::known::{Known, State};
+use crate::known::Known;
 use crate::lines::born_by;
+use crate::records::State;
 use posix::{Entry, Pid, Sig, Status};
 
 /// Whether `halt` comes next, or nothing.
@@ -135,6 +136,7 @@ impl State {
                 has_stopped,
                 stop,
                 may_continue,
+                ..
             } => test_living(has_stopped, stop, may_continue, word),
             State::Ended { status, reported } => test_ended(status, reported, word),
         }
@@ -148,7 +150,7 @@ fn test_living(
     may_continue: bool,
     word: Status,
 ) -> Result<(), AuditFault>
-    ensures { (p : ℕ) → fault_number result ≡ fault_of_living p word (record { parent = p; has_stopped = has_stopped; stop = stop; may_continue = may_continue }) }
+    ensures { (p : ℕ) (mark : Bool) → fault_number result ≡ fault_of_living p word (record { parent = p; is_marked = mark; has_stopped = has_stopped; stop = stop; may_continue = may_continue }) }
 {
     if word.is_end() {
         Err(AuditFault::NotHappened)

@@ -13,6 +13,8 @@ use Rattle.posix.specs.Statuses.{continued}
 use Rattle.posix.specs.Generation.{signalled, effect_of}
 use Rattle.posix.specs.Notices.{child_signal, noticed_of_change, told_of_change, resumed, acted_upon, generated_for, signalled_all}
 use Rattle.posix.specs.Choice.{from_kernel}
+use Rattle.posix.proofs.TableLemmas.{pid_looked}
+use Rattle.posix.specs.Heirs.{heir_in}
 use Rattle.posix.specs.Ends.{signalled_members, signalled_group, hung_up, hang_up, end_process, end_with_heir}
 use Rattle.posix.specs.Outcomes.{Outcome}
 use Rattle.posix.proofs.MapLemmas.{at_keeps, at_pid, lookup_on}
@@ -93,14 +95,15 @@ remains s x p r e =
 -- ---- an end
 
 -- a process ends as the record does that is there after its terminal is hung up
-pub end_hung : (s hung new : State) (r : Process) (p status : ℕ) → process s p ≡ Some r → hung ≡ hang_up s r → ((q : Process) → process hung p ≡ Some q → new ≡ (end_with_heir hung q 1 status).state)
-    → new ≡ (end_process s r status).state
+pub end_hung : (s hung new : State) (r : Process) (p heir status : ℕ) → process s p ≡ Some r → hung ≡ hang_up s r → heir ≡ heir_in hung.processes p
+    → ((q : Process) → process hung p ≡ Some q → new ≡ (end_with_heir hung q heir status).state) → new ≡ (end_process s r status).state
 unfolding end_process
-end_hung s hung new r p status e is ends =
+end_hung s hung new r p heir status e is inherits ends =
     let now = remains s r p r e in
     ends now.what (ap (λ (t : State). process t p) is ∙ now.found)
-    ∙ ap (λ (t : State). (end_with_heir t now.what 1 status).state) is
-    ∙ ap (λ (o : Outcome). o.state) (end_alike (hang_up s r) now.what r 1 status now.pid now.parent)
+    ∙ ap (λ (t : State). (end_with_heir t now.what heir status).state) is
+    ∙ ap (λ h. (end_with_heir (hang_up s r) now.what h status).state) (inherits ∙ ap (λ (t : State). heir_in t.processes p) is ∙ ap (heir_in (hang_up s r).processes) (sym (pid_looked p s.processes r e)))
+    ∙ ap (λ (o : Outcome). o.state) (end_alike (hang_up s r) now.what r (heir_in (hang_up s r).processes r.pid) status now.pid now.parent)
 
 -- who is there is there
 pub some_hung : (s hung : State) (r : Process) (p : ℕ) → process s p ≡ Some r → hung ≡ hang_up s r → IsSome (process hung p)

@@ -1,7 +1,7 @@
 -- What the functions of calls come to.
 use Rattle.std.specs.Prelude.{◌≡◌, ◌≢◌, ◌==◌, ◌&&◌, not, ⊤, ℕ, ◌+◌, ◌*◌, ◌≤◌, if◌then◌else◌, length, Option, None, Bool, true, false, List, [], ◌∷◌, ◌++◌, Some, ℤ, pos, Result, Ok, Err}
 use Rattle.posix.specs.declared.call.Call.{Call}
-use Rattle.posix.specs.declared.call.Call.TheVariants.{Exit, Fork, Waitpid, Waitid, Pause, SchedYield, Getppid, Kill, Sigqueue, Sigsuspend, Sigreturn, Alarm, Exec, Getpgid, Getsid, Setpgid, Setsid, Setctty, Tcgetpgrp, Tcsetpgrp, Settostop, Read, Write}
+use Rattle.posix.specs.declared.call.Call.TheVariants.{Exit, Fork, Waitpid, Waitid, Pause, SchedYield, Getppid, Kill, Sigqueue, Sigsuspend, Sigreturn, Alarm, Exec, Getpgid, Getsid, Setpgid, Setsid, Setctty, Tcgetpgrp, Tcsetpgrp, Settostop, Read, Write, Subreaper}
 use Rattle.posix.specs.declared.entry.Entry.{Entry}
 use Rattle.posix.specs.declared.entry.Entry.TheVariants.{Called, NoMemory}
 use Rattle.posix.specs.declared.errno.Errno.{Errno}
@@ -191,6 +191,7 @@ changes_caller_alone Tcsetpgrp = false
 changes_caller_alone Settostop = false
 changes_caller_alone Read = false
 changes_caller_alone Write = false
+changes_caller_alone Subreaper = false
 changes_caller_alone call = true
 
 -- what a call gives that is done, or refused

@@ -21,7 +21,7 @@ use crate::groups::{getpgid, getsid, setpgid, setsid};
 use crate::kills::{kill, sigqueue};
 use crate::outcome::Attempt;
 use crate::programs::exec;
-use crate::replies::{own_call, refusal};
+use crate::replies::{asks_for_mark, own_call, refusal};
 use crate::terminals::{setctty, settostop, tcgetpgrp, tcsetpgrp};
 use crate::transfers::{read, write};
 use crate::waits::wait;
@@ -162,6 +162,19 @@ fn exit<K: Kin>(machine: &mut Machine<K>, pid: Pid, entries: &mut Entries) -> At
     Attempt::Done
 }
 
+/// The caller becomes a child subreaper where r1 isn't 0, else it is none any more (prctl(2)).
+#[tactic(auto, unfolding(posix::specs::Attempts::attempt, posix::specs::Subreapers::subreaper))]
+fn subreaper<K: Kin>(machine: &mut Machine<K>, pid: Pid, entries: &mut Entries) -> Attempt
+    requires there { IsSome (process machine.old.state pid) }
+    requires room { length entries.old.items ≤ 1 }
+    ensures { Attempts machine.old.state pid Call.Subreaper result entries.old.items entries.new.items machine.new.state }
+{
+    let mark = asks_for_mark(machine.look(pid));
+    machine.mark(pid, mark);
+    entries.push(Entry::Marked { pid, mark });
+    Attempt::Done
+}
+
 /// Returns from the newest handler (sigreturn(2)).
 #[tactic(auto, unfolding(posix::specs::Attempts::attempt))]
 fn sigreturn<K: Kin>(machine: &mut Machine<K>, pid: Pid, entries: &mut Entries) -> Attempt
@@ -247,6 +260,7 @@ pub fn attempt<K: Kin>(
         Call::Settostop => settostop(machine, pid, entries),
         Call::Read => read(machine, pid, entries),
         Call::Write => write(machine, pid, entries),
+        Call::Subreaper => subreaper(machine, pid, entries),
         _ => own_call(machine.own(pid), pid, call, entries),
     }
 }

@@ -1,6 +1,6 @@
 //! Delivery of signals, machine faults, and returns from handlers.
 
-ghost use Rattle.std.specs.Prelude.{◌≡◌, ◌==◌, ◌&&◌, not, ◌≤◌, ◌++◌, [], IsSome, Some, false, true, length, if◌then◌else◌};
+ghost use Rattle.std.specs.Prelude.{◌≡◌, ◌==◌, ◌&&◌, not, ◌+◌, ◌≤◌, ◌++◌, [], IsSome, Some, false, true, length, if◌then◌else◌};
 ghost use Rattle.posix.specs.Processes.{Process};
 ghost use Rattle.posix.specs.States.{process, has_place};
 ghost use Rattle.posix.specs.Handlers.{is_full};
@@ -8,45 +8,35 @@ ghost use Rattle.calls.specs.Outcomes.{CostsAtMost, enters_handler};
 ghost use Rattle.posix.specs.Regular.{IsPlaced};
 ghost use Rattle.posix.specs.Groups.{is_orphaned};
 ghost use Rattle.posix.specs.Ends.{end_process};
-ghost use Rattle.posix.specs.Delivery.{call_of as call_in, interruption as interruption_of, handle as handling, discard as discarding, stop_or_discard, act_by_default as acting_by_default, deliver as delivering, fault as faulting, return_from_handler as returning};
+ghost use Rattle.life.specs.Ends.{slots_of_end};
+ghost use Rattle.posix.specs.Delivery.{interruption as interruption_of, handle as handling, discard as discarding, stop_or_discard, act_by_default as acting_by_default, deliver as delivering, fault as faulting, return_from_handler as returning};
 ghost use Rattle.posix.specs.SignalNumbers.{STOP, default_action};
 
 use crate::entries::Entries;
 use crate::replies::refusal;
 use life::Machine;
 use posix::{
-    Action, Blocked, Call, Carried, DefaultAction, Entry, Errno, Handler, PendingSignal, Pid, Sig,
-    Status,
+    Action, Blocked, Carried, DefaultAction, Entry, Errno, Handler, PendingSignal, Pid, Sig, Status,
 };
 use proctable::Kin;
 use signal::is_interrupted;
 
 /// The end of a process that is there, and what it shows. The terminal of the session that it leads is hung up
-/// first, and its heir is process 1 (XSH _exit).
+/// first (XSH _exit).
 #[tactic(auto, unfolding(posix::specs::Ends::end_process))]
 pub fn end<K: Kin>(machine: &mut Machine<K>, pid: Pid, status: Status, entries: &mut Entries)
     requires there { IsSome (process machine.old.state pid) }
     requires room { length entries.old.items ≤ 2 }
     ensures state { (me : Process) → process machine.old.state pid ≡ Some me → machine.new.state ≡ (end_process machine.old.state me status).state }
     ensures entries { (me : Process) → process machine.old.state pid ≡ Some me → entries.new.items ≡ entries.old.items ++ (end_process machine.old.state me status).entries }
+    ensures visits { (me : Process) → process machine.old.state pid ≡ Some me → machine.new.visits ≤ machine.old.visits + slots_of_end machine.old me status }
 {
     machine.hang_up(pid);
-    machine.end(pid, Pid::INIT, status);
+    let heir = machine.heir(pid);
+    machine.end(pid, heir, status);
     entries.push(Entry::Ended { pid, status });
     if pid == Pid::INIT {
         entries.push(Entry::Halted);
-    }
-}
-
-/// The call in which a process is blocked.
-fn call_of(blocked: Blocked) -> Call
-    ensures { result ≡ call_in blocked }
-{
-    match blocked {
-        Blocked::Wait(call) => call.call(),
-        Blocked::Read => Call::Read,
-        Blocked::Pause => Call::Pause,
-        Blocked::Sigsuspend(_) => Call::Sigsuspend,
     }
 }
 
@@ -63,7 +53,7 @@ fn show_interruption(pid: Pid, blocked: &Option<Blocked>, action: &Action, entri
     {
         entries.push(Entry::Called {
             pid,
-            call: call_of(blocked),
+            call: blocked.call(),
             result: refusal(Errno::EINTR),
         });
     }

@@ -4,6 +4,7 @@ ghost use Rattle.std.specs.Prelude.{◌≡◌, ◌≤◌, length, pos, true, is_
 ghost use Rattle.std.specs.Int.{cast_unsigned, w64};
 ghost use Rattle.posix.specs.Processes.{Process, argument};
 ghost use Rattle.posix.specs.Outcomes.{refusal as refusal_of};
+ghost use Rattle.posix.specs.Terminals.{is_nonzero};
 ghost use Rattle.posix.specs.Sends.{signal_in as signal_number_in};
 ghost use Rattle.posix.specs.SignalCalls.{handler_word as handler_word_of, handler_in as handler_held_in, is_question as is_question_in, are_flags, action_in as action_held_in, sigaction as sigaction_of, sigprocmask as sigprocmask_of, sigpending as sigpending_of, holding};
 ghost use Rattle.proctable.specs.Records.{give_own};
@@ -161,6 +162,13 @@ fn sigpending(own: &mut OwnPart) -> Result<(), Errno>
     own.cpu
         .set_register(Register::FIRST_ARGUMENT, own.signals.pending().word());
     Ok(())
+}
+
+/// Whether a process asks to be a child subreaper: r1 isn't 0.
+pub fn asks_for_mark(own: &OwnPart) -> bool
+    ensures { (r : Process) → result ≡ is_nonzero (argument (give_own own.now r) 1) }
+{
+    own.cpu.register(Register::FIRST_ARGUMENT) != 0
 }
 
 /// What a call of a process, with this of its own, gives, that changes the process alone.

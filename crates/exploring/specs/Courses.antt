@@ -3,7 +3,7 @@ use Rattle.std.specs.Prelude.{◌≡◌, ℕ, ◌+◌, Bool, true, false, List, 
 use Rattle.std.specs.List.{list_any}
 use Rattle.posix.specs.declared.event.Event.{Event}
 use Rattle.posix.specs.declared.entry.Entry.{Entry}
-use Rattle.posix.specs.declared.entry.Entry.TheVariants.{Noted, Called, Moved, Reported, Looked, NoMemory, Handled, Discarded, Stopped, Returned, Ended, Halted}
+use Rattle.posix.specs.declared.entry.Entry.TheVariants.{Noted, Called, Moved, Reported, Looked, NoMemory, Marked, Handled, Discarded, Stopped, Returned, Ended, Halted}
 use Rattle.posix.specs.Entries.{Line, line, numbered}
 use Rattle.posix.specs.States.{State, World, boot}
 use Rattle.posix.specs.Step.{next}
@@ -42,6 +42,7 @@ denies_memory (Moved pid call bytes) = false
 denies_memory (Reported pid call child status) = false
 denies_memory (Looked pid child status) = false
 denies_memory (NoMemory pid call) = true
+denies_memory (Marked pid mark) = false
 denies_memory (Handled pid sig value sender) = false
 denies_memory (Discarded pid sig) = false
 denies_memory (Stopped pid sig) = false

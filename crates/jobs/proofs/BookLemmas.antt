@@ -16,9 +16,10 @@ use Rattle.posix.specs.Tables.{IsRising, lookup, adopted, reparented, above, fir
 use Rattle.posix.specs.Groups.{is_anchor}
 use Rattle.posix.specs.Waits.{WEXITED, WSTOPPED, WCONTINUED, has_option, is_something, report_life, report_of, reports, wanted_in}
 use Rattle.posix.specs.Alarms.{is_due}
-use Rattle.pidset.specs.Indexes.{IndexView, IsRekeyed, IsNextPair, IsAt, anchor_key, is_key, key_of}
+use Rattle.pidset.specs.Indexes.{IndexView, IsRekeyed, IsNextPair, IsAt, anchor_key, has_within, is_key, is_pair_in, key_of}
 use Rattle.pidset.specs.Lists.{ListsView}
-use Rattle.pidset.proofs.IndexLemmas.{IsElsewhere, can_replace, unmoved, indexed_moved, indexed_map, indexed_rekeyed, index_moved, index_map, index_empty, rekeyed, next_pair, members_passing}
+use Rattle.pidset.proofs.IndexLemmas.{IsElsewhere, can_replace, unmoved, indexed_moved, indexed_map, indexed_rekeyed, rekeyed_none, index_moved, index_map, index_empty, rekeyed, next_pair, members_passing}
+use Rattle.pidset.proofs.PairLemmas.{none_within}
 use Rattle.posix.proofs.TableLemmas.{pid_reparented, reparented_keeps, rising_filter}
 use Rattle.posix.proofs.WalkLemmas.{Passes, both_pass, filters_commute, first_passes, found_above}
 use Rattle.jobs.specs.declared.books.Books.{Books}
@@ -29,7 +30,7 @@ use Rattle.jobs.specs.declared.groups.Counted.{Counted}
 use Rattle.jobs.specs.declared.groups.Counted.TheVariants.{Anchors, Stopped}
 use Rattle.jobs.specs.Counts.{counted_in}
 use Rattle.jobs.specs.JobTables.{AreAnchors}
-use Rattle.jobs.specs.Books.{AreBooks, CanMove, AreMoved, lesser, room_in, seen_of, sort_of, is_of_sort, rank, sorted, least, report_in, report_key, stopped_in, stopped_key, alarm_in, alarm_key, member_in, member_key}
+use Rattle.jobs.specs.Books.{AreBooks, CanMove, AreMoved, lesser, room_in, seen_of, sort_of, is_living_subreaper, is_of_sort, rank, sorted, least, report_in, report_key, stopped_in, stopped_key, alarm_in, alarm_key, marked_in, marked_key, member_in, member_key}
 
 -- ---- one process
 
@@ -39,30 +40,32 @@ pub record Sees (p parent : ℕ) (it : Option Seen) (rs : List Process) : Type 0
   pub reporting : key_of report_key p rs ≡ report_in parent it
   pub stopped : key_of stopped_key p rs ≡ stopped_in it
   pub alarmed : key_of alarm_key p rs ≡ alarm_in it
+  pub subreapers : key_of marked_key p rs ≡ marked_in it
 
 pub sees : (p : ℕ) (r : Process) (rs : List Process) → lookup p rs ≡ Some r → Sees p r.parent (Some (seen_of r)) rs
-sees p r rs e = record { members = ap (option_and_then member_key) e; reporting = ap (option_and_then report_key) e; stopped = ap (option_and_then stopped_key) e; alarmed = ap (option_and_then alarm_key) e }
+sees p r rs e = record { members = ap (option_and_then member_key) e; reporting = ap (option_and_then report_key) e; stopped = ap (option_and_then stopped_key) e; alarmed = ap (option_and_then alarm_key) e; subreapers = ap (option_and_then marked_key) e }
 
 pub sees_none : (p parent : ℕ) (rs : List Process) → lookup p rs ≡ None → Sees p parent None rs
-sees_none p parent rs e = record { members = ap (option_and_then member_key) e; reporting = ap (option_and_then report_key) e; stopped = ap (option_and_then stopped_key) e; alarmed = ap (option_and_then alarm_key) e }
+sees_none p parent rs e = record { members = ap (option_and_then member_key) e; reporting = ap (option_and_then report_key) e; stopped = ap (option_and_then stopped_key) e; alarmed = ap (option_and_then alarm_key) e; subreapers = ap (option_and_then marked_key) e }
 
 -- so many processes have room in each
 abbrev pub Fits : ℕ → Books → Type 0
-Fits n b = (n ≤ b.reporting.room) × (n ≤ b.stopped.room) × (n ≤ b.alarmed.room)
+Fits n b = (n ≤ b.reporting.room) × (n ≤ b.stopped.room) × (n ≤ b.alarmed.room) × (n ≤ b.subreapers.room)
 
 pub can_move : (p parent : ℕ) (it : Option Seen) (rs : List Process) (b : Books) → IsRising rs → AreBooks rs b → Sees p parent it rs → (lookup p rs ≡ None → Fits (length rs + 1) b) → CanMove p parent it b
 can_move p parent it rs b up h s free = record {
   reporting = rw (← s.reporting) (can_replace report_key p rs b.reporting up h.reporting (λ e. let k = (free e).0 in omega (arith, k)));
   stopped = rw (← s.stopped) (can_replace stopped_key p rs b.stopped up h.stopped (λ e. let k = (free e).1 in omega (arith, k)));
   alarmed = rw (← s.alarmed) (can_replace alarm_key p rs b.alarmed up h.alarmed (λ e. let k = (free e).2 in omega (arith, k)));
+  subreapers = rw (← s.subreapers) (can_replace marked_key p rs b.subreapers up h.subreapers (λ e. let k = (free e).3 in omega (arith, k)));
 }
 
 pub fits : (rs : List Process) (n : ℕ) (b : Books) → AreBooks rs b → n ≤ length rs → Fits n b
-fits rs n b h e = (omega (arith, e, h.reporting.room), omega (arith, e, h.stopped.room), omega (arith, e, h.alarmed.room))
+fits rs n b h e = (omega (arith, e, h.reporting.room), omega (arith, e, h.stopped.room), omega (arith, e, h.alarmed.room), omega (arith, e, h.subreapers.room))
 
 -- where there is room for one more, one more has room in each
 pub fits_more : (k n : ℕ) (b : Books) → 0 < lesser k (room_in n b) → Fits (n + 1) b
-fits_more k n b h = (grind (arith, nat_tests, h), grind (arith, nat_tests, h), grind (arith, nat_tests, h))
+fits_more k n b h = (grind (arith, nat_tests, h), grind (arith, nat_tests, h), grind (arith, nat_tests, h), grind (arith, nat_tests, h))
 
 -- the record of p is changed, comes or goes, and p moves
 pub books_moved : (p parent : ℕ) (it : Option Seen) (rs ts : List Process) (old new : Books) (anchors : ListsView) → IsElsewhere p rs ts → Fits (length ts) old → AreBooks rs old → Sees p parent it ts → AreMoved p parent it old new → AreBooks ts (record new { anchors = anchors })
@@ -71,6 +74,7 @@ books_moved p parent it rs ts old new anchors same fits h s k = record {
   reporting = indexed_moved report_key p rs ts old.reporting new.reporting same fits.0 h.reporting (rw s.reporting k.reporting);
   stopped = indexed_moved stopped_key p rs ts old.stopped new.stopped same fits.1 h.stopped (rw s.stopped k.stopped);
   alarmed = indexed_moved alarm_key p rs ts old.alarmed new.alarmed same fits.2 h.alarmed (rw s.alarmed k.alarmed);
+  subreapers = indexed_moved marked_key p rs ts old.subreapers new.subreapers same fits.3 h.subreapers (rw s.subreapers k.subreapers);
 }
 
 -- where p is seen as before, it moves in none
@@ -81,6 +85,7 @@ books_unmoved p parent it rs b h s = record {
   reporting = record { moved = unmoved report_key p rs b.reporting.pairs _ h.reporting.index (sym s.reporting); once = h.reporting.once; room = refl };
   stopped = record { moved = unmoved stopped_key p rs b.stopped.pairs _ h.stopped.index (sym s.stopped); once = h.stopped.once; room = refl };
   alarmed = record { moved = unmoved alarm_key p rs b.alarmed.pairs _ h.alarmed.index (sym s.alarmed); once = h.alarmed.once; room = refl };
+  subreapers = record { moved = unmoved marked_key p rs b.subreapers.pairs _ h.subreapers.index (sym s.subreapers); once = h.subreapers.once; room = refl };
 }
 
 -- ---- all processes
@@ -90,14 +95,15 @@ abbrev pub IsSortRekeyed : Sort → ℕ → ℕ → IndexView → IndexView → 
 IsSortRekeyed sort from to old new = IsRekeyed (sorted from sort) (sorted to sort) old new
 
 pub books_adopted : (from to : ℕ) → from ≢ to → (rs : List Process) (old new : Books) (ended stopped : IndexView) → IsSortRekeyed End from to old.reporting ended → IsSortRekeyed Stop from to ended stopped → IsSortRekeyed Continue from to stopped new.reporting
-    → new.members ≡ old.members → new.stopped ≡ old.stopped → new.alarmed ≡ old.alarmed → AreBooks rs old → AreBooks (adopted from to rs) new
+    → new.members ≡ old.members → new.stopped ≡ old.stopped → new.alarmed ≡ old.alarmed → new.subreapers ≡ old.subreapers → AreBooks rs old → AreBooks (adopted from to rs) new
 unfolding adopted
-books_adopted from to ne rs old new ended stopped k0 k1 k2 m e g h = record {
+books_adopted from to ne rs old new ended stopped k0 k1 k2 m e g u h = record {
   members = rw m (index_map member_key member_key (reparented from to) (pid_reparented from to) (reparented_keeps member_key from to (λ r. refl)) rs old.members.pairs h.members);
   reporting = indexed_map report_key (λ r. moved Continue (moved Stop (moved End (report_key r)))) (reparented from to) (pid_reparented from to) reports rs new.reporting
       (indexed_rekeyed _ _ _ (apart Continue) rs stopped new.reporting (indexed_rekeyed _ _ _ (apart Stop) rs ended stopped (indexed_rekeyed report_key _ _ (apart End) rs old.reporting ended h.reporting k0) k1) k2);
   stopped = rw e (indexed_map stopped_key stopped_key (reparented from to) (pid_reparented from to) (reparented_keeps stopped_key from to (λ r. refl)) rs old.stopped h.stopped);
   alarmed = rw g (indexed_map alarm_key alarm_key (reparented from to) (pid_reparented from to) (reparented_keeps alarm_key from to (λ r. refl)) rs old.alarmed h.alarmed);
+  subreapers = rw u (indexed_map marked_key marked_key (reparented from to) (pid_reparented from to) (reparented_keeps marked_key from to (λ r. refl)) rs old.subreapers h.subreapers);
 }
   where
     moved : Sort → Option ℕ → Option ℕ
@@ -108,6 +114,22 @@ books_adopted from to ne rs old new ended stopped k0 k1 k2 m e g h = record {
 
     reports : (r : Process) → report_key (reparented from to r) ≡ moved Continue (moved Stop (moved End (report_key r)))
     reports r = grind arith
+
+-- nobody stands under a sort of a parent of whom no child reports
+silent : (parent : ℕ) (sort : Sort) (c : ℕ) (b : Books) → has_within (sorted parent End) (sorted parent Continue) b.reporting.pairs ≡ false → is_pair_in (sorted parent sort) c b.reporting.pairs ≡ false
+silent parent sort c b none = let few = by sort in none_within _ _ (sorted parent sort) c b.reporting.pairs (omega arith) (omega (arith, few)) none
+  where
+    by : (s : Sort) → rank s ≤ 2
+    by End = omega arith
+    by Stop = omega arith
+    by Continue = omega arith
+
+-- so nothing moves where its children become those of another
+pub books_silent : (from to : ℕ) → from ≢ to → (rs : List Process) (b : Books) → has_within (sorted from End) (sorted from Continue) b.reporting.pairs ≡ false → AreBooks rs b → AreBooks (adopted from to rs) b
+books_silent from to ne rs b none h = books_adopted from to ne rs b b b.reporting b.reporting (still End) (still Stop) (still Continue) refl refl refl refl h
+  where
+    still : (sort : Sort) → IsSortRekeyed sort from to b.reporting b.reporting
+    still sort = rekeyed_none (sorted from sort) (sorted to sort) b.reporting h.reporting.once (λ c. silent from sort c b none)
 
 -- ---- reading
 
@@ -123,6 +145,10 @@ is_listed group p rs b list h at = sym (at group) ∙ h.members p group ∙ elim
 -- nobody is stopped where none stands in the index of these
 pub none_stopped : (rs : List Process) (b : Books) → IsRising rs → AreBooks rs b → (length b.stopped.pairs == 0) ≡ not (list_any (λ r. is_stopped r.life) rs)
 none_stopped rs b up h = index_empty stopped_key (λ r. is_stopped r.life) (λ r. elim (is_stopped r.life) as (λ s. is_some (cond s (Some r.group) None) ≡ s) [ true ↦ refl | false ↦ refl ]) rs b.stopped.pairs up h.stopped.index
+
+-- so nobody living is a child subreaper
+pub none_marked : (rs : List Process) (b : Books) → IsRising rs → AreBooks rs b → (length b.subreapers.pairs == 0) ≡ not (list_any is_living_subreaper rs)
+none_marked rs b up h = index_empty marked_key is_living_subreaper (λ r. elim (is_living_subreaper r) as (λ s. is_some (cond {A = Option ℕ} s (Some 0) None) ≡ s) [ true ↦ refl | false ↦ refl ]) rs b.subreapers.pairs up h.subreapers.index
 
 -- the next of the children that report a sort
 pub next_sorted : (parent : ℕ) (sort : Sort) (n : ℕ) (rs : List Process) (b : Books) (next : Option ℕ) (is_wanted : Bool) → is_wanted ≡ true → IsRising rs → AreBooks rs b → IsNextPair (sorted parent sort) n b.reporting.pairs next → next ≡ first_pid (above n (filter (λ r. is_wanted && is_of_sort sort r) (children_in parent rs)))
@@ -213,6 +239,16 @@ next_wanted parent n options rs ended stopped continued up e s c =
     let two : least ended stopped ≡ first_pid (above n (filter (λ r. is_wanted_sort options WEXITED End r || is_wanted_sort options WSTOPPED Stop r) kids)) = rw (e, s) (least_above _ _ n kids kids_up) in
     let all : least (least ended stopped) continued ≡ first_pid (above n (filter (λ r. (is_wanted_sort options WEXITED End r || is_wanted_sort options WSTOPPED Stop r) || is_wanted_sort options WCONTINUED Continue r) kids)) = rw (two, c) (least_above _ _ n kids kids_up) in
     all ∙ ap (λ l. first_pid (above n l)) (filter_agree _ (reports options) (wanted_sorts options) kids)
+
+-- there is none where no child reports
+pub none_wanted : (parent n options : ℕ) (rs : List Process) (b : Books) → IsRising rs → AreBooks rs b → has_within (sorted parent End) (sorted parent Continue) b.reporting.pairs ≡ false → None ≡ first_pid (above n (wanted_in options parent rs))
+none_wanted parent n options rs b up h none = next_wanted parent n options rs None None None up (no WEXITED End) (no WSTOPPED Stop) (no WCONTINUED Continue)
+  where
+    no : (option : ℕ) (sort : Sort) → None ≡ first_pid (above n (filter (is_wanted_sort options option sort) (children_in parent rs)))
+    no option sort = elim (has_option options option) as (λ t. has_option options option ≡ t → None ≡ first_pid (above n (filter (is_wanted_sort options option sort) (children_in parent rs)))) [
+      | true ↦ λ e. next_sorted parent sort n rs b None (has_option options option) e up h (record { there = λ p k. absurd (cc); least = λ p k l. let out : false ≡ true = sym (silent parent sort p b none) ∙ k in absurd (cc) })
+      | false ↦ λ e. none_sorted sort n parent rs (has_option options option) e
+    ] refl
 
 -- the next of those whose alarm is due at a tick
 pub next_due : (tick n : ℕ) (rs : List Process) (b : Books) (next : Option ℕ) → IsRising rs → AreBooks rs b → IsNextPair tick n b.alarmed.pairs next → next ≡ first_pid (above n (filter (λ r. is_due tick r.alarm) rs))

@@ -143,7 +143,7 @@ pub kept_alarmed : (n : ℕ) (rs new : List Process) (p : ℕ) (b c : Record) (b
 kept_alarmed n rs new p b c books set found is same moved k =
     let now = record_found rs p b c found in
     let rest = books_unmoved p (parent_of p rs) (Some (record (record_seen c) { alarm = b.alarm })) rs books k.books (rw same (sees p _ rs found)) in
-    kept_moved n rs new p b c books (record books { alarmed = set }) books.anchors found is (record { members = rest.members; numbers = refl; reporting = rest.reporting; stopped = rest.stopped; alarmed = moved })
+    kept_moved n rs new p b c books (record books { alarmed = set }) books.anchors found is (record { members = rest.members; numbers = refl; reporting = rest.reporting; stopped = rest.stopped; alarmed = moved; subreapers = rest.subreapers })
     (ready_record n p rs b c books found (inl (ap (λ (w : Seen). w.group) same)) k).1
     (anchors_same p rs (with_record rs p c) (record_seen b) (record_seen c) books.anchors.pairs (elsewhere_record rs p c) (ap (option_map seen_of) found) (ap (option_map seen_of) now) (rw now refl) (ap stance_in same) (ap (λ (w : Seen). is_zombie w.life) same) k.anchors.index) refl k
 

@@ -22,7 +22,7 @@ OnlySignals f = (r : Process) → f r ≡ record r { signals = (f r).signals; al
 
 -- what a table keeps of it
 record_of : Process → Record
-record_of r = record { own = own_of r; life = r.life; news = r.news; group = r.group; session = r.session; alarm = r.alarm; birth = r.birth }
+record_of r = record { own = own_of r; life = r.life; news = r.news; group = r.group; session = r.session; alarm = r.alarm; is_subreaper = r.is_subreaper; birth = r.birth }
 
 pub signals_as : {F T : Type 0} {g : Once F (MutBor Record × Unit {0}) (T × (MutBor Record × Unit {0}))} {change : F} (p : ℕ) (f : Process → Process) → OnlySignals f
     → ((b c : Record) (r : T) → FnOnceReturnsAtMut g change b r c → (q : ℕ) → process_of p q c ≡ f (process_of p q b)) → ChangesSignals g change

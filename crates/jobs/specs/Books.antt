@@ -1,7 +1,7 @@
 -- The indexes that a table of jobs keeps of its processes.
 use Rattle.std.specs.Prelude.{◌≡◌, ◌<◌, ◌≤◌, IfSome, ℕ, ◌-◌, ◌*◌, ◌+◌, Bool, false, not, ◌==◌, ◌&&◌, ◌||◌, if◌then◌else◌, nat_le, nat_lt, List, Option, Some, None, option_map}
 use Rattle.std.specs.Option.{option_map_or}
-use Rattle.posix.specs.Processes.{Process, is_zombie, is_stopped}
+use Rattle.posix.specs.Processes.{Process, is_living, is_zombie, is_stopped}
 use Rattle.posix.specs.declared.process.Life.{Life}
 use Rattle.posix.specs.declared.process.Life.TheVariants.{Running, Stopped, Zombie}
 use Rattle.posix.specs.declared.process.News.{News}
@@ -16,13 +16,13 @@ use Rattle.jobs.specs.declared.books.Sort.TheVariants.{End, Stop, Continue}
 
 -- what the indexes see of a process but its parent, as it is, by its record and by its snapshot
 abbrev pub seen_of : Process → Seen
-seen_of r = record { group = r.group; session = r.session; life = r.life; news = r.news; alarm = r.alarm }
+seen_of r = record { group = r.group; session = r.session; life = r.life; news = r.news; alarm = r.alarm; is_subreaper = r.is_subreaper }
 
 abbrev pub record_seen : Record → Seen
-record_seen b = record { group = b.group; session = b.session; life = b.life; news = b.news; alarm = b.alarm }
+record_seen b = record { group = b.group; session = b.session; life = b.life; news = b.news; alarm = b.alarm; is_subreaper = b.is_subreaper }
 
 abbrev pub snapshot_seen : Snapshot → Seen
-snapshot_seen f = record { group = f.group; session = f.session; life = f.life; news = f.news; alarm = f.alarm }
+snapshot_seen f = record { group = f.group; session = f.session; life = f.life; news = f.news; alarm = f.alarm; is_subreaper = f.is_subreaper }
 
 -- ---- keys
 
@@ -96,6 +96,17 @@ alarm_in (Some w) = w.alarm
 abbrev pub alarm_key : Process → Option ℕ
 alarm_key r = alarm_in (Some (seen_of r))
 
+-- one that lives and is a child subreaper; all of these stand under one key
+abbrev pub is_living_subreaper : Process → Bool
+is_living_subreaper r = r.is_subreaper && is_living r
+
+abbrev pub marked_in : Option Seen → Option ℕ
+marked_in None = None
+marked_in (Some w) = if w.is_subreaper && not (is_zombie w.life) then Some 0 else None
+
+abbrev pub marked_key : Process → Option ℕ
+marked_key r = marked_in (Some (seen_of r))
+
 -- ---- the indexes
 
 -- what holds of the indexes of these processes
@@ -104,12 +115,14 @@ pub record AreBooks (rs : List Process) (b : Books) : Type 0 where
   pub reporting : IsIndexed report_key rs b.reporting
   pub stopped : IsIndexed stopped_key rs b.stopped
   pub alarmed : IsIndexed alarm_key rs b.alarmed
+  pub subreapers : IsIndexed marked_key rs b.subreapers
 
 -- p with this parent stands in each as it was seen
 pub record CanMove (p parent : ℕ) (it : Option Seen) (b : Books) : Type 0 where
   pub reporting : CanReplace p (report_in parent it) b.reporting
   pub stopped : CanReplace p (stopped_in it) b.stopped
   pub alarmed : CanReplace p (alarm_in it) b.alarmed
+  pub subreapers : CanReplace p (marked_in it) b.subreapers
 
 -- there is memory for the number p, and for that of its process group
 abbrev pub IsInside : ℕ → Option Seen → Books → Type 0
@@ -122,13 +135,14 @@ pub record AreMoved (p parent : ℕ) (it : Option Seen) (old new : Books) : Type
   pub reporting : IsReplaced p (report_in parent it) old.reporting new.reporting
   pub stopped : IsReplaced p (stopped_in it) old.stopped new.stopped
   pub alarmed : IsReplaced p (alarm_in it) old.alarmed new.alarmed
+  pub subreapers : IsReplaced p (marked_in it) old.subreapers new.subreapers
 
 abbrev pub lesser : ℕ → ℕ → ℕ
 lesser a b = if nat_le a b then a else b
 
 -- how many processes more they have room for, of this many that there are
 abbrev pub room_in : ℕ → Books → ℕ
-room_in count b = lesser (lesser b.reporting.room b.stopped.room) b.alarmed.room - count
+room_in count b = lesser (lesser (lesser b.reporting.room b.stopped.room) b.alarmed.room) b.subreapers.room - count
 
 -- the lesser of two numbers; where one isn't there the other
 abbrev pub least : Option ℕ → Option ℕ → Option ℕ

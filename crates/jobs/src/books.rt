@@ -1,11 +1,11 @@
 //! The indexes that a table of jobs keeps of its processes.
 
-ghost use Rattle.std.specs.Prelude.{◌≡◌, ◌≢◌, ◌<◌, ◌≤◌, ◌^◌, ◌&&◌, [], List, filter, Some, OnOk};
+ghost use Rattle.std.specs.Prelude.{◌≡◌, ◌≢◌, ◌<◌, ◌≤◌, ◌^◌, ◌&&◌, [], List, filter, Some, OnOk, true};
 ghost use Rattle.posix.specs.Processes.{Process, is_zombie};
 ghost use Rattle.posix.specs.Tables.{IsRising, above, adopted, children_in, first_pid};
 ghost use Rattle.posix.specs.Waits.{wanted_in};
-ghost use Rattle.pidset.specs.Indexes.{IsNextPair};
-ghost use Rattle.jobs.specs.Books.{AreBooks, record_seen, snapshot_seen, member_in, anchor_in, is_of_sort, report_in, sort_of, sorted, stopped_in, alarm_in, CanMove, IsInside, AreMoved, least};
+ghost use Rattle.pidset.specs.Indexes.{has_within, IsNextPair};
+ghost use Rattle.jobs.specs.Books.{AreBooks, record_seen, snapshot_seen, member_in, anchor_in, is_of_sort, report_in, sort_of, sorted, stopped_in, alarm_in, marked_in, CanMove, IsInside, AreMoved, least};
 
 use bitflags::Flags;
 use pidset::{Index, Lists};
@@ -26,6 +26,8 @@ pub struct Seen {
     pub news: News,
     /// The tick at which its alarm is due.
     pub alarm: Option<u64>,
+    /// Whether it is a child subreaper.
+    pub is_subreaper: bool,
 }
 
 /// A change of a process, as its parent and the indexes see it.
@@ -63,6 +65,8 @@ pub struct Books {
     pub stopped: Index,
     /// The processes whose alarm is set, by the tick at which it is due.
     pub alarmed: Index,
+    /// The child subreapers that live, all under one key.
+    pub subreapers: Index,
 }
 
 /// What the indexes see of a record.
@@ -76,6 +80,7 @@ pub(crate) fn of_record(fields: &Record) -> Seen
         life: fields.life,
         news: fields.news,
         alarm: fields.alarm,
+        is_subreaper: fields.is_subreaper,
     }
 }
 
@@ -89,6 +94,7 @@ pub(crate) fn of_snapshot(snapshot: &Snapshot) -> Seen
         life: snapshot.life,
         news: snapshot.news,
         alarm: snapshot.alarm,
+        is_subreaper: snapshot.is_subreaper,
     }
 }
 
@@ -98,6 +104,14 @@ pub(crate) fn is_dead(it: &Seen) -> bool
     ensures { result ≡ is_zombie it.now.life }
 {
     matches!(it.life, Life::Zombie(_))
+}
+
+/// Whether the indexes see the same of a process before and after.
+#[inline(always)]
+pub(crate) fn is_unseen(change: &Change) -> bool
+    ensures { result ≡ true → change.now.before ≡ change.now.after }
+{
+    change.before == change.after
 }
 
 /// A number as a key.
@@ -192,6 +206,17 @@ fn alarm_key(it: &Option<Seen>) -> Option<u64>
     }
 }
 
+/// The key of a process among the child subreapers that live, all of which have one key.
+#[inline(always)]
+fn marked_key(it: &Option<Seen>) -> Option<u64>
+    ensures { result ≡ marked_in it.now }
+{
+    match it {
+        Some(it) if it.is_subreaper && !is_dead(it) => Some(0),
+        _ => None,
+    }
+}
+
 /// The lesser of two numbers; where one isn't there the other.
 fn lesser(a: Option<Pid>, b: Option<Pid>) -> Option<Pid>
     ensures { result ≡ least a b }
@@ -217,6 +242,7 @@ impl Books {
             reporting: Index::new(alloc),
             stopped: Index::new(alloc),
             alarmed: Index::new(alloc),
+            subreapers: Index::new(alloc),
         }
     }
 
@@ -229,20 +255,23 @@ impl Books {
         ensures reporting { self.new.reporting.pairs ≡ self.old.reporting.pairs }
         ensures stopped { self.new.stopped.pairs ≡ self.old.stopped.pairs }
         ensures alarmed { self.new.alarmed.pairs ≡ self.old.alarmed.pairs }
+        ensures subreapers { self.new.subreapers.pairs ≡ self.old.subreapers.pairs }
         ensures grows_members { self.old.members.numbers ≤ self.new.members.numbers }
         ensures most_members { self.old.members.numbers ≤ 2147483648 → self.new.members.numbers ≤ 2147483648 }
         ensures wide { self.old.members.numbers ≤ self.old.anchors.numbers → self.new.members.numbers ≤ self.new.anchors.numbers }
         ensures grows_reporting { self.old.reporting.room ≤ self.new.reporting.room }
         ensures grows_stopped { self.old.stopped.room ≤ self.new.stopped.room }
         ensures grows_alarmed { self.old.alarmed.room ≤ self.new.alarmed.room }
-        ensures ok { OnOk result ((greatest < self.new.members.numbers) × (most ≤ self.new.reporting.room) × (most ≤ self.new.stopped.room) × (most ≤ self.new.alarmed.room)) }
+        ensures grows_subreapers { self.old.subreapers.room ≤ self.new.subreapers.room }
+        ensures ok { OnOk result ((greatest < self.new.members.numbers) × (most ≤ self.new.reporting.room) × (most ≤ self.new.stopped.room) × (most ≤ self.new.alarmed.room) × (most ≤ self.new.subreapers.room)) }
     {
         // There is never less memory for the anchors than for the members.
         self.anchors.reserve(greatest)?;
         self.members.reserve(greatest)?;
         self.reporting.reserve(most)?;
         self.stopped.reserve(most)?;
-        self.alarmed.reserve(most)
+        self.alarmed.reserve(most)?;
+        self.subreapers.reserve(most)
     }
 
     /// A process with this parent, which the indexes saw so, or which wasn't there, is seen so, or isn't there:
@@ -268,6 +297,8 @@ impl Books {
             .replace(pid, stopped_key(before), stopped_key(after));
         self.alarmed
             .replace(pid, alarm_key(before), alarm_key(after));
+        self.subreapers
+            .replace(pid, marked_key(before), marked_key(after));
     }
 
     /// A process that is there was changed so.
@@ -287,7 +318,18 @@ impl Books {
         );
     }
 
-    /// The children of one process become those of another.
+    /// Whether a child of a process has something to report.
+    fn has_report(&self, parent: Pid) -> bool
+        ensures { result ≡ has_within (sorted parent Sort.End) (sorted parent Sort.Continue) self.now.reporting.pairs }
+    {
+        let (least, greatest) = (
+            sorted_key(parent, Sort::End),
+            sorted_key(parent, Sort::Continue),
+        );
+        self.reporting.has_within(least, greatest)
+    }
+
+    /// The children of one process become those of another. Mostly none of them has something to report.
     pub(crate) fn reparent(&mut self, from: Pid, to: Pid)
         requires { from ≢ to }
         ensures books { (rs : List Process) → AreBooks rs self.old → AreBooks (adopted from to rs) self.new }
@@ -296,7 +338,11 @@ impl Books {
         ensures room { self.new.reporting.room ≡ self.old.reporting.room }
         ensures stopped { self.new.stopped ≡ self.old.stopped }
         ensures alarmed { self.new.alarmed ≡ self.old.alarmed }
+        ensures subreapers { self.new.subreapers ≡ self.old.subreapers }
     {
+        if !self.has_report(from) {
+            return;
+        }
         self.reporting
             .rekey(sorted_key(from, Sort::End), sorted_key(to, Sort::End));
         self.reporting
@@ -350,6 +396,10 @@ impl Books {
         let ends = options.contains(WaitidOptions::WEXITED);
         let stops = options.contains(WaitidOptions::WSTOPPED);
         let continues = options.contains(WaitidOptions::WCONTINUED);
+        // Mostly no child reports, and then one search tells it.
+        if ends && stops && continues && !self.has_report(parent) {
+            return None;
+        }
         let ended = self.next_of_sort(parent, Sort::End, ends, after);
         let stopped = self.next_of_sort(parent, Sort::Stop, stops, after);
         let continued = self.next_of_sort(parent, Sort::Continue, continues, after);

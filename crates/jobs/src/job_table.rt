@@ -12,11 +12,11 @@ ghost use Rattle.posix.specs.Births.{child_of};
 ghost use Rattle.posix.specs.Waits.{wanted_in};
 ghost use Rattle.proctable.specs.Records.{process_of, snapshot_of, own_of, own_row};
 ghost use Rattle.jobs.specs.contracts.job_table.JobTable.{the_row as jobs_row};
-ghost use Rattle.jobs.specs.Books.{record_seen, seen_of};
+ghost use Rattle.jobs.specs.Books.{is_living_subreaper, record_seen, seen_of};
 ghost use Rattle.jobs.specs.JobTables.{takes_signal, ChangesSignals, IsRun, StaysGrouped, lent, looked, Looks, Finds, Costs, StaysPut};
 
 use crate::anchors::{reanchor, seen_above, seen_there, turn_children};
-use crate::books::{Books, Change, Seen, anchor_key, of_record, of_snapshot};
+use crate::books::{Books, Change, Seen, anchor_key, is_unseen, of_record, of_snapshot};
 use posix::{Pid, WaitidOptions};
 use proctable::{Kin, OwnPart, Record, Snapshot, Stock};
 use std::alloc::{AllocError, Global};
@@ -187,6 +187,14 @@ impl<K: Kin> JobTable<K> {
         self.books.stopped.is_empty()
     }
 
+    /// Whether no living process is a child subreaper. No slot is read.
+    #[tactic(auto, using(crate::proofs::BookLemmas::none_marked))]
+    pub fn nobody_marked(&self) -> bool
+        ensures { result ≡ not (list_any is_living_subreaper self.now.processes) }
+    {
+        self.books.subreapers.is_empty()
+    }
+
     /// The child of a process that has something to report to a wait with these options, with the least number above
     /// `after`. No slot is read, and no child looked at whose sort isn't wanted.
     pub fn next_wanted(&self, parent: Pid, options: WaitidOptions, after: Pid) -> Option<Pid>
@@ -253,7 +261,7 @@ impl<K: Kin> JobTable<K> {
         ensures put { StaysPut F.FnOnce change self.old.processes pid → Costs 2 self.old self.new }
     {
         let seen = change_in(&mut self.table, pid, change);
-        if seen.before == seen.after {
+        if is_unseen(&seen) {
             // It stands in each index as it did.
             return seen;
         }

@@ -1,7 +1,7 @@
 -- What a call that begins again changes.
 use Rattle.std.proofs.Common.{◌≡◌, ℕ, Bool, true, false, cond, not, ◌||◌, refl, ap, subst, ◌==◌, List, [], ◌∷◌, take, Option, Some, None, ℤ, pos, negsuc, Result, Ok, Err, slice_get, inl, inr}
 use Rattle.posix.specs.declared.call.Call.{Call}
-use Rattle.posix.specs.declared.call.Call.TheVariants.{Exit, Fork, Waitpid, Waitid, Pause, SchedYield, Getpid, Getppid, Getuid, Geteuid, Getgid, Getegid, Setuid, Seteuid, Setgid, Setegid, Kill, Sigqueue, Sigaction, Sigprocmask, Sigpending, Sigsuspend, Sigreturn, Alarm, Exec, Getpgid, Getsid, Setpgid, Setsid, Setctty, Tcgetpgrp, Tcsetpgrp, Settostop, Read, Write}
+use Rattle.posix.specs.declared.call.Call.TheVariants.{Exit, Fork, Waitpid, Waitid, Pause, SchedYield, Getpid, Getppid, Getuid, Geteuid, Getgid, Getegid, Setuid, Seteuid, Setgid, Setegid, Kill, Sigqueue, Sigaction, Sigprocmask, Sigpending, Sigsuspend, Sigreturn, Alarm, Exec, Getpgid, Getsid, Setpgid, Setsid, Setctty, Tcgetpgrp, Tcsetpgrp, Settostop, Read, Write, Subreaper}
 use Rattle.posix.specs.declared.errno.Errno.{Errno}
 use Rattle.posix.specs.declared.process.Blocked.{Blocked}
 use Rattle.posix.specs.declared.process.Blocked.TheVariants as blocked
@@ -25,6 +25,7 @@ use Rattle.posix.specs.Waits.{wait_by}
 use Rattle.posix.specs.Sends.{sending_granted, message, send_with, signal_or_none, send, kill, sigqueue}
 use Rattle.posix.specs.Programs.{exec_as, exec_of, exec}
 use Rattle.posix.specs.GroupCalls.{named, tells, getpgid, getsid, move_of, setpgid_with, setpgid_to, setpgid, is_group_of, is_group_of_others, setsid}
+use Rattle.posix.specs.Subreapers.{subreaper}
 use Rattle.posix.specs.Terminals.{terminal, is_in_background, blocks_or_ignores, if_allowed, console_named, may_acquire, setctty_of, setctty_at, setctty, tcgetpgrp_on, tcgetpgrp, put_foreground, tcsetpgrp_on, tcsetpgrp, settostop_on, settostop, finish_moved, read_from, read_in, read_on, read, write_in, write_on, write}
 use Rattle.posix.specs.Attempts.{attempt, attempt_again}
 use Rattle.posix.specs.Step.{begin_call, go_on, out_of_call}
@@ -196,6 +197,10 @@ signalled_write : (s : State) (me : Process) → SignalledIf s me (write s me)
 unfolding write
 signalled_write s me = signalled_write_on s me (terminal s me)
 
+signalled_subreaper : (s : State) (me : Process) → SignalledIf s me (subreaper s me)
+unfolding subreaper
+signalled_subreaper s me = tt
+
 -- ---- all calls
 
 signalled_attempt : (granted : Bool) (s : State) (me : Process) (call : Call) → SignalledIf s me (attempt granted s me call)
@@ -235,6 +240,7 @@ signalled_attempt granted s me Tcsetpgrp = signalled_tcsetpgrp s me
 signalled_attempt granted s me Settostop = signalled_settostop s me
 signalled_attempt granted s me Read = signalled_read s me
 signalled_attempt granted s me Write = signalled_write s me
+signalled_attempt granted s me Subreaper = signalled_subreaper s me
 
 signalled_again : (s : State) (me : Process) (b : Blocked) → SignalledIf s me (attempt_again s me b)
 unfolding attempt_again

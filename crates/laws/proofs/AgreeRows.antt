@@ -1,5 +1,5 @@
 -- After each event of worked runs the lines so far agree with the state, computed.
-use Rattle.std.specs.Prelude.{ℕ, ◌+◌, ◌≡◌, ◌==◌, ◌&&◌, ◌||◌, not, Bool, true, false, refl, List, [], ◌∷◌, ◌++◌, replicate, Option, Some, None, pos, negsuc, nat_le, count_by}
+use Rattle.std.specs.Prelude.{ℕ, ◌+◌, ◌≡◌, ◌==◌, ◌&&◌, ◌||◌, not, if◌then◌else◌, Bool, true, false, refl, List, [], ◌∷◌, ◌++◌, replicate, Option, Some, None, pos, negsuc, nat_le, count_by}
 use Rattle.std.specs.List.{list_all}
 use Rattle.posix.specs.declared.event.Event.{Event}
 use Rattle.posix.specs.declared.event.Event.TheVariants.{Step, Key}
@@ -18,8 +18,8 @@ use Rattle.posix.specs.Generation.{is_pending}
 use Rattle.posix.specs.Step.{next}
 use Rattle.laws.specs.TraceLines.{is_line}
 use Rattle.posix.specs.Statuses.{is_end_word}
-use Rattle.laws.specs.Lives.{newest_life, is_living, last_line, lawful}
-use Rattle.laws.specs.Keeping.{Alive, Kept, NeverBorn, Lives, Died, Phase, Going, FirstEnded, Over, kept_of, phase_of, last_number}
+use Rattle.laws.specs.Lives.{newest_life, is_living, last_line, lawful, parents_from}
+use Rattle.laws.specs.Keeping.{Alive, Kept, NeverBorn, Lives, Died, Phase, Going, FirstEnded, Over, kept_of, made_by, phase_of, last_number}
 use Rattle.laws.specs.Agree.{is_birth, count_living, count_zombies}
 use Rattle.laws.proofs.Rows.{program, world, everything, note_and_exit, stops_its_child}
 
@@ -42,11 +42,14 @@ has_status w Running = false
 has_status w Stopped = false
 has_status w (Zombie v) = v == w
 
+abbrev is_same : Bool → Bool → Bool
+is_same a b = if a then b else not b
+
 abbrev agree_on : Kept → Option Process → Bool
 agree_on NeverBorn None = true
 agree_on NeverBorn (Some r) = false
 agree_on (Lives a) None = false
-agree_on (Lives a) (Some r) = not (is_zombie r.life) && r.parent == a.parent && news_agree a (is_stopped r.life) r.news && (not (is_stopped r.life) || a.may_continue)
+agree_on (Lives a) (Some r) = not (is_zombie r.life) && r.parent == a.parent && is_same r.is_subreaper a.is_marked && news_agree a (is_stopped r.life) r.news && (not (is_stopped r.life) || a.may_continue)
 agree_on (Died d) None = true
 agree_on (Died d) (Some r) = has_status d.status r.life && r.parent == d.parent && not d.reported && (r.pid == 1 || is_nothing r.news) && is_end_word d.status
 
@@ -78,7 +81,7 @@ abbrev agree_always : World → List Event → Bool
 agree_always w events = agree_from 0 [] (boot w) events
 
 unfoldable lines_too : Unit {0}
-unfolding everything kept_of newest_life is_living
+unfolding everything kept_of made_by newest_life is_living parents_from
 lines_too = tt
 
 row_note_and_exit : agree_always note_and_exit (replicate 5 Step) ≡ true

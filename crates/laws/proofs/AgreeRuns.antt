@@ -14,7 +14,7 @@ use Rattle.posix.specs.Regular.{IsRegular}
 use Rattle.posix.specs.Step.{IsStep, next, happens, step}
 use Rattle.posix.specs.SignalNumbers.{KILL}
 use Rattle.posix.specs.Generation.{is_pending}
-use Rattle.laws.specs.Lives.{newest_life}
+use Rattle.laws.specs.Lives.{parents_from, newest_life}
 use Rattle.laws.specs.Keeping.{Phase, kept_of}
 use Rattle.std.specs.List.{AllByRecursion, list_all}
 use Rattle.laws.specs.TraceLines.{is_line}
@@ -111,11 +111,11 @@ first_turns w = record { turns = λ p r e found stops. one p r (1 == p) found st
 
 -- the empty trace agrees with the start
 pub first_agrees : (w : World) → Agree [] 0 (boot w)
-unfolding kept_of newest_life lookup
+unfolding kept_of newest_life parents_from lookup
 first_agrees w = record { laws = laws_none; number = omega arith; records = λ p. one p (cases_eq p 1); born = refl; counts = refl; phase = refl }
   where
     one : (p : ℕ) → (p ≡ 1) ⊎ (p ≢ 1) → AgreeOn (kept_of [] p) (lookup p (first_process ∷ []))
-    one p (inl same) = subst (λ n. AgreeOn (kept_of [] n) (lookup n (first_process ∷ []))) (sym same) (record { living = refl; parent = refl; news = tt; stopped = λ e. absurd (cc) })
+    one p (inl same) = subst (λ n. AgreeOn (kept_of [] n) (lookup n (first_process ∷ []))) (sym same) (record { living = refl; parent = refl; mark = refl; news = tt; stopped = λ e. absurd (cc) })
     one p (inr other) = rw (ne_eqb p 1 other, ne_eqb 1 p (λ e. other (sym e))) tt
 
 -- ---- traces

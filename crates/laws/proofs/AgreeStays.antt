@@ -3,7 +3,7 @@ use Rattle.std.proofs.Common.{◌≡◌, ℕ, Bool, true, false, not, ◌&&◌, 
 use Rattle.std.specs.Int.{cast_unsigned, w64}
 use Rattle.std.proofs.lemmas.Bool.{cond_both}
 use Rattle.posix.specs.declared.call.Call.{Call}
-use Rattle.posix.specs.declared.call.Call.TheVariants.{Exit, Fork, Waitpid, Waitid, Pause, SchedYield, Getpid, Getppid, Getuid, Geteuid, Getgid, Getegid, Setuid, Seteuid, Setgid, Setegid, Kill, Sigqueue, Sigaction, Sigprocmask, Sigpending, Sigsuspend, Sigreturn, Alarm, Exec, Getpgid, Getsid, Setpgid, Setsid, Setctty, Tcgetpgrp, Tcsetpgrp, Settostop, Read, Write}
+use Rattle.posix.specs.declared.call.Call.TheVariants.{Exit, Fork, Waitpid, Waitid, Pause, SchedYield, Getpid, Getppid, Getuid, Geteuid, Getgid, Getegid, Setuid, Seteuid, Setgid, Setegid, Kill, Sigqueue, Sigaction, Sigprocmask, Sigpending, Sigsuspend, Sigreturn, Alarm, Exec, Getpgid, Getsid, Setpgid, Setsid, Setctty, Tcgetpgrp, Tcsetpgrp, Settostop, Read, Write, Subreaper}
 use Rattle.posix.specs.declared.instr.Trap.{Trap}
 use Rattle.posix.specs.declared.instr.Trap.TheVariants as trap
 use Rattle.posix.specs.declared.errno.Errno.{Errno}
@@ -41,6 +41,8 @@ use Rattle.posix.specs.Choice.{chosen, carried_by, from_kernel}
 use Rattle.posix.specs.Handlers.{handles, is_full, is_interrupted, newest_frame, returned, set_action}
 use Rattle.posix.specs.Births.{born, fork_as}
 use Rattle.posix.specs.Ends.{end_process}
+use Rattle.posix.specs.Subreapers.{subreaper}
+use Rattle.posix.specs.Terminals.{is_nonzero}
 use Rattle.posix.specs.Targets.{target_in, process_in}
 use Rattle.posix.specs.declared.waits.WaitCall.{WaitCall}
 use Rattle.posix.specs.declared.waits.WaitCall.TheVariants as wait
@@ -64,55 +66,55 @@ use Rattle.laws.proofs.NewsLemmas.{end_of, change_of}
 use Rattle.laws.proofs.QuietLemmas.{Quiet, quiet_same, quiet_then, Untold, untold_none, untold_cond, quiet_change, IsRunning, quiet_own, running_own}
 use Rattle.laws.proofs.QuietOperations.{quiet_signalled, quiet_lose, quiet_last}
 use Rattle.laws.proofs.ToldLines.{is_plain, IsLiving}
-use Rattle.laws.proofs.ToldOutcomes.{IsTold, told_quiet, told_after, told_before, told_plain, told_line, told_end, told_stop, told_born, told_reaped, told_news, told_looked_at_end, told_looked_at_news, running_living}
+use Rattle.laws.proofs.ToldOutcomes.{IsTold, told_quiet, told_after, told_before, told_plain, told_line, told_end, told_stop, told_marked, told_born, told_reaped, told_news, told_looked_at_end, told_looked_at_news, running_living}
 use Rattle.laws.proofs.AgreeTerminals.{IsTaking, taking_running, taking_living, TellsIf, quiet_finished, tells_gives, tells_plain, tells_answers, tells_setctty, tells_tcgetpgrp, tells_tcsetpgrp, tells_settostop, tells_read, tells_write}
 
 -- ---- changes of the caller
 
 pub untold_written : (i : ℕ) (z : ℤ) → Untold (written i z)
 unfolding written
-untold_written i z = record { pid = λ r. refl; parent = λ r. refl; life = λ r. refl; news = λ r. refl }
+untold_written i z = record { pid = λ r. refl; parent = λ r. refl; mark = λ r. refl; life = λ r. refl; news = λ r. refl }
 
 pub untold_enter : (b : Blocked) → Untold (enter b)
 unfolding enter
-untold_enter b = record { pid = λ r. refl; parent = λ r. refl; life = λ r. refl; news = λ r. refl }
+untold_enter b = record { pid = λ r. refl; parent = λ r. refl; mark = λ r. refl; life = λ r. refl; news = λ r. refl }
 
 pub untold_returned : (frame : Frame) → Untold (returned frame)
 unfolding returned
-untold_returned frame = record { pid = λ r. refl; parent = λ r. refl; life = λ r. refl; news = λ r. refl }
+untold_returned frame = record { pid = λ r. refl; parent = λ r. refl; mark = λ r. refl; life = λ r. refl; news = λ r. refl }
 
 pub untold_credentials : (c : Credentials) → Untold (give_credentials c)
 unfolding give_credentials
-untold_credentials c = record { pid = λ r. refl; parent = λ r. refl; life = λ r. refl; news = λ r. refl }
+untold_credentials c = record { pid = λ r. refl; parent = λ r. refl; mark = λ r. refl; life = λ r. refl; news = λ r. refl }
 
 pub untold_holding : (a : Action) (g : Signals) → Untold (λ r. holding a (give_signals g r))
 unfolding written give_signals
-untold_holding a g = record { pid = λ r. refl; parent = λ r. refl; life = λ r. refl; news = λ r. refl }
+untold_holding a g = record { pid = λ r. refl; parent = λ r. refl; mark = λ r. refl; life = λ r. refl; news = λ r. refl }
 
 pub untold_handles : (signal : PendingSignal) (address : ℤ) → Untold (handles signal address)
 unfolding handles
-untold_handles signal address = untold_cond (λ r. is_full r.signals) _ _ (record { pid = λ r. refl; parent = λ r. refl; life = λ r. refl; news = λ r. refl })
-    (record { pid = λ r. refl; parent = λ r. refl; life = λ r. refl; news = λ r. refl })
+untold_handles signal address = untold_cond (λ r. is_full r.signals) _ _ (record { pid = λ r. refl; parent = λ r. refl; mark = λ r. refl; life = λ r. refl; news = λ r. refl })
+    (record { pid = λ r. refl; parent = λ r. refl; mark = λ r. refl; life = λ r. refl; news = λ r. refl })
 
 pub untold_take_out : (n : ℕ) → Untold (take_out n)
 unfolding take_out
-untold_take_out n = record { pid = λ r. refl; parent = λ r. refl; life = λ r. refl; news = λ r. refl }
+untold_take_out n = record { pid = λ r. refl; parent = λ r. refl; mark = λ r. refl; life = λ r. refl; news = λ r. refl }
 
 pub untold_set_cpu : (c : Cpu) → Untold (set_cpu c)
 unfolding set_cpu
-untold_set_cpu c = record { pid = λ r. refl; parent = λ r. refl; life = λ r. refl; news = λ r. refl }
+untold_set_cpu c = record { pid = λ r. refl; parent = λ r. refl; mark = λ r. refl; life = λ r. refl; news = λ r. refl }
 
 pub untold_executed : (number : ℕ) (program : Program) → Untold (executed number program)
 unfolding executed
-untold_executed number program = record { pid = λ r. refl; parent = λ r. refl; life = λ r. refl; news = λ r. refl }
+untold_executed number program = record { pid = λ r. refl; parent = λ r. refl; mark = λ r. refl; life = λ r. refl; news = λ r. refl }
 
 pub untold_alarm : (due : Option ℕ) → Untold (with_alarm due)
 unfolding with_alarm
-untold_alarm due = record { pid = λ r. refl; parent = λ r. refl; life = λ r. refl; news = λ r. refl }
+untold_alarm due = record { pid = λ r. refl; parent = λ r. refl; mark = λ r. refl; life = λ r. refl; news = λ r. refl }
 
 pub untold_out : Untold out_of_call
 unfolding out_of_call
-untold_out = record { pid = λ r. refl; parent = λ r. refl; life = λ r. refl; news = λ r. refl }
+untold_out = record { pid = λ r. refl; parent = λ r. refl; mark = λ r. refl; life = λ r. refl; news = λ r. refl }
 
 quiet_out : (s : State) (p : ℕ) → Quiet s (change s p out_of_call)
 unfolding out_of_call
@@ -307,7 +309,7 @@ untold_action me = untold_action_of me (signal_in (argument me 1))
 pub untold_mask_with : (me : Process) (what : Option How) → Untold (sigprocmask_with me what).changes
 unfolding written give_signals
 untold_mask_with me None = untold_none
-untold_mask_with me (Some what) = record { pid = λ r. refl; parent = λ r. refl; life = λ r. refl; news = λ r. refl }
+untold_mask_with me (Some what) = record { pid = λ r. refl; parent = λ r. refl; mark = λ r. refl; life = λ r. refl; news = λ r. refl }
 
 pub untold_mask : (me : Process) → Untold (sigprocmask me).changes
 unfolding sigprocmask
@@ -355,11 +357,11 @@ tells_getsid s me c = tells_tells s me Getsid (λ r. r.session) (named me (argum
 -- a process that moves to a group, or to a session
 quiet_moved : (s : State) (p group : ℕ) → Quiet s (change s p (in_group group))
 unfolding in_group
-quiet_moved s p group = quiet_change s p (in_group group) (record { pid = λ r. refl; parent = λ r. refl; life = λ r. refl; news = λ r. refl }) (λ r e. e)
+quiet_moved s p group = quiet_change s p (in_group group) (record { pid = λ r. refl; parent = λ r. refl; mark = λ r. refl; life = λ r. refl; news = λ r. refl }) (λ r e. e)
 
 quiet_session : (s : State) (p : ℕ) → Quiet s (change s p in_session)
 unfolding in_session
-quiet_session s p = quiet_change s p in_session (record { pid = λ r. refl; parent = λ r. refl; life = λ r. refl; news = λ r. refl }) (λ r e. e)
+quiet_session s p = quiet_change s p in_session (record { pid = λ r. refl; parent = λ r. refl; mark = λ r. refl; life = λ r. refl; news = λ r. refl }) (λ r e. e)
 
 tells_moves : (s : State) (me : Process) (target : Option Process) (what : Result ℕ Errno) → IsTaking s me → TellsIf s (setpgid_with s me target what)
 tells_moves s me target (Err why) c = tells_plain s me Setpgid (refusal why) c refl
@@ -375,6 +377,11 @@ unfolding setsid
 tells_setsid s me c =
     cond_both (me.group == me.pid || is_group_of_others me s.processes) _ _ (TellsIf s) (λ t. tells_plain s me Setsid (refusal EPERM) c refl)
     (λ t. tells_gives s (change s me.pid in_session) me Setsid (pos me.pid) c (quiet_session s me.pid) refl)
+
+-- a mark
+tells_subreaper : (s : State) (me : Process) → IsTaking s me → TellsIf s (subreaper s me)
+unfolding subreaper
+tells_subreaper s me c = told_marked s me.pid (is_nonzero (argument me 1)) c.awake (taking_running s me c)
 
 -- each call
 tells_attempt : (granted : Bool) (s : State) (me : Process) (call : Call) → IsTaking s me → TellsIf s (attempt granted s me call)
@@ -414,6 +421,7 @@ tells_attempt granted s me Tcsetpgrp c = tells_tcsetpgrp s me c
 tells_attempt granted s me Settostop c = tells_settostop s me c
 tells_attempt granted s me Read c = tells_read s me c
 tells_attempt granted s me Write c = tells_write s me c
+tells_attempt granted s me Subreaper c = tells_subreaper s me c
 
 -- each call afresh
 tells_again : (s : State) (me : Process) (b : Blocked) → IsTaking s me → TellsIf s (attempt_again s me b)

@@ -46,7 +46,7 @@ TellsIf s (Again t) = Quiet s t
 -- results that are written
 pub untold_finished : (results : List (ℕ × ℤ)) → Untold (finished results)
 unfolding finished
-untold_finished results = record { pid = λ r. refl; parent = λ r. refl; life = λ r. refl; news = λ r. refl }
+untold_finished results = record { pid = λ r. refl; parent = λ r. refl; mark = λ r. refl; life = λ r. refl; news = λ r. refl }
 
 pub quiet_finished : (s : State) (p : ℕ) (results : List (ℕ × ℤ)) → Quiet s (change s p (finished results))
 unfolding finished
@@ -142,7 +142,7 @@ tells_moved s t me call (b ∷ bs) i q silent =
 
 quiet_bytes : (s : State) (p address : ℕ) (bytes : List ℕ) → Quiet s (change s p (with_bytes address bytes))
 unfolding with_bytes
-quiet_bytes s p address bytes = quiet_change s p (with_bytes address bytes) (record { pid = λ r. refl; parent = λ r. refl; life = λ r. refl; news = λ r. refl }) (λ r e. e)
+quiet_bytes s p address bytes = quiet_change s p (with_bytes address bytes) (record { pid = λ r. refl; parent = λ r. refl; mark = λ r. refl; life = λ r. refl; news = λ r. refl }) (λ r e. e)
 
 tells_read_from : (s : State) (me : Process) (span : Span) (lines : List (List ℕ)) → IsTaking s me → TellsIf s (read_from s me span lines)
 unfolding line_taken

@@ -3,7 +3,7 @@ use Rattle.std.proofs.Common.{◌≡◌, ℕ, ◌+◌, ◌≤◌, Bool, true, fa
 use Rattle.std.specs.Int.{cast_unsigned, w64, int_wrapping_div}
 use Rattle.std.proofs.lemmas.Bool.{eqb-false, cond_both, leb-true, and_parts, or_cases}
 use Rattle.posix.specs.declared.call.Call.{Call}
-use Rattle.posix.specs.declared.call.Call.TheVariants.{Exit, Fork, Waitpid, Waitid, Pause, SchedYield, Getpid, Getppid, Getuid, Geteuid, Getgid, Getegid, Setuid, Seteuid, Setgid, Setegid, Kill, Sigqueue, Sigaction, Sigprocmask, Sigpending, Sigsuspend, Sigreturn, Alarm, Exec, Getpgid, Getsid, Setpgid, Setsid, Setctty, Tcgetpgrp, Tcsetpgrp, Settostop, Read, Write}
+use Rattle.posix.specs.declared.call.Call.TheVariants.{Exit, Fork, Waitpid, Waitid, Pause, SchedYield, Getpid, Getppid, Getuid, Geteuid, Getgid, Getegid, Setuid, Seteuid, Setgid, Setegid, Kill, Sigqueue, Sigaction, Sigprocmask, Sigpending, Sigsuspend, Sigreturn, Alarm, Exec, Getpgid, Getsid, Setpgid, Setsid, Setctty, Tcgetpgrp, Tcsetpgrp, Settostop, Read, Write, Subreaper}
 use Rattle.posix.specs.declared.instr.Trap.{Trap}
 use Rattle.posix.specs.declared.instr.Trap.TheVariants as trap
 use Rattle.posix.specs.declared.event.Event.{Event}
@@ -32,7 +32,7 @@ use Rattle.posix.specs.Statuses.{exited, killed, stopped, continued, is_end_word
 use Rattle.posix.specs.Processes.{Process, Signals, Credentials, Cpu, argument, zero_registers, zero_memory, first_process, default_actions, nothing_pending}
 use Rattle.posix.specs.Tables.{IsRising, lookup, removed, pids}
 use Rattle.posix.specs.States.{Program, State, change, lose_place, go_last, current, next_pid, process, World, boot}
-use Rattle.posix.specs.Outcomes.{Outcome, silent, Attempted, Done, Block, Again, Reply, refusal, refusing, finish_with, finish_call, no_memory}
+use Rattle.posix.specs.Outcomes.{Outcome, silent, Attempted, Done, Block, Again, Reply, finished, refusal, refusing, finish_with, finish_call, no_memory}
 use Rattle.posix.specs.Credentials.{may, setuid, seteuid, setgid, setegid}
 use Rattle.posix.specs.Generation.{action, has_sig, is_pending}
 use Rattle.posix.specs.Groups.{is_orphaned}
@@ -40,6 +40,8 @@ use Rattle.posix.specs.Choice.{chosen, first_carried, carried_by, from_kernel}
 use Rattle.posix.specs.Handlers.{handles, is_full, is_interrupted, newest_frame, returned, set_action, set_mask}
 use Rattle.posix.specs.Births.{born, fork_as}
 use Rattle.posix.specs.Ends.{end_process}
+use Rattle.posix.specs.Subreapers.{subreaper, marked_as}
+use Rattle.posix.specs.Terminals.{is_nonzero}
 use Rattle.posix.specs.Targets.{target_in, process_in}
 use Rattle.posix.specs.declared.waits.WaitCall.{WaitCall}
 use Rattle.posix.specs.declared.waits.WaitCall.TheVariants as wait
@@ -84,7 +86,7 @@ use Rattle.posix.proofs.WaitLemmas.{by_wait, IfTold}
 use Rattle.laws.proofs.QuietLemmas.{Untold}
 use Rattle.laws.proofs.AgreeStays.{untold_enter, untold_returned, untold_handles, untold_take_out, untold_set_cpu, untold_executed, untold_out, untold_ids, untold_action, untold_mask, untold_pending, untold_alarm_call}
 use Rattle.laws.proofs.KindLemmas.{and_both, all_get, all_set, all_found, all_same, small_i64, id_i64, cast_i64, rem_i64}
-use Rattle.laws.proofs.KindChanges.{KeepsKind, HasRoom, kind_argument, kind_stopped, kind_take_out, kind_written, kind_set_cpu, kind_child, kind_action, kind_handles, kind_frame, kind_returned, kind_enter, kind_out, kind_told, kind_alarm, kind_grouped, kind_led, kind_credentials, kind_give, kind_holding, kind_set_action, kind_mask, CredentialsIf, kind_setuid, kind_seteuid, kind_setgid, kind_setegid, kind_executed}
+use Rattle.laws.proofs.KindChanges.{kind_finished, KeepsKind, HasRoom, kind_argument, kind_stopped, kind_take_out, kind_written, kind_set_cpu, kind_child, kind_action, kind_handles, kind_frame, kind_returned, kind_enter, kind_out, kind_told, kind_alarm, kind_grouped, kind_led, kind_credentials, kind_give, kind_holding, kind_set_action, kind_mask, CredentialsIf, kind_setuid, kind_seteuid, kind_setgid, kind_setegid, kind_executed}
 use Rattle.laws.proofs.KindStates.{AllKind, IsThereWithRoom, kinds_changed, kinds_removed, kinds_inserted, kinds_stop_told, kinds_signalled, kinds_queued, kinds_as, kinds_change, kinds_end, end_small, kinds_key, kinds_tick, kinds_settled}
 use Rattle.laws.proofs.FormTerminals.{IsFormed, FormsIf, IsSaying, saying_kind, number_there, saying_number, group_there, refusal_i64, refusal_below, form_called, kinds_finished, form_gives, form_plain, form_answers, form_setctty, form_tcgetpgrp, form_tcsetpgrp, form_settostop, form_read, form_write}
 
@@ -521,6 +523,22 @@ real_id i h = (and_parts (is_id i.real) (is_id i.effective && is_id i.saved) h).
 effective_id : (i : Ids ℕ) → are_ids i ≡ true → is_id i.effective ≡ true
 effective_id i h = (and_parts (is_id i.effective) (is_id i.saved) (and_parts (is_id i.real) (is_id i.effective && is_id i.saved) h).1).0
 
+-- a mark
+kind_marked : (mark : Bool) → KeepsKind (marked_as mark)
+unfolding marked_as
+kind_marked mark r h = kind_finished ((0, pos 0) ∷ []) refl (record r { is_subreaper = mark })
+    (record { pid = h.pid; parent = h.parent; credentials = h.credentials; signals = h.signals; life = h.life; news = h.news; cpu = h.cpu })
+
+marked_same : (mark : Bool) (r : Process) → (marked_as mark r).pid ≡ r.pid
+unfolding marked_as finished
+marked_same mark r = refl
+
+form_subreaper : (s : State) (me : Process) → IsSaying s me → FormsIf (subreaper s me)
+unfolding subreaper
+form_subreaper s me c =
+    let mark = is_nonzero (argument me 1) in
+    record { entries = and_both (is_number me.pid) true (saying_number s me c) refl; kinds = kinds_change s me.pid (marked_as mark) (marked_same mark) (kind_marked mark) c.kinds }
+
 form_attempt : (granted : Bool) (s : State) (me : Process) (call : Call) → IsSaying s me → FormsIf (attempt granted s me call)
 unfolding attempt
 form_attempt granted s me Exit c = form_end s me (exited (argument me 1)) (old_saying s me c) (exited_word (argument me 1))
@@ -558,6 +576,7 @@ form_attempt granted s me Tcsetpgrp c = form_tcsetpgrp s me c
 form_attempt granted s me Settostop c = form_settostop s me c
 form_attempt granted s me Read c = form_read s me c
 form_attempt granted s me Write c = form_write s me c
+form_attempt granted s me Subreaper c = form_subreaper s me c
 
 form_again : (s : State) (me : Process) (b : Blocked) → IsSaying s me → FormsIf (attempt_again s me b)
 unfolding attempt_again

@@ -21,6 +21,9 @@ use Rattle.posix.specs.Generation.{effect_of, signalled}
 use Rattle.posix.specs.Choice.{from_kernel}
 use Rattle.posix.specs.Notices.{child_signal, noticed, noticed_of_change, told_of_change, resumed, acted_upon, generated_for, signalled_all}
 use Rattle.posix.specs.Groups.{newly_orphaned}
+use Rattle.posix.specs.Heirs.{heir_in}
+use Rattle.posix.specs.Regular.{CanInherit}
+use Rattle.posix.proofs.HeirLemmas.{heir_inherits}
 use Rattle.posix.specs.Ends.{ended, made_zombie, halt, leave_children_and_die, zombies_of, tell_of_all, status_of, is_dropping, drop_child, notice_of_end, signalled_members, signalled_group, hup_and_cont, hup_and_cont_all, hup_and_cont_orphans, hung_up, hang_up, end_process}
 use Rattle.posix.specs.Alarms.{ring_at, ring_all, pass_time}
 use Rattle.posix.specs.Settle.{is_fresh, refreshed, give_places, clear_foregrounds, settle}
@@ -185,9 +188,9 @@ zombies_kind s p up h =
     let b = in_filter (is_child p) s.processes up c z a.found in
     h c z b.found)
 
-kinds_departed : (s : State) (p w : ℕ) → is_end_word w ≡ true → AllKind s.processes → AllKind (leave_children_and_die s p 1 w).processes
+kinds_departed : (s : State) (p heir w : ℕ) → is_id heir ≡ true → is_end_word w ≡ true → AllKind s.processes → AllKind (leave_children_and_die s p heir w).processes
 unfolding adopted made_zombie
-kinds_departed s p w word h = kinds_map (reparented p 1) (pid_reparented p 1) (kind_reparented p 1 refl) _ (kinds_changed p (made_zombie w) (λ r. refl) (kind_made_zombie w word) s.processes h)
+kinds_departed s p heir w k word h = kinds_map (reparented p heir) (pid_reparented p heir) (kind_reparented p heir k) _ (kinds_changed p (made_zombie w) (λ r. refl) (kind_made_zombie w word) s.processes h)
 
 -- ---- states
 
@@ -224,14 +227,22 @@ kinds_hung_up s r h = cond_both (not (r.pid == 1) && r.session == r.pid) _ _ Are
     of None = h
     of (Some c) = record { world = h.world; records = kinds_group HUP c.foreground s.processes refl h.records; consoles = kind_consoles r.session released kind_released s.consoles h.consoles }
 
-kinds_gone : (s : State) (p parent w : ℕ) → IsRising s.processes → is_id p ≡ true → is_end_word w ≡ true → AreKinds s
-    → AllKind (notice_of_end (hup_and_cont_orphans s.processes (tell_of_all (leave_children_and_die s p 1 w) 1 (zombies_of p s.processes))) parent p w).processes
-kinds_gone s p parent w up k word h =
-    let gone = leave_children_and_die s p 1 w in
-    let told = tell_of_all gone 1 (zombies_of p s.processes) in
+-- an heir is process 1 or there
+kind_heir : (s : State) (p : ℕ) → AllKind s.processes → is_id (heir_in s.processes p) ≡ true
+kind_heir s p h = of (heir_inherits s.processes p)
+  where
+    of : {n : ℕ} → CanInherit s.processes p n → is_id n ≡ true
+    of (inl first) = rw first refl
+    of {n} (inr k) = subst (λ m. is_id m ≡ true) (pid_looked n s.processes k.1.what k.1.found) (h n k.1.what k.1.found).pid
+
+kinds_gone : (s : State) (p heir parent w : ℕ) → IsRising s.processes → is_id heir ≡ true → is_id p ≡ true → is_end_word w ≡ true → AreKinds s
+    → AllKind (notice_of_end (hup_and_cont_orphans s.processes (tell_of_all (leave_children_and_die s p heir w) heir (zombies_of p s.processes))) parent p w).processes
+kinds_gone s p heir parent w up kh k word h =
+    let gone = leave_children_and_die s p heir w in
+    let told = tell_of_all gone heir (zombies_of p s.processes) in
     let small = end_small w word in
     kinds_notice (hup_and_cont_orphans s.processes told) parent p w k (omega (arith, small))
-    (kinds_hup_and_cont (newly_orphaned s.processes told.processes) told.processes (kinds_told gone 1 (zombies_of p s.processes) (zombies_kind s p up h.records) (kinds_departed s p w word h.records)))
+    (kinds_hup_and_cont (newly_orphaned s.processes told.processes) told.processes (kinds_told gone heir (zombies_of p s.processes) (zombies_kind s p up h.records) (kinds_departed s p heir w kh word h.records)))
 
 -- an end
 pub kinds_end : (s : State) (r : Process) (w : ℕ) → IsRising s.processes → is_id r.pid ≡ true → is_end_word w ≡ true → AreKinds s → AreKinds (end_process s r w).state
@@ -245,15 +256,16 @@ kinds_end s r w up k word h =
     up_hung : (s : State) (r : Process) → IsRising s.processes → IsRising (hang_up s r).processes
     up_hung s r up = (quiet_hung_up s r).rising up
 
-    kinds_gone_state : (t : State) → IsRising t.processes → AreKinds t → AreKinds (notice_of_end (hup_and_cont_orphans t.processes (tell_of_all (leave_children_and_die t r.pid 1 w) 1 (zombies_of r.pid t.processes))) r.parent r.pid w)
+    kinds_gone_state : (t : State) → IsRising t.processes → AreKinds t → AreKinds (notice_of_end (hup_and_cont_orphans t.processes (tell_of_all (leave_children_and_die t r.pid (heir_in t.processes r.pid) w) (heir_in t.processes r.pid) (zombies_of r.pid t.processes))) r.parent r.pid w)
     kinds_gone_state t up kt =
-        let gone = leave_children_and_die t r.pid 1 w in
-        let told = tell_of_all gone 1 (zombies_of r.pid t.processes) in
+        let heir = heir_in t.processes r.pid in
+        let gone = leave_children_and_die t r.pid heir w in
+        let told = tell_of_all gone heir (zombies_of r.pid t.processes) in
         let given = hup_and_cont_orphans t.processes told in
-        let only_a = only_told gone 1 (zombies_of r.pid t.processes) in
+        let only_a = only_told gone heir (zombies_of r.pid t.processes) in
         let only_b = only_notice given r.parent r.pid w in
         kinds_as t _ (ap (λ (u : State). u.world) only_b ∙ ap (λ (u : State). u.world) only_a) (ap (λ (u : State). u.consoles) only_b ∙ ap (λ (u : State). u.consoles) only_a)
-        (kinds_gone t r.pid r.parent w up k word kt) kt
+        (kinds_gone t r.pid heir r.parent w up (kind_heir t r.pid kt.records) k word kt) kt
 
 -- ---- consoles and keys
 

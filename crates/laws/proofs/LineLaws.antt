@@ -9,8 +9,8 @@ use Rattle.posix.specs.declared.waits.WaitCall.{WaitCall}
 use Rattle.posix.specs.Statuses.{continued, is_end_word, is_stopped_word, is_continued_word}
 use Rattle.posix.specs.Entries.{Line, line, process_of}
 use Rattle.laws.specs.Lives.{LastOf, last_where, or_this, LifeSoFar, life_after, newest_life, EndOf, the_end, or_later, parent_of, parent_in, parent_in_life, end_in, reports_in, reports, reports_or_looks_in, reports_or_looks, begins, born_by, is_just, is_change_word, none_or, is_halt, is_due, is_due_to, end_report, is_living, Everywhere, Laws, numbers_rise, within_life, begins_apart, report_law, reports_due, halts_last, last_line, was_halt, ends_first, number_from, ends, stops, IsOfEnd}
-use Rattle.laws.specs.Keeping.{Dead, Kept, NeverBorn, Lives, Died, kept_of, kept_after, lives_now, word_fault, stop_fault, report_fault}
-use Rattle.laws.proofs.KeptLemmas.{last_where_more, line_makes, makes_same, told_is_kept, unborn_stays, begun, kept_more}
+use Rattle.laws.specs.Keeping.{Dead, Kept, NeverBorn, Lives, Died, kept_of, made_by, heir_told, lives_now, word_fault, stop_fault, report_fault}
+use Rattle.laws.proofs.KeptLemmas.{last_where_more, told_is_kept, unborn_stays, begun, kept_more}
 use Rattle.laws.proofs.TestLemmas.{living_kept, report_tested}
 use Rattle.laws.proofs.LawfulLemmas.{everywhere_at, everywhere_first}
 use Rattle.laws.proofs.StatusLemmas.{end_tells}
@@ -18,23 +18,23 @@ use Rattle.laws.proofs.StatusLemmas.{end_tells}
 -- ---- what is kept, line by line
 
 -- what is kept after one line more
-pub kept_next : (before : List Line) (l : Line) (c : ℕ) → line_makes l.entry c (kept_of before c) ≡ kept_of (before ++ l ∷ []) c
-kept_next before l c = makes_same (kept_of before) l.entry c ∙ sym (kept_more before l c)
+pub kept_next : (before : List Line) (l : Line) (c : ℕ) → made_by (heir_told (kept_of before) l.entry) l.entry c (kept_of before c) ≡ kept_of (before ++ l ∷ []) c
+kept_next before l c = sym (kept_more before l c)
 
 -- what stays at each line that fails a test stays over lines that all do
-kept_through : (P : Kept → Type 0) (c : ℕ) (t : Line → Bool) → ((l : Line) (k : Kept) → t l ≡ false → P k → P (line_makes l.entry c k))
+kept_through : (P : Kept → Type 0) (c : ℕ) (t : Line → Bool) → ((heir : ℕ) (l : Line) (k : Kept) → t l ≡ false → P k → P (made_by heir l.entry c k))
     → (before between : List Line) → list_any t between ≡ false → P (kept_of before c) → P (kept_of (before ++ between) c)
 kept_through P c t stays before [] none h = subst (λ ls. P (kept_of ls c)) (sym (append-nil before)) h
 kept_through P c t stays before (l ∷ ls) none h =
     let both = or_parts (t l) (list_any t ls) none in
-    let one : P (kept_of (before ++ l ∷ []) c) = subst P (kept_next before l c) (stays l (kept_of before c) both.0 h) in
+    let one : P (kept_of (before ++ l ∷ []) c) = subst P (kept_next before l c) (stays (heir_told (kept_of before) l.entry) l (kept_of before c) both.0 h) in
     subst (λ ls. P (kept_of ls c)) (append_assoc before (l ∷ []) ls) (kept_through P c t stays (before ++ l ∷ []) ls both.1 one)
 
 -- What a line brings about, and what lines that fail a test leave, no later line denies: so one of them passes.
-one_between : (P : Kept → Type 0) (c : ℕ) (t : Line → Bool) → ((l : Line) (k : Kept) → t l ≡ false → P k → P (line_makes l.entry c k))
-    → (before between : List Line) (a : Line) → P (line_makes a.entry c (kept_of before c)) → (P (kept_of (before ++ a ∷ between) c) → ⊥) → list_any t between ≡ true
+one_between : (P : Kept → Type 0) (c : ℕ) (t : Line → Bool) → ((heir : ℕ) (l : Line) (k : Kept) → t l ≡ false → P k → P (made_by heir l.entry c k))
+    → (before between : List Line) (a : Line) → ((heir : ℕ) → P (made_by heir a.entry c (kept_of before c))) → (P (kept_of (before ++ a ∷ between) c) → ⊥) → list_any t between ≡ true
 one_between P c t stays before between a first denied = true_from_ne_false (list_any t between) (λ none.
-    denied (subst (λ ls. P (kept_of ls c)) (append_assoc before (a ∷ []) between) (kept_through P c t stays (before ++ a ∷ []) between none (subst P (kept_next before a c) first))))
+    denied (subst (λ ls. P (kept_of ls c)) (append_assoc before (a ∷ []) between) (kept_through P c t stays (before ++ a ∷ []) between none (subst P (kept_next before a c) (first (heir_told (kept_of before) a.entry))))))
 
 -- ---- lives
 
@@ -44,16 +44,16 @@ IsOver NeverBorn = ⊥
 IsOver (Lives a) = ⊥
 IsOver (Died d) = Unit {0}
 
-over_stays : (c : ℕ) (l : Line) (k : Kept) → begins c l ≡ false → IsOver k → IsOver (line_makes l.entry c k)
-over_stays c l NeverBorn none h = absurd (h)
-over_stays c l (Lives a) none h = absurd (h)
-over_stays c l (Died d) none h = subst IsOver (told_is_kept l.entry c (Died d) none) tt
+over_stays : (heir : ℕ) (c : ℕ) (l : Line) (k : Kept) → begins c l ≡ false → IsOver k → IsOver (made_by heir l.entry c k)
+over_stays heir c l NeverBorn none h = absurd (h)
+over_stays heir c l (Lives a) none h = absurd (h)
+over_stays heir c l (Died d) none h = subst IsOver (told_is_kept heir l.entry c (Died d) none) tt
 
 -- its end makes a life one
-pub over_made : (c w : ℕ) (e : Entry) (k : Kept) → end_in c e ≡ Some w → lives_now k ≡ true → IsOver (line_makes e c k)
-over_made c w e NeverBorn is lives = absurd (cc)
-over_made c w e (Died d) is lives = absurd (cc)
-over_made c w e (Lives a) is lives = subst IsOver (told_is_kept e c (Lives a) (unborn e is)) (rw is tt)
+pub over_made : (heir : ℕ) (c w : ℕ) (e : Entry) (k : Kept) → end_in c e ≡ Some w → lives_now k ≡ true → IsOver (made_by heir e c k)
+over_made heir c w e NeverBorn is lives = absurd (cc)
+over_made heir c w e (Died d) is lives = absurd (cc)
+over_made heir c w e (Lives a) is lives = subst IsOver (told_is_kept heir e c (Lives a) (unborn e is)) (rw is tt)
   where
     unborn : (e : Entry) → end_in c e ≡ Some w → is_just c (born_by e) ≡ false
     unborn (Ended p v) is = refl
@@ -65,15 +65,15 @@ over_dead (Lives a) h = absurd (h)
 over_dead (Died d) h = refl
 
 -- a life that hasn't ended stays one, until its end
-pub lives_stays : (c : ℕ) (l : Line) (k : Kept) → ends c l ≡ false → lives_now k ≡ true → lives_now (line_makes l.entry c k) ≡ true
-lives_stays c l NeverBorn none h = absurd (cc)
-lives_stays c l (Died d) none h = absurd (cc)
-lives_stays c l (Lives a) none h = by (is_just c (born_by l.entry)) refl (end_in c l.entry) refl
+pub lives_stays : (heir : ℕ) (c : ℕ) (l : Line) (k : Kept) → ends c l ≡ false → lives_now k ≡ true → lives_now (made_by heir l.entry c k) ≡ true
+lives_stays heir c l NeverBorn none h = absurd (cc)
+lives_stays heir c l (Died d) none h = absurd (cc)
+lives_stays heir c l (Lives a) none h = by (is_just c (born_by l.entry)) refl (end_in c l.entry) refl
   where
-    by : (b : Bool) → is_just c (born_by l.entry) ≡ b → (o : Option ℕ) → end_in c l.entry ≡ o → lives_now (line_makes l.entry c (Lives a)) ≡ true
-    by true born o is = ap lives_now (sym (begun l.entry c (Lives a) born))
+    by : (b : Bool) → is_just c (born_by l.entry) ≡ b → (o : Option ℕ) → end_in c l.entry ≡ o → lives_now (made_by heir l.entry c (Lives a)) ≡ true
+    by true born o is = ap lives_now (sym (begun heir l.entry c (Lives a) born))
     by false born (Some w) is = let no = sym none ∙ ap is_some is in absurd (cc)
-    by false born None is = subst (λ k. lives_now k ≡ true) (told_is_kept l.entry c (Lives a) born) (rw is refl)
+    by false born None is = subst (λ k. lives_now k ≡ true) (told_is_kept heir l.entry c (Lives a) born) (rw is refl)
 
 -- ---- reports
 
@@ -141,13 +141,13 @@ IsReported NeverBorn = ⊥
 IsReported (Lives a) = ⊥
 IsReported (Died d) = d.reported ≡ true
 
-reported_stays : (c : ℕ) (l : Line) (k : Kept) → begins c l ≡ false → IsReported k → IsReported (line_makes l.entry c k)
-reported_stays c l NeverBorn none h = absurd (h)
-reported_stays c l (Lives a) none h = absurd (h)
-reported_stays c l (Died d) none h = subst IsReported (told_is_kept l.entry c (Died d) none) (rw h refl)
+reported_stays : (heir : ℕ) (c : ℕ) (l : Line) (k : Kept) → begins c l ≡ false → IsReported k → IsReported (made_by heir l.entry c k)
+reported_stays heir c l NeverBorn none h = absurd (h)
+reported_stays heir c l (Lives a) none h = absurd (h)
+reported_stays heir c l (Died d) none h = subst IsReported (told_is_kept heir l.entry c (Died d) none) (rw h refl)
 
-reported_made : (p : ℕ) (call : WaitCall) (c w : ℕ) (k : Kept) → is_end_word w ≡ true → IsUnreported p w k → IsReported (line_makes (Reported p call c w) c k)
-reported_made p call c w k word h = subst (λ k. IsReported (line_makes (Reported p call c w) c k)) (sym h.is) (subst IsReported (told_is_kept (Reported p call c w) c (Died h.dead) refl) (rw (eq-eqb c c refl, word) (or_true h.dead.reported)))
+reported_made : (heir p : ℕ) (call : WaitCall) (c w : ℕ) (k : Kept) → is_end_word w ≡ true → IsUnreported p w k → IsReported (made_by heir (Reported p call c w) c k)
+reported_made heir p call c w k word h = subst (λ k. IsReported (made_by heir (Reported p call c w) c k)) (sym h.is) (subst IsReported (told_is_kept heir (Reported p call c w) c (Died h.dead) refl) (rw (eq-eqb c c refl, word) (or_true h.dead.reported)))
   where
     or_true : (b : Bool) → (b || true) ≡ true
     or_true true = refl
@@ -171,46 +171,46 @@ continue_left (Lives a) = a.may_continue
 continue_left (Died d) = false
 
 -- none is left, and so it stays until a stop
-stop_stays : (c : ℕ) (l : Line) (k : Kept) → stops c l ≡ false → stop_left k ≡ None → stop_left (line_makes l.entry c k) ≡ None
-stop_stays c l k none h = by (is_just c (born_by l.entry)) refl k h (end_in c l.entry) refl
+stop_stays : (heir : ℕ) (c : ℕ) (l : Line) (k : Kept) → stops c l ≡ false → stop_left k ≡ None → stop_left (made_by heir l.entry c k) ≡ None
+stop_stays heir c l k none h = by (is_just c (born_by l.entry)) refl k h (end_in c l.entry) refl
   where
     either : (b : Bool) (o : Option ℕ) → o ≡ None → (if b then None else o) ≡ None
     either true o e = refl
     either false o e = e
 
-    by : (b : Bool) → is_just c (born_by l.entry) ≡ b → (k : Kept) → stop_left k ≡ None → (o : Option ℕ) → end_in c l.entry ≡ o → stop_left (line_makes l.entry c k) ≡ None
-    by true born k h o is = ap stop_left (sym (begun l.entry c k born))
-    by false born NeverBorn h o is = ap stop_left (unborn_stays l.entry c born)
-    by false born (Died d) h o is = ap stop_left (sym (told_is_kept l.entry c (Died d) born))
-    by false born (Lives a) h (Some w) is = ap stop_left (sym (told_is_kept l.entry c (Lives a) born)) ∙ rw is refl
-    by false born (Lives a) h None is = ap stop_left (sym (told_is_kept l.entry c (Lives a) born)) ∙ rw (is, none) (either (reports_in c is_change_word l.entry) a.stop h)
+    by : (b : Bool) → is_just c (born_by l.entry) ≡ b → (k : Kept) → stop_left k ≡ None → (o : Option ℕ) → end_in c l.entry ≡ o → stop_left (made_by heir l.entry c k) ≡ None
+    by true born k h o is = ap stop_left (sym (begun heir l.entry c k born))
+    by false born NeverBorn h o is = ap stop_left (unborn_stays heir l.entry c born)
+    by false born (Died d) h o is = ap stop_left (sym (told_is_kept heir l.entry c (Died d) born))
+    by false born (Lives a) h (Some w) is = ap stop_left (sym (told_is_kept heir l.entry c (Lives a) born)) ∙ rw is refl
+    by false born (Lives a) h None is = ap stop_left (sym (told_is_kept heir l.entry c (Lives a) born)) ∙ rw (is, none) (either (reports_in c is_change_word l.entry) a.stop h)
 
-continue_stays : (c : ℕ) (l : Line) (k : Kept) → stops c l ≡ false → continue_left k ≡ false → continue_left (line_makes l.entry c k) ≡ false
-continue_stays c l k none h = by (is_just c (born_by l.entry)) refl k h (end_in c l.entry) refl
+continue_stays : (heir : ℕ) (c : ℕ) (l : Line) (k : Kept) → stops c l ≡ false → continue_left k ≡ false → continue_left (made_by heir l.entry c k) ≡ false
+continue_stays heir c l k none h = by (is_just c (born_by l.entry)) refl k h (end_in c l.entry) refl
   where
-    by : (b : Bool) → is_just c (born_by l.entry) ≡ b → (k : Kept) → continue_left k ≡ false → (o : Option ℕ) → end_in c l.entry ≡ o → continue_left (line_makes l.entry c k) ≡ false
-    by true born k h o is = ap continue_left (sym (begun l.entry c k born))
-    by false born NeverBorn h o is = ap continue_left (unborn_stays l.entry c born)
-    by false born (Died d) h o is = ap continue_left (sym (told_is_kept l.entry c (Died d) born))
-    by false born (Lives a) h (Some w) is = ap continue_left (sym (told_is_kept l.entry c (Lives a) born)) ∙ rw is refl
-    by false born (Lives a) h None is = ap continue_left (sym (told_is_kept l.entry c (Lives a) born)) ∙ rw (is, none, h) refl
+    by : (b : Bool) → is_just c (born_by l.entry) ≡ b → (k : Kept) → continue_left k ≡ false → (o : Option ℕ) → end_in c l.entry ≡ o → continue_left (made_by heir l.entry c k) ≡ false
+    by true born k h o is = ap continue_left (sym (begun heir l.entry c k born))
+    by false born NeverBorn h o is = ap continue_left (unborn_stays heir l.entry c born)
+    by false born (Died d) h o is = ap continue_left (sym (told_is_kept heir l.entry c (Died d) born))
+    by false born (Lives a) h (Some w) is = ap continue_left (sym (told_is_kept heir l.entry c (Lives a) born)) ∙ rw is refl
+    by false born (Lives a) h None is = ap continue_left (sym (told_is_kept heir l.entry c (Lives a) born)) ∙ rw (is, none, h) refl
 
 -- a report of one leaves none
-stop_told : (p : ℕ) (call : WaitCall) (c w : ℕ) (k : Kept) → is_change_word w ≡ true → stop_left (line_makes (Reported p call c w) c k) ≡ None
-unfolding kept_after
-stop_told p call c w NeverBorn word = rw (eq-eqb c c refl) refl
-stop_told p call c w (Lives a) word = rw (eq-eqb c c refl, word) refl
-stop_told p call c w (Died d) word = rw (eq-eqb c c refl) refl
+stop_told : (heir p : ℕ) (call : WaitCall) (c w : ℕ) (k : Kept) → is_change_word w ≡ true → stop_left (made_by heir (Reported p call c w) c k) ≡ None
+unfolding made_by
+stop_told heir p call c w NeverBorn word = rw (eq-eqb c c refl) refl
+stop_told heir p call c w (Lives a) word = rw (eq-eqb c c refl, word) refl
+stop_told heir p call c w (Died d) word = rw (eq-eqb c c refl) refl
 
-continue_told : (p : ℕ) (call : WaitCall) (c w : ℕ) (k : Kept) → is_continued_word w ≡ true → continue_left (line_makes (Reported p call c w) c k) ≡ false
-unfolding kept_after
-continue_told p call c w NeverBorn word = rw (eq-eqb c c refl) refl
-continue_told p call c w (Lives a) word = rw (eq-eqb c c refl, word) (and_none a.may_continue)
+continue_told : (heir p : ℕ) (call : WaitCall) (c w : ℕ) (k : Kept) → is_continued_word w ≡ true → continue_left (made_by heir (Reported p call c w) c k) ≡ false
+unfolding made_by
+continue_told heir p call c w NeverBorn word = rw (eq-eqb c c refl) refl
+continue_told heir p call c w (Lives a) word = rw (eq-eqb c c refl, word) (and_none a.may_continue)
   where
     and_none : (b : Bool) → (b && not true) ≡ false
     and_none true = refl
     and_none false = refl
-continue_told p call c w (Died d) word = rw (eq-eqb c c refl) refl
+continue_told heir p call c w (Died d) word = rw (eq-eqb c c refl) refl
 
 -- the words are apart
 stop_no_end : (w : ℕ) → is_stopped_word w ≡ true → is_end_word w ≡ false
@@ -272,7 +272,7 @@ no_end_twice before between after a b c h first second =
     let y = told_due (before ++ a ∷ between) b c is_end_word (everywhere_at reports_due (before ++ a ∷ between) b after h.reports) second in
     let one = end_due x.by x.word (kept_of before c) x.passes (report_due before a x.by x.call c x.word (law_first reports_due before a between (b ∷ after) h.reports) x.is) in
     let two = end_due y.by y.word (kept_of (before ++ a ∷ between) c) y.passes y.due in
-    one_between IsReported c (begins c) (reported_stays c) before between a (subst (λ e. IsReported (line_makes e c (kept_of before c))) (sym x.is) (reported_made x.by x.call c x.word (kept_of before c) x.passes one))
+    one_between IsReported c (begins c) (λ heir. reported_stays heir c) before between a (λ heir. subst (λ e. IsReported (made_by heir e c (kept_of before c))) (sym x.is) (reported_made heir x.by x.call c x.word (kept_of before c) x.passes one))
     (λ reported. reported_once y.by y.word (kept_of (before ++ a ∷ between) c) reported two)
 
 -- Nor is a stop after its report or that of its continue.
@@ -281,7 +281,7 @@ pub no_stop_twice : (before between after : List Line) (a b : Line) (c : ℕ) �
 no_stop_twice before between after a b c h first second =
     let x = report_in c is_change_word a.entry first in
     let y = told_due (before ++ a ∷ between) b c is_stopped_word (everywhere_at reports_due (before ++ a ∷ between) b after h.reports) second in
-    one_between (λ k. stop_left k ≡ None) c (stops c) (stop_stays c) before between a (subst (λ e. stop_left (line_makes e c (kept_of before c)) ≡ None) (sym x.is) (stop_told x.by x.call c x.word (kept_of before c) x.passes))
+    one_between (λ k. stop_left k ≡ None) c (stops c) (λ heir. stop_stays heir c) before between a (λ heir. subst (λ e. stop_left (made_by heir e c (kept_of before c)) ≡ None) (sym x.is) (stop_told heir x.by x.call c x.word (kept_of before c) x.passes))
     (λ none. stop_once y.by y.word (kept_of (before ++ a ∷ between) c) y.passes none y.due)
 
 -- Nor is a continue after its report.
@@ -290,8 +290,8 @@ pub no_continue_twice : (before between after : List Line) (a b : Line) (c : ℕ
 no_continue_twice before between after a b c h first second =
     let x = report_in c is_continued_word a.entry first in
     let y = told_due (before ++ a ∷ between) b c is_continued_word (everywhere_at reports_due (before ++ a ∷ between) b after h.reports) second in
-    one_between (λ k. continue_left k ≡ false) c (stops c) (continue_stays c) before between a
-    (subst (λ e. continue_left (line_makes e c (kept_of before c)) ≡ false) (sym x.is) (continue_told x.by x.call c x.word (kept_of before c) x.passes))
+    one_between (λ k. continue_left k ≡ false) c (stops c) (λ heir. continue_stays heir c) before between a
+    (λ heir. subst (λ e. continue_left (made_by heir e c (kept_of before c)) ≡ false) (sym x.is) (continue_told heir x.by x.call c x.word (kept_of before c) x.passes))
     (λ none. continue_once y.by y.word (kept_of (before ++ a ∷ between) c) y.passes none y.due)
 
 -- Whose line stands there lives.
@@ -316,14 +316,14 @@ nothing_after_end before between after a b c h ended mine = by (end_in c a.entry
     by (Some w) is =
         let lived = lives_within before a c (law_first within_life before a between (b ∷ after) h.lives) (whose a.entry w is) in
         let lives = lives_within (before ++ a ∷ between) b c (everywhere_at within_life (before ++ a ∷ between) b after h.lives) mine in
-        one_between IsOver c (begins c) (over_stays c) before between a (over_made c w a.entry (kept_of before c) is lived)
+        one_between IsOver c (begins c) (λ heir. over_stays heir c) before between a (λ heir. over_made heir c w a.entry (kept_of before c) is lived)
         (λ over. let no = sym lives ∙ over_dead (kept_of (before ++ a ∷ between) c) over in cc)
 
 -- Between two births of one number that process ends.
 pub lives_apart : (before between after : List Line) (a b : Line) (c : ℕ) → Laws (before ++ a ∷ between ++ b ∷ after)
     → begins c a ≡ true → begins c b ≡ true → list_any (ends c) between ≡ true
 lives_apart before between after a b c h first second =
-    one_between (λ k. lives_now k ≡ true) c (ends c) (lives_stays c) before between a (ap lives_now (sym (begun a.entry c (kept_of before c) first)))
+    one_between (λ k. lives_now k ≡ true) c (ends c) (λ heir. lives_stays heir c) before between a (λ heir. ap lives_now (sym (begun heir a.entry c (kept_of before c) first)))
     (λ lives.
     let apart = everywhere_at begins_apart (before ++ a ∷ between) b after h.births in
     let dead : is_living (before ++ a ∷ between) c ≡ false = of (born_by b.entry) second apart in
@@ -425,9 +425,9 @@ is_since : (lines : List Line) (c : ℕ) (x : LifeSoFar) → newest_life lines c
 unfolding newest_life
 is_since lines c x h = of (last_where (begins c) lines) refl h
   where
-    from_start : (b : Bool) → last_where (begins c) lines ≡ None → cond b (Some (record { forker = 0; since = lines })) None ≡ Some x → IsSince lines c x.since
+    from_start : (b : Bool) → last_where (begins c) lines ≡ None → cond b (Some (record { since = lines })) None ≡ Some x → IsSince lines c x.since
     from_start true is h =
-        let same : record { forker = 0; since = lines } ≡ x = cc in
+        let same : record { since = lines } ≡ x = cc in
         subst (λ (x : LifeSoFar). IsSince lines c x.since) same (record { earlier = []; split = refl; none = none_last (begins c) lines is })
     from_start false is h = absurd (cc)
 
@@ -467,7 +467,7 @@ due_of_end : (before : List Line) (p c w : ℕ) → is_end_word w ≡ true → i
 unfolding parent_in
 due_of_end before p c w word due = of (newest_life before c) refl due
   where
-    split : (x : LifeSoFar) (e : EndOf) → IsSince before c x.since → IsEnding c x.since e → newest_life before c ≡ Some x → parent_of before x ≡ p → e.status ≡ w → list_any (reports c is_end_word) e.after ≡ false → IsOfEnd before p c w
+    split : (x : LifeSoFar) (e : EndOf) → IsSince before c x.since → IsEnding c x.since e → newest_life before c ≡ Some x → parent_of before c ≡ p → e.status ≡ w → list_any (reports c is_end_word) e.after ≡ false → IsOfEnd before p c w
     split x e a b life parent status none =
         let lines : before ≡ (a.earlier ++ b.earlier) ++ line b.event (Ended c e.status) ∷ e.after = a.split ∙ ap (λ ls. a.earlier ++ ls) b.split ∙ sym (append_assoc a.earlier b.earlier (line b.event (Ended c e.status) ∷ e.after)) in
         let unborn = sym (list_any-append (begins c) b.earlier (line b.event (Ended c e.status) ∷ e.after)) ∙ ap (list_any (begins c)) (sym b.split) ∙ a.none in
@@ -478,10 +478,10 @@ due_of_end before p c w word due = of (newest_life before c) refl due
           ended = subst (λ v. before ≡ (a.earlier ++ b.earlier) ++ line b.event (Ended c v) ∷ e.after) status lines;
           same_life = (or_parts (list_any (begins c) b.earlier) (list_any (begins c) e.after) unborn).1;
           unreported = none;
-          parent = ap (parent_in_life before) life ∙ ap Some parent;
+          parent = ap (parent_in_life before c) life ∙ ap Some parent;
         }
 
-    ending : (x : LifeSoFar) → newest_life before c ≡ Some x → parent_of before x ≡ p → (o : Option EndOf) → the_end c x.since ≡ o → end_report c w o ≡ true → IsOfEnd before p c w
+    ending : (x : LifeSoFar) → newest_life before c ≡ Some x → parent_of before c ≡ p → (o : Option EndOf) → the_end c x.since ≡ o → end_report c w o ≡ true → IsOfEnd before p c w
     ending x life parent None ended due = absurd (cc)
     ending x life parent (Some e) ended due =
         let both = and_parts (e.status == w) (not (list_any (reports c is_end_word) e.after)) due in
@@ -494,9 +494,9 @@ due_of_end before p c w word due = of (newest_life before c) refl due
     of : (o : Option LifeSoFar) → newest_life before c ≡ o → is_due_to before p c w o ≡ true → IsOfEnd before p c w
     of None life due = absurd (cc)
     of (Some x) life due =
-        let both = and_parts (parent_of before x == p) (is_due c w x.since) due in
+        let both = and_parts (parent_of before c == p) (is_due c w x.since) due in
         let asks : is_due c w x.since ≡ end_report c w (the_end c x.since) = rw word refl in
-        ending x life (eqb-true (parent_of before x) p both.0) (the_end c x.since) refl (sym asks ∙ both.1)
+        ending x life (eqb-true (parent_of before c) p both.0) (the_end c x.since) refl (sym asks ∙ both.1)
 
 -- An end is reported by the parent of that moment, with its status.
 pub reported_to_parent : (before after : List Line) (l : Line) (p : ℕ) (call : WaitCall) (c w : ℕ) → Laws (before ++ l ∷ after) → l.entry ≡ Reported p call c w → is_end_word w ≡ true → IsOfEnd before p c w

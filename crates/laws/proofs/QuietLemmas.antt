@@ -73,22 +73,23 @@ quiet_order s order h = record {
 
 -- ---- a record that goes on to agree
 
--- where number, parent, life and news stay
-pub agree_told : (k : Kept) (r q : Process) → q.pid ≡ r.pid → q.parent ≡ r.parent → q.life ≡ r.life → q.news ≡ r.news → AgreeOn k (Some r) → AgreeOn k (Some q)
-agree_told NeverBorn r q i p l n h = h
-agree_told (Lives a) r q i p l n h = record {
+-- where number, parent, mark, life and news stay
+pub agree_told : (k : Kept) (r q : Process) → q.pid ≡ r.pid → q.parent ≡ r.parent → q.is_subreaper ≡ r.is_subreaper → q.life ≡ r.life → q.news ≡ r.news → AgreeOn k (Some r) → AgreeOn k (Some q)
+agree_told NeverBorn r q i p m l n h = h
+agree_told (Lives a) r q i p m l n h = record {
   living = ap is_zombie l ∙ h.living;
   parent = p ∙ h.parent;
+  mark = m ∙ h.mark;
   news = rw (l, n) h.news;
   stopped = λ e. h.stopped (sym (ap is_stopped l) ∙ e);
 }
-agree_told (Died d) r q i p l n h = record { life = l ∙ h.life; parent = p ∙ h.parent; reported = h.reported; news = λ other. n ∙ h.news (λ e. other (i ∙ e)); word = h.word }
+agree_told (Died d) r q i p m l n h = record { life = l ∙ h.life; parent = p ∙ h.parent; reported = h.reported; news = λ other. n ∙ h.news (λ e. other (i ∙ e)); word = h.word }
 
 -- where one that is stopped is continued
 pub agree_resumed : (k : Kept) (r : Process) → is_stopped r.life ≡ true → AgreeOn k (Some r) → AgreeOn k (Some (resumed r))
 unfolding resumed
 agree_resumed NeverBorn r stops h = h
-agree_resumed (Lives a) r stops h = record { living = refl; parent = h.parent; news = (h.stopped stops, refl); stopped = λ e. absurd (cc) }
+agree_resumed (Lives a) r stops h = record { living = refl; parent = h.parent; mark = h.mark; news = (h.stopped stops, refl); stopped = λ e. absurd (cc) }
 agree_resumed (Died d) r stops h = let no : false ≡ true = sym (ap is_stopped h.life) ∙ stops in absurd (cc)
 
 -- where a zombie is dropped
@@ -168,6 +169,7 @@ quiet_dropped s c r up found dead = record {
 pub record Untold (f : Process → Process) : Type 0 where
   pub pid : (r : Process) → (f r).pid ≡ r.pid
   pub parent : (r : Process) → (f r).parent ≡ r.parent
+  pub mark : (r : Process) → (f r).is_subreaper ≡ r.is_subreaper
   pub life : (r : Process) → (f r).life ≡ r.life
   pub news : (r : Process) → (f r).news ≡ r.news
 
@@ -177,12 +179,13 @@ KeepsKill f = (r : Process) → is_pending r.signals KILL ≡ true → is_pendin
 
 -- no change is one, and two such changes are
 pub untold_none : Untold (λ r. r)
-untold_none = record { pid = λ r. refl; parent = λ r. refl; life = λ r. refl; news = λ r. refl }
+untold_none = record { pid = λ r. refl; parent = λ r. refl; mark = λ r. refl; life = λ r. refl; news = λ r. refl }
 
 pub untold_then : (f g : Process → Process) → Untold f → Untold g → Untold (λ r. g (f r))
 untold_then f g h k = record {
   pid = λ r. k.pid (f r) ∙ h.pid r;
   parent = λ r. k.parent (f r) ∙ h.parent r;
+  mark = λ r. k.mark (f r) ∙ h.mark r;
   life = λ r. k.life (f r) ∙ h.life r;
   news = λ r. k.news (f r) ∙ h.news r;
 }
@@ -192,6 +195,7 @@ pub untold_cond : (t : Process → Bool) (f g : Process → Process) → Untold 
 untold_cond t f g h k = record {
   pid = λ r. cond_both (t r) (f r) (g r) (λ q. q.pid ≡ r.pid) (λ e. h.pid r) (λ e. k.pid r);
   parent = λ r. cond_both (t r) (f r) (g r) (λ q. q.parent ≡ r.parent) (λ e. h.parent r) (λ e. k.parent r);
+  mark = λ r. cond_both (t r) (f r) (g r) (λ q. q.is_subreaper ≡ r.is_subreaper) (λ e. h.mark r) (λ e. k.mark r);
   life = λ r. cond_both (t r) (f r) (g r) (λ q. q.life ≡ r.life) (λ e. h.life r) (λ e. k.life r);
   news = λ r. cond_both (t r) (f r) (g r) (λ q. q.news ≡ r.news) (λ e. h.news r) (λ e. k.news r);
 }
@@ -205,7 +209,7 @@ quiet_change s p f u keeps = by (lookup p s.processes) refl
   where
     by : (o : Option Process) → lookup p s.processes ≡ o → Quiet s (change s p f)
     by None e = subst (λ rs. Quiet s (record s { processes = rs })) (sym (changed_absent p f s.processes e)) (quiet_same s)
-    by (Some me) e = quiet_at s p f u.pid me e (λ k h. agree_told k me (f me) (u.pid me) (u.parent me) (u.life me) (u.news me) h) (λ stops waits. keeps me (waits (sym (ap is_stopped (u.life me)) ∙ stops)))
+    by (Some me) e = quiet_at s p f u.pid me e (λ k h. agree_told k me (f me) (u.pid me) (u.parent me) (u.mark me) (u.life me) (u.news me) h) (λ stops waits. keeps me (waits (sym (ap is_stopped (u.life me)) ∙ stops)))
 
 -- and of each process
 pub quiet_map : (s : State) (g : Process → Process) → Untold g → KeepsKill g → Quiet s (record s { processes = map g s.processes })
@@ -225,7 +229,7 @@ quiet_map s g u keeps = record {
   where
     each : (k : Kept) (o : Option Process) → AgreeOn k o → AgreeOn k (option_map g o)
     each k None h = h
-    each k (Some r) h = agree_told k r (g r) (u.pid r) (u.parent r) (u.life r) (u.news r) h
+    each k (Some r) h = agree_told k r (g r) (u.pid r) (u.parent r) (u.mark r) (u.life r) (u.news r) h
 
 -- ---- changes of who runs
 
@@ -244,7 +248,7 @@ runs_on (Zombie w) r s = cc
 -- such a change of who runs, whatever it does to its signals
 pub quiet_own : (s : State) (p : ℕ) (f : Process → Process) → Untold f → IsRunning s p → Quiet s (change s p f)
 quiet_own s p f u me =
-    quiet_at s p f u.pid me.what me.found (λ k h. agree_told k me.what (f me.what) (u.pid me.what) (u.parent me.what) (u.life me.what) (u.news me.what) h)
+    quiet_at s p f u.pid me.what me.found (λ k h. agree_told k me.what (f me.what) (u.pid me.what) (u.parent me.what) (u.mark me.what) (u.life me.what) (u.news me.what) h)
     (λ stops waits. absurd (runs_on me.what.life me.runs (sym (ap is_stopped (u.life me.what)) ∙ stops)))
 
 -- after which it runs

@@ -30,9 +30,24 @@ use Rattle.posix.proofs.OrphanLemmas.{lasting_notice}
 use Rattle.posix.proofs.OrderLemmas.{first_in}
 use Rattle.laws.proofs.QuietLemmas.{Quiet, quiet_same, quiet_then, quiet_as, quiet_order, quiet_at, agree_resumed, quiet_dropped, Untold, KeepsKill, kill_cond, quiet_change, quiet_map, runs_on}
 
--- what a parent doesn't see no line tells of
-pub untold : (f : Process → Process) → Unseen f → Untold f
-untold f u = record { pid = u.pid; parent = u.parent; life = u.life; news = u.news }
+-- the mark stays
+abbrev KeepsMark : (Process → Process) → Type 0
+KeepsMark f = (r : Process) → (f r).is_subreaper ≡ r.is_subreaper
+
+-- what a parent doesn't see no line tells of, where the mark stays
+pub untold : (f : Process → Process) → Unseen f → KeepsMark f → Untold f
+untold f u m = record { pid = u.pid; parent = u.parent; mark = m; life = u.life; news = u.news }
+
+mark_signalled : (signal : PendingSignal) → KeepsMark (signalled signal)
+unfolding signalled
+mark_signalled signal r = refl
+
+mark_cond : (t : Process → Bool) (f g : Process → Process) → KeepsMark f → KeepsMark g → KeepsMark (λ r. cond (t r) (f r) (g r))
+mark_cond t f g h k r = cond_both (t r) (f r) (g r) (λ q. q.is_subreaper ≡ r.is_subreaper) (λ e. h r) (λ e. k r)
+
+mark_rung : KeepsMark rung
+unfolding rung with_alarm signalled
+mark_rung r = refl
 
 -- ---- KILL stays pending
 
@@ -81,7 +96,7 @@ kill_same r e = e
 quiet_noticed_of_change : (s : State) (p : ℕ) (signal : PendingSignal) → Quiet s (change s p (noticed_of_change signal))
 unfolding noticed_of_change
 quiet_noticed_of_change s p signal =
-    quiet_change s p (noticed_of_change signal) (untold (noticed_of_change signal) (unseen_noticed_of_change signal))
+    quiet_change s p (noticed_of_change signal) (untold (noticed_of_change signal) (unseen_noticed_of_change signal) (mark_cond (λ r. ignores_stops r.signals) (λ r. r) (signalled signal) (λ r. refl) (mark_signalled signal)))
     (kill_cond (λ r. ignores_stops r.signals) (λ r. r) (signalled signal) kill_same (kill_signalled signal))
 
 -- a parent's notice of a change
@@ -100,7 +115,7 @@ unfolding signalled
 quiet_generated signal p s = by (lookup p s.processes) refl
   where
     told : (r : Process) → Quiet s (change s r.pid (signalled signal))
-    told r = quiet_change s r.pid (signalled signal) (untold (signalled signal) (unseen_signalled signal)) (kill_signalled signal)
+    told r = quiet_change s r.pid (signalled signal) (untold (signalled signal) (unseen_signalled signal) (mark_signalled signal)) (kill_signalled signal)
 
     acts : (r : Process) → lookup p s.processes ≡ Some r → (w : Effect) → effect_of r.pid r.life signal r.signals ≡ w → Quiet s (record s { processes = acted_upon w r (changed r.pid (signalled signal) s.processes) })
     acts r e effect.Nothing w = told r
@@ -163,7 +178,7 @@ unfolding notice_of_end noticed
 quiet_notice s parent child status up gone =
     let signal = child_signal child status in
     let told = change s parent (noticed signal) in
-    let u = untold (noticed signal) (unseen_noticed signal) in
+    let u = untold (noticed signal) (unseen_noticed signal) (mark_cond (λ r. ignores_children r.signals) (λ r. r) (signalled signal) (λ r. refl) (mark_signalled signal)) in
     let one : Quiet s told = quiet_change s parent (noticed signal) u (kill_cond (λ r. ignores_children r.signals) (λ r. r) (signalled signal) kill_same (kill_signalled signal)) in
     let there = lookup_changed parent child (noticed signal) u.pid s.processes in
     cond_both (is_dropping parent s.processes) (drop_child told child) told (Quiet s)
@@ -213,7 +228,7 @@ pub quiet_pass : (s : State) → Quiet s (pass_time s)
 unfolding ring_all rung with_alarm
 quiet_pass s =
     let now = s.ticks + 1 in
-    let rings = quiet_map s (ring_at now) (untold (ring_at now) (unseen_ring now)) (kill_cond (λ r. is_due now r.alarm) rung (λ r. r) (λ r e. kill_signalled _ r e) kill_same) in
+    let rings = quiet_map s (ring_at now) (untold (ring_at now) (unseen_ring now) (mark_cond (λ r. is_due now r.alarm) rung (λ r. r) mark_rung (λ r. refl))) (kill_cond (λ r. is_due now r.alarm) rung (λ r. r) (λ r e. kill_signalled _ r e) kill_same) in
     let t = record s { processes = ring_all now s.processes } in
     quiet_then s t (pass_time s) rings (quiet_as t (pass_time s) refl refl refl refl refl)
 

@@ -3,7 +3,7 @@ use Rattle.std.proofs.Common.{◌≡◌, ◌≢◌, ℕ, zero, suc, Bool, true, 
 use Rattle.std.specs.Int.{cast_unsigned, w64}
 use Rattle.std.specs.List.{AllByRecursion, list_any}
 use Rattle.posix.specs.declared.call.Call.{Call}
-use Rattle.posix.specs.declared.call.Call.TheVariants.{Exit, Fork, Waitpid, Waitid, Pause, SchedYield, Getpid, Getppid, Getuid, Geteuid, Getgid, Getegid, Setuid, Seteuid, Setgid, Setegid, Kill, Sigqueue, Sigaction, Sigprocmask, Sigpending, Sigsuspend, Sigreturn, Alarm, Exec, Getpgid, Getsid, Setpgid, Setsid, Setctty, Tcgetpgrp, Tcsetpgrp, Settostop, Read, Write}
+use Rattle.posix.specs.declared.call.Call.TheVariants.{Exit, Fork, Waitpid, Waitid, Pause, SchedYield, Getpid, Getppid, Getuid, Geteuid, Getgid, Getegid, Setuid, Seteuid, Setgid, Setegid, Kill, Sigqueue, Sigaction, Sigprocmask, Sigpending, Sigsuspend, Sigreturn, Alarm, Exec, Getpgid, Getsid, Setpgid, Setsid, Setctty, Tcgetpgrp, Tcsetpgrp, Settostop, Read, Write, Subreaper}
 use Rattle.posix.specs.declared.instr.Trap.{Trap}
 use Rattle.posix.specs.declared.instr.Trap.TheVariants as trap
 use Rattle.posix.specs.declared.event.Event.{Event}
@@ -11,7 +11,7 @@ use Rattle.posix.specs.declared.event.Event.TheVariants.{Step, Tick, Key}
 use Rattle.posix.specs.declared.errno.Errno.{Errno}
 use Rattle.posix.specs.declared.errno.Errno.TheVariants.{EPERM, ENOENT, ESRCH, EINTR, EAGAIN, EINVAL}
 use Rattle.posix.specs.declared.entry.Entry.{Entry}
-use Rattle.posix.specs.declared.entry.Entry.TheVariants.{Noted, Called, Moved, Reported, Looked, NoMemory, Handled, Discarded, Stopped, Returned, Ended, Halted}
+use Rattle.posix.specs.declared.entry.Entry.TheVariants.{Noted, Called, Moved, Reported, Looked, NoMemory, Marked, Handled, Discarded, Stopped, Returned, Ended, Halted}
 use Rattle.posix.specs.declared.how.How.{How}
 use Rattle.posix.specs.declared.sig.DefaultAction.{DefaultAction}
 use Rattle.posix.specs.declared.sig.DefaultAction.TheVariants as default
@@ -39,6 +39,8 @@ use Rattle.posix.specs.Groups.{is_orphaned}
 use Rattle.posix.specs.Choice.{chosen, carried_by, from_kernel}
 use Rattle.posix.specs.Handlers.{handles, is_full, is_interrupted, newest_frame, set_action}
 use Rattle.posix.specs.Births.{fork_as}
+use Rattle.posix.specs.Subreapers.{subreaper}
+use Rattle.posix.specs.Heirs.{heir_in}
 use Rattle.posix.specs.Ends.{hang_up, end_with_heir, end_process}
 use Rattle.posix.specs.Targets.{target_in, process_in}
 use Rattle.posix.specs.declared.waits.WaitCall.{WaitCall}
@@ -262,13 +264,13 @@ none_append [] ys h k = k
 none_append (x ∷ xs) ys h k = λ granted s new p. ((h granted s new p).0, none_append xs ys (λ granted s new p. (h granted s new p).1) k granted s new p)
 
 -- an end
-none_ends : (s : State) (r : Process) (status : ℕ) → NoRefusal (end_with_heir s r 1 status).entries
-none_ends s r status = none_either (r.pid == 1) _ _ (λ granted s new p. (tt, (tt, tt))) (λ granted s new p. (tt, tt))
+none_ends : (s : State) (r : Process) (heir status : ℕ) → NoRefusal (end_with_heir s r heir status).entries
+none_ends s r heir status = none_either (r.pid == 1) _ _ (λ granted s new p. (tt, (tt, tt))) (λ granted s new p. (tt, tt))
 
 -- its session's terminal is hung up before
 none_end : (s : State) (r : Process) (status : ℕ) → NoRefusal (end_process s r status).entries
 unfolding end_process
-none_end s r status = none_ends (hang_up s r) r status
+none_end s r status = none_ends (hang_up s r) r (heir_in (hang_up s r).processes r.pid) status
 
 -- a call that is interrupted gives -4
 none_interrupted : (p : ℕ) (b : Option Blocked) (a : Action) → NoRefusal (interruption p b a)
@@ -334,6 +336,10 @@ none_return : (s : State) (r : Process) → NoRefusal (return_from_handler s r).
 unfolding return_from_handler
 none_return s r = none_return_to s r (newest_frame r.signals)
 
+explained_subreaper : (C : Terms) (s : State) (me : Process) → ExplainedIf C s me.pid (subreaper s me)
+unfolding subreaper
+explained_subreaper C s me = (tt, tt)
+
 -- ---- all calls
 
 -- each call
@@ -374,6 +380,7 @@ explained_attempt granted s me Tcsetpgrp = explained_tcsetpgrp (NotInterrupted g
 explained_attempt granted s me Settostop = explained_settostop (NotInterrupted granted) s me
 explained_attempt granted s me Read = explained_read (NotInterrupted granted) s me
 explained_attempt granted s me Write = explained_write (NotInterrupted granted) s me
+explained_attempt granted s me Subreaper = explained_subreaper (NotInterrupted granted) s me
 
 -- ---- an entry among others
 
@@ -458,6 +465,7 @@ Told granted s new (Moved q call bytes) = Unit {0}
 Told granted s new (Reported q call child status) = Unit {0}
 Told granted s new (Looked q child status) = Unit {0}
 Told granted s new (NoMemory q call) = (granted ≡ false) × (current s ≡ Some q) × (new ≡ finish s q ((0, refusal EAGAIN) ∷ []))
+Told granted s new (Marked q mark) = Unit {0}
 Told granted s new (Handled q sig value sender) = Unit {0}
 Told granted s new (Discarded q sig) = Unit {0}
 Told granted s new (Stopped q sig) = Unit {0}
@@ -474,6 +482,7 @@ told granted s p new (Moved q call bytes) first h = tt
 told granted s p new (Reported q call child status) first h = tt
 told granted s p new (Looked q child status) first h = tt
 told granted s p new (NoMemory q call) first h = (h.0, first ∙ ap Some (sym h.1), h.2 ∙ ap (λ m. finish s m ((0, refusal EAGAIN) ∷ [])) (sym h.1))
+told granted s p new (Marked q mark) first h = tt
 told granted s p new (Handled q sig value sender) first h = tt
 told granted s p new (Discarded q sig) first h = tt
 told granted s p new (Stopped q sig) first h = tt

@@ -6,7 +6,7 @@ use Rattle.posix.specs.declared.call.Call.TheVariants.{Fork, Setctty, Tcgetpgrp,
 use Rattle.posix.specs.declared.errno.Errno.{Errno}
 use Rattle.posix.specs.declared.errno.Errno.TheVariants.{EPERM, ENOENT, ESRCH, EINTR, EIO, ECHILD, EAGAIN, EACCES, EFAULT, EINVAL, ENOTTY}
 use Rattle.posix.specs.declared.entry.Entry.{Entry}
-use Rattle.posix.specs.declared.entry.Entry.TheVariants.{Noted, Called, Moved, Reported, Looked, NoMemory, Handled, Discarded, Stopped, Returned, Ended, Halted}
+use Rattle.posix.specs.declared.entry.Entry.TheVariants.{Noted, Called, Moved, Reported, Looked, NoMemory, Marked, Handled, Discarded, Stopped, Returned, Ended, Halted}
 use Rattle.posix.specs.declared.span.Span.{Span}
 use Rattle.posix.specs.SignalNumbers.{TTIN, TTOU}
 use Rattle.posix.specs.NextPid.{is_free}
@@ -47,6 +47,7 @@ Explained C s p new (Moved q call bytes) = Unit {0}
 Explained C s p new (Reported q call child status) = Unit {0}
 Explained C s p new (Looked q child status) = Unit {0}
 Explained C s p new (NoMemory q call) = C.wanting × (q ≡ p) × (new ≡ finish s p ((0, refusal EAGAIN) ∷ []))
+Explained C s p new (Marked q mark) = Unit {0}
 Explained C s p new (Handled q sig value sender) = Unit {0}
 Explained C s p new (Discarded q sig) = Unit {0}
 Explained C s p new (Stopped q sig) = Unit {0}

@@ -4,7 +4,7 @@ use Rattle.std.specs.Int.{cast_unsigned, w64}
 use Rattle.std.specs.List.{AllByRecursion}
 use Rattle.std.proofs.lemmas.Bool.{eqb-true, eqb-false, eq-eqb, cond_both, or_cases, or_parts, or_from, false_from_ne_true, leb-true}
 use Rattle.posix.specs.declared.call.Call.{Call}
-use Rattle.posix.specs.declared.call.Call.TheVariants.{Exit, Fork, Waitpid, Waitid, Pause, SchedYield, Getpid, Getppid, Getuid, Geteuid, Getgid, Getegid, Setuid, Seteuid, Setgid, Setegid, Kill, Sigqueue, Sigaction, Sigprocmask, Sigpending, Sigsuspend, Sigreturn, Alarm, Exec, Getpgid, Getsid, Setpgid, Setsid, Setctty, Tcgetpgrp, Tcsetpgrp, Settostop, Read, Write}
+use Rattle.posix.specs.declared.call.Call.TheVariants.{Exit, Fork, Waitpid, Waitid, Pause, SchedYield, Getpid, Getppid, Getuid, Geteuid, Getgid, Getegid, Setuid, Seteuid, Setgid, Setegid, Kill, Sigqueue, Sigaction, Sigprocmask, Sigpending, Sigsuspend, Sigreturn, Alarm, Exec, Getpgid, Getsid, Setpgid, Setsid, Setctty, Tcgetpgrp, Tcsetpgrp, Settostop, Read, Write, Subreaper}
 use Rattle.posix.specs.declared.instr.Trap.{Trap}
 use Rattle.posix.specs.declared.instr.Trap.TheVariants as trap
 use Rattle.posix.specs.declared.event.Event.{Event}
@@ -41,6 +41,10 @@ use Rattle.posix.specs.Groups.{is_orphaned, newly_orphaned}
 use Rattle.posix.specs.Choice.{chosen, carried_by, from_kernel}
 use Rattle.posix.specs.Handlers.{handles, is_full, newest_frame, returned, set_action}
 use Rattle.posix.specs.Births.{born, child_of, fork_as}
+use Rattle.posix.specs.Heirs.{heir_in}
+use Rattle.posix.specs.Subreapers.{subreaper, marked_as}
+use Rattle.posix.specs.Terminals.{is_nonzero}
+use Rattle.posix.proofs.HeirLemmas.{heir_inherits}
 use Rattle.posix.specs.Ends.{made_zombie, leave_children_and_die, is_dropping, drop_child, notice_of_end, zombies_of, tell_of_all, status_of, hup_and_cont_orphans, hang_up, end_with_heir, end_process}
 use Rattle.posix.specs.Targets.{target_in, process_in}
 use Rattle.posix.specs.declared.waits.WaitCall.{WaitCall}
@@ -237,9 +241,9 @@ regular_gone s p parent heir w least other inherits i =
     regular_noticed (hup_and_cont_orphans s.processes (tell_of_all gone heir zs)) parent p w (regular_hup_and_cont_orphans s.processes (tell_of_all gone heir zs) told) (dead_hup_and_cont s.processes (tell_of_all gone heir zs) p told.rising dead)
 
 -- an end, of process 1 too
-regular_ends : (s : State) (r : Process) (status : ℕ) → 1 ≤ r.pid → IsRegular s → IsRegular (end_with_heir s r 1 status).state
+regular_ends : (s : State) (r : Process) (status : ℕ) → 1 ≤ r.pid → IsRegular s → IsRegular (end_with_heir s r (heir_in s.processes r.pid) status).state
 regular_ends s r status least i =
-    cond_both (r.pid == 1) _ _ (λ (o : Outcome). IsRegular o.state) (λ e. regular_halt status s i) (λ e. regular_gone s r.pid r.parent 1 status least (eqb-false _ _ e) (inl refl) i)
+    cond_both (r.pid == 1) _ _ (λ (o : Outcome). IsRegular o.state) (λ e. regular_halt status s i) (λ e. regular_gone s r.pid r.parent (heir_in s.processes r.pid) status least (eqb-false _ _ e) (heir_inherits s.processes r.pid) i)
 
 -- its session's terminal is hung up before
 regular_end : (s : State) (r : Process) (status : ℕ) → 1 ≤ r.pid → IsRegular s → IsRegular (end_process s r status).state
@@ -483,6 +487,15 @@ regular_setsid s me c =
     cond_both (me.group == me.pid || is_group_of_others me s.processes) _ _ RegularIf (λ t. regular_gives s me.pid Setsid (refusal EPERM) c.regular)
     (λ t. regular_gives (change s me.pid in_session) me.pid Setsid (pos me.pid) (regular_session s c.regular me me.pid c.found (or_parts _ _ t).1))
 
+-- the mark, and results that are written
+keeps_marked : {now : ℕ} (mark : Bool) → Keeps now (marked_as mark)
+unfolding marked_as finished
+keeps_marked mark = record { pid = λ r. refl; parent = λ r. refl; group = λ r. refl; session = λ r. refl; zombie = λ r. refl; alarm = λ r h. h }
+
+regular_subreaper : (s : State) (me : Process) → IsRegular s → RegularIf (subreaper s me)
+unfolding subreaper
+regular_subreaper s me i = regular_change me.pid (marked_as (is_nonzero (argument me 1))) s (keeps_marked (is_nonzero (argument me 1))) i
+
 -- each call
 regular_attempt : (granted : Bool) (s : State) (me : Process) (call : Call) → IsCaller s me → RegularIf (attempt granted s me call)
 unfolding attempt
@@ -521,6 +534,7 @@ regular_attempt granted s me Tcsetpgrp c = regular_tcsetpgrp s me c.regular
 regular_attempt granted s me Settostop c = regular_settostop s me c.regular
 regular_attempt granted s me Read c = regular_read s me c.regular
 regular_attempt granted s me Write c = regular_write s me c.regular
+regular_attempt granted s me Subreaper c = regular_subreaper s me c.regular
 
 -- each call afresh
 regular_again : (s : State) (me : Process) (b : Blocked) → IsCaller s me → RegularIf (attempt_again s me b)

@@ -4,12 +4,12 @@ use Rattle.std.specs.Fmt.{digits}
 use Rattle.posix.specs.declared.event.Event.{Event}
 use Rattle.posix.specs.declared.event.Event.TheVariants.{Step, Tick, Key}
 use Rattle.posix.specs.declared.waits.WaitCall.TheVariants as wait
-use Rattle.posix.specs.declared.entry.Entry.TheVariants.{Noted, Called, Moved, Reported, Looked, NoMemory, Handled, Discarded, Stopped, Returned, Ended, Halted}
+use Rattle.posix.specs.declared.entry.Entry.TheVariants.{Noted, Called, Moved, Reported, Looked, NoMemory, Marked, Handled, Discarded, Stopped, Returned, Ended, Halted}
 use Rattle.posix.specs.declared.instr.Instr.{Instr}
 use Rattle.posix.specs.declared.instr.Instr.TheVariants.{Set, Compute, Jump, JumpIf, Note, Sys}
 use Rattle.posix.specs.declared.instr.Operator.TheVariants.{Div, Rem}
 use Rattle.posix.specs.declared.instr.Condition.TheVariants.{Zero}
-use Rattle.posix.specs.declared.call.Call.TheVariants.{Exit, Fork, Waitpid, Waitid, Pause, SchedYield, Getpid, Setuid, Kill, Sigqueue, Sigaction, Sigprocmask, Sigpending, Sigsuspend, Sigreturn, Alarm, Exec, Setpgid, Setsid, Geteuid, Getuid, Setctty, Tcgetpgrp, Tcsetpgrp, Read}
+use Rattle.posix.specs.declared.call.Call.TheVariants.{Exit, Fork, Waitpid, Waitid, Pause, SchedYield, Getpid, Setuid, Kill, Sigqueue, Sigaction, Sigprocmask, Sigpending, Sigsuspend, Sigreturn, Alarm, Exec, Setpgid, Setsid, Geteuid, Getuid, Setctty, Tcgetpgrp, Tcsetpgrp, Read, Subreaper}
 use Rattle.posix.specs.Processes.{nothing_pending, default_actions, zero_registers, zero_memory}
 use Rattle.posix.specs.Numbers.{with_number}
 use Rattle.posix.specs.Tables.{lookup, changed, inserted, removed, children_in, adopted, members_in}
@@ -32,6 +32,8 @@ use Rattle.posix.specs.SignalCalls.{give_credentials, give_signals, sigaction, s
 use Rattle.posix.specs.Births.{child_of, fork_as}
 use Rattle.posix.specs.Ends.{ended, made_zombie, notice_of_end, zombies_of, tell_of_all, signalled_members, hup_and_cont_all, hang_up, end_process}
 use Rattle.posix.specs.Waits.{report_of, report, news_told, asked, wait_by}
+use Rattle.posix.specs.Heirs.{nearest_marked}
+use Rattle.posix.specs.Subreapers.{marked_as, subreaper}
 use Rattle.posix.specs.Alarms.{with_alarm, alarm, rung, ring_all}
 use Rattle.posix.specs.Programs.{executed, exec}
 use Rattle.posix.specs.GroupCalls.{is_group_of, getpgid, getsid, in_group, setpgid, in_session, setsid}
@@ -59,7 +61,7 @@ trace w events = trace_from 1 (boot w) (λ k. true) events
 
 -- opens every definition of an operation
 unfoldable pub everything : Unit {0}
-unfolding nothing_pending default_actions zero_registers zero_memory exec_one digits lookup changed inserted removed children_in adopted members_in is_free next_free is_in without finished written setuid seteuid setgid setegid without_stops generated effect_of signalled noticed_of_change told_of_change stopped_by resumed signalled_all with_number is_anchor is_orphaned group_numbers has_stopped is_newly_orphaned newly_orphaned least_ready chosen first_carried without_first taken discarded entered at_handler handles returned set_action set_mask child_of fork_as ended made_zombie noticed notice_of_end zombies_of tell_of_all signalled_members hup_and_cont_all hang_up end_process report_of report news_told asked wait_by handle stop_process take_out deliver fault return_from_handler targets permitted sending queuers queuers_among sending_granted sent_among sent kill sigqueue give_credentials give_signals sigaction sigprocmask set_of pending_set sigpending attempt attempt_again can_act give_places clear_foregrounds settle set_cpu enter after_trap out_of_call act_in act step with_alarm rung ring_all alarm executed exec is_group_of getpgid getsid in_group setpgid in_session setsid waiting has_room finish_line erased with_byte edit key_signal flushed keyed line_taken acquired released with_foreground with_tostop console_of changed_console stored bytes_in setctty tcgetpgrp tcsetpgrp settostop with_bytes read write tick key happens next hex
+unfolding nothing_pending default_actions zero_registers zero_memory exec_one digits lookup changed inserted removed children_in adopted members_in is_free next_free is_in without finished written setuid seteuid setgid setegid without_stops generated effect_of signalled noticed_of_change told_of_change stopped_by resumed signalled_all with_number is_anchor is_orphaned group_numbers has_stopped is_newly_orphaned newly_orphaned least_ready chosen first_carried without_first taken discarded entered at_handler handles returned set_action set_mask child_of fork_as ended made_zombie noticed notice_of_end zombies_of tell_of_all signalled_members hup_and_cont_all hang_up end_process nearest_marked marked_as subreaper report_of report news_told asked wait_by handle stop_process take_out deliver fault return_from_handler targets permitted sending queuers queuers_among sending_granted sent_among sent kill sigqueue give_credentials give_signals sigaction sigprocmask set_of pending_set sigpending attempt attempt_again can_act give_places clear_foregrounds settle set_cpu enter after_trap out_of_call act_in act step with_alarm rung ring_all alarm executed exec is_group_of getpgid getsid in_group setpgid in_session setsid waiting has_room finish_line erased with_byte edit key_signal flushed keyed line_taken acquired released with_foreground with_tostop console_of changed_console stored bytes_in setctty tcgetpgrp tcsetpgrp settostop with_bytes read write tick key happens next hex
 everything = tt
 
 abbrev pub note_and_exit : World
@@ -254,6 +256,11 @@ unfolding everything
 row_group_outlives_its_leader = refl
 
 -- ---- consoles
+
+row_subreaper : trace (world 40 1 (program None None (Sys Fork ∷ JumpIf Zero 0 19 ∷ Sys Pause ∷ Set 1 (pos 1) ∷ Sys Subreaper ∷ Sys Fork ∷ JumpIf Zero 0 26 ∷ Set 1 (negsuc 0) ∷ Sys Waitpid ∷ Jump 23 ∷ Sys Fork ∷ JumpIf Zero 0 30 ∷ Set 1 (pos 1) ∷ Sys Exit ∷ Set 1 (pos 2) ∷ Sys Exit ∷ []) ∷ [])) (replicate 25 Step)
+    ≡ line 1 (Called 1 Fork (pos 2)) ∷ line 6 (Marked 2 true) ∷ line 7 (Called 2 Fork (pos 3)) ∷ line 12 (Called 3 Fork (pos 4)) ∷ line 15 (Ended 3 256) ∷ line 18 (Ended 4 512) ∷ line 19 (Reported 2 wait.Waitpid 3 256) ∷ line 22 (Reported 2 wait.Waitpid 4 512) ∷ line 25 (Called 2 Waitpid (negsuc 9)) ∷ []
+unfolding everything
+row_subreaper = refl
 
 -- process 1 reads lines, 16 bytes at once
 abbrev reads_lines : World

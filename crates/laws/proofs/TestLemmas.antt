@@ -6,9 +6,9 @@ use Rattle.std.proofs.lemmas.Bool.{cases_Bool}
 use Rattle.std.proofs.lemmas.Bool.Decides.{nat_tests}
 use Rattle.posix.specs.Entries.{Line, process_of}
 use Rattle.posix.specs.declared.entry.Entry.{Entry}
-use Rattle.posix.specs.declared.entry.Entry.TheVariants.{Noted, Called, Moved, Reported, Looked, NoMemory, Handled, Discarded, Stopped, Returned, Ended, Halted}
+use Rattle.posix.specs.declared.entry.Entry.TheVariants.{Noted, Called, Moved, Reported, Looked, NoMemory, Marked, Handled, Discarded, Stopped, Returned, Ended, Halted}
 use Rattle.posix.specs.Statuses.{is_end_word, is_stopped_word, is_continued_word}
-use Rattle.laws.specs.Lives.{LastOf, newest_life, is_living, LifeSoFar, the_end, EndOf, is_unended, parent_of, is_just, born_by, laws, last_line, last_stop, number_from, none_or, is_halt, ends_first, was_halt, within_life, halts_last, begins_apart, report_law, is_due, is_due_to, reports, stop_in, end_in, stop_report, continue_report, is_change_word}
+use Rattle.laws.specs.Lives.{LastOf, newest_life, is_living, LifeSoFar, the_end, EndOf, is_unended, parent_of, is_just, born_by, laws, last_line, last_stop, has_mark, number_from, none_or, is_halt, ends_first, was_halt, within_life, halts_last, begins_apart, report_law, is_due, is_due_to, reports, stop_in, end_in, stop_report, continue_report, is_change_word}
 use Rattle.laws.specs.Keeping.{Going, FirstEnded, Over, kept_of, kept_of_life, kept_since, alive_since, lives_now, fault_of, unless_fault, number_fault, place_fault, process_fault, birth_fault, report_fault, word_fault, fault_of_living, fault_of_ended, stop_fault, last_number, phase_of}
 
 -- ---- the tests pass exactly where the laws hold
@@ -19,7 +19,7 @@ living_since c parent since (Some w) = refl
 
 living_life : (lines : List Line) (c : ℕ) (life : Option LifeSoFar) → lives_now (kept_of_life lines c life) ≡ is_unended c life
 living_life lines c None = refl
-living_life lines c (Some x) = living_since c (parent_of lines x) x.since (the_end c x.since)
+living_life lines c (Some x) = living_since c (parent_of lines c) x.since (the_end c x.since)
 
 pub living_kept : (lines : List Line) (c : ℕ) → lives_now (kept_of lines c) ≡ is_living lines c
 unfolding kept_of is_living
@@ -71,11 +71,11 @@ living_asked true false false true true false stop_due f h = refl
 living_asked true false false true false may stop_due f h = refl
 living_asked true false false false has may stop_due f h = refl
 
-living_tested : (p c w parent : ℕ) (stop : Option (LastOf Line))
-    → is_none (fault_of_living p w (alive_since parent c stop))
+living_tested : (p c w parent : ℕ) (mark : Bool) (stop : Option (LastOf Line))
+    → is_none (fault_of_living p w (alive_since parent mark c stop))
     ≡ (parent == p && (if is_end_word w then false else if is_stopped_word w then stop_report c w stop else if is_continued_word w then continue_report c stop else false))
-living_tested p c w parent None = living_asked (parent == p) (is_end_word w) (is_stopped_word w) (is_continued_word w) false false false (Some 4) refl
-living_tested p c w parent (Some stop) =
+living_tested p c w parent mark None = living_asked (parent == p) (is_end_word w) (is_stopped_word w) (is_continued_word w) false false false (Some 4) refl
+living_tested p c w parent mark (Some stop) =
     let any = list_any (reports c is_change_word) stop.after in
     living_asked (parent == p) (is_end_word w) (is_stopped_word w) (is_continued_word w) true (not (list_any (reports c is_continued_word) stop.after)) (is_just (w / 256) (stop_in c stop.it.entry) && not any)
     (stop_fault w (if any then None else stop_in c stop.it.entry)) (stop_tested w (stop_in c stop.it.entry) any)
@@ -90,9 +90,9 @@ due_ended : (c w : ℕ) (e : EndOf) (since : List Line) → the_end c since ≡ 
 due_ended c w e since h = rw h grind (arith, cases_Bool)
 
 word_tested_as : (lines : List Line) (p c w : ℕ) (x : LifeSoFar) (ended : Option EndOf) → the_end c x.since ≡ ended
-    → is_none (word_fault p w (kept_since c (parent_of lines x) x.since ended)) ≡ (parent_of lines x == p && is_due c w x.since)
-word_tested_as lines p c w x None h = living_tested p c w (parent_of lines x) (last_stop c x.since) ∙ ap (λ (b : Bool). parent_of lines x == p && b) (sym (due_living c w x.since h))
-word_tested_as lines p c w x (Some e) h = ended_tested p w (parent_of lines x) e.status (list_any (reports c is_end_word) e.after) ∙ ap (λ (b : Bool). parent_of lines x == p && b) (sym (due_ended c w e x.since h))
+    → is_none (word_fault p w (kept_since c (parent_of lines c) x.since ended)) ≡ (parent_of lines c == p && is_due c w x.since)
+word_tested_as lines p c w x None h = living_tested p c w (parent_of lines c) (has_mark c x.since) (last_stop c x.since) ∙ ap (λ (b : Bool). parent_of lines c == p && b) (sym (due_living c w x.since h))
+word_tested_as lines p c w x (Some e) h = ended_tested p w (parent_of lines c) e.status (list_any (reports c is_end_word) e.after) ∙ ap (λ (b : Bool). parent_of lines c == p && b) (sym (due_ended c w e x.since h))
 
 word_tested : (lines : List Line) (p c w : ℕ) (life : Option LifeSoFar) → is_none (word_fault p w (kept_of_life lines c life)) ≡ is_due_to lines p c w life
 word_tested lines p c w None = refl
@@ -106,6 +106,7 @@ report_tested lines (Reported p call c w) = word_tested lines p c w (newest_life
 report_tested lines (Looked p c w) = word_tested lines p c w (newest_life lines c)
 report_tested lines (Moved p call bytes) = refl
 report_tested lines (NoMemory p call) = refl
+report_tested lines (Marked p mark) = refl
 report_tested lines (Handled p s value sender) = refl
 report_tested lines (Discarded p s) = refl
 report_tested lines (Stopped p s) = refl
@@ -120,6 +121,7 @@ halt_alone (Reported p call c w) = refl
 halt_alone (Looked p c w) = refl
 halt_alone (Moved p call bytes) = refl
 halt_alone (NoMemory p call) = refl
+halt_alone (Marked p mark) = refl
 halt_alone (Handled p s value sender) = refl
 halt_alone (Discarded p s) = refl
 halt_alone (Stopped p s) = refl

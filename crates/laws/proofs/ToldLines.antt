@@ -1,9 +1,10 @@
 -- What lines tell of: births, ends, stops and reports; and lines that tell of nothing.
-use Rattle.std.proofs.Common.{◌≡◌, ◌≢◌, ℕ, zero, suc, ◌+◌, ◌/◌, ◌≤◌, Bool, true, false, cond, ◌==◌, List, [], ◌∷◌, ◌++◌, length, Option, Some, None, option_map, is_none, refl, ap, sym, ◌∙◌, arith, subst, pos, inl, inr}
+use Rattle.std.proofs.Common.{◌≡◌, ◌≢◌, ℕ, zero, suc, ◌+◌, ◌/◌, ◌≤◌, Bool, true, false, cond, ◌==◌, List, [], ◌∷◌, ◌++◌, length, Option, Some, None, option_map, option_and_then, is_none, refl, ap, sym, ◌∙◌, arith, subst, pos, inl, inr}
 use Rattle.std.proofs.lemmas.Bool.{eqb-true, eqb-false, eq-eqb, ne_eqb}
+use mathlib.Core.Path.{fun_ext}
 use Rattle.posix.specs.declared.entry.Entry.{Entry}
 use Rattle.posix.specs.declared.waits.WaitCall.{WaitCall}
-use Rattle.posix.specs.declared.entry.Entry.TheVariants.{Noted, Called, Moved, Reported, Looked, NoMemory, Handled, Discarded, Stopped, Returned, Ended, Halted}
+use Rattle.posix.specs.declared.entry.Entry.TheVariants.{Noted, Called, Moved, Reported, Looked, NoMemory, Marked, Handled, Discarded, Stopped, Returned, Ended, Halted}
 use Rattle.posix.specs.declared.call.Call.TheVariants.{Fork}
 use Rattle.posix.specs.declared.process.Life.{Life}
 use Rattle.posix.specs.declared.process.Life.TheVariants.{Running, Stopped as Halting, Zombie}
@@ -16,11 +17,13 @@ use Rattle.posix.specs.States.{State, process, change}
 use Rattle.posix.specs.Entries.{Line, line, reports_end, process_of}
 use Rattle.posix.specs.Outcomes.{finished}
 use Rattle.posix.specs.Births.{child_of, born}
+use Rattle.posix.specs.Heirs.{Forebear, heir_among, forebear_of, heir_in}
+use Rattle.posix.specs.Subreapers.{marked_as}
 use Rattle.posix.specs.Ends.{ended, made_zombie, halt, leave_children_and_die}
 use Rattle.posix.specs.Notices.{stopped_by}
 use Rattle.posix.specs.Waits.{news_told}
-use Rattle.laws.specs.Lives.{LastOf, LifeSoFar, EndOf, newest_life, the_end, last_stop, parent_of, born_by}
-use Rattle.laws.specs.Keeping.{Alive, Kept, NeverBorn, Lives, Died, Phase, Going, FirstEnded, Over, kept_of, kept_of_life, kept_since, alive_since, kept_after, newborn, after_report, after_stop, ended_with, given_on, moved_from, lives_now, place_fault, report_fault, word_fault, phase_after}
+use Rattle.laws.specs.Lives.{LastOf, LifeSoFar, EndOf, newest_life, the_end, last_stop, has_mark, parent_of, born_by}
+use Rattle.laws.specs.Keeping.{Alive, Kept, NeverBorn, Lives, Died, Phase, Going, FirstEnded, Over, kept_of, kept_of_life, kept_since, alive_since, kept_after, made_by, heir_of, forebear_kept, newborn, after_report, after_stop, after_mark, ended_with, given_on, moved_from, lives_now, place_fault, report_fault, word_fault, phase_after}
 use Rattle.laws.specs.Agree.{NewsAgree, AgreeOn, AgreeIn}
 use Rattle.laws.proofs.KeptLemmas.{and_true}
 use Rattle.laws.proofs.NextLineLemmas.{lives_kept, free_kept, agree_says}
@@ -41,6 +44,7 @@ is_plain (Moved p call bytes) = true
 is_plain (Reported p call c w) = false
 is_plain (Looked p c w) = false
 is_plain (NoMemory p call) = true
+is_plain (Marked p mark) = false
 is_plain (Handled p s value sender) = true
 is_plain (Discarded p s) = true
 is_plain (Stopped p s) = false
@@ -56,7 +60,7 @@ record TellsNothing (kept : ℕ → Kept) (e : Entry) : Type 0 where
   going : phase_after e ≡ Going
 
 tells_nothing : (kept : ℕ → Kept) (e : Entry) → is_plain e ≡ true → TellsNothing kept e
-unfolding kept_after
+unfolding made_by
 tells_nothing kept (Noted p z) h = record { born = refl; same = λ c. refl; report = refl; ends = refl; going = refl }
 tells_nothing kept (Called p call z) h =
     let none = is_none_none (born_by (Called p call z)) h in
@@ -69,6 +73,7 @@ tells_nothing kept (Moved p call bytes) h = record { born = refl; same = λ c. r
 tells_nothing kept (Reported p call c w) h = absurd (cc)
 tells_nothing kept (Looked p c w) h = absurd (cc)
 tells_nothing kept (NoMemory p call) h = record { born = refl; same = λ c. refl; report = refl; ends = refl; going = refl }
+tells_nothing kept (Marked p mark) h = absurd (cc)
 tells_nothing kept (Handled p s value sender) h = record { born = refl; same = λ c. refl; report = refl; ends = refl; going = refl }
 tells_nothing kept (Discarded p s) h = record { born = refl; same = λ c. refl; report = refl; ends = refl; going = refl }
 tells_nothing kept (Stopped p s) h = absurd (cc)
@@ -118,6 +123,9 @@ life_reparented p heir r = reparented_keeps (λ r. r.life) p heir (λ r. refl) r
 news_reparented : (p heir : ℕ) (r : Process) → (reparented p heir r).news ≡ r.news
 news_reparented p heir r = reparented_keeps (λ r. r.news) p heir (λ r. refl) r
 
+mark_reparented : (p heir : ℕ) (r : Process) → (reparented p heir r).is_subreaper ≡ r.is_subreaper
+mark_reparented p heir r = reparented_keeps (λ r. r.is_subreaper) p heir (λ r. refl) r
+
 -- children that are given on
 agree_given : (p heir : ℕ) (k : Kept) (o : Option Process) → AgreeOn k o → AgreeOn (given_on p heir k) (option_map (reparented p heir) o)
 agree_given p heir NeverBorn None h = h
@@ -126,6 +134,7 @@ agree_given p heir (Lives a) None h = h
 agree_given p heir (Lives a) (Some r) h = record {
   living = ap is_zombie (life_reparented p heir r) ∙ h.living;
   parent = parent_reparented p heir r ∙ ap (moved_from p heir) h.parent;
+  mark = mark_reparented p heir r ∙ h.mark;
   news = rw (life_reparented p heir r, news_reparented p heir r) h.news;
   stopped = λ e. h.stopped (sym (ap is_stopped (life_reparented p heir r)) ∙ e);
 }
@@ -159,28 +168,44 @@ length_departed : (s : State) (p heir w : ℕ) → length (leave_children_and_di
 unfolding adopted
 length_departed s p heir w = length-map (changed p (made_zombie w) s.processes) (reparented p heir) ∙ length_changed p (made_zombie w) s.processes
 
+-- who lives is a forebear as it is kept
+forebear_agrees : (k : Kept) (o : Option Process) → AgreeOn k o → forebear_kept k ≡ option_and_then forebear_of o
+forebear_agrees NeverBorn None h = refl
+forebear_agrees NeverBorn (Some r) h = absurd (h)
+forebear_agrees (Lives a) None h = absurd (h)
+forebear_agrees (Lives a) (Some r) h = rw (h.living, h.mark, h.parent) refl
+forebear_agrees (Died d) None h = refl
+forebear_agrees (Died d) (Some r) h = rw h.life refl
+
+-- so the records have the heir that the lines say
+heir_agrees : {phase : Phase} (lines : List Line) (k : ℕ) (s : State) (p : ℕ) → AgreeIn phase lines k s → heir_of (kept_of lines) p ≡ heir_in s.processes p
+heir_agrees lines k s p h = ap (λ (living : ℕ → Option Forebear). heir_among living p) (fun_ext (λ q. forebear_agrees (kept_of lines q) (process s q) (h.records q)))
+
 -- the end of a process other than process 1
-pub agree_ended : (lines : List Line) (k : ℕ) (s : State) (p w : ℕ) → AgreeIn Going lines k s → IsLiving s p → p ≢ 1 → is_end_word w ≡ true → AgreeIn Going (lines ++ line k (Ended p w) ∷ []) k (leave_children_and_die s p 1 w)
-unfolding kept_after
+pub agree_ended : (lines : List Line) (k : ℕ) (s : State) (p w : ℕ) → AgreeIn Going lines k s → IsLiving s p → p ≢ 1 → is_end_word w ≡ true
+    → AgreeIn Going (lines ++ line k (Ended p w) ∷ []) k (leave_children_and_die s p (heir_in s.processes p) w)
+unfolding made_by
 agree_ended lines k s p w h me other word =
     let kept = kept_of lines in
+    let heir = heir_in s.processes p in
     let going : phase_after (Ended p w) ≡ Going = rw (ne_eqb p 1 other) refl in
-    subst (λ phase. AgreeIn phase (lines ++ line k (Ended p w) ∷ []) k (leave_children_and_die s p 1 w)) going (agree_says Going lines k (Ended p w) s (leave_children_and_die s p 1 w) h (record {
+    subst (λ phase. AgreeIn phase (lines ++ line k (Ended p w) ∷ []) k (leave_children_and_die s p heir w)) going (agree_says Going lines k (Ended p w) s (leave_children_and_die s p heir w) h (record {
       place = may_say kept p (Ended p w) (in_life Going lines k s p h me) refl;
       birth = refl;
       report = refl;
-      records = λ c. subst (AgreeOn (kept_after kept (Ended p w) c)) (sym (departed s p 1 w c)) (one c (p == c) refl);
+      records = λ c. subst (λ (n : ℕ). AgreeOn (made_by n (Ended p w) c (kept c)) (process (leave_children_and_die s p heir w) c)) (sym (heir_agrees lines k s p h))
+          (subst (AgreeOn (made_by heir (Ended p w) c (kept c))) (sym (departed s p heir w c)) (one heir c (p == c) refl));
       births = omega arith;
-      total = let l = length_departed s p 1 w in omega (arith, l);
+      total = let l = length_departed s p heir w in omega (arith, l);
     }))
   where
-    one : (c : ℕ) (b : Bool) → (p == c) ≡ b
-        → AgreeOn (cond b (ended_with w (given_on p 1 (kept_of lines c))) (given_on p 1 (kept_of lines c))) (option_map (reparented p 1) (cond (c == p) (option_map (made_zombie w) (process s c)) (process s c)))
-    one c true t =
+    one : (heir c : ℕ) (b : Bool) → (p == c) ≡ b
+        → AgreeOn (cond b (ended_with w (given_on p heir (kept_of lines c))) (given_on p heir (kept_of lines c))) (option_map (reparented p heir) (cond (c == p) (option_map (made_zombie w) (process s c)) (process s c)))
+    one heir c true t =
         let same : p ≡ c = eqb-true p c t in
         let there : process s c ≡ Some me.what = ap (process s) (sym same) ∙ me.found in
-        rw (eq-eqb c p (sym same), there) (agree_made p 1 w (kept_of lines c) me.what word me.lives (subst (AgreeOn (kept_of lines c)) there (h.records c)))
-    one c false t = rw (ne_eqb c p (λ e. eqb-false p c t (sym e))) (agree_given p 1 (kept_of lines c) (process s c) (h.records c))
+        rw (eq-eqb c p (sym same), there) (agree_made p heir w (kept_of lines c) me.what word me.lives (subst (AgreeOn (kept_of lines c)) there (h.records c)))
+    one heir c false t = rw (ne_eqb c p (λ e. eqb-false p c t (sym e))) (agree_given p heir (kept_of lines c) (process s c) (h.records c))
 
 -- ---- a halt
 
@@ -209,7 +234,7 @@ agree_first w (Died d) r one word lives h = let no : true ≡ false = sym (ap is
 -- the end of process 1, and the halt
 pub agree_halted : (lines : List Line) (k : ℕ) (s : State) (w : ℕ) → AgreeIn Going lines k s → IsLiving s 1 → is_end_word w ≡ true
     → AgreeIn Over ((lines ++ line k (Ended 1 w) ∷ []) ++ line k Halted ∷ []) k (halt s w)
-unfolding kept_after
+unfolding made_by
 agree_halted lines k s w h me word =
     let kept = kept_of lines in
     let t = change s 1 (ended w) in
@@ -237,11 +262,11 @@ agree_halted lines k s w h me word =
 agree_stops : (n : ℕ) (k : Kept) (r : Process) → is_stop_signal n ≡ true → is_zombie r.life ≡ false → AgreeOn k (Some r) → AgreeOn (after_stop n k) (Some (stopped_by n r))
 unfolding stopped_by
 agree_stops n NeverBorn r word lives h = h
-agree_stops n (Lives a) r word lives h = record { living = refl; parent = h.parent; news = (refl, word); stopped = λ e. refl }
+agree_stops n (Lives a) r word lives h = record { living = refl; parent = h.parent; mark = h.mark; news = (refl, word); stopped = λ e. refl }
 agree_stops n (Died d) r word lives h = let no : true ≡ false = sym (ap is_zombie h.life) ∙ lives in absurd (cc)
 
 pub agree_stopped : (lines : List Line) (k : ℕ) (s : State) (p n : ℕ) → AgreeIn Going lines k s → IsLiving s p → is_stop_signal n ≡ true → AgreeIn Going (lines ++ line k (Stopped p n) ∷ []) k (change s p (stopped_by n))
-unfolding kept_after
+unfolding made_by
 agree_stopped lines k s p n h me word =
     let kept = kept_of lines in
     let l = length_changed p (stopped_by n) s.processes in
@@ -261,6 +286,41 @@ agree_stopped lines k s p n h me word =
         rw (lookup_changed p c (stopped_by n) (stopped_pid n) s.processes, eq-eqb c p (sym same), there)
         (agree_stops n (kept_of lines c) me.what word me.lives (subst (AgreeOn (kept_of lines c)) there (h.records c)))
     one c false t = rw (lookup_changed p c (stopped_by n) (stopped_pid n) s.processes, ne_eqb c p (λ e. eqb-false p c t (sym e))) (h.records c)
+
+-- ---- marks
+
+agree_marks : (mark : Bool) (k : Kept) (r : Process) → is_zombie r.life ≡ false → AgreeOn k (Some r) → AgreeOn (after_mark mark k) (Some (marked_as mark r))
+unfolding marked_as finished
+agree_marks mark NeverBorn r lives h = h
+agree_marks mark (Lives a) r lives h = record { living = h.living; parent = h.parent; mark = refl; news = h.news; stopped = h.stopped }
+agree_marks mark (Died d) r lives h = let no : true ≡ false = sym (ap is_zombie h.life) ∙ lives in absurd (cc)
+
+pub marked_pid : (mark : Bool) (r : Process) → (marked_as mark r).pid ≡ r.pid
+unfolding marked_as finished
+marked_pid mark r = refl
+
+-- a process becomes a subreaper, or is none any more
+pub agree_marked : (lines : List Line) (k : ℕ) (s : State) (p : ℕ) (mark : Bool) → AgreeIn Going lines k s → IsLiving s p → AgreeIn Going (lines ++ line k (Marked p mark) ∷ []) k (change s p (marked_as mark))
+unfolding made_by
+agree_marked lines k s p mark h me =
+    let kept = kept_of lines in
+    let l = length_changed p (marked_as mark) s.processes in
+    agree_says Going lines k (Marked p mark) s (change s p (marked_as mark)) h (record {
+      place = may_say kept p (Marked p mark) (in_life Going lines k s p h me) refl;
+      birth = refl;
+      report = refl;
+      records = λ c. one c (p == c) refl;
+      births = omega arith;
+      total = omega (arith, l);
+    })
+  where
+    one : (c : ℕ) (b : Bool) → (p == c) ≡ b → AgreeOn (cond b (after_mark mark (kept_of lines c)) (kept_of lines c)) (lookup c (changed p (marked_as mark) s.processes))
+    one c true t =
+        let same : p ≡ c = eqb-true p c t in
+        let there : process s c ≡ Some me.what = ap (process s) (sym same) ∙ me.found in
+        rw (lookup_changed p c (marked_as mark) (marked_pid mark) s.processes, eq-eqb c p (sym same), there)
+        (agree_marks mark (kept_of lines c) me.what me.lives (subst (AgreeOn (kept_of lines c)) there (h.records c)))
+    one c false t = rw (lookup_changed p c (marked_as mark) (marked_pid mark) s.processes, ne_eqb c p (λ e. eqb-false p c t (sym e))) (h.records c)
 
 -- ---- reports
 
@@ -288,7 +348,7 @@ none_dead w (Died d) r life h = tt
 -- a wait reports that a child ended, and its record goes
 pub agree_reaped : (lines : List Line) (k : ℕ) (s : State) (p : ℕ) (call : WaitCall) (c w : ℕ) (r : Process) → AgreeIn Going lines k s → IsLiving s p → IsRising s.processes → lookup c s.processes ≡ Some r → r.parent ≡ p → r.life ≡ Zombie w
     → AgreeIn Going (lines ++ line k (Reported p call c w) ∷ []) k (record s { processes = removed c s.processes })
-unfolding kept_after
+unfolding made_by
 agree_reaped lines k s p call c w r h me up found parent life =
     let kept = kept_of lines in
     let agrees : AgreeOn (kept c) (Some r) = subst (AgreeOn (kept c)) found (h.records c) in
@@ -326,17 +386,17 @@ sound_kept : (lines : List Line) (c : ℕ) → IsSound (kept_of lines c)
 unfolding kept_of
 sound_kept lines c = of (newest_life lines c)
   where
-    stop : (parent : ℕ) (o : Option (LastOf Line)) → IsSound (Lives (alive_since parent c o))
-    stop parent None = λ e. (refl, refl)
-    stop parent (Some found) = λ e. absurd (cc)
+    stop : (parent : ℕ) (mark : Bool) (o : Option (LastOf Line)) → IsSound (Lives (alive_since parent mark c o))
+    stop parent mark None = λ e. (refl, refl)
+    stop parent mark (Some found) = λ e. absurd (cc)
 
     since : (parent : ℕ) (ls : List Line) (o : Option EndOf) → IsSound (kept_since c parent ls o)
-    since parent ls None = stop parent (last_stop c ls)
+    since parent ls None = stop parent (has_mark c ls) (last_stop c ls)
     since parent ls (Some e) = tt
 
     of : (o : Option LifeSoFar) → IsSound (kept_of_life lines c o)
     of None = tt
-    of (Some x) = since (parent_of lines x) x.since (the_end c x.since)
+    of (Some x) = since (parent_of lines c) x.since (the_end c x.since)
 
 stop_passes : (p s : ℕ) (a : Alive) → IsSound (Lives a) → (a.parent == p) ≡ true → a.stop ≡ Some s → is_stop_signal s ≡ true → word_fault p (stopped s) (Lives a) ≡ None
 stop_passes p s a sound mine last signal = by a.has_stopped refl
@@ -364,7 +424,7 @@ stop_told p s (Lives a) r sound lives parent is h =
     let mine : (a.parent == p) ≡ true = eq-eqb a.parent p (sym h.parent ∙ parent) in
     record {
       passes = stop_passes p s a sound mine n.0 n.1;
-      after = record { living = h.living; parent = h.parent; news = tt; stopped = λ e. rw w.continue (and_true a.may_continue ∙ h.stopped e) };
+      after = record { living = h.living; parent = h.parent; mark = h.mark; news = tt; stopped = λ e. rw w.continue (and_true a.may_continue ∙ h.stopped e) };
       tells = w.tells;
     }
 stop_told p s (Died d) r sound lives parent is h = let no : true ≡ false = sym (ap is_zombie h.life) ∙ lives in absurd (cc)
@@ -377,7 +437,7 @@ continue_told p (Lives a) r sound lives parent is h =
     let mine : (a.parent == p) ≡ true = eq-eqb a.parent p (sym h.parent ∙ parent) in
     record {
       passes = continue_passes p a sound mine n.0;
-      after = record { living = h.living; parent = h.parent; news = tt; stopped = λ e. let no = sym n.1 ∙ e in absurd (cc) };
+      after = record { living = h.living; parent = h.parent; mark = h.mark; news = tt; stopped = λ e. let no = sym n.1 ∙ e in absurd (cc) };
       tells = refl;
     }
 continue_told p (Died d) r sound lives parent is h = let no : true ≡ false = sym (ap is_zombie h.life) ∙ lives in absurd (cc)
@@ -389,7 +449,7 @@ told_pid r = refl
 -- a wait reports a child's news, which are none from then on
 agree_news : (lines : List Line) (k : ℕ) (s : State) (p : ℕ) (call : WaitCall) (c w : ℕ) (r : Process) → AgreeIn Going lines k s → IsLiving s p → lookup c s.processes ≡ Some r → ToldAs p w (kept_of lines c) r
     → AgreeIn Going (lines ++ line k (Reported p call c w) ∷ []) k (change s c news_told)
-unfolding kept_after
+unfolding made_by
 agree_news lines k s p call c w r h me found told =
     let kept = kept_of lines in
     let l = length_changed c news_told s.processes in
@@ -423,7 +483,7 @@ agree_reported lines k s p call c w r h me found parent lives what =
 
 -- A look tells what a report would, and changes nothing.
 agree_look : (lines : List Line) (k : ℕ) (s : State) (p c w : ℕ) → AgreeIn Going lines k s → IsLiving s p → word_fault p w (kept_of lines c) ≡ None → AgreeIn Going (lines ++ line k (Looked p c w) ∷ []) k s
-unfolding kept_after
+unfolding made_by
 agree_look lines k s p c w h me passes =
     agree_says Going lines k (Looked p c w) s s h (record {
       place = may_say (kept_of lines) p (Looked p c w) (in_life Going lines k s p h me) refl;
@@ -459,7 +519,7 @@ life_child birth me n = refl
 -- a child of who runs
 agree_child : (birth : ℕ) (me : Process) (n : ℕ) → is_running me.life ≡ true → AgreeOn (newborn me.pid) (Some (child_of birth me n))
 unfolding child_of finished
-agree_child birth me n runs = record { living = running_lives me.life runs; parent = refl; news = tt; stopped = λ e. absurd (runs_on me.life runs e) }
+agree_child birth me n runs = record { living = running_lives me.life runs; parent = refl; mark = refl; news = tt; stopped = λ e. absurd (runs_on me.life runs e) }
   where
     running_lives : (l : Life) → is_running l ≡ true → is_zombie l ≡ false
     running_lives Running r = refl
@@ -469,7 +529,7 @@ agree_child birth me n runs = record { living = running_lives me.life runs; pare
 -- a birth
 pub agree_born : (lines : List Line) (k : ℕ) (s : State) (me : Process) (n : ℕ) → AgreeIn Going lines k s → IsLiving s me.pid → is_running me.life ≡ true → 1 ≤ n → lookup n s.processes ≡ None
     → AgreeIn Going (lines ++ line k (Called me.pid Fork (pos n)) ∷ []) k (born s me n)
-unfolding kept_after
+unfolding made_by
 agree_born lines k s me zero h living runs least fresh = absurd (omega (arith, least))
 agree_born lines k s me (suc m) h living runs least fresh =
     let kept = kept_of lines in

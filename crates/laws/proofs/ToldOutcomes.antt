@@ -4,7 +4,7 @@ use Rattle.std.proofs.lemmas.Bool.{eqb-true, eqb-false, eq-eqb, ne_eqb, cases_eq
 use Rattle.posix.specs.declared.call.Call.TheVariants.{Fork}
 use Rattle.posix.specs.declared.entry.Entry.{Entry}
 use Rattle.posix.specs.declared.waits.WaitCall.{WaitCall}
-use Rattle.posix.specs.declared.entry.Entry.TheVariants.{Called, Reported, Looked, Stopped, Ended, Halted}
+use Rattle.posix.specs.declared.entry.Entry.TheVariants.{Called, Reported, Marked, Looked, Stopped, Ended, Halted}
 use Rattle.posix.specs.declared.process.Life.{Life}
 use Rattle.posix.specs.declared.process.Life.TheVariants.{Running, Stopped as Halting, Zombie}
 use Rattle.posix.specs.SignalNumbers.{KILL, HUP, is_stop_signal}
@@ -15,10 +15,12 @@ use Rattle.posix.specs.States.{State, change, lose_place, is_in}
 use Rattle.posix.specs.Consoles.{Console, console_of}
 use Rattle.posix.specs.Choice.{from_kernel}
 use Rattle.posix.specs.Entries.{Line, line, numbered, process_of}
-use Rattle.posix.specs.Outcomes.{Outcome, silent}
+use Rattle.posix.specs.Outcomes.{Outcome, silent, finished}
 use Rattle.posix.specs.Generation.{is_pending}
 use Rattle.posix.specs.Births.{child_of, born}
 use Rattle.posix.specs.Groups.{newly_orphaned}
+use Rattle.posix.specs.Heirs.{heir_in}
+use Rattle.posix.specs.Subreapers.{marked_as}
 use Rattle.posix.specs.Ends.{ended, made_zombie, halt, leave_children_and_die, zombies_of, tell_of_all, hup_and_cont_orphans, hup_and_cont_all, notice_of_end, signalled_members, signalled_group, hung_up, hang_up, end_with_heir, end_process}
 use Rattle.posix.specs.Notices.{stopped_by}
 use Rattle.posix.specs.Delivery.{stop_process}
@@ -35,7 +37,7 @@ use Rattle.laws.proofs.NextLineLemmas.{counted_all}
 use Rattle.laws.proofs.QuietLemmas.{Quiet, quiet_then, IsRunning, runs_on}
 use Rattle.laws.proofs.QuietOperations.{quiet_hup_and_cont, quiet_hung_up, IsGone, AllGone, quiet_notice, quiet_told, quiet_told_of_change}
 use Rattle.laws.proofs.NewsLemmas.{IsNewsOf}
-use Rattle.laws.proofs.ToldLines.{is_plain, IsLiving, agree_plain, departed, agree_ended, agree_halted, agree_stopped, agree_reaped, agree_reported, agree_looked_at_end, agree_looked_at_news, agree_born, pid_child, life_child}
+use Rattle.laws.proofs.ToldLines.{is_plain, IsLiving, agree_plain, departed, agree_ended, agree_halted, agree_stopped, agree_marked, agree_reaped, agree_reported, agree_looked_at_end, agree_looked_at_news, agree_born, pid_child, life_child}
 
 -- ---- quiet changes
 
@@ -166,18 +168,19 @@ turns_departed s p heir w a = record { turns = λ q r e found stops. let other =
 
 -- the end of a process other than process 1
 told_gone : (s : State) (p parent w : ℕ) → s.halted ≡ false → IsRising s.processes → IsLiving s p → p ≢ 1 → is_end_word w ≡ true
-    → IsTold s (record { state = notice_of_end (hup_and_cont_orphans s.processes (tell_of_all (leave_children_and_die s p 1 w) 1 (zombies_of p s.processes))) parent p w; entries = Ended p w ∷ [] })
+    → IsTold s (record { state = notice_of_end (hup_and_cont_orphans s.processes (tell_of_all (leave_children_and_die s p (heir_in s.processes p) w) (heir_in s.processes p) (zombies_of p s.processes))) parent p w; entries = Ended p w ∷ [] })
 told_gone s p parent w awake up me other word =
-    let gone = leave_children_and_die s p 1 w in
+    let heir = heir_in s.processes p in
+    let gone = leave_children_and_die s p heir w in
     let zs = zombies_of p s.processes in
-    let told = tell_of_all gone 1 zs in
+    let told = tell_of_all gone heir zs in
     let gs = newly_orphaned s.processes told.processes in
     let given = hup_and_cont_orphans s.processes told in
-    let left = told_one s gone (Ended p w) awake (λ lines k a. agree_ended lines k s p w a me other word) (turns_departed s p 1 w) in
-    let one : Quiet gone told = quiet_told gone 1 zs (rising_departed s p 1 w up) (zombies_rise s p up) (children_gone s p 1 w up) in
+    let left = told_one s gone (Ended p w) awake (λ lines k a. agree_ended lines k s p w a me other word) (turns_departed s p heir w) in
+    let one : Quiet gone told = quiet_told gone heir zs (rising_departed s p heir w up) (zombies_rise s p up) (children_gone s p heir w up) in
     let two : Quiet told given = quiet_hup_and_cont gs told in
-    let told_up = one.rising (rising_departed s p 1 w up) in
-    let here : IsGone given.processes p = gone_hup_and_cont gs told p told_up (gone_told gone 1 zs p (not_among s p p up me) (gone_departed s p 1 w me)) in
+    let told_up = one.rising (rising_departed s p heir w up) in
+    let here : IsGone given.processes p = gone_hup_and_cont gs told p told_up (gone_told gone heir zs p (not_among s p p up me) (gone_departed s p heir w me)) in
     told_before s gone _ (Ended p w ∷ []) left (quiet_then gone given _ (quiet_then gone told given one two) (quiet_notice given parent p w (two.rising told_up) here))
 
 -- the end of process 1
@@ -213,7 +216,7 @@ living_hung_up s r p up me = cond_both (not (r.pid == 1) && r.session == r.pid) 
 halted_hung_up : (s : State) (r : Process) → s.halted ≡ false → (hang_up s r).halted ≡ false
 halted_hung_up s r awake = (quiet_hung_up s r).halted ∙ awake
 
-told_heir : (s : State) (r : Process) (w : ℕ) → s.halted ≡ false → IsRising s.processes → IsLiving s r.pid → is_end_word w ≡ true → IsTold s (end_with_heir s r 1 w)
+told_heir : (s : State) (r : Process) (w : ℕ) → s.halted ≡ false → IsRising s.processes → IsLiving s r.pid → is_end_word w ≡ true → IsTold s (end_with_heir s r (heir_in s.processes r.pid) w)
 told_heir s r w awake up me word = cond_both (r.pid == 1) _ _ (IsTold s)
     (λ t. let first = eqb-true r.pid 1 t in subst (λ n. IsTold s (record { state = halt s w; entries = Ended n w ∷ Halted ∷ [] })) (sym first) (told_halt s w (subst (IsLiving s) first me) word))
     (λ t. told_gone s r.pid r.parent w awake up me (eqb-false r.pid 1 t) word)
@@ -242,7 +245,7 @@ told_stop s r n awake me word =
     agree_place : {phase : Phase} {lines : List Line} {k : ℕ} {t : State} {order : List ℕ} → AgreeIn phase lines k t → AgreeIn phase lines k (record t { order = order })
     agree_place h = record { laws = h.laws; number = h.number; records = h.records; born = h.born; counts = h.counts; phase = h.phase }
 
--- ---- births
+-- ---- marks
 
 -- who runs lives
 pub running_living : (s : State) (p : ℕ) → IsRunning s p → IsLiving s p
@@ -252,6 +255,22 @@ running_living s p me = record { what = me.what; found = me.found; lives = lives
     lives Running r = refl
     lives Halting r = absurd (cc)
     lives (Zombie w) r = absurd (cc)
+
+-- a process that runs becomes a subreaper, or is none any more
+pub told_marked : (s : State) (p : ℕ) (mark : Bool) → s.halted ≡ false → IsRunning s p → IsTold s (record { state = change s p (marked_as mark); entries = Marked p mark ∷ [] })
+unfolding marked_as finished
+told_marked s p mark awake me =
+    told_one s (change s p (marked_as mark)) (Marked p mark) awake (λ lines k a. agree_marked lines k s p mark a (running_living s p me))
+    (λ a. record { turns = λ q r e found stops. by a q r e (q == p) refl (sym (lookup_changed p q (marked_as mark) (λ r. refl) s.processes) ∙ found) stops })
+  where
+    by : AreTurns s → (q : ℕ) (x : Process) → is_in q s.order ≡ true → (b : Bool) → (q == p) ≡ b → cond b (option_map (marked_as mark) (lookup q s.processes)) (lookup q s.processes) ≡ Some x → is_stopped x.life ≡ true → is_pending x.signals KILL ≡ true
+    by a q x e true t f stops =
+        let here : lookup q s.processes ≡ Some me.what = ap (λ n. lookup n s.processes) (eqb-true q p t) ∙ me.found in
+        let is : marked_as mark me.what ≡ x = let both = sym (ap (option_map (marked_as mark)) here) ∙ f in cc in
+        absurd (runs_on me.what.life me.runs (ap (λ (r : Process). is_stopped r.life) is ∙ stops))
+    by a q x e false t f stops = a.turns q x e f stops
+
+-- ---- births
 
 -- a child is born
 pub told_born : (s : State) (me : Process) (n : ℕ) → s.halted ≡ false → lookup me.pid s.processes ≡ Some me → is_running me.life ≡ true → 1 ≤ n → lookup n s.processes ≡ None

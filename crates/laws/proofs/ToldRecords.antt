@@ -7,14 +7,14 @@ use Rattle.posix.specs.declared.entry.Entry.TheVariants.{Ended, Halted}
 use Rattle.posix.specs.declared.process.Life.TheVariants.{Zombie}
 use Rattle.posix.specs.Processes.{Process, is_zombie, is_stopped}
 use Rattle.posix.specs.States.{State, process}
-use Rattle.laws.specs.Lives.{Laws, last_line, within_life, halts_last, LifeSoFar, LastOf, EndOf, newest_life, is_living, parent_of, parent_in, parent_in_life, the_end, last_stop}
-use Rattle.laws.specs.Keeping.{Alive, Dead, Kept, NeverBorn, Lives, Died, Phase, Going, FirstEnded, Over, phase_of, phase_after, place_fault, kept_after, kept_of, kept_of_life, kept_since, alive_since, lives_now}
+use Rattle.laws.specs.Lives.{Laws, last_line, within_life, halts_last, LifeSoFar, LastOf, EndOf, newest_life, is_living, parent_of, parent_in, parent_in_life, the_end, last_stop, has_mark}
+use Rattle.laws.specs.Keeping.{Alive, Dead, Kept, NeverBorn, Lives, Died, Phase, Going, FirstEnded, Over, phase_of, phase_after, place_fault, made_by, heir_told, kept_of, kept_of_life, kept_since, alive_since, lives_now}
 use Rattle.laws.specs.Agree.{NewsAgree, AgreeOn, Agree, LivesAndNews, phase_between}
 use Rattle.posix.proofs.TableLemmas.{pid_looked}
 use Rattle.posix.specs.declared.process.News.TheVariants as news
 use Rattle.laws.proofs.LawfulLemmas.{everywhere_at}
 use Rattle.laws.proofs.NextLineLemmas.{lives_kept, living_kept_as, dead_kept}
-use Rattle.laws.proofs.KeptLemmas.{line_makes, last_where_more}
+use Rattle.laws.proofs.KeptLemmas.{last_where_more}
 use Rattle.laws.proofs.LineLaws.{kept_next, over_made, over_dead, lives_stays}
 use Rattle.laws.proofs.TestLemmas.{living_kept, place_tested}
 
@@ -23,17 +23,17 @@ parent_kept : (lines : List Line) (c : ℕ) (a : Alive) → kept_of lines c ≡ 
 unfolding kept_of parent_in
 parent_kept lines c a e = of (newest_life lines c) e
   where
-    stop : (parent : ℕ) (o : Option (LastOf Line)) → Lives (alive_since parent c o) ≡ Lives a → parent ≡ a.parent
-    stop parent None e = cc
-    stop parent (Some found) e = cc
+    stop : (parent : ℕ) (mark : Bool) (o : Option (LastOf Line)) → Lives (alive_since parent mark c o) ≡ Lives a → parent ≡ a.parent
+    stop parent mark None e = cc
+    stop parent mark (Some found) e = cc
 
     since : (parent : ℕ) (ls : List Line) (o : Option EndOf) → kept_since c parent ls o ≡ Lives a → parent ≡ a.parent
-    since parent ls None e = stop parent (last_stop c ls) e
+    since parent ls None e = stop parent (has_mark c ls) (last_stop c ls) e
     since parent ls (Some x) e = absurd (cc)
 
-    of : (o : Option LifeSoFar) → kept_of_life lines c o ≡ Lives a → parent_in_life lines o ≡ Some a.parent
+    of : (o : Option LifeSoFar) → kept_of_life lines c o ≡ Lives a → parent_in_life lines c o ≡ Some a.parent
     of None e = absurd (cc)
-    of (Some x) e = ap Some (since (parent_of lines x) x.since (the_end c x.since) e)
+    of (Some x) e = ap Some (since (parent_of lines c) x.since (the_end c x.since) e)
 
 -- who lives is in a life that hasn't ended, and has its parent
 pub living_open : (lines : List Line) (k : ℕ) (s : State) → Agree lines k s → (p : ℕ) (r : Process) → process s p ≡ Some r → is_zombie r.life ≡ false → (is_living lines p ≡ true) × (parent_in lines p ≡ Some r.parent)
@@ -75,29 +75,29 @@ FirstLives FirstEnded lives = lives ≡ false
 FirstLives Over lives = lives ≡ false
 
 -- one line more
-first_next : (before : List Line) (phase : Phase) (e : Entry) → is_none (place_fault (kept_of before) phase e) ≡ true → FirstLives phase (lives_now (kept_of before 1)) → FirstLives (phase_after e) (lives_now (line_makes e 1 (kept_of before 1)))
-unfolding kept_after
-first_next before Over e place h = absurd (cc)
-first_next before FirstEnded Halted place h = h
-first_next before FirstEnded e place h = absurd (cc)
-first_next before Going Halted place h = absurd (cc)
-first_next before Going (Ended p w) place h = of (p == 1) refl
+first_next : (heir : ℕ) (before : List Line) (phase : Phase) (e : Entry) → is_none (place_fault (kept_of before) phase e) ≡ true → FirstLives phase (lives_now (kept_of before 1)) → FirstLives (phase_after e) (lives_now (made_by heir e 1 (kept_of before 1)))
+unfolding made_by
+first_next heir before Over e place h = absurd (cc)
+first_next heir before FirstEnded Halted place h = h
+first_next heir before FirstEnded e place h = absurd (cc)
+first_next heir before Going Halted place h = absurd (cc)
+first_next heir before Going (Ended p w) place h = of (p == 1) refl
   where
-    of : (b : Bool) → (p == 1) ≡ b → FirstLives (phase_after (Ended p w)) (lives_now (line_makes (Ended p w) 1 (kept_of before 1)))
+    of : (b : Bool) → (p == 1) ≡ b → FirstLives (phase_after (Ended p w)) (lives_now (made_by heir (Ended p w) 1 (kept_of before 1)))
     of true t =
         let phase : phase_after (Ended p w) ≡ FirstEnded = rw t refl in
-        subst (λ phase. FirstLives phase (lives_now (line_makes (Ended p w) 1 (kept_of before 1)))) (sym phase) (over_dead (line_makes (Ended p w) 1 (kept_of before 1)) (over_made 1 w (Ended p w) (kept_of before 1) (rw t refl) h))
+        subst (λ phase. FirstLives phase (lives_now (made_by heir (Ended p w) 1 (kept_of before 1)))) (sym phase) (over_dead (made_by heir (Ended p w) 1 (kept_of before 1)) (over_made heir 1 w (Ended p w) (kept_of before 1) (rw t refl) h))
     of false t =
         let phase : phase_after (Ended p w) ≡ Going = rw t refl in
-        subst (λ phase. FirstLives phase (lives_now (line_makes (Ended p w) 1 (kept_of before 1)))) (sym phase) (lives_stays 1 (line 0 (Ended p w)) (kept_of before 1) (rw t refl) h)
-first_next before Going e place h = lives_stays 1 (line 0 e) (kept_of before 1) refl h
+        subst (λ phase. FirstLives phase (lives_now (made_by heir (Ended p w) 1 (kept_of before 1)))) (sym phase) (lives_stays heir 1 (line 0 (Ended p w)) (kept_of before 1) (rw t refl) h)
+first_next heir before Going e place h = lives_stays heir 1 (line 0 e) (kept_of before 1) refl h
 
 -- several more
 first_after : (before rest : List Line) → Laws (before ++ rest) → FirstLives (phase_of (last_line before)) (lives_now (kept_of before 1)) → FirstLives (phase_of (last_line (before ++ rest))) (lives_now (kept_of (before ++ rest) 1))
 first_after before [] h first = subst (λ ls. FirstLives (phase_of (last_line ls)) (lives_now (kept_of ls 1))) (sym (append-nil before)) first
 first_after before (l ∷ ls) h first =
     let place = place_tested before (last_line before) l.entry ∙ rw (everywhere_at within_life before l ls h.lives, everywhere_at halts_last before l ls h.halts) refl in
-    let next = first_next before (phase_of (last_line before)) l.entry place first in
+    let next = first_next (heir_told (kept_of before) l.entry) before (phase_of (last_line before)) l.entry place first in
     let phase : phase_of (last_line (before ++ l ∷ [])) ≡ phase_after l.entry = ap phase_of (last_where_more (λ x. true) before l) in
     let one = subst (λ phase. FirstLives phase (lives_now (kept_of (before ++ l ∷ []) 1))) (sym phase) (subst (λ k. FirstLives (phase_after l.entry) (lives_now k)) (kept_next before l 1) next) in
     subst (λ ls. FirstLives (phase_of (last_line ls)) (lives_now (kept_of ls 1))) (append_assoc before (l ∷ []) ls) (first_after (before ++ l ∷ []) ls (subst Laws (sym (append_assoc before (l ∷ []) ls)) h) one)

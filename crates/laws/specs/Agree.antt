@@ -26,6 +26,7 @@ NewsAgree a stops news.Continued = (a.may_continue ≡ true) × (stops ≡ false
 pub record AgreeLiving (a : Alive) (r : Process) : Type 0 where
   pub living : is_zombie r.life ≡ false
   pub parent : r.parent ≡ a.parent
+  pub mark : r.is_subreaper ≡ a.is_marked
   pub news : NewsAgree a (is_stopped r.life) r.news
   pub stopped : is_stopped r.life ≡ true → a.may_continue ≡ true
 

@@ -2,14 +2,16 @@
 use Rattle.std.specs.Prelude.{ℕ, ◌/◌, ◌==◌, ◌&&◌, ◌||◌, not, Bool, true, false, List, if◌then◌else◌, nat_lt, Option, Some, None, is_some}
 use Rattle.std.specs.List.{list_any}
 use Rattle.posix.specs.declared.entry.Entry.{Entry}
-use Rattle.posix.specs.declared.entry.Entry.TheVariants.{Noted, Called, Moved, Reported, Looked, NoMemory, Handled, Discarded, Stopped, Returned, Ended, Halted}
+use Rattle.posix.specs.declared.entry.Entry.TheVariants.{Noted, Called, Moved, Reported, Looked, NoMemory, Marked, Handled, Discarded, Stopped, Returned, Ended, Halted}
 use Rattle.posix.specs.Entries.{Line, process_of}
 use Rattle.posix.specs.Statuses.{is_end_word, is_stopped_word, is_continued_word}
-use Rattle.laws.specs.Lives.{is_halt, born_by, is_just, end_in, stop_in, reports, LastOf, LifeSoFar, EndOf, newest_life, the_end, last_stop, parent_of, is_change_word}
+use Rattle.laws.specs.Lives.{is_halt, born_by, is_just, end_in, stop_in, reports, LastOf, LifeSoFar, EndOf, newest_life, the_end, last_stop, has_mark, parent_of, is_change_word}
+use Rattle.posix.specs.Heirs.{Forebear, heir_among}
 
 -- a life that hasn't ended
 pub record Alive : Type 0 where
   pub parent : ℕ
+  pub is_marked : Bool  -- a child subreaper
   pub has_stopped : Bool
   pub stop : Option ℕ  -- the signal of the last stop, where no report of it came, nor of its continue
   pub may_continue : Bool  -- it stopped, and no report of the last stop's continue came
@@ -33,22 +35,23 @@ pub data Phase : Type 0 where
 
 -- ---- what lines say
 
-abbrev pub alive_since : ℕ → ℕ → Option (LastOf Line) → Alive
-alive_since parent c None = record { parent = parent; has_stopped = false; stop = None; may_continue = false }
-alive_since parent c (Some stop) = record {
+abbrev pub alive_since : ℕ → Bool → ℕ → Option (LastOf Line) → Alive
+alive_since parent mark c None = record { parent = parent; is_marked = mark; has_stopped = false; stop = None; may_continue = false }
+alive_since parent mark c (Some stop) = record {
   parent = parent;
+  is_marked = mark;
   has_stopped = true;
   stop = if list_any (reports c is_change_word) stop.after then None else stop_in c stop.it.entry;
   may_continue = not (list_any (reports c is_continued_word) stop.after);
 }
 
 abbrev pub kept_since : ℕ → ℕ → List Line → Option EndOf → Kept
-kept_since c parent since None = Lives (alive_since parent c (last_stop c since))
+kept_since c parent since None = Lives (alive_since parent (has_mark c since) c (last_stop c since))
 kept_since c parent since (Some e) = Died (record { parent = parent; status = e.status; reported = list_any (reports c is_end_word) e.after })
 
 abbrev pub kept_of_life : List Line → ℕ → Option LifeSoFar → Kept
 kept_of_life lines c None = NeverBorn
-kept_of_life lines c (Some x) = kept_since c (parent_of lines x) x.since (the_end c x.since)
+kept_of_life lines c (Some x) = kept_since c (parent_of lines c) x.since (the_end c x.since)
 
 -- what lines say of c
 unfoldable pub kept_of : List Line → ℕ → Kept
@@ -68,10 +71,10 @@ phase_of (Some l) = phase_after l.it.entry
 -- ---- what one more line makes of it
 
 abbrev pub newborn : ℕ → Kept
-newborn p = Lives (record { parent = p; has_stopped = false; stop = None; may_continue = false })
+newborn p = Lives (record { parent = p; is_marked = false; has_stopped = false; stop = None; may_continue = false })
 
 abbrev pub after_stop : ℕ → Kept → Kept
-after_stop s (Lives a) = Lives (record { parent = a.parent; has_stopped = true; stop = Some s; may_continue = true })
+after_stop s (Lives a) = Lives (record a { has_stopped = true; stop = Some s; may_continue = true })
 after_stop s NeverBorn = NeverBorn
 after_stop s (Died d) = Died d
 
@@ -79,6 +82,11 @@ abbrev pub after_report : ℕ → Kept → Kept
 after_report w NeverBorn = NeverBorn
 after_report w (Lives a) = Lives (record a { stop = if is_change_word w then None else a.stop; may_continue = a.may_continue && not (is_continued_word w) })
 after_report w (Died d) = Died (record d { reported = d.reported || is_end_word w })
+
+abbrev pub after_mark : Bool → Kept → Kept
+after_mark mark NeverBorn = NeverBorn
+after_mark mark (Lives a) = Lives (record a { is_marked = mark })
+after_mark mark (Died d) = Died d
 
 abbrev pub ended_with : ℕ → Kept → Kept
 ended_with w NeverBorn = NeverBorn
@@ -94,24 +102,39 @@ given_on p heir NeverBorn = NeverBorn
 given_on p heir (Lives a) = Lives (record a { parent = moved_from p heir a.parent })
 given_on p heir (Died d) = Died (record d { parent = moved_from p heir d.parent })
 
--- who gets the children of p, by what was kept before its end: process 1
-abbrev pub heir_of : (ℕ → Kept) → ℕ → ℕ
-heir_of kept p = 1
+abbrev pub forebear_kept : Kept → Option Forebear
+forebear_kept NeverBorn = None
+forebear_kept (Lives a) = Some (record { is_marked = a.is_marked; parent = a.parent })
+forebear_kept (Died d) = None
 
--- what was kept of c after a line
-unfoldable pub kept_after : (ℕ → Kept) → Entry → ℕ → Kept
-kept_after kept (Noted p z) c = kept c
-kept_after kept (Called p call z) c = if is_just c (born_by (Called p call z)) then newborn p else kept c
-kept_after kept (Moved p call bytes) c = kept c
-kept_after kept (Reported p call d w) c = if d == c then after_report w (kept c) else kept c
-kept_after kept (Looked p d w) c = kept c
-kept_after kept (NoMemory p call) c = kept c
-kept_after kept (Handled p s value sender) c = kept c
-kept_after kept (Discarded p s) c = kept c
-kept_after kept (Stopped p s) c = if p == c then after_stop s (kept c) else kept c
-kept_after kept (Returned p) c = kept c
-kept_after kept (Ended p w) c = if p == c then ended_with w (given_on p (heir_of kept p) (kept c)) else given_on p (heir_of kept p) (kept c)
-kept_after kept Halted c = kept c
+-- who gets the children of p, by what was kept before its end
+abbrev pub heir_of : (ℕ → Kept) → ℕ → ℕ
+heir_of kept p = heir_among (λ q. forebear_kept (kept q)) p
+
+-- who gets children by a line
+abbrev pub heir_told : (ℕ → Kept) → Entry → ℕ
+heir_told kept (Ended p w) = heir_of kept p
+heir_told kept _ = 1
+
+-- what a line makes of what was kept of c, where this is the heir of who ends
+unfoldable pub made_by : ℕ → Entry → ℕ → Kept → Kept
+made_by heir (Noted p z) c k = k
+made_by heir (Called p call z) c k = if is_just c (born_by (Called p call z)) then newborn p else k
+made_by heir (Moved p call bytes) c k = k
+made_by heir (Reported p call d w) c k = if d == c then after_report w k else k
+made_by heir (Looked p d w) c k = k
+made_by heir (NoMemory p call) c k = k
+made_by heir (Marked p mark) c k = if p == c then after_mark mark k else k
+made_by heir (Handled p s value sender) c k = k
+made_by heir (Discarded p s) c k = k
+made_by heir (Stopped p s) c k = if p == c then after_stop s k else k
+made_by heir (Returned p) c k = k
+made_by heir (Ended p w) c k = if p == c then ended_with w (given_on p heir k) else given_on p heir k
+made_by heir Halted c k = k
+
+-- what is kept of c after a line
+abbrev pub kept_after : (ℕ → Kept) → Entry → ℕ → Kept
+kept_after kept entry c = made_by (heir_told kept entry) entry c (kept c)
 
 -- ---- the tests of a line
 

@@ -1,12 +1,13 @@
 -- The laws of a trace. Each line is judged by the whole list of lines before it.
-use Rattle.std.specs.Prelude.{ℕ, zero, suc, ◌/◌, ◌≡◌, ◌==◌, ◌&&◌, ◌||◌, not, Bool, true, false, List, [], ◌∷◌, ◌++◌, if◌then◌else◌, nat_le, Option, Some, None, is_some, slice_get, take, ℤ, pos, negsuc}
+use Rattle.std.specs.Prelude.{ℕ, zero, suc, ◌/◌, ◌≡◌, ◌==◌, ◌&&◌, ◌||◌, not, Bool, true, false, List, [], ◌∷◌, ◌++◌, if◌then◌else◌, nat_le, Option, Some, None, is_some, unwrap_or, slice_get, take, ℤ, pos, negsuc}
 use Rattle.std.specs.List.{list_any}
 use Rattle.posix.specs.declared.entry.Entry.{Entry}
-use Rattle.posix.specs.declared.entry.Entry.TheVariants.{Called, Reported, Looked, Stopped, Ended, Halted}
+use Rattle.posix.specs.declared.entry.Entry.TheVariants.{Called, Reported, Marked, Looked, Stopped, Ended, Halted}
 use Rattle.posix.specs.declared.call.Call.{Call}
 use Rattle.posix.specs.declared.call.Call.TheVariants.{Fork}
 use Rattle.posix.specs.Entries.{Line, line, process_of}
 use Rattle.posix.specs.Statuses.{is_end_word, is_stopped_word, is_continued_word}
+use Rattle.posix.specs.Heirs.{Forebear, heir_among}
 
 -- ---- what a line says
 
@@ -44,6 +45,11 @@ end_in c _ = None
 abbrev pub stop_in : ℕ → Entry → Option ℕ
 stop_in c (Stopped p s) = if p == c then Some s else None
 stop_in c _ = None
+
+-- the mark that a line gives c, or takes from it
+abbrev pub mark_in : ℕ → Entry → Option Bool
+mark_in c (Marked p mark) = if p == c then Some mark else None
+mark_in c _ = None
 
 abbrev pub ends : ℕ → Line → Bool
 ends c l = is_some (end_in c l.entry)
@@ -83,18 +89,13 @@ abbrev pub last_where : {A : Type 0} → (A → Bool) → List A → Option (Las
 last_where test [] = None
 last_where test (x ∷ xs) = or_this (last_where test xs) (test x) x xs
 
--- a life: who began it, and the lines since then
+-- a life: the lines since it began
 pub record LifeSoFar : Type 0 where
-  pub forker : ℕ
   pub since : List Line
 
-abbrev pub or_zero : Option ℕ → ℕ
-or_zero None = 0
-or_zero (Some n) = n
-
 abbrev pub life_after : List Line → ℕ → Option (LastOf Line) → Option LifeSoFar
-life_after lines c (Some birth) = Some (record { forker = or_zero (process_of birth.it.entry); since = birth.after })
-life_after lines c None = if c == 1 then Some (record { forker = 0; since = lines }) else None
+life_after lines c (Some birth) = Some (record { since = birth.after })
+life_after lines c None = if c == 1 then Some (record { since = lines }) else None
 
 -- the newest life of c: from the last fork line that bears c on, or from the start that of process 1
 unfoldable pub newest_life : List Line → ℕ → Option LifeSoFar
@@ -117,17 +118,47 @@ the_end c (l ∷ ls) = or_later (end_in c l.entry) ls (the_end c ls)
 abbrev pub has_ended : ℕ → List Line → Bool
 has_ended c since = is_some (the_end c since)
 
--- The parent of a life, by the lines up to the place: who forked it, and process 1 from that one's end on.
-abbrev pub parent_of : List Line → LifeSoFar → ℕ
-parent_of lines x = if has_ended x.forker x.since then 1 else x.forker
+-- ---- parents
+
+abbrev pub last_mark : ℕ → List Line → Option (LastOf Line)
+last_mark c since = last_where (λ l. is_some (mark_in c l.entry)) since
+
+abbrev pub mark_of : ℕ → Option (LastOf Line) → Bool
+mark_of c None = false
+mark_of c (Some l) = unwrap_or (mark_in c l.it.entry) false
+
+-- whether the last of its lines that gives or takes the mark gives it, by the lines since its birth
+abbrev pub has_mark : ℕ → List Line → Bool
+has_mark c since = mark_of c (last_mark c since)
+
+-- who hasn't ended may be a forebear
+abbrev pub forebear_in : ℕ → ℕ → Option LifeSoFar → Option Forebear
+forebear_in c parent None = None
+forebear_in c parent (Some x) = if has_ended c x.since then None else Some (record { is_marked = has_mark c x.since; parent = parent })
+
+-- the parent of c after a line, by the lines before it and by who was whose parent then
+abbrev pub parent_after : List Line → (ℕ → ℕ) → Entry → ℕ → ℕ
+parent_after before parents (Called p call z) c = if is_just c (born_by (Called p call z)) then p else parents c
+parent_after before parents (Ended p w) c = if parents c == p then heir_among (λ q. forebear_in q (parents q) (newest_life before q)) p else parents c
+parent_after before parents _ c = parents c
+
+-- that after all of the lines that come next
+unfoldable pub parents_from : List Line → (ℕ → ℕ) → List Line → ℕ → ℕ
+parents_from before parents [] c = parents c
+parents_from before parents (l ∷ ls) c = parents_from (before ++ l ∷ []) (parent_after before parents l.entry) ls c
+
+-- The parent of the newest life of c, by the lines up to the place: who forked it, and from that one's end on the nearest of
+-- that one's forebears that is marked then, or process 1. Process 1 has none at the start.
+abbrev pub parent_of : List Line → ℕ → ℕ
+parent_of lines c = parents_from [] (λ q. 0) lines c
 
 -- that of the newest life of c, ended or not, if there is one
-abbrev pub parent_in_life : List Line → Option LifeSoFar → Option ℕ
-parent_in_life lines None = None
-parent_in_life lines (Some x) = Some (parent_of lines x)
+abbrev pub parent_in_life : List Line → ℕ → Option LifeSoFar → Option ℕ
+parent_in_life lines c None = None
+parent_in_life lines c (Some x) = Some (parent_of lines c)
 
 unfoldable pub parent_in : List Line → ℕ → Option ℕ
-parent_in lines c = parent_in_life lines (newest_life lines c)
+parent_in lines c = parent_in_life lines c (newest_life lines c)
 
 abbrev pub is_unended : ℕ → Option LifeSoFar → Bool
 is_unended c None = false
@@ -172,7 +203,7 @@ is_due c w since =
 -- by p, of a life of c
 abbrev pub is_due_to : List Line → ℕ → ℕ → ℕ → Option LifeSoFar → Bool
 is_due_to lines p c w None = false
-is_due_to lines p c w (Some x) = parent_of lines x == p && is_due c w x.since
+is_due_to lines p c w (Some x) = parent_of lines c == p && is_due c w x.since
 
 -- ---- the laws
 

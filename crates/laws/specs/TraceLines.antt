@@ -2,9 +2,9 @@
 use Rattle.std.specs.Prelude.{ℕ, ◌≡◌, ◌&&◌, Bool, true, false, List, [], ◌∷◌, ◌++◌, length, nat_le, nat_lt, ℤ, pos, negsuc, int_le}
 use Rattle.std.specs.List.{list_all}
 use Rattle.posix.specs.declared.entry.Entry.{Entry}
-use Rattle.posix.specs.declared.entry.Entry.TheVariants.{Noted, Called, Moved, Reported, Looked, NoMemory, Handled, Discarded, Stopped, Returned, Ended, Halted}
+use Rattle.posix.specs.declared.entry.Entry.TheVariants.{Noted, Called, Moved, Reported, Looked, NoMemory, Marked, Handled, Discarded, Stopped, Returned, Ended, Halted}
 use Rattle.posix.specs.declared.call.Call.{Call}
-use Rattle.posix.specs.declared.call.Call.TheVariants.{Exit, Fork, Waitpid, Kill, Sigqueue, Sigreturn, Read, Write}
+use Rattle.posix.specs.declared.call.Call.TheVariants.{Exit, Fork, Waitpid, Kill, Sigqueue, Sigreturn, Read, Write, Subreaper}
 use Rattle.posix.specs.Entries.{Line}
 use Rattle.posix.specs.Printing.{print_line}
 use Rattle.posix.specs.SignalNumbers.{is_signal, is_stop_signal}
@@ -21,6 +21,7 @@ is_i64 (negsuc n) = nat_lt n 9223372036854775808
 abbrev pub is_result : Call → ℤ → Bool
 is_result Exit z = false
 is_result Sigreturn z = false
+is_result Subreaper z = false
 is_result Waitpid z = int_le z (pos 0)
 is_result Read z = int_le z (pos 0)
 is_result Write z = int_le z (pos 0)
@@ -45,6 +46,7 @@ is_entry (Moved p call bytes) = is_number p && moves_bytes call && nat_le 1 (len
 is_entry (Reported p call c w) = is_number p && is_number c && nat_le w 65535
 is_entry (Looked p c w) = is_number p && is_number c && nat_le w 65535
 is_entry (NoMemory p call) = is_number p && asks_memory call
+is_entry (Marked p mark) = is_number p
 is_entry (Handled p s value sender) = is_number p && is_signal s && is_i64 value && nat_le sender 2147483647
 is_entry (Discarded p s) = is_number p && is_signal s
 is_entry (Stopped p s) = is_number p && is_stop_signal s

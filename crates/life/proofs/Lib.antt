@@ -4,6 +4,7 @@ pub mod ReadingLemmas
 pub mod FunnelLemmas
 pub mod RingLemmas
 pub mod EndLemmas
+pub mod HeirLemmas
 pub mod NoticeWalkLemmas
 pub mod CodeLemmas
 pub mod NotedBurstLemmas

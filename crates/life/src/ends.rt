@@ -63,7 +63,7 @@ impl<K: Kin> Machine<K> {
             .change_seen(pid, |fields| fields.make_zombie(status));
         let awaited = is_awaited(&mut self.table, &self.order, parent, pid, &after);
         recheck_where(&mut self.to_recheck, &self.order, parent, awaited);
-        let any_sort = WaitidOptions::from_bits_retain(WaitidOptions::SORTS);
+        let any_sort = WaitidOptions::SORTS;
         let told = self.table.next_wanted(pid, any_sort, Pid::NONE).is_some();
         recheck_where(&mut self.to_recheck, &self.order, heir, told);
         self.table.adopt(pid, heir);

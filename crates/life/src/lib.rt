@@ -22,6 +22,7 @@ mod rechecks;
 pub mod sends;
 pub mod signals;
 pub mod stops;
+mod subreapers;
 mod surveys;
 pub mod waits;
 pub mod walks;

@@ -97,9 +97,7 @@ fn asked_in(me: &Record) -> Option<Asked>
     match me.own.blocked {
         // It asks the same whatever its number.
         Some(Blocked::Wait(call)) => caller_in(Pid::NONE, me).asked(call),
-        None => None,
-        Some(Blocked::Read) => None,
-        Some(Blocked::Pause | Blocked::Sigsuspend(_)) => None,
+        Some(Blocked::Read | Blocked::Pause | Blocked::Sigsuspend(_)) | None => None,
     }
 }
 

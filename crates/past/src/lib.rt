@@ -1,7 +1,7 @@
 //! A run, event by event, up to one of its events, and since when each process does what it does.
 #![tactic(auto)]
 
-ghost use Rattle.std.specs.Prelude.{◌≡◌, ◌+◌, ◌<◌, ◌≤◌, List, IfOk, OnOk, length, max, min};
+ghost use Rattle.std.specs.Prelude.{◌≡◌, ◌+◌, ◌<◌, ◌≤◌, List, IfOk, OnErr, OnOk, length, max, min};
 ghost use Rattle.posix.specs.declared.event.Event.{Event as EventValue};
 ghost use Rattle.posix.specs.States.{World as WorldValue};
 ghost use Rattle.text.specs.EventTexts.{most_events};
@@ -10,25 +10,15 @@ ghost use Rattle.past.specs.Pasts.{AreGiven, IsReached, IsSame};
 use kernel::Kernel;
 use posix::{Entry, Event, Pid};
 use std::alloc::{AllocError, Global};
-use std::collections::BTreeMap;
+use telling::Since;
 use text::EventList;
 use umach::World;
-
-/// The events at which a process began to wait in its call, was stopped, by the signal with which number, and ended; 0
-/// for none.
-#[derive(Clone, Copy, Default)]
-pub struct Times {
-    pub wait: u64,
-    pub stop: u64,
-    pub stopped_by: u8,
-    pub end: u64,
-}
 
 /// A kernel after some events, and what they told of each number.
 #[derive(Drop)]
 pub struct Past {
     pub kernel: Kernel,
-    times: BTreeMap<u32, Times>,
+    pub since: Since,
 }
 
 /// Whether a process waits in a call.
@@ -41,71 +31,26 @@ fn is_blocked(kernel: &mut Kernel, pid: Pid) -> bool
     }
 }
 
-/// When the process with this number did what it does now.
-fn times_of(times: &BTreeMap<u32, Times>, pid: Pid) -> Times {
-    match times.get(&pid.number()) {
-        Some(times) => *times,
-        None => Times::default(),
-    }
-}
-
-/// Sets the times of a process.
-fn set_times(times: &mut BTreeMap<u32, Times>, pid: Pid, of_pid: Times) -> Result<(), AllocError> {
-    match times.insert(pid.number(), of_pid) {
-        Ok(_) => Ok(()),
-        Err(_) => Err(AllocError),
-    }
-}
-
-/// Notes what an entry of an event tells.
-fn note_entry(
-    times: &mut BTreeMap<u32, Times>,
-    event: u64,
-    entry: &Entry,
-) -> Result<(), AllocError> {
-    match *entry {
-        Entry::Stopped { pid, sig } => {
-            let mut of_pid = times_of(times, pid);
-            of_pid.stop = event;
-            of_pid.stopped_by = sig.number();
-            set_times(times, pid, of_pid)
-        }
-        Entry::Ended { pid, .. } => {
-            let mut of_pid = times_of(times, pid);
-            of_pid.end = event;
-            set_times(times, pid, of_pid)
-        }
-        _ => Ok(()),
-    }
-}
-
-/// Notes what the entries of an event tell.
-fn note_entries(
-    times: &mut BTreeMap<u32, Times>,
-    event: u64,
-    entries: &[Entry],
-) -> Result<(), AllocError> {
-    for entry in entries {
-        note_entry(times, event, entry)?;
-    }
-    Ok(())
-}
-
 impl Past {
     /// A world at its start; an error where there is no memory for it.
-    pub fn boot(alloc: Global, world: &World) -> Result<Past, AllocError>
+    fn boot(alloc: Global, world: &World) -> Result<Past, AllocError>
         ensures reached { (events : List EventValue) → IfOk result (λ past. IsReached world.now events past.kernel) }
         ensures events { IfOk result (λ past. past.kernel.events ≡ 0) }
     {
         Ok(Past {
             kernel: Kernel::boot(alloc, world)?,
-            times: BTreeMap::new(alloc),
+            since: Since::new(alloc),
         })
     }
 
-    /// When the process with this number did what it does now.
-    pub fn times(&self, pid: Pid) -> Times {
-        times_of(&self.times, pid)
+    /// The world is at its start again. At an error there is no memory for it, and the run stays as it is.
+    pub fn restart(&mut self, alloc: Global, world: &World) -> Result<(), AllocError>
+        ensures reached { (events : List EventValue) → OnOk result (IsReached world.now events self.new.kernel) }
+        ensures events { OnOk result (self.new.kernel.events ≡ 0) }
+        ensures same { OnErr result (self.new ≡ self.old) }
+    {
+        *self = Past::boot(alloc, world)?;
+        Ok(())
     }
 
     /// The process that acts next, unless it waits in a call already.
@@ -123,13 +68,9 @@ impl Past {
         ensures { IsSame self.old.kernel self.new.kernel }
     {
         let event = self.kernel.events();
-        note_entries(&mut self.times, event, entries)?;
+        self.since.note(event, entries)?;
         match acting {
-            Some(pid) if is_blocked(&mut self.kernel, pid) => {
-                let mut of_pid = times_of(&self.times, pid);
-                of_pid.wait = event;
-                set_times(&mut self.times, pid, of_pid)
-            }
+            Some(pid) if is_blocked(&mut self.kernel, pid) => self.since.note_wait(event, pid),
             _ => Ok(()),
         }
     }

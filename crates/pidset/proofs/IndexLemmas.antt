@@ -6,6 +6,7 @@ use Rattle.std.specs.Prelude.{option_and_then}
 use Rattle.std.proofs.lemmas.Bool.{eqb-true, eq-eqb, ne_eqb, ltb-true, cases_eq, cases_order, and_parts}
 use Rattle.std.proofs.lemmas.Bool.Decides.{nat_tests}
 use Rattle.std.proofs.lemmas.List.{length-map}
+use Rattle.std.proofs.Math.Bool.{and-false, or-false}
 use Rattle.posix.specs.Processes.{Process}
 use Rattle.posix.specs.Tables.{IsRising, lookup, pids, members_in, above, first_pid, changed, inserted, removed}
 use Rattle.posix.specs.States.{is_in}
@@ -224,6 +225,17 @@ indexed_rekeyed key from to ne rs old new h is = record {
     told : (k : ℕ) (o : Option ℕ) → (not (k == from) && (is_key k o || k == to && is_key from o)) ≡ is_key k (rekeyed from to o)
     told k None = grind arith
     told k (Some n) = grind (arith, eqb-true, eq-eqb, ne_eqb, ne)
+
+-- and where none does that, the index is as it was
+pub rekeyed_none : (from to : ℕ) (set : IndexView) → ArePairs set.pairs → ((p : ℕ) → is_pair_in from p set.pairs ≡ false) → IsRekeyed from to set set
+rekeyed_none from to set once none = record {
+  pairs = λ k p. elim (cases_eq k from) [
+    | inl e ↦ rw (eq-eqb k from e) (ap (λ n. is_pair_in n p set.pairs) e ∙ none p)
+    | inr ne ↦ rw (ne_eqb k from ne, none p, and-false (k == to)) (sym (or-false (is_pair_in k p set.pairs)))
+  ];
+  once = once;
+  room = refl;
+}
 
 -- at the start
 pub indexed_none : (key : Process → Option ℕ) (set : IndexView) → set.pairs ≡ [] → ArePairs set.pairs → IsIndexed key [] set

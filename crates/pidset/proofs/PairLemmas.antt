@@ -1,14 +1,14 @@
 -- Facts on children by their parents.
-use Rattle.std.proofs.Common.{◌≡◌, ◌≢◌, ℕ, ◌+◌, ◌-◌, ◌<◌, ◌≤◌, Bool, true, false, cond, not, ◌&&◌, ◌||◌, refl, ap, sym, ◌∙◌, arith, subst, List, [], ◌∷◌, length, map, filter, find, Option, Some, None, ◌==◌, nat_lt, inl, inr, ⊎_elim, slice_get}
+use Rattle.std.proofs.Common.{◌≡◌, ◌≢◌, ℕ, ◌+◌, ◌-◌, ◌<◌, ◌≤◌, Bool, true, false, cond, not, ◌&&◌, ◌||◌, refl, ap, sym, ◌∙◌, arith, subst, List, [], ◌∷◌, length, map, filter, find, Option, Some, None, ◌==◌, nat_le, nat_lt, inl, inr, ⊎_elim, slice_get}
 use Rattle.std.specs.List.{AllByRecursion, list_any}
 use Rattle.std.specs.Option.{IfSome, IsSome, OnSome, option_map_or}
-use Rattle.std.proofs.lemmas.Bool.{eqb-true, eqb-false, eq-eqb, ne_eqb, ltb-true, ltb-false, cases_eq, not-true, and_parts, or_left, or_right, or_cases}
+use Rattle.std.proofs.lemmas.Bool.{eqb-true, eqb-false, eq-eqb, ne_eqb, ltb-true, ltb-false, leb-true, leb-false, le-leb, lt-leb, both_ways, cases_eq, false_from_ne_true, not-true, and_from, and_left, and_parts, or_from, or_left, or_parts, or_right, or_cases}
 use Rattle.std.proofs.lemmas.Map.Views.{any-filter_same}
 use Rattle.std.proofs.Math.Bool.{and-false, or-false, or-true}
 use Rattle.posix.specs.States.{is_in}
 use Rattle.pidset.specs.declared.index.Pair.{Pair}
 use Rattle.pidset.specs.Numbers.{Rises, with_number, inserted_in_order}
-use Rattle.pidset.specs.Indexes.{ArePairs, IsPair, IsNextPair, keyed_number, pair_number, is_pair, is_pair_in}
+use Rattle.pidset.specs.Indexes.{ArePairs, IsPair, IsNextPair, has_within, keyed_number, pair_number, is_pair, is_pair_in}
 use Rattle.pidset.proofs.NumberLemmas.{AllAbove, in_with, in_above, rises_with}
 use Rattle.pidset.proofs.ItemLemmas.{rises_inserted, rises_passing}
 
@@ -208,6 +208,42 @@ pub next_of_none : (p n : ℕ) (pairs : List Pair) → slice_get pairs 0 ≡ Non
 unfolding is_pair_in
 next_of_none p n [] e = record { there = λ c e. absurd (cc); least = λ c e l. absurd (cc) }
 next_of_none p n (x ∷ xs) e = absurd (cc)
+
+-- ---- keys from low to high
+
+-- nobody stands under one of them where none is there
+pub none_within : (low high k c : ℕ) (pairs : List Pair) → low ≤ k → k ≤ high → has_within low high pairs ≡ false → is_pair_in k c pairs ≡ false
+unfolding is_pair_in
+none_within low high k c [] a b e = refl
+none_within low high k c (x ∷ xs) a b e =
+    let out = or_parts (nat_le low x.key && nat_le x.key high) _ e in
+    or_from (is_pair k c x) _ (and_left _ _ (ne_eqb x.key k (λ same. both_ways _ out.0 (and_from _ _ (le-leb low x.key (omega (arith, a, same))) (le-leb x.key high (omega (arith, b, same))))))) (none_within low high k c xs a b out.1)
+
+-- keys fall, so the first of a list has the greatest
+least_within : (low high : ℕ) (x : Pair) (xs : List Pair) → IsPair x → AllByRecursion IsPair xs → AllAbove (pair_number x) (map pair_number xs) → has_within low high xs ≡ true → low ≤ x.key
+least_within low high x [] i h a e = absurd (cc)
+least_within low high x (y ∷ ys) i h a e = ⊎_elim
+    (λ t. let k = leb-true _ _ (and_parts (nat_le low y.key) _ t).0 in omega (arith, k, a.0, i.1, h.0.1, h.0.2))
+    (λ t. least_within low high x ys i h.1 a.1 t)
+    (or_cases (nat_le low y.key && nat_le y.key high) _ e)
+
+-- The first pair whose key isn't above them tells whether one of them is there.
+pub within_first : (low high : ℕ) (pairs : List Pair) → high ≤ 18446744073709551615 → ArePairs pairs → has_within low high pairs ≡ option_map_or (λ (x : Pair). nat_le low x.key) (slice_get (filter (λ y. nat_lt (keyed_number high 0) (pair_number y)) pairs) 0) false
+unfolding Rises
+within_first low high [] l h = refl
+within_first low high (y ∷ ys) l h = elim (nat_lt (keyed_number high 0) (pair_number y)) as (λ b. nat_lt (keyed_number high 0) (pair_number y) ≡ b → has_within low high (y ∷ ys) ≡ option_map_or (λ (x : Pair). nat_le low x.key) (slice_get (cond b (y ∷ filter (λ y. nat_lt (keyed_number high 0) (pair_number y)) ys) (filter (λ y. nat_lt (keyed_number high 0) (pair_number y)) ys)) 0) false) [
+  | true ↦ λ t.
+      let k = ltb-true _ _ t in
+      let r = h.within.0 in
+      rw (le-leb y.key high (omega (arith, k, r.1, r.2, l))) (elim (nat_le low y.key) as (λ b. nat_le low y.key ≡ b → ((b && true) || has_within low high ys) ≡ b) [
+        | true ↦ λ e. refl
+        | false ↦ λ e. false_from_ne_true _ (λ w. let few = leb-false _ _ e in let least = least_within low high y ys r h.within.1 h.rising.0 w in omega (arith, few, least))
+      ] refl)
+  | false ↦ λ t.
+      let k = ltb-false _ _ t in
+      let r = h.within.0 in
+      rw (lt-leb y.key high (omega (arith, k, r.0, r.2, l)), and-false (nat_le low y.key)) (within_first low high ys l (record { rising = h.rising.1; within = h.within.1 }))
+] refl
 
 -- ---- how many there are
 

@@ -1,5 +1,5 @@
 -- Indexes of processes: their numbers by a key that each has or hasn't.
-use Rattle.std.specs.Prelude.{◌≡◌, ℕ, ◌+◌, ◌-◌, ◌*◌, ◌<◌, ◌≤◌, ◌==◌, Bool, true, false, ◌&&◌, ◌||◌, not, if◌then◌else◌, List, length, map, Option, Some, None, option_and_then, IsSome}
+use Rattle.std.specs.Prelude.{◌≡◌, ℕ, ◌+◌, ◌-◌, ◌*◌, ◌<◌, ◌≤◌, ◌==◌, Bool, true, false, ◌&&◌, ◌||◌, not, nat_le, if◌then◌else◌, List, length, map, Option, Some, None, option_and_then, IsSome}
 use Rattle.std.specs.List.{AllByRecursion, list_any}
 use Rattle.std.specs.Option.{option_map_or}
 use Rattle.posix.specs.Processes.{Process}
@@ -29,6 +29,10 @@ is_pair k p x = x.key == k && x.pid == p
 -- whether this process stands under this key
 unfoldable pub is_pair_in : ℕ → ℕ → List Pair → Bool
 is_pair_in k p pairs = list_any (is_pair k p) pairs
+
+-- whether some process stands under a key from low to high
+abbrev pub has_within : ℕ → ℕ → List Pair → Bool
+has_within low high pairs = list_any (λ x. nat_le low x.key && nat_le x.key high) pairs
 
 -- the pairs, and how many there is memory for, with those that are there
 pub record IndexView : Type 0 where

@@ -1,7 +1,7 @@
 //! An index of processes: their numbers by a key that each has or hasn't.
 
 ghost use Rattle.std.specs.Prelude.{◌≡◌, ◌≢◌, ◌+◌, ◌<◌, ◌≤◌, ◌^◌, ◌==◌, ◌&&◌, ◌||◌, ℕ, not, false, true, [], length, Option, OnOk};
-ghost use Rattle.pidset.specs.Indexes.{ArePairs, IsNextPair, CanReplace, IsReplaced, IsRekeyed, is_pair_in, pair_number};
+ghost use Rattle.pidset.specs.Indexes.{ArePairs, has_within as has_within_keys, IsNextPair, CanReplace, IsReplaced, IsRekeyed, is_pair_in, pair_number};
 
 use crate::numbered::{Numbered, insert_at, next_above, search, take_out};
 use posix::Pid;
@@ -87,6 +87,17 @@ impl Index {
         match next_above(&self.pairs, &from) {
             Some(pair) if pair.key == key => Some(pair.pid),
             _ => None,
+        }
+    }
+
+    /// Whether some process stands under a key from `low` to `high`.
+    #[inline]
+    pub fn has_within(&self, low: u64, high: u64) -> bool
+        ensures { result ≡ has_within_keys low high self.now.pairs }
+    {
+        match next_above(&self.pairs, &keyed(high, Pid::NONE)) {
+            Some(pair) => low <= pair.key,
+            None => false,
         }
     }
 

@@ -2,7 +2,7 @@
 use Rattle.std.proofs.Common.{◌≡◌, ◌≤◌, ℕ, ◌+◌, Bool, true, false, cond, not, ◌&&◌, refl, ap, sym, ◌∙◌, arith, subst, List, [], ◌∷◌, ◌++◌, take, Option, Some, None, ◌==◌, ◌||◌, ℤ, pos, negsuc, slice_get, inl, inr, ◌⊎◌, Result, Ok, Err}
 use Rattle.std.proofs.lemmas.Bool.{eqb-true}
 use Rattle.posix.specs.declared.call.Call.{Call}
-use Rattle.posix.specs.declared.call.Call.TheVariants.{Exit, Fork, Waitpid, Waitid, Pause, SchedYield, Getpid, Getppid, Getuid, Geteuid, Getgid, Getegid, Setuid, Seteuid, Setgid, Setegid, Kill, Sigqueue, Sigaction, Sigprocmask, Sigpending, Sigsuspend, Sigreturn, Alarm, Exec, Getpgid, Getsid, Setpgid, Setsid, Setctty, Tcgetpgrp, Tcsetpgrp, Settostop, Read, Write}
+use Rattle.posix.specs.declared.call.Call.TheVariants.{Exit, Fork, Waitpid, Waitid, Pause, SchedYield, Getpid, Getppid, Getuid, Geteuid, Getgid, Getegid, Setuid, Seteuid, Setgid, Setegid, Kill, Sigqueue, Sigaction, Sigprocmask, Sigpending, Sigsuspend, Sigreturn, Alarm, Exec, Getpgid, Getsid, Setpgid, Setsid, Setctty, Tcgetpgrp, Tcsetpgrp, Settostop, Read, Write, Subreaper}
 use Rattle.posix.specs.declared.instr.Trap.{Trap}
 use Rattle.posix.specs.declared.instr.Trap.TheVariants as trap
 use Rattle.posix.specs.declared.errno.Errno.{Errno}
@@ -32,6 +32,8 @@ use Rattle.posix.specs.Groups.{is_orphaned}
 use Rattle.posix.specs.Choice.{chosen, carried_by, from_kernel}
 use Rattle.posix.specs.Handlers.{handles, is_full, newest_frame}
 use Rattle.posix.specs.Births.{fork_as}
+use Rattle.posix.specs.Subreapers.{subreaper}
+use Rattle.posix.specs.Heirs.{heir_in}
 use Rattle.posix.specs.Ends.{end_with_heir, hang_up, end_process}
 use Rattle.posix.specs.Targets.{target_in, process_in}
 use Rattle.posix.specs.declared.waits.WaitCall.{WaitCall}
@@ -91,13 +93,13 @@ acted_either p s false x y h k = k
 -- ---- ends and signals
 
 -- who ends loses its place
-acted_ends : (s : State) (r : Process) (status : ℕ) → Acted r.pid s (end_with_heir s r 1 status).state
-acted_ends s r status = elim (r.pid == 1) as (λ b. (r.pid == 1) ≡ b → Acted r.pid s (end_with_heir s r 1 status).state) [
+acted_ends : (s : State) (r : Process) (heir status : ℕ) → Acted r.pid s (end_with_heir s r heir status).state
+acted_ends s r heir status = elim (r.pid == 1) as (λ b. (r.pid == 1) ≡ b → Acted r.pid s (end_with_heir s r heir status).state) [
   | true ↦ λ t.
-      let is = end_first s r 1 status t in
+      let is = end_first s r heir status t in
       leaves r.pid s _ (ap (λ (n : State). n.births) is) (ap (λ (n : State). n.ticks) is) (ap (λ (n : State). n.order) is ∙ ap (λ n. without n s.order) (sym (eqb-true r.pid 1 t)))
   | false ↦ λ t.
-      let is = end_other s r 1 status t in
+      let is = end_other s r heir status t in
       leaves r.pid s _ (ap (λ (n : State). n.births) is) (ap (λ (n : State). n.ticks) is) (ap (λ (n : State). n.order) is)
 ] refl
 
@@ -106,7 +108,7 @@ acted_end : (s : State) (r : Process) (status : ℕ) → Acted r.pid s (end_proc
 unfolding end_process
 acted_end s r status =
     let only = only_hung_up s r in
-    from r.pid s (hang_up s r) _ (ap (λ (n : State). n.births) only) (ap (λ (n : State). n.ticks) only) (ap (λ (n : State). n.order) only) (acted_ends (hang_up s r) r status)
+    from r.pid s (hang_up s r) _ (ap (λ (n : State). n.births) only) (ap (λ (n : State). n.ticks) only) (ap (λ (n : State). n.order) only) (acted_ends (hang_up s r) r (heir_in (hang_up s r).processes r.pid) status)
 
 -- who enters a handler keeps its place, or ends
 acted_handle : (s : State) (r : Process) (signal : PendingSignal) (address : ℤ) → Acted r.pid s (handle s r signal address).state
@@ -333,6 +335,10 @@ acted_write : (s : State) (me : Process) → ActedIf me.pid s (write s me)
 unfolding write
 acted_write s me = acted_write_on s me (terminal s me)
 
+acted_subreaper : (s : State) (me : Process) → ActedIf me.pid s (subreaper s me)
+unfolding subreaper
+acted_subreaper s me = stays me.pid s _ refl refl refl
+
 -- ---- all calls
 
 -- each call
@@ -373,6 +379,7 @@ acted_attempt granted s me Tcsetpgrp = acted_tcsetpgrp s me
 acted_attempt granted s me Settostop = acted_settostop s me
 acted_attempt granted s me Read = acted_read s me
 acted_attempt granted s me Write = acted_write s me
+acted_attempt granted s me Subreaper = acted_subreaper s me
 
 -- each call afresh
 acted_again : (s : State) (me : Process) (b : Blocked) → ActedIf me.pid s (attempt_again s me b)

@@ -15,6 +15,7 @@ pub mod OrderLemmas
 pub mod SeeLemmas
 pub mod SettleLemmas
 pub mod NoticeLemmas
+pub mod HeirLemmas
 pub mod PrintingLemmas
 pub mod DecimalLemmas
 pub mod RealtimeLemmas

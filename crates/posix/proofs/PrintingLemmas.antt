@@ -2,7 +2,7 @@
 use Rattle.std.proofs.Common.{◌≡◌, ℕ, List, ◌∷◌, ◌++◌, refl}
 use Rattle.std.specs.List.{join_with_byte}
 use Rattle.posix.specs.declared.entry.Entry.{Entry}
-use Rattle.posix.specs.declared.entry.Entry.TheVariants.{Noted, Called, Moved, Reported, Looked, NoMemory, Handled, Discarded, Stopped, Returned, Ended, Halted}
+use Rattle.posix.specs.declared.entry.Entry.TheVariants.{Noted, Called, Moved, Reported, Looked, NoMemory, Marked, Handled, Discarded, Stopped, Returned, Ended, Halted}
 use Rattle.posix.specs.declared.waits.WaitCall.TheVariants as wait
 use Rattle.posix.specs.Printing.{words_of}
 
@@ -14,6 +14,7 @@ number_and_words number (Reported p wait.Waitpid c w) = refl
 number_and_words number (Reported p wait.Waitid c w) = refl
 number_and_words number (Looked p c w) = refl
 number_and_words number (NoMemory p call) = refl
+number_and_words number (Marked p mark) = refl
 number_and_words number (Handled p s z q) = refl
 number_and_words number (Discarded p s) = refl
 number_and_words number (Stopped p s) = refl

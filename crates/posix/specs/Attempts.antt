@@ -1,7 +1,7 @@
 -- Attempts of system calls.
 use Rattle.std.specs.Prelude.{Bool, pos}
 use Rattle.posix.specs.declared.call.Call.{Call}
-use Rattle.posix.specs.declared.call.Call.TheVariants.{Exit, Fork, Waitpid, Waitid, Pause, SchedYield, Getpid, Getppid, Getuid, Geteuid, Getgid, Getegid, Setuid, Seteuid, Setgid, Setegid, Kill, Sigqueue, Sigaction, Sigprocmask, Sigpending, Sigsuspend, Sigreturn, Alarm, Exec, Getpgid, Getsid, Setpgid, Setsid, Setctty, Tcgetpgrp, Tcsetpgrp, Settostop, Read, Write}
+use Rattle.posix.specs.declared.call.Call.TheVariants.{Exit, Fork, Waitpid, Waitid, Pause, SchedYield, Getpid, Getppid, Getuid, Geteuid, Getgid, Getegid, Setuid, Seteuid, Setgid, Setegid, Kill, Sigqueue, Sigaction, Sigprocmask, Sigpending, Sigsuspend, Sigreturn, Alarm, Exec, Getpgid, Getsid, Setpgid, Setsid, Setctty, Tcgetpgrp, Tcsetpgrp, Settostop, Read, Write, Subreaper}
 use Rattle.posix.specs.declared.waits.WaitCall.TheVariants as wait
 use Rattle.posix.specs.declared.process.Blocked.{Blocked}
 use Rattle.posix.specs.declared.process.Blocked.TheVariants as blocked
@@ -19,6 +19,7 @@ use Rattle.posix.specs.Alarms.{alarm}
 use Rattle.posix.specs.Programs.{exec}
 use Rattle.posix.specs.GroupCalls.{getpgid, getsid, setpgid, setsid}
 use Rattle.posix.specs.Terminals.{setctty, tcgetpgrp, tcsetpgrp, settostop, read, write}
+use Rattle.posix.specs.Subreapers.{subreaper}
 use Rattle.posix.specs.SignalCalls.{set_credentials, sigaction, sigprocmask, sigpending}
 
 -- What each call does, XSH under its name. Whether the host grants memory matters where a call needs some: a fork with a
@@ -60,6 +61,7 @@ attempt granted s me Tcsetpgrp = tcsetpgrp s me
 attempt granted s me Settostop = settostop s me
 attempt granted s me Read = read s me
 attempt granted s me Write = write s me
+attempt granted s me Subreaper = subreaper s me
 
 -- The call that a process is blocked in, attempted afresh (own); in Linux a child that changes its group wakes no
 -- waiting parent, and a read is judged only as it begins.

@@ -9,7 +9,7 @@ use Rattle.posix.specs.States.{State}
 use Rattle.posix.specs.Outcomes.{Attempted, finish_with, refused, no_memory, finished}
 
 -- The child with the number n is like its parent, but for its numbers; nothing is pending for it, it has
--- no alarm, no exec mark and no news, and its call gave 0.
+-- no alarm, no exec mark and no news, it is no subreaper, and its call gave 0.
 unfoldable pub child_of : ℕ → Process → ℕ → Process
 child_of birth me n = finished ((0, pos 0) ∷ []) (record me {
   pid = n;
@@ -18,6 +18,7 @@ child_of birth me n = finished ((0, pos 0) ∷ []) (record me {
   signals = record (me.signals) { standard = nothing_pending; queue = [] };
   news = news.Nothing;
   ran_exec = false;
+  is_subreaper = false;
   alarm = None;
 })
 

@@ -3,7 +3,7 @@ use Rattle.std.specs.Prelude.{ℕ, List, [], ◌∷◌, codes, Option, Some, Non
 use Rattle.posix.specs.declared.call.Call.{Call}
 use Rattle.posix.specs.declared.waits.WaitCall.{WaitCall}
 use Rattle.posix.specs.declared.waits.WaitCall.TheVariants as wait
-use Rattle.posix.specs.declared.call.Call.TheVariants.{Exit, Fork, Waitpid, Waitid, Pause, SchedYield, Getpid, Getppid, Getuid, Geteuid, Getgid, Getegid, Setuid, Seteuid, Setgid, Setegid, Kill, Sigqueue, Sigaction, Sigprocmask, Sigpending, Sigsuspend, Sigreturn, Alarm, Exec, Getpgid, Getsid, Setpgid, Setsid, Setctty, Tcgetpgrp, Tcsetpgrp, Settostop, Read, Write}
+use Rattle.posix.specs.declared.call.Call.TheVariants.{Exit, Fork, Waitpid, Waitid, Pause, SchedYield, Getpid, Getppid, Getuid, Geteuid, Getgid, Getegid, Setuid, Seteuid, Setgid, Setegid, Kill, Sigqueue, Sigaction, Sigprocmask, Sigpending, Sigsuspend, Sigreturn, Alarm, Exec, Getpgid, Getsid, Setpgid, Setsid, Setctty, Tcgetpgrp, Tcsetpgrp, Settostop, Read, Write, Subreaper}
 
 -- how a call is written, in world texts and in traces
 abbrev pub call_text : Call → List ℕ
@@ -42,6 +42,7 @@ call_text Tcsetpgrp = codes "tcsetpgrp"
 call_text Settostop = codes "settostop"
 call_text Read = codes "read"
 call_text Write = codes "write"
+call_text Subreaper = codes "subreaper"
 
 -- a call that waits for a child
 abbrev pub call_of_wait : WaitCall → Call
@@ -60,7 +61,7 @@ all_calls = Exit ∷ Fork ∷ Waitpid ∷ Waitid ∷ Pause ∷ SchedYield ∷ Ge
     ∷ Getuid ∷ Geteuid ∷ Getgid ∷ Getegid ∷ Setuid ∷ Seteuid ∷ Setgid ∷ Setegid
     ∷ Kill ∷ Sigqueue ∷ Sigaction ∷ Sigprocmask ∷ Sigpending ∷ Sigsuspend ∷ Sigreturn ∷ Alarm
     ∷ Exec ∷ Getpgid ∷ Getsid ∷ Setpgid ∷ Setsid ∷ Setctty ∷ Tcgetpgrp
-    ∷ Tcsetpgrp ∷ Settostop ∷ Read ∷ Write ∷ []
+    ∷ Tcsetpgrp ∷ Settostop ∷ Read ∷ Write ∷ Subreaper ∷ []
 
 -- the call that a word names
 abbrev pub call_named : List ℕ → Option Call

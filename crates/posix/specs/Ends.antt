@@ -10,6 +10,7 @@ use Rattle.posix.specs.SignalNumbers.{HUP, CHLD, CONT}
 use Rattle.posix.specs.Processes.{Process, Signals, nothing_pending, is_zombie}
 use Rattle.posix.specs.Tables.{lookup, pids, changed, removed, adopted, children_in, members_in}
 use Rattle.posix.specs.States.{State, change, without, lose_place}
+use Rattle.posix.specs.Heirs.{heir_in}
 use Rattle.posix.specs.Consoles.{Console, console_of, changed_console, released}
 use Rattle.posix.specs.Outcomes.{Outcome}
 use Rattle.posix.specs.Generation.{action, has_flag, SA_NOCLDWAIT}
@@ -128,6 +129,6 @@ end_with_heir s r heir status =
       entries = Ended r.pid status ∷ [];
     }
 
--- A session's terminal is hung up first. The heir is process 1 (own; as init has it in Linux).
+-- A session's terminal is hung up first.
 unfoldable pub end_process : State → Process → ℕ → Outcome
-end_process s r status = end_with_heir (hang_up s r) r 1 status
+end_process s r status = let hung = hang_up s r in end_with_heir hung r (heir_in hung.processes r.pid) status

@@ -2,7 +2,7 @@
 use Rattle.std.specs.Prelude.{ℕ, Bool, false, List, map, count_by, Option, Some, None}
 use Rattle.posix.specs.Statuses.{tells_end}
 use Rattle.posix.specs.declared.entry.Entry.{Entry}
-use Rattle.posix.specs.declared.entry.Entry.TheVariants.{Noted, Called, Moved, Reported, Looked, NoMemory, Handled, Discarded, Stopped, Returned, Ended, Halted}
+use Rattle.posix.specs.declared.entry.Entry.TheVariants.{Noted, Called, Moved, Reported, Looked, NoMemory, Marked, Handled, Discarded, Stopped, Returned, Ended, Halted}
 
 -- an entry with the number of its event
 pub record Line : Type 0 where
@@ -24,6 +24,7 @@ process_of (Moved p call bytes) = Some p
 process_of (Reported p call c w) = Some p
 process_of (Looked p c w) = Some p
 process_of (NoMemory p call) = Some p
+process_of (Marked p mark) = Some p
 process_of (Handled p s value sender) = Some p
 process_of (Discarded p s) = Some p
 process_of (Stopped p s) = Some p
@@ -39,6 +40,7 @@ reports_end (Moved pid call bytes) = false
 reports_end (Reported pid call child status) = tells_end status
 reports_end (Looked pid child status) = false
 reports_end (NoMemory pid call) = false
+reports_end (Marked pid mark) = false
 reports_end (Handled pid sig value sender) = false
 reports_end (Discarded pid sig) = false
 reports_end (Stopped pid sig) = false

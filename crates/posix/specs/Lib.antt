@@ -21,6 +21,7 @@ pub mod Groups
 pub mod Choice
 pub mod Handlers
 pub mod Births
+pub mod Heirs
 pub mod Ends
 pub mod Targets
 pub mod Alarms
@@ -31,6 +32,7 @@ pub mod Delivery
 pub mod Sends
 pub mod SignalCalls
 pub mod Terminals
+pub mod Subreapers
 pub mod Attempts
 pub mod Settle
 pub mod Step

@@ -44,6 +44,7 @@ pub record Process : Type 0 where
   pub life : Life
   pub news : News  -- what no wait has reported, XSH waitpid
   pub ran_exec : Bool  -- since its birth, XSH setpgid EACCES
+  pub is_subreaper : Bool  -- prctl(2), PR_SET_CHILD_SUBREAPER
   pub alarm : Option ℕ  -- the tick at which it is due, XSH alarm
   pub blocked : Option Blocked  -- the call that it waits in
   pub program : ℕ  -- its place among the programs of the world (own)
@@ -116,6 +117,7 @@ first_process = record {
   life = Running;
   news = news.Nothing;
   ran_exec = false;
+  is_subreaper = false;
   alarm = None;
   blocked = None;
   program = 0;

@@ -78,13 +78,15 @@ pub enum Call {
     Read,
     /// Writes the r2 words from address r1 on to the caller's terminal, as bytes (XSH write).
     Write,
+    /// The caller becomes a child subreaper where r1 isn't 0, else it is none any more (prctl(2)).
+    Subreaper,
 }
 
 impl Call {
     ghost use Rattle.posix.specs.Calls.{call_named, call_text};
 
     /// Every call.
-    pub const ALL: [Call; 35] = [
+    pub const ALL: [Call; 36] = [
         Call::Exit,
         Call::Fork,
         Call::Waitpid,
@@ -120,6 +122,7 @@ impl Call {
         Call::Settostop,
         Call::Read,
         Call::Write,
+        Call::Subreaper,
     ];
 
     /// How it is written, in world texts and in traces: at most 16 bytes.
@@ -163,6 +166,7 @@ impl Call {
             Call::Settostop => b"settostop",
             Call::Read => b"read",
             Call::Write => b"write",
+            Call::Subreaper => b"subreaper",
         }
     }
 

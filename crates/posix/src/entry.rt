@@ -49,6 +49,11 @@ pub enum Entry {
         pid: Pid,
         call: Call,
     },
+    /// A process became a child subreaper, or is none any more.
+    Marked {
+        pid: Pid,
+        mark: bool,
+    },
     /// A process entered the handler of a signal that came with a value and from a sender.
     Handled {
         pid: Pid,
@@ -92,6 +97,7 @@ impl Entry {
             | Entry::Reported { pid, .. }
             | Entry::Looked { pid, .. }
             | Entry::NoMemory { pid, .. }
+            | Entry::Marked { pid, .. }
             | Entry::Handled { pid, .. }
             | Entry::Discarded { pid, .. }
             | Entry::Stopped { pid, .. }

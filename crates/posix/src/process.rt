@@ -1,5 +1,9 @@
 //! What the record of a process is made of.
 
+ghost use Rattle.std.specs.Prelude.{◌≡◌};
+ghost use Rattle.posix.specs.Delivery.{call_of};
+
+use crate::call::Call;
 use crate::pid::Pid;
 use crate::sa_flags::SaFlags;
 use crate::sig::Sig;
@@ -87,6 +91,20 @@ pub enum Blocked {
     Read,
     Pause,
     Sigsuspend(SigSet),
+}
+
+impl Blocked {
+    /// The call that a process is blocked in.
+    pub fn call(self) -> Call
+        ensures { result ≡ call_of self }
+    {
+        match self {
+            Blocked::Wait(call) => call.call(),
+            Blocked::Read => Call::Read,
+            Blocked::Pause => Call::Pause,
+            Blocked::Sigsuspend(_) => Call::Sigsuspend,
+        }
+    }
 }
 
 /// What a signal that is generated does to its process at once, beside being pending (XSH 2.4.3).

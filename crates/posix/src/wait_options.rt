@@ -46,7 +46,7 @@ pub struct WaitidOptions(u64);
 
 impl WaitidOptions {
     /// The bits that say what is asked for: `WSTOPPED`, `WEXITED` and `WCONTINUED`.
-    pub const SORTS: u64 = 14;
+    pub const SORTS: WaitidOptions = WaitidOptions(14);
 }
 
 bitflag_items! {

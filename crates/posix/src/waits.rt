@@ -30,7 +30,7 @@ pub struct Asked {
 fn asks_something(options: WaitidOptions) -> bool
     ensures { result ≡ asks_something options.0 }
 {
-    options.bits() & WaitidOptions::SORTS != 0
+    options.intersects(WaitidOptions::SORTS)
 }
 
 /// The options of a waitpid; nothing where a bit is unknown.

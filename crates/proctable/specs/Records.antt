@@ -45,6 +45,7 @@ process_of p q b = record first_process {
   life = b.life;
   news = b.news;
   ran_exec = b.own.ran_exec;
+  is_subreaper = b.is_subreaper;
   alarm = b.alarm;
   blocked = b.own.blocked;
   program = b.own.program;
@@ -75,6 +76,7 @@ snapshot_of r = record {
   news = r.news;
   alarm = r.alarm;
   ran_exec = r.ran_exec;
+  is_subreaper = r.is_subreaper;
   blocked = r.blocked;
   program = r.program;
 }

@@ -9,6 +9,7 @@ ghost use Rattle.posix.specs.Notices.{noticed, noticed_of_change, stopped_by, re
 ghost use Rattle.posix.specs.Generation.{signalled, effect_of};
 ghost use Rattle.posix.specs.Sends.{is_queuer};
 ghost use Rattle.posix.specs.Waits.{news_told};
+ghost use Rattle.posix.specs.Subreapers.{marked_as};
 ghost use Rattle.posix.specs.Alarms.{ring_at as ring_at_tick, with_alarm};
 ghost use Rattle.proctable.specs.Records.{process_of, queued, snapshot_of};
 
@@ -34,6 +35,8 @@ pub struct Record {
     pub session: Pid,
     /// The tick at which its alarm is due (XSH alarm).
     pub alarm: Option<u64>,
+    /// Whether it is a child subreaper (prctl(2)).
+    pub is_subreaper: bool,
     /// 1 for process 1, 2 for the next one born, and so on.
     pub birth: u64,
 }
@@ -50,6 +53,7 @@ impl Record {
             life: Life::Running,
             news: News::Nothing,
             alarm: None,
+            is_subreaper: false,
             own: OwnPart::first(alloc)?,
         })
     }
@@ -68,6 +72,7 @@ impl Record {
             life: self.life,
             news: News::Nothing,
             alarm: None,
+            is_subreaper: false, // whatever its parent is
             own: self.own.fork(spare)?,
         })
     }
@@ -87,6 +92,7 @@ impl Record {
             news: self.news,
             alarm: self.alarm,
             ran_exec: self.own.ran_exec,
+            is_subreaper: self.is_subreaper,
             blocked: self.own.blocked,
             program: self.own.program,
         }
@@ -119,6 +125,15 @@ impl Record {
         ensures { (p q : ℕ) → process_of p q self.new ≡ news_told (process_of p q self.old) }
     {
         self.news = News::Nothing;
+    }
+
+    /// The process becomes a child subreaper, or is none any more, and its call gives 0 (prctl(2)).
+    #[tactic(auto, unfolding(posix::specs::Subreapers::marked_as))]
+    pub fn finish_marked(&mut self, mark: bool)
+        ensures { (p q : ℕ) → process_of p q self.new ≡ marked_as mark (process_of p q self.old) }
+    {
+        self.is_subreaper = mark;
+        self.own.finish(0);
     }
 
     /// A standard signal is generated for the process, whose number this is (XSH 2.4.1). The effect is what it does

@@ -26,6 +26,8 @@ pub struct Snapshot {
     pub alarm: Option<u64>,
     /// Whether it has run exec since its birth (XSH setpgid).
     pub ran_exec: bool,
+    /// Whether it is a child subreaper (prctl(2)).
+    pub is_subreaper: bool,
     /// The call that it waits in.
     pub blocked: Option<Blocked>,
     /// Its index among the programs of the world.

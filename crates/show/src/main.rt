@@ -1,10 +1,10 @@
 //! `show`: the state of a world at an event, in words, and what each event does.
 #![tactic(auto)]
 
+mod hearing;
 mod serving;
 mod state;
 mod stepping;
-mod telling;
 mod words;
 
 use host::{HostFiles, WordsFault, as_texts, read_words};

@@ -3,9 +3,9 @@
 ghost use Rattle.std.specs.Prelude.{◌≡◌, ◌≤◌, IfOk, None, Ok, length};
 ghost use Rattle.text.specs.EventTexts.{most_events};
 
-use crate::state::{View, put_state};
+use crate::hearing::Telling;
+use crate::state::put_state;
 use crate::stepping::{Ask, StepFault, Steps};
-use crate::telling::Teller;
 use crate::words::{NoRequest, Request, requested};
 use arrayvec::ArrayString;
 use host::{ReadFiles, WordsFault};
@@ -15,7 +15,8 @@ use past::{Past, past_at, run_to};
 use posix::Pid;
 use std::alloc::{AllocError, Global};
 use std::fmt::Write;
-use text::{EventList, World};
+use telling::{Teller, View};
+use text::EventList;
 use thiserror::Error;
 use wording::Listing;
 
@@ -138,7 +139,7 @@ const TOLD_AT_ONCE: u64 = 1_000;
 /// Gives the events up to the one with number `last`, and puts a line for each.
 fn put_events<'a, O: Sink>(
     past: &mut Past,
-    teller: &mut Teller<'_, '_>,
+    telling: &mut Telling<'_, '_>,
     events: &EventList,
     last: u64,
     out: &mut O,
@@ -147,26 +148,11 @@ fn put_events<'a, O: Sink>(
 {
     for _ in 0..=last / TOLD_AT_ONCE {
         let next = past.kernel.events().saturating_add(TOLD_AT_ONCE);
-        run_to(past, events, next.min(last), teller)?;
-        put_all(out, teller.text.as_str().as_bytes())?;
-        teller.text.clear();
+        run_to(past, events, next.min(last), telling)?;
+        put_all(out, telling.teller.text.as_str().as_bytes())?;
+        telling.teller.text.clear();
     }
     Ok(())
-}
-
-/// Puts a line for each event of a world up to the one with number `last`.
-fn put_calls<'a, 'l, 't, O: Sink>(
-    view: View<'l, 't>,
-    world: &'t World,
-    events: &EventList,
-    last: u64,
-    out: &mut O,
-) -> Result<(), Failure<'a>>
-    requires { length events.now ≤ most_events }
-{
-    let mut past = Past::boot(view.alloc, world)?;
-    let mut teller = Teller::new(view, world.programs());
-    put_events(&mut past, &mut teller, events, last, out)
 }
 
 /// Puts the state as it is now.
@@ -181,29 +167,28 @@ fn put_now<'a, O: Sink>(
     Ok(())
 }
 
-/// Puts the state after the event with number `last`.
-fn put_state_at<'a, O: Sink>(
-    view: View<'_, '_>,
-    world: &World,
-    events: &EventList,
+/// Does what is asked for of a run, of which this is the listing: lets a person go through it, or puts a line for each
+/// event up to the one with number `last`, or puts the state.
+fn serve_past<'a, 'l, 't, O: Sink, A: Ask>(
+    view: View<'l, 't>,
+    request: &Request<'a>,
+    past: &mut Past,
+    inputs: &'t Inputs,
     last: u64,
     out: &mut O,
-) -> Result<(), Failure<'a>>
-    requires { length events.now ≤ most_events }
-{
-    put_now(view, &mut past_at(view.alloc, world, events, last)?, out)
-}
-
-/// Lets a person go through the events of a world.
-fn step_through<'l, 't, O: Sink, A: Ask>(
-    view: View<'l, 't>,
-    inputs: &'t Inputs,
-    out: &mut O,
     ask: &mut A,
-) -> Result<(), StepFault>
+) -> Result<(), Failure<'a>>
     requires { length inputs.now.events ≤ most_events }
 {
-    Steps::new(view, &inputs.world, &inputs.events)?.follow_all(ask, out)
+    if request.step {
+        Steps::new(view, &inputs.world, &inputs.events).follow_all(past, ask, out)?;
+        Ok(())
+    } else if request.calls {
+        let teller = Teller::new(view, inputs.world.programs());
+        put_events(past, &mut Telling { teller }, &inputs.events, last, out)
+    } else {
+        put_now(view, past, out)
+    }
 }
 
 /// Does what is asked for of a world and its events, of which this is the listing.
@@ -225,14 +210,14 @@ fn serve_listed<'a, 'l, 't, O: Sink, A: Ask>(
         events: inputs.events.len(),
         only,
     };
-    if request.step {
-        step_through(view, inputs, out, ask)?;
-        Ok(())
-    } else if request.calls {
-        put_calls(view, &inputs.world, &inputs.events, last, out)
+    // Where events are told, they are from the first one on.
+    let from = if request.step || request.calls {
+        0
     } else {
-        put_state_at(view, &inputs.world, &inputs.events, last, out)
-    }
+        last
+    };
+    let mut past = past_at(alloc, &inputs.world, &inputs.events, from)?;
+    serve_past(view, request, &mut past, inputs, last, out, ask)
 }
 
 /// Does what is asked for of a world and its events.

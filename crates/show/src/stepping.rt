@@ -3,12 +3,13 @@
 ghost use Rattle.std.specs.Prelude.{◌≤◌, length};
 ghost use Rattle.text.specs.EventTexts.{most_events};
 
-use crate::state::{View, put_head, put_state};
-use crate::telling::Teller;
+use crate::hearing::Telling;
+use crate::state::{put_head, put_state};
 use kernel::{Sink, SinkFault, put_all};
 use past::{Past, Silent, run_to};
 use posix::Pid;
 use std::alloc::AllocError;
+use telling::{Teller, View};
 use text::{EventList, World};
 
 /// Asks a person for commands.
@@ -121,51 +122,47 @@ pub struct Steps<'l, 't> {
     view: View<'l, 't>,
     world: &'t World,
     events: &'t EventList,
-    past: Past,
-    teller: Teller<'l, 't>,
+    telling: Telling<'l, 't>,
     ghost few: { length events.now ≤ most_events },
 }
 
 impl<'l, 't> Steps<'l, 't> {
-    /// A run before its first event.
-    pub fn new(
-        view: View<'l, 't>,
-        world: &'t World,
-        events: &'t EventList,
-    ) -> Result<Steps<'l, 't>, AllocError>
+    /// A run of which no event is told yet.
+    pub fn new(view: View<'l, 't>, world: &'t World, events: &'t EventList) -> Steps<'l, 't>
         requires { length events.now ≤ most_events }
     {
-        Ok(Steps {
+        Steps {
             view,
             world,
             events,
-            past: Past::boot(view.alloc, world)?,
-            teller: Teller::new(view, world.programs()),
-        })
+            telling: Telling {
+                teller: Teller::new(view, world.programs()),
+            },
+        }
     }
 
     /// Goes on to the state after an event, or after the last one, and tells the events.
-    fn go_on(&mut self, event: u64) -> Result<(), AllocError> {
-        run_to(&mut self.past, self.events, event, &mut self.teller)
+    fn go_on(&mut self, past: &mut Past, event: u64) -> Result<(), AllocError> {
+        run_to(past, self.events, event, &mut self.telling)
     }
 
     /// Goes to the state after an event: back by running again.
-    fn go(&mut self, event: u64) -> Result<(), AllocError> {
-        if event < self.past.kernel.events() {
-            self.past = Past::boot(self.view.alloc, self.world)?;
+    fn go(&mut self, past: &mut Past, event: u64) -> Result<(), AllocError> {
+        if event < past.kernel.events() {
+            past.restart(self.view.alloc, self.world)?;
         }
-        run_to(&mut self.past, self.events, event, &mut Silent)
+        run_to(past, self.events, event, &mut Silent)
     }
 
     /// Goes on until an event is of interest, and tells that one.
-    fn go_until(&mut self, pid: Option<Pid>) -> Result<(), AllocError> {
-        for _ in self.past.kernel.events()..self.events.len() {
-            self.teller.text.clear();
-            let next = self.past.kernel.events().saturating_add(1);
-            self.go_on(next)?;
+    fn go_until(&mut self, past: &mut Past, pid: Option<Pid>) -> Result<(), AllocError> {
+        for _ in past.kernel.events()..self.events.len() {
+            self.telling.teller.text.clear();
+            let next = past.kernel.events().saturating_add(1);
+            self.go_on(past, next)?;
             let is_found = match pid {
-                Some(pid) => self.teller.acted() == Some(pid),
-                None => self.teller.showed,
+                Some(pid) => self.telling.teller.acted() == Some(pid),
+                None => self.telling.teller.showed,
             };
             if is_found {
                 return Ok(());
@@ -175,17 +172,17 @@ impl<'l, 't> Steps<'l, 't> {
     }
 
     /// Does what is asked for; whether it goes on.
-    fn follow(&mut self, command: Command) -> Result<bool, AllocError> {
-        self.teller.text.clear();
-        let now = self.past.kernel.events();
+    fn follow(&mut self, past: &mut Past, command: Command) -> Result<bool, AllocError> {
+        self.telling.teller.text.clear();
+        let now = past.kernel.events();
         match command {
-            Command::Next(count) => self.go_on(now.saturating_add(count))?,
-            Command::Back(count) => self.go(now.saturating_sub(count))?,
-            Command::Go(event) => self.go(event)?,
-            Command::Process(number) => self.go_until(Pid::new(number))?,
-            Command::Line => self.go_until(None)?,
-            Command::State => put_state(self.view, &mut self.teller.text, &mut self.past)?,
-            Command::Help => self.teller.text.push_str(HELP)?,
+            Command::Next(count) => self.go_on(past, now.saturating_add(count))?,
+            Command::Back(count) => self.go(past, now.saturating_sub(count))?,
+            Command::Go(event) => self.go(past, event)?,
+            Command::Process(number) => self.go_until(past, Pid::new(number))?,
+            Command::Line => self.go_until(past, None)?,
+            Command::State => put_state(self.view, &mut self.telling.teller.text, past)?,
+            Command::Help => self.telling.teller.text.push_str(HELP)?,
             Command::Quit => return Ok(false),
         }
         Ok(true)
@@ -194,16 +191,21 @@ impl<'l, 't> Steps<'l, 't> {
     /// Goes through the run as it is asked for.
     pub fn follow_all<A: Ask, O: Sink>(
         &mut self,
+        past: &mut Past,
         ask: &mut A,
         out: &mut O,
     ) -> Result<(), StepFault> {
         let mut line = String::new(self.view.alloc);
         for _ in 0..u64::MAX {
-            put_head(&mut self.teller.text, &self.past.kernel, self.view.events)?;
-            self.teller.text.push_str("> ")?;
-            put_all(out, self.teller.text.as_str().as_bytes())?;
+            put_head(
+                &mut self.telling.teller.text,
+                &past.kernel,
+                self.view.events,
+            )?;
+            self.telling.teller.text.push_str("> ")?;
+            put_all(out, self.telling.teller.text.as_str().as_bytes())?;
             line.clear();
-            if !ask.ask(&mut line)? || !self.follow(command_of(line.as_str()))? {
+            if !ask.ask(&mut line)? || !self.follow(past, command_of(line.as_str()))? {
                 return Ok(());
             }
         }

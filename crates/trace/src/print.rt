@@ -7,7 +7,7 @@ ghost use Rattle.std.specs.Prelude.{◌≡◌, ◌+◌, ◌*◌, ◌<◌, ◌≤
 ghost use Rattle.std.specs.List.{join_with_byte};
 ghost use Rattle.std.specs.Fmt.{signed_decimal};
 ghost use Rattle.posix.specs.Calls.{call_text};
-ghost use Rattle.posix.specs.Printing.{hex, printed, words_of};
+ghost use Rattle.posix.specs.Printing.{bit, hex, printed, words_of};
 
 use arrayvec::ArrayVec;
 use hex::encode_to_slice;
@@ -207,6 +207,29 @@ fn put_no_memory(room: &mut [u8], at: usize, pid: Pid, call: Call) -> usize
     put(room, at, b" -11 memory")
 }
 
+/// Writes 1 for a mark that is set, 0 for one that is cleared.
+fn put_bit(room: &mut [u8], at: usize, mark: bool) -> usize
+    requires { at + 1 ≤ length room.old }
+    ensures text { take result room.new ≡ take at room.old ++ bit mark }
+    ensures end { result ≡ at + 1 }
+{
+    if mark {
+        return put(room, at, b"1");
+    }
+    put(room, at, b"0")
+}
+
+/// Writes the words of a mark that is set or cleared.
+fn put_mark(room: &mut [u8], at: usize, pid: Pid, mark: bool) -> usize
+    requires { at + 106 ≤ length room.old }
+    ensures text { take result room.new ≡ take at room.old ++ 32 ∷ join_with_byte 32 (words_of (Entry.Marked pid mark)) }
+    ensures end { result ≤ at + 106 }
+{
+    let at = put_call(room, at, pid, Call::Subreaper);
+    let at = put(room, at, b" 0 mark ");
+    put_bit(room, at, mark)
+}
+
 /// Writes the words of an entry of a handler.
 fn put_handler(room: &mut [u8], at: usize, pid: Pid, sig: Sig, carried: i64, sender: Pid) -> usize
     requires { at + 106 ≤ length room.old }
@@ -284,6 +307,7 @@ fn put_entry(room: &mut [u8], at: usize, entry: &Entry) -> usize
         } => put_take(room, at, *pid, *child, *status),
         Entry::Looked { pid, child, status } => put_look(room, at, *pid, *child, *status),
         Entry::NoMemory { pid, call } => put_no_memory(room, at, *pid, *call),
+        Entry::Marked { pid, mark } => put_mark(room, at, *pid, *mark),
         Entry::Handled {
             pid,
             sig,

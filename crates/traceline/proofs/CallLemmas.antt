@@ -3,7 +3,7 @@ use Rattle.std.proofs.Common.{◌≡◌, true, length, Some, refl}
 use Rattle.std.specs.Prelude.{nat_le}
 use Rattle.posix.specs.Calls.{call_text, call_named}
 use Rattle.posix.specs.declared.call.Call.{Call}
-use Rattle.posix.specs.declared.call.Call.TheVariants.{Exit, Fork, Waitpid, Waitid, Pause, SchedYield, Getpid, Getppid, Getuid, Geteuid, Getgid, Getegid, Setuid, Seteuid, Setgid, Setegid, Kill, Sigqueue, Sigaction, Sigprocmask, Sigpending, Sigsuspend, Sigreturn, Alarm, Exec, Getpgid, Getsid, Setpgid, Setsid, Setctty, Tcgetpgrp, Tcsetpgrp, Settostop, Read, Write}
+use Rattle.posix.specs.declared.call.Call.TheVariants.{Exit, Fork, Waitpid, Waitid, Pause, SchedYield, Getpid, Getppid, Getuid, Geteuid, Getgid, Getegid, Setuid, Seteuid, Setgid, Setegid, Kill, Sigqueue, Sigaction, Sigprocmask, Sigpending, Sigsuspend, Sigreturn, Alarm, Exec, Getpgid, Getsid, Setpgid, Setsid, Setctty, Tcgetpgrp, Tcsetpgrp, Settostop, Read, Write, Subreaper}
 use Rattle.traceline.proofs.WordLemmas.{is_clean}
 
 -- what is known of the name of each call: it names the call, no space stands in it, and it is at most 16 bytes
@@ -46,3 +46,4 @@ name_back Tcsetpgrp = (refl, refl, refl)
 name_back Settostop = (refl, refl, refl)
 name_back Read = (refl, refl, refl)
 name_back Write = (refl, refl, refl)
+name_back Subreaper = (refl, refl, refl)

@@ -1,5 +1,5 @@
 -- A printed line is guessed as itself, and is at most 127 bytes.
-use Rattle.std.proofs.Common.{◌≡◌, ℕ, ◌^◌, ◌<◌, ◌≤◌, ◌&&◌, true, List, [], ◌∷◌, ◌++◌, length, Some, refl, ap, sym, subst, ◌∙◌, arith}
+use Rattle.std.proofs.Common.{◌≡◌, ℕ, ◌^◌, ◌<◌, ◌≤◌, ◌&&◌, Bool, true, false, List, [], ◌∷◌, ◌++◌, length, Some, refl, ap, sym, subst, ◌∙◌, arith}
 use Rattle.std.specs.Prelude.{codes, decimal, nat_le, MatchOption}
 use Rattle.std.specs.Fmt.{signed_decimal}
 use Rattle.std.specs.List.{join_with_byte, list_all}
@@ -7,15 +7,15 @@ use Rattle.std.proofs.lemmas.Bool.{and_parts, leb-true}
 use Rattle.std.proofs.lemmas.Bool.Decides.{nat_tests}
 use Rattle.std.proofs.lemmas.List.{append_cancel_right}
 use Rattle.posix.specs.SignalNumbers.{is_signal, is_stop_signal}
-use Rattle.posix.specs.Printing.{hex, words_of, printed}
+use Rattle.posix.specs.Printing.{bit, hex, words_of, printed}
 use Rattle.posix.proofs.PrintingLemmas.{number_and_words}
 use Rattle.posix.specs.Calls.{call_text}
 use Rattle.posix.specs.Entries.{Line, line}
 use Rattle.posix.specs.declared.call.Call.{Call}
-use Rattle.posix.specs.declared.call.Call.TheVariants.{Waitpid, Waitid}
+use Rattle.posix.specs.declared.call.Call.TheVariants.{Waitpid, Subreaper, Waitid}
 use Rattle.posix.specs.declared.waits.WaitCall.TheVariants as wait
 use Rattle.posix.specs.declared.entry.Entry.{Entry}
-use Rattle.posix.specs.declared.entry.Entry.TheVariants.{Noted, Called, Moved, Reported, Looked, NoMemory, Handled, Discarded, Stopped, Returned, Ended, Halted}
+use Rattle.posix.specs.declared.entry.Entry.TheVariants.{Noted, Called, Moved, Reported, Looked, NoMemory, Marked, Handled, Discarded, Stopped, Returned, Ended, Halted}
 use Rattle.laws.specs.Kinds.{is_byte}
 use Rattle.laws.specs.TraceLines.{is_i64, is_number, is_result, moves_bytes, asks_memory, is_entry, is_line, Says}
 use Rattle.posix.specs.Statuses.{is_end_word}
@@ -26,7 +26,7 @@ use Rattle.posix.proofs.DecimalLemmas.{decimal_back}
 use Rattle.traceline.proofs.NumberLemmas.{decimal_clean, decimal_len, signed_len, sig_size, pid_back}
 use Rattle.traceline.proofs.BytesLemmas.{hex_len}
 use Rattle.traceline.proofs.CallLemmas.{name_back}
-use Rattle.traceline.proofs.FormLemmas.{formed_back, note_back, handler_back, discard_back, stop_back, end_back, call_back, value_back, moved_back, told_words, report_back, take_back, look_back, memory_back}
+use Rattle.traceline.proofs.FormLemmas.{formed_back, note_back, handler_back, discard_back, stop_back, end_back, call_back, value_back, moved_back, told_words, report_back, take_back, look_back, memory_back, mark_back}
 
 number_size : (p : ℕ) → is_number p ≡ true → p ≤ 2147483647
 number_size p h = leb-true p 2147483647 (and_parts (nat_le 1 p) (nat_le p 2147483647) h).1
@@ -109,6 +109,14 @@ entry_back (NoMemory p call) h =
     let hp = number_size p (and_parts (is_number p) (asks_memory call) h).0 in
     let rest = codes "-11" ++ 32 ∷ codes "memory" in
     call_back_with p call (NoMemory p call) rest hp (call_back p call rest hp ∙ memory_back p call) (omega arith)
+entry_back (Marked p mark) h =
+    let hp = number_size p h in
+    let rest = codes "0" ++ 32 ∷ (codes "mark" ++ 32 ∷ bit mark) in
+    call_back_with p Subreaper (Marked p mark) rest hp (call_back p Subreaper rest hp ∙ mark_back p mark) (few mark)
+  where
+    few : (mark : Bool) → length (codes "0" ++ 32 ∷ (codes "mark" ++ 32 ∷ bit mark)) ≤ 59
+    few true = omega arith
+    few false = omega arith
 entry_back (Handled p s z q) h =
     let a = and_parts (is_number p && is_signal s && is_i64 z) (nat_le q 2147483647) h in
     let b = and_parts (is_number p && is_signal s) (is_i64 z) a.0 in

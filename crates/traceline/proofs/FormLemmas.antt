@@ -1,15 +1,15 @@
 -- An entry is guessed from its printed words.
-use Rattle.std.proofs.Common.{◌≡◌, ℕ, ◌^◌, ◌<◌, ◌≤◌, true, List, ◌∷◌, ◌++◌, length, Some, refl, arith}
+use Rattle.std.proofs.Common.{◌≡◌, ℕ, ◌^◌, ◌<◌, ◌≤◌, Bool, true, false, List, ◌∷◌, ◌++◌, length, Some, refl, arith}
 use Rattle.std.specs.Prelude.{codes, decimal, ℤ}
 use Rattle.std.specs.Fmt.{signed_decimal}
 use Rattle.posix.specs.SignalNumbers.{is_signal}
-use Rattle.posix.specs.Printing.{hex}
+use Rattle.posix.specs.Printing.{hex, bit}
 use Rattle.posix.specs.Calls.{call_text}
 use Rattle.posix.specs.declared.call.Call.{Call}
-use Rattle.posix.specs.declared.call.Call.TheVariants.{Waitpid, Waitid}
+use Rattle.posix.specs.declared.call.Call.TheVariants.{Waitpid, Subreaper, Waitid}
 use Rattle.posix.specs.declared.waits.WaitCall.TheVariants as wait
 use Rattle.posix.specs.declared.entry.Entry.{Entry}
-use Rattle.posix.specs.declared.entry.Entry.TheVariants.{Noted, Called, Moved, Reported, Looked, NoMemory, Handled, Discarded, Stopped, Ended}
+use Rattle.posix.specs.declared.entry.Entry.TheVariants.{Noted, Called, Moved, Reported, Looked, NoMemory, Marked, Handled, Discarded, Stopped, Ended}
 use Rattle.std.specs.List.{list_all}
 use Rattle.laws.specs.Kinds.{is_byte}
 use Rattle.laws.specs.TraceLines.{is_i64}
@@ -155,3 +155,9 @@ pub memory_back : (p : ℕ) (call : Call)
     → guess_result p call (word (codes "-11" ++ 32 ∷ codes "memory")) (behind (codes "-11" ++ 32 ∷ codes "memory")) ≡ Some (NoMemory p call)
 unfolding guess_result shown_by
 memory_back p call = refl
+
+pub mark_back : (p : ℕ) (mark : Bool)
+    → guess_result p Subreaper (word (codes "0" ++ 32 ∷ (codes "mark" ++ 32 ∷ bit mark))) (behind (codes "0" ++ 32 ∷ (codes "mark" ++ 32 ∷ bit mark))) ≡ Some (Marked p mark)
+unfolding guess_result shown_by
+mark_back p true = refl
+mark_back p false = refl

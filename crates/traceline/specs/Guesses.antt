@@ -5,10 +5,10 @@ use Rattle.posix.specs.Decimals.{decimal_value}
 use Rattle.posix.specs.declared.call.Call.{Call as SystemCall}
 use Rattle.posix.specs.declared.entry.Entry.{Entry}
 use Rattle.posix.specs.declared.waits.WaitCall.TheVariants as wait
-use Rattle.posix.specs.declared.entry.Entry.TheVariants.{Noted, Called, Moved, Reported, Looked, Handled, Discarded, Stopped, Returned, Ended, Halted}
+use Rattle.posix.specs.declared.entry.Entry.TheVariants.{Noted, Called, Moved, Reported, Marked, Looked, Handled, Discarded, Stopped, Returned, Ended, Halted}
 use Rattle.posix.specs.declared.entry.Entry.TheVariants as entry
 use Rattle.traceline.specs.declared.guesses.Shown.{Shown}
-use Rattle.traceline.specs.declared.guesses.Shown.TheVariants.{Value, Bytes, Status, Take, Look, NoMemory}
+use Rattle.traceline.specs.declared.guesses.Shown.TheVariants.{Value, Bytes, Status, Take, Look, NoMemory, Mark}
 use Rattle.traceline.specs.declared.guesses.Form.{Form}
 use Rattle.traceline.specs.declared.guesses.Form.TheVariants.{Note, Call, Handler, Discard, Stop, Return, End, Halt}
 use Rattle.traceline.specs.Words.{◌>>=◌, word, behind, integer, pid_in, sig_in, status_in, bytes_in}
@@ -29,9 +29,10 @@ shown_text Status = codes "status"
 shown_text Take = codes "take"
 shown_text Look = codes "look"
 shown_text NoMemory = codes "memory"
+shown_text Mark = codes "mark"
 
 unfoldable pub shown_by : List ℕ → Option Shown
-shown_by w = find (λ s. bytes_eq w (shown_text s)) (Value ∷ Bytes ∷ Status ∷ Take ∷ Look ∷ NoMemory ∷ [])
+shown_by w = find (λ s. bytes_eq w (shown_text s)) (Value ∷ Bytes ∷ Status ∷ Take ∷ Look ∷ NoMemory ∷ Mark ∷ [])
 
 -- a child and its status, with a word between them
 unfoldable pub child_and_status : List ℕ → Option (ℕ × ℕ)
@@ -50,6 +51,7 @@ guess_shown Status pid call value last = do
 guess_shown Take pid call value last = child_and_status last >>= λ it. Some (Reported pid wait.Waitid it.0 it.1)
 guess_shown Look pid call value last = child_and_status last >>= λ it. Some (Looked pid it.0 it.1)
 guess_shown NoMemory pid call value last = Some (entry.NoMemory pid call)
+guess_shown Mark pid call value last = Some (Marked pid (bytes_eq last (codes "1")))
 
 -- from the number of the process, its call, the result and what follows
 unfoldable pub guess_result : ℕ → SystemCall → List ℕ → List ℕ → Option Entry

@@ -24,7 +24,7 @@ fn is_result(call: Call, value: i64) -> bool
     ensures { result ≡ is_result_of call value }
 {
     match call {
-        Call::Exit | Call::Sigreturn => false,
+        Call::Exit | Call::Sigreturn | Call::Subreaper => false,
         Call::Waitpid | Call::Read | Call::Write => value <= 0,
         Call::Fork => value <= i64::from(Pid::MAX),
         _ => true,
@@ -73,6 +73,7 @@ fn is_entry(entry: Entry) -> bool
             is_process(pid) && is_process(child)
         }
         Entry::NoMemory { pid, call } => is_process(pid) && asks_memory(call),
+        Entry::Marked { pid, mark: _ } => is_process(pid),
         Entry::Handled { pid, .. } => is_process(pid),
         Entry::Discarded { pid, sig: _ } => is_process(pid),
         Entry::Stopped { pid, sig } => is_process(pid) && is_stop_signal(sig),

@@ -28,19 +28,21 @@ enum Shown {
     Take,
     Look,
     NoMemory,
+    Mark,
 }
 
 impl Shown {
     ghost use Rattle.traceline.specs.Guesses.{shown_by, shown_text};
 
     /// Each of them.
-    const ALL: [Shown; 6] = [
+    const ALL: [Shown; 7] = [
         Shown::Value,
         Shown::Bytes,
         Shown::Status,
         Shown::Take,
         Shown::Look,
         Shown::NoMemory,
+        Shown::Mark,
     ];
 
     /// The word behind a call's result that names it.
@@ -54,6 +56,7 @@ impl Shown {
             Shown::Take => b"take",
             Shown::Look => b"look",
             Shown::NoMemory => b"memory",
+            Shown::Mark => b"mark",
         }
     }
 
@@ -116,6 +119,10 @@ fn guess_result(pid: Pid, call: Call, value: &[u8], words: &[u8]) -> Option<Entr
             Some(Entry::Looked { pid, child, status })
         }
         Shown::NoMemory => Some(Entry::NoMemory { pid, call }),
+        Shown::Mark => Some(Entry::Marked {
+            pid,
+            mark: last == b"1".as_slice(),
+        }),
     }
 }
 

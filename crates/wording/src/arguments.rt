@@ -1,11 +1,12 @@
 //! Calls with their arguments, as the programs give them, and what they gave.
 
 ghost use Rattle.std.specs.Prelude.{◌≡◌, ◌+◌, ◌<ℤ◌, IfSome, None, pos};
+ghost use Rattle.posix.specs.Waits.{asked};
 
 use crate::listing::{Listing, Source};
 use crate::names::{
-    errno_name, put_action_flags, put_kind, put_options, put_set, put_signal_word, put_status,
-    put_waitid_options,
+    errno_name, put_action_flags, put_kind, put_set, put_signal_word, put_status,
+    put_waitid_options, put_waitpid_options,
 };
 use posix::{Asked, Bytes, Call, Register, SigSet, Status, WaitCall};
 use std::alloc::AllocError;
@@ -33,7 +34,9 @@ impl Arguments {
     }
 
     /// What a wait with these arguments asks; nothing where it is refused.
-    pub fn asked(&self, call: WaitCall) -> Option<Asked> {
+    pub fn asked(&self, call: WaitCall) -> Option<Asked>
+        ensures { result ≡ asked call self.now.first self.now.second self.now.third }
+    {
         call.asks(self.first, self.second, self.third)
     }
 }
@@ -183,14 +186,15 @@ fn put_arguments(
         | Call::Getsid
         | Call::Setctty
         | Call::Tcsetpgrp
-        | Call::Settostop => put_number(text, first),
+        | Call::Settostop
+        | Call::Subreaper => put_number(text, first),
         Call::Setpgid | Call::Read | Call::Write => {
             put_one_of(text, first)?;
             put_number(text, second)
         }
         Call::Waitpid => {
             put_one_of(text, first)?;
-            put_options(text, second)
+            put_waitpid_options(text, second)
         }
         Call::Waitid => {
             put_kind(text, first)?;

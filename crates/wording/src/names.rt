@@ -183,12 +183,17 @@ pub fn put_flags(text: &mut String, flags: SaFlags) -> Result<(), AllocError> {
     put_names(text, &flags)
 }
 
-/// Writes the options of waitpid that a word is, or the word.
-pub fn put_options(text: &mut String, word: i64) -> Result<(), AllocError> {
-    match WaitOptions::from_bits(word.cast_unsigned()) {
-        Some(options) => put_names(text, &options),
+/// Writes the names of the bits that a word is; the word where it isn't one.
+fn put_names_or<F: Flags>(text: &mut String, bits: Option<F>, word: i64) -> Result<(), AllocError> {
+    match bits {
+        Some(bits) => put_names(text, &bits),
         None => write!(text, "{word}"),
     }
+}
+
+/// Writes the options of waitpid that a word is, or the word.
+pub fn put_waitpid_options(text: &mut String, word: i64) -> Result<(), AllocError> {
+    put_names_or(text, WaitOptions::from_bits(word.cast_unsigned()), word)
 }
 
 /// Writes by its name the kind of children that a word is for waitid, or the word.
@@ -203,17 +208,11 @@ pub fn put_kind(text: &mut String, word: i64) -> Result<(), AllocError> {
 
 /// Writes the options of waitid that a word is, or the word.
 pub fn put_waitid_options(text: &mut String, word: i64) -> Result<(), AllocError> {
-    match WaitidOptions::from_bits(word.cast_unsigned()) {
-        Some(options) => put_names(text, &options),
-        None => write!(text, "{word}"),
-    }
+    put_names_or(text, WaitidOptions::from_bits(word.cast_unsigned()), word)
 }
 
 /// Writes the flags of an action that a word is, or the word.
 pub fn put_action_flags(text: &mut String, word: i64) -> Result<(), AllocError> {
     let flags = u32::try_from(word).ok().and_then(SaFlags::from_bits);
-    match flags {
-        Some(flags) => put_flags(text, flags),
-        None => write!(text, "{word}"),
-    }
+    put_names_or(text, flags, word)
 }

@@ -1,8 +1,14 @@
-use Rattle.std.proofs.Common.{◌∙◌, ap, sym, append_assoc, ◌==◌, ◌++◌, ◌∷◌, [], List, true, false}
+use Rattle.std.proofs.Common.{◌≡◌, ℕ, ◌+◌, ◌≤◌, ◌∙◌, ap, sym, subst, arith, append_assoc, ◌==◌, ◌++◌, ◌∷◌, [], List, true, false}
 use Rattle.posix.specs.declared.entry.Entry.{Entry}
 use Rattle.posix.specs.declared.entry.Entry.TheVariants.{Ended, Halted}
-use Rattle.posix.specs.States.{process}
+use Rattle.posix.specs.Processes.{Process}
+use Rattle.posix.specs.States.{State, process}
+use Rattle.posix.specs.Ends.{hang_up}
+use Rattle.posix.specs.Heirs.{heir_in}
+use Rattle.posix.specs.Regular.{CanInherit}
+use Rattle.posix.proofs.HeirLemmas.{heir_inherits}
 use Rattle.posix.proofs.TableLemmas.{pid_looked}
+use Rattle.life.specs.Ends.{slots_of_heir, slots_of_ending}
 use Rattle.calls.proofs.CallLemmas.{end_entries}
 use Rattle.life.proofs.SoundLemmas.{there}
 use Rattle.calls.proofs.RemainLemmas.{end_hung, some_hung}
@@ -12,13 +18,21 @@ pub end-requires-clause-there : goal.end-requires-clause-there
 end-requires-clause-there g c =
     let s = c.args.machine.now.state in
     let me = there (process s c.args.pid) c.requires.there in
-    some_hung s c.hang_up.new.self.state me.what c.args.pid me.found (c.hang_up.ensures.state me.what me.found)
+    some_hung s c.heir-heir.new.self.state me.what c.args.pid me.found (c.heir-heir.ensures.same.state ∙ c.hang_up.ensures.state me.what me.found)
+
+pub end-requires-clause-heir : goal.end-requires-clause-heir
+end-requires-clause-heir g c = λ other. subst (CanInherit c.heir-heir.new.self.state.processes c.args.pid) (sym (c.heir-heir.ensures.heir ∙ ap (λ (t : State). heir_in t.processes c.args.pid) (sym c.heir-heir.ensures.same.state)))
+    (heir_inherits c.heir-heir.new.self.state.processes c.args.pid)
 
 pub returns-then-eq-clause-state : goal.returns-then-eq-clause-state
-returns-then-eq-clause-state g c = λ me e. end_hung c.args.machine.now.state c.hang_up.new.self.state _ me c.args.pid c.args.status e (c.hang_up.ensures.state me e) c.end.ensures.state
+returns-then-eq-clause-state g c = λ me e.
+    end_hung c.args.machine.now.state c.heir-heir.new.self.state _ me c.args.pid c.heir-heir.result c.args.status e (c.heir-heir.ensures.same.state ∙ c.hang_up.ensures.state me e)
+    (c.heir-heir.ensures.heir ∙ ap (λ (t : State). heir_in t.processes c.args.pid) (sym c.heir-heir.ensures.same.state)) c.end.ensures.state
 
 pub returns-else-eq-clause-state : goal.returns-else-eq-clause-state
-returns-else-eq-clause-state g c = λ me e. end_hung c.args.machine.now.state c.hang_up.new.self.state _ me c.args.pid c.args.status e (c.hang_up.ensures.state me e) c.end.ensures.state
+returns-else-eq-clause-state g c = λ me e.
+    end_hung c.args.machine.now.state c.heir-heir.new.self.state _ me c.args.pid c.heir-heir.result c.args.status e (c.heir-heir.ensures.same.state ∙ c.hang_up.ensures.state me e)
+    (c.heir-heir.ensures.heir ∙ ap (λ (t : State). heir_in t.processes c.args.pid) (sym c.heir-heir.ensures.same.state)) c.end.ensures.state
 
 pub returns-then-eq-clause-entries : goal.returns-then-eq-clause-entries
 returns-then-eq-clause-entries g c = λ me e.
@@ -39,3 +53,27 @@ returns-else-eq-clause-entries g c = λ me e.
     c.push.ensures.items
     ∙ ap (λ n. old ++ Ended n c.args.status ∷ []) (sym named)
     ∙ ap (λ (l : List Entry). old ++ l) (sym (end_entries s me c.args.status false (ap (λ n. n == 1) named ∙ sym c.eq.ensures ∙ c.if-eq.false)))
+
+-- what the three calls read, where the terminal was hung up first and then the heir was found
+read : (hung found : State) (me : Process) (p heir status before mid walked after hangup : ℕ) → me.pid ≡ p → found ≡ hung → heir ≡ heir_in hung.processes p → mid ≤ before + (1 + hangup) → walked ≤ mid + slots_of_heir hung.processes p → after ≤ walked + slots_of_ending found p heir status
+    → after ≤ before + (1 + hangup + slots_of_heir hung.processes me.pid + slots_of_ending hung me.pid (heir_in hung.processes me.pid) status)
+read hung found me p heir status before mid walked after hangup named same is a b c =
+    let walk = ap (slots_of_heir hung.processes) named in
+    let ending = ap (λ (t : State). slots_of_ending t p heir status) same ∙ ap (λ n. slots_of_ending hung p n status) is ∙ ap (λ n. slots_of_ending hung n (heir_in hung.processes n) status) (sym named) in
+    omega (arith, a, b, c, walk, ending)
+
+pub returns-then-eq-clause-visits : goal.returns-then-eq-clause-visits
+returns-then-eq-clause-visits g c = λ me e.
+    let s = c.args.machine.now.state in
+    let p = c.args.pid in
+    let hung = c.hang_up.ensures.state me e in
+    let walk = subst (λ (t : State). c.heir-heir.new.self.visits ≤ c.hang_up.new.self.visits + slots_of_heir t.processes p) hung c.heir-heir.ensures.visits in
+    read (hang_up s me) c.heir-heir.new.self.state me p c.heir-heir.result c.args.status c.args.machine.now.visits c.hang_up.new.self.visits c.heir-heir.new.self.visits c.end.new.self.visits _ (pid_looked p s.processes me e) (c.heir-heir.ensures.same.state ∙ hung) (c.heir-heir.ensures.heir ∙ ap (λ (t : State). heir_in t.processes p) hung) (c.hang_up.ensures.costs me e).visits walk (omega (arith, c.end.ensures.visits))
+
+pub returns-else-eq-clause-visits : goal.returns-else-eq-clause-visits
+returns-else-eq-clause-visits g c = λ me e.
+    let s = c.args.machine.now.state in
+    let p = c.args.pid in
+    let hung = c.hang_up.ensures.state me e in
+    let walk = subst (λ (t : State). c.heir-heir.new.self.visits ≤ c.hang_up.new.self.visits + slots_of_heir t.processes p) hung c.heir-heir.ensures.visits in
+    read (hang_up s me) c.heir-heir.new.self.state me p c.heir-heir.result c.args.status c.args.machine.now.visits c.hang_up.new.self.visits c.heir-heir.new.self.visits c.end.new.self.visits _ (pid_looked p s.processes me e) (c.heir-heir.ensures.same.state ∙ hung) (c.heir-heir.ensures.heir ∙ ap (λ (t : State). heir_in t.processes p) hung) (c.hang_up.ensures.costs me e).visits walk (omega (arith, c.end.ensures.visits))

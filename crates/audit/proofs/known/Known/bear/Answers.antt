@@ -1,33 +1,34 @@
-use Rattle.std.proofs.Common.{true, false, ap, ◌∙◌}
-use Rattle.audit.specs.declared.known.Record.{Record}
-use Rattle.audit.specs.Records.{kept_by, record_in}
-use Rattle.audit.proofs.RecordLemmas.{looked_up}
-use Rattle.audit.proofs.BirthLemmas.{lives_same, next_lives, next_kept, is_born, entries_born, unborn_there, on_err_too}
+use Rattle.std.proofs.Common.{ap, sym, ◌∙◌, subst, true, ◌≡◌, if◌then◌else◌, ◌==◌}
+use Rattle.laws.specs.Keeping.{lives_now, newborn}
+use Rattle.audit.specs.Records.{kept_by}
+use Rattle.audit.proofs.KeptLemmas.{begun_apart, begun_there, begun_others, there_by_life, born_kept, sound_birth, unborn_there, on_err_too}
 use Rattle.audit.proofs.known.Known.bear.Goals as goal
 
-pub next_life-life-requires-clause-ended : goal.next_life-life-requires-clause-ended
-next_life-life-requires-clause-ended c = lives_same c.args.pid false c.args.self.now c.self.inside.records.entries c.self.view_is c.requires.ended
+pub returns-in_err-begin-clause-new_number : goal.returns-in_err-begin-clause-new_number
+returns-in_err-begin-clause-new_number c = on_err_too c.from_residual.result (unborn_there c.args.pid c.args.self.now c.self.inside.records.entries c.self.view_is c.in_err-begin.ensures.new_number)
 
-pub life_of-parent_life-requires : goal.life_of-parent_life-requires
-life_of-parent_life-requires c =
-    next_lives c.args.pid c.next_life-life.result c.args.parent c.self.inside.records.entries c.next_life-life.new.records.entries true c.next_life-life.ensures
-    (lives_same c.args.parent true c.args.self.now c.self.inside.records.entries c.self.view_is c.requires.parent)
+pub begin-requires-clause-linked : goal.begin-requires-clause-linked
+begin-requires-clause-linked c = c.self.invariant.0
 
-pub returns-in_err-insert-clause-err : goal.returns-in_err-insert-clause-err
-returns-in_err-insert-clause-err c =
-    let same = next_kept c.args.pid c.next_life-life.result c.args.self.now c.self.inside.records.entries c.next_life-life.new.records.entries c.self.view_is c.next_life-life.ensures in
-    on_err_too c.from_residual.result (λ n. ap (λ es. kept_by es n) c.in_err-insert.ensures.err ∙ same n)
+pub put_in-requires-clause-linked : goal.put_in-requires-clause-linked
+put_in-requires-clause-linked c = c.in_ok-begin.ensures.ok.linked
 
-pub returns-in_err-insert-clause-new_number : goal.returns-in_err-insert-clause-new_number
-returns-in_err-insert-clause-new_number c =
-    on_err_too c.from_residual.result
-    (unborn_there c.args.pid c.number.result c.next_life-life.result c.args.self.now c.self.inside.records.entries c.next_life-life.new.records.entries c.self.view_is c.number.ensures.value c.next_life-life.ensures
-    c.in_err-insert.ensures.absent)
+pub put_in-requires-clause-apart : goal.put_in-requires-clause-apart
+put_in-requires-clause-apart c = begun_apart c.args.pid c.newborn.result c.self.inside.records.entries c.begin.new.records.entries c.in_ok-begin.ensures.ok
+
+pub put_in-requires-clause-there : goal.put_in-requires-clause-there
+put_in-requires-clause-there c = begun_there c.args.pid c.newborn.result c.self.inside.records.entries c.begin.new.records.entries c.in_ok-begin.ensures.ok
+
+pub put_in-requires-clause-parent : goal.put_in-requires-clause-parent
+put_in-requires-clause-parent c = λ two.
+    begun_others c.args.pid c.args.parent c.newborn.result c.self.inside.records.entries c.begin.new.records.entries c.in_ok-begin.ensures.ok
+    (there_by_life c.self.inside.records.entries c.args.parent (subst (λ es. lives_now (kept_by es c.args.parent) ≡ true) (sym c.self.view_is) c.requires.parent))
+
+pub invariant_of-self-2 : goal.invariant_of-self-2
+invariant_of-self-2 c =
+    sound_birth c.args.pid c.args.parent c.newborn.result c.self.inside.may_be_marked c.self.inside.records.entries c.begin.new.records.entries c.put_in.new.records.entries c.newborn.ensures c.in_ok-begin.ensures.ok c.put_in.ensures c.self.invariant
 
 pub returns-clause-ok : goal.returns-clause-ok
-returns-clause-ok c =
-    let x : Record = record { parent = c.args.parent; parent_life = c.life_of-parent_life.result; life = c.next_life-life.result; state = c.newborn.result } in
-    let ended = lives_same c.args.pid false c.args.self.now c.self.inside.records.entries c.self.view_is c.requires.ended in
-    let born = is_born c.args.pid c.number.result x c.self.inside.records.entries c.next_life-life.new.records.entries c.insert.new.self.entries c.number.ensures.value c.next_life-life.ensures ended c.life_of-parent_life.ensures
-    (looked_up c.number.result x (record_in c.next_life-life.new.records.entries) (record_in c.insert.new.self.entries) (c.in_ok-insert.ensures.updates).0) in
-    entries_born c.args.pid x c.args.self.now c.self.inside.records.entries c.next_life-life.new.records.entries c.insert.new.self.entries c.self.view_is c.next_life-life.ensures born c.newborn.ensures
+returns-clause-ok c = λ n.
+    born_kept c.args.pid c.args.parent c.newborn.result c.self.inside.records.entries c.begin.new.records.entries c.put_in.new.records.entries c.newborn.ensures c.in_ok-begin.ensures.ok c.put_in.ensures n
+    ∙ ap (λ es. if c.args.pid == n then newborn c.args.parent else kept_by es n) c.self.view_is

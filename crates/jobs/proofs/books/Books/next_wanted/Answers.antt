@@ -1,7 +1,10 @@
-use Rattle.std.proofs.Common.{ap, ◌∙◌}
+use Rattle.std.proofs.Common.{ap, sym, ◌∙◌}
 use Rattle.jobs.specs.Books.{least}
-use Rattle.jobs.proofs.BookLemmas.{next_wanted}
+use Rattle.jobs.proofs.BookLemmas.{next_wanted, none_wanted}
 use Rattle.jobs.proofs.books.Books.next_wanted.Goals as goal
+
+pub returns-then-not-has_report : goal.returns-then-not-has_report
+returns-then-not-has_report c = λ rs up h. none_wanted c.args.parent c.args.after c.args.options.0 rs c.args.self.now up h (sym c.has_report.ensures ∙ c.if-not-has_report.true)
 
 pub returns : goal.returns
 returns c = λ rs up h.

@@ -31,8 +31,8 @@ reanchor-requires-clause-none g c = let r = c.change_in-seen.ensures.run in rw r
 pub reanchor-requires-clause-within : goal.reanchor-requires-clause-within
 reanchor-requires-clause-within g c = rw c.reindex_change.ensures.anchors (ready_run c.change_in-seen.ensures.run.0 (processes_of c.self.view_is) c.requires.grouped c.self.invariant).2
 
-pub returns-then-eq-clause-after : goal.returns-then-eq-clause-after
-returns-then-eq-clause-after g c = let r = c.change_in-seen.ensures.run in rw (r.0.is, record_found _ c.args.pid r.0.before r.0.after r.0.found, r.2) refl
+pub returns-then-is_unseen-clause-after : goal.returns-then-is_unseen-clause-after
+returns-then-is_unseen-clause-after g c = let r = c.change_in-seen.ensures.run in rw (r.0.is, record_found _ c.args.pid r.0.before r.0.after r.0.found, r.2) refl
 
 pub returns-clause-after : goal.returns-clause-after
 returns-clause-after g c = let r = c.change_in-seen.ensures.run in rw (c.reanchor.ensures.contents, r.0.is, record_found _ c.args.pid r.0.before r.0.after r.0.found, r.2) refl
@@ -40,8 +40,7 @@ returns-clause-after g c = let r = c.change_in-seen.ensures.run in rw (c.reancho
 pub invariant_of-self : goal.invariant_of-self
 invariant_of-self g c =
     let r = c.change_in-seen.ensures.run in
-    let same : c.change_in-seen.result.before ≡ c.change_in-seen.result.after = search rules in
-    kept_unseen _ _ _ c.args.pid r.0.before r.0.after c.self.inside.books r.0.found r.0.is (sym r.2 ∙ sym same ∙ r.1) c.self.invariant
+    kept_unseen _ _ _ c.args.pid r.0.before r.0.after c.self.inside.books r.0.found r.0.is (sym r.2 ∙ sym (c.is_unseen.ensures c.if-is_unseen.true) ∙ r.1) c.self.invariant
 
 pub invariant_of-self-2 : goal.invariant_of-self-2
 invariant_of-self-2 g c =

@@ -75,7 +75,7 @@ invariant_of-self g c =
     let listed = listed_left s p heir c.args.status parent me.what m.to_recheck c.insert.new.self c.recheck_where.new.to_recheck c.recheck_where-2.new.to_recheck awaited told i.sound.regular i.listed found up
     (rw up (i.sound.parents p me.what c.requires.other found)) (heir_there s p heir i.sound.regular h) c.insert.ensures.pids c.insert.ensures.room c.recheck_where.ensures c.recheck_where-2.ensures
     (deaf_parent s p parent c.args.status me.what _ c.change_seen-parent.result.after awaited found up made c.change_seen-parent.ensures.after c.is_awaited-awaited.ensures.value)
-    (λ e. quiet_zombie s p c.args.status c.is_awaited-awaited.new.table.processes c.next_wanted.result i.sound.regular (c.is_awaited-awaited.ensures.same ∙ made) (rw c.from_bits_retain-any_sort.ensures at c.next_wanted.ensures) (sym c.is_some-told.ensures ∙ e)) in
+    (λ e. quiet_zombie s p c.args.status c.is_awaited-awaited.new.table.processes c.next_wanted.result i.sound.regular (c.is_awaited-awaited.ensures.same ∙ made) c.next_wanted.ensures (sym c.is_some-told.ensures ∙ e)) in
     rw (c.adopt.ensures.processes, c.is_awaited-awaited.ensures.same, made, c.drop_place.ensures.pids) record { sound = search rules; listed = listed; noted = i.noted; fresh = fresh_all _ }
 
 pub returns : goal.returns

@@ -1,0 +1,282 @@
+-- The fields of records, as one of the records changes.
+use Rattle.std.proofs.Common.{◌≡◌, ◌≢◌, ◌⊎◌, inl, inr, ℕ, Bool, true, false, cond, if◌then◌else◌, refl, ap, sym, ◌∙◌, arith, List, ◌==◌, Option, Some, None, option_map, is_some}
+use Rattle.std.specs.Option.{option_map_or}
+use Rattle.std.proofs.lemmas.Bool.{cases_eq, eq-eqb, ne_eqb}
+use Rattle.std.proofs.lemmas.Bool.Decides.{nat_tests}
+use Rattle.audit.specs.declared.records.Record.{Record}
+use Rattle.audit.specs.declared.records.State.{State}
+use Rattle.audit.specs.Records.{record_in, changed, IsChanged}
+use Rattle.audit.specs.Children.{parent_in, first_of, behind_of, behind_in, before_in, state_in, with_first, with_before, with_behind, with_place, in_state, restarted, put_behind, IsJoined, KeepLinks}
+
+-- a field that doesn't change
+field_same : (read : Record → ℕ) (p : ℕ) (h : Record → Record) → ((r : Record) → read (h r) ≡ read r) → (f g : ℕ → Option Record) → ((q : ℕ) → g q ≡ changed p h f q) → (i : ℕ) → option_map_or read (g i) 0 ≡ option_map_or read (f i) 0
+field_same read p h same f g is i = ap (λ o. option_map_or read o 0) (is i) ∙ by (p == i) (f i)
+  where
+    by : (b : Bool) (o : Option Record) → option_map_or read (if b then option_map h o else o) 0 ≡ option_map_or read o 0
+    by false o = refl
+    by true None = refl
+    by true (Some r) = same r
+
+-- and one that does
+field_set : (read : Record → ℕ) (p w : ℕ) (h : Record → Record) → ((r : Record) → read (h r) ≡ w) → (f g : ℕ → Option Record) → ((q : ℕ) → g q ≡ changed p h f q) → is_some (f p) ≡ true → (i : ℕ) → option_map_or read (g i) 0 ≡ cond (i == p) w (option_map_or read (f i) 0)
+field_set read p w h set f g is there i = ap (λ o. option_map_or read o 0) (is i) ∙ by (cases_eq p i)
+  where
+    here : (o : Option Record) → is_some o ≡ true → option_map_or read (option_map h o) 0 ≡ w
+    here None t = absurd (cc)
+    here (Some r) t = set r
+
+    by : (p ≡ i) ⊎ (p ≢ i) → option_map_or read (changed p h f i) 0 ≡ cond (i == p) w (option_map_or read (f i) 0)
+    by (inl same) = rw (eq-eqb p i same, eq-eqb i p (sym same)) (here (f i) (ap (λ q. is_some (f q)) (sym same) ∙ there))
+    by (inr apart) = rw (ne_eqb p i apart, ne_eqb i p (λ e. apart (sym e))) refl
+
+-- one that is 0 from now on, also where there is no record
+field_zero : (read : Record → ℕ) (p : ℕ) (h : Record → Record) → ((r : Record) → read (h r) ≡ 0) → (f g : ℕ → Option Record) → ((q : ℕ) → g q ≡ changed p h f q) → (i : ℕ) → option_map_or read (g i) 0 ≡ cond (i == p) 0 (option_map_or read (f i) 0)
+field_zero read p h zero f g is i = ap (λ o. option_map_or read o 0) (is i) ∙ by (cases_eq p i)
+  where
+    here : (o : Option Record) → option_map_or read (option_map h o) 0 ≡ 0
+    here None = refl
+    here (Some r) = zero r
+
+    by : (p ≡ i) ⊎ (p ≢ i) → option_map_or read (changed p h f i) 0 ≡ cond (i == p) 0 (option_map_or read (f i) 0)
+    by (inl same) = rw (eq-eqb p i same, eq-eqb i p (sym same)) (here (f i))
+    by (inr apart) = rw (ne_eqb p i apart, ne_eqb i p (λ e. apart (sym e))) refl
+
+-- that of another record doesn't
+field_kept : (read : Record → ℕ) (p : ℕ) (h : Record → Record) → (f g : ℕ → Option Record) → ((q : ℕ) → g q ≡ changed p h f q) → (i : ℕ) → p ≢ i → option_map_or read (g i) 0 ≡ option_map_or read (f i) 0
+field_kept read p h f g is i apart = ap (λ o. option_map_or read o 0) (is i) ∙ rw (ne_eqb p i apart) refl
+
+pub state_same : (p : ℕ) (h : Record → Record) → ((r : Record) → (h r).state ≡ r.state) → (f g : ℕ → Option Record) → ((q : ℕ) → g q ≡ changed p h f q) → (i : ℕ) → state_in g i ≡ state_in f i
+unfolding state_in
+state_same p h same f g is i = ap (option_map (λ (r : Record). r.state)) (is i) ∙ by (p == i) (f i)
+  where
+    by : (b : Bool) (o : Option Record) → option_map (λ (r : Record). r.state) (if b then option_map h o else o) ≡ option_map (λ (r : Record). r.state) o
+    by false o = refl
+    by true None = refl
+    by true (Some r) = ap Some (same r)
+
+pub there_same : (p : ℕ) (h : Record → Record) → (f g : ℕ → Option Record) → ((q : ℕ) → g q ≡ changed p h f q) → (i : ℕ) → is_some (g i) ≡ is_some (f i)
+there_same p h f g is i = ap is_some (is i) ∙ by (p == i) (f i)
+  where
+    by : (b : Bool) (o : Option Record) → is_some (if b then option_map h o else o) ≡ is_some o
+    by false o = refl
+    by true None = refl
+    by true (Some r) = refl
+
+-- ---- a parent is set
+
+-- p has the parent k from now on, and all stand where they stood
+pub record IsParentSet (p k : ℕ) (f g : ℕ → Option Record) : Type 0 where
+  pub parent : (i : ℕ) → parent_in g i ≡ cond (i == p) k (parent_in f i)
+  pub behind : (n i : ℕ) → behind_in g n i ≡ behind_in f n i
+  pub before : (i : ℕ) → before_in g i ≡ before_in f i
+
+pub parent_set : (p k : ℕ) (h : Record → Record) → ((r : Record) → ((h r).parent ≡ k) × ((h r).before ≡ r.before) × ((h r).behind ≡ r.behind) × ((h r).first ≡ r.first)) → (old new : List (ℕ × Record)) → IsChanged p h old new → is_some (record_in old p) ≡ true
+    → IsParentSet p k (record_in old) (record_in new)
+unfolding parent_in behind_in before_in
+parent_set p k h is old new x there = record {
+  parent = field_set (λ r. r.parent) p k h (λ r. (is r).0) (record_in old) (record_in new) x.is there;
+  behind = λ n i. rw (field_same (λ r. r.first) p h (λ r. (is r).3) (record_in old) (record_in new) x.is n, field_same (λ r. r.behind) p h (λ r. (is r).2) (record_in old) (record_in new) x.is i) refl;
+  before = field_same (λ r. r.before) p h (λ r. (is r).1) (record_in old) (record_in new) x.is;
+}
+
+-- ---- a first child is set
+
+-- b is the first child of k from now on, and nothing else changed
+pub record IsFirstSet (k b : ℕ) (f g : ℕ → Option Record) : Type 0 where
+  pub parent : (i : ℕ) → parent_in g i ≡ parent_in f i
+  pub first : (n : ℕ) → behind_in g n 0 ≡ cond (n == k) b (behind_in f n 0)
+  pub behind : (n i : ℕ) → i ≢ 0 → behind_in g n i ≡ behind_in f n i
+  pub before : (i : ℕ) → before_in g i ≡ before_in f i
+  pub state : (i : ℕ) → state_in g i ≡ state_in f i
+
+pub first_set : (k b : ℕ) (old new : List (ℕ × Record)) → IsChanged k (with_first b) old new → (b ≢ 0 → is_some (record_in old k) ≡ true) → IsFirstSet k b (record_in old) (record_in new)
+unfolding parent_in behind_in before_in
+first_set k b old new h there = record {
+  parent = field_same (λ r. r.parent) k (with_first b) (λ r. refl) (record_in old) (record_in new) h.is;
+  first = λ n. elim (cases_eq b 0) [
+    | inl none ↦ field_zero (λ r. r.first) k (with_first b) (λ r. none) (record_in old) (record_in new) h.is n ∙ ap (λ v. cond (n == k) v (first_of (record_in old) n)) (sym none)
+    | inr some ↦ field_set (λ r. r.first) k b (with_first b) (λ r. refl) (record_in old) (record_in new) h.is (there some) n
+  ];
+  behind = λ n i some. rw (ne_eqb i 0 some) (field_same (λ r. r.behind) k (with_first b) (λ r. refl) (record_in old) (record_in new) h.is i);
+  before = field_same (λ r. r.before) k (with_first b) (λ r. refl) (record_in old) (record_in new) h.is;
+  state = state_same k (with_first b) (λ r. refl) (record_in old) (record_in new) h.is;
+}
+
+-- ---- two are joined
+
+-- b comes right behind a among the children of k from now on, and nothing else changed
+pub record AreJoined (k a b : ℕ) (f g : ℕ → Option Record) : Type 0 where
+  pub parent : (i : ℕ) → parent_in g i ≡ parent_in f i
+  pub behind : (n i : ℕ) → n ≡ k → behind_in g n i ≡ cond (i == a) b (behind_in f n i)
+  pub else_behind : (n i : ℕ) → n ≢ k → (i ≡ a → a ≡ 0) → behind_in g n i ≡ behind_in f n i
+  pub before : (i : ℕ) → i ≢ 0 → before_in g i ≡ cond (i == b) a (before_in f i)
+  pub state : (i : ℕ) → state_in g i ≡ state_in f i
+
+-- the first half: b is the first, or behind a
+record IsHalf (k a b : ℕ) (f g : ℕ → Option Record) : Type 0 where
+  parent : (i : ℕ) → parent_in g i ≡ parent_in f i
+  first : a ≡ 0 → (i : ℕ) → first_of g i ≡ cond (i == k) b (first_of f i)
+  else_first : a ≢ 0 → (i : ℕ) → first_of g i ≡ first_of f i
+  behind : a ≢ 0 → (i : ℕ) → behind_of g i ≡ cond (i == a) b (behind_of f i)
+  else_behind : a ≡ 0 → (i : ℕ) → behind_of g i ≡ behind_of f i
+  before : (i : ℕ) → before_in g i ≡ before_in f i
+  state : (i : ℕ) → state_in g i ≡ state_in f i
+  there : (i : ℕ) → is_some (g i) ≡ is_some (f i)
+
+half_first : (k a b : ℕ) (f g : ℕ → Option Record) → a ≡ 0 → ((q : ℕ) → g q ≡ changed k (with_first b) f q) → is_some (f k) ≡ true → IsHalf k a b f g
+unfolding parent_in before_in
+half_first k a b f g none is there = record {
+  parent = field_same (λ r. r.parent) k (with_first b) (λ r. refl) f g is;
+  first = λ e. field_set (λ r. r.first) k b (with_first b) (λ r. refl) f g is there;
+  else_first = λ some. absurd (some none);
+  behind = λ some. absurd (some none);
+  else_behind = λ e. field_same (λ r. r.behind) k (with_first b) (λ r. refl) f g is;
+  before = field_same (λ r. r.before) k (with_first b) (λ r. refl) f g is;
+  state = state_same k (with_first b) (λ r. refl) f g is;
+  there = there_same k (with_first b) f g is;
+}
+
+half_behind : (k a b : ℕ) (f g : ℕ → Option Record) → a ≢ 0 → ((q : ℕ) → g q ≡ changed a (with_behind b) f q) → is_some (f a) ≡ true → IsHalf k a b f g
+unfolding parent_in before_in
+half_behind k a b f g some is there = record {
+  parent = field_same (λ r. r.parent) a (with_behind b) (λ r. refl) f g is;
+  first = λ e. absurd (some e);
+  else_first = λ e. field_same (λ r. r.first) a (with_behind b) (λ r. refl) f g is;
+  behind = λ e. field_set (λ r. r.behind) a b (with_behind b) (λ r. refl) f g is there;
+  else_behind = λ e. absurd (some e);
+  before = field_same (λ r. r.before) a (with_behind b) (λ r. refl) f g is;
+  state = state_same a (with_behind b) (λ r. refl) f g is;
+  there = there_same a (with_behind b) f g is;
+}
+
+half_joined : (k a b : ℕ) (f : ℕ → Option Record) → (a ≡ 0 → is_some (f k) ≡ true) → (a ≢ 0 → is_some (f a) ≡ true) → IsHalf k a b f (put_behind k a b f)
+half_joined k a b f first behind = elim (cases_eq a 0) [
+  | inl none ↦ half_first k a b f (put_behind k a b f) none (λ q. rw (eq-eqb a 0 none) refl) (first none)
+  | inr some ↦ half_behind k a b f (put_behind k a b f) some (λ q. rw (ne_eqb a 0 some) refl) (behind some)
+]
+
+-- who stands behind i, by who did
+behind_same : (k a b n i x y v w : ℕ) → n ≡ k → (a ≡ 0 → v ≡ cond (n == k) b x) → (a ≢ 0 → v ≡ x) → (a ≢ 0 → w ≡ cond (i == a) b y) → (a ≡ 0 → w ≡ y) → cond (i == 0) v w ≡ cond (i == a) b (cond (i == 0) x y)
+behind_same k a b n i x y v w same first else_first behind else_behind = grind (arith, nat_tests)
+
+behind_other : (k a b n i x y v w : ℕ) → n ≢ k → (i ≡ a → a ≡ 0) → (a ≡ 0 → v ≡ cond (n == k) b x) → (a ≢ 0 → v ≡ x) → (a ≢ 0 → w ≡ cond (i == a) b y) → (a ≡ 0 → w ≡ y) → cond (i == 0) v w ≡ cond (i == 0) x y
+behind_other k a b n i x y v w other apart first else_first behind else_behind = grind (arith, nat_tests)
+
+pub joins : (k a b : ℕ) (old new : List (ℕ × Record)) → IsJoined k a b old new → (a ≡ 0 → is_some (record_in old k) ≡ true) → (a ≢ 0 → is_some (record_in old a) ≡ true) → (b ≢ 0 → is_some (record_in old b) ≡ true) → AreJoined k a b (record_in old) (record_in new)
+unfolding parent_in behind_in before_in
+joins k a b old new h first behind next =
+    let f : ℕ → Option Record = record_in old in
+    let g : ℕ → Option Record = record_in new in
+    let m : ℕ → Option Record = put_behind k a b f in
+    let j : IsHalf k a b f m = half_joined k a b f first behind in
+    let firsts : (i : ℕ) → first_of g i ≡ first_of m i = field_same (λ r. r.first) b (with_before a) (λ r. refl) m g h.is in
+    let behinds : (i : ℕ) → behind_of g i ≡ behind_of m i = field_same (λ r. r.behind) b (with_before a) (λ r. refl) m g h.is in
+    record {
+      parent = λ i. field_same (λ r. r.parent) b (with_before a) (λ r. refl) m g h.is i ∙ j.parent i;
+      behind = λ n i same. behind_same k a b n i (first_of f n) (behind_of f i) (first_of g n) (behind_of g i) same
+          (λ e. firsts n ∙ j.first e n) (λ e. firsts n ∙ j.else_first e n) (λ e. behinds i ∙ j.behind e i) (λ e. behinds i ∙ j.else_behind e i);
+      else_behind = λ n i other apart. behind_other k a b n i (first_of f n) (behind_of f i) (first_of g n) (behind_of g i) other apart
+          (λ e. firsts n ∙ j.first e n) (λ e. firsts n ∙ j.else_first e n) (λ e. behinds i ∙ j.behind e i) (λ e. behinds i ∙ j.else_behind e i);
+      before = λ i some. elim (cases_eq b 0) [
+        | inl none ↦ rw (ne_eqb i b (λ e. some (e ∙ none))) (field_kept (λ r. r.before) b (with_before a) m g h.is i (λ e. some (sym e ∙ none)) ∙ j.before i)
+        | inr there ↦ field_set (λ r. r.before) b a (with_before a) (λ r. refl) m g h.is (j.there b ∙ next there) i ∙ ap (cond (i == b) a) (j.before i)
+      ];
+      state = λ i. state_same b (with_before a) (λ r. refl) m g h.is i ∙ j.state i;
+    }
+
+-- ---- one comes first
+
+-- p comes before the first child b of k from now on, and nothing else changed
+pub record IsFirstPut (k p b : ℕ) (f g : ℕ → Option Record) : Type 0 where
+  pub parent : (i : ℕ) → parent_in g i ≡ cond (i == p) k (parent_in f i)
+  pub behind : (n i : ℕ) → n ≡ k → behind_in g n i ≡ cond (i == p) b (cond (i == 0) p (behind_in f n i))
+  pub else_behind : (n i : ℕ) → n ≢ k → i ≢ p → behind_in g n i ≡ behind_in f n i
+  pub before : (i : ℕ) → i ≢ 0 → before_in g i ≡ cond (i == b) p (cond (i == p) 0 (before_in f i))
+  pub state : (i : ℕ) → state_in g i ≡ state_in f i
+
+put_same : (k p b n i x y v w : ℕ) → p ≢ 0 → n ≡ k → v ≡ cond (n == k) p x → w ≡ cond (i == p) b y → cond (i == 0) v w ≡ cond (i == p) b (cond (i == 0) p (cond (i == 0) x y))
+put_same k p b n i x y v w some same first behind = grind (arith, nat_tests)
+
+put_other : (k p b n i x y v w : ℕ) → n ≢ k → i ≢ p → v ≡ cond (n == k) p x → w ≡ cond (i == p) b y → cond (i == 0) v w ≡ cond (i == 0) x y
+put_other k p b n i x y v w other apart first behind = grind (arith, nat_tests)
+
+pub first_put : (k p b : ℕ) (old mid next new : List (ℕ × Record)) → p ≢ 0 → is_some (record_in old p) ≡ true → is_some (record_in old k) ≡ true → (b ≢ 0 → is_some (record_in old b) ≡ true)
+    → IsChanged k (with_first p) old mid → IsChanged p (with_place k b) mid next → IsChanged b (with_before p) next new → IsFirstPut k p b (record_in old) (record_in new)
+unfolding parent_in behind_in before_in
+first_put k p b old mid next new some there parent behind x y z =
+    let f : ℕ → Option Record = record_in old in
+    let m : ℕ → Option Record = record_in mid in
+    let o : ℕ → Option Record = record_in next in
+    let g : ℕ → Option Record = record_in new in
+    let still : (i : ℕ) → is_some (m i) ≡ is_some (f i) = there_same k (with_first p) f m x.is in
+    let firsts : (i : ℕ) → first_of g i ≡ cond (i == k) p (first_of f i) = (λ i.
+    field_same (λ r. r.first) b (with_before p) (λ r. refl) o g z.is i ∙ field_same (λ r. r.first) p (with_place k b) (λ r. refl) m o y.is i
+    ∙ field_set (λ r. r.first) k p (with_first p) (λ r. refl) f m x.is parent i) in
+    let behinds : (i : ℕ) → behind_of g i ≡ cond (i == p) b (behind_of f i) = (λ i.
+    field_same (λ r. r.behind) b (with_before p) (λ r. refl) o g z.is i ∙ field_set (λ r. r.behind) p b (with_place k b) (λ r. refl) m o y.is (still p ∙ there) i
+    ∙ ap (cond (i == p) b) (field_same (λ r. r.behind) k (with_first p) (λ r. refl) f m x.is i)) in
+    let befores : (i : ℕ) → before_in o i ≡ cond (i == p) 0 (before_in f i) = (λ i.
+    field_set (λ r. r.before) p 0 (with_place k b) (λ r. refl) m o y.is (still p ∙ there) i ∙ ap (cond (i == p) 0) (field_same (λ r. r.before) k (with_first p) (λ r. refl) f m x.is i)) in
+    record {
+      parent = λ i. field_same (λ r. r.parent) b (with_before p) (λ r. refl) o g z.is i ∙ field_set (λ r. r.parent) p k (with_place k b) (λ r. refl) m o y.is (still p ∙ there) i
+          ∙ ap (cond (i == p) k) (field_same (λ r. r.parent) k (with_first p) (λ r. refl) f m x.is i);
+      behind = λ n i same. put_same k p b n i (first_of f n) (behind_of f i) (first_of g n) (behind_of g i) some same (firsts n) (behinds i);
+      else_behind = λ n i other apart. put_other k p b n i (first_of f n) (behind_of f i) (first_of g n) (behind_of g i) other apart (firsts n) (behinds i);
+      before = λ i far. elim (cases_eq b 0) [
+        | inl none ↦ rw (ne_eqb i b (λ e. far (e ∙ none))) (field_kept (λ r. r.before) b (with_before p) o g z.is i (λ e. far (sym e ∙ none)) ∙ befores i)
+        | inr has ↦ field_set (λ r. r.before) b p (with_before p) (λ r. refl) o g z.is (there_same p (with_place k b) m o y.is b ∙ still b ∙ behind has) i ∙ ap (cond (i == b) p) (befores i)
+      ];
+      state = λ i. state_same b (with_before p) (λ r. refl) o g z.is i ∙ state_same p (with_place k b) (λ r. refl) m o y.is i ∙ state_same k (with_first p) (λ r. refl) f m x.is i;
+    }
+
+-- ---- a state is set
+
+pub links_stay : (p : ℕ) (s : State) (old new : List (ℕ × Record)) → IsChanged p (in_state s) old new → KeepLinks (record_in old) (record_in new)
+unfolding parent_in behind_in before_in
+links_stay p s old new h = record {
+  parent = field_same (λ r. r.parent) p (in_state s) (λ r. refl) (record_in old) (record_in new) h.is;
+  behind = λ n i. rw (field_same (λ r. r.first) p (in_state s) (λ r. refl) (record_in old) (record_in new) h.is n, field_same (λ r. r.behind) p (in_state s) (λ r. refl) (record_in old) (record_in new) h.is i) refl;
+  before = field_same (λ r. r.before) p (in_state s) (λ r. refl) (record_in old) (record_in new) h.is;
+}
+
+-- where a life begins
+pub state_set : (p : ℕ) (s : State) (old new : List (ℕ × Record)) → IsChanged p (restarted s) old new → is_some (record_in old p) ≡ true → (i : ℕ) → state_in (record_in new) i ≡ cond (i == p) (Some s) (state_in (record_in old) i)
+unfolding state_in
+state_set p s old new h there i = ap (option_map (λ (r : Record). r.state)) (h.is i) ∙ by (cases_eq p i)
+  where
+    here : (o : Option Record) → is_some o ≡ true → option_map (λ (r : Record). r.state) (option_map (restarted s) o) ≡ Some s
+    here None t = absurd (cc)
+    here (Some r) t = refl
+
+    by : (p ≡ i) ⊎ (p ≢ i) → option_map (λ (r : Record). r.state) (changed p (restarted s) (record_in old) i) ≡ cond (i == p) (Some s) (option_map (λ (r : Record). r.state) (record_in old i))
+    by (inl same) = rw (eq-eqb p i same, eq-eqb i p (sym same)) (here (record_in old i) (ap (λ q. is_some (record_in old q)) (sym same) ∙ there))
+    by (inr apart) = rw (ne_eqb p i apart, ne_eqb i p (λ e. apart (sym e))) refl
+
+-- a record without a parent where there was none
+pub record IsNew (p : ℕ) (s : State) (old new : List (ℕ × Record)) : Type 0 where
+  pub links : KeepLinks (record_in old) (record_in new)
+  pub none : parent_in (record_in old) p ≡ 0
+  pub state : (i : ℕ) → state_in (record_in new) i ≡ cond (i == p) (Some s) (state_in (record_in old) i)
+
+pub is_new : (p n : ℕ) (s : State) (r : Record) (old new : List (ℕ × Record)) → n ≡ p → record_in old n ≡ None → r ≡ record { parent = 0; before = 0; behind = 0; first = 0; state = s } → ((q : ℕ) → record_in new q ≡ cond (n == q) (Some r) (record_in old q)) → IsNew p s old new
+unfolding parent_in behind_in before_in state_in
+is_new p n s r old new same none e is = record {
+  none = let gone : record_in old p ≡ None = ap (record_in old) (sym same) ∙ none in rw gone refl;
+  links = record {
+    parent = field (λ r. r.parent) (ap (λ (r : Record). r.parent) e);
+    behind = λ k i. rw (field (λ r. r.first) (ap (λ (r : Record). r.first) e) k, field (λ r. r.behind) (ap (λ (r : Record). r.behind) e) i) refl;
+    before = field (λ r. r.before) (ap (λ (r : Record). r.before) e);
+  };
+  state = λ i. ap (option_map (λ (r : Record). r.state)) (is i) ∙ by i (cases_eq n i);
+}
+  where
+    field : (read : Record → ℕ) → read r ≡ 0 → (i : ℕ) → option_map_or read (record_in new i) 0 ≡ option_map_or read (record_in old i) 0
+    field read zero i = ap (λ o. option_map_or read o 0) (is i) ∙ of (cases_eq n i)
+      where
+        of : (n ≡ i) ⊎ (n ≢ i) → option_map_or read (cond (n == i) (Some r) (record_in old i)) 0 ≡ option_map_or read (record_in old i) 0
+        of (inl here) = let gone : record_in old i ≡ None = ap (record_in old) (sym here) ∙ none in rw (eq-eqb n i here, gone) zero
+        of (inr apart) = rw (ne_eqb n i apart) refl
+
+    by : (i : ℕ) → (n ≡ i) ⊎ (n ≢ i) → option_map (λ (r : Record). r.state) (cond (n == i) (Some r) (record_in old i)) ≡ cond (i == p) (Some s) (option_map (λ (r : Record). r.state) (record_in old i))
+    by i (inl here) = rw (eq-eqb n i here, eq-eqb i p (sym here ∙ same)) (ap (λ (r : Record). Some r.state) e)
+    by i (inr apart) = rw (ne_eqb n i apart, ne_eqb i p (λ h. apart (same ∙ sym h))) refl

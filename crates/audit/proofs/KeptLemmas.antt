@@ -1,0 +1,196 @@
+-- What is kept of each number, as it is born, as its parent is another and as its children are given on.
+use Rattle.std.proofs.Common.{◌≡◌, ◌≢◌, ◌⊎◌, inl, inr, ℕ, Bool, true, false, cond, if◌then◌else◌, refl, ap, sym, ◌∙◌, List, [], ◌==◌, Option, Some, None, option_map, is_some, Result, Ok, Err, OnErr}
+use Rattle.std.proofs.lemmas.Bool.{cases_eq, eq-eqb, ne_eqb}
+use Rattle.std.specs.Option.{option_map_or}
+use Rattle.laws.specs.Keeping.{Kept, NeverBorn, Lives, Died, lives_now, kept_of, moved_from, given_on, newborn, after_stop, after_report, ended_with}
+use Rattle.laws.specs.Lives.{newest_life, parents_from}
+use Rattle.audit.specs.declared.records.Record.{Record}
+use Rattle.audit.specs.declared.records.State.{State}
+use Rattle.audit.specs.declared.records.State.TheVariants.{Living, Ended}
+use Rattle.audit.specs.Records.{kept_as, kept_record, kept_by, record_in, IsChanged, has_mark_now, NobodyMarked}
+use Rattle.audit.specs.Children.{parent_in, state_in, AreLinked, in_state, IsGiven, AreGivenOn, IsBegun}
+use Rattle.audit.proofs.RecordLemmas.{entries_stay}
+use Rattle.audit.proofs.FieldLemmas.{links_stay}
+use Rattle.audit.proofs.ChildLemmas.{same_links}
+
+-- ---- by its parts
+
+abbrev kept_parts : ℕ → Option State → Kept
+kept_parts parent None = NeverBorn
+kept_parts parent (Some s) = kept_as parent s
+
+kept_is : (f : ℕ → Option Record) (c : ℕ) → kept_record (f c) ≡ kept_parts (parent_in f c) (state_in f c)
+unfolding parent_in state_in
+kept_is f c = by (f c)
+  where
+    by : (o : Option Record) → kept_record o ≡ kept_parts (option_map_or (λ (r : Record). r.parent) o 0) (option_map (λ (r : Record). r.state) o)
+    by None = refl
+    by (Some r) = refl
+
+-- who is there has a state
+pub there_by_state : (f g : ℕ → Option Record) (i : ℕ) → state_in g i ≡ state_in f i → is_some (f i) ≡ true → is_some (g i) ≡ true
+unfolding state_in
+there_by_state f g i same there = by (g i) ∙ ap is_some same ∙ sym (by (f i)) ∙ there
+  where
+    by : (o : Option Record) → is_some o ≡ is_some (option_map (λ (r : Record). r.state) o)
+    by None = refl
+    by (Some r) = refl
+
+-- who lives is there
+pub there_by_life : (entries : List (ℕ × Record)) (p : ℕ) → lives_now (kept_by entries p) ≡ true → is_some (record_in entries p) ≡ true
+unfolding kept_by
+there_by_life entries p lives = by (record_in entries p) lives
+  where
+    by : (o : Option Record) → lives_now (kept_record o) ≡ true → is_some o ≡ true
+    by None h = absurd (cc)
+    by (Some r) h = refl
+
+-- ---- children that are given on
+
+pub given_kept : (p heir : ℕ) (old new : List (ℕ × Record)) → AreGivenOn p heir old new → (c : ℕ) → kept_by new c ≡ given_on p heir (kept_by old c)
+unfolding kept_by
+given_kept p heir old new h c =
+    kept_is (record_in new) c ∙ rw (h.parent c, h.state c) (by (parent_in (record_in old) c) (state_in (record_in old) c)) ∙ ap (given_on p heir) (sym (kept_is (record_in old) c))
+  where
+    by : (n : ℕ) (o : Option State) → kept_parts (moved_from p heir n) o ≡ given_on p heir (kept_parts n o)
+    by n None = refl
+    by n (Some (Living is_marked has_stopped stop may_continue)) = refl
+    by n (Some (Ended status reported)) = refl
+
+-- ---- a life that begins
+
+pub begun_apart : (p : ℕ) (s : State) (old new : List (ℕ × Record)) → IsBegun p s old new → parent_in (record_in new) p ≡ 0
+begun_apart p s old new h = h.parent p ∙ rw (eq-eqb p p refl) refl
+
+pub begun_there : (p : ℕ) (s : State) (old new : List (ℕ × Record)) → IsBegun p s old new → is_some (record_in new p) ≡ true
+unfolding state_in
+begun_there p s old new h = by (record_in new p) (h.state p ∙ rw (eq-eqb p p refl) refl)
+  where
+    by : (o : Option Record) → option_map (λ (r : Record). r.state) o ≡ Some s → is_some o ≡ true
+    by None e = absurd (cc)
+    by (Some r) e = refl
+
+pub begun_others : (p q : ℕ) (s : State) (old new : List (ℕ × Record)) → IsBegun p s old new → is_some (record_in old q) ≡ true → is_some (record_in new q) ≡ true
+unfolding state_in
+begun_others p q s old new h there = elim (cases_eq q p) [
+  | inl same ↦ rw same (begun_there p s old new h)
+  | inr apart ↦ there_by_state (record_in old) (record_in new) q (h.state q ∙ rw (ne_eqb q p apart) refl) there
+]
+
+pub born_kept : (p parent : ℕ) (s : State) (old mid new : List (ℕ × Record)) → ((n : ℕ) → kept_as n s ≡ newborn n) → IsBegun p s old mid → IsGiven p parent mid new
+    → (c : ℕ) → kept_by new c ≡ (if p == c then newborn parent else kept_by old c)
+unfolding kept_by
+born_kept p parent s old mid new fresh b h c =
+    kept_is (record_in new) c ∙ rw (h.parent c, b.parent c, h.state c, b.state c) (by (cases_eq c p))
+  where
+    by : (c ≡ p) ⊎ (c ≢ p) → kept_parts (cond (c == p) parent (cond (c == p) 0 (parent_in (record_in old) c))) (cond (c == p) (Some s) (state_in (record_in old) c)) ≡ (if p == c then newborn parent else kept_record (record_in old c))
+    by (inl same) = rw (eq-eqb c p same, eq-eqb p c (sym same)) (fresh parent)
+    by (inr apart) = rw (ne_eqb c p apart, ne_eqb p c (λ e. apart (sym e))) (sym (kept_is (record_in old) c))
+
+-- the first life of process 1
+pub first_kept : (s : State) (old new : List (ℕ × Record)) → old ≡ [] → ((n : ℕ) → kept_as n s ≡ newborn n) → IsBegun 1 s old new → (c : ℕ) → kept_by new c ≡ (if 1 == c then newborn 0 else NeverBorn)
+unfolding kept_by parent_in state_in
+first_kept s old new none fresh b c =
+    kept_is (record_in new) c ∙ rw (b.parent c, b.state c, none) (by (cases_eq c 1))
+  where
+    by : (c ≡ 1) ⊎ (c ≢ 1) → kept_parts (cond (c == 1) 0 0) (cond (c == 1) (Some s) None) ≡ (if 1 == c then newborn 0 else NeverBorn)
+    by (inl same) = rw (eq-eqb c 1 same, eq-eqb 1 c (sym same)) (fresh 0)
+    by (inr apart) = rw (ne_eqb c 1 apart, ne_eqb 1 c (λ e. apart (sym e))) refl
+
+-- which is what no lines say
+pub first_said : (c : ℕ) → (if 1 == c then newborn 0 else NeverBorn) ≡ kept_of [] c
+unfolding kept_of newest_life parents_from
+first_said c = elim (cases_eq 1 c) [
+  | inl same ↦ rw (eq-eqb 1 c same, eq-eqb c 1 (sym same)) refl
+  | inr apart ↦ rw (ne_eqb 1 c apart, ne_eqb c 1 (λ e. apart (sym e))) refl
+]
+
+pub first_unmarked : (c : ℕ) → has_mark_now (if 1 == c then newborn 0 else NeverBorn) ≡ false
+first_unmarked c = by (1 == c)
+  where
+    by : (b : Bool) → has_mark_now (if b then newborn 0 else NeverBorn) ≡ false
+    by true = refl
+    by false = refl
+
+-- ---- marks
+
+pub unmarked_after : (p : ℕ) (x : Kept → Kept) (old new : ℕ → Kept) → ((k : Kept) → has_mark_now k ≡ false → has_mark_now (x k) ≡ false) → ((c : ℕ) → new c ≡ (if p == c then x (old c) else old c)) → NobodyMarked old → NobodyMarked new
+unmarked_after p x old new keeps is none c = ap has_mark_now (is c) ∙ by (p == c)
+  where
+    by : (b : Bool) → has_mark_now (if b then x (old c) else old c) ≡ false
+    by true = keeps (old c) (none c)
+    by false = none c
+
+-- a state that is another
+pub stop_keeps : (s : ℕ) (k : Kept) → has_mark_now k ≡ false → has_mark_now (after_stop s k) ≡ false
+stop_keeps s NeverBorn h = refl
+stop_keeps s (Lives a) h = h
+stop_keeps s (Died d) h = refl
+
+pub report_keeps : (w : ℕ) (k : Kept) → has_mark_now k ≡ false → has_mark_now (after_report w k) ≡ false
+report_keeps w NeverBorn h = refl
+report_keeps w (Lives a) h = h
+report_keeps w (Died d) h = refl
+
+pub end_keeps : (w p heir : ℕ) (b : Bool) (k : Kept) → has_mark_now k ≡ false → has_mark_now (if b then ended_with w (given_on p heir k) else given_on p heir k) ≡ false
+end_keeps w p heir true NeverBorn h = refl
+end_keeps w p heir false NeverBorn h = refl
+end_keeps w p heir true (Lives a) h = refl
+end_keeps w p heir false (Lives a) h = h
+end_keeps w p heir true (Died d) h = refl
+end_keeps w p heir false (Died d) h = refl
+
+-- what holds of what is known
+abbrev pub AreSound : Bool → List (ℕ × Record) → Type 0
+AreSound may entries = AreLinked (record_in entries) × (may ≡ false → NobodyMarked (kept_by entries))
+
+pub sound_state : (g : Kept → Kept) (p : ℕ) (s : State) (may : Bool) (now old new : List (ℕ × Record)) (r : Record) → old ≡ now → record_in now p ≡ Some r → IsChanged p (in_state s) old new → ((n : ℕ) → kept_as n s ≡ g (kept_as n r.state))
+    → ((k : Kept) → has_mark_now k ≡ false → has_mark_now (g k) ≡ false) → AreSound may old → AreSound may new
+sound_state g p s may now old new r same found h told keeps sound =
+    let there : record_in old p ≡ Some r = ap (λ es. record_in es p) same ∙ found in
+    (same_links (record_in old) (record_in new) (links_stay p s old new h) sound.0, λ none. unmarked_after p g (kept_by old) (kept_by new) keeps (entries_stay g p s old old new r refl there h told) (sound.1 none))
+
+-- ---- an end
+
+-- who has the state that it had
+same_state : (f g : ℕ → Option Record) (p : ℕ) (r : Record) → f p ≡ Some r → state_in g p ≡ state_in f p → (x : Record) × (g p ≡ Some x) × (x.state ≡ r.state)
+unfolding state_in
+same_state f g p r found same = by (g p) refl (same ∙ rw found refl)
+  where
+    by : (o : Option Record) → g p ≡ o → option_map (λ (r : Record). r.state) o ≡ Some r.state → (x : Record) × (g p ≡ Some x) × (x.state ≡ r.state)
+    by None is e = absurd (cc)
+    by (Some x) is e = (x, is, (cc))
+
+pub end_kept : (p heir w : ℕ) (s : State) (now old mid new : List (ℕ × Record)) (r : Record) → old ≡ now → record_in now p ≡ Some r → AreGivenOn p heir old mid → IsChanged p (in_state s) mid new → ((n : ℕ) → kept_as n s ≡ ended_with w (kept_as n r.state))
+    → (c : ℕ) → kept_by new c ≡ (if p == c then ended_with w (given_on p heir (kept_by now c)) else given_on p heir (kept_by now c))
+end_kept p heir w s now old mid new r same found h k told c =
+    let there : record_in old p ≡ Some r = ap (λ es. record_in es p) same ∙ found in
+    let x = same_state (record_in old) (record_in mid) p r there (h.state p) in
+    let told_so : (n : ℕ) → kept_as n s ≡ ended_with w (kept_as n x.0.state) = (λ n. told n ∙ ap (λ t. ended_with w (kept_as n t)) (sym x.2)) in
+    entries_stay (ended_with w) p s mid mid new x.0 refl x.1 k told_so c
+    ∙ ap (λ q. if p == c then ended_with w q else q) (given_kept p heir old mid h c ∙ ap (λ es. given_on p heir (kept_by es c)) same)
+
+pub sound_end : (p heir w : ℕ) (s : State) (may : Bool) (now old mid new : List (ℕ × Record)) (r : Record) → old ≡ now → record_in now p ≡ Some r → AreGivenOn p heir old mid → IsChanged p (in_state s) mid new → ((n : ℕ) → kept_as n s ≡ ended_with w (kept_as n r.state))
+    → AreSound may old → AreSound may new
+sound_end p heir w s may now old mid new r same found h k told sound = (
+  same_links (record_in mid) (record_in new) (links_stay p s mid new k) h.linked,
+  λ none c. ap has_mark_now (end_kept p heir w s old old mid new r refl (ap (λ es. record_in es p) same ∙ found) h k told c) ∙ end_keeps w p heir (p == c) (kept_by old c) (sound.1 none c),
+)
+
+-- ---- a birth
+
+pub sound_birth : (p parent : ℕ) (s : State) (may : Bool) (old mid new : List (ℕ × Record)) → ((n : ℕ) → kept_as n s ≡ newborn n) → IsBegun p s old mid → IsGiven p parent mid new → AreSound may old → AreSound may new
+sound_birth p parent s may old mid new fresh b h sound = (h.linked, λ none c. ap has_mark_now (born_kept p parent s old mid new fresh b h c) ∙ by (p == c) (kept_by old c) (sound.1 none c))
+  where
+    by : (b : Bool) (k : Kept) → has_mark_now k ≡ false → has_mark_now (if b then newborn parent else k) ≡ false
+    by true k h = refl
+    by false k h = h
+
+-- where no record is of p, it was never born
+pub unborn_there : (p : ℕ) (now old : List (ℕ × Record)) → old ≡ now → record_in old p ≡ None → kept_by now p ≡ NeverBorn
+unfolding kept_by
+unborn_there p now old same none = ap kept_record (ap (λ es. record_in es p) (sym same) ∙ none)
+
+pub on_err_too : {T E Q : Type 0} (r : Result T E) → Q → OnErr r Q
+on_err_too (Ok x) q = tt
+on_err_too (Err e) q = q

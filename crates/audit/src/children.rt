@@ -1,0 +1,126 @@
+//! The children of each number, in lists of records that are linked both ways: so an end visits its own children alone.
+
+ghost use Rattle.std.specs.Prelude.{◌≡◌, ◌≢◌, ◌≤◌, ℕ, true, nat_lt, is_some, OnOk, OnErr, None};
+ghost use Rattle.audit.specs.Records.{record_in};
+ghost use Rattle.audit.specs.Children.{AreLinked, IsPutBehind, IsJoined, IsGiven, AreAllGiven, AreGivenOn, IsBegun, parent_in, behind_in};
+
+use crate::records::{
+    Record, State, restart, set_before, set_behind, set_first, set_parent, set_place,
+};
+use posix::Pid;
+use std::alloc::AllocError;
+use std::collections::BTreeMap;
+
+/// Whether the children of a number stand in a list: not those of nobody or of process 1, which gives none on.
+fn has_list(parent: Pid) -> bool
+    ensures { result ≡ nat_lt 1 parent }
+{
+    parent.number() > 1
+}
+
+/// One comes right behind another from now on, or is the first child of a number.
+fn put_behind(records: &mut BTreeMap<u32, Record>, parent: Pid, before: Pid, behind: Pid)
+    ensures { IsPutBehind parent before behind records.old.entries records.new.entries }
+{
+    if before == Pid::NONE {
+        set_first(records, parent, behind);
+    } else {
+        set_behind(records, before, behind);
+    }
+}
+
+/// One comes right behind another among the children of a number from now on. Number 0 stands before the first, and
+/// behind the last.
+fn join(records: &mut BTreeMap<u32, Record>, parent: Pid, before: Pid, behind: Pid)
+    ensures { IsJoined parent before behind records.old.entries records.new.entries }
+{
+    put_behind(records, parent, before, behind);
+    set_before(records, behind, before);
+}
+
+/// Puts a number that has no parent before the children of another one.
+pub(crate) fn put_in(records: &mut BTreeMap<u32, Record>, pid: Pid, parent: Pid)
+    requires linked { AreLinked (record_in records.old.entries) }
+    requires apart { parent_in (record_in records.old.entries) pid ≡ 0 }
+    requires pid { 1 ≤ pid }
+    requires there { is_some (record_in records.old.entries pid) ≡ true }
+    requires parent { 2 ≤ parent → is_some (record_in records.old.entries parent) ≡ true }
+    ensures { IsGiven pid parent records.old.entries records.new.entries }
+{
+    if !has_list(parent) {
+        set_parent(records, pid, parent);
+        return;
+    }
+    let behind = set_first(records, parent, pid);
+    set_place(records, pid, parent, behind);
+    set_before(records, behind, pid);
+}
+
+/// The children of a number have its heir as their parent from now on, and stand where they stood, but it has no first
+/// child any more. The result is the first and the last of them; number 0 for nobody.
+fn give_all(records: &mut BTreeMap<u32, Record>, pid: Pid, heir: Pid) -> (Pid, Pid)
+    requires linked { AreLinked (record_in records.old.entries) }
+    requires pid { 2 ≤ pid }
+    requires other { heir ≢ pid }
+    ensures { AreAllGiven pid heir result.0 result.1 (record_in records.old.entries) (record_in records.new.entries) }
+{
+    let first_child = set_first(records, pid, Pid::NONE);
+    let mut last = Pid::NONE;
+    let mut child = first_child;
+    while child != Pid::NONE {
+        last = child;
+        child = set_parent(records, child, heir);
+    }
+    (first_child, last)
+}
+
+/// The children of a number have its heir as their parent from now on. Process 1 keeps its own.
+pub(crate) fn give_on(records: &mut BTreeMap<u32, Record>, pid: Pid, heir: Pid)
+    requires linked { AreLinked (record_in records.old.entries) }
+    requires pid { 1 ≤ pid }
+    requires first { pid ≡ 1 → heir ≡ 1 }
+    requires other { pid ≢ 1 → heir ≢ pid }
+    requires heir { 2 ≤ heir → is_some (record_in records.old.entries heir) ≡ true }
+    ensures { AreGivenOn pid heir records.old.entries records.new.entries }
+{
+    if pid == Pid::INIT {
+        return;
+    }
+    let (first_child, last) = give_all(records, pid, heir);
+    if first_child == Pid::NONE {
+        return;
+    }
+    if has_list(heir) {
+        let behind = set_first(records, heir, first_child);
+        join(records, heir, last, behind);
+    }
+}
+
+/// A life of a number begins, without a parent. At the error that there is no memory all stays, and there was no record of it.
+pub(crate) fn begin(
+    records: &mut BTreeMap<u32, Record>,
+    pid: Pid,
+    state: State,
+) -> Result<(), AllocError>
+    requires linked { AreLinked (record_in records.old.entries) }
+    requires pid { 1 ≤ pid }
+    ensures ok { OnOk result (IsBegun pid state records.old.entries records.new.entries) }
+    ensures err { OnErr result (records.new.entries ≡ records.old.entries) }
+    ensures new_number { OnErr result (record_in records.old.entries pid ≡ None) }
+{
+    let Some(was) = restart(records, pid, &state) else {
+        let record = Record {
+            parent: Pid::NONE,
+            before: Pid::NONE,
+            behind: Pid::NONE,
+            first: Pid::NONE,
+            state,
+        };
+        records.insert(pid.number(), record)?;
+        return Ok(());
+    };
+    if has_list(was.parent) {
+        join(records, was.parent, was.before, was.behind);
+    }
+    Ok(())
+}

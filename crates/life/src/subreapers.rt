@@ -1,0 +1,65 @@
+//! Child subreapers: who is one, and who takes in the children of a process (prctl(2)).
+
+ghost use Rattle.std.specs.Prelude.{◌≡◌, ◌≤◌, ◌+◌, not};
+ghost use Rattle.std.specs.List.{list_any};
+ghost use Rattle.posix.specs.States.{change};
+ghost use Rattle.posix.specs.Heirs.{heir_in};
+ghost use Rattle.posix.specs.Subreapers.{marked_as};
+ghost use Rattle.jobs.specs.Books.{is_living_subreaper};
+ghost use Rattle.life.specs.Ends.{slots_of_heir};
+ghost use Rattle.life.specs.Rechecks.{rechecks};
+ghost use Rattle.life.specs.Machines.{AreSame, Changes, IsThere};
+
+use crate::machine::Machine;
+use crate::rechecks::recheck_later;
+use posix::{Life, Pid};
+use proctable::Kin;
+
+impl<K: Kin> Machine<K> {
+    /// A process that is there becomes a child subreaper, or is none any more, and its call gives 0. It is to be rechecked
+    /// where it has no place, and nobody else is: who takes in children shows to nobody before an end.
+    pub fn mark(&mut self, pid: Pid, mark: bool)
+        requires { IsThere pid self.old }
+        ensures { Changes 2 self.old self.new (change self.old.state pid (marked_as mark)) (rechecks pid self.old) }
+    {
+        recheck_later(&mut self.to_recheck, &self.order, pid);
+        self.table
+            .change_seen(pid, |fields| fields.finish_marked(mark));
+    }
+
+    /// Whether no living process is a child subreaper. No slot is read.
+    fn nobody_marked(&self) -> bool
+        ensures { result ≡ not (list_any is_living_subreaper self.now.state.processes) }
+    {
+        self.table.nobody_marked()
+    }
+
+    /// Who takes in the children of a process: the nearest of its forebears that is a child subreaper, or process 1. Where
+    /// no living process is a child subreaper no slot is read; else one for the process, and one for each of its forebears
+    /// up to that one, but for process 1. There are no more of them than numbers.
+    pub fn heir(&mut self, pid: Pid) -> Pid
+        ensures heir { result ≡ heir_in self.old.state.processes pid }
+        ensures same { AreSame self.old self.new }
+        ensures visits { self.new.visits ≤ self.old.visits + slots_of_heir self.old.state.processes pid }
+    {
+        if pid == Pid::INIT || self.nobody_marked() {
+            return Pid::INIT;
+        }
+        let mut forebear = pid;
+        let mut left = Pid::MAX;
+        while left != 0 && forebear != Pid::INIT {
+            let Some(it) = self.snapshot(forebear) else {
+                return Pid::INIT;
+            };
+            if let Life::Zombie(_) = it.life {
+                return Pid::INIT;
+            }
+            if it.is_subreaper && forebear != pid {
+                return forebear;
+            }
+            forebear = it.parent;
+            left -= 1;
+        }
+        Pid::INIT
+    }
+}

@@ -1,0 +1,387 @@
+//! A line for each event: who acted, what came of it, and whom else it concerned.
+
+use crate::process::{end_cell, put_name};
+use crate::view::View;
+use posix::{Call, Entry, Event, Instr, Life, Pid, Sig, SigSet};
+use proctable::{OwnPart, Snapshot};
+use signal::Signals;
+use std::alloc::AllocError;
+use std::fmt::Write;
+use wording::{
+    Arguments, place_of, put_call, put_look, put_moved, put_report, put_result, put_signal,
+    put_status,
+};
+
+/// So many real-time signals are queued for a process at most.
+const MOST_QUEUED: usize = 32;
+
+/// What is compared of a process before and after an event.
+#[derive(Clone, Copy)]
+pub struct Row {
+    pub it: Snapshot,
+    pub pending: SigSet,
+    /// How many real-time signals are queued, and which is the last.
+    pub queued: usize,
+    pub last_queued: Option<Sig>,
+    pub can_act: bool,
+}
+
+/// What the current process was about to do.
+#[derive(Clone, Copy)]
+pub struct Actor {
+    it: Snapshot,
+    with: Arguments,
+    pc: i64,
+}
+
+impl Actor {
+    /// A process that is there, and acts next.
+    pub fn new(it: Snapshot, own: &OwnPart) -> Actor {
+        Actor {
+            it,
+            with: Arguments::of(&own.cpu),
+            pc: own.cpu.frame(SigSet::EMPTY).pc,
+        }
+    }
+}
+
+/// Tells each event as it comes.
+#[derive(Drop)]
+pub struct Teller<'l, 't> {
+    pub view: View<'l, 't>,
+    programs: &'t [umach::Program],
+    rows: Vec<Row>,
+    actor: Option<Actor>,
+    /// Whether the last event showed a line of the trace.
+    pub showed: bool,
+    /// The line of the event.
+    line: String,
+    /// The lines that are shown.
+    pub text: String,
+}
+
+/// How many real-time signals are queued, and which is the last.
+pub fn queue_of(signals: &Signals) -> (usize, Option<Sig>) {
+    let mut last = None;
+    for place in 0..MOST_QUEUED {
+        let Some(signal) = signals.queued(place) else {
+            return (place, last);
+        };
+        last = Some(signal.sig);
+    }
+    (MOST_QUEUED, last)
+}
+
+/// The row of a process; none where it isn't there. The rows rise.
+fn row_of(rows: &[Row], pid: Pid) -> Option<Row> {
+    let place = rows.binary_search_by_key(&pid, |row| row.it.pid).ok()?;
+    rows.get(place).copied()
+}
+
+/// Writes a key by its byte, and as it is typed.
+fn put_key(text: &mut String, console: u8, byte: u8) -> Result<(), AllocError> {
+    write!(text, "key {console} {byte:02X}")?;
+    match byte {
+        0..=0x1f => write!(text, " (^{})", char::from(byte + 0x40)),
+        0x7f => text.push_str(" (^?)"),
+        0x21..=0x7e => write!(text, " ({})", char::from(byte)),
+        _ => Ok(()),
+    }
+}
+
+/// Writes what an entry says, but for a call that it tells of.
+fn put_entry(text: &mut String, entry: &Entry) -> Result<(), AllocError> {
+    match *entry {
+        Entry::Noted { value, .. } => write!(text, ": {value}"),
+        Entry::Called { result, .. } => put_result(text, result),
+        Entry::Moved { bytes, .. } => put_moved(text, &bytes),
+        Entry::Reported {
+            call,
+            child,
+            status,
+            ..
+        } => put_report(text, call, child.number(), status),
+        Entry::Looked { child, status, .. } => put_look(text, child.number(), status),
+        Entry::NoMemory { .. } => text.push_str(" = -11 EAGAIN, no memory"),
+        Entry::Marked { mark, .. } => write!(text, " = 0, mark {}", u8::from(mark)),
+        Entry::Handled {
+            sig,
+            value,
+            sender,
+            ..
+        } => {
+            text.push_str("handles ")?;
+            put_signal(text, sig)?;
+            write!(text, ", value {value}, from {}", sender.number())
+        }
+        Entry::Discarded { sig, .. } => {
+            text.push_str("discards ")?;
+            put_signal(text, sig)
+        }
+        Entry::Stopped { sig, .. } => {
+            text.push_str("stopped by ")?;
+            put_signal(text, sig)
+        }
+        Entry::Returned { .. } => text.push_str("the handler has returned"),
+        Entry::Ended { status, .. } => {
+            text.push_str("ends, ")?;
+            put_status(text, status)
+        }
+        Entry::Halted => text.push_str("the machine halts"),
+    }
+}
+
+/// Whether an entry tells of the instruction or the call of its process, and goes on from there.
+fn is_of_instruction(entry: &Entry) -> bool {
+    matches!(
+        entry,
+        Entry::Noted { .. }
+            | Entry::Called { .. }
+            | Entry::Moved { .. }
+            | Entry::Reported { .. }
+            | Entry::Looked { .. }
+            | Entry::NoMemory { .. }
+            | Entry::Marked { .. }
+    )
+}
+
+impl<'l, 't> Teller<'l, 't> {
+    /// Tells nothing yet.
+    pub fn new(view: View<'l, 't>, programs: &'t [umach::Program]) -> Teller<'l, 't> {
+        Teller {
+            view,
+            programs,
+            rows: Vec::new(view.alloc),
+            actor: None,
+            showed: false,
+            line: String::new(view.alloc),
+            text: String::new(view.alloc),
+        }
+    }
+
+    /// Who acted in the last event.
+    pub fn acted(&self) -> Option<Pid> {
+        match self.actor {
+            Some(actor) => Some(actor.it.pid),
+            None => None,
+        }
+    }
+
+    /// The call that an actor attempts, if its instruction is one.
+    fn call_of_actor(&self, actor: &Actor) -> Option<Call> {
+        if let Some(blocked) = actor.it.blocked {
+            return Some(blocked.call());
+        }
+        let program = self.programs.get(usize::from(actor.it.program))?;
+        match program.get(place_of(actor.pc)?)? {
+            Instr::Sys(call) => Some(call),
+            _ => None,
+        }
+    }
+
+    /// Writes the call or the instruction of an actor.
+    fn put_instruction(&mut self, actor: &Actor) -> Result<(), AllocError> {
+        let listing = self.view.listing;
+        let source = listing.program(usize::from(actor.it.program));
+        if let Some(call) = self.call_of_actor(actor) {
+            return put_call(&mut self.line, call, actor.with, source, listing);
+        }
+        let (Some(source), Some(place)) = (source, place_of(actor.pc)) else {
+            return self.line.push_str("no instruction");
+        };
+        match source.at(place) {
+            Some(written) => self.line.push_str(written.text),
+            None => self.line.push_str("no instruction"),
+        }
+    }
+
+    /// Writes who acts, and at which line.
+    fn put_actor(&mut self, actor: &Actor) -> Result<(), AllocError> {
+        let source = self.view.listing.program(usize::from(actor.it.program));
+        put_name(&mut self.line, actor.it.pid, source)?;
+        let start = self.line.len();
+        if let (Some(source), Some(place)) = (source, place_of(actor.pc)) {
+            if let Some(written) = source.at(place) {
+                write!(self.line, "line {}", written.line)?;
+            }
+        }
+        end_cell(&mut self.line, start, 10)
+    }
+
+    /// Writes what became of a call that shows nothing: the process waits in it, or it begins again.
+    fn put_silence(&mut self, new: &[Row], actor: &Actor) -> Result<(), AllocError> {
+        if self.call_of_actor(actor).is_none() {
+            return Ok(());
+        }
+        let waits = match row_of(new, actor.it.pid) {
+            Some(row) => row.it.blocked.is_some(),
+            None => false,
+        };
+        self.line.push_str(match (waits, actor.it.blocked) {
+            (true, None) => " waits",
+            (true, Some(_)) => " still waits",
+            (false, _) => " begins again",
+        })
+    }
+
+    /// Writes what an actor did.
+    fn put_act(&mut self, new: &[Row], actor: &Actor, entries: &[Entry]) -> Result<(), AllocError> {
+        self.put_actor(actor)?;
+        let Some(first) = entries.first() else {
+            self.put_instruction(actor)?;
+            return self.put_silence(new, actor);
+        };
+        let is_signal = !is_of_instruction(first) && actor.it.chosen.is_some();
+        if !is_signal {
+            self.put_instruction(actor)?;
+        }
+        let mut mark = if is_signal { "" } else { "; " };
+        for entry in entries {
+            if !is_of_instruction(entry) {
+                self.line.push_str(mark)?;
+            }
+            put_entry(&mut self.line, entry)?;
+            mark = "; ";
+        }
+        Ok(())
+    }
+
+    /// Writes the event, and what the current process did in it.
+    fn put_event(
+        &mut self,
+        event: Event,
+        entries: &[Entry],
+        new: &[Row],
+    ) -> Result<(), AllocError> {
+        match (event, self.actor) {
+            (Event::Tick, _) => self.line.push_str("tick"),
+            (Event::Key { console, byte }, _) => put_key(&mut self.line, console, byte),
+            (Event::Step, Some(actor)) => self.put_act(new, &actor, entries),
+            (Event::Step, None) => self.line.push_str("nobody acts"),
+        }
+    }
+
+    /// Writes that a process was sent a signal.
+    fn put_signal_to(&mut self, sig: Sig, pid: Pid) -> Result<(), AllocError> {
+        self.line.push_str("; sends ")?;
+        put_signal(&mut self.line, sig)?;
+        write!(self.line, " to {}", pid.number())
+    }
+
+    /// Writes which signals are pending for a process now, and weren't. Whether there are such.
+    fn put_sent(&mut self, old: &Row, new: &Row) -> Result<bool, AllocError> {
+        let mut is_told = false;
+        for number in 1..32u8 {
+            if let Some(sig) = Sig::new(number) {
+                if new.pending.contains(sig) && !old.pending.contains(sig) {
+                    self.put_signal_to(sig, new.it.pid)?;
+                    is_told = true;
+                }
+            }
+        }
+        match new.last_queued {
+            Some(sig) if new.queued > old.queued => {
+                self.put_signal_to(sig, new.it.pid)?;
+                Ok(true)
+            }
+            _ => Ok(is_told),
+        }
+    }
+
+    /// Writes to whom the event gave a process: an heir that isn't process 1 is a subreaper.
+    fn put_given(&mut self, number: u32, heir: Pid) -> Result<(), AllocError> {
+        write!(self.line, "; gives {number} to {}", heir.number())?;
+        if heir == Pid::INIT {
+            return Ok(());
+        }
+        self.line.push_str(", its subreaper")
+    }
+
+    /// Writes what the event made of one process. Whether it made something of it.
+    fn put_effect(&mut self, new: &Row) -> Result<bool, AllocError> {
+        let Some(old) = row_of(self.rows.as_slice(), new.it.pid) else {
+            return Ok(true);
+        };
+        let mut is_told = self.put_sent(&old, new)?;
+        let number = new.it.pid.number();
+        if old.it.parent != new.it.parent {
+            self.put_given(number, new.it.parent)?;
+            is_told = true;
+        }
+        if old.it.life == Life::Stopped && new.it.life == Life::Running {
+            write!(self.line, "; continues {number}")?;
+            return Ok(true);
+        }
+        if !old.can_act && new.can_act {
+            write!(self.line, "; wakes {number}")?;
+            return Ok(true);
+        }
+        Ok(is_told)
+    }
+
+    /// Writes whose records went without a report. Whether a record of a process that is shown went.
+    fn put_gone(&mut self, new: &[Row], entries: &[Entry]) -> Result<bool, AllocError> {
+        let mut is_shown = false;
+        for old in &self.rows {
+            let pid = old.it.pid;
+            if row_of(new, pid).is_none() {
+                is_shown = is_shown || self.view.has(pid);
+                if !is_reported(entries, pid) {
+                    write!(self.line, "; drops {}", pid.number())?;
+                }
+            }
+        }
+        Ok(is_shown)
+    }
+
+    /// An event is given next, to these processes; the actor is who acts in it.
+    pub fn begin(&mut self, rows: Vec<Row>, actor: Option<Actor>) {
+        self.rows = rows;
+        self.actor = actor;
+    }
+
+    /// Tells an event that was given: by its number, what it showed, and the processes after it.
+    pub fn tell(
+        &mut self,
+        number: u64,
+        event: Event,
+        entries: &[Entry],
+        new: &[Row],
+    ) -> Result<(), AllocError> {
+        self.showed = !entries.is_empty();
+        self.line.clear();
+        write!(self.line, "{number:>6}  ")?;
+        self.put_event(event, entries, new)?;
+        let mut is_shown = self.has_actor();
+        for row in new {
+            let is_told = self.put_effect(row)?;
+            is_shown = is_shown || (is_told && self.view.has(row.it.pid));
+        }
+        let is_gone = self.put_gone(new, entries)?;
+        self.line.push_str("\n")?;
+        if is_shown || is_gone {
+            self.text.push_str(self.line.as_str())?;
+        }
+        Ok(())
+    }
+
+    /// Whether an event is shown, in which these processes were concerned.
+    fn has_actor(&self) -> bool {
+        match self.actor {
+            Some(actor) => self.view.has(actor.it.pid),
+            None => self.view.only.is_empty(),
+        }
+    }
+}
+
+/// Whether a wait reported a process.
+fn is_reported(entries: &[Entry], pid: Pid) -> bool {
+    for entry in entries {
+        if let Entry::Reported { child, .. } = *entry {
+            if child == pid {
+                return true;
+            }
+        }
+    }
+    false
+}

@@ -1,0 +1,14 @@
+//! What is told of a process, of a console and of an event, in words. It sees what it is given, and no machine.
+#![tactic(auto)]
+
+mod console;
+mod event;
+mod process;
+mod since;
+mod view;
+
+pub use console::{put_console, put_turns};
+pub use event::{Actor, Row, Teller, queue_of};
+pub use process::{Around, put_process};
+pub use since::{Since, Times};
+pub use view::View;

@@ -1,0 +1,438 @@
+//! A process as it is at an event, in words.
+
+use crate::since::Times;
+use crate::view::View;
+use bitflags::Flags;
+use posix::{
+    Action, Blocked, Handler, Life, News, Pid, Sig, SigSet, Target, WaitCall, WaitidOptions,
+};
+use proctable::{OwnPart, Snapshot};
+use std::alloc::AllocError;
+use std::fmt::Write;
+use wording::{
+    Arguments, Listing, Source, place_of, put_address, put_call, put_flags, put_label, put_set,
+    put_set_or_none, put_signal, put_status,
+};
+
+/// A process that is there, as it is now.
+#[derive(Drop)]
+struct Shown<'l, 't> {
+    it: Snapshot,
+    times: Times,
+    source: Option<&'l Source<'t>>,
+}
+
+/// Ends a cell of a row, which begins behind so many bytes of the text: writes blanks up to the width of its column, at
+/// least two.
+pub fn end_cell(text: &mut String, start: usize, width: usize) -> Result<(), AllocError> {
+    text.push_str("  ")?;
+    for _ in text.len().saturating_sub(start)..width {
+        text.push_str(" ")?;
+    }
+    Ok(())
+}
+
+/// Writes the cell with the number of a process and the name of its program.
+pub fn put_name(
+    text: &mut String,
+    pid: Pid,
+    source: Option<&Source<'_>>,
+) -> Result<(), AllocError> {
+    let start = text.len();
+    let name = match source {
+        Some(source) => source.name,
+        None => "-",
+    };
+    write!(text, "{} {name}", pid.number())?;
+    end_cell(text, start, 13)
+}
+
+/// Writes the cell of a set of signals.
+fn put_set_cell(
+    text: &mut String,
+    name: &str,
+    set: SigSet,
+    width: usize,
+) -> Result<(), AllocError> {
+    let start = text.len();
+    text.push_str(name)?;
+    put_set_or_none(text, set)?;
+    end_cell(text, start, width)
+}
+
+/// Writes where a process stands in its program: the line of the world, and the label before it.
+fn put_place(text: &mut String, shown: &Shown<'_, '_>, own: &OwnPart) -> Result<(), AllocError> {
+    let pc = own.cpu.frame(SigSet::EMPTY).pc;
+    let (Some(place), Some(source)) = (place_of(pc), shown.source) else {
+        return write!(text, ", at address {pc}");
+    };
+    match source.at(place) {
+        Some(written) => write!(text, ", at line {}", written.line)?,
+        None => text.push_str(", outside its program")?,
+    }
+    if put_label(text, shown.source, place, " (")? {
+        text.push_str(")")?;
+    }
+    Ok(())
+}
+
+/// Writes the call that a process waits in; `pause` alone has no arguments.
+fn put_wait(
+    text: &mut String,
+    shown: &Shown<'_, '_>,
+    own: &OwnPart,
+    blocked: Blocked,
+    listing: &Listing<'_>,
+) -> Result<(), AllocError> {
+    match blocked {
+        Blocked::Pause => text.push_str("pause"),
+        _ => put_call(
+            text,
+            blocked.call(),
+            Arguments::of(&own.cpu),
+            shown.source,
+            listing,
+        ),
+    }
+}
+
+/// Writes that a process is stopped, since when, and whether a wait has reported it.
+fn put_stop(
+    text: &mut String,
+    shown: &Shown<'_, '_>,
+    own: &OwnPart,
+    listing: &Listing<'_>,
+) -> Result<(), AllocError> {
+    text.push_str("stopped")?;
+    if let Some(sig) = Sig::new(shown.times.stopped_by) {
+        text.push_str(" by ")?;
+        put_signal(text, sig)?;
+    }
+    write!(text, " since {}", shown.times.stop)?;
+    if let News::StoppedBy(_) = shown.it.news {
+        text.push_str(", not reported yet")?;
+    }
+    match shown.it.blocked {
+        Some(blocked) => {
+            text.push_str(", in ")?;
+            put_wait(text, shown, own, blocked, listing)
+        }
+        None => Ok(()),
+    }
+}
+
+/// Writes what a process does.
+fn put_doing(
+    text: &mut String,
+    shown: &Shown<'_, '_>,
+    own: &OwnPart,
+    listing: &Listing<'_>,
+) -> Result<(), AllocError> {
+    match (shown.it.life, shown.it.blocked) {
+        (Life::Zombie(status), _) => {
+            write!(text, "zombie since {}, ", shown.times.end)?;
+            return put_status(text, status);
+        }
+        (Life::Stopped, _) => put_stop(text, shown, own, listing)?,
+        (Life::Running, Some(blocked)) => {
+            text.push_str("waits in ")?;
+            put_wait(text, shown, own, blocked, listing)?;
+            write!(text, " since {}", shown.times.wait)?;
+        }
+        (Life::Running, None) => text.push_str("runs")?,
+    }
+    put_place(text, shown, own)?;
+    match shown.it.news {
+        News::Continued => text.push_str(", continued, not reported yet"),
+        _ => Ok(()),
+    }
+}
+
+/// Writes the cells of the mask and of the pending signals; a zombie has neither.
+fn put_signals(text: &mut String, own: &OwnPart, is_zombie: bool) -> Result<(), AllocError> {
+    if is_zombie {
+        let start = text.len();
+        return end_cell(text, start, 38);
+    }
+    put_set_cell(text, "mask ", own.signals.mask(), 18)?;
+    put_set_cell(text, "pending ", own.signals.pending(), 20)
+}
+
+/// Writes the row of a process.
+fn put_row(
+    text: &mut String,
+    shown: &Shown<'_, '_>,
+    own: &OwnPart,
+    listing: &Listing<'_>,
+) -> Result<(), AllocError> {
+    let it = shown.it;
+    let is_zombie = matches!(it.life, Life::Zombie(_));
+    put_name(text, it.pid, if is_zombie { None } else { shown.source })?;
+    let start = text.len();
+    put_doing(text, shown, own, listing)?;
+    end_cell(text, start, 45)?;
+    put_signals(text, own, is_zombie)?;
+    writeln!(
+        text,
+        "parent {}  group {}  session {}",
+        it.parent.number(),
+        it.group.number(),
+        it.session.number()
+    )
+}
+
+/// Writes the children that a wait is for.
+fn put_children(text: &mut String, target: Target, group: Pid) -> Result<(), AllocError> {
+    match target {
+        Target::All => text.push_str("a child"),
+        Target::OwnGroup => write!(text, "a child in group {}", group.number()),
+        Target::Process(pid) => write!(text, "child {}", pid.number()),
+        Target::Group(group) => write!(text, "a child in group {}", group.number()),
+        Target::Nobody => text.push_str("no child"),
+    }
+}
+
+/// Writes what a wait wants to hear of its children.
+fn put_sorts(text: &mut String, options: WaitidOptions) -> Result<(), AllocError> {
+    let mut joint = " that ";
+    for (sort, words) in [
+        (WaitidOptions::WEXITED, "ends"),
+        (WaitidOptions::WSTOPPED, "is stopped"),
+        (WaitidOptions::WCONTINUED, "is continued"),
+    ] {
+        if options.contains(sort) {
+            text.push_str(joint)?;
+            text.push_str(words)?;
+            joint = " or ";
+        }
+    }
+    Ok(())
+}
+
+/// Writes what lets a wait for children go on. One that is refused doesn't sleep.
+fn put_reports(
+    text: &mut String,
+    shown: &Shown<'_, '_>,
+    own: &OwnPart,
+    call: WaitCall,
+) -> Result<(), AllocError> {
+    let Some(asked) = Arguments::of(&own.cpu).asked(call) else {
+        return Ok(());
+    };
+    put_children(text, asked.target, shown.it.group)?;
+    put_sorts(text, asked.options)?;
+    text.push_str(", or by ")
+}
+
+/// Writes by what a process that sleeps would be woken.
+fn put_wakers(
+    text: &mut String,
+    shown: &Shown<'_, '_>,
+    own: &OwnPart,
+    console: Option<usize>,
+) -> Result<(), AllocError> {
+    if matches!(shown.it.life, Life::Stopped) {
+        return text.push_str("    goes on by SIGCONT, and ends by SIGKILL\n");
+    }
+    let Some(blocked) = shown.it.blocked else {
+        return Ok(());
+    };
+    text.push_str("    is woken by ")?;
+    match blocked {
+        Blocked::Wait(call) => put_reports(text, shown, own, call)?,
+        Blocked::Read => {
+            if let Some(console) = console {
+                write!(text, "a finished line of console {console}, or by ")?;
+            }
+        }
+        Blocked::Pause | Blocked::Sigsuspend(_) => {}
+    }
+    text.push_str(if shown.it.pid == Pid::INIT {
+        "a signal that it catches and doesn't block: process 1 gets no other\n"
+    } else {
+        "a signal that it neither blocks nor ignores\n"
+    })
+}
+
+/// The action for the signal with a number; none where no signal has it.
+fn action_of(own: &OwnPart, number: u8) -> Option<(Sig, Action)> {
+    let sig = Sig::new(number)?;
+    Some((sig, own.signals.action(sig)))
+}
+
+/// Writes a signal that is caught: where its handler stands, and the mask and the flags, where there are any.
+fn put_caught(
+    text: &mut String,
+    shown: &Shown<'_, '_>,
+    sig: Sig,
+    action: Action,
+    address: i64,
+) -> Result<(), AllocError> {
+    text.push_str("    catches ")?;
+    put_signal(text, sig)?;
+    text.push_str(" at ")?;
+    put_address(text, shown.source, address)?;
+    if !action.mask.is_empty() {
+        text.push_str(", mask ")?;
+        put_set(text, action.mask)?;
+    }
+    if action.flags.bits() != 0 {
+        text.push_str(", ")?;
+        put_flags(text, action.flags)?;
+    }
+    text.push_str("\n")
+}
+
+/// Writes the signals that a process catches.
+fn put_catches(text: &mut String, shown: &Shown<'_, '_>, own: &OwnPart) -> Result<(), AllocError> {
+    for number in 1..65u8 {
+        if let Some((sig, action)) = action_of(own, number) {
+            if let Handler::At(address) = action.handler {
+                put_caught(text, shown, sig, action, address)?;
+            }
+        }
+    }
+    Ok(())
+}
+
+/// The signals that a process ignores by their actions.
+fn ignored_by(own: &OwnPart) -> SigSet {
+    let mut set = SigSet::EMPTY;
+    for number in 1..65u8 {
+        if let Some((sig, action)) = action_of(own, number) {
+            if action.handler == Handler::Ignore {
+                set = set.union(SigSet::just(sig));
+            }
+        }
+    }
+    set
+}
+
+/// Writes the signals that a process ignores by their actions, where there are any.
+fn put_ignored(text: &mut String, own: &OwnPart) -> Result<(), AllocError> {
+    let ignored = ignored_by(own);
+    if ignored.is_empty() {
+        return Ok(());
+    }
+    text.push_str("    ignores ")?;
+    put_set(text, ignored)?;
+    text.push_str("\n")
+}
+
+/// Writes in how many ticks an alarm is due.
+fn put_alarm(text: &mut String, left: u64) -> Result<(), AllocError> {
+    match left {
+        1 => text.push_str("    alarm in 1 tick\n"),
+        _ => writeln!(text, "    alarm in {left} ticks"),
+    }
+}
+
+/// Writes the queue of real-time signals: each with its value and its sender.
+fn put_queue(text: &mut String, own: &OwnPart) -> Result<(), AllocError> {
+    for place in 0..32usize {
+        let Some(signal) = own.signals.queued(place) else {
+            return Ok(());
+        };
+        text.push_str("    queued ")?;
+        put_signal(text, signal.sig)?;
+        let (value, sender) = (signal.carried.value, signal.carried.sender.number());
+        writeln!(text, ", value {value}, from {sender}")?;
+    }
+    Ok(())
+}
+
+/// Writes the ids of a process, unless all are 0.
+fn put_ids(text: &mut String, it: &Snapshot) -> Result<(), AllocError> {
+    let (user, group) = (it.creds.user(), it.creds.group());
+    let (u, v, w) = (
+        user.real.number(),
+        user.effective.number(),
+        user.saved.number(),
+    );
+    let (g, h, i) = (
+        group.real.number(),
+        group.effective.number(),
+        group.saved.number(),
+    );
+    if (u, v, w, g, h, i) == (0, 0, 0, 0, 0, 0) {
+        return Ok(());
+    }
+    writeln!(
+        text,
+        "    user {u}, effective {v}, saved {w}; group {g}, effective {h}, saved {i}"
+    )
+}
+
+/// Writes the registers of a process.
+fn put_registers(text: &mut String, own: &OwnPart) -> Result<(), AllocError> {
+    text.push_str("   ")?;
+    let registers = own.cpu.frame(SigSet::EMPTY).registers;
+    for (number, value) in registers.iter().enumerate() {
+        write!(text, " r{number} {value}")?;
+    }
+    text.push_str("\n")
+}
+
+/// Writes what else is known of a process that hasn't ended.
+fn put_details(
+    view: View<'_, '_>,
+    text: &mut String,
+    shown: &Shown<'_, '_>,
+    own: &OwnPart,
+    ticks: u64,
+) -> Result<(), AllocError> {
+    put_catches(text, shown, own)?;
+    put_ignored(text, own)?;
+    put_queue(text, own)?;
+    let handlers = own.signals.handlers();
+    if handlers != 0 {
+        writeln!(text, "    handlers that haven't returned: {handlers}")?;
+    }
+    if let Some(due) = shown.it.alarm {
+        put_alarm(text, due.saturating_sub(ticks))?;
+    }
+    put_ids(text, &shown.it)?;
+    if shown.it.is_subreaper {
+        text.push_str("    is a subreaper\n")?;
+    }
+    if view.only.is_empty() {
+        return Ok(());
+    }
+    put_registers(text, own)
+}
+
+/// What is known of a process beside its fields.
+#[derive(Clone, Copy)]
+pub struct Around {
+    pub times: Times,
+    /// Whether it has no turn.
+    pub sleeps: bool,
+    /// The number of its terminal.
+    pub console: Option<usize>,
+    pub ticks: u64,
+}
+
+/// Writes a process that is there.
+pub fn put_process(
+    view: View<'_, '_>,
+    text: &mut String,
+    it: Snapshot,
+    around: Around,
+    own: &OwnPart,
+) -> Result<(), AllocError> {
+    let is_zombie = matches!(it.life, Life::Zombie(_));
+    let source = view.listing.program(usize::from(it.program));
+    let shown = Shown {
+        it,
+        times: around.times,
+        source,
+    };
+    put_row(text, &shown, own, view.listing)?;
+    if is_zombie {
+        return Ok(());
+    }
+    if around.sleeps {
+        put_wakers(text, &shown, own, around.console)?;
+    }
+    put_details(view, text, &shown, own, around.ticks)
+}

@@ -1,0 +1,23 @@
+//! What is shown.
+
+use posix::Pid;
+use std::alloc::Global;
+use wording::Listing;
+
+/// What is shown, and of what.
+#[derive(Clone, Copy)]
+pub struct View<'l, 't> {
+    pub alloc: Global,
+    pub listing: &'l Listing<'t>,
+    /// How many events the list has.
+    pub events: u64,
+    /// The processes that are shown, with their registers; all, without registers, where none is named.
+    pub only: &'t [Pid],
+}
+
+impl View<'_, '_> {
+    /// Whether a process is shown.
+    pub fn has(&self, pid: Pid) -> bool {
+        self.only.is_empty() || self.only.contains(&pid)
+    }
+}
