@@ -264,6 +264,9 @@ pub parent_read : (f : ℕ → Option Record) (p : ℕ) (r : Record) → f p ≡
 unfolding parent_in
 parent_read f p r e = rw e refl
 
+pub first_read : (f : ℕ → Option Record) (p : ℕ) (r : Record) → f p ≡ Some r → r.first ≡ first_of f p
+first_read f p r e = rw e refl
+
 pub before_read : (f : ℕ → Option Record) (p : ℕ) (r : Record) → f p ≡ Some r → before_in f p ≡ r.before
 unfolding before_in
 before_read f p r e = rw e refl

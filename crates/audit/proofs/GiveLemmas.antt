@@ -259,8 +259,12 @@ left_linked f g p h c z l two low t = record {
 pub given_to_none : (p h c z : ℕ) (old new : List (ℕ × Record)) → AreLinked (record_in old) → 2 ≤ p → h ≤ 1 → AreAllGiven p h c z (record_in old) (record_in new) → AreGivenOn p h old new
 given_to_none p h c z old new l two low m = record { linked = left_linked (record_in old) (record_in new) p h c z l two (λ i e. low) m; parent = m.parent; state = m.state }
 
-pub none_to_give : (p h c z : ℕ) (old new : List (ℕ × Record)) → AreLinked (record_in old) → 2 ≤ p → c ≡ 0 → AreAllGiven p h c z (record_in old) (record_in new) → AreGivenOn p h old new
-none_to_give p h c z old new l two none m = record { linked = left_linked (record_in old) (record_in new) p h c z l two (λ i e. absurd (no_child (record_in old) p l two (sym m.starts ∙ none) i e)) m; parent = m.parent; state = m.state }
+pub nobody_given : (p h : ℕ) (old : List (ℕ × Record)) → AreLinked (record_in old) → 2 ≤ p → 0 ≡ first_of (record_in old) p → AreGivenOn p h old old
+nobody_given p h old l two none = record {
+  linked = l;
+  parent = λ i. rw (ne_eqb (parent_in (record_in old) i) p (λ mine. no_child (record_in old) p l two (behind_first (record_in old) p ∙ sym none) i mine)) refl;
+  state = λ i. refl;
+}
 
 -- ---- the children of p, from c to z, come before the first child b of h
 

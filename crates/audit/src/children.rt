@@ -2,7 +2,7 @@
 
 ghost use Rattle.std.specs.Prelude.{◌≡◌, ◌≢◌, ◌≤◌, ℕ, true, nat_lt, is_some, OnOk, OnErr, None};
 ghost use Rattle.audit.specs.Records.{record_in};
-ghost use Rattle.audit.specs.Children.{AreLinked, IsPutBehind, IsJoined, IsGiven, AreAllGiven, AreGivenOn, IsBegun, parent_in, behind_in};
+ghost use Rattle.audit.specs.Children.{AreLinked, IsPutBehind, IsJoined, IsGiven, AreAllGiven, AreGivenOn, IsBegun, first_of, parent_in, behind_in};
 
 use crate::records::{
     Record, State, restart, set_before, set_behind, set_first, set_parent, set_place,
@@ -56,28 +56,31 @@ pub(crate) fn put_in(records: &mut BTreeMap<u32, Record>, pid: Pid, parent: Pid)
     set_before(records, behind, pid);
 }
 
-/// The children of a number have its heir as their parent from now on, and stand where they stood, but it has no first
-/// child any more. The result is the first and the last of them; number 0 for nobody.
-fn give_all(records: &mut BTreeMap<u32, Record>, pid: Pid, heir: Pid) -> (Pid, Pid)
+/// The children of a number, of which this is the first, have its heir as their parent from now on, and stand where they
+/// stood, but it has no first child any more. The result is the last of them. Number 0 stands for nobody.
+fn give_all(records: &mut BTreeMap<u32, Record>, pid: Pid, first_child: Pid, heir: Pid) -> Pid
     requires linked { AreLinked (record_in records.old.entries) }
     requires pid { 2 ≤ pid }
+    requires first_child { first_child ≡ first_of (record_in records.old.entries) pid }
     requires other { heir ≢ pid }
-    ensures { AreAllGiven pid heir result.0 result.1 (record_in records.old.entries) (record_in records.new.entries) }
+    ensures { AreAllGiven pid heir first_child result (record_in records.old.entries) (record_in records.new.entries) }
 {
-    let first_child = set_first(records, pid, Pid::NONE);
+    set_first(records, pid, Pid::NONE);
     let mut last = Pid::NONE;
     let mut child = first_child;
     while child != Pid::NONE {
         last = child;
         child = set_parent(records, child, heir);
     }
-    (first_child, last)
+    last
 }
 
-/// The children of a number have its heir as their parent from now on. Process 1 keeps its own.
-pub(crate) fn give_on(records: &mut BTreeMap<u32, Record>, pid: Pid, heir: Pid)
+/// The children of a number, of which this is the first, or number 0 for nobody, have its heir as their parent from now on.
+/// Process 1 keeps its own.
+pub(crate) fn give_on(records: &mut BTreeMap<u32, Record>, pid: Pid, first_child: Pid, heir: Pid)
     requires linked { AreLinked (record_in records.old.entries) }
     requires pid { 1 ≤ pid }
+    requires first_child { first_child ≡ first_of (record_in records.old.entries) pid }
     requires first { pid ≡ 1 → heir ≡ 1 }
     requires other { pid ≢ 1 → heir ≢ pid }
     requires heir { 2 ≤ heir → is_some (record_in records.old.entries heir) ≡ true }
@@ -86,10 +89,10 @@ pub(crate) fn give_on(records: &mut BTreeMap<u32, Record>, pid: Pid, heir: Pid)
     if pid == Pid::INIT {
         return;
     }
-    let (first_child, last) = give_all(records, pid, heir);
     if first_child == Pid::NONE {
         return;
     }
+    let last = give_all(records, pid, first_child, heir);
     if has_list(heir) {
         let behind = set_first(records, heir, first_child);
         join(records, heir, last, behind);

@@ -159,7 +159,7 @@ impl Known {
         if let Some(record) = self.record(pid) {
             let state = record.state;
             let heir = self.heir(pid);
-            give_on(&mut self.records, pid, heir);
+            give_on(&mut self.records, pid, record.first, heir);
             set_state(&mut self.records, pid, state.ended(status));
         }
     }

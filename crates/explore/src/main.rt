@@ -1,14 +1,9 @@
 //! `explore`: runs a world of small programs over all schedules of a list of events: the list with a few ticks put in.
 #![tactic(auto)]
 
-mod report;
-mod serving;
-mod words;
-
-use exploring::Progress;
+use exploring::{Progress, serve};
 use host::{HostFiles, WordsFault, as_texts, read_words};
 use kernel::WriteSink;
-use serving::serve;
 use std::io::IsTerminal;
 use std::process::ExitCode;
 use std::rt::Clock;

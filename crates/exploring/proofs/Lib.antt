@@ -5,3 +5,4 @@ mod BookLemmas
 mod CourseLemmas
 mod CountLemmas
 mod TellingLemmas
+mod ServingLemmas

@@ -5,3 +5,4 @@ pub mod Courses
 pub mod Books
 pub mod Counts
 pub mod Walks
+pub mod Serving

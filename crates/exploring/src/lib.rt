@@ -1,4 +1,5 @@
-//! All schedules of a family are run, and counted by how they end and by texts that their lines have.
+//! What `explore` does: all schedules of a family are run, and counted by how they end and by texts that their lines
+//! have. The program adds the host alone.
 #![tactic(auto)]
 
 pub mod book;
@@ -9,11 +10,15 @@ pub mod finds;
 pub mod lines;
 pub mod outcomes;
 pub mod placing;
+mod report;
+mod serving;
 pub mod tally;
+mod words;
 
 pub use book::Book;
 pub use ending::{Ending, Endings};
 pub use families::{Family, Progress, events_of, explore, is_schedule, run_schedule};
 pub use finds::Find;
 pub use lines::Line;
+pub use serving::serve;
 pub use tally::Tally;

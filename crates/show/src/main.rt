@@ -1,19 +1,12 @@
 //! `show`: the state of a world at an event, in words, and what each event does.
 #![tactic(auto)]
 
-mod hearing;
-mod serving;
-mod state;
-mod stepping;
-mod words;
-
 use host::{HostFiles, WordsFault, as_texts, read_words};
 use kernel::WriteSink;
-use serving::serve;
+use showing::{Ask, AskFault, serve};
 use std::io;
 use std::io::{Input, IsTerminal};
 use std::process::ExitCode;
-use stepping::{Ask, AskFault};
 
 /// A person at the terminal.
 #[derive(Drop)]

@@ -5,7 +5,7 @@ use Rattle.audit.proofs.GiveLemmas.{none_yet, next_given, all_given}
 use Rattle.audit.proofs.children.give_all.Goals as goal
 
 pub loop-last-init : goal.loop-last-init
-loop-last-init c = none_yet c.args.pid c.args.heir c.set_first-first_child.result c.args.records.now.entries c.set_first-first_child.new.records.entries c.requires.linked c.requires.pid c.set_first-first_child.ensures.was c.set_first-first_child.ensures.is
+loop-last-init c = none_yet c.args.pid c.args.heir c.args.first_child c.args.records.now.entries c.set_first.new.records.entries c.requires.linked c.requires.pid c.requires.first_child c.set_first.ensures.is
 
 pub loop-last-preserved : goal.loop-last-preserved
 loop-last-preserved c =
@@ -19,5 +19,5 @@ loop-last-smaller c =
 
 pub returns : goal.returns
 returns c =
-    all_given c.args.pid c.args.heir c.set_first-first_child.result c.loop-last.last c.loop-last.child (record_in c.args.records.now.entries) (record_in c.loop-last.records.entries) c.requires.pid c.requires.other c.set_first-first_child.ensures.was
+    all_given c.args.pid c.args.heir c.args.first_child c.loop-last.last c.loop-last.child (record_in c.args.records.now.entries) (record_in c.loop-last.records.entries) c.requires.pid c.requires.other c.requires.first_child
     (eqb-true c.loop-last.child 0 (not-false (c.loop-last.child == 0) (sym c.ne.ensures ∙ c.loop-last-test.false))) c.loop-last.invariant

@@ -1,8 +1,9 @@
-use Rattle.std.proofs.Common.{◌≡◌, ◌==◌, if◌then◌else◌, ℕ, sym, ◌∙◌, subst}
+use Rattle.std.proofs.Common.{◌≡◌, ◌==◌, if◌then◌else◌, ℕ, ap, sym, ◌∙◌, subst}
 use Rattle.laws.specs.Keeping.{ended_with, given_on}
-use Rattle.audit.specs.Records.{kept_by}
+use Rattle.audit.specs.Records.{kept_by, record_in}
 use Rattle.audit.proofs.RecordLemmas.{not_living}
 use Rattle.audit.proofs.HeirLemmas.{heir_other, heir_there}
+use Rattle.audit.proofs.ChildLemmas.{first_read}
 use Rattle.audit.proofs.KeptLemmas.{end_kept, sound_end}
 use Rattle.audit.proofs.known.Known.end.Goals as goal
 
@@ -11,6 +12,10 @@ give_on-requires-clause-other c = heir_other (kept_by c.args.self.now) c.args.pi
 
 pub give_on-requires-clause-heir : goal.give_on-requires-clause-heir
 give_on-requires-clause-heir c = heir_there c.args.pid c.heir-heir.result c.args.self.now c.self.inside.records.entries c.self.view_is c.heir-heir.ensures
+
+pub give_on-requires-clause-first_child : goal.give_on-requires-clause-first_child
+give_on-requires-clause-first_child c =
+    first_read (record_in c.self.inside.records.entries) c.args.pid c.in-Some.record (ap (λ es. record_in es c.args.pid) c.self.view_is ∙ sym c.record.ensures ∙ c.in-Some.is)
 
 pub invariant_of-self : goal.invariant_of-self
 invariant_of-self c =

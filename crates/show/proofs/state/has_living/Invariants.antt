@@ -1,5 +1,0 @@
-use Rattle.past.specs.Pasts.{IsSame}
-use Rattle.show.proofs.state.has_living.Given as goal
-
-abbrev pub invariant-loop : goal.invariant-loop
-invariant-loop l = IsSame l.fn.kernel l.kernel

@@ -1,5 +1,0 @@
-use Rattle.past.specs.Pasts.{IsSame}
-use Rattle.show.proofs.state.put_consoles.Given as goal
-
-abbrev pub invariant-loop-index : goal.invariant-loop-index
-invariant-loop-index l = IsSame l.fn.kernel l.kernel

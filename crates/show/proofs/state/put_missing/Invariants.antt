@@ -1,5 +1,0 @@
-use Rattle.past.specs.Pasts.{IsSame}
-use Rattle.show.proofs.state.put_missing.Given as goal
-
-abbrev pub invariant-loop-pid : goal.invariant-loop-pid
-invariant-loop-pid l = IsSame l.fn.past.kernel l.past.kernel

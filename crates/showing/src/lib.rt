@@ -1,0 +1,13 @@
+//! What `show` does: a run up to one of its events, the state then in words, and what each event did. The program adds the
+//! host alone.
+#![tactic(auto)]
+
+mod hearing;
+mod past;
+mod serving;
+mod state;
+mod stepping;
+mod words;
+
+pub use serving::serve;
+pub use stepping::{Ask, AskFault};

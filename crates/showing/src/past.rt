@@ -1,0 +1,178 @@
+//! A run, event by event, up to one of its events, and since when each process does what it does.
+
+ghost use Rattle.std.specs.Prelude.{◌≡◌, ◌+◌, ◌<◌, ◌≤◌, List, IfOk, OnErr, OnOk, length, max, min};
+ghost use Rattle.posix.specs.declared.event.Event.{Event as EventValue};
+ghost use Rattle.posix.specs.States.{World as WorldValue};
+ghost use Rattle.text.specs.EventTexts.{most_events};
+ghost use Rattle.showing.specs.Pasts.{AreGiven, IsReached, IsSame};
+
+use kernel::Kernel;
+use posix::{Entry, Event, Pid};
+use std::alloc::{AllocError, Global};
+use telling::Since;
+use text::EventList;
+use umach::World;
+
+/// A kernel after some events, and what they told of each number.
+#[derive(Drop)]
+pub struct Past {
+    pub kernel: Kernel,
+    pub since: Since,
+}
+
+/// Whether a process waits in a call.
+fn is_blocked(kernel: &mut Kernel, pid: Pid) -> bool
+    ensures { IsSame kernel.old kernel.new }
+{
+    match kernel.snapshot(pid) {
+        Some(it) => it.blocked.is_some(),
+        None => false,
+    }
+}
+
+impl Past {
+    /// A world at its start; an error where there is no memory for it.
+    fn boot(alloc: Global, world: &World) -> Result<Past, AllocError>
+        ensures reached { (events : List EventValue) → IfOk result (λ past. IsReached world.now events past.kernel) }
+        ensures events { IfOk result (λ past. past.kernel.events ≡ 0) }
+    {
+        Ok(Past {
+            kernel: Kernel::boot(alloc, world)?,
+            since: Since::new(alloc),
+        })
+    }
+
+    /// The world is at its start again. At an error there is no memory for it, and the run stays as it is.
+    pub fn restart(&mut self, alloc: Global, world: &World) -> Result<(), AllocError>
+        ensures reached { (events : List EventValue) → OnOk result (IsReached world.now events self.new.kernel) }
+        ensures events { OnOk result (self.new.kernel.events ≡ 0) }
+        ensures same { OnErr result (self.new ≡ self.old) }
+    {
+        *self = Past::boot(alloc, world)?;
+        Ok(())
+    }
+
+    /// The process that acts next, unless it waits in a call already.
+    fn acting(&mut self) -> Option<Pid>
+        ensures { IsSame self.old.kernel self.new.kernel }
+    {
+        match self.kernel.current() {
+            Some(pid) if !is_blocked(&mut self.kernel, pid) => Some(pid),
+            _ => None,
+        }
+    }
+
+    /// Notes what the last event told by its entries, and that the process that acted waits from then on, if it does.
+    fn note(&mut self, entries: &[Entry], acting: Option<Pid>) -> Result<(), AllocError>
+        ensures { IsSame self.old.kernel self.new.kernel }
+    {
+        let event = self.kernel.events();
+        self.since.note(event, entries)?;
+        match acting {
+            Some(pid) if is_blocked(&mut self.kernel, pid) => self.since.note_wait(event, pid),
+            _ => Ok(()),
+        }
+    }
+}
+
+/// Hears of each event of a run, before and after it. It looks at the run, and changes nothing of it.
+pub trait Hear {
+    /// The event is given next.
+    fn before(&mut self, past: &mut Past, event: Event) -> Result<(), AllocError>
+        ensures { IsSame past.old.kernel past.new.kernel };
+
+    /// The event was given, and showed these entries.
+    fn after(&mut self, past: &mut Past, event: Event, entries: &[Entry]) -> Result<(), AllocError>
+        ensures { IsSame past.old.kernel past.new.kernel };
+}
+
+/// Hears of nothing.
+#[derive(Drop)]
+pub struct Silent;
+
+impl Hear for Silent {
+    fn before(&mut self, _past: &mut Past, _event: Event) -> Result<(), AllocError> {
+        Ok(())
+    }
+
+    fn after(
+        &mut self,
+        _past: &mut Past,
+        _event: Event,
+        _entries: &[Entry],
+    ) -> Result<(), AllocError> {
+        Ok(())
+    }
+}
+
+/// Gives an event. An error where there is no memory to note what it tells, or whoever hears of it has none.
+fn give<H: Hear>(past: &mut Past, event: Event, hear: &mut H) -> Result<(), AllocError>
+    requires few { past.old.kernel.events < most_events }
+    ensures given { AreGiven event past.old.kernel past.new.kernel }
+    ensures within { past.new.kernel.events ≤ past.old.kernel.events + 1 }
+    ensures at { OnOk result (past.new.kernel.events ≡ past.old.kernel.events + 1) }
+{
+    hear.before(past, event)?;
+    let acting = past.acting();
+    let entries = past.kernel.event(event);
+    past.note(entries.as_slice(), acting)?;
+    hear.after(past, event, entries.as_slice())
+}
+
+/// Gives one event, as long as fewer than `last` were given.
+fn give_many<H: Hear>(
+    past: &mut Past,
+    event: Event,
+    last: u64,
+    hear: &mut H,
+) -> Result<(), AllocError>
+    requires few { last ≤ most_events }
+    requires from { past.old.kernel.events ≤ last }
+    ensures given { AreGiven event past.old.kernel past.new.kernel }
+    ensures within { past.new.kernel.events ≤ last }
+    ensures at { OnOk result (past.new.kernel.events ≡ last) }
+{
+    for _ in past.kernel.events()..last {
+        give(past, event, hear)?;
+    }
+    Ok(())
+}
+
+/// Gives the events behind those that were given, up to the one with number `last`, or to the last one. So the state
+/// is that of a run of the first events, where it was that of a run before. An error where there is no memory.
+pub fn run_to<H: Hear>(
+    past: &mut Past,
+    events: &EventList,
+    last: u64,
+    hear: &mut H,
+) -> Result<(), AllocError>
+    requires { length events.now ≤ most_events }
+    ensures reached { (world : WorldValue) → IsReached world events.now past.old.kernel → IsReached world events.now past.new.kernel }
+    ensures at { OnOk result (past.new.kernel.events ≡ max past.old.kernel.events (min last (length events.now))) }
+{
+    let mut end = 0;
+    for run in events.runs() {
+        end += run.count();
+        let stop = end.min(last);
+        if past.kernel.events() < stop {
+            give_many(past, run.event(), stop, hear)?;
+        }
+    }
+    Ok(())
+}
+
+/// A world after the event with number `last`, or after the last one. An error where there is no memory.
+pub fn past_at(
+    alloc: Global,
+    world: &World,
+    events: &EventList,
+    last: u64,
+) -> Result<Past, AllocError>
+    requires { length events.now ≤ most_events }
+    ensures reached { IfOk result (λ past. IsReached world.now events.now past.kernel) }
+    ensures at { IfOk result (λ past. past.kernel.events ≡ min last (length events.now)) }
+{
+    let mut past = Past::boot(alloc, world)?;
+    run_to(&mut past, events, last, &mut Silent)?;
+    Ok(past)
+}

@@ -1,0 +1,301 @@
+//! What the program does: its texts and its statuses.
+
+ghost use Rattle.std.specs.Prelude.{◌≡◌, ◌≤◌, IfOk, None, Ok, length};
+ghost use Rattle.text.specs.EventTexts.{most_events};
+
+use crate::hearing::Telling;
+use crate::past::{Past, past_at, run_to};
+use crate::state::put_state;
+use crate::stepping::{Ask, StepFault, Steps};
+use crate::words::{NoRequest, Request, requested};
+use arrayvec::ArrayString;
+use host::{ReadFiles, WordsFault};
+use inputs::{InputFault, Inputs, number, read_inputs};
+use kernel::{Sink, SinkFault, put_all};
+use posix::Pid;
+use std::alloc::{AllocError, Global};
+use std::fmt::Write;
+use telling::{Teller, View};
+use text::EventList;
+use thiserror::Error;
+use wording::Listing;
+
+/// Why the program doesn't end with status 0.
+#[derive(Clone, Copy, Debug, PartialEq, Eq, Error)]
+enum Failure<'a> {
+    #[error("usage: show WORLD EVENTS [--at E] [--calls] [--process P].. [--step]")]
+    Usage,
+    #[error("show: --at takes the number of an event, or 0")]
+    At,
+    #[error("show: --at {0} is above the number of events, which is {1}")]
+    AtAbove(u64, u64),
+    #[error("show: --process takes the number of a process")]
+    Process,
+    #[error("show: --step takes its commands from a terminal, and goes with neither --at nor --calls")]
+    Step,
+    #[error("show: {0}")]
+    Input(InputFault<'a>),
+    #[error("show: out of memory")]
+    Memory,
+    #[error("show: cannot write")]
+    Write,
+    #[error("show: cannot read the terminal")]
+    Read,
+}
+
+impl From<AllocError> for Failure<'_> {
+    fn from(_: AllocError) -> Self {
+        Failure::Memory
+    }
+}
+
+impl From<SinkFault> for Failure<'_> {
+    fn from(_: SinkFault) -> Self {
+        Failure::Write
+    }
+}
+
+impl From<NoRequest> for Failure<'_> {
+    fn from(why: NoRequest) -> Self {
+        match why {
+            NoRequest::Usage => Failure::Usage,
+            NoRequest::Memory => Failure::Memory,
+        }
+    }
+}
+
+impl From<StepFault> for Failure<'_> {
+    fn from(why: StepFault) -> Self {
+        match why {
+            StepFault::Memory => Failure::Memory,
+            StepFault::Write => Failure::Write,
+            StepFault::Read => Failure::Read,
+        }
+    }
+}
+
+impl<'a> From<InputFault<'a>> for Failure<'a> {
+    fn from(why: InputFault<'a>) -> Self {
+        Failure::Input(why)
+    }
+}
+
+impl Failure<'_> {
+    /// The status of the program.
+    fn status(self) -> u8
+        ensures least { 1 ≤ result }
+        ensures most { result ≤ 3 }
+    {
+        match self {
+            Failure::Input(why) => why.status(),
+            Failure::Usage
+            | Failure::At
+            | Failure::AtAbove(_, _)
+            | Failure::Process
+            | Failure::Step => 2,
+            Failure::Memory | Failure::Write | Failure::Read => 3,
+        }
+    }
+}
+
+/// After which event the state is shown: the last one, if not named.
+fn at_of<'a>(word: Option<&str>, events: u64) -> Result<u64, Failure<'a>>
+    ensures within { IfOk result (λ at. at ≤ events) }
+    ensures not_named { word.entry ≡ None → IfOk result (λ at. at ≡ events) }
+{
+    let Some(word) = word else {
+        return Ok(events);
+    };
+    let at = number(word).ok_or(Failure::At)?;
+    if at > events {
+        return Err(Failure::AtAbove(at, events));
+    }
+    Ok(at)
+}
+
+/// The process that a word names.
+fn process_of<'a>(word: &str) -> Result<Pid, Failure<'a>> {
+    let number = number(word).ok_or(Failure::Process)?;
+    let number = u32::try_from(number).map_err(|_| Failure::Process)?;
+    match Pid::new(number) {
+        Some(pid) if number != 0 => Ok(pid),
+        _ => Err(Failure::Process),
+    }
+}
+
+/// The processes that words name.
+fn processes_of<'a>(alloc: Global, words: &[&str]) -> Result<Vec<Pid>, Failure<'a>> {
+    let mut pids = Vec::new(alloc);
+    for word in words {
+        let pid = process_of(word)?;
+        pids.push(pid).map_err(|_| Failure::Memory)?;
+    }
+    Ok(pids)
+}
+
+/// So many events are told before their lines are put.
+const TOLD_AT_ONCE: u64 = 1_000;
+
+/// Gives the events up to the one with number `last`, and puts a line for each.
+fn put_events<'a, O: Sink>(
+    past: &mut Past,
+    telling: &mut Telling<'_, '_>,
+    events: &EventList,
+    last: u64,
+    out: &mut O,
+) -> Result<(), Failure<'a>>
+    requires { length events.now ≤ most_events }
+{
+    for _ in 0..=last / TOLD_AT_ONCE {
+        let next = past.kernel.events().saturating_add(TOLD_AT_ONCE);
+        run_to(past, events, next.min(last), telling)?;
+        put_all(out, telling.teller.text.as_str().as_bytes())?;
+        telling.teller.text.clear();
+    }
+    Ok(())
+}
+
+/// Puts the state as it is now.
+fn put_now<'a, O: Sink>(
+    view: View<'_, '_>,
+    past: &mut Past,
+    out: &mut O,
+) -> Result<(), Failure<'a>> {
+    let mut text = String::new(view.alloc);
+    put_state(view, &mut text, past)?;
+    put_all(out, text.as_str().as_bytes())?;
+    Ok(())
+}
+
+/// Does what is asked for of a run, of which this is the listing: lets a person go through it, or puts a line for each
+/// event up to the one with number `last`, or puts the state.
+fn serve_past<'a, 'l, 't, O: Sink, A: Ask>(
+    view: View<'l, 't>,
+    request: &Request<'a>,
+    past: &mut Past,
+    inputs: &'t Inputs,
+    last: u64,
+    out: &mut O,
+    ask: &mut A,
+) -> Result<(), Failure<'a>>
+    requires { length inputs.now.events ≤ most_events }
+{
+    if request.step {
+        Steps::new(view, &inputs.world, &inputs.events).follow_all(past, ask, out)?;
+        Ok(())
+    } else if request.calls {
+        let teller = Teller::new(view, inputs.world.programs());
+        put_events(past, &mut Telling { teller }, &inputs.events, last, out)
+    } else {
+        put_now(view, past, out)
+    }
+}
+
+/// Does what is asked for of a world and its events, of which this is the listing.
+fn serve_listed<'a, 'l, 't, O: Sink, A: Ask>(
+    alloc: Global,
+    request: &Request<'a>,
+    only: &'t [Pid],
+    listing: &'l Listing<'t>,
+    inputs: &'t Inputs,
+    out: &mut O,
+    ask: &mut A,
+) -> Result<(), Failure<'a>>
+    requires { length inputs.now.events ≤ most_events }
+{
+    let last = at_of(request.at, inputs.events.len())?;
+    let view = View {
+        alloc,
+        listing,
+        events: inputs.events.len(),
+        only,
+    };
+    // Where events are told, they are from the first one on.
+    let from = if request.step || request.calls {
+        0
+    } else {
+        last
+    };
+    let mut past = past_at(alloc, &inputs.world, &inputs.events, from)?;
+    serve_past(view, request, &mut past, inputs, last, out, ask)
+}
+
+/// Does what is asked for of a world and its events.
+fn serve_inputs<'a, 't, O: Sink, A: Ask>(
+    alloc: Global,
+    request: &Request<'a>,
+    only: &'t [Pid],
+    inputs: &'t Inputs,
+    out: &mut O,
+    ask: &mut A,
+) -> Result<(), Failure<'a>>
+    requires { length inputs.now.events ≤ most_events }
+{
+    let listing = Listing::new(alloc, inputs.world_text.as_slice())?;
+    serve_listed(alloc, request, only, &listing, inputs, out, ask)
+}
+
+/// Does what is asked for.
+fn serve_request<'a, F: ReadFiles, O: Sink, A: Ask>(
+    alloc: Global,
+    request: &Request<'a>,
+    files: &F,
+    out: &mut O,
+    ask: &mut A,
+) -> Result<(), Failure<'a>> {
+    if request.step && (request.calls || request.at.is_some() || !ask.is_terminal()) {
+        return Err(Failure::Step);
+    }
+    let only = processes_of(alloc, request.processes.as_slice())?;
+    let inputs = read_inputs(alloc, files, request.world, request.events)?;
+    serve_inputs(alloc, request, only.as_slice(), &inputs, out, ask)
+}
+
+/// Tells a failure, as far as the error output takes it. It takes no memory.
+fn tell<E: Sink>(failure: Failure<'_>, err: &mut E) -> Result<(), SinkFault> {
+    if let Failure::Input(InputFault::CannotRead(name)) = failure {
+        put_all(err, b"show: cannot read ")?;
+        put_all(err, name.as_bytes())?;
+        return put_all(err, b"\n");
+    }
+    let mut text = ArrayString::<256>::new();
+    let _ = writeln!(text, "{failure}");
+    put_all(err, text.as_str().as_bytes())
+}
+
+/// Does what the words ask for.
+fn serve_words<'a, F: ReadFiles, O: Sink, A: Ask>(
+    alloc: Global,
+    words: Result<&'a [&'a str], WordsFault>,
+    files: &F,
+    out: &mut O,
+    ask: &mut A,
+) -> Result<(), Failure<'a>> {
+    match words {
+        Ok(words) => serve_request(alloc, &requested(alloc, words)?, files, out, ask),
+        Err(WordsFault::NotText) => Err(Failure::Usage),
+        Err(WordsFault::Memory) => Err(Failure::Memory),
+    }
+}
+
+/// Does what the words of the command line ask for, without the program's name, and gives the status of the program: 0
+/// when it is done, 1 for a refused text, 2 for other words, and 3 for a device or memory. A failing `err` changes no
+/// status.
+pub fn serve<'a, F: ReadFiles, O: Sink, E: Sink, A: Ask>(
+    alloc: Global,
+    words: Result<&'a [&'a str], WordsFault>,
+    files: &F,
+    out: &mut O,
+    err: &mut E,
+    ask: &mut A,
+) -> u8
+    ensures { result ≤ 3 }
+{
+    match serve_words(alloc, words, files, out, ask) {
+        Ok(()) => 0,
+        Err(failure) => {
+            let _ = tell(failure, err);
+            failure.status()
+        }
+    }
+}

@@ -1,0 +1,160 @@
+//! The state of a world at an event, in words.
+
+ghost use Rattle.showing.specs.Pasts.{IsSame};
+
+use crate::past::Past;
+use kernel::Kernel;
+use posix::{Life, Pid};
+use std::alloc::{AllocError, Global};
+use std::fmt::Write;
+use telling::{Around, Times, View, put_console, put_process, put_turns};
+
+/// More numbers than processes can have.
+pub const MOST_NUMBERS: u32 = 40_000;
+
+/// The processes in the order of their turns.
+pub fn turns(alloc: Global, kernel: &Kernel) -> Result<Vec<Pid>, AllocError> {
+    let mut turns = Vec::new(alloc);
+    let mut next = kernel.current();
+    for _ in 0..MOST_NUMBERS {
+        let Some(pid) = next else {
+            return Ok(turns);
+        };
+        turns.push(pid)?;
+        next = kernel.behind(pid);
+    }
+    Ok(turns)
+}
+
+/// The number of the console that is the terminal of a session.
+fn console_of(kernel: &Kernel, session: Pid) -> Option<usize> {
+    for index in 0..usize::from(kernel.consoles()) {
+        if kernel.console(index)?.session() == session {
+            return Some(index.saturating_add(1));
+        }
+    }
+    None
+}
+
+/// Writes a process, if it is there.
+fn put_if_there(
+    view: View<'_, '_>,
+    text: &mut String,
+    kernel: &mut Kernel,
+    times: Times,
+    turns: &[Pid],
+    pid: Pid,
+) -> Result<(), AllocError>
+    ensures { IsSame kernel.old kernel.new }
+{
+    let Some(it) = kernel.snapshot(pid) else {
+        return Ok(());
+    };
+    let around = Around {
+        times,
+        sleeps: !kernel.is_halted() && !turns.contains(&pid),
+        console: console_of(kernel, it.session),
+        ticks: kernel.ticks(),
+    };
+    put_process(view, text, it, around, kernel.look(pid))
+}
+
+/// Writes the processes that are shown.
+fn put_processes(
+    view: View<'_, '_>,
+    text: &mut String,
+    past: &mut Past,
+    turns: &[Pid],
+) -> Result<(), AllocError>
+    ensures { IsSame past.old.kernel past.new.kernel }
+{
+    let mut last = Pid::NONE;
+    for _ in 0..MOST_NUMBERS {
+        let Some(pid) = past.kernel.next_process(last) else {
+            return Ok(());
+        };
+        if view.has(pid) {
+            let times = past.since.of(pid);
+            put_if_there(view, text, &mut past.kernel, times, turns, pid)?;
+        }
+        last = pid;
+    }
+    Ok(())
+}
+
+/// Writes which processes that were asked for aren't there.
+fn put_missing(view: View<'_, '_>, text: &mut String, past: &mut Past) -> Result<(), AllocError>
+    ensures { IsSame past.old.kernel past.new.kernel }
+{
+    for pid in view.only {
+        if past.kernel.snapshot(*pid).is_none() {
+            writeln!(text, "{}: there is no such process", pid.number())?;
+        }
+    }
+    Ok(())
+}
+
+/// Whether a process of a process group hasn't ended.
+fn has_living(kernel: &mut Kernel, group: Pid) -> bool
+    ensures { IsSame kernel.old kernel.new }
+{
+    let mut last = Pid::NONE;
+    for _ in 0..MOST_NUMBERS {
+        let Some(pid) = kernel.next_process(last) else {
+            return false;
+        };
+        let Some(it) = kernel.snapshot(pid) else {
+            return false;
+        };
+        if it.group == group && !matches!(it.life, Life::Zombie(_)) {
+            return true;
+        }
+        last = pid;
+    }
+    false
+}
+
+/// Writes the consoles.
+fn put_consoles(text: &mut String, kernel: &mut Kernel) -> Result<(), AllocError>
+    ensures { IsSame kernel.old kernel.new }
+{
+    for index in 0..usize::from(kernel.consoles()) {
+        let Some(console) = kernel.console(index) else {
+            return Ok(());
+        };
+        let foreground = console.foreground();
+        let is_living = has_living(kernel, foreground);
+        if let Some(console) = kernel.console(index) {
+            put_console(text, index.saturating_add(1), console, is_living)?;
+        }
+    }
+    Ok(())
+}
+
+/// Writes at which event the state is, and who acts next.
+pub fn put_head(text: &mut String, kernel: &Kernel, events: u64) -> Result<(), AllocError> {
+    match kernel.events() {
+        0 if events == 1 => text.push_str("before the first of 1 event: ")?,
+        0 => write!(text, "before the first of {events} events: ")?,
+        event => write!(text, "after event {event} of {events}: ")?,
+    }
+    match kernel.current() {
+        _ if kernel.is_halted() => text.push_str("the machine has halted\n"),
+        Some(pid) => writeln!(text, "process {} acts next", pid.number()),
+        None => text.push_str("no process can act\n"),
+    }
+}
+
+/// Writes the state: who acts next, each process, the order of turns, and the consoles.
+pub fn put_state(view: View<'_, '_>, text: &mut String, past: &mut Past) -> Result<(), AllocError>
+    ensures { IsSame past.old.kernel past.new.kernel }
+{
+    put_head(text, &past.kernel, view.events)?;
+    let turns = turns(view.alloc, &past.kernel)?;
+    put_processes(view, text, past, turns.as_slice())?;
+    put_missing(view, text, past)?;
+    if !past.kernel.is_halted() {
+        put_turns(text, turns.as_slice())?;
+    }
+    put_consoles(text, &mut past.kernel)
+}

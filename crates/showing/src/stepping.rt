@@ -1,0 +1,214 @@
+//! A run that a person goes through, event by event.
+
+ghost use Rattle.std.specs.Prelude.{◌≤◌, length};
+ghost use Rattle.text.specs.EventTexts.{most_events};
+
+use crate::hearing::Telling;
+use crate::past::{Past, Silent, run_to};
+use crate::state::{put_head, put_state};
+use kernel::{Sink, SinkFault, put_all};
+use posix::Pid;
+use std::alloc::AllocError;
+use telling::{Teller, View};
+use text::{EventList, World};
+
+/// Asks a person for commands.
+pub trait Ask {
+    /// Whether there is a person to be asked.
+    fn is_terminal(&self) -> bool;
+
+    /// Adds the next line; whether there was one.
+    fn ask(&mut self, line: &mut String) -> Result<bool, AskFault>;
+}
+
+/// Why there is no next line.
+#[derive(Clone, Copy, Debug, PartialEq, Eq)]
+pub enum AskFault {
+    /// The device failed, or the line is no text in UTF-8.
+    Device,
+    /// There was no memory for it.
+    Memory,
+}
+
+/// Why a run isn't gone through any more.
+#[derive(Clone, Copy, Debug, PartialEq, Eq)]
+pub enum StepFault {
+    Memory,
+    Write,
+    Read,
+}
+
+impl From<AllocError> for StepFault {
+    fn from(_: AllocError) -> Self {
+        StepFault::Memory
+    }
+}
+
+impl From<SinkFault> for StepFault {
+    fn from(_: SinkFault) -> Self {
+        StepFault::Write
+    }
+}
+
+impl From<AskFault> for StepFault {
+    fn from(why: AskFault) -> Self {
+        match why {
+            AskFault::Device => StepFault::Read,
+            AskFault::Memory => StepFault::Memory,
+        }
+    }
+}
+
+/// What a person asks for.
+#[derive(Clone, Copy, Debug, PartialEq, Eq)]
+enum Command {
+    /// So many events more.
+    Next(u64),
+    /// So many events less.
+    Back(u64),
+    /// To the state after this event.
+    Go(u64),
+    /// On until this process acts.
+    Process(u32),
+    /// On until an event shows a line of the trace.
+    Line,
+    /// The state.
+    State,
+    Quit,
+    Help,
+}
+
+const HELP: &str =
+    "n [N]  the next event, or the next N; so does an empty line\nb [N]  back by one event, or by N\ng E    to the state after event E\np P    on until process P acts\nl      on until an event shows a line of the trace\ns      the state\nq      the end\n";
+
+/// What a word alone asks for; no word is as `n`.
+fn command_alone(word: &str) -> Command {
+    match word {
+        "n" => Command::Next(1),
+        "b" => Command::Back(1),
+        "l" => Command::Line,
+        "s" => Command::State,
+        "q" => Command::Quit,
+        _ => Command::Help,
+    }
+}
+
+/// What a word with a number asks for.
+fn command_with(word: &str, number: u64) -> Command {
+    match (word, u32::try_from(number)) {
+        ("n", _) => Command::Next(number),
+        ("b", _) => Command::Back(number),
+        ("g", _) => Command::Go(number),
+        ("p", Ok(number)) => Command::Process(number),
+        _ => Command::Help,
+    }
+}
+
+/// What a line asks for.
+fn command_of(line: &str) -> Command {
+    let mut words = line.split_whitespace();
+    let word = words.next().unwrap_or("n");
+    let number = words.next().map(str::parse::<u64>);
+    match (number, words.next()) {
+        (None, _) => command_alone(word),
+        (Some(Ok(number)), None) => command_with(word, number),
+        _ => Command::Help,
+    }
+}
+
+/// A run that is gone through.
+#[derive(Drop)]
+pub struct Steps<'l, 't> {
+    view: View<'l, 't>,
+    world: &'t World,
+    events: &'t EventList,
+    telling: Telling<'l, 't>,
+    ghost few: { length events.now ≤ most_events },
+}
+
+impl<'l, 't> Steps<'l, 't> {
+    /// A run of which no event is told yet.
+    pub fn new(view: View<'l, 't>, world: &'t World, events: &'t EventList) -> Steps<'l, 't>
+        requires { length events.now ≤ most_events }
+    {
+        Steps {
+            view,
+            world,
+            events,
+            telling: Telling {
+                teller: Teller::new(view, world.programs()),
+            },
+        }
+    }
+
+    /// Goes on to the state after an event, or after the last one, and tells the events.
+    fn go_on(&mut self, past: &mut Past, event: u64) -> Result<(), AllocError> {
+        run_to(past, self.events, event, &mut self.telling)
+    }
+
+    /// Goes to the state after an event: back by running again.
+    fn go(&mut self, past: &mut Past, event: u64) -> Result<(), AllocError> {
+        if event < past.kernel.events() {
+            past.restart(self.view.alloc, self.world)?;
+        }
+        run_to(past, self.events, event, &mut Silent)
+    }
+
+    /// Goes on until an event is of interest, and tells that one.
+    fn go_until(&mut self, past: &mut Past, pid: Option<Pid>) -> Result<(), AllocError> {
+        for _ in past.kernel.events()..self.events.len() {
+            self.telling.teller.text.clear();
+            let next = past.kernel.events().saturating_add(1);
+            self.go_on(past, next)?;
+            let is_found = match pid {
+                Some(pid) => self.telling.teller.acted() == Some(pid),
+                None => self.telling.teller.showed,
+            };
+            if is_found {
+                return Ok(());
+            }
+        }
+        Ok(())
+    }
+
+    /// Does what is asked for; whether it goes on.
+    fn follow(&mut self, past: &mut Past, command: Command) -> Result<bool, AllocError> {
+        self.telling.teller.text.clear();
+        let now = past.kernel.events();
+        match command {
+            Command::Next(count) => self.go_on(past, now.saturating_add(count))?,
+            Command::Back(count) => self.go(past, now.saturating_sub(count))?,
+            Command::Go(event) => self.go(past, event)?,
+            Command::Process(number) => self.go_until(past, Pid::new(number))?,
+            Command::Line => self.go_until(past, None)?,
+            Command::State => put_state(self.view, &mut self.telling.teller.text, past)?,
+            Command::Help => self.telling.teller.text.push_str(HELP)?,
+            Command::Quit => return Ok(false),
+        }
+        Ok(true)
+    }
+
+    /// Goes through the run as it is asked for.
+    pub fn follow_all<A: Ask, O: Sink>(
+        &mut self,
+        past: &mut Past,
+        ask: &mut A,
+        out: &mut O,
+    ) -> Result<(), StepFault> {
+        let mut line = String::new(self.view.alloc);
+        for _ in 0..u64::MAX {
+            put_head(
+                &mut self.telling.teller.text,
+                &past.kernel,
+                self.view.events,
+            )?;
+            self.telling.teller.text.push_str("> ")?;
+            put_all(out, self.telling.teller.text.as_str().as_bytes())?;
+            line.clear();
+            if !ask.ask(&mut line)? || !self.follow(past, command_of(line.as_str()))? {
+                return Ok(());
+            }
+        }
+        Ok(())
+    }
+}
