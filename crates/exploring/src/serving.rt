@@ -8,11 +8,11 @@ ghost use Rattle.exploring.specs.Serving.{IsExplored, is_found as has_found, all
 ghost use Rattle.exploring.specs.declared.words.Request.{Request};
 
 use crate::report::report;
-use crate::words::{NoRequest, Request, requested};
+use crate::words::{Request, requested};
 use crate::{Book, Family, Progress, explore};
 use arrayvec::ArrayString;
 use host::{ReadFiles, WordsFault};
-use inputs::{InputFault, number, read_inputs};
+use inputs::{InputFault, NoRequest, number, read_inputs};
 use kernel::{Sink, SinkFault, put_all};
 use schedules::family_size;
 use std::alloc::{AllocError, Global};
@@ -37,7 +37,7 @@ enum Failure<'a> {
     #[error("explore: {0} schedules of up to {1} events: more than {2} events in all are run with --all alone; say fewer by --ticks or --upto")]
     ManyEvents(u64, u64, u64),
     #[error("explore: {0}")]
-    Input(InputFault<'a>),
+    Input(#[from] InputFault<'a>),
     #[error("explore: out of memory")]
     Memory,
     #[error("explore: cannot write")]
@@ -74,12 +74,6 @@ impl From<NoRequest> for Failure<'_> {
             NoRequest::Usage => Failure::Usage,
             NoRequest::Memory => Failure::Memory,
         }
-    }
-}
-
-impl<'a> From<InputFault<'a>> for Failure<'a> {
-    fn from(why: InputFault<'a>) -> Self {
-        Failure::Input(why)
     }
 }
 
@@ -228,8 +222,7 @@ fn serve_words<'a, F: ReadFiles, O: Sink, P: Progress>(
 {
     match words {
         Ok(words) => serve_request(alloc, &requested(alloc, words)?, files, out, progress),
-        Err(WordsFault::NotText) => Err(Failure::Usage),
-        Err(WordsFault::Memory) => Err(Failure::Memory),
+        Err(fault) => Err(NoRequest::from(fault).into()),
     }
 }
 

@@ -1,8 +1,8 @@
 //! The words of the command line.
 
-use clap::error::ErrorKind;
-use clap::{Arg, ArgAction, ArgMatches, Command, Error};
-use std::alloc::{AllocError, Global};
+use clap::{ArgAction, ArgMatches, Command, Error};
+use inputs::{NoRequest, argument, words_behind};
+use std::alloc::Global;
 
 /// What the words ask for.
 #[derive(Drop)]
@@ -19,31 +19,6 @@ pub struct Request<'a> {
     pub all: bool,
 }
 
-/// Why the words ask for nothing.
-#[derive(Clone, Copy, Debug, PartialEq, Eq)]
-pub enum NoRequest {
-    /// Any other words, those that ask for help included.
-    Usage,
-    /// There was no memory to parse the words.
-    Memory,
-}
-
-impl From<AllocError> for NoRequest {
-    fn from(_: AllocError) -> NoRequest {
-        NoRequest::Memory
-    }
-}
-
-impl From<Error> for NoRequest {
-    fn from(error: Error) -> NoRequest {
-        if error.kind() == ErrorKind::OutOfMemory {
-            NoRequest::Memory
-        } else {
-            NoRequest::Usage
-        }
-    }
-}
-
 /// The program's arguments: the required ones, and each option but `--find` with what its use does.
 const ARGUMENTS: [(&str, Option<ArgAction>); 6] = [
     ("world", None),
@@ -53,15 +28,6 @@ const ARGUMENTS: [(&str, Option<ArgAction>); 6] = [
     ("must-halt", Some(ArgAction::SetTrue)),
     ("all", Some(ArgAction::SetTrue)),
 ];
-
-/// An argument: an option, where its use does something, else a required one.
-fn argument<'a>(alloc: Global, name: &'a str, action: Option<ArgAction>) -> Arg<'a> {
-    let argument = Arg::new(alloc, name);
-    match action {
-        Some(action) => argument.long(name).action(action),
-        None => argument.required(true).action(ArgAction::Set),
-    }
-}
 
 /// The program's command line. A text behind `--find` may begin with a hyphen.
 fn command<'a>(alloc: Global) -> Result<Command<'a>, Error> {
@@ -75,14 +41,6 @@ fn command<'a>(alloc: Global) -> Result<Command<'a>, Error> {
     Ok(command)
 }
 
-/// The texts behind each `--find`.
-fn finds_of<'a>(alloc: Global, matches: &ArgMatches<'a>) -> Result<Vec<&'a str>, AllocError> {
-    match matches.get_strs("find") {
-        Some(texts) => Vec::from_slice(alloc, texts),
-        None => Ok(Vec::new(alloc)),
-    }
-}
-
 /// What the words ask for, once they are told apart.
 fn request_of<'a>(alloc: Global, matches: &ArgMatches<'a>) -> Result<Request<'a>, NoRequest> {
     let (Some(world), Some(events)) = (matches.get_str("world"), matches.get_str("events")) else {
@@ -93,7 +51,7 @@ fn request_of<'a>(alloc: Global, matches: &ArgMatches<'a>) -> Result<Request<'a>
         events,
         ticks: matches.get_str("ticks"),
         upto: matches.get_str("upto"),
-        finds: finds_of(alloc, matches)?,
+        finds: words_behind(alloc, matches, "find")?,
         must_halt: matches.get_flag("must-halt"),
         all: matches.get_flag("all"),
     })

@@ -1,5 +1,7 @@
-//! What the programs beside `jobk` are given: a world and its events, by the names of their files, and numbers.
+//! What the programs beside `jobk` are given: words, a world and its events, by the names of their files, and numbers.
 #![tactic(auto)]
+
+mod words;
 
 ghost use Rattle.std.specs.Prelude.{◌≡◌, ◌≤◌, ◌⊎◌, Ok, IfOk, IfSome, length};
 ghost use Rattle.text.specs.WorldTexts.{world_text as world_of_text};
@@ -9,6 +11,7 @@ use host::{FileFault, ReadFiles};
 use std::alloc::Global;
 use text::{EventList, Reason, TextFault, World, read_events, read_world};
 use thiserror::Error;
+pub use words::{NoRequest, argument, words_behind};
 
 /// A world and its events.
 #[derive(Drop)]

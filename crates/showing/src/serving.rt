@@ -7,10 +7,10 @@ use crate::hearing::Telling;
 use crate::past::{Past, past_at, run_to};
 use crate::state::put_state;
 use crate::stepping::{Ask, StepFault, Steps};
-use crate::words::{NoRequest, Request, requested};
+use crate::words::{Request, requested};
 use arrayvec::ArrayString;
 use host::{ReadFiles, WordsFault};
-use inputs::{InputFault, Inputs, number, read_inputs};
+use inputs::{InputFault, Inputs, NoRequest, number, read_inputs};
 use kernel::{Sink, SinkFault, put_all};
 use posix::Pid;
 use std::alloc::{AllocError, Global};
@@ -34,7 +34,7 @@ enum Failure<'a> {
     #[error("show: --step takes its commands from a terminal, and goes with neither --at nor --calls")]
     Step,
     #[error("show: {0}")]
-    Input(InputFault<'a>),
+    Input(#[from] InputFault<'a>),
     #[error("show: out of memory")]
     Memory,
     #[error("show: cannot write")]
@@ -71,12 +71,6 @@ impl From<StepFault> for Failure<'_> {
             StepFault::Write => Failure::Write,
             StepFault::Read => Failure::Read,
         }
-    }
-}
-
-impl<'a> From<InputFault<'a>> for Failure<'a> {
-    fn from(why: InputFault<'a>) -> Self {
-        Failure::Input(why)
     }
 }
 
@@ -273,8 +267,7 @@ fn serve_words<'a, F: ReadFiles, O: Sink, A: Ask>(
 ) -> Result<(), Failure<'a>> {
     match words {
         Ok(words) => serve_request(alloc, &requested(alloc, words)?, files, out, ask),
-        Err(WordsFault::NotText) => Err(Failure::Usage),
-        Err(WordsFault::Memory) => Err(Failure::Memory),
+        Err(fault) => Err(NoRequest::from(fault).into()),
     }
 }
 

@@ -1,8 +1,8 @@
 //! The words of the command line.
 
-use clap::error::ErrorKind;
-use clap::{Arg, ArgAction, ArgMatches, Command, Error};
-use std::alloc::{AllocError, Global};
+use clap::{ArgAction, ArgMatches, Command, Error};
+use inputs::{NoRequest, argument, words_behind};
+use std::alloc::Global;
 
 /// What the words ask for.
 #[derive(Drop)]
@@ -17,31 +17,6 @@ pub struct Request<'a> {
     pub step: bool,
 }
 
-/// Why the words ask for nothing.
-#[derive(Clone, Copy, Debug, PartialEq, Eq)]
-pub enum NoRequest {
-    /// Any other words, those that ask for help included.
-    Usage,
-    /// There was no memory to parse the words.
-    Memory,
-}
-
-impl From<AllocError> for NoRequest {
-    fn from(_: AllocError) -> NoRequest {
-        NoRequest::Memory
-    }
-}
-
-impl From<Error> for NoRequest {
-    fn from(error: Error) -> NoRequest {
-        if error.kind() == ErrorKind::OutOfMemory {
-            NoRequest::Memory
-        } else {
-            NoRequest::Usage
-        }
-    }
-}
-
 /// The program's arguments: the required ones, and each option with what its use does.
 const ARGUMENTS: [(&str, Option<ArgAction>); 6] = [
     ("world", None),
@@ -52,15 +27,6 @@ const ARGUMENTS: [(&str, Option<ArgAction>); 6] = [
     ("step", Some(ArgAction::SetTrue)),
 ];
 
-/// An argument: an option, where its use does something, else a required one.
-fn argument<'a>(alloc: Global, name: &'a str, action: Option<ArgAction>) -> Arg<'a> {
-    let argument = Arg::new(alloc, name);
-    match action {
-        Some(action) => argument.long(name).action(action),
-        None => argument.required(true).action(ArgAction::Set),
-    }
-}
-
 /// The program's command line.
 fn command<'a>(alloc: Global) -> Result<Command<'a>, Error> {
     let mut command = Command::new(alloc, "show").no_binary_name(true);
@@ -68,14 +34,6 @@ fn command<'a>(alloc: Global) -> Result<Command<'a>, Error> {
         command = command.arg(argument(alloc, name, action))?;
     }
     Ok(command)
-}
-
-/// The words behind each `--process`.
-fn processes_of<'a>(alloc: Global, matches: &ArgMatches<'a>) -> Result<Vec<&'a str>, AllocError> {
-    match matches.get_strs("process") {
-        Some(words) => Vec::from_slice(alloc, words),
-        None => Ok(Vec::new(alloc)),
-    }
 }
 
 /// What the words ask for, once they are told apart.
@@ -87,7 +45,7 @@ fn request_of<'a>(alloc: Global, matches: &ArgMatches<'a>) -> Result<Request<'a>
         world,
         events,
         at: matches.get_str("at"),
-        processes: processes_of(alloc, matches)?,
+        processes: words_behind(alloc, matches, "process")?,
         calls: matches.get_flag("calls"),
         step: matches.get_flag("step"),
     })
