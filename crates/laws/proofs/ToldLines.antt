@@ -207,6 +207,16 @@ agree_ended lines k s p w h me other word =
         rw (eq-eqb c p (sym same), there) (agree_made p heir w (kept_of lines c) me.what word me.lives (subst (AgreeOn (kept_of lines c)) there (h.records c)))
     one heir c false t = rw (ne_eqb c p (λ e. eqb-false p c t (sym e))) (agree_given p heir (kept_of lines c) (process s c) (h.records c))
 
+-- a line that changes one process, and what is kept of its number
+changed_agree : (lines : List Line) (s : State) (p : ℕ) (g : Kept → Kept) (x : Process → Process) (me : IsLiving s p)
+    → ((r : Process) → (x r).pid ≡ r.pid) → ((k : Kept) → AgreeOn k (Some me.what) → AgreeOn (g k) (Some (x me.what))) → ((c : ℕ) → AgreeOn (kept_of lines c) (process s c))
+    → (c : ℕ) (b : Bool) → (p == c) ≡ b → AgreeOn (cond b (g (kept_of lines c)) (kept_of lines c)) (lookup c (changed p x s.processes))
+changed_agree lines s p g x me pid told records c true t =
+    let same = eqb-true p c t in
+    let there = ap (process s) (sym same) ∙ me.found in
+    rw (lookup_changed p c x pid s.processes, eq-eqb c p (sym same), there) (told (kept_of lines c) (subst (AgreeOn (kept_of lines c)) there (records c)))
+changed_agree lines s p g x me pid told records c false t = rw (lookup_changed p c x pid s.processes, ne_eqb c p (λ e. eqb-false p c t (sym e))) (records c)
+
 -- ---- a halt
 
 moved_same : (parent : ℕ) → moved_from 1 1 parent ≡ parent
@@ -243,19 +253,11 @@ agree_halted lines k s w h me word =
       place = may_say kept 1 (Ended 1 w) (in_life Going lines k s 1 h me) refl;
       birth = refl;
       report = refl;
-      records = λ c. one c (1 == c) refl;
+      records = λ c. rw (given_same (kept_of lines c)) (changed_agree lines s 1 (ended_with w) (ended w) me (ended_pid w) (λ q. agree_first w q me.what (pid_looked 1 s.processes me.what me.found) word me.lives) h.records c (1 == c) refl);
       births = omega arith;
       total = omega (arith, l);
     }) in
     agree_says FirstEnded (lines ++ line k (Ended 1 w) ∷ []) k Halted (halt s w) (halt s w) first (record { place = refl; birth = refl; report = refl; records = first.records; births = omega arith; total = refl })
-  where
-    one : (c : ℕ) (b : Bool) → (1 == c) ≡ b → AgreeOn (cond b (ended_with w (given_on 1 1 (kept_of lines c))) (given_on 1 1 (kept_of lines c))) (lookup c (changed 1 (ended w) s.processes))
-    one c true t =
-        let same : 1 ≡ c = eqb-true 1 c t in
-        let there : process s c ≡ Some me.what = ap (process s) (sym same) ∙ me.found in
-        rw (given_same (kept_of lines c), lookup_changed 1 c (ended w) (ended_pid w) s.processes, eq-eqb c 1 (sym same), there)
-        (agree_first w (kept_of lines c) me.what (pid_looked 1 s.processes me.what me.found) word me.lives (subst (AgreeOn (kept_of lines c)) there (h.records c)))
-    one c false t = rw (given_same (kept_of lines c), lookup_changed 1 c (ended w) (ended_pid w) s.processes, ne_eqb c 1 (λ e. eqb-false 1 c t (sym e))) (h.records c)
 
 -- ---- stops
 
@@ -274,18 +276,10 @@ agree_stopped lines k s p n h me word =
       place = may_say kept p (Stopped p n) (in_life Going lines k s p h me) refl;
       birth = refl;
       report = refl;
-      records = λ c. one c (p == c) refl;
+      records = λ c. changed_agree lines s p (after_stop n) (stopped_by n) me (stopped_pid n) (λ q. agree_stops n q me.what word me.lives) h.records c (p == c) refl;
       births = omega arith;
       total = omega (arith, l);
     })
-  where
-    one : (c : ℕ) (b : Bool) → (p == c) ≡ b → AgreeOn (cond b (after_stop n (kept_of lines c)) (kept_of lines c)) (lookup c (changed p (stopped_by n) s.processes))
-    one c true t =
-        let same : p ≡ c = eqb-true p c t in
-        let there : process s c ≡ Some me.what = ap (process s) (sym same) ∙ me.found in
-        rw (lookup_changed p c (stopped_by n) (stopped_pid n) s.processes, eq-eqb c p (sym same), there)
-        (agree_stops n (kept_of lines c) me.what word me.lives (subst (AgreeOn (kept_of lines c)) there (h.records c)))
-    one c false t = rw (lookup_changed p c (stopped_by n) (stopped_pid n) s.processes, ne_eqb c p (λ e. eqb-false p c t (sym e))) (h.records c)
 
 -- ---- marks
 
@@ -309,18 +303,10 @@ agree_marked lines k s p mark h me =
       place = may_say kept p (Marked p mark) (in_life Going lines k s p h me) refl;
       birth = refl;
       report = refl;
-      records = λ c. one c (p == c) refl;
+      records = λ c. changed_agree lines s p (after_mark mark) (marked_as mark) me (marked_pid mark) (λ q. agree_marks mark q me.what me.lives) h.records c (p == c) refl;
       births = omega arith;
       total = omega (arith, l);
     })
-  where
-    one : (c : ℕ) (b : Bool) → (p == c) ≡ b → AgreeOn (cond b (after_mark mark (kept_of lines c)) (kept_of lines c)) (lookup c (changed p (marked_as mark) s.processes))
-    one c true t =
-        let same : p ≡ c = eqb-true p c t in
-        let there : process s c ≡ Some me.what = ap (process s) (sym same) ∙ me.found in
-        rw (lookup_changed p c (marked_as mark) (marked_pid mark) s.processes, eq-eqb c p (sym same), there)
-        (agree_marks mark (kept_of lines c) me.what me.lives (subst (AgreeOn (kept_of lines c)) there (h.records c)))
-    one c false t = rw (lookup_changed p c (marked_as mark) (marked_pid mark) s.processes, ne_eqb c p (λ e. eqb-false p c t (sym e))) (h.records c)
 
 -- ---- reports
 
