@@ -8,7 +8,6 @@ use Rattle.std.specs.Map.{keys_of}
 use Rattle.audit.specs.declared.records.Record.{Record}
 use Rattle.audit.specs.Records.{record_in, IsChanged}
 use Rattle.audit.specs.Children.{parent_in, first_of, behind_of, behind_in, before_in, state_in, Stands, IsNext, AreLinked, IsJoined, AreAllGiven, AreGivenOn, count_children, with_first, with_parent}
-use Rattle.audit.proofs.RecordLemmas.{at_is}
 use Rattle.audit.proofs.FieldLemmas.{IsParentSet, parent_set, IsFirstSet, first_set, AreJoined, joins, state_same}
 use Rattle.audit.proofs.ChildLemmas.{is_there, behind_first, child_there}
 use Rattle.audit.proofs.KeptLemmas.{there_by_state}
@@ -45,7 +44,7 @@ less_in f g c most one (e ∷ es) there = by (λ t. less_in f g c most one es t)
         omega (arith, here, others, sum_by-cons g e.0 (keys_of es), sum_by-cons f e.0 (keys_of es))
     by rest (inr apart) t =
         let here = most e.0 in
-        let others = rest (rw (at_is c e.0, ne_eqb c e.0 apart) at t) in
+        let others = rest (rw (ne_eqb c e.0 apart) at t) in
         omega (arith, here, others, sum_by-cons g e.0 (keys_of es), sum_by-cons f e.0 (keys_of es))
 
 abbrev bit_of : Bool → ℕ

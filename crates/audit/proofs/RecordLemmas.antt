@@ -1,31 +1,19 @@
 -- What records keep when one of them changes.
-use Rattle.std.proofs.Common.{◌≡◌, ◌≢◌, ◌⊎◌, ℕ, Bool, true, false, cond, if◌then◌else◌, ◌==◌, List, Some, None, refl, ap, sym, ◌∙◌, arith, inl, inr}
-use Rattle.std.proofs.lemmas.Bool.{ltb-true, cases_eq, eq-eqb, ne_eqb}
+use Rattle.std.proofs.Common.{◌≡◌, ◌≢◌, ◌⊎◌, ℕ, Bool, true, false, cond, if◌then◌else◌, ◌==◌, List, Some, None, refl, ap, sym, ◌∙◌, inl, inr}
+use Rattle.std.proofs.lemmas.Bool.{cases_eq, eq-eqb, ne_eqb}
 use Rattle.laws.specs.Keeping.{Kept, NeverBorn, lives_now}
 use Rattle.audit.specs.declared.records.Record.{Record}
 use Rattle.audit.specs.declared.records.State.{State}
 use Rattle.audit.specs.Records.{kept_as, kept_record, kept_by, record_in, changed, IsChanged}
 use Rattle.audit.specs.Children.{in_state}
-use Rattle.std.proofs.Common.{nat_cmp, nat_lt, Less, Equal, Greater}
 use Rattle.std.specs.Map.{keys_of}
-use Rattle.std.specs.Ordering.{is_eq}
-use Rattle.std.specs.BTreeMap.{is_at}
-
--- a map finds a number where it is equal
-pub at_is : (n q : ℕ) → is_at (nat_cmp n) q ≡ (n == q)
-at_is n q = by (nat_lt n q) (n == q) (λ l. ne_eqb n q (λ e. omega (arith, ltb-true n q l, e)))
-  where
-    by : (less same : Bool) → (less ≡ true → same ≡ false) → is_eq (cond less Less (cond same Equal Greater)) ≡ same
-    by true same h = sym (h refl)
-    by false true h = refl
-    by false false h = refl
 
 -- ---- one record is written
 
 pub written : (p n : ℕ) (f : Record → Record) (old new : List (ℕ × Record)) (r : Record) → n ≡ p → record_in old n ≡ Some r
-    → ((q : ℕ) → record_in new q ≡ cond (is_at (nat_cmp n) q) (Some (f r)) (record_in old q)) → keys_of new ≡ keys_of old → IsChanged p f old new
+    → ((q : ℕ) → record_in new q ≡ cond (n == q) (Some (f r)) (record_in old q)) → keys_of new ≡ keys_of old → IsChanged p f old new
 written p n f old new r same found is keys = record {
-  is = λ q. is q ∙ ap (λ (b : Bool). cond b (Some (f r)) (record_in old q)) (at_is n q) ∙ by q (cases_eq n q);
+  is = λ q. is q ∙ by q (cases_eq n q);
   keys = keys;
 }
   where

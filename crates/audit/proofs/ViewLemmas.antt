@@ -1,9 +1,6 @@
 -- What an audit keeps is what its fields keep.
-use Rattle.std.proofs.Common.{◌≡◌, ℕ, List, Option, Some, None, Result, Ok, Err, OnOk, OnErr, true, false, refl, ap, sym, ◌∙◌, subst, nat_eq, nat_cmp, [], ◌∷◌, option_map}
+use Rattle.std.proofs.Common.{◌≡◌, ℕ, List, Option, Some, None, Result, Ok, Err, OnOk, OnErr, true, false, refl, ap, sym, ◌∙◌, subst, nat_eq, option_map}
 use Rattle.std.specs.Option.{unwrap_or}
-use Rattle.std.specs.Map.{lookup}
-use Rattle.std.specs.BTreeMap.{is_at}
-use Rattle.audit.proofs.RecordLemmas.{at_is}
 use Rattle.std.specs.Result.{is_err}
 use Rattle.std.proofs.lemmas.Map.Made.{lookup-map_values}
 use mathlib.Core.Path.{fun_ext}
@@ -20,16 +17,11 @@ known_or : (o : Option Record) → unwrap_or (option_map (λ r. kept_record (Som
 known_or None = refl
 known_or (Some r) = refl
 
--- the look-ups of a map find what an equal number finds
-found_at : (entries : List (ℕ × Kept)) (c : ℕ) → lookup (nat_eq c) entries ≡ lookup (is_at (nat_cmp c)) entries
-found_at [] c = refl
-found_at (e ∷ es) c = rw (at_is c e.0, found_at es c) refl
-
 -- what is kept of c
 pub all_at : (entries : List (ℕ × Record)) (c : ℕ) → kept_at (kept_all entries) c ≡ kept_by entries c
 unfolding kept_at kept_all kept_by
 all_at entries c =
-    ap (λ (o : Option Kept). unwrap_or o NeverBorn) (found_at (kept_all entries) c ∙ lookup-map_values (λ r. kept_record (Some r)) (is_at (nat_cmp c)) entries)
+    ap (λ (o : Option Kept). unwrap_or o NeverBorn) (lookup-map_values (λ r. kept_record (Some r)) (nat_eq c) entries)
     ∙ known_or (record_in entries c)
 
 all_kept : (entries : List (ℕ × Record)) → kept_by entries ≡ kept_at (kept_all entries)

@@ -1,8 +1,6 @@
 -- What the auditor holds of each number: a record of its newest life.
-use Rattle.std.specs.Prelude.{ℕ, ◌≡◌, ◌==◌, Bool, true, false, if◌then◌else◌, List, Option, Some, None, option_map, map}
+use Rattle.std.specs.Prelude.{ℕ, ◌≡◌, ◌==◌, Bool, true, false, if◌then◌else◌, nat_eq, List, Option, Some, None, option_map, map}
 use Rattle.std.specs.Map.{keys_of, lookup}
-use Rattle.std.specs.BTreeMap.{is_at}
-use Rattle.std.specs.Ordering.{nat_cmp}
 use Rattle.audit.specs.declared.records.Record.{Record}
 use Rattle.audit.specs.declared.records.State.{State}
 use Rattle.audit.specs.declared.records.State.TheVariants.{Living, Ended}
@@ -29,7 +27,7 @@ kept_record (Some r) = kept_as r.parent r.state
 
 -- the record of c among the entries of a map
 abbrev pub record_in : List (ℕ × Record) → ℕ → Option Record
-record_in entries c = lookup (is_at (nat_cmp c)) entries
+record_in entries c = lookup (nat_eq c) entries
 
 -- what is kept of c
 unfoldable pub kept_by : List (ℕ × Record) → ℕ → Kept

@@ -12,7 +12,7 @@ use crate::lines::born_by;
 use crate::records::{Record, State, set_state};
 use posix::{Entry, Pid, Sig, Status};
 use std::alloc::{AllocError, Global};
-use std::collections::BTreeMap;
+use std::collections::HashMap;
 use std::marker::Model;
 
 /// The newest life of a number.
@@ -26,7 +26,7 @@ pub(crate) struct Newest {
 /// that no choice of numbers makes look-ups slow.
 #[derive(Drop)]
 pub(crate) struct Known {
-    records: BTreeMap<u32, Record>,
+    records: HashMap<u32, Record>,
     /// Whether there may be child subreapers: none are looked for before the first one is marked.
     may_be_marked: bool,
 }
@@ -50,7 +50,7 @@ impl Known {
     pub(crate) fn new(alloc: Global) -> Result<Known, AllocError>
         ensures { IfOk result (λ known. (c : ℕ) → kept_by known c ≡ kept_of [] c) }
     {
-        let mut records = BTreeMap::new(alloc);
+        let mut records = HashMap::new(alloc);
         begin(&mut records, Pid::INIT, State::newborn())?;
         Ok(Known {
             records,
@@ -186,7 +186,7 @@ impl Known {
 }
 
 /// The nearest forebear of a number that is a child subreaper, or process 1. There are no more forebears than numbers.
-fn nearest_marked(records: &BTreeMap<u32, Record>, pid: Pid) -> Pid
+fn nearest_marked(records: &HashMap<u32, Record>, pid: Pid) -> Pid
     requires { pid ≢ 1 }
     ensures { result ≡ heir_of (kept_by records.now.entries) pid }
 {

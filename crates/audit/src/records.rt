@@ -6,7 +6,7 @@ ghost use Rattle.audit.specs.Records.{is_living_state, kept_as, record_in, IsCha
 ghost use Rattle.audit.specs.Children.{first_of, behind_of, with_first, with_before, with_behind, with_parent, with_place, in_state, restarted};
 
 use posix::{Pid, Sig, Status};
-use std::collections::BTreeMap;
+use std::collections::HashMap;
 
 /// What the lines so far say of a life.
 #[derive(Clone, Copy)]
@@ -147,7 +147,7 @@ impl State {
 }
 
 /// A record's state is another from now on, where there is a record.
-pub(crate) fn set_state(records: &mut BTreeMap<u32, Record>, pid: Pid, state: State)
+pub(crate) fn set_state(records: &mut HashMap<u32, Record>, pid: Pid, state: State)
     ensures { IsChanged pid (in_state state) records.old.entries records.new.entries }
 {
     let Some(record) = records.get_mut(&pid.number()) else {
@@ -158,11 +158,7 @@ pub(crate) fn set_state(records: &mut BTreeMap<u32, Record>, pid: Pid, state: St
 
 /// A record's state is another from now on, and it has no parent, where there is a record. The result is the record that
 /// was there.
-pub(crate) fn restart(
-    records: &mut BTreeMap<u32, Record>,
-    pid: Pid,
-    state: &State,
-) -> Option<Record>
+pub(crate) fn restart(records: &mut HashMap<u32, Record>, pid: Pid, state: &State) -> Option<Record>
     ensures is { IsChanged pid (restarted state.now) records.old.entries records.new.entries }
     ensures was { result ≡ record_in records.old.entries pid }
     ensures none { result ≡ None → records.new.entries ≡ records.old.entries }
@@ -177,7 +173,7 @@ pub(crate) fn restart(
 }
 
 /// A record's parent is another from now on, where there is a record. The result is who stands behind it.
-pub(crate) fn set_parent(records: &mut BTreeMap<u32, Record>, pid: Pid, parent: Pid) -> Pid
+pub(crate) fn set_parent(records: &mut HashMap<u32, Record>, pid: Pid, parent: Pid) -> Pid
     ensures is { IsChanged pid (with_parent parent) records.old.entries records.new.entries }
     ensures behind { result ≡ behind_of (record_in records.old.entries) pid }
 {
@@ -189,7 +185,7 @@ pub(crate) fn set_parent(records: &mut BTreeMap<u32, Record>, pid: Pid, parent: 
 }
 
 /// The first child of a number is another from now on, where there is a record. The result is who was the first.
-pub(crate) fn set_first(records: &mut BTreeMap<u32, Record>, pid: Pid, first: Pid) -> Pid
+pub(crate) fn set_first(records: &mut HashMap<u32, Record>, pid: Pid, first: Pid) -> Pid
     ensures is { IsChanged pid (with_first first) records.old.entries records.new.entries }
     ensures was { result ≡ first_of (record_in records.old.entries) pid }
 {
@@ -202,7 +198,7 @@ pub(crate) fn set_first(records: &mut BTreeMap<u32, Record>, pid: Pid, first: Pi
 }
 
 /// Another one stands before a number from now on, where there is a record.
-pub(crate) fn set_before(records: &mut BTreeMap<u32, Record>, pid: Pid, before: Pid)
+pub(crate) fn set_before(records: &mut HashMap<u32, Record>, pid: Pid, before: Pid)
     ensures { IsChanged pid (with_before before) records.old.entries records.new.entries }
 {
     let Some(record) = records.get_mut(&pid.number()) else {
@@ -212,7 +208,7 @@ pub(crate) fn set_before(records: &mut BTreeMap<u32, Record>, pid: Pid, before: 
 }
 
 /// Another one stands behind a number from now on, where there is a record.
-pub(crate) fn set_behind(records: &mut BTreeMap<u32, Record>, pid: Pid, behind: Pid)
+pub(crate) fn set_behind(records: &mut HashMap<u32, Record>, pid: Pid, behind: Pid)
     ensures { IsChanged pid (with_behind behind) records.old.entries records.new.entries }
 {
     let Some(record) = records.get_mut(&pid.number()) else {
@@ -223,7 +219,7 @@ pub(crate) fn set_behind(records: &mut BTreeMap<u32, Record>, pid: Pid, behind: 
 
 /// A number comes before another one among the children of a parent from now on, and nobody stands before it, where there
 /// is a record.
-pub(crate) fn set_place(records: &mut BTreeMap<u32, Record>, pid: Pid, parent: Pid, behind: Pid)
+pub(crate) fn set_place(records: &mut HashMap<u32, Record>, pid: Pid, parent: Pid, behind: Pid)
     ensures { IsChanged pid (with_place parent behind) records.old.entries records.new.entries }
 {
     let Some(record) = records.get_mut(&pid.number()) else {

@@ -2,7 +2,6 @@ use Rattle.std.proofs.Common.{◌≡◌, ◌==◌, Some, None, cond, ap, sym, �
 use Rattle.std.proofs.lemmas.Bool.{ltb-true, ltb-false}
 use Rattle.audit.specs.declared.records.Record.{Record}
 use Rattle.audit.specs.Records.{record_in}
-use Rattle.audit.proofs.RecordLemmas.{at_is}
 use Rattle.audit.proofs.FieldLemmas.{is_new}
 use Rattle.audit.proofs.ChildLemmas.{begun_unlisted, begun_away, begun_anew}
 use Rattle.audit.proofs.KeptLemmas.{on_err_too}
@@ -18,7 +17,7 @@ returns-in_default-clause-ok c =
     let none : record_in old c.number.result ≡ None = ap (record_in old) c.number.ensures.value ∙ sym c.restart.ensures.was ∙ c.in_default.is in
     let r : Record = record { parent = 0; before = 0; behind = 0; first = 0; state = c.args.state } in
     begun_anew c.args.pid c.args.state old c.insert.new.self.entries c.requires.linked (is_new c.args.pid c.number.result c.args.state r old c.insert.new.self.entries c.number.ensures.value none refl
-    (λ q. (c.in_ok-insert.ensures.updates).0 q ∙ ap (λ b. cond b (Some r) (record_in c.restart.new.records.entries q)) (at_is c.number.result q) ∙ ap (λ es. cond (c.number.result == q) (Some r) (record_in es q)) same))
+    (λ q. (c.in_ok-insert.ensures.updates).0 q ∙ ap (λ es. cond (c.number.result == q) (Some r) (record_in es q)) same))
 
 pub returns-then-has_list-clause-ok : goal.returns-then-has_list-clause-ok
 returns-then-has_list-clause-ok c =
