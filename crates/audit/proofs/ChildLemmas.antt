@@ -4,7 +4,8 @@ use Rattle.std.proofs.lemmas.Bool.Decides.{nat_tests}
 use Rattle.std.proofs.lemmas.Bool.{cases_eq, cond_both, eq-eqb, ne_eqb}
 use Rattle.audit.specs.declared.records.Record.{Record}
 use Rattle.audit.specs.declared.records.State.{State}
-use Rattle.audit.specs.Children.{parent_in, first_of, behind_in, before_in, Stands, IsNext, AreLinked, KeepLinks, IsJoined, IsGiven, IsBegun, with_first, with_before, with_parent, with_place, restarted}
+use Rattle.audit.specs.Children.{parent_in, first_of, behind_in, before_in, Stands, IsNext, AreLinked, KeepLinks, IsJoined, IsGiven, IsBegun, restarted, linked}
+use Rattle.audit.specs.declared.records.Link.TheVariants.{Before, First, Parent, Place}
 use Rattle.audit.specs.Records.{record_in, IsChanged}
 use Rattle.std.specs.Option.{option_map_or}
 use Rattle.audit.proofs.FieldLemmas.{IsParentSet, parent_set, AreJoined, joins, IsFirstPut, first_put, state_same, state_set, there_same, IsNew}
@@ -279,13 +280,13 @@ pub behind_first : (f : ℕ → Option Record) (k : ℕ) → behind_in f k 0 ≡
 unfolding behind_in
 behind_first f k = refl
 
-pub given_unlisted : (p k : ℕ) (old new : List (ℕ × Record)) → AreLinked (record_in old) → 1 ≤ p → is_some (record_in old p) ≡ true → parent_in (record_in old) p ≤ 1 → k ≤ 1 → IsChanged p (with_parent k) old new → IsGiven p k old new
+pub given_unlisted : (p k : ℕ) (old new : List (ℕ × Record)) → AreLinked (record_in old) → 1 ≤ p → is_some (record_in old p) ≡ true → parent_in (record_in old) p ≤ 1 → k ≤ 1 → IsChanged p (linked (Parent k)) old new → IsGiven p k old new
 given_unlisted p k old new l one there low none h =
-    let s = parent_set p k (with_parent k) (λ r. (refl, refl, refl, refl)) old new h there in
+    let s = parent_set p k (linked (Parent k)) (λ r. (refl, refl, refl, refl)) old new h there in
     record {
       linked = unlisted (record_in old) (record_in new) p k l low none (λ z. omega (arith, one, z)) s;
       parent = s.parent;
-      state = state_same p (with_parent k) (λ r. refl) (record_in old) (record_in new) h.is;
+      state = state_same p (linked (Parent k)) (λ r. refl) (record_in old) (record_in new) h.is;
       keys = h.keys;
     }
 
@@ -295,7 +296,7 @@ child_there f k i two (inl none) other = absurd (other none)
 child_there f k i two (inr e) other = is_there f i (λ z. omega (arith, e, z, two))
 
 pub given_first : (p k b : ℕ) (old mid next new : List (ℕ × Record)) → AreLinked (record_in old) → 1 ≤ p → is_some (record_in old p) ≡ true → parent_in (record_in old) p ≡ 0 → 2 ≤ k → is_some (record_in old k) ≡ true → b ≡ behind_in (record_in old) k 0
-    → IsChanged k (with_first p) old mid → IsChanged p (with_place k b) mid next → IsChanged b (with_before p) next new → IsGiven p k old new
+    → IsChanged k (linked (First p)) old mid → IsChanged p (linked (Place k b)) mid next → IsChanged b (linked (Before p)) next new → IsGiven p k old new
 given_first p k b old mid next new l one there apart two parent first x y z =
     let some : p ≢ 0 = (λ n. omega (arith, one, n)) in
     let above : Stands (record_in old) k b = subst (Stands (record_in old) k) (sym first) (l.behind k 0 two (inl refl)).stands in

@@ -6,7 +6,8 @@ use Rattle.std.proofs.lemmas.Bool.Decides.{nat_tests}
 use Rattle.audit.specs.declared.records.Record.{Record}
 use Rattle.audit.specs.declared.records.State.{State}
 use Rattle.audit.specs.Records.{record_in, changed, IsChanged}
-use Rattle.audit.specs.Children.{parent_in, first_of, behind_of, behind_in, before_in, state_in, with_first, with_before, with_behind, with_place, in_state, restarted, put_behind, IsJoined, KeepLinks}
+use Rattle.audit.specs.Children.{parent_in, first_of, behind_of, behind_in, before_in, state_in, in_state, restarted, put_behind, IsJoined, KeepLinks, linked}
+use Rattle.audit.specs.declared.records.Link.TheVariants.{Before, Behind, First, Place}
 
 -- a field that doesn't change
 field_same : (read : Record → ℕ) (p : ℕ) (h : Record → Record) → ((r : Record) → read (h r) ≡ read r) → (f g : ℕ → Option Record) → ((q : ℕ) → g q ≡ changed p h f q) → (i : ℕ) → option_map_or read (g i) 0 ≡ option_map_or read (f i) 0
@@ -89,17 +90,17 @@ pub record IsFirstSet (k b : ℕ) (f g : ℕ → Option Record) : Type 0 where
   pub before : (i : ℕ) → before_in g i ≡ before_in f i
   pub state : (i : ℕ) → state_in g i ≡ state_in f i
 
-pub first_set : (k b : ℕ) (old new : List (ℕ × Record)) → IsChanged k (with_first b) old new → (b ≢ 0 → is_some (record_in old k) ≡ true) → IsFirstSet k b (record_in old) (record_in new)
+pub first_set : (k b : ℕ) (old new : List (ℕ × Record)) → IsChanged k (linked (First b)) old new → (b ≢ 0 → is_some (record_in old k) ≡ true) → IsFirstSet k b (record_in old) (record_in new)
 unfolding parent_in behind_in before_in
 first_set k b old new h there = record {
-  parent = field_same (λ r. r.parent) k (with_first b) (λ r. refl) (record_in old) (record_in new) h.is;
+  parent = field_same (λ r. r.parent) k (linked (First b)) (λ r. refl) (record_in old) (record_in new) h.is;
   first = λ n. elim (cases_eq b 0) [
-    | inl none ↦ field_zero (λ r. r.first) k (with_first b) (λ r. none) (record_in old) (record_in new) h.is n ∙ ap (λ v. cond (n == k) v (first_of (record_in old) n)) (sym none)
-    | inr some ↦ field_set (λ r. r.first) k b (with_first b) (λ r. refl) (record_in old) (record_in new) h.is (there some) n
+    | inl none ↦ field_zero (λ r. r.first) k (linked (First b)) (λ r. none) (record_in old) (record_in new) h.is n ∙ ap (λ v. cond (n == k) v (first_of (record_in old) n)) (sym none)
+    | inr some ↦ field_set (λ r. r.first) k b (linked (First b)) (λ r. refl) (record_in old) (record_in new) h.is (there some) n
   ];
-  behind = λ n i some. rw (ne_eqb i 0 some) (field_same (λ r. r.behind) k (with_first b) (λ r. refl) (record_in old) (record_in new) h.is i);
-  before = field_same (λ r. r.before) k (with_first b) (λ r. refl) (record_in old) (record_in new) h.is;
-  state = state_same k (with_first b) (λ r. refl) (record_in old) (record_in new) h.is;
+  behind = λ n i some. rw (ne_eqb i 0 some) (field_same (λ r. r.behind) k (linked (First b)) (λ r. refl) (record_in old) (record_in new) h.is i);
+  before = field_same (λ r. r.before) k (linked (First b)) (λ r. refl) (record_in old) (record_in new) h.is;
+  state = state_same k (linked (First b)) (λ r. refl) (record_in old) (record_in new) h.is;
 }
 
 -- ---- two are joined
@@ -123,30 +124,30 @@ record IsHalf (k a b : ℕ) (f g : ℕ → Option Record) : Type 0 where
   state : (i : ℕ) → state_in g i ≡ state_in f i
   there : (i : ℕ) → is_some (g i) ≡ is_some (f i)
 
-half_first : (k a b : ℕ) (f g : ℕ → Option Record) → a ≡ 0 → ((q : ℕ) → g q ≡ changed k (with_first b) f q) → is_some (f k) ≡ true → IsHalf k a b f g
+half_first : (k a b : ℕ) (f g : ℕ → Option Record) → a ≡ 0 → ((q : ℕ) → g q ≡ changed k (linked (First b)) f q) → is_some (f k) ≡ true → IsHalf k a b f g
 unfolding parent_in before_in
 half_first k a b f g none is there = record {
-  parent = field_same (λ r. r.parent) k (with_first b) (λ r. refl) f g is;
-  first = λ e. field_set (λ r. r.first) k b (with_first b) (λ r. refl) f g is there;
+  parent = field_same (λ r. r.parent) k (linked (First b)) (λ r. refl) f g is;
+  first = λ e. field_set (λ r. r.first) k b (linked (First b)) (λ r. refl) f g is there;
   else_first = λ some. absurd (some none);
   behind = λ some. absurd (some none);
-  else_behind = λ e. field_same (λ r. r.behind) k (with_first b) (λ r. refl) f g is;
-  before = field_same (λ r. r.before) k (with_first b) (λ r. refl) f g is;
-  state = state_same k (with_first b) (λ r. refl) f g is;
-  there = there_same k (with_first b) f g is;
+  else_behind = λ e. field_same (λ r. r.behind) k (linked (First b)) (λ r. refl) f g is;
+  before = field_same (λ r. r.before) k (linked (First b)) (λ r. refl) f g is;
+  state = state_same k (linked (First b)) (λ r. refl) f g is;
+  there = there_same k (linked (First b)) f g is;
 }
 
-half_behind : (k a b : ℕ) (f g : ℕ → Option Record) → a ≢ 0 → ((q : ℕ) → g q ≡ changed a (with_behind b) f q) → is_some (f a) ≡ true → IsHalf k a b f g
+half_behind : (k a b : ℕ) (f g : ℕ → Option Record) → a ≢ 0 → ((q : ℕ) → g q ≡ changed a (linked (Behind b)) f q) → is_some (f a) ≡ true → IsHalf k a b f g
 unfolding parent_in before_in
 half_behind k a b f g some is there = record {
-  parent = field_same (λ r. r.parent) a (with_behind b) (λ r. refl) f g is;
+  parent = field_same (λ r. r.parent) a (linked (Behind b)) (λ r. refl) f g is;
   first = λ e. absurd (some e);
-  else_first = λ e. field_same (λ r. r.first) a (with_behind b) (λ r. refl) f g is;
-  behind = λ e. field_set (λ r. r.behind) a b (with_behind b) (λ r. refl) f g is there;
+  else_first = λ e. field_same (λ r. r.first) a (linked (Behind b)) (λ r. refl) f g is;
+  behind = λ e. field_set (λ r. r.behind) a b (linked (Behind b)) (λ r. refl) f g is there;
   else_behind = λ e. absurd (some e);
-  before = field_same (λ r. r.before) a (with_behind b) (λ r. refl) f g is;
-  state = state_same a (with_behind b) (λ r. refl) f g is;
-  there = there_same a (with_behind b) f g is;
+  before = field_same (λ r. r.before) a (linked (Behind b)) (λ r. refl) f g is;
+  state = state_same a (linked (Behind b)) (λ r. refl) f g is;
+  there = there_same a (linked (Behind b)) f g is;
 }
 
 half_joined : (k a b : ℕ) (f : ℕ → Option Record) → (a ≡ 0 → is_some (f k) ≡ true) → (a ≢ 0 → is_some (f a) ≡ true) → IsHalf k a b f (put_behind k a b f)
@@ -169,19 +170,19 @@ joins k a b old new h first behind next =
     let g : ℕ → Option Record = record_in new in
     let m : ℕ → Option Record = put_behind k a b f in
     let j : IsHalf k a b f m = half_joined k a b f first behind in
-    let firsts : (i : ℕ) → first_of g i ≡ first_of m i = field_same (λ r. r.first) b (with_before a) (λ r. refl) m g h.is in
-    let behinds : (i : ℕ) → behind_of g i ≡ behind_of m i = field_same (λ r. r.behind) b (with_before a) (λ r. refl) m g h.is in
+    let firsts : (i : ℕ) → first_of g i ≡ first_of m i = field_same (λ r. r.first) b (linked (Before a)) (λ r. refl) m g h.is in
+    let behinds : (i : ℕ) → behind_of g i ≡ behind_of m i = field_same (λ r. r.behind) b (linked (Before a)) (λ r. refl) m g h.is in
     record {
-      parent = λ i. field_same (λ r. r.parent) b (with_before a) (λ r. refl) m g h.is i ∙ j.parent i;
+      parent = λ i. field_same (λ r. r.parent) b (linked (Before a)) (λ r. refl) m g h.is i ∙ j.parent i;
       behind = λ n i same. behind_same k a b n i (first_of f n) (behind_of f i) (first_of g n) (behind_of g i) same
           (λ e. firsts n ∙ j.first e n) (λ e. firsts n ∙ j.else_first e n) (λ e. behinds i ∙ j.behind e i) (λ e. behinds i ∙ j.else_behind e i);
       else_behind = λ n i other apart. behind_other k a b n i (first_of f n) (behind_of f i) (first_of g n) (behind_of g i) other apart
           (λ e. firsts n ∙ j.first e n) (λ e. firsts n ∙ j.else_first e n) (λ e. behinds i ∙ j.behind e i) (λ e. behinds i ∙ j.else_behind e i);
       before = λ i some. elim (cases_eq b 0) [
-        | inl none ↦ rw (ne_eqb i b (λ e. some (e ∙ none))) (field_kept (λ r. r.before) b (with_before a) m g h.is i (λ e. some (sym e ∙ none)) ∙ j.before i)
-        | inr there ↦ field_set (λ r. r.before) b a (with_before a) (λ r. refl) m g h.is (j.there b ∙ next there) i ∙ ap (cond (i == b) a) (j.before i)
+        | inl none ↦ rw (ne_eqb i b (λ e. some (e ∙ none))) (field_kept (λ r. r.before) b (linked (Before a)) m g h.is i (λ e. some (sym e ∙ none)) ∙ j.before i)
+        | inr there ↦ field_set (λ r. r.before) b a (linked (Before a)) (λ r. refl) m g h.is (j.there b ∙ next there) i ∙ ap (cond (i == b) a) (j.before i)
       ];
-      state = λ i. state_same b (with_before a) (λ r. refl) m g h.is i ∙ j.state i;
+      state = λ i. state_same b (linked (Before a)) (λ r. refl) m g h.is i ∙ j.state i;
     }
 
 -- ---- one comes first
@@ -201,32 +202,32 @@ put_other : (k p b n i x y v w : ℕ) → n ≢ k → i ≢ p → v ≡ cond (n 
 put_other k p b n i x y v w other apart first behind = grind (arith, nat_tests)
 
 pub first_put : (k p b : ℕ) (old mid next new : List (ℕ × Record)) → p ≢ 0 → is_some (record_in old p) ≡ true → is_some (record_in old k) ≡ true → (b ≢ 0 → is_some (record_in old b) ≡ true)
-    → IsChanged k (with_first p) old mid → IsChanged p (with_place k b) mid next → IsChanged b (with_before p) next new → IsFirstPut k p b (record_in old) (record_in new)
+    → IsChanged k (linked (First p)) old mid → IsChanged p (linked (Place k b)) mid next → IsChanged b (linked (Before p)) next new → IsFirstPut k p b (record_in old) (record_in new)
 unfolding parent_in behind_in before_in
 first_put k p b old mid next new some there parent behind x y z =
     let f : ℕ → Option Record = record_in old in
     let m : ℕ → Option Record = record_in mid in
     let o : ℕ → Option Record = record_in next in
     let g : ℕ → Option Record = record_in new in
-    let still : (i : ℕ) → is_some (m i) ≡ is_some (f i) = there_same k (with_first p) f m x.is in
+    let still : (i : ℕ) → is_some (m i) ≡ is_some (f i) = there_same k (linked (First p)) f m x.is in
     let firsts : (i : ℕ) → first_of g i ≡ cond (i == k) p (first_of f i) = (λ i.
-    field_same (λ r. r.first) b (with_before p) (λ r. refl) o g z.is i ∙ field_same (λ r. r.first) p (with_place k b) (λ r. refl) m o y.is i
-    ∙ field_set (λ r. r.first) k p (with_first p) (λ r. refl) f m x.is parent i) in
+    field_same (λ r. r.first) b (linked (Before p)) (λ r. refl) o g z.is i ∙ field_same (λ r. r.first) p (linked (Place k b)) (λ r. refl) m o y.is i
+    ∙ field_set (λ r. r.first) k p (linked (First p)) (λ r. refl) f m x.is parent i) in
     let behinds : (i : ℕ) → behind_of g i ≡ cond (i == p) b (behind_of f i) = (λ i.
-    field_same (λ r. r.behind) b (with_before p) (λ r. refl) o g z.is i ∙ field_set (λ r. r.behind) p b (with_place k b) (λ r. refl) m o y.is (still p ∙ there) i
-    ∙ ap (cond (i == p) b) (field_same (λ r. r.behind) k (with_first p) (λ r. refl) f m x.is i)) in
+    field_same (λ r. r.behind) b (linked (Before p)) (λ r. refl) o g z.is i ∙ field_set (λ r. r.behind) p b (linked (Place k b)) (λ r. refl) m o y.is (still p ∙ there) i
+    ∙ ap (cond (i == p) b) (field_same (λ r. r.behind) k (linked (First p)) (λ r. refl) f m x.is i)) in
     let befores : (i : ℕ) → before_in o i ≡ cond (i == p) 0 (before_in f i) = (λ i.
-    field_set (λ r. r.before) p 0 (with_place k b) (λ r. refl) m o y.is (still p ∙ there) i ∙ ap (cond (i == p) 0) (field_same (λ r. r.before) k (with_first p) (λ r. refl) f m x.is i)) in
+    field_set (λ r. r.before) p 0 (linked (Place k b)) (λ r. refl) m o y.is (still p ∙ there) i ∙ ap (cond (i == p) 0) (field_same (λ r. r.before) k (linked (First p)) (λ r. refl) f m x.is i)) in
     record {
-      parent = λ i. field_same (λ r. r.parent) b (with_before p) (λ r. refl) o g z.is i ∙ field_set (λ r. r.parent) p k (with_place k b) (λ r. refl) m o y.is (still p ∙ there) i
-          ∙ ap (cond (i == p) k) (field_same (λ r. r.parent) k (with_first p) (λ r. refl) f m x.is i);
+      parent = λ i. field_same (λ r. r.parent) b (linked (Before p)) (λ r. refl) o g z.is i ∙ field_set (λ r. r.parent) p k (linked (Place k b)) (λ r. refl) m o y.is (still p ∙ there) i
+          ∙ ap (cond (i == p) k) (field_same (λ r. r.parent) k (linked (First p)) (λ r. refl) f m x.is i);
       behind = λ n i same. put_same k p b n i (first_of f n) (behind_of f i) (first_of g n) (behind_of g i) some same (firsts n) (behinds i);
       else_behind = λ n i other apart. put_other k p b n i (first_of f n) (behind_of f i) (first_of g n) (behind_of g i) other apart (firsts n) (behinds i);
       before = λ i far. elim (cases_eq b 0) [
-        | inl none ↦ rw (ne_eqb i b (λ e. far (e ∙ none))) (field_kept (λ r. r.before) b (with_before p) o g z.is i (λ e. far (sym e ∙ none)) ∙ befores i)
-        | inr has ↦ field_set (λ r. r.before) b p (with_before p) (λ r. refl) o g z.is (there_same p (with_place k b) m o y.is b ∙ still b ∙ behind has) i ∙ ap (cond (i == b) p) (befores i)
+        | inl none ↦ rw (ne_eqb i b (λ e. far (e ∙ none))) (field_kept (λ r. r.before) b (linked (Before p)) o g z.is i (λ e. far (sym e ∙ none)) ∙ befores i)
+        | inr has ↦ field_set (λ r. r.before) b p (linked (Before p)) (λ r. refl) o g z.is (there_same p (linked (Place k b)) m o y.is b ∙ still b ∙ behind has) i ∙ ap (cond (i == b) p) (befores i)
       ];
-      state = λ i. state_same b (with_before p) (λ r. refl) o g z.is i ∙ state_same p (with_place k b) (λ r. refl) m o y.is i ∙ state_same k (with_first p) (λ r. refl) f m x.is i;
+      state = λ i. state_same b (linked (Before p)) (λ r. refl) o g z.is i ∙ state_same p (linked (Place k b)) (λ r. refl) m o y.is i ∙ state_same k (linked (First p)) (λ r. refl) f m x.is i;
     }
 
 -- ---- a state is set
@@ -238,6 +239,16 @@ links_stay p s old new h = record {
   behind = λ n i. rw (field_same (λ r. r.first) p (in_state s) (λ r. refl) (record_in old) (record_in new) h.is n, field_same (λ r. r.behind) p (in_state s) (λ r. refl) (record_in old) (record_in new) h.is i) refl;
   before = field_same (λ r. r.before) p (in_state s) (λ r. refl) (record_in old) (record_in new) h.is;
 }
+
+-- what a record says that was read
+pub first_was : (f : ℕ → Option Record) (k b : ℕ) (o : Option Record) → b ≡ option_map_or (λ r. r.first) o 0 → o ≡ f k → b ≡ first_of f k
+first_was f k b o is read = is ∙ ap (λ o. option_map_or (λ (r : Record). r.first) o 0) read
+
+pub behind_was : (f : ℕ → Option Record) (k b : ℕ) (o : Option Record) → b ≡ option_map_or (λ r. r.behind) o 0 → o ≡ f k → b ≡ behind_of f k
+behind_was f k b o is read = is ∙ ap (λ o. option_map_or (λ (r : Record). r.behind) o 0) read
+
+pub links_same : (f : ℕ → Option Record) → KeepLinks f f
+links_same f = record { parent = λ i. refl; behind = λ k a. refl; before = λ b. refl }
 
 -- where a life begins
 pub state_set : (p : ℕ) (s : State) (old new : List (ℕ × Record)) → IsChanged p (restarted s) old new → is_some (record_in old p) ≡ true → (i : ℕ) → state_in (record_in new) i ≡ cond (i == p) (Some s) (state_in (record_in old) i)

@@ -7,7 +7,8 @@ use Rattle.std.specs.List.{sum_by}
 use Rattle.std.specs.Map.{keys_of}
 use Rattle.audit.specs.declared.records.Record.{Record}
 use Rattle.audit.specs.Records.{record_in, IsChanged}
-use Rattle.audit.specs.Children.{parent_in, first_of, behind_of, behind_in, before_in, state_in, Stands, IsNext, AreLinked, IsJoined, AreAllGiven, AreGivenOn, count_children, with_first, with_parent}
+use Rattle.audit.specs.Children.{parent_in, first_of, behind_of, behind_in, before_in, state_in, Stands, IsNext, AreLinked, IsJoined, AreAllGiven, AreGivenOn, count_children, linked}
+use Rattle.audit.specs.declared.records.Link.TheVariants.{First, Parent}
 use Rattle.audit.proofs.FieldLemmas.{IsParentSet, parent_set, IsFirstSet, first_set, AreJoined, joins, state_same}
 use Rattle.audit.proofs.ChildLemmas.{is_there, behind_first, child_there}
 use Rattle.audit.proofs.KeptLemmas.{there_by_state}
@@ -103,7 +104,7 @@ none_given p heir c f g l two next s = record {
     left i (inl none) = inl none
     left i (inr q) = inr (q.0, s.parent (before_in f i) ∙ q.1)
 
-pub none_yet : (p heir c : ℕ) (old new : List (ℕ × Record)) → AreLinked (record_in old) → 2 ≤ p → c ≡ first_of (record_in old) p → IsChanged p (with_first 0) old new → AreUpTo p heir 0 c (record_in old) (record_in new)
+pub none_yet : (p heir c : ℕ) (old new : List (ℕ × Record)) → AreLinked (record_in old) → 2 ≤ p → c ≡ first_of (record_in old) p → IsChanged p (linked (First 0)) old new → AreUpTo p heir 0 c (record_in old) (record_in new)
 none_yet p heir c old new l two is h = none_given p heir c (record_in old) (record_in new) l two (is ∙ sym (behind_first (record_in old) p)) (first_set p 0 old new h (λ some. absurd (some refl)))
 
 -- the next one is a child, and p is its parent still
@@ -165,14 +166,14 @@ one_given p heir z c d f g h two other some next t s state =
       state = λ i. state i ∙ t.state i;
     }
 
-pub next_given : (p heir z c d : ℕ) (old now new : List (ℕ × Record)) → 2 ≤ p → heir ≢ p → c ≢ 0 → d ≡ behind_of (record_in now) c → AreUpTo p heir z c (record_in old) (record_in now) → IsChanged c (with_parent heir) now new
+pub next_given : (p heir z c d : ℕ) (old now new : List (ℕ × Record)) → 2 ≤ p → heir ≢ p → c ≢ 0 → d ≡ behind_of (record_in now) c → AreUpTo p heir z c (record_in old) (record_in now) → IsChanged c (linked (Parent heir)) now new
     → AreUpTo p heir c d (record_in old) (record_in new) × (count_children p new < count_children p now)
 next_given p heir z c d old now new two other some is t h =
     let k = next_child p heir z c (record_in old) (record_in now) t two some in
     let there : is_some (record_in now c) ≡ true = is_there (record_in now) c (λ no. omega (arith, no, k.1, two)) in
-    let s = parent_set c heir (with_parent heir) (λ r. (refl, refl, refl, refl)) now new h there in
+    let s = parent_set c heir (linked (Parent heir)) (λ r. (refl, refl, refl, refl)) now new h there in
     let next : d ≡ behind_in (record_in old) p c = is ∙ sym (behind_child (record_in now) p c some) ∙ t.behind p c some in
-    (one_given p heir z c d (record_in old) (record_in now) (record_in new) two other some next t s (state_same c (with_parent heir) (λ r. refl) (record_in now) (record_in new) h.is), fewer p heir c now new other k.1 there s h.keys)
+    (one_given p heir z c d (record_in old) (record_in now) (record_in new) two other some next t s (state_same c (linked (Parent heir)) (λ r. refl) (record_in now) (record_in new) h.is), fewer p heir c now new other k.1 there s h.keys)
 
 -- ---- where nobody stands behind the last one, no child is left
 
@@ -351,7 +352,7 @@ first_joined h z b k f g end j = elim (cases_eq k h) [
 ]
 
 pub given_to_list : (p h c z b : ℕ) (old mid last new : List (ℕ × Record)) → AreLinked (record_in old) → 2 ≤ p → 2 ≤ h → h ≢ p → is_some (record_in old h) ≡ true → c ≢ 0
-    → AreAllGiven p h c z (record_in old) (record_in mid) → b ≡ first_of (record_in mid) h → IsChanged h (with_first c) mid last → IsJoined h z b last new → AreGivenOn p h old new
+    → AreAllGiven p h c z (record_in old) (record_in mid) → b ≡ first_of (record_in mid) h → IsChanged h (linked (First c)) mid last → IsJoined h z b last new → AreGivenOn p h old new
 given_to_list p h c z b old mid last new l two high other heir some m is y w =
     let f : ℕ → Option Record = record_in old in
     let o : ℕ → Option Record = record_in last in

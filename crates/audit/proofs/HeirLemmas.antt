@@ -1,13 +1,14 @@
 -- Heirs by the records: the walk up the parents.
-use Rattle.std.proofs.Common.{◌≡◌, ◌≢◌, ℕ, ◌-◌, Bool, true, false, not, ◌&&◌, ◌==◌, List, Option, Some, None, refl, ap, sym, ◌∙◌, subst, arith, ◌≤◌, inl, inr, is_some}
+use Rattle.std.proofs.Common.{◌≡◌, ◌≢◌, ℕ, ◌-◌, Bool, true, false, not, ◌&&◌, ◌==◌, List, Option, Some, None, refl, ap, sym, ◌∙◌, arith, ◌≤◌, inl, inr, is_some}
 use Rattle.std.proofs.lemmas.Bool.{cond_both, ne_eqb, cases_eq}
 use Rattle.posix.specs.Heirs.{Forebear, nearest_marked, heir_among, most_processes}
 use Rattle.posix.proofs.HeirLemmas.{IsFound, heir_found, nearest_gone, nearest_here, nearest_on, nearest_none}
 use Rattle.laws.specs.Keeping.{Kept, NeverBorn, Lives, Died, forebear_kept, heir_of, lives_now}
 use Rattle.audit.specs.declared.records.Record.{Record}
 use Rattle.audit.specs.declared.records.State.TheVariants.{Living, Ended}
+use Rattle.audit.specs.declared.records.Change.TheVariants as change
 use Rattle.audit.specs.Records.{kept_by, record_in, has_mark_now, NobodyMarked}
-use Rattle.audit.proofs.KeptLemmas.{there_by_life}
+use Rattle.audit.proofs.KeptLemmas.{IsAfter, there_by_life}
 
 -- who is a forebear by what is kept
 abbrev pub living_by : (ℕ → Kept) → ℕ → Option Forebear
@@ -79,7 +80,9 @@ heir_other kept p h is other = elim (cases_eq h 1) [
   | inr apart ↦ λ e. (heir_lives kept p (λ first. apart (is ∙ first))).0 (sym is ∙ e)
 ]
 
-pub heir_there : (p h : ℕ) (now old : List (ℕ × Record)) → old ≡ now → h ≡ heir_of (kept_by now) p → 2 ≤ h → is_some (record_in old h) ≡ true
-heir_there p h now old same is two =
-    let lives : lives_now (kept_by now (heir_of (kept_by now) p)) ≡ true = (heir_lives (kept_by now) p (λ first. let e : h ≡ 1 = is ∙ first in omega (arith, e, two))).1 in
-    there_by_life old h (subst (λ es. lives_now (kept_by es h) ≡ true) (sym same) (subst (λ n. lives_now (kept_by now n) ≡ true) (sym is) lives))
+-- the heir lives on
+pub heir_still : (p h w : ℕ) (now old mid : List (ℕ × Record)) → old ≡ now → IsAfter (change.Ended w) p old mid → h ≡ heir_of (kept_by now) p → 2 ≤ h → is_some (record_in mid h) ≡ true
+heir_still p h w now old mid same told is two =
+    let k = heir_lives (kept_by now) p (λ first. let e : h ≡ 1 = is ∙ first in omega (arith, e, two)) in
+    let apart : p ≢ h = (λ e. k.0 (sym is ∙ sym e)) in
+    there_by_life mid h (ap lives_now (told h ∙ rw (ne_eqb p h apart) (ap (λ es. kept_by es h) same)) ∙ ap (λ n. lives_now (kept_by now n)) is ∙ k.1)

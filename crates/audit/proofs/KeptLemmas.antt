@@ -2,16 +2,18 @@
 use Rattle.std.proofs.Common.{◌≡◌, ◌≢◌, ◌⊎◌, inl, inr, ℕ, Bool, true, false, cond, if◌then◌else◌, refl, ap, sym, ◌∙◌, List, [], ◌==◌, Option, Some, None, option_map, is_some, Result, Ok, Err, OnErr}
 use Rattle.std.proofs.lemmas.Bool.{cases_eq, eq-eqb, ne_eqb}
 use Rattle.std.specs.Option.{option_map_or}
-use Rattle.laws.specs.Keeping.{Kept, NeverBorn, Lives, Died, lives_now, kept_of, moved_from, given_on, newborn, after_stop, after_report, ended_with}
+use Rattle.laws.specs.Keeping.{Kept, NeverBorn, Lives, Died, lives_now, kept_of, moved_from, given_on, newborn, ended_with}
 use Rattle.laws.specs.Lives.{newest_life, parents_from}
 use Rattle.audit.specs.declared.records.Record.{Record}
 use Rattle.audit.specs.declared.records.State.{State}
 use Rattle.audit.specs.declared.records.State.TheVariants.{Living, Ended}
-use Rattle.audit.specs.Records.{kept_as, kept_record, kept_by, record_in, IsChanged, has_mark_now, NobodyMarked}
-use Rattle.audit.specs.Children.{parent_in, state_in, AreLinked, in_state, IsGiven, AreGivenOn, IsBegun}
-use Rattle.audit.proofs.RecordLemmas.{entries_stay}
-use Rattle.audit.proofs.FieldLemmas.{links_stay}
-use Rattle.audit.proofs.ChildLemmas.{same_links}
+use Rattle.audit.specs.declared.records.Change.{Change}
+use Rattle.audit.specs.declared.records.Change.TheVariants.{Stopped, Marked, Reported}
+use Rattle.audit.specs.declared.records.Change.TheVariants as change
+use Rattle.audit.specs.Records.{after, kept_as, kept_record, kept_by, record_in, has_mark_now, NobodyMarked}
+use Rattle.audit.specs.Children.{parent_in, first_of, state_in, AreLinked, KeepLinks, IsGiven, AreGivenOn, IsBegun}
+use Rattle.audit.proofs.RecordLemmas.{never_after}
+use Rattle.audit.proofs.ChildLemmas.{behind_first, first_read}
 
 -- ---- by its parts
 
@@ -121,16 +123,17 @@ unmarked_after p x old new keeps is none c = ap has_mark_now (is c) ∙ by (p ==
     by true = keeps (old c) (none c)
     by false = none c
 
--- a state that is another
-pub stop_keeps : (s : ℕ) (k : Kept) → has_mark_now k ≡ false → has_mark_now (after_stop s k) ≡ false
-stop_keeps s NeverBorn h = refl
-stop_keeps s (Lives a) h = h
-stop_keeps s (Died d) h = refl
-
-pub report_keeps : (w : ℕ) (k : Kept) → has_mark_now k ≡ false → has_mark_now (after_report w k) ≡ false
-report_keeps w NeverBorn h = refl
-report_keeps w (Lives a) h = h
-report_keeps w (Died d) h = refl
+-- no change but that of a mark sets one
+pub change_keeps : (x : Change) (k : Kept) → ((mark : Bool) → x ≡ Marked mark → ⊥) → has_mark_now k ≡ false → has_mark_now (after x k) ≡ false
+change_keeps x NeverBorn other h = ap has_mark_now (never_after x)
+change_keeps (Stopped s) (Lives a) other h = h
+change_keeps (Stopped s) (Died d) other h = refl
+change_keeps (Marked mark) (Lives a) other h = absurd (other mark refl)
+change_keeps (Marked mark) (Died d) other h = refl
+change_keeps (Reported w) (Lives a) other h = h
+change_keeps (Reported w) (Died d) other h = refl
+change_keeps (change.Ended w) (Lives a) other h = refl
+change_keeps (change.Ended w) (Died d) other h = refl
 
 pub end_keeps : (w p heir : ℕ) (b : Bool) (k : Kept) → has_mark_now k ≡ false → has_mark_now (if b then ended_with w (given_on p heir k) else given_on p heir k) ≡ false
 end_keeps w p heir true NeverBorn h = refl
@@ -144,38 +147,29 @@ end_keeps w p heir false (Died d) h = refl
 abbrev pub AreSound : Bool → List (ℕ × Record) → Type 0
 AreSound may entries = AreLinked (record_in entries) × (may ≡ false → NobodyMarked (kept_by entries))
 
-pub sound_state : (g : Kept → Kept) (p : ℕ) (s : State) (may : Bool) (now old new : List (ℕ × Record)) (r : Record) → old ≡ now → record_in now p ≡ Some r → IsChanged p (in_state s) old new → ((n : ℕ) → kept_as n s ≡ g (kept_as n r.state))
-    → ((k : Kept) → has_mark_now k ≡ false → has_mark_now (g k) ≡ false) → AreSound may old → AreSound may new
-sound_state g p s may now old new r same found h told keeps sound =
-    let there : record_in old p ≡ Some r = ap (λ es. record_in es p) same ∙ found in
-    (same_links (record_in old) (record_in new) (links_stay p s old new h) sound.0, λ none. unmarked_after p g (kept_by old) (kept_by new) keeps (entries_stay g p s old old new r refl there h told) (sound.1 none))
+pub not_both : (b : Bool) → b ≡ true → b ≡ false → ⊥
+not_both b t f = let is : true ≡ false = sym t ∙ f in cc
 
 -- ---- an end
 
--- who has the state that it had
-same_state : (f g : ℕ → Option Record) (p : ℕ) (r : Record) → f p ≡ Some r → state_in g p ≡ state_in f p → (x : Record) × (g p ≡ Some x) × (x.state ≡ r.state)
-unfolding state_in
-same_state f g p r found same = by (g p) refl (same ∙ rw found refl)
+abbrev pub IsAfter : Change → ℕ → List (ℕ × Record) → List (ℕ × Record) → Type 0
+IsAfter x p old new = (c : ℕ) → kept_by new c ≡ (if p == c then after x (kept_by old c) else kept_by old c)
+
+pub end_kept : (p heir w : ℕ) (old mid new : List (ℕ × Record)) → IsAfter (change.Ended w) p old mid → AreGivenOn p heir mid new
+    → (c : ℕ) → kept_by new c ≡ (if p == c then ended_with w (given_on p heir (kept_by old c)) else given_on p heir (kept_by old c))
+end_kept p heir w old mid new told h c = given_kept p heir mid new h c ∙ ap (given_on p heir) (told c) ∙ by (p == c) (kept_by old c)
   where
-    by : (o : Option Record) → g p ≡ o → option_map (λ (r : Record). r.state) o ≡ Some r.state → (x : Record) × (g p ≡ Some x) × (x.state ≡ r.state)
-    by None is e = absurd (cc)
-    by (Some x) is e = (x, is, (cc))
+    by : (b : Bool) (k : Kept) → given_on p heir (if b then ended_with w k else k) ≡ (if b then ended_with w (given_on p heir k) else given_on p heir k)
+    by true NeverBorn = refl
+    by true (Lives a) = refl
+    by true (Died d) = refl
+    by false k = refl
 
-pub end_kept : (p heir w : ℕ) (s : State) (now old mid new : List (ℕ × Record)) (r : Record) → old ≡ now → record_in now p ≡ Some r → AreGivenOn p heir old mid → IsChanged p (in_state s) mid new → ((n : ℕ) → kept_as n s ≡ ended_with w (kept_as n r.state))
-    → (c : ℕ) → kept_by new c ≡ (if p == c then ended_with w (given_on p heir (kept_by now c)) else given_on p heir (kept_by now c))
-end_kept p heir w s now old mid new r same found h k told c =
-    let there : record_in old p ≡ Some r = ap (λ es. record_in es p) same ∙ found in
-    let x = same_state (record_in old) (record_in mid) p r there (h.state p) in
-    let told_so : (n : ℕ) → kept_as n s ≡ ended_with w (kept_as n x.0.state) = (λ n. told n ∙ ap (λ t. ended_with w (kept_as n t)) (sym x.2)) in
-    entries_stay (ended_with w) p s mid mid new x.0 refl x.1 k told_so c
-    ∙ ap (λ q. if p == c then ended_with w q else q) (given_kept p heir old mid h c ∙ ap (λ es. given_on p heir (kept_by es c)) same)
+pub sound_end : (p heir w : ℕ) (may : Bool) (old mid new : List (ℕ × Record)) → IsAfter (change.Ended w) p old mid → AreGivenOn p heir mid new → AreSound may old → AreSound may new
+sound_end p heir w may old mid new told h sound = (h.linked, λ none c. ap has_mark_now (end_kept p heir w old mid new told h c) ∙ end_keeps w p heir (p == c) (kept_by old c) (sound.1 none c))
 
-pub sound_end : (p heir w : ℕ) (s : State) (may : Bool) (now old mid new : List (ℕ × Record)) (r : Record) → old ≡ now → record_in now p ≡ Some r → AreGivenOn p heir old mid → IsChanged p (in_state s) mid new → ((n : ℕ) → kept_as n s ≡ ended_with w (kept_as n r.state))
-    → AreSound may old → AreSound may new
-sound_end p heir w s may now old mid new r same found h k told sound = (
-  same_links (record_in mid) (record_in new) (links_stay p s mid new k) h.linked,
-  λ none c. ap has_mark_now (end_kept p heir w s old old mid new r refl (ap (λ es. record_in es p) same ∙ found) h k told c) ∙ end_keeps w p heir (p == c) (kept_by old c) (sound.1 none c),
-)
+pub first_still : (p : ℕ) (r : Record) (f g : ℕ → Option Record) → f p ≡ Some r → KeepLinks f g → r.first ≡ first_of g p
+first_still p r f g found k = first_read f p r found ∙ sym (behind_first f p) ∙ sym (k.behind p 0) ∙ behind_first g p
 
 -- ---- a birth
 

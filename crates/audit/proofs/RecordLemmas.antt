@@ -1,10 +1,12 @@
 -- What records keep when one of them changes.
-use Rattle.std.proofs.Common.{◌≡◌, ◌≢◌, ◌⊎◌, ℕ, Bool, true, false, cond, if◌then◌else◌, ◌==◌, List, Some, None, refl, ap, sym, ◌∙◌, inl, inr}
+use Rattle.std.proofs.Common.{◌≡◌, ◌≢◌, ◌⊎◌, ℕ, true, false, cond, if◌then◌else◌, ◌==◌, List, Some, None, refl, ap, sym, ◌∙◌, inl, inr}
 use Rattle.std.proofs.lemmas.Bool.{cases_eq, eq-eqb, ne_eqb}
 use Rattle.laws.specs.Keeping.{Kept, NeverBorn, lives_now}
 use Rattle.audit.specs.declared.records.Record.{Record}
 use Rattle.audit.specs.declared.records.State.{State}
-use Rattle.audit.specs.Records.{kept_as, kept_record, kept_by, record_in, changed, IsChanged}
+use Rattle.audit.specs.declared.records.Change.{Change}
+use Rattle.audit.specs.declared.records.Change.TheVariants.{Stopped, Marked, Reported, Ended}
+use Rattle.audit.specs.Records.{after, kept_as, kept_record, kept_by, record_in, changed, IsChanged}
 use Rattle.audit.specs.Children.{in_state}
 use Rattle.std.specs.Map.{keys_of}
 
@@ -45,6 +47,13 @@ entries_none g p old e none c = elim (cases_eq p c) [
   | inl same ↦ let is : record_in old c ≡ None = ap (record_in old) (sym same) ∙ e in rw (is, eq-eqb p c same, none) refl
   | inr apart ↦ rw (ne_eqb p c apart) refl
 ]
+
+-- who was never born stays so
+pub never_after : (x : Change) → after x NeverBorn ≡ NeverBorn
+never_after (Stopped s) = refl
+never_after (Marked mark) = refl
+never_after (Reported w) = refl
+never_after (Ended w) = refl
 
 -- who lives has a record
 pub not_living : (p : ℕ) (entries : List (ℕ × Record)) → lives_now (kept_by entries p) ≡ true → record_in entries p ≡ None → ⊥

@@ -45,10 +45,14 @@ before_one (b ∷ bs) = elim (cases_Bool (b == 10)) [
 take_long : (n : ℕ) (bs : List ℕ) → length bs ≤ n → take n bs ≡ bs
 take_long n bs h = grind (arith, common_steps, h)
 
-pub cut_at : (text : List ℕ) (end : ℕ) → position (λ b. b == 10) text ≡ Some end → IsCut text (take end text) (take (length text - (end + 1)) (drop (end + 1) text))
+pub cut_at : (text : List ℕ) (end : ℕ) → IsFirstByte (is_byte 10) text (Some end) → IsCut text (take end text) (take (length text - (end + 1)) (drop (end + 1) text))
 cut_at text end h =
-    let same : end ≡ position_or_len (λ b. b == 10) text = grind (arith, h) in
-    let within : position_or_len (λ b. b == 10) text < length text = grind (arith, nat_tests, h) in
+    let same : end ≡ position_or_len (λ b. b == 10) text = elim (lt_cases end (position_or_len (λ b. b == 10) text)) [
+      | lt_is low ↦ absurd (false≢true (sym (fails_before_first (λ b. b == 10) text end 0 low) ∙ h.1))
+      | eq_is is ↦ is
+      | gt_is high ↦ absurd (h.0.before (position_or_len (λ b. b == 10) text) (omega arith) high (passes_at_first (λ b. b == 10) text 0 (omega (arith, high, h.0.high))))
+    ] in
+    let within : position_or_len (λ b. b == 10) text < length text = rw (← same) h.0.high in
     let feed : get_or text (position_or_len (λ b. b == 10) text) 0 ≡ 10 = eqb-true _ 10 (passes_at_first (λ b. b == 10) text 0 within) in
     let rest = take_long (length text - (end + 1)) (drop (end + 1) text) (omega (arith, length-drop (end + 1) text)) in
     record {
@@ -58,10 +62,12 @@ cut_at text end h =
       one = ap (λ (i : ℕ). is_one_line (take i text)) same ∙ before_one text;
     }
 
-pub cut_nowhere : (text : List ℕ) → position (λ b. b == 10) text ≡ None → is_one_line text ≡ true
-cut_nowhere text h =
-    let all : length text ≤ position_or_len (λ b. b == 10) text = grind (arith, nat_tests, h) in
-    ap is_one_line (sym (take_long _ text all)) ∙ before_one text
+pub cut_nowhere : (text : List ℕ) → IsFirstByte (is_byte 10) text None → is_one_line text ≡ true
+cut_nowhere text h = ap is_one_line (sym (take_long _ text (by (cases_le (length text) (position_or_len (λ b. b == 10) text))))) ∙ before_one text
+  where
+    by : (length text ≤ position_or_len (λ b. b == 10) text) ⊎ (position_or_len (λ b. b == 10) text < length text) → length text ≤ position_or_len (λ b. b == 10) text
+    by (inl all) = all
+    by (inr within) = absurd (h (position_or_len (λ b. b == 10) text) (omega arith) within (passes_at_first (λ b. b == 10) text 0 within))
 
 pub some_left : (text : List ℕ) → (length text == 0) ≡ false → text ≢ []
 some_left [] h = λ e. cc

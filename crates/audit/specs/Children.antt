@@ -4,6 +4,8 @@ use Rattle.std.specs.Prelude.{ℕ, ◌≡◌, ◌≢◌, ◌⊎◌, ◌<◌, ◌
 use Rattle.std.specs.Option.{option_map_or}
 use Rattle.std.specs.Map.{keys_of}
 use Rattle.audit.specs.declared.records.Record.{Record}
+use Rattle.audit.specs.declared.records.Link.{Link}
+use Rattle.audit.specs.declared.records.Link.TheVariants.{Parent, First, Before, Behind, Place}
 use Rattle.audit.specs.declared.records.State.{State}
 use Rattle.audit.specs.Records.{record_in, changed}
 
@@ -47,21 +49,13 @@ pub record AreLinked (f : ℕ → Option Record) : Type 0 where
   pub behind : (k a : ℕ) → 2 ≤ k → Stands f k a → IsNext f place k a (behind_in f k a)
   pub before : (k c : ℕ) → 2 ≤ k → parent_in f c ≡ k → Stands f k (before_in f c) × (behind_in f k (before_in f c) ≡ c)
 
-abbrev pub with_first : ℕ → Record → Record
-with_first first r = record r { first = first }
-
-abbrev pub with_before : ℕ → Record → Record
-with_before before r = record r { before = before }
-
-abbrev pub with_behind : ℕ → Record → Record
-with_behind behind r = record r { behind = behind }
-
-abbrev pub with_parent : ℕ → Record → Record
-with_parent parent r = record r { parent = parent }
-
--- nobody stands before it
-abbrev pub with_place : ℕ → ℕ → Record → Record
-with_place parent behind r = record r { parent = parent; before = 0; behind = behind }
+-- a record with another link
+abbrev pub linked : Link → Record → Record
+linked (Parent parent) r = record r { parent = parent }
+linked (First first) r = record r { first = first }
+linked (Before before) r = record r { before = before }
+linked (Behind behind) r = record r { behind = behind }
+linked (Place parent behind) r = record r { parent = parent; before = 0; behind = behind }
 
 abbrev pub in_state : State → Record → Record
 in_state s r = record r { state = s }
@@ -72,7 +66,7 @@ restarted s r = record r { parent = 0; state = s }
 
 -- the records when b comes right behind a, or is the first child of k
 abbrev pub put_behind : ℕ → ℕ → ℕ → (ℕ → Option Record) → ℕ → Option Record
-put_behind k a b f = if a == 0 then changed k (with_first b) f else changed a (with_behind b) f
+put_behind k a b f = if a == 0 then changed k (linked (First b)) f else changed a (linked (Behind b)) f
 
 -- they are so now
 pub record IsPutBehind (k a b : ℕ) (old new : List (ℕ × Record)) : Type 0 where
@@ -81,7 +75,7 @@ pub record IsPutBehind (k a b : ℕ) (old new : List (ℕ × Record)) : Type 0 w
 
 -- the records when b comes right behind a among the children of k
 abbrev pub joined : ℕ → ℕ → ℕ → (ℕ → Option Record) → ℕ → Option Record
-joined k a b f = changed b (with_before a) (put_behind k a b f)
+joined k a b f = changed b (linked (Before a)) (put_behind k a b f)
 
 -- they are so now
 pub record IsJoined (k a b : ℕ) (old new : List (ℕ × Record)) : Type 0 where

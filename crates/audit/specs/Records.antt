@@ -4,8 +4,10 @@ use Rattle.std.specs.Map.{keys_of, lookup}
 use Rattle.audit.specs.declared.records.Record.{Record}
 use Rattle.audit.specs.declared.records.State.{State}
 use Rattle.audit.specs.declared.records.State.TheVariants.{Living, Ended}
+use Rattle.audit.specs.declared.records.Change.{Change}
+use Rattle.audit.specs.declared.records.Change.TheVariants as change
 use Rattle.audit.specs.declared.known.Newest.{Newest}
-use Rattle.laws.specs.Keeping.{Kept, NeverBorn, Lives, Died}
+use Rattle.laws.specs.Keeping.{Kept, NeverBorn, Lives, Died, after_stop, after_mark, after_report, ended_with}
 
 abbrev pub is_living_state : State → Bool
 is_living_state (Living is_marked has_stopped stop may_continue) = true
@@ -19,6 +21,13 @@ kept_as parent (Ended status reported) = Died (record { parent = parent; status 
 abbrev pub kept_newest : Option Newest → Kept
 kept_newest None = NeverBorn
 kept_newest (Some x) = kept_as x.parent x.state
+
+-- what a change makes of what is kept
+abbrev pub after : Change → Kept → Kept
+after (change.Stopped s) k = after_stop s k
+after (change.Marked mark) k = after_mark mark k
+after (change.Reported w) k = after_report w k
+after (change.Ended w) k = ended_with w k
 
 -- what a record keeps
 abbrev pub kept_record : Option Record → Kept

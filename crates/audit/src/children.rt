@@ -4,9 +4,7 @@ ghost use Rattle.std.specs.Prelude.{◌≡◌, ◌≢◌, ◌≤◌, ℕ, true, 
 ghost use Rattle.audit.specs.Records.{record_in};
 ghost use Rattle.audit.specs.Children.{AreLinked, IsPutBehind, IsJoined, IsGiven, AreAllGiven, AreGivenOn, IsBegun, first_of, parent_in, behind_in};
 
-use crate::records::{
-    Record, State, restart, set_before, set_behind, set_first, set_parent, set_place,
-};
+use crate::records::{Link, Record, State, behind_by, first_by, relink, restart};
 use posix::Pid;
 use std::alloc::AllocError;
 use std::collections::HashMap;
@@ -23,9 +21,9 @@ fn put_behind(records: &mut HashMap<u32, Record>, parent: Pid, before: Pid, behi
     ensures { IsPutBehind parent before behind records.old.entries records.new.entries }
 {
     if before == Pid::NONE {
-        set_first(records, parent, behind);
+        relink(records, parent, Link::First(behind));
     } else {
-        set_behind(records, before, behind);
+        relink(records, before, Link::Behind(behind));
     }
 }
 
@@ -35,7 +33,7 @@ fn join(records: &mut HashMap<u32, Record>, parent: Pid, before: Pid, behind: Pi
     ensures { IsJoined parent before behind records.old.entries records.new.entries }
 {
     put_behind(records, parent, before, behind);
-    set_before(records, behind, before);
+    relink(records, behind, Link::Before(before));
 }
 
 /// Puts a number that has no parent before the children of another one.
@@ -48,12 +46,12 @@ pub(crate) fn put_in(records: &mut HashMap<u32, Record>, pid: Pid, parent: Pid)
     ensures { IsGiven pid parent records.old.entries records.new.entries }
 {
     if !has_list(parent) {
-        set_parent(records, pid, parent);
+        relink(records, pid, Link::Parent(parent));
         return;
     }
-    let behind = set_first(records, parent, pid);
-    set_place(records, pid, parent, behind);
-    set_before(records, behind, pid);
+    let behind = first_by(relink(records, parent, Link::First(pid)));
+    relink(records, pid, Link::Place { parent, behind });
+    relink(records, behind, Link::Before(pid));
 }
 
 /// The children of a number, of which this is the first, have its heir as their parent from now on, and stand where they
@@ -65,12 +63,12 @@ fn give_all(records: &mut HashMap<u32, Record>, pid: Pid, first_child: Pid, heir
     requires other { heir ≢ pid }
     ensures { AreAllGiven pid heir first_child result (record_in records.old.entries) (record_in records.new.entries) }
 {
-    set_first(records, pid, Pid::NONE);
+    relink(records, pid, Link::First(Pid::NONE));
     let mut last = Pid::NONE;
     let mut child = first_child;
     while child != Pid::NONE {
         last = child;
-        child = set_parent(records, child, heir);
+        child = behind_by(relink(records, child, Link::Parent(heir)));
     }
     last
 }
@@ -94,7 +92,7 @@ pub(crate) fn give_on(records: &mut HashMap<u32, Record>, pid: Pid, first_child:
     }
     let last = give_all(records, pid, first_child, heir);
     if has_list(heir) {
-        let behind = set_first(records, heir, first_child);
+        let behind = first_by(relink(records, heir, Link::First(first_child)));
         join(records, heir, last, behind);
     }
 }

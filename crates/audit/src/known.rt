@@ -1,15 +1,15 @@
 //! What is known of each number by the lines so far.
 
 ghost use Rattle.std.specs.Prelude.{◌≡◌, ◌≢◌, ◌==◌, ◌≤◌, ℕ, true, false, if◌then◌else◌, OnOk, OnErr, IfOk, IfSome, IsSomeAnd, []};
-ghost use Rattle.laws.specs.Keeping.{NeverBorn, kept_of, kept_after, lives_now, newborn, after_stop, after_mark, after_report, ended_with, given_on, heir_of};
+ghost use Rattle.laws.specs.Keeping.{NeverBorn, kept_of, kept_after, lives_now, newborn, ended_with, given_on, heir_of};
 ghost use Rattle.laws.specs.TraceLines.{is_entry};
 ghost use Rattle.posix.specs.Entries.{process_of as process_said};
 ghost use Rattle.laws.specs.Lives.{born_by as birth_said};
-ghost use Rattle.audit.specs.Records.{kept_newest, kept_by, record_in};
+ghost use Rattle.audit.specs.Records.{kept_newest, kept_by, after as change_of};
 
 use crate::children::{begin, give_on, put_in};
 use crate::lines::born_by;
-use crate::records::{Record, State, set_state};
+use crate::records::{Change, Record, State, apply};
 use posix::{Entry, Pid, Sig, Status};
 use std::alloc::{AllocError, Global};
 use std::collections::HashMap;
@@ -93,9 +93,9 @@ impl Known {
         ensures new_number { OnErr result (IsSomeAnd (birth_said entry.now) (λ n. kept_by self.old n ≡ NeverBorn)) }
     {
         match *entry {
-            Entry::Reported { child, status, .. } => self.report(child, status),
-            Entry::Stopped { pid, sig } => self.stop(pid, sig),
-            Entry::Marked { pid, mark } => self.mark(pid, mark),
+            Entry::Reported { child, status, .. } => self.change(child, Change::Reported(status)),
+            Entry::Stopped { pid, sig } => self.change(pid, Change::Stopped(sig)),
+            Entry::Marked { pid, mark } => self.change(pid, Change::Marked(mark)),
             Entry::Ended { pid, status } => self.end(pid, status),
             Entry::Called { pid, .. } => {
                 if let Some(child) = born_by(entry) {
@@ -122,32 +122,14 @@ impl Known {
         Ok(())
     }
 
-    /// A signal stops a number.
-    pub(crate) fn stop(&mut self, pid: Pid, sig: Sig)
-        ensures { (c : ℕ) → kept_by self.new c ≡ (if pid == c then after_stop sig (kept_by self.old c) else kept_by self.old c) }
+    /// A change of a number's life.
+    pub(crate) fn change(&mut self, pid: Pid, change: Change)
+        ensures { (c : ℕ) → kept_by self.new c ≡ (if pid == c then change_of change (kept_by self.old c) else kept_by self.old c) }
     {
-        if let Some(record) = self.record(pid) {
-            set_state(&mut self.records, pid, record.state.stopped(sig));
-        }
-    }
-
-    /// A number becomes a child subreaper, or is none any more.
-    pub(crate) fn mark(&mut self, pid: Pid, mark: bool)
-        ensures { (c : ℕ) → kept_by self.new c ≡ (if pid == c then after_mark mark (kept_by self.old c) else kept_by self.old c) }
-    {
-        if let Some(record) = self.record(pid) {
-            set_state(&mut self.records, pid, record.state.marked(mark));
+        if let Change::Marked(_) = change {
             self.may_be_marked = true;
         }
-    }
-
-    /// A number is reported with a status.
-    pub(crate) fn report(&mut self, pid: Pid, status: Status)
-        ensures { (c : ℕ) → kept_by self.new c ≡ (if pid == c then after_report status (kept_by self.old c) else kept_by self.old c) }
-    {
-        if let Some(record) = self.record(pid) {
-            set_state(&mut self.records, pid, record.state.reported(status));
-        }
+        apply(&mut self.records, pid, change);
     }
 
     /// A number that lives ends with a status, and its heir gets its children.
@@ -156,19 +138,10 @@ impl Known {
         requires living { lives_now (kept_by self.old pid) ≡ true }
         ensures { (c : ℕ) → kept_by self.new c ≡ (if pid == c then ended_with status (given_on pid (heir_of (kept_by self.old) pid) (kept_by self.old c)) else given_on pid (heir_of (kept_by self.old) pid) (kept_by self.old c)) }
     {
-        if let Some(record) = self.record(pid) {
-            let state = record.state;
-            let heir = self.heir(pid);
-            give_on(&mut self.records, pid, record.first, heir);
-            set_state(&mut self.records, pid, state.ended(status));
+        let heir = self.heir(pid);
+        if let Some(was) = apply(&mut self.records, pid, Change::Ended(status)) {
+            give_on(&mut self.records, pid, was.first, heir);
         }
-    }
-
-    /// The record of a number, if it was ever born.
-    fn record(&self, pid: Pid) -> Option<Record>
-        ensures { result ≡ record_in self.now pid }
-    {
-        self.records.get(&pid.number()).copied()
     }
 
     /// Who gets the children of a number that ends.

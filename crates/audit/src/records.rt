@@ -1,9 +1,10 @@
 //! A record of the newest life of a number.
 
-ghost use Rattle.std.specs.Prelude.{◌≡◌, ℕ, List, false, None};
+ghost use Rattle.std.specs.Prelude.{◌≡◌, ◌==◌, if◌then◌else◌, ℕ, None};
+ghost use Rattle.std.specs.Option.{option_map_or};
 ghost use Rattle.laws.specs.Keeping.{newborn, after_stop, after_mark, after_report, ended_with};
-ghost use Rattle.audit.specs.Records.{is_living_state, kept_as, record_in, IsChanged};
-ghost use Rattle.audit.specs.Children.{first_of, behind_of, with_first, with_before, with_behind, with_parent, with_place, in_state, restarted};
+ghost use Rattle.audit.specs.Records.{is_living_state, kept_as, kept_by, record_in, after as change_of, IsChanged};
+ghost use Rattle.audit.specs.Children.{KeepLinks, linked, restarted};
 
 use posix::{Pid, Sig, Status};
 use std::collections::HashMap;
@@ -44,6 +45,34 @@ pub(crate) struct Record {
     pub(crate) state: State,
 }
 
+/// What a line says of a life that began before.
+#[derive(Clone, Copy)]
+pub(crate) enum Change {
+    /// A signal stops it.
+    Stopped(Sig),
+    /// It becomes a child subreaper, or is none any more.
+    Marked(bool),
+    /// It is reported with a status.
+    Reported(Status),
+    /// It ends with a status.
+    Ended(Status),
+}
+
+/// Where a number stands among the children of its parent, or which is its own first child. Number 0 stands for nobody.
+#[derive(Clone, Copy)]
+pub(crate) enum Link {
+    /// It has this parent, and stands where it stood.
+    Parent(Pid),
+    /// This is its first child.
+    First(Pid),
+    /// This one stands before it.
+    Before(Pid),
+    /// This one stands behind it.
+    Behind(Pid),
+    /// It is the first child of a parent, and this one stands behind it.
+    Place { parent: Pid, behind: Pid },
+}
+
 impl State {
     /// The state of a life that begins.
     #[inline]
@@ -66,10 +95,21 @@ impl State {
         matches!(self, State::Living { .. })
     }
 
+    /// The state after a change.
+    fn after(self, change: Change) -> State
+        ensures { (parent : ℕ) → kept_as parent result ≡ change_of change (kept_as parent self) }
+    {
+        match change {
+            Change::Stopped(sig) => self.stopped(sig),
+            Change::Marked(mark) => self.marked(mark),
+            Change::Reported(status) => self.reported(status),
+            Change::Ended(status) => self.ended(status),
+        }
+    }
+
     /// The state after a stop by a signal.
-    pub(crate) fn stopped(self, sig: Sig) -> State
-        ensures kept { (parent : ℕ) → kept_as parent result ≡ after_stop sig (kept_as parent self) }
-        ensures living { is_living_state result ≡ is_living_state self }
+    fn stopped(self, sig: Sig) -> State
+        ensures { (parent : ℕ) → kept_as parent result ≡ after_stop sig (kept_as parent self) }
     {
         match self {
             State::Living { is_marked, .. } => State::Living {
@@ -83,9 +123,8 @@ impl State {
     }
 
     /// The state after the mark is set or cleared.
-    pub(crate) fn marked(self, mark: bool) -> State
-        ensures kept { (parent : ℕ) → kept_as parent result ≡ after_mark mark (kept_as parent self) }
-        ensures living { is_living_state result ≡ is_living_state self }
+    fn marked(self, mark: bool) -> State
+        ensures { (parent : ℕ) → kept_as parent result ≡ after_mark mark (kept_as parent self) }
     {
         match self {
             State::Living {
@@ -104,9 +143,8 @@ impl State {
     }
 
     /// The state after a report with a status.
-    pub(crate) fn reported(self, word: Status) -> State
-        ensures kept { (parent : ℕ) → kept_as parent result ≡ after_report word (kept_as parent self) }
-        ensures living { is_living_state result ≡ is_living_state self }
+    fn reported(self, word: Status) -> State
+        ensures { (parent : ℕ) → kept_as parent result ≡ after_report word (kept_as parent self) }
     {
         match self {
             State::Living {
@@ -132,9 +170,8 @@ impl State {
     }
 
     /// The state after an end with a status.
-    pub(crate) fn ended(self, status: Status) -> State
-        ensures kept { (parent : ℕ) → kept_as parent result ≡ ended_with status (kept_as parent self) }
-        ensures ended { is_living_state result ≡ false }
+    fn ended(self, status: Status) -> State
+        ensures { (parent : ℕ) → kept_as parent result ≡ ended_with status (kept_as parent self) }
     {
         match self {
             State::Living { .. } => State::Ended {
@@ -146,14 +183,73 @@ impl State {
     }
 }
 
-/// A record's state is another from now on, where there is a record.
-pub(crate) fn set_state(records: &mut HashMap<u32, Record>, pid: Pid, state: State)
-    ensures { IsChanged pid (in_state state) records.old.entries records.new.entries }
+impl Record {
+    /// Links it otherwise.
+    #[inline]
+    fn relink(&mut self, link: Link)
+        ensures { self.new ≡ linked link self.old }
+    {
+        match link {
+            Link::Parent(parent) => self.parent = parent,
+            Link::First(first) => self.first = first,
+            Link::Before(before) => self.before = before,
+            Link::Behind(behind) => self.behind = behind,
+            Link::Place { parent, behind } => {
+                self.parent = parent;
+                self.before = Pid::NONE;
+                self.behind = behind;
+            }
+        }
+    }
+}
+
+/// Changes the life of a number, where there is a record of it. The result is the record that was there.
+#[inline]
+pub(crate) fn apply(records: &mut HashMap<u32, Record>, pid: Pid, change: Change) -> Option<Record>
+    ensures links { KeepLinks (record_in records.old.entries) (record_in records.new.entries) }
+    ensures kept { (c : ℕ) → kept_by records.new.entries c ≡ (if pid == c then change_of change (kept_by records.old.entries c) else kept_by records.old.entries c) }
+    ensures was { result ≡ record_in records.old.entries pid }
 {
     let Some(record) = records.get_mut(&pid.number()) else {
-        return;
+        return None;
     };
-    record.state = state;
+    let was = *record;
+    record.state = was.state.after(change);
+    Some(was)
+}
+
+/// Links a number otherwise, where there is a record of it. The result is the record that was there.
+#[inline]
+pub(crate) fn relink(records: &mut HashMap<u32, Record>, pid: Pid, link: Link) -> Option<Record>
+    ensures is { IsChanged pid (linked link) records.old.entries records.new.entries }
+    ensures was { result ≡ record_in records.old.entries pid }
+{
+    let Some(record) = records.get_mut(&pid.number()) else {
+        return None;
+    };
+    let was = *record;
+    record.relink(link);
+    Some(was)
+}
+
+/// The first child by a record; number 0 for nobody.
+pub(crate) fn first_by(found: Option<Record>) -> Pid
+    ensures { result ≡ option_map_or (λ r. r.first) found 0 }
+{
+    match found {
+        Some(record) => record.first,
+        None => Pid::NONE,
+    }
+}
+
+/// Who stands behind by a record; number 0 for nobody.
+pub(crate) fn behind_by(found: Option<Record>) -> Pid
+    ensures { result ≡ option_map_or (λ r. r.behind) found 0 }
+{
+    match found {
+        Some(record) => record.behind,
+        None => Pid::NONE,
+    }
 }
 
 /// A record's state is another from now on, and it has no parent, where there is a record. The result is the record that
@@ -170,62 +266,4 @@ pub(crate) fn restart(records: &mut HashMap<u32, Record>, pid: Pid, state: &Stat
     record.parent = Pid::NONE;
     record.state = *state;
     Some(was)
-}
-
-/// A record's parent is another from now on, where there is a record. The result is who stands behind it.
-pub(crate) fn set_parent(records: &mut HashMap<u32, Record>, pid: Pid, parent: Pid) -> Pid
-    ensures is { IsChanged pid (with_parent parent) records.old.entries records.new.entries }
-    ensures behind { result ≡ behind_of (record_in records.old.entries) pid }
-{
-    let Some(record) = records.get_mut(&pid.number()) else {
-        return Pid::NONE;
-    };
-    record.parent = parent;
-    record.behind
-}
-
-/// The first child of a number is another from now on, where there is a record. The result is who was the first.
-pub(crate) fn set_first(records: &mut HashMap<u32, Record>, pid: Pid, first: Pid) -> Pid
-    ensures is { IsChanged pid (with_first first) records.old.entries records.new.entries }
-    ensures was { result ≡ first_of (record_in records.old.entries) pid }
-{
-    let Some(record) = records.get_mut(&pid.number()) else {
-        return Pid::NONE;
-    };
-    let was = record.first;
-    record.first = first;
-    was
-}
-
-/// Another one stands before a number from now on, where there is a record.
-pub(crate) fn set_before(records: &mut HashMap<u32, Record>, pid: Pid, before: Pid)
-    ensures { IsChanged pid (with_before before) records.old.entries records.new.entries }
-{
-    let Some(record) = records.get_mut(&pid.number()) else {
-        return;
-    };
-    record.before = before;
-}
-
-/// Another one stands behind a number from now on, where there is a record.
-pub(crate) fn set_behind(records: &mut HashMap<u32, Record>, pid: Pid, behind: Pid)
-    ensures { IsChanged pid (with_behind behind) records.old.entries records.new.entries }
-{
-    let Some(record) = records.get_mut(&pid.number()) else {
-        return;
-    };
-    record.behind = behind;
-}
-
-/// A number comes before another one among the children of a parent from now on, and nobody stands before it, where there
-/// is a record.
-pub(crate) fn set_place(records: &mut HashMap<u32, Record>, pid: Pid, parent: Pid, behind: Pid)
-    ensures { IsChanged pid (with_place parent behind) records.old.entries records.new.entries }
-{
-    let Some(record) = records.get_mut(&pid.number()) else {
-        return;
-    };
-    record.parent = parent;
-    record.before = Pid::NONE;
-    record.behind = behind;
 }

@@ -1,17 +1,18 @@
 use Rattle.std.proofs.Common.{◌≤◌, arith, sym, ◌∙◌}
 use Rattle.std.proofs.lemmas.Bool.{ltb-true, ltb-false}
 use Rattle.audit.specs.Records.{record_in}
+use Rattle.audit.proofs.FieldLemmas.{first_was}
 use Rattle.audit.proofs.ChildLemmas.{behind_first, given_unlisted, given_first}
 use Rattle.audit.proofs.children.put_in.Goals as goal
 
 pub returns-then-not-has_list : goal.returns-then-not-has_list
 returns-then-not-has_list c =
     let apart = c.requires.apart in
-    given_unlisted c.args.pid c.args.parent c.args.records.now.entries c.set_parent.new.records.entries c.requires.linked c.requires.pid c.requires.there (omega (arith, apart))
-    (ltb-false 1 c.args.parent (sym c.has_list.ensures ∙ c.if-not-has_list.true)) c.set_parent.ensures.is
+    given_unlisted c.args.pid c.args.parent c.args.records.now.entries c.relink.new.records.entries c.requires.linked c.requires.pid c.requires.there (omega (arith, apart))
+    (ltb-false 1 c.args.parent (sym c.has_list.ensures ∙ c.if-not-has_list.true)) c.relink.ensures.is
 
 pub returns : goal.returns
 returns c =
     let two : 2 ≤ c.args.parent = ltb-true 1 c.args.parent (sym c.has_list.ensures ∙ c.if-not-has_list.false) in
-    given_first c.args.pid c.args.parent c.set_first-behind.result c.args.records.now.entries c.set_first-behind.new.records.entries c.set_place.new.records.entries c.set_before.new.records.entries c.requires.linked c.requires.pid c.requires.there c.requires.apart two
-    (c.requires.parent two) (c.set_first-behind.ensures.was ∙ sym (behind_first (record_in c.args.records.now.entries) c.args.parent)) c.set_first-behind.ensures.is c.set_place.ensures c.set_before.ensures
+    given_first c.args.pid c.args.parent c.first_by-behind.result c.args.records.now.entries c.relink-2.new.records.entries c.relink-3.new.records.entries c.relink-4.new.records.entries c.requires.linked c.requires.pid c.requires.there c.requires.apart two
+    (c.requires.parent two) (first_was (record_in c.args.records.now.entries) c.args.parent c.first_by-behind.result c.relink-2.result c.first_by-behind.ensures c.relink-2.ensures.was ∙ sym (behind_first (record_in c.args.records.now.entries) c.args.parent)) c.relink-2.ensures.is c.relink-3.ensures.is c.relink-4.ensures.is
