@@ -1,11 +1,11 @@
 -- Whole traces, cut into their lines.
-use Rattle.std.proofs.Common.{◌≡◌, ℕ, suc, ◌+◌, ◌-◌, ◌<◌, ◌≤◌, ◌==◌, Some, None, take, drop, get_or, length-drop, ◌≢◌, true, false, not, List, [], ◌∷◌, ◌++◌, length, flat_map, inl, inr, refl, ap, sym, ◌∙◌, subst, arith, append_assoc, append-nil, length-append, Err}
-use Rattle.std.specs.List.{list_all, position, position_or_len, before_first, after_first}
+use Rattle.std.proofs.Common.{◌≡◌, ℕ, suc, ◌+◌, ◌-◌, ◌<◌, ◌≤◌, ◌==◌, Some, None, take, drop, get_or, length-drop, ◌≢◌, true, false, not, List, [], ◌∷◌, ◌++◌, ◌⊎◌, length, flat_map, inl, inr, refl, ap, sym, ◌∙◌, subst, arith, append_assoc, append-nil, length-append, Err}
+use Rattle.std.specs.List.{list_all, position_or_len, before_first, after_first}
 use Rattle.std.proofs.lemmas.List.Folds.{list_all-append}
 use Rattle.std.proofs.lemmas.Grind.{flat_map-append, common_steps}
-use Rattle.std.proofs.lemmas.List.Sums.{split_at_first, passes_at_first}
-use Rattle.std.proofs.lemmas.Bool.Decides.{nat_tests}
-use Rattle.std.proofs.lemmas.Bool.{and_parts, cases_Bool, eqb-true}
+use Rattle.std.proofs.lemmas.List.Sums.{split_at_first, passes_at_first, fails_before_first}
+use Rattle.std.proofs.lemmas.Bool.{and_parts, cases_Bool, cases_lt, cases_order, eqb-true, false≢true}
+use Rattle.memchr.specs.Find.{IsFirstByte, is_byte}
 use Rattle.posix.specs.Entries.{Line}
 use Rattle.posix.specs.Printing.{print, print_line}
 use Rattle.laws.specs.TraceLines.{is_line, Says}
@@ -47,10 +47,10 @@ take_long n bs h = grind (arith, common_steps, h)
 
 pub cut_at : (text : List ℕ) (end : ℕ) → IsFirstByte (is_byte 10) text (Some end) → IsCut text (take end text) (take (length text - (end + 1)) (drop (end + 1) text))
 cut_at text end h =
-    let same : end ≡ position_or_len (λ b. b == 10) text = elim (lt_cases end (position_or_len (λ b. b == 10) text)) [
-      | lt_is low ↦ absurd (false≢true (sym (fails_before_first (λ b. b == 10) text end 0 low) ∙ h.1))
-      | eq_is is ↦ is
-      | gt_is high ↦ absurd (h.0.before (position_or_len (λ b. b == 10) text) (omega arith) high (passes_at_first (λ b. b == 10) text 0 (omega (arith, high, h.0.high))))
+    let same : end ≡ position_or_len (λ b. b == 10) text = elim (cases_order end (position_or_len (λ b. b == 10) text)) [
+      | inl is ↦ is
+      | inr (inl low) ↦ absurd (false≢true (sym (fails_before_first (λ b. b == 10) text end 0 low) ∙ h.1))
+      | inr (inr high) ↦ absurd (h.0.before (position_or_len (λ b. b == 10) text) (omega arith) high (passes_at_first (λ b. b == 10) text 0 (omega (arith, high, h.0.high))))
     ] in
     let within : position_or_len (λ b. b == 10) text < length text = rw (← same) h.0.high in
     let feed : get_or text (position_or_len (λ b. b == 10) text) 0 ≡ 10 = eqb-true _ 10 (passes_at_first (λ b. b == 10) text 0 within) in
@@ -63,11 +63,11 @@ cut_at text end h =
     }
 
 pub cut_nowhere : (text : List ℕ) → IsFirstByte (is_byte 10) text None → is_one_line text ≡ true
-cut_nowhere text h = ap is_one_line (sym (take_long _ text (by (cases_le (length text) (position_or_len (λ b. b == 10) text))))) ∙ before_one text
+cut_nowhere text h = ap is_one_line (sym (take_long _ text (by (cases_lt (position_or_len (λ b. b == 10) text) (length text))))) ∙ before_one text
   where
-    by : (length text ≤ position_or_len (λ b. b == 10) text) ⊎ (position_or_len (λ b. b == 10) text < length text) → length text ≤ position_or_len (λ b. b == 10) text
-    by (inl all) = all
-    by (inr within) = absurd (h (position_or_len (λ b. b == 10) text) (omega arith) within (passes_at_first (λ b. b == 10) text 0 within))
+    by : (position_or_len (λ b. b == 10) text < length text) ⊎ (length text ≤ position_or_len (λ b. b == 10) text) → length text ≤ position_or_len (λ b. b == 10) text
+    by (inl within) = absurd (h (position_or_len (λ b. b == 10) text) (omega arith) within (passes_at_first (λ b. b == 10) text 0 within))
+    by (inr all) = all
 
 pub some_left : (text : List ℕ) → (length text == 0) ≡ false → text ≢ []
 some_left [] h = λ e. cc

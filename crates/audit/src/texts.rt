@@ -13,6 +13,7 @@ ghost use Rattle.audit.specs.Texts.{IsLawful, IsLawfulBefore, IsCut, IsFirstFaul
 
 use crate::audit::Audit;
 use crate::fault::AuditFault;
+use memchr::memchr;
 use std::alloc::Global;
 use thiserror::Error;
 
@@ -69,7 +70,7 @@ fn next_line(text: &[u8]) -> Option<(&[u8], &[u8])>
     ensures cut { MatchOption result (is_one_line text.now ≡ true) (λ f. IsCut text.now f.0.now f.1.now) }
     ensures less { IfSome result (λ f. length f.1.now < length text.now) }
 {
-    let end = text.iter().position(|byte| *byte == b'\n')?;
+    let end = memchr(b'\n', text)?;
     Some((&text[..end], &text[end + 1..]))
 }
 
