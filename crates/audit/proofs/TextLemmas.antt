@@ -214,12 +214,23 @@ refused_line text number rest line later a h cut none lawful =
     none h.texts h.knows (record { lines = r.first; say = r.say; laws = laws_first r.first r.later (subst Laws r.is lawful.laws) })
 
 pub first_line : (text : List ℕ) (number : ℕ) (rest line later : List ℕ) (a : AuditView) (f : AuditFault) → HasHeard text number rest a → IsCut rest line later
-    → ((texts : List (List ℕ)) (k : Knows texts a) → IsAnswer k.lines line (Err f)) → IsFirstFault text (record { line = number; fault = f })
+    → ((texts : List (List ℕ)) (k : Knows texts a) → IsAnswer k.lines line (Err f)) → ((texts : List (List ℕ)) → Knows texts a → AreLawful (texts ++ line ∷ []) → ⊥) → IsFirstFault text (record { line = number; fault = f })
 unfolding heard_before
-first_line text number rest line later a f h cut answer = record {
+first_line text number rest line later a f h cut answer none = record {
   before = heard_before text number rest a h;
-  faulty = inl (record { line = line; rest = later; cut = cut; answer = answer h.texts h.knows });
+  faulty = inl (record { line = line; rest = later; cut = cut; answer = answer h.texts h.knows; refused = refused });
 }
+  where
+    refused : (more : List ℕ) → IsLawful (print h.knows.lines ++ (line ++ 10 ∷ more)) → ⊥
+    refused more =
+        let again : HasHeard (print h.knows.lines ++ (line ++ 10 ∷ more)) number (line ++ 10 ∷ more) a = record {
+          texts = h.texts;
+          knows = h.knows;
+          one = h.one;
+          is = ap (λ (x : List ℕ). x ++ (line ++ 10 ∷ more)) (sym (said_print h.texts h.knows.lines h.knows.say));
+          counted = h.counted;
+        } in
+        refused_line (print h.knows.lines ++ (line ++ 10 ∷ more)) number (line ++ 10 ∷ more) line more a again (record { is = refl; one = cut.one }) none
 
 -- a line that has no line feed
 unprinted : (rest : List ℕ) (lines : List Line) → rest ≢ [] → is_one_line rest ≡ true → rest ≡ print lines → ⊥

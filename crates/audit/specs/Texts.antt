@@ -39,12 +39,14 @@ pub record IsCut (text line rest : List ℕ) : Type 0 where
 
 -- ---- the first fault
 
--- what follows lawful lines begins with a line that is answered with a fault
+-- What follows lawful lines begins with a line that is answered with a fault. No lawful text begins with those lines and
+-- this one.
 pub record IsFaultyLine (lines : List Line) (text : List ℕ) (fault : AuditFault) : Type 0 where
   pub line : List ℕ
   pub rest : List ℕ
   pub cut : IsCut text line rest
   pub answer : IsAnswer lines line (Err fault)
+  pub refused : (more : List ℕ) → IsLawful (print lines ++ (line ++ 10 ∷ more)) → ⊥
 
 -- it is a line that has no line feed
 pub record IsUnfinished (text : List ℕ) (fault : AuditFault) : Type 0 where

@@ -22,8 +22,7 @@ pub(crate) struct Newest {
     pub(crate) state: State,
 }
 
-/// What is known of each number: a record of the newest life of each that was ever born. They are kept in a tree, so
-/// that no choice of numbers makes look-ups slow.
+/// What is known of each number: a record of the newest life of each that was ever born.
 #[derive(Drop)]
 pub(crate) struct Known {
     records: HashMap<u32, Record>,

@@ -29,7 +29,8 @@ pub struct TraceFault {
 /// Audits a whole trace, each line with its line feed.
 ///
 /// Ok where the text is the print of lines of which the laws of a trace hold, as the empty text is. The error is the
-/// first line that an [`Audit`] refuses, and why. What follows the last line feed, if anything, is a line that none
+/// first line that an [`Audit`] refuses, and why: the lines before it are lawful, and no lawful text begins with these
+/// lines and that one. What follows the last line feed, if anything, is a line that none
 /// of the forms has, so its fault is [`AuditFault::NoLine`]. Where memory is refused, the fault is
 /// [`AuditFault::Memory`], and the lines before are lawful; at line 1 it may be refused before that is read.
 pub fn audit_text(alloc: Global, text: &[u8]) -> Result<(), TraceFault>

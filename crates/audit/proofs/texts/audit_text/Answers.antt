@@ -25,9 +25,10 @@ returns-in-Err-clause-refused c = λ fault is other.
 pub returns-in-Err-clause-first : goal.returns-in-Err-clause-first
 returns-in-Err-clause-first c = λ fault is other.
     let same : record { line = c.loop-line.number; fault = c.in-Err.fault } ≡ fault = cc in
+    let code : c.in-Err.fault ≡ fault.fault = cc in
     subst (λ f. IsFirstFault c.args.text.now f) same
     (first_line c.args.text.now c.loop-line.number c.loop-line.rest.now c.in-Some.line.now c.in-Some.more.now c.loop-line.audit c.in-Err.fault c.loop-line.invariant.heard c.in-Some.ensures.cut
-    c.in-Err.ensures.first)
+    c.in-Err.ensures.first (c.line.ensures.refused c.in-Err.fault c.in-Err.is (λ e. other (sym code ∙ e))).1)
 
 pub returns-then-is_empty-clause-ok : goal.returns-then-is_empty-clause-ok
 returns-then-is_empty-clause-ok c =
