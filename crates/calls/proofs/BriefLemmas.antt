@@ -25,11 +25,12 @@ use Rattle.life.specs.declared.caller.Caller.{Caller}
 use Rattle.life.specs.Callers.{caller_of}
 use Rattle.life.specs.Machines.{MachineView, AreSame, Looks, with_processes}
 use Rattle.life.specs.Queues.{is_sent, sent_as, rechecking_as}
-use Rattle.life.specs.Rechecks.{AreTaking, AreBrief, rechecking_signalled, slots_of_send, slots_of_survey_of_one, without_gone}
+use Rattle.life.proofs.SendLemmas.{targets_nobody, rechecked_nobody}
+use Rattle.life.specs.Rechecks.{AreTaking, AreBrief, is_one, rechecking_signalled, slots_of_send, slots_of_survey_of_one, without_gone}
 use Rattle.life.specs.Foregrounds.{after_loss}
 use Rattle.posix.proofs.OrderLemmas.{distinct_pids}
 use Rattle.life.proofs.TakingLemmas.{taking_all}
-use Rattle.calls.specs.Outcomes.{CostsAtMost, IsQuiet, IsBrief, AreFew, is_one, is_cont, slots_of_kill, slots_of_continued, slots_before, meant_in}
+use Rattle.calls.specs.Outcomes.{CostsAtMost, IsQuiet, IsBrief, AreFew, is_cont, slots_of_kill, slots_of_continued, slots_before, meant_in}
 use Rattle.calls.proofs.ChosenLemmas.{changed_there}
 use Rattle.calls.proofs.KillLemmas.{number_is}
 use Rattle.life.specs.declared.consoles.Unchecked.TheVariants.{Nothing, Group}
@@ -177,48 +178,48 @@ kill_slots me p (Some m) results rs order up = elim (m.sig == CONT) as (λ b. (m
           omega (arith, most, one)
     ] refl
 
+-- so it does where at most one process is meant
+one_slots : (me : Process) (to : Target) (k : Option PendingSignal) (results : List (ℕ × ℤ)) (rs : List Process) (order : List ℕ) → is_one to ≡ true → IsRising rs
+    → 2 + slots_of_send (number_of k) + slots_of_survey_of_one (number_of k) + slots_of_rechecks (changed me.pid (finished results) (sent me to k rs)) None (rechecking_signalled me k (targets me to rs) rs order []) ≤ slots_of_kill rs to (Ok (number_of k))
+unfolding slots_of_rechecks
+one_slots me (whom.Process p) k results rs order one up = kill_slots me p k results rs order up
+one_slots me whom.OwnGroup k results rs order one up = absurd (cc)
+one_slots me (whom.Group p) k results rs order one up = absurd (cc)
+one_slots me whom.All k results rs order one up = absurd (cc)
+one_slots me whom.Nobody k results rs order one up = let least = sending_least rs whom.Nobody (number_of k) in rw (targets_nobody me rs, rechecked_nobody me k rs order []) (omega (arith, least))
+
 -- what a send to this target reads, with this signal
 brief_killed : (me : Process) (to : Target) (k : Option PendingSignal) (results : List (ℕ × ℤ)) (old mid new : MachineView) → is_one to ≡ true → IsQuiet me.pid old → IsRegular old.state
     → mid.state ≡ with_processes old.state (sent me to k old.state.processes) → mid.to_recheck ≡ rechecking_signalled me k (targets me to old.state.processes) old.state.processes old.state.order old.to_recheck → mid.foregrounds_unchecked ≡ old.foregrounds_unchecked
-    → ((p : ℕ) → to ≡ whom.Process p → mid.visits ≤ old.visits + 1 + slots_of_send (number_of k) + slots_of_survey_of_one (number_of k)) → new.state ≡ finish mid.state me.pid results → (has_place mid.state me.pid ≡ true → CostsAtMost 1 mid new) → IsBrief (slots_of_kill old.state.processes to (Ok (number_of k))) old new
-brief_killed me (whom.Process p) k results old mid new one h i is list still read done costs =
+    → mid.visits ≤ old.visits + 1 + slots_of_send (number_of k) + slots_of_survey_of_one (number_of k) → new.state ≡ finish mid.state me.pid results → (has_place mid.state me.pid ≡ true → CostsAtMost 1 mid new) → IsBrief (slots_of_kill old.state.processes to (Ok (number_of k))) old new
+brief_killed me to k results old mid new one h i is list still most done costs =
     let c = costs (ap (λ (s : State). has_place s me.pid) is ∙ h.place) in
     let rs = old.state.processes in
-    let ns = c.to_recheck ∙ list ∙ ap (rechecking_signalled me k (targets me (whom.Process p) rs) rs old.state.order) h.none in
+    let ns = c.to_recheck ∙ list ∙ ap (rechecking_signalled me k (targets me to rs) rs old.state.order) h.none in
     let checked = c.foregrounds_unchecked ∙ still ∙ h.checked in
-    let now : new.state.processes ≡ changed me.pid (finished results) (sent me (whom.Process p) k rs) = ap (λ (s : State). s.processes) (done ∙ ap (λ (s : State). finish s me.pid results) is) in
-    let one = c.visits in
-    let most = read p refl in
+    let now : new.state.processes ≡ changed me.pid (finished results) (sent me to k rs) = ap (λ (s : State). s.processes) (done ∙ ap (λ (s : State). finish s me.pid results) is) in
+    let last = c.visits in
     let checks = ap slots_of_checking checked in
-    let rechecks = ap (λ ts. slots_of_rechecks ts None new.to_recheck) now ∙ ap (slots_of_rechecks (changed me.pid (finished results) (sent me (whom.Process p) k rs)) None) ns in
+    let rechecks = ap (λ ts. slots_of_rechecks ts None new.to_recheck) now ∙ ap (slots_of_rechecks (changed me.pid (finished results) (sent me to k rs)) None) ns in
     record {
-      reads = let all = kill_slots me p k results rs old.state.order i.rising in omega (arith, one, most, checks, rechecks, all);
+      reads = let all = one_slots me to k results rs old.state.order one i.rising in omega (arith, last, most, checks, rechecks, all);
       unchecked = subst AreFew (sym checked) tt;
       consoles = ap (λ (s : State). s.consoles) (done ∙ ap (λ (s : State). finish s me.pid results) is);
     }
-brief_killed me whom.OwnGroup k results old mid new one h i is list still read done costs = absurd (cc)
-brief_killed me (whom.Group p) k results old mid new one h i is list still read done costs = absurd (cc)
-brief_killed me whom.All k results old mid new one h i is list still read done costs = absurd (cc)
-brief_killed me whom.Nobody k results old mid new one h i is list still read done costs = absurd (cc)
 
 -- one that isn't sent
-brief_unsent : (me : Process) (to : Target) (k : Option PendingSignal) (results : List (ℕ × ℤ)) (old mid new : MachineView) → is_one to ≡ true → IsQuiet me.pid old → mid.state ≡ old.state → mid.to_recheck ≡ old.to_recheck → mid.foregrounds_unchecked ≡ old.foregrounds_unchecked
-    → ((p : ℕ) → to ≡ whom.Process p → mid.visits ≤ old.visits + 1 + slots_of_send (number_of k) + slots_of_survey_of_one (number_of k)) → new.state ≡ finish mid.state me.pid results → (has_place mid.state me.pid ≡ true → CostsAtMost 1 mid new) → IsBrief (slots_of_kill old.state.processes to (Ok (number_of k))) old new
-brief_unsent me (whom.Process p) k results old mid new one h is list still read done costs =
+brief_unsent : (me : Process) (to : Target) (k : Option PendingSignal) (results : List (ℕ × ℤ)) (old mid new : MachineView) → IsQuiet me.pid old → mid.state ≡ old.state → mid.to_recheck ≡ old.to_recheck → mid.foregrounds_unchecked ≡ old.foregrounds_unchecked
+    → mid.visits ≤ old.visits + 1 + slots_of_send (number_of k) + slots_of_survey_of_one (number_of k) → new.state ≡ finish mid.state me.pid results → (has_place mid.state me.pid ≡ true → CostsAtMost 1 mid new) → IsBrief (slots_of_kill old.state.processes to (Ok (number_of k))) old new
+brief_unsent me to k results old mid new h is list still most done costs =
     let c = costs (ap (λ (s : State). has_place s me.pid) is ∙ h.place) in
-    let one = c.visits in
-    let most = read p refl in
-    let least = sending_least old.state.processes (whom.Process p) (number_of k) in
-    brief_alone (slots_of_kill old.state.processes (whom.Process p) (Ok (number_of k))) old new (c.to_recheck ∙ list ∙ h.none) (c.foregrounds_unchecked ∙ still ∙ h.checked) (ap (λ (s : State). s.consoles) (done ∙ ap (λ (s : State). finish s me.pid results) is)) (omega (arith, one, most, least))
-brief_unsent me whom.OwnGroup k results old mid new one h is list still read done costs = absurd (cc)
-brief_unsent me (whom.Group p) k results old mid new one h is list still read done costs = absurd (cc)
-brief_unsent me whom.All k results old mid new one h is list still read done costs = absurd (cc)
-brief_unsent me whom.Nobody k results old mid new one h is list still read done costs = absurd (cc)
+    let last = c.visits in
+    let least = sending_least old.state.processes to (number_of k) in
+    brief_alone (slots_of_kill old.state.processes to (Ok (number_of k))) old new (c.to_recheck ∙ list ∙ h.none) (c.foregrounds_unchecked ∙ still ∙ h.checked) (ap (λ (s : State). s.consoles) (done ∙ ap (λ (s : State). finish s me.pid results) is)) (omega (arith, last, most, least))
 
--- so it is whatever comes of it, where it means one process
+-- so it is whatever comes of it, where it means at most one process
 pub brief_send : (me : Process) (to : Target) (named : Result (Option ℕ) Errno) (word : ℤ) (sig : Option ℕ) (value : ℤ) (k : Option PendingSignal) (answer : Sending) (results : List (ℕ × ℤ)) (old mid new : MachineView) → is_one to ≡ true → IsQuiet me.pid old → named ≡ signal_or_none word → named ≡ Ok sig → k ≡ message me.pid value sig
     → IsRegular old.state → mid.state ≡ with_processes old.state (sent_as answer me to k old.state.processes) → mid.to_recheck ≡ rechecking_as answer me k to old.state.processes old.state.order old.to_recheck → mid.foregrounds_unchecked ≡ old.foregrounds_unchecked
-    → ((p : ℕ) → to ≡ whom.Process p → mid.visits ≤ old.visits + 1 + slots_of_send (number_of k) + slots_of_survey_of_one (number_of k)) → new.state ≡ finish mid.state me.pid results → (has_place mid.state me.pid ≡ true → CostsAtMost 1 mid new)
+    → mid.visits ≤ old.visits + 1 + slots_of_send (number_of k) + slots_of_survey_of_one (number_of k) → new.state ≡ finish mid.state me.pid results → (has_place mid.state me.pid ≡ true → CostsAtMost 1 mid new)
     → IsBrief (slots_of_kill old.state.processes to (signal_or_none word)) old new
 brief_send me to named word sig value k answer results old mid new one quiet known ok is regular state list still read done costs =
     subst (λ w. IsBrief (slots_of_kill old.state.processes to w) old new) (ap Ok (number_is me.pid value sig k is) ∙ sym ok ∙ known) (by (is_sent answer) refl)
@@ -226,7 +227,7 @@ brief_send me to named word sig value k answer results old mid new one quiet kno
     by : (b : Bool) → is_sent answer ≡ b → IsBrief (slots_of_kill old.state.processes to (Ok (number_of k))) old new
     by true e = brief_killed me to k results old mid new one quiet regular (state ∙ ap (λ b. with_processes old.state (cond b (sent me to k old.state.processes) old.state.processes)) e)
         (list ∙ ap (λ b. cond b (rechecking_signalled me k (targets me to old.state.processes) old.state.processes old.state.order old.to_recheck) old.to_recheck) e) still read done costs
-    by false e = brief_unsent me to k results old mid new one quiet (state ∙ ap (λ b. with_processes old.state (cond b (sent me to k old.state.processes) old.state.processes)) e)
+    by false e = brief_unsent me to k results old mid new quiet (state ∙ ap (λ b. with_processes old.state (cond b (sent me to k old.state.processes) old.state.processes)) e)
         (list ∙ ap (λ b. cond b (rechecking_signalled me k (targets me to old.state.processes) old.state.processes old.state.order old.to_recheck) old.to_recheck) e) still read done costs
 
 -- so it is by a caller that was looked at, who tells the target

@@ -16,7 +16,7 @@ use Rattle.posix.specs.Tables.{children_in, lookup}
 use Rattle.posix.specs.Sends.{signal_or_none}
 use Rattle.life.specs.declared.consoles.Unchecked.{Unchecked}
 use Rattle.life.specs.declared.consoles.Unchecked.TheVariants.{Nothing, Group, All}
-use Rattle.life.specs.Rechecks.{is_in_wait, slots_of_survey_of_one}
+use Rattle.life.specs.Rechecks.{is_in_wait, is_one, slots_of_survey_of_one}
 use Rattle.calls.specs.Counts.{slots_of_rechecks, slots_of_checking}
 use Rattle.posix.specs.declared.process.Handler.{Handler}
 use Rattle.posix.specs.declared.process.Handler.TheVariants as handler
@@ -61,14 +61,6 @@ pub record IsBrief (most : ℕ) (old new : MachineView) : Type 0 where
   pub unchecked : AreFew new.foregrounds_unchecked
   pub consoles : new.state.consoles ≡ old.state.consoles
 
--- one process is meant by its number
-abbrev pub is_one : Target → Bool
-is_one (whom.Process p) = true
-is_one whom.OwnGroup = false
-is_one (whom.Group p) = false
-is_one whom.All = false
-is_one whom.Nobody = false
-
 -- CONT is named
 abbrev pub is_cont : Result (Option ℕ) Errno → Bool
 is_cont (Ok None) = false
@@ -93,15 +85,15 @@ abbrev pub slots_before : Result (Option ℕ) Errno → ℕ
 slots_before (Ok sig) = slots_of_survey_of_one sig
 slots_before (Err why) = 0
 
--- a signal that is sent to one process by its number, but for the look at its caller
+-- a signal that is sent to one process by its number, or to nobody, but for the look at its caller
 abbrev pub slots_of_kill : List Process → Target → Result (Option ℕ) Errno → ℕ
 slots_of_kill rs target sig = if is_cont sig then 13 + slots_of_continued rs (meant_in rs target) else 4 + slots_before sig
 
--- the same with its caller, where it is one process
+-- the same with its caller, where at most one process is meant
 abbrev pub slots_of_sending : List Process → Process → Target → Option ℕ
 slots_of_sending rs me target = if is_one target then Some (slots_of_kill rs target (signal_or_none (argument me 2)) + 1) else None
 
--- How many slots a wait reads at most, by its caller, and a signal that is sent to one process by its number, with those
+-- How many slots a wait reads at most, by its caller, and a signal that is sent to one process by its number, or to nobody, with those
 -- that settling reads. No count is given of other calls that aren't their caller's alone.
 abbrev pub slots_of_brief : Call → List Process → Process → Option ℕ
 slots_of_brief Waitpid rs me = Some (11 + 2 * length (children_in me.pid rs))

@@ -4,9 +4,10 @@ ghost use Rattle.std.specs.Prelude.{◌≡◌, ◌+◌, ◌≤◌, Bool, length,
 ghost use Rattle.posix.specs.Sends.{message as message_of, signal_or_none as signal_number_or_none, send as sending};
 ghost use Rattle.posix.specs.States.{process};
 ghost use Rattle.life.specs.Callers.{process_like};
+ghost use Rattle.life.specs.Rechecks.{is_one};
 ghost use Rattle.posix.specs.Processes.{Process, argument};
 ghost use Rattle.posix.specs.Targets.{process_in, target_in};
-ghost use Rattle.calls.specs.Outcomes.{Attempts, Comes, IsQuiet, IsBrief, entry_of_sending, is_one, slots_of_kill, value_of_sending};
+ghost use Rattle.calls.specs.Outcomes.{Attempts, Comes, IsQuiet, IsBrief, entry_of_sending, slots_of_kill, value_of_sending};
 
 use crate::attempts::{finish_shown, refuse};
 use crate::entries::Entries;

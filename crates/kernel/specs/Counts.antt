@@ -54,7 +54,7 @@ slots_of_blocking Waitpid = 1
 slots_of_blocking Waitid = 1
 slots_of_blocking call = 0
 
--- an instruction that comes out so: a wait, or a signal that is sent to one process
+-- an instruction that comes out so: a wait, or a signal that is sent to one process or to nobody
 abbrev pub slots_of_trap : List Process → Process → Trap → Option ℕ
 slots_of_trap rs me trap.Next = None
 slots_of_trap rs me (trap.Note z) = None
@@ -95,9 +95,10 @@ alarms_due s = length (filter (λ r. is_due (s.ticks + 1) r.alarm) s.processes)
 
 -- At most so many slots are read in an event, where this is Some; no count is promised of the others. A step reads three
 -- where its instruction changes the process alone that runs it; four where a machine fault enters a handler; where it
--- sends a signal to one process by its number seven, a real-time signal nine, and CONT 16, and two for each child of a
--- process that CONT continues in a wait; and 14, and two for each child, where it attempts a wait and delivers no signal. A
--- tick reads two for each alarm that is due, a key one, and five for each member of the console's foreground process group.
+-- sends a signal to one process by its number, or to nobody, seven, a real-time signal nine, and CONT 16, and two for each
+-- child of a process that CONT continues in a wait; and 14, and two for each child, where it attempts a wait and delivers no
+-- signal. A tick reads two for each alarm that is due, a key one, and five for each member of the console's foreground
+-- process group.
 abbrev pub slots_of_event : Event → State → Option ℕ
 slots_of_event Step s = slots_of_step s (current_process s)
 slots_of_event Tick s = Some (2 * alarms_due s)

@@ -140,6 +140,14 @@ abbrev pub slots_of_survey : Option ℕ → ℕ → ℕ
 slots_of_survey None many = 0
 slots_of_survey (Some n) many = if is_realtime n then 1 + 3 * many else 0
 
+-- at most one process is meant, by its number
+abbrev pub is_one : Target → Bool
+is_one (whom.Process p) = true
+is_one whom.OwnGroup = false
+is_one (whom.Group p) = false
+is_one whom.All = false
+is_one whom.Nobody = true
+
 -- whether a sender looks at a process for whom it means: it does at the members of a process group, or else at all
 abbrev pub is_candidate : Process → Target → Process → Bool
 is_candidate me (whom.Process p) r = true

@@ -10,7 +10,7 @@ ghost use Rattle.posix.specs.Sends.{is_target as is_target_of, targets, permitte
 ghost use Rattle.proctable.specs.Records.{snapshot_of};
 ghost use Rattle.life.specs.Callers.{process_like};
 ghost use Rattle.life.specs.Queues.{HaveRoom, Sends};
-ghost use Rattle.life.specs.Rechecks.{rechecking_signalled, slots_of_send, slots_of_survey, slots_of_survey_of_one, is_candidate};
+ghost use Rattle.life.specs.Rechecks.{rechecking_signalled, slots_of_send, slots_of_survey, slots_of_survey_of_one, is_candidate, is_one};
 ghost use Rattle.life.specs.Machines.{Costs, Finds, Changes, IsThere, IfThere, with_processes};
 
 use crate::caller::Caller;
@@ -165,7 +165,7 @@ impl<K: Kin> Machine<K> {
         requires room { HaveRoom (S.pools pools.old) (queuers_among (process_like me.now) target (number_in signal) self.old.state.processes) }
         ensures sending { result ≡ sending_of (process_like me.now) target (number_in signal) self.old.state.processes }
         ensures changes { Changes (1 + (2 + slots_of_send (number_in signal)) * length (filter (is_candidate (process_like me.now) target) self.old.state.processes)) self.old self.new (with_processes self.old.state (sent_to (process_like me.now) target signal self.old.state.processes)) (rechecking_signalled (process_like me.now) signal (targets (process_like me.now) target self.old.state.processes) self.old.state.processes self.old.state.order self.old.to_recheck) }
-        ensures visits { (p : ℕ) → target ≡ Target.Process p → self.new.visits ≤ self.old.visits + 1 + slots_of_send (number_in signal) }
+        ensures visits { is_one target ≡ true → self.new.visits ≤ self.old.visits + 1 + slots_of_send (number_in signal) }
     {
         let _ = &self.table;
         match target {
@@ -192,7 +192,7 @@ impl<K: Kin> Machine<K> {
         requires { is_realtime signal.sig ≡ true }
         ensures sending { (granted : Bool) × (result ≡ sending_granted granted (process_like me.now) target (Some signal.sig) self.old.state.processes) }
         ensures changes { Sends result (process_like me.now) target (Some signal) (1 + (2 + slots_of_send (Some signal.sig)) * length (filter (is_candidate (process_like me.now) target) self.old.state.processes) + (1 + 3 * length (filter (is_candidate (process_like me.now) target) self.old.state.processes))) self.old self.new }
-        ensures visits { (p : ℕ) → target ≡ Target.Process p → self.new.visits ≤ self.old.visits + 3 + slots_of_send (Some signal.sig) }
+        ensures visits { is_one target ≡ true → self.new.visits ≤ self.old.visits + 3 + slots_of_send (Some signal.sig) }
     {
         let survey = self.survey(me, signal.sig, &target);
         if survey.is_full {
@@ -217,7 +217,7 @@ impl<K: Kin> Machine<K> {
     pub fn send(&mut self, me: &Caller, target: Target, signal: Option<PendingSignal>) -> Sending
         ensures sending { (granted : Bool) × (result ≡ sending_granted granted (process_like me.now) target (number_in signal) self.old.state.processes) }
         ensures changes { Sends result (process_like me.now) target signal (1 + (2 + slots_of_send (number_in signal)) * length (filter (is_candidate (process_like me.now) target) self.old.state.processes) + slots_of_survey (number_in signal) (length (filter (is_candidate (process_like me.now) target) self.old.state.processes))) self.old self.new }
-        ensures visits { (p : ℕ) → target ≡ Target.Process p → self.new.visits ≤ self.old.visits + 1 + slots_of_send (number_in signal) + slots_of_survey_of_one (number_in signal) }
+        ensures visits { is_one target ≡ true → self.new.visits ≤ self.old.visits + 1 + slots_of_send (number_in signal) + slots_of_survey_of_one (number_in signal) }
     {
         match realtime(&signal) {
             Some(signal) => self.send_realtime(me, target, signal),

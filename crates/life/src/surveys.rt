@@ -1,11 +1,11 @@
 //! A look at those whom a real-time signal would be queued for, before it is.
 
-ghost use Rattle.std.specs.Prelude.{◌≡◌, ◌+◌, ◌*◌, ◌<◌, ◌≤◌, ◌^◌, ℕ, filter, length};
+ghost use Rattle.std.specs.Prelude.{◌≡◌, ◌+◌, ◌*◌, ◌<◌, ◌≤◌, ◌^◌, true, filter, length};
 ghost use Rattle.posix.specs.Tables.{has_pid};
 ghost use Rattle.posix.specs.Sends.{targets};
 ghost use Rattle.life.specs.Callers.{process_like};
 ghost use Rattle.life.specs.Queues.{joined_surveys, survey_of};
-ghost use Rattle.life.specs.Rechecks.{is_candidate};
+ghost use Rattle.life.specs.Rechecks.{is_candidate, is_one};
 ghost use Rattle.life.specs.Machines.{Finds};
 
 use crate::caller::Caller;
@@ -89,7 +89,7 @@ impl<K: Kin> Machine<K> {
     /// A look at those whom a sender means by a target, before it sends them a real-time signal. Nothing changes.
     pub(crate) fn survey(&mut self, me: &Caller, sig: Sig, target: &Target) -> Survey
         ensures finds { Finds (1 + 3 * length (filter (is_candidate (process_like me.now) target.now) self.old.state.processes)) self.old self.new (result ≡ survey_of (process_like me.now) sig (targets (process_like me.now) target.now self.old.state.processes)) }
-        ensures visits { (p : ℕ) → target.now ≡ Target.Process p → self.new.visits ≤ self.old.visits + 2 }
+        ensures visits { is_one target.now ≡ true → self.new.visits ≤ self.old.visits + 2 }
     {
         let _ = &self.table;
         match *target {

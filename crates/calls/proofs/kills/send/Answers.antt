@@ -41,4 +41,4 @@ returns-clause-brief g c = λ one quiet.
     let message = c.message.ensures ∙ ap (λ v. message_of c.args.me.now.pid v c.in-Ok.sig) value in
     let send = c.send-sending.ensures in
     let last = c.finish_shown.ensures in
-    brief_send (process_like c.args.me.now) c.args.target _ c.args.me.now.r2 c.in-Ok.sig c.args.value c.message.result c.send-sending.result _ c.args.machine.now _ _ one quiet c.signal_or_none.ensures c.in-Ok.is message send.changes.costs.regular send.changes.state send.changes.to_recheck send.changes.foregrounds_unchecked send.visits last.state last.costs
+    brief_send (process_like c.args.me.now) c.args.target _ c.args.me.now.r2 c.in-Ok.sig c.args.value c.message.result c.send-sending.result _ c.args.machine.now _ _ one quiet c.signal_or_none.ensures c.in-Ok.is message send.changes.costs.regular send.changes.state send.changes.to_recheck send.changes.foregrounds_unchecked (send.visits one) last.state last.costs
