@@ -64,6 +64,35 @@ broken_continue_reported_twice : breaks (stop_is_reported ++ line 5 (Reported 1 
 unfolding newest_life is_living parents_from nearest_marked
 broken_continue_reported_twice = refl
 
+-- what is told of a stop or a continue
+broken_stop_that_was_none : breaks (line 1 (Called 1 Fork (pos 2)) ∷ []) (line 2 (Reported 1 wait.Waitpid 2 4991)) ≡ true
+unfolding newest_life is_living parents_from nearest_marked
+broken_stop_that_was_none = refl
+
+broken_stop_with_an_earlier_signal : breaks (line 1 (Called 1 Fork (pos 2)) ∷ line 2 (Stopped 2 19) ∷ line 3 (Stopped 2 20) ∷ []) (line 4 (Reported 1 wait.Waitpid 2 4991)) ≡ true
+unfolding newest_life is_living parents_from nearest_marked
+broken_stop_with_an_earlier_signal = refl
+
+broken_stop_told_to_a_grandparent : breaks (line 1 (Called 1 Fork (pos 2)) ∷ line 2 (Called 2 Fork (pos 3)) ∷ line 3 (Stopped 3 19) ∷ []) (line 4 (Looked 1 3 4991)) ≡ true
+unfolding newest_life is_living parents_from nearest_marked
+broken_stop_told_to_a_grandparent = refl
+
+broken_stop_told_after_the_end : breaks (line 1 (Called 1 Fork (pos 2)) ∷ line 2 (Stopped 2 19) ∷ line 3 (Ended 2 9) ∷ []) (line 4 (Reported 1 wait.Waitpid 2 4991)) ≡ true
+unfolding newest_life is_living parents_from nearest_marked
+broken_stop_told_after_the_end = refl
+
+broken_continue_of_nobody_stopped : breaks (line 1 (Called 1 Fork (pos 2)) ∷ []) (line 2 (Reported 1 wait.Waitpid 2 65535)) ≡ true
+unfolding newest_life is_living parents_from nearest_marked
+broken_continue_of_nobody_stopped = refl
+
+broken_word_that_is_no_status : breaks (line 1 (Called 1 Fork (pos 2)) ∷ line 2 (Ended 2 11) ∷ []) (line 3 (Reported 1 wait.Waitpid 2 139)) ≡ true
+unfolding newest_life is_living parents_from nearest_marked
+broken_word_that_is_no_status = refl
+
+broken_birth_of_process_1 : breaks ([]) (line 1 (Called 1 Fork (pos 1))) ≡ true
+unfolding newest_life is_living parents_from nearest_marked
+broken_birth_of_process_1 = refl
+
 broken_line_after_its_end : breaks child_ends (line 4 (Noted 2 (pos 7))) ≡ true
 unfolding newest_life is_living parents_from nearest_marked
 broken_line_after_its_end = refl

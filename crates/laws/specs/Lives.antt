@@ -1,8 +1,9 @@
 -- The laws of a trace. Each line is judged by the whole list of lines before it.
-use Rattle.std.specs.Prelude.{ℕ, zero, suc, ◌/◌, ◌≡◌, ◌==◌, ◌&&◌, ◌||◌, not, Bool, true, false, List, [], ◌∷◌, ◌++◌, if◌then◌else◌, nat_le, Option, Some, None, is_some, unwrap_or, slice_get, take, ℤ, pos, negsuc}
+use Rattle.std.specs.Prelude.{ℕ, zero, suc, ◌/◌, ◌≡◌, ◌==◌, ◌&&◌, ◌||◌, ◌⊎◌, not, Bool, true, false, List, [], ◌∷◌, ◌++◌, if◌then◌else◌, nat_le, Option, Some, None, is_some, unwrap_or, slice_get, take, ℤ, pos, negsuc}
 use Rattle.std.specs.List.{list_any}
 use Rattle.posix.specs.declared.entry.Entry.{Entry}
 use Rattle.posix.specs.declared.entry.Entry.TheVariants.{Called, Reported, Marked, Looked, Stopped, Ended, Halted}
+use Rattle.posix.specs.declared.waits.WaitCall.{WaitCall}
 use Rattle.posix.specs.declared.call.Call.{Call}
 use Rattle.posix.specs.declared.call.Call.TheVariants.{Fork}
 use Rattle.posix.specs.Entries.{Line, line, process_of}
@@ -272,6 +273,23 @@ pub record IsOfEnd (before : List Line) (p c w : ℕ) : Type 0 where
   pub same_life : list_any (begins c) later ≡ false
   pub unreported : list_any (reports c is_end_word) later ≡ false
   pub parent : parent_in before c ≡ Some p
+
+-- By the lines before, p is told of a stop of c by a signal: c was born last before it, hasn't stopped or ended since, no
+-- report came since with a word that passes, and p is its parent.
+pub record IsOfStop (before : List Line) (p c s : ℕ) (told : ℕ → Bool) : Type 0 where
+  pub earlier : List Line
+  pub event : ℕ
+  pub later : List Line
+  pub stopped : before ≡ earlier ++ line event (Stopped c s) ∷ later
+  pub same_life : list_any (begins c) later ≡ false
+  pub last : list_any (stops c) later ≡ false
+  pub unended : list_any (ends c) later ≡ false
+  pub unreported : list_any (reports c told) later ≡ false
+  pub parent : parent_in before c ≡ Some p
+
+-- p is told the word w of c: by a report, or as it looks
+abbrev pub IsTold : ℕ → ℕ → ℕ → Entry → Type 0
+IsTold p c w e = ((call : WaitCall) × (e ≡ Reported p call c w)) ⊎ (e ≡ Looked p c w)
 
 -- ---- the same, computed
 

@@ -26,12 +26,12 @@ ghost use Rattle.posix.specs.NextPid.{is_free};
 ghost use Rattle.posix.specs.Entries.{numbered, reported};
 ghost use Rattle.std.specs.List.{AllByRecursion};
 ghost use Rattle.posix.specs.declared.process.Life.TheVariants.{Zombie};
-ghost use Rattle.std.specs.Prelude.{count_by};
+ghost use Rattle.std.specs.Prelude.{◌/◌, ◌||◌, count_by};
 ghost use Rattle.std.specs.List.{list_any};
 ghost use Rattle.posix.specs.declared.entry.Entry.TheVariants.{Reported, Looked};
 ghost use Rattle.posix.specs.declared.waits.WaitCall.{WaitCall};
 ghost use Rattle.posix.specs.Statuses.{is_end_word, is_stopped_word, is_continued_word};
-ghost use Rattle.laws.specs.Lives.{Laws, laws, IsOfEnd, born_by, begins, ends, stops, reports, reports_or_looks, is_change_word, is_halt, ends_first, last_line, is_living, parent_in};
+ghost use Rattle.laws.specs.Lives.{Laws, laws, IsOfEnd, IsOfStop, IsTold, born_by, begins, ends, stops, reports, reports_or_looks, is_change_word, is_halt, ends_first, last_line, is_living, parent_in};
 ghost use Rattle.laws.specs.Keeping.{Died, kept_of};
 ghost use Rattle.laws.specs.Kinds.{IsEvent, IsWorld};
 ghost use Rattle.laws.specs.Agree.{Agree, IsOrderly, IsTraceOf, LivesAndNews, is_birth, count_living, count_zombies};
@@ -163,7 +163,10 @@ pub fn determined()
 /// After a report of an end of `c` no end of it is reported or looked at until it is born again. A report of an
 /// end comes from the parent of that moment, with the status of the end, of which no report came before. So does
 /// a look at an end, which is no report. After a report of a stop or a continue no stop is reported or looked at
-/// until `c` stops again, and after a report of a continue no continue. After its end `c` has no line until it is
+/// until `c` stops again, and after a report of a continue no continue. Who is told of a stop, by a report or as it
+/// looks, is the parent of that moment of a process that has stopped by that signal, and has neither stopped again nor
+/// ended since; of a continue likewise. Nothing is told but status words of ends, stops and continues. A line of a
+/// process stands in its life, and who is born doesn't live. After its end `c` has no line until it is
 /// born again, and is born again only after its end. `halt` comes right after the end of process 1, nothing else
 /// does, and nothing follows it. The numbers of events don't fall.
 pub fn traces_keep_laws()
@@ -177,6 +180,16 @@ pub fn traces_keep_laws()
         → reports c is_change_word a ≡ true → reports_or_looks c is_stopped_word b ≡ true → list_any (stops c) between ≡ true }
     ensures no_continue_is_reported_twice { (before between after : List Line) (a b : Line) (c : ℕ) → Laws (before ++ a ∷ between ++ b ∷ after)
         → reports c is_continued_word a ≡ true → reports_or_looks c is_continued_word b ≡ true → list_any (stops c) between ≡ true }
+    ensures stops_are_told_to_the_parent { (before after : List Line) (l : Line) (p c w : ℕ) → Laws (before ++ l ∷ after)
+        → IsTold p c w l.entry → is_stopped_word w ≡ true → IsOfStop before p c (w / 256) is_change_word }
+    ensures continues_are_told_to_the_parent { (before after : List Line) (l : Line) (p c w : ℕ) → Laws (before ++ l ∷ after)
+        → IsTold p c w l.entry → is_continued_word w ≡ true → (s : ℕ) × IsOfStop before p c s is_continued_word }
+    ensures what_is_told_is_a_status { (before after : List Line) (l : Line) (p c w : ℕ) → Laws (before ++ l ∷ after)
+        → IsTold p c w l.entry → (is_end_word w || is_change_word w) ≡ true }
+    ensures lines_stand_in_lives { (before after : List Line) (l : Line) (c : ℕ) → Laws (before ++ l ∷ after)
+        → process_of l.entry ≡ Some c → is_living before c ≡ true }
+    ensures nobody_is_born_who_lives { (before after : List Line) (l : Line) (c : ℕ) → Laws (before ++ l ∷ after)
+        → born_by l.entry ≡ Some c → is_living before c ≡ false }
     ensures nothing_comes_after_an_end { (before between after : List Line) (a b : Line) (c : ℕ) → Laws (before ++ a ∷ between ++ b ∷ after)
         → ends c a ≡ true → process_of b.entry ≡ Some c → list_any (begins c) between ≡ true }
     ensures lives_are_apart { (before between after : List Line) (a b : Line) (c : ℕ) → Laws (before ++ a ∷ between ++ b ∷ after)

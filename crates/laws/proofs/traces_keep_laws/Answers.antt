@@ -1,7 +1,7 @@
 -- The laws that no search finds.
 use Rattle.std.proofs.Common.{◌∷◌}
 use Rattle.laws.proofs.LawfulLemmas.{laws_more, laws_first, laws_at}
-use Rattle.laws.proofs.LineLaws.{no_end_twice, reported_to_parent, looked_at_by_parent, no_stop_twice, no_continue_twice, nothing_after_end, lives_apart, halt_is_last, first_end_halts, numbers_never_fall}
+use Rattle.laws.proofs.LineLaws.{no_end_twice, reported_to_parent, looked_at_by_parent, no_stop_twice, no_continue_twice, stop_is_told, continue_is_told, status_is_told, stands_in_life, born_dead, nothing_after_end, lives_apart, halt_is_last, first_end_halts, numbers_never_fall}
 use Rattle.laws.proofs.traces_keep_laws.Goals as goal
 
 pub returns-clause-no_end_is_reported_twice : goal.returns-clause-no_end_is_reported_twice
@@ -18,6 +18,21 @@ returns-clause-no_stop_is_reported_twice c = no_stop_twice
 
 pub returns-clause-no_continue_is_reported_twice : goal.returns-clause-no_continue_is_reported_twice
 returns-clause-no_continue_is_reported_twice c = no_continue_twice
+
+pub returns-clause-stops_are_told_to_the_parent : goal.returns-clause-stops_are_told_to_the_parent
+returns-clause-stops_are_told_to_the_parent c = stop_is_told
+
+pub returns-clause-continues_are_told_to_the_parent : goal.returns-clause-continues_are_told_to_the_parent
+returns-clause-continues_are_told_to_the_parent c = continue_is_told
+
+pub returns-clause-what_is_told_is_a_status : goal.returns-clause-what_is_told_is_a_status
+returns-clause-what_is_told_is_a_status c = status_is_told
+
+pub returns-clause-lines_stand_in_lives : goal.returns-clause-lines_stand_in_lives
+returns-clause-lines_stand_in_lives c = stands_in_life
+
+pub returns-clause-nobody_is_born_who_lives : goal.returns-clause-nobody_is_born_who_lives
+returns-clause-nobody_is_born_who_lives c = born_dead
 
 pub returns-clause-nothing_comes_after_an_end : goal.returns-clause-nothing_comes_after_an_end
 returns-clause-nothing_comes_after_an_end c = nothing_after_end
