@@ -15,6 +15,7 @@ use crate::known::Known;
 use crate::tests_of_lines::{Phase, test};
 use posix::Entry;
 use std::alloc::{AllocError, Global};
+use std::hash::RandomState;
 use std::marker::Model;
 use traceline::read_line;
 
@@ -40,12 +41,13 @@ impl Model for Audit {
 }
 
 impl Audit {
-    /// An auditor that heard nothing. The error is that there is no memory for what it keeps of process 1.
-    pub fn new(alloc: Global) -> Result<Audit, AllocError>
+    /// An auditor that heard nothing, and finds numbers by a hash with these keys. The error is that there is no memory
+    /// for what it keeps of process 1.
+    pub fn new(alloc: Global, keys: RandomState) -> Result<Audit, AllocError>
         ensures { IfOk result (Knows []) }
     {
         Ok(Audit {
-            known: Known::new(alloc)?,
+            known: Known::new(alloc, keys)?,
             last: 0,
             phase: Phase::Going,
             fault: None,

@@ -4,10 +4,9 @@ ghost use Rattle.std.specs.Prelude.{◌≡◌, ◌≢◌, ◌≤◌, ℕ, true, 
 ghost use Rattle.audit.specs.Records.{record_in};
 ghost use Rattle.audit.specs.Children.{AreLinked, IsPutBehind, IsJoined, IsGiven, AreAllGiven, AreGivenOn, IsBegun, first_of, parent_in, behind_in};
 
-use crate::records::{Link, Record, State, behind_by, first_by, relink, restart};
+use crate::records::{Link, Record, Records, State, behind_by, first_by, relink, restart};
 use posix::Pid;
 use std::alloc::AllocError;
-use std::collections::HashMap;
 
 /// Whether the children of a number stand in a list: not those of nobody or of process 1, which gives none on.
 fn has_list(parent: Pid) -> bool
@@ -17,7 +16,7 @@ fn has_list(parent: Pid) -> bool
 }
 
 /// One comes right behind another from now on, or is the first child of a number.
-fn put_behind(records: &mut HashMap<u32, Record>, parent: Pid, before: Pid, behind: Pid)
+fn put_behind(records: &mut Records, parent: Pid, before: Pid, behind: Pid)
     ensures { IsPutBehind parent before behind records.old.entries records.new.entries }
 {
     if before == Pid::NONE {
@@ -29,7 +28,7 @@ fn put_behind(records: &mut HashMap<u32, Record>, parent: Pid, before: Pid, behi
 
 /// One comes right behind another among the children of a number from now on. Number 0 stands before the first, and
 /// behind the last.
-fn join(records: &mut HashMap<u32, Record>, parent: Pid, before: Pid, behind: Pid)
+fn join(records: &mut Records, parent: Pid, before: Pid, behind: Pid)
     ensures { IsJoined parent before behind records.old.entries records.new.entries }
 {
     put_behind(records, parent, before, behind);
@@ -37,7 +36,7 @@ fn join(records: &mut HashMap<u32, Record>, parent: Pid, before: Pid, behind: Pi
 }
 
 /// Puts a number that has no parent before the children of another one.
-pub(crate) fn put_in(records: &mut HashMap<u32, Record>, pid: Pid, parent: Pid)
+pub(crate) fn put_in(records: &mut Records, pid: Pid, parent: Pid)
     requires linked { AreLinked (record_in records.old.entries) }
     requires apart { parent_in (record_in records.old.entries) pid ≡ 0 }
     requires pid { 1 ≤ pid }
@@ -56,7 +55,7 @@ pub(crate) fn put_in(records: &mut HashMap<u32, Record>, pid: Pid, parent: Pid)
 
 /// The children of a number, of which this is the first, have its heir as their parent from now on, and stand where they
 /// stood, but it has no first child any more. The result is the last of them. Number 0 stands for nobody.
-fn give_all(records: &mut HashMap<u32, Record>, pid: Pid, first_child: Pid, heir: Pid) -> Pid
+fn give_all(records: &mut Records, pid: Pid, first_child: Pid, heir: Pid) -> Pid
     requires linked { AreLinked (record_in records.old.entries) }
     requires pid { 2 ≤ pid }
     requires first_child { first_child ≡ first_of (record_in records.old.entries) pid }
@@ -75,7 +74,7 @@ fn give_all(records: &mut HashMap<u32, Record>, pid: Pid, first_child: Pid, heir
 
 /// The children of a number, of which this is the first, or number 0 for nobody, have its heir as their parent from now on.
 /// Process 1 keeps its own.
-pub(crate) fn give_on(records: &mut HashMap<u32, Record>, pid: Pid, first_child: Pid, heir: Pid)
+pub(crate) fn give_on(records: &mut Records, pid: Pid, first_child: Pid, heir: Pid)
     requires linked { AreLinked (record_in records.old.entries) }
     requires pid { 1 ≤ pid }
     requires first_child { first_child ≡ first_of (record_in records.old.entries) pid }
@@ -98,11 +97,7 @@ pub(crate) fn give_on(records: &mut HashMap<u32, Record>, pid: Pid, first_child:
 }
 
 /// A life of a number begins, without a parent. At the error that there is no memory all stays, and there was no record of it.
-pub(crate) fn begin(
-    records: &mut HashMap<u32, Record>,
-    pid: Pid,
-    state: State,
-) -> Result<(), AllocError>
+pub(crate) fn begin(records: &mut Records, pid: Pid, state: State) -> Result<(), AllocError>
     requires linked { AreLinked (record_in records.old.entries) }
     requires pid { 1 ≤ pid }
     ensures ok { OnOk result (IsBegun pid state records.old.entries records.new.entries) }

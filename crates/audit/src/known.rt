@@ -9,10 +9,11 @@ ghost use Rattle.audit.specs.Records.{kept_newest, kept_by, after as change_of};
 
 use crate::children::{begin, give_on, put_in};
 use crate::lines::born_by;
-use crate::records::{Change, Record, State, apply};
+use crate::records::{Change, Records, State, apply};
 use posix::{Entry, Pid, Sig, Status};
 use std::alloc::{AllocError, Global};
 use std::collections::HashMap;
+use std::hash::RandomState;
 use std::marker::Model;
 
 /// The newest life of a number.
@@ -22,10 +23,11 @@ pub(crate) struct Newest {
     pub(crate) state: State,
 }
 
-/// What is known of each number: a record of the newest life of each that was ever born.
+/// What is known of each number: a record of the newest life of each that was ever born. They are found by a hash with
+/// random keys, so that nobody can choose numbers that are slow to find.
 #[derive(Drop)]
 pub(crate) struct Known {
-    records: HashMap<u32, Record>,
+    records: Records,
     /// Whether there may be child subreapers: none are looked for before the first one is marked.
     may_be_marked: bool,
 }
@@ -46,10 +48,10 @@ impl Model for Known {
 impl Known {
     /// What no lines say: process 1 lives, and has no parent. The error is that there is no memory.
     #[tactic(auto, unfolding(crate::specs::Records::kept_by, laws::specs::Keeping::kept_of, laws::specs::Lives::parents_from, laws::specs::Lives::newest_life))]
-    pub(crate) fn new(alloc: Global) -> Result<Known, AllocError>
+    pub(crate) fn new(alloc: Global, keys: RandomState) -> Result<Known, AllocError>
         ensures { IfOk result (λ known. (c : ℕ) → kept_by known c ≡ kept_of [] c) }
     {
-        let mut records = HashMap::new(alloc);
+        let mut records = HashMap::with_hasher(alloc, keys);
         begin(&mut records, Pid::INIT, State::newborn())?;
         Ok(Known {
             records,
@@ -158,7 +160,7 @@ impl Known {
 }
 
 /// The nearest forebear of a number that is a child subreaper, or process 1. There are no more forebears than numbers.
-fn nearest_marked(records: &HashMap<u32, Record>, pid: Pid) -> Pid
+fn nearest_marked(records: &Records, pid: Pid) -> Pid
     requires { pid ≢ 1 }
     ensures { result ≡ heir_of (kept_by records.now.entries) pid }
 {

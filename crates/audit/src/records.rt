@@ -8,6 +8,7 @@ ghost use Rattle.audit.specs.Children.{KeepLinks, linked, restarted};
 
 use posix::{Pid, Sig, Status};
 use std::collections::HashMap;
+use std::hash::RandomState;
 
 /// What the lines so far say of a life.
 #[derive(Clone, Copy)]
@@ -44,6 +45,9 @@ pub(crate) struct Record {
     pub(crate) first: Pid,
     pub(crate) state: State,
 }
+
+/// The records of all numbers that were ever born.
+pub(crate) type Records = HashMap<u32, Record, RandomState>;
 
 /// What a line says of a life that began before.
 #[derive(Clone, Copy)]
@@ -205,7 +209,7 @@ impl Record {
 
 /// Changes the life of a number, where there is a record of it. The result is the record that was there.
 #[inline]
-pub(crate) fn apply(records: &mut HashMap<u32, Record>, pid: Pid, change: Change) -> Option<Record>
+pub(crate) fn apply(records: &mut Records, pid: Pid, change: Change) -> Option<Record>
     ensures links { KeepLinks (record_in records.old.entries) (record_in records.new.entries) }
     ensures kept { (c : ℕ) → kept_by records.new.entries c ≡ (if pid == c then change_of change (kept_by records.old.entries c) else kept_by records.old.entries c) }
     ensures was { result ≡ record_in records.old.entries pid }
@@ -220,7 +224,7 @@ pub(crate) fn apply(records: &mut HashMap<u32, Record>, pid: Pid, change: Change
 
 /// Links a number otherwise, where there is a record of it. The result is the record that was there.
 #[inline]
-pub(crate) fn relink(records: &mut HashMap<u32, Record>, pid: Pid, link: Link) -> Option<Record>
+pub(crate) fn relink(records: &mut Records, pid: Pid, link: Link) -> Option<Record>
     ensures is { IsChanged pid (linked link) records.old.entries records.new.entries }
     ensures was { result ≡ record_in records.old.entries pid }
 {
@@ -254,7 +258,7 @@ pub(crate) fn behind_by(found: Option<Record>) -> Pid
 
 /// A record's state is another from now on, and it has no parent, where there is a record. The result is the record that
 /// was there.
-pub(crate) fn restart(records: &mut HashMap<u32, Record>, pid: Pid, state: &State) -> Option<Record>
+pub(crate) fn restart(records: &mut Records, pid: Pid, state: &State) -> Option<Record>
     ensures is { IsChanged pid (restarted state.now) records.old.entries records.new.entries }
     ensures was { result ≡ record_in records.old.entries pid }
     ensures none { result ≡ None → records.new.entries ≡ records.old.entries }

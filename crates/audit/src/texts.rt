@@ -15,6 +15,7 @@ use crate::audit::Audit;
 use crate::fault::AuditFault;
 use memchr::memchr;
 use std::alloc::Global;
+use std::hash::RandomState;
 use thiserror::Error;
 
 /// The first faulty line of a trace.
@@ -26,21 +27,21 @@ pub struct TraceFault {
     pub fault: AuditFault,
 }
 
-/// Audits a whole trace, each line with its line feed.
+/// Audits a whole trace, each line with its line feed. The answer doesn't depend on the keys, by which numbers are found.
 ///
 /// Ok where the text is the print of lines of which the laws of a trace hold, as the empty text is. The error is the
 /// first line that an [`Audit`] refuses, and why: the lines before it are lawful, and no lawful text begins with these
 /// lines and that one. What follows the last line feed, if anything, is a line that none
 /// of the forms has, so its fault is [`AuditFault::NoLine`]. Where memory is refused, the fault is
 /// [`AuditFault::Memory`], and the lines before are lawful; at line 1 it may be refused before that is read.
-pub fn audit_text(alloc: Global, text: &[u8]) -> Result<(), TraceFault>
+pub fn audit_text(alloc: Global, keys: RandomState, text: &[u8]) -> Result<(), TraceFault>
     ensures ok { OnOk result (IsLawful text.now) }
     ensures memory { (fault : TraceFault) → result ≡ Err fault → fault.fault ≡ Memory → IsLawfulBefore text.now fault.line }
     ensures refused { (fault : TraceFault) → result ≡ Err fault → fault.fault ≢ Memory → IsLawful text.now → ⊥ }
     ensures first { (fault : TraceFault) → result ≡ Err fault → fault.fault ≢ Memory → IsFirstFault text.now fault }
 {
     let mut number: u64 = 1;
-    let Ok(mut audit) = Audit::new(alloc) else {
+    let Ok(mut audit) = Audit::new(alloc, keys) else {
         return Err(TraceFault {
             line: number,
             fault: AuditFault::Memory,

@@ -12,12 +12,15 @@ use host::{FileFault, ReadFiles, WordsFault};
 use kernel::{RunError, Sink, SinkFault, put_all, run};
 use std::alloc::Global;
 use std::fmt::Write;
+use std::hash::RandomState;
 
 /// Why the program doesn't end with status 0.
 #[derive(Clone, Copy, Debug, PartialEq, Eq)]
 enum Failure<'a> {
     Usage,
     CannotRead(&'a str),
+    /// The host gives no random bytes, by which an audit finds numbers.
+    NoRandomBytes,
     Run(RunError),
     /// An audit found a fault, and told it.
     Faulty,
@@ -49,7 +52,9 @@ impl<'a> Failure<'a> {
         match self {
             Failure::Faulty | Failure::Run(RunError::World(_) | RunError::Events(_)) => 1,
             Failure::Usage => 2,
-            Failure::CannotRead(_) | Failure::Run(RunError::Memory | RunError::Write) => 3,
+            Failure::CannotRead(_)
+            | Failure::NoRandomBytes
+            | Failure::Run(RunError::Memory | RunError::Write) => 3,
         }
     }
 }
@@ -115,11 +120,19 @@ fn put_fault<'a, O: Sink>(why: TraceFault, out: &mut O) -> Result<(), Failure<'a
 }
 
 /// Audits a trace.
-fn audit_trace<'a, O: Sink>(alloc: Global, trace: &[u8], out: &mut O) -> Result<(), Failure<'a>>
+fn audit_trace<'a, O: Sink>(
+    alloc: Global,
+    keys: Option<RandomState>,
+    trace: &[u8],
+    out: &mut O,
+) -> Result<(), Failure<'a>>
     ensures { Ends (λ w e. ⊥) (λ t. t ≡ trace.now) ⊥
         out.old out.new (O.seen out.old) (O.seen out.new) result }
 {
-    match audit_text(alloc, trace) {
+    let Some(keys) = keys else {
+        return Err(Failure::NoRandomBytes);
+    };
+    match audit_text(alloc, keys, trace) {
         Ok(()) => put_answer(b"ok\n", out),
         Err(why) if why.fault == AuditFault::Memory => Err(Failure::Run(RunError::Memory)),
         Err(why) => {
@@ -133,6 +146,7 @@ fn audit_trace<'a, O: Sink>(alloc: Global, trace: &[u8], out: &mut O) -> Result<
 fn audit_file<'a, F: ReadFiles, O: Sink>(
     alloc: Global,
     files: &F,
+    keys: Option<RandomState>,
     trace: &'a str,
     out: &mut O,
 ) -> Result<(), Failure<'a>>
@@ -140,7 +154,7 @@ fn audit_file<'a, F: ReadFiles, O: Sink>(
         out.old out.new (O.seen out.old) (O.seen out.new) result }
 {
     let bytes = read(files, trace)?;
-    audit_trace(alloc, bytes.as_slice(), out)
+    audit_trace(alloc, keys, bytes.as_slice(), out)
 }
 
 /// Does what the words ask for.
@@ -148,6 +162,7 @@ fn serve_words<'a, F: ReadFiles, O: Sink>(
     alloc: Global,
     words: &'a [&'a str],
     files: &F,
+    keys: Option<RandomState>,
     out: &mut O,
 ) -> Result<(), Failure<'a>>
     ensures { let texts = map (λ w. w.now) words.entry.now in
@@ -159,7 +174,7 @@ fn serve_words<'a, F: ReadFiles, O: Sink>(
     }
     match requested(alloc, words) {
         Request::Run { world, events } => run_files(alloc, files, world, events, out),
-        Request::Audit { trace } => audit_file(alloc, files, trace, out),
+        Request::Audit { trace } => audit_file(alloc, files, keys, trace, out),
         Request::Usage => Err(Failure::Usage),
         Request::NoMemory => Err(Failure::Run(RunError::Memory)),
     }
@@ -174,6 +189,7 @@ fn tell<E: Sink>(failure: Failure<'_>, err: &mut E) -> Result<(), SinkFault> {
             put_all(err, name.as_bytes())?;
             put_all(err, b"\n")
         }
+        Failure::NoRandomBytes => put_all(err, b"jobk: no random bytes\n"),
         Failure::Run(why) => tell_run_error(why, err),
         Failure::Faulty => Ok(()),
     }
@@ -188,12 +204,13 @@ fn tell_run_error<E: Sink>(why: RunError, err: &mut E) -> Result<(), SinkFault> 
 
 /// Does what the words of the command line ask for, without the program's name, and gives the status
 /// of the program: 0 when it is done, 1 for a refused text or a faulty trace, 2 for other words, 3 for a
-/// device or memory. Traces and the answers of audits go to `out` and messages to `err`; a failing `err`
+/// device or memory; an audit needs random bytes of the host (`keys`), too. Traces and the answers of audits go to `out` and messages to `err`; a failing `err`
 /// changes no status. Without any words the program runs its own stored world.
 pub fn serve<'a, F: ReadFiles, O: Sink, E: Sink>(
     alloc: Global,
     words: Result<&'a [&'a str], WordsFault>,
     files: &F,
+    keys: Option<RandomState>,
     out: &mut O,
     err: &mut E,
 ) -> u8
@@ -203,7 +220,7 @@ pub fn serve<'a, F: ReadFiles, O: Sink, E: Sink>(
     ensures not_text { words.entry ≡ Err WordsFault.NotText → result ≡ 2 }
 {
     let done = match words {
-        Ok(words) => serve_words(alloc, words, files, out),
+        Ok(words) => serve_words(alloc, words, files, keys, out),
         Err(WordsFault::NotText) => Err(Failure::Usage),
         Err(WordsFault::Memory) => Err(Failure::Run(RunError::Memory)),
     };
