@@ -1,11 +1,17 @@
+#!/usr/bin/env python3
 """A plain machine: the rules of docs/RULES.md and docs/FORMATS.md once more, in Python and without a thought of speed.
 tools/linux/replay takes from it what no trace shows: who acts, and the state after each event. Each line that it gives
 has to be that of jobk.
+
+    tools/linux/machine.py run -- WORLD EVENTS      its trace: so it stands in for jobk
 
 The texts have to be texts that jobk accepts, and no call is refused for memory.
 """
 
 import copy
+import sys
+
+import texts
 
 HUP, INT, QUIT, FPE, KILL, SEGV, ALRM, CHLD, CONT = 1, 2, 3, 8, 9, 11, 14, 17, 18
 STOP, TSTP, TTIN, TTOU = STOPS = 19, 20, 21, 22
@@ -763,3 +769,14 @@ def computed(word, x, y):
         quotient = abs(x) // abs(y) * (1 if (x < 0) == (y < 0) else -1)
         return quotient if word == 'div' else x - y * quotient
     return {'mov': y, 'add': x + y, 'sub': x - y, 'mul': x * y, 'and': x & y, 'or': x | y, 'xor': x ^ y}[word]
+
+
+def main(words):
+    world, events = (open(path, encoding='utf-8', errors='replace').read() for path in words[-2:])
+    machine = Machine(texts.World(world))
+    for event in texts.read_events(events):
+        print(*machine.event(event), sep='\n', end='\n' * bool(machine.lines))
+
+
+if __name__ == '__main__':
+    main(sys.argv[1:])
