@@ -1,0 +1,401 @@
+"""What docs/CONFORMANCE.md explains. Each heading has a cause, and explains a difference only where its cause is there:
+what has happened so far is followed from event to event, in the states of the plain machine.
+"""
+
+import machine as rules
+from machine import CONT, CONTINUED, CONTINUED_WORD, EXITED, KILL, STOPPED, STOPS, bit
+
+IDS = {'setuid': 105, 'setgid': 106, 'seteuid': 117, 'setegid': 119}
+SENDS = 'kill', 'sigqueue'
+WAITS = 'waitpid', 'waitid'
+TERMINAL = ('tcgetpgrp', 'tcsetpgrp', 'settostop', 'read', 'write')
+FAULTS = 4, 5, 7, 8, 11, 31
+WITH_A_CORE = 3, 4, 5, 6, 7, 8, 11, 24, 25, 31
+# Headings where the result of a call differs, and nothing else comes of it.
+RESULTS_ALONE = {'a-bad-signal-for-nobody', 'kill-of-all-with-none-permitted', 'setctty-again', 'tcsetpgrp-of-no-group',
+                 'tcsetpgrp-in-an-orphaned-group', 'tcgetpgrp-without-a-foreground', 'setpgid-of-a-negative-process',
+                 'waitpid-of-the-least-number', 'waitid-and-a-zombie-alone', 'seteuid-of-the-present-id'}
+# Headings behind which the states can agree again, and all that is hidden in them, too.
+PASSING = {'a-foreground-group-made-again', 'tcsetpgrp-of-a-process', 'a-blocked-signal-of-process-1',
+           'cont-pending-in-process-1', 'kill-of-a-stopped-process', 'notice-of-a-continue',
+           'a-fatal-signal-that-comes-first', 'sigsuspend-that-goes-on', 'which-child-is-reported',
+           'which-orphan-is-told-of-first'}
+
+
+def reported(text):
+    """The child and the status word that the result of a wait tells, or None twice."""
+    words = text.split()
+    return (int(words[-3]), int(words[-1])) if words[-2:-1] == ['status'] else (None, None)
+
+
+def sort_of(word):
+    """The option of a wait that asks for a status word."""
+    return CONTINUED if word == CONTINUED_WORD else STOPPED if word % 256 == 127 else EXITED
+
+
+def interrupts(p, number):
+    """Whether p has a handler for a signal, without SA_RESTART."""
+    return bool(number) and p.has_handler(number) and not p.action(number)[2] & rules.RESTART
+
+
+def fatal(p):
+    """The pending signals that end p without a core."""
+    return {n for n in rules.SIGNALS if p.pending() & bit(n) & ~p.mask and p.action(n)[0] == rules.DEFAULT
+            and n not in (*WITH_A_CORE, *STOPS, *rules.IGNORED_BY_DEFAULT)}
+
+
+class Known:
+    """What has happened in a run, and which difference it explains."""
+
+    def __init__(self, run):
+        self.run, self.machine = run, run.machine
+        self.lost = [0] * run.world.consoles    # of each console the foreground group that has lost its last member
+        self.without = set()                    # who has no terminal in Linux, as the leader took it later
+        self.born = [1]                         # all processes, the children of each in the order in which they came
+        # The events in which a process changed its group, a child of a process did, and a child came to its parent.
+        self.moved, self.child_moved, self.came = {}, {}, {}
+        self.begun = {}                         # the event in which a call began, and the group of its caller
+        # Who was stopped in a call; who was continued, and hasn't run since; who has, and the states haven't agreed since;
+        # the signals that end a process in Linux.
+        self.stopped_in_call, self.continued, self.told, self.dying = set(), set(), set(), {}
+        self.came_together = {}                 # zombies that came to a process at once
+        self.here_alone, self.there_alone = set(), set()    # children of which only one side has reported the news
+        # The state before the event: the orphaned groups, and of the process that acts its zombies and its heir.
+        self.before, self.foregrounds, self.orphaned, self.left, self.heir = {}, [], set(), [], 1
+
+    # -- what happens
+
+    def begin(self, p):
+        """A call of p begins, or begins again."""
+        self.begun[p.number] = self.run.count, p.group
+
+    def note_turn(self, number):
+        """A process runs, and so Linux tells of its continue."""
+        if number in self.continued:
+            self.continued.discard(number)
+            self.told.add(number)
+
+    def look_before(self):
+        """Before an event."""
+        machine, p = self.machine, self.run.p
+        self.before = {q.number: (q.parent, q.group, q.life, q.news) for q in machine.processes.values()}
+        self.born = [number for number in self.born if number in self.before or number in self.here_alone]
+        self.foregrounds = [(console.session, console.foreground) for console in machine.consoles]
+        self.orphaned = {q.group for q in machine.processes.values() if machine.is_orphaned(q.group)}
+        self.left = [q for q in machine.children(p) if q.life == 'zombie'] if p else []
+        self.heir = machine.heir(p) if p else 1
+
+    def look_behind(self):
+        """Behind it: what it has changed."""
+        machine, run, p = self.machine, self.run, self.run.p
+        for q in machine.rising():
+            if q.number not in self.before:
+                self.note_birth(q)
+        for number in [number for number in self.born if number in machine.processes]:
+            if number in self.before:
+                self.note_changes(machine.processes[number], *self.before[number])
+        for place, (console, before) in enumerate(zip(machine.consoles, self.foregrounds)):
+            if console.foreground or console.session != before[0]:
+                self.lost[place] = 0
+            elif before[1] and not machine.is_group_of(*before):
+                self.lost[place] = before[1]
+        if p and p.life == 'zombie':
+            self.came_together.setdefault(self.heir, set()).update(q.number for q in self.left)
+        if p and p.call and any(words[0] == 'stop' for words in run.lines):
+            self.stopped_in_call.add(p.number)
+        if ['call', 'setctty', '=', '0'] in [words[:1] + words[2:] for words in run.lines]:
+            self.without |= {q.number for q in machine.processes.values() if q.session == p.session and q is not p}
+            self.without.discard(p.number)
+
+    def note_birth(self, q):
+        self.born.append(q.number)
+        for followed in self.without, self.stopped_in_call, self.continued, self.told:
+            followed.discard(q.number)
+        for followed in self.moved, self.child_moved, self.came, self.begun, self.dying:
+            followed.pop(q.number, None)
+        if q.parent in self.without:
+            self.without.add(q.number)
+
+    def note_changes(self, q, parent, group, life, news):
+        number, count = q.number, self.run.count
+        if group != q.group:
+            self.moved[number] = self.child_moved[q.parent] = count
+        if parent != q.parent:
+            self.came[number] = count
+            self.born.remove(number)
+            self.born.append(number)
+        if life == 'stopped' and q.life == 'running':
+            self.continued.add(number)
+            if q.call:
+                self.begin(q)
+        if (q.life, q.news) != (life, news) and (q.news or q.life == 'zombie'):
+            self.here_alone.discard(number)
+            self.there_alone.discard(number)
+
+    def note_reports(self, here, there):
+        """Two children are reported, one on each side."""
+        both = self.here_alone, self.there_alone
+        for text, alone, others in (here, *both), (there, *both[::-1]):
+            number, _ = reported(text)
+            if number in others:
+                others.discard(number)
+            elif ' look ' not in text:
+                alone.add(number)
+
+    def note_dying(self, q):
+        """Linux has decided that q ends. Whether a signal that is pending here explains it."""
+        return bool(self.dying.setdefault(q.number, fatal(q)))
+
+    # -- a difference
+
+    def explain(self, d):
+        """The heading of docs/CONFORMANCE.md that explains a difference, or None."""
+        here, there, run = str(d.here), str(d.there), self.run
+        anchor = None
+        if d.what == run.name and run.p and d.number == run.p.number:
+            anchor = self.of_result(d.what, here, there)
+        if not anchor and d.what.startswith('foreground'):
+            is_made_again = here == '0' and there == str(self.lost[int(d.what.split()[-1]) - 1])
+            return 'a-foreground-group-made-again' if is_made_again else None
+        return anchor or self.of_state(d.what, d.number, here, there)
+
+    # -- where the result of the call differs that is made or taken up again
+
+    def of_result(self, name, here, there):
+        pair, (r1, r2, _, r4) = (here, there), self.run.registers[1:5]
+        if name in SENDS:
+            return self.of_send(name, pair, r1, r2)
+        if name in IDS:
+            return self.of_ids(name, pair, r1)
+        if name in WAITS:
+            return self.of_wait(name, here, there)
+        if name in TERMINAL:
+            return self.of_terminal(name, here, there)
+        if name == 'sigaction' and pair == ('-22', '0'):
+            if r1 in (32, 33):
+                return 'signals-32-and-33'
+            return 'unknown-flags' if r4 & ~rules.FLAGS and r1 in rules.SIGNALS else None
+        if name == 'setpgid' and pair == ('-3', '-22') and r1 < 0 and r2 == 0:
+            return 'setpgid-of-a-negative-process'
+        if name == 'setctty' and pair == ('-1', '0'):
+            p, console = self.run.p, self.machine.consoles[r1 - 1]
+            return 'setctty-again' if console is self.machine.console_of(p) and p.session == p.number else None
+        return None
+
+    def of_send(self, name, pair, r1, r2):
+        p, others = self.run.p, [q for q in self.machine.rising() if q.number != 1]
+        if pair == ('-22', '0') and r2 in (32, 33):
+            return 'signals-32-and-33'
+        if pair == ('-22', '-3') and r2 not in (0, *rules.SIGNALS):
+            return 'a-bad-signal-for-nobody'
+        if pair == ('-1', '0') and (name, r1) == ('kill', -1):
+            is_any_permitted = any(p.may_signal(q, r2) for q in others if q is not p)
+            return None if is_any_permitted else 'kill-of-all-with-none-permitted'
+        if pair == ('-11', '0') and r2 > 33:
+            return 'a-full-queue' if any(len(q.queue) == 32 for q in self.machine.rising()) else None
+        return None
+
+    def of_ids(self, name, pair, r1):
+        if pair == ('-22', '0') and not 0 <= r1 <= rules.GREATEST:
+            return 'great-ids'
+        present = self.run.p.users[1] if name == 'seteuid' else self.run.p.groups[1]
+        is_effective = name in ('seteuid', 'setegid')
+        return 'seteuid-of-the-present-id' if is_effective and pair == ('-1', '0') and r1 == present else None
+
+    def of_wait(self, name, here, there):
+        p, (r1, r2, r3) = self.run.p, self.run.registers[1:4]
+        anchor = self.of_blocked_wait(name, here, there) if self.run.kind == 'again' else None
+        if anchor:
+            return anchor
+        if name == 'waitpid' and r1 == -2**31 and (here, there) == ('-10', '-3'):
+            return 'waitpid-of-the-least-number'
+        if name == 'waitid' and there == '-10' and self.has_ends_alone(p, r1, r2, r3):
+            return 'waitid-and-a-zombie-alone'
+        number, word = reported(here)
+        if not number or not self.asks_for(word):
+            return None
+        child = self.machine.processes.get(number)
+        if child and KILL in child.standard and sort_of(word) != EXITED and there[0] != '-':
+            return 'kill-of-a-stopped-process'
+        is_taken_away = number in self.dying and there in ('0', 'asleep')
+        if word == CONTINUED_WORD and (is_taken_away or number in self.continued and there == 'asleep'):
+            return 'notice-of-a-continue'
+        return 'which-child-is-reported' if self.came_before(number, there) else None
+
+    def asks_for(self, word):
+        """Whether the wait asks for a status word."""
+        options = self.run.registers[2] | EXITED if self.run.name == 'waitpid' else self.run.registers[3]
+        return bool(options & sort_of(word))
+
+    def came_before(self, number, there):
+        """Whether Linux reports a child that came earlier than this one, and not the least number."""
+        other, word = reported(there)
+        if not other or not self.asks_for(word):
+            return False
+        child = self.machine.processes.get(other)
+        is_news = (child and child.parent == self.run.p.number and self.machine.report(child)[1] == word
+                   and other not in self.there_alone)
+        if other not in self.here_alone and not (is_news and number < other):
+            return False
+        return number in self.there_alone or self.born.index(other) < self.born.index(number)
+
+    def of_blocked_wait(self, name, here, there):
+        p, run, (r1, r2) = self.run.p, self.run, self.run.registers[1:3]
+        if p.number in self.stopped_in_call and there == 'asleep' and not run.is_there(p.number):
+            return 'a-stopped-waiter-that-is-ended'
+        if p.number in self.stopped_in_call and self.is_interrupted(p, there):
+            return 'a-stopped-call-and-a-handler'
+        if there != 'asleep':
+            return None
+        since, group = self.begun[p.number]
+        is_group = r1 == 0 or r1 < -1 if name == 'waitpid' else r1 == rules.A_GROUP
+        if self.means_own_group(name, r1, r2) and p.group != group:
+            return 'waitpid-for-the-group-of-the-caller'
+        number, word = reported(here)
+        if number is None:
+            is_changed = here == '-10' and is_group and self.child_moved.get(p.number, 0) > since
+        else:
+            came = self.came.get(number, 0) > since and sort_of(word) != EXITED
+            is_changed = self.asks_for(word) and (came or is_group and self.moved.get(number, 0) > since)
+        return 'a-blocked-wait-judged-afresh' if is_changed else None
+
+    def means_own_group(self, name, r1, r2):
+        return r1 == 0 if name == 'waitpid' else (r1, r2) == (rules.A_GROUP, 0)
+
+    def has_ends_alone(self, p, kind, number, options):
+        """Whether a waitid doesn't ask for ends, and all children that it names have ended: Linux finds none then."""
+        named = [child for child in self.machine.children(p) if self.machine.is_of_kind(p, kind, number, child)]
+        return not options & EXITED and all(child.life == 'zombie' for child in named)
+
+    def of_terminal(self, name, here, there):
+        p, machine, r1, pair = self.run.p, self.machine, self.run.registers[1], (here, there)
+        console = machine.console_of(p)
+        if there == '-6':
+            return 'children-born-before-setctty' if console and p.number in self.without else None
+        if pair == ('begins again', '-4') and self.run.kind == 'call':
+            is_caught = any(number in p.standard and interrupts(p, number) for number in (rules.TTIN, rules.TTOU))
+            return 'ttin-or-ttou-caught' if is_caught else None
+        if name == 'tcgetpgrp' and here == str(self.run.world.pidmax + 1):
+            is_lost = there == str(self.lost[machine.consoles.index(console)])
+            return 'tcgetpgrp-without-a-foreground' if is_lost else None
+        if name == 'tcsetpgrp':
+            if pair == ('-5', '-25') and machine.is_orphaned(p.group):
+                return 'tcsetpgrp-in-an-orphaned-group'
+            if pair == ('-1', '-3') and not any(r1 in (q.number, q.group, q.session) for q in machine.rising()):
+                return 'tcsetpgrp-of-no-group'
+            named = machine.processes.get(r1)
+            if pair == ('-1', '0') and named and named.session == p.session and not machine.members(r1):
+                return 'tcsetpgrp-of-a-process'
+        return self.of_read(console, here, there) if name == 'read' else None
+
+    def is_interrupted(self, p, there):
+        return there == '-4' and interrupts(p, p.chosen())
+
+    def of_read(self, console, here, there):
+        p, run = self.run.p, self.run
+        if run.kind == 'again':
+            if p.number in self.stopped_in_call and ' bytes ' in here and self.is_interrupted(p, there):
+                return 'a-stopped-call-and-a-handler'
+            is_judged = here in ('begins again', '-5', '-25')
+            if is_judged and (there in ('asleep', '0') or ' bytes ' in there or self.is_interrupted(p, there)):
+                return 'a-blocked-read-judged-afresh'
+        if console and console.has_dropped and ' bytes ' in there:
+            return 'long-lines'
+        if there != 'asleep' or here[0] == '-':
+            return None
+        others = [q for q in self.machine.rising() if q is not p and q.session == p.session
+                  and run.linux.busy[q.number] == 'read' and self.begun[q.number] < self.begun[p.number]]
+        return 'several-readers' if others else None
+
+    # -- where a signal or the state of a process differs
+
+    def of_state(self, what, number, here, there):
+        run, q = self.run, self.machine.processes.get(number)
+        words = [line[0] for line in run.lines]
+        if run.frames == 16 and run.kind == 'signal' and ['end', '11'] in [line[::2] for line in run.lines]:
+            return 'seventeen-handlers'
+        if what == 'record' and there == 'gone' and run.kind == 'kill' and run.was_in in WAITS:
+            return 'kill-of-a-waiting-parent' if number in [child.number for child in self.left] else None
+        if what == 'record' and there == 'there' and run.kind == 'signal' and 'end' in words:
+            return 'a-stopped-waiter-that-is-ended' if run.p.number in self.stopped_in_call else None
+        if not q:
+            return None
+        call, registers = (run.was_in, run.registers) if q is run.p else (q.call, q.r)
+        if call == 'waitid' and there == '-10' and self.has_ends_alone(q, *registers[1:4]):
+            return 'waitid-and-a-zombie-alone'
+        if what in ('life', 'pending') and 'end' in words and self.is_orphaned_twice(what, q, here, there):
+            return 'a-group-orphaned-twice'
+        if what == 'pending':
+            more = {*here.split()} - {*there.split(), 'none'}, {*there.split()} - {*here.split(), 'none'}
+            anchor = self.of_pending(q, *({int(word) for word in words} for words in more))
+        elif what == 'life':
+            anchor = self.of_life(q, there)
+        else:
+            anchor = self.of_handler(q, here.split(), there.split()) if 'handle' in (what, there[:6]) else None
+        if anchor:
+            return anchor
+        signals, is_of_another = self.dying.get(number), what in ('parent', 'group', 'session', 'mask', 'record')
+        if not signals or is_of_another or what == 'status' and int(there) not in signals:
+            return None
+        return 'a-fatal-signal-that-comes-first'
+
+    def is_orphaned_twice(self, what, q, here, there):
+        """Whether a zombie of q's group, which was orphaned before, was a child of the process that ends."""
+        p, more = self.run.p, {*there.split()} - {*here.split(), 'none'}
+        is_asked = any(child.group == q.group and child.session == p.session for child in self.left)
+        is_told = (here, there) == ('stopped', 'running') if what == 'life' else more <= {'1', '18'}
+        return is_asked and is_told and q.group in self.orphaned and q.group != p.group
+
+    def of_pending(self, q, more_here, more_there):
+        if q.number == 1 and more_there and not more_here:
+            is_blocked = all(q.mask & bit(number) and not q.has_handler(number) for number in more_there)
+            return 'a-blocked-signal-of-process-1' if is_blocked else None
+        if q.number == 1 and more_here and not more_there:
+            sent = self.sent()
+            discards = more_here == {CONT} and sent in STOPS or more_here <= {*STOPS} and sent == CONT
+            if discards and not q.has_handler(sent):
+                return 'cont-pending-in-process-1'
+        if not more_there and self.goes_on(q, more_here):
+            return 'sigsuspend-that-goes-on'
+        if more_here | more_there == {rules.CHLD}:
+            children = [c for c in self.machine.children(q) if c.number in (self.continued if more_here else self.told)]
+            return self.of_continue(children)
+        return None
+
+    def sent(self):
+        """The signal that the event sends."""
+        run = self.run
+        if run.name in TERMINAL:
+            return rules.TTIN if run.name == 'read' else rules.TTOU
+        return run.registers[2] if run.name in SENDS else rules.KEYS.get(run.name, 0)
+
+    def of_continue(self, children):
+        """Of the notice that Linux sends as one of these children next runs, or not at all as it is dying."""
+        if any(KILL in child.standard for child in children):
+            return 'kill-of-a-stopped-process'
+        return 'notice-of-a-continue' if children else None
+
+    def of_handler(self, q, here, there):
+        """The same for a handler, `here` and there its signal, value and sender, behind `handler` there."""
+        signal, sender = (int(there[1]), int(there[3])) if there[0] == 'handler' else (0, 0)
+        if here[:2] == ['17', str(CONTINUED_WORD)] and (there == ['asleep'] or signal == rules.CHLD):
+            child = self.machine.processes.get(int(here[2]))
+            if child and (child.number in self.continued or child.number in self.dying):
+                return self.of_continue([child])
+        if here[0] == '17' and signal == rules.CHLD and int(here[2]) < sender:
+            if {int(here[2]), sender} <= self.came_together.get(q.number, set()):
+                return 'which-orphan-is-told-of-first'
+        if signal in FAULTS and signal in q.standard and here[0].isdecimal() and int(here[0]) < signal:
+            return 'signals-of-faults-first'
+        return 'sigsuspend-that-goes-on' if signal and self.goes_on(q, {signal}) else None
+
+    def of_life(self, q, there):
+        ends = [number for number in q.standard if self.goes_on(q, {number}) and q.action(number)[0] == rules.DEFAULT
+                and number not in STOPS and not q.does_nothing(number)]
+        return 'sigsuspend-that-goes-on' if there == 'zombie' and ends else None
+
+    def goes_on(self, q, signals):
+        """Whether q goes on with a sigsuspend whose mask alone blocks these signals."""
+        discards = ['discard', str(q.number)] in [line[:2] for line in self.run.lines]
+        return ((discards or q.number in self.stopped_in_call) and q.call == 'sigsuspend' and q.life == 'running'
+                and all(q.mask & bit(number) & ~q.earlier for number in signals))
