@@ -29,7 +29,6 @@ ends_weaker Asks Wider Audits More Others old new before after wider more (Ok do
 ends_weaker Asks Wider Audits More Others old new before after wider more (Err failure.Faulty) h = (h.0, more h.0 h.1, h.2)
 ends_weaker Asks Wider Audits More Others old new before after wider more (Err failure.Usage) h = absurd h.0
 ends_weaker Asks Wider Audits More Others old new before after wider more (Err (failure.CannotRead name)) h = h
-ends_weaker Asks Wider Audits More Others old new before after wider more (Err failure.NoRandomBytes) h = h
 ends_weaker Asks Wider Audits More Others old new before after wider more (Err (failure.Run (error.World fault))) h =
     ((h.0.0, h.0.1, wider h.0.0 h.0.1 h.0.2, h.0.3), h.1)
 ends_weaker Asks Wider Audits More Others old new before after wider more (Err (failure.Run (error.Events fault))) h =
@@ -51,7 +50,6 @@ pub means_failure : {S : Type 0} (contents : Contents) (words : Words) (old new 
 means_failure contents words old new before after failure.Faulty h = record { done = λ e. absurd (omega (arith, e)); refused = λ e. inr h; other_words = λ e. absurd (omega (arith, e)); cut_short = λ e. absurd (omega (arith, e)) }
 means_failure contents words old new before after failure.Usage h = record { done = λ e. absurd (omega (arith, e)); refused = λ e. absurd (omega (arith, e)); other_words = λ e. h; cut_short = λ e. absurd (omega (arith, e)) }
 means_failure contents words old new before after (failure.CannotRead name) h = record { done = λ e. absurd (omega (arith, e)); refused = λ e. absurd (omega (arith, e)); other_words = λ e. absurd (omega (arith, e)); cut_short = λ e. inl h }
-means_failure contents words old new before after failure.NoRandomBytes h = record { done = λ e. absurd (omega (arith, e)); refused = λ e. absurd (omega (arith, e)); other_words = λ e. absurd (omega (arith, e)); cut_short = λ e. inl h }
 means_failure contents words old new before after (failure.Run (error.World fault)) h = record { done = λ e. absurd (omega (arith, e)); refused = λ e. inl h; other_words = λ e. absurd (omega (arith, e)); cut_short = λ e. absurd (omega (arith, e)) }
 means_failure contents words old new before after (failure.Run (error.Events fault)) h = record { done = λ e. absurd (omega (arith, e)); refused = λ e. inl h; other_words = λ e. absurd (omega (arith, e)); cut_short = λ e. absurd (omega (arith, e)) }
 means_failure contents words old new before after (failure.Run error.Memory) h = record { done = λ e. absurd (omega (arith, e)); refused = λ e. absurd (omega (arith, e)); other_words = λ e. absurd (omega (arith, e)); cut_short = λ e. inl h }

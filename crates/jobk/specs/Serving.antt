@@ -39,7 +39,6 @@ status_of (failure.Run (error.Events fault)) = 1
 status_of failure.Faulty = 1
 status_of failure.Usage = 2
 status_of (failure.CannotRead name) = 3
-status_of failure.NoRandomBytes = 3
 status_of (failure.Run error.Memory) = 3
 status_of (failure.Run error.Write) = 3
 
@@ -107,7 +106,6 @@ Ends Asks Audits Others old new before after (Ok done) = OfTexts Asks (IsTraced 
 Ends Asks Audits Others old new before after (Err failure.Faulty) = OfTrace Audits IsFaulty
 Ends Asks Audits Others old new before after (Err failure.Usage) = Others × (new ≡ old)
 Ends Asks Audits Others old new before after (Err (failure.CannotRead name)) = new ≡ old
-Ends Asks Audits Others old new before after (Err failure.NoRandomBytes) = new ≡ old
 Ends Asks Audits Others old new before after (Err (failure.Run (error.World fault))) = OfTexts Asks IsRefused × (new ≡ old)
 Ends Asks Audits Others old new before after (Err (failure.Run (error.Events fault))) = OfTexts Asks IsRefused × (new ≡ old)
 Ends Asks Audits Others old new before after (Err (failure.Run error.Memory)) = new ≡ old

@@ -17,7 +17,14 @@ fn main(rt: HostRuntime) -> ExitCode {
     let keys = RandomState::new(&rt).ok();
     let status = match read_words(&rt) {
         Ok(words) => match as_texts(rt.alloc(), words.as_slice()) {
-            Ok(texts) => serve(rt.alloc(), Ok(texts.as_slice()), &files, keys, &mut out, &mut err),
+            Ok(texts) => serve(
+                rt.alloc(),
+                Ok(texts.as_slice()),
+                &files,
+                keys,
+                &mut out,
+                &mut err,
+            ),
             Err(fault) => serve(rt.alloc(), Err(fault), &files, keys, &mut out, &mut err),
         },
         Err(fault) => serve(rt.alloc(), Err(fault), &files, keys, &mut out, &mut err),

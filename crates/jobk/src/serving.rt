@@ -19,8 +19,6 @@ use std::hash::RandomState;
 enum Failure<'a> {
     Usage,
     CannotRead(&'a str),
-    /// The host gives no random bytes, by which an audit finds numbers.
-    NoRandomBytes,
     Run(RunError),
     /// An audit found a fault, and told it.
     Faulty,
@@ -52,9 +50,7 @@ impl<'a> Failure<'a> {
         match self {
             Failure::Faulty | Failure::Run(RunError::World(_) | RunError::Events(_)) => 1,
             Failure::Usage => 2,
-            Failure::CannotRead(_)
-            | Failure::NoRandomBytes
-            | Failure::Run(RunError::Memory | RunError::Write) => 3,
+            Failure::CannotRead(_) | Failure::Run(RunError::Memory | RunError::Write) => 3,
         }
     }
 }
@@ -130,7 +126,7 @@ fn audit_trace<'a, O: Sink>(
         out.old out.new (O.seen out.old) (O.seen out.new) result }
 {
     let Some(keys) = keys else {
-        return Err(Failure::NoRandomBytes);
+        return Err(Failure::CannotRead("random bytes"));
     };
     match audit_text(alloc, keys, trace) {
         Ok(()) => put_answer(b"ok\n", out),
@@ -189,7 +185,6 @@ fn tell<E: Sink>(failure: Failure<'_>, err: &mut E) -> Result<(), SinkFault> {
             put_all(err, name.as_bytes())?;
             put_all(err, b"\n")
         }
-        Failure::NoRandomBytes => put_all(err, b"jobk: no random bytes\n"),
         Failure::Run(why) => tell_run_error(why, err),
         Failure::Faulty => Ok(()),
     }
@@ -204,7 +199,7 @@ fn tell_run_error<E: Sink>(why: RunError, err: &mut E) -> Result<(), SinkFault> 
 
 /// Does what the words of the command line ask for, without the program's name, and gives the status
 /// of the program: 0 when it is done, 1 for a refused text or a faulty trace, 2 for other words, 3 for a
-/// device or memory; an audit needs random bytes of the host (`keys`), too. Traces and the answers of audits go to `out` and messages to `err`; a failing `err`
+/// device or memory; an audit needs random bytes of the host, too, its `keys`. Traces and the answers of audits go to `out` and messages to `err`; a failing `err`
 /// changes no status. Without any words the program runs its own stored world.
 pub fn serve<'a, F: ReadFiles, O: Sink, E: Sink>(
     alloc: Global,
