@@ -5,9 +5,10 @@ ghost use Rattle.showing.specs.Pasts.{IsSame};
 use crate::past::Past;
 use kernel::Kernel;
 use posix::{Life, Pid};
+use proctable::Snapshot;
 use std::alloc::{AllocError, Global};
 use std::fmt::Write;
-use telling::{Around, Times, View, put_console, put_process, put_turns};
+use telling::{Around, Terminal, Times, View, put_console, put_process, put_turns};
 
 /// More numbers than processes can have.
 pub const MOST_NUMBERS: u32 = 40_000;
@@ -36,6 +37,37 @@ fn console_of(kernel: &Kernel, session: Pid) -> Option<usize> {
     None
 }
 
+/// Whether another living process is in the session that a process leads.
+fn has_company(kernel: &mut Kernel, leader: Pid) -> bool
+    ensures { IsSame kernel.old kernel.new }
+{
+    let mut last = Pid::NONE;
+    for _ in 0..MOST_NUMBERS {
+        let Some(pid) = kernel.next_process(last) else {
+            return false;
+        };
+        let Some(other) = kernel.snapshot(pid) else {
+            return false;
+        };
+        if other.session == leader && pid != leader && !matches!(other.life, Life::Zombie(_)) {
+            return true;
+        }
+        last = pid;
+    }
+    false
+}
+
+/// The terminal of a process. The leader of its session lives.
+fn terminal_of(kernel: &mut Kernel, it: &Snapshot) -> Option<Terminal>
+    ensures { IsSame kernel.old kernel.new }
+{
+    let number = console_of(kernel, it.session)?;
+    Some(Terminal {
+        number,
+        is_shared: it.session != it.pid || has_company(kernel, it.pid),
+    })
+}
+
 /// Writes a process, if it is there.
 fn put_if_there(
     view: View<'_, '_>,
@@ -53,7 +85,7 @@ fn put_if_there(
     let around = Around {
         times,
         sleeps: !kernel.is_halted() && !turns.contains(&pid),
-        console: console_of(kernel, it.session),
+        terminal: terminal_of(kernel, &it),
         ticks: kernel.ticks(),
     };
     put_process(view, text, it, around, kernel.look(pid))

@@ -6,9 +6,11 @@ mod event;
 mod process;
 mod since;
 mod view;
+mod wakers;
 
 pub use console::{put_console, put_turns};
 pub use event::{Actor, Row, Teller, queue_of};
 pub use process::{Around, put_process};
 pub use since::{Since, Times};
 pub use view::View;
+pub use wakers::Terminal;

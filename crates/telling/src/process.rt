@@ -2,10 +2,9 @@
 
 use crate::since::Times;
 use crate::view::View;
+use crate::wakers::{Terminal, put_wakers};
 use bitflags::Flags;
-use posix::{
-    Action, Blocked, Handler, Life, News, Pid, Sig, SigSet, Target, WaitCall, WaitidOptions,
-};
+use posix::{Action, Blocked, Handler, Life, News, Pid, Sig, SigSet};
 use proctable::{OwnPart, Snapshot};
 use std::alloc::AllocError;
 use std::fmt::Write;
@@ -181,79 +180,6 @@ fn put_row(
     )
 }
 
-/// Writes the children that a wait is for.
-fn put_children(text: &mut String, target: Target, group: Pid) -> Result<(), AllocError> {
-    match target {
-        Target::All => text.push_str("a child"),
-        Target::OwnGroup => write!(text, "a child in group {}", group.number()),
-        Target::Process(pid) => write!(text, "child {}", pid.number()),
-        Target::Group(group) => write!(text, "a child in group {}", group.number()),
-        Target::Nobody => text.push_str("no child"),
-    }
-}
-
-/// Writes what a wait wants to hear of its children.
-fn put_sorts(text: &mut String, options: WaitidOptions) -> Result<(), AllocError> {
-    let mut joint = " that ";
-    for (sort, words) in [
-        (WaitidOptions::WEXITED, "ends"),
-        (WaitidOptions::WSTOPPED, "is stopped"),
-        (WaitidOptions::WCONTINUED, "is continued"),
-    ] {
-        if options.contains(sort) {
-            text.push_str(joint)?;
-            text.push_str(words)?;
-            joint = " or ";
-        }
-    }
-    Ok(())
-}
-
-/// Writes what lets a wait for children go on. One that is refused doesn't sleep.
-fn put_reports(
-    text: &mut String,
-    shown: &Shown<'_, '_>,
-    own: &OwnPart,
-    call: WaitCall,
-) -> Result<(), AllocError> {
-    let Some(asked) = Arguments::of(&own.cpu).asked(call) else {
-        return Ok(());
-    };
-    put_children(text, asked.target, shown.it.group)?;
-    put_sorts(text, asked.options)?;
-    text.push_str(", or by ")
-}
-
-/// Writes by what a process that sleeps would be woken.
-fn put_wakers(
-    text: &mut String,
-    shown: &Shown<'_, '_>,
-    own: &OwnPart,
-    console: Option<usize>,
-) -> Result<(), AllocError> {
-    if matches!(shown.it.life, Life::Stopped) {
-        return text.push_str("    goes on by SIGCONT, and ends by SIGKILL\n");
-    }
-    let Some(blocked) = shown.it.blocked else {
-        return Ok(());
-    };
-    text.push_str("    is woken by ")?;
-    match blocked {
-        Blocked::Wait(call) => put_reports(text, shown, own, call)?,
-        Blocked::Read => {
-            if let Some(console) = console {
-                write!(text, "a finished line of console {console}, or by ")?;
-            }
-        }
-        Blocked::Pause | Blocked::Sigsuspend(_) => {}
-    }
-    text.push_str(if shown.it.pid == Pid::INIT {
-        "a signal that it catches and doesn't block: process 1 gets no other\n"
-    } else {
-        "a signal that it neither blocks nor ignores\n"
-    })
-}
-
 /// The action for the signal with a number; none where no signal has it.
 fn action_of(own: &OwnPart, number: u8) -> Option<(Sig, Action)> {
     let sig = Sig::new(number)?;
@@ -407,8 +333,7 @@ pub struct Around {
     pub times: Times,
     /// Whether it has no turn.
     pub sleeps: bool,
-    /// The number of its terminal.
-    pub console: Option<usize>,
+    pub terminal: Option<Terminal>,
     pub ticks: u64,
 }
 
@@ -432,7 +357,7 @@ pub fn put_process(
         return Ok(());
     }
     if around.sleeps {
-        put_wakers(text, &shown, own, around.console)?;
+        put_wakers(text, &shown.it, own, around.terminal)?;
     }
     put_details(view, text, &shown, own, around.ticks)
 }

@@ -1,0 +1,171 @@
+//! By what a process that sleeps would be woken, in words.
+
+use bitflags::Flags;
+use posix::{Asked, Blocked, Life, Pid, Target, WaitCall, WaitidOptions};
+use proctable::{OwnPart, Snapshot};
+use std::alloc::AllocError;
+use std::fmt::Write;
+use wording::Arguments;
+
+/// The terminal of a process.
+#[derive(Clone, Copy)]
+pub struct Terminal {
+    pub number: usize,
+    /// Whether another living process has it.
+    pub is_shared: bool,
+}
+
+/// The process group of a wait that is for the children in one, by a caller.
+fn group_of(it: &Snapshot, asked: &Asked) -> Option<Pid> {
+    match asked.target {
+        Target::OwnGroup => Some(it.group),
+        Target::Group(group) => Some(group),
+        Target::All | Target::Process(_) | Target::Nobody => None,
+    }
+}
+
+/// Writes the children that a wait is for.
+fn put_children(text: &mut String, it: &Snapshot, asked: &Asked) -> Result<(), AllocError> {
+    if let Target::Process(pid) = asked.target {
+        return write!(text, "by child {}", pid.number());
+    }
+    match group_of(it, asked) {
+        Some(group) => write!(text, "by a child in group {}", group.number()),
+        None => text.push_str("by a child"),
+    }
+}
+
+/// Whether something lets a wait go on, and what a child does then, in words. Of a child that is dropped no wait hears, but
+/// the wait for it alone has no child left.
+fn doings(it: &Snapshot, asked: &Asked, drops: bool) -> [(bool, &'static str); 5] {
+    let is_for_one = matches!(asked.target, Target::Process(_));
+    let is_for_group = group_of(it, asked).is_some();
+    let ends = if drops {
+        is_for_one
+    } else {
+        asked.options.contains(WaitidOptions::WEXITED)
+    };
+    let stops = asked.options.contains(WaitidOptions::WSTOPPED);
+    let continues = asked.options.contains(WaitidOptions::WCONTINUED);
+    let gets_orphans = !is_for_one && (it.pid == Pid::INIT || it.is_subreaper);
+    let (comes, words) = if stops || continues {
+        (gets_orphans, "is given to it so")
+    } else {
+        (gets_orphans && ends, "is given to it as a zombie")
+    };
+    [
+        (ends, "ends"),
+        (stops, "is stopped"),
+        (continues, "is continued"),
+        (comes, words),
+        (continues && is_for_group, "joins the group so"),
+    ]
+}
+
+/// Writes what a child does that lets a wait go on, where there is such.
+fn put_doings(
+    text: &mut String,
+    it: &Snapshot,
+    asked: &Asked,
+    drops: bool,
+) -> Result<(), AllocError> {
+    let start = text.len();
+    for (does, words) in doings(it, asked, drops) {
+        if does {
+            if text.len() == start {
+                put_children(text, it, asked)?;
+                text.push_str(" that ")?;
+            } else {
+                text.push_str(" or ")?;
+            }
+            text.push_str(words)?;
+        }
+    }
+    if text.len() == start {
+        return Ok(());
+    }
+    text.push_str(", ")
+}
+
+/// Writes what else lets a wait go on: that it is for no child any more, or for others.
+fn put_losses(
+    text: &mut String,
+    it: &Snapshot,
+    asked: &Asked,
+    drops: bool,
+) -> Result<(), AllocError> {
+    if let Some(group) = group_of(it, asked) {
+        let number = group.number();
+        write!(text, "once it has no child left in group {number}, ")?;
+    } else if drops && asked.target == Target::All {
+        text.push_str("once it has no child left, ")?;
+    }
+    if asked.target == Target::OwnGroup && it.session != it.pid && !it.ran_exec {
+        text.push_str("once it is moved to another group, ")?;
+    }
+    Ok(())
+}
+
+/// Writes what lets a wait for children go on. One that is refused doesn't sleep.
+fn put_waiting(
+    text: &mut String,
+    it: &Snapshot,
+    own: &OwnPart,
+    call: WaitCall,
+) -> Result<(), AllocError> {
+    let Some(asked) = Arguments::of(&own.cpu).asked(call) else {
+        return Ok(());
+    };
+    let drops = own.signals.drops_children();
+    put_doings(text, it, &asked, drops)?;
+    put_losses(text, it, &asked, drops)
+}
+
+/// Writes what lets a read go on.
+fn put_reading(
+    text: &mut String,
+    it: &Snapshot,
+    terminal: Option<Terminal>,
+) -> Result<(), AllocError> {
+    let Some(terminal) = terminal else {
+        return Ok(());
+    };
+    write!(text, "by a finished line of console {}, ", terminal.number)?;
+    if terminal.is_shared {
+        text.push_str("once it is in the background, ")?;
+    }
+    if it.session != it.pid {
+        text.push_str("once the console is released, ")?;
+    }
+    Ok(())
+}
+
+/// Writes by what a process that sleeps would be woken.
+pub fn put_wakers(
+    text: &mut String,
+    it: &Snapshot,
+    own: &OwnPart,
+    terminal: Option<Terminal>,
+) -> Result<(), AllocError> {
+    if matches!(it.life, Life::Stopped) {
+        return text.push_str("    goes on by SIGCONT, and ends by SIGKILL\n");
+    }
+    let Some(blocked) = it.blocked else {
+        return Ok(());
+    };
+    text.push_str("    is woken ")?;
+    let start = text.len();
+    match blocked {
+        Blocked::Wait(call) => put_waiting(text, it, own, call)?,
+        Blocked::Read => put_reading(text, it, terminal)?,
+        Blocked::Pause | Blocked::Sigsuspend(_) => {}
+    }
+    if text.len() != start {
+        text.push_str("or ")?;
+    }
+    text.push_str(if it.pid == Pid::INIT {
+        "by a signal that it catches and doesn't block: process 1 gets no other\n"
+    } else {
+        "by a signal that it neither blocks nor ignores\n"
+    })
+}
