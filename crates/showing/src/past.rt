@@ -105,7 +105,15 @@ impl Hear for Silent {
     }
 }
 
-/// Gives an event. An error where there is no memory to note what it tells, or whoever hears of it has none.
+/// Whether entries tell that the host had no memory for a call.
+fn deny_memory(entries: &[Entry]) -> bool {
+    entries
+        .iter()
+        .any(|entry| matches!(entry, Entry::NoMemory { .. }))
+}
+
+/// Gives an event. An error where there is no memory for what a process of the world asks, or to note what the event
+/// tells, or whoever hears of it has none.
 fn give<H: Hear>(past: &mut Past, event: Event, hear: &mut H) -> Result<(), AllocError>
     requires few { past.old.kernel.events < most_events }
     ensures given { AreGiven event past.old.kernel past.new.kernel }
@@ -115,6 +123,9 @@ fn give<H: Hear>(past: &mut Past, event: Event, hear: &mut H) -> Result<(), Allo
     hear.before(past, event)?;
     let acting = past.acting();
     let entries = past.kernel.event(event);
+    if deny_memory(entries.as_slice()) {
+        return Err(AllocError);
+    }
     past.note(entries.as_slice(), acting)?;
     hear.after(past, event, entries.as_slice())
 }

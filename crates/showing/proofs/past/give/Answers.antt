@@ -1,5 +1,12 @@
+use Rattle.std.proofs.Common.{refl}
 use Rattle.showing.proofs.PastLemmas.{given_one, same_then}
 use Rattle.showing.proofs.past.give.Goals as goal
+
+pub returns-then-deny_memory-clause-given : goal.returns-then-deny_memory-clause-given
+returns-then-deny_memory-clause-given g c =
+    let e = c.event-entries in
+    given_one c.args.event c.args.past.now.kernel c.acting-acting.new.self.kernel e.new.self e.new.self e.result.items (same_then c.before-2.ensures c.acting-acting.ensures) e.ensures.step e.ensures.events
+    (record { state = refl; events = refl })
 
 pub returns-in_err-note-clause-given : goal.returns-in_err-note-clause-given
 returns-in_err-note-clause-given g c =
