@@ -7,7 +7,7 @@ use crate::hearing::Telling;
 use crate::past::{Past, past_at, run_to};
 use crate::state::put_state;
 use crate::stepping::{Ask, StepFault, Steps};
-use crate::words::{Request, requested};
+use crate::words::{Request, process_of, requested};
 use arrayvec::ArrayString;
 use host::{ReadFiles, WordsFault};
 use inputs::{InputFault, Inputs, NoRequest, number, read_inputs};
@@ -107,21 +107,12 @@ fn at_of<'a>(word: Option<&str>, events: u64) -> Result<u64, Failure<'a>>
     Ok(at)
 }
 
-/// The process that a word names.
-fn process_of<'a>(word: &str) -> Result<Pid, Failure<'a>> {
-    let number = number(word).ok_or(Failure::Process)?;
-    let number = u32::try_from(number).map_err(|_| Failure::Process)?;
-    match Pid::new(number) {
-        Some(pid) if number != 0 => Ok(pid),
-        _ => Err(Failure::Process),
-    }
-}
-
 /// The processes that words name.
 fn processes_of<'a>(alloc: Global, words: &[&str]) -> Result<Vec<Pid>, Failure<'a>> {
     let mut pids = Vec::new(alloc);
     for word in words {
-        let pid = process_of(word)?;
+        let number = number(word).ok_or(Failure::Process)?;
+        let pid = process_of(number).ok_or(Failure::Process)?;
         pids.push(pid).map_err(|_| Failure::Memory)?;
     }
     Ok(pids)

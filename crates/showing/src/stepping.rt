@@ -6,6 +6,7 @@ ghost use Rattle.text.specs.EventTexts.{most_events};
 use crate::hearing::Telling;
 use crate::past::{Past, Silent, run_to};
 use crate::state::{put_head, put_state};
+use crate::words::process_of;
 use kernel::{Sink, SinkFault, put_all};
 use posix::Pid;
 use std::alloc::AllocError;
@@ -69,7 +70,9 @@ enum Command {
     /// To the state after this event.
     Go(u64),
     /// On until this process acts.
-    Process(u32),
+    Process(Pid),
+    /// The word for a process has no number of one.
+    NoProcess,
     /// On until an event shows a line of the trace.
     Line,
     /// The state.
@@ -80,6 +83,8 @@ enum Command {
 
 const HELP: &str =
     "n [N]  the next event, or the next N; so does an empty line\nb [N]  back by one event, or by N\ng E    to the state after event E\np P    on until process P acts\nl      on until an event shows a line of the trace\ns      the state\nq      the end\n";
+
+const NO_PROCESS: &str = "p takes the number of a process\n";
 
 /// What a word alone asks for; no word is as `n`.
 fn command_alone(word: &str) -> Command {
@@ -95,11 +100,14 @@ fn command_alone(word: &str) -> Command {
 
 /// What a word with a number asks for.
 fn command_with(word: &str, number: u64) -> Command {
-    match (word, u32::try_from(number)) {
-        ("n", _) => Command::Next(number),
-        ("b", _) => Command::Back(number),
-        ("g", _) => Command::Go(number),
-        ("p", Ok(number)) => Command::Process(number),
+    match word {
+        "n" => Command::Next(number),
+        "b" => Command::Back(number),
+        "g" => Command::Go(number),
+        "p" => match process_of(number) {
+            Some(pid) => Command::Process(pid),
+            None => Command::NoProcess,
+        },
         _ => Command::Help,
     }
 }
@@ -179,7 +187,8 @@ impl<'l, 't> Steps<'l, 't> {
             Command::Next(count) => self.go_on(past, now.saturating_add(count))?,
             Command::Back(count) => self.go(past, now.saturating_sub(count))?,
             Command::Go(event) => self.go(past, event)?,
-            Command::Process(number) => self.go_until(past, Pid::new(number))?,
+            Command::Process(pid) => self.go_until(past, Some(pid))?,
+            Command::NoProcess => self.telling.teller.text.push_str(NO_PROCESS)?,
             Command::Line => self.go_until(past, None)?,
             Command::State => put_state(self.view, &mut self.telling.teller.text, past)?,
             Command::Help => self.telling.teller.text.push_str(HELP)?,

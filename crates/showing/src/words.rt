@@ -2,6 +2,7 @@
 
 use clap::{ArgAction, ArgMatches, Command, Error};
 use inputs::{NoRequest, argument, words_behind};
+use posix::Pid;
 use std::alloc::Global;
 
 /// What the words ask for.
@@ -54,4 +55,10 @@ fn request_of<'a>(alloc: Global, matches: &ArgMatches<'a>) -> Result<Request<'a>
 /// What the words ask for; the program's name isn't one of them.
 pub fn requested<'a>(alloc: Global, words: &'a [&'a str]) -> Result<Request<'a>, NoRequest> {
     request_of(alloc, &command(alloc)?.try_get_matches_from(words)?)
+}
+
+/// The process with a number; none where no process can have it.
+pub fn process_of(number: u64) -> Option<Pid> {
+    let pid = Pid::new(u32::try_from(number).ok()?)?;
+    if pid == Pid::NONE { None } else { Some(pid) }
 }
