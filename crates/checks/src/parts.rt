@@ -1,6 +1,6 @@
 //! Parts of a machine, and what reads its texts, where there is memory enough.
 
-ghost use Rattle.std.specs.Prelude.{◌≡◌, ◌<◌, IfOk};
+ghost use Rattle.std.specs.Prelude.{◌≡◌, ◌<◌, ◌≤◌, IfOk};
 
 use pidset::{Index, Lists, PidSet};
 use posix::{Event, Pid};
