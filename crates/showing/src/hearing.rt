@@ -5,9 +5,9 @@ ghost use Rattle.showing.specs.Pasts.{IsSame};
 use crate::past::{Hear, Past};
 use crate::state::{MOST_NUMBERS, turns};
 use kernel::Kernel;
-use posix::{Entry, Event, Pid, Sig};
+use posix::{Entry, Event, Pid};
 use std::alloc::{AllocError, Global};
-use telling::{Actor, Row, Teller, queue_of};
+use telling::{Actor, Row, Sent, Teller};
 
 /// Whoever tells the events.
 #[derive(Drop)]
@@ -15,8 +15,8 @@ pub struct Telling<'l, 't> {
     pub teller: Teller<'l, 't>,
 }
 
-/// The processes, as they are compared.
-fn rows(alloc: Global, kernel: &mut Kernel) -> Result<Vec<Row>, AllocError>
+/// The processes, as they are compared, after an event that sent this, or before one.
+fn rows(alloc: Global, kernel: &mut Kernel, sent: Option<&Sent>) -> Result<Vec<Row>, AllocError>
     ensures { IsSame kernel.old kernel.new }
 {
     let turns = turns(alloc, kernel)?;
@@ -29,17 +29,7 @@ fn rows(alloc: Global, kernel: &mut Kernel) -> Result<Vec<Row>, AllocError>
         let Some(it) = kernel.snapshot(pid) else {
             return Ok(rows);
         };
-        let signals = &kernel.look(pid).signals;
-        let pending = signals.pending();
-        let (queued, last_queued): (usize, Option<Sig>) = queue_of(signals);
-        let can_act = turns.contains(&pid);
-        rows.push(Row {
-            it,
-            pending,
-            queued,
-            last_queued,
-            can_act,
-        })?;
+        rows.push(Row::new(it, kernel.look(pid), turns.contains(&pid), sent))?;
         last = pid;
     }
     Ok(rows)
@@ -57,9 +47,20 @@ fn actor_of(kernel: &mut Kernel) -> Option<Actor>
     Some(Actor::new(it, kernel.look(pid)))
 }
 
+/// The foreground process group of the console that an event is for.
+fn foreground_of(kernel: &Kernel, event: Event) -> Pid {
+    let Event::Key { console, .. } = event else {
+        return Pid::NONE;
+    };
+    match kernel.console(usize::from(console).saturating_sub(1)) {
+        Some(console) => console.foreground(),
+        None => Pid::NONE,
+    }
+}
+
 impl Hear for Telling<'_, '_> {
     fn before(&mut self, past: &mut Past, event: Event) -> Result<(), AllocError> {
-        let rows = rows(self.teller.view.alloc, &mut past.kernel)?;
+        let rows = rows(self.teller.view.alloc, &mut past.kernel, None)?;
         let actor = match event {
             Event::Step => actor_of(&mut past.kernel),
             Event::Tick | Event::Key { .. } => None,
@@ -74,8 +75,15 @@ impl Hear for Telling<'_, '_> {
         event: Event,
         entries: &[Entry],
     ) -> Result<(), AllocError> {
-        let new = rows(self.teller.view.alloc, &mut past.kernel)?;
-        self.teller
-            .tell(past.kernel.events(), event, entries, new.as_slice())
+        let foreground = foreground_of(&past.kernel, event);
+        let sent = self.teller.sent(event, entries, foreground);
+        let new = rows(self.teller.view.alloc, &mut past.kernel, sent.as_ref())?;
+        self.teller.tell(
+            past.kernel.events(),
+            event,
+            entries,
+            new.as_slice(),
+            sent.as_ref(),
+        )
     }
 }

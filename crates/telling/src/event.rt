@@ -1,10 +1,10 @@
 //! A line for each event: who acted, what came of it, and whom else it concerned.
 
 use crate::process::{end_cell, put_name};
+use crate::sending::{Row, Sent, Whom, has_sent, is_taken, signal_in, signal_of_key, told_of};
 use crate::view::View;
-use posix::{Call, Entry, Event, Instr, Life, Pid, Sig, SigSet};
+use posix::{Call, Entry, Event, Instr, Life, Pid, Register, Sig, SigSet, Target};
 use proctable::{OwnPart, Snapshot};
-use signal::Signals;
 use std::alloc::AllocError;
 use std::fmt::Write;
 use wording::{
@@ -12,25 +12,14 @@ use wording::{
     put_status,
 };
 
-/// So many real-time signals are queued for a process at most.
-const MOST_QUEUED: usize = 32;
-
-/// What is compared of a process before and after an event.
-#[derive(Clone, Copy)]
-pub struct Row {
-    pub it: Snapshot,
-    pub pending: SigSet,
-    /// How many real-time signals are queued, and which is the last.
-    pub queued: usize,
-    pub last_queued: Option<Sig>,
-    pub can_act: bool,
-}
-
 /// What the current process was about to do.
 #[derive(Clone, Copy)]
 pub struct Actor {
     it: Snapshot,
     with: Arguments,
+    /// Whom and which signal it sends, if it calls kill or sigqueue.
+    target: i64,
+    sig: Option<Sig>,
     pc: i64,
 }
 
@@ -40,6 +29,8 @@ impl Actor {
         Actor {
             it,
             with: Arguments::of(&own.cpu),
+            target: own.cpu.register(Register::FIRST_ARGUMENT),
+            sig: signal_in(own.cpu.register(Register::SECOND_ARGUMENT)),
             pc: own.cpu.frame(SigSet::EMPTY).pc,
         }
     }
@@ -58,18 +49,6 @@ pub struct Teller<'l, 't> {
     line: String,
     /// The lines that are shown.
     pub text: String,
-}
-
-/// How many real-time signals are queued, and which is the last.
-pub fn queue_of(signals: &Signals) -> (usize, Option<Sig>) {
-    let mut last = None;
-    for place in 0..MOST_QUEUED {
-        let Some(signal) = signals.queued(place) else {
-            return (place, last);
-        };
-        last = Some(signal.sig);
-    }
-    (MOST_QUEUED, last)
 }
 
 /// The row of a process; none where it isn't there. The rows rise.
@@ -213,10 +192,7 @@ impl<'l, 't> Teller<'l, 't> {
         if self.call_of_actor(actor).is_none() {
             return Ok(());
         }
-        let waits = match row_of(new, actor.it.pid) {
-            Some(row) => row.it.blocked.is_some(),
-            None => false,
-        };
+        let waits = self.waits(new);
         self.line.push_str(match (waits, actor.it.blocked) {
             (true, None) => " waits",
             (true, Some(_)) => " still waits",
@@ -268,24 +244,110 @@ impl<'l, 't> Teller<'l, 't> {
         write!(self.line, " to {}", pid.number())
     }
 
-    /// Writes which signals are pending for a process now, and weren't. Whether there are such.
-    fn put_sent(&mut self, old: &Row, new: &Row) -> Result<bool, AllocError> {
+    /// Writes which pending signals of a process went without being taken. Whether there are such.
+    fn put_discarded(
+        &mut self,
+        old: &Row,
+        new: &Row,
+        entries: &[Entry],
+    ) -> Result<bool, AllocError> {
+        let pid = new.it.pid;
         let mut is_told = false;
-        for number in 1..32u8 {
+        for number in 1..65u8 {
             if let Some(sig) = Sig::new(number) {
-                if new.pending.contains(sig) && !old.pending.contains(sig) {
-                    self.put_signal_to(sig, new.it.pid)?;
+                let is_gone = old.pending.contains(sig) && !new.pending.contains(sig);
+                if is_gone && !is_taken(entries, pid, sig) {
+                    self.line.push_str("; discards ")?;
+                    put_signal(&mut self.line, sig)?;
+                    write!(self.line, " pending for {}", pid.number())?;
                     is_told = true;
                 }
             }
         }
-        match new.last_queued {
-            Some(sig) if new.queued > old.queued => {
-                self.put_signal_to(sig, new.it.pid)?;
-                Ok(true)
+        Ok(is_told)
+    }
+
+    /// Writes which signals a process was sent, the one with number `sent` among them. Whether there are such.
+    fn put_sent(
+        &mut self,
+        old: &Row,
+        new: &Row,
+        hears: bool,
+        sent: u8,
+    ) -> Result<bool, AllocError> {
+        let mut is_told = false;
+        for number in 1..65u8 {
+            if let Some(sig) = Sig::new(number) {
+                if let Some(words) = told_of(old, new, hears, number == sent, sig) {
+                    self.put_signal_to(sig, new.it.pid)?;
+                    self.line.push_str(words)?;
+                    is_told = true;
+                }
             }
-            _ => Ok(is_told),
         }
+        Ok(is_told)
+    }
+
+    /// Writes what the event made of the signals of a process. Whether it made something of them.
+    fn put_signals(
+        &mut self,
+        old: &Row,
+        new: &Row,
+        entries: &[Entry],
+        all: &[Row],
+        sent: Option<&Sent>,
+    ) -> Result<bool, AllocError> {
+        let sent = match sent {
+            Some(sent) if sent.is_to(old, new) => sent.sig.number(),
+            _ => 0,
+        };
+        let hears = old.pending.contains(Sig::CHLD) && self.hears(new, entries, all);
+        let is_same = old.pending == new.pending && old.queued == new.queued;
+        if is_same && sent == 0 && !hears {
+            return Ok(false);
+        }
+        let is_zombie = matches!(new.it.life, Life::Zombie(_));
+        let is_discarded = !is_zombie && self.put_discarded(old, new, entries)?;
+        let is_sent = self.put_sent(old, new, hears, sent)?;
+        Ok(is_discarded || is_sent)
+    }
+
+    /// Whether the parent of a process was this one.
+    fn is_child(&self, pid: Pid, parent: Pid) -> bool {
+        match row_of(self.rows.as_slice(), pid) {
+            Some(row) => row.it.parent == parent,
+            None => false,
+        }
+    }
+
+    /// Whether a process gets a notice of a child, by the entries and the rows of the event.
+    fn hears(&self, it: &Row, entries: &[Entry], all: &[Row]) -> bool {
+        let parent = it.it.pid;
+        for entry in entries {
+            let hears = match *entry {
+                Entry::Ended { pid, .. } => it.hears_ends && self.is_child(pid, parent),
+                Entry::Stopped { pid, .. } => it.hears_changes && self.is_child(pid, parent),
+                _ => false,
+            };
+            if hears {
+                return true;
+            }
+        }
+        it.hears_changes && self.has_continued(parent, all)
+    }
+
+    /// Whether the event continued a child of a process.
+    fn has_continued(&self, parent: Pid, all: &[Row]) -> bool {
+        for row in all {
+            if row.it.parent == parent && row.it.life == Life::Running {
+                if let Some(old) = row_of(self.rows.as_slice(), row.it.pid) {
+                    if old.it.life == Life::Stopped {
+                        return true;
+                    }
+                }
+            }
+        }
+        false
     }
 
     /// Writes to whom the event gave a process: an heir that isn't process 1 is a subreaper.
@@ -298,11 +360,17 @@ impl<'l, 't> Teller<'l, 't> {
     }
 
     /// Writes what the event made of one process. Whether it made something of it.
-    fn put_effect(&mut self, new: &Row) -> Result<bool, AllocError> {
+    fn put_effect(
+        &mut self,
+        new: &Row,
+        entries: &[Entry],
+        all: &[Row],
+        sent: Option<&Sent>,
+    ) -> Result<bool, AllocError> {
         let Some(old) = row_of(self.rows.as_slice(), new.it.pid) else {
             return Ok(true);
         };
-        let mut is_told = self.put_sent(&old, new)?;
+        let mut is_told = self.put_signals(&old, new, entries, all, sent)?;
         let number = new.it.pid.number();
         if old.it.parent != new.it.parent {
             self.put_given(number, new.it.parent)?;
@@ -340,21 +408,79 @@ impl<'l, 't> Teller<'l, 't> {
         self.actor = actor;
     }
 
-    /// Tells an event that was given: by its number, what it showed, and the processes after it.
+    /// What an event sends, by the call of its actor, if that doesn't wait then; by a key, to this foreground process group;
+    /// or by the alarms that ring. The entries are those of the event.
+    pub fn sent(&self, event: Event, entries: &[Entry], foreground: Pid) -> Option<Sent> {
+        match event {
+            Event::Tick => Some(Sent {
+                sig: Sig::ALRM,
+                whom: Whom::Due,
+            }),
+            Event::Key { byte, .. } => Some(Sent {
+                sig: signal_of_key(byte)?,
+                whom: Whom::Group(foreground),
+            }),
+            Event::Step => match &self.actor {
+                Some(actor) => self.sent_by(actor, entries),
+                None => None,
+            },
+        }
+    }
+
+    /// What the call of an actor sends: one on a terminal that shows nothing sends its group a signal, or waits.
+    fn sent_by(&self, actor: &Actor, entries: &[Entry]) -> Option<Sent> {
+        let call = self.call_of_actor(actor)?;
+        let named = match call {
+            Call::Kill => Some(Target::from_word(actor.target)),
+            Call::Sigqueue => Some(Target::process_from_word(actor.target)),
+            _ => None,
+        };
+        let is_sent = match named {
+            Some(_) => has_sent(entries),
+            None => entries.is_empty(),
+        };
+        if !is_sent {
+            return None;
+        }
+        let (sig, whom) = match (call, named) {
+            (_, Some(target)) => (actor.sig?, Whom::Named(actor.it, target)),
+            (Call::Read, _) => (Sig::TTIN, Whom::Group(actor.it.group)),
+            (Call::Write | Call::Tcsetpgrp | Call::Settostop, _) => {
+                (Sig::TTOU, Whom::Group(actor.it.group))
+            }
+            _ => return None,
+        };
+        Some(Sent { sig, whom })
+    }
+
+    /// Whether the actor waits in a call now.
+    fn waits(&self, new: &[Row]) -> bool {
+        let Some(actor) = &self.actor else {
+            return false;
+        };
+        match row_of(new, actor.it.pid) {
+            Some(row) => row.it.blocked.is_some(),
+            None => false,
+        }
+    }
+
+    /// Tells an event that was given: by its number, what it showed, the processes after it, and what it sent.
     pub fn tell(
         &mut self,
         number: u64,
         event: Event,
         entries: &[Entry],
         new: &[Row],
+        sent: Option<&Sent>,
     ) -> Result<(), AllocError> {
+        let sent = if self.waits(new) { None } else { sent };
         self.showed = !entries.is_empty();
         self.line.clear();
         write!(self.line, "{number:>6}  ")?;
         self.put_event(event, entries, new)?;
         let mut is_shown = self.has_actor();
         for row in new {
-            let is_told = self.put_effect(row)?;
+            let is_told = self.put_effect(row, entries, new, sent)?;
             is_shown = is_shown || (is_told && self.view.has(row.it.pid));
         }
         let is_gone = self.put_gone(new, entries)?;

@@ -4,13 +4,15 @@
 mod console;
 mod event;
 mod process;
+mod sending;
 mod since;
 mod view;
 mod wakers;
 
 pub use console::{put_console, put_turns};
-pub use event::{Actor, Row, Teller, queue_of};
+pub use event::{Actor, Teller};
 pub use process::{Around, put_process};
+pub use sending::{Row, Sent};
 pub use since::{Since, Times};
 pub use view::View;
 pub use wakers::Terminal;

@@ -1,0 +1,207 @@
+//! Whom an event sends which signal, and what becomes of one that doesn't become pending.
+
+use posix::{Call, DefaultAction, Entry, Handler, Life, Pid, Sig, SigSet, Target};
+use proctable::{OwnPart, Snapshot};
+use signal::Signals;
+
+/// So many real-time signals are queued for a process at most.
+const MOST_QUEUED: usize = 32;
+
+/// What a process makes of a signal that is sent to it.
+#[derive(Clone, Copy, PartialEq, Eq)]
+pub enum Fate {
+    Kept,
+    Ignored,
+    /// Process 1 has no handler for it.
+    NotCaught,
+}
+
+/// What a process makes of a signal.
+fn fate_of(pid: Pid, signals: &Signals, sig: Sig) -> Fate {
+    let handler = signals.action(sig).handler;
+    let does_something = match handler {
+        Handler::At(_) => true,
+        Handler::Ignore => false,
+        Handler::Default => !matches!(
+            sig.default_action(),
+            DefaultAction::Ignore | DefaultAction::Continue
+        ),
+    };
+    if pid == Pid::INIT && !matches!(handler, Handler::At(_)) {
+        Fate::NotCaught
+    } else if does_something || signals.mask().contains(sig) {
+        Fate::Kept
+    } else {
+        Fate::Ignored
+    }
+}
+
+/// How many real-time signals are queued, and which is the last.
+fn queue_of(signals: &Signals) -> (usize, Option<Sig>) {
+    let mut last = None;
+    for place in 0..MOST_QUEUED {
+        let Some(signal) = signals.queued(place) else {
+            return (place, last);
+        };
+        last = Some(signal.sig);
+    }
+    (MOST_QUEUED, last)
+}
+
+/// What is compared of a process before and after an event.
+#[derive(Clone, Copy)]
+pub struct Row {
+    pub it: Snapshot,
+    pub pending: SigSet,
+    /// How many real-time signals are queued, and which is the last.
+    pub queued: usize,
+    pub last_queued: Option<Sig>,
+    pub can_act: bool,
+    /// What it makes of the signal that the event may have sent.
+    pub fate: Fate,
+    /// Whether it gets a notice of a child that ends, and of one that is stopped or continued.
+    pub hears_ends: bool,
+    pub hears_changes: bool,
+}
+
+impl Row {
+    /// What is compared of a process, after an event that sent this, or before one.
+    pub fn new(it: Snapshot, own: &OwnPart, can_act: bool, sent: Option<&Sent>) -> Row {
+        let signals = &own.signals;
+        let (queued, last_queued): (usize, Option<Sig>) = queue_of(signals);
+        let fate = match sent {
+            Some(sent) => fate_of(it.pid, signals, sent.sig),
+            None => Fate::Kept,
+        };
+        Row {
+            it,
+            pending: signals.pending(),
+            queued,
+            last_queued,
+            can_act,
+            fate,
+            hears_ends: !signals.ignores_children(),
+            hears_changes: !signals.ignores_stops(),
+        }
+    }
+
+    /// Whether the event made a signal pending, or queued it; of real-time signals the last one.
+    fn has_new(&self, old: &Row, sig: Sig) -> bool {
+        if sig.is_realtime() {
+            self.queued > old.queued && self.last_queued == Some(sig)
+        } else {
+            self.pending.contains(sig) && !old.pending.contains(sig)
+        }
+    }
+}
+
+/// Whom an event sends a signal.
+#[derive(Clone, Copy)]
+pub enum Whom {
+    /// Those that a process with these fields names, if it may signal them.
+    Named(Snapshot, Target),
+    Group(Pid),
+    /// Those whose alarm rings.
+    Due,
+}
+
+/// A signal that an event sends, and whom.
+#[derive(Clone, Copy)]
+pub struct Sent {
+    pub sig: Sig,
+    pub whom: Whom,
+}
+
+/// The signal that a key sends.
+pub fn signal_of_key(byte: u8) -> Option<Sig> {
+    match byte {
+        0x03 => Some(Sig::INT),
+        0x1c => Some(Sig::QUIT),
+        0x1a => Some(Sig::TSTP),
+        _ => None,
+    }
+}
+
+/// The signal that a register names.
+pub fn signal_in(word: i64) -> Option<Sig> {
+    Sig::new(u8::try_from(word).ok()?)
+}
+
+/// Whether a caller names a process.
+fn is_named(caller: &Snapshot, target: &Target, it: &Snapshot) -> bool {
+    match *target {
+        Target::Process(pid) => it.pid == pid,
+        Target::OwnGroup => it.group == caller.group,
+        Target::Group(group) => it.group == group,
+        Target::All => it.pid != caller.pid && it.pid != Pid::INIT,
+        Target::Nobody => false,
+    }
+}
+
+impl Sent {
+    /// Whether the signal is sent to a process, which was and is as these rows say.
+    pub fn is_to(&self, old: &Row, new: &Row) -> bool {
+        match &self.whom {
+            Whom::Named(caller, target) => {
+                let same_session = caller.session == old.it.session;
+                is_named(caller, target, &old.it)
+                    && caller
+                        .creds
+                        .may_signal(&old.it.creds, Some(self.sig), same_session)
+            }
+            Whom::Group(group) => old.it.group == *group,
+            Whom::Due => old.it.alarm.is_some() && new.it.alarm.is_none(),
+        }
+    }
+}
+
+/// Whether a kill or a sigqueue has succeeded.
+pub fn has_sent(entries: &[Entry]) -> bool {
+    for entry in entries {
+        if let Entry::Called {
+            call: Call::Kill | Call::Sigqueue,
+            result: 0,
+            ..
+        } = *entry
+        {
+            return true;
+        }
+    }
+    false
+}
+
+/// Whether a process has taken a signal.
+pub fn is_taken(entries: &[Entry], it: Pid, signal: Sig) -> bool {
+    for entry in entries {
+        let takes = match *entry {
+            Entry::Handled { pid, sig, .. }
+            | Entry::Discarded { pid, sig }
+            | Entry::Stopped { pid, sig } => pid == it && sig == signal,
+            _ => false,
+        };
+        if takes {
+            return true;
+        }
+    }
+    false
+}
+
+/// What is told behind a signal of a process, which hears of a child, and which was sent the signal; nothing where the
+/// signal isn't told.
+pub fn told_of(old: &Row, new: &Row, hears: bool, is_sent: bool, sig: Sig) -> Option<&'static str> {
+    if new.has_new(old, sig) {
+        return Some("");
+    }
+    if hears && sig == Sig::CHLD {
+        return Some(", pending already");
+    }
+    let continues = sig == Sig::CONT && old.it.life == Life::Stopped;
+    if !is_sent || continues || matches!(new.it.life, Life::Zombie(_)) {
+        return None;
+    }
+    match new.fate {
+        Fate::Kept => Some(", pending already"),
+        Fate::Ignored => Some(", which ignores it"),
+        Fate::NotCaught => Some(", which doesn't catch it"),
+    }
+}
