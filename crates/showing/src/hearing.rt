@@ -5,7 +5,7 @@ ghost use Rattle.showing.specs.Pasts.{IsSame};
 use crate::past::{Hear, Past};
 use crate::state::{MOST_NUMBERS, turns};
 use kernel::Kernel;
-use posix::{Entry, Event, Pid};
+use posix::{Entry, Event, Pid, Sig};
 use std::alloc::{AllocError, Global};
 use telling::{Actor, Row, Sent, Teller};
 
@@ -29,7 +29,9 @@ fn rows(alloc: Global, kernel: &mut Kernel, sent: Option<&Sent>) -> Result<Vec<R
         let Some(it) = kernel.snapshot(pid) else {
             return Ok(rows);
         };
-        rows.push(Row::new(it, kernel.look(pid), turns.contains(&pid), sent))?;
+        let row = Row::new(it, kernel.look(pid), turns.contains(&pid), sent);
+        let last_queued: Option<Sig> = row.last_queued;
+        rows.push(Row { last_queued, ..row })?;
         last = pid;
     }
     Ok(rows)
