@@ -244,21 +244,18 @@ no_links f none = record {
 
 -- ---- the same, of the entries of a map
 
+-- who has a field that isn't 0 is there
+has_field : (read : Record → ℕ) (o : Option Record) → option_map_or read o 0 ≢ 0 → is_some o ≡ true
+has_field read None some = absurd (some refl)
+has_field read (Some r) some = refl
+
 pub is_there : (f : ℕ → Option Record) (i : ℕ) → parent_in f i ≢ 0 → is_some (f i) ≡ true
 unfolding parent_in
-is_there f i some = by (f i) some
-  where
-    by : (o : Option Record) → option_map_or (λ (r : Record). r.parent) o 0 ≢ 0 → is_some o ≡ true
-    by None some = absurd (some refl)
-    by (Some r) some = refl
+is_there f i = has_field (λ r. r.parent) (f i)
 
-pub has_first : (f : ℕ → Option Record) (k : ℕ) → behind_in f k 0 ≢ 0 → is_some (f k) ≡ true
+has_first : (f : ℕ → Option Record) (k : ℕ) → behind_in f k 0 ≢ 0 → is_some (f k) ≡ true
 unfolding behind_in
-has_first f k some = by (f k) some
-  where
-    by : (o : Option Record) → option_map_or (λ (r : Record). r.first) o 0 ≢ 0 → is_some o ≡ true
-    by None some = absurd (some refl)
-    by (Some r) some = refl
+has_first f k = has_field (λ r. r.first) (f k)
 
 -- what the record of p says of it
 pub parent_read : (f : ℕ → Option Record) (p : ℕ) (r : Record) → f p ≡ Some r → parent_in f p ≡ r.parent

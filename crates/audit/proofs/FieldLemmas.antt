@@ -18,33 +18,20 @@ field_same read p h same f g is i = ap (λ o. option_map_or read o 0) (is i) ∙
     by true None = refl
     by true (Some r) = same r
 
--- and one that does
-field_set : (read : Record → ℕ) (p w : ℕ) (h : Record → Record) → ((r : Record) → read (h r) ≡ w) → (f g : ℕ → Option Record) → ((q : ℕ) → g q ≡ changed p h f q) → is_some (f p) ≡ true → (i : ℕ) → option_map_or read (g i) 0 ≡ cond (i == p) w (option_map_or read (f i) 0)
-field_set read p w h set f g is there i = ap (λ o. option_map_or read o 0) (is i) ∙ by (cases_eq p i)
+-- and one that does, where there is a record, or it is 0
+field_set : (read : Record → ℕ) (p w : ℕ) (h : Record → Record) → ((r : Record) → read (h r) ≡ w) → (f g : ℕ → Option Record) → ((q : ℕ) → g q ≡ changed p h f q) → (i : ℕ) → (i ≡ p → w ≢ 0 → is_some (f p) ≡ true) → option_map_or read (g i) 0 ≡ cond (i == p) w (option_map_or read (f i) 0)
+field_set read p w h set f g is i there = ap (λ o. option_map_or read o 0) (is i) ∙ by (cases_eq p i)
   where
-    here : (o : Option Record) → is_some o ≡ true → option_map_or read (option_map h o) 0 ≡ w
-    here None t = absurd (cc)
+    here : (o : Option Record) → (w ≢ 0 → is_some o ≡ true) → option_map_or read (option_map h o) 0 ≡ w
+    here None t = elim (cases_eq w 0) [
+      | inl zero ↦ sym zero
+      | inr some ↦ let no = t some in absurd (cc)
+    ]
     here (Some r) t = set r
 
     by : (p ≡ i) ⊎ (p ≢ i) → option_map_or read (changed p h f i) 0 ≡ cond (i == p) w (option_map_or read (f i) 0)
-    by (inl same) = rw (eq-eqb p i same, eq-eqb i p (sym same)) (here (f i) (ap (λ q. is_some (f q)) (sym same) ∙ there))
+    by (inl same) = rw (eq-eqb p i same, eq-eqb i p (sym same)) (here (f i) (λ some. ap (λ q. is_some (f q)) (sym same) ∙ there (sym same) some))
     by (inr apart) = rw (ne_eqb p i apart, ne_eqb i p (λ e. apart (sym e))) refl
-
--- one that is 0 from now on, also where there is no record
-field_zero : (read : Record → ℕ) (p : ℕ) (h : Record → Record) → ((r : Record) → read (h r) ≡ 0) → (f g : ℕ → Option Record) → ((q : ℕ) → g q ≡ changed p h f q) → (i : ℕ) → option_map_or read (g i) 0 ≡ cond (i == p) 0 (option_map_or read (f i) 0)
-field_zero read p h zero f g is i = ap (λ o. option_map_or read o 0) (is i) ∙ by (cases_eq p i)
-  where
-    here : (o : Option Record) → option_map_or read (option_map h o) 0 ≡ 0
-    here None = refl
-    here (Some r) = zero r
-
-    by : (p ≡ i) ⊎ (p ≢ i) → option_map_or read (changed p h f i) 0 ≡ cond (i == p) 0 (option_map_or read (f i) 0)
-    by (inl same) = rw (eq-eqb p i same, eq-eqb i p (sym same)) (here (f i))
-    by (inr apart) = rw (ne_eqb p i apart, ne_eqb i p (λ e. apart (sym e))) refl
-
--- that of another record doesn't
-field_kept : (read : Record → ℕ) (p : ℕ) (h : Record → Record) → (f g : ℕ → Option Record) → ((q : ℕ) → g q ≡ changed p h f q) → (i : ℕ) → p ≢ i → option_map_or read (g i) 0 ≡ option_map_or read (f i) 0
-field_kept read p h f g is i apart = ap (λ o. option_map_or read o 0) (is i) ∙ rw (ne_eqb p i apart) refl
 
 pub state_same : (p : ℕ) (h : Record → Record) → ((r : Record) → (h r).state ≡ r.state) → (f g : ℕ → Option Record) → ((q : ℕ) → g q ≡ changed p h f q) → (i : ℕ) → state_in g i ≡ state_in f i
 unfolding state_in
@@ -75,7 +62,7 @@ pub parent_set : (p k : ℕ) (h : Record → Record) → ((r : Record) → ((h r
     → IsParentSet p k (record_in old) (record_in new)
 unfolding parent_in behind_in before_in
 parent_set p k h is old new x there = record {
-  parent = field_set (λ r. r.parent) p k h (λ r. (is r).0) (record_in old) (record_in new) x.is there;
+  parent = λ i. field_set (λ r. r.parent) p k h (λ r. (is r).0) (record_in old) (record_in new) x.is i (λ same some. there);
   behind = λ n i. rw (field_same (λ r. r.first) p h (λ r. (is r).3) (record_in old) (record_in new) x.is n, field_same (λ r. r.behind) p h (λ r. (is r).2) (record_in old) (record_in new) x.is i) refl;
   before = field_same (λ r. r.before) p h (λ r. (is r).1) (record_in old) (record_in new) x.is;
 }
@@ -94,10 +81,7 @@ pub first_set : (k b : ℕ) (old new : List (ℕ × Record)) → IsChanged k (li
 unfolding parent_in behind_in before_in
 first_set k b old new h there = record {
   parent = field_same (λ r. r.parent) k (linked (First b)) (λ r. refl) (record_in old) (record_in new) h.is;
-  first = λ n. elim (cases_eq b 0) [
-    | inl none ↦ field_zero (λ r. r.first) k (linked (First b)) (λ r. none) (record_in old) (record_in new) h.is n ∙ ap (λ v. cond (n == k) v (first_of (record_in old) n)) (sym none)
-    | inr some ↦ field_set (λ r. r.first) k b (linked (First b)) (λ r. refl) (record_in old) (record_in new) h.is (there some) n
-  ];
+  first = λ n. field_set (λ r. r.first) k b (linked (First b)) (λ r. refl) (record_in old) (record_in new) h.is n (λ same. there);
   behind = λ n i some. rw (ne_eqb i 0 some) (field_same (λ r. r.behind) k (linked (First b)) (λ r. refl) (record_in old) (record_in new) h.is i);
   before = field_same (λ r. r.before) k (linked (First b)) (λ r. refl) (record_in old) (record_in new) h.is;
   state = state_same k (linked (First b)) (λ r. refl) (record_in old) (record_in new) h.is;
@@ -128,7 +112,7 @@ half_first : (k a b : ℕ) (f g : ℕ → Option Record) → a ≡ 0 → ((q : �
 unfolding parent_in before_in
 half_first k a b f g none is there = record {
   parent = field_same (λ r. r.parent) k (linked (First b)) (λ r. refl) f g is;
-  first = λ e. field_set (λ r. r.first) k b (linked (First b)) (λ r. refl) f g is there;
+  first = λ e i. field_set (λ r. r.first) k b (linked (First b)) (λ r. refl) f g is i (λ same some. there);
   else_first = λ some. absurd (some none);
   behind = λ some. absurd (some none);
   else_behind = λ e. field_same (λ r. r.behind) k (linked (First b)) (λ r. refl) f g is;
@@ -143,7 +127,7 @@ half_behind k a b f g some is there = record {
   parent = field_same (λ r. r.parent) a (linked (Behind b)) (λ r. refl) f g is;
   first = λ e. absurd (some e);
   else_first = λ e. field_same (λ r. r.first) a (linked (Behind b)) (λ r. refl) f g is;
-  behind = λ e. field_set (λ r. r.behind) a b (linked (Behind b)) (λ r. refl) f g is there;
+  behind = λ e i. field_set (λ r. r.behind) a b (linked (Behind b)) (λ r. refl) f g is i (λ same some. there);
   else_behind = λ e. absurd (some e);
   before = field_same (λ r. r.before) a (linked (Behind b)) (λ r. refl) f g is;
   state = state_same a (linked (Behind b)) (λ r. refl) f g is;
@@ -178,10 +162,7 @@ joins k a b old new h first behind next =
           (λ e. firsts n ∙ j.first e n) (λ e. firsts n ∙ j.else_first e n) (λ e. behinds i ∙ j.behind e i) (λ e. behinds i ∙ j.else_behind e i);
       else_behind = λ n i other apart. behind_other k a b n i (first_of f n) (behind_of f i) (first_of g n) (behind_of g i) other apart
           (λ e. firsts n ∙ j.first e n) (λ e. firsts n ∙ j.else_first e n) (λ e. behinds i ∙ j.behind e i) (λ e. behinds i ∙ j.else_behind e i);
-      before = λ i some. elim (cases_eq b 0) [
-        | inl none ↦ rw (ne_eqb i b (λ e. some (e ∙ none))) (field_kept (λ r. r.before) b (linked (Before a)) m g h.is i (λ e. some (sym e ∙ none)) ∙ j.before i)
-        | inr there ↦ field_set (λ r. r.before) b a (linked (Before a)) (λ r. refl) m g h.is (j.there b ∙ next there) i ∙ ap (cond (i == b) a) (j.before i)
-      ];
+      before = λ i some. field_set (λ r. r.before) b a (linked (Before a)) (λ r. refl) m g h.is i (λ same has. j.there b ∙ next (λ none. some (same ∙ none))) ∙ ap (cond (i == b) a) (j.before i);
       state = λ i. state_same b (linked (Before a)) (λ r. refl) m g h.is i ∙ j.state i;
     }
 
@@ -212,21 +193,18 @@ first_put k p b old mid next new some there parent behind x y z =
     let still : (i : ℕ) → is_some (m i) ≡ is_some (f i) = there_same k (linked (First p)) f m x.is in
     let firsts : (i : ℕ) → first_of g i ≡ cond (i == k) p (first_of f i) = (λ i.
     field_same (λ r. r.first) b (linked (Before p)) (λ r. refl) o g z.is i ∙ field_same (λ r. r.first) p (linked (Place k b)) (λ r. refl) m o y.is i
-    ∙ field_set (λ r. r.first) k p (linked (First p)) (λ r. refl) f m x.is parent i) in
+    ∙ field_set (λ r. r.first) k p (linked (First p)) (λ r. refl) f m x.is i (λ same has. parent)) in
     let behinds : (i : ℕ) → behind_of g i ≡ cond (i == p) b (behind_of f i) = (λ i.
-    field_same (λ r. r.behind) b (linked (Before p)) (λ r. refl) o g z.is i ∙ field_set (λ r. r.behind) p b (linked (Place k b)) (λ r. refl) m o y.is (still p ∙ there) i
+    field_same (λ r. r.behind) b (linked (Before p)) (λ r. refl) o g z.is i ∙ field_set (λ r. r.behind) p b (linked (Place k b)) (λ r. refl) m o y.is i (λ same has. still p ∙ there)
     ∙ ap (cond (i == p) b) (field_same (λ r. r.behind) k (linked (First p)) (λ r. refl) f m x.is i)) in
     let befores : (i : ℕ) → before_in o i ≡ cond (i == p) 0 (before_in f i) = (λ i.
-    field_set (λ r. r.before) p 0 (linked (Place k b)) (λ r. refl) m o y.is (still p ∙ there) i ∙ ap (cond (i == p) 0) (field_same (λ r. r.before) k (linked (First p)) (λ r. refl) f m x.is i)) in
+    field_set (λ r. r.before) p 0 (linked (Place k b)) (λ r. refl) m o y.is i (λ same has. still p ∙ there) ∙ ap (cond (i == p) 0) (field_same (λ r. r.before) k (linked (First p)) (λ r. refl) f m x.is i)) in
     record {
-      parent = λ i. field_same (λ r. r.parent) b (linked (Before p)) (λ r. refl) o g z.is i ∙ field_set (λ r. r.parent) p k (linked (Place k b)) (λ r. refl) m o y.is (still p ∙ there) i
+      parent = λ i. field_same (λ r. r.parent) b (linked (Before p)) (λ r. refl) o g z.is i ∙ field_set (λ r. r.parent) p k (linked (Place k b)) (λ r. refl) m o y.is i (λ same has. still p ∙ there)
           ∙ ap (cond (i == p) k) (field_same (λ r. r.parent) k (linked (First p)) (λ r. refl) f m x.is i);
       behind = λ n i same. put_same k p b n i (first_of f n) (behind_of f i) (first_of g n) (behind_of g i) some same (firsts n) (behinds i);
       else_behind = λ n i other apart. put_other k p b n i (first_of f n) (behind_of f i) (first_of g n) (behind_of g i) other apart (firsts n) (behinds i);
-      before = λ i far. elim (cases_eq b 0) [
-        | inl none ↦ rw (ne_eqb i b (λ e. far (e ∙ none))) (field_kept (λ r. r.before) b (linked (Before p)) o g z.is i (λ e. far (sym e ∙ none)) ∙ befores i)
-        | inr has ↦ field_set (λ r. r.before) b p (linked (Before p)) (λ r. refl) o g z.is (there_same p (linked (Place k b)) m o y.is b ∙ still b ∙ behind has) i ∙ ap (cond (i == b) p) (befores i)
-      ];
+      before = λ i far. field_set (λ r. r.before) b p (linked (Before p)) (λ r. refl) o g z.is i (λ same has. there_same p (linked (Place k b)) m o y.is b ∙ still b ∙ behind (λ none. far (same ∙ none))) ∙ ap (cond (i == b) p) (befores i);
       state = λ i. state_same b (linked (Before p)) (λ r. refl) o g z.is i ∙ state_same p (linked (Place k b)) (λ r. refl) m o y.is i ∙ state_same k (linked (First p)) (λ r. refl) f m x.is i;
     }
 
@@ -241,11 +219,8 @@ links_stay p s old new h = record {
 }
 
 -- what a record says that was read
-pub first_was : (f : ℕ → Option Record) (k b : ℕ) (o : Option Record) → b ≡ option_map_or (λ r. r.first) o 0 → o ≡ f k → b ≡ first_of f k
-first_was f k b o is read = is ∙ ap (λ o. option_map_or (λ (r : Record). r.first) o 0) read
-
-pub behind_was : (f : ℕ → Option Record) (k b : ℕ) (o : Option Record) → b ≡ option_map_or (λ r. r.behind) o 0 → o ≡ f k → b ≡ behind_of f k
-behind_was f k b o is read = is ∙ ap (λ o. option_map_or (λ (r : Record). r.behind) o 0) read
+pub read_was : (read : Record → ℕ) (f : ℕ → Option Record) (k b : ℕ) (o : Option Record) → b ≡ option_map_or read o 0 → o ≡ f k → b ≡ option_map_or read (f k) 0
+read_was read f k b o is was = is ∙ ap (λ o. option_map_or read o 0) was
 
 pub links_same : (f : ℕ → Option Record) → KeepLinks f f
 links_same f = record { parent = λ i. refl; behind = λ k a. refl; before = λ b. refl }

@@ -7,8 +7,8 @@ use Rattle.laws.specs.Keeping.{Kept, NeverBorn, Lives, Died, forebear_kept, heir
 use Rattle.audit.specs.declared.records.Record.{Record}
 use Rattle.audit.specs.declared.records.State.TheVariants.{Living, Ended}
 use Rattle.audit.specs.declared.records.Change.TheVariants as change
-use Rattle.audit.specs.Records.{kept_by, record_in, has_mark_now, NobodyMarked}
-use Rattle.audit.proofs.KeptLemmas.{IsAfter, there_by_life}
+use Rattle.audit.specs.Records.{kept_by, record_in, has_mark_now, IsAfter, NobodyMarked}
+use Rattle.audit.proofs.KeptLemmas.{there_by_life}
 
 -- who is a forebear by what is kept
 abbrev pub living_by : (ℕ → Kept) → ℕ → Option Forebear

@@ -10,8 +10,8 @@ use Rattle.audit.specs.declared.records.State.TheVariants.{Living, Ended}
 use Rattle.audit.specs.declared.records.Change.{Change}
 use Rattle.audit.specs.declared.records.Change.TheVariants.{Stopped, Marked, Reported}
 use Rattle.audit.specs.declared.records.Change.TheVariants as change
-use Rattle.audit.specs.Records.{after, kept_as, kept_record, kept_by, record_in, has_mark_now, NobodyMarked}
-use Rattle.audit.specs.Children.{parent_in, first_of, state_in, AreLinked, KeepLinks, IsGiven, AreGivenOn, IsBegun}
+use Rattle.audit.specs.Records.{after, kept_as, kept_record, kept_by, record_in, has_mark_now, IsAfter, NobodyMarked}
+use Rattle.audit.specs.Children.{parent_in, first_of, state_in, AreSound, KeepLinks, IsGiven, AreGivenOn, IsBegun}
 use Rattle.audit.proofs.RecordLemmas.{never_after}
 use Rattle.audit.proofs.ChildLemmas.{behind_first, first_read}
 
@@ -143,17 +143,7 @@ end_keeps w p heir false (Lives a) h = h
 end_keeps w p heir true (Died d) h = refl
 end_keeps w p heir false (Died d) h = refl
 
--- what holds of what is known
-abbrev pub AreSound : Bool → List (ℕ × Record) → Type 0
-AreSound may entries = AreLinked (record_in entries) × (may ≡ false → NobodyMarked (kept_by entries))
-
-pub not_both : (b : Bool) → b ≡ true → b ≡ false → ⊥
-not_both b t f = let is : true ≡ false = sym t ∙ f in cc
-
 -- ---- an end
-
-abbrev pub IsAfter : Change → ℕ → List (ℕ × Record) → List (ℕ × Record) → Type 0
-IsAfter x p old new = (c : ℕ) → kept_by new c ≡ (if p == c then after x (kept_by old c) else kept_by old c)
 
 pub end_kept : (p heir w : ℕ) (old mid new : List (ℕ × Record)) → IsAfter (change.Ended w) p old mid → AreGivenOn p heir mid new
     → (c : ℕ) → kept_by new c ≡ (if p == c then ended_with w (given_on p heir (kept_by old c)) else given_on p heir (kept_by old c))

@@ -1,12 +1,12 @@
 -- What records keep when one of them changes.
 use Rattle.std.proofs.Common.{◌≡◌, ◌≢◌, ◌⊎◌, ℕ, true, false, cond, if◌then◌else◌, ◌==◌, List, Some, None, refl, ap, sym, ◌∙◌, inl, inr}
 use Rattle.std.proofs.lemmas.Bool.{cases_eq, eq-eqb, ne_eqb}
-use Rattle.laws.specs.Keeping.{Kept, NeverBorn, lives_now}
+use Rattle.laws.specs.Keeping.{NeverBorn, lives_now}
 use Rattle.audit.specs.declared.records.Record.{Record}
 use Rattle.audit.specs.declared.records.State.{State}
 use Rattle.audit.specs.declared.records.Change.{Change}
 use Rattle.audit.specs.declared.records.Change.TheVariants.{Stopped, Marked, Reported, Ended}
-use Rattle.audit.specs.Records.{after, kept_as, kept_record, kept_by, record_in, changed, IsChanged}
+use Rattle.audit.specs.Records.{after, kept_as, kept_record, kept_by, record_in, changed, IsAfter, IsChanged}
 use Rattle.audit.specs.Children.{in_state}
 use Rattle.std.specs.Map.{keys_of}
 
@@ -32,21 +32,13 @@ unwritten p n f old new same none is = record { is = λ q. ap (λ es. record_in 
 
 -- ---- a state of a life
 
-pub entries_stay : (g : Kept → Kept) (p : ℕ) (s : State) (now old new : List (ℕ × Record)) (r : Record) → old ≡ now → record_in now p ≡ Some r → IsChanged p (in_state s) old new → ((n : ℕ) → kept_as n s ≡ g (kept_as n r.state))
-    → (c : ℕ) → kept_by new c ≡ (if p == c then g (kept_by now c) else kept_by now c)
+pub life_changed : (x : Change) (p : ℕ) (s : State) (old new : List (ℕ × Record)) (r : Record) → record_in old p ≡ Some r → IsChanged p (in_state s) old new → ((n : ℕ) → kept_as n s ≡ after x (kept_as n r.state)) → IsAfter x p old new
 unfolding kept_by
-entries_stay g p s now old new r same found h told c = ap kept_record (h.is c) ∙ ap (λ (es : List (ℕ × Record)). kept_record (changed p (in_state s) (record_in es) c)) same ∙ by (cases_eq p c)
+life_changed x p s old new r found h told c = ap kept_record (h.is c) ∙ by (cases_eq p c)
   where
-    by : (p ≡ c) ⊎ (p ≢ c) → kept_record (changed p (in_state s) (record_in now) c) ≡ (if p == c then g (kept_record (record_in now c)) else kept_record (record_in now c))
-    by (inl here) = let there : record_in now c ≡ Some r = ap (record_in now) (sym here) ∙ found in rw (eq-eqb p c here, there) (told r.parent)
+    by : (p ≡ c) ⊎ (p ≢ c) → kept_record (changed p (in_state s) (record_in old) c) ≡ (if p == c then after x (kept_record (record_in old c)) else kept_record (record_in old c))
+    by (inl here) = let there : record_in old c ≡ Some r = ap (record_in old) (sym here) ∙ found in rw (eq-eqb p c here, there) (told r.parent)
     by (inr apart) = rw (ne_eqb p c apart) refl
-
-pub entries_none : (g : Kept → Kept) (p : ℕ) (old : List (ℕ × Record)) → record_in old p ≡ None → g NeverBorn ≡ NeverBorn → (c : ℕ) → kept_by old c ≡ (if p == c then g (kept_by old c) else kept_by old c)
-unfolding kept_by
-entries_none g p old e none c = elim (cases_eq p c) [
-  | inl same ↦ let is : record_in old c ≡ None = ap (record_in old) (sym same) ∙ e in rw (is, eq-eqb p c same, none) refl
-  | inr apart ↦ rw (ne_eqb p c apart) refl
-]
 
 -- who was never born stays so
 pub never_after : (x : Change) → after x NeverBorn ≡ NeverBorn
@@ -54,6 +46,13 @@ never_after (Stopped s) = refl
 never_after (Marked mark) = refl
 never_after (Reported w) = refl
 never_after (Ended w) = refl
+
+pub unborn_changed : (x : Change) (p : ℕ) (old : List (ℕ × Record)) → record_in old p ≡ None → IsAfter x p old old
+unfolding kept_by
+unborn_changed x p old none c = elim (cases_eq p c) [
+  | inl same ↦ let is : record_in old c ≡ None = ap (record_in old) (sym same) ∙ none in rw (is, eq-eqb p c same, never_after x) refl
+  | inr apart ↦ rw (ne_eqb p c apart) refl
+]
 
 -- who lives has a record
 pub not_living : (p : ℕ) (entries : List (ℕ × Record)) → lives_now (kept_by entries p) ≡ true → record_in entries p ≡ None → ⊥

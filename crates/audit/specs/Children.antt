@@ -1,13 +1,13 @@
 -- The children of each number in a list: each record names the first child, and who stands before and behind its own number
 -- among the children of its parent. Those of process 1, which gives none on, stand in no list.
-use Rattle.std.specs.Prelude.{ℕ, ◌≡◌, ◌≢◌, ◌⊎◌, ◌<◌, ◌≤◌, ◌==◌, cond, if◌then◌else◌, List, Option, Some, option_map, count_by}
+use Rattle.std.specs.Prelude.{ℕ, ◌≡◌, ◌≢◌, ◌⊎◌, ◌<◌, ◌≤◌, ◌==◌, Bool, false, cond, if◌then◌else◌, List, Option, Some, option_map, count_by}
 use Rattle.std.specs.Option.{option_map_or}
 use Rattle.std.specs.Map.{keys_of}
 use Rattle.audit.specs.declared.records.Record.{Record}
 use Rattle.audit.specs.declared.records.Link.{Link}
 use Rattle.audit.specs.declared.records.Link.TheVariants.{Parent, First, Before, Behind, Place}
 use Rattle.audit.specs.declared.records.State.{State}
-use Rattle.audit.specs.Records.{record_in, changed}
+use Rattle.audit.specs.Records.{record_in, kept_by, changed, NobodyMarked}
 
 -- the parent of i; 0 for nobody
 unfoldable pub parent_in : (ℕ → Option Record) → ℕ → ℕ
@@ -48,6 +48,10 @@ pub record AreLinked (f : ℕ → Option Record) : Type 0 where
   pub nobody : parent_in f 0 ≡ 0
   pub behind : (k a : ℕ) → 2 ≤ k → Stands f k a → IsNext f place k a (behind_in f k a)
   pub before : (k c : ℕ) → 2 ≤ k → parent_in f c ≡ k → Stands f k (before_in f c) × (behind_in f k (before_in f c) ≡ c)
+
+-- the lists are linked, and there are no child subreapers unless there may be
+abbrev pub AreSound : Bool → List (ℕ × Record) → Type 0
+AreSound may entries = AreLinked (record_in entries) × (may ≡ false → NobodyMarked (kept_by entries))
 
 -- a record with another link
 abbrev pub linked : Link → Record → Record

@@ -42,6 +42,10 @@ record_in entries c = lookup (nat_eq c) entries
 unfoldable pub kept_by : List (ℕ × Record) → ℕ → Kept
 kept_by entries c = kept_record (record_in entries c)
 
+-- the life of p is changed, and no other
+abbrev pub IsAfter : Change → ℕ → List (ℕ × Record) → List (ℕ × Record) → Type 0
+IsAfter x p old new = (c : ℕ) → kept_by new c ≡ (if p == c then after x (kept_by old c) else kept_by old c)
+
 -- what is kept of each number that was ever born
 unfoldable pub kept_all : List (ℕ × Record) → List (ℕ × Kept)
 kept_all entries = map (λ e. (e.0, kept_record (Some e.1))) entries

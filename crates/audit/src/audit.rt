@@ -84,13 +84,13 @@ impl Audit {
         ensures { IsRead text.now result self.old self.new }
     {
         match read_line(text) {
-            Some((event, entry)) => self.hear(event, &entry),
+            Some((event, entry)) => self.take_in(event, &entry),
             None => Err(AuditFault::NoLine),
         }
     }
 
     /// One line more, that was read. At an error all stays as it was.
-    fn hear(&mut self, event: u64, entry: &Entry) -> Result<(), AuditFault>
+    fn take_in(&mut self, event: u64, entry: &Entry) -> Result<(), AuditFault>
         requires { is_entry entry.now ≡ true }
         ensures tested { fault_tested result ≡ fault_of (kept_at self.old.numbers) self.old.last self.old.phase (line event entry.now) }
         ensures ok { OnOk result (Heard (line event entry.now) self.old self.new) }
@@ -98,7 +98,7 @@ impl Audit {
         ensures new_number { result ≡ Err Memory → IsNewBirth (kept_at self.old.numbers) (line event entry.now) }
     {
         test(&self.known, self.last, self.phase, event, entry)?;
-        if self.known.hear(entry).is_err() {
+        if self.known.take_in(entry).is_err() {
             return Err(AuditFault::Memory);
         }
         self.last = event;

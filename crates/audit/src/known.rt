@@ -5,7 +5,7 @@ ghost use Rattle.laws.specs.Keeping.{NeverBorn, kept_of, kept_after, lives_now, 
 ghost use Rattle.laws.specs.TraceLines.{is_entry};
 ghost use Rattle.posix.specs.Entries.{process_of as process_said};
 ghost use Rattle.laws.specs.Lives.{born_by as birth_said};
-ghost use Rattle.audit.specs.Records.{kept_newest, kept_by, after as change_of};
+ghost use Rattle.audit.specs.Records.{kept_newest, kept_by, IsAfter};
 
 use crate::children::{begin, give_on, put_in};
 use crate::lines::born_by;
@@ -33,16 +33,15 @@ pub(crate) struct Known {
 }
 
 impl Model for Known {
-    ghost use Rattle.std.specs.Prelude.{ℕ, List, ◌≡◌, false};
+    ghost use Rattle.std.specs.Prelude.{ℕ, List};
     ghost use Rattle.audit.specs.declared.records.Record.{Record as OneRecord};
-    ghost use Rattle.audit.specs.Records.{NobodyMarked, kept_by, record_in};
-    ghost use Rattle.audit.specs.Children.{AreLinked};
+    ghost use Rattle.audit.specs.Children.{AreSound};
 
     ghost Value = { List (ℕ × OneRecord) };
 
     ghost view = { λ s. s.records.entries };
 
-    ghost invariant = { λ s. AreLinked (record_in s.records.entries) × (s.may_be_marked ≡ false → NobodyMarked (kept_by s.records.entries)) };
+    ghost invariant = { λ s. AreSound s.may_be_marked s.records.entries };
 }
 
 impl Known {
@@ -85,7 +84,7 @@ impl Known {
     /// An entry that passes the tests of its place and of its birth. At the error that there is no memory all stays,
     /// and a number is born that was never born before.
     #[tactic(auto, unfolding(laws::specs::Keeping::made_by))]
-    pub(crate) fn hear(&mut self, entry: &Entry) -> Result<(), AllocError>
+    pub(crate) fn take_in(&mut self, entry: &Entry) -> Result<(), AllocError>
         requires entry { is_entry entry.now ≡ true }
         requires process { IfSome (process_said entry.now) (λ p. lives_now (kept_by self.old p) ≡ true) }
         requires birth { IfSome (birth_said entry.now) (λ n. lives_now (kept_by self.old n) ≡ false) }
@@ -125,7 +124,7 @@ impl Known {
 
     /// A change of a number's life.
     pub(crate) fn change(&mut self, pid: Pid, change: Change)
-        ensures { (c : ℕ) → kept_by self.new c ≡ (if pid == c then change_of change (kept_by self.old c) else kept_by self.old c) }
+        ensures { IsAfter change pid self.old self.new }
     {
         if let Change::Marked(_) = change {
             self.may_be_marked = true;

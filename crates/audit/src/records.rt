@@ -1,9 +1,9 @@
 //! A record of the newest life of a number.
 
-ghost use Rattle.std.specs.Prelude.{◌≡◌, ◌==◌, if◌then◌else◌, ℕ, None};
+ghost use Rattle.std.specs.Prelude.{◌≡◌, ℕ, None};
 ghost use Rattle.std.specs.Option.{option_map_or};
 ghost use Rattle.laws.specs.Keeping.{newborn, after_stop, after_mark, after_report, ended_with};
-ghost use Rattle.audit.specs.Records.{is_living_state, kept_as, kept_by, record_in, after as change_of, IsChanged};
+ghost use Rattle.audit.specs.Records.{is_living_state, kept_as, record_in, after as change_of, IsAfter, IsChanged};
 ghost use Rattle.audit.specs.Children.{KeepLinks, linked, restarted};
 
 use posix::{Pid, Sig, Status};
@@ -211,7 +211,7 @@ impl Record {
 #[inline]
 pub(crate) fn apply(records: &mut Records, pid: Pid, change: Change) -> Option<Record>
     ensures links { KeepLinks (record_in records.old.entries) (record_in records.new.entries) }
-    ensures kept { (c : ℕ) → kept_by records.new.entries c ≡ (if pid == c then change_of change (kept_by records.old.entries c) else kept_by records.old.entries c) }
+    ensures kept { IsAfter change pid records.old.entries records.new.entries }
     ensures was { result ≡ record_in records.old.entries pid }
 {
     let Some(record) = records.get_mut(&pid.number()) else {

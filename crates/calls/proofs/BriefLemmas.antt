@@ -20,17 +20,17 @@ use Rattle.posix.proofs.MapLemmas.{lookup_on, at_keeps, at_pid}
 use Rattle.calls.proofs.ContinueLemmas.{sent_slots}
 use Rattle.posix.proofs.WalkLemmas.{numbered_one, numbered_none}
 use Rattle.pidset.specs.Numbers.{with_number}
-use Rattle.jobs.specs.JobTables.{takes_signal}
+use Rattle.jobs.specs.IndexedTables.{takes_signal}
 use Rattle.life.specs.declared.caller.Caller.{Caller}
 use Rattle.life.specs.Callers.{caller_of}
 use Rattle.life.specs.Machines.{MachineView, AreSame, Looks, with_processes}
 use Rattle.life.specs.Queues.{is_sent, sent_as, rechecking_as}
 use Rattle.life.proofs.SendLemmas.{targets_nobody, rechecked_nobody}
-use Rattle.life.specs.Rechecks.{AreTaking, AreBrief, is_one, rechecking_signalled, slots_of_send, slots_of_survey_of_one, without_gone}
+use Rattle.life.specs.Rechecks.{AreTaking, NeedNoChild, is_one, rechecking_signalled, slots_of_send, slots_of_survey_of_one, without_gone}
 use Rattle.life.specs.Foregrounds.{after_loss}
 use Rattle.posix.proofs.OrderLemmas.{distinct_pids}
 use Rattle.life.proofs.TakingLemmas.{taking_all}
-use Rattle.calls.specs.Outcomes.{CostsAtMost, IsQuiet, IsBrief, AreFew, is_cont, slots_of_kill, slots_of_continued, slots_before, meant_in}
+use Rattle.calls.specs.Outcomes.{CostsAtMost, IsQuiet, CostsWithRechecks, AreFew, is_cont, slots_of_kill, slots_of_continued, slots_before, meant_in}
 use Rattle.calls.proofs.ChosenLemmas.{changed_there}
 use Rattle.calls.proofs.KillLemmas.{number_is}
 use Rattle.life.specs.declared.consoles.Unchecked.TheVariants.{Nothing, Group}
@@ -40,7 +40,7 @@ use Rattle.calls.proofs.CountLemmas.{rechecks_none, rechecks_brief, rechecks_tak
 -- ---- who is to be rechecked
 
 -- whoever has finished a call is in none
-brief_finished : (results : List (ℕ × ℤ)) (p : ℕ) (me : Process) (rs : List Process) (ns : List ℕ) → lookup p rs ≡ Some me → ((q : ℕ) → is_in q ns ≡ true → q ≡ p) → AreBrief (changed p (finished results) rs) ns
+brief_finished : (results : List (ℕ × ℤ)) (p : ℕ) (me : Process) (rs : List Process) (ns : List ℕ) → lookup p rs ≡ Some me → ((q : ℕ) → is_in q ns ≡ true → q ≡ p) → NeedNoChild (changed p (finished results) rs) ns
 unfolding finished
 brief_finished results p me rs ns found alone q e =
     (finished results me, ap (λ n. lookup n (changed p (finished results) rs)) (alone q e) ∙ changed_there p (finished results) (λ r. refl) rs me found, or_right _ _ refl)
@@ -59,34 +59,34 @@ pub quiet_on : (p : ℕ) (old mid : MachineView) → AreSame old mid → IsQuiet
 quiet_on p old mid same h = record { none = same.to_recheck ∙ h.none; checked = same.foregrounds_unchecked ∙ h.checked; place = ap (λ (s : State). has_place s p) same.state ∙ h.place }
 
 -- what is brief after something is so before it, where that changes no console
-pub brief_behind : (n k m : ℕ) (old mid new : MachineView) → mid.state.consoles ≡ old.state.consoles → mid.visits ≤ old.visits + k → n + k ≤ m → IsBrief n mid new → IsBrief m old new
+pub brief_behind : (n k m : ℕ) (old mid new : MachineView) → mid.state.consoles ≡ old.state.consoles → mid.visits ≤ old.visits + k → n + k ≤ m → CostsWithRechecks n mid new → CostsWithRechecks m old new
 brief_behind n k m old mid new same read most h = record { reads = let more = h.reads in omega (arith, read, more, most); unchecked = h.unchecked; consoles = h.consoles ∙ same }
 
 -- so after a look
-pub brief_on : (n k m : ℕ) (old mid new : MachineView) → AreSame old mid → mid.visits ≤ old.visits + k → n + k ≤ m → IsBrief n mid new → IsBrief m old new
+pub brief_on : (n k m : ℕ) (old mid new : MachineView) → AreSame old mid → mid.visits ≤ old.visits + k → n + k ≤ m → CostsWithRechecks n mid new → CostsWithRechecks m old new
 brief_on n k m old mid new same = brief_behind n k m old mid new (ap (λ (s : State). s.consoles) same.state)
 
 -- how many slots were read by then
-pub brief_visits : (n : ℕ) (old new : MachineView) → IsBrief n old new → new.visits ≤ old.visits + n
+pub brief_visits : (n : ℕ) (old new : MachineView) → CostsWithRechecks n old new → new.visits ≤ old.visits + n
 brief_visits n old new h = let reads = h.reads in omega (arith, reads)
 
 -- what leaves nothing to settle is brief
-pub brief_alone : (k : ℕ) (old new : MachineView) → new.to_recheck ≡ [] → new.foregrounds_unchecked ≡ Nothing → new.state.consoles ≡ old.state.consoles → new.visits ≤ old.visits + k → IsBrief k old new
+pub brief_alone : (k : ℕ) (old new : MachineView) → new.to_recheck ≡ [] → new.foregrounds_unchecked ≡ Nothing → new.state.consoles ≡ old.state.consoles → new.visits ≤ old.visits + k → CostsWithRechecks k old new
 brief_alone k old new none checked consoles read =
     let rechecks = rechecks_none new.state.processes None new.to_recheck none in
     let checks = ap slots_of_checking checked in
     record { reads = omega (arith, rechecks, checks, read); unchecked = subst AreFew (sym checked) tt; consoles = consoles }
 
 -- so is a look
-pub brief_look : (p k : ℕ) (old new : MachineView) → IsQuiet p old → AreSame old new → new.visits ≤ old.visits + k → IsBrief k old new
+pub brief_look : (p k : ℕ) (old new : MachineView) → IsQuiet p old → AreSame old new → new.visits ≤ old.visits + k → CostsWithRechecks k old new
 brief_look p k old new h same read = brief_alone k old new (same.to_recheck ∙ h.none) (same.foregrounds_unchecked ∙ h.checked) (ap (λ (s : State). s.consoles) same.state) read
 
 -- so is what reads no more
-pub brief_more : (n m : ℕ) (old new : MachineView) → n ≤ m → IsBrief n old new → IsBrief m old new
+pub brief_more : (n m : ℕ) (old new : MachineView) → n ≤ m → CostsWithRechecks n old new → CostsWithRechecks m old new
 brief_more n m old new most h = record { reads = let read = h.reads in omega (arith, read, most); unchecked = h.unchecked; consoles = h.consoles }
 
 -- and a call that is finished
-pub brief_done : (p : ℕ) (results : List (ℕ × ℤ)) (old new : MachineView) → IsQuiet p old → new.state ≡ finish old.state p results → (has_place old.state p ≡ true → CostsAtMost 1 old new) → IsBrief 1 old new
+pub brief_done : (p : ℕ) (results : List (ℕ × ℤ)) (old new : MachineView) → IsQuiet p old → new.state ≡ finish old.state p results → (has_place old.state p ≡ true → CostsAtMost 1 old new) → CostsWithRechecks 1 old new
 brief_done p results old new h is costs = let c = costs h.place in brief_alone 1 old new (c.to_recheck ∙ h.none) (c.foregrounds_unchecked ∙ h.checked) (ap (λ (s : State). s.consoles) is) c.visits
 
 -- ---- a wait
@@ -105,13 +105,13 @@ gone_alone child p = elim (p == child) as (λ b. ((q : ℕ) → is_in q (cond (n
 
 -- a zombie was collected, and then reported
 pub brief_reaped : (p child : ℕ) (results : List (ℕ × ℤ)) (old mid new : MachineView) (me it : Process) → 1 ≤ it.group → IsQuiet p old → mid.state ≡ record (old.state) { processes = removed child old.state.processes } → mid.to_recheck ≡ without_gone child p old.to_recheck
-    → mid.foregrounds_unchecked ≡ after_loss it.group old.foregrounds_unchecked → mid.visits ≤ old.visits + 5 → process mid.state p ≡ Some me → new.state ≡ finish mid.state p results → (has_place mid.state p ≡ true → CostsAtMost 1 mid new) → IsBrief 9 old new
+    → mid.foregrounds_unchecked ≡ after_loss it.group old.foregrounds_unchecked → mid.visits ≤ old.visits + 5 → process mid.state p ≡ Some me → new.state ≡ finish mid.state p results → (has_place mid.state p ≡ true → CostsAtMost 1 mid new) → CostsWithRechecks 9 old new
 brief_reaped p child results old mid new me it least h gone list lost read here is costs =
     let c = costs (ap (λ (s : State). has_place s p) gone ∙ h.place) in
     let ns : new.to_recheck ≡ without_gone child p [] = c.to_recheck ∙ list ∙ ap (without_gone child p) h.none in
     let alone = gone_alone child p in
     let lost : new.foregrounds_unchecked ≡ Group it.group = c.foregrounds_unchecked ∙ lost ∙ ap (after_loss it.group) h.checked in
-    let brief : AreBrief new.state.processes new.to_recheck = rw (is, ns) (brief_finished results p me mid.state.processes (without_gone child p []) here alone.0) in
+    let brief : NeedNoChild new.state.processes new.to_recheck = rw (is, ns) (brief_finished results p me mid.state.processes (without_gone child p []) here alone.0) in
     let few : length new.to_recheck ≤ 1 = rw ns alone.1 in
     record {
       reads =
@@ -191,7 +191,7 @@ one_slots me whom.Nobody k results rs order one up = let least = sending_least r
 -- what a send to this target reads, with this signal
 brief_killed : (me : Process) (to : Target) (k : Option PendingSignal) (results : List (ℕ × ℤ)) (old mid new : MachineView) → is_one to ≡ true → IsQuiet me.pid old → IsRegular old.state
     → mid.state ≡ with_processes old.state (sent me to k old.state.processes) → mid.to_recheck ≡ rechecking_signalled me k (targets me to old.state.processes) old.state.processes old.state.order old.to_recheck → mid.foregrounds_unchecked ≡ old.foregrounds_unchecked
-    → mid.visits ≤ old.visits + 1 + slots_of_send (number_of k) + slots_of_survey_of_one (number_of k) → new.state ≡ finish mid.state me.pid results → (has_place mid.state me.pid ≡ true → CostsAtMost 1 mid new) → IsBrief (slots_of_kill old.state.processes to (Ok (number_of k))) old new
+    → mid.visits ≤ old.visits + 1 + slots_of_send (number_of k) + slots_of_survey_of_one (number_of k) → new.state ≡ finish mid.state me.pid results → (has_place mid.state me.pid ≡ true → CostsAtMost 1 mid new) → CostsWithRechecks (slots_of_kill old.state.processes to (Ok (number_of k))) old new
 brief_killed me to k results old mid new one h i is list still most done costs =
     let c = costs (ap (λ (s : State). has_place s me.pid) is ∙ h.place) in
     let rs = old.state.processes in
@@ -209,7 +209,7 @@ brief_killed me to k results old mid new one h i is list still most done costs =
 
 -- one that isn't sent
 brief_unsent : (me : Process) (to : Target) (k : Option PendingSignal) (results : List (ℕ × ℤ)) (old mid new : MachineView) → IsQuiet me.pid old → mid.state ≡ old.state → mid.to_recheck ≡ old.to_recheck → mid.foregrounds_unchecked ≡ old.foregrounds_unchecked
-    → mid.visits ≤ old.visits + 1 + slots_of_send (number_of k) + slots_of_survey_of_one (number_of k) → new.state ≡ finish mid.state me.pid results → (has_place mid.state me.pid ≡ true → CostsAtMost 1 mid new) → IsBrief (slots_of_kill old.state.processes to (Ok (number_of k))) old new
+    → mid.visits ≤ old.visits + 1 + slots_of_send (number_of k) + slots_of_survey_of_one (number_of k) → new.state ≡ finish mid.state me.pid results → (has_place mid.state me.pid ≡ true → CostsAtMost 1 mid new) → CostsWithRechecks (slots_of_kill old.state.processes to (Ok (number_of k))) old new
 brief_unsent me to k results old mid new h is list still most done costs =
     let c = costs (ap (λ (s : State). has_place s me.pid) is ∙ h.place) in
     let last = c.visits in
@@ -220,11 +220,11 @@ brief_unsent me to k results old mid new h is list still most done costs =
 pub brief_send : (me : Process) (to : Target) (named : Result (Option ℕ) Errno) (word : ℤ) (sig : Option ℕ) (value : ℤ) (k : Option PendingSignal) (answer : Sending) (results : List (ℕ × ℤ)) (old mid new : MachineView) → is_one to ≡ true → IsQuiet me.pid old → named ≡ signal_or_none word → named ≡ Ok sig → k ≡ message me.pid value sig
     → IsRegular old.state → mid.state ≡ with_processes old.state (sent_as answer me to k old.state.processes) → mid.to_recheck ≡ rechecking_as answer me k to old.state.processes old.state.order old.to_recheck → mid.foregrounds_unchecked ≡ old.foregrounds_unchecked
     → mid.visits ≤ old.visits + 1 + slots_of_send (number_of k) + slots_of_survey_of_one (number_of k) → new.state ≡ finish mid.state me.pid results → (has_place mid.state me.pid ≡ true → CostsAtMost 1 mid new)
-    → IsBrief (slots_of_kill old.state.processes to (signal_or_none word)) old new
+    → CostsWithRechecks (slots_of_kill old.state.processes to (signal_or_none word)) old new
 brief_send me to named word sig value k answer results old mid new one quiet known ok is regular state list still read done costs =
-    subst (λ w. IsBrief (slots_of_kill old.state.processes to w) old new) (ap Ok (number_is me.pid value sig k is) ∙ sym ok ∙ known) (by (is_sent answer) refl)
+    subst (λ w. CostsWithRechecks (slots_of_kill old.state.processes to w) old new) (ap Ok (number_is me.pid value sig k is) ∙ sym ok ∙ known) (by (is_sent answer) refl)
   where
-    by : (b : Bool) → is_sent answer ≡ b → IsBrief (slots_of_kill old.state.processes to (Ok (number_of k))) old new
+    by : (b : Bool) → is_sent answer ≡ b → CostsWithRechecks (slots_of_kill old.state.processes to (Ok (number_of k))) old new
     by true e = brief_killed me to k results old mid new one quiet regular (state ∙ ap (λ b. with_processes old.state (cond b (sent me to k old.state.processes) old.state.processes)) e)
         (list ∙ ap (λ b. cond b (rechecking_signalled me k (targets me to old.state.processes) old.state.processes old.state.order old.to_recheck) old.to_recheck) e) still read done costs
     by false e = brief_unsent me to k results old mid new quiet (state ∙ ap (λ b. with_processes old.state (cond b (sent me to k old.state.processes) old.state.processes)) e)
@@ -232,11 +232,11 @@ brief_send me to named word sig value k answer results old mid new one quiet kno
 
 -- so it is by a caller that was looked at, who tells the target
 pub brief_sent_as : (p : ℕ) (old mid new : MachineView) (me : Process) (d : Caller) (f : Caller → Target) (to : Target) → Looks 1 old mid → d.pid ≡ p → d ≡ caller_of me → to ≡ f d → is_one (f (caller_of me)) ≡ true → IsQuiet p old
-    → (is_one to ≡ true → IsQuiet d.pid mid → IsBrief (slots_of_kill mid.state.processes to (signal_or_none d.r2)) mid new) → IsBrief (slots_of_kill old.state.processes (f (caller_of me)) (signal_or_none (argument me 2)) + 1) old new
+    → (is_one to ≡ true → IsQuiet d.pid mid → CostsWithRechecks (slots_of_kill mid.state.processes to (signal_or_none d.r2)) mid new) → CostsWithRechecks (slots_of_kill old.state.processes (f (caller_of me)) (signal_or_none (argument me 2)) + 1) old new
 brief_sent_as p old mid new me d f to looks named is target one quiet brief =
     let same : to ≡ f (caller_of me) = target ∙ ap f is in
     let sent = brief (ap is_one same ∙ one) (subst (λ q. IsQuiet q mid) (sym named) (quiet_on p old mid looks.same quiet)) in
     brief_on _ 1 _ old mid _ looks.same looks.visits (omega arith)
-    (subst (λ (t : State). IsBrief (slots_of_kill t.processes (f (caller_of me)) (signal_or_none (argument me 2))) mid new) looks.same.state
-    (subst (λ (k : Caller). IsBrief (slots_of_kill mid.state.processes (f (caller_of me)) (signal_or_none k.r2)) mid new) is
-    (subst (λ (x : Target). IsBrief (slots_of_kill mid.state.processes x (signal_or_none d.r2)) mid new) same sent)))
+    (subst (λ (t : State). CostsWithRechecks (slots_of_kill t.processes (f (caller_of me)) (signal_or_none (argument me 2))) mid new) looks.same.state
+    (subst (λ (k : Caller). CostsWithRechecks (slots_of_kill mid.state.processes (f (caller_of me)) (signal_or_none k.r2)) mid new) is
+    (subst (λ (x : Target). CostsWithRechecks (slots_of_kill mid.state.processes x (signal_or_none d.r2)) mid new) same sent)))

@@ -28,7 +28,7 @@ use Rattle.posix.proofs.SeeLemmas.{seen}
 use Rattle.posix.proofs.TableLemmas.{pid_looked}
 use Rattle.posix.proofs.WalkLemmas.{numbered_one, numbered_none}
 use Rattle.pidset.specs.Numbers.{with_number}
-use Rattle.jobs.specs.JobTables.{takes_signal}
+use Rattle.jobs.specs.IndexedTables.{takes_signal}
 use Rattle.life.specs.Rechecks.{awaits, awaits_asked, asked_in, is_in_wait, rechecking, rechecking_all, rechecking_by_signals, rechecking_effect, rechecking_generated, rechecking_signalled, rechecking_told}
 use Rattle.life.specs.Waits.{is_reported}
 use Rattle.life.proofs.FunnelLemmas.{with_twice}

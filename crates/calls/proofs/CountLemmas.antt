@@ -11,13 +11,13 @@ use Rattle.posix.specs.Choice.{chosen}
 use Rattle.posix.proofs.OrderLemmas.{without_absent}
 use Rattle.pidset.specs.Numbers.{Rises, with_number}
 use Rattle.pidset.proofs.NumberLemmas.{not_in_above}
-use Rattle.life.specs.Rechecks.{AreTaking, AreBrief, is_in_wait, asked_in}
+use Rattle.life.specs.Rechecks.{AreTaking, NeedNoChild, is_in_wait, asked_in}
 use Rattle.calls.specs.Counts.{neighbour, slots_of_call, slots_of_rechecking, slots_of_rechecks, slots_of_asking, reports_first, slots_of_first}
 use Rattle.posix.specs.declared.target.Target.{Target}
 use Rattle.posix.specs.declared.target.Target.TheVariants as whom
 use Rattle.posix.specs.Waits.{asked_by}
 use Rattle.life.specs.Waits.{slots_of_wait}
-use Rattle.jobs.specs.JobTables.{takes_signal}
+use Rattle.jobs.specs.IndexedTables.{takes_signal}
 
 -- ---- those to recheck
 
@@ -57,7 +57,7 @@ judged_brief rs first r e = by (is_some (chosen r.life r.signals)) e
     by false e = let one = call_brief rs first r r.blocked e in omega (arith, one)
 
 -- two for each, where no child has to be looked at
-pub rechecks_brief : (rs : List Process) (last : Option ℕ) (ns : List ℕ) → AreBrief rs ns → slots_of_rechecks rs last ns ≤ 2 * length ns
+pub rechecks_brief : (rs : List Process) (last : Option ℕ) (ns : List ℕ) → NeedNoChild rs ns → slots_of_rechecks rs last ns ≤ 2 * length ns
 unfolding slots_of_rechecks is_in
 rechecks_brief rs last [] h = omega arith
 rechecks_brief rs last (n ∷ ns) h =

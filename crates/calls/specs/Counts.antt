@@ -1,4 +1,4 @@
--- How many slots of the table of processes are read to recheck those who may have come to act.
+-- How many slots of the table of processes are read to recheck the processes that may have come to act.
 use Rattle.std.specs.Prelude.{ℕ, ◌+◌, if◌then◌else◌, Bool, false, List, [], ◌∷◌, slice_get, Option, Some, None, is_some}
 use Rattle.posix.specs.declared.process.Blocked.{Blocked}
 use Rattle.posix.specs.declared.process.Blocked.TheVariants as blocked

@@ -56,7 +56,7 @@ AreFew All = ⊥
 
 -- At most so many slots were read, with those that rechecking reads and a look at the foreground process groups that are
 -- unchecked, which are those of one number at most.
-pub record IsBrief (most : ℕ) (old new : MachineView) : Type 0 where
+pub record CostsWithRechecks (most : ℕ) (old new : MachineView) : Type 0 where
   pub reads : new.visits + slots_of_rechecks new.state.processes None new.to_recheck + slots_of_checking new.foregrounds_unchecked ≤ old.visits + most
   pub unchecked : AreFew new.foregrounds_unchecked
   pub consoles : new.state.consoles ≡ old.state.consoles

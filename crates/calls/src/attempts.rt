@@ -13,7 +13,7 @@ ghost use Rattle.posix.specs.Regular.{IsPlaced};
 ghost use Rattle.posix.specs.Outcomes.{finish, refusal as refusal_of};
 ghost use Rattle.posix.specs.Alarms.{most_ticks, ticks_in as ticks_in_word};
 ghost use Rattle.posix.specs.Attempts.{attempt_again as attempting_again};
-ghost use Rattle.calls.specs.Outcomes.{Comes, Attempts, IsActing, IsQuiet, IsBrief, CostsAtMost, changes_caller_alone, slots_of_brief};
+ghost use Rattle.calls.specs.Outcomes.{Comes, Attempts, IsActing, IsQuiet, CostsWithRechecks, CostsAtMost, changes_caller_alone, slots_of_brief};
 
 use crate::delivery::{end, return_from_handler};
 use crate::entries::Entries;
@@ -27,10 +27,10 @@ use crate::transfers::{read, write};
 use crate::waits::wait;
 use life::Machine;
 use posix::{Blocked, Call, Entry, Errno, Pid, Register, Status, WaitCall};
-use proctable::Kin;
+use proctable::ProcessTable;
 
 /// The call of a process that is there gives a value, and an entry shows the call.
-pub(crate) fn finish_shown<K: Kin>(
+pub(crate) fn finish_shown<K: ProcessTable>(
     machine: &mut Machine<K>,
     pid: Pid,
     value: i64,
@@ -50,7 +50,7 @@ pub(crate) fn finish_shown<K: Kin>(
 }
 
 /// The call of a process that is there gives a value.
-pub fn finish_with<K: Kin>(
+pub fn finish_with<K: ProcessTable>(
     machine: &mut Machine<K>,
     pid: Pid,
     call: Call,
@@ -73,7 +73,7 @@ pub fn finish_with<K: Kin>(
 }
 
 /// The call of a process that is there is refused.
-pub fn refuse<K: Kin>(
+pub fn refuse<K: ProcessTable>(
     machine: &mut Machine<K>,
     pid: Pid,
     call: Call,
@@ -91,7 +91,7 @@ pub fn refuse<K: Kin>(
 }
 
 /// The call of a process that is there is refused, since the host has no memory for it.
-pub fn refuse_memory<K: Kin>(
+pub fn refuse_memory<K: ProcessTable>(
     machine: &mut Machine<K>,
     pid: Pid,
     call: Call,
@@ -109,7 +109,7 @@ pub fn refuse_memory<K: Kin>(
 }
 
 /// The number of the caller's parent (XSH getppid).
-fn getppid<K: Kin>(machine: &mut Machine<K>, pid: Pid, entries: &mut Entries) -> Attempt
+fn getppid<K: ProcessTable>(machine: &mut Machine<K>, pid: Pid, entries: &mut Entries) -> Attempt
     requires there { IsSome (process machine.old.state pid) }
     requires room { length entries.old.items ≤ 1 }
     ensures { Attempts machine.old.state pid Call.Getppid result entries.old.items entries.new.items machine.new.state }
@@ -125,7 +125,11 @@ fn getppid<K: Kin>(machine: &mut Machine<K>, pid: Pid, entries: &mut Entries) ->
 }
 
 /// The caller goes to the end of the order (XSH sched_yield).
-fn sched_yield<K: Kin>(machine: &mut Machine<K>, pid: Pid, entries: &mut Entries) -> Attempt
+fn sched_yield<K: ProcessTable>(
+    machine: &mut Machine<K>,
+    pid: Pid,
+    entries: &mut Entries,
+) -> Attempt
     requires acting { IsActing machine.old.state pid }
     requires room { length entries.old.items ≤ 1 }
     ensures { Attempts machine.old.state pid Call.SchedYield result entries.old.items entries.new.items machine.new.state }
@@ -135,7 +139,7 @@ fn sched_yield<K: Kin>(machine: &mut Machine<K>, pid: Pid, entries: &mut Entries
 }
 
 /// A child like the caller is born (XSH fork).
-fn fork<K: Kin>(machine: &mut Machine<K>, pid: Pid, entries: &mut Entries) -> Attempt
+fn fork<K: ProcessTable>(machine: &mut Machine<K>, pid: Pid, entries: &mut Entries) -> Attempt
     requires acting { IsActing machine.old.state pid }
     requires births { machine.old.state.births + 1 < 2 ^ 64 }
     requires room { length entries.old.items ≤ 1 }
@@ -152,7 +156,7 @@ fn fork<K: Kin>(machine: &mut Machine<K>, pid: Pid, entries: &mut Entries) -> At
 
 /// The process ends with the code in r1 (XSH _exit).
 #[tactic(auto, unfolding(posix::specs::Attempts::attempt))]
-fn exit<K: Kin>(machine: &mut Machine<K>, pid: Pid, entries: &mut Entries) -> Attempt
+fn exit<K: ProcessTable>(machine: &mut Machine<K>, pid: Pid, entries: &mut Entries) -> Attempt
     requires there { IsSome (process machine.old.state pid) }
     requires room { length entries.old.items ≤ 1 }
     ensures { Attempts machine.old.state pid Call.Exit result entries.old.items entries.new.items machine.new.state }
@@ -164,7 +168,7 @@ fn exit<K: Kin>(machine: &mut Machine<K>, pid: Pid, entries: &mut Entries) -> At
 
 /// The caller becomes a child subreaper where r1 isn't 0, else it is none any more (prctl(2)).
 #[tactic(auto, unfolding(posix::specs::Attempts::attempt, posix::specs::Subreapers::subreaper))]
-fn subreaper<K: Kin>(machine: &mut Machine<K>, pid: Pid, entries: &mut Entries) -> Attempt
+fn subreaper<K: ProcessTable>(machine: &mut Machine<K>, pid: Pid, entries: &mut Entries) -> Attempt
     requires there { IsSome (process machine.old.state pid) }
     requires room { length entries.old.items ≤ 1 }
     ensures { Attempts machine.old.state pid Call.Subreaper result entries.old.items entries.new.items machine.new.state }
@@ -177,7 +181,7 @@ fn subreaper<K: Kin>(machine: &mut Machine<K>, pid: Pid, entries: &mut Entries) 
 
 /// Returns from the newest handler (sigreturn(2)).
 #[tactic(auto, unfolding(posix::specs::Attempts::attempt))]
-fn sigreturn<K: Kin>(machine: &mut Machine<K>, pid: Pid, entries: &mut Entries) -> Attempt
+fn sigreturn<K: ProcessTable>(machine: &mut Machine<K>, pid: Pid, entries: &mut Entries) -> Attempt
     requires there { IsSome (process machine.old.state pid) }
     requires none { entries.old.items ≡ [] }
     ensures { Attempts machine.old.state pid Call.Sigreturn result entries.old.items entries.new.items machine.new.state }
@@ -198,7 +202,7 @@ fn ticks_in(word: i64) -> Option<u64>
 
 /// The caller's alarm is set to r1 ticks from now, 0 to 1,000,000,000, where 0 clears it (XSH alarm).
 #[tactic(auto, unfolding(posix::specs::Attempts::attempt))]
-fn alarm<K: Kin>(machine: &mut Machine<K>, pid: Pid, entries: &mut Entries) -> Attempt
+fn alarm<K: ProcessTable>(machine: &mut Machine<K>, pid: Pid, entries: &mut Entries) -> Attempt
     requires acting { IsActing machine.old.state pid }
     requires time { machine.old.state.ticks + most_ticks < 2 ^ 64 }
     requires room { length entries.old.items ≤ 1 }
@@ -218,7 +222,7 @@ fn alarm<K: Kin>(machine: &mut Machine<K>, pid: Pid, entries: &mut Entries) -> A
 /// CONT.
 #[tactic(auto, unfolding(posix::specs::Attempts::attempt))]
 #[inline(always)]
-pub fn attempt<K: Kin>(
+pub fn attempt<K: ProcessTable>(
     machine: &mut Machine<K>,
     pid: Pid,
     call: Call,
@@ -230,7 +234,7 @@ pub fn attempt<K: Kin>(
     requires none { entries.old.items ≡ [] }
     ensures attempts { Attempts machine.old.state pid call result entries.old.items entries.new.items machine.new.state }
     ensures own { changes_caller_alone call ≡ true → (result ≡ Attempt.Done) × CostsAtMost 1 machine.old machine.new }
-    ensures brief { (me : Process) → process machine.old.state pid ≡ Some me → IsQuiet pid machine.old → IfSome (slots_of_brief call machine.old.state.processes me) (λ n. IsBrief n machine.old machine.new) }
+    ensures brief { (me : Process) → process machine.old.state pid ≡ Some me → IsQuiet pid machine.old → IfSome (slots_of_brief call machine.old.state.processes me) (λ n. CostsWithRechecks n machine.old machine.new) }
     ensures done { call ≡ Call.Kill ⊎ call ≡ Call.Sigqueue → result ≡ Attempt.Done }
     ensures waits { (b : BlockedValue) → is_some (wait_in call) ≡ true → result ≡ Attempt.Block b → AreSame machine.old machine.new }
 {
@@ -267,7 +271,7 @@ pub fn attempt<K: Kin>(
 
 /// A process that is no zombie attempts the call afresh that it is blocked in.
 #[tactic(auto, unfolding(posix::specs::Attempts::attempt_again))]
-pub fn attempt_again<K: Kin>(
+pub fn attempt_again<K: ProcessTable>(
     machine: &mut Machine<K>,
     pid: Pid,
     blocked: Blocked,
@@ -276,7 +280,7 @@ pub fn attempt_again<K: Kin>(
     requires placed { IsPlaced machine.old.state.processes pid }
     requires none { entries.old.items ≡ [] }
     ensures comes { (me : Process) → process machine.old.state pid ≡ Some me → Comes machine.old.state (attempting_again machine.old.state me blocked) result entries.old.items entries.new.items machine.new.state }
-    ensures brief { is_in_wait (Some blocked) ≡ true → IsQuiet pid machine.old → IsBrief (11 + 2 * length (children_in pid machine.old.state.processes)) machine.old machine.new }
+    ensures brief { is_in_wait (Some blocked) ≡ true → IsQuiet pid machine.old → CostsWithRechecks (11 + 2 * length (children_in pid machine.old.state.processes)) machine.old machine.new }
     ensures once { is_in_wait (Some blocked) ≡ true → result ≢ Attempt.Again }
     ensures waits { (b : BlockedValue) → is_in_wait (Some blocked) ≡ true → result ≡ Attempt.Block b → AreSame machine.old machine.new }
 {

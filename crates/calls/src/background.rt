@@ -15,7 +15,7 @@ ghost use Rattle.calls.specs.Access.{change_access_of, read_access_of, write_acc
 use crate::outcome::Attempt;
 use life::{Caller, Machine, Terminal};
 use posix::{Handler, Pid, Sig};
-use proctable::Kin;
+use proctable::ProcessTable;
 
 /// Whether a process may use its terminal.
 #[derive(Clone, Copy, Debug, PartialEq, Eq)]
@@ -44,7 +44,7 @@ fn is_in_background(me: &Caller, terminal: &Terminal) -> bool
 }
 
 /// Whether a process that is there blocks or ignores a signal. Nothing changes.
-fn blocks_or_ignores<K: Kin>(machine: &mut Machine<K>, pid: Pid, sig: Sig) -> bool
+fn blocks_or_ignores<K: ProcessTable>(machine: &mut Machine<K>, pid: Pid, sig: Sig) -> bool
     requires { IsSome (process machine.old.state pid) }
     ensures value { (me : Process) → process machine.old.state pid ≡ Some me → result ≡ blocks_or_ignores_signal me sig }
     ensures same { machine.new.state ≡ machine.old.state }
@@ -55,7 +55,7 @@ fn blocks_or_ignores<K: Kin>(machine: &mut Machine<K>, pid: Pid, sig: Sig) -> bo
 
 /// Whether a caller that is there may change its terminal: in the foreground, and where it blocks or ignores TTOU. Else
 /// it is refused where its process group is orphaned (XBD 11.1.4). Nothing changes.
-pub(crate) fn change_access<K: Kin>(
+pub(crate) fn change_access<K: ProcessTable>(
     machine: &mut Machine<K>,
     me: &Caller,
     terminal: &Terminal,
@@ -76,7 +76,7 @@ pub(crate) fn change_access<K: Kin>(
 
 /// Whether a caller that is there may read from its terminal: in the foreground. Else it is refused where it blocks or
 /// ignores TTIN, or its process group is orphaned (XBD 11.1.4). Nothing changes.
-pub(crate) fn read_access<K: Kin>(
+pub(crate) fn read_access<K: ProcessTable>(
     machine: &mut Machine<K>,
     me: &Caller,
     terminal: &Terminal,
@@ -97,7 +97,7 @@ pub(crate) fn read_access<K: Kin>(
 
 /// Whether a caller that is there may write to its terminal: always, unless TOSTOP is set, and then where it may
 /// change it (XBD 11.1.4, 11.2.5). Nothing changes.
-pub(crate) fn write_access<K: Kin>(
+pub(crate) fn write_access<K: ProcessTable>(
     machine: &mut Machine<K>,
     me: &Caller,
     terminal: &Terminal,
@@ -114,7 +114,11 @@ pub(crate) fn write_access<K: Kin>(
 }
 
 /// A standard signal of the kernel is generated for each member of the caller's process group, and the call begins again.
-pub(crate) fn signal_own_group<K: Kin>(machine: &mut Machine<K>, me: &Caller, sig: Sig) -> Attempt
+pub(crate) fn signal_own_group<K: ProcessTable>(
+    machine: &mut Machine<K>,
+    me: &Caller,
+    sig: Sig,
+) -> Attempt
     requires { is_realtime sig ≡ false }
     ensures again { result ≡ Attempt.Again }
     ensures state { machine.new.state ≡ record (machine.old.state) { processes = signalled_group sig me.now.group machine.old.state.processes } }

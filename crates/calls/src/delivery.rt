@@ -18,13 +18,18 @@ use life::Machine;
 use posix::{
     Action, Blocked, Carried, DefaultAction, Entry, Errno, Handler, PendingSignal, Pid, Sig, Status,
 };
-use proctable::Kin;
+use proctable::ProcessTable;
 use signal::is_interrupted;
 
 /// The end of a process that is there, and what it shows. The terminal of the session that it leads is hung up
 /// first (XSH _exit).
 #[tactic(auto, unfolding(posix::specs::Ends::end_process))]
-pub fn end<K: Kin>(machine: &mut Machine<K>, pid: Pid, status: Status, entries: &mut Entries)
+pub fn end<K: ProcessTable>(
+    machine: &mut Machine<K>,
+    pid: Pid,
+    status: Status,
+    entries: &mut Entries,
+)
     requires there { IsSome (process machine.old.state pid) }
     requires room { length entries.old.items ≤ 2 }
     ensures state { (me : Process) → process machine.old.state pid ≡ Some me → machine.new.state ≡ (end_process machine.old.state me status).state }
@@ -62,7 +67,7 @@ fn show_interruption(pid: Pid, blocked: &Option<Blocked>, action: &Action, entri
 /// A process that is there enters the handler of a signal at an address. Where there is no room for
 /// another frame it ends by SEGV (own).
 #[tactic(auto, unfolding(posix::specs::Delivery::handle))]
-fn handle<K: Kin>(
+fn handle<K: ProcessTable>(
     machine: &mut Machine<K>,
     pid: Pid,
     signal: PendingSignal,
@@ -91,7 +96,7 @@ fn handle<K: Kin>(
 
 /// Whether a stop signal has no effect on a process that is there: it isn't STOP, and the process group is
 /// orphaned (XSH 2.4.3).
-fn is_stop_discarded<K: Kin>(machine: &mut Machine<K>, pid: Pid, sig: Sig) -> bool
+fn is_stop_discarded<K: ProcessTable>(machine: &mut Machine<K>, pid: Pid, sig: Sig) -> bool
     ensures value { (me : Process) → process machine.old.state pid ≡ Some me → result ≡ (not (sig == STOP) && is_orphaned me.group machine.old.state.processes) }
     ensures same { machine.new.state ≡ machine.old.state }
 {
@@ -106,7 +111,7 @@ fn is_stop_discarded<K: Kin>(machine: &mut Machine<K>, pid: Pid, sig: Sig) -> bo
 
 /// A signal whose default action is to stop comes to a process that is there and no zombie. Where its process
 /// group is orphaned only STOP stops it (XSH 2.4.3).
-fn stop<K: Kin>(machine: &mut Machine<K>, pid: Pid, sig: Sig, entries: &mut Entries)
+fn stop<K: ProcessTable>(machine: &mut Machine<K>, pid: Pid, sig: Sig, entries: &mut Entries)
     requires placed { IsPlaced machine.old.state.processes pid }
     requires none { entries.old.items ≡ [] }
     ensures { (me : Process) → process machine.old.state pid ≡ Some me → stop_or_discard machine.old.state me sig ≡ record { state = machine.new.state; entries = entries.new.items } }
@@ -121,7 +126,12 @@ fn stop<K: Kin>(machine: &mut Machine<K>, pid: Pid, sig: Sig, entries: &mut Entr
 
 /// The default action for a signal of a process that is there and no zombie. It has no effect on process 1
 /// (kill(2)).
-fn act_by_default<K: Kin>(machine: &mut Machine<K>, pid: Pid, sig: Sig, entries: &mut Entries)
+fn act_by_default<K: ProcessTable>(
+    machine: &mut Machine<K>,
+    pid: Pid,
+    sig: Sig,
+    entries: &mut Entries,
+)
     requires placed { IsPlaced machine.old.state.processes pid }
     requires none { entries.old.items ≡ [] }
     ensures { (me : Process) → process machine.old.state pid ≡ Some me → (if me.pid == 1 then discarding machine.old.state me.pid sig else acting_by_default machine.old.state me sig (default_action sig)) ≡ record { state = machine.new.state; entries = entries.new.items } }
@@ -141,7 +151,7 @@ fn act_by_default<K: Kin>(machine: &mut Machine<K>, pid: Pid, sig: Sig, entries:
 
 /// A pending signal of a process that is there and no zombie is taken out, and its action done.
 #[tactic(auto, unfolding(posix::specs::Delivery::deliver))]
-pub fn deliver<K: Kin>(machine: &mut Machine<K>, pid: Pid, sig: Sig, entries: &mut Entries)
+pub fn deliver<K: ProcessTable>(machine: &mut Machine<K>, pid: Pid, sig: Sig, entries: &mut Entries)
     requires placed { IsPlaced machine.old.state.processes pid }
     requires none { entries.old.items ≡ [] }
     ensures { (me : Process) → process machine.old.state pid ≡ Some me → delivering machine.old.state me sig ≡ record { state = machine.new.state; entries = entries.new.items } }
@@ -169,7 +179,7 @@ pub fn deliver<K: Kin>(machine: &mut Machine<K>, pid: Pid, sig: Sig, entries: &m
 /// read at most.
 #[tactic(auto, unfolding(posix::specs::Delivery::fault))]
 #[inline(never)]
-pub fn fault<K: Kin>(machine: &mut Machine<K>, pid: Pid, sig: Sig, entries: &mut Entries)
+pub fn fault<K: ProcessTable>(machine: &mut Machine<K>, pid: Pid, sig: Sig, entries: &mut Entries)
     requires there { IsSome (process machine.old.state pid) }
     requires none { entries.old.items ≡ [] }
     ensures does { (me : Process) → process machine.old.state pid ≡ Some me → faulting machine.old.state me sig ≡ record { state = machine.new.state; entries = entries.new.items } }
@@ -196,7 +206,11 @@ pub fn fault<K: Kin>(machine: &mut Machine<K>, pid: Pid, sig: Sig, entries: &mut
 /// The newest handler of a process that is there returns; without one that is a fault SEGV
 /// (sigreturn(2)).
 #[tactic(auto, unfolding(posix::specs::Delivery::return_from_handler))]
-pub fn return_from_handler<K: Kin>(machine: &mut Machine<K>, pid: Pid, entries: &mut Entries)
+pub fn return_from_handler<K: ProcessTable>(
+    machine: &mut Machine<K>,
+    pid: Pid,
+    entries: &mut Entries,
+)
     requires there { IsSome (process machine.old.state pid) }
     requires none { entries.old.items ≡ [] }
     ensures { (me : Process) → process machine.old.state pid ≡ Some me → returning machine.old.state me ≡ record { state = machine.new.state; entries = entries.new.items } }

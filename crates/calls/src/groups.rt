@@ -13,11 +13,11 @@ use crate::entries::Entries;
 use crate::outcome::Attempt;
 use life::Machine;
 use posix::{Call, Errno, Pid, Register};
-use proctable::{Kin, Snapshot};
+use proctable::{ProcessTable, Snapshot};
 
 /// The small fields of the process that the first argument of a caller that is there names, 0 being the
 /// caller; none where no process has that number. Nothing changes.
-fn named<K: Kin>(machine: &mut Machine<K>, pid: Pid) -> Option<Snapshot>
+fn named<K: ProcessTable>(machine: &mut Machine<K>, pid: Pid) -> Option<Snapshot>
     requires { IsSome (process machine.old.state pid) }
     ensures value { (me : Process) → process machine.old.state pid ≡ Some me → result ≡ option_map snapshot_of (named_by me (argument me 1) machine.old.state.processes) }
     ensures same { machine.new.state ≡ machine.old.state }
@@ -38,7 +38,12 @@ fn told_by(call: Call, it: &Snapshot) -> Pid
 
 /// Tells by a getpgid or a getsid what the call tells of the process that r1 names, 0 being the caller; ESRCH where no
 /// process has that number.
-fn tell<K: Kin>(machine: &mut Machine<K>, pid: Pid, call: Call, entries: &mut Entries) -> Attempt
+fn tell<K: ProcessTable>(
+    machine: &mut Machine<K>,
+    pid: Pid,
+    call: Call,
+    entries: &mut Entries,
+) -> Attempt
     requires there { IsSome (process machine.old.state pid) }
     requires room { length entries.old.items ≤ 1 }
     ensures { (me : Process) → process machine.old.state pid ≡ Some me → Comes machine.old.state (tells machine.old.state me call (λ r. id_told call (snapshot_of r)) (named_by me (argument me 1) machine.old.state.processes)) result entries.old.items entries.new.items machine.new.state }
@@ -52,7 +57,11 @@ fn tell<K: Kin>(machine: &mut Machine<K>, pid: Pid, call: Call, entries: &mut En
 
 /// The process group of the process that r1 names, 0 being the caller (XSH getpgid).
 #[tactic(auto, unfolding(posix::specs::Attempts::attempt, posix::specs::GroupCalls::getpgid))]
-pub fn getpgid<K: Kin>(machine: &mut Machine<K>, pid: Pid, entries: &mut Entries) -> Attempt
+pub fn getpgid<K: ProcessTable>(
+    machine: &mut Machine<K>,
+    pid: Pid,
+    entries: &mut Entries,
+) -> Attempt
     requires there { IsSome (process machine.old.state pid) }
     requires room { length entries.old.items ≤ 1 }
     ensures { Attempts machine.old.state pid Call.Getpgid result entries.old.items entries.new.items machine.new.state }
@@ -62,7 +71,7 @@ pub fn getpgid<K: Kin>(machine: &mut Machine<K>, pid: Pid, entries: &mut Entries
 
 /// The session of the process that r1 names, 0 being the caller (XSH getsid).
 #[tactic(auto, unfolding(posix::specs::Attempts::attempt, posix::specs::GroupCalls::getsid))]
-pub fn getsid<K: Kin>(machine: &mut Machine<K>, pid: Pid, entries: &mut Entries) -> Attempt
+pub fn getsid<K: ProcessTable>(machine: &mut Machine<K>, pid: Pid, entries: &mut Entries) -> Attempt
     requires there { IsSome (process machine.old.state pid) }
     requires room { length entries.old.items ≤ 1 }
     ensures { Attempts machine.old.state pid Call.Getsid result entries.old.items entries.new.items machine.new.state }
@@ -72,7 +81,11 @@ pub fn getsid<K: Kin>(machine: &mut Machine<K>, pid: Pid, entries: &mut Entries)
 
 /// Moves the process that r1 names, the caller or a child, to the process group in r2 (XSH setpgid).
 #[tactic(auto, unfolding(posix::specs::Attempts::attempt, posix::specs::GroupCalls::setpgid))]
-pub fn setpgid<K: Kin>(machine: &mut Machine<K>, pid: Pid, entries: &mut Entries) -> Attempt
+pub fn setpgid<K: ProcessTable>(
+    machine: &mut Machine<K>,
+    pid: Pid,
+    entries: &mut Entries,
+) -> Attempt
     requires placed { IsPlaced machine.old.state.processes pid }
     requires room { length entries.old.items ≤ 1 }
     ensures { Attempts machine.old.state pid Call.Setpgid result entries.old.items entries.new.items machine.new.state }
@@ -86,7 +99,7 @@ pub fn setpgid<K: Kin>(machine: &mut Machine<K>, pid: Pid, entries: &mut Entries
 
 /// The caller leads a session and a process group of its own (XSH setsid).
 #[tactic(auto, unfolding(posix::specs::Attempts::attempt, posix::specs::GroupCalls::setsid))]
-pub fn setsid<K: Kin>(machine: &mut Machine<K>, pid: Pid, entries: &mut Entries) -> Attempt
+pub fn setsid<K: ProcessTable>(machine: &mut Machine<K>, pid: Pid, entries: &mut Entries) -> Attempt
     requires placed { IsPlaced machine.old.state.processes pid }
     requires room { length entries.old.items ≤ 1 }
     ensures { Attempts machine.old.state pid Call.Setsid result entries.old.items entries.new.items machine.new.state }

@@ -7,7 +7,7 @@ ghost use Rattle.life.specs.Callers.{process_like};
 ghost use Rattle.life.specs.Rechecks.{is_one};
 ghost use Rattle.posix.specs.Processes.{Process, argument};
 ghost use Rattle.posix.specs.Targets.{process_in, target_in};
-ghost use Rattle.calls.specs.Outcomes.{Attempts, Comes, IsQuiet, IsBrief, entry_of_sending, slots_of_kill, value_of_sending};
+ghost use Rattle.calls.specs.Outcomes.{Attempts, Comes, IsQuiet, CostsWithRechecks, entry_of_sending, slots_of_kill, value_of_sending};
 
 use crate::attempts::{finish_shown, refuse};
 use crate::entries::Entries;
@@ -15,7 +15,7 @@ use crate::outcome::Attempt;
 use crate::replies::{refusal, signal_in};
 use life::{Caller, Machine};
 use posix::{Call, Carried, Entry, Errno, PendingSignal, Pid, Sending, Sig, Target};
-use proctable::Kin;
+use proctable::ProcessTable;
 
 /// The signal that the second argument names; none for signal 0. EINVAL where it is neither.
 fn signal_or_none(me: &Caller) -> Result<Option<Sig>, Errno>
@@ -69,7 +69,7 @@ fn entry_of(pid: Pid, call: Call, sending: Sending) -> Entry
 
 /// Sends the signal that the second argument names to a target, with a value, by this call of a caller that is there.
 #[inline(always)]
-fn send<K: Kin>(
+fn send<K: ProcessTable>(
     machine: &mut Machine<K>,
     me: &Caller,
     call: Call,
@@ -81,7 +81,7 @@ fn send<K: Kin>(
     requires room { length entries.old.items ≤ 1 }
     ensures done { result ≡ Attempt.Done }
     ensures comes { (granted : Bool) × Comes machine.old.state (sending granted machine.old.state (process_like me.now) call target value (signal_number_or_none me.now.r2)) result entries.old.items entries.new.items machine.new.state }
-    ensures brief { is_one target ≡ true → IsQuiet me.now.pid machine.old → IsBrief (slots_of_kill machine.old.state.processes target (signal_number_or_none me.now.r2)) machine.old machine.new }
+    ensures brief { is_one target ≡ true → IsQuiet me.now.pid machine.old → CostsWithRechecks (slots_of_kill machine.old.state.processes target (signal_number_or_none me.now.r2)) machine.old machine.new }
 {
     let sig = match signal_or_none(me) {
         Ok(sig) => sig,
@@ -92,25 +92,29 @@ fn send<K: Kin>(
     finish_shown(machine, me.pid, value_of(sending), entry, entries)
 }
 
-/// Sends a signal, with value 0, to those whom the first argument means.
-pub fn kill<K: Kin>(machine: &mut Machine<K>, pid: Pid, entries: &mut Entries) -> Attempt
+/// Sends a signal, with value 0, to the processes that the first argument means.
+pub fn kill<K: ProcessTable>(machine: &mut Machine<K>, pid: Pid, entries: &mut Entries) -> Attempt
     requires there { IsSome (process machine.old.state pid) }
     requires room { length entries.old.items ≤ 1 }
     ensures done { result ≡ Attempt.Done }
     ensures attempts { Attempts machine.old.state pid Call.Kill result entries.old.items entries.new.items machine.new.state }
-    ensures brief { (me : Process) → process machine.old.state pid ≡ Some me → is_one (target_in (argument me 1)) ≡ true → IsQuiet pid machine.old → IsBrief (slots_of_kill machine.old.state.processes (target_in (argument me 1)) (signal_number_or_none (argument me 2)) + 1) machine.old machine.new }
+    ensures brief { (me : Process) → process machine.old.state pid ≡ Some me → is_one (target_in (argument me 1)) ≡ true → IsQuiet pid machine.old → CostsWithRechecks (slots_of_kill machine.old.state.processes (target_in (argument me 1)) (signal_number_or_none (argument me 2)) + 1) machine.old machine.new }
 {
     let me = machine.caller(pid);
     send(machine, &me, Call::Kill, me.target(), 0, entries)
 }
 
 /// Sends a signal, with the value in the third argument, to the process that the first argument means.
-pub fn sigqueue<K: Kin>(machine: &mut Machine<K>, pid: Pid, entries: &mut Entries) -> Attempt
+pub fn sigqueue<K: ProcessTable>(
+    machine: &mut Machine<K>,
+    pid: Pid,
+    entries: &mut Entries,
+) -> Attempt
     requires there { IsSome (process machine.old.state pid) }
     requires room { length entries.old.items ≤ 1 }
     ensures done { result ≡ Attempt.Done }
     ensures attempts { Attempts machine.old.state pid Call.Sigqueue result entries.old.items entries.new.items machine.new.state }
-    ensures brief { (me : Process) → process machine.old.state pid ≡ Some me → is_one (process_in (argument me 1)) ≡ true → IsQuiet pid machine.old → IsBrief (slots_of_kill machine.old.state.processes (process_in (argument me 1)) (signal_number_or_none (argument me 2)) + 1) machine.old machine.new }
+    ensures brief { (me : Process) → process machine.old.state pid ≡ Some me → is_one (process_in (argument me 1)) ≡ true → IsQuiet pid machine.old → CostsWithRechecks (slots_of_kill machine.old.state.processes (process_in (argument me 1)) (signal_number_or_none (argument me 2)) + 1) machine.old machine.new }
 {
     let me = machine.caller(pid);
     let target = Target::process_from_word(me.r1);

@@ -9,12 +9,12 @@ use crate::entries::Entries;
 use crate::outcome::Attempt;
 use life::Machine;
 use posix::{Call, Entry, Errno, Pid, Register};
-use proctable::Kin;
+use proctable::ProcessTable;
 
 /// Runs the program in r1 in place of the caller's own. The pc doesn't move on: it is where the program
 /// begins (XSH exec).
 #[tactic(auto, unfolding(posix::specs::Attempts::attempt, posix::specs::Programs::exec))]
-pub fn exec<K: Kin>(machine: &mut Machine<K>, pid: Pid, entries: &mut Entries) -> Attempt
+pub fn exec<K: ProcessTable>(machine: &mut Machine<K>, pid: Pid, entries: &mut Entries) -> Attempt
     requires there { IsSome (process machine.old.state pid) }
     requires room { length entries.old.items ≤ 1 }
     ensures { Attempts machine.old.state pid Call.Exec result entries.old.items entries.new.items machine.new.state }

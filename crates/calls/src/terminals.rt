@@ -18,7 +18,7 @@ use crate::entries::Entries;
 use crate::outcome::Attempt;
 use life::{Caller, Machine, Terminal};
 use posix::{Call, Errno, Pid, Sig};
-use proctable::Kin;
+use proctable::ProcessTable;
 
 // ---- setctty
 
@@ -30,14 +30,14 @@ fn console_named(word: i64) -> Option<usize>
 }
 
 /// Whether a caller leads a session without a terminal, and a console that is the terminal of this session is nobody's.
-fn may_acquire<K: Kin>(machine: &Machine<K>, me: &Caller, session: Pid) -> bool
+fn may_acquire<K: ProcessTable>(machine: &Machine<K>, me: &Caller, session: Pid) -> bool
     ensures { (r : Process) (c : Console) → me.now ≡ caller_of r → session ≡ c.session → result ≡ may_acquire_by machine.now.state r c }
 {
     me.session == me.pid && machine.terminal(me.session).is_none() && session == Pid::NONE
 }
 
 /// A caller that is there asks for the console with this index, the terminal of this session; number 0 is nobody's.
-fn acquire<K: Kin>(
+fn acquire<K: ProcessTable>(
     machine: &mut Machine<K>,
     me: &Caller,
     console_index: usize,
@@ -62,7 +62,11 @@ fn acquire<K: Kin>(
 /// leads no session, its session has a terminal, or the console is another session's (own; as TIOCSCTTY in
 /// ioctl_tty(2), which in Linux is 0 for the session's own terminal).
 #[tactic(auto, unfolding(posix::specs::Attempts::attempt, posix::specs::Terminals::setctty))]
-pub fn setctty<K: Kin>(machine: &mut Machine<K>, pid: Pid, entries: &mut Entries) -> Attempt
+pub fn setctty<K: ProcessTable>(
+    machine: &mut Machine<K>,
+    pid: Pid,
+    entries: &mut Entries,
+) -> Attempt
     requires there { IsSome (process machine.old.state pid) }
     requires room { length entries.old.items ≤ 1 }
     ensures { Attempts machine.old.state pid Call.Setctty result entries.old.items entries.new.items machine.new.state }
@@ -93,7 +97,11 @@ fn foreground_told(pidmax: u32, group: Pid) -> i64
 /// The foreground process group of the caller's terminal, or pidmax + 1 where there is none. ENOTTY where the caller's
 /// session has no terminal (XSH tcgetpgrp).
 #[tactic(auto, unfolding(posix::specs::Attempts::attempt, posix::specs::Terminals::tcgetpgrp))]
-pub fn tcgetpgrp<K: Kin>(machine: &mut Machine<K>, pid: Pid, entries: &mut Entries) -> Attempt
+pub fn tcgetpgrp<K: ProcessTable>(
+    machine: &mut Machine<K>,
+    pid: Pid,
+    entries: &mut Entries,
+) -> Attempt
     requires there { IsSome (process machine.old.state pid) }
     requires room { length entries.old.items ≤ 1 }
     ensures { Attempts machine.old.state pid Call.Tcgetpgrp result entries.old.items entries.new.items machine.new.state }
@@ -117,7 +125,11 @@ fn natural_in(word: i64) -> Option<u64>
 
 /// The process group in r1 of a caller that is there becomes the foreground one of its session's terminal. EINVAL where
 /// r1 is negative, EPERM where no process of the session is in that group.
-fn put_foreground<K: Kin>(machine: &mut Machine<K>, me: &Caller, entries: &mut Entries) -> Attempt
+fn put_foreground<K: ProcessTable>(
+    machine: &mut Machine<K>,
+    me: &Caller,
+    entries: &mut Entries,
+) -> Attempt
     requires regular { IsRegular machine.old.state }
     requires there { IsSome (process machine.old.state me.now.pid) }
     requires caller { (r : Process) → process machine.old.state me.now.pid ≡ Some r → me.now ≡ caller_of r }
@@ -134,8 +146,8 @@ fn put_foreground<K: Kin>(machine: &mut Machine<K>, me: &Caller, entries: &mut E
     finish_with(machine, me.pid, Call::Tcsetpgrp, 0, entries)
 }
 
-/// The same by a caller that has this terminal, where the rule for the background allows it.
-fn tcsetpgrp_on<K: Kin>(
+/// Puts a process group into the foreground of the caller's terminal, where the rule for the background allows it.
+fn tcsetpgrp_on<K: ProcessTable>(
     machine: &mut Machine<K>,
     me: &Caller,
     terminal: &Terminal,
@@ -159,7 +171,11 @@ fn tcsetpgrp_on<K: Kin>(
 /// the group is negative; EPERM where no process of the caller's session is in it (XSH tcsetpgrp); in Linux the
 /// background's error is ENOTTY, and that of a number which nobody bears ESRCH.
 #[tactic(auto, unfolding(posix::specs::Attempts::attempt, posix::specs::Terminals::tcsetpgrp))]
-pub fn tcsetpgrp<K: Kin>(machine: &mut Machine<K>, pid: Pid, entries: &mut Entries) -> Attempt
+pub fn tcsetpgrp<K: ProcessTable>(
+    machine: &mut Machine<K>,
+    pid: Pid,
+    entries: &mut Entries,
+) -> Attempt
     requires there { IsSome (process machine.old.state pid) }
     requires room { length entries.old.items ≤ 1 }
     ensures { Attempts machine.old.state pid Call.Tcsetpgrp result entries.old.items entries.new.items machine.new.state }
@@ -174,7 +190,11 @@ pub fn tcsetpgrp<K: Kin>(machine: &mut Machine<K>, pid: Pid, entries: &mut Entri
 // ---- settostop
 
 /// TOSTOP of the terminal of a caller that is there is set where r1 isn't 0, and else cleared.
-fn put_tostop<K: Kin>(machine: &mut Machine<K>, me: &Caller, entries: &mut Entries) -> Attempt
+fn put_tostop<K: ProcessTable>(
+    machine: &mut Machine<K>,
+    me: &Caller,
+    entries: &mut Entries,
+) -> Attempt
     requires regular { IsRegular machine.old.state }
     requires there { IsSome (process machine.old.state me.now.pid) }
     requires caller { (r : Process) → process machine.old.state me.now.pid ≡ Some r → me.now ≡ caller_of r }
@@ -185,8 +205,8 @@ fn put_tostop<K: Kin>(machine: &mut Machine<K>, me: &Caller, entries: &mut Entri
     finish_with(machine, me.pid, Call::Settostop, 0, entries)
 }
 
-/// The same by a caller that has this terminal, where the rule for the background allows it.
-fn settostop_on<K: Kin>(
+/// Sets or clears TOSTOP of the caller's terminal, where the rule for the background allows it.
+fn settostop_on<K: ProcessTable>(
     machine: &mut Machine<K>,
     me: &Caller,
     terminal: &Terminal,
@@ -209,7 +229,11 @@ fn settostop_on<K: Kin>(
 /// terminal; EIO, or TTOU for the caller's process group and the call again, in the background (own; as XSH tcsetattr,
 /// XBD 11.1.4).
 #[tactic(auto, unfolding(posix::specs::Attempts::attempt, posix::specs::Terminals::settostop))]
-pub fn settostop<K: Kin>(machine: &mut Machine<K>, pid: Pid, entries: &mut Entries) -> Attempt
+pub fn settostop<K: ProcessTable>(
+    machine: &mut Machine<K>,
+    pid: Pid,
+    entries: &mut Entries,
+) -> Attempt
     requires there { IsSome (process machine.old.state pid) }
     requires room { length entries.old.items ≤ 1 }
     ensures { Attempts machine.old.state pid Call.Settostop result entries.old.items entries.new.items machine.new.state }

@@ -19,11 +19,11 @@ use crate::entries::Entries;
 use crate::outcome::Attempt;
 use life::{Caller, Machine, Terminal};
 use posix::{Blocked, Bytes, Call, Entry, Errno, Pid, Sig, Span};
-use proctable::{Kin, Snapshot};
+use proctable::{ProcessTable, Snapshot};
 
 /// The call of a process that is there moved these bytes, and gives their number; where there are none it shows no
 /// more than that.
-fn finish_moved<K: Kin>(
+fn finish_moved<K: ProcessTable>(
     machine: &mut Machine<K>,
     pid: Pid,
     call: Call,
@@ -46,7 +46,7 @@ fn finish_moved<K: Kin>(
 
 /// Bytes are put into the words of a process that is there from an address on.
 #[tactic(auto, unfolding(posix::specs::Terminals::with_bytes))]
-fn store<K: Kin>(machine: &mut Machine<K>, pid: Pid, address: u16, bytes: &[u8])
+fn store<K: ProcessTable>(machine: &mut Machine<K>, pid: Pid, address: u16, bytes: &[u8])
     requires there { IsSome (process machine.old.state pid) }
     requires within { address + length bytes.now ≤ 256 }
     ensures { machine.new.state ≡ change machine.old.state pid (with_bytes address bytes.now) }
@@ -56,7 +56,7 @@ fn store<K: Kin>(machine: &mut Machine<K>, pid: Pid, address: u16, bytes: &[u8])
 
 /// Takes at most so many bytes, up to 16, of the first finished line of a session's terminal; what it leaves of the line
 /// stays. None, and nothing changes, where no line is finished.
-fn take_bytes<K: Kin>(machine: &mut Machine<K>, session: Pid, most: u8) -> Option<Bytes>
+fn take_bytes<K: ProcessTable>(machine: &mut Machine<K>, session: Pid, most: u8) -> Option<Bytes>
     requires session { session ≢ 0 }
     requires terminal { IsSome (console_of session machine.old.state.consoles) }
     requires few { most ≤ 16 }
@@ -71,7 +71,7 @@ fn take_bytes<K: Kin>(machine: &mut Machine<K>, session: Pid, most: u8) -> Optio
 
 /// A caller that is there, and whose session has a terminal, reads into the words of a span. Where no line is finished
 /// it has to wait.
-fn read_line<K: Kin>(
+fn read_line<K: ProcessTable>(
     machine: &mut Machine<K>,
     me: &Caller,
     span: Span,
@@ -94,7 +94,7 @@ fn read_line<K: Kin>(
 }
 
 /// A read into the words of a span by a caller that is there, with this terminal. A count of 0 takes nothing.
-fn read_span<K: Kin>(
+fn read_span<K: ProcessTable>(
     machine: &mut Machine<K>,
     me: &Caller,
     terminal: &Terminal,
@@ -123,7 +123,7 @@ fn read_span<K: Kin>(
 /// terminal; EINVAL for a count outside 0 to 16; EFAULT where a word is none of the process; EIO, or TTIN for the
 /// caller's process group and the call again, in the background (XBD 11.1.4, 11.1.6, XSH read). Where no line is
 /// finished the caller has to wait.
-pub fn read<K: Kin>(machine: &mut Machine<K>, pid: Pid, entries: &mut Entries) -> Attempt
+pub fn read<K: ProcessTable>(machine: &mut Machine<K>, pid: Pid, entries: &mut Entries) -> Attempt
     requires there { IsSome (process machine.old.state pid) }
     requires room { length entries.old.items ≤ 1 }
     ensures { (me : Process) → process machine.old.state pid ≡ Some me → Comes machine.old.state (reading machine.old.state me) result entries.old.items entries.new.items machine.new.state }
@@ -141,7 +141,7 @@ pub fn read<K: Kin>(machine: &mut Machine<K>, pid: Pid, entries: &mut Entries) -
 /// Whether a read of a process that is there, with this snapshot, would have to wait: its process group is the
 /// foreground one of its controlling terminal, it asks for bytes, and no line is finished (XBD 11.1.4,
 /// 11.1.6).
-pub fn has_to_read<K: Kin>(machine: &mut Machine<K>, pid: Pid, snapshot: Snapshot) -> bool
+pub fn has_to_read<K: ProcessTable>(machine: &mut Machine<K>, pid: Pid, snapshot: Snapshot) -> bool
     requires there { IsSome (process machine.old.state pid) }
     requires snapshot { Some snapshot ≡ option_map snapshot_of (process machine.old.state pid) }
     ensures value { (me : Process) → process machine.old.state pid ≡ Some me → result ≡ waits_to_read machine.old.state.consoles me }
@@ -160,7 +160,7 @@ pub fn has_to_read<K: Kin>(machine: &mut Machine<K>, pid: Pid, snapshot: Snapsho
 // ---- write
 
 /// A write of the words of a span by a caller that is there, with this terminal.
-fn write_span<K: Kin>(
+fn write_span<K: ProcessTable>(
     machine: &mut Machine<K>,
     me: &Caller,
     terminal: &Terminal,
@@ -188,7 +188,7 @@ fn write_span<K: Kin>(
 /// ENOTTY where the caller's session has no terminal; EINVAL for a count outside 0 to 16; EFAULT where a word is none of
 /// the process; EIO, or TTOU for the caller's process group and the call again, in the background where TOSTOP is set
 /// (XBD 11.1.4, XSH write).
-pub fn write<K: Kin>(machine: &mut Machine<K>, pid: Pid, entries: &mut Entries) -> Attempt
+pub fn write<K: ProcessTable>(machine: &mut Machine<K>, pid: Pid, entries: &mut Entries) -> Attempt
     requires there { IsSome (process machine.old.state pid) }
     requires room { length entries.old.items ≤ 1 }
     ensures { (me : Process) → process machine.old.state pid ≡ Some me → Comes machine.old.state (writing machine.old.state me) result entries.old.items entries.new.items machine.new.state }

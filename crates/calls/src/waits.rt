@@ -15,7 +15,7 @@ ghost use Rattle.posix.specs.declared.process.Blocked.{Blocked as BlockedValue};
 ghost use Rattle.posix.specs.States.{has_place};
 ghost use Rattle.posix.specs.Tables.{children_in};
 ghost use Rattle.calls.specs.Counts.{reports_first as reporting_first, slots_of_first, slots_of_waiting};
-ghost use Rattle.calls.specs.Outcomes.{Comes, CostsAtMost, IsQuiet, IsBrief};
+ghost use Rattle.calls.specs.Outcomes.{Comes, CostsAtMost, IsQuiet, CostsWithRechecks};
 
 use crate::attempts::refuse;
 use crate::entries::Entries;
@@ -23,10 +23,10 @@ use crate::outcome::Attempt;
 use bitflags::Flags;
 use life::{Caller, Machine};
 use posix::{Asked, Blocked, Entry, Errno, Pid, Report, Status, WaitCall, WaitidOptions};
-use proctable::Kin;
+use proctable::ProcessTable;
 
 /// The wait of a process that is there gives a child, which this shows.
-fn report<K: Kin>(
+fn report<K: ProcessTable>(
     machine: &mut Machine<K>,
     pid: Pid,
     call: WaitCall,
@@ -48,7 +48,7 @@ fn report<K: Kin>(
 }
 
 /// The wait of a process that is there has nothing to report, and need not wait.
-fn find_nothing<K: Kin>(
+fn find_nothing<K: ProcessTable>(
     machine: &mut Machine<K>,
     pid: Pid,
     call: WaitCall,
@@ -71,7 +71,7 @@ fn find_nothing<K: Kin>(
 }
 
 /// A wait of a caller that is there looks at a child, which stays as it is.
-fn look<K: Kin>(
+fn look<K: ProcessTable>(
     machine: &mut Machine<K>,
     pid: Pid,
     call: WaitCall,
@@ -98,7 +98,7 @@ fn look<K: Kin>(
 }
 
 /// A wait of a caller that is there takes what a child has to report.
-fn take<K: Kin>(
+fn take<K: ProcessTable>(
     machine: &mut Machine<K>,
     pid: Pid,
     call: WaitCall,
@@ -131,7 +131,7 @@ fn take<K: Kin>(
 
 /// Waits for a child, as a caller that is there and no zombie.
 #[tactic(auto, unfolding(posix::specs::Waits::wait_by))]
-fn wait_as<K: Kin>(
+fn wait_as<K: ProcessTable>(
     machine: &mut Machine<K>,
     call: WaitCall,
     me: &Caller,
@@ -141,7 +141,7 @@ fn wait_as<K: Kin>(
     requires placed { IsPlaced machine.old.state.processes me.now.pid }
     requires room { length entries.old.items ≤ 1 }
     ensures comes { Comes machine.old.state (waiting call machine.old.state (process_like me.now)) result entries.old.items entries.new.items machine.new.state }
-    ensures brief { IsQuiet me.now.pid machine.old → IsBrief (10 + 2 * length (children_in me.now.pid machine.old.state.processes)) machine.old machine.new }
+    ensures brief { IsQuiet me.now.pid machine.old → CostsWithRechecks (10 + 2 * length (children_in me.now.pid machine.old.state.processes)) machine.old machine.new }
     ensures once { result ≢ Attempt.Again }
     ensures waits { (b : BlockedValue) → result ≡ Attempt.Block b → AreSame machine.old machine.new }
 {
@@ -169,7 +169,7 @@ fn wait_as<K: Kin>(
             if leaves {
                 return look(machine, me.pid, call, child, status, entries);
             }
-            machine.tell_news(child);
+            machine.clear_news(child);
             take(machine, me.pid, call, child, status, entries)
         }
     }
@@ -177,7 +177,7 @@ fn wait_as<K: Kin>(
 
 /// Waits for a child.
 #[tactic(auto, unfolding(posix::specs::Waits::wait_by))]
-pub fn wait<K: Kin>(
+pub fn wait<K: ProcessTable>(
     machine: &mut Machine<K>,
     call: WaitCall,
     pid: Pid,
@@ -186,7 +186,7 @@ pub fn wait<K: Kin>(
     requires placed { IsPlaced machine.old.state.processes pid }
     requires room { length entries.old.items ≤ 1 }
     ensures comes { (me : Process) → process machine.old.state pid ≡ Some me → Comes machine.old.state (waiting call machine.old.state me) result entries.old.items entries.new.items machine.new.state }
-    ensures brief { IsQuiet pid machine.old → IsBrief (11 + 2 * length (children_in pid machine.old.state.processes)) machine.old machine.new }
+    ensures brief { IsQuiet pid machine.old → CostsWithRechecks (11 + 2 * length (children_in pid machine.old.state.processes)) machine.old machine.new }
     ensures once { result ≢ Attempt.Again }
     ensures waits { (b : BlockedValue) → result ≡ Attempt.Block b → AreSame machine.old machine.new }
 {
@@ -195,7 +195,7 @@ pub fn wait<K: Kin>(
 }
 
 /// Whether the wait of a caller reports the process `first`, if there is one and the wait gets to it.
-fn reports_first<K: Kin>(
+fn reports_first<K: ProcessTable>(
     machine: &mut Machine<K>,
     me: &Caller,
     asked: Asked,
@@ -214,7 +214,7 @@ fn reports_first<K: Kin>(
 /// Whether the wait of a caller that is there would have to wait. Where it reports the process `first`, no other is
 /// looked at.
 #[tactic(auto, unfolding(posix::specs::Waits::wait_by))]
-fn would_wait<K: Kin>(
+fn would_wait<K: ProcessTable>(
     machine: &mut Machine<K>,
     call: WaitCall,
     me: &Caller,
@@ -240,7 +240,7 @@ fn would_wait<K: Kin>(
 /// Whether the wait of a process that is there would have to wait. Where it reports the process `first`, no other is
 /// looked at. Nothing changes.
 #[inline(always)]
-pub fn has_to_wait<K: Kin>(
+pub fn has_to_wait<K: ProcessTable>(
     machine: &mut Machine<K>,
     call: WaitCall,
     pid: Pid,

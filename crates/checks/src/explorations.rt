@@ -15,7 +15,7 @@ struct Heard {
 }
 
 impl Progress for Heard {
-    fn hear(&mut self, done: u64, size: u64) {
+    fn update(&mut self, done: u64, size: u64) {
         self.times = self.times.wrapping_add(1);
         self.last = (done, size);
     }

@@ -6,7 +6,7 @@ use pidset::{Index, Lists, PidSet};
 use posix::{Event, Pid};
 use sched::Order;
 use schedules::{MOST_TICKS, Schedule, family_size};
-use signal::{Pools, RtPool, Stock};
+use signal::{GrantedPools, Pools, RealtimePool};
 use std::alloc::{AllocError, Global};
 use std::process::Abort;
 use std::test::Fail;
@@ -22,15 +22,15 @@ fn pid(rt: &impl Abort, number: u32) -> Pid
 
 #[test]
 fn pools_are_made_and_taken(rt: HostRuntime) -> Result<(), Fail> {
-    let pool = RtPool::new(rt.alloc())?;
-    let mut stock = Stock::new(rt.alloc());
-    stock.reserve(2)?;
+    let pool = RealtimePool::new(rt.alloc())?;
+    let mut granted_pools = GrantedPools::new(rt.alloc());
+    granted_pools.reserve(2)?;
     let mut taken: u8 = 0;
     for _ in 0..3 {
-        taken = taken.wrapping_add(u8::from(stock.take().is_some()));
+        taken = taken.wrapping_add(u8::from(granted_pools.take().is_some()));
     }
-    stock.put(Some(pool));
-    assert!(rt; taken == 2 && stock.take().is_some());
+    granted_pools.put(Some(pool));
+    assert!(rt; taken == 2 && granted_pools.take().is_some());
     Ok(())
 }
 

@@ -5,7 +5,7 @@ ghost use Rattle.std.proofs.Common.{arith};
 ghost use Rattle.proctable.specs.ScanTable.{scan_with_record};
 
 use posix::Pid;
-use proctable::{Kin, Record, ScanTable, Snapshot, Spare, Stock};
+use proctable::{GrantedPools, ProcessTable, Record, ScanTable, Snapshot, Spare};
 use std::alloc::{AllocError, Global};
 
 /// A table that scans, whose attempt number `REFUSED` to make room, from 1, finds no memory.
@@ -25,7 +25,7 @@ impl<const REFUSED: usize> RefusingTable<REFUSED> {
     }
 }
 
-impl<const REFUSED: usize> Kin for RefusingTable<REFUSED> {
+impl<const REFUSED: usize> ProcessTable for RefusingTable<REFUSED> {
     ghost contents = { λ t. t.table.processes };
 
     ghost room = { λ t. t.table.room };
@@ -59,8 +59,12 @@ impl<const REFUSED: usize> Kin for RefusingTable<REFUSED> {
         made
     }
 
-    fn reserve_pools(&mut self, stock: &mut Stock, count: usize) -> Result<(), AllocError> {
-        let made = stock.reserve(count);
+    fn reserve_pools(
+        &mut self,
+        granted_pools: &mut GrantedPools,
+        count: usize,
+    ) -> Result<(), AllocError> {
+        let made = granted_pools.reserve(count);
         if self.is_refused() {
             return Err(AllocError);
         }

@@ -1,7 +1,7 @@
 //! Worlds that are run over both tables of processes.
 
 use kernel::{RunError, Summary, WriteSink, run_on};
-use proctable::{Kin, ProcTable, ScanTable};
+use proctable::{LinkedTable, ProcessTable, ScanTable};
 use std::alloc::Global;
 use std::process::Abort;
 
@@ -447,7 +447,7 @@ end
 };
 
 /// What a run over this table of processes answers, and what is put.
-pub(crate) fn run_over<K: Kin>(
+pub(crate) fn run_over<K: ProcessTable>(
     alloc: Global,
     world: &[u8],
     events: &[u8],
@@ -458,7 +458,7 @@ pub(crate) fn run_over<K: Kin>(
 }
 
 /// Whether a run over this table of processes comes to what it should.
-pub(crate) fn comes_out<K: Kin>(alloc: Global, run: &Run) -> bool {
+pub(crate) fn comes_out<K: ProcessTable>(alloc: Global, run: &Run) -> bool {
     let (answer, put) = run_over::<K>(alloc, run.world, run.events);
     answer == Ok(run.summary) && put.as_slice() == run.trace
 }
@@ -481,7 +481,7 @@ fn worlds_are_run_over_both_tables(rt: HostRuntime) {
     .iter()
     .enumerate()
     {
-        let well = comes_out::<ProcTable>(rt.alloc(), run)
+        let well = comes_out::<LinkedTable>(rt.alloc(), run)
             && comes_out::<ScanTable>(rt.alloc(), run);
         assert!(rt; well, "world {number}");
     }

@@ -18,7 +18,7 @@ struct Terminal<'a, R: Clock + Eprint> {
 }
 
 impl<R: Clock + Eprint> Progress for Terminal<'_, R> {
-    fn hear(&mut self, done: u64, size: u64) {
+    fn update(&mut self, done: u64, size: u64) {
         let Some(told) = self.told else {
             return;
         };

@@ -5,4 +5,7 @@ mod BookLemmas
 mod CourseLemmas
 mod CountLemmas
 mod TellingLemmas
+mod ReportLemmas
+mod FirstLemmas
+mod WordLemmas
 mod ServingLemmas

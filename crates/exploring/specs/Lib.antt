@@ -5,4 +5,6 @@ pub mod Courses
 pub mod Books
 pub mod Counts
 pub mod Walks
+pub mod Reports
+pub mod Words
 pub mod Serving

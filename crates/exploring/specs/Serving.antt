@@ -1,18 +1,50 @@
 -- What the program answers.
-use Rattle.std.specs.Prelude.{◌≡◌, ℕ, ◌==◌, ◌||◌, ◌&&◌, not, Bool, List, Option, None, Ok, IfSome, length, map}
+use Rattle.std.specs.Prelude.{◌≡◌, ◌⊎◌, ℕ, ◌==◌, ◌||◌, ◌&&◌, not, Bool, true, false, List, length, map, Option, None, Some, Result, Ok, Err, IfSome, IsSomeAnd}
+use Rattle.std.specs.Borrow.{Bor}
 use Rattle.std.specs.List.{list_any}
 use Rattle.posix.specs.declared.event.Event.{Event}
 use Rattle.posix.specs.States.{World}
-use Rattle.text.specs.EventTexts.{event_text}
-use Rattle.text.specs.WorldTexts.{world_text}
 use Rattle.schedules.specs.Families.{family}
-use Rattle.exploring.specs.declared.words.Request.{Request}
+use Rattle.host.specs.declared.words.WordsFault.{WordsFault}
+use Rattle.sink.specs.Sinks.{BreaksOff, Seen, TakesAll}
+use Rattle.inputs.specs.Reads.{AreRead, AreRefused, Contents, Text}
+use Rattle.inputs.specs.Statuses.{status_of as status_of_input}
+use Rattle.inputs.specs.declared.words.NoRequest.{NoRequest}
+use Rattle.inputs.specs.declared.words.NoRequest.TheVariants as no_request
+use Rattle.exploring.specs.declared.serving.Failure.{Failure}
+use Rattle.exploring.specs.declared.serving.Failure.TheVariants.{Usage, Ticks, Upto, UptoAbove, ManySchedules, TooManySchedules, ManyEvents, TooManyEvents, Input, Memory, Write}
 use Rattle.exploring.specs.Books.{BookView}
 use Rattle.exploring.specs.Counts.{book_over}
+use Rattle.exploring.specs.Reports.{Reports}
+use Rattle.exploring.specs.Words.{Asked, family_asked, request_of_words, ticks_asked}
 
--- the bytes of named files, where they are known
-abbrev pub Contents : Type 0
-Contents = List ℕ → Option (List ℕ)
+-- ---- statuses
+
+-- The status of a failure: 1 for a refused text, 2 for other words, 3 for a device or memory.
+abbrev pub status_of : Failure → ℕ
+status_of (Input why) = status_of_input why
+status_of Usage = 2
+status_of Ticks = 2
+status_of Upto = 2
+status_of (UptoAbove upto events) = 2
+status_of (ManySchedules size most) = 2
+status_of (TooManySchedules most) = 2
+status_of (ManyEvents size longest most) = 2
+status_of (TooManyEvents longest most) = 2
+status_of Memory = 3
+status_of Write = 3
+
+-- and of any end
+abbrev pub answer_of : Result Bool Failure → ℕ
+answer_of (Ok false) = 0
+answer_of (Ok true) = 4
+answer_of (Err why) = status_of why
+
+abbrev pub failure_of : NoRequest → Failure
+failure_of no_request.Usage = Usage
+failure_of no_request.Memory = Memory
+
+-- ---- what is told
 
 -- a schedule has a text
 abbrev pub is_found : BookView → Bool
@@ -25,14 +57,43 @@ all_halt b = b.endings.at_rest.count == 0 && b.endings.going.count == 0
 abbrev pub is_told : Bool → BookView → Bool
 is_told must_halt b = is_found b || must_halt && not (all_halt b)
 
--- What is asked for was explored, with this answer: the files are a world and events for it, and all schedules of the family were run.
-pub record IsExplored (contents : Contents) (request : Request) (told : Bool) : Type 0 where
+-- What is asked for was explored, with this answer: the files are a world and events for it, all schedules of the family were run, and a text
+-- that tells of them was put.
+pub record IsExplored (contents : Contents) (a : Asked) (told : Bool) (IsPut : List ℕ → Type 0) : Type 0 where
   pub world : World
   pub events : List Event
   pub upto : ℕ
   pub ticks : ℕ
-  pub world_read : IfSome (contents request.world.now) (λ bytes. world_text bytes ≡ Ok world)
-  pub events_read : IfSome (contents request.events.now) (λ bytes. event_text world.consoles bytes ≡ Ok events)
-  pub upto_not_named : request.upto ≡ None → upto ≡ length events
-  pub ticks_not_named : request.ticks ≡ None → ticks ≡ 2
-  pub answer : told ≡ is_told request.must_halt (book_over world events (map (λ t. t.now) request.finds.items) (family upto ticks))
+  pub read : AreRead contents (a.world, a.events) world events
+  pub in_range : family_asked a (length events) ≡ Some (upto, ticks)
+  pub answer : told ≡ is_told a.must_halt (book_over world events a.finds (family upto ticks))
+  pub text : List ℕ
+  pub reports : Reports events (length (family upto ticks)) upto ticks (book_over world events a.finds (family upto ticks)) text
+  pub put : IsPut text
+
+-- A number that is asked for is out of range, or there are too many schedules.
+abbrev pub IsOutOfRange : Contents → Asked → Type 0
+IsOutOfRange contents a = (ticks_asked a.ticks ≡ None)
+    ⊎ ((world : World) × (events : List Event) × AreRead contents (a.world, a.events) world events × (family_asked a (length events) ≡ None))
+
+-- ---- what a status means
+
+-- the words of the command line, where they could be read
+abbrev pub Words : Type 0
+Words = Result (Bor (List (Bor Text))) WordsFault
+
+-- what they ask for
+abbrev pub asked_by : Words → Option Asked
+asked_by (Ok words) = request_of_words (map (λ w. w.now) words.now)
+asked_by (Err fault) = None
+
+-- What a status means, with what is asked for, if something is, the files, and the output from the call to the return.
+pub record Means {S : Type 0} (contents : Contents) (asked : Option Asked) (old new : S) (before after : Seen) (status : ℕ) : Type 0 where
+  pub done : status ≡ 0 → IsSomeAnd asked (λ a. IsExplored contents a false (TakesAll before after))
+  pub told : status ≡ 4 → IsSomeAnd asked (λ a. IsExplored contents a true (TakesAll before after))
+  -- a text is refused
+  pub refused : status ≡ 1 → IsSomeAnd asked (λ a. AreRefused contents (a.world, a.events)) × (new ≡ old)
+  -- other words, or a number out of range
+  pub other_words : status ≡ 2 → IfSome asked (IsOutOfRange contents) × (new ≡ old)
+  -- nothing was put, or a beginning of the text after all schedules were run
+  pub cut_short : status ≡ 3 → (new ≡ old) ⊎ IsSomeAnd asked (λ a. (told : Bool) × IsExplored contents a told (BreaksOff before after))

@@ -20,7 +20,7 @@ use text::{EventList, World};
 /// Hears how far the schedules have come.
 pub trait Progress {
     /// So many of them have been run, of so many.
-    fn hear(&mut self, done: u64, size: u64);
+    fn update(&mut self, done: u64, size: u64);
 }
 
 /// What is explored: the schedules of a world, by its events and the places that ticks may have.
@@ -109,7 +109,7 @@ pub fn explore<'a, P: Progress>(
     while is_more {
         let ending = run_schedule(alloc, family, schedule.places(), &mut lines)?;
         book.add(&mut lines, ending, schedule.places())?;
-        progress.hear(book.total(), size);
+        progress.update(book.total(), size);
         is_more = schedule.next();
     }
     Ok(book)

@@ -1,5 +1,12 @@
 //! What is told of a family whose schedules were run.
 
+ghost use Rattle.std.specs.Prelude.{◌≡◌, ◌++◌, All, IfOk, OnOk};
+ghost use Rattle.std.specs.String.{string_bytes};
+ghost use Rattle.schedules.specs.Families.{IsSchedule};
+ghost use Rattle.schedules.specs.Schedules.{scheduled as scheduled_events};
+ghost use Rattle.eventtext.specs.EventLines.{AddsText};
+ghost use Rattle.exploring.specs.Reports.{Adds, AreOfFamily, IsFirstOf, Reports, ShowsFind, ShowsFinds, ShowsFirst, ending_line, find_line, first_lines, first_that, plural as plural_of, size_line};
+
 use crate::course::run_list;
 use crate::{Book, Ending, Endings, Family, Find, Line, Tally, events_of, is_schedule};
 use eventtext::write_events;
@@ -14,7 +21,9 @@ const MOST_SHOWN: usize = 20;
 const LAST_LINES: usize = 6;
 
 /// `s`, or nothing behind one.
-fn plural(count: u64) -> &'static str {
+pub fn plural(count: u64) -> &'static str
+    ensures { result.now ≡ plural_of count }
+{
     if count == 1 { "" } else { "s" }
 }
 
@@ -33,11 +42,30 @@ fn write_schedule(
     text: &mut String,
     family: &Family<'_>,
     places: &[u64],
-) -> Result<(), AllocError> {
-    if !is_schedule(family, places) {
-        return Ok(());
-    }
+) -> Result<(), AllocError>
+    requires { IsSchedule family.now.upto family.now.ticks places.now }
+    ensures { OnOk result (AddsText (string_bytes text.old) (scheduled_events family.now.events.now places.now) (string_bytes text.new)) }
+{
     write_events(text, &events_of(alloc, family, places)?)
+}
+
+/// Writes how many schedules there are.
+fn write_size(text: &mut String, family: &Family<'_>) -> Result<(), AllocError>
+    ensures { OnOk result (string_bytes text.new ≡ string_bytes text.old ++ size_line family.now.size family.now.upto family.now.ticks) }
+{
+    let (size, upto, ticks) = (family.size, family.upto, family.ticks);
+    let (s, t, e) = (plural(size), plural(ticks as u64), plural(upto));
+    writeln!(
+        text,
+        "{size} schedule{s}: at most {ticks} tick{t}, each before one of the first {upto} event{e}"
+    )
+}
+
+/// Writes how many of them end so.
+fn write_ending(text: &mut String, count: u64, words: &str) -> Result<(), AllocError>
+    ensures { OnOk result (string_bytes text.new ≡ string_bytes text.old ++ ending_line count words.now) }
+{
+    writeln!(text, "{count:>8} {words}")
 }
 
 /// Writes how many schedules there are, and how they end.
@@ -45,20 +73,14 @@ fn write_endings(
     text: &mut String,
     family: &Family<'_>,
     endings: &Endings,
-) -> Result<(), AllocError> {
-    let (size, upto, ticks) = (family.size, family.upto, family.ticks);
-    let (s, t, e) = (plural(size), plural(ticks as u64), plural(upto));
-    writeln!(
-        text,
-        "{size} schedule{s}: at most {ticks} tick{t}, each before one of the first {upto} event{e}"
-    )?;
-    writeln!(text, "{:>8} halt", endings.halted.count())?;
-    writeln!(
-        text,
-        "{:>8} come to rest: no process can act",
-        endings.at_rest.count()
-    )?;
-    writeln!(text, "{:>8} are still going", endings.going.count())
+) -> Result<(), AllocError>
+    ensures { OnOk result (string_bytes text.new ≡ string_bytes text.old ++ first_lines family.now.size family.now.upto family.now.ticks endings.now) }
+{
+    write_size(text, family)?;
+    write_ending(text, endings.halted.count(), "halt")?;
+    let resting = endings.at_rest.count();
+    write_ending(text, resting, "come to rest: no process can act")?;
+    write_ending(text, endings.going.count(), "are still going")
 }
 
 /// Writes the first schedule that does something, if one does.
@@ -68,7 +90,10 @@ fn write_first(
     family: &Family<'_>,
     what: &str,
     tally: &Tally,
-) -> Result<(), AllocError> {
+) -> Result<(), AllocError>
+    requires { IsFirstOf family.now.upto family.now.ticks tally.now }
+    ensures { OnOk result (Adds (string_bytes text.old) (ShowsFirst family.now.events.now (first_that what.now) tally.now.first) (string_bytes text.new)) }
+{
     let Some(places) = tally.first() else {
         return Ok(());
     };
@@ -82,7 +107,10 @@ fn write_find(
     text: &mut String,
     family: &Family<'_>,
     find: &Find<'_>,
-) -> Result<(), AllocError> {
+) -> Result<(), AllocError>
+    requires { IsFirstOf family.now.upto family.now.ticks find.now.tally }
+    ensures { OnOk result (Adds (string_bytes text.old) (ShowsFind family.now.events.now find.now) (string_bytes text.new)) }
+{
     let sought = find.text();
     let count = find.tally().count();
     let s = plural(count);
@@ -92,6 +120,22 @@ fn write_find(
     };
     text.push_str("the first that has it\n")?;
     write_schedule(alloc, text, family, places)
+}
+
+/// Writes which schedules have each text in a line.
+fn write_finds(
+    alloc: Global,
+    text: &mut String,
+    family: &Family<'_>,
+    finds: &[Find<'_>],
+) -> Result<(), AllocError>
+    requires { All (λ f. IsFirstOf family.now.upto family.now.ticks f.tally) finds.now }
+    ensures { OnOk result (Adds (string_bytes text.old) (ShowsFinds family.now.events.now finds.now) (string_bytes text.new)) }
+{
+    for find in finds {
+        write_find(alloc, text, family, find)?;
+    }
+    Ok(())
 }
 
 /// Writes lines as a trace has them, each behind four blanks.
@@ -153,36 +197,34 @@ fn write_some(
     Ok(())
 }
 
-/// Writes the outcomes.
-fn write_outcomes(
-    alloc: Global,
-    text: &mut String,
-    family: &Family<'_>,
-    book: &Book<'_>,
-) -> Result<(), AllocError> {
+/// What is told of the outcomes.
+fn outcomes_of(alloc: Global, family: &Family<'_>, book: &Book<'_>) -> Result<String, AllocError> {
+    let mut text = String::new(alloc);
     let outcomes = book.outcomes().by_count()?;
     let count = outcomes.len();
     let s = plural(count as u64);
     writeln!(text, "\n{count} outcome{s}")?;
     let shown = count.min(MOST_SHOWN);
-    write_some(alloc, text, family, &outcomes.as_slice()[..shown])?;
+    write_some(alloc, &mut text, family, &outcomes.as_slice()[..shown])?;
     let more = count - shown;
     if more > 0 {
         writeln!(text, "\nand {more} less frequent")?;
     }
-    Ok(())
+    Ok(text)
 }
 
-/// Writes what is told of a family.
-pub fn report(alloc: Global, family: &Family<'_>, book: &Book<'_>) -> Result<String, AllocError> {
+/// What is told of a family.
+pub fn report(alloc: Global, family: &Family<'_>, book: &Book<'_>) -> Result<String, AllocError>
+    requires { AreOfFamily family.now.upto family.now.ticks book.now }
+    ensures { IfOk result (λ text. Reports family.now.events.now family.now.size family.now.upto family.now.ticks book.now (string_bytes text)) }
+{
     let mut text = String::new(alloc);
     let endings = book.endings();
     write_endings(&mut text, family, endings)?;
     write_first(alloc, &mut text, family, "comes to rest", &endings.at_rest)?;
     write_first(alloc, &mut text, family, "is still going", &endings.going)?;
-    for find in book.finds() {
-        write_find(alloc, &mut text, family, find)?;
-    }
-    write_outcomes(alloc, &mut text, family, book)?;
+    write_finds(alloc, &mut text, family, book.finds())?;
+    let outcomes = outcomes_of(alloc, family, book)?;
+    text.push_str(outcomes.as_str())?;
     Ok(text)
 }

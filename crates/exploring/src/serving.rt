@@ -1,14 +1,14 @@
 //! What the program does: its texts and its statuses.
 
-ghost use Rattle.std.specs.Prelude.{◌≡◌, ◌+◌, ◌≤◌, true, false, ℕ, List, Option, length, IfOk, IfSome, OnOk};
-ghost use Rattle.text.specs.WorldTexts.{world_text};
-ghost use Rattle.text.specs.EventTexts.{event_text, most_events};
+ghost use Rattle.std.specs.Prelude.{◌≡◌, ◌+◌, ◌≤◌, false, true, length, Err, MatchResult, None, OnOk, Some, map, option_map};
+ghost use Rattle.host.specs.declared.words.WordsFault.{WordsFault};
+ghost use Rattle.text.specs.EventTexts.{most_events};
 ghost use Rattle.schedules.specs.Families.{family};
-ghost use Rattle.exploring.specs.Serving.{IsExplored, is_found as has_found, all_halt as have_halted, is_told as told_by};
-ghost use Rattle.exploring.specs.declared.words.Request.{Request};
+ghost use Rattle.exploring.specs.Serving.{Means, answer_of, asked_by, is_found as has_found, all_halt as have_halted, is_told as told_by, status_of};
+ghost use Rattle.exploring.specs.Words.{are_run, asked_by_parts, parted_as, request_of_words, said, ticks_asked, upto_asked};
 
-use crate::report::report;
-use crate::words::{Request, requested};
+use crate::report::{plural, report};
+use crate::words::{Parts, Request, parts_of, requested};
 use crate::{Book, Family, Progress, explore};
 use arrayvec::ArrayString;
 use host::{ReadFiles, WordsFault};
@@ -34,10 +34,12 @@ enum Failure<'a> {
     ManySchedules(u64, u64),
     #[error("explore: more than {0} schedules: say fewer by --ticks or --upto")]
     TooManySchedules(u64),
-    #[error("explore: {0} schedules of up to {1} events: more than {2} events in all are run with --all alone; say fewer by --ticks or --upto")]
+    #[error("explore: {0} schedule{s} of up to {1} events: more than {2} events in all are run with --all alone; say fewer by --ticks or --upto", s = plural(*.0))]
     ManyEvents(u64, u64, u64),
+    #[error("explore: schedules of up to {0} events: a run has at most {1}; say fewer by --ticks")]
+    TooManyEvents(u64, u64),
     #[error("explore: {0}")]
-    Input(#[from] InputFault<'a>),
+    Input(InputFault<'a>),
     #[error("explore: out of memory")]
     Memory,
     #[error("explore: cannot write")]
@@ -57,18 +59,30 @@ const MOST_GIVEN: u64 = 10_000_000_000;
 const MOST_EVENTS: u64 = 1_000_000_000_000;
 
 impl From<AllocError> for Failure<'_> {
+    ghost use Rattle.exploring.specs.declared.serving.Failure.TheVariants.{Memory};
+
+    ghost from_gives = { λ _ failure. failure ≡ Memory };
+
     fn from(_: AllocError) -> Self {
         Failure::Memory
     }
 }
 
 impl From<SinkFault> for Failure<'_> {
+    ghost use Rattle.exploring.specs.declared.serving.Failure.TheVariants.{Write};
+
+    ghost from_gives = { λ _ failure. failure ≡ Write };
+
     fn from(_: SinkFault) -> Self {
         Failure::Write
     }
 }
 
 impl From<NoRequest> for Failure<'_> {
+    ghost use Rattle.exploring.specs.Serving.{failure_of};
+
+    ghost from_gives = { λ why failure. failure ≡ failure_of why };
+
     fn from(why: NoRequest) -> Self {
         match why {
             NoRequest::Usage => Failure::Usage,
@@ -77,11 +91,22 @@ impl From<NoRequest> for Failure<'_> {
     }
 }
 
+impl<'a> From<InputFault<'a>> for Failure<'a> {
+    ghost use Rattle.exploring.specs.declared.serving.Failure.TheVariants.{Input};
+
+    ghost from_gives = { λ why failure. failure ≡ Input why };
+
+    fn from(why: InputFault<'a>) -> Self {
+        Failure::Input(why)
+    }
+}
+
 impl Failure<'_> {
     /// The status of the program.
     fn status(self) -> u8
         ensures least { 1 ≤ result }
         ensures most { result ≤ 3 }
+        ensures is { result ≡ status_of self.entry }
     {
         match self {
             Failure::Input(why) => why.status(),
@@ -91,7 +116,8 @@ impl Failure<'_> {
             | Failure::UptoAbove(_, _)
             | Failure::ManySchedules(_, _)
             | Failure::TooManySchedules(_)
-            | Failure::ManyEvents(_, _, _) => 2,
+            | Failure::ManyEvents(_, _, _)
+            | Failure::TooManyEvents(_, _) => 2,
             Failure::Memory | Failure::Write => 3,
         }
     }
@@ -99,8 +125,9 @@ impl Failure<'_> {
 
 /// How many ticks are put in at most: 2, if not named.
 fn ticks_of<'a>(word: Option<&str>) -> Result<usize, Failure<'a>>
-    ensures few { IfOk result (λ ticks. ticks ≤ 8) }
-    ensures not_named { word.entry ≡ None → IfOk result (λ ticks. ticks ≡ 2) }
+    ensures { MatchResult result
+        (λ ticks. (ticks ≤ 8) × (ticks_asked (option_map (λ w. w.now) word.entry) ≡ Some ticks))
+        (λ why. (status_of why ≡ 2) × (ticks_asked (option_map (λ w. w.now) word.entry) ≡ None)) }
 {
     let Some(word) = word else {
         return Ok(2);
@@ -113,8 +140,9 @@ fn ticks_of<'a>(word: Option<&str>) -> Result<usize, Failure<'a>>
 
 /// Before how many events ticks are put in: all, if not named.
 fn upto_of<'a>(word: Option<&str>, events: u64) -> Result<u64, Failure<'a>>
-    ensures within { IfOk result (λ upto. upto ≤ events) }
-    ensures not_named { word.entry ≡ None → IfOk result (λ upto. upto ≡ events) }
+    ensures { MatchResult result
+        (λ upto. (upto ≤ events) × (upto_asked events (option_map (λ w. w.now) word.entry) ≡ Some upto))
+        (λ why. (status_of why ≡ 2) × (upto_asked events (option_map (λ w. w.now) word.entry) ≡ None)) }
 {
     let Some(word) = word else {
         return Ok(events);
@@ -130,14 +158,16 @@ fn upto_of<'a>(word: Option<&str>, events: u64) -> Result<u64, Failure<'a>>
 fn size_of<'a>(upto: u64, ticks: usize, events: u64, all: bool) -> Result<u64, Failure<'a>>
     requires ticks { ticks ≤ 8 }
     requires events { events ≤ most_events }
-    ensures size { IfOk result (λ size. size ≡ length (family upto ticks)) }
+    ensures size { MatchResult result
+        (λ size. (size ≡ length (family upto ticks)) × (are_run all (length (family upto ticks)) (events + ticks) ≡ true))
+        (λ why. (status_of why ≡ 2) × (are_run all (length (family upto ticks)) (events + ticks) ≡ false)) }
     ensures short { OnOk result (events + ticks ≤ most_events) }
 {
     let most = u64::MAX;
     let longest = events + ticks as u64;
     let size = family_size(upto, ticks, most).ok_or(Failure::TooManySchedules(most))?;
     if longest > MOST_EVENTS {
-        return Err(Failure::ManyEvents(size, longest, MOST_EVENTS));
+        return Err(Failure::TooManyEvents(longest, MOST_EVENTS));
     }
     if all {
         return Ok(size);
@@ -173,14 +203,14 @@ fn is_told(must_halt: bool, book: &Book<'_>) -> bool
 }
 
 /// Does what is asked for. Whether a schedule has a text that is looked for, or doesn't halt where all have to.
-fn serve_request<'a, F: ReadFiles, O: Sink, P: Progress>(
+fn serve_request<'a, 'w, F: ReadFiles, O: Sink, P: Progress>(
     alloc: Global,
-    request: &Request<'a>,
+    request: &Request<'a, 'w>,
     files: &F,
     out: &mut O,
     progress: &mut P,
 ) -> Result<bool, Failure<'a>>
-    ensures { IfOk result (λ told. IsExplored (F.contents files.now) request.now told) }
+    ensures { Means (F.contents files.now) (Some (said request.now)) out.old out.new (O.seen out.old) (O.seen out.new) (answer_of result) }
 {
     let ticks = ticks_of(request.ticks)?;
     let inputs = read_inputs(alloc, files, request.world, request.events)?;
@@ -192,7 +222,7 @@ fn serve_request<'a, F: ReadFiles, O: Sink, P: Progress>(
         ticks,
         size: size_of(upto, ticks, inputs.events.len(), request.all)?,
     };
-    let book = explore(alloc, &family, request.finds.as_slice(), progress)?;
+    let book = explore(alloc, &family, request.finds, progress)?;
     let text = report(alloc, &family, &book)?;
     put_all(out, text.as_str().as_bytes())?;
     Ok(is_told(request.must_halt, &book))
@@ -210,19 +240,50 @@ fn tell<E: Sink>(failure: Failure<'_>, err: &mut E) -> Result<(), SinkFault> {
     put_all(err, text.as_str().as_bytes())
 }
 
-/// Does what the words ask for. The answer is that of the request.
-fn serve_words<'a, F: ReadFiles, O: Sink, P: Progress>(
+/// Does what the words ask for, whose texts are told apart.
+fn serve_parts<'a, 'w, F: ReadFiles, O: Sink, P: Progress>(
     alloc: Global,
-    words: Result<&'a [&'a str], WordsFault>,
+    parts: &'a Parts<'w>,
     files: &F,
     out: &mut O,
     progress: &mut P,
 ) -> Result<bool, Failure<'a>>
-    ensures { IfOk result (λ told. (request : Request) × IsExplored (F.contents files.now) request told) }
+    ensures { Means (F.contents files.now) (asked_by_parts (parted_as parts.entry.now)) out.old out.new (O.seen out.old) (O.seen out.new) (answer_of result) }
 {
-    match words {
-        Ok(words) => serve_request(alloc, &requested(alloc, words)?, files, out, progress),
-        Err(fault) => Err(NoRequest::from(fault).into()),
+    let request = requested(alloc, parts)?;
+    serve_request(alloc, &request, files, out, progress)
+}
+
+/// The status of the program. A failure is told.
+fn told<E: Sink>(done: Result<bool, Failure<'_>>, err: &mut E) -> u8
+    ensures most { result ≤ 4 }
+    ensures is { result ≡ answer_of done.entry }
+{
+    match done {
+        Ok(false) => 0,
+        Ok(true) => 4,
+        Err(failure) => {
+            let _ = tell(failure, err);
+            failure.status()
+        }
+    }
+}
+
+/// Does what the words ask for.
+fn serve_words<'a, F: ReadFiles, O: Sink, E: Sink, P: Progress>(
+    alloc: Global,
+    words: &[&'a str],
+    files: &F,
+    out: &mut O,
+    err: &mut E,
+    progress: &mut P,
+) -> u8
+    ensures most { result ≤ 4 }
+    ensures meaning { Means (F.contents files.now) (request_of_words (map (λ w. w.now) words.now)) out.old out.new (O.seen out.old) (O.seen out.new) result }
+{
+    match parts_of(alloc, words) {
+        Ok(parts) => told(serve_parts(alloc, &parts, files, out, progress), err),
+        Err(_) => told(Err(Failure::Memory), err),
     }
 }
 
@@ -238,15 +299,12 @@ pub fn serve<'a, F: ReadFiles, O: Sink, E: Sink, P: Progress>(
     progress: &mut P,
 ) -> u8
     ensures most { result ≤ 4 }
-    ensures done { result ≡ 0 → (request : Request) × IsExplored (F.contents files.now) request false }
-    ensures told { result ≡ 4 → (request : Request) × IsExplored (F.contents files.now) request true }
+    ensures meaning { Means (F.contents files.now) (asked_by words.entry) out.old out.new (O.seen out.old) (O.seen out.new) result }
+    ensures not_text { words.entry ≡ Err WordsFault.NotText → result ≡ 2 }
 {
-    match serve_words(alloc, words, files, out, progress) {
-        Ok(false) => 0,
-        Ok(true) => 4,
-        Err(failure) => {
-            let _ = tell(failure, err);
-            failure.status()
-        }
+    match words {
+        Ok(words) => serve_words(alloc, words, files, out, err, progress),
+        Err(WordsFault::NotText) => told(Err(Failure::Usage), err),
+        Err(WordsFault::Memory) => told(Err(Failure::Memory), err),
     }
 }

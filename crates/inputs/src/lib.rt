@@ -3,15 +3,19 @@
 
 mod words;
 
-ghost use Rattle.std.specs.Prelude.{◌≡◌, ◌≤◌, ◌⊎◌, Ok, IfOk, IfSome, length};
+ghost use Rattle.std.specs.Prelude.{◌≡◌, ◌≤◌, Ok, IfOk, IfErr, IfSome, MatchResult, length};
+ghost use Rattle.host.specs.declared.files.FileFault.{FileFault};
 ghost use Rattle.text.specs.WorldTexts.{world_text as world_of_text};
 ghost use Rattle.text.specs.EventTexts.{event_text, most_events};
+ghost use Rattle.inputs.specs.Statuses.{status_of};
+ghost use Rattle.inputs.specs.Reads.{Reads, RefusesEvents, RefusesWorld, fault_of_file, unless_memory};
+ghost use Rattle.inputs.specs.Numbers.{number_of};
 
 use host::{FileFault, ReadFiles};
 use std::alloc::Global;
 use text::{EventList, Reason, TextFault, World, read_events, read_world};
 use thiserror::Error;
-pub use words::{NoRequest, argument, words_behind};
+pub use words::{NoRequest, command, is_used, named_files, value_of, words_behind};
 
 /// A world and its events.
 #[derive(Drop)]
@@ -41,7 +45,9 @@ pub enum InputFault<'a> {
 
 impl<'a> InputFault<'a> {
     /// Why a file of this name isn't read.
-    fn of_file(fault: FileFault, name: &'a str) -> Self {
+    fn of_file(fault: FileFault, name: &'a str) -> Self
+        ensures { result ≡ fault_of_file fault name.entry }
+    {
         match fault {
             FileFault::Device => InputFault::CannotRead(name),
             FileFault::Memory => InputFault::Memory,
@@ -49,7 +55,9 @@ impl<'a> InputFault<'a> {
     }
 
     /// Why a world isn't read. Want of memory is no fault of its text.
-    fn of_world(fault: TextFault) -> Self {
+    fn of_world(fault: TextFault) -> Self
+        ensures { result ≡ unless_memory fault.reason (InputFault.World fault) }
+    {
         match fault.reason {
             Reason::Memory => InputFault::Memory,
             _ => InputFault::World(fault),
@@ -57,7 +65,9 @@ impl<'a> InputFault<'a> {
     }
 
     /// Why events aren't read.
-    fn of_events(fault: TextFault) -> Self {
+    fn of_events(fault: TextFault) -> Self
+        ensures { result ≡ unless_memory fault.reason (InputFault.Events fault) }
+    {
         match fault.reason {
             Reason::Memory => InputFault::Memory,
             _ => InputFault::Events(fault),
@@ -66,7 +76,7 @@ impl<'a> InputFault<'a> {
 
     /// The status of a program: 1 for a refused text, 3 for a device or memory.
     pub fn status(self) -> u8
-        ensures { (result ≡ 1) ⊎ (result ≡ 3) }
+        ensures { result ≡ status_of self.entry }
     {
         match self {
             InputFault::World(_) | InputFault::Events(_) => 1,
@@ -77,7 +87,7 @@ impl<'a> InputFault<'a> {
 
 /// The world of a text.
 fn world_of<'a>(alloc: Global, text: &[u8]) -> Result<World, InputFault<'a>>
-    ensures { IfOk result (λ world. world_of_text text.now ≡ Ok world) }
+    ensures { MatchResult result (λ world. world_of_text text.now ≡ Ok world) (RefusesWorld (world_of_text text.now)) }
 {
     match read_world(alloc, text) {
         Ok(world) => Ok(world),
@@ -87,12 +97,23 @@ fn world_of<'a>(alloc: Global, text: &[u8]) -> Result<World, InputFault<'a>>
 
 /// The events of a text for a world.
 fn events_of<'a>(alloc: Global, world: &World, text: &[u8]) -> Result<EventList, InputFault<'a>>
-    ensures events { IfOk result (λ events. event_text world.now.consoles text.now ≡ Ok events) }
+    ensures events { MatchResult result (λ events. event_text world.now.consoles text.now ≡ Ok events) (RefusesEvents (event_text world.now.consoles text.now)) }
     ensures within { IfOk result (λ events. length events ≤ most_events) }
 {
     match read_events(alloc, world.consoles(), text) {
         Ok(events) => Ok(events),
         Err(fault) => Err(InputFault::of_events(fault)),
+    }
+}
+
+/// The bytes of a file.
+fn read<'a, F: ReadFiles>(files: &F, name: &'a str) -> Result<Vec<u8>, InputFault<'a>>
+    ensures ok { IfOk result (λ read. IfSome (F.contents files.now name.entry.now) (λ known. read.items ≡ known)) }
+    ensures err { IfErr result (λ why. (fault : FileFault) × (why ≡ fault_of_file fault name.entry)) }
+{
+    match files.read_file(name) {
+        Ok(bytes) => Ok(bytes),
+        Err(fault) => Err(InputFault::of_file(fault, name)),
     }
 }
 
@@ -104,17 +125,12 @@ pub fn read_inputs<'a, F: ReadFiles>(
     world: &'a str,
     events: &'a str,
 ) -> Result<Inputs, InputFault<'a>>
+    ensures reads { Reads (F.contents files.now) (world.entry.now, events.entry.now) result }
     ensures text { IfOk result (λ inputs. world_of_text inputs.world_text.items ≡ Ok inputs.world) }
-    ensures world { IfOk result (λ inputs. IfSome (F.contents files.now world.entry.now) (λ bytes. world_of_text bytes ≡ Ok inputs.world)) }
-    ensures events { IfOk result (λ inputs. IfSome (F.contents files.now events.entry.now) (λ bytes. event_text inputs.world.consoles bytes ≡ Ok inputs.events)) }
     ensures within { IfOk result (λ inputs. length inputs.events ≤ most_events) }
 {
-    let world_text = files
-        .read_file(world)
-        .map_err(|fault| InputFault::of_file(fault, world))?;
-    let event_text = files
-        .read_file(events)
-        .map_err(|fault| InputFault::of_file(fault, events))?;
+    let world_text = read(files, world)?;
+    let event_text = read(files, events)?;
     let world = world_of(alloc, world_text.as_slice())?;
     let events = events_of(alloc, &world, event_text.as_slice())?;
     Ok(Inputs {
@@ -125,8 +141,10 @@ pub fn read_inputs<'a, F: ReadFiles>(
 }
 
 /// The number that a word of digits stands for; none where the word has another form, or the number 2^64 or more.
-pub fn number(word: &str) -> Option<u64> {
-    if word.as_bytes().first() == Some(&b'+') {
+pub fn number(word: &str) -> Option<u64>
+    ensures { result ≡ number_of word.now }
+{
+    if word.starts_with('+') {
         return None;
     }
     word.parse::<u64>().ok()

@@ -1,7 +1,11 @@
 //! The words of a command line that names a world and its events, and has options.
 
+ghost use Rattle.std.specs.Prelude.{◌≡◌, ◌≢◌, IfErr, IfOk, MatchResult, None, Some, false, map, option_map};
+ghost use Rattle.clap.specs.Words.{app_of, first_of, found_of, kind_of, rows_of, rule_of};
+ghost use Rattle.inputs.specs.Words.{command_of, file_rule, files_in, is_used as is_used_in, option_rule};
+
 use clap::error::ErrorKind;
-use clap::{Arg, ArgAction, ArgMatches, Error};
+use clap::{Arg, ArgAction, ArgMatches, Command, Error};
 use host::WordsFault;
 use std::alloc::{AllocError, Global};
 
@@ -15,6 +19,10 @@ pub enum NoRequest {
 }
 
 impl From<AllocError> for NoRequest {
+    ghost use Rattle.inputs.specs.declared.words.NoRequest.TheVariants.{Memory};
+
+    ghost from_gives = { λ _ why. why ≡ Memory };
+
     fn from(_: AllocError) -> NoRequest {
         NoRequest::Memory
     }
@@ -30,6 +38,11 @@ impl From<WordsFault> for NoRequest {
 }
 
 impl From<Error> for NoRequest {
+    ghost use Rattle.inputs.specs.declared.words.NoRequest.TheVariants.{Usage};
+    ghost use Rattle.clap.specs.declared.error.kind.ErrorKind.TheVariants.{OutOfMemory};
+
+    ghost from_gives = { λ error why. why ≡ Usage → kind_of error ≢ OutOfMemory };
+
     fn from(error: Error) -> NoRequest {
         if error.kind() == ErrorKind::OutOfMemory {
             NoRequest::Memory
@@ -39,12 +52,64 @@ impl From<Error> for NoRequest {
     }
 }
 
-/// An argument: an option, where its use does something, else a required one.
-pub fn argument<'a>(alloc: Global, name: &'a str, action: Option<ArgAction>) -> Arg<'a> {
-    let argument = Arg::new(alloc, name);
-    match action {
-        Some(action) => argument.long(name).action(action),
-        None => argument.required(true).action(ArgAction::Set),
+/// An option, and what its use does.
+fn option<'a>(alloc: Global, name: &'a str, action: ArgAction) -> Arg<'a>
+    ensures rule { rule_of result ≡ option_rule (name.entry.now, action) }
+    ensures local { result.global ≡ false }
+{
+    Arg::new(alloc, name).long(name).action(action)
+}
+
+/// The name of a file, which is required.
+fn file<'a>(alloc: Global, name: &'a str) -> Arg<'a>
+    ensures rule { rule_of result ≡ file_rule name.entry.now }
+    ensures local { result.global ≡ false }
+{
+    Arg::new(alloc, name).required(true).action(ArgAction::Set)
+}
+
+/// The command line of a program that is given a world and its events, with these options: each with what its use does.
+pub fn command<'a>(
+    alloc: Global,
+    program: &'a str,
+    options: &[(&'a str, ArgAction)],
+) -> Result<Command<'a>, AllocError>
+    ensures { IfOk result (λ c. app_of c ≡ command_of program.entry.now (map (λ o. (o.0.now, o.1)) options.now)) }
+{
+    let mut command = Command::new(alloc, program)
+        .no_binary_name(true)
+        .arg(file(alloc, "world"))?
+        .arg(file(alloc, "events"))?;
+    for (name, action) in options {
+        command = command.arg(option(alloc, name, *action))?;
+    }
+    Ok(command)
+}
+
+/// What stands behind an option, or for the name of a file.
+pub fn value_of<'a>(matches: &ArgMatches<'a>, name: &str) -> Option<&'a str>
+    ensures { option_map (λ value. value.now) result ≡ first_of name.now (rows_of (found_of matches.now)) }
+{
+    matches.get_str(name)
+}
+
+/// Whether a flag is used.
+pub fn is_used(matches: &ArgMatches<'_>, flag: &str) -> bool
+    ensures { result ≡ is_used_in flag.now (rows_of (found_of matches.now)) }
+{
+    match value_of(matches, flag) {
+        Some(value) => value == "true",
+        None => false,
+    }
+}
+
+/// The names of the world and of the events.
+pub fn named_files<'a>(matches: &ArgMatches<'a>) -> Result<(&'a str, &'a str), NoRequest>
+    ensures { MatchResult result (λ names. files_in (rows_of (found_of matches.now)) ≡ Some (names.0.now, names.1.now)) (λ why. files_in (rows_of (found_of matches.now)) ≡ None) }
+{
+    match (value_of(matches, "world"), value_of(matches, "events")) {
+        (Some(world), Some(events)) => Ok((world, events)),
+        _ => Err(NoRequest::Usage),
     }
 }
 

@@ -12,19 +12,19 @@ use Rattle.pidset.specs.declared.index.Pair.{Pair}
 use Rattle.pidset.specs.Indexes.{IsMoved, IsAnchorIndex, anchor_key, key_of}
 use Rattle.pidset.proofs.IndexLemmas.{IsElsewhere, unmoved}
 use Rattle.pidset.proofs.AnchorLemmas.{Stance, stance, stance_of, same_anchor, stance_stays, anchors_moved, turned_none}
-use Rattle.jobs.specs.declared.books.Seen.{Seen}
-use Rattle.jobs.specs.Books.{seen_of, anchor_in, child_key, keeps_stance}
-use Rattle.jobs.specs.JobTables.{AreWithin}
+use Rattle.jobs.specs.declared.indexes.IndexedFields.{IndexedFields}
+use Rattle.jobs.specs.Indexes.{seen_of, anchor_in, child_key, keeps_group_and_session}
+use Rattle.jobs.specs.IndexedTables.{AreWithin}
 use Rattle.jobs.proofs.NumberLemmas.{least_number}
 use Rattle.jobs.proofs.SnapshotLemmas.{there as there_is}
 
 -- ---- by what is seen
 
-abbrev pub seen_at : ℕ → List Process → Option Seen
+abbrev pub seen_at : ℕ → List Process → Option IndexedFields
 seen_at p rs = option_map seen_of (lookup p rs)
 
 -- what was seen of who is there
-pub seen_found : (p : ℕ) (rs : List Process) (w : Seen) → seen_at p rs ≡ Some w → (r : Process) × (lookup p rs ≡ Some r) × (seen_of r ≡ w)
+pub seen_found : (p : ℕ) (rs : List Process) (w : IndexedFields) → seen_at p rs ≡ Some w → (r : Process) × (lookup p rs ≡ Some r) × (seen_of r ≡ w)
 seen_found p rs w e = elim (lookup p rs) as (λ o. option_map seen_of o ≡ Some w → (r : Process) × (o ≡ Some r) × (seen_of r ≡ w)) [ None ↦ λ k. absurd (cc) | Some r ↦ λ k. (r, refl, cc) ] e
 
 -- a process is one by what is seen of it and of its parent
@@ -33,37 +33,37 @@ unfolding is_anchor
 key_is rs r = elim (lookup r.parent rs) as (λ o. cond (is_living r && option_map_or (is_outside_of r) o false) (Some r.group) None ≡ anchor_in (seen_of r) (option_map seen_of o)) [ None ↦ refl | Some q ↦ refl ]
 
 -- so is who is there
-pub key_at : (p : ℕ) (rs : List Process) (w : Seen) → seen_at p rs ≡ Some w → key_of (anchor_key rs) p rs ≡ anchor_in w (seen_at (parent_of p rs) rs)
+pub key_at : (p : ℕ) (rs : List Process) (w : IndexedFields) → seen_at p rs ≡ Some w → key_of (anchor_key rs) p rs ≡ anchor_in w (seen_at (parent_of p rs) rs)
 key_at p rs w e = let r = seen_found p rs w e in rw r.1 (key_is rs r.0 ∙ ap (λ w. anchor_in w (seen_at r.0.parent rs)) r.2)
 
 -- and a child of one that is there
-pub child_is : (p : ℕ) (rs : List Process) (up : Seen) → seen_at p rs ≡ Some up → (r : Process) → r.parent ≡ p → child_key up r ≡ anchor_key rs r
+pub child_is : (p : ℕ) (rs : List Process) (up : IndexedFields) → seen_at p rs ≡ Some up → (r : Process) → r.parent ≡ p → child_key up r ≡ anchor_key rs r
 child_is p rs up e r its = sym (key_is rs r ∙ ap (λ n. anchor_in (seen_of r) (seen_at n rs)) its ∙ ap (anchor_in (seen_of r)) e)
 
 -- ---- one process is changed, and stays in its process group and its session
 
 -- what its children see of it
-abbrev pub stance_in : Seen → Stance
+abbrev pub stance_in : IndexedFields → Stance
 stance_in w = record { group = w.group; session = w.session }
 
 -- who keeps its stance shows the same to its children, and isn't revived
-pub stance_kept : (old new : Seen) → keeps_stance old new ≡ true → (new.group ≡ old.group) × (stance_in new ≡ stance_in old) × (is_zombie new.life ≡ false → is_zombie old.life ≡ false)
+pub stance_kept : (old new : IndexedFields) → keeps_group_and_session old new ≡ true → (new.group ≡ old.group) × (stance_in new ≡ stance_in old) × (is_zombie new.life ≡ false → is_zombie old.life ≡ false)
 stance_kept old new e =
     let both = and_parts (old.group == new.group && old.session == new.session) _ e in
     let each = and_parts (old.group == new.group) _ both.0 in
     (sym (eqb-true _ _ each.0), rw (eqb-true _ _ each.0, eqb-true _ _ each.1) refl, λ alive. not-true _ (ap (λ b. b || not (is_zombie old.life)) (sym alive) ∙ both.1))
 
 -- so they see of who is there
-stance_at : (p : ℕ) (rs : List Process) (w : Seen) → seen_at p rs ≡ Some w → stance_of p rs ≡ Some (stance_in w)
+stance_at : (p : ℕ) (rs : List Process) (w : IndexedFields) → seen_at p rs ≡ Some w → stance_of p rs ≡ Some (stance_in w)
 stance_at p rs w e = let r = seen_found p rs w e in ap (option_map stance) r.1 ∙ ap (λ w. Some (stance_in w)) r.2
 
 -- it moves alone
-pub anchors_put : (p : ℕ) (rs ts : List Process) (before after : Seen) (old new : List Pair) → IsElsewhere p rs ts → seen_at p rs ≡ Some before → seen_at p ts ≡ Some after → stance_in after ≡ stance_in before
+pub anchors_put : (p : ℕ) (rs ts : List Process) (before after : IndexedFields) (old new : List Pair) → IsElsewhere p rs ts → seen_at p rs ≡ Some before → seen_at p ts ≡ Some after → stance_in after ≡ stance_in before
     → IsMoved p (anchor_in after (seen_at (parent_of p ts) ts)) old new → IsAnchorIndex rs old → IsAnchorIndex ts new
 anchors_put p rs ts before after old new same was is stays moved h = anchors_moved p rs ts old new same (stance_at p ts after is ∙ ap Some stays ∙ sym (stance_at p rs before was)) h (rw (key_at p ts after is) moved)
 
 -- and doesn't move where it has the same parent, and lives or has ended as before
-pub anchors_same : (p : ℕ) (rs ts : List Process) (before after : Seen) (pairs : List Pair) → IsElsewhere p rs ts → seen_at p rs ≡ Some before → seen_at p ts ≡ Some after → parent_of p ts ≡ parent_of p rs → stance_in after ≡ stance_in before
+pub anchors_same : (p : ℕ) (rs ts : List Process) (before after : IndexedFields) (pairs : List Pair) → IsElsewhere p rs ts → seen_at p rs ≡ Some before → seen_at p ts ≡ Some after → parent_of p ts ≡ parent_of p rs → stance_in after ≡ stance_in before
     → is_zombie after.life ≡ is_zombie before.life → IsAnchorIndex rs pairs → IsAnchorIndex ts pairs
 anchors_same p rs ts before after pairs same was is parent stays life h = anchors_put p rs ts before after pairs pairs same was is stays (unmoved (anchor_key rs) p rs pairs _ h key) h
   where

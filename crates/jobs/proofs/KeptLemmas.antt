@@ -19,13 +19,13 @@ use Rattle.pidset.proofs.IndexLemmas.{IsElsewhere, elsewhere_changed, elsewhere_
 use Rattle.proctable.specs.declared.records.Record.{Record}
 use Rattle.proctable.specs.Records.{process_of, snapshot_of, give_record, with_record}
 use Rattle.proctable.proofs.RecordLemmas.{record_rises}
-use Rattle.jobs.specs.declared.books.Books.{Books}
-use Rattle.jobs.specs.declared.books.Seen.{Seen}
-use Rattle.jobs.specs.Books.{AreBooks, AreMoved, CanMove, snapshot_seen, IsInside, anchor_in, child_key, member_in, member_key, record_seen, seen_of}
-use Rattle.jobs.specs.JobTables.{AreNumbers, AreWithin, HasParent, IsGroupFor, IsKept, IsRun, StaysGrouped}
+use Rattle.jobs.specs.declared.indexes.Indexes.{Indexes}
+use Rattle.jobs.specs.declared.indexes.IndexedFields.{IndexedFields}
+use Rattle.jobs.specs.Indexes.{AreIndexes, AreMoved, CanMove, snapshot_seen, IsInside, anchor_in, child_key, member_in, member_key, record_seen, seen_of}
+use Rattle.jobs.specs.IndexedTables.{AreNumbers, AreWithin, HasParent, IsGroupFor, IsKept, IsRun, StaysGrouped}
 use Rattle.proctable.specs.declared.snapshot.Snapshot.{Snapshot}
 use Rattle.jobs.proofs.SnapshotLemmas.{is_there, some_read, none_read, snapshot_are}
-use Rattle.jobs.proofs.BookLemmas.{Fits, Sees, can_move, sees, sees_none, fits, books_moved, books_unmoved}
+use Rattle.jobs.proofs.IndexLemmas.{Fits, Sees, can_move, sees, sees_none, fits, indexes_moved, indexes_unmoved}
 use Rattle.pidset.proofs.AnchorLemmas.{anchors_inserted, anchors_removed, anchors_adopted}
 use Rattle.proctable.proofs.LinkLemmas.{no_child}
 use Rattle.jobs.proofs.AnchorLemmas.{seen_at, seen_found, key_at, child_is, stance_in, anchors_same, number_within}
@@ -49,7 +49,7 @@ pub widen : (n m : ℕ) (rs : List Process) → n ≤ m → AreWithin n rs → A
 widen n m rs l h q r e = let w = h q r e in let a = w.0 in let b = w.2 in (omega (arith, a, l), w.1, omega (arith, b, l))
 
 -- there is memory for all numbers, where there is for that of p
-within_at : (n p : ℕ) (it : Option Seen) (rs ts : List Process) → IsElsewhere p rs ts → (p < n) × IfSome (member_in it) (λ k. (1 ≤ k) × (k < n)) → key_of member_key p ts ≡ member_in it → AreWithin n rs → AreWithin n ts
+within_at : (n p : ℕ) (it : Option IndexedFields) (rs ts : List Process) → IsElsewhere p rs ts → (p < n) × IfSome (member_in it) (λ k. (1 ≤ k) × (k < n)) → key_of member_key p ts ≡ member_in it → AreWithin n rs → AreWithin n ts
 within_at n p it rs ts same inside s h q r e = elim (cases_eq q p) [
   | inl here ↦
       let group = subst (λ o. IfSome o (λ k. (1 ≤ k) × (k < n))) (sym s ∙ ap (option_and_then member_key) (ap (λ q. lookup q ts) (sym here) ∙ e)) inside.1 in
@@ -58,7 +58,7 @@ within_at n p it rs ts same inside s h q r e = elim (cases_eq q p) [
 ]
 
 -- where p moves in the indexes, and all others stay, all is kept
-kept_at : (n m p parent : ℕ) (it : Option Seen) (rs ts : List Process) (old now : Books) (set : ListsView) → IsElsewhere p rs ts → 1 ≤ p → IsInside p it old → IsRising ts → m ≡ length ts → Fits m old → Sees p parent it ts → AreMoved p parent it old now
+kept_at : (n m p parent : ℕ) (it : Option IndexedFields) (rs ts : List Process) (old now : Indexes) (set : ListsView) → IsElsewhere p rs ts → 1 ≤ p → IsInside p it old → IsRising ts → m ≡ length ts → Fits m old → Sees p parent it ts → AreMoved p parent it old now
     → IsAnchorIndex ts set.pairs → set.numbers ≡ old.anchors.numbers → HaveParents HasParent ts → IsKept n old rs → IsKept m (record now { anchors = set }) ts
 kept_at n m p parent it rs ts old now set same least inside up count free s moved index numbers parents k = record {
   rising = up;
@@ -66,12 +66,12 @@ kept_at n m p parent it rs ts old now set same least inside up count free s move
   within = rw moved.numbers (within_at old.members.numbers p it rs ts same inside s.members k.within);
   limit = rw moved.numbers k.limit;
   count = count;
-  books = books_moved p parent it rs ts old now set same (rw (← count) free) k.books s moved;
+  indexes = indexes_moved p parent it rs ts old now set same (rw (← count) free) k.indexes s moved;
   anchors = record { index = index; wide = let e = moved.numbers in let wide = k.anchors.wide in omega (arith, e, numbers, wide); parents = parents };
 }
 
 -- who is there has a number, and there is memory for it
-pub number_kept : {n p : ℕ} {rs : List Process} {books : Books} → IsKept n books rs → IsSome (lookup p rs) → (1 ≤ p) × (p < books.members.numbers)
+pub number_kept : {n p : ℕ} {rs : List Process} {indexes : Indexes} → IsKept n indexes rs → IsSome (lookup p rs) → (1 ≤ p) × (p < indexes.members.numbers)
 number_kept {p = p} {rs = rs} k there = number_within _ p rs k.within (k.numbers 0 (inl refl)) there
 
 -- ---- another record
@@ -96,21 +96,21 @@ unfolding give_record
 elsewhere_record rs p c = elsewhere_changed p (give_record c) (λ r. refl) rs
 
 -- what is asked before p moves: it stands as it was seen, and there is memory for its number and that of its process group, and for all numbers
-abbrev pub AreReady : ℕ → List Process → List Process → Record → Record → Books → Type 0
-AreReady p rs ts b c books = CanMove p (parent_of p rs) (Some (record_seen b)) books × IsInside p (Some (record_seen c)) books × AreWithin books.anchors.numbers ts
+abbrev pub AreReady : ℕ → List Process → List Process → Record → Record → Indexes → Type 0
+AreReady p rs ts b c indexes = CanMove p (parent_of p rs) (Some (record_seen b)) indexes × IsInside p (Some (record_seen c)) indexes × AreWithin indexes.anchors.numbers ts
 
 -- so it is where p stays in its process group, or comes into one in which it may be
-ready_record : (n p : ℕ) (rs : List Process) (b c : Record) (books : Books) → lookup p rs ≡ Some (process_of p (parent_of p rs) b) → (c.group ≡ b.group) ⊎ IsGroupFor p c.group rs → IsKept n books rs → AreReady p rs (with_record rs p c) b c books
-ready_record n p rs b c books found group k = (
-  can_move p _ _ rs books k.rising k.books (sees p _ rs found) (λ none. let no = sym none ∙ found in absurd (cc)),
+ready_record : (n p : ℕ) (rs : List Process) (b c : Record) (indexes : Indexes) → lookup p rs ≡ Some (process_of p (parent_of p rs) b) → (c.group ≡ b.group) ⊎ IsGroupFor p c.group rs → IsKept n indexes rs → AreReady p rs (with_record rs p c) b c indexes
+ready_record n p rs b c indexes found group k = (
+  can_move p _ _ rs indexes k.rising k.indexes (sees p _ rs found) (λ none. let no = sym none ∙ found in absurd (cc)),
   inside,
-  widen books.members.numbers _ _ k.anchors.wide (within_at books.members.numbers p (Some (record_seen c)) rs (with_record rs p c) (elsewhere_record rs p c) inside (ap (option_and_then member_key) (record_found rs p b c found)) k.within),
+  widen indexes.members.numbers _ _ k.anchors.wide (within_at indexes.members.numbers p (Some (record_seen c)) rs (with_record rs p c) (elsewhere_record rs p c) inside (ap (option_and_then member_key) (record_found rs p b c found)) k.within),
 )
   where
-    number : (1 ≤ p) × (p < books.members.numbers)
+    number : (1 ≤ p) × (p < indexes.members.numbers)
     number = number_kept k (rw found refl)
 
-    inside : IsInside p (Some (record_seen c)) books
+    inside : IsInside p (Some (record_seen c)) indexes
     inside = (
       number.1,
       ⊎_elim (λ same. let own = k.within p _ found in rw same (own.1, own.2)) (⊎_elim (λ e. rw e number) (λ e.
@@ -120,17 +120,17 @@ ready_record n p rs b c books found group k = (
     )
 
 -- as a closure does that may change it so
-pub ready_run : {F T : Type 0} {g : Once F (MutBor Record × Unit {0}) (T × (MutBor Record × Unit {0}))} {change : F} {rs ts vs : List Process} {n p : ℕ} {x : T} {books : Books} → (r : IsRun g change rs ts p x) → rs ≡ vs → StaysGrouped g change vs p → IsKept n books rs
-    → AreReady p rs ts r.before r.after books
-ready_run {g = g} {change = change} {rs = rs} {n = n} {p = p} {books = books} r e stays k = rw r.is (ready_record n p rs r.before r.after books r.found (subst (λ vs. StaysGrouped g change vs p) (sym e) stays _ _ _ r.found r.ran) k)
+pub ready_run : {F T : Type 0} {g : Once F (MutBor Record × Unit {0}) (T × (MutBor Record × Unit {0}))} {change : F} {rs ts vs : List Process} {n p : ℕ} {x : T} {indexes : Indexes} → (r : IsRun g change rs ts p x) → rs ≡ vs → StaysGrouped g change vs p → IsKept n indexes rs
+    → AreReady p rs ts r.before r.after indexes
+ready_run {g = g} {change = change} {rs = rs} {n = n} {p = p} {indexes = indexes} r e stays k = rw r.is (ready_record n p rs r.before r.after indexes r.found (subst (λ vs. StaysGrouped g change vs p) (sym e) stays _ _ _ r.found r.ran) k)
 
 -- p moves in the indexes
-pub kept_moved : (n : ℕ) (rs new : List Process) (p : ℕ) (b c : Record) (old now : Books) (set : ListsView) → lookup p rs ≡ Some (process_of p (parent_of p rs) b) → new ≡ with_record rs p c → AreMoved p (parent_of p rs) (Some (record_seen c)) old now
+pub kept_moved : (n : ℕ) (rs new : List Process) (p : ℕ) (b c : Record) (old now : Indexes) (set : ListsView) → lookup p rs ≡ Some (process_of p (parent_of p rs) b) → new ≡ with_record rs p c → AreMoved p (parent_of p rs) (Some (record_seen c)) old now
     → IsInside p (Some (record_seen c)) old → IsAnchorIndex (with_record rs p c) set.pairs → set.numbers ≡ old.anchors.numbers → IsKept n old rs → IsKept n (record now { anchors = set }) new
 unfolding give_record changed
 kept_moved n rs new p b c old now set found is moved inside index numbers k =
     rw is (kept_at n n p (parent_of p rs) (Some (record_seen c)) rs (with_record rs p c) old now set (elsewhere_record rs p c) (number_kept k (rw found refl)).0 inside (record_rises rs k.rising p c)
-    (k.count ∙ sym (length_record rs p c)) (fits rs n old k.books (rw k.count (omega arith))) (sees p (process_of p (parent_of p rs) c) (with_record rs p c) (record_found rs p b c found)) moved index numbers
+    (k.count ∙ sym (length_record rs p c)) (fits rs n old k.indexes (rw k.count (omega arith))) (sees p (process_of p (parent_of p rs) c) (with_record rs p c) (record_found rs p b c found)) moved index numbers
     (parents_map HasParent (at p (give_record c)) (at_pid p (give_record c) (λ r. refl)) (at_keeps (λ r. r.parent) p (give_record c) (λ r. refl)) (λ q r some none. some (at_keeps (λ r. r.parent) p (give_record c) (λ r. refl) r ∙ none)) rs k.anchors.parents) k)
 
 -- the indexes see at most an alarm of a change of signals
@@ -138,23 +138,23 @@ pub seen_same : (b c : Record) → c ≡ record b { alarm = c.alarm; own = recor
 seen_same b c e = ap (λ (c : Record). record (record_seen c) { alarm = b.alarm }) e
 
 -- or an index sees at most its alarm, which moves
-pub kept_alarmed : (n : ℕ) (rs new : List Process) (p : ℕ) (b c : Record) (books : Books) (set : IndexView) → lookup p rs ≡ Some (process_of p (parent_of p rs) b) → new ≡ with_record rs p c → record (record_seen c) { alarm = b.alarm } ≡ record_seen b
-    → IsReplaced p c.alarm books.alarmed set → IsKept n books rs → IsKept n (record books { alarmed = set }) new
-kept_alarmed n rs new p b c books set found is same moved k =
+pub kept_alarmed : (n : ℕ) (rs new : List Process) (p : ℕ) (b c : Record) (indexes : Indexes) (set : IndexView) → lookup p rs ≡ Some (process_of p (parent_of p rs) b) → new ≡ with_record rs p c → record (record_seen c) { alarm = b.alarm } ≡ record_seen b
+    → IsReplaced p c.alarm indexes.alarmed set → IsKept n indexes rs → IsKept n (record indexes { alarmed = set }) new
+kept_alarmed n rs new p b c indexes set found is same moved k =
     let now = record_found rs p b c found in
-    let rest = books_unmoved p (parent_of p rs) (Some (record (record_seen c) { alarm = b.alarm })) rs books k.books (rw same (sees p _ rs found)) in
-    kept_moved n rs new p b c books (record books { alarmed = set }) books.anchors found is (record { members = rest.members; numbers = refl; reporting = rest.reporting; stopped = rest.stopped; alarmed = moved; subreapers = rest.subreapers })
-    (ready_record n p rs b c books found (inl (ap (λ (w : Seen). w.group) same)) k).1
-    (anchors_same p rs (with_record rs p c) (record_seen b) (record_seen c) books.anchors.pairs (elsewhere_record rs p c) (ap (option_map seen_of) found) (ap (option_map seen_of) now) (rw now refl) (ap stance_in same) (ap (λ (w : Seen). is_zombie w.life) same) k.anchors.index) refl k
+    let rest = indexes_unmoved p (parent_of p rs) (Some (record (record_seen c) { alarm = b.alarm })) rs indexes k.indexes (rw same (sees p _ rs found)) in
+    kept_moved n rs new p b c indexes (record indexes { alarmed = set }) indexes.anchors found is (record { members = rest.members; numbers = refl; reporting = rest.reporting; stopped = rest.stopped; alarmed = moved; subreapers = rest.subreapers })
+    (ready_record n p rs b c indexes found (inl (ap (λ (w : IndexedFields). w.group) same)) k).1
+    (anchors_same p rs (with_record rs p c) (record_seen b) (record_seen c) indexes.anchors.pairs (elsewhere_record rs p c) (ap (option_map seen_of) found) (ap (option_map seen_of) now) (rw now refl) (ap stance_in same) (ap (λ (w : IndexedFields). is_zombie w.life) same) k.anchors.index) refl k
 
 -- or no index sees it
-pub kept_unseen : (n : ℕ) (rs new : List Process) (p : ℕ) (b c : Record) (books : Books) → lookup p rs ≡ Some (process_of p (parent_of p rs) b) → new ≡ with_record rs p c → record_seen c ≡ record_seen b → IsKept n books rs → IsKept n books new
-kept_unseen n rs new p b c books found is same k =
-    kept_alarmed n rs new p b c books books.alarmed found is (ap (λ (w : Seen). record w { alarm = b.alarm }) same) (books_unmoved p (parent_of p rs) (Some (record_seen c)) rs books k.books (rw same (sees p _ rs found))).alarmed k
+pub kept_unseen : (n : ℕ) (rs new : List Process) (p : ℕ) (b c : Record) (indexes : Indexes) → lookup p rs ≡ Some (process_of p (parent_of p rs) b) → new ≡ with_record rs p c → record_seen c ≡ record_seen b → IsKept n indexes rs → IsKept n indexes new
+kept_unseen n rs new p b c indexes found is same k =
+    kept_alarmed n rs new p b c indexes indexes.alarmed found is (ap (λ (w : IndexedFields). record w { alarm = b.alarm }) same) (indexes_unmoved p (parent_of p rs) (Some (record_seen c)) rs indexes k.indexes (rw same (sees p _ rs found))).alarmed k
 
 -- ---- births, removals and adoptions
 
-pub kept_inserted : (n : ℕ) (rs new : List Process) (r : Process) (old now : Books) (set : ListsView) → 1 ≤ r.pid → IsInside r.pid (Some (seen_of r)) old → lookup r.pid rs ≡ None → (r.parent ≡ 0) ⊎ IsSome (lookup r.parent rs) → new ≡ inserted r rs → Fits (n + 1) old
+pub kept_inserted : (n : ℕ) (rs new : List Process) (r : Process) (old now : Indexes) (set : ListsView) → 1 ≤ r.pid → IsInside r.pid (Some (seen_of r)) old → lookup r.pid rs ≡ None → (r.parent ≡ 0) ⊎ IsSome (lookup r.parent rs) → new ≡ inserted r rs → Fits (n + 1) old
     → AreMoved r.pid r.parent (Some (seen_of r)) old now → IsMoved r.pid (anchor_in (seen_of r) (seen_at r.parent rs)) old.anchors.pairs set.pairs → set.numbers ≡ old.anchors.numbers → IsKept n old rs → IsKept (n + 1) (record now { anchors = set }) new
 kept_inserted n rs new r old now set least inside fresh parent is free moved anchor numbers k =
     let here = lookup_new r rs fresh in
@@ -170,24 +170,24 @@ kept_inserted n rs new r old now set least inside fresh parent is free moved anc
 pub ruleset leave_rules = (none_read, remove_none, length_removed)
 
 -- a process of which this snapshot was read may go
-pub can_leave : {n p : ℕ} {rs : List Process} {f : Snapshot} {books : Books} → Some f ≡ option_map snapshot_of (lookup p rs) → IsKept n books rs → CanMove p f.parent (Some (snapshot_seen f)) books × ((1 ≤ p) × (p < books.members.numbers)) × (n ≡ length (removed p rs) + 1)
-can_leave {p = p} {rs = rs} {f = f} {books = books} read k =
+pub can_leave : {n p : ℕ} {rs : List Process} {f : Snapshot} {indexes : Indexes} → Some f ≡ option_map snapshot_of (lookup p rs) → IsKept n indexes rs → CanMove p f.parent (Some (snapshot_seen f)) indexes × ((1 ≤ p) × (p < indexes.members.numbers)) × (n ≡ length (removed p rs) + 1)
+can_leave {p = p} {rs = rs} {f = f} {indexes = indexes} read k =
     let it = some_read _ f read in
-    let can = can_move p it.what.parent (Some (seen_of it.what)) rs books k.rising k.books (sees p it.what rs it.found) (λ none. let no = sym none ∙ it.found in absurd (cc)) in
+    let can = can_move p it.what.parent (Some (seen_of it.what)) rs indexes k.rising k.indexes (sees p it.what rs it.found) (λ none. let no = sym none ∙ it.found in absurd (cc)) in
     (rw (snapshot_are (lookup p rs) it.what f read it.found) can, number_kept k (is_there _ it.what it.found), k.count ∙ length_removed p it.what rs k.rising it.found)
 
-pub kept_removed : (n : ℕ) (rs new : List Process) (p : ℕ) (f : Snapshot) (old now : Books) (set : ListsView) → Some f ≡ option_map snapshot_of (lookup p rs) → children_in p rs ≡ [] → new ≡ removed p rs → AreMoved p f.parent None old now
+pub kept_removed : (n : ℕ) (rs new : List Process) (p : ℕ) (f : Snapshot) (old now : Indexes) (set : ListsView) → Some f ≡ option_map snapshot_of (lookup p rs) → children_in p rs ≡ [] → new ≡ removed p rs → AreMoved p f.parent None old now
     → IsMoved p None old.anchors.pairs set.pairs → set.numbers ≡ old.anchors.numbers → IsKept n old rs → IsKept (n - 1) (record now { anchors = set }) new
 kept_removed n rs new p f old now set read none is moved anchor numbers k =
     let goes = can_leave read k in
     let count = goes.2 in
-    rw is (kept_at n (n - 1) p f.parent None rs (removed p rs) old now set (elsewhere_removed p rs) goes.1.0 (goes.1.1, tt) (rising_removed p rs k.rising) (omega (arith, count)) (fits rs (n - 1) old k.books (omega (arith, k.count))) (sees_none p f.parent (removed p rs) (lookup_removed p rs)) moved
+    rw is (kept_at n (n - 1) p f.parent None rs (removed p rs) old now set (elsewhere_removed p rs) goes.1.0 (goes.1.1, tt) (rising_removed p rs k.rising) (omega (arith, count)) (fits rs (n - 1) old k.indexes (omega (arith, k.count))) (sees_none p f.parent (removed p rs) (lookup_removed p rs)) moved
     (anchors_removed p rs old.anchors.pairs set.pairs (no_child p rs none) anchor k.anchors.index) numbers (parents_removed HasParent p rs (no_child p rs none) k.anchors.parents) k)
 
-pub kept_adopted : (n : ℕ) (rs new : List Process) (from to : ℕ) (old now : Books) → from ≢ to → new ≡ adopted from to rs → (AreBooks rs old → AreBooks (adopted from to rs) now) → now.members ≡ old.members
-    → (heir : Seen) → seen_at to rs ≡ Some heir → AreTurned from (child_key heir) rs old.anchors.pairs now.anchors.pairs → now.anchors.numbers ≡ old.anchors.numbers → IsKept n old rs → IsKept n now new
+pub kept_adopted : (n : ℕ) (rs new : List Process) (from to : ℕ) (old now : Indexes) → from ≢ to → new ≡ adopted from to rs → (AreIndexes rs old → AreIndexes (adopted from to rs) now) → now.members ≡ old.members
+    → (heir : IndexedFields) → seen_at to rs ≡ Some heir → AreTurned from (child_key heir) rs old.anchors.pairs now.anchors.pairs → now.anchors.numbers ≡ old.anchors.numbers → IsKept n old rs → IsKept n now new
 unfolding adopted
-kept_adopted n rs new from to old now ne is books members heir there turned numbers k = rw is (record {
+kept_adopted n rs new from to old now ne is indexes members heir there turned numbers k = rw is (record {
   rising = rising_adopted from to rs k.rising;
   numbers = λ q out. lookup_map (reparented from to) (pid_reparented from to) q rs ∙ ap (option_map (reparented from to)) (k.numbers q out);
   within = rw members (λ q r e.
@@ -195,7 +195,7 @@ kept_adopted n rs new from to old now ne is books members heir there turned numb
       rw (was.is, pid_reparented from to was.what, reparented_keeps (λ (r : Process). r.group) from to (λ r. refl) was.what) (k.within q was.what was.found));
   limit = rw members k.limit;
   count = k.count ∙ sym (length-map rs (reparented from to));
-  books = books k.books;
+  indexes = indexes k.indexes;
   anchors = record {
     index = anchors_adopted from to (child_key heir) rs old.anchors.pairs now.anchors.pairs turned (λ r. child_is to rs heir there (record r { parent = to }) refl) k.anchors.index;
     wide = rw (members, numbers) k.anchors.wide;

@@ -5,6 +5,6 @@ pub mod ReadLemmas
 pub mod GroupLemmas
 pub mod MoveLemmas
 pub mod KeptLemmas
-pub mod BookLemmas
+pub mod IndexLemmas
 pub mod RunLemmas
 pub mod AnchorLemmas

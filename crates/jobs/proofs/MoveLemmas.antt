@@ -8,9 +8,9 @@ use Rattle.posix.specs.Processes.{Process}
 use Rattle.posix.specs.Tables.{IsRising, lookup, is_member, members_in, first_pid, above}
 use Rattle.posix.specs.GroupCalls.{is_group_of, is_group_of_others}
 use Rattle.posix.specs.Regular.{AreGrouped}
-use Rattle.posix.proofs.TableLemmas.{Above, pid_looked, rising_filter}
+use Rattle.posix.proofs.TableLemmas.{pid_looked, rising_filter}
 use Rattle.posix.proofs.WalkLemmas.{Passes, any_filter, first_passes, any_looked, some_looked}
-use Rattle.jobs.specs.JobTables.{AreWithin}
+use Rattle.jobs.specs.IndexedTables.{AreWithin}
 use Rattle.jobs.proofs.SnapshotLemmas.{snapshot_are}
 
 -- ---- whether there is a group

@@ -6,7 +6,7 @@ use Rattle.std.proofs.lemmas.Bool.Decides.{nat_tests}
 use Rattle.posix.specs.Processes.{Process}
 use Rattle.posix.proofs.WalkLemmas.{numbers_left, fewer_left}
 use Rattle.posix.specs.Tables.{above, left_of, lookup}
-use Rattle.jobs.specs.JobTables.{JobsView}
+use Rattle.jobs.specs.IndexedTables.{JobsView}
 
 -- what a table holds, by what it is
 pub processes_of : {a b : JobsView} → a ≡ b → a.processes ≡ b.processes

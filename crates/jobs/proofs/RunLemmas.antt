@@ -7,8 +7,8 @@ use Rattle.posix.specs.Tables.{IsRising, lookup, changed, parent_of}
 use Rattle.proctable.specs.declared.records.Record.{Record}
 use Rattle.proctable.specs.Records.{process_of, own_of}
 use Rattle.proctable.proofs.RecordLemmas.{changed_here}
-use Rattle.jobs.specs.JobTables.{IsRun, ChangesSignals, StaysGrouped, StaysPut}
-use Rattle.jobs.specs.Books.{seen_of, record_seen, keeps_stance}
+use Rattle.jobs.specs.IndexedTables.{IsRun, ChangesSignals, StaysGrouped, StaysPut}
+use Rattle.jobs.specs.Indexes.{seen_of, record_seen, keeps_group_and_session}
 use Rattle.jobs.proofs.AnchorLemmas.{stance_kept}
 
 -- where it changes each record as f changes its process, it changes that process so
@@ -33,9 +33,9 @@ signals_as p f only did b c r k =
     ∙ ap (λ (q : Process). record b { alarm = q.alarm; own = record (b.own) { signals = q.signals } }) (sym is)
 
 -- a change that keeps the stance of its process
-pub put_as : {F T : Type 0} {g : Once F (MutBor Record × Unit {0}) (T × (MutBor Record × Unit {0}))} {change : F} (p : ℕ) (rs : List Process) (f : Process → Process) → ((r : Process) → lookup p rs ≡ Some r → keeps_stance (seen_of r) (seen_of (f r)) ≡ true)
+pub put_as : {F T : Type 0} {g : Once F (MutBor Record × Unit {0}) (T × (MutBor Record × Unit {0}))} {change : F} (p : ℕ) (rs : List Process) (f : Process → Process) → ((r : Process) → lookup p rs ≡ Some r → keeps_group_and_session (seen_of r) (seen_of (f r)) ≡ true)
     → ((b c : Record) (r : T) → FnOnceReturnsAtMut g change b r c → (q : ℕ) → process_of p q c ≡ f (process_of p q b)) → StaysPut g change rs p
-put_as p rs f keeps did b c r found k = ap (λ (q : Process). keeps_stance (record_seen b) (seen_of q)) (did b c r k (parent_of p rs)) ∙ keeps (process_of p (parent_of p rs) b) found
+put_as p rs f keeps did b c r found k = ap (λ (q : Process). keeps_group_and_session (record_seen b) (seen_of q)) (did b c r k (parent_of p rs)) ∙ keeps (process_of p (parent_of p rs) b) found
 
 -- such a change leaves it in its process group
 pub put_grouped : {F T : Type 0} {g : Once F (MutBor Record × Unit {0}) (T × (MutBor Record × Unit {0}))} {change : F} (p : ℕ) (rs : List Process) → StaysPut g change rs p → StaysGrouped g change rs p

@@ -1,3 +1,3 @@
-pub mod JobTables
-pub mod Books
-pub mod Counts
+pub mod IndexedTables
+pub mod Indexes
+pub mod Sought

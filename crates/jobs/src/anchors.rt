@@ -5,16 +5,16 @@ ghost use Rattle.std.specs.Prelude.{◌≡◌, ◌≢◌, ℕ, ◌+◌, ◌*◌,
 ghost use Rattle.posix.specs.Processes.{Process};
 ghost use Rattle.posix.specs.Tables.{lookup, children_in, parent_of};
 ghost use Rattle.pidset.specs.Indexes.{AreTurned, IsAnchorIndex, IsMoved};
-ghost use Rattle.jobs.specs.Books.{seen_of, child_key, keeps_stance as keeps_stance_by};
-ghost use Rattle.jobs.specs.JobTables.{AreWithin};
+ghost use Rattle.jobs.specs.Indexes.{seen_of, child_key, keeps_group_and_session as keeps_group_and_session_in};
+ghost use Rattle.jobs.specs.IndexedTables.{AreWithin};
 
-use crate::books::{Change, Seen, anchor_key, is_dead, of_record, of_snapshot};
+use crate::indexes::{Change, IndexedFields, anchor_key, is_dead, of_record, of_snapshot};
 use pidset::Lists;
 use posix::Pid;
-use proctable::Kin;
+use proctable::ProcessTable;
 
 /// What the indexes see of a process; none where it isn't there.
-fn seen_in<K: Kin>(table: &mut K, pid: Pid) -> Option<Seen>
+fn seen_in<K: ProcessTable>(table: &mut K, pid: Pid) -> Option<IndexedFields>
     ensures value { result ≡ option_map seen_of (lookup pid (K.contents table.old)) }
     ensures contents { K.contents table.new ≡ K.contents table.old }
     ensures room { K.room table.new ≡ K.room table.old }
@@ -29,7 +29,7 @@ fn seen_in<K: Kin>(table: &mut K, pid: Pid) -> Option<Seen>
 /// What the indexes see of a process that is there.
 #[tactic(auto, using(proctable::proofs::RecordLemmas::same_record))]
 #[inline]
-pub(crate) fn seen_there<K: Kin>(table: &mut K, pid: Pid) -> Seen
+pub(crate) fn seen_there<K: ProcessTable>(table: &mut K, pid: Pid) -> IndexedFields
     requires { IsSome (lookup pid (K.contents table.old)) }
     ensures value { option_map seen_of (lookup pid (K.contents table.old)) ≡ Some result }
     ensures contents { K.contents table.new ≡ K.contents table.old }
@@ -41,7 +41,7 @@ pub(crate) fn seen_there<K: Kin>(table: &mut K, pid: Pid) -> Seen
 
 /// What the indexes see of a parent, which is there, or has number 0 for none.
 #[inline]
-pub(crate) fn seen_above<K: Kin>(table: &mut K, parent: Pid) -> Option<Seen>
+pub(crate) fn seen_above<K: ProcessTable>(table: &mut K, parent: Pid) -> Option<IndexedFields>
     requires there { (parent ≡ 0) ⊎ IsSome (lookup parent (K.contents table.old)) }
     requires none { lookup 0 (K.contents table.old) ≡ None }
     ensures value { result ≡ option_map seen_of (lookup parent (K.contents table.old)) }
@@ -56,16 +56,21 @@ pub(crate) fn seen_above<K: Kin>(table: &mut K, parent: Pid) -> Option<Seen>
 }
 
 /// Whether a process stays in its process group and its session, and isn't revived.
-fn keeps_stance(before: &Seen, after: &Seen) -> bool
-    ensures { result ≡ keeps_stance_by before.now after.now }
+fn keeps_group_and_session(before: &IndexedFields, after: &IndexedFields) -> bool
+    ensures { result ≡ keeps_group_and_session_in before.now after.now }
 {
     before.group == after.group
         && before.session == after.session
         && (is_dead(after) || !is_dead(before))
 }
 
-/// A process that is there stands among the anchors, or doesn't, as one whose parent is seen so.
-fn turn<K: Kin>(table: &mut K, anchors: &mut Lists, pid: Pid, parent: &Seen)
+/// The index of anchors follows a process that is there, whose parent is in this state.
+fn update_anchor<K: ProcessTable>(
+    table: &mut K,
+    anchors: &mut Lists,
+    pid: Pid,
+    parent: &IndexedFields,
+)
     requires there { IsSome (lookup pid (K.contents table.old)) }
     requires none { lookup 0 (K.contents table.old) ≡ None }
     requires within { AreWithin anchors.old.numbers (K.contents table.old) }
@@ -79,8 +84,13 @@ fn turn<K: Kin>(table: &mut K, anchors: &mut Lists, pid: Pid, parent: &Seen)
     anchors.put(pid, anchor_key(&it, &Some(*parent)));
 }
 
-/// The children of a process that is there stand among the anchors, or don't, as those of one that is seen so.
-pub(crate) fn turn_children<K: Kin>(table: &mut K, anchors: &mut Lists, pid: Pid, parent: &Seen)
+/// The index of anchors follows the children of a process that is there, and now is in this state.
+pub(crate) fn update_anchors_of_children<K: ProcessTable>(
+    table: &mut K,
+    anchors: &mut Lists,
+    pid: Pid,
+    parent: &IndexedFields,
+)
     requires there { IsSome (lookup pid (K.contents table.old)) }
     requires none { lookup 0 (K.contents table.old) ≡ None }
     requires within { AreWithin anchors.old.numbers (K.contents table.old) }
@@ -92,13 +102,18 @@ pub(crate) fn turn_children<K: Kin>(table: &mut K, anchors: &mut Lists, pid: Pid
 {
     let mut next = table.first_child(pid);
     while let Some(child) = next {
-        turn(table, anchors, child, parent);
+        update_anchor(table, anchors, child, parent);
         next = table.next_sibling(child);
     }
 }
 
-/// A process that was changed so, and its children, stand among the anchors or don't, as they are now.
-pub(crate) fn reanchor<K: Kin>(table: &mut K, anchors: &mut Lists, pid: Pid, change: &Change)
+/// The index of anchors follows a change of a process, which has happened, and with it the children of the process.
+pub(crate) fn update_anchors<K: ProcessTable>(
+    table: &mut K,
+    anchors: &mut Lists,
+    pid: Pid,
+    change: &Change,
+)
     requires after { option_map seen_of (lookup pid (K.contents table.old)) ≡ Some change.now.after }
     requires parent { change.now.parent ≡ parent_of pid (K.contents table.old) }
     requires none { lookup 0 (K.contents table.old) ≡ None }
@@ -107,17 +122,17 @@ pub(crate) fn reanchor<K: Kin>(table: &mut K, anchors: &mut Lists, pid: Pid, cha
     ensures numbers { anchors.new.numbers ≡ anchors.old.numbers }
     ensures contents { K.contents table.new ≡ K.contents table.old }
     ensures room { K.room table.new ≡ K.room table.old }
-    ensures visits { K.visits table.new ≤ K.visits table.old + (if keeps_stance_by change.now.before change.now.after then 0 else 2 + 2 * length (children_in pid (K.contents table.old))) }
+    ensures visits { K.visits table.new ≤ K.visits table.old + (if keeps_group_and_session_in change.now.before change.now.after then 0 else 2 + 2 * length (children_in pid (K.contents table.old))) }
 {
     let Change {
         parent,
         before,
         after,
     } = change;
-    if !keeps_stance(before, after) {
+    if !keeps_group_and_session(before, after) {
         let parent = seen_in(table, *parent);
         anchors.put(pid, anchor_key(after, &parent));
-        turn_children(table, anchors, pid, after);
+        update_anchors_of_children(table, anchors, pid, after);
     } else if is_dead(after) {
         anchors.put(pid, None);
     }

@@ -7,11 +7,11 @@ ghost use Rattle.posix.specs.Tables.{lookup};
 ghost use Rattle.posix.specs.GroupCalls.{is_group_of, group_meant as group_meant_by, can_join as can_join_by, can_move as can_move_by, move_to, is_group_of_others as is_group_of_others_by};
 ghost use Rattle.proctable.specs.Records.{snapshot_of};
 ghost use Rattle.posix.specs.Regular.{AreGrouped};
-ghost use Rattle.jobs.specs.JobTables.{Looks, Finds};
+ghost use Rattle.jobs.specs.IndexedTables.{Looks, Finds};
 
-use crate::job_table::JobTable;
+use crate::indexed_table::IndexedTable;
 use posix::{Errno, Pid};
-use proctable::{Kin, Snapshot};
+use proctable::{ProcessTable, Snapshot};
 
 /// The process group that is meant by a number: 0 stands for that of the process itself.
 fn group_meant(it: &Snapshot, group: u64) -> u64
@@ -35,7 +35,7 @@ fn group_number(group: u64) -> Option<Pid>
     }
 }
 
-impl<K: Kin> JobTable<K> {
+impl<K: ProcessTable> IndexedTable<K> {
     /// The process group of a process, where it has this number and is one of this session.
     fn group_at(&mut self, pid: Pid, session: Pid, group: u64) -> Option<Pid>
         ensures { Finds 1 self.old self.new ((it : Process) → lookup pid self.old.processes ≡ Some it → result ≡ (if it.session == session && it.group == group then Some group else None)) }

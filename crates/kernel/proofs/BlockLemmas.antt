@@ -5,16 +5,15 @@ use Rattle.posix.specs.declared.process.Blocked.{Blocked}
 use Rattle.posix.specs.declared.process.Blocked.TheVariants as blocked
 use Rattle.posix.specs.SignalNumbers.{KILL}
 use Rattle.posix.specs.declared.waits.WaitCall.{WaitCall}
-use Rattle.posix.specs.Processes.{Process, is_running, is_living}
+use Rattle.posix.specs.Processes.{Process, is_running}
 use Rattle.std.proofs.lemmas.Bool.{eq-eqb, cond_both}
 use Rattle.std.proofs.lemmas.Option.{same_Some}
 use Rattle.pidset.specs.Numbers.{with_number}
 use Rattle.life.specs.Rechecks.{is_in_wait}
 use Rattle.life.specs.Consoles.{reads, reads_in}
 use Rattle.posix.specs.Terminals.{is_in_read}
-use Rattle.posix.specs.Generation.{is_pending}
 use Rattle.posix.specs.States.{State, change, lose_place, process, has_place, without}
-use Rattle.posix.specs.Outcomes.{Attempted, Block}
+use Rattle.posix.specs.Outcomes.{Block}
 use Rattle.posix.specs.Waits.{wait_by}
 use Rattle.posix.specs.Choice.{chosen}
 use Rattle.posix.specs.Attempts.{attempt_again}

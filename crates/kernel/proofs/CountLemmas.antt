@@ -16,8 +16,8 @@ use Rattle.life.specs.declared.consoles.Unchecked.{Unchecked}
 use Rattle.life.specs.declared.consoles.Unchecked.TheVariants.{Nothing, Group, All}
 use Rattle.life.specs.Foregrounds.{is_unchecked}
 use Rattle.life.specs.Machines.{MachineView}
-use Rattle.life.specs.Rechecks.{AreBrief}
-use Rattle.calls.specs.Outcomes.{AreFew, CostsAtMost, IsBrief, changes_caller_alone, slots_of_brief}
+use Rattle.life.specs.Rechecks.{NeedNoChild}
+use Rattle.calls.specs.Outcomes.{AreFew, CostsAtMost, CostsWithRechecks, changes_caller_alone, slots_of_brief}
 use Rattle.life.specs.Consoles.{foreground_members, slots_of_key}
 use Rattle.kernel.proofs.CallCountLemmas.{key_slots}
 use Rattle.calls.specs.Counts.{slots_of_checking, slots_of_rechecks}
@@ -89,7 +89,7 @@ few_unchecked s i fresh (Group g) few = let one = one_group g s s.consoles i few
 few_unchecked s i fresh All few = absurd few
 
 -- what settling reads after what is brief
-pub settling_brief : (most : ℕ) (old new : MachineView) → IsAtRest old → IsBrief most old new → ReadsAtMost most old new
+pub settling_brief : (most : ℕ) (old new : MachineView) → IsAtRest old → CostsWithRechecks most old new → ReadsAtMost most old new
 settling_brief most old new rest h =
     let few = few_unchecked old.state rest.regular rest.settled.fresh new.foregrounds_unchecked h.unchecked in
     let consoles = ap (count_by (is_unchecked new.foregrounds_unchecked)) h.consoles in
@@ -103,11 +103,11 @@ settling_none n old new rest costs = rw (costs.to_recheck ∙ rest.none, costs.f
 
 -- so after a step
 pub step_reads : (old new : MachineView) (o : Option Process) → IsAtRest old → IfSome (slots_of_own_step old.state o) (λ n. CostsAtMost n old new)
-    → ((me : Process) → o ≡ Some me → IfSome (slots_of_acting old.state me me.blocked) (λ n. IsBrief (n + 1) old new)) → IfSome (slots_of_step old.state o) (λ n. ReadsAtMost n old new)
+    → ((me : Process) → o ≡ Some me → IfSome (slots_of_acting old.state me me.blocked) (λ n. CostsWithRechecks (n + 1) old new)) → IfSome (slots_of_step old.state o) (λ n. ReadsAtMost n old new)
 step_reads old new None rest costs brief = settling_none 3 old new rest costs
 step_reads old new (Some me) rest costs brief = by (slots_of_own_step old.state (Some me)) costs
   where
-    acts : (a : Option ℕ) → IfSome a (λ n. IsBrief (n + 1) old new) → IfSome (option_map (λ n. n + 1) a) (λ n. ReadsAtMost n old new)
+    acts : (a : Option ℕ) → IfSome a (λ n. CostsWithRechecks (n + 1) old new) → IfSome (option_map (λ n. n + 1) a) (λ n. ReadsAtMost n old new)
     acts None h = tt
     acts (Some n) h = let all = settling_brief (n + 1) old new rest h in omega (arith, all)
 
@@ -117,8 +117,8 @@ step_reads old new (Some me) rest costs brief = by (slots_of_own_step old.state 
 
 -- so where the step begins this call
 pub call_reads : (call : Call) (old new : MachineView) (me : Process) → IsAtRest old → chosen me.life me.signals ≡ None → me.blocked ≡ None → (exec_one (code_of old.state me) me.cpu).trap ≡ trap.Call call
-    → (changes_caller_alone call ≡ true → CostsAtMost 1 old new) → IfSome (slots_of_brief call old.state.processes me) (λ n. IsBrief (n + slots_of_blocking call) old new) → IfSome (slots_of_step old.state (Some me)) (λ n. ReadsAtMost n old new)
-call_reads call old new me rest none free is own brief = step_reads old new (Some me) rest costs (λ m e. subst (λ m. IfSome (slots_of_acting old.state m m.blocked) (λ n. IsBrief (n + 1) old new)) (same_Some _ _ e) acts)
+    → (changes_caller_alone call ≡ true → CostsAtMost 1 old new) → IfSome (slots_of_brief call old.state.processes me) (λ n. CostsWithRechecks (n + slots_of_blocking call) old new) → IfSome (slots_of_step old.state (Some me)) (λ n. ReadsAtMost n old new)
+call_reads call old new me rest none free is own brief = step_reads old new (Some me) rest costs (λ m e. subst (λ m. IfSome (slots_of_acting old.state m m.blocked) (λ n. CostsWithRechecks (n + 1) old new)) (same_Some _ _ e) acts)
   where
     held : is_held me ≡ false
     held = ap (λ o. is_some o || is_some me.blocked) none ∙ ap is_some free
@@ -133,19 +133,19 @@ call_reads call old new me rest none free is own brief = step_reads old new (Som
           | false ↦ λ h. tt
         ] own))
 
-    more : (o : Option ℕ) → IfSome o (λ n. IsBrief (n + slots_of_blocking call) old new) → IfSome (option_map (λ n. n + slots_of_blocking call + 1) o) (λ n. IsBrief (n + 1) old new)
+    more : (o : Option ℕ) → IfSome o (λ n. CostsWithRechecks (n + slots_of_blocking call) old new) → IfSome (option_map (λ n. n + slots_of_blocking call + 1) o) (λ n. CostsWithRechecks (n + 1) old new)
     more None h = tt
     more (Some n) h = brief_more (n + slots_of_blocking call) _ old new (omega arith) h
 
-    acts : IfSome (slots_of_acting old.state me me.blocked) (λ n. IsBrief (n + 1) old new)
+    acts : IfSome (slots_of_acting old.state me me.blocked) (λ n. CostsWithRechecks (n + 1) old new)
     acts =
-        subst (λ o. IfSome (slots_of_acting old.state me o) (λ n. IsBrief (n + 1) old new)) (sym free)
-        (subst (λ o. IfSome (cond (is_some o) None (slots_of_trap old.state.processes me (exec_one (code_of old.state me) me.cpu).trap)) (λ n. IsBrief (n + 1) old new)) (sym none)
-        (subst (λ t. IfSome (slots_of_trap old.state.processes me t) (λ n. IsBrief (n + 1) old new)) (sym is) (more (slots_of_brief call old.state.processes me) brief)))
+        subst (λ o. IfSome (slots_of_acting old.state me o) (λ n. CostsWithRechecks (n + 1) old new)) (sym free)
+        (subst (λ o. IfSome (cond (is_some o) None (slots_of_trap old.state.processes me (exec_one (code_of old.state me) me.cpu).trap)) (λ n. CostsWithRechecks (n + 1) old new)) (sym none)
+        (subst (λ t. IfSome (slots_of_trap old.state.processes me t) (λ n. CostsWithRechecks (n + 1) old new)) (sym is) (more (slots_of_brief call old.state.processes me) brief)))
 
 -- and a key
 pub key_reads : (console byte : ℕ) (old new : MachineView) → IsAtRest old → new.visits ≤ old.visits + slots_of_key console byte old → new.foregrounds_unchecked ≡ old.foregrounds_unchecked
-    → AreBrief new.state.processes new.to_recheck × (length new.to_recheck ≤ length (foreground_members console old.state)) → ReadsAtMost (1 + 5 * length (foreground_members console old.state)) old new
+    → NeedNoChild new.state.processes new.to_recheck × (length new.to_recheck ≤ length (foreground_members console old.state)) → ReadsAtMost (1 + 5 * length (foreground_members console old.state)) old new
 key_reads console byte old new rest read still h =
     let slots = key_slots console byte old in
     let brief = rechecks_brief new.state.processes None new.to_recheck h.0 in

@@ -32,23 +32,23 @@ use arrayvec::ArrayVec;
 use calls::Entries;
 use life::{Census, Machine, Notes};
 use posix::{Event, Pid, Trap};
-use proctable::{Kin, OwnPart, ProcTable, Snapshot};
+use proctable::{LinkedTable, OwnPart, ProcessTable, Snapshot};
 use std::alloc::{AllocError, Global};
 use std::marker::Model;
 use tty::Console;
 use umach::World;
 
 /// The kernel of one world.
-pub type Kernel = KernelOn<ProcTable>;
+pub type Kernel = KernelOn<LinkedTable>;
 
 /// The kernel of one world over a table of processes: the machine, and the count of events.
 #[derive(Drop)]
-pub struct KernelOn<K: Kin> {
+pub struct KernelOn<K: ProcessTable> {
     machine: Machine<K>,
     events: u64,
 }
 
-impl<K: Kin> Model for KernelOn<K> {
+impl<K: ProcessTable> Model for KernelOn<K> {
     ghost use Rattle.std.specs.Prelude.{◌≤◌, ◌+◌, ◌≡◌, [], false};
     ghost use Rattle.posix.specs.Settle.{IsSettled};
     ghost use Rattle.posix.specs.Regular.{IsRegular};
@@ -63,7 +63,7 @@ impl<K: Kin> Model for KernelOn<K> {
     ghost invariant = { λ k. (k.machine.state.births ≤ k.events + 1) × (k.machine.state.ticks ≤ k.events) × IsSettled k.machine.state × IsRegular k.machine.state × (k.machine.to_recheck ≡ []) × (k.machine.foregrounds_unchecked ≡ Nothing) × AreTurns k.machine.state };
 }
 
-impl<K: Kin> KernelOn<K> {
+impl<K: ProcessTable> KernelOn<K> {
     /// The machine at its start; an error where there is no memory for it. The empty trace agrees with its state, and
     /// in a world whose numbers are within their ranges the state is orderly (`laws::lines_tell_of_states`).
     pub fn boot(alloc: Global, world: &World) -> Result<Self, AllocError>
@@ -160,7 +160,7 @@ impl<K: Kin> KernelOn<K> {
     /// changes.
     pub fn look(&mut self, pid: Pid) -> &OwnPart
         requires { IsSome (process self.old.state pid) }
-        ensures* lends { sem 𝓛 (follows_so (kernel_row K.row K.Kin) (kernel_row K.row K.Kin) self.entry.ghost_name none (λ _ _. ⊤) (λ n. n ≡ looked K.one_more self.old)) }
+        ensures* lends { sem 𝓛 (follows_so (kernel_row K.row K.ProcessTable) (kernel_row K.row K.ProcessTable) self.entry.ghost_name none (λ _ _. ⊤) (λ n. n ≡ looked K.one_more self.old)) }
         ensures value { IfSome (process self.old.state pid) (λ me. result.now ≡ own_of me) }
     {
         self.machine.look(pid)

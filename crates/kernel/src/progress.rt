@@ -13,7 +13,7 @@ use arrayvec::ArrayVec;
 use calls::Entries;
 use life::{Note, Notes};
 use posix::{Entry, Event, Pid};
-use proctable::Kin;
+use proctable::ProcessTable;
 use sink::{LineBuffer, Sink, SinkFault};
 use text::{EventList, EventRun};
 use trace::NoteWords;
@@ -75,7 +75,7 @@ fn write_notes<S: Sink>(
 /// Gives one event as often as can be at once, up to the one with this number, and prints what they show; the
 /// lists are room for it.
 #[inline]
-fn run_some<K: Kin, S: Sink>(
+fn run_some<K: ProcessTable, S: Sink>(
     kernel: &mut KernelOn<K>,
     event: Event,
     last: u64,
@@ -100,7 +100,7 @@ fn run_some<K: Kin, S: Sink>(
 }
 
 /// Gives so many times one event.
-fn run_many<K: Kin, S: Sink>(
+fn run_many<K: ProcessTable, S: Sink>(
     kernel: &mut KernelOn<K>,
     run: &EventRun,
     pending: &mut LineBuffer,
@@ -130,7 +130,7 @@ fn run_many<K: Kin, S: Sink>(
 }
 
 /// Gives all events of a list to the kernel, and prints what they show.
-fn run_events<K: Kin, S: Sink>(
+fn run_events<K: ProcessTable, S: Sink>(
     kernel: &mut KernelOn<K>,
     events: &EventList,
     pending: &mut LineBuffer,
@@ -152,7 +152,7 @@ fn run_events<K: Kin, S: Sink>(
 /// the printed trace. At `Ok` the number of ends that the trace reports. After a put that failed nothing
 /// is put, and the rest of the events isn't given.
 #[tactic(auto, using(crate::proofs::RunLemmas::trace_rules))]
-pub fn write_trace<K: Kin, S: Sink>(
+pub fn write_trace<K: ProcessTable, S: Sink>(
     kernel: &mut KernelOn<K>,
     events: &EventList,
     out: &mut S,

@@ -16,12 +16,12 @@ ghost use Rattle.kernel.specs.Counts.{slots_of_settling};
 use calls::{has_to_read, has_to_wait};
 use life::{Machine, Unchecked, reads_in};
 use posix::{Blocked, Life, Pid};
-use proctable::{Kin, Snapshot};
+use proctable::{ProcessTable, Snapshot};
 
 /// Who is looked at first to tell whether the first one on the list of those to recheck has to wait: who was rechecked
 /// before it, or else who is rechecked next. A parent and a child that lets it act stand side by side there mostly.
 #[inline(always)]
-fn neighbour<K: Kin>(machine: &Machine<K>, pid: Pid, last: Option<Pid>) -> Option<Pid>
+fn neighbour<K: ProcessTable>(machine: &Machine<K>, pid: Pid, last: Option<Pid>) -> Option<Pid>
     requires { slice_get machine.now.to_recheck 0 ≡ Some pid }
     ensures { result ≡ neighbour_in last machine.now.to_recheck }
 {
@@ -35,7 +35,7 @@ fn neighbour<K: Kin>(machine: &Machine<K>, pid: Pid, last: Option<Pid>) -> Optio
 /// completed, or a signal is chosen for it.
 #[tactic(auto, using(posix::proofs::SeeLemmas::block_read), unfolding(posix::specs::Attempts::attempt_again))]
 #[inline(always)]
-fn is_awake<K: Kin>(
+fn is_awake<K: ProcessTable>(
     machine: &mut Machine<K>,
     pid: Pid,
     snapshot: Snapshot,
@@ -65,7 +65,7 @@ fn is_awake<K: Kin>(
 /// Whether a process that is there, with this snapshot, can act: KILL is pending for it, or it runs and needn't wait.
 #[tactic(auto, unfolding(posix::specs::Settle::can_act))]
 #[inline(always)]
-fn can_act<K: Kin>(
+fn can_act<K: ProcessTable>(
     machine: &mut Machine<K>,
     pid: Pid,
     snapshot: Snapshot,
@@ -88,7 +88,7 @@ fn can_act<K: Kin>(
 /// Gives a process that is to be rechecked the last place, if it has none and can act. Where it waits to read, the
 /// session from whose terminal. It is the first one on the list, after `last`, if one was rechecked before.
 #[tactic(auto, using(pidset::proofs::NumberLemmas::in_at), unfolding(posix::specs::Settle::woken))]
-fn wake<K: Kin>(machine: &mut Machine<K>, pid: Pid, last: Option<Pid>) -> Option<Pid>
+fn wake<K: ProcessTable>(machine: &mut Machine<K>, pid: Pid, last: Option<Pid>) -> Option<Pid>
     requires there { IsSome (process machine.old.state pid) }
     requires first { slice_get machine.old.to_recheck 0 ≡ Some pid }
     ensures reads { result ≡ reads machine.new.state pid }
@@ -112,7 +112,7 @@ fn wake<K: Kin>(machine: &mut Machine<K>, pid: Pid, last: Option<Pid>) -> Option
 
 /// Each process that can act has a place: those that have none get theirs at the end of the order, in the
 /// rising order of their numbers. Asked are those that may have come to act since the last time.
-fn give_places<K: Kin>(machine: &mut Machine<K>)
+fn give_places<K: ProcessTable>(machine: &mut Machine<K>)
     ensures state { machine.new.state ≡ giving_places machine.old.state }
     ensures regular { IsRegular machine.new.state }
     ensures to_recheck { machine.new.to_recheck ≡ [] }
@@ -122,7 +122,7 @@ fn give_places<K: Kin>(machine: &mut Machine<K>)
     let mut last = None;
     while let Some(pid) = machine.first_to_recheck() {
         let session = wake(machine, pid, last);
-        machine.rechecked(pid, session);
+        machine.finish_recheck(pid, session);
         last = Some(pid);
     }
 }
@@ -130,7 +130,7 @@ fn give_places<K: Kin>(machine: &mut Machine<K>)
 /// A terminal whose foreground process group has no member left in its session has none from then on. Then
 /// each process that can act gets a place.
 #[tactic(auto, unfolding(posix::specs::Settle::settle))]
-pub fn settle<K: Kin>(machine: &mut Machine<K>)
+pub fn settle<K: ProcessTable>(machine: &mut Machine<K>)
     ensures state { machine.new.state ≡ settling machine.old.state }
     ensures regular { IsRegular machine.new.state }
     ensures to_recheck { machine.new.to_recheck ≡ [] }

@@ -23,7 +23,7 @@ ghost use Rattle.life.specs.Rechecks.{is_in_wait};
 ghost use Rattle.posix.specs.Tables.{children_in};
 ghost use Rattle.posix.specs.Settle.{can_go_on};
 ghost use Rattle.pidset.specs.Numbers.{with_number};
-ghost use Rattle.calls.specs.Outcomes.{IsActing, IsQuiet, IsBrief, CostsAtMost, changes_caller_alone, slots_of_brief};
+ghost use Rattle.calls.specs.Outcomes.{IsActing, IsQuiet, CostsWithRechecks, CostsAtMost, changes_caller_alone, slots_of_brief};
 ghost use Rattle.kernel.specs.Counts.{IsAtRest, ReadsAtMost, after_taken, alarms_due, delivers_nothing, slots_of_acting, slots_of_blocking, slots_of_event, slots_of_own_step, slots_of_trap};
 ghost use Rattle.kernel.specs.Steps.{ActsAs, Begins, Bursts, ComesTo, Happens, NoneChosen, RunsInstruction, Steps, next_changes_one, changes_one, next_enters, enters, is_followed_by_step, runner, taken_at_once};
 
@@ -33,10 +33,10 @@ use calls::outcome::Attempt;
 use calls::{Entries, attempt, attempt_again};
 use life::{Machine, Notes, Unchecked};
 use posix::{Blocked, Call, Entry, Event, Pid, Sig, Status, Trap, WaitCall};
-use proctable::{Kin, Snapshot};
+use proctable::{ProcessTable, Snapshot};
 
 /// A process that is there is blocked in a call, and loses its place.
-fn enter_call<K: Kin>(machine: &mut Machine<K>, pid: Pid, blocked: Blocked)
+fn enter_call<K: ProcessTable>(machine: &mut Machine<K>, pid: Pid, blocked: Blocked)
     requires { IsSome (process machine.old.state pid) }
     ensures state { machine.new.state ≡ losing_place (change machine.old.state pid (entered blocked)) pid }
     ensures to_recheck { has_place machine.old.state pid ≡ true → machine.new.to_recheck ≡ with_number pid machine.old.to_recheck }
@@ -49,16 +49,16 @@ fn enter_call<K: Kin>(machine: &mut Machine<K>, pid: Pid, blocked: Blocked)
 
 /// A process for which no signal is chosen has begun a call in which it has to wait: it is blocked in it, and loses
 /// its place. Where it has looked for a child, and found that it has to wait, it isn't asked again.
-fn block<K: Kin>(machine: &mut Machine<K>, pid: Pid, call: Call, blocked: Blocked)
+fn block<K: ProcessTable>(machine: &mut Machine<K>, pid: Pid, call: Call, blocked: Blocked)
     requires acting { IsActing machine.old.state pid }
     requires none_chosen { NoneChosen machine.old.state pid }
     requires waits { (me : Process) → process machine.old.state pid ≡ Some me → (how : WaitCallValue) → wait_in call ≡ Some how → wait_by how machine.old.state me ≡ Block blocked }
     ensures state { machine.new.state ≡ losing_place (change machine.old.state pid (entered blocked)) pid }
-    ensures brief { is_some (wait_in call) ≡ true → IsQuiet pid machine.old → IsBrief 1 machine.old machine.new }
+    ensures brief { is_some (wait_in call) ≡ true → IsQuiet pid machine.old → CostsWithRechecks 1 machine.old machine.new }
 {
     enter_call(machine, pid, blocked);
     if let Some(_) = WaitCall::named_by(call) {
-        machine.rechecked(pid, None);
+        machine.finish_recheck(pid, None);
     }
 }
 
@@ -71,24 +71,29 @@ fn is_wait(blocked: &Blocked) -> bool
 
 /// A process for which no signal is chosen still has to wait in its call, and loses its place. Where it waits for a
 /// child, and so has looked for one, it isn't asked again.
-fn wait_on<K: Kin>(machine: &mut Machine<K>, pid: Pid, waits: bool)
+fn wait_on<K: ProcessTable>(machine: &mut Machine<K>, pid: Pid, waits: bool)
     requires acting { IsActing machine.old.state pid }
     requires none_chosen { NoneChosen machine.old.state pid }
     requires blocked { (me : Process) → process machine.old.state pid ≡ Some me → waits ≡ true → is_in_wait me.blocked ≡ true }
     requires waits { (me : Process) → process machine.old.state pid ≡ Some me → waits ≡ true → can_go_on machine.old.state me me.blocked ≡ false }
     ensures state { machine.new.state ≡ losing_place machine.old.state pid }
-    ensures brief { waits ≡ true → IsQuiet pid machine.old → IsBrief 0 machine.old machine.new }
+    ensures brief { waits ≡ true → IsQuiet pid machine.old → CostsWithRechecks 0 machine.old machine.new }
 {
     machine.lose_place(pid);
     if waits {
-        machine.rechecked(pid, None);
+        machine.finish_recheck(pid, None);
     }
 }
 
 /// A process that has a place, and for which no signal is chosen, asks for a call. Where it has to wait it is
 /// blocked in the call and loses its place; where the call begins again it keeps the place.
 #[inline(never)]
-fn begin_call<K: Kin>(machine: &mut Machine<K>, pid: Pid, call: Call, entries: &mut Entries)
+fn begin_call<K: ProcessTable>(
+    machine: &mut Machine<K>,
+    pid: Pid,
+    call: Call,
+    entries: &mut Entries,
+)
     requires acting { IsActing machine.old.state pid }
     requires none_chosen { NoneChosen machine.old.state pid }
     requires births { machine.old.state.births + 1 < 2 ^ 64 }
@@ -96,7 +101,7 @@ fn begin_call<K: Kin>(machine: &mut Machine<K>, pid: Pid, call: Call, entries: &
     requires none { entries.old.items ≡ [] }
     ensures begins { Begins machine.old.state pid call entries.new.items machine.new.state }
     ensures own { changes_caller_alone call ≡ true → CostsAtMost 1 machine.old machine.new }
-    ensures brief { (me : Process) → process machine.old.state pid ≡ Some me → IsQuiet pid machine.old → IfSome (slots_of_brief call machine.old.state.processes me) (λ n. IsBrief (n + slots_of_blocking call) machine.old machine.new) }
+    ensures brief { (me : Process) → process machine.old.state pid ≡ Some me → IsQuiet pid machine.old → IfSome (slots_of_brief call machine.old.state.processes me) (λ n. CostsWithRechecks (n + slots_of_blocking call) machine.old machine.new) }
 {
     match attempt(machine, pid, call, entries) {
         Attempt::Done | Attempt::Again => {}
@@ -108,7 +113,7 @@ fn begin_call<K: Kin>(machine: &mut Machine<K>, pid: Pid, call: Call, entries: &
 /// that is chosen for it is delivered; without one it loses its place. Where the call begins again the
 /// process leaves it, and keeps the place.
 #[inline(never)]
-fn go_on<K: Kin>(
+fn go_on<K: ProcessTable>(
     machine: &mut Machine<K>,
     pid: Pid,
     blocked: Blocked,
@@ -121,7 +126,7 @@ fn go_on<K: Kin>(
     requires blocked { (me : Process) → process machine.old.state pid ≡ Some me → me.blocked ≡ Some blocked }
     requires none { entries.old.items ≡ [] }
     ensures goes_on { (me : Process) → process machine.old.state pid ≡ Some me → going_on machine.old.state me (attempt_again machine.old.state me blocked) ≡ record { state = machine.new.state; entries = entries.new.items } }
-    ensures brief { (me : Process) → process machine.old.state pid ≡ Some me → IsQuiet pid machine.old → (how : WaitCallValue) → blocked ≡ Blocked.Wait how → delivers_nothing machine.old.state how me ≡ true → IsBrief (11 + 2 * length (children_in pid machine.old.state.processes)) machine.old machine.new }
+    ensures brief { (me : Process) → process machine.old.state pid ≡ Some me → IsQuiet pid machine.old → (how : WaitCallValue) → blocked ≡ Blocked.Wait how → delivers_nothing machine.old.state how me ≡ true → CostsWithRechecks (11 + 2 * length (children_in pid machine.old.state.processes)) machine.old machine.new }
 {
     let waits = is_wait(&blocked);
     match attempt_again(machine, pid, blocked, entries) {
@@ -137,7 +142,12 @@ fn go_on<K: Kin>(
 /// A process that has a place, and for which no signal is chosen, and runs this program, runs the instruction at
 /// its pc.
 #[tactic(auto, unfolding(posix::specs::Step::after_trap))]
-fn run_instruction<K: Kin>(machine: &mut Machine<K>, pid: Pid, program: u8, entries: &mut Entries)
+fn run_instruction<K: ProcessTable>(
+    machine: &mut Machine<K>,
+    pid: Pid,
+    program: u8,
+    entries: &mut Entries,
+)
     requires acting { IsActing machine.old.state pid }
     requires none_chosen { NoneChosen machine.old.state pid }
     requires program { (me : Process) → process machine.old.state pid ≡ Some me → me.program ≡ program }
@@ -147,7 +157,7 @@ fn run_instruction<K: Kin>(machine: &mut Machine<K>, pid: Pid, program: u8, entr
     ensures runs { RunsInstruction machine.old.state pid entries.new.items machine.new.state }
     ensures cost { (me : Process) → process machine.old.state pid ≡ Some me → changes_one (exec_one (code_of machine.old.state me) me.cpu).trap ≡ true → CostsAtMost 2 machine.old machine.new }
     ensures enters { (me : Process) → process machine.old.state pid ≡ Some me → enters me (exec_one (code_of machine.old.state me) me.cpu).trap ≡ true → CostsAtMost 3 machine.old machine.new }
-    ensures brief { (me : Process) → process machine.old.state pid ≡ Some me → IsQuiet pid machine.old → IfSome (slots_of_trap machine.old.state.processes me (exec_one (code_of machine.old.state me) me.cpu).trap) (λ n. IsBrief n machine.old machine.new) }
+    ensures brief { (me : Process) → process machine.old.state pid ≡ Some me → IsQuiet pid machine.old → IfSome (slots_of_trap machine.old.state.processes me (exec_one (code_of machine.old.state me) me.cpu).trap) (λ n. CostsWithRechecks n machine.old machine.new) }
 {
     match machine.exec_one(pid, program) {
         Trap::Next => {}
@@ -160,7 +170,12 @@ fn run_instruction<K: Kin>(machine: &mut Machine<K>, pid: Pid, program: u8, entr
 /// A process that has a place, with this snapshot, acts: KILL ends it; it takes up its call; a signal is
 /// delivered to it; or it runs an instruction.
 #[tactic(auto, unfolding(posix::specs::Step::act, posix::specs::Step::act_in))]
-fn act<K: Kin>(machine: &mut Machine<K>, pid: Pid, snapshot: Snapshot, entries: &mut Entries)
+fn act<K: ProcessTable>(
+    machine: &mut Machine<K>,
+    pid: Pid,
+    snapshot: Snapshot,
+    entries: &mut Entries,
+)
     requires acting { IsActing machine.old.state pid }
     requires regular { IsRegular machine.old.state }
     requires snapshot { Some snapshot ≡ option_map snapshot_of (process machine.old.state pid) }
@@ -170,7 +185,7 @@ fn act<K: Kin>(machine: &mut Machine<K>, pid: Pid, snapshot: Snapshot, entries: 
     ensures acts { ActsAs machine.old.state pid entries.new.items machine.new.state }
     ensures cost { next_changes_one machine.old.state (process machine.old.state pid) ≡ true → CostsAtMost 2 machine.old machine.new }
     ensures enters { next_enters machine.old.state (process machine.old.state pid) ≡ true → CostsAtMost 3 machine.old machine.new }
-    ensures brief { (me : Process) → process machine.old.state pid ≡ Some me → IsQuiet pid machine.old → IfSome (slots_of_acting machine.old.state me me.blocked) (λ n. IsBrief n machine.old machine.new) }
+    ensures brief { (me : Process) → process machine.old.state pid ≡ Some me → IsQuiet pid machine.old → IfSome (slots_of_acting machine.old.state me me.blocked) (λ n. CostsWithRechecks n machine.old machine.new) }
 {
     let Snapshot {
         chosen,
@@ -192,13 +207,13 @@ fn act<K: Kin>(machine: &mut Machine<K>, pid: Pid, snapshot: Snapshot, entries: 
 
 /// The current process acts. Nothing happens where there is none.
 #[tactic(auto, unfolding(posix::specs::Step::step))]
-fn step<K: Kin>(machine: &mut Machine<K>, entries: &mut Entries)
+fn step<K: ProcessTable>(machine: &mut Machine<K>, entries: &mut Entries)
     requires births { machine.old.state.births + 1 < 2 ^ 64 }
     requires time { machine.old.state.ticks + most_ticks < 2 ^ 64 }
     requires none { entries.old.items ≡ [] }
     ensures steps { Steps machine.old.state entries.new.items machine.new.state }
     ensures cost { IfSome (slots_of_own_step machine.old.state (current_process machine.old.state)) (λ n. CostsAtMost n machine.old machine.new) }
-    ensures brief { (me : Process) → current_process machine.old.state ≡ Some me → machine.old.to_recheck ≡ [] → machine.old.foregrounds_unchecked ≡ Unchecked.Nothing → IfSome (slots_of_acting machine.old.state me me.blocked) (λ n. IsBrief (n + 1) machine.old machine.new) }
+    ensures brief { (me : Process) → current_process machine.old.state ≡ Some me → machine.old.to_recheck ≡ [] → machine.old.foregrounds_unchecked ≡ Unchecked.Nothing → IfSome (slots_of_acting machine.old.state me me.blocked) (λ n. CostsWithRechecks (n + 1) machine.old machine.new) }
 {
     let Some(pid) = machine.current() else {
         return;
@@ -212,7 +227,7 @@ fn step<K: Kin>(machine: &mut Machine<K>, entries: &mut Entries)
 /// The time goes on by one, alarms that are due ring, and the current process goes to the end of the order.
 #[tactic(auto, unfolding(posix::specs::Step::tick))]
 #[inline(never)]
-fn tick<K: Kin>(machine: &mut Machine<K>)
+fn tick<K: ProcessTable>(machine: &mut Machine<K>)
     requires { machine.old.state.ticks + 1 < 2 ^ 64 }
     ensures state { machine.new.state ≡ ticking machine.old.state }
     ensures cost { machine.old.to_recheck ≡ [] → machine.old.foregrounds_unchecked ≡ Unchecked.Nothing → ReadsAtMost (2 * alarms_due machine.old.state) machine.old machine.new }
@@ -225,7 +240,7 @@ fn tick<K: Kin>(machine: &mut Machine<K>)
 
 /// An event, before foreground process groups are cleared and places are given.
 #[tactic(auto, unfolding(posix::specs::Step::happens))]
-fn happen<K: Kin>(machine: &mut Machine<K>, event: Event, entries: &mut Entries)
+fn happen<K: ProcessTable>(machine: &mut Machine<K>, event: Event, entries: &mut Entries)
     requires births { machine.old.state.births + 1 < 2 ^ 64 }
     requires time { machine.old.state.ticks + most_ticks < 2 ^ 64 }
     requires none { entries.old.items ≡ [] }
@@ -254,7 +269,7 @@ pub struct BurstEnd {
 /// The current process runs instructions that are plain or give a note, by the steps after number `before` up
 /// to number `last`, and until there are 32 notes, which are added to a list that is empty: none where it is in
 /// a call, or a signal is chosen for it. Nothing is left to settle by them.
-pub fn burst<K: Kin>(
+pub fn burst<K: ProcessTable>(
     machine: &mut Machine<K>,
     before: u64,
     last: u64,
@@ -309,7 +324,12 @@ pub fn is_followed_by_step(before: u64, last: u64, trap: &Trap) -> bool
 }
 
 /// A step of the current process, which this is, where its next instruction is this call.
-pub fn call_next<K: Kin>(machine: &mut Machine<K>, pid: Pid, call: Call, entries: &mut Entries)
+pub fn call_next<K: ProcessTable>(
+    machine: &mut Machine<K>,
+    pid: Pid,
+    call: Call,
+    entries: &mut Entries,
+)
     requires comes { ComesTo machine.old.state pid call }
     requires births { machine.old.state.births + 1 < 2 ^ 64 }
     requires time { machine.old.state.ticks + most_ticks < 2 ^ 64 }
@@ -326,7 +346,7 @@ pub fn call_next<K: Kin>(machine: &mut Machine<K>, pid: Pid, call: Call, entries
 
 /// One event. After a halt nothing changes, and nothing is shown.
 #[tactic(auto, unfolding(posix::specs::Step::next))]
-pub fn next<K: Kin>(machine: &mut Machine<K>, event: Event, entries: &mut Entries)
+pub fn next<K: ProcessTable>(machine: &mut Machine<K>, event: Event, entries: &mut Entries)
     requires births { machine.old.state.births + 1 < 2 ^ 64 }
     requires time { machine.old.state.ticks + most_ticks < 2 ^ 64 }
     requires none { entries.old.items ≡ [] }

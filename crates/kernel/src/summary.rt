@@ -5,7 +5,7 @@ ghost use Rattle.posix.specs.Entries.{Line, reported as reported_of};
 ghost use Rattle.kernel.specs.Summaries.{summary_of};
 
 use crate::kernel_on::KernelOn;
-use proctable::Kin;
+use proctable::ProcessTable;
 
 /// A run in numbers, counted from its events, its trace and the last state of the machine.
 #[derive(Clone, Copy, Debug, PartialEq, Eq)]
@@ -26,7 +26,7 @@ pub struct Summary {
     pub halted: bool,
 }
 
-impl<K: Kin> KernelOn<K> {
+impl<K: ProcessTable> KernelOn<K> {
     /// The numbers of the run so far, whose trace reported so many ends.
     pub fn summary(&mut self, reported: u64) -> Summary
         ensures value { (lines : List Line) → reported_of lines ≡ reported → result ≡ summary_of self.old.events lines self.old.state }

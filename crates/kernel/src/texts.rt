@@ -10,7 +10,7 @@ ghost use Rattle.kernel.specs.Accounts.{Accounts};
 use crate::kernel_on::KernelOn;
 use crate::progress::write_trace;
 use crate::summary::Summary;
-use proctable::{Kin, ProcTable};
+use proctable::{LinkedTable, ProcessTable};
 use sink::Sink;
 use std::alloc::Global;
 use text::{EventList, Reason, TextFault, read_events, read_world};
@@ -55,7 +55,7 @@ fn events_error(fault: TextFault) -> RunError
 
 /// Gives all events to a kernel that was given none before, and puts the printed trace into a sink. For texts that
 /// stand for the kernel's world and for these events its contract is that of [`run_on`].
-fn run_kernel<K: Kin, S: Sink>(
+fn run_kernel<K: ProcessTable, S: Sink>(
     kernel: &mut KernelOn<K>,
     events: &EventList,
     out: &mut S,
@@ -77,7 +77,7 @@ fn run_kernel<K: Kin, S: Sink>(
 ///
 /// The lines of a whole trace have each their form and keep the laws of a trace (`laws::traces_keep_laws`); and
 /// the births of the summary are its living, zombies, reported and dropped.
-pub fn run_on<K: Kin, S: Sink>(
+pub fn run_on<K: ProcessTable, S: Sink>(
     alloc: Global,
     world: &[u8],
     events: &[u8],
@@ -102,5 +102,5 @@ pub fn run<S: Sink>(
     ensures headline { Headline world.now events.now out.old out.new (S.seen out.old) (S.seen out.new) result }
     ensures accounts { IfOk result (λ summary. Accounts (S.seen out.old) (S.seen out.new) summary) }
 {
-    run_on::<ProcTable, S>(alloc, world, events, out)
+    run_on::<LinkedTable, S>(alloc, world, events, out)
 }

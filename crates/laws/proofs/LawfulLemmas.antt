@@ -12,7 +12,7 @@ everywhere_more law (y ∷ ys) l h t zero x e = h zero x e
 everywhere_more law (y ∷ ys) l h t (suc i) x e = everywhere_more (λ before. law (y ∷ before)) ys l (λ j z f. h (suc j) z f) t i x e
 
 -- of the first lines of a list
-pub everywhere_first : (law : List Line → Line → Bool) (lines rest : List Line) → Everywhere law (lines ++ rest) → Everywhere law lines
+everywhere_first : (law : List Line → Line → Bool) (lines rest : List Line) → Everywhere law (lines ++ rest) → Everywhere law lines
 everywhere_first law [] rest h i x e = cc
 everywhere_first law (y ∷ ys) rest h zero x e = h zero x e
 everywhere_first law (y ∷ ys) rest h (suc i) x e = everywhere_first (λ before. law (y ∷ before)) ys rest (λ j z f. h (suc j) z f) i x e

@@ -1,19 +1,19 @@
 -- What the laws of a trace say of its lines.
 use Rattle.std.proofs.Common.{◌≡◌, ◌≤◌, ◌<◌, inl, inr, ℕ, ◌%◌, ◌/◌, Bool, true, false, cond, ◌&&◌, ◌||◌, not, if◌then◌else◌, ◌==◌, List, [], ◌∷◌, ◌++◌, append_assoc, append-nil, Option, Some, None, is_some, is_none, refl, ap, sym, ◌∙◌, arith, subst}
 use Rattle.std.specs.List.{list_any}
-use Rattle.std.proofs.lemmas.Bool.{eqb-true, eq-eqb, and_parts, or_parts, leb-true, ltb-true, true_from_ne_false, false_from_ne_true}
+use Rattle.std.proofs.lemmas.Bool.{eqb-true, eq-eqb, and_parts, or_parts, leb-true, ltb-true, not-true, true_from_ne_false, false_from_ne_true}
 use Rattle.std.proofs.lemmas.List.Folds.{list_any-append}
+use Rattle.std.proofs.lemmas.Option.{cond_some}
 use Rattle.posix.specs.declared.entry.Entry.{Entry}
 use Rattle.posix.specs.declared.entry.Entry.TheVariants.{Reported, Looked, Stopped, Ended}
 use Rattle.posix.specs.declared.waits.WaitCall.{WaitCall}
-use Rattle.posix.specs.SignalNumbers.{is_stop_signal}
-use Rattle.posix.specs.Statuses.{continued, tells_end, is_end_word, is_stopped_word, is_continued_word}
+use Rattle.posix.specs.Statuses.{continued, is_end_word, is_stopped_word, is_continued_word}
 use Rattle.posix.specs.Entries.{Line, line, process_of}
 use Rattle.laws.specs.Lives.{LastOf, last_where, or_this, LifeSoFar, life_after, newest_life, EndOf, the_end, or_later, parent_of, parent_in, parent_in_life, end_in, reports_in, reports, reports_or_looks_in, reports_or_looks, begins, born_by, is_just, is_change_word, none_or, is_halt, is_due, is_due_to, end_report, is_living, Everywhere, Laws, numbers_rise, within_life, begins_apart, report_law, reports_due, halts_last, last_line, was_halt, ends_first, number_from, ends, stops, stop_in, last_stop, stop_report, continue_report, has_ended, IsOfEnd, IsOfStop, IsTold}
 use Rattle.laws.specs.Keeping.{Dead, Kept, NeverBorn, Lives, Died, kept_of, made_by, heir_told, lives_now, word_fault, stop_fault, report_fault}
 use Rattle.laws.proofs.KeptLemmas.{last_where_more, told_is_kept, unborn_stays, begun, kept_more}
 use Rattle.laws.proofs.TestLemmas.{living_kept, report_tested}
-use Rattle.laws.proofs.LawfulLemmas.{everywhere_at, everywhere_first}
+use Rattle.laws.proofs.LawfulLemmas.{everywhere_at, laws_first}
 use Rattle.laws.proofs.StatusLemmas.{end_tells}
 
 -- ---- what is kept, line by line
@@ -37,6 +37,20 @@ one_between : (P : Kept → Type 0) (c : ℕ) (t : Line → Bool) → ((heir : �
 one_between P c t stays before between a first denied = true_from_ne_false (list_any t between) (λ none.
     denied (subst (λ ls. P (kept_of ls c)) (append_assoc before (a ∷ []) between) (kept_through P c t stays (before ++ a ∷ []) between none (subst P (kept_next before a c) (first (heir_told (kept_of before) a.entry))))))
 
+-- ---- what a line says
+
+ended_line : (c w : ℕ) (e : Entry) → end_in c e ≡ Some w → e ≡ Ended c w
+ended_line c w (Ended p v) is = let both = cond_some (p == c) v w is in ap (λ n. Ended n v) (eqb-true p c both.0) ∙ ap (Ended c) both.1
+ended_line c w e is = absurd (cc)
+
+stopped_line : (c s : ℕ) (e : Entry) → stop_in c e ≡ Some s → e ≡ Stopped c s
+stopped_line c s (Stopped p v) is = let both = cond_some (p == c) v s is in ap (λ n. Stopped n v) (eqb-true p c both.0) ∙ ap (Stopped c) both.1
+stopped_line c s e is = absurd (cc)
+
+just : (n : ℕ) (o : Option ℕ) → is_just n o ≡ true → o ≡ Some n
+just n None h = absurd (cc)
+just n (Some m) h = ap Some (eqb-true m n h)
+
 -- ---- lives
 
 -- an ended life stays one, until a birth
@@ -54,11 +68,7 @@ over_stays heir c l (Died d) none h = subst IsOver (told_is_kept heir l.entry c 
 pub over_made : (heir : ℕ) (c w : ℕ) (e : Entry) (k : Kept) → end_in c e ≡ Some w → lives_now k ≡ true → IsOver (made_by heir e c k)
 over_made heir c w e NeverBorn is lives = absurd (cc)
 over_made heir c w e (Died d) is lives = absurd (cc)
-over_made heir c w e (Lives a) is lives = subst IsOver (told_is_kept heir e c (Lives a) (unborn e is)) (rw is tt)
-  where
-    unborn : (e : Entry) → end_in c e ≡ Some w → is_just c (born_by e) ≡ false
-    unborn (Ended p v) is = refl
-    unborn e is = absurd (cc)
+over_made heir c w e (Lives a) is lives = subst IsOver (told_is_kept heir e c (Lives a) (ap (λ x. is_just c (born_by x)) (ended_line c w e is))) (rw is tt)
 
 pub over_dead : (k : Kept) → IsOver k → lives_now k ≡ false
 over_dead NeverBorn h = absurd (h)
@@ -261,17 +271,13 @@ continue_once p w k word h due = all k h (subst (λ v. is_none (word_fault p v k
 
 -- ---- the laws, in words of lines
 
--- the law of the first of two lines
-law_first : (law : List Line → Line → Bool) (before : List Line) (a : Line) (between after : List Line) → Everywhere law (before ++ a ∷ between ++ after) → law before a ≡ true
-law_first law before a between after h = everywhere_at law before a between (everywhere_first law (before ++ a ∷ between) after h)
-
 -- After its report no end is reported or looked at.
 pub no_end_twice : (before between after : List Line) (a b : Line) (c : ℕ) → Laws (before ++ a ∷ between ++ b ∷ after)
     → reports c is_end_word a ≡ true → reports_or_looks c is_end_word b ≡ true → list_any (begins c) between ≡ true
 no_end_twice before between after a b c h first second =
     let x = report_in c is_end_word a.entry first in
     let y = told_due (before ++ a ∷ between) b c is_end_word (everywhere_at reports_due (before ++ a ∷ between) b after h.reports) second in
-    let one = end_due x.by x.word (kept_of before c) x.passes (report_due before a x.by x.call c x.word (law_first reports_due before a between (b ∷ after) h.reports) x.is) in
+    let one = end_due x.by x.word (kept_of before c) x.passes (report_due before a x.by x.call c x.word (everywhere_at reports_due before a between (laws_first (before ++ a ∷ between) (b ∷ after) h).reports) x.is) in
     let two = end_due y.by y.word (kept_of (before ++ a ∷ between) c) y.passes y.due in
     one_between IsReported c (begins c) (λ heir. reported_stays heir c) before between a (λ heir. subst (λ e. IsReported (made_by heir e c (kept_of before c))) (sym x.is) (reported_made heir x.by x.call c x.word (kept_of before c) x.passes one))
     (λ reported. reported_once y.by y.word (kept_of (before ++ a ∷ between) c) reported two)
@@ -295,48 +301,33 @@ no_continue_twice before between after a b c h first second =
     (λ heir. subst (λ e. continue_left (made_by heir e c (kept_of before c)) ≡ false) (sym x.is) (continue_told heir x.by x.call c x.word (kept_of before c) x.passes))
     (λ none. continue_once y.by y.word (kept_of (before ++ a ∷ between) c) y.passes none y.due)
 
--- Whose line stands there lives.
-lives_within : (before : List Line) (l : Line) (c : ℕ) → within_life before l ≡ true → process_of l.entry ≡ Some c → lives_now (kept_of before c) ≡ true
-lives_within before l c h is = living_kept before c ∙ subst (λ o. none_or (is_living before) o ≡ true) is h
+-- A line of a process stands in its life.
+pub stands_in_life : (before after : List Line) (l : Line) (c : ℕ) → Laws (before ++ l ∷ after) → process_of l.entry ≡ Some c → is_living before c ≡ true
+stands_in_life before after l c h is = subst (λ o. none_or (is_living before) o ≡ true) is (everywhere_at within_life before l after h.lives)
+
+-- Who is born doesn't live.
+pub born_dead : (before after : List Line) (l : Line) (c : ℕ) → Laws (before ++ l ∷ after) → born_by l.entry ≡ Some c → is_living before c ≡ false
+born_dead before after l c h is = not-true (is_living before c) (subst (λ o. none_or (λ n. not (is_living before n)) o ≡ true) is (everywhere_at begins_apart before l after h.births))
 
 -- After its end a process has no line, until a birth.
 pub nothing_after_end : (before between after : List Line) (a b : Line) (c : ℕ) → Laws (before ++ a ∷ between ++ b ∷ after)
     → ends c a ≡ true → process_of b.entry ≡ Some c → list_any (begins c) between ≡ true
 nothing_after_end before between after a b c h ended mine = by (end_in c a.entry) refl
   where
-    whose : (e : Entry) (w : ℕ) → end_in c e ≡ Some w → process_of e ≡ Some c
-    whose (Ended p w) v is = of (p == c) refl is
-      where
-        of : (b : Bool) → (p == c) ≡ b → cond b (Some w) None ≡ Some v → Some p ≡ Some c
-        of true t is = ap Some (eqb-true p c t)
-        of false t is = absurd (cc)
-    whose e v is = absurd (cc)
-
     by : (o : Option ℕ) → end_in c a.entry ≡ o → list_any (begins c) between ≡ true
     by None is = let no = sym (ap is_some is) ∙ ended in absurd (cc)
     by (Some w) is =
-        let lived = lives_within before a c (law_first within_life before a between (b ∷ after) h.lives) (whose a.entry w is) in
-        let lives = lives_within (before ++ a ∷ between) b c (everywhere_at within_life (before ++ a ∷ between) b after h.lives) mine in
+        let lived = living_kept before c ∙ stands_in_life before between a c (laws_first (before ++ a ∷ between) (b ∷ after) h) (ap process_of (ended_line c w a.entry is)) in
+        let lives = living_kept (before ++ a ∷ between) c ∙ stands_in_life (before ++ a ∷ between) after b c h mine in
         one_between IsOver c (begins c) (λ heir. over_stays heir c) before between a (λ heir. over_made heir c w a.entry (kept_of before c) is lived)
         (λ over. let no = sym lives ∙ over_dead (kept_of (before ++ a ∷ between) c) over in cc)
-
-not_true : (b : Bool) → not b ≡ true → b ≡ false
-not_true true e = absurd (cc)
-not_true false e = refl
 
 -- Between two births of one number that process ends.
 pub lives_apart : (before between after : List Line) (a b : Line) (c : ℕ) → Laws (before ++ a ∷ between ++ b ∷ after)
     → begins c a ≡ true → begins c b ≡ true → list_any (ends c) between ≡ true
 lives_apart before between after a b c h first second =
     one_between (λ k. lives_now k ≡ true) c (ends c) (λ heir. lives_stays heir c) before between a (λ heir. ap lives_now (sym (begun heir a.entry c (kept_of before c) first)))
-    (λ lives.
-    let apart = everywhere_at begins_apart (before ++ a ∷ between) b after h.births in
-    let dead : is_living (before ++ a ∷ between) c ≡ false = of (born_by b.entry) second apart in
-    let no = sym (living_kept (before ++ a ∷ between) c ∙ dead) ∙ lives in cc)
-  where
-    of : (o : Option ℕ) → is_just c o ≡ true → none_or (λ n. not (is_living (before ++ a ∷ between) n)) o ≡ true → is_living (before ++ a ∷ between) c ≡ false
-    of None born apart = absurd (cc)
-    of (Some n) born apart = subst (λ n. is_living (before ++ a ∷ between) n ≡ false) (eqb-true n c born) (not_true (is_living (before ++ a ∷ between) n) apart)
+    (λ lives. let dead = living_kept (before ++ a ∷ between) c ∙ born_dead (before ++ a ∷ between) after b c h (just c (born_by b.entry) second) in let no = sym dead ∙ lives in cc)
 
 -- ---- numbers of events
 
@@ -394,6 +385,7 @@ first_end_halts before after a b h ended =
 record IsLast (test : Line → Bool) (xs : List Line) (f : LastOf Line) : Type 0 where
   earlier : List Line
   split : xs ≡ earlier ++ f.it ∷ f.after
+  passes : test f.it ≡ true
   none : list_any test f.after ≡ false
 
 none_last : (test : Line → Bool) (xs : List Line) → last_where test xs ≡ None → list_any test xs ≡ false
@@ -410,19 +402,10 @@ is_last test [] f h = absurd (cc)
 is_last test (x ∷ xs) f h = of (last_where test xs) refl (test x) refl h (is_last test xs f)
   where
     of : (o : Option (LastOf Line)) → last_where test xs ≡ o → (b : Bool) → test x ≡ b → or_this o b x xs ≡ Some f → (last_where test xs ≡ Some f → IsLast test xs f) → IsLast test (x ∷ xs) f
-    of (Some g) is b t h rest = let i = rest (is ∙ h) in record { earlier = x ∷ i.earlier; split = ap (λ ys. x ∷ ys) i.split; none = i.none }
+    of (Some g) is b t h rest = let i = rest (is ∙ h) in record { earlier = x ∷ i.earlier; split = ap (λ ys. x ∷ ys) i.split; passes = i.passes; none = i.none }
     of None is true t h rest =
         let same : record { it = x; after = xs } ≡ f = cc in
-        subst (IsLast test (x ∷ xs)) same (record { earlier = []; split = refl; none = none_last test xs is })
-    of None is false t h rest = absurd (cc)
-
-passes_last : (test : Line → Bool) (xs : List Line) (f : LastOf Line) → last_where test xs ≡ Some f → test f.it ≡ true
-passes_last test [] f h = absurd (cc)
-passes_last test (x ∷ xs) f h = of (last_where test xs) refl (test x) refl h (passes_last test xs f)
-  where
-    of : (o : Option (LastOf Line)) → last_where test xs ≡ o → (b : Bool) → test x ≡ b → or_this o b x xs ≡ Some f → (last_where test xs ≡ Some f → test f.it ≡ true) → test f.it ≡ true
-    of (Some g) is b t h rest = rest (is ∙ h)
-    of None is true t h rest = let same : x ≡ f.it = cc in ap test (sym same) ∙ t
+        subst (IsLast test (x ∷ xs)) same (record { earlier = []; split = refl; passes = t; none = none_last test xs is })
     of None is false t h rest = absurd (cc)
 
 -- the lines since the birth
@@ -458,18 +441,10 @@ is_ending : (c : ℕ) (since : List Line) (e : EndOf) → the_end c since ≡ So
 is_ending c [] e h = absurd (cc)
 is_ending c (l ∷ ls) e h = of (end_in c l.entry) refl h (is_ending c ls e)
   where
-    ended : (x : Entry) (w : ℕ) → end_in c x ≡ Some w → x ≡ Ended c w
-    ended (Ended p v) w is = at (p == c) refl is
-      where
-        at : (b : Bool) → (p == c) ≡ b → cond b (Some v) None ≡ Some w → Ended p v ≡ Ended c w
-        at true t is = let same : v ≡ w = cc in ap (λ n. Ended n v) (eqb-true p c t) ∙ ap (Ended c) same
-        at false t is = absurd (cc)
-    ended x w is = absurd (cc)
-
     of : (o : Option ℕ) → end_in c l.entry ≡ o → or_later o ls (the_end c ls) ≡ Some e → (the_end c ls ≡ Some e → IsEnding c ls e) → IsEnding c (l ∷ ls) e
     of (Some w) is h rest =
         let same : record { status = w; after = ls } ≡ e = cc in
-        subst (IsEnding c (l ∷ ls)) same (record { earlier = []; event = l.event; split = ap (λ (x : Entry). line l.event x ∷ ls) (ended l.entry w is) })
+        subst (IsEnding c (l ∷ ls)) same (record { earlier = []; event = l.event; split = ap (λ (x : Entry). line l.event x ∷ ls) (ended_line c w l.entry is) })
     of None is h rest = let i = rest h in record { earlier = l ∷ i.earlier; event = i.event; split = ap (λ xs. l ∷ xs) i.split }
 
 -- what no line of a list passes none behind one of them passes
@@ -478,54 +453,65 @@ later_none test xs earlier later l split none =
     let all = sym (list_any-append test earlier (l ∷ later)) ∙ ap (list_any test) (sym split) ∙ none in
     (or_parts (test l) (list_any test later) (or_parts (list_any test earlier) (test l || list_any test later) all).1).1
 
--- what is due of an end is told by the parent of that moment, with the status
-due_of_end : (before : List Line) (p c w : ℕ) → is_end_word w ≡ true → is_due_to before p c w (newest_life before c) ≡ true → IsOfEnd before p c w
+-- ---- what is told
+
+-- w is due to p, the parent of c, of the newest life of c
+record IsDueTo (before : List Line) (p c w : ℕ) : Type 0 where
+  life : LifeSoFar
+  newest : newest_life before c ≡ Some life
+  parent : parent_in before c ≡ Some p
+  due : is_due c w life.since ≡ true
+
+-- what is told is due
+told_to : (before after : List Line) (l : Line) (p c w : ℕ) → Laws (before ++ l ∷ after) → IsTold p c w l.entry → IsDueTo before p c w
 unfolding parent_in
-due_of_end before p c w word due = of (newest_life before c) refl due
+told_to before after l p c w h told = of (newest_life before c) refl (law told)
   where
-    split : (x : LifeSoFar) (e : EndOf) → IsSince before c x.since → IsEnding c x.since e → newest_life before c ≡ Some x → parent_of before c ≡ p → e.status ≡ w → list_any (reports c is_end_word) e.after ≡ false → IsOfEnd before p c w
-    split x e a b life parent status none =
-        let lines : before ≡ (a.earlier ++ b.earlier) ++ line b.event (Ended c e.status) ∷ e.after = a.split ∙ ap (λ ls. a.earlier ++ ls) b.split ∙ sym (append_assoc a.earlier b.earlier (line b.event (Ended c e.status) ∷ e.after)) in
+    law : IsTold p c w l.entry → is_due_to before p c w (newest_life before c) ≡ true
+    law (inl told) = subst (λ e. report_law before e ≡ true) told.1 (everywhere_at reports_due before l after h.reports)
+    law (inr told) = subst (λ e. report_law before e ≡ true) told (everywhere_at reports_due before l after h.reports)
+
+    of : (o : Option LifeSoFar) → newest_life before c ≡ o → is_due_to before p c w o ≡ true → IsDueTo before p c w
+    of None life due = absurd (cc)
+    of (Some x) life due =
+        let both = and_parts (parent_of before c == p) (is_due c w x.since) due in
+        record { life = x; newest = life; parent = ap (parent_in_life before c) life ∙ ap Some (eqb-true (parent_of before c) p both.0); due = both.1 }
+
+-- an end, with its status
+end_is_told : (before after : List Line) (l : Line) (p c w : ℕ) → Laws (before ++ l ∷ after) → IsTold p c w l.entry → is_end_word w ≡ true → IsOfEnd before p c w
+end_is_told before after l p c w h told word =
+    let d = told_to before after l p c w h told in
+    let asks : is_due c w d.life.since ≡ end_report c w (the_end c d.life.since) = rw word refl in
+    of d (the_end c d.life.since) refl (sym asks ∙ d.due)
+  where
+    of : (d : IsDueTo before p c w) (o : Option EndOf) → the_end c d.life.since ≡ o → end_report c w o ≡ true → IsOfEnd before p c w
+    of d None is due = absurd (cc)
+    of d (Some e) is due =
+        let both = and_parts (e.status == w) (not (list_any (reports c is_end_word) e.after)) due in
+        let a = is_since before c d.life d.newest in
+        let b = is_ending c d.life.since e is in
+        let lines = a.split ∙ ap (λ ls. a.earlier ++ ls) b.split ∙ sym (append_assoc a.earlier b.earlier (line b.event (Ended c e.status) ∷ e.after)) in
         record {
           earlier = a.earlier ++ b.earlier;
           event = b.event;
           later = e.after;
-          ended = subst (λ v. before ≡ (a.earlier ++ b.earlier) ++ line b.event (Ended c v) ∷ e.after) status lines;
-          same_life = later_none (begins c) x.since b.earlier e.after (line b.event (Ended c e.status)) b.split a.none;
-          unreported = none;
-          parent = ap (parent_in_life before c) life ∙ ap Some parent;
+          ended = subst (λ v. before ≡ (a.earlier ++ b.earlier) ++ line b.event (Ended c v) ∷ e.after) (eqb-true e.status w both.0) lines;
+          same_life = later_none (begins c) d.life.since b.earlier e.after (line b.event (Ended c e.status)) b.split a.none;
+          unreported = not-true (list_any (reports c is_end_word) e.after) both.1;
+          parent = d.parent;
         }
-
-    ending : (x : LifeSoFar) → newest_life before c ≡ Some x → parent_of before c ≡ p → (o : Option EndOf) → the_end c x.since ≡ o → end_report c w o ≡ true → IsOfEnd before p c w
-    ending x life parent None ended due = absurd (cc)
-    ending x life parent (Some e) ended due =
-        let both = and_parts (e.status == w) (not (list_any (reports c is_end_word) e.after)) due in
-        split x e (is_since before c x life) (is_ending c x.since e ended) life parent (eqb-true e.status w both.0) (not_true (list_any (reports c is_end_word) e.after) both.1)
-
-    of : (o : Option LifeSoFar) → newest_life before c ≡ o → is_due_to before p c w o ≡ true → IsOfEnd before p c w
-    of None life due = absurd (cc)
-    of (Some x) life due =
-        let both = and_parts (parent_of before c == p) (is_due c w x.since) due in
-        let asks : is_due c w x.since ≡ end_report c w (the_end c x.since) = rw word refl in
-        ending x life (eqb-true (parent_of before c) p both.0) (the_end c x.since) refl (sym asks ∙ both.1)
 
 -- An end is reported by the parent of that moment, with its status.
 pub reported_to_parent : (before after : List Line) (l : Line) (p : ℕ) (call : WaitCall) (c w : ℕ) → Laws (before ++ l ∷ after) → l.entry ≡ Reported p call c w → is_end_word w ≡ true → IsOfEnd before p c w
-reported_to_parent before after l p call c w h is word = due_of_end before p c w word (subst (λ e. report_law before e ≡ true) is (everywhere_at reports_due before l after h.reports))
+reported_to_parent before after l p call c w h is = end_is_told before after l p c w h (inl (call, is))
 
 -- And so is an end that is looked at.
 pub looked_at_by_parent : (before after : List Line) (l : Line) (p c w : ℕ) → Laws (before ++ l ∷ after) → l.entry ≡ Looked p c w → is_end_word w ≡ true → IsOfEnd before p c w
-looked_at_by_parent before after l p c w h is word = due_of_end before p c w word (subst (λ e. report_law before e ≡ true) is (everywhere_at reports_due before l after h.reports))
+looked_at_by_parent before after l p c w h is = end_is_told before after l p c w h (inr is)
 
--- ---- whose stop or continue is told
-
-stopped_line : (c : ℕ) (e : Entry) (s : ℕ) → stop_in c e ≡ Some s → e ≡ Stopped c s
-stopped_line c (Stopped p v) s is = at (p == c) refl is
-  where
-    at : (b : Bool) → (p == c) ≡ b → cond b (Some v) None ≡ Some s → Stopped p v ≡ Stopped c s
-    at true t is = let same : v ≡ s = cc in ap (λ n. Stopped n v) (eqb-true p c t) ∙ ap (Stopped c) same
-    at false t is = absurd (cc)
-stopped_line c e s is = absurd (cc)
+-- what is due of a stop or of a continue is due of a life that goes on
+goes_on : (c w : ℕ) (since : List Line) (test : Bool) → is_due c w since ≡ (not (has_ended c since) && test) → is_due c w since ≡ true → (has_ended c since ≡ false) × (test ≡ true)
+goes_on c w since test asks due = let both = and_parts (not (has_ended c since)) test (sym asks ∙ due) in (not-true (has_ended c since) both.0, both.1)
 
 none_ended : (c : ℕ) (ls : List Line) → has_ended c ls ≡ false → list_any (ends c) ls ≡ false
 none_ended c [] h = refl
@@ -536,106 +522,64 @@ none_ended c (l ∷ ls) h = of (end_in c l.entry) refl h (none_ended c ls)
     of (Some w) is h rest = absurd (cc)
 
 -- the last stop of a life that goes on
-of_stop : (before : List Line) (p c s : ℕ) (told : ℕ → Bool) (x : LifeSoFar) (stop : LastOf Line) → newest_life before c ≡ Some x → parent_of before c ≡ p → has_ended c x.since ≡ false
-    → last_stop c x.since ≡ Some stop → stop_in c stop.it.entry ≡ Some s → list_any (reports c told) stop.after ≡ false → IsOfStop before p c s told
-unfolding parent_in
-of_stop before p c s told x stop life parent going is signal none =
-    let a = is_since before c x life in
-    let b = is_last (stops c) x.since stop is in
-    let it : stop.it ≡ line stop.it.event (Stopped c s) = ap (line stop.it.event) (stopped_line c stop.it.entry s signal) in
-    let lines : before ≡ (a.earlier ++ b.earlier) ++ stop.it ∷ stop.after = a.split ∙ ap (λ ls. a.earlier ++ ls) b.split ∙ sym (append_assoc a.earlier b.earlier (stop.it ∷ stop.after)) in
+of_stop : (before : List Line) (p c w s : ℕ) (told : ℕ → Bool) (d : IsDueTo before p c w) (stop : LastOf Line) → has_ended c d.life.since ≡ false → last_stop c d.life.since ≡ Some stop → stop_in c stop.it.entry ≡ Some s
+    → list_any (reports c told) stop.after ≡ false → IsOfStop before p c s told
+of_stop before p c w s told d stop going is signal none =
+    let a = is_since before c d.life d.newest in
+    let b = is_last (stops c) d.life.since stop is in
+    let it : stop.it ≡ line stop.it.event (Stopped c s) = ap (line stop.it.event) (stopped_line c s stop.it.entry signal) in
+    let lines = a.split ∙ ap (λ ls. a.earlier ++ ls) b.split ∙ sym (append_assoc a.earlier b.earlier (stop.it ∷ stop.after)) in
     record {
       earlier = a.earlier ++ b.earlier;
       event = stop.it.event;
       later = stop.after;
       stopped = lines ∙ ap (λ l. (a.earlier ++ b.earlier) ++ l ∷ stop.after) it;
-      same_life = later_none (begins c) x.since b.earlier stop.after stop.it b.split a.none;
+      same_life = later_none (begins c) d.life.since b.earlier stop.after stop.it b.split a.none;
       last = b.none;
-      unended = later_none (ends c) x.since b.earlier stop.after stop.it b.split (none_ended c x.since going);
+      unended = later_none (ends c) d.life.since b.earlier stop.after stop.it b.split (none_ended c d.life.since going);
       unreported = none;
-      parent = ap (parent_in_life before c) life ∙ ap Some parent;
+      parent = d.parent;
     }
-
-just : (n : ℕ) (o : Option ℕ) → is_just n o ≡ true → o ≡ Some n
-just n None h = absurd (cc)
-just n (Some m) h = ap Some (eqb-true m n h)
-
--- what a life that goes on is told of
-due_alive : (before : List Line) (p c w : ℕ) (P : Type 0) (test : LifeSoFar → Bool) → ((x : LifeSoFar) → is_due c w x.since ≡ (not (has_ended c x.since) && test x))
-    → ((x : LifeSoFar) → newest_life before c ≡ Some x → parent_of before c ≡ p → has_ended c x.since ≡ false → test x ≡ true → P) → is_due_to before p c w (newest_life before c) ≡ true → P
-due_alive before p c w P test asks next due = of (newest_life before c) refl due
-  where
-    of : (o : Option LifeSoFar) → newest_life before c ≡ o → is_due_to before p c w o ≡ true → P
-    of None life due = absurd (cc)
-    of (Some x) life due =
-        let both = and_parts (parent_of before c == p) (is_due c w x.since) due in
-        let parts = and_parts (not (has_ended c x.since)) (test x) (sym (asks x) ∙ both.1) in
-        next x life (eqb-true (parent_of before c) p both.0) (not_true (has_ended c x.since) parts.0) parts.1
-
--- a word of a stop is none of an end, and a word of a continue is neither
-stop_ends_nothing : (w : ℕ) → is_stopped_word w ≡ true → is_end_word w ≡ false
-stop_ends_nothing w stop = false_from_ne_true (is_end_word w) (λ end. let no = sym (tells_nothing w (and_parts (w % 256 == 127) (is_stop_signal (w / 256)) stop).0) ∙ end_tells w end in cc)
-  where
-    tells_nothing : (w : ℕ) → (w % 256 == 127) ≡ true → tells_end w ≡ false
-    tells_nothing w t = rw (eqb-true (w % 256) 127 t) refl
-
-due_of_stop : (before : List Line) (p c w : ℕ) → is_stopped_word w ≡ true → is_due_to before p c w (newest_life before c) ≡ true → IsOfStop before p c (w / 256) is_change_word
-due_of_stop before p c w word = due_alive before p c w (IsOfStop before p c (w / 256) is_change_word) (λ x. stop_report c w (last_stop c x.since)) (λ x. rw (stop_ends_nothing w word, word) refl) (λ x life parent going. stop x life parent going (last_stop c x.since) refl)
-  where
-    stop : (x : LifeSoFar) → newest_life before c ≡ Some x → parent_of before c ≡ p → has_ended c x.since ≡ false → (o : Option (LastOf Line)) → last_stop c x.since ≡ o → stop_report c w o ≡ true → IsOfStop before p c (w / 256) is_change_word
-    stop x life parent going None is due = absurd (cc)
-    stop x life parent going (Some f) is due =
-        let both = and_parts (is_just (w / 256) (stop_in c f.it.entry)) (not (list_any (reports c is_change_word) f.after)) due in
-        of_stop before p c (w / 256) is_change_word x f life parent going is (just (w / 256) (stop_in c f.it.entry) both.0) (not_true (list_any (reports c is_change_word) f.after) both.1)
-
-due_of_continue : (before : List Line) (p c w : ℕ) → is_continued_word w ≡ true → is_due_to before p c w (newest_life before c) ≡ true → (s : ℕ) × IsOfStop before p c s is_continued_word
-due_of_continue before p c w word =
-    due_alive before p c w ((s : ℕ) × IsOfStop before p c s is_continued_word) (λ x. continue_report c (last_stop c x.since)) (λ x. let same = eqb-true w continued word in rw same refl) (λ x life parent going. continue x life parent going (last_stop c x.since) refl)
-  where
-    signal : (e : Entry) → is_some (stop_in c e) ≡ true → (s : ℕ) × (stop_in c e ≡ Some s)
-    signal e h = by (stop_in c e) refl h
-      where
-        by : (o : Option ℕ) → stop_in c e ≡ o → is_some o ≡ true → (s : ℕ) × (stop_in c e ≡ Some s)
-        by None is h = absurd (cc)
-        by (Some s) is h = (s, is)
-
-    continue : (x : LifeSoFar) → newest_life before c ≡ Some x → parent_of before c ≡ p → has_ended c x.since ≡ false → (o : Option (LastOf Line)) → last_stop c x.since ≡ o → continue_report c o ≡ true → (s : ℕ) × IsOfStop before p c s is_continued_word
-    continue x life parent going None is due = absurd (cc)
-    continue x life parent going (Some f) is due =
-        let s = signal f.it.entry (passes_last (stops c) x.since f is) in
-        (s.0, of_stop before p c s.0 is_continued_word x f life parent going is s.1 (not_true (list_any (reports c is_continued_word) f.after) due))
-
--- what is told is due
-told_to : (before after : List Line) (l : Line) (p c w : ℕ) → Laws (before ++ l ∷ after) → IsTold p c w l.entry → is_due_to before p c w (newest_life before c) ≡ true
-told_to before after l p c w h (inl told) = subst (λ e. report_law before e ≡ true) told.1 (everywhere_at reports_due before l after h.reports)
-told_to before after l p c w h (inr told) = subst (λ e. report_law before e ≡ true) told (everywhere_at reports_due before l after h.reports)
 
 -- The parent of that moment is told of a stop once, by its signal, and not after its end.
 pub stop_is_told : (before after : List Line) (l : Line) (p c w : ℕ) → Laws (before ++ l ∷ after) → IsTold p c w l.entry → is_stopped_word w ≡ true → IsOfStop before p c (w / 256) is_change_word
-stop_is_told before after l p c w h told word = due_of_stop before p c w word (told_to before after l p c w h told)
+stop_is_told before after l p c w h told word =
+    let d = told_to before after l p c w h told in
+    let both = goes_on c w d.life.since (stop_report c w (last_stop c d.life.since)) (rw (stop_no_end w word, word) refl) d.due in
+    of d both.0 (last_stop c d.life.since) refl both.1
+  where
+    of : (d : IsDueTo before p c w) → has_ended c d.life.since ≡ false → (o : Option (LastOf Line)) → last_stop c d.life.since ≡ o → stop_report c w o ≡ true → IsOfStop before p c (w / 256) is_change_word
+    of d going None is due = absurd (cc)
+    of d going (Some f) is due =
+        let both = and_parts (is_just (w / 256) (stop_in c f.it.entry)) (not (list_any (reports c is_change_word) f.after)) due in
+        of_stop before p c w (w / 256) is_change_word d f going is (just (w / 256) (stop_in c f.it.entry) both.0) (not-true (list_any (reports c is_change_word) f.after) both.1)
 
 -- And of a continue.
 pub continue_is_told : (before after : List Line) (l : Line) (p c w : ℕ) → Laws (before ++ l ∷ after) → IsTold p c w l.entry → is_continued_word w ≡ true → (s : ℕ) × IsOfStop before p c s is_continued_word
-continue_is_told before after l p c w h told word = due_of_continue before p c w word (told_to before after l p c w h told)
+continue_is_told before after l p c w h told word =
+    let d = told_to before after l p c w h told in
+    let both = goes_on c w d.life.since (continue_report c (last_stop c d.life.since)) (asks d.life.since) d.due in
+    of d both.0 (last_stop c d.life.since) refl both.1
+  where
+    asks : (since : List Line) → is_due c w since ≡ (not (has_ended c since) && continue_report c (last_stop c since))
+    asks since = let same = eqb-true w continued word in rw same refl
+
+    signal : (o : Option ℕ) → is_some o ≡ true → (s : ℕ) × (o ≡ Some s)
+    signal None h = absurd (cc)
+    signal (Some s) h = (s, refl)
+
+    of : (d : IsDueTo before p c w) → has_ended c d.life.since ≡ false → (o : Option (LastOf Line)) → last_stop c d.life.since ≡ o → continue_report c o ≡ true → (s : ℕ) × IsOfStop before p c s is_continued_word
+    of d going None is due = absurd (cc)
+    of d going (Some f) is due =
+        let s = signal (stop_in c f.it.entry) (is_last (stops c) d.life.since f is).passes in
+        (s.0, of_stop before p c w s.0 is_continued_word d f going is s.1 (not-true (list_any (reports c is_continued_word) f.after) due))
 
 -- A word that is told is one of an end, a stop or a continue.
 pub status_is_told : (before after : List Line) (l : Line) (p c w : ℕ) → Laws (before ++ l ∷ after) → IsTold p c w l.entry → (is_end_word w || is_change_word w) ≡ true
-status_is_told before after l p c w h told = of (newest_life before c) (told_to before after l p c w h told)
+status_is_told before after l p c w h told = of (is_end_word w) (is_stopped_word w) (is_continued_word w) _ _ _ (told_to before after l p c w h told).due
   where
-    due : (end stop continue a b d : Bool) → cond end a (cond stop b (cond continue d false)) ≡ true → (end || (stop || continue)) ≡ true
-    due true stop continue a b d h = refl
-    due false true continue a b d h = refl
-    due false false true a b d h = refl
-    due false false false a b d h = absurd (cc)
-
-    of : (o : Option LifeSoFar) → is_due_to before p c w o ≡ true → (is_end_word w || is_change_word w) ≡ true
-    of None t = absurd (cc)
-    of (Some x) t = due (is_end_word w) (is_stopped_word w) (is_continued_word w) _ _ _ (and_parts (parent_of before c == p) (is_due c w x.since) t).1
-
--- A line of a process stands in its life.
-pub stands_in_life : (before after : List Line) (l : Line) (c : ℕ) → Laws (before ++ l ∷ after) → process_of l.entry ≡ Some c → is_living before c ≡ true
-stands_in_life before after l c h is = subst (λ o. none_or (is_living before) o ≡ true) is (everywhere_at within_life before l after h.lives)
-
--- Who is born doesn't live.
-pub born_dead : (before after : List Line) (l : Line) (c : ℕ) → Laws (before ++ l ∷ after) → born_by l.entry ≡ Some c → is_living before c ≡ false
-born_dead before after l c h is = not_true (is_living before c) (subst (λ o. none_or (λ n. not (is_living before n)) o ≡ true) is (everywhere_at begins_apart before l after h.births))
+    of : (end stop continue a b d : Bool) → cond end a (cond stop b (cond continue d false)) ≡ true → (end || (stop || continue)) ≡ true
+    of true stop continue a b d h = refl
+    of false true continue a b d h = refl
+    of false false true a b d h = refl
+    of false false false a b d h = absurd (cc)

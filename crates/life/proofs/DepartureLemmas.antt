@@ -16,8 +16,8 @@ use Rattle.posix.proofs.MemberLemmas.{each, in_append, others_stay, still_out}
 use Rattle.posix.proofs.TouchLemmas.{Touches, touches_both, touches_shown, touches_lost, touches_adopted}
 use Rattle.pidset.specs.Numbers.{PidSetView, with_number}
 use Rattle.pidset.proofs.NumberLemmas.{in_with}
-use Rattle.jobs.specs.declared.books.Seen.{Seen}
-use Rattle.jobs.specs.Books.{seen_of}
+use Rattle.jobs.specs.declared.indexes.IndexedFields.{IndexedFields}
+use Rattle.jobs.specs.Indexes.{seen_of}
 use Rattle.life.specs.Machines.{IsListed}
 use Rattle.life.specs.Rechecks.{awaits, rechecking, with_numbers}
 use Rattle.life.proofs.AdoptionLemmas.{AreQuiet, quiet_children, touches_quiet}
@@ -44,7 +44,7 @@ asked_still s p q ns acts e = in_append q (cond acts (rechecking p s.order ns) n
 -- ---- what was read of the others, once the process is a zombie
 
 -- where its parent was found not to wait for it
-pub deaf_parent : (s : State) (p parent w : ℕ) (me : Process) (mid : List Process) (seen : Seen) (awaited : Bool) → process s p ≡ Some me → parent ≡ me.parent → mid ≡ changed p (made_zombie w) s.processes → option_map seen_of (lookup p mid) ≡ Some seen
+pub deaf_parent : (s : State) (p parent w : ℕ) (me : Process) (mid : List Process) (seen : IndexedFields) (awaited : Bool) → process s p ≡ Some me → parent ≡ me.parent → mid ≡ changed p (made_zombie w) s.processes → option_map seen_of (lookup p mid) ≡ Some seen
     → ((up it : Process) → lookup parent mid ≡ Some up → it.pid ≡ p → seen ≡ seen_of it → awaited ≡ (not (is_in parent s.order) && awaits up it)) → awaited ≡ false → is_in parent s.order ≡ false → (up : Process) → me.parent ≢ p → process s me.parent ≡ Some up → awaits up (made_zombie w me) ≡ false
 deaf_parent s p parent w me mid seen awaited found its is sees does none out up ne there =
     let keeps = (keeps_made_zombie w).pid in

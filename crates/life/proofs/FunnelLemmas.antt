@@ -30,9 +30,9 @@ use Rattle.pidset.specs.Numbers.{PidSetView, with_number}
 use Rattle.proctable.specs.declared.records.Record.{Record}
 use Rattle.proctable.specs.Records.{process_of, give_record, with_record}
 use Rattle.proctable.proofs.RecordLemmas.{changed_here}
-use Rattle.jobs.specs.declared.books.Seen.{Seen}
-use Rattle.jobs.specs.Books.{record_seen, seen_of, keeps_stance}
-use Rattle.jobs.specs.JobTables.{IsRun, StaysPut, takes_signal}
+use Rattle.jobs.specs.declared.indexes.IndexedFields.{IndexedFields}
+use Rattle.jobs.specs.Indexes.{record_seen, seen_of, keeps_group_and_session}
+use Rattle.jobs.specs.IndexedTables.{IsRun, StaysPut, takes_signal}
 use Rattle.jobs.proofs.NumberLemmas.{absent_changed}
 use Rattle.jobs.proofs.RunLemmas.{run_as, put_as, parent_is}
 use Rattle.jobs.proofs.SnapshotLemmas.{differs, equals, Named, named_there}
@@ -108,7 +108,7 @@ abbrev keep_numbers : Record → Process → Process
 keep_numbers c r = record (give_record c r) { group = r.group; session = r.session }
 
 -- one that stays put hasn't moved
-pub not_moved : (old new : Seen) → keeps_stance old new ≡ true → has_moved old new ≡ false
+pub not_moved : (old new : IndexedFields) → keeps_group_and_session old new ≡ true → has_moved old new ≡ false
 not_moved old new h = let both = and_parts (old.group == new.group && old.session == new.session) _ h in let each = and_parts (old.group == new.group) _ both.0 in rw (each.0, each.1) refl
 
 numbers_as : (rs : List Process) → IsRising rs → (p : ℕ) (b c : Record) → lookup p rs ≡ Some (process_of p (parent_of p rs) b) → has_moved (record_seen b) (record_seen c) ≡ false → with_record rs p c ≡ changed p (keep_numbers c) rs
@@ -286,7 +286,7 @@ can_move_numbers s pids places i p b c found regular =
 -- ---- by what the closure did
 
 -- what was seen of it
-pub seen_is : (o : Option Process) (r : Process) (w : Seen) → option_map seen_of o ≡ Some w → o ≡ Some r → w ≡ seen_of r
+pub seen_is : (o : Option Process) (r : Process) (w : IndexedFields) → option_map seen_of o ≡ Some w → o ≡ Some r → w ≡ seen_of r
 seen_is o r w e found = let both : Some (seen_of r) ≡ Some w = sym (ap (option_map seen_of) found) ∙ e in cc
 
 -- A change was what f does, and its result says this of the process before.
@@ -341,7 +341,7 @@ pub told_there : {s : State} {pids : Pids} {places : Places} {p parent : ℕ} {l
 told_there {s = s} {pids = pids} {places = places} {p = p} {parent = parent} {l = l} {n = n} {me = me} i k other =
     rw k.is (some_changed p parent (lives l n) (λ r. refl) s.processes (rw k.up (parent_there s pids places i p me k.found (λ root. differs parent 0 other (k.up ∙ root)))))
 
-pub told_parent : {s : State} {pids : Pids} {places : Places} {p parent w : ℕ} {l : Life} {n : News} {me : Process} {mid ts : List Process} {seen : Seen} {acts : Bool} {before put after : List ℕ} → IsSound s pids places → HasLived s p parent l n me mid → not (parent == 0) ≡ true
+pub told_parent : {s : State} {pids : Pids} {places : Places} {p parent w : ℕ} {l : Life} {n : News} {me : Process} {mid ts : List Process} {seen : IndexedFields} {acts : Bool} {before put after : List ℕ} → IsSound s pids places → HasLived s p parent l n me mid → not (parent == 0) ≡ true
     → ts ≡ changed parent (noticed_of_change (child_signal p w)) mid → option_map seen_of (lookup p mid) ≡ Some seen → ((up it : Process) → lookup parent ts ≡ Some up → it.pid ≡ p → seen ≡ seen_of it → acts ≡ (awaits up it || takes_signal up))
     → put ≡ with_number p before → after ≡ cond acts (rechecking parent s.order put) put → IsTold s p w (lives l n) me ts before after
 unfolding told_of_change
@@ -402,11 +402,11 @@ told_changes {was = was} {new = new} {p = p} {w = w} {l = l} {n = n} {me = me} s
 
 -- What became of the processes rs where a parent got notice, and whether it can act by that: it waits for the child that is
 -- seen so, or takes a signal.
-pub record IsNoticed (rs ts : List Process) (parent child w : ℕ) (seen : Seen) (result : Bool) : Type 0 where
+pub record IsNoticed (rs ts : List Process) (parent child w : ℕ) (seen : IndexedFields) (result : Bool) : Type 0 where
   pub processes : ts ≡ changed parent (noticed_of_change (child_signal child w)) rs
   pub acts : (me it : Process) → lookup parent ts ≡ Some me → it.pid ≡ child → seen ≡ seen_of it → result ≡ (awaits me it || takes_signal me)
 
-pub is_noticed : {F : Type 0} {g : Once F (MutBor Record × Unit {0}) (Bool × (MutBor Record × Unit {0}))} {change : F} {rs ts : List Process} {p : ℕ} {b t : Bool} (child w : ℕ) (seen : Seen) (acts : Bool) (signal : PendingSignal) → signal ≡ child_signal child w → IsRun g change rs ts p b → IsRising rs → IsSome (lookup p rs)
+pub is_noticed : {F : Type 0} {g : Once F (MutBor Record × Unit {0}) (Bool × (MutBor Record × Unit {0}))} {change : F} {rs ts : List Process} {p : ℕ} {b t : Bool} (child w : ℕ) (seen : IndexedFields) (acts : Bool) (signal : PendingSignal) → signal ≡ child_signal child w → IsRun g change rs ts p b → IsRising rs → IsSome (lookup p rs)
     → ((d e : Record) (r : Bool) → FnOnceReturnsAtMut g change d r e → (q : ℕ) → (process_of p q e ≡ noticed_of_change signal (process_of p q d)) × ((it : Process) → it.pid ≡ child → seen ≡ seen_of it → r ≡ awaits (noticed_of_change signal (process_of p q d)) it))
     → option_map takes_signal (lookup p ts) ≡ Some t → acts ≡ (b || t) → IsNoticed rs ts p child w seen acts
 is_noticed {rs = rs} {p = p} child w seen acts signal is run up here did takes both =
@@ -422,7 +422,7 @@ is_noticed {rs = rs} {p = p} child w seen acts signal is run up here did takes b
     }
 
 -- A process was looked at by a change that changes nothing, to tell whether it waits for the child that is seen so.
-pub awaits_looked : {F : Type 0} {g : Once F (MutBor Record × Unit {0}) (Bool × (MutBor Record × Unit {0}))} {change : F} {rs ts : List Process} {p : ℕ} {b : Bool} (child : ℕ) (seen : Seen) → IsRun g change rs ts p b → IsRising rs → IsSome (lookup p rs)
+pub awaits_looked : {F : Type 0} {g : Once F (MutBor Record × Unit {0}) (Bool × (MutBor Record × Unit {0}))} {change : F} {rs ts : List Process} {p : ℕ} {b : Bool} (child : ℕ) (seen : IndexedFields) → IsRun g change rs ts p b → IsRising rs → IsSome (lookup p rs)
     → ((d e : Record) (r : Bool) → FnOnceReturnsAtMut g change d r e → (q : ℕ) → (process_of p q e ≡ process_of p q d) × ((it : Process) → it.pid ≡ child → seen ≡ seen_of it → r ≡ awaits (process_of p q d) it))
     → (ts ≡ rs) × ((me it : Process) → lookup p rs ≡ Some me → it.pid ≡ child → seen ≡ seen_of it → b ≡ awaits me it)
 awaits_looked {rs = rs} {p = p} child seen run up here did =

@@ -18,7 +18,7 @@ use Rattle.posix.proofs.RegularLemmas.{Keeps}
 use Rattle.posix.proofs.TouchLemmas.{Unseen}
 use Rattle.posix.proofs.HeirLemmas.{nearest_gone, nearest_here, nearest_none, nearest_on, nearest_first}
 use Rattle.posix.proofs.TableLemmas.{pid_looked, none_found}
-use Rattle.jobs.specs.Books.{is_living_subreaper, keeps_stance, seen_of}
+use Rattle.jobs.specs.Indexes.{is_living_subreaper, keeps_group_and_session, seen_of}
 use Rattle.life.specs.Ends.{slots_of_walk}
 use Rattle.life.proofs.NewsLemmas.{KeepsNumbers}
 
@@ -38,7 +38,7 @@ unfolding marked_as finished
 unseen_marked mark = record { pid = λ r. refl; parent = λ r. refl; group = λ r. refl; life = λ r. refl; news = λ r. refl }
 
 -- the process stays in its process group and its session, and isn't revived
-pub marked_put : (mark : Bool) (r : Process) → keeps_stance (seen_of r) (seen_of (marked_as mark r)) ≡ true
+pub marked_put : (mark : Bool) (r : Process) → keeps_group_and_session (seen_of r) (seen_of (marked_as mark r)) ≡ true
 unfolding marked_as finished
 marked_put mark r = grind arith
 

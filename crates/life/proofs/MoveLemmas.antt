@@ -5,10 +5,10 @@ use Rattle.posix.specs.Processes.{Process}
 use Rattle.std.proofs.lemmas.Bool.{eqb-true, and_parts, or_cases}
 use Rattle.posix.specs.Tables.{IsRising, lookup, is_member}
 use Rattle.posix.proofs.WalkLemmas.{some_looked, any_looked}
-use Rattle.jobs.specs.JobTables.{IsGroupFor}
+use Rattle.jobs.specs.IndexedTables.{IsGroupFor}
 use Rattle.posix.specs.States.{State, process, change}
 use Rattle.posix.specs.Regular.{IsRegular}
-use Rattle.jobs.specs.Books.{keeps_stance, seen_of}
+use Rattle.jobs.specs.Indexes.{keeps_group_and_session, seen_of}
 use Rattle.posix.specs.Ends.{ended, made_zombie}
 use Rattle.posix.specs.Waits.{news_told}
 use Rattle.posix.specs.GroupCalls.{named, move_to, in_group, is_group_of}
@@ -54,14 +54,14 @@ is_moving s t same i p me word z group it target answer here read value was is =
 
 -- ---- who stays in its process group and its session, and isn't revived
 
-pub ended_put : (n : ℕ) (r : Process) → keeps_stance (seen_of r) (seen_of (ended n r)) ≡ true
+pub ended_put : (n : ℕ) (r : Process) → keeps_group_and_session (seen_of r) (seen_of (ended n r)) ≡ true
 unfolding ended
 ended_put n r = grind arith
 
-pub zombie_put : (n : ℕ) (r : Process) → keeps_stance (seen_of r) (seen_of (made_zombie n r)) ≡ true
+pub zombie_put : (n : ℕ) (r : Process) → keeps_group_and_session (seen_of r) (seen_of (made_zombie n r)) ≡ true
 unfolding made_zombie
 zombie_put n r = grind arith
 
-pub told_put : (r : Process) → keeps_stance (seen_of r) (seen_of (news_told r)) ≡ true
+pub told_put : (r : Process) → keeps_group_and_session (seen_of r) (seen_of (news_told r)) ≡ true
 unfolding news_told
 told_put r = grind arith

@@ -24,7 +24,7 @@ use Rattle.posix.proofs.RealtimeLemmas.{realtime_effect, realtime_not, generated
 use Rattle.posix.proofs.TouchLemmas.{unseen_signalled}
 use Rattle.posix.proofs.WalkLemmas.{numbered, numbered_one, numbered_none, rest_of_walk, walk_splits}
 use Rattle.posix.proofs.RegularLemmas.{Keeps, keeps_cond, keeps_none, keeps_signalled}
-use Rattle.signal.specs.declared.rt_pool.RtPool.{RtPool}
+use Rattle.signal.specs.declared.realtime_pool.RealtimePool.{RealtimePool}
 use Rattle.proctable.specs.Records.{queued}
 use Rattle.jobs.proofs.RunLemmas.{OnlySignals}
 use Rattle.life.specs.Queues.{HaveRoom, survey_of, Sends, is_sent, sent_as, rechecking_as}
@@ -178,11 +178,11 @@ pools_left n m s r most none = elim (is_queuer s r) as (λ b. is_queuer s r ≡ 
 ] refl
 
 -- the signal is kept, or the pool comes back
-abbrev pub comes_back : ℕ → Option RtPool → Process → Option RtPool → Type 0
+abbrev pub comes_back : ℕ → Option RealtimePool → Process → Option RealtimePool → Type 0
 comes_back n pool r left = (is_queuer n r ≡ true) ⊎ (left ≡ pool)
 
 -- where a pool is taken, if there is one, and what is left comes back
-pools_put : (s n mid room new : ℕ) (pool left : Option RtPool) (r : Process) → mid ≡ n - 1 → (0 < n → pool ≡ Some []) → (0 < n → mid < room)
+pools_put : (s n mid room new : ℕ) (pool left : Option RealtimePool) (r : Process) → mid ≡ n - 1 → (0 < n → pool ≡ Some []) → (0 < n → mid < room)
     → (IsSome left → mid < room → new ≡ mid + 1) → mid ≤ new → comes_back s pool r left → n ≤ new + length (queuers (Some s) (r ∷ []))
 pools_put s n mid room new pool left r rest some free kept more says = pools_left n new s r (omega (arith, rest, more)) (λ none. by (cases_lt 0 n) none says)
   where
@@ -192,7 +192,7 @@ pools_put s n mid room new pool left r rest some free kept more says = pools_lef
     by (inl there) none (inr back) = let one = kept (subst IsSome (sym (back ∙ some there)) refl) (free there) in omega (arith, rest, one, there)
 
 -- who queued it, where there is room for it and a pool, got it
-pub queue_ends : (n p : ℕ) (m : PendingSignal) (pool left : Option RtPool) (old new : MachineView) → HasRun (queued (is_some pool) m) (comes_back m.sig pool) old.state.processes new.state.processes p left → is_realtime m.sig ≡ true
+pub queue_ends : (n p : ℕ) (m : PendingSignal) (pool left : Option RealtimePool) (old new : MachineView) → HasRun (queued (is_some pool) m) (comes_back m.sig pool) old.state.processes new.state.processes p left → is_realtime m.sig ≡ true
     → IfThere p old (λ q. HaveRoom n (queuers (Some m.sig) (q ∷ []))) → (0 < n → is_some pool ≡ true) → Changes 1 old new (with_processes old.state new.state.processes) (rechecks_by_signals (process new.state p) old)
     → Changes (slots_of_signal m.sig) old new (with_processes old.state (generated_for m (process old.state p) old.state.processes)) (rechecking_generated m (process old.state p) old.state.processes old.state.order old.to_recheck)
 queue_ends n p m pool left old new ran realtime room some did =
@@ -202,7 +202,7 @@ queue_ends n p m pool left old new ran realtime room some did =
     signal_ends m p old new ran.me.what ran.me.found (sym (realtime_effect p it.life m it.signals realtime)) (did.state ∙ ap (with_processes old.state) is) did.to_recheck did.foregrounds_unchecked did.costs
 
 -- and no more pools are gone then than were needed
-pub queue_leaves : (n mid room after p : ℕ) (m : PendingSignal) (pool left : Option RtPool) (rs ts : List Process) → HasRun (queued (is_some pool) m) (comes_back m.sig pool) rs ts p left → mid ≡ n - 1 → (0 < n → pool ≡ Some []) → (0 < n → mid < room)
+pub queue_leaves : (n mid room after p : ℕ) (m : PendingSignal) (pool left : Option RealtimePool) (rs ts : List Process) → HasRun (queued (is_some pool) m) (comes_back m.sig pool) rs ts p left → mid ≡ n - 1 → (0 < n → pool ≡ Some []) → (0 < n → mid < room)
     → (IsSome left → mid < room → after ≡ mid + 1) → mid ≤ after → (r : Process) → lookup p rs ≡ Some r → n ≤ after + length (queuers (Some m.sig) (r ∷ []))
 queue_leaves n mid room after p m pool left rs ts ran rest some free kept more r e =
     let it : r ≡ record (ran.me.what) { pid = p } = same_Some _ _ (sym e ∙ ran.me.found) in

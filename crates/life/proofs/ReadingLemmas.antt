@@ -12,7 +12,7 @@ use Rattle.posix.specs.States.{State, is_in, without}
 use Rattle.posix.specs.Consoles.{Console}
 use Rattle.posix.specs.Transfers.{span_in}
 use Rattle.posix.specs.Terminals.{is_in_read, waits_in, waits_on, waits_to_read}
-use Rattle.life.specs.Rechecks.{AreBrief, is_in_wait}
+use Rattle.life.specs.Rechecks.{NeedNoChild, is_in_wait}
 use Rattle.posix.specs.Regular.{IsRegular, IsDistinct}
 use Rattle.posix.specs.Settle.{NoWakeIsLost}
 use Rattle.posix.proofs.MemberLemmas.{in_first, is_other}
@@ -79,7 +79,7 @@ reader_member s to_recheck k p c i h awake at on off =
 
 -- so where nobody was to be rechecked, and then those are who are known by a console
 pub readers_brief : {readers : List PidSetView} (s : State) (before ns : List ℕ) (k : ℕ) (c : Console) → IsRegular s → IsWatched s before readers → NoWakeIsLost s → before ≡ [] → slice_get s.consoles k ≡ Some c
-    → Rises ns → ((p : ℕ) → is_in p ns ≡ true → (is_in p before || is_in p (readers_at k readers)) ≡ true) → AreBrief s.processes ns × (length ns ≤ length (members_in c.foreground s.processes))
+    → Rises ns → ((p : ℕ) → is_in p ns ≡ true → (is_in p before || is_in p (readers_at k readers)) ≡ true) → NeedNoChild s.processes ns × (length ns ≤ length (members_in c.foreground s.processes))
 unfolding is_in
 readers_brief {readers = readers} s before ns k c i h awake none at up those = (
   λ p e.

@@ -25,7 +25,7 @@ use Rattle.posix.proofs.ReaderLemmas.{touches_cleared}
 use Rattle.life.specs.Machines.{IsListed, IsWatched, IsReaders, readers_at, IsWaiting, AreUnread}
 use Rattle.life.specs.Rechecks.{with_numbers, rechecking, rechecking_by_signals, without_gone}
 use Rattle.life.proofs.SignalLemmas.{with_signals, unseen_signals, touches_signals}
-use Rattle.jobs.specs.JobTables.{takes_signal}
+use Rattle.jobs.specs.IndexedTables.{takes_signal}
 use Rattle.life.proofs.SoundLemmas.{there}
 use Rattle.pidset.proofs.WalkLemmas.{above_rest, all_above}
 

@@ -8,7 +8,7 @@ use Rattle.posix.specs.Processes.{Process}
 use Rattle.posix.specs.States.{is_in}
 use Rattle.pidset.specs.Numbers.{with_number}
 use Rattle.pidset.proofs.NumberLemmas.{in_with}
-use Rattle.jobs.specs.JobTables.{takes_signal}
+use Rattle.jobs.specs.IndexedTables.{takes_signal}
 use Rattle.life.specs.Rechecks.{AreTaking, rechecking_by_signals}
 use Rattle.posix.specs.Tables.{lookup, at, changed, first_pid, above, IsRising, IsNext}
 use Rattle.posix.specs.Alarms.{is_due, with_alarm, rung, ring_at, ring_all}

@@ -21,7 +21,7 @@ use Rattle.posix.proofs.TableLemmas.{pid_looked}
 use Rattle.posix.proofs.MapLemmas.{at_pid, lookup_back}
 use Rattle.posix.proofs.SeeLemmas.{block_read, can_act_alike}
 use Rattle.posix.proofs.TouchLemmas.{Touches, Unseen, sees_unseen, touches_unseen}
-use Rattle.jobs.specs.JobTables.{takes_signal}
+use Rattle.jobs.specs.IndexedTables.{takes_signal}
 
 -- the process with other signals, and another alarm
 abbrev pub with_signals : Signals → Option ℕ → Process → Process

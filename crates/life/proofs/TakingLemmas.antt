@@ -20,8 +20,8 @@ use Rattle.posix.proofs.RegularLemmas.{lookup_other}
 use Rattle.posix.proofs.ChangeLemmas.{continued_cont, lookup_signalled}
 use Rattle.pidset.specs.Numbers.{with_number}
 use Rattle.pidset.proofs.NumberLemmas.{in_with}
-use Rattle.jobs.specs.JobTables.{takes_signal}
-use Rattle.life.specs.Rechecks.{AreTaking, AreBrief, rechecking_generated, rechecking_all, rechecking_members}
+use Rattle.jobs.specs.IndexedTables.{takes_signal}
+use Rattle.life.specs.Rechecks.{AreTaking, NeedNoChild, rechecking_generated, rechecking_all, rechecking_members}
 use Rattle.life.proofs.RingLemmas.{one_more}
 
 -- it isn't among these, and a signal is chosen for it
@@ -90,17 +90,17 @@ unfolding is_in
 taking_all signal ps order rs plain apart = let on = taking_on signal ps order rs [] plain apart (λ q e. absurd (cc)) in let few = on.1 in (on.0, omega (arith, few))
 
 -- nobody is told anything of where nobody is to be rechecked
-pub brief_none : (rs : List Process) (ns : List ℕ) (k : ℕ) → ns ≡ [] → AreBrief rs ns × (length ns ≤ k)
+pub brief_none : (rs : List Process) (ns : List ℕ) (k : ℕ) → ns ≡ [] → NeedNoChild rs ns × (length ns ≤ k)
 unfolding is_in
 brief_none rs ns k none = rw none (λ q e. absurd (cc), omega arith)
 
 -- so where the kernel signals a process group
 pub brief_group : (n group : ℕ) (rs ts : List Process) (order ns new : List ℕ) → (n == CONT) ≡ false → IsRising rs → ns ≡ [] → ts ≡ signalled_group n group rs → new ≡ cond (group == 0) ns (rechecking_members n group rs order ns)
-    → AreBrief ts new × (length new ≤ length (members_in group rs))
+    → NeedNoChild ts new × (length new ≤ length (members_in group rs))
 unfolding signalled_members members_in
 brief_group n group rs ts order ns new plain up none does puts = by (group == 0) does puts
   where
-    by : (b : Bool) → ts ≡ cond b rs (signalled_members (record { sig = n; carried = from_kernel }) group rs) → new ≡ cond b ns (rechecking_members n group rs order ns) → AreBrief ts new × (length new ≤ length (members_in group rs))
+    by : (b : Bool) → ts ≡ cond b rs (signalled_members (record { sig = n; carried = from_kernel }) group rs) → new ≡ cond b ns (rechecking_members n group rs order ns) → NeedNoChild ts new × (length new ≤ length (members_in group rs))
     by true does puts = brief_none ts new _ (puts ∙ none)
     by false does puts =
         let all = taking_all (record { sig = n; carried = from_kernel }) (pids (members_in group rs)) order rs plain (distinct_pids (members_in group rs) (rising_filter (is_member group) rs up)) in

@@ -11,7 +11,7 @@ use Rattle.posix.specs.Regular.{IsRegular}
 use Rattle.pidalloc.specs.Rows.{Pids, row}
 use Rattle.proctable.specs.declared.records.Record.{Record}
 use Rattle.proctable.specs.Records.{process_of, with_record}
-use Rattle.jobs.specs.declared.books.Seen.{Seen}
+use Rattle.jobs.specs.declared.indexes.IndexedFields.{IndexedFields}
 
 -- whatever the closure does to the record of p, a regular state stays so
 abbrev pub StaysRegular : {F T : Type 0} → Once F (MutBor Record × Unit {0}) (T × (MutBor Record × Unit {0})) → F → State → ℕ → Type 0
@@ -19,11 +19,11 @@ StaysRegular {T = T} g change s p =
     IsRegular s → (b c : Record) (r : T) → lookup p s.processes ≡ Some (process_of p (parent_of p s.processes) b) → FnOnceReturnsAtMut g change b r c → IsRegular (record s { processes = with_record s.processes p c })
 
 -- it has another process group or session
-abbrev pub has_moved : Seen → Seen → Bool
+abbrev pub has_moved : IndexedFields → IndexedFields → Bool
 has_moved old new = not (old.group == new.group) || not (old.session == new.session)
 
 -- the rows hold the numbers that it bears, and can hold those that it comes to bear
-pub record CanMoveNumbers (p : Pids) (old new : Seen) : Type 0 where
+pub record CanMoveNumbers (p : Pids) (old new : IndexedFields) : Type 0 where
   pub group_range : old.group ≤ p.pidmax
   pub session_range : old.session ≤ p.pidmax
   pub to_group_range : new.group ≤ p.pidmax

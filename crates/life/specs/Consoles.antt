@@ -28,7 +28,7 @@ abbrev pub IsTerminalIndex : ℕ → List Console → Option ℕ → Type 0
 IsTerminalIndex session cs None = console_of session cs ≡ None
 IsTerminalIndex session cs (Some k) = (c : Console) × (slice_get cs k ≡ Some c) × (console_of session cs ≡ Some c) × (c.session ≡ session)
 
--- whoever waits to read from the console with this index, and has no place in the order, is to be rechecked
+-- each process that waits to read from the console with this index, and has no place in the order, is to be rechecked
 abbrev pub AreReaders : State → ℕ → List ℕ → Type 0
 AreReaders s k to_recheck = (p : ℕ) (c : Console) (r : Process) → slice_get s.consoles k ≡ Some c → process s p ≡ Some r → is_reader c.session r ≡ true → has_place s p ≡ false → is_in p to_recheck ≡ true
 
@@ -36,8 +36,8 @@ AreReaders s k to_recheck = (p : ℕ) (c : Console) (r : Process) → slice_get 
 abbrev pub IsSameTerminal : Console → Console → Type 0
 IsSameTerminal c d = (d.session ≡ c.session) × (d.foreground ≡ c.foreground)
 
--- The console with this index can become another: it isn't the second one of a session, whoever can act by it is to be
--- rechecked, and its foreground process group has a member where none is unchecked.
+-- The console with this index can become another: it isn't the second one of a session, each process that can act by it
+-- is to be rechecked, and its foreground process group has a member where none is unchecked.
 pub record CanBecome (m : MachineView) (k : ℕ) (c d : Console) : Type 0 where
   pub session : (d.session ≡ c.session) ⊎ ((d.session ≡ 0) ⊎ ((c.session ≡ 0) × (console_of d.session m.state.consoles ≡ None)))
   pub readers : (IsSameTerminal c d × (c.lines ≡ [] → d.lines ≡ [])) ⊎ AreReaders m.state k m.to_recheck
@@ -84,7 +84,7 @@ abbrev pub slots_of_foreground : Option Console → List Process → ℕ
 slots_of_foreground None rs = 0
 slots_of_foreground (Some c) rs = 1 + 3 * length (members_in c.foreground rs)
 
--- so it is where a byte gives a signal
+-- how many slots are read where a byte gives this signal, or none
 abbrev pub slots_of_signal_key : Option ℕ → Option Console → List Process → ℕ
 slots_of_signal_key None c rs = 0
 slots_of_signal_key (Some sig) c rs = slots_of_foreground c rs

@@ -8,7 +8,7 @@ use Rattle.posix.specs.Tables.{members_in, children_in}
 use Rattle.posix.specs.Groups.{newly_orphaned}
 use Rattle.posix.specs.Ends.{hang_up, leave_children_and_die, tell_of_all, zombies_of}
 use Rattle.posix.specs.Heirs.{Forebear, forebears, heir_in, most_processes}
-use Rattle.jobs.specs.Books.{is_living_subreaper}
+use Rattle.jobs.specs.Indexes.{is_living_subreaper}
 use Rattle.life.specs.Consoles.{slots_of_hangup}
 use Rattle.life.specs.Machines.{MachineView}
 

@@ -48,7 +48,7 @@ pub record AreSame (old new : MachineView) : Type 0 where
   pub foregrounds_unchecked : new.foregrounds_unchecked ≡ old.foregrounds_unchecked
   pub readers : new.readers ≡ old.readers
 
--- Whoever only looks changes nothing, and reads at most n slots. From each look it is known that the state is regular.
+-- A look changes nothing, and reads at most n slots. From each look it is known that the state is regular.
 pub record Looks (n : ℕ) (old new : MachineView) : Type 0 where
   pub same : AreSame old new
   pub visits : new.visits ≤ old.visits + n
@@ -66,7 +66,7 @@ pub record Finds (n : ℕ) (old new : MachineView) (what : Type 0) : Type 0 wher
   pub value : what
   pub looks : Looks n old new
 
--- Whoever notes groups as those that an end may orphan changes nothing else, and reads at most n slots.
+-- Process groups are noted that an end may orphan. Nothing else changes, and at most n slots are read.
 pub record Notes (n : ℕ) (old new : MachineView) : Type 0 where
   pub state : new.state ≡ old.state
   pub to_recheck : new.to_recheck ≡ old.to_recheck
@@ -102,7 +102,7 @@ IsThere p m = IsSome (process m.state p)
 abbrev pub IfThere : ℕ → MachineView → (Process → Type 0) → Type 0
 IfThere p m holds = (r : Process) → process m.state p ≡ Some r → holds r
 
--- so it is of a console with this index, where there is one
+-- P holds of the console with this index, where there is one
 abbrev pub IfConsole : ℕ → MachineView → (Console → Type 0) → Type 0
 IfConsole k m holds = (c : Console) → slice_get m.state.consoles k ≡ Some c → holds c
 
@@ -130,7 +130,7 @@ pub record IsSound (s : State) (pids : Pids) (places : Places) : Type 0 where
   pub counted : s.dropped + length s.processes ≤ s.births  -- each was born
   pub kept : IsKept s.world.pidmax s.processes pids places
 
--- those who may wait to read from the console with this index
+-- the processes that may wait to read from the console with this index
 abbrev pub readers_at : ℕ → List PidSetView → List ℕ
 readers_at k readers = option_map_or (λ set. set.pids) (slice_get readers k) []
 
@@ -149,14 +149,14 @@ pub record IsWaiting (s : State) (k p : ℕ) : Type 0 where
   pub reads : is_reader console.session reader ≡ true
   pub out : is_in p s.order ≡ false
 
--- Of those who aren't to be rechecked, just those are known by a console who wait to read from it.
+-- Of the processes that aren't to be rechecked, a console knows just those that wait to read from it.
 pub record IsWatched (s : State) (to_recheck : List ℕ) (readers : List PidSetView) : Type 0 where
   pub known : (k p : ℕ) (c : Console) (r : Process) → slice_get s.consoles k ≡ Some c → process s p ≡ Some r → is_reader c.session r ≡ true → is_in p s.order ≡ false → is_in p to_recheck ≡ false → is_in p (readers_at k readers) ≡ true
   pub waits : (k p : ℕ) → is_in p (readers_at k readers) ≡ true → is_in p to_recheck ≡ false → IsWaiting s k p
   pub each : AllByRecursion (IsReaders s.world.pidmax) readers
   pub many : length readers ≡ s.world.consoles
 
--- so it is in a machine
+-- a machine's readers are watched
 abbrev pub AreWatched : MachineView → Type 0
 AreWatched m = IsWatched m.state m.to_recheck m.readers
 
@@ -168,8 +168,8 @@ AreUnread sets = (k : ℕ) → readers_at k sets ≡ []
 abbrev pub HaveRoom : List PidSetView → Type 0
 HaveRoom sets = (k : ℕ) (set : PidSetView) → slice_get sets k ≡ Some set → length set.pids < set.room
 
--- Whoever has to be given a place is to be rechecked, each of those is there, and there is room for all numbers; and
--- whoever waits to read is known.
+-- Each process that has to be given a place is to be rechecked; each process to recheck is there, and there is room for
+-- all numbers; and each process that waits to read is known.
 pub record IsListed (s : State) (to_recheck : PidSetView) (readers : List PidSetView) : Type 0 where
   pub covers : Covers s to_recheck.pids
   pub rising : Rises to_recheck.pids

@@ -16,11 +16,11 @@ pub record HaveRoom (pools : ℕ) (qs : List Process) : Type 0 where
   pub free : list_any has_full_queue qs ≡ false
   pub enough : length qs ≤ pools
 
--- of these processes those for whom a signal of this sender would be queued
+-- the processes of these that would queue a signal of this sender
 abbrev pub queuing : Process → ℕ → List Process → List Process
 queuing me n qs = queuers (Some n) (permitted me (Some n) qs)
 
--- the survey of these processes, whom the sender means
+-- the survey of these processes, which the sender means
 unfoldable pub survey_of : Process → ℕ → List Process → Survey
 survey_of me n qs = record { found = sending_found me (Some n) qs; is_full = list_any has_full_queue (queuing me n qs); queuers = length (queuing me n qs) }
 

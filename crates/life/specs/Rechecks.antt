@@ -15,7 +15,7 @@ use Rattle.posix.specs.Tables.{lookup, pids, members_in}
 use Rattle.posix.specs.Choice.{from_kernel}
 use Rattle.posix.specs.States.{is_in, without}
 use Rattle.posix.specs.Generation.{effect_of, signalled}
-use Rattle.jobs.specs.JobTables.{takes_signal}
+use Rattle.jobs.specs.IndexedTables.{takes_signal}
 use Rattle.posix.specs.Notices.{generated_for, resumed}
 use Rattle.posix.specs.Sends.{permitted}
 use Rattle.pidset.specs.Numbers.{with_number}
@@ -104,7 +104,7 @@ unfoldable pub rechecking_all : PendingSignal → List ℕ → List Process → 
 rechecking_all signal [] rs order ns = ns
 rechecking_all signal (p ∷ ps) rs order ns = rechecking_all signal ps (generated_for signal (lookup p rs) rs) order (rechecking_generated signal (lookup p rs) rs order ns)
 
--- a signal was sent to those who may be signalled; signal 0 only checks
+-- a signal was sent to the processes that may be signalled; signal 0 only checks
 unfoldable pub rechecking_signalled : Process → Option PendingSignal → List Process → List Process → List ℕ → List ℕ → List ℕ
 rechecking_signalled me None qs rs order ns = ns
 rechecking_signalled me (Some signal) qs rs order ns = rechecking_all signal (pids (permitted me (Some signal.sig) qs)) rs order ns
@@ -118,8 +118,8 @@ abbrev pub AreTaking : List Process → List ℕ → Type 0
 AreTaking rs ns = (p : ℕ) → is_in p ns ≡ true → (r : Process) × (lookup p rs ≡ Some r) × (takes_signal r ≡ true)
 
 -- No child has to be looked at to tell whether each of these can act: a signal is chosen for it, or it waits for none.
-abbrev pub AreBrief : List Process → List ℕ → Type 0
-AreBrief rs ns = (p : ℕ) → is_in p ns ≡ true → (r : Process) × (lookup p rs ≡ Some r) × ((takes_signal r || not (is_in_wait r.blocked)) ≡ true)
+abbrev pub NeedNoChild : List Process → List ℕ → Type 0
+NeedNoChild rs ns = (p : ℕ) → is_in p ns ≡ true → (r : Process) × (lookup p rs ≡ Some r) × ((takes_signal r || not (is_in_wait r.blocked)) ≡ true)
 
 -- how many slots are read where a signal is generated: CONT may continue its process, whose parent gets notice
 abbrev pub slots_of_signal : ℕ → ℕ
@@ -130,8 +130,7 @@ abbrev pub slots_of_send : Option ℕ → ℕ
 slots_of_send None = 0
 slots_of_send (Some n) = slots_of_signal n
 
--- for how many slots those are looked at whom a sender may mean, before a real-time signal is queued for anybody: of one
--- number, and of so many candidates
+-- how many slots are read, before a real-time signal is queued, at the process with one number, and at so many candidates
 abbrev pub slots_of_survey_of_one : Option ℕ → ℕ
 slots_of_survey_of_one None = 0
 slots_of_survey_of_one (Some n) = if is_realtime n then 2 else 0
@@ -148,7 +147,7 @@ is_one (whom.Group p) = false
 is_one whom.All = false
 is_one whom.Nobody = true
 
--- whether a sender looks at a process for whom it means: it does at the members of a process group, or else at all
+-- whether a process is a candidate, which a sender looks at: each member of a process group that is meant, else each process
 abbrev pub is_candidate : Process → Target → Process → Bool
 is_candidate me (whom.Process p) r = true
 is_candidate me whom.OwnGroup r = r.group == me.group
@@ -156,6 +155,6 @@ is_candidate me (whom.Group p) r = r.group == p
 is_candidate me whom.All r = true
 is_candidate me whom.Nobody r = true
 
--- where the record of p has gone, whose parent this was, the parent is rechecked, and p no more
+-- where the record of p has gone its parent is to be rechecked, and p no more
 abbrev pub without_gone : ℕ → ℕ → List ℕ → List ℕ
 without_gone p parent ns = without p (with_number parent ns)

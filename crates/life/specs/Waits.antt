@@ -17,7 +17,7 @@ abbrev pub slots_of_children : Option ℕ → ℕ → List processes.Process →
 slots_of_children None p rs = 0
 slots_of_children (Some group) p rs = 2 * length (children_in p rs)
 
--- so by whom it is for
+-- how many slots a wait for this target reads, but for one more
 abbrev pub slots_of_wait : Target → ℕ → List processes.Process → ℕ
 slots_of_wait (Process q) p rs = 0
 slots_of_wait OwnGroup p rs = 2 * length (children_in p rs)

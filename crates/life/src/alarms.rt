@@ -11,9 +11,9 @@ ghost use Rattle.life.specs.Machines.{Changes, Costs, IsThere, IfThere, with_pro
 
 use crate::machine::Machine;
 use posix::Pid;
-use proctable::Kin;
+use proctable::ProcessTable;
 
-impl<K: Kin> Machine<K> {
+impl<K: ProcessTable> Machine<K> {
     /// Sets the alarm of a process that is there to so many ticks from now, at most 1,000,000,000; 0 clears
     /// it. The ticks that were left of the one before, 0 where none was set.
     pub fn set_alarm(&mut self, pid: Pid, ticks: u64) -> u64
@@ -43,8 +43,8 @@ impl<K: Kin> Machine<K> {
         self.change(pid, |fields| fields.ring_at(pid, now));
     }
 
-    /// Each alarm that is due at the next tick rings. One slot is read for each. Where nobody was to be rechecked, those
-    /// are for whom a signal is chosen by it.
+    /// Each alarm that is due at the next tick rings. One slot is read for each. Where nobody was to be rechecked, a
+    /// signal is chosen for each process that then is.
     fn ring_all(&mut self)
         requires { self.old.state.ticks + 1 < 2 ^ 64 }
         ensures state { self.new.state ≡ with_processes self.old.state (ring_all (self.old.state.ticks + 1) self.old.state.processes) }
@@ -72,7 +72,7 @@ impl<K: Kin> Machine<K> {
     }
 
     /// The time goes on by one tick: each alarm that is due rings. One slot is read for each of these, and none where
-    /// no process has an alarm. Where nobody was to be rechecked, those are for whom a signal is chosen by it.
+    /// no process has an alarm. Where nobody was to be rechecked, a signal is chosen for each process that then is.
     pub fn pass_time(&mut self)
         requires { self.old.state.ticks + 1 < 2 ^ 64 }
         ensures state { self.new.state ≡ passing_time self.old.state }

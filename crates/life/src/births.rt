@@ -10,10 +10,10 @@ ghost use Rattle.life.specs.Machines.{Costs, AreSame, IfThere};
 
 use crate::machine::Machine;
 use posix::Pid;
-use proctable::Kin;
+use proctable::ProcessTable;
 use std::alloc::AllocError;
 
-impl<K: Kin> Machine<K> {
+impl<K: ProcessTable> Machine<K> {
     /// The number that the next child gets, if there is one.
     pub fn next_pid(&self) -> Option<Pid>
         ensures { result ≡ next_pid_of self.now.state }

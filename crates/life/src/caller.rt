@@ -12,7 +12,7 @@ ghost use Rattle.life.specs.Machines.{Finds, IsThere};
 use crate::machine::Machine;
 use creds::Creds;
 use posix::{Asked, Errno, Pid, Register, Span, Target, WaitCall};
-use proctable::{Kin, Record};
+use proctable::{ProcessTable, Record};
 
 /// What a call that concerns others reads of the process that makes it.
 #[derive(Clone, Copy, Debug, PartialEq, Eq)]
@@ -57,7 +57,7 @@ impl Caller {
     }
 }
 
-impl<K: Kin> Machine<K> {
+impl<K: ProcessTable> Machine<K> {
     /// A process that is there as the caller of a call. Nothing changes.
     #[inline(always)]
     pub fn caller(&mut self, pid: Pid) -> Caller

@@ -7,7 +7,7 @@ ghost use Rattle.life.specs.Machines.{Finds, IfThere};
 
 use crate::machine::Machine;
 use posix::{Life, Pid};
-use proctable::Kin;
+use proctable::ProcessTable;
 
 /// What is counted in a machine.
 #[derive(Clone, Copy, Debug, PartialEq, Eq)]
@@ -24,7 +24,7 @@ pub struct Census {
     pub halted: bool,
 }
 
-impl<K: Kin> Machine<K> {
+impl<K: ProcessTable> Machine<K> {
     /// Counts the processes. Nothing changes.
     pub fn census(&mut self) -> Census
         ensures { Finds (1 + 2 * length self.old.state.processes) self.old self.new (result ≡ census_of self.old.state) }

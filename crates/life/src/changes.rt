@@ -9,8 +9,8 @@ ghost use Rattle.posix.specs.Notices.{child_signal as child_signal_of, noticed_o
 ghost use Rattle.posix.specs.Regular.{IsPlaced};
 ghost use Rattle.pidalloc.specs.Rows.{regrouped};
 ghost use Rattle.pidset.specs.Numbers.{with_number};
-ghost use Rattle.jobs.specs.Books.{seen_of};
-ghost use Rattle.jobs.specs.JobTables.{ChangesSignals, Costs as JobCosts, IsRun, StaysGrouped, StaysPut, takes_signal as taking_signal};
+ghost use Rattle.jobs.specs.Indexes.{seen_of};
+ghost use Rattle.jobs.specs.IndexedTables.{ChangesSignals, Costs as JobCosts, IsRun, StaysGrouped, StaysPut, takes_signal as taking_signal};
 ghost use Rattle.life.specs.Rechecks.{awaits as awaiting, rechecking, rechecking_told, rechecks_by_signals, rechecks_changed, with_parent};
 ghost use Rattle.life.specs.Changes.{StaysRegular, CanMoveNumbers, has_moved, lives};
 ghost use Rattle.life.specs.Machines.{Costs, Changes, IsThere, IfThere, with_processes};
@@ -20,14 +20,14 @@ use crate::ends::child_signal;
 use crate::machine::Machine;
 use crate::rechecks::recheck_later;
 use crate::waits::awaits;
-use jobs::{Change, JobTable, Seen};
+use jobs::{Change, IndexedFields, IndexedTable};
 use pidalloc::PidTable;
 use pidset::PidSet;
 use posix::{Life, News, Pid, Status};
-use proctable::{Kin, Record};
+use proctable::{ProcessTable, Record};
 use sched::Order;
 
-impl<K: Kin> Machine<K> {
+impl<K: ProcessTable> Machine<K> {
     /// Changes the signals of a process that is there, and its alarm: the process is to be rechecked where a signal is
     /// chosen for it then and it has no place, as otherwise it can act no more than before. Each such change goes by
     /// this, but a loan ([`Machine::own`]).
@@ -96,13 +96,13 @@ impl<K: Kin> Machine<K> {
     }
 }
 
-/// The parent of a child that was stopped or continued, and is seen so, gets notice of it by this status. Whether it can
-/// act by that: it waits for this child, or a signal is chosen for it.
-fn notice<K: Kin>(
-    table: &mut JobTable<K>,
+/// A child was stopped or continued, and now is in this state: its parent gets notice of it by this status. Whether the
+/// parent can act by that: it waits for this child, or a signal is chosen for it.
+fn notice<K: ProcessTable>(
+    table: &mut IndexedTable<K>,
     parent: Pid,
     child: Pid,
-    seen: &Seen,
+    seen: &IndexedFields,
     status: Status,
 ) -> bool
     requires there { IsSome (lookup parent table.old.processes) }
@@ -119,14 +119,14 @@ fn notice<K: Kin>(
     awaits || takes_signal
 }
 
-/// Whether a process that is there has no place, and waits for this child, which is seen so: without a look at one that
-/// has a place. Nothing changes.
-pub(crate) fn is_awaited<K: Kin>(
-    table: &mut JobTable<K>,
+/// Whether a process that is there has no place, and waits for this child, which is in this state. Where the process
+/// has a place no slot is read. Nothing changes.
+pub(crate) fn is_awaited<K: ProcessTable>(
+    table: &mut IndexedTable<K>,
     order: &Order,
     parent: Pid,
     child: Pid,
-    seen: &Seen,
+    seen: &IndexedFields,
 ) -> bool
     requires there { IsSome (lookup parent table.old.processes) }
     requires rising { IsRising table.old.processes }
@@ -168,8 +168,8 @@ fn recheck_with_parent(to_recheck: &mut PidSet, order: &Order, pid: Pid, parent:
 fn move_numbers(
     pids: &mut PidTable,
     foregrounds_unchecked: &mut Unchecked,
-    before: &Seen,
-    after: &Seen,
+    before: &IndexedFields,
+    after: &IndexedFields,
 )
     requires { CanMoveNumbers pids.old before.now after.now }
     ensures pids { pids.new ≡ (if has_moved before.now after.now then regrouped pids.old before.now.group before.now.session after.now.group after.now.session else pids.old) }

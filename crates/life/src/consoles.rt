@@ -15,7 +15,7 @@ ghost use Rattle.posix.specs.Regular.{AreGrouped, IsRegular};
 ghost use Rattle.posix.specs.Tables.{members_in, pids};
 ghost use Rattle.pidset.specs.Numbers.{numbers_above, with_number};
 ghost use Rattle.life.specs.Machines.{Costs, Finds, IsThere, IfThere, with_consoles, IfConsole, AreWatched, HaveRoom, AreUnread, IsReaders, readers_at};
-ghost use Rattle.life.specs.Rechecks.{AreBrief};
+ghost use Rattle.life.specs.Rechecks.{NeedNoChild};
 ghost use Rattle.proctable.specs.Records.{snapshot_of};
 ghost use Rattle.life.specs.Foregrounds.{after_loss as after_loss_of, is_unchecked as is_unchecked_by, refreshed_where};
 ghost use Rattle.life.specs.Consoles.{terminal_of, hangs_up as hangs_up_with, reads as reads_from, reads_in as reads_in_session, is_terminal_of as is_terminal, marked, IsMarked, IsTerminalIndex, IsForgottenAt, AreReaders, CanChange, HasChanged, foreground_members, slots_of_key, slots_of_hangup};
@@ -23,10 +23,10 @@ ghost use Rattle.tty.specs.Lines.{Takes};
 
 use crate::machine::Machine;
 use crate::rechecks::take_off;
-use jobs::JobTable;
+use jobs::IndexedTable;
 use pidset::PidSet;
 use posix::{Blocked, Life, Pid, Sig};
-use proctable::{Kin, Snapshot};
+use proctable::{ProcessTable, Snapshot};
 use std::alloc::{AllocError, Global};
 use tty::{Console, KeyEffect, ends_line};
 
@@ -144,7 +144,7 @@ fn is_terminal_of(session: &Option<Pid>, console: &Console) -> bool
     }
 }
 
-/// A process is among those who wait to read from the terminal of this session, and among no others.
+/// A process is among the readers of the terminal of this session, and among those of no other.
 pub(crate) fn mark_reader(
     readers: &mut Vec<PidSet>,
     consoles: &[Console],
@@ -189,7 +189,7 @@ fn clear_readers(readers: &mut Vec<PidSet>, console_index: usize)
 }
 
 /// A console has no foreground process group any more, where that has no member in its session.
-fn refresh<K: Kin>(console: &mut Console, table: &mut JobTable<K>)
+fn refresh<K: ProcessTable>(console: &mut Console, table: &mut IndexedTable<K>)
     requires { AreGrouped table.old.processes }
     ensures console { console.new ≡ refreshed table.old.processes console.old }
     ensures processes { table.new.processes ≡ table.old.processes }
@@ -205,8 +205,13 @@ fn refresh<K: Kin>(console: &mut Console, table: &mut JobTable<K>)
     }
 }
 
-/// So it is of a console that is unchecked, and one slot is read for it. Any other stays.
-fn refresh_unchecked<K: Kin>(console: &mut Console, unchecked: &Unchecked, table: &mut JobTable<K>)
+/// Takes the foreground process group of a console that is unchecked away where the group has no member; one slot is
+/// read. A console that isn't unchecked stays as it is.
+fn refresh_unchecked<K: ProcessTable>(
+    console: &mut Console,
+    unchecked: &Unchecked,
+    table: &mut IndexedTable<K>,
+)
     requires { AreGrouped table.old.processes }
     ensures console { console.new ≡ refreshed_where unchecked.now table.old.processes console.old }
     ensures processes { table.new.processes ≡ table.old.processes }
@@ -217,8 +222,12 @@ fn refresh_unchecked<K: Kin>(console: &mut Console, unchecked: &Unchecked, table
     }
 }
 
-/// So it is of each console.
-fn refresh_all<K: Kin>(consoles: &mut Vec<Console>, unchecked: &Unchecked, table: &mut JobTable<K>)
+/// Does that with each console.
+fn refresh_all<K: ProcessTable>(
+    consoles: &mut Vec<Console>,
+    unchecked: &Unchecked,
+    table: &mut IndexedTable<K>,
+)
     requires { AreGrouped table.old.processes }
     ensures consoles { consoles.new.items ≡ map (refreshed_where unchecked.now table.old.processes) consoles.old.items }
     ensures processes { table.new.processes ≡ table.old.processes }
@@ -229,7 +238,7 @@ fn refresh_all<K: Kin>(consoles: &mut Vec<Console>, unchecked: &Unchecked, table
     }
 }
 
-impl<K: Kin> Machine<K> {
+impl<K: ProcessTable> Machine<K> {
     // ---- what there is
 
     /// The controlling terminal of a session; none where it has none.
@@ -277,7 +286,7 @@ impl<K: Kin> Machine<K> {
 
     /// A process that needn't be given a place has been rechecked, and isn't to be rechecked any more. Where it waits to
     /// read from the terminal of its session, which this is then, it is known there from now on, and nowhere else.
-    pub fn rechecked(&mut self, pid: Pid, session: Option<Pid>)
+    pub fn finish_recheck(&mut self, pid: Pid, session: Option<Pid>)
         requires waits { IfThere pid self.old (λ r. wakes self.old.state r ≡ false) }
         requires session { session ≡ reads_from self.old.state pid }
         ensures rest { self.new ≡ record (self.old) { to_recheck = without pid self.old.to_recheck; readers = self.new.readers } }
@@ -428,7 +437,7 @@ impl<K: Kin> Machine<K> {
         ensures signal { MatchOption result (slice_get self.old.state.consoles console_index ≡ None) (λ e. e.signal ≡ key_signal byte) }
         ensures foregrounds_unchecked { self.new.foregrounds_unchecked ≡ self.old.foregrounds_unchecked }
         ensures quiet { key_signal byte ≢ None → self.new.to_recheck ≡ self.old.to_recheck }
-        ensures readers { self.old.to_recheck ≡ [] → NoWakeIsLost self.old.state → IfConsole console_index self.old (λ c. AreBrief self.new.state.processes self.new.to_recheck × (length self.new.to_recheck ≤ length (members_in c.foreground self.old.state.processes))) }
+        ensures readers { self.old.to_recheck ≡ [] → NoWakeIsLost self.old.state → IfConsole console_index self.old (λ c. NeedNoChild self.new.state.processes self.new.to_recheck × (length self.new.to_recheck ≤ length (members_in c.foreground self.old.state.processes))) }
         ensures costs { Costs 0 self.old self.new }
     {
         self.recheck_at_line_end(console_index, byte);
@@ -439,12 +448,12 @@ impl<K: Kin> Machine<K> {
     /// A byte comes on a console, which counts from 1. INTR, QUIT and SUSP discard all input, and each member of the
     /// foreground process group gets INT, QUIT or TSTP; any other byte is for the line that is edited. On a console
     /// that isn't there nothing happens (XBD 11.1.9). Where the byte gives a signal, one slot is read, and three for
-    /// each member. Where nobody was to be rechecked, and no wake-up lost, those are members of it, for whom a signal is
-    /// chosen or who read.
+    /// each member. Where nobody was to be rechecked, and no wake-up lost, each process that then is to be rechecked is a
+    /// member of the foreground process group, and has a chosen signal or reads.
     pub fn key(&mut self, console: u8, byte: u8)
         ensures state { self.new.state ≡ keying self.old.state console byte }
         ensures foregrounds_unchecked { self.new.foregrounds_unchecked ≡ self.old.foregrounds_unchecked }
-        ensures brief { self.old.to_recheck ≡ [] → NoWakeIsLost self.old.state → AreBrief self.new.state.processes self.new.to_recheck × (length self.new.to_recheck ≤ length (foreground_members console self.old.state)) }
+        ensures brief { self.old.to_recheck ≡ [] → NoWakeIsLost self.old.state → NeedNoChild self.new.state.processes self.new.to_recheck × (length self.new.to_recheck ≤ length (foreground_members console self.old.state)) }
         ensures costs { Costs (slots_of_key console byte self.old) self.old self.new }
     {
         let _ = &self.table;

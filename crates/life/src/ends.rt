@@ -18,9 +18,9 @@ use crate::machine::Machine;
 use bitflags::Flags;
 use jobs::Change;
 use posix::{Carried, Life, PendingSignal, Pid, Sig, Status, WaitidOptions};
-use proctable::Kin;
+use proctable::ProcessTable;
 
-impl<K: Kin> Machine<K> {
+impl<K: ProcessTable> Machine<K> {
     /// The heir of a process gets notice of the ends of the zombies among its children, in rising order. No
     /// number of a child is to be had once they are the heir's, so it gets notice before.
     #[tactic(auto, using(crate::proofs::NoticeWalkLemmas::walk, crate::proofs::ChildLemmas::child_there, crate::proofs::ChildLemmas::child_less))]
@@ -47,7 +47,7 @@ impl<K: Kin> Machine<K> {
     /// The process is a zombie and loses its place, and its children become those of its heir. It is to be rechecked; its
     /// parent is, where it has no place, if it waits for just this child, and its heir if one of the children has
     /// something to report, as otherwise they can act no more than before. Its parent.
-    fn leave(&mut self, pid: Pid, heir: Pid, status: Status) -> Pid
+    fn become_zombie(&mut self, pid: Pid, heir: Pid, status: Status) -> Pid
         requires there { IsThere pid self.old }
         requires other { pid ≢ 1 }
         requires heir { CanInherit self.old.state.processes pid heir }
@@ -86,7 +86,7 @@ impl<K: Kin> Machine<K> {
         ensures costs { Costs (7 + 18 * length (children_in pid self.old.state.processes) + length (children_in heir self.old.state.processes)) self.old self.new }
     {
         self.tell_heir(pid, heir);
-        self.leave(pid, heir, status)
+        self.become_zombie(pid, heir, status)
     }
 
     /// Whether a process that is there runs, is stopped or has ended.

@@ -9,9 +9,9 @@ ghost use Rattle.posix.specs.Regular.{IsRegular};
 
 use crate::machine::Machine;
 use posix::Pid;
-use proctable::Kin;
+use proctable::ProcessTable;
 
-impl<K: Kin> Machine<K> {
+impl<K: ProcessTable> Machine<K> {
     /// The member of a process group with the least number above `after`, zombies included (XBD 3 Process
     /// Group). No slot is read.
     pub(crate) fn next_member(&self, group: Pid, after: Pid) -> Option<Pid>

@@ -23,11 +23,11 @@ ghost use Rattle.sched.specs.Places.{next_behind};
 use crate::consoles::{Unchecked, no_readers, unused};
 use crate::noted_bursts::{Notes, run_with_notes};
 use crate::rechecks::recheck_later;
-use jobs::JobTable;
+use jobs::IndexedTable;
 use pidalloc::PidTable;
 use pidset::PidSet;
 use posix::{Pid, Sig, Trap};
-use proctable::{Kin, OwnPart, Record, Snapshot, Stock};
+use proctable::{GrantedPools, OwnPart, ProcessTable, Record, Snapshot};
 use sched::Order;
 use std::alloc::{AllocError, Global};
 use std::marker::Model;
@@ -36,31 +36,31 @@ use umach::World;
 
 /// The state of a world over a table of processes.
 #[derive(Drop)]
-pub struct Machine<K: Kin> {
+pub struct Machine<K: ProcessTable> {
     pub(crate) world: World,
-    pub(crate) table: JobTable<K>,
+    pub(crate) table: IndexedTable<K>,
     pub(crate) pids: PidTable,
     pub(crate) order: Order,
-    /// Those who are to be rechecked: asked after this event whether they can act. Whoever has to be given a place is
-    /// among them.
+    /// The processes to recheck: each is asked after this event whether it can act. Each process that has to be given a
+    /// place is among them.
     pub(crate) to_recheck: PidSet,
     /// While a process ends: the process groups that it and its children kept from being orphaned.
     pub(crate) groups_at_risk: PidSet,
     pub(crate) consoles: Vec<Console>,
-    /// Who waits to read from each console: of those who aren't to be rechecked just they are among them.
+    /// The processes that wait to read from each console. The set is exact but for the processes to recheck.
     pub(crate) readers: Vec<PidSet>,
     /// Whose foreground process group may have lost its members: a record went, one changed its process group or
     /// session, or a foreground was set.
     pub(crate) foregrounds_unchecked: Unchecked,
     /// Pools for the queues of real-time signals.
-    pub(crate) stock: Stock,
+    pub(crate) granted_pools: GrantedPools,
     pub(crate) births: u64,
     pub(crate) ticks: u64,
     pub(crate) dropped: u64,
     pub(crate) halted: bool,
 }
 
-impl<K: Kin> Model for Machine<K> {
+impl<K: ProcessTable> Model for Machine<K> {
     ghost use Rattle.life.specs.Machines.{MachineView, state_of, IsMachine};
 
     ghost Value = { MachineView };
@@ -146,17 +146,17 @@ fn room_for(alloc: Global, capacity: usize) -> Result<PidSet, AllocError>
 
 /// A table of process 1 alone; an error where the host has no memory for it.
 #[tactic(auto, using(jobs::proofs::NumberLemmas::nobody_there), unfolding(posix::specs::Tables::children_in))]
-fn first_table<K: Kin>(alloc: Global) -> Result<JobTable<K>, AllocError>
+fn first_table<K: ProcessTable>(alloc: Global) -> Result<IndexedTable<K>, AllocError>
     ensures processes { IfOk result (λ t. t.processes ≡ first_process ∷ []) }
     ensures visits { IfOk result (λ t. t.visits ≤ 6) }
 {
-    let mut table = JobTable::empty(alloc);
+    let mut table = IndexedTable::empty(alloc);
     table.reserve(Pid::INIT)?;
     table.insert(Pid::INIT, Pid::NONE, Record::first(alloc)?);
     Ok(table)
 }
 
-impl<K: Kin> Machine<K> {
+impl<K: ProcessTable> Machine<K> {
     /// The machine at its start; an error where the host has no memory for it.
     #[tactic(auto, using(jobs::proofs::NumberLemmas::nobody_there), unfolding(posix::specs::States::is_in, posix::specs::Tables::children_in))]
     pub fn boot(alloc: Global, world: &World) -> Result<Self, AllocError>
@@ -181,7 +181,7 @@ impl<K: Kin> Machine<K> {
             consoles: terminals.consoles,
             readers: terminals.readers,
             foregrounds_unchecked: Unchecked::Nothing,
-            stock: Stock::new(alloc),
+            granted_pools: GrantedPools::new(alloc),
             births: 1,
             ticks: 0,
             dropped: 0,
@@ -281,7 +281,7 @@ impl<K: Kin> Machine<K> {
     /// Lends what a process that is there may change of itself. Nothing else changes.
     pub fn own(&mut self, pid: Pid) -> &mut OwnPart
         requires { IsThere pid self.old }
-        ensures* lends { sem 𝓛 (Lends (machine_row K.row K.Kin) own_row self.entry result (lent K.one_more self.old pid)) }
+        ensures* lends { sem 𝓛 (Lends (machine_row K.row K.ProcessTable) own_row self.entry result (lent K.one_more self.old pid)) }
         ensures value { IfSome (process self.old.state pid) (λ me. result.now ≡ own_of me) }
         ensures regular { IsRegular self.old.state }
     {
@@ -345,7 +345,7 @@ impl<K: Kin> Machine<K> {
     /// Shows what a process that is there may change of itself. Nothing changes.
     pub fn look(&mut self, pid: Pid) -> &OwnPart
         requires { IsThere pid self.old }
-        ensures* lends { sem 𝓛 (follows_so (machine_row K.row K.Kin) (machine_row K.row K.Kin) self.entry.ghost_name none (λ _ _. ⊤) (λ n. n ≡ looked K.one_more self.old)) }
+        ensures* lends { sem 𝓛 (follows_so (machine_row K.row K.ProcessTable) (machine_row K.row K.ProcessTable) self.entry.ghost_name none (λ _ _. ⊤) (λ n. n ≡ looked K.one_more self.old)) }
         ensures value { IfSome (process self.old.state pid) (λ me. result.now ≡ own_of me) }
         ensures regular { IsRegular self.old.state }
     {

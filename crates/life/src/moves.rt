@@ -14,9 +14,9 @@ ghost use Rattle.life.specs.Machines.{Costs, AreSame, IfThere};
 use crate::caller::Caller;
 use crate::machine::Machine;
 use posix::{Errno, Pid};
-use proctable::Kin;
+use proctable::ProcessTable;
 
-impl<K: Kin> Machine<K> {
+impl<K: ProcessTable> Machine<K> {
     /// The process that r1 of the caller names moves to the process group that r2 names; 0 stands for the caller,
     /// and for the number of the process itself. The number of the group. The process and its parent are to be
     /// rechecked, as either may wait for the members of a group. At an error the caller may not move it, or it or the

@@ -10,9 +10,9 @@ ghost use Rattle.life.specs.Machines.{Costs, Finds, IsThere, IfThere};
 
 use crate::machine::Machine;
 use posix::Pid;
-use proctable::{Kin, Snapshot};
+use proctable::{ProcessTable, Snapshot};
 
-impl<K: Kin> Machine<K> {
+impl<K: ProcessTable> Machine<K> {
     /// The small fields of the process that a word names to a caller that is there: 0 is the caller itself.
     /// None where no process has that number, a negative one too (XSH getpgid, getsid). Nothing changes.
     #[inline(always)]

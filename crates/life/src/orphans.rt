@@ -14,9 +14,9 @@ ghost use Rattle.life.specs.Machines.{Notes, IsThere, IfThere, with_processes};
 
 use crate::machine::Machine;
 use posix::{Pid, Sig, Status};
-use proctable::Kin;
+use proctable::ProcessTable;
 
-impl<K: Kin> Machine<K> {
+impl<K: ProcessTable> Machine<K> {
     // ---- before the end
 
     /// The group of a process that is there is noted where the process keeps it from being orphaned. No slot is read.

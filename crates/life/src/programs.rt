@@ -9,9 +9,9 @@ ghost use Rattle.life.specs.Machines.{Costs, IsThere};
 use crate::machine::Machine;
 use crate::rechecks::recheck_later;
 use posix::Pid;
-use proctable::Kin;
+use proctable::ProcessTable;
 
-impl<K: Kin> Machine<K> {
+impl<K: ProcessTable> Machine<K> {
     /// A process that is there runs the program with this number in place of its own, and true is the answer;
     /// where there is no such program nothing changes, and it is false (XSH exec).
     pub fn exec(&mut self, pid: Pid, number: u8) -> bool

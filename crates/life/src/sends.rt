@@ -16,7 +16,7 @@ ghost use Rattle.life.specs.Machines.{Costs, Finds, Changes, IsThere, IfThere, w
 use crate::caller::Caller;
 use crate::machine::Machine;
 use posix::{PendingSignal, Pid, Sending, Sig, Target};
-use proctable::{Kin, NoPools, Pools, Snapshot, Stock};
+use proctable::{GrantedPools, NoPools, Pools, ProcessTable, Snapshot};
 use std::mem::replace;
 
 /// Whether a sender means a process by a target; all are those but the sender and process 1 (XSH kill).
@@ -65,10 +65,10 @@ fn realtime(signal: &Option<PendingSignal>) -> Option<PendingSignal>
     }
 }
 
-impl<K: Kin> Machine<K> {
+impl<K: ProcessTable> Machine<K> {
     /// Sends a signal to a process that is there, with this snapshot, where the sender may; `None` only
     /// checks. Where it would be queued its queue isn't full, and a pool waits for it.
-    fn send_to<S: Pools>(
+    fn send_if_permitted<S: Pools>(
         &mut self,
         me: &Caller,
         signal: &Option<PendingSignal>,
@@ -97,7 +97,7 @@ impl<K: Kin> Machine<K> {
 
     /// Sends a signal to the process with a number, if it is there and the sender means it. Where it would be queued
     /// its queue isn't full, and a pool waits for it.
-    fn send_to_one<S: Pools>(
+    fn send_to_number<S: Pools>(
         &mut self,
         me: &Caller,
         signal: &Option<PendingSignal>,
@@ -111,13 +111,15 @@ impl<K: Kin> Machine<K> {
         ensures pools { S.pools pools.old ≤ S.pools pools.new + length (queuers_among (process_like me.now) target.now (number_in signal.now) (filter (has_pid pid) self.old.state.processes)) }
     {
         match self.snapshot(pid) {
-            Some(it) if is_target(me, target, &it) => self.send_to(me, signal, &it, pools),
+            Some(it) if is_target(me, target, &it) => self.send_if_permitted(
+                me, signal, &it, pools,
+            ),
             _ => Sending::NobodyFound,
         }
     }
 
-    /// Who comes next, after the number `after`, of the candidates of a sender: of those among whom it finds whom it
-    /// means.
+    /// The next candidate of a sender with a number above `after`. The processes that the target means are among the
+    /// candidates.
     pub(crate) fn next_target(&mut self, me: &Caller, target: &Target, after: Pid) -> Option<Pid>
         ensures finds { Finds 1 self.old self.new (IsNext (is_target_of (process_like me.now) target.now) after self.old.state.processes result) }
         ensures is { result ≡ first_pid (above after (filter (is_candidate (process_like me.now) target.now) self.old.state.processes)) }
@@ -131,7 +133,7 @@ impl<K: Kin> Machine<K> {
 
     /// Sends a signal to all processes that the sender means, in rising order. No queue is full for which it would be
     /// queued, and a pool waits for each.
-    fn send_to_all<S: Pools>(
+    fn send_to_matching<S: Pools>(
         &mut self,
         me: &Caller,
         signal: &Option<PendingSignal>,
@@ -145,17 +147,17 @@ impl<K: Kin> Machine<K> {
         let mut sending = Sending::NobodyFound;
         let mut next = self.next_target(me, target, Pid::NONE);
         while let Some(pid) = next {
-            sending = sending.max(self.send_to_one(me, signal, target, pid, pools));
+            sending = sending.max(self.send_to_number(me, signal, target, pid, pools));
             next = self.next_target(me, target, pid);
         }
         sending
     }
 
-    /// Sends a signal of a caller to those that its target means and it may signal, and tells whom it found;
+    /// Sends a signal of a caller to the processes that its target means and it may signal, and tells whom it found;
     /// `None` only checks. No queue is full for which it would be queued, and a pool waits for each. Where nobody is
     /// found or may be signalled nothing changes (XSH kill).
     #[inline(always)]
-    pub(crate) fn send_with<S: Pools>(
+    pub(crate) fn send_from_pools<S: Pools>(
         &mut self,
         me: &Caller,
         target: Target,
@@ -169,21 +171,21 @@ impl<K: Kin> Machine<K> {
     {
         let _ = &self.table;
         match target {
-            Target::Process(pid) => self.send_to_one(me, &signal, &target, pid, pools),
+            Target::Process(pid) => self.send_to_number(me, &signal, &target, pid, pools),
             Target::OwnGroup | Target::Group(_) | Target::All => {
-                self.send_to_all(me, &signal, &target, pools)
+                self.send_to_matching(me, &signal, &target, pools)
             }
             Target::Nobody => Sending::NobodyFound,
         }
     }
 
     /// Makes so many pools wait, if any. Whether they do: else the host has no memory for them.
-    fn reserve_pools(&mut self, stock: &mut Stock, count: usize) -> bool
-        ensures enough { result ≡ true → count ≤ stock.new.pools }
+    fn reserve_pools(&mut self, granted_pools: &mut GrantedPools, count: usize) -> bool
+        ensures enough { result ≡ true → count ≤ granted_pools.new.pools }
         ensures lack { result ≡ false → 0 < count }
         ensures same { self.new ≡ self.old }
     {
-        count == 0 || self.table.reserve_pools(stock, count).is_ok()
+        count == 0 || self.table.reserve_pools(granted_pools, count).is_ok()
     }
 
     /// Sends a real-time signal as [`Machine::send`] says.
@@ -198,14 +200,14 @@ impl<K: Kin> Machine<K> {
         if survey.is_full {
             return Sending::QueueFull;
         }
-        let empty = self.stock.without_pools();
-        let mut stock = replace(&mut self.stock, empty);
-        let sending = if self.reserve_pools(&mut stock, survey.queuers) {
-            self.send_with(me, target, Some(signal), &mut stock)
+        let empty = self.granted_pools.without_pools();
+        let mut granted_pools = replace(&mut self.granted_pools, empty);
+        let sending = if self.reserve_pools(&mut granted_pools, survey.queuers) {
+            self.send_from_pools(me, target, Some(signal), &mut granted_pools)
         } else {
             Sending::NoMemory
         };
-        self.stock = stock;
+        self.granted_pools = granted_pools;
         sending
     }
 
@@ -221,7 +223,7 @@ impl<K: Kin> Machine<K> {
     {
         match realtime(&signal) {
             Some(signal) => self.send_realtime(me, target, signal),
-            None => self.send_with(me, target, signal, &mut NoPools),
+            None => self.send_from_pools(me, target, signal, &mut NoPools),
         }
     }
 }

@@ -14,9 +14,9 @@ ghost use Rattle.life.specs.Machines.{Changes, IsThere, IfThere, with_processes}
 
 use crate::machine::Machine;
 use posix::{Carried, Effect, PendingSignal, Pid, Sig};
-use proctable::{Kin, Pools};
+use proctable::{Pools, ProcessTable};
 
-impl<K: Kin> Machine<K> {
+impl<K: ProcessTable> Machine<K> {
     /// A standard signal is generated for a process that is there. CONT continues one that is stopped, and its parent
     /// gets notice (XSH 2.4.1, 2.4.3).
     #[inline(always)]

@@ -10,9 +10,9 @@ ghost use Rattle.life.specs.Machines.{Changes, IfThere, with_processes};
 
 use crate::machine::Machine;
 use posix::{Life, News, Pid, Sig, Status};
-use proctable::Kin;
+use proctable::ProcessTable;
 
-impl<K: Kin> Machine<K> {
+impl<K: ProcessTable> Machine<K> {
     /// A signal stops a process that is there and no zombie: it loses its place, that it was stopped is to be
     /// reported, and its parent gets notice of it. A call that it is blocked in stays (XSH 2.4.3).
     pub fn stop_process(&mut self, pid: Pid, sig: Sig)

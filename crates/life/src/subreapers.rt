@@ -5,7 +5,7 @@ ghost use Rattle.std.specs.List.{list_any};
 ghost use Rattle.posix.specs.States.{change};
 ghost use Rattle.posix.specs.Heirs.{heir_in};
 ghost use Rattle.posix.specs.Subreapers.{marked_as};
-ghost use Rattle.jobs.specs.Books.{is_living_subreaper};
+ghost use Rattle.jobs.specs.Indexes.{is_living_subreaper};
 ghost use Rattle.life.specs.Ends.{slots_of_heir};
 ghost use Rattle.life.specs.Rechecks.{rechecks};
 ghost use Rattle.life.specs.Machines.{AreSame, Changes, IsThere};
@@ -13,9 +13,9 @@ ghost use Rattle.life.specs.Machines.{AreSame, Changes, IsThere};
 use crate::machine::Machine;
 use crate::rechecks::recheck_later;
 use posix::{Life, Pid};
-use proctable::Kin;
+use proctable::ProcessTable;
 
-impl<K: Kin> Machine<K> {
+impl<K: ProcessTable> Machine<K> {
     /// A process that is there becomes a child subreaper, or is none any more, and its call gives 0. It is to be rechecked
     /// where it has no place, and nobody else is: who takes in children shows to nobody before an end.
     pub fn mark(&mut self, pid: Pid, mark: bool)

@@ -1,4 +1,4 @@
-//! A look at those whom a real-time signal would be queued for, before it is.
+//! A look at the processes for which a real-time signal would be queued, before it is.
 
 ghost use Rattle.std.specs.Prelude.{◌≡◌, ◌+◌, ◌*◌, ◌<◌, ◌≤◌, ◌^◌, true, filter, length};
 ghost use Rattle.posix.specs.Tables.{has_pid};
@@ -12,9 +12,9 @@ use crate::caller::Caller;
 use crate::machine::Machine;
 use crate::sends::{is_target, may_signal};
 use posix::{Pid, Sending, Sig, Target};
-use proctable::Kin;
+use proctable::ProcessTable;
 
-/// What a look at those whom a sender means tells of a real-time signal.
+/// What a real-time signal would meet at the processes that its sender means.
 #[derive(Clone, Copy, Debug, PartialEq, Eq)]
 pub(crate) struct Survey {
     /// Whom the signal finds.
@@ -26,14 +26,14 @@ pub(crate) struct Survey {
 }
 
 impl Survey {
-    /// That of nobody.
+    /// The survey of no process.
     const NOBODY: Survey = Survey {
         found: Sending::NobodyFound,
         is_full: false,
         queuers: 0,
     };
 
-    /// That of two parts, with fewer than 2 to the power of 64 for which the signal would be queued.
+    /// The survey of two parts. Together fewer than 2 to the power of 64 processes would queue the signal.
     fn and(self, other: Survey) -> Survey
         requires { self.queuers + other.queuers < 2 ^ 64 }
         ensures { result ≡ joined_surveys self other }
@@ -46,7 +46,7 @@ impl Survey {
     }
 }
 
-impl<K: Kin> Machine<K> {
+impl<K: ProcessTable> Machine<K> {
     /// The survey of the process with a number, if it is there and the sender means it.
     fn survey_one(&mut self, me: &Caller, sig: Sig, target: &Target, pid: Pid) -> Survey
         ensures { Finds 2 self.old self.new (result ≡ survey_of (process_like me.now) sig (targets (process_like me.now) target.now (filter (has_pid pid) self.old.state.processes))) }
@@ -86,7 +86,7 @@ impl<K: Kin> Machine<K> {
         survey
     }
 
-    /// A look at those whom a sender means by a target, before it sends them a real-time signal. Nothing changes.
+    /// The survey of the processes that a target means, before a real-time signal is sent to them. Nothing changes.
     pub(crate) fn survey(&mut self, me: &Caller, sig: Sig, target: &Target) -> Survey
         ensures finds { Finds (1 + 3 * length (filter (is_candidate (process_like me.now) target.now) self.old.state.processes)) self.old self.new (result ≡ survey_of (process_like me.now) sig (targets (process_like me.now) target.now self.old.state.processes)) }
         ensures visits { is_one target.now ≡ true → self.new.visits ≤ self.old.visits + 2 }

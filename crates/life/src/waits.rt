@@ -12,7 +12,7 @@ ghost use Rattle.posix.specs.Waits.{is_named as is_named_by, is_something, repor
 ghost use Rattle.life.specs.Waits.{is_meant as is_meant_by, is_reported, slots_of_children, slots_of_wait};
 ghost use Rattle.proctable.specs.Records.{snapshot_of};
 ghost use Rattle.life.specs.Machines.{Finds, Changes, Removes, IsThere, IfThere, with_processes, CanGo, IsGone};
-ghost use Rattle.jobs.specs.Books.{seen_of};
+ghost use Rattle.jobs.specs.Indexes.{seen_of};
 ghost use Rattle.life.specs.Rechecks.{asked_in as asked_in_call, awaits as awaiting, without_gone};
 ghost use Rattle.proctable.specs.Records.{process_of};
 ghost use Rattle.life.specs.Foregrounds.{after_loss as after_loss_of};
@@ -22,10 +22,10 @@ use crate::consoles::{after_loss, mark_reader};
 use crate::machine::Machine;
 use crate::rechecks::forget;
 use bitflags::Flags;
-use jobs::{JobTable, Seen};
+use jobs::{IndexedFields, IndexedTable};
 use pidalloc::PidTable;
 use posix::{Asked, Blocked, Life, News, Pid, Report, Status, Target, WaitidOptions};
-use proctable::{Kin, Record, Snapshot};
+use proctable::{ProcessTable, Record, Snapshot};
 
 /// What the news of a process are for a wait.
 fn report_change(options: WaitidOptions, pid: Pid, news: News) -> Report
@@ -101,9 +101,9 @@ fn asked_in(me: &Record) -> Option<Asked>
     }
 }
 
-/// Whether a process is blocked in a wait that means this child, which is seen so, and asks for what it has to report.
+/// Whether a process is blocked in a wait that means this child, which is in this state, and asks for its report.
 #[tactic(auto, unfolding(crate::specs::Rechecks::awaits, posix::specs::Waits::report_of))]
-pub(crate) fn awaits(me: &Record, child: Pid, seen: &Seen) -> bool
+pub(crate) fn awaits(me: &Record, child: Pid, seen: &IndexedFields) -> bool
     ensures { (p q : ℕ) (it : Process) → it.pid ≡ child → seen.now ≡ seen_of it → result ≡ awaiting (process_of p q me.now) it }
 {
     match asked_in(me) {
@@ -117,7 +117,11 @@ pub(crate) fn awaits(me: &Record, child: Pid, seen: &Seen) -> bool
 
 /// The record of a process that is there, without children, goes, and it no longer bears its own number, its group's
 /// and its session's, in the parts of a machine. Its small fields.
-pub(crate) fn discard<K: Kin>(table: &mut JobTable<K>, pids: &mut PidTable, pid: Pid) -> Snapshot
+pub(crate) fn discard<K: ProcessTable>(
+    table: &mut IndexedTable<K>,
+    pids: &mut PidTable,
+    pid: Pid,
+) -> Snapshot
     requires { CanGo table.old.processes pids.old pid }
     ensures value { Some result ≡ option_map snapshot_of (lookup pid table.old.processes) }
     ensures processes { table.new.processes ≡ removed pid table.old.processes }
@@ -131,7 +135,7 @@ pub(crate) fn discard<K: Kin>(table: &mut JobTable<K>, pids: &mut PidTable, pid:
     snapshot
 }
 
-impl<K: Kin> Machine<K> {
+impl<K: ProcessTable> Machine<K> {
     /// What a wait for one process has to report: `NoChild` where that isn't a child of the caller.
     #[tactic(auto, using(crate::proofs::ChildLemmas::report_read))]
     fn report_of_one(&mut self, parent: Pid, child: Pid, options: WaitidOptions) -> Report
@@ -169,8 +173,8 @@ impl<K: Kin> Machine<K> {
         }
     }
 
-    /// The least of the children that such a wait means and that have something to report to it. No slot is read, and no
-    /// child looked at of whom the wait doesn't want what there is to report.
+    /// The least child that such a wait means and that has something to report to it. No slot is read, and no child is
+    /// looked at whose report the wait doesn't ask for.
     fn first_wanted(&self, parent: Pid, group: &Option<Pid>, options: WaitidOptions) -> Option<Pid>
         ensures value { result ≡ first_pid (filter (is_meant_by group.now) (wanted_in options.0 parent self.now.state.processes)) }
         ensures regular { IsRegular self.now.state }
@@ -290,10 +294,10 @@ impl<K: Kin> Machine<K> {
     }
 
     /// A wait has reported the news of a process that is there: they become none. Nobody can act by it who couldn't.
-    pub fn tell_news(&mut self, pid: Pid)
+    pub fn clear_news(&mut self, pid: Pid)
         requires { IsThere pid self.old }
         ensures { Changes 2 self.old self.new (change self.old.state pid news_told) self.old.to_recheck }
     {
-        self.table.change_seen(pid, |fields| fields.tell_news());
+        self.table.change_seen(pid, |fields| fields.clear_news());
     }
 }

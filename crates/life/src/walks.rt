@@ -11,9 +11,9 @@ ghost use Rattle.pidset.specs.Numbers.{Rises};
 
 use crate::machine::Machine;
 use posix::{Pid, WaitidOptions};
-use proctable::Kin;
+use proctable::ProcessTable;
 
-impl<K: Kin> Machine<K> {
+impl<K: ProcessTable> Machine<K> {
     /// The process with the least number above `pid`.
     pub fn next_after(&mut self, pid: Pid) -> Option<Pid>
         ensures { Finds 1 self.old self.new (result ≡ next_above pid self.old.state.processes) }

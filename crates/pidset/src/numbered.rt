@@ -46,8 +46,8 @@ pub fn search<T: Numbered, K: Numbered>(items: &[T], key: &K) -> Result<usize, u
     items.binary_search_by_key(&number, |item| item.number())
 }
 
-/// The same, where the item often stands at `guess`, or behind it: so it is for who was looked for last, and
-/// in a walk. Any guess will do. Where the item is there, but not the last one, the guess is its place then.
+/// [`search`] for an item that often stands at `guess` or behind it, as in a walk, or where the item before was the
+/// same. Any guess will do. Where the item is there, and isn't the last one, the guess becomes its place.
 pub fn search_near<T: Numbered, K: Numbered>(
     items: &[T],
     guess: &mut usize,
@@ -129,7 +129,7 @@ pub fn next_above<'a, T: Numbered, K: Numbered>(items: &'a [T], key: &K) -> Opti
     behind(items, search(items, key))
 }
 
-/// The same, where `key` often stands at `guess`, as for [`search_near`].
+/// [`next_above`], where `key` often stands at `guess`, as for [`search_near`].
 pub fn next_above_near<'a, T: Numbered, K: Numbered>(
     items: &'a [T],
     guess: &mut usize,

@@ -4,23 +4,23 @@
 
 mod cells;
 mod entry;
-pub mod kin;
+pub mod linked_table;
 mod links;
 mod node;
 mod node_slots;
 pub mod own_part;
-pub mod proc_table;
+pub mod process_table;
 pub mod records;
 pub mod scan;
 mod slot;
 pub mod snapshot;
 pub mod spare;
 
-pub use kin::Kin;
+pub use linked_table::LinkedTable;
 pub use own_part::OwnPart;
-pub use proc_table::ProcTable;
+pub use process_table::ProcessTable;
 pub use records::Record;
 pub use scan::ScanTable;
-pub use signal::{NoPools, Pools, RtPool, Stock};
+pub use signal::{GrantedPools, NoPools, Pools, RealtimePool};
 pub use snapshot::Snapshot;
 pub use spare::Spare;

@@ -17,7 +17,7 @@ use crate::own_part::OwnPart;
 use crate::snapshot::Snapshot;
 use crate::spare::Spare;
 use posix::{Carried, Effect, Life, News, PendingSignal, Pid, Sig, Status};
-use signal::RtPool;
+use signal::RealtimePool;
 use std::alloc::{AllocError, Global};
 
 /// A process without its number and its parent.
@@ -121,7 +121,7 @@ impl Record {
 
     /// A wait has reported what happened to the process.
     #[tactic(auto, unfolding(posix::specs::Waits::news_told))]
-    pub fn tell_news(&mut self)
+    pub fn clear_news(&mut self)
         ensures { (p q : ℕ) → process_of p q self.new ≡ news_told (process_of p q self.old) }
     {
         self.news = News::Nothing;
@@ -151,7 +151,12 @@ impl Record {
     /// 2.4.2). Without a pool, or where the queue is full, nothing changes. What comes back is the pool where it isn't
     /// needed, as where the signal isn't kept.
     #[tactic(auto, unfolding(crate::specs::Records::queued, posix::specs::Generation::signalled))]
-    pub fn queue(&mut self, pid: Pid, signal: PendingSignal, pool: Option<RtPool>) -> Option<RtPool>
+    pub fn queue(
+        &mut self,
+        pid: Pid,
+        signal: PendingSignal,
+        pool: Option<RealtimePool>,
+    ) -> Option<RealtimePool>
         requires { is_realtime signal.sig ≡ true }
         ensures state { (q : ℕ) → process_of pid q self.new ≡ queued (is_some pool) signal (process_of pid q self.old) }
         ensures back { (is_queuer signal.sig (process_of pid 0 self.old) ≡ true) ⊎ (result ≡ pool) }

@@ -5,7 +5,7 @@ ghost use Rattle.std.proofs.Common.{arith};
 ghost use Rattle.posix.specs.Tables.{IsRising, lookup, is_child, next_sibling, reparented};
 ghost use Rattle.proctable.specs.ScanTable.{scan_with_record};
 
-use crate::kin::Kin;
+use crate::process_table::ProcessTable;
 use crate::records::Record;
 use crate::slot::Slot;
 use crate::snapshot::Snapshot;
@@ -13,7 +13,7 @@ use crate::spare::{Spare, Spares};
 use pidset::Numbered;
 use pidset::numbered::{found, item_of, next_above, put_in, take_out};
 use posix::Pid;
-use signal::Stock;
+use signal::GrantedPools;
 use std::alloc::{AllocError, Global};
 use std::marker::Model;
 
@@ -38,7 +38,7 @@ impl Model for ScanTable {
     ghost invariant = { λ t. IsRising t.slots.items };
 }
 
-impl Kin for ScanTable {
+impl ProcessTable for ScanTable {
     ghost contents = { λ t. t.processes };
 
     ghost room = { λ t. t.room };
@@ -69,8 +69,12 @@ impl Kin for ScanTable {
         self.slots.reserve(1)
     }
 
-    fn reserve_pools(&mut self, stock: &mut Stock, count: usize) -> Result<(), AllocError> {
-        stock.reserve(count)
+    fn reserve_pools(
+        &mut self,
+        granted_pools: &mut GrantedPools,
+        count: usize,
+    ) -> Result<(), AllocError> {
+        granted_pools.reserve(count)
     }
 
     fn insert(&mut self, pid: Pid, parent: Pid, fields: Record) {

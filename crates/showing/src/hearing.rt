@@ -2,12 +2,12 @@
 
 ghost use Rattle.showing.specs.Pasts.{IsSame};
 
-use crate::past::{Hear, Past};
-use crate::state::{MOST_NUMBERS, turns};
+use crate::replay::{Observer, Replay};
+use crate::state::{processes, turns};
 use kernel::Kernel;
-use posix::{Entry, Event, Pid, Sig};
+use posix::{Entry, Event, Pid};
 use std::alloc::{AllocError, Global};
-use telling::{Actor, Row, Sent, Teller};
+use telling::{Actor, Reading, Sent, Teller};
 
 /// Whoever tells the events.
 #[derive(Drop)]
@@ -15,26 +15,32 @@ pub struct Telling<'l, 't> {
     pub teller: Teller<'l, 't>,
 }
 
-/// The processes, as they are compared, after an event that sent this, or before one.
-fn rows(alloc: Global, kernel: &mut Kernel, sent: Option<&Sent>) -> Result<Vec<Row>, AllocError>
+/// Reads these processes, after an event that sent this, or before one.
+fn read(
+    kernel: &mut Kernel,
+    pids: &[Pid],
+    sent: Option<&Sent>,
+    reading: &mut Reading,
+) -> Result<(), AllocError>
     ensures { IsSame kernel.old kernel.new }
 {
-    let turns = turns(alloc, kernel)?;
-    let mut rows = Vec::new(alloc);
-    let mut last = Pid::NONE;
-    for _ in 0..MOST_NUMBERS {
-        let Some(pid) = kernel.next_process(last) else {
-            return Ok(rows);
-        };
-        let Some(it) = kernel.snapshot(pid) else {
-            return Ok(rows);
-        };
-        let row = Row::new(it, kernel.look(pid), turns.contains(&pid), sent);
-        let last_queued: Option<Sig> = row.last_queued;
-        rows.push(Row { last_queued, ..row })?;
-        last = pid;
+    for pid in pids {
+        match kernel.snapshot(*pid) {
+            Some(it) => reading.add(it, kernel.look(*pid), sent)?,
+            None => reading.miss(*pid)?,
+        }
     }
-    Ok(rows)
+    Ok(())
+}
+
+/// Reads all processes, before an event.
+fn read_all(alloc: Global, kernel: &mut Kernel) -> Result<Reading, AllocError>
+    ensures { IsSame kernel.old kernel.new }
+{
+    let mut reading = Reading::new(alloc, turns(alloc, kernel)?);
+    let pids = processes(alloc, kernel)?;
+    read(kernel, pids.as_slice(), None, &mut reading)?;
+    Ok(reading)
 }
 
 /// What the current process is about to do; none where no process can act.
@@ -60,32 +66,34 @@ fn foreground_of(kernel: &Kernel, event: Event) -> Pid {
     }
 }
 
-impl Hear for Telling<'_, '_> {
-    fn before(&mut self, past: &mut Past, event: Event) -> Result<(), AllocError> {
-        let rows = rows(self.teller.view.alloc, &mut past.kernel, None)?;
+impl Observer for Telling<'_, '_> {
+    fn before(&mut self, replay: &mut Replay, event: Event) -> Result<(), AllocError> {
+        let events = replay.kernel.events();
+        if !self.teller.knows(events) {
+            let all = read_all(self.teller.view.alloc, &mut replay.kernel)?;
+            self.teller.learn(events, all);
+        }
         let actor = match event {
-            Event::Step => actor_of(&mut past.kernel),
+            Event::Step => actor_of(&mut replay.kernel),
             Event::Tick | Event::Key { .. } => None,
         };
-        self.teller.begin(rows, actor);
+        self.teller.begin(actor);
         Ok(())
     }
 
     fn after(
         &mut self,
-        past: &mut Past,
+        replay: &mut Replay,
         event: Event,
         entries: &[Entry],
     ) -> Result<(), AllocError> {
-        let foreground = foreground_of(&past.kernel, event);
-        let sent = self.teller.sent(event, entries, foreground);
-        let new = rows(self.teller.view.alloc, &mut past.kernel, sent.as_ref())?;
-        self.teller.tell(
-            past.kernel.events(),
-            event,
-            entries,
-            new.as_slice(),
-            sent.as_ref(),
-        )
+        let (alloc, kernel) = (self.teller.view.alloc, &mut replay.kernel);
+        let foreground = foreground_of(kernel, event);
+        let sent = self.teller.sent(event, entries, foreground, kernel.ticks());
+        let mut reading = Reading::new(alloc, turns(alloc, kernel)?);
+        let pids = self.teller.concerned(entries, sent, &reading)?;
+        read(kernel, pids.as_slice(), sent.as_ref(), &mut reading)?;
+        self.teller
+            .tell(kernel.events(), event, entries, reading, sent.as_ref())
     }
 }

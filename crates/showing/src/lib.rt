@@ -3,7 +3,7 @@
 #![tactic(auto)]
 
 mod hearing;
-mod past;
+mod replay;
 mod serving;
 mod state;
 mod stepping;

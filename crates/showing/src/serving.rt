@@ -2,9 +2,10 @@
 
 ghost use Rattle.std.specs.Prelude.{◌≡◌, ◌≤◌, IfOk, None, Ok, length};
 ghost use Rattle.text.specs.EventTexts.{most_events};
+ghost use Rattle.showing.specs.Statuses.{status_of};
 
 use crate::hearing::Telling;
-use crate::past::{Past, past_at, run_to};
+use crate::replay::{Replay, past_at, run_to};
 use crate::state::put_state;
 use crate::stepping::{Ask, StepFault, Steps};
 use crate::words::{Request, process_of, requested};
@@ -79,6 +80,7 @@ impl Failure<'_> {
     fn status(self) -> u8
         ensures least { 1 ≤ result }
         ensures most { result ≤ 3 }
+        ensures is { result ≡ status_of self.entry }
     {
         match self {
             Failure::Input(why) => why.status(),
@@ -123,7 +125,7 @@ const TOLD_AT_ONCE: u64 = 1_000;
 
 /// Gives the events up to the one with number `last`, and puts a line for each.
 fn put_events<'a, O: Sink>(
-    past: &mut Past,
+    replay: &mut Replay,
     telling: &mut Telling<'_, '_>,
     events: &EventList,
     last: u64,
@@ -132,8 +134,8 @@ fn put_events<'a, O: Sink>(
     requires { length events.now ≤ most_events }
 {
     for _ in 0..=last / TOLD_AT_ONCE {
-        let next = past.kernel.events().saturating_add(TOLD_AT_ONCE);
-        run_to(past, events, next.min(last), telling)?;
+        let next = replay.kernel.events().saturating_add(TOLD_AT_ONCE);
+        run_to(replay, events, next.min(last), telling)?;
         put_all(out, telling.teller.text.as_str().as_bytes())?;
         telling.teller.text.clear();
     }
@@ -143,11 +145,11 @@ fn put_events<'a, O: Sink>(
 /// Puts the state as it is now.
 fn put_now<'a, O: Sink>(
     view: View<'_, '_>,
-    past: &mut Past,
+    replay: &mut Replay,
     out: &mut O,
 ) -> Result<(), Failure<'a>> {
     let mut text = String::new(view.alloc);
-    put_state(view, &mut text, past)?;
+    put_state(view, &mut text, replay)?;
     put_all(out, text.as_str().as_bytes())?;
     Ok(())
 }
@@ -157,7 +159,7 @@ fn put_now<'a, O: Sink>(
 fn serve_past<'a, 'l, 't, O: Sink, A: Ask>(
     view: View<'l, 't>,
     request: &Request<'a>,
-    past: &mut Past,
+    replay: &mut Replay,
     inputs: &'t Inputs,
     last: u64,
     out: &mut O,
@@ -166,13 +168,13 @@ fn serve_past<'a, 'l, 't, O: Sink, A: Ask>(
     requires { length inputs.now.events ≤ most_events }
 {
     if request.step {
-        Steps::new(view, &inputs.world, &inputs.events).follow_all(past, ask, out)?;
+        Steps::new(view, &inputs.world, &inputs.events).follow_all(replay, ask, out)?;
         Ok(())
     } else if request.calls {
         let teller = Teller::new(view, inputs.world.programs());
-        put_events(past, &mut Telling { teller }, &inputs.events, last, out)
+        put_events(replay, &mut Telling { teller }, &inputs.events, last, out)
     } else {
-        put_now(view, past, out)
+        put_now(view, replay, out)
     }
 }
 
@@ -201,8 +203,8 @@ fn serve_listed<'a, 'l, 't, O: Sink, A: Ask>(
     } else {
         last
     };
-    let mut past = past_at(alloc, &inputs.world, &inputs.events, from)?;
-    serve_past(view, request, &mut past, inputs, last, out, ask)
+    let mut replay = past_at(alloc, &inputs.world, &inputs.events, from)?;
+    serve_past(view, request, &mut replay, inputs, last, out, ask)
 }
 
 /// Does what is asked for of a world and its events.

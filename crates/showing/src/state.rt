@@ -2,7 +2,7 @@
 
 ghost use Rattle.showing.specs.Pasts.{IsSame};
 
-use crate::past::Past;
+use crate::replay::Replay;
 use kernel::Kernel;
 use posix::{Life, Pid};
 use proctable::Snapshot;
@@ -11,7 +11,7 @@ use std::fmt::Write;
 use telling::{Around, Terminal, Times, View, put_console, put_process, put_turns};
 
 /// More numbers than processes can have.
-pub const MOST_NUMBERS: u32 = 40_000;
+const MOST_NUMBERS: u32 = 40_000;
 
 /// The processes in the order of their turns.
 pub fn turns(alloc: Global, kernel: &Kernel) -> Result<Vec<Pid>, AllocError> {
@@ -27,6 +27,22 @@ pub fn turns(alloc: Global, kernel: &Kernel) -> Result<Vec<Pid>, AllocError> {
     Ok(turns)
 }
 
+/// The processes in the order of their numbers.
+pub fn processes(alloc: Global, kernel: &mut Kernel) -> Result<Vec<Pid>, AllocError>
+    ensures { IsSame kernel.old kernel.new }
+{
+    let mut pids = Vec::new(alloc);
+    let mut last = Pid::NONE;
+    for _ in 0..MOST_NUMBERS {
+        let Some(pid) = kernel.next_process(last) else {
+            return Ok(pids);
+        };
+        pids.push(pid)?;
+        last = pid;
+    }
+    Ok(pids)
+}
+
 /// The number of the console that is the terminal of a session.
 fn console_of(kernel: &Kernel, session: Pid) -> Option<usize> {
     for index in 0..usize::from(kernel.consoles()) {
@@ -37,8 +53,27 @@ fn console_of(kernel: &Kernel, session: Pid) -> Option<usize> {
     None
 }
 
-/// Whether another living process is in the session that a process leads.
-fn has_company(kernel: &mut Kernel, leader: Pid) -> bool
+/// Processes that are asked for together.
+#[derive(Clone, Copy)]
+enum Members {
+    /// The members of a process group.
+    OfGroup(Pid),
+    /// The members of the session that this process leads, but for the leader.
+    LedBy(Pid),
+}
+
+impl Members {
+    /// Whether a process is one of them.
+    fn has(self, it: &Snapshot) -> bool {
+        match self {
+            Members::OfGroup(group) => it.group == group,
+            Members::LedBy(leader) => it.session == leader && it.pid != leader,
+        }
+    }
+}
+
+/// Whether one of the members hasn't ended.
+fn has_living(kernel: &mut Kernel, members: Members) -> bool
     ensures { IsSame kernel.old kernel.new }
 {
     let mut last = Pid::NONE;
@@ -46,10 +81,10 @@ fn has_company(kernel: &mut Kernel, leader: Pid) -> bool
         let Some(pid) = kernel.next_process(last) else {
             return false;
         };
-        let Some(other) = kernel.snapshot(pid) else {
+        let Some(it) = kernel.snapshot(pid) else {
             return false;
         };
-        if other.session == leader && pid != leader && !matches!(other.life, Life::Zombie(_)) {
+        if members.has(&it) && !matches!(it.life, Life::Zombie(_)) {
             return true;
         }
         last = pid;
@@ -64,7 +99,7 @@ fn terminal_of(kernel: &mut Kernel, it: &Snapshot) -> Option<Terminal>
     let number = console_of(kernel, it.session)?;
     Some(Terminal {
         number,
-        is_shared: it.session != it.pid || has_company(kernel, it.pid),
+        is_shared: it.session != it.pid || has_living(kernel, Members::LedBy(it.pid)),
     })
 }
 
@@ -95,55 +130,30 @@ fn put_if_there(
 fn put_processes(
     view: View<'_, '_>,
     text: &mut String,
-    past: &mut Past,
+    replay: &mut Replay,
     turns: &[Pid],
 ) -> Result<(), AllocError>
-    ensures { IsSame past.old.kernel past.new.kernel }
+    ensures { IsSame replay.old.kernel replay.new.kernel }
 {
-    let mut last = Pid::NONE;
-    for _ in 0..MOST_NUMBERS {
-        let Some(pid) = past.kernel.next_process(last) else {
-            return Ok(());
-        };
-        if view.has(pid) {
-            let times = past.since.of(pid);
-            put_if_there(view, text, &mut past.kernel, times, turns, pid)?;
+    for pid in processes(view.alloc, &mut replay.kernel)?.as_slice() {
+        if view.has(*pid) {
+            let times = replay.since.of(*pid);
+            put_if_there(view, text, &mut replay.kernel, times, turns, *pid)?;
         }
-        last = pid;
     }
     Ok(())
 }
 
 /// Writes which processes that were asked for aren't there.
-fn put_missing(view: View<'_, '_>, text: &mut String, past: &mut Past) -> Result<(), AllocError>
-    ensures { IsSame past.old.kernel past.new.kernel }
+fn put_missing(view: View<'_, '_>, text: &mut String, replay: &mut Replay) -> Result<(), AllocError>
+    ensures { IsSame replay.old.kernel replay.new.kernel }
 {
     for pid in view.only {
-        if past.kernel.snapshot(*pid).is_none() {
+        if replay.kernel.snapshot(*pid).is_none() {
             writeln!(text, "{}: there is no such process", pid.number())?;
         }
     }
     Ok(())
-}
-
-/// Whether a process of a process group hasn't ended.
-fn has_living(kernel: &mut Kernel, group: Pid) -> bool
-    ensures { IsSame kernel.old kernel.new }
-{
-    let mut last = Pid::NONE;
-    for _ in 0..MOST_NUMBERS {
-        let Some(pid) = kernel.next_process(last) else {
-            return false;
-        };
-        let Some(it) = kernel.snapshot(pid) else {
-            return false;
-        };
-        if it.group == group && !matches!(it.life, Life::Zombie(_)) {
-            return true;
-        }
-        last = pid;
-    }
-    false
 }
 
 /// Writes the consoles.
@@ -155,7 +165,7 @@ fn put_consoles(text: &mut String, kernel: &mut Kernel) -> Result<(), AllocError
             return Ok(());
         };
         let foreground = console.foreground();
-        let is_living = has_living(kernel, foreground);
+        let is_living = has_living(kernel, Members::OfGroup(foreground));
         if let Some(console) = kernel.console(index) {
             put_console(text, index.saturating_add(1), console, is_living)?;
         }
@@ -178,15 +188,19 @@ pub fn put_head(text: &mut String, kernel: &Kernel, events: u64) -> Result<(), A
 }
 
 /// Writes the state: who acts next, each process, the order of turns, and the consoles.
-pub fn put_state(view: View<'_, '_>, text: &mut String, past: &mut Past) -> Result<(), AllocError>
-    ensures { IsSame past.old.kernel past.new.kernel }
+pub fn put_state(
+    view: View<'_, '_>,
+    text: &mut String,
+    replay: &mut Replay,
+) -> Result<(), AllocError>
+    ensures { IsSame replay.old.kernel replay.new.kernel }
 {
-    put_head(text, &past.kernel, view.events)?;
-    let turns = turns(view.alloc, &past.kernel)?;
-    put_processes(view, text, past, turns.as_slice())?;
-    put_missing(view, text, past)?;
-    if !past.kernel.is_halted() {
+    put_head(text, &replay.kernel, view.events)?;
+    let turns = turns(view.alloc, &replay.kernel)?;
+    put_processes(view, text, replay, turns.as_slice())?;
+    put_missing(view, text, replay)?;
+    if !replay.kernel.is_halted() {
         put_turns(text, turns.as_slice())?;
     }
-    put_consoles(text, &mut past.kernel)
+    put_consoles(text, &mut replay.kernel)
 }

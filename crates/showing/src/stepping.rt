@@ -4,7 +4,7 @@ ghost use Rattle.std.specs.Prelude.{◌≤◌, length};
 ghost use Rattle.text.specs.EventTexts.{most_events};
 
 use crate::hearing::Telling;
-use crate::past::{Past, Silent, run_to};
+use crate::replay::{Replay, Silent, run_to};
 use crate::state::{put_head, put_state};
 use crate::words::process_of;
 use kernel::{Sink, SinkFault, put_all};
@@ -150,24 +150,24 @@ impl<'l, 't> Steps<'l, 't> {
     }
 
     /// Goes on to the state after an event, or after the last one, and tells the events.
-    fn go_on(&mut self, past: &mut Past, event: u64) -> Result<(), AllocError> {
-        run_to(past, self.events, event, &mut self.telling)
+    fn go_on(&mut self, replay: &mut Replay, event: u64) -> Result<(), AllocError> {
+        run_to(replay, self.events, event, &mut self.telling)
     }
 
     /// Goes to the state after an event: back by running again.
-    fn go(&mut self, past: &mut Past, event: u64) -> Result<(), AllocError> {
-        if event < past.kernel.events() {
-            past.restart(self.view.alloc, self.world)?;
+    fn go(&mut self, replay: &mut Replay, event: u64) -> Result<(), AllocError> {
+        if event < replay.kernel.events() {
+            replay.restart(self.view.alloc, self.world)?;
         }
-        run_to(past, self.events, event, &mut Silent)
+        run_to(replay, self.events, event, &mut Silent)
     }
 
     /// Goes on until an event is of interest, and tells that one.
-    fn go_until(&mut self, past: &mut Past, pid: Option<Pid>) -> Result<(), AllocError> {
-        for _ in past.kernel.events()..self.events.len() {
+    fn go_until(&mut self, replay: &mut Replay, pid: Option<Pid>) -> Result<(), AllocError> {
+        for _ in replay.kernel.events()..self.events.len() {
             self.telling.teller.text.clear();
-            let next = past.kernel.events().saturating_add(1);
-            self.go_on(past, next)?;
+            let next = replay.kernel.events().saturating_add(1);
+            self.go_on(replay, next)?;
             let is_found = match pid {
                 Some(pid) => self.telling.teller.acted() == Some(pid),
                 None => self.telling.teller.showed,
@@ -180,17 +180,17 @@ impl<'l, 't> Steps<'l, 't> {
     }
 
     /// Does what is asked for; whether it goes on.
-    fn follow(&mut self, past: &mut Past, command: Command) -> Result<bool, AllocError> {
+    fn follow(&mut self, replay: &mut Replay, command: Command) -> Result<bool, AllocError> {
         self.telling.teller.text.clear();
-        let now = past.kernel.events();
+        let now = replay.kernel.events();
         match command {
-            Command::Next(count) => self.go_on(past, now.saturating_add(count))?,
-            Command::Back(count) => self.go(past, now.saturating_sub(count))?,
-            Command::Go(event) => self.go(past, event)?,
-            Command::Process(pid) => self.go_until(past, Some(pid))?,
+            Command::Next(count) => self.go_on(replay, now.saturating_add(count))?,
+            Command::Back(count) => self.go(replay, now.saturating_sub(count))?,
+            Command::Go(event) => self.go(replay, event)?,
+            Command::Process(pid) => self.go_until(replay, Some(pid))?,
             Command::NoProcess => self.telling.teller.text.push_str(NO_PROCESS)?,
-            Command::Line => self.go_until(past, None)?,
-            Command::State => put_state(self.view, &mut self.telling.teller.text, past)?,
+            Command::Line => self.go_until(replay, None)?,
+            Command::State => put_state(self.view, &mut self.telling.teller.text, replay)?,
             Command::Help => self.telling.teller.text.push_str(HELP)?,
             Command::Quit => return Ok(false),
         }
@@ -200,7 +200,7 @@ impl<'l, 't> Steps<'l, 't> {
     /// Goes through the run as it is asked for.
     pub fn follow_all<A: Ask, O: Sink>(
         &mut self,
-        past: &mut Past,
+        replay: &mut Replay,
         ask: &mut A,
         out: &mut O,
     ) -> Result<(), StepFault> {
@@ -208,13 +208,13 @@ impl<'l, 't> Steps<'l, 't> {
         for _ in 0..u64::MAX {
             put_head(
                 &mut self.telling.teller.text,
-                &past.kernel,
+                &replay.kernel,
                 self.view.events,
             )?;
             self.telling.teller.text.push_str("> ")?;
             put_all(out, self.telling.teller.text.as_str().as_bytes())?;
             line.clear();
-            if !ask.ask(&mut line)? || !self.follow(past, command_of(line.as_str()))? {
+            if !ask.ask(&mut line)? || !self.follow(replay, command_of(line.as_str()))? {
                 return Ok(());
             }
         }

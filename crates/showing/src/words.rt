@@ -1,7 +1,7 @@
 //! The words of the command line.
 
-use clap::{ArgAction, ArgMatches, Command, Error};
-use inputs::{NoRequest, argument, words_behind};
+use clap::{ArgAction, ArgMatches};
+use inputs::{NoRequest, command, named_files, words_behind};
 use posix::Pid;
 use std::alloc::Global;
 
@@ -18,30 +18,17 @@ pub struct Request<'a> {
     pub step: bool,
 }
 
-/// The program's arguments: the required ones, and each option with what its use does.
-const ARGUMENTS: [(&str, Option<ArgAction>); 6] = [
-    ("world", None),
-    ("events", None),
-    ("at", Some(ArgAction::Set)),
-    ("process", Some(ArgAction::Append)),
-    ("calls", Some(ArgAction::SetTrue)),
-    ("step", Some(ArgAction::SetTrue)),
+/// The program's options, each with what its use does.
+const OPTIONS: [(&str, ArgAction); 4] = [
+    ("at", ArgAction::Set),
+    ("process", ArgAction::Append),
+    ("calls", ArgAction::SetTrue),
+    ("step", ArgAction::SetTrue),
 ];
-
-/// The program's command line.
-fn command<'a>(alloc: Global) -> Result<Command<'a>, Error> {
-    let mut command = Command::new(alloc, "show").no_binary_name(true);
-    for (name, action) in ARGUMENTS {
-        command = command.arg(argument(alloc, name, action))?;
-    }
-    Ok(command)
-}
 
 /// What the words ask for, once they are told apart.
 fn request_of<'a>(alloc: Global, matches: &ArgMatches<'a>) -> Result<Request<'a>, NoRequest> {
-    let (Some(world), Some(events)) = (matches.get_str("world"), matches.get_str("events")) else {
-        return Err(NoRequest::Usage);
-    };
+    let (world, events) = named_files(matches)?;
     Ok(Request {
         world,
         events,
@@ -54,7 +41,8 @@ fn request_of<'a>(alloc: Global, matches: &ArgMatches<'a>) -> Result<Request<'a>
 
 /// What the words ask for; the program's name isn't one of them.
 pub fn requested<'a>(alloc: Global, words: &'a [&'a str]) -> Result<Request<'a>, NoRequest> {
-    request_of(alloc, &command(alloc)?.try_get_matches_from(words)?)
+    let command = command(alloc, "show", &OPTIONS)?;
+    request_of(alloc, &command.try_get_matches_from(words)?)
 }
 
 /// The process with a number; none where no process can have it.

@@ -1,3 +1,3 @@
 pub mod ActionFields
 pub mod SignalTables
-pub mod Stocks
+pub mod GrantedPools

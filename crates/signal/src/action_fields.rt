@@ -130,7 +130,7 @@ fn on_exec(disposition: Disposition) -> Disposition
     }
 }
 
-/// The same of all of them.
+/// What another program leaves of what is done with each signal.
 fn reset_all(dispositions: &mut [Disposition])
     ensures { dispositions.new ≡ map disposition_on_exec dispositions.old }
 {

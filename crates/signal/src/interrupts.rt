@@ -51,7 +51,7 @@ pub fn mask_before(blocked: Option<Blocked>, mask: SigSet) -> SigSet
     }
 }
 
-/// The same in a call.
+/// The signal mask that a handler goes back to which interrupts this call.
 fn mask_before_call(blocked: Blocked, mask: SigSet) -> SigSet
     ensures { result ≡ mask_before_of (Some blocked) mask }
 {

@@ -5,12 +5,12 @@
 mod action_fields;
 mod actions;
 pub mod interrupts;
-pub mod rt_pool;
+pub mod realtime_pool;
 pub mod signals;
 mod tables;
 
 pub use interrupts::{is_interrupted, leave_call, mask_before};
 pub use posix::{Action, Carried, Frame, Handler, PendingSignal, SaFlags, Sig, SigSet};
-pub use rt_pool::{NoPools, Pools, RtPool, Stock};
+pub use realtime_pool::{GrantedPools, NoPools, Pools, RealtimePool};
 pub use signals::Signals;
 pub use tables::{FramesFull, LazyTables, NoFrame};

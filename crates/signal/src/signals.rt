@@ -13,7 +13,7 @@ ghost use Rattle.posix.specs.Programs.{signals_on_exec};
 ghost use Rattle.posix.specs.SignalCalls.{pending_set};
 
 use crate::actions::{does_nothing, is_caught, is_stop_signal};
-use crate::rt_pool::RtPool;
+use crate::realtime_pool::RealtimePool;
 use crate::tables::{FramesFull, LazyTables, NoFrame};
 use arena::Arena;
 use bitflags::Flags;
@@ -308,8 +308,8 @@ impl Signals {
         pid: Pid,
         life: Life,
         signal: PendingSignal,
-        pool: Option<RtPool>,
-    ) -> Option<RtPool>
+        pool: Option<RealtimePool>,
+    ) -> Option<RealtimePool>
         requires realtime { is_realtime signal.sig ≡ true }
         requires room { (not (gets_no_signals_of pid life self.old signal.sig) && keeps_of self.old signal.sig) ≡ true → (nat_le most_queued (length self.old.queue) ≡ false) × IsSome pool }
         ensures state { self.new ≡ generated pid life signal self.old }

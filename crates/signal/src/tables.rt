@@ -11,7 +11,7 @@ ghost use Rattle.posix.specs.Programs.{action_on_exec};
 ghost use Rattle.signal.specs.SignalTables.{initial_tables, nothing_carried, carried_or_blank, queue_in};
 
 use crate::action_fields::{Actions, keep_actions, row_of};
-use crate::rt_pool::RtPool;
+use crate::realtime_pool::RealtimePool;
 use arena::{Arena, refill};
 use bitflags::Flags;
 use posix::{Action, Carried, Frame, Handler, PendingSignal, SaFlags, Sig, SigSet};
@@ -30,7 +30,7 @@ pub struct LazyTables {
     /// At most one item, with room for it: what the standard signal s came with, at s - 1, where it is pending.
     carried: Vec<[Carried; 31], Arena>,
     /// Without it nothing is queued.
-    queue: Option<RtPool>,
+    queue: Option<RealtimePool>,
     /// The newest last, with room for 16.
     frames: Vec<Frame, Arena>,
 }
@@ -182,7 +182,11 @@ impl LazyTables {
 
     /// A real-time signal is queued behind the others, where there are less than 32: in the pool that there is, else
     /// in this one. What comes back is this one where it isn't needed.
-    pub fn push_queued(&mut self, signal: PendingSignal, pool: Option<RtPool>) -> Option<RtPool>
+    pub fn push_queued(
+        &mut self,
+        signal: PendingSignal,
+        pool: Option<RealtimePool>,
+    ) -> Option<RealtimePool>
         requires few { length self.old.queue < most_queued }
         requires there { IsSome pool }
         ensures { self.new ≡ record self.old { queue = self.old.queue ++ signal ∷ [] } }
@@ -261,7 +265,7 @@ impl LazyTables {
 }
 
 /// Nothing is queued any more.
-fn empty(queue: &mut Option<RtPool>)
+fn empty(queue: &mut Option<RealtimePool>)
     ensures { queue_in queue.new ≡ [] }
 {
     if let Some(pool) = queue {

@@ -1,15 +1,16 @@
 //! A line for each event: who acted, what came of it, and whom else it concerned.
 
 use crate::process::{end_cell, put_name};
-use crate::sending::{Row, Sent, Whom, has_sent, is_taken, signal_in, signal_of_key, told_of};
+use crate::reading::{Concern, Reading, Rows, row_of};
+use crate::sending::{Row, Sent, Whom, has_sent, is_taken, signal_of_key, told_of};
 use crate::view::View;
 use posix::{Call, Entry, Event, Instr, Life, Pid, Register, Sig, SigSet, Target};
 use proctable::{OwnPart, Snapshot};
 use std::alloc::AllocError;
 use std::fmt::Write;
 use wording::{
-    Arguments, place_of, put_call, put_look, put_moved, put_report, put_result, put_signal,
-    put_status,
+    Arguments, Written, place_of, put_call, put_look, put_moved, put_report, put_result,
+    put_signal, put_status, signal_in,
 };
 
 /// What the current process was about to do.
@@ -17,7 +18,7 @@ use wording::{
 pub struct Actor {
     it: Snapshot,
     with: Arguments,
-    /// Whom and which signal it sends, if it calls kill or sigqueue.
+    /// Whom it sends which signal, if it calls kill or sigqueue; whom it moves, if it calls setpgid.
     target: i64,
     sig: Option<Sig>,
     pc: i64,
@@ -41,7 +42,7 @@ impl Actor {
 pub struct Teller<'l, 't> {
     pub view: View<'l, 't>,
     programs: &'t [umach::Program],
-    rows: Vec<Row>,
+    rows: Rows,
     actor: Option<Actor>,
     /// Whether the last event showed a line of the trace.
     pub showed: bool,
@@ -51,10 +52,27 @@ pub struct Teller<'l, 't> {
     pub text: String,
 }
 
-/// The row of a process; none where it isn't there. The rows rise.
-fn row_of(rows: &[Row], pid: Pid) -> Option<Row> {
-    let place = rows.binary_search_by_key(&pid, |row| row.it.pid).ok()?;
-    rows.get(place).copied()
+/// The process with the number in a register; none where none can have it.
+fn process_in(word: i64) -> Option<Pid> {
+    Pid::new(u32::try_from(word).ok()?)
+}
+
+/// Whom else the call of an actor changes, which shows these entries: who is born, moved, or collected.
+fn other_of(actor: &Actor, entries: &[Entry]) -> Option<Pid> {
+    match *entries.first()? {
+        Entry::Called {
+            call: Call::Fork,
+            result,
+            ..
+        } => process_in(result),
+        Entry::Called {
+            call: Call::Setpgid,
+            result: 0,
+            ..
+        } => process_in(actor.target),
+        Entry::Reported { child, .. } => Some(child),
+        _ => None,
+    }
 }
 
 /// Writes a key by its byte, and as it is typed.
@@ -130,7 +148,7 @@ impl<'l, 't> Teller<'l, 't> {
         Teller {
             view,
             programs,
-            rows: Vec::new(view.alloc),
+            rows: Rows::new(view.alloc),
             actor: None,
             showed: false,
             line: String::new(view.alloc),
@@ -158,17 +176,20 @@ impl<'l, 't> Teller<'l, 't> {
         }
     }
 
+    /// The instruction of an actor, as its world writes it.
+    fn written_of(&self, actor: &Actor) -> Option<Written<'t>> {
+        let source = self.view.listing.program(usize::from(actor.it.program))?;
+        source.at(place_of(actor.pc)?)
+    }
+
     /// Writes the call or the instruction of an actor.
     fn put_instruction(&mut self, actor: &Actor) -> Result<(), AllocError> {
-        let listing = self.view.listing;
-        let source = listing.program(usize::from(actor.it.program));
         if let Some(call) = self.call_of_actor(actor) {
+            let listing = self.view.listing;
+            let source = listing.program(usize::from(actor.it.program));
             return put_call(&mut self.line, call, actor.with, source, listing);
         }
-        let (Some(source), Some(place)) = (source, place_of(actor.pc)) else {
-            return self.line.push_str("no instruction");
-        };
-        match source.at(place) {
+        match self.written_of(actor) {
             Some(written) => self.line.push_str(written.text),
             None => self.line.push_str("no instruction"),
         }
@@ -179,10 +200,8 @@ impl<'l, 't> Teller<'l, 't> {
         let source = self.view.listing.program(usize::from(actor.it.program));
         put_name(&mut self.line, actor.it.pid, source)?;
         let start = self.line.len();
-        if let (Some(source), Some(place)) = (source, place_of(actor.pc)) {
-            if let Some(written) = source.at(place) {
-                write!(self.line, "line {}", written.line)?;
-            }
+        if let Some(written) = self.written_of(actor) {
+            write!(self.line, "line {}", written.line)?;
         }
         end_cell(&mut self.line, start, 10)
     }
@@ -298,7 +317,7 @@ impl<'l, 't> Teller<'l, 't> {
         sent: Option<&Sent>,
     ) -> Result<bool, AllocError> {
         let sent = match sent {
-            Some(sent) if sent.is_to(old, new) => sent.sig.number(),
+            Some(sent) if sent.is_to(old) => sent.sig.number(),
             _ => 0,
         };
         let hears = old.pending.contains(Sig::CHLD) && self.hears(new, entries, all);
@@ -314,7 +333,7 @@ impl<'l, 't> Teller<'l, 't> {
 
     /// Whether the parent of a process was this one.
     fn is_child(&self, pid: Pid, parent: Pid) -> bool {
-        match row_of(self.rows.as_slice(), pid) {
+        match self.rows.of(pid) {
             Some(row) => row.it.parent == parent,
             None => false,
         }
@@ -340,7 +359,7 @@ impl<'l, 't> Teller<'l, 't> {
     fn has_continued(&self, parent: Pid, all: &[Row]) -> bool {
         for row in all {
             if row.it.parent == parent && row.it.life == Life::Running {
-                if let Some(old) = row_of(self.rows.as_slice(), row.it.pid) {
+                if let Some(old) = self.rows.of(row.it.pid) {
                     if old.it.life == Life::Stopped {
                         return true;
                     }
@@ -367,7 +386,7 @@ impl<'l, 't> Teller<'l, 't> {
         all: &[Row],
         sent: Option<&Sent>,
     ) -> Result<bool, AllocError> {
-        let Some(old) = row_of(self.rows.as_slice(), new.it.pid) else {
+        let Some(old) = self.rows.of(new.it.pid) else {
             return Ok(true);
         };
         let mut is_told = self.put_signals(&old, new, entries, all, sent)?;
@@ -387,34 +406,46 @@ impl<'l, 't> Teller<'l, 't> {
         Ok(is_told)
     }
 
-    /// Writes whose records went without a report. Whether a record of a process that is shown went.
-    fn put_gone(&mut self, new: &[Row], entries: &[Entry]) -> Result<bool, AllocError> {
+    /// Writes which records went without a report. Whether one went of a process that is shown.
+    fn put_gone(&mut self, gone: &[Pid], entries: &[Entry]) -> Result<bool, AllocError> {
         let mut is_shown = false;
-        for old in &self.rows {
-            let pid = old.it.pid;
-            if row_of(new, pid).is_none() {
-                is_shown = is_shown || self.view.has(pid);
-                if !is_reported(entries, pid) {
-                    write!(self.line, "; drops {}", pid.number())?;
-                }
+        for pid in gone {
+            is_shown = is_shown || self.view.has(*pid);
+            if !is_reported(entries, *pid) {
+                write!(self.line, "; drops {}", pid.number())?;
             }
         }
         Ok(is_shown)
     }
 
-    /// An event is given next, to these processes; the actor is who acts in it.
-    pub fn begin(&mut self, rows: Vec<Row>, actor: Option<Actor>) {
-        self.rows = rows;
+    /// Whether it knows the processes after so many events.
+    pub fn knows(&self, events: u64) -> bool {
+        self.rows.are_after(events)
+    }
+
+    /// All processes were read, after so many events.
+    pub fn learn(&mut self, events: u64, all: Reading) {
+        self.rows.set(events, all);
+    }
+
+    /// An event is given next; the actor is who acts in it.
+    pub fn begin(&mut self, actor: Option<Actor>) {
         self.actor = actor;
     }
 
     /// What an event sends, by the call of its actor, if that doesn't wait then; by a key, to this foreground process group;
-    /// or by the alarms that ring. The entries are those of the event.
-    pub fn sent(&self, event: Event, entries: &[Entry], foreground: Pid) -> Option<Sent> {
+    /// or by the alarms that ring, as so many ticks have passed. The entries are those of the event.
+    pub fn sent(
+        &self,
+        event: Event,
+        entries: &[Entry],
+        foreground: Pid,
+        ticks: u64,
+    ) -> Option<Sent> {
         match event {
             Event::Tick => Some(Sent {
                 sig: Sig::ALRM,
-                whom: Whom::Due,
+                whom: Whom::Ringing(ticks),
             }),
             Event::Key { byte, .. } => Some(Sent {
                 sig: signal_of_key(byte)?,
@@ -453,6 +484,54 @@ impl<'l, 't> Teller<'l, 't> {
         Some(Sent { sig, whom })
     }
 
+    /// Whom a step of an actor may have changed, by what it showed and what it sent.
+    fn concern_of(&self, actor: &Actor, entries: &[Entry], sent: Option<Sent>) -> Concern {
+        let it = &actor.it;
+        let has_ended = entries
+            .iter()
+            .any(|entry| matches!(entry, Entry::Ended { .. }));
+        let has_stopped = entries
+            .iter()
+            .any(|entry| matches!(entry, Entry::Stopped { .. }));
+        let hears = if has_ended || has_stopped {
+            it.parent
+        } else {
+            Pid::NONE
+        };
+        let other = other_of(actor, entries).unwrap_or(Pid::NONE);
+        let (target, continues) = match &sent {
+            Some(sent) => (sent.target(), sent.sig == Sig::CONT),
+            None => (Pid::NONE, false),
+        };
+        let hangs_up = has_ended && it.session == it.pid;
+        Concern {
+            few: [it.pid, hears, other, target],
+            ended: if has_ended { it.pid } else { Pid::NONE },
+            sent: if target == Pid::NONE { sent } else { None },
+            all: hangs_up || ((has_ended || continues) && self.rows.have_stopped()),
+        }
+    }
+
+    /// Those that have to be read anew after an event that showed these entries and sent this, in the order of their
+    /// numbers.
+    pub fn concerned(
+        &self,
+        entries: &[Entry],
+        sent: Option<Sent>,
+        new: &Reading,
+    ) -> Result<Vec<Pid>, AllocError> {
+        let concern = match &self.actor {
+            Some(actor) => self.concern_of(actor, entries, sent),
+            None => Concern {
+                few: [Pid::NONE; 4],
+                ended: Pid::NONE,
+                sent,
+                all: false,
+            },
+        };
+        self.rows.concerned(self.view.alloc, &concern, new)
+    }
+
     /// Whether the actor waits in a call now.
     fn waits(&self, new: &[Row]) -> bool {
         let Some(actor) = &self.actor else {
@@ -464,15 +543,16 @@ impl<'l, 't> Teller<'l, 't> {
         }
     }
 
-    /// Tells an event that was given: by its number, what it showed, the processes after it, and what it sent.
+    /// Tells an event that was given: by its number, what it showed, what was read anew after it, and what it sent.
     pub fn tell(
         &mut self,
         number: u64,
         event: Event,
         entries: &[Entry],
-        new: &[Row],
+        reading: Reading,
         sent: Option<&Sent>,
     ) -> Result<(), AllocError> {
+        let new = reading.rows.as_slice();
         let sent = if self.waits(new) { None } else { sent };
         self.showed = !entries.is_empty();
         self.line.clear();
@@ -483,12 +563,12 @@ impl<'l, 't> Teller<'l, 't> {
             let is_told = self.put_effect(row, entries, new, sent)?;
             is_shown = is_shown || (is_told && self.view.has(row.it.pid));
         }
-        let is_gone = self.put_gone(new, entries)?;
+        let is_gone = self.put_gone(reading.gone.as_slice(), entries)?;
         self.line.push_str("\n")?;
         if is_shown || is_gone {
             self.text.push_str(self.line.as_str())?;
         }
-        Ok(())
+        self.rows.keep(number, reading)
     }
 
     /// Whether an event is shown, in which these processes were concerned.
@@ -502,12 +582,5 @@ impl<'l, 't> Teller<'l, 't> {
 
 /// Whether a wait reported a process.
 fn is_reported(entries: &[Entry], pid: Pid) -> bool {
-    for entry in entries {
-        if let Entry::Reported { child, .. } = *entry {
-            if child == pid {
-                return true;
-            }
-        }
-    }
-    false
+    entries.iter().any(|entry| matches!(*entry, Entry::Reported { child, .. } if child == pid))
 }

@@ -4,6 +4,7 @@
 mod console;
 mod event;
 mod process;
+mod reading;
 mod sending;
 mod since;
 mod view;
@@ -12,7 +13,8 @@ mod wakers;
 pub use console::{put_console, put_turns};
 pub use event::{Actor, Teller};
 pub use process::{Around, put_process};
-pub use sending::{Row, Sent};
+pub use reading::Reading;
+pub use sending::Sent;
 pub use since::{Since, Times};
 pub use view::View;
 pub use wakers::Terminal;

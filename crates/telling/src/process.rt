@@ -1,5 +1,6 @@
 //! A process as it is at an event, in words.
 
+use crate::sending::MOST_QUEUED;
 use crate::since::Times;
 use crate::view::View;
 use crate::wakers::{Terminal, put_wakers};
@@ -255,7 +256,7 @@ fn put_alarm(text: &mut String, left: u64) -> Result<(), AllocError> {
 
 /// Writes the queue of real-time signals: each with its value and its sender.
 fn put_queue(text: &mut String, own: &OwnPart) -> Result<(), AllocError> {
-    for place in 0..32usize {
+    for place in 0..MOST_QUEUED {
         let Some(signal) = own.signals.queued(place) else {
             return Ok(());
         };

@@ -5,7 +5,7 @@ use proctable::{OwnPart, Snapshot};
 use signal::Signals;
 
 /// So many real-time signals are queued for a process at most.
-const MOST_QUEUED: usize = 32;
+pub(crate) const MOST_QUEUED: usize = 32;
 
 /// What a process makes of a signal that is sent to it.
 #[derive(Clone, Copy, PartialEq, Eq)]
@@ -101,8 +101,8 @@ pub enum Whom {
     /// Those that a process with these fields names, if it may signal them.
     Named(Snapshot, Target),
     Group(Pid),
-    /// Those whose alarm rings.
-    Due,
+    /// Those whose alarm rings, as so many ticks have passed.
+    Ringing(u64),
 }
 
 /// A signal that an event sends, and whom.
@@ -122,11 +122,6 @@ pub fn signal_of_key(byte: u8) -> Option<Sig> {
     }
 }
 
-/// The signal that a register names.
-pub fn signal_in(word: i64) -> Option<Sig> {
-    Sig::new(u8::try_from(word).ok()?)
-}
-
 /// Whether a caller names a process.
 fn is_named(caller: &Snapshot, target: &Target, it: &Snapshot) -> bool {
     match *target {
@@ -139,51 +134,53 @@ fn is_named(caller: &Snapshot, target: &Target, it: &Snapshot) -> bool {
 }
 
 impl Sent {
-    /// Whether the signal is sent to a process, which was and is as these rows say.
-    pub fn is_to(&self, old: &Row, new: &Row) -> bool {
+    /// The one process that is named; number 0 where it may be several.
+    pub fn target(&self) -> Pid {
+        match &self.whom {
+            Whom::Named(_, Target::Process(pid)) => *pid,
+            _ => Pid::NONE,
+        }
+    }
+
+    /// Whether the signal is sent to a process, which was as this row says.
+    pub fn is_to(&self, old: &Row) -> bool {
+        let it = &old.it;
         match &self.whom {
             Whom::Named(caller, target) => {
-                let same_session = caller.session == old.it.session;
-                is_named(caller, target, &old.it)
+                let same_session = caller.session == it.session;
+                is_named(caller, target, it)
                     && caller
                         .creds
-                        .may_signal(&old.it.creds, Some(self.sig), same_session)
+                        .may_signal(&it.creds, Some(self.sig), same_session)
             }
-            Whom::Group(group) => old.it.group == *group,
-            Whom::Due => old.it.alarm.is_some() && new.it.alarm.is_none(),
+            Whom::Group(group) => it.group == *group,
+            Whom::Ringing(ticks) => it.alarm == Some(*ticks),
         }
     }
 }
 
 /// Whether a kill or a sigqueue has succeeded.
 pub fn has_sent(entries: &[Entry]) -> bool {
-    for entry in entries {
-        if let Entry::Called {
-            call: Call::Kill | Call::Sigqueue,
-            result: 0,
-            ..
-        } = *entry
-        {
-            return true;
-        }
-    }
-    false
+    entries.iter().any(|entry| {
+        matches!(
+            *entry,
+            Entry::Called {
+                call: Call::Kill | Call::Sigqueue,
+                result: 0,
+                ..
+            }
+        )
+    })
 }
 
 /// Whether a process has taken a signal.
 pub fn is_taken(entries: &[Entry], it: Pid, signal: Sig) -> bool {
-    for entry in entries {
-        let takes = match *entry {
-            Entry::Handled { pid, sig, .. }
-            | Entry::Discarded { pid, sig }
-            | Entry::Stopped { pid, sig } => pid == it && sig == signal,
-            _ => false,
-        };
-        if takes {
-            return true;
-        }
-    }
-    false
+    entries.iter().any(|entry| match *entry {
+        Entry::Handled { pid, sig, .. }
+        | Entry::Discarded { pid, sig }
+        | Entry::Stopped { pid, sig } => pid == it && sig == signal,
+        _ => false,
+    })
 }
 
 /// What is told behind a signal of a process, which hears of a child, and which was sent the signal; nothing where the

@@ -77,7 +77,7 @@ impl World {
     }
 }
 
-/// The same programs.
+/// Copies of programs.
 fn clone_programs(alloc: Global, programs: &[Program]) -> Result<Vec<Program>, AllocError>
     ensures { IfOk result (λ copies. copies.items ≡ programs.now) }
 {

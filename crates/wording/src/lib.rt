@@ -11,4 +11,4 @@ pub use arguments::{
     put_report, put_result,
 };
 pub use listing::{Label, Listing, Source, Written};
-pub use names::{put_flags, put_set, put_set_or_none, put_signal, put_status};
+pub use names::{put_flags, put_set, put_set_or_none, put_signal, put_status, signal_in};

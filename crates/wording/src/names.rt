@@ -67,7 +67,7 @@ pub fn put_signal(text: &mut String, sig: Sig) -> Result<(), AllocError> {
 }
 
 /// The signal of a word; none where the word is none.
-fn signal_in(word: i64) -> Option<Sig>
+pub fn signal_in(word: i64) -> Option<Sig>
     ensures { IfSome result (λ sig. word ≡ pos sig) }
 {
     Sig::new(u8::try_from(word).ok()?)

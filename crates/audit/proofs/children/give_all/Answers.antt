@@ -1,7 +1,7 @@
 use Rattle.std.proofs.Common.{◌==◌, ◌∙◌, sym}
 use Rattle.std.proofs.lemmas.Bool.{eqb-true, eqb-false, not-true, not-false}
 use Rattle.audit.specs.Records.{record_in}
-use Rattle.audit.proofs.FieldLemmas.{behind_was}
+use Rattle.audit.proofs.FieldLemmas.{read_was}
 use Rattle.audit.proofs.GiveLemmas.{none_yet, next_given, all_given}
 use Rattle.audit.proofs.children.give_all.Goals as goal
 
@@ -11,12 +11,12 @@ loop-last-init c = none_yet c.args.pid c.args.heir c.args.first_child c.args.rec
 pub loop-last-preserved : goal.loop-last-preserved
 loop-last-preserved c =
     (next_given c.args.pid c.args.heir c.loop-last.last c.loop-last.child c.behind_by-child.result c.args.records.now.entries c.loop-last.records.entries c.relink-in-loop-last.new.records.entries c.requires.pid c.requires.other
-    (eqb-false c.loop-last.child 0 (not-true (c.loop-last.child == 0) (sym c.ne.ensures ∙ c.loop-last-test.true))) (behind_was (record_in c.loop-last.records.entries) c.loop-last.child c.behind_by-child.result c.relink-in-loop-last.result c.behind_by-child.ensures c.relink-in-loop-last.ensures.was) c.loop-last.invariant c.relink-in-loop-last.ensures.is).0
+    (eqb-false c.loop-last.child 0 (not-true (c.loop-last.child == 0) (sym c.ne.ensures ∙ c.loop-last-test.true))) (read_was (λ r. r.behind) (record_in c.loop-last.records.entries) c.loop-last.child c.behind_by-child.result c.relink-in-loop-last.result c.behind_by-child.ensures c.relink-in-loop-last.ensures.was) c.loop-last.invariant c.relink-in-loop-last.ensures.is).0
 
 pub loop-last-smaller : goal.loop-last-smaller
 loop-last-smaller c =
     (next_given c.args.pid c.args.heir c.loop-last.last c.loop-last.child c.behind_by-child.result c.args.records.now.entries c.loop-last.records.entries c.relink-in-loop-last.new.records.entries c.requires.pid c.requires.other
-    (eqb-false c.loop-last.child 0 (not-true (c.loop-last.child == 0) (sym c.ne.ensures ∙ c.loop-last-test.true))) (behind_was (record_in c.loop-last.records.entries) c.loop-last.child c.behind_by-child.result c.relink-in-loop-last.result c.behind_by-child.ensures c.relink-in-loop-last.ensures.was) c.loop-last.invariant c.relink-in-loop-last.ensures.is).1
+    (eqb-false c.loop-last.child 0 (not-true (c.loop-last.child == 0) (sym c.ne.ensures ∙ c.loop-last-test.true))) (read_was (λ r. r.behind) (record_in c.loop-last.records.entries) c.loop-last.child c.behind_by-child.result c.relink-in-loop-last.result c.behind_by-child.ensures c.relink-in-loop-last.ensures.was) c.loop-last.invariant c.relink-in-loop-last.ensures.is).1
 
 pub returns : goal.returns
 returns c =

@@ -1,7 +1,7 @@
 use Rattle.std.proofs.Common.{◌≢◌, ◌≤◌, ◌∙◌, ℕ, arith, sym}
 use Rattle.std.proofs.lemmas.Bool.{eqb-true, eqb-false, ltb-true, ltb-false}
 use Rattle.audit.specs.Records.{record_in}
-use Rattle.audit.proofs.FieldLemmas.{first_was}
+use Rattle.audit.proofs.FieldLemmas.{read_was}
 use Rattle.audit.proofs.GiveLemmas.{nobody_given, given_to_none, given_to_list}
 use Rattle.audit.proofs.children.give_on.Goals as goal
 
@@ -20,7 +20,7 @@ returns-then-has_list c =
     let high : 2 ≤ c.args.heir = ltb-true 1 c.args.heir (sym c.has_list.ensures ∙ c.if-has_list.true) in
     given_to_list c.args.pid c.args.heir c.args.first_child c.give_all-last.result c.first_by-behind.result c.args.records.now.entries c.give_all-last.new.records.entries c.relink.new.records.entries c.join.new.records.entries
     c.requires.linked (two_up c.args.pid c.requires.pid other) high (c.requires.other other) (c.requires.heir high) (eqb-false c.args.first_child 0 (sym c.eq-2.ensures ∙ c.if-eq-2.false))
-    c.give_all-last.ensures (first_was (record_in c.give_all-last.new.records.entries) c.args.heir c.first_by-behind.result c.relink.result c.first_by-behind.ensures c.relink.ensures.was) c.relink.ensures.is c.join.ensures
+    c.give_all-last.ensures (read_was (λ r. r.first) (record_in c.give_all-last.new.records.entries) c.args.heir c.first_by-behind.result c.relink.result c.first_by-behind.ensures c.relink.ensures.was) c.relink.ensures.is c.join.ensures
 
 pub returns-else-has_list : goal.returns-else-has_list
 returns-else-has_list c =

@@ -1,8 +1,7 @@
 use Rattle.std.proofs.Common.{◌≡◌, ◌∙◌, ap, sym, true, rules, ◌++◌, ◌∷◌, [], to_z, of_z, w64}
 use Rattle.posix.specs.declared.entry.Entry.TheVariants.{Marked}
 use Rattle.posix.specs.Processes.{argument}
-use Rattle.posix.specs.States.{State, process, change}
-use Rattle.posix.specs.Execute.{register}
+use Rattle.posix.specs.States.{State, change}
 use Rattle.posix.specs.Attempts.{attempt}
 use Rattle.posix.specs.Subreapers.{subreaper, marked_as}
 use Rattle.posix.specs.Terminals.{is_nonzero}

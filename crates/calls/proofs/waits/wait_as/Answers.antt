@@ -120,7 +120,7 @@ returns-else-leaves-2-clause-comes g c =
     let child = c.in-Change.child in
     let status = c.in-Change.status in
     let value = is ∙ ap (λ b. cond b (gives_report s me.pid call child status (Looked me.pid child status)) (gives_report (change s c.in-Change.child news_told) me.pid call child status (Reported me.pid call child status))) takes in
-    let then = c.tell_news.ensures.state ∙ ap (λ (t : State). change t child news_told) c.wait_attempt.ensures.looks.same.state in
+    let then = c.clear_news.ensures.state ∙ ap (λ (t : State). change t child news_told) c.wait_attempt.ensures.looks.same.state in
     let r = c.take-in-Change in
     shows_is s (change s c.in-Change.child news_told) _ _ _ me.pid (results_of call child status) (Reported me.pid call child status) _ _ _ value r.ensures.done r.ensures.state then r.ensures.shown
 
@@ -156,8 +156,8 @@ take-requires-clause-there g c =
     let gone = c.reap.ensures.changes.state ∙ ap (λ (t : State). record t { processes = removed c.in-End.child t.processes }) c.wait_attempt.ensures.looks.same.state in
     subst (λ (t : State). IsSome (process t me.pid)) (sym gone) (caller_stays s.processes me.pid c.in-End.child c.requires.placed child)
 
-pub tell_news-requires : goal.tell_news-requires
-tell_news-requires g c =
+pub clear_news-requires : goal.clear_news-requires
+clear_news-requires g c =
     let s = c.args.machine.now.state in
     let me = c.args.me.now in
     let child = reported s.processes c.requires.regular.rising me.pid me.group _ _ (found.Change c.in-Change.child c.in-Change.status) c.in-Change.child (sym c.wait_attempt.ensures.value ∙ c.in-Change.is) refl in
@@ -168,7 +168,7 @@ take-requires-in-Change-clause-there g c =
     let s = c.args.machine.now.state in
     let me = c.args.me.now in
     let child = reported s.processes c.requires.regular.rising me.pid me.group _ _ (found.Change c.in-Change.child c.in-Change.status) c.in-Change.child (sym c.wait_attempt.ensures.value ∙ c.in-Change.is) refl in
-    let told = (c.tell_news.ensures).state ∙ ap (λ (t : State). change t c.in-Change.child news_told) c.wait_attempt.ensures.looks.same.state in
+    let told = (c.clear_news.ensures).state ∙ ap (λ (t : State). change t c.in-Change.child news_told) c.wait_attempt.ensures.looks.same.state in
     subst (λ (t : State). IsSome (process t me.pid)) (sym told) (some_changed c.in-Change.child me.pid news_told (keeps_news_told {now = 0}).pid s.processes (placed_some s.processes me.pid c.requires.placed))
 
 pub returns-in_default-clause-brief : goal.returns-in_default-clause-brief
@@ -214,13 +214,13 @@ returns-else-leaves-2-clause-brief g c = λ quiet.
     let me = c.args.me.now in
     let looks = c.wait_attempt.ensures.looks in
     let mid = c.wait_attempt.new.self in
-    let told = c.tell_news.ensures in
+    let told = c.clear_news.ensures in
     let still = quiet_on me.pid c.args.machine.now mid looks.same quiet in
     let slots = wait_slots c.in-Some.asked.target me.pid c.args.machine.now.state.processes in
     let r = c.take-in-Change in
     brief_on 3 _ _ c.args.machine.now mid _ looks.same looks.visits (omega (arith, slots))
-    (brief_behind 1 2 3 mid c.tell_news.new.self _ (ap (λ (t : State). t.consoles) told.state) told.costs.visits (omega arith)
-    (brief_done me.pid _ c.tell_news.new.self _ (record { none = told.to_recheck ∙ still.none; checked = told.foregrounds_unchecked ∙ still.checked; place = ap (λ (t : State). has_place t me.pid) told.state ∙ still.place }) r.ensures.state r.ensures.costs))
+    (brief_behind 1 2 3 mid c.clear_news.new.self _ (ap (λ (t : State). t.consoles) told.state) told.costs.visits (omega arith)
+    (brief_done me.pid _ c.clear_news.new.self _ (record { none = told.to_recheck ∙ still.none; checked = told.foregrounds_unchecked ∙ still.checked; place = ap (λ (t : State). has_place t me.pid) told.state ∙ still.place }) r.ensures.state r.ensures.costs))
 
 pub returns-then-leaves-clause-brief : goal.returns-then-leaves-clause-brief
 returns-then-leaves-clause-brief g c = λ quiet.

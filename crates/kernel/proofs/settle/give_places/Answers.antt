@@ -13,8 +13,8 @@ use Rattle.calls.specs.Counts.{neighbour, slots_of_rechecking, slots_of_rechecks
 use Rattle.calls.proofs.CountLemmas.{rechecks_first}
 use Rattle.kernel.proofs.settle.give_places.Goals as goal
 
-pub rechecked-requires-clause-waits : goal.rechecked-requires-clause-waits
-rechecked-requires-clause-waits g c = λ r e.
+pub finish_recheck-requires-clause-waits : goal.finish_recheck-requires-clause-waits
+finish_recheck-requires-clause-waits g c = λ r e.
     let pid = c.in-Some.pid in
     let same = c.wake-session.ensures.state in
     subst (λ (t : State). wakes t r ≡ false) (sym same) (woken_rests c.loop-pid.machine.state pid r (ap (λ (t : State). process t pid) (sym same) ∙ e))
@@ -22,28 +22,28 @@ rechecked-requires-clause-waits g c = λ r e.
 pub loop-pid-smaller : goal.loop-pid-smaller
 loop-pid-smaller g c =
     let pid = c.in-Some.pid in
-    let list = (ap (λ (m : MachineView). m.to_recheck) c.rechecked.ensures.rest) ∙ ap (without pid) c.wake-session.ensures.to_recheck in
+    let list = (ap (λ (m : MachineView). m.to_recheck) c.finish_recheck.ensures.rest) ∙ ap (without pid) c.wake-session.ensures.to_recheck in
     subst (λ (ns : List ℕ). length ns < length c.loop-pid.machine.to_recheck) (sym list) (without_first c.loop-pid.machine.to_recheck pid (sym c.first_to_recheck.ensures.is ∙ c.in-Some.is))
 
 pub loop-pid-preserved : goal.loop-pid-preserved
 loop-pid-preserved g c =
     let s = c.loop-pid.machine.state in
     let pid = c.in-Some.pid in
-    let same = (ap (λ (m : MachineView). m.state) c.rechecked.ensures.rest) ∙ c.wake-session.ensures.state in
+    let same = (ap (λ (m : MachineView). m.state) c.finish_recheck.ensures.rest) ∙ c.wake-session.ensures.state in
     let first = subst (IsNext (wakes s) 0 s.processes) c.in-Some.is c.first_to_recheck.ensures.next in
     let processes = ap (λ (t : State). t.processes) same ∙ same_processes s pid in
-    let list = (ap (λ (m : MachineView). m.to_recheck) c.rechecked.ensures.rest) ∙ ap (without pid) c.wake-session.ensures.to_recheck in
+    let list = (ap (λ (m : MachineView). m.to_recheck) c.finish_recheck.ensures.rest) ∙ ap (without pid) c.wake-session.ensures.to_recheck in
     record {
-      places = ap give_places same ∙ first_woken s pid c.first_to_recheck.ensures.regular (subst IsRegular c.wake-session.ensures.state c.rechecked.ensures.regular) first ∙ c.loop-pid.invariant.places;
-      foregrounds_unchecked = (ap (λ (m : MachineView). m.foregrounds_unchecked) c.rechecked.ensures.rest) ∙ c.wake-session.ensures.foregrounds_unchecked ∙ c.loop-pid.invariant.foregrounds_unchecked;
+      places = ap give_places same ∙ first_woken s pid c.first_to_recheck.ensures.regular (subst IsRegular c.wake-session.ensures.state c.finish_recheck.ensures.regular) first ∙ c.loop-pid.invariant.places;
+      foregrounds_unchecked = (ap (λ (m : MachineView). m.foregrounds_unchecked) c.finish_recheck.ensures.rest) ∙ c.wake-session.ensures.foregrounds_unchecked ∙ c.loop-pid.invariant.foregrounds_unchecked;
       processes = processes ∙ c.loop-pid.invariant.processes;
       visits =
           let me = there (process s pid) (subst (λ o. IfSome o (λ p. IsSome (process s p))) c.in-Some.is c.first_to_recheck.ensures.next.there) in
           let its = ap (slots_of_rechecking s.processes (neighbour c.loop-pid.last c.loop-pid.machine.to_recheck)) me.found in
           let left = rechecks_first s.processes c.loop-pid.last c.loop-pid.machine.to_recheck pid c.first_to_recheck.ensures.rising (sym c.first_to_recheck.ensures.is ∙ c.in-Some.is) in
-          let now = ap (slots_of_rechecks c.rechecked.new.self.state.processes (Some pid)) list ∙ ap (λ rs. slots_of_rechecks rs (Some pid) (without pid c.loop-pid.machine.to_recheck)) processes in
+          let now = ap (slots_of_rechecks c.finish_recheck.new.self.state.processes (Some pid)) list ∙ ap (λ rs. slots_of_rechecks rs (Some pid) (without pid c.loop-pid.machine.to_recheck)) processes in
           let woke = c.wake-session.ensures.visits me.what me.found in
-          let one = ap (λ (m : MachineView). m.visits) c.rechecked.ensures.rest in
+          let one = ap (λ (m : MachineView). m.visits) c.finish_recheck.ensures.rest in
           let was = c.loop-pid.invariant.visits in
           omega (arith, its, left, now, woke, one, was);
     }

@@ -11,7 +11,7 @@ use Rattle.calls.proofs.ChosenLemmas.{act_killed, act_blocked, act_delivers, act
 use Rattle.std.specs.Option.{IfSome}
 use Rattle.posix.specs.Tables.{children_in}
 use Rattle.posix.proofs.TableLemmas.{pid_looked}
-use Rattle.calls.specs.Outcomes.{IsBrief}
+use Rattle.calls.specs.Outcomes.{CostsWithRechecks}
 use Rattle.kernel.specs.Counts.{slots_of_acting}
 use Rattle.kernel.proofs.CallCountLemmas.{acting_blocked}
 use Rattle.kernel.proofs.step.act.Goals as goal
@@ -65,6 +65,6 @@ returns-in-Some-clause-brief g c = λ me e quiet.
     let told : Some c.args.snapshot ≡ Some (snapshot_of me) = c.requires.snapshot ∙ ap (option_map snapshot_of) e in
     let is : c.args.snapshot ≡ snapshot_of me = cc in
     let in_call : me.blocked ≡ Some c.in-Some.blocked = ap (λ (f : Snapshot). f.blocked) (sym is) ∙ c.in-Some.is in
-    subst (λ b. IfSome (slots_of_acting old.state me b) (λ n. IsBrief n old c.go_on.new.machine)) (sym in_call)
-    (acting_blocked old.state me c.in-Some.blocked (λ n. IsBrief n old c.go_on.new.machine)
-    (λ call waits nothing. subst (λ n. IsBrief (11 + 2 * length (children_in n old.state.processes)) old c.go_on.new.machine) (sym (pid_looked c.args.pid old.state.processes me e)) (c.go_on.ensures.brief me e quiet call waits nothing)))
+    subst (λ b. IfSome (slots_of_acting old.state me b) (λ n. CostsWithRechecks n old c.go_on.new.machine)) (sym in_call)
+    (acting_blocked old.state me c.in-Some.blocked (λ n. CostsWithRechecks n old c.go_on.new.machine)
+    (λ call waits nothing. subst (λ n. CostsWithRechecks (11 + 2 * length (children_in n old.state.processes)) old c.go_on.new.machine) (sym (pid_looked c.args.pid old.state.processes me e)) (c.go_on.ensures.brief me e quiet call waits nothing)))

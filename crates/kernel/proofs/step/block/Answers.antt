@@ -8,8 +8,8 @@ use Rattle.kernel.proofs.BlockLemmas.{blocked_rests, blocked_unread, nobody_left
 use Rattle.life.specs.Machines.{MachineView}
 use Rattle.kernel.proofs.step.block.Goals as goal
 
-pub rechecked-requires-clause-waits : goal.rechecked-requires-clause-waits
-rechecked-requires-clause-waits g c =
+pub finish_recheck-requires-clause-waits : goal.finish_recheck-requires-clause-waits
+finish_recheck-requires-clause-waits g c =
     let s = c.args.machine.now.state in
     let p = c.args.pid in
     let b = c.args.blocked in
@@ -17,14 +17,14 @@ rechecked-requires-clause-waits g c =
     subst (λ (t : State). (r : Process) → process t p ≡ Some r → wakes t r ≡ false) (sym c.enter_call.ensures.state)
     (blocked_rests s p it.what c.in-Some.field-0 b it.found (c.requires.none_chosen it.what it.found) (c.requires.waits it.what it.found c.in-Some.field-0 (sym c.named_by.ensures ∙ c.in-Some.is)))
 
-pub rechecked-requires-clause-session : goal.rechecked-requires-clause-session
-rechecked-requires-clause-session g c =
+pub finish_recheck-requires-clause-session : goal.finish_recheck-requires-clause-session
+finish_recheck-requires-clause-session g c =
     let it = c.requires.acting.placed in
     subst (λ (t : State). None ≡ reads t c.args.pid) (sym c.enter_call.ensures.state) (blocked_unread c.args.machine.now.state c.args.pid it.what c.in-Some.field-0 c.args.blocked it.found (c.requires.waits it.what it.found c.in-Some.field-0 (sym c.named_by.ensures ∙ c.in-Some.is)))
 
 pub returns-in-Some-clause-brief : goal.returns-in-Some-clause-brief
 returns-in-Some-clause-brief g c = λ same quiet.
-    let rest = c.rechecked.ensures.rest in
+    let rest = c.finish_recheck.ensures.rest in
     let none = ap (λ (m : MachineView). m.to_recheck) rest ∙ ap (without c.args.pid) (c.enter_call.ensures.to_recheck quiet.place) ∙ nobody_left c.args.pid _ quiet.none in
     brief_alone 1 c.args.machine.now _ none (ap (λ (m : MachineView). m.foregrounds_unchecked) rest ∙ c.enter_call.ensures.foregrounds_unchecked ∙ quiet.checked)
     (ap (λ (m : MachineView). m.state.consoles) rest ∙ ap (λ (t : State). t.consoles) c.enter_call.ensures.state) (let read = ap (λ (m : MachineView). m.visits) rest in let one = c.enter_call.ensures.visits in omega (arith, read, one))

@@ -3,7 +3,7 @@ use Rattle.std.specs.Option.{IfSome}
 use Rattle.std.proofs.lemmas.Option.{IfSome_then}
 use Rattle.posix.specs.States.{State, process}
 use Rattle.posix.proofs.OrderLemmas.{first_in}
-use Rattle.calls.specs.Outcomes.{IsActing, IsBrief}
+use Rattle.calls.specs.Outcomes.{IsActing, CostsWithRechecks}
 use Rattle.calls.proofs.BriefLemmas.{brief_on, quiet_on}
 use Rattle.kernel.specs.Counts.{slots_of_acting}
 use Rattle.kernel.proofs.step.step.Goals as goal
@@ -25,5 +25,5 @@ returns-clause-brief g c = λ me e none checked.
     let here : process old.state pid ≡ Some me = ap (option_and_then (process old.state)) (sym (sym c.current.ensures ∙ c.in-Some.is)) ∙ e in
     let quiet = quiet_on pid old mid looks.same (record { none = none; checked = checked; place = place }) in
     let acts = c.act.ensures.brief me (ap (λ (t : State). process t pid) looks.same.state ∙ here) quiet in
-    IfSome_then (slots_of_acting old.state me me.blocked) (subst (λ (t : State). IfSome (slots_of_acting t me me.blocked) (λ n. IsBrief n mid c.act.new.machine)) looks.same.state acts)
+    IfSome_then (slots_of_acting old.state me me.blocked) (subst (λ (t : State). IfSome (slots_of_acting t me me.blocked) (λ n. CostsWithRechecks n mid c.act.new.machine)) looks.same.state acts)
     (λ n h. brief_on n 1 (n + 1) old mid c.act.new.machine looks.same looks.visits (omega arith) h)

@@ -10,20 +10,20 @@ use Rattle.calls.proofs.BriefLemmas.{brief_alone}
 use Rattle.kernel.proofs.BlockLemmas.{waits_rest, waits_unread, nobody_left}
 use Rattle.kernel.proofs.step.wait_on.Goals as goal
 
-pub rechecked-requires-clause-waits : goal.rechecked-requires-clause-waits
-rechecked-requires-clause-waits g c =
+pub finish_recheck-requires-clause-waits : goal.finish_recheck-requires-clause-waits
+finish_recheck-requires-clause-waits g c =
     let it = c.requires.acting.placed in
     subst (λ (t : State). (r : Process) → process t c.args.pid ≡ Some r → wakes t r ≡ false) (sym (state_is c.lose_place.ensures.is))
     (waits_rest c.args.machine.now.state c.args.pid it.what it.found (c.requires.none_chosen it.what it.found) (c.requires.waits it.what it.found c.if-waits.true))
 
-pub rechecked-requires-clause-session : goal.rechecked-requires-clause-session
-rechecked-requires-clause-session g c =
+pub finish_recheck-requires-clause-session : goal.finish_recheck-requires-clause-session
+finish_recheck-requires-clause-session g c =
     let it = c.requires.acting.placed in
     subst (λ (t : State). None ≡ reads t c.args.pid) (sym (state_is c.lose_place.ensures.is)) (waits_unread (lose_place c.args.machine.now.state c.args.pid) c.args.pid it.what it.found (c.requires.blocked it.what it.found c.if-waits.true))
 
 pub returns-then-waits-clause-brief : goal.returns-then-waits-clause-brief
 returns-then-waits-clause-brief g c = λ same quiet.
-    let rest = c.rechecked.ensures.rest in
+    let rest = c.finish_recheck.ensures.rest in
     let lost = c.lose_place.ensures.is in
     let ns = c.args.machine.now.to_recheck in
     let list = ap (λ (m : MachineView). m.to_recheck) lost ∙ ap (λ b. cond b (with_number c.args.pid ns) ns) quiet.place in

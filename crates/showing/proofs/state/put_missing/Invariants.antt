@@ -2,4 +2,4 @@ use Rattle.showing.specs.Pasts.{IsSame}
 use Rattle.showing.proofs.state.put_missing.Given as goal
 
 abbrev pub invariant-loop-pid : goal.invariant-loop-pid
-invariant-loop-pid l = IsSame l.fn.past.kernel l.past.kernel
+invariant-loop-pid l = IsSame l.fn.replay.kernel l.replay.kernel

@@ -1,5 +1,5 @@
 use Rattle.showing.specs.Pasts.{IsSame}
 use Rattle.showing.proofs.state.put_processes.Given as goal
 
-abbrev pub invariant-loop : goal.invariant-loop
-invariant-loop l = IsSame l.fn.past.kernel l.past.kernel
+abbrev pub invariant-loop-pid : goal.invariant-loop-pid
+invariant-loop-pid l = IsSame l.fn.replay.kernel l.replay.kernel

@@ -1,8 +1,9 @@
 use Rattle.std.proofs.Common.{◌≡◌, ap, sym, ◌∙◌, subst}
-use Rattle.audit.specs.Children.{AreLinked}
-use Rattle.audit.specs.Records.{after, kept_by, record_in}
+use Rattle.std.proofs.lemmas.Bool.{false≢true}
+use Rattle.audit.specs.Children.{AreLinked, AreSound}
+use Rattle.audit.specs.Records.{after, kept_by, record_in, IsAfter}
 use Rattle.audit.proofs.ChildLemmas.{same_links}
-use Rattle.audit.proofs.KeptLemmas.{AreSound, IsAfter, change_keeps, not_both, unmarked_after}
+use Rattle.audit.proofs.KeptLemmas.{change_keeps, unmarked_after}
 use Rattle.audit.proofs.known.Known.change.Goals.{in-Marked, in_default}
 use Rattle.audit.proofs.known.Known.change.Goals as goal
 
@@ -11,7 +12,7 @@ invariant_of-self c =
     let old = c.match-change.self-inside.records.entries in
     let new = c.apply.new.records.entries in
     elim c.match-change.branch [
-      | in-Marked w ↦ (same_links (record_in old) (record_in new) c.apply.ensures.links (subst (λ i. AreLinked (record_in i.records.entries)) (sym w.self-inside-is) c.self.invariant.0), λ none. absurd (not_both c.match-change.self-inside.may_be_marked (ap (λ i. i.may_be_marked) w.self-inside-is) none))
+      | in-Marked w ↦ (same_links (record_in old) (record_in new) c.apply.ensures.links (subst (λ i. AreLinked (record_in i.records.entries)) (sym w.self-inside-is) c.self.invariant.0), λ none. absurd (false≢true (sym none ∙ ap (λ i. i.may_be_marked) w.self-inside-is)))
       | in_default w ↦
           let sound = subst (λ i. AreSound i.may_be_marked i.records.entries) (sym w.self-inside-is) c.self.invariant in (
             same_links (record_in old) (record_in new) c.apply.ensures.links sound.0,

@@ -1,4 +1,4 @@
-use Rattle.jobs.specs.Books.{record_seen}
+use Rattle.jobs.specs.Indexes.{record_seen}
 use Rattle.life.specs.declared.consoles.Unchecked.TheVariants.{All}
 use Rattle.std.proofs.Common.{cond, ap, sym, ◌∙◌, subst, [], ◌∷◌, refl, rules}
 use Rattle.posix.specs.States.{State}
@@ -13,7 +13,7 @@ use Rattle.life.proofs.SoundLemmas.{here_in}
 use Rattle.life.proofs.RecheckLemmas.{has_room, room_after, pids_of, room_of}
 use Rattle.life.proofs.FunnelLemmas.{not_moved, machine_shown, can_move_numbers, seen_is, parent_there, there_record}
 use Rattle.life.proofs.ViewLemmas.{state_is}
-use Rattle.jobs.specs.JobTables.{StaysGrouped, StaysPut}
+use Rattle.jobs.specs.IndexedTables.{StaysGrouped, StaysPut}
 use Rattle.life.proofs.machine.Machine.change_seen.Goals as goal
 
 pub recheck_with_parent-requires-clause-few : goal.recheck_with_parent-requires-clause-few

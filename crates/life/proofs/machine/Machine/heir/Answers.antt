@@ -1,9 +1,7 @@
 use Rattle.std.proofs.Common.{rules, ◌≡◌, ◌∙◌, ◌&&◌, ◌==◌, ◌+◌, ◌-◌, ◌≤◌, not, ap, sym, arith, subst, refl, true, false, ℕ, None}
-use Rattle.posix.specs.Heirs.{forebears}
 use Rattle.posix.specs.Regular.{IsRegular}
 use Rattle.posix.proofs.HeirLemmas.{both, none_early, none_late}
-use Rattle.life.specs.Ends.{slots_of_walk}
-use Rattle.std.proofs.lemmas.Bool.{not-true, not-false}
+use Rattle.std.proofs.lemmas.Bool.{not-true}
 use Rattle.life.proofs.HeirLemmas.{heir_unmarked, walk_from, walk_over, first_regular, slots_least, from_ne, to_eq, nobody_at, looked_at, step_gone, step_dead, step_here, step_on, step_read}
 use Rattle.life.proofs.machine.Machine.heir.Goals as goal
 use Rattle.life.proofs.machine.Machine.heir.Goals.{then-eq-via-then-eq, then-eq-via-else-eq+then-nobody_marked, else-it-via-then-it+else-ne-2, else-it-via-else-it, then-loop-left-test+else-ne, else-loop-left-test}

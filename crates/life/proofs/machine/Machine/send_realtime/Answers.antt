@@ -20,8 +20,8 @@ returns-then-survey-clause-sending g c =
     let told = surveyed r c.args.target n rs c.survey-survey.result c.survey-survey.ensures.finds.value in
     (true, full_refuses (queuers_among r c.args.target (Some n) rs) (sending r c.args.target (Some n) rs) (sym told.0 ∙ c.if-survey.true))
 
-pub send_with-sending-requires : goal.send_with-sending-requires
-send_with-sending-requires g c =
+pub send_from_pools-sending-requires : goal.send_from_pools-sending-requires
+send_from_pools-sending-requires g c =
     let r = process_like c.args.me.now in
     let n = c.args.signal.sig in
     let rs = c.args.self.now.state.processes in
@@ -30,7 +30,7 @@ send_with-sending-requires g c =
     let enough = c.reserve_pools.ensures.enough c.if-reserve_pools.true in
     record {
       room =
-          subst (λ (t : State). HaveRoom c.reserve_pools.new.stock.pools (queuers_among r c.args.target (Some n) t.processes)) (sym state)
+          subst (λ (t : State). HaveRoom c.reserve_pools.new.granted_pools.pools (queuers_among r c.args.target (Some n) t.processes)) (sym state)
           (record { free = sym told.0 ∙ c.if-survey.false; enough = omega (arith, enough, told.1) });
     }
 
@@ -45,7 +45,7 @@ returns-clause-sending g c =
     let state : c.reserve_pools.new.self.state ≡ c.args.self.now.state = ap (λ (m : MachineView). m.state) (c.reserve_pools.ensures.same ∙ c.self.view_is) ∙ c.survey-survey.ensures.finds.looks.same.state in
     let free : list_any has_full_queue qs ≡ false = sym told.0 ∙ c.if-survey.false in
     elim c.if-reserve_pools.branch [
-      | then-reserve_pools w ↦ (true, w.sending-is ∙ w.send_with-sending.ensures.sending ∙ ap (λ (t : State). sending r c.args.target (Some n) t.processes) state ∙ goes_on qs (sending r c.args.target (Some n) rs) free)
+      | then-reserve_pools w ↦ (true, w.sending-is ∙ w.send_from_pools-sending.ensures.sending ∙ ap (λ (t : State). sending r c.args.target (Some n) t.processes) state ∙ goes_on qs (sending r c.args.target (Some n) rs) free)
       | else-reserve_pools w ↦ (false, w.sending-is ∙ memory_refuses qs (sending r c.args.target (Some n) rs) free (let some = c.reserve_pools.ensures.lack w.if-reserve_pools.false in omega (arith, some, told.1)))
     ]
 
@@ -61,9 +61,9 @@ returns-clause-changes g c =
     elim c.if-reserve_pools.branch [
       | then-reserve_pools w ↦
           let now = c.self-2.view_is ∙ w.self-is in
-          let did = sends_found r target k mid w.send_with-sending.new.self w.send_with-sending.result w.send_with-sending.ensures.sending w.send_with-sending.ensures.changes in
-          let all = sends_looked r target k old mid w.send_with-sending.new.self w.send_with-sending.result looks (subst (λ (t : State). Sends w.send_with-sending.result r target k (1 + (2 + slots_of_send (Some c.args.signal.sig)) * length (filter (is_candidate r target) t.processes)) mid w.send_with-sending.new.self) looks.same.state did) in
-          subst (Sends c.if-reserve_pools.sending r target k _ old) (sym now) (subst (λ a. Sends a r target k _ old w.send_with-sending.new.self) (sym w.sending-is) all)
+          let did = sends_found r target k mid w.send_from_pools-sending.new.self w.send_from_pools-sending.result w.send_from_pools-sending.ensures.sending w.send_from_pools-sending.ensures.changes in
+          let all = sends_looked r target k old mid w.send_from_pools-sending.new.self w.send_from_pools-sending.result looks (subst (λ (t : State). Sends w.send_from_pools-sending.result r target k (1 + (2 + slots_of_send (Some c.args.signal.sig)) * length (filter (is_candidate r target) t.processes)) mid w.send_from_pools-sending.new.self) looks.same.state did) in
+          subst (Sends c.if-reserve_pools.sending r target k _ old) (sym now) (subst (λ a. Sends a r target k _ old w.send_from_pools-sending.new.self) (sym w.sending-is) all)
       | else-reserve_pools w ↦
           let now = c.self-2.view_is ∙ w.self-is in
           subst (Sends c.if-reserve_pools.sending r target k _ old) (sym now) (sends_none (1 + (2 + slots_of_send (Some c.args.signal.sig)) * length (filter (is_candidate r target) old.state.processes)) r target k old mid c.if-reserve_pools.sending (ap is_sent w.sending-is) looks)

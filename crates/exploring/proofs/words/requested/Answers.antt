@@ -1,0 +1,29 @@
+use denote.Enum.Bare.{sameb}
+use Rattle.std.proofs.Common.{◌≡◌, ◌≢◌, ◌∙◌, ap, false, sym, true, map, List}
+use Rattle.clap.specs.Words.{Text}
+use Rattle.exploring.specs.contracts.words.Next.{the_type}
+use Rattle.exploring.specs.declared.words.Next.TheVariants.{Sought}
+use Rattle.exploring.specs.Words.{asked_by_parts, asked_of, parted_as}
+use Rattle.exploring.proofs.WordLemmas.{asked_alike, refused_alike, refused_words, taken_words, whole_words}
+use Rattle.exploring.proofs.words.requested.Goals as goal
+
+pub returns-in_err-matches : goal.returns-in_err-matches
+returns-in_err-matches c =
+    let p = parted_as c.args.parts.now in
+    let more : p.next ≢ Sought = λ is. let alike : false ≡ true = c.if-eq.ensures ∙ ap (λ n. sameb the_type n Sought) is in cc in
+    let others : List Text = map (λ w. w.now) c.as_slice.result.now in
+    let same : others ≡ p.others = ap (map (λ w. w.now)) c.as_slice.ensures.value in
+    refused_alike c.from_residual-in_err-matches.result (asked_by_parts p) c.in_err-matches.field-0.0 c.from_residual-in_err-matches.ensures.1
+    (λ known. whole_words p.next p.finds p.others more ∙ ap (asked_of p.finds) (sym same)
+    ∙ refused_words _ p.finds others c.in_err-matches.field-0.0 c.in_ok-command_line.ensures c.in_err-matches.ensures.kinds known)
+
+pub returns : goal.returns
+returns c =
+    let p = parted_as c.args.parts.now in
+    let more : p.next ≢ Sought = λ is. let alike : false ≡ true = c.if-eq.ensures ∙ ap (λ n. sameb the_type n Sought) is in cc in
+    let others : List Text = map (λ w. w.now) c.as_slice.result.now in
+    let same : others ≡ p.others = ap (map (λ w. w.now)) c.as_slice.ensures.value in
+    asked_alike c.request_of.result _ (asked_by_parts p)
+    (whole_words p.next p.finds p.others more ∙ ap (asked_of p.finds) (sym same)
+    ∙ taken_words _ p.finds others c.in_ok-matches.matches c.in_ok-command_line.ensures c.in_ok-matches.ensures.kinds c.in_ok-matches.ensures.matches)
+    (rw c.as_slice-2.ensures.value at c.request_of.ensures)

@@ -1,0 +1,3 @@
+mod ReadLemmas
+mod NumberLemmas
+mod RowLemmas

@@ -1,0 +1,4 @@
+pub mod Statuses
+pub mod Reads
+pub mod Numbers
+pub mod Words

@@ -1,0 +1,22 @@
+use Rattle.std.proofs.Common.{arith, ◌∙◌, ap, None}
+use Rattle.posix.specs.Tables.{inserted}
+use Rattle.proctable.specs.Records.{process_of}
+use Rattle.jobs.proofs.IndexLemmas.{fits_more, can_move, sees_none}
+use Rattle.jobs.proofs.KeptLemmas.{kept_inserted, size_of}
+use Rattle.jobs.proofs.indexed_table.IndexedTable.insert.Goals as goal
+
+pub reindex-requires-clause-can : goal.reindex-requires-clause-can
+reindex-requires-clause-can g c =
+    let free = fits_more (g.K.ProcessTable.room c.self.inside.table) c.self.inside.count c.self.inside.indexes (rw (← c.self.view_is) at c.requires.room) in
+    can_move c.args.pid c.args.parent None _ c.self.inside.indexes c.self.invariant.rising c.self.invariant.indexes (sees_none c.args.pid c.args.parent _ (rw (← c.self.view_is) at c.requires.fresh)) (λ e. rw (← c.self.invariant.count) free)
+
+pub overflow_add-self : goal.overflow_add-self
+overflow_add-self g c = grind (arith, size_of)
+
+pub invariant_of-self : goal.invariant_of-self
+invariant_of-self g c =
+    let limit = rw (← c.self.view_is) at c.requires.limit in
+    let group = rw (← c.self.view_is) at c.requires.group in
+    let free = fits_more (g.K.ProcessTable.room c.self.inside.table) c.self.inside.count c.self.inside.indexes (rw (← c.self.view_is) at c.requires.room) in
+    kept_inserted c.self.inside.count _ _ (process_of c.args.pid c.args.parent c.args.fields) c.self.inside.indexes c.reindex.new.self c.put.new.self (omega (arith, c.requires.number)) (limit, group) (rw (← c.self.view_is) at c.requires.fresh) (rw (← c.self.view_is) at c.requires.parent) (c.insert.ensures.contents ∙ ap (inserted (process_of c.args.pid c.args.parent c.args.fields)) c.seen_above-above.ensures.contents) free
+    (rw c.of_record-after.ensures at c.reindex.ensures.moved) (rw (c.anchor_key.ensures, c.of_record-after.ensures, c.seen_above-above.ensures.value, c.reindex.ensures.anchors) at c.put.ensures.moved) (rw c.reindex.ensures.anchors at c.put.ensures.numbers) c.self.invariant

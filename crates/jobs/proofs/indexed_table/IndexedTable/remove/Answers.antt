@@ -1,0 +1,26 @@
+use Rattle.std.proofs.Common.{◌∙◌, ap, arith, sym}
+use Rattle.posix.specs.Tables.{removed}
+use Rattle.jobs.proofs.KeptLemmas.{can_leave, kept_removed, leave_rules}
+use Rattle.jobs.proofs.indexed_table.IndexedTable.remove.Goals as goal
+
+pub reindex-requires-clause-can : goal.reindex-requires-clause-can
+reindex-requires-clause-can g c = rw c.of_snapshot.ensures (can_leave (sym c.in-Some.is ∙ c.get.ensures.value) c.self.invariant).0
+
+pub reindex-requires-clause-inside : goal.reindex-requires-clause-inside
+reindex-requires-clause-inside g c = ((can_leave (sym c.in-Some.is ∙ c.get.ensures.value) c.self.invariant).1.1, tt)
+
+pub put-requires-clause-pid : goal.put-requires-clause-pid
+put-requires-clause-pid g c =
+    let number = (can_leave (sym c.in-Some.is ∙ c.get.ensures.value) c.self.invariant).1 in
+    let wide = c.self.invariant.anchors.wide in
+    rw c.reindex.ensures.anchors (number.0, omega (arith, number.1, wide))
+
+pub returns-in_default-clause-processes : goal.returns-in_default-clause-processes
+returns-in_default-clause-processes g c = grind (arith, leave_rules)
+
+pub overflow_sub-self : goal.overflow_sub-self
+overflow_sub-self g c = grind (arith, leave_rules)
+
+pub invariant_of-self-2 : goal.invariant_of-self-2
+invariant_of-self-2 g c =
+    kept_removed c.self.inside.count _ _ c.args.pid c.in-Some.snapshot c.self.inside.indexes c.reindex.new.self c.put.new.self (sym c.in-Some.is ∙ c.get.ensures.value) (rw (← c.self.view_is) at c.requires) (c.remove.ensures.contents ∙ ap (removed c.args.pid) c.get.ensures.contents) c.reindex.ensures.moved (rw c.reindex.ensures.anchors at c.put.ensures.moved) (rw c.reindex.ensures.anchors at c.put.ensures.numbers) c.self.invariant

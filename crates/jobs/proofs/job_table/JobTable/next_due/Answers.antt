@@ -1,5 +1,0 @@
-use Rattle.jobs.proofs.BookLemmas.{next_due}
-use Rattle.jobs.proofs.job_table.JobTable.next_due.Goals as goal
-
-pub returns : goal.returns
-returns g c = rw (← c.self.view_is) (next_due c.args.tick c.args.after (g.K.Kin.contents c.self.inside.table) c.self.inside.books _ c.self.invariant.rising c.self.invariant.books c.next_due.ensures)

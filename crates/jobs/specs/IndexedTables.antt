@@ -1,0 +1,112 @@
+-- What a table of jobs is worth.
+use Rattle.std.specs.Prelude.{◌≡◌, Bool, is_some, true, ℕ, ◌+◌, ◌<◌, ◌≤◌, ◌⊎◌, List, length, Some, None, ◌≢◌}
+use Rattle.std.specs.List.{list_any}
+use Rattle.std.specs.Borrow.{MutBor}
+use Rattle.std.specs.Fn.{Once, FnOnceReturnsAtMut}
+use Rattle.posix.specs.Processes.{Process}
+use Rattle.posix.specs.Tables.{IsRising, lookup, changed, parent_of, is_member}
+use Rattle.posix.specs.Targets.{greatest_pid}
+use Rattle.posix.specs.Choice.{chosen}
+use Rattle.proctable.specs.declared.records.Record.{Record}
+use Rattle.proctable.specs.declared.own_part.OwnPart.{OwnPart}
+use Rattle.proctable.specs.Records.{give_own, process_of, with_record}
+use Rattle.jobs.specs.declared.indexes.Indexes.{Indexes}
+use Rattle.pidset.specs.Indexes.{HaveParents, IsAnchorIndex}
+use Rattle.jobs.specs.Indexes.{AreIndexes, record_seen, keeps_group_and_session}
+
+-- the processes in rising order of their numbers, how many more can be put in without memory, with numbers below which
+-- limit, and how many slots have been read
+pub record JobsView : Type 0 where
+  pub processes : List Process
+  pub room : ℕ
+  pub limit : ℕ
+  pub visits : ℕ
+
+-- nobody has number 0, or one above the greatest
+abbrev pub AreNumbers : List Process → Type 0
+AreNumbers rs = (p : ℕ) → (p ≡ 0) ⊎ (greatest_pid < p) → lookup p rs ≡ None
+
+-- each number, and that of each process group, is below n, and no group has number 0
+abbrev pub AreWithin : ℕ → List Process → Type 0
+AreWithin n rs = (p : ℕ) (r : Process) → lookup p rs ≡ Some r → (r.pid < n) × (1 ≤ r.group) × (r.group < n)
+
+-- it has a parent
+abbrev pub HasParent : ℕ → Process → Type 0
+HasParent p r = r.parent ≢ 0
+
+-- the anchors are in their index, which has memory for each number, and each parent is there
+pub record AreAnchors (rs : List Process) (b : Indexes) : Type 0 where
+  pub index : IsAnchorIndex rs b.anchors.pairs
+  pub wide : b.members.numbers ≤ b.anchors.numbers
+  pub parents : HaveParents HasParent rs
+
+-- their numbers rise, it is known how many there are, and their indexes are right
+pub record IsKept (n : ℕ) (b : Indexes) (rs : List Process) : Type 0 where
+  pub rising : IsRising rs
+  pub numbers : AreNumbers rs
+  pub within : AreWithin b.members.numbers rs
+  pub limit : b.members.numbers ≤ 2147483648
+  pub count : n ≡ length rs
+  pub indexes : AreIndexes rs b
+  pub anchors : AreAnchors rs b
+
+-- A look leaves the processes and the room as they are, and reads at most n slots. From each look it is known
+-- that the numbers rise, and which there are.
+pub record Looks (n : ℕ) (old new : JobsView) : Type 0 where
+  pub processes : new.processes ≡ old.processes
+  pub room : new.room ≡ old.room
+  pub visits : new.visits ≤ old.visits + n
+  pub rising : IsRising old.processes
+  pub numbers : AreNumbers old.processes
+
+-- an answer of who only looks
+pub record Finds (n : ℕ) (old new : JobsView) (what : Type 0) : Type 0 where
+  pub value : what
+  pub looks : Looks n old new
+
+-- a change that takes no room, and reads at most n slots
+pub record Costs (n : ℕ) (old new : JobsView) : Type 0 where
+  pub room : new.room ≡ old.room
+  pub visits : new.visits ≤ old.visits + n
+
+-- one more slot was read
+abbrev pub looked : (ℕ → ℕ) → JobsView → JobsView
+looked more t = record t { visits = more t.visits }
+
+-- and the process has this in its place
+abbrev pub lent : (ℕ → ℕ) → JobsView → ℕ → OwnPart → JobsView
+lent more t p o = record t { processes = changed p (give_own o) t.processes; visits = more t.visits }
+
+-- a signal is chosen for it, so that it acts next
+abbrev pub takes_signal : Process → Bool
+takes_signal r = is_some (chosen r.life r.signals)
+
+-- ---- closures that change a record
+
+-- the closure changes nothing but signals, and an alarm
+abbrev pub ChangesSignals : {F T : Type 0} → Once F (MutBor Record × Unit {0}) (T × (MutBor Record × Unit {0})) → F → Type 0
+ChangesSignals {T = T} g change = (b c : Record) (r : T) → FnOnceReturnsAtMut g change b r c → c ≡ record b { alarm = c.alarm; own = record (b.own) { signals = c.own.signals } }
+
+-- p may be in the process group g: it has its number, or a member
+abbrev pub IsGroupFor : ℕ → ℕ → List Process → Type 0
+IsGroupFor p g rs = (g ≡ p) ⊎ (list_any (is_member g) rs ≡ true)
+
+-- whatever the closure does to the record of p, this is so of it before and after
+abbrev pub Does : {F T : Type 0} → Once F (MutBor Record × Unit {0}) (T × (MutBor Record × Unit {0})) → F → List Process → ℕ → (Record → Record → Type 0) → Type 0
+Does {T = T} g change rs p what = (b c : Record) (r : T) → lookup p rs ≡ Some (process_of p (parent_of p rs) b) → FnOnceReturnsAtMut g change b r c → what b c
+
+-- the closure leaves p in its process group, or in one in which p may be
+abbrev pub StaysGrouped : {F T : Type 0} → Once F (MutBor Record × Unit {0}) (T × (MutBor Record × Unit {0})) → F → List Process → ℕ → Type 0
+StaysGrouped g change rs p = Does g change rs p (λ b c. (c.group ≡ b.group) ⊎ IsGroupFor p c.group rs)
+
+-- it leaves p in its process group and its session, and doesn't revive it
+abbrev pub StaysPut : {F T : Type 0} → Once F (MutBor Record × Unit {0}) (T × (MutBor Record × Unit {0})) → F → List Process → ℕ → Type 0
+StaysPut g change rs p = Does g change rs p (λ b c. keeps_group_and_session (record_seen b) (record_seen c) ≡ true)
+
+-- the closure ran on the record of p, and gave r
+pub record IsRun {F T : Type 0} (g : Once F (MutBor Record × Unit {0}) (T × (MutBor Record × Unit {0}))) (change : F) (rs ts : List Process) (p : ℕ) (r : T) : Type 0 where
+  pub before : Record
+  pub after : Record
+  pub found : lookup p rs ≡ Some (process_of p (parent_of p rs) before)
+  pub ran : FnOnceReturnsAtMut g change before r after
+  pub is : ts ≡ with_record rs p after

@@ -1,5 +1,0 @@
-use Rattle.showing.specs.Pasts.{IsSame}
-use Rattle.showing.proofs.hearing.rows.Given as goal
-
-abbrev pub invariant-loop : goal.invariant-loop
-invariant-loop l = IsSame l.fn.kernel l.kernel

@@ -1,0 +1,13 @@
+use Rattle.std.proofs.Common.{◌≡◌, length, take, max, min}
+use Rattle.posix.specs.States.{World}
+use Rattle.text.specs.EventLists.{expanded}
+use Rattle.showing.specs.Pasts.{IsReached}
+use Rattle.showing.proofs.replay.run_to.Given as goal
+
+-- the events of the runs so far were given, up to the last one that is wanted
+abbrev pub invariant-loop-run : goal.invariant-loop-run
+invariant-loop-run g l = record {
+  end : l.end ≡ length (expanded (take l.run-index l.run-items));
+  at : l.replay.kernel.events ≡ max l.fn.replay.kernel.events (min l.last l.end);
+  reached : (world : World) → IsReached world l.events l.fn.replay.kernel → IsReached world l.events l.replay.kernel;
+}

@@ -1,0 +1,17 @@
+-- The statuses of the program.
+use Rattle.std.specs.Prelude.{ℕ}
+use Rattle.inputs.specs.Statuses.{status_of as status_of_input}
+use Rattle.showing.specs.declared.serving.Failure.{Failure}
+use Rattle.showing.specs.declared.serving.Failure.TheVariants.{Usage, At, AtAbove, Process, Step, Input, Memory, Write, Read}
+
+-- 1 for a refused text, 2 for other words, 3 for a device or memory
+abbrev pub status_of : Failure → ℕ
+status_of (Input why) = status_of_input why
+status_of Usage = 2
+status_of At = 2
+status_of (AtAbove at events) = 2
+status_of Process = 2
+status_of Step = 2
+status_of Memory = 3
+status_of Write = 3
+status_of Read = 3
