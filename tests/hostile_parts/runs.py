@@ -45,9 +45,9 @@ def fill(name, pieces=()):
     return file
 
 
-def start(word, *texts, stdin=None, environment=None):
+def start(word, *texts, stdin=None, environment=None, seconds=SECONDS):
     """Starts the program with that word and files. A file is given by its content, by pieces of it, or by its name. Its
-    outputs go to the files in memory `out` and `err`. It is ended after SECONDS."""
+    outputs go to the files in memory `out` and `err`. It is ended after so many seconds."""
     words, actions = [word], [(os.POSIX_SPAWN_OPEN, 0, '/dev/null', os.O_RDONLY, 0)]
     if stdin is not None:
         actions = [(os.POSIX_SPAWN_DUP2, stdin, 0)]
@@ -61,7 +61,7 @@ def start(word, *texts, stdin=None, environment=None):
         words.append(f'/dev/fd/{FIRST_TEXT + number}')
     child = os.posix_spawn(program, [program, *words], environment or {}, file_actions=actions)
     signal.signal(signal.SIGALRM, lambda *_: os.kill(child, signal.SIGKILL))
-    signal.alarm(SECONDS)
+    signal.alarm(seconds)
     return child
 
 
@@ -100,6 +100,7 @@ class Checks:
     def __init__(self):
         self.passed = 0
         self.failed = 0
+        self.not_tried = 0
 
     def judge_each(self, kind, judge, items):
         """Calls judge, which answers None or what failed, for each item; as many at once as there are processors."""

@@ -1,19 +1,31 @@
-"""Time and memory grow as the text does: four times the text takes at most six times as much of both.
+"""Time and memory grow as the text does: ten times the text takes at most twelve times as much of both.
 
-Time is that of a processor; a hundredth of a second is left to the clock. Memory is the peak, which can't be told apart
-from that of these tests below 20 MB or so; so texts are larger, where they can be.
+The texts are of 10 and 100 MB, and of 100 MB and 1 GB. Time is that of a processor; a hundredth of a second is left to
+the clock. Memory is the peak, which can't be told apart from that of these tests below 20 MB or so. A text is read
+through a pipe, so that it takes no memory beside that of the program. Where there isn't enough, a line says so.
+
+An audit of births may take thirty times as long for ten times the text. Its machine instructions are ten times as many;
+but what is kept of each number is looked up at places without an order, and of 10 MB it fits into a processor's cache.
 """
 
 import contextlib
+import fcntl
 import itertools
 import os
+import resource
 
 from hostile_parts import runs
 
-TIMES = 4
-AT_MOST = 6
-MEGABYTES = 20          # the lesser text, where its size isn't bounded
-KEY_BYTES = 8           # at most so many for a key, beside its text
+TIMES = 10
+AT_MOST = 12
+AT_MOST_OF_BIRTHS = 30
+TRIES = 4
+SECONDS = 300                   # a run that takes longer is ended, and has failed
+PIPE_BYTES = 1 << 20
+KEY_BYTES = 8                   # at most so many for a key, beside its text
+SPARE = 500 * 10**6             # so much memory is left to others
+LEAST = 10**8                   # and so much is taken to be there
+F_SETPIPE_SZ = 1031
 
 HEADER = b'pidmax 40\nconsoles 1\n'
 WORLD = HEADER + b'program init\nsys exit\nend\n'
@@ -50,81 +62,107 @@ def labels_of_one(thousands):
     yield b'end\n'
 
 
-def run_of(events):
-    return lambda size: ('run', WORLD, events(size))
+# What is read; its pieces by size, which is in millions of bytes but where the lesser size stands before them; the words
+# and the other text; and the status.
+EVENTS, A_WORLD, A_TRACE = ('run', WORLD, '/dev/stdin'), ('run', '/dev/stdin', b''), ('audit', '/dev/stdin')
+BOUNDED = (
+    ('a world of 30 programs with 1,000 labels each', 3, labels, A_WORLD, 0),
+    ('a world of a program with 50,000 labels', 5, labels_of_one, A_WORLD, 0))
+UNBOUNDED = (
+    ('a world with comments', lambda size: [WORLD, *repeated(COMMENT, size)], A_WORLD, 0),
+    ('steps and ticks', lambda size: repeated(TURN, size), EVENTS, 0),
+    ('keys', lambda size: repeated(KEYS, size), EVENTS, 0),
+    ('comments', lambda size: repeated(COMMENT, size), EVENTS, 0),
+    ('empty lines', lambda size: repeated(b'\n', size), EVENTS, 0),
+    ('one line of events', lambda size: repeated(b'x', size), EVENTS, 1),
+    ('one line of a world', lambda size: repeated(b'x', size), A_WORLD, 1),
+    ('one line of a trace', lambda size: repeated(b'x', size), A_TRACE, 1),
+    ('births of a trace', births, A_TRACE, 0))
 
 
-# What is read, the words and texts by size, the lesser size, and the status.
-READ = (
-    ('a world of 32 programs with 1,000 labels each', lambda size: ('run', labels(size), b'step 9\n'), 8, 0),
-    ('a world of a program with 20,000 labels', lambda size: ('run', labels_of_one(size), b'step 9\n'), 5, 0),
-    ('a world with comments', lambda size: ('run', [WORLD, *repeated(COMMENT, size)], b''), MEGABYTES, 0),
-    ('steps and ticks', run_of(lambda size: repeated(TURN, size)), MEGABYTES, 0),
-    ('keys', run_of(lambda size: repeated(KEYS, size)), MEGABYTES, 0),
-    ('comments', run_of(lambda size: repeated(COMMENT, size)), MEGABYTES, 0),
-    ('empty lines', run_of(lambda size: repeated(b'\n', size)), MEGABYTES, 0),
-    ('one line of events', run_of(lambda size: repeated(b'x', size)), MEGABYTES, 1),
-    ('one line of a world', lambda size: ('run', repeated(b'x', size), b''), MEGABYTES, 1),
-    ('one line of a trace', lambda size: ('audit', repeated(b'x', size)), MEGABYTES, 1),
-    ('births of a trace', lambda size: ('audit', births(size)), MEGABYTES, 0))
+def group_memory():
+    """The bytes that the control groups of this process leave it, of each that has a limit."""
+    for line in runs.read_file('/proc/self/cgroup').decode().splitlines():
+        _, names, path = line.split(':', 2)
+        folder, limit, used = '/memory', 'memory.limit_in_bytes', 'memory.usage_in_bytes'
+        if not names:
+            folder, limit, used = '', 'memory.max', 'memory.current'
+        for at in (path, '/'):
+            with contextlib.suppress(OSError, ValueError):      # there is no such file, or it says `max`
+                yield int(runs.read_file(f'/sys/fs/cgroup{folder}{at}/{limit}')) - int(
+                    runs.read_file(f'/sys/fs/cgroup{folder}{at}/{used}'))
 
 
-def measure(texts, size, status):
-    """The seconds and the peak of a run, or a fault where its status is another."""
-    got, seconds, peak = runs.finish(runs.start(*texts(size)))
+def available():
+    """The bytes of memory that there are for a program, but for some that are left to others."""
+    lines = dict(line.split(':') for line in runs.read_file('/proc/meminfo').decode().splitlines())
+    limit, _ = resource.getrlimit(resource.RLIMIT_AS)
+    own = [] if limit == resource.RLIM_INFINITY else [limit]
+    return max(min([int(lines['MemAvailable'].split()[0]) * 1024, *group_memory(), *own]) - SPARE, LEAST)
+
+
+def measure(pieces, texts, status):
+    """The seconds and the peak of a run, or a fault where its status is another. It gets the memory that is there."""
+    read_end, write_end = os.pipe()
+    fcntl.fcntl(write_end, F_SETPIPE_SZ, PIPE_BYTES)
+    child = runs.start(*texts, stdin=read_end, seconds=SECONDS)
+    resource.prlimit(child, resource.RLIMIT_AS, (available(), resource.getrlimit(resource.RLIMIT_AS)[1]))
+    os.close(read_end)
+    with contextlib.suppress(BrokenPipeError), open(write_end, 'wb', buffering=0) as pipe:
+        for piece in pieces:
+            while piece:
+                piece = piece[pipe.write(piece):]
+    got, seconds, peak = runs.finish(child)
     if got.status != status:
         raise ValueError(f'status {got.status}, wanted {status}: {got.err}')
     return seconds, peak
 
 
-def growth(name, texts, size, status):
-    """What grows too much as there is more to read, or None; and the bytes by which the peak grew. Other work of the
-    machine costs time, too, so only what grows too much three times has failed."""
-    for _ in range(3):
+def growth(name, lesser, pieces, texts, status):
+    """What grows too much as there is more to read, or None; and the bytes by which the peak grew, or None where there
+    isn't the memory: room is asked for by doubling it. Other work of the machine costs time, too, so only what grows
+    too much each time has failed."""
+    at_most = AT_MOST_OF_BIRTHS if pieces is births else AT_MOST
+    for _ in range(TRIES):
         try:
-            seconds, peak = measure(texts, size, status)
-            more_seconds, more_peak = measure(texts, TIMES * size, status)
+            seconds, peak = measure(pieces(lesser), texts, status)
+            if 2 * TIMES * peak > available():
+                print('  %s: not tried, as %.1f GB of memory may be needed and %.1f GB are there' % (
+                    name, 2 * TIMES * peak / 1e9, available() / 1e9), flush=True)
+                return None, None
+            more_seconds, more_peak = measure(pieces(TIMES * lesser), texts, status)
         except ValueError as wrong:
             return f'{name}: {wrong}', 0
-        told = f'{seconds:.3f} and {more_seconds:.3f} seconds, {peak / 1e6:.0f} and {more_peak / 1e6:.0f} MB'
-        if more_seconds <= AT_MOST * seconds + 0.01 and more_peak <= AT_MOST * peak:
-            print(f'  {name}: {told}')
+        told = '%.3f and %.3f seconds, %.0f and %.0f MB' % (seconds, more_seconds, peak / 1e6, more_peak / 1e6)
+        if more_seconds <= at_most * seconds + 0.01 and more_peak <= AT_MOST * peak:
+            print(f'  {name}: {told}', flush=True)
             return None, more_peak - peak
     return f'{name}: {told}', 0
 
 
-def cost_of_a_key(grown):
+def cost_of_a_key(lesser, grown):
     """None where a key takes few bytes beside its text."""
-    text = (TIMES - 1) * sum(map(len, repeated(KEYS, MEGABYTES)))
+    text = (TIMES - 1) * sum(map(len, repeated(KEYS, lesser)))
     each = (grown - text) / (64 * text / len(KEYS))
     return f'a key takes {each:.1f} bytes beside its text, above {KEY_BYTES}' if each > KEY_BYTES + 0.1 else None
 
 
+def check_from(checks, megabytes, bounded=()):
+    """Judges the growth from texts of so many megabytes to those of ten times as many."""
+    told = '%s: %d MB and %s' % ('%s', megabytes, '1 GB' if megabytes == 100 else f'{TIMES * megabytes} MB')
+    grown = {row[0]: growth(*row) for row in bounded}
+    grown.update((name, growth(told % name, megabytes, *row)) for name, *row in UNBOUNDED)
+    tried = {name: how for name, how in grown.items() if how[1] is not None}
+    checks.not_tried += len(grown) - len(tried)
+    checks.count('growth with the text', [failure for failure, _ in tried.values()])
+    if 'keys' in tried:
+        failure, bytes_more = tried['keys']
+        checks.count('memory of keys', [failure or cost_of_a_key(megabytes, bytes_more)])
+
+
 def check(checks):
-    grown = {row[0]: growth(*row) for row in READ}
-    checks.count('growth with the text', [failure for failure, _ in grown.values()])
-    checks.count('memory of keys', [grown['keys'][0] or cost_of_a_key(grown['keys'][1])])
-
-
-# What is read through a pipe where it is asked for: its pieces, and what is answered.
-HUGE = (
-    ('100 MB of keys', lambda: repeated(KEYS, 100), runs.Answer(0, b'', b'')),
-    ('100 MB of steps and ticks', lambda: repeated(TURN, 100), runs.Answer(0, b'1 end 1 0\n1 halt\n', b'')),
-    ('a line of 1 GB', lambda: repeated(b'x', 1000), runs.Answer(1, b'', b'jobk: events: line 1: line too long\n')))
-
-
-def judge_huge(row):
-    name, pieces, wanted = row
-    read_end, write_end = os.pipe()
-    child = runs.start('run', WORLD, '/dev/stdin', stdin=read_end)
-    os.close(read_end)
-    with contextlib.suppress(BrokenPipeError), open(write_end, 'wb', buffering=0) as pipe:
-        for piece in pieces():
-            pipe.write(piece)
-    got, seconds, peak = runs.finish(child)
-    print(f'  {name}: {seconds:.2f} seconds, {peak / 1e6:.0f} MB')
-    return runs.difference(name, wanted, got)
+    check_from(checks, 10, BOUNDED)
 
 
 def check_huge(checks):
-    checks.count('huge texts through a pipe', map(judge_huge, HUGE))
+    check_from(checks, 100)

@@ -1,11 +1,18 @@
-"""Audits each trace of the cases and the examples, with one line removed, doubled or exchanged with its neighbour."""
+"""Audits each trace of the cases and the examples, with one line removed, doubled or exchanged with its neighbour. The
+plain check is tried by the cases, and by traces of tests/mistakes.md that break a law each: they break it here, too. And
+random traces, which keep the laws up to their last line or so."""
 
 import glob
 import os
+import random
+import re
 
 from hostile_parts import plain_audit, runs
 
 
+RANDOM = 1000
+WORDS = 0, 256, 9, 4991, 5247, 65535, 139
+ONE_IN = {plain_audit.TWICE: 1, plain_audit.OTHER: 10, plain_audit.NOT_YET: 15, plain_audit.NOT_PARENT: 60}
 # Traces that no case can show, as memory is ample there.
 REFUSED_FORK = b'1 call 1 fork = -11 memory\n2 call 1 fork = 2\n'
 REFUSED_SEND = (b'3 call 1 sigaction = 0\n6 call 1 sigprocmask = 0\n10 call 1 sigqueue = -11 memory\n'
@@ -40,6 +47,22 @@ def plain_check_fails(folder):
     return None if got == wanted else f'{folder}: {got}, wanted {wanted}'
 
 
+def broken_laws():
+    """The rows of "Broken laws" in tests/mistakes.md: which clause the last line of a trace breaks, and its lines."""
+    text = runs.read_file('tests/mistakes.md').decode().partition('## Broken laws')[2]
+    for lines, clause in re.findall(r'^\| `([^`]+)` \| .* \| broken_\w+ \| (\w+) \|$', text, flags=re.M):
+        yield clause, lines.split('; ')
+
+
+def plain_law_fails(row):
+    """Whether the plain check finds no fault before the last line of a row, or the row's law isn't broken by that."""
+    clause, lines = row
+    number, broken = plain_audit.first_break(lines) or (0, {})
+    if number == len(lines) and plain_audit.SAME_LAW.get(clause, clause) in broken:
+        return None
+    return f'{clause}: line {number} breaks {sorted(broken)}'
+
+
 def damaged(lines):
     """What becomes of a trace, and its lines then. Only what differs from the trace is given."""
     for place in range(len(lines)):
@@ -65,8 +88,47 @@ def items():
             yield f'{name} {what} line {place + 1}', b''.join(changed)
 
 
+def random_line(chance, event):
+    """A line of few processes, mostly one of which the laws say something."""
+    def who():
+        return chance.choice((1, 1, 2, 2, 3, 3, 4))
+    forms = (f'call {who()} fork = {who()}', f'call {who()} fork = {who()}',
+             f'end {who()} {chance.choice((0, 256, 9))}',
+             f'stop {who()} {chance.choice((19, 20))}', f'call {who()} subreaper = 0 mark {chance.choice((1, 1, 0))}',
+             f'call {who()} waitpid = {who()} status {chance.choice(WORDS)}',
+             f'call {who()} waitid = 0 {chance.choice(("take", "look"))} {who()} status {chance.choice(WORDS)}',
+             f'call {who()} waitid = 0 {chance.choice(("take", "look"))} {who()} status {chance.choice(WORDS)}')
+    return f'{event} {chance.choice(forms if chance.randrange(60) else ("halt", f"note {who()} 7", "note 1 07"))}'
+
+
+def random_trace(seed):
+    """A trace. Most lines that break a law are left out, fewer of what seldom comes, and process 1 seldom ends. Behind
+    one that breaks a law come three more."""
+    chance = random.Random(seed)
+    kept, lines, left = plain_audit.Trace(), [], None
+    while left != 0 and len(lines) < 80:
+        text = random_line(chance, len(lines) + 1 - (chance.randrange(200) == 0))
+        line = plain_audit.read_line(text)
+        ways = {way for law in plain_audit.LAWS for way in law(kept, line)} if line else {None}
+        one_in = max([ONE_IN.get(way, 300) for way in ways] + [300 * line.ends_first if line else 1, 1])
+        if left is None and chance.randrange(one_in):
+            continue
+        lines.append(text)
+        if left is None and not ways:
+            kept.add(line)
+        else:
+            left = 3 if left is None else left - 1
+    return '\n'.join([*lines, '']).encode()
+
+
+def judge_random(seed):
+    return judge((f'random trace {seed}', random_trace(seed)))
+
+
 def check(checks):
     audits = [folder for folder in sorted(glob.glob('tests/cases/audit_*/'))
               if os.path.exists(folder + 'trace') and os.path.exists(folder + 'stdout')]
     checks.count('the plain check of traces by the cases', map(plain_check_fails, audits))
+    checks.count('the plain check by traces that break a law', map(plain_law_fails, broken_laws()))
     checks.judge_each('audits of damaged traces', judge, items())
+    checks.judge_each('audits of random traces', judge_random, range(RANDOM))
