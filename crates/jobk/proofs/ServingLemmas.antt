@@ -5,7 +5,8 @@ use Rattle.kernel.specs.Headline.{Fails}
 use Rattle.kernel.specs.declared.texts.RunError.{RunError}
 use Rattle.kernel.specs.declared.texts.RunError.TheVariants as error
 use Rattle.sink.specs.Sinks.{Seen}
-use Rattle.jobk.specs.Serving.{AreInFiles, AskFor, Asked, AskedAudit, Contents, Ends, Means, Other, Words, status_of}
+use Rattle.inputs.specs.Reads.{AreInFiles, Contents}
+use Rattle.jobk.specs.Serving.{AskFor, Asked, AskedAudit, Ends, Means, Other, Words, status_of}
 use Rattle.jobk.specs.Words.{AsksRun, request_of_words}
 use Rattle.jobk.specs.declared.serving.Failure.{Failure}
 use Rattle.jobk.specs.declared.serving.Failure.TheVariants as failure

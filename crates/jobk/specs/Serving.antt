@@ -1,5 +1,5 @@
 -- What the program does with its words, and what its status means.
-use Rattle.std.specs.Prelude.{◌≡◌, ◌≢◌, ◌⊎◌, ℕ, List, [], ◌∷◌, ◌++◌, codes, map, Option, None, Some, Result, Ok, Err, IfSome}
+use Rattle.std.specs.Prelude.{◌≡◌, ◌≢◌, ◌⊎◌, ℕ, List, [], ◌∷◌, ◌++◌, codes, map, None, Some, Result, Ok, Err, IfSome}
 use Rattle.std.specs.Borrow.{Bor}
 use Rattle.clap.specs.Words.{Text}
 use Rattle.kernel.specs.declared.summary.Summary.{Summary}
@@ -12,6 +12,7 @@ use Rattle.kernel.specs.declared.texts.RunError.TheVariants as error
 use Rattle.kernel.specs.Headline.{CutsShort, Traces}
 use Rattle.sink.specs.Sinks.{Seen, TakesAll}
 use Rattle.audit.specs.Texts.{IsLawful}
+use Rattle.inputs.specs.Reads.{AreInFiles, Contents}
 use Rattle.jobk.specs.Words.{AsksAudit, AsksRun, request_of_words}
 use Rattle.jobk.specs.declared.serving.Failure.{Failure}
 use Rattle.jobk.specs.declared.serving.Failure.TheVariants as failure
@@ -20,10 +21,6 @@ use Rattle.host.specs.declared.files.FileFault.TheVariants as file
 use Rattle.host.specs.declared.words.WordsFault.{WordsFault}
 use Rattle.host.specs.declared.words.WordsFault.TheVariants as word
 use Rattle.jobk.specs.declared.serving.TheConstants.{STORED_EVENTS, STORED_WORLD}
-
--- Of some files, the bytes of each name, where they are known.
-abbrev pub Contents : Type 0
-Contents = Text → Option (List ℕ)
 
 -- The words of the command line, where they could be read.
 abbrev pub Words : Type 0
@@ -41,11 +38,6 @@ status_of failure.Usage = 2
 status_of (failure.CannotRead name) = 3
 status_of (failure.Run error.Memory) = 3
 status_of (failure.Run error.Write) = 3
-
--- These texts can be those of two files, as far as it is known what they hold.
-abbrev pub AreInFiles : Contents → Text × Text → List ℕ → List ℕ → Type 0
-AreInFiles contents names world events =
-    IfSome (contents names.0) (λ known. world ≡ known) × IfSome (contents names.1) (λ known. events ≡ known)
 
 -- The words ask for a run of these texts: without any words of the stored ones, else of those in two files.
 abbrev pub AskFor : Contents → List Text → List ℕ → List ℕ → Type 0

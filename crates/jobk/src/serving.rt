@@ -3,7 +3,8 @@
 ghost use Rattle.std.specs.Prelude.{◌≡◌, ◌≤◌, IfOk, IfErr, IfSome, OnOk, map};
 ghost use Rattle.host.specs.declared.files.FileFault.{FileFault};
 ghost use Rattle.sink.specs.Sinks.{TakesAll};
-ghost use Rattle.jobk.specs.Serving.{AreInFiles, AreOther, AskFor, AskForAudit, Contents, Ends, Means, failure_of, status_of};
+ghost use Rattle.inputs.specs.Reads.{AreInFiles};
+ghost use Rattle.jobk.specs.Serving.{AreOther, AskFor, AskForAudit, Ends, Means, failure_of, status_of};
 
 use crate::words::{Request, requested};
 use arrayvec::ArrayString;
