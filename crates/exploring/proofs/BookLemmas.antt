@@ -10,7 +10,7 @@ use Rattle.std.proofs.lemmas.List.Sorted.{list_any-IsPermutation}
 use Rattle.posix.specs.Entries.{Line}
 use Rattle.schedules.specs.Families.{Places}
 use Rattle.exploring.specs.declared.ending.Ending.{Ending}
-use Rattle.exploring.specs.declared.ending.Ending.TheVariants.{Halted, AtRest, Going}
+use Rattle.exploring.specs.declared.ending.Ending.TheVariants.{Halted, AtRest, AwaitsAlarm, Going}
 use Rattle.exploring.specs.declared.ending.Endings.{Endings}
 use Rattle.exploring.specs.Tallies.{TallyView, with_schedule_if}
 use Rattle.exploring.specs.Texts.{FindView, has_text, shown, looked_at, saw, tally_of, after_run}
@@ -95,9 +95,10 @@ none_counted (t ∷ ts) = (omega arith, none_counted ts)
 
 ending_counted : (ending : Ending) (ps : Places) (e : Endings) (finds : List FindView) (n : ℕ) → AreCounted e finds n → (next : List FindView) → All (λ (t : TallyView). t.count ≤ n + 1) (map tally_of next)
     → AreCounted (with_ending ending ps e) next (n + 1)
-ending_counted Halted ps e finds n c next a = record { halted = omega (arith, c.halted); at_rest = omega (arith, c.at_rest); going = omega (arith, c.going); each = a }
-ending_counted AtRest ps e finds n c next a = record { halted = omega (arith, c.halted); at_rest = omega (arith, c.at_rest); going = omega (arith, c.going); each = a }
-ending_counted Going ps e finds n c next a = record { halted = omega (arith, c.halted); at_rest = omega (arith, c.at_rest); going = omega (arith, c.going); each = a }
+ending_counted Halted ps e finds n c next a = record { halted = omega (arith, c.halted); at_rest = omega (arith, c.at_rest); alarmed = omega (arith, c.alarmed); going = omega (arith, c.going); each = a }
+ending_counted AtRest ps e finds n c next a = record { halted = omega (arith, c.halted); at_rest = omega (arith, c.at_rest); alarmed = omega (arith, c.alarmed); going = omega (arith, c.going); each = a }
+ending_counted AwaitsAlarm ps e finds n c next a = record { halted = omega (arith, c.halted); at_rest = omega (arith, c.at_rest); alarmed = omega (arith, c.alarmed); going = omega (arith, c.going); each = a }
+ending_counted Going ps e finds n c next a = record { halted = omega (arith, c.halted); at_rest = omega (arith, c.at_rest); alarmed = omega (arith, c.alarmed); going = omega (arith, c.going); each = a }
 
 -- ---- a book
 
@@ -110,6 +111,7 @@ pub empty_counted : (texts : List (List ℕ)) → AreCounted no_endings (map uns
 empty_counted texts = record {
   halted = omega arith;
   at_rest = omega arith;
+  alarmed = omega arith;
   going = omega arith;
   each = All-from_recursion (λ (t : TallyView). t.count ≤ 0) (map tally_of (map unseen texts)) (none_counted texts);
 }

@@ -10,11 +10,11 @@ use Rattle.posix.specs.Entries.{Line}
 use Rattle.schedules.specs.Families.{Places}
 use Rattle.schedules.specs.Schedules.{scheduled}
 use Rattle.exploring.specs.declared.ending.Ending.{Ending}
-use Rattle.exploring.specs.declared.ending.Ending.TheVariants.{Halted, AtRest, Going}
+use Rattle.exploring.specs.declared.ending.Ending.TheVariants.{Halted, AtRest, AwaitsAlarm, Going}
 use Rattle.exploring.specs.declared.ending.Endings.{Endings}
 use Rattle.exploring.specs.Tallies.{with_schedule_if}
 use Rattle.exploring.specs.Texts.{have_text, saw, after_run}
-use Rattle.exploring.specs.Endings.{ending_of, is_halted, is_at_rest, is_going, with_ending}
+use Rattle.exploring.specs.Endings.{ending_of, is_halted, is_at_rest, is_alarmed, is_going, with_ending}
 use Rattle.exploring.specs.Courses.{IsCourse, course_of}
 use Rattle.exploring.specs.Books.{empty_book, with_run}
 use Rattle.exploring.specs.Counts.{tally_over, ends_so, shows, endings_over, find_over, book_over}
@@ -48,12 +48,14 @@ endings_more : (world : World) (events : List Event) (done : List Places) (ps : 
 endings_more world events done ps e is =
     let halted = tally_more (ends_so is_halted world events) done ps (is_halted e) (ap is_halted (sym is)) in
     let at_rest = tally_more (ends_so is_at_rest world events) done ps (is_at_rest e) (ap is_at_rest (sym is)) in
+    let alarmed = tally_more (ends_so is_alarmed world events) done ps (is_alarmed e) (ap is_alarmed (sym is)) in
     let going = tally_more (ends_so is_going world events) done ps (is_going e) (ap is_going (sym is)) in
-    rw (halted, at_rest, going) (counted e (endings_over world events done))
+    rw (halted, at_rest, alarmed, going) (counted e (endings_over world events done))
   where
-    counted : (e : Ending) (o : Endings) → record { halted = with_schedule_if (is_halted e) ps o.halted; at_rest = with_schedule_if (is_at_rest e) ps o.at_rest; going = with_schedule_if (is_going e) ps o.going } ≡ with_ending e ps o
+    counted : (e : Ending) (o : Endings) → record { halted = with_schedule_if (is_halted e) ps o.halted; at_rest = with_schedule_if (is_at_rest e) ps o.at_rest; alarmed = with_schedule_if (is_alarmed e) ps o.alarmed; going = with_schedule_if (is_going e) ps o.going } ≡ with_ending e ps o
     counted Halted o = refl
     counted AtRest o = refl
+    counted AwaitsAlarm o = refl
     counted Going o = refl
 
 finds_more : (world : World) (events : List Event) (done : List Places) (ps : Places) (lines : List Line) → lines ≡ (course_of world events ps).lines → (texts : List (List ℕ))

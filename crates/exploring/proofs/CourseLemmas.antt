@@ -26,11 +26,10 @@ use Rattle.posix.proofs.UnseenLemmas.{covers_none, settle_none}
 use Rattle.schedules.specs.Families.{Places}
 use Rattle.schedules.specs.Schedules.{scheduled}
 use Rattle.exploring.specs.declared.ending.Ending.{Ending}
-use Rattle.exploring.specs.declared.ending.Ending.TheVariants.{Halted, AtRest}
 use Rattle.life.specs.declared.noted_bursts.Note.{Note}
 use Rattle.kernel.specs.Steps.{noted_lines}
 use Rattle.posix.proofs.CountLemmas.{next_halted}
-use Rattle.exploring.specs.Endings.{ending_of, going_or_at_rest}
+use Rattle.exploring.specs.Endings.{ending_of}
 use Rattle.exploring.specs.Courses.{Adds, Course, RunsGranted, IsCourse, course_from, course_of, denies_memory, later, one_denies_memory}
 
 -- ---- runs
@@ -132,28 +131,6 @@ rest_idle s going none regular settled_s =
     let happened : happens true s Step ≡ silent s = ap (step true s) nobody in
     let stays : settle s ≡ s = settle_none s regular.rising settled_s.fresh (covers_none s settled_s.awake) in
     ap (λ b. if b then silent s else settled (happens true s Step)) going ∙ ap settled happened ∙ ap silent stays
-
-going_ending : (o : Option ℕ) → going_or_at_rest o ≡ Halted → ⊥
-going_ending (Some p) e = absurd (cc)
-going_ending None e = absurd (cc)
-
-pub halted_ending : (s : State) → Halted ≡ ending_of s → s.halted ≡ true
-halted_ending s e = by s.halted refl
-  where
-    by : (b : Bool) → s.halted ≡ b → s.halted ≡ true
-    by true is = is
-    by false is = absurd (going_ending (current s) (sym (e ∙ ap (λ b. if b then Halted else going_or_at_rest (current s)) is)))
-
-none_first : (o : Option ℕ) → AtRest ≡ going_or_at_rest o → o ≡ None
-none_first (Some p) e = cc
-none_first None e = refl
-
-pub rest_ending : (s : State) → AtRest ≡ ending_of s → (s.halted ≡ false) × (current s ≡ None)
-rest_ending s e = by s.halted refl
-  where
-    by : (b : Bool) → s.halted ≡ b → (s.halted ≡ false) × (current s ≡ None)
-    by true is = let no : AtRest ≡ Halted = e ∙ ap (λ b. if b then Halted else going_or_at_rest (current s)) is in absurd (cc)
-    by false is = (is, none_first (current s) (e ∙ ap (λ b. if b then Halted else going_or_at_rest (current s)) is))
 
 -- ---- lines that are added
 

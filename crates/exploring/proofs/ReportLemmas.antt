@@ -3,14 +3,15 @@ use Rattle.std.proofs.Common.{◌+◌, ◌<◌, codes, get_or, take, subst, Opti
 use Rattle.std.specs.Char.{encode_utf8}
 use Rattle.std.specs.Fmt.{char_count, decimal, format_spec, padded_integral}
 use Rattle.std.specs.List.{repeat}
-use Rattle.std.specs.Prelude.{◌^◌, OnOk, Result, Ok, Err}
+use Rattle.std.specs.Prelude.{◌^◌, ◌==◌, if◌then◌else◌, OnOk, Result, Ok, Err}
 use Rattle.posix.specs.declared.event.Event.{Event}
 use Rattle.schedules.specs.Families.{Places}
 use Rattle.schedules.specs.Schedules.{scheduled}
 use Rattle.eventtext.specs.EventLines.{AddsText}
 use Rattle.std.proofs.lemmas.List.{take_more}
 use Rattle.exploring.specs.Books.{BookView}
-use Rattle.exploring.specs.Reports.{Adds, Reports, first_lines, first_that, ShowsFind, ShowsFinds, ShowsFirst, find_line, first_that_has_it, to_the_right}
+use Rattle.exploring.specs.declared.ending.Endings.{Endings}
+use Rattle.exploring.specs.Reports.{Adds, Reports, at_rest_lines, ending_line, first_lines, first_that, ShowsFind, ShowsFinds, ShowsFirst, find_line, first_that_has_it, to_the_right}
 use Rattle.exploring.specs.Texts.{FindView}
 
 blanks : (n : ℕ) → repeat {A = ℕ} n (32 ∷ []) ≡ replicate n 32
@@ -33,6 +34,15 @@ four old a b c d s1 s2 s3 s4 is1 is2 is3 is4 = is4 ∙ ap (λ s. s ++ d) (is3 �
 pub four_lines : {E : Type 0} (old a b c d s1 s2 s3 s4 : List ℕ) (r : Result (Unit {0}) E) → s1 ≡ old ++ a → s2 ≡ s1 ++ b → s3 ≡ s2 ++ c → OnOk r (s4 ≡ s3 ++ d) → OnOk r (s4 ≡ old ++ (a ++ (b ++ (c ++ d))))
 four_lines old a b c d s1 s2 s3 s4 (Ok x) is1 is2 is3 is4 = four old a b c d s1 s2 s3 s4 is1 is2 is3 is4
 four_lines old a b c d s1 s2 s3 s4 (Err e) is1 is2 is3 is4 = tt
+
+-- those at rest were told of, some of which wait for an alarm
+pub at_rest_added : {E : Type 0} (old s1 s2 : List ℕ) (e : Endings) (r : Result (Unit {0}) E) → (e.alarmed.count == 0) ≡ false → s1 ≡ old ++ ending_line e.at_rest.count (codes "come to rest: no process can act")
+    → OnOk r (s2 ≡ s1 ++ ending_line e.alarmed.count (codes "of these wait for an alarm: give ticks")) → OnOk r (s2 ≡ old ++ at_rest_lines e)
+at_rest_added old s1 s2 e (Ok x) some is1 is2 =
+    let resting = ending_line e.at_rest.count (codes "come to rest: no process can act") in
+    let waiting = ending_line e.alarmed.count (codes "of these wait for an alarm: give ticks") in
+    is2 ∙ ap (λ s. s ++ waiting) is1 ∙ append_assoc old resting waiting ∙ ap (λ b. old ++ (resting ++ (if b then [] else waiting))) (sym some)
+at_rest_added old s1 s2 e (Err why) some is1 is2 = tt
 
 -- ---- first schedules
 

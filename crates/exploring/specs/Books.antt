@@ -33,5 +33,6 @@ with_run lines ending ps b = record {
 pub record AreCounted (endings : Endings) (finds : List FindView) (total : ℕ) : Type 0 where
   pub halted : endings.halted.count ≤ total
   pub at_rest : endings.at_rest.count ≤ total
+  pub alarmed : endings.alarmed.count ≤ total
   pub going : endings.going.count ≤ total
   pub each : All (λ t. t.count ≤ total) (map tally_of finds)

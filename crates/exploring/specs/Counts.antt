@@ -7,7 +7,7 @@ use Rattle.exploring.specs.declared.ending.Ending.{Ending}
 use Rattle.exploring.specs.declared.ending.Endings.{Endings}
 use Rattle.exploring.specs.Tallies.{TallyView}
 use Rattle.exploring.specs.Texts.{FindView, have_text}
-use Rattle.exploring.specs.Endings.{ending_of, is_halted, is_at_rest, is_going}
+use Rattle.exploring.specs.Endings.{ending_of, is_halted, is_at_rest, is_alarmed, is_going}
 use Rattle.exploring.specs.Courses.{course_of}
 use Rattle.exploring.specs.Books.{BookView}
 
@@ -27,6 +27,7 @@ abbrev pub endings_over : World → List Event → List Places → Endings
 endings_over world events schedules = record {
   halted = tally_over (ends_so is_halted world events) schedules;
   at_rest = tally_over (ends_so is_at_rest world events) schedules;
+  alarmed = tally_over (ends_so is_alarmed world events) schedules;
   going = tally_over (ends_so is_going world events) schedules;
 }
 

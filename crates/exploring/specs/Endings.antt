@@ -1,41 +1,52 @@
 -- How a run ends.
 use Rattle.std.specs.Prelude.{Bool, true, false, Option, Some, None, if◌then◌else◌, ℕ}
 use Rattle.posix.specs.States.{State, current}
+use Rattle.posix.specs.Alarms.{has_alarms}
 use Rattle.schedules.specs.Families.{Places}
 use Rattle.exploring.specs.declared.ending.Ending.{Ending}
-use Rattle.exploring.specs.declared.ending.Ending.TheVariants.{Halted, AtRest, Going}
+use Rattle.exploring.specs.declared.ending.Ending.TheVariants.{Halted, AtRest, AwaitsAlarm, Going}
 use Rattle.exploring.specs.declared.ending.Endings.{Endings}
 use Rattle.exploring.specs.Tallies.{no_schedules, with_schedule}
 
--- how it stands with a machine that hasn't halted
-abbrev pub going_or_at_rest : Option ℕ → Ending
-going_or_at_rest (Some p) = Going
-going_or_at_rest None = AtRest
+-- how it stands with a machine that hasn't halted, and has alarms or none
+abbrev pub going_or_at_rest : Bool → Option ℕ → Ending
+going_or_at_rest alarms (Some p) = Going
+going_or_at_rest alarms None = if alarms then AwaitsAlarm else AtRest
 
 -- how it stands with a machine
 abbrev pub ending_of : State → Ending
-ending_of s = if s.halted then Halted else going_or_at_rest (current s)
+ending_of s = if s.halted then Halted else going_or_at_rest (has_alarms s) (current s)
 
 abbrev pub is_halted : Ending → Bool
 is_halted Halted = true
 is_halted AtRest = false
+is_halted AwaitsAlarm = false
 is_halted Going = false
 
 abbrev pub is_at_rest : Ending → Bool
 is_at_rest Halted = false
 is_at_rest AtRest = true
+is_at_rest AwaitsAlarm = true
 is_at_rest Going = false
+
+abbrev pub is_alarmed : Ending → Bool
+is_alarmed Halted = false
+is_alarmed AtRest = false
+is_alarmed AwaitsAlarm = true
+is_alarmed Going = false
 
 abbrev pub is_going : Ending → Bool
 is_going Halted = false
 is_going AtRest = false
+is_going AwaitsAlarm = false
 is_going Going = true
 
 abbrev pub no_endings : Endings
-no_endings = record { halted = no_schedules; at_rest = no_schedules; going = no_schedules }
+no_endings = record { halted = no_schedules; at_rest = no_schedules; alarmed = no_schedules; going = no_schedules }
 
 -- with one more schedule, which ends so
 abbrev pub with_ending : Ending → Places → Endings → Endings
 with_ending Halted ps e = record e { halted = with_schedule ps e.halted }
 with_ending AtRest ps e = record e { at_rest = with_schedule ps e.at_rest }
+with_ending AwaitsAlarm ps e = record e { at_rest = with_schedule ps e.at_rest; alarmed = with_schedule ps e.alarmed }
 with_ending Going ps e = record e { going = with_schedule ps e.going }

@@ -29,11 +29,18 @@ size_line size upto ticks = concat (decimal size ∷ codes " schedule" ∷ plura
 abbrev pub ending_line : ℕ → List ℕ → List ℕ
 ending_line count words = concat (to_the_right count ∷ codes " " ∷ words ∷ codes "\n" ∷ [])
 
--- the first four lines
+-- how many of those that come to rest wait for an alarm, if any do
+abbrev pub alarmed_line : ℕ → List ℕ
+alarmed_line count = if count == 0 then [] else ending_line count (codes "of these wait for an alarm: give ticks")
+
+abbrev pub at_rest_lines : Endings → List ℕ
+at_rest_lines e = ending_line e.at_rest.count (codes "come to rest: no process can act") ++ alarmed_line e.alarmed.count
+
+-- the first lines, four or five
 abbrev pub first_lines : ℕ → ℕ → ℕ → Endings → List ℕ
 first_lines size upto ticks e = size_line size upto ticks
     ++ (ending_line e.halted.count (codes "halt")
-    ++ (ending_line e.at_rest.count (codes "come to rest: no process can act")
+    ++ (at_rest_lines e
     ++ ending_line e.going.count (codes "are still going")))
 
 -- how many schedules have a text

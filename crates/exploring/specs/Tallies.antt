@@ -1,5 +1,6 @@
 -- How many schedules have a property, and which is the first.
-use Rattle.std.specs.Prelude.{ℕ, ◌+◌, Bool, true, false, Option, Some, None}
+use Rattle.std.specs.Prelude.{ℕ, ◌+◌, Bool, true, false, List, Option, Some, None}
+use Rattle.std.specs.List.{sum_by}
 use Rattle.schedules.specs.Families.{Places}
 
 pub record TallyView : Type 0 where
@@ -8,6 +9,10 @@ pub record TallyView : Type 0 where
 
 abbrev pub no_schedules : TallyView
 no_schedules = record { count = 0; first = None }
+
+-- how many schedules these count together
+abbrev pub total_of : List TallyView → ℕ
+total_of tallies = sum_by (λ t. t.count) tallies
 
 -- this one, where none was before
 abbrev pub or_else : Option Places → Places → Option Places

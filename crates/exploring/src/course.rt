@@ -26,10 +26,12 @@ fn ending_of(kernel: &Kernel) -> Ending
 {
     if kernel.is_halted() {
         Ending::Halted
-    } else if kernel.current().is_none() {
-        Ending::AtRest
-    } else {
+    } else if kernel.current().is_some() {
         Ending::Going
+    } else if kernel.has_alarms() {
+        Ending::AwaitsAlarm
+    } else {
+        Ending::AtRest
     }
 }
 
@@ -39,11 +41,7 @@ fn is_idle(kernel: &Kernel, event: Event) -> bool
     requires settled { IsSettled kernel.now.state }
     ensures { IsTrue result → next true kernel.now.state event ≡ silent kernel.now.state }
 {
-    match ending_of(kernel) {
-        Ending::Halted => true,
-        Ending::AtRest => matches!(event, Event::Step),
-        Ending::Going => false,
-    }
+    kernel.is_halted() || (matches!(event, Event::Step) && kernel.current().is_none())
 }
 
 /// Adds the notes of a process, whose numbers grow by `more`.

@@ -10,8 +10,10 @@ use crate::tally::Tally;
 pub enum Ending {
     /// It has halted.
     Halted,
-    /// It hasn't halted, and no process can act.
+    /// It hasn't halted, no process can act, and none has an alarm.
     AtRest,
+    /// It hasn't halted, and no process can act before an alarm.
+    AwaitsAlarm,
     /// A process can act.
     Going,
 }
@@ -20,7 +22,10 @@ pub enum Ending {
 #[derive(Drop)]
 pub struct Endings {
     pub halted: Tally,
+    /// No process can act.
     pub at_rest: Tally,
+    /// Those of them in which a process has an alarm.
+    pub alarmed: Tally,
     pub going: Tally,
 }
 
@@ -32,6 +37,7 @@ impl Endings {
         Endings {
             halted: Tally::new(),
             at_rest: Tally::new(),
+            alarmed: Tally::new(),
             going: Tally::new(),
         }
     }
@@ -41,12 +47,17 @@ impl Endings {
         requires few { length places.now ≤ 8 }
         requires halted { self.old.halted.count < 2 ^ 64 - 1 }
         requires at_rest { self.old.at_rest.count < 2 ^ 64 - 1 }
+        requires alarmed { self.old.alarmed.count < 2 ^ 64 - 1 }
         requires going { self.old.going.count < 2 ^ 64 - 1 }
         ensures { self.new ≡ with_ending ending places.now self.old }
     {
         match ending {
             Ending::Halted => self.halted.add(places),
             Ending::AtRest => self.at_rest.add(places),
+            Ending::AwaitsAlarm => {
+                self.at_rest.add(places);
+                self.alarmed.add(places);
+            }
             Ending::Going => self.going.add(places),
         }
     }

@@ -1,22 +1,21 @@
 //! The outcomes of schedules: schedules are alike where each process shows the same lines, without their numbers.
 
-ghost use Rattle.std.specs.Prelude.{◌≡◌, ◌+◌, ◌<◌, ◌≤◌, ◌^◌, ◌-◌, length, All, OnOk, OnErr};
+ghost use Rattle.std.specs.Prelude.{◌≡◌, ◌+◌, ◌<◌, ◌≤◌, ◌^◌, ◌-◌, length, map, IfOk, OnOk, OnErr};
+ghost use Rattle.exploring.specs.Tallies.{total_of};
 
 use crate::tally::Tally;
 use std::alloc::{AllocError, Global};
 use std::collections::HashMap;
 use std::marker::Model;
 
-/// Counts a schedule to the outcome that has this number. Of `total` schedules before it each outcome has some.
-fn add_to(outcomes: &mut [Tally], number: usize, places: &[u64], total: u64)
+/// Counts a schedule to the outcome that has this number.
+fn add_to(outcomes: &mut [Tally], number: usize, places: &[u64])
     requires few { length places.now ≤ 8 }
-    requires total { total < 2 ^ 64 - 1 }
-    requires counts { All (λ t. t.count ≤ total) outcomes.old }
-    ensures { All (λ t. t.count ≤ total + 1) outcomes.new }
+    requires there { number < length outcomes.old }
+    requires total { total_of outcomes.old < 2 ^ 64 - 1 }
+    ensures { total_of outcomes.new ≡ total_of outcomes.old + 1 }
 {
-    if number < outcomes.len() {
-        outcomes[number].add(places);
-    }
+    outcomes[number].add(places);
 }
 
 /// The outcomes so far, in the order of their first schedules.
@@ -31,13 +30,14 @@ pub struct Outcomes {
 }
 
 impl Model for Outcomes {
-    ghost use Rattle.std.specs.Prelude.{ℕ, ◌≤◌, All};
+    ghost use Rattle.std.specs.Prelude.{ℕ, ◌≡◌};
+    ghost use Rattle.exploring.specs.Tallies.{total_of};
 
     ghost Value = { ℕ };
 
     ghost view = { λ o. o.total };
 
-    ghost invariant = { λ o. All (λ t. t.count ≤ o.total) o.outcomes.items };
+    ghost invariant = { λ o. total_of o.outcomes.items ≡ o.total };
 }
 
 impl Outcomes {
@@ -62,8 +62,8 @@ impl Outcomes {
         ensures err { OnErr result (self.new ≡ self.old) }
     {
         let number = match self.numbers.get(lines) {
-            Some(number) => *number,
-            None => {
+            Some(number) if *number < self.outcomes.len() => *number,
+            _ => {
                 let key = Vec::from_slice(self.alloc, lines)?;
                 let number = self.outcomes.len();
                 self.outcomes.push(Tally::new())?;
@@ -71,7 +71,7 @@ impl Outcomes {
                 number
             }
         };
-        add_to(self.outcomes.as_mut_slice(), number, places, self.total);
+        add_to(self.outcomes.as_mut_slice(), number, places);
         self.total += 1;
         Ok(())
     }
@@ -83,12 +83,12 @@ impl Outcomes {
         self.total
     }
 
-    /// The outcomes, the most frequent first, and else in the order of their first schedules.
-    pub fn by_count(&self) -> Result<Vec<&Tally>, AllocError> {
-        let mut sorted = Vec::new(self.alloc);
-        for outcome in &self.outcomes {
-            sorted.push(outcome)?;
-        }
+    /// The outcomes, the most frequent first, and else in the order of their first schedules. Together they count all
+    /// schedules.
+    pub fn by_count(&self) -> Result<Vec<&Tally>, AllocError>
+        ensures { IfOk result (λ sorted. total_of (map (λ t. t.now) sorted.items) ≡ self.now) }
+    {
+        let mut sorted: Vec<&Tally> = self.outcomes.iter().collect(self.alloc)?;
         sorted.sort_by_key(|outcome| u64::MAX - outcome.count())?;
         Ok(sorted)
     }

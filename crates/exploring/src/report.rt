@@ -5,7 +5,7 @@ ghost use Rattle.std.specs.String.{string_bytes};
 ghost use Rattle.schedules.specs.Families.{IsSchedule};
 ghost use Rattle.schedules.specs.Schedules.{scheduled as scheduled_events};
 ghost use Rattle.eventtext.specs.EventLines.{AddsText};
-ghost use Rattle.exploring.specs.Reports.{Adds, AreOfFamily, IsFirstOf, Reports, ShowsFind, ShowsFinds, ShowsFirst, ending_line, find_line, first_lines, first_that, plural as plural_of, size_line};
+ghost use Rattle.exploring.specs.Reports.{Adds, AreOfFamily, IsFirstOf, Reports, ShowsFind, ShowsFinds, ShowsFirst, at_rest_lines, ending_line, find_line, first_lines, first_that, plural as plural_of, size_line};
 
 use crate::course::run_list;
 use crate::{Book, Ending, Endings, Family, Find, Line, Tally, events_of, is_schedule};
@@ -31,7 +31,7 @@ pub fn plural(count: u64) -> &'static str
 fn ending_words(ending: Ending) -> &'static str {
     match ending {
         Ending::Halted => "halts",
-        Ending::AtRest => "comes to rest",
+        Ending::AtRest | Ending::AwaitsAlarm => "comes to rest",
         Ending::Going => "is still going",
     }
 }
@@ -68,6 +68,19 @@ fn write_ending(text: &mut String, count: u64, words: &str) -> Result<(), AllocE
     writeln!(text, "{count:>8} {words}")
 }
 
+/// Writes how many come to rest, and how many of these wait for an alarm, if any do.
+fn write_at_rest(text: &mut String, endings: &Endings) -> Result<(), AllocError>
+    ensures { OnOk result (string_bytes text.new ≡ string_bytes text.old ++ at_rest_lines endings.now) }
+{
+    let resting = endings.at_rest.count();
+    write_ending(text, resting, "come to rest: no process can act")?;
+    let alarmed = endings.alarmed.count();
+    if alarmed == 0 {
+        return Ok(());
+    }
+    write_ending(text, alarmed, "of these wait for an alarm: give ticks")
+}
+
 /// Writes how many schedules there are, and how they end.
 fn write_endings(
     text: &mut String,
@@ -78,8 +91,7 @@ fn write_endings(
 {
     write_size(text, family)?;
     write_ending(text, endings.halted.count(), "halt")?;
-    let resting = endings.at_rest.count();
-    write_ending(text, resting, "come to rest: no process can act")?;
+    write_at_rest(text, endings)?;
     write_ending(text, endings.going.count(), "are still going")
 }
 

@@ -22,27 +22,27 @@ use thiserror::Error;
 /// Why the program doesn't end with status 0.
 #[derive(Clone, Copy, Debug, PartialEq, Eq, Error)]
 enum Failure<'a> {
-    #[error("usage: explore WORLD EVENTS [--ticks K] [--upto N] [--find TEXT].. [--must-halt] [--all]")]
+    #[error("usage: jobk explore WORLD EVENTS [--ticks K] [--upto N] [--find TEXT].. [--must-halt] [--all]")]
     Usage,
-    #[error("explore: --ticks takes a number from 0 to 8")]
+    #[error("jobk: --ticks takes a number from 0 to 8")]
     Ticks,
-    #[error("explore: --upto takes a number")]
+    #[error("jobk: --upto takes a number")]
     Upto,
-    #[error("explore: --upto {0} is above the number of events, which is {1}")]
+    #[error("jobk: --upto {0} is above the number of events, which is {1}")]
     UptoAbove(u64, u64),
-    #[error("explore: {0} schedules: more than {1} are run with --all alone; say fewer by --ticks or --upto")]
+    #[error("jobk: {0} schedules: more than {1} are run with --all alone; say fewer by --ticks or --upto")]
     ManySchedules(u64, u64),
-    #[error("explore: more than {0} schedules: say fewer by --ticks or --upto")]
+    #[error("jobk: more than {0} schedules: say fewer by --ticks or --upto")]
     TooManySchedules(u64),
-    #[error("explore: {0} schedule{s} of up to {1} events: more than {2} events in all are run with --all alone; say fewer by --ticks or --upto", s = plural(*.0))]
+    #[error("jobk: {0} schedule{s} of up to {1} events: more than {2} events in all are run with --all alone; say fewer by --ticks or --upto", s = plural(*.0))]
     ManyEvents(u64, u64, u64),
-    #[error("explore: schedules of up to {0} events: a run has at most {1}; say fewer by --ticks")]
+    #[error("jobk: schedules of up to {0} events: a run has at most {1}; say fewer by --ticks")]
     TooManyEvents(u64, u64),
-    #[error("explore: {0}")]
+    #[error("jobk: {0}")]
     Input(InputFault<'a>),
-    #[error("explore: out of memory")]
+    #[error("jobk: out of memory")]
     Memory,
-    #[error("explore: cannot write")]
+    #[error("jobk: cannot write")]
     Write,
 }
 
@@ -231,7 +231,7 @@ fn serve_request<'a, 'w, F: ReadFiles, O: Sink, P: Progress>(
 /// Tells a failure, as far as the error output takes it. It takes no memory.
 fn tell<E: Sink>(failure: Failure<'_>, err: &mut E) -> Result<(), SinkFault> {
     if let Failure::Input(InputFault::CannotRead(name)) = failure {
-        put_all(err, b"explore: cannot read ")?;
+        put_all(err, b"jobk: cannot read ")?;
         put_all(err, name.as_bytes())?;
         return put_all(err, b"\n");
     }

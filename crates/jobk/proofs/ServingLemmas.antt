@@ -6,7 +6,7 @@ use Rattle.kernel.specs.declared.texts.RunError.{RunError}
 use Rattle.kernel.specs.declared.texts.RunError.TheVariants as error
 use Rattle.sink.specs.Sinks.{Seen}
 use Rattle.inputs.specs.Reads.{AreInFiles, Contents}
-use Rattle.jobk.specs.Serving.{AskFor, Asked, AskedAudit, Ends, Means, Other, Words, status_of}
+use Rattle.jobk.specs.Serving.{AskFor, Asked, AskedAudit, Ends, Means, Other, Words, answer_of, status_of}
 use Rattle.jobk.specs.Words.{AsksRun, request_of_words}
 use Rattle.jobk.specs.declared.serving.Failure.{Failure}
 use Rattle.jobk.specs.declared.serving.Failure.TheVariants as failure
@@ -46,7 +46,7 @@ asks_for_files contents [] names some named world events h = absurd (some refl)
 asks_for_files contents (w ∷ ws) names some named world events h = (names, sym named, h)
 
 -- what the status of a failure means
-pub means_failure : {S : Type 0} (contents : Contents) (words : Words) (old new : S) (before after : Seen) (why : Failure)
+means_failure : {S : Type 0} (contents : Contents) (words : Words) (old new : S) (before after : Seen) (why : Failure)
     → Ends (Asked contents words) (AskedAudit contents words) (Other words) old new before after (Err why) → Means contents words old new before after (status_of why)
 means_failure contents words old new before after failure.Faulty h = record { done = λ e. absurd (omega (arith, e)); refused = λ e. inr h; other_words = λ e. absurd (omega (arith, e)); cut_short = λ e. absurd (omega (arith, e)) }
 means_failure contents words old new before after failure.Usage h = record { done = λ e. absurd (omega (arith, e)); refused = λ e. absurd (omega (arith, e)); other_words = λ e. h; cut_short = λ e. absurd (omega (arith, e)) }
@@ -56,13 +56,20 @@ means_failure contents words old new before after (failure.Run (error.Events fau
 means_failure contents words old new before after (failure.Run error.Memory) h = record { done = λ e. absurd (omega (arith, e)); refused = λ e. absurd (omega (arith, e)); other_words = λ e. absurd (omega (arith, e)); cut_short = λ e. inl h }
 means_failure contents words old new before after (failure.Run error.Write) h = record { done = λ e. absurd (omega (arith, e)); refused = λ e. absurd (omega (arith, e)); other_words = λ e. absurd (omega (arith, e)); cut_short = λ e. inr h }
 
--- so it is where a failure came of words that were read, or weren't
-pub means_served : {S : Type 0} (contents : Contents) (words read : Words) (old new out : S) (seen : S → Seen) (done result : Result (Unit {0}) Failure) (why : Failure) (status : ℕ)
-    → words ≡ read → out ≡ new → done ≡ result → done ≡ Err why → status ≡ status_of why
+-- and that of any end
+means_ended : {S : Type 0} (contents : Contents) (words : Words) (old new : S) (before after : Seen) (done : Result (Unit {0}) Failure)
+    → Ends (Asked contents words) (AskedAudit contents words) (Other words) old new before after done → Means contents words old new before after (answer_of done)
+means_ended contents words old new before after (Ok done) h =
+    record { done = λ e. h; refused = λ e. absurd (omega (arith, e)); other_words = λ e. absurd (omega (arith, e)); cut_short = λ e. absurd (omega (arith, e)) }
+means_ended contents words old new before after (Err why) h = means_failure contents words old new before after why h
+
+-- of words that were read, or weren't
+pub means_served : {S : Type 0} (contents : Contents) (words read : Words) (old new out : S) (seen : S → Seen) (done result : Result (Unit {0}) Failure) (status : ℕ)
+    → words ≡ read → out ≡ new → done ≡ result → status ≡ answer_of done
     → Ends (Asked contents read) (AskedAudit contents read) (Other read) old new (seen old) (seen new) result → Means contents words old out (seen old) (seen out) status
-means_served contents words read old new out seen done result why status is_read is_new is_result is_why is_status h =
+means_served contents words read old new out seen done result status is_read is_new is_result is_status h =
     subst (λ n. Means contents words old out (seen old) (seen out) n) (sym is_status)
-    (means_failure contents words old out (seen old) (seen out) why
-    (subst (λ r. Ends (Asked contents words) (AskedAudit contents words) (Other words) old out (seen old) (seen out) r) (sym is_result ∙ is_why)
+    (means_ended contents words old out (seen old) (seen out) done
+    (subst (λ r. Ends (Asked contents words) (AskedAudit contents words) (Other words) old out (seen old) (seen out) r) (sym is_result)
     (subst (λ x. Ends (Asked contents words) (AskedAudit contents words) (Other words) old x (seen old) (seen x) result) (sym is_new)
     (subst (λ v. Ends (Asked contents v) (AskedAudit contents v) (Other v) old new (seen old) (seen new) result) (sym is_read) h))))

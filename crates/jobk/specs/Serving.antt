@@ -39,6 +39,11 @@ status_of (failure.CannotRead name) = 3
 status_of (failure.Run error.Memory) = 3
 status_of (failure.Run error.Write) = 3
 
+-- and of any end
+abbrev pub answer_of : Result (Unit {0}) Failure → ℕ
+answer_of (Ok done) = 0
+answer_of (Err why) = status_of why
+
 -- The words ask for a run of these texts: without any words of the stored ones, else of those in two files.
 abbrev pub AskFor : Contents → List Text → List ℕ → List ℕ → Type 0
 AskFor contents [] world events = (world ≡ STORED_WORLD.now) × (events ≡ STORED_EVENTS.now)
@@ -112,3 +117,7 @@ pub record Means {S : Type 0} (contents : Contents) (words : Words) (old new : S
   pub other_words : status ≡ 2 → Other words × (new ≡ old)
   -- nothing was put, or a beginning of the printed trace of a run, or not all of an audit's answer
   pub cut_short : status ≡ 3 → (new ≡ old) ⊎ (OfTexts (Asked contents words) (λ world events. CutsShort world events before after) ⊎ OfTrace (AskedAudit contents words) (λ trace. Unit {0}))
+
+-- A text of the program's own was put, or not all of it.
+abbrev pub IsToldAs : List ℕ → Seen → Seen → ℕ → Type 0
+IsToldAs text before after status = ((status ≡ 0) × TakesAll before after text) ⊎ (status ≡ 3)

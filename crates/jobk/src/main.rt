@@ -1,33 +1,42 @@
-//! `jobk`: runs a world of small programs over a list of events, and prints the trace; or audits a trace.
+//! `jobk`: runs a world of small programs over a list of events, and prints the trace; audits a trace; explores all
+//! schedules; shows the state at an event.
 #![tactic(auto)]
 
+mod commands;
+mod help;
+mod person;
 mod serving;
 mod words;
 
-use host::{HostFiles, as_texts, read_words};
+use commands::serve;
+use host::{HostFiles, WordsFault, as_texts, read_words};
 use kernel::WriteSink;
-use serving::serve;
+use person::Person;
 use std::hash::RandomState;
 use std::process::ExitCode;
 
-fn main(rt: HostRuntime) -> ExitCode {
+/// Serves the words.
+fn serve_host(rt: &HostRuntime, words: Result<&[&str], WordsFault>) -> u8 {
     let mut out = WriteSink::new(rt.stdout());
     let mut err = WriteSink::new(rt.stderr());
-    let files = HostFiles { rt: &rt };
-    let keys = RandomState::new(&rt).ok();
+    serve(
+        rt.alloc(),
+        words,
+        &HostFiles { rt },
+        RandomState::new(rt).ok(),
+        &mut out,
+        &mut err,
+        &mut Person::new(rt),
+    )
+}
+
+fn main(rt: HostRuntime) -> ExitCode {
     let status = match read_words(&rt) {
         Ok(words) => match as_texts(rt.alloc(), words.as_slice()) {
-            Ok(texts) => serve(
-                rt.alloc(),
-                Ok(texts.as_slice()),
-                &files,
-                keys,
-                &mut out,
-                &mut err,
-            ),
-            Err(fault) => serve(rt.alloc(), Err(fault), &files, keys, &mut out, &mut err),
+            Ok(texts) => serve_host(&rt, Ok(texts.as_slice())),
+            Err(fault) => serve_host(&rt, Err(fault)),
         },
-        Err(fault) => serve(rt.alloc(), Err(fault), &files, keys, &mut out, &mut err),
+        Err(fault) => serve_host(&rt, Err(fault)),
     };
     ExitCode::from(status)
 }

@@ -4,7 +4,7 @@ ghost use Rattle.std.specs.Prelude.{◌≡◌, ◌≤◌, IfOk, IfErr, IfSome, O
 ghost use Rattle.host.specs.declared.files.FileFault.{FileFault};
 ghost use Rattle.sink.specs.Sinks.{TakesAll};
 ghost use Rattle.inputs.specs.Reads.{AreInFiles};
-ghost use Rattle.jobk.specs.Serving.{AreOther, AskFor, AskForAudit, Ends, Means, failure_of, status_of};
+ghost use Rattle.jobk.specs.Serving.{AreOther, AskFor, AskForAudit, Ends, IsToldAs, Means, answer_of, failure_of, status_of};
 
 use crate::words::{Request, requested};
 use arrayvec::ArrayString;
@@ -198,10 +198,31 @@ fn tell_run_error<E: Sink>(why: RunError, err: &mut E) -> Result<(), SinkFault> 
     put_all(err, text.as_str().as_bytes())
 }
 
-/// Does what the words of the command line ask for, without the program's name, and gives the status
-/// of the program: 0 when it is done, 1 for a refused text or a faulty trace, 2 for other words, 3 for a
-/// device or memory; an audit needs random bytes of the host, too, its `keys`. Traces and the answers of audits go to `out` and messages to `err`; a failing `err`
-/// changes no status. Without any words the program runs its own stored world.
+/// The status of the program. A failure is told.
+fn ended<E: Sink>(done: Result<(), Failure<'_>>, err: &mut E) -> u8
+    ensures { result ≡ answer_of done.entry }
+{
+    match done {
+        Ok(()) => 0,
+        Err(failure) => {
+            let _ = tell(failure, err);
+            failure.status()
+        }
+    }
+}
+
+/// Puts a text of the program's own, and gives the status of the program: 0, or 3 where not all of it was put.
+pub fn put_own<O: Sink, E: Sink>(text: &[u8], out: &mut O, err: &mut E) -> u8
+    ensures { IsToldAs text.now (O.seen out.old) (O.seen out.new) result }
+{
+    ended(put_answer(text, out), err)
+}
+
+/// Runs two files, audits one, or runs the program's own stored world, as the words of the command line ask for, without
+/// the program's name, and gives the status of the program: 0 when it is done, 1 for a refused text or a faulty trace, 2
+/// for other words, 3 for a device or memory; an audit needs random bytes of the host, too, its `keys`. Traces and the
+/// answers of audits go to `out` and messages to `err`; a failing `err` changes no status. Without any words the program
+/// runs its own stored world.
 pub fn serve<'a, F: ReadFiles, O: Sink, E: Sink>(
     alloc: Global,
     words: Result<&'a [&'a str], WordsFault>,
@@ -220,11 +241,5 @@ pub fn serve<'a, F: ReadFiles, O: Sink, E: Sink>(
         Err(WordsFault::NotText) => Err(Failure::Usage),
         Err(WordsFault::Memory) => Err(Failure::Run(RunError::Memory)),
     };
-    match done {
-        Ok(()) => 0,
-        Err(failure) => {
-            let _ = tell(failure, err);
-            failure.status()
-        }
-    }
+    ended(done, err)
 }

@@ -150,6 +150,10 @@ none_stopped rs b up h = index_empty stopped_key (λ r. is_stopped r.life) (λ r
 pub none_marked : (rs : List Process) (b : Indexes) → IsRising rs → AreIndexes rs b → (length b.subreapers.pairs == 0) ≡ not (list_any is_living_subreaper rs)
 none_marked rs b up h = index_empty marked_key is_living_subreaper (λ r. elim (is_living_subreaper r) as (λ s. is_some (cond {A = Option ℕ} s (Some 0) None) ≡ s) [ true ↦ refl | false ↦ refl ]) rs b.subreapers.pairs up h.subreapers.index
 
+-- so nobody has an alarm
+pub none_alarmed : (rs : List Process) (b : Indexes) → IsRising rs → AreIndexes rs b → (length b.alarmed.pairs == 0) ≡ not (list_any (λ r. is_some r.alarm) rs)
+none_alarmed rs b up h = index_empty alarm_key (λ r. is_some r.alarm) (λ r. refl) rs b.alarmed.pairs up h.alarmed.index
+
 -- the next of the children that report a sort
 pub next_sorted : (parent : ℕ) (sort : Sort) (n : ℕ) (rs : List Process) (b : Indexes) (next : Option ℕ) (is_wanted : Bool) → is_wanted ≡ true → IsRising rs → AreIndexes rs b → IsNextPair (sorted parent sort) n b.reporting.pairs next → next ≡ first_pid (above n (filter (λ r. is_wanted && is_of_sort sort r) (children_in parent rs)))
 unfolding children_in

@@ -201,6 +201,14 @@ impl<K: ProcessTable> IndexedTable<K> {
         self.indexes.subreapers.is_empty()
     }
 
+    /// Whether no process has an alarm. No slot is read.
+    #[tactic(auto, using(crate::proofs::IndexLemmas::none_alarmed))]
+    pub fn nobody_alarmed(&self) -> bool
+        ensures { result ≡ not (list_any (λ r. is_some r.alarm) self.now.processes) }
+    {
+        self.indexes.alarmed.is_empty()
+    }
+
     /// The child of a process that has something to report to a wait with these options, with the least number above
     /// `after`. No slot is read, and no child looked at whose sort isn't wanted.
     pub fn next_wanted(&self, parent: Pid, options: WaitidOptions, after: Pid) -> Option<Pid>

@@ -6,6 +6,7 @@ ghost use Rattle.std.specs.Borrow.{sem, follows_so};
 ghost use Rattle.std.specs.List.{list_all};
 ghost use Rattle.std.specs.Option.{option_copied};
 ghost use Rattle.posix.specs.States.{boot as boot_of, current as current_of, process};
+ghost use Rattle.posix.specs.Alarms.{has_alarms as has_alarms_in};
 ghost use Rattle.posix.specs.Tables.{next_above};
 ghost use Rattle.posix.specs.declared.entry.Entry.{Entry};
 ghost use Rattle.posix.specs.Entries.{Line, numbered};
@@ -117,6 +118,13 @@ impl<K: ProcessTable> KernelOn<K> {
         ensures { result ≡ next_behind pid self.now.state.order }
     {
         self.machine.behind(pid)
+    }
+
+    /// Whether a process has an alarm, which a tick may bring.
+    pub fn has_alarms(&self) -> bool
+        ensures { result ≡ has_alarms_in self.now.state }
+    {
+        self.machine.has_alarms()
     }
 
     /// How many ticks have passed.

@@ -5,7 +5,7 @@ ghost use Rattle.posix.specs.Processes.{Process};
 ghost use Rattle.posix.specs.States.{process, change};
 ghost use Rattle.posix.specs.Tables.{IsNext};
 ghost use Rattle.posix.specs.Regular.{IsPlaced, IsRegular, IsAhead};
-ghost use Rattle.posix.specs.Alarms.{most_ticks, ticks_left as ticks_left_of, due_in as due_in_ticks, with_alarm, is_due, ring_at, ring_all, has_alarms, pass_time as passing_time};
+ghost use Rattle.posix.specs.Alarms.{most_ticks, ticks_left as ticks_left_of, due_in as due_in_ticks, with_alarm, is_due, ring_at, ring_all, has_alarms as has_alarms_in, pass_time as passing_time};
 ghost use Rattle.life.specs.Rechecks.{AreTaking, rechecks_by_signals};
 ghost use Rattle.life.specs.Machines.{Changes, Costs, IsThere, IfThere, with_processes};
 
@@ -33,6 +33,13 @@ impl<K: ProcessTable> Machine<K> {
         ticks_left(self.ticks, before)
     }
 
+    /// Whether a process has an alarm. No slot is read.
+    pub fn has_alarms(&self) -> bool
+        ensures { result ≡ has_alarms_in self.now.state }
+    {
+        !self.table.nobody_alarmed()
+    }
+
     /// The alarm of a process that is there rings if it is due at the next tick.
     fn ring(&mut self, pid: Pid)
         requires there { IsThere pid self.old }
@@ -48,7 +55,7 @@ impl<K: ProcessTable> Machine<K> {
     fn ring_all(&mut self)
         requires { self.old.state.ticks + 1 < 2 ^ 64 }
         ensures state { self.new.state ≡ with_processes self.old.state (ring_all (self.old.state.ticks + 1) self.old.state.processes) }
-        ensures quiet { has_alarms self.old.state ≡ false → self.new ≡ self.old }
+        ensures quiet { has_alarms_in self.old.state ≡ false → self.new ≡ self.old }
         ensures foregrounds_unchecked { self.new.foregrounds_unchecked ≡ self.old.foregrounds_unchecked }
         ensures taking { self.old.to_recheck ≡ [] → AreTaking self.new.state.processes self.new.to_recheck × (length self.new.to_recheck ≤ length (filter (λ r. is_due (self.old.state.ticks + 1) r.alarm) self.old.state.processes)) }
         ensures costs { Costs (length (filter (λ r. is_due (self.old.state.ticks + 1) r.alarm) self.old.state.processes)) self.old self.new }
@@ -65,7 +72,7 @@ impl<K: ProcessTable> Machine<K> {
         requires { self.now.state.ticks + 1 < 2 ^ 64 }
         ensures next { IsNext (λ r. is_due (self.now.state.ticks + 1) r.alarm) after self.now.state.processes result }
         ensures due { (p : ℕ) (r : Process) → result ≡ Some p → process self.now.state p ≡ Some r → is_due (self.now.state.ticks + 1) r.alarm ≡ true }
-        ensures quiet { has_alarms self.now.state ≡ false → result ≡ None }
+        ensures quiet { has_alarms_in self.now.state ≡ false → result ≡ None }
         ensures regular { IsRegular self.now.state }
     {
         self.table.next_due(self.ticks + 1, after)
@@ -76,7 +83,7 @@ impl<K: ProcessTable> Machine<K> {
     pub fn pass_time(&mut self)
         requires { self.old.state.ticks + 1 < 2 ^ 64 }
         ensures state { self.new.state ≡ passing_time self.old.state }
-        ensures quiet { has_alarms self.old.state ≡ false → self.new ≡ record (self.old) { state = self.new.state } }
+        ensures quiet { has_alarms_in self.old.state ≡ false → self.new ≡ record (self.old) { state = self.new.state } }
         ensures foregrounds_unchecked { self.new.foregrounds_unchecked ≡ self.old.foregrounds_unchecked }
         ensures taking { self.old.to_recheck ≡ [] → AreTaking self.new.state.processes self.new.to_recheck × (length self.new.to_recheck ≤ length (filter (λ r. is_due (self.old.state.ticks + 1) r.alarm) self.old.state.processes)) }
         ensures costs { Costs (length (filter (λ r. is_due (self.old.state.ticks + 1) r.alarm) self.old.state.processes)) self.old self.new }

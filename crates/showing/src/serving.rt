@@ -24,23 +24,23 @@ use wording::Listing;
 /// Why the program doesn't end with status 0.
 #[derive(Clone, Copy, Debug, PartialEq, Eq, Error)]
 enum Failure<'a> {
-    #[error("usage: show WORLD EVENTS [--at E] [--calls] [--process P].. [--step]")]
+    #[error("usage: jobk show WORLD EVENTS [--at E] [--calls] [--process P].. [--step]")]
     Usage,
-    #[error("show: --at takes the number of an event, or 0")]
+    #[error("jobk: --at takes the number of an event, or 0")]
     At,
-    #[error("show: --at {0} is above the number of events, which is {1}")]
+    #[error("jobk: --at {0} is above the number of events, which is {1}")]
     AtAbove(u64, u64),
-    #[error("show: --process takes the number of a process")]
+    #[error("jobk: --process takes the number of a process")]
     Process,
-    #[error("show: --step takes its commands from a terminal, and goes with neither --at nor --calls")]
+    #[error("jobk: --step takes its commands from a terminal, and goes with neither --at nor --calls")]
     Step,
-    #[error("show: {0}")]
+    #[error("jobk: {0}")]
     Input(#[from] InputFault<'a>),
-    #[error("show: out of memory")]
+    #[error("jobk: out of memory")]
     Memory,
-    #[error("show: cannot write")]
+    #[error("jobk: cannot write")]
     Write,
-    #[error("show: cannot read the terminal")]
+    #[error("jobk: cannot read the terminal")]
     Read,
 }
 
@@ -241,7 +241,7 @@ fn serve_request<'a, F: ReadFiles, O: Sink, A: Ask>(
 /// Tells a failure, as far as the error output takes it. It takes no memory.
 fn tell<E: Sink>(failure: Failure<'_>, err: &mut E) -> Result<(), SinkFault> {
     if let Failure::Input(InputFault::CannotRead(name)) = failure {
-        put_all(err, b"show: cannot read ")?;
+        put_all(err, b"jobk: cannot read ")?;
         put_all(err, name.as_bytes())?;
         return put_all(err, b"\n");
     }

@@ -1,11 +1,19 @@
-use Rattle.std.proofs.Common.{rules}
-use Rattle.exploring.proofs.CourseLemmas.{halted_ending, halted_idle, rest_ending, rest_idle}
+use Rattle.std.proofs.Common.{◌≡◌, ap, rules, subst, sym}
+use Rattle.posix.specs.declared.event.Event.TheVariants.{Step}
+use Rattle.posix.specs.Outcomes.{silent}
+use Rattle.posix.specs.Step.{next}
+use Rattle.posix.specs.States.{current}
+use Rattle.std.specs.Prelude.{None, false, true}
+use Rattle.exploring.proofs.CourseLemmas.{halted_idle, rest_idle}
 use Rattle.exploring.proofs.course.is_idle.Goals as goal
 
-pub returns-in-Halted : goal.returns-in-Halted
-returns-in-Halted c = λ _. halted_idle c.args.kernel.now.state c.args.event (halted_ending c.args.kernel.now.state (search rules))
+pub returns-then-is_halted : goal.returns-then-is_halted
+returns-then-is_halted c = λ _. halted_idle c.args.kernel.now.state c.args.event (search rules)
 
-pub returns-in-Step : goal.returns-in-Step
-returns-in-Step c =
-    let rest = rest_ending c.args.kernel.now.state (search rules) in
-    λ _. rw c.in-Step.is (rest_idle c.args.kernel.now.state rest.0 rest.1 c.requires.regular c.requires.settled)
+pub returns-then-matches : goal.returns-then-matches
+returns-then-matches c = λ none.
+    let s = c.args.kernel.now.state in
+    let is : c.args.event ≡ Step = search rules in
+    let going : s.halted ≡ false = search rules in
+    let nobody : current s ≡ None = search rules in
+    subst (λ event. next true s event ≡ silent s) (sym is) (rest_idle s going nobody c.requires.regular c.requires.settled)
