@@ -286,10 +286,14 @@ fn all_read_few(kernel: &mut Kernel, beside: &Beside<'_>) -> bool {
 /// How many slots a last event reads; none where one before it reads too many, or shows something else.
 fn slots_behind(alloc: Global, beside: &Beside<'_>, last: Event) -> Result<Option<u128>, Fail> {
     let mut kernel = after_steps(alloc, beside.world, beside.steps)?;
-    if !all_read_few(&mut kernel, beside) {
-        return Ok(None);
-    }
-    Ok(Some(slots_of(&mut kernel, last).1))
+    let slots = if all_read_few(&mut kernel, beside) {
+        Some(slots_of(&mut kernel, last).1)
+    } else {
+        None
+    };
+    // A kernel that is dropped by its name is dropped by one function, whose proof is short.
+    drop(kernel);
+    Ok(slots)
 }
 
 #[test]

@@ -3,9 +3,10 @@
 use crate::runs::NOTE_AND_EXIT;
 use exploring::{Family, Progress, explore};
 use schedules::family_size;
+use std::alloc::{AllocError, Global};
 use std::process::Abort;
 use std::test::Fail;
-use text::{read_events, read_world};
+use text::{EventList, World, read_events, read_world};
 
 /// Of how many schedules it heard, and how many it was told there are.
 #[derive(Drop)]
@@ -21,10 +22,8 @@ impl Progress for Heard {
     }
 }
 
-#[test]
-fn each_schedule_is_heard_of(rt: HostRuntime) -> Result<(), Fail> {
-    let world = read_world(rt.alloc(), NOTE_AND_EXIT.world)?;
-    let events = read_events(rt.alloc(), world.consoles(), b"step 3\n")?;
+/// What is heard of the ten schedules of two ticks before three events.
+fn heard_of(alloc: Global, world: &World, events: &EventList) -> Result<Heard, AllocError> {
     let mut heard = Heard {
         times: 0,
         last: (0, 0),
@@ -33,14 +32,22 @@ fn each_schedule_is_heard_of(rt: HostRuntime) -> Result<(), Fail> {
         && let Some(size) = family_size(3, 2, 10)
     {
         let family = Family {
-            world: &world,
-            events: &events,
+            world,
+            events,
             upto: 3,
             ticks: 2,
             size,
         };
-        explore(rt.alloc(), &family, &[], &mut heard)?;
+        drop(explore(alloc, &family, &[], &mut heard)?);
     }
+    Ok(heard)
+}
+
+#[test]
+fn each_schedule_is_heard_of(rt: HostRuntime) -> Result<(), Fail> {
+    let world = read_world(rt.alloc(), NOTE_AND_EXIT.world)?;
+    let events = read_events(rt.alloc(), world.consoles(), b"step 3\n")?;
+    let heard = heard_of(rt.alloc(), &world, &events)?;
     assert!(rt; heard.times == 10 && heard.last == (10, 10));
     Ok(())
 }

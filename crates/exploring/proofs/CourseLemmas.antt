@@ -146,6 +146,10 @@ notes_more n p notes i note lt is =
 pub added_more : (before now next ls : List Line) (l : Line) → now ≡ before ++ ls → next ≡ now ++ l ∷ [] → next ≡ before ++ (ls ++ l ∷ [])
 added_more before now next ls l a b = b ∙ ap (λ xs. xs ++ l ∷ []) a ∙ append_assoc before ls (l ∷ [])
 
+pub granted_more : (k : ℕ) (entries : List Entry) (i : ℕ) (e : Entry) → i < length entries → e ≡ get_or entries i e → denies_memory e ≡ false
+    → one_denies_memory (numbered k (take i entries)) ≡ false → one_denies_memory (numbered k (take (i + 1) entries)) ≡ false
+granted_more k entries i e lt is grants before = ap one_denies_memory (mapped_more (line k) entries i e lt is) ∙ both_grant (numbered k (take i entries)) (line k e ∷ []) before (ap (λ b. b || false) grants)
+
 notes_grant : (n p : ℕ) (notes : List Note) → one_denies_memory (later n (noted_lines p notes)) ≡ false
 notes_grant n p [] = refl
 notes_grant n p (x ∷ xs) = notes_grant n p xs

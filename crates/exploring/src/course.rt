@@ -156,5 +156,8 @@ pub fn run_list(
 {
     lines.clear();
     let mut kernel = Kernel::boot(alloc, world)?;
-    run_all(&mut kernel, events, lines)
+    let ending = run_all(&mut kernel, events, lines);
+    // A kernel that is dropped by its name is dropped by one function, whose proof is short.
+    drop(kernel);
+    ending
 }

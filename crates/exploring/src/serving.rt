@@ -20,7 +20,7 @@ use std::fmt::Write;
 use thiserror::Error;
 
 /// Why the program doesn't end with status 0.
-#[derive(Clone, Copy, Debug, PartialEq, Eq, Error)]
+#[derive(Clone, Copy, Debug, Error)]
 enum Failure<'a> {
     #[error("usage: jobk explore WORLD EVENTS [--ticks K] [--upto N] [--find TEXT].. [--must-halt] [--all]")]
     Usage,

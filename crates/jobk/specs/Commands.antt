@@ -1,13 +1,12 @@
 -- The program's commands: what the words are for, and what a status means.
 use Rattle.std.specs.Prelude.{◌≡◌, ◌≤◌, ◌||◌, ℕ, Bool, List, [], ◌∷◌, codes, if◌then◌else◌, map, Ok, Err}
 use Rattle.std.specs.Str.{bytes_eq}
-use Rattle.clap.specs.Words.{Text}
 use Rattle.exploring.specs.Serving.{Means as MeansOfExploring}
 use Rattle.exploring.specs.Words.{request_of_words as exploring_asked}
 use Rattle.host.specs.declared.words.WordsFault.{WordsFault}
 use Rattle.inputs.specs.Reads.{Contents}
 use Rattle.sink.specs.Sinks.{Seen}
-use Rattle.jobk.specs.Serving.{IsToldAs, Means, Words}
+use Rattle.running.specs.Serving.{IsToldAs, Means, Words}
 use Rattle.jobk.specs.declared.help.TheConstants.{HELP, VERSION}
 use Rattle.jobk.specs.declared.commands.Command.{Command}
 use Rattle.jobk.specs.declared.commands.Command.TheVariants as command
@@ -16,29 +15,29 @@ use Rattle.jobk.specs.declared.commands.Command.TheVariants as command
 pub data Purpose : Type 0 where
   Helps : Purpose
   TellsVersion : Purpose
-  Explores : List Text → Purpose  -- by the words behind `explore`
-  Shows : List Text → Purpose
+  Explores : List (List ℕ) → Purpose  -- by the words behind `explore`
+  Shows : List (List ℕ) → Purpose
   RunsOrAudits : Purpose
 
-abbrev pub is_help : Text → Bool
+abbrev pub is_help : List ℕ → Bool
 is_help word = bytes_eq word (codes "--help") || bytes_eq word (codes "-h")
 
-abbrev pub is_version : Text → Bool
+abbrev pub is_version : List ℕ → Bool
 is_version word = bytes_eq word (codes "--version") || bytes_eq word (codes "-V")
 
 -- by the first word, and the second, if there is one
-abbrev pub purpose : Text → Text → List Text → Purpose
+abbrev pub purpose : List ℕ → List ℕ → List (List ℕ) → Purpose
 purpose first second more = if is_help first || is_help second then Helps
     else if is_version first || is_version second then TellsVersion
     else if bytes_eq first (codes "explore") then Explores more
     else if bytes_eq first (codes "show") then Shows more
     else RunsOrAudits
 
-abbrev pub first_or_empty : List Text → Text
+abbrev pub first_or_empty : List (List ℕ) → List ℕ
 first_or_empty [] = []
 first_or_empty (word ∷ more) = word
 
-abbrev pub purpose_of : List Text → Purpose
+abbrev pub purpose_of : List (List ℕ) → Purpose
 purpose_of [] = RunsOrAudits
 purpose_of (first ∷ more) = purpose first (first_or_empty more) more
 

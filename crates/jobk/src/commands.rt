@@ -4,16 +4,16 @@ ghost use Rattle.std.specs.Prelude.{◌≡◌, map};
 ghost use Rattle.jobk.specs.Commands.{Serves, first_or_empty as first_or_empty_of, is_help as is_help_of, is_version as is_version_of, purpose_of, said};
 
 use crate::help::{HELP, VERSION};
-use crate::serving::{put_own, serve as serve_run_or_audit};
 use exploring::{Progress, serve as serve_explore};
 use host::{ReadFiles, WordsFault};
 use kernel::Sink;
+use running::{put_own, serve as serve_run_or_audit};
 use showing::{Ask, serve as serve_show};
 use std::alloc::Global;
 use std::hash::RandomState;
 
 /// What the words are for.
-#[derive(Clone, Copy, Debug, PartialEq, Eq)]
+#[derive(Clone, Copy)]
 enum Command<'a> {
     Help,
     Version,

@@ -5,8 +5,6 @@
 mod commands;
 mod help;
 mod person;
-mod serving;
-mod words;
 
 use commands::serve;
 use host::{HostFiles, WordsFault, as_texts, read_words};

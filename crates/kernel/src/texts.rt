@@ -89,7 +89,11 @@ pub fn run_on<K: ProcessTable, S: Sink>(
     let world = read_world(alloc, world).map_err(world_error)?;
     let events = read_events(alloc, world.consoles(), events).map_err(events_error)?;
     let mut kernel = KernelOn::<K>::boot(alloc, &world).map_err(|_| RunError::Memory)?;
-    run_kernel(&mut kernel, &events, out)
+    let done = run_kernel(&mut kernel, &events, out);
+    // What is large is dropped by its name, by one function whose proof is short.
+    drop(kernel);
+    drop(world);
+    done
 }
 
 /// [`run_on`] the table of processes that the program uses.

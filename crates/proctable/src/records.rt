@@ -61,6 +61,7 @@ impl Record {
     /// The child of a fork, with this birth number: like the caller, but nothing is pending for it and
     /// there is no news of it, and its call gave 0 (XSH fork). It is filled in where `spare` is, if there is
     /// one; without it an error where the host has no memory for it.
+    #[inline(always)]
     #[tactic(auto, unfolding(posix::specs::Births::child_of, posix::specs::Outcomes::finished))]
     pub fn fork(&self, birth: u64, spare: Option<Spare>) -> Result<Record, AllocError>
         ensures { IfOk result (λ b. (p q n : ℕ) → process_of n p b ≡ child_of birth (process_of p q self.now) n) }

@@ -34,13 +34,36 @@ fn read(
 }
 
 /// Reads all processes, before an event.
-fn read_all(alloc: Global, kernel: &mut Kernel) -> Result<Reading, AllocError>
+fn read_all(alloc: Global, kernel: &mut Kernel, reading: &mut Reading) -> Result<(), AllocError>
     ensures { IsSame kernel.old kernel.new }
 {
-    let mut reading = Reading::new(alloc, turns(alloc, kernel)?);
     let pids = processes(alloc, kernel)?;
-    read(kernel, pids.as_slice(), None, &mut reading)?;
-    Ok(reading)
+    read(kernel, pids.as_slice(), None, reading)
+}
+
+/// Has whoever tells know all processes, before an event.
+fn learn(teller: &mut Teller<'_, '_>, kernel: &mut Kernel) -> Result<(), AllocError>
+    ensures { IsSame kernel.old kernel.new }
+{
+    let alloc = teller.view.alloc;
+    let mut all = Reading::new(alloc, turns(alloc, kernel)?);
+    read_all(alloc, kernel, &mut all)?;
+    teller.learn(kernel.events(), all);
+    Ok(())
+}
+
+/// Reads those whom an event may have changed, which showed these entries and sent this.
+fn read_concerned(
+    teller: &Teller<'_, '_>,
+    kernel: &mut Kernel,
+    entries: &[Entry],
+    sent: Option<Sent>,
+    reading: &mut Reading,
+) -> Result<(), AllocError>
+    ensures { IsSame kernel.old kernel.new }
+{
+    let pids = teller.concerned(entries, sent, reading)?;
+    read(kernel, pids.as_slice(), sent.as_ref(), reading)
 }
 
 /// What the current process is about to do; none where no process can act.
@@ -68,10 +91,8 @@ fn foreground_of(kernel: &Kernel, event: Event) -> Pid {
 
 impl Observer for Telling<'_, '_> {
     fn before(&mut self, replay: &mut Replay, event: Event) -> Result<(), AllocError> {
-        let events = replay.kernel.events();
-        if !self.teller.knows(events) {
-            let all = read_all(self.teller.view.alloc, &mut replay.kernel)?;
-            self.teller.learn(events, all);
+        if !self.teller.knows(replay.kernel.events()) {
+            learn(&mut self.teller, &mut replay.kernel)?;
         }
         let actor = match event {
             Event::Step => actor_of(&mut replay.kernel),
@@ -91,8 +112,7 @@ impl Observer for Telling<'_, '_> {
         let foreground = foreground_of(kernel, event);
         let sent = self.teller.sent(event, entries, foreground, kernel.ticks());
         let mut reading = Reading::new(alloc, turns(alloc, kernel)?);
-        let pids = self.teller.concerned(entries, sent, &reading)?;
-        read(kernel, pids.as_slice(), sent.as_ref(), &mut reading)?;
+        read_concerned(&self.teller, kernel, entries, sent, &mut reading)?;
         self.teller
             .tell(kernel.events(), event, entries, reading, sent.as_ref())
     }

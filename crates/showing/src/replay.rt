@@ -9,6 +9,7 @@ ghost use Rattle.showing.specs.Pasts.{AreGiven, IsReached, IsSame};
 use kernel::Kernel;
 use posix::{Entry, Event, Pid};
 use std::alloc::{AllocError, Global};
+use std::mem;
 use telling::Since;
 use text::EventList;
 use umach::World;
@@ -48,7 +49,8 @@ impl Replay {
         ensures events { OnOk result (self.new.kernel.events ≡ 0) }
         ensures same { OnErr result (self.new ≡ self.old) }
     {
-        *self = Replay::boot(alloc, world)?;
+        // A kernel that is dropped by its name is dropped by one function, whose proof serves all.
+        drop(mem::replace(self, Replay::boot(alloc, world)?));
         Ok(())
     }
 
@@ -189,6 +191,11 @@ pub fn past_at(
     ensures at { IfOk result (λ replay. replay.kernel.events ≡ min last (length events.now)) }
 {
     let mut replay = Replay::boot(alloc, world)?;
-    run_to(&mut replay, events, last, &mut Silent)?;
-    Ok(replay)
+    match run_to(&mut replay, events, last, &mut Silent) {
+        Ok(()) => Ok(replay),
+        Err(e) => {
+            drop(replay);
+            Err(e)
+        }
+    }
 }

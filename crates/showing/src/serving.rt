@@ -7,7 +7,7 @@ ghost use Rattle.showing.specs.Statuses.{status_of};
 use crate::hearing::Telling;
 use crate::replay::{Replay, past_at, run_to};
 use crate::state::put_state;
-use crate::stepping::{Ask, StepFault, Steps};
+use crate::stepping::{Ask, StepFault, Steps, put_text};
 use crate::words::{Request, process_of, requested};
 use arrayvec::ArrayString;
 use host::{ReadFiles, WordsFault};
@@ -19,10 +19,10 @@ use std::fmt::Write;
 use telling::{Teller, View};
 use text::EventList;
 use thiserror::Error;
-use wording::Listing;
+use wording::{Listing, Prose};
 
 /// Why the program doesn't end with status 0.
-#[derive(Clone, Copy, Debug, PartialEq, Eq, Error)]
+#[derive(Clone, Copy, Debug, Error)]
 enum Failure<'a> {
     #[error("usage: jobk show WORLD EVENTS [--at E] [--calls] [--process P].. [--step]")]
     Usage,
@@ -109,12 +109,16 @@ fn at_of<'a>(word: Option<&str>, events: u64) -> Result<u64, Failure<'a>>
     Ok(at)
 }
 
+/// The process that a word names.
+fn process_in<'a>(word: &str) -> Result<Pid, Failure<'a>> {
+    number(word).and_then(process_of).ok_or(Failure::Process)
+}
+
 /// The processes that words name.
 fn processes_of<'a>(alloc: Global, words: &[&str]) -> Result<Vec<Pid>, Failure<'a>> {
     let mut pids = Vec::new(alloc);
     for word in words {
-        let number = number(word).ok_or(Failure::Process)?;
-        let pid = process_of(number).ok_or(Failure::Process)?;
+        let pid = process_in(word)?;
         pids.push(pid).map_err(|_| Failure::Memory)?;
     }
     Ok(pids)
@@ -136,8 +140,7 @@ fn put_events<'a, O: Sink>(
     for _ in 0..=last / TOLD_AT_ONCE {
         let next = replay.kernel.events().saturating_add(TOLD_AT_ONCE);
         run_to(replay, events, next.min(last), telling)?;
-        put_all(out, telling.teller.text.as_str().as_bytes())?;
-        telling.teller.text.clear();
+        put_text(&mut telling.teller.text, out)?;
     }
     Ok(())
 }
@@ -148,10 +151,44 @@ fn put_now<'a, O: Sink>(
     replay: &mut Replay,
     out: &mut O,
 ) -> Result<(), Failure<'a>> {
-    let mut text = String::new(view.alloc);
+    let mut text = Prose::new(view.alloc);
     put_state(view, &mut text, replay)?;
-    put_all(out, text.as_str().as_bytes())?;
+    put_text(&mut text, out)?;
     Ok(())
+}
+
+/// Lets a person go through a run.
+fn serve_steps<'a, 't, O: Sink, A: Ask>(
+    view: View<'_, 't>,
+    replay: &mut Replay,
+    inputs: &'t Inputs,
+    out: &mut O,
+    ask: &mut A,
+) -> Result<(), Failure<'a>>
+    requires { length inputs.now.events ≤ most_events }
+{
+    let mut steps = Steps::new(view, &inputs.world, &inputs.events);
+    let done = steps.follow_all(replay, ask, out);
+    drop(steps);
+    Ok(done?)
+}
+
+/// Puts a line for each event up to the one with number `last`.
+fn serve_calls<'a, 't, O: Sink>(
+    view: View<'_, 't>,
+    replay: &mut Replay,
+    inputs: &'t Inputs,
+    last: u64,
+    out: &mut O,
+) -> Result<(), Failure<'a>>
+    requires { length inputs.now.events ≤ most_events }
+{
+    let mut telling = Telling {
+        teller: Teller::new(view, inputs.world.programs()),
+    };
+    let done = put_events(replay, &mut telling, &inputs.events, last, out);
+    drop(telling);
+    done
 }
 
 /// Does what is asked for of a run, of which this is the listing: lets a person go through it, or puts a line for each
@@ -168,11 +205,9 @@ fn serve_past<'a, 'l, 't, O: Sink, A: Ask>(
     requires { length inputs.now.events ≤ most_events }
 {
     if request.step {
-        Steps::new(view, &inputs.world, &inputs.events).follow_all(replay, ask, out)?;
-        Ok(())
+        serve_steps(view, replay, inputs, out, ask)
     } else if request.calls {
-        let teller = Teller::new(view, inputs.world.programs());
-        put_events(replay, &mut Telling { teller }, &inputs.events, last, out)
+        serve_calls(view, replay, inputs, last, out)
     } else {
         put_now(view, replay, out)
     }
@@ -204,7 +239,9 @@ fn serve_listed<'a, 'l, 't, O: Sink, A: Ask>(
         last
     };
     let mut replay = past_at(alloc, &inputs.world, &inputs.events, from)?;
-    serve_past(view, request, &mut replay, inputs, last, out, ask)
+    let done = serve_past(view, request, &mut replay, inputs, last, out, ask);
+    drop(replay);
+    done
 }
 
 /// Does what is asked for of a world and its events.

@@ -7,8 +7,8 @@ use kernel::Kernel;
 use posix::{Life, Pid};
 use proctable::Snapshot;
 use std::alloc::{AllocError, Global};
-use std::fmt::Write;
 use telling::{Around, Terminal, Times, View, put_console, put_process, put_turns};
+use wording::Prose;
 
 /// More numbers than processes can have.
 const MOST_NUMBERS: u32 = 40_000;
@@ -106,16 +106,16 @@ fn terminal_of(kernel: &mut Kernel, it: &Snapshot) -> Option<Terminal>
 /// Writes a process, if it is there.
 fn put_if_there(
     view: View<'_, '_>,
-    text: &mut String,
+    text: &mut Prose,
     kernel: &mut Kernel,
     times: Times,
     turns: &[Pid],
     pid: Pid,
-) -> Result<(), AllocError>
+)
     ensures { IsSame kernel.old kernel.new }
 {
     let Some(it) = kernel.snapshot(pid) else {
-        return Ok(());
+        return;
     };
     let around = Around {
         times,
@@ -123,13 +123,13 @@ fn put_if_there(
         terminal: terminal_of(kernel, &it),
         ticks: kernel.ticks(),
     };
-    put_process(view, text, it, around, kernel.look(pid))
+    put_process(view, text, it, around, kernel.look(pid));
 }
 
 /// Writes the processes that are shown.
 fn put_processes(
     view: View<'_, '_>,
-    text: &mut String,
+    text: &mut Prose,
     replay: &mut Replay,
     turns: &[Pid],
 ) -> Result<(), AllocError>
@@ -138,51 +138,59 @@ fn put_processes(
     for pid in processes(view.alloc, &mut replay.kernel)?.as_slice() {
         if view.has(*pid) {
             let times = replay.since.of(*pid);
-            put_if_there(view, text, &mut replay.kernel, times, turns, *pid)?;
+            put_if_there(view, text, &mut replay.kernel, times, turns, *pid);
         }
     }
     Ok(())
 }
 
 /// Writes which processes that were asked for aren't there.
-fn put_missing(view: View<'_, '_>, text: &mut String, replay: &mut Replay) -> Result<(), AllocError>
+fn put_missing(view: View<'_, '_>, text: &mut Prose, replay: &mut Replay)
     ensures { IsSame replay.old.kernel replay.new.kernel }
 {
     for pid in view.only {
         if replay.kernel.snapshot(*pid).is_none() {
-            writeln!(text, "{}: there is no such process", pid.number())?;
+            text.push_number(pid.number());
+            text.push_str(": there is no such process\n");
         }
     }
-    Ok(())
 }
 
 /// Writes the consoles.
-fn put_consoles(text: &mut String, kernel: &mut Kernel) -> Result<(), AllocError>
+fn put_consoles(text: &mut Prose, kernel: &mut Kernel)
     ensures { IsSame kernel.old kernel.new }
 {
     for index in 0..usize::from(kernel.consoles()) {
         let Some(console) = kernel.console(index) else {
-            return Ok(());
+            return;
         };
         let foreground = console.foreground();
         let is_living = has_living(kernel, Members::OfGroup(foreground));
         if let Some(console) = kernel.console(index) {
-            put_console(text, index.saturating_add(1), console, is_living)?;
+            put_console(text, index.saturating_add(1), console, is_living);
         }
     }
-    Ok(())
 }
 
 /// Writes at which event the state is, and who acts next.
-pub fn put_head(text: &mut String, kernel: &Kernel, events: u64) -> Result<(), AllocError> {
+pub fn put_head(text: &mut Prose, kernel: &Kernel, events: u64) {
     match kernel.events() {
-        0 if events == 1 => text.push_str("before the first of 1 event: ")?,
-        0 => write!(text, "before the first of {events} events: ")?,
-        event => write!(text, "after event {event} of {events}: ")?,
+        0 => {
+            text.push_with("before the first of ", events);
+            text.push_str(if events == 1 { " event: " } else { " events: " });
+        }
+        event => {
+            text.push_with("after event ", event);
+            text.push_with(" of ", events);
+            text.push_str(": ");
+        }
     }
     match kernel.current() {
         _ if kernel.is_halted() => text.push_str("the machine has halted\n"),
-        Some(pid) => writeln!(text, "process {} acts next", pid.number()),
+        Some(pid) => {
+            text.push_with("process ", pid.number());
+            text.push_str(" acts next\n");
+        }
         None => text.push_str("no process can act\n"),
     }
 }
@@ -190,17 +198,18 @@ pub fn put_head(text: &mut String, kernel: &Kernel, events: u64) -> Result<(), A
 /// Writes the state: who acts next, each process, the order of turns, and the consoles.
 pub fn put_state(
     view: View<'_, '_>,
-    text: &mut String,
+    text: &mut Prose,
     replay: &mut Replay,
 ) -> Result<(), AllocError>
     ensures { IsSame replay.old.kernel replay.new.kernel }
 {
-    put_head(text, &replay.kernel, view.events)?;
+    put_head(text, &replay.kernel, view.events);
     let turns = turns(view.alloc, &replay.kernel)?;
     put_processes(view, text, replay, turns.as_slice())?;
-    put_missing(view, text, replay)?;
+    put_missing(view, text, replay);
     if !replay.kernel.is_halted() {
-        put_turns(text, turns.as_slice())?;
+        put_turns(text, turns.as_slice());
     }
-    put_consoles(text, &mut replay.kernel)
+    put_consoles(text, &mut replay.kernel);
+    Ok(())
 }

@@ -9,9 +9,10 @@ use crate::state::{put_head, put_state};
 use crate::words::process_of;
 use kernel::{Sink, SinkFault, put_all};
 use posix::Pid;
-use std::alloc::AllocError;
+use std::alloc::{AllocError, Global};
 use telling::{Teller, View};
 use text::{EventList, World};
+use wording::Prose;
 
 /// Asks a person for commands.
 pub trait Ask {
@@ -23,7 +24,7 @@ pub trait Ask {
 }
 
 /// Why there is no next line.
-#[derive(Clone, Copy, Debug, PartialEq, Eq)]
+#[derive(Clone, Copy)]
 pub enum AskFault {
     /// The device failed, or the line is no text in UTF-8.
     Device,
@@ -32,7 +33,7 @@ pub enum AskFault {
 }
 
 /// Why a run isn't gone through any more.
-#[derive(Clone, Copy, Debug, PartialEq, Eq)]
+#[derive(Clone, Copy)]
 pub enum StepFault {
     Memory,
     Write,
@@ -61,7 +62,7 @@ impl From<AskFault> for StepFault {
 }
 
 /// What a person asks for.
-#[derive(Clone, Copy, Debug, PartialEq, Eq)]
+#[derive(Clone, Copy)]
 enum Command {
     /// So many events more.
     Next(u64),
@@ -124,6 +125,23 @@ fn command_of(line: &str) -> Command {
     }
 }
 
+/// What a person asks for next: the end, where there is no line.
+fn next_command<A: Ask>(alloc: Global, ask: &mut A) -> Result<Command, AskFault> {
+    let mut line = String::new(alloc);
+    if ask.ask(&mut line)? {
+        Ok(command_of(line.as_str()))
+    } else {
+        Ok(Command::Quit)
+    }
+}
+
+/// Puts a text, and takes it away.
+pub fn put_text<O: Sink>(text: &mut Prose, out: &mut O) -> Result<(), StepFault> {
+    put_all(out, text.as_str()?.as_bytes())?;
+    text.clear();
+    Ok(())
+}
+
 /// A run that is gone through.
 #[derive(Drop)]
 pub struct Steps<'l, 't> {
@@ -179,22 +197,28 @@ impl<'l, 't> Steps<'l, 't> {
         Ok(())
     }
 
-    /// Does what is asked for; whether it goes on.
-    fn follow(&mut self, replay: &mut Replay, command: Command) -> Result<bool, AllocError> {
-        self.telling.teller.text.clear();
+    /// Does what is asked for.
+    fn follow(&mut self, replay: &mut Replay, command: Command) -> Result<(), AllocError> {
         let now = replay.kernel.events();
         match command {
-            Command::Next(count) => self.go_on(replay, now.saturating_add(count))?,
-            Command::Back(count) => self.go(replay, now.saturating_sub(count))?,
-            Command::Go(event) => self.go(replay, event)?,
-            Command::Process(pid) => self.go_until(replay, Some(pid))?,
-            Command::NoProcess => self.telling.teller.text.push_str(NO_PROCESS)?,
-            Command::Line => self.go_until(replay, None)?,
-            Command::State => put_state(self.view, &mut self.telling.teller.text, replay)?,
-            Command::Help => self.telling.teller.text.push_str(HELP)?,
-            Command::Quit => return Ok(false),
+            Command::Next(count) => self.go_on(replay, now.saturating_add(count)),
+            Command::Back(count) => self.go(replay, now.saturating_sub(count)),
+            Command::Go(event) => self.go(replay, event),
+            Command::Process(pid) => self.go_until(replay, Some(pid)),
+            Command::Line => self.go_until(replay, None),
+            Command::State => put_state(self.view, &mut self.telling.teller.text, replay),
+            Command::NoProcess => Ok(self.telling.teller.text.push_str(NO_PROCESS)),
+            Command::Help => Ok(self.telling.teller.text.push_str(HELP)),
+            Command::Quit => Ok(()),
         }
-        Ok(true)
+    }
+
+    /// Puts what was told, where the run is, and a prompt.
+    fn put_prompt<O: Sink>(&mut self, replay: &Replay, out: &mut O) -> Result<(), StepFault> {
+        let text = &mut self.telling.teller.text;
+        put_head(text, &replay.kernel, self.view.events);
+        text.push_str("> ");
+        put_text(text, out)
     }
 
     /// Goes through the run as it is asked for.
@@ -204,19 +228,13 @@ impl<'l, 't> Steps<'l, 't> {
         ask: &mut A,
         out: &mut O,
     ) -> Result<(), StepFault> {
-        let mut line = String::new(self.view.alloc);
         for _ in 0..u64::MAX {
-            put_head(
-                &mut self.telling.teller.text,
-                &replay.kernel,
-                self.view.events,
-            )?;
-            self.telling.teller.text.push_str("> ")?;
-            put_all(out, self.telling.teller.text.as_str().as_bytes())?;
-            line.clear();
-            if !ask.ask(&mut line)? || !self.follow(replay, command_of(line.as_str()))? {
+            self.put_prompt(replay, out)?;
+            let command = next_command(self.view.alloc, ask)?;
+            if let Command::Quit = command {
                 return Ok(());
             }
+            self.follow(replay, command)?;
         }
         Ok(())
     }

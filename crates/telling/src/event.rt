@@ -1,6 +1,6 @@
 //! A line for each event: who acted, what came of it, and whom else it concerned.
 
-use crate::process::{end_cell, put_name};
+use crate::process::{end_cell, put_carried, put_name};
 use crate::reading::{Concern, Reading, Rows, row_of};
 use crate::sending::{Row, Sent, Whom, has_sent, is_taken, signal_of_key, told_of};
 use crate::view::View;
@@ -9,7 +9,7 @@ use proctable::{OwnPart, Snapshot};
 use std::alloc::AllocError;
 use std::fmt::Write;
 use wording::{
-    Arguments, Written, place_of, put_call, put_look, put_moved, put_report, put_result,
+    Arguments, Prose, Written, place_of, put_call, put_look, put_moved, put_report, put_result,
     put_signal, put_status, signal_in,
 };
 
@@ -47,9 +47,9 @@ pub struct Teller<'l, 't> {
     /// Whether the last event showed a line of the trace.
     pub showed: bool,
     /// The line of the event.
-    line: String,
+    line: Prose,
     /// The lines that are shown.
-    pub text: String,
+    pub text: Prose,
 }
 
 /// The process with the number in a register; none where none can have it.
@@ -76,20 +76,57 @@ fn other_of(actor: &Actor, entries: &[Entry]) -> Option<Pid> {
 }
 
 /// Writes a key by its byte, and as it is typed.
-fn put_key(text: &mut String, console: u8, byte: u8) -> Result<(), AllocError> {
-    write!(text, "key {console} {byte:02X}")?;
-    match byte {
-        0..=0x1f => write!(text, " (^{})", char::from(byte + 0x40)),
-        0x7f => text.push_str(" (^?)"),
-        0x21..=0x7e => write!(text, " ({})", char::from(byte)),
-        _ => Ok(()),
+fn put_key(text: &mut Prose, console: u8, byte: u8) {
+    let _ = write!(text, "key {console} {byte:02X}");
+    let (mark, typed) = match byte {
+        0..=0x1f => (" (^", byte + 0x40),
+        0x7f => (" (^", b'?'),
+        0x21..=0x7e => (" (", byte),
+        _ => return,
+    };
+    text.push_str(mark);
+    text.push_ascii(typed);
+    text.push_str(")");
+}
+
+/// Writes what a process did with a signal.
+fn put_did(text: &mut Prose, did: &str, sig: Sig) {
+    text.push_str(did);
+    put_signal(text, sig);
+}
+
+/// Writes what became of a signal of a process.
+fn put_signal_of(text: &mut Prose, did: &str, sig: Sig, how: &str, pid: Pid) {
+    put_did(text, did, sig);
+    text.push_with(how, pid.number());
+}
+
+/// Writes to whom the event gave a process: an heir that isn't process 1 is a subreaper.
+fn put_given(text: &mut Prose, pid: Pid, heir: Pid) {
+    text.push_with("; gives ", pid.number());
+    text.push_with(" to ", heir.number());
+    if heir != Pid::INIT {
+        text.push_str(", its subreaper");
     }
 }
 
+/// Writes that the event continued a process, or woke it. Whether it did.
+fn put_new_life(text: &mut Prose, old: &Row, new: &Row) -> bool {
+    if old.it.life == Life::Stopped && new.it.life == Life::Running {
+        text.push_with("; continues ", new.it.pid.number());
+        return true;
+    }
+    let wakes = !old.can_act && new.can_act;
+    if wakes {
+        text.push_with("; wakes ", new.it.pid.number());
+    }
+    wakes
+}
+
 /// Writes what an entry says, but for a call that it tells of.
-fn put_entry(text: &mut String, entry: &Entry) -> Result<(), AllocError> {
+fn put_entry(text: &mut Prose, entry: &Entry) {
     match *entry {
-        Entry::Noted { value, .. } => write!(text, ": {value}"),
+        Entry::Noted { value, .. } => text.push_with(": ", value),
         Entry::Called { result, .. } => put_result(text, result),
         Entry::Moved { bytes, .. } => put_moved(text, &bytes),
         Entry::Reported {
@@ -100,29 +137,22 @@ fn put_entry(text: &mut String, entry: &Entry) -> Result<(), AllocError> {
         } => put_report(text, call, child.number(), status),
         Entry::Looked { child, status, .. } => put_look(text, child.number(), status),
         Entry::NoMemory { .. } => text.push_str(" = -11 EAGAIN, no memory"),
-        Entry::Marked { mark, .. } => write!(text, " = 0, mark {}", u8::from(mark)),
+        Entry::Marked { mark, .. } => text.push_with(" = 0, mark ", u8::from(mark)),
         Entry::Handled {
             sig,
             value,
             sender,
             ..
         } => {
-            text.push_str("handles ")?;
-            put_signal(text, sig)?;
-            write!(text, ", value {value}, from {}", sender.number())
+            put_did(text, "handles ", sig);
+            put_carried(text, value, sender);
         }
-        Entry::Discarded { sig, .. } => {
-            text.push_str("discards ")?;
-            put_signal(text, sig)
-        }
-        Entry::Stopped { sig, .. } => {
-            text.push_str("stopped by ")?;
-            put_signal(text, sig)
-        }
+        Entry::Discarded { sig, .. } => put_did(text, "discards ", sig),
+        Entry::Stopped { sig, .. } => put_did(text, "stopped by ", sig),
         Entry::Returned { .. } => text.push_str("the handler has returned"),
         Entry::Ended { status, .. } => {
-            text.push_str("ends, ")?;
-            put_status(text, status)
+            text.push_str("ends, ");
+            put_status(text, status);
         }
         Entry::Halted => text.push_str("the machine halts"),
     }
@@ -151,8 +181,8 @@ impl<'l, 't> Teller<'l, 't> {
             rows: Rows::new(view.alloc),
             actor: None,
             showed: false,
-            line: String::new(view.alloc),
-            text: String::new(view.alloc),
+            line: Prose::new(view.alloc),
+            text: Prose::new(view.alloc),
         }
     }
 
@@ -183,7 +213,7 @@ impl<'l, 't> Teller<'l, 't> {
     }
 
     /// Writes the call or the instruction of an actor.
-    fn put_instruction(&mut self, actor: &Actor) -> Result<(), AllocError> {
+    fn put_instruction(&mut self, actor: &Actor) {
         if let Some(call) = self.call_of_actor(actor) {
             let listing = self.view.listing;
             let source = listing.program(usize::from(actor.it.program));
@@ -196,58 +226,51 @@ impl<'l, 't> Teller<'l, 't> {
     }
 
     /// Writes who acts, and at which line.
-    fn put_actor(&mut self, actor: &Actor) -> Result<(), AllocError> {
+    fn put_actor(&mut self, actor: &Actor) {
         let source = self.view.listing.program(usize::from(actor.it.program));
-        put_name(&mut self.line, actor.it.pid, source)?;
+        put_name(&mut self.line, actor.it.pid, source);
         let start = self.line.len();
         if let Some(written) = self.written_of(actor) {
-            write!(self.line, "line {}", written.line)?;
+            self.line.push_with("line ", written.line);
         }
-        end_cell(&mut self.line, start, 10)
+        end_cell(&mut self.line, start, 10);
     }
 
     /// Writes what became of a call that shows nothing: the process waits in it, or it begins again.
-    fn put_silence(&mut self, new: &[Row], actor: &Actor) -> Result<(), AllocError> {
-        if self.call_of_actor(actor).is_none() {
-            return Ok(());
+    fn put_silence(&mut self, new: &[Row], actor: &Actor) {
+        if self.call_of_actor(actor).is_some() {
+            let waits = self.waits(new);
+            self.line.push_str(match (waits, actor.it.blocked) {
+                (true, None) => " waits",
+                (true, Some(_)) => " still waits",
+                (false, _) => " begins again",
+            });
         }
-        let waits = self.waits(new);
-        self.line.push_str(match (waits, actor.it.blocked) {
-            (true, None) => " waits",
-            (true, Some(_)) => " still waits",
-            (false, _) => " begins again",
-        })
     }
 
     /// Writes what an actor did.
-    fn put_act(&mut self, new: &[Row], actor: &Actor, entries: &[Entry]) -> Result<(), AllocError> {
-        self.put_actor(actor)?;
+    fn put_act(&mut self, new: &[Row], actor: &Actor, entries: &[Entry]) {
+        self.put_actor(actor);
         let Some(first) = entries.first() else {
-            self.put_instruction(actor)?;
+            self.put_instruction(actor);
             return self.put_silence(new, actor);
         };
         let is_signal = !is_of_instruction(first) && actor.it.chosen.is_some();
         if !is_signal {
-            self.put_instruction(actor)?;
+            self.put_instruction(actor);
         }
         let mut mark = if is_signal { "" } else { "; " };
         for entry in entries {
             if !is_of_instruction(entry) {
-                self.line.push_str(mark)?;
+                self.line.push_str(mark);
             }
-            put_entry(&mut self.line, entry)?;
+            put_entry(&mut self.line, entry);
             mark = "; ";
         }
-        Ok(())
     }
 
     /// Writes the event, and what the current process did in it.
-    fn put_event(
-        &mut self,
-        event: Event,
-        entries: &[Entry],
-        new: &[Row],
-    ) -> Result<(), AllocError> {
+    fn put_event(&mut self, event: Event, entries: &[Entry], new: &[Row]) {
         match (event, self.actor) {
             (Event::Tick, _) => self.line.push_str("tick"),
             (Event::Key { console, byte }, _) => put_key(&mut self.line, console, byte),
@@ -256,55 +279,35 @@ impl<'l, 't> Teller<'l, 't> {
         }
     }
 
-    /// Writes that a process was sent a signal.
-    fn put_signal_to(&mut self, sig: Sig, pid: Pid) -> Result<(), AllocError> {
-        self.line.push_str("; sends ")?;
-        put_signal(&mut self.line, sig)?;
-        write!(self.line, " to {}", pid.number())
-    }
-
     /// Writes which pending signals of a process went without being taken. Whether there are such.
-    fn put_discarded(
-        &mut self,
-        old: &Row,
-        new: &Row,
-        entries: &[Entry],
-    ) -> Result<bool, AllocError> {
+    fn put_discarded(&mut self, old: &Row, new: &Row, entries: &[Entry]) -> bool {
         let pid = new.it.pid;
         let mut is_told = false;
         for number in 1..65u8 {
             if let Some(sig) = Sig::new(number) {
                 let is_gone = old.pending.contains(sig) && !new.pending.contains(sig);
                 if is_gone && !is_taken(entries, pid, sig) {
-                    self.line.push_str("; discards ")?;
-                    put_signal(&mut self.line, sig)?;
-                    write!(self.line, " pending for {}", pid.number())?;
+                    put_signal_of(&mut self.line, "; discards ", sig, " pending for ", pid);
                     is_told = true;
                 }
             }
         }
-        Ok(is_told)
+        is_told
     }
 
     /// Writes which signals a process was sent, the one with number `sent` among them. Whether there are such.
-    fn put_sent(
-        &mut self,
-        old: &Row,
-        new: &Row,
-        hears: bool,
-        sent: u8,
-    ) -> Result<bool, AllocError> {
+    fn put_sent(&mut self, old: &Row, new: &Row, hears: bool, sent: u8) -> bool {
         let mut is_told = false;
         for number in 1..65u8 {
             if let Some(sig) = Sig::new(number) {
                 if let Some(words) = told_of(old, new, hears, number == sent, sig) {
-                    self.put_signal_to(sig, new.it.pid)?;
-                    self.line.push_str(words)?;
+                    put_signal_of(&mut self.line, "; sends ", sig, " to ", new.it.pid);
+                    self.line.push_str(words);
                     is_told = true;
                 }
             }
         }
-        Ok(is_told)
+        is_told
     }
 
     /// Writes what the event made of the signals of a process. Whether it made something of them.
@@ -315,7 +318,7 @@ impl<'l, 't> Teller<'l, 't> {
         entries: &[Entry],
         all: &[Row],
         sent: Option<&Sent>,
-    ) -> Result<bool, AllocError> {
+    ) -> bool {
         let sent = match sent {
             Some(sent) if sent.is_to(old) => sent.sig.number(),
             _ => 0,
@@ -323,12 +326,12 @@ impl<'l, 't> Teller<'l, 't> {
         let hears = old.pending.contains(Sig::CHLD) && self.hears(new, entries, all);
         let is_same = old.pending == new.pending && old.queued == new.queued;
         if is_same && sent == 0 && !hears {
-            return Ok(false);
+            return false;
         }
         let is_zombie = matches!(new.it.life, Life::Zombie(_));
-        let is_discarded = !is_zombie && self.put_discarded(old, new, entries)?;
-        let is_sent = self.put_sent(old, new, hears, sent)?;
-        Ok(is_discarded || is_sent)
+        let is_discarded = !is_zombie && self.put_discarded(old, new, entries);
+        let is_sent = self.put_sent(old, new, hears, sent);
+        is_discarded || is_sent
     }
 
     /// Whether the parent of a process was this one.
@@ -369,15 +372,6 @@ impl<'l, 't> Teller<'l, 't> {
         false
     }
 
-    /// Writes to whom the event gave a process: an heir that isn't process 1 is a subreaper.
-    fn put_given(&mut self, number: u32, heir: Pid) -> Result<(), AllocError> {
-        write!(self.line, "; gives {number} to {}", heir.number())?;
-        if heir == Pid::INIT {
-            return Ok(());
-        }
-        self.line.push_str(", its subreaper")
-    }
-
     /// Writes what the event made of one process. Whether it made something of it.
     fn put_effect(
         &mut self,
@@ -385,37 +379,29 @@ impl<'l, 't> Teller<'l, 't> {
         entries: &[Entry],
         all: &[Row],
         sent: Option<&Sent>,
-    ) -> Result<bool, AllocError> {
+    ) -> bool {
         let Some(old) = self.rows.of(new.it.pid) else {
-            return Ok(true);
+            return true;
         };
-        let mut is_told = self.put_signals(&old, new, entries, all, sent)?;
-        let number = new.it.pid.number();
-        if old.it.parent != new.it.parent {
-            self.put_given(number, new.it.parent)?;
-            is_told = true;
+        let has_signals = self.put_signals(&old, new, entries, all, sent);
+        let is_given = old.it.parent != new.it.parent;
+        if is_given {
+            put_given(&mut self.line, new.it.pid, new.it.parent);
         }
-        if old.it.life == Life::Stopped && new.it.life == Life::Running {
-            write!(self.line, "; continues {number}")?;
-            return Ok(true);
-        }
-        if !old.can_act && new.can_act {
-            write!(self.line, "; wakes {number}")?;
-            return Ok(true);
-        }
-        Ok(is_told)
+        let is_new = put_new_life(&mut self.line, &old, new);
+        has_signals || is_given || is_new
     }
 
     /// Writes which records went without a report. Whether one went of a process that is shown.
-    fn put_gone(&mut self, gone: &[Pid], entries: &[Entry]) -> Result<bool, AllocError> {
+    fn put_gone(&mut self, gone: &[Pid], entries: &[Entry]) -> bool {
         let mut is_shown = false;
         for pid in gone {
             is_shown = is_shown || self.view.has(*pid);
             if !is_reported(entries, *pid) {
-                write!(self.line, "; drops {}", pid.number())?;
+                self.line.push_with("; drops ", pid.number());
             }
         }
-        Ok(is_shown)
+        is_shown
     }
 
     /// Whether it knows the processes after so many events.
@@ -553,22 +539,28 @@ impl<'l, 't> Teller<'l, 't> {
         sent: Option<&Sent>,
     ) -> Result<(), AllocError> {
         let new = reading.rows.as_slice();
-        let sent = if self.waits(new) { None } else { sent };
         self.showed = !entries.is_empty();
         self.line.clear();
-        write!(self.line, "{number:>6}  ")?;
-        self.put_event(event, entries, new)?;
-        let mut is_shown = self.has_actor();
-        for row in new {
-            let is_told = self.put_effect(row, entries, new, sent)?;
-            is_shown = is_shown || (is_told && self.view.has(row.it.pid));
-        }
-        let is_gone = self.put_gone(reading.gone.as_slice(), entries)?;
-        self.line.push_str("\n")?;
-        if is_shown || is_gone {
-            self.text.push_str(self.line.as_str())?;
+        let _ = write!(self.line, "{number:>6}  ");
+        self.put_event(event, entries, new);
+        let is_shown = self.put_effects(new, entries, sent);
+        let is_gone = self.put_gone(reading.gone.as_slice(), entries);
+        if is_shown || is_gone || self.has_actor() {
+            self.text.push_str(self.line.as_str()?);
+            self.text.push_str("\n");
         }
         self.rows.keep(number, reading)
+    }
+
+    /// Writes what the event made of the processes that were read anew. Whether it made something of one that is shown.
+    fn put_effects(&mut self, new: &[Row], entries: &[Entry], sent: Option<&Sent>) -> bool {
+        let sent = if self.waits(new) { None } else { sent };
+        let mut is_shown = false;
+        for row in new {
+            let is_told = self.put_effect(row, entries, new, sent);
+            is_shown = is_shown || (is_told && self.view.has(row.it.pid));
+        }
+        is_shown
     }
 
     /// Whether an event is shown, in which these processes were concerned.

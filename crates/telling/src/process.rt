@@ -7,11 +7,9 @@ use crate::wakers::{Terminal, put_wakers};
 use bitflags::Flags;
 use posix::{Action, Blocked, Handler, Life, News, Pid, Sig, SigSet};
 use proctable::{OwnPart, Snapshot};
-use std::alloc::AllocError;
-use std::fmt::Write;
 use wording::{
-    Arguments, Listing, Source, place_of, put_address, put_call, put_flags, put_label, put_set,
-    put_set_or_none, put_signal, put_status,
+    Arguments, Listing, Prose, Source, place_of, put_address, put_call, put_flags, put_label,
+    put_set, put_set_or_none, put_signal, put_status,
 };
 
 /// A process that is there, as it is now.
@@ -24,66 +22,59 @@ struct Shown<'l, 't> {
 
 /// Ends a cell of a row, which begins behind so many bytes of the text: writes blanks up to the width of its column, at
 /// least two.
-pub fn end_cell(text: &mut String, start: usize, width: usize) -> Result<(), AllocError> {
-    text.push_str("  ")?;
+pub fn end_cell(text: &mut Prose, start: usize, width: usize) {
+    text.push_str("  ");
     for _ in text.len().saturating_sub(start)..width {
-        text.push_str(" ")?;
+        text.push_str(" ");
     }
-    Ok(())
 }
 
 /// Writes the cell with the number of a process and the name of its program.
-pub fn put_name(
-    text: &mut String,
-    pid: Pid,
-    source: Option<&Source<'_>>,
-) -> Result<(), AllocError> {
+pub fn put_name(text: &mut Prose, pid: Pid, source: Option<&Source<'_>>) {
     let start = text.len();
     let name = match source {
         Some(source) => source.name,
         None => "-",
     };
-    write!(text, "{} {name}", pid.number())?;
-    end_cell(text, start, 13)
+    text.push_number(pid.number());
+    text.push_str(" ");
+    text.push_str(name);
+    end_cell(text, start, 13);
 }
 
 /// Writes the cell of a set of signals.
-fn put_set_cell(
-    text: &mut String,
-    name: &str,
-    set: SigSet,
-    width: usize,
-) -> Result<(), AllocError> {
+fn put_set_cell(text: &mut Prose, name: &str, set: SigSet, width: usize) {
     let start = text.len();
-    text.push_str(name)?;
-    put_set_or_none(text, set)?;
-    end_cell(text, start, width)
+    text.push_str(name);
+    put_set_or_none(text, set);
+    end_cell(text, start, width);
 }
 
 /// Writes where a process stands in its program: the line of the world, and the label before it.
-fn put_place(text: &mut String, shown: &Shown<'_, '_>, own: &OwnPart) -> Result<(), AllocError> {
+fn put_place(text: &mut Prose, shown: &Shown<'_, '_>, own: &OwnPart) {
     let pc = own.cpu.frame(SigSet::EMPTY).pc;
     let (Some(place), Some(source)) = (place_of(pc), shown.source) else {
-        return write!(text, ", at address {pc}");
+        return text.push_with(", at address ", pc);
     };
     match source.at(place) {
-        Some(written) => write!(text, ", at line {}", written.line)?,
-        None => text.push_str(", outside its program")?,
+        Some(written) => {
+            text.push_with(", at line ", written.line);
+        }
+        None => text.push_str(", outside its program"),
     }
-    if put_label(text, shown.source, place, " (")? {
-        text.push_str(")")?;
+    if put_label(text, shown.source, place, " (") {
+        text.push_str(")");
     }
-    Ok(())
 }
 
 /// Writes the call that a process waits in; `pause` alone has no arguments.
 fn put_wait(
-    text: &mut String,
+    text: &mut Prose,
     shown: &Shown<'_, '_>,
     own: &OwnPart,
     blocked: Blocked,
     listing: &Listing<'_>,
-) -> Result<(), AllocError> {
+) {
     match blocked {
         Blocked::Pause => text.push_str("pause"),
         _ => put_call(
@@ -96,89 +87,78 @@ fn put_wait(
     }
 }
 
+/// Writes since which event something is so.
+fn put_since(text: &mut Prose, event: u64) {
+    text.push_with(" since ", event);
+}
+
 /// Writes that a process is stopped, since when, and whether a wait has reported it.
-fn put_stop(
-    text: &mut String,
-    shown: &Shown<'_, '_>,
-    own: &OwnPart,
-    listing: &Listing<'_>,
-) -> Result<(), AllocError> {
-    text.push_str("stopped")?;
+fn put_stop(text: &mut Prose, shown: &Shown<'_, '_>, own: &OwnPart, listing: &Listing<'_>) {
+    text.push_str("stopped");
     if let Some(sig) = Sig::new(shown.times.stopped_by) {
-        text.push_str(" by ")?;
-        put_signal(text, sig)?;
+        text.push_str(" by ");
+        put_signal(text, sig);
     }
-    write!(text, " since {}", shown.times.stop)?;
+    put_since(text, shown.times.stop);
     if let News::StoppedBy(_) = shown.it.news {
-        text.push_str(", not reported yet")?;
+        text.push_str(", not reported yet");
     }
-    match shown.it.blocked {
-        Some(blocked) => {
-            text.push_str(", in ")?;
-            put_wait(text, shown, own, blocked, listing)
-        }
-        None => Ok(()),
+    if let Some(blocked) = shown.it.blocked {
+        text.push_str(", in ");
+        put_wait(text, shown, own, blocked, listing);
     }
 }
 
 /// Writes what a process does.
-fn put_doing(
-    text: &mut String,
-    shown: &Shown<'_, '_>,
-    own: &OwnPart,
-    listing: &Listing<'_>,
-) -> Result<(), AllocError> {
+fn put_doing(text: &mut Prose, shown: &Shown<'_, '_>, own: &OwnPart, listing: &Listing<'_>) {
     match (shown.it.life, shown.it.blocked) {
         (Life::Zombie(status), _) => {
-            write!(text, "zombie since {}, ", shown.times.end)?;
+            text.push_str("zombie");
+            put_since(text, shown.times.end);
+            text.push_str(", ");
             return put_status(text, status);
         }
-        (Life::Stopped, _) => put_stop(text, shown, own, listing)?,
+        (Life::Stopped, _) => put_stop(text, shown, own, listing),
         (Life::Running, Some(blocked)) => {
-            text.push_str("waits in ")?;
-            put_wait(text, shown, own, blocked, listing)?;
-            write!(text, " since {}", shown.times.wait)?;
+            text.push_str("waits in ");
+            put_wait(text, shown, own, blocked, listing);
+            put_since(text, shown.times.wait);
         }
-        (Life::Running, None) => text.push_str("runs")?,
+        (Life::Running, None) => text.push_str("runs"),
     }
-    put_place(text, shown, own)?;
-    match shown.it.news {
-        News::Continued => text.push_str(", continued, not reported yet"),
-        _ => Ok(()),
+    put_place(text, shown, own);
+    if let News::Continued = shown.it.news {
+        text.push_str(", continued, not reported yet");
     }
 }
 
 /// Writes the cells of the mask and of the pending signals; a zombie has neither.
-fn put_signals(text: &mut String, own: &OwnPart, is_zombie: bool) -> Result<(), AllocError> {
+fn put_signals(text: &mut Prose, own: &OwnPart, is_zombie: bool) {
     if is_zombie {
         let start = text.len();
         return end_cell(text, start, 38);
     }
-    put_set_cell(text, "mask ", own.signals.mask(), 18)?;
-    put_set_cell(text, "pending ", own.signals.pending(), 20)
+    put_set_cell(text, "mask ", own.signals.mask(), 18);
+    put_set_cell(text, "pending ", own.signals.pending(), 20);
 }
 
 /// Writes the row of a process.
-fn put_row(
-    text: &mut String,
-    shown: &Shown<'_, '_>,
-    own: &OwnPart,
-    listing: &Listing<'_>,
-) -> Result<(), AllocError> {
+fn put_row(text: &mut Prose, shown: &Shown<'_, '_>, own: &OwnPart, listing: &Listing<'_>) {
     let it = shown.it;
     let is_zombie = matches!(it.life, Life::Zombie(_));
-    put_name(text, it.pid, if is_zombie { None } else { shown.source })?;
+    put_name(text, it.pid, if is_zombie { None } else { shown.source });
     let start = text.len();
-    put_doing(text, shown, own, listing)?;
-    end_cell(text, start, 45)?;
-    put_signals(text, own, is_zombie)?;
-    writeln!(
-        text,
-        "parent {}  group {}  session {}",
-        it.parent.number(),
-        it.group.number(),
-        it.session.number()
-    )
+    put_doing(text, shown, own, listing);
+    end_cell(text, start, 45);
+    put_signals(text, own, is_zombie);
+    for (name, pid) in [
+        ("parent ", it.parent),
+        ("  group ", it.group),
+        ("  session ", it.session),
+    ] {
+        text.push_with(name, pid.number());
+    }
+    text.push_str("\n");
 }
 
 /// The action for the signal with a number; none where no signal has it.
@@ -188,38 +168,31 @@ fn action_of(own: &OwnPart, number: u8) -> Option<(Sig, Action)> {
 }
 
 /// Writes a signal that is caught: where its handler stands, and the mask and the flags, where there are any.
-fn put_caught(
-    text: &mut String,
-    shown: &Shown<'_, '_>,
-    sig: Sig,
-    action: Action,
-    address: i64,
-) -> Result<(), AllocError> {
-    text.push_str("    catches ")?;
-    put_signal(text, sig)?;
-    text.push_str(" at ")?;
-    put_address(text, shown.source, address)?;
+fn put_caught(text: &mut Prose, shown: &Shown<'_, '_>, sig: Sig, action: Action, address: i64) {
+    text.push_str("    catches ");
+    put_signal(text, sig);
+    text.push_str(" at ");
+    put_address(text, shown.source, address);
     if !action.mask.is_empty() {
-        text.push_str(", mask ")?;
-        put_set(text, action.mask)?;
+        text.push_str(", mask ");
+        put_set(text, action.mask);
     }
     if action.flags.bits() != 0 {
-        text.push_str(", ")?;
-        put_flags(text, action.flags)?;
+        text.push_str(", ");
+        put_flags(text, action.flags);
     }
-    text.push_str("\n")
+    text.push_str("\n");
 }
 
 /// Writes the signals that a process catches.
-fn put_catches(text: &mut String, shown: &Shown<'_, '_>, own: &OwnPart) -> Result<(), AllocError> {
+fn put_catches(text: &mut Prose, shown: &Shown<'_, '_>, own: &OwnPart) {
     for number in 1..65u8 {
         if let Some((sig, action)) = action_of(own, number) {
             if let Handler::At(address) = action.handler {
-                put_caught(text, shown, sig, action, address)?;
+                put_caught(text, shown, sig, action, address);
             }
         }
     }
-    Ok(())
 }
 
 /// The signals that a process ignores by their actions.
@@ -236,40 +209,50 @@ fn ignored_by(own: &OwnPart) -> SigSet {
 }
 
 /// Writes the signals that a process ignores by their actions, where there are any.
-fn put_ignored(text: &mut String, own: &OwnPart) -> Result<(), AllocError> {
+fn put_ignored(text: &mut Prose, own: &OwnPart) {
     let ignored = ignored_by(own);
-    if ignored.is_empty() {
-        return Ok(());
+    if !ignored.is_empty() {
+        text.push_str("    ignores ");
+        put_set(text, ignored);
+        text.push_str("\n");
     }
-    text.push_str("    ignores ")?;
-    put_set(text, ignored)?;
-    text.push_str("\n")
 }
 
 /// Writes in how many ticks an alarm is due.
-fn put_alarm(text: &mut String, left: u64) -> Result<(), AllocError> {
-    match left {
-        1 => text.push_str("    alarm in 1 tick\n"),
-        _ => writeln!(text, "    alarm in {left} ticks"),
-    }
+fn put_alarm(text: &mut Prose, left: u64) {
+    text.push_with("    alarm in ", left);
+    text.push_str(if left == 1 { " tick\n" } else { " ticks\n" });
+}
+
+/// Writes what a queued signal carries: its value, and its sender.
+pub fn put_carried(text: &mut Prose, value: i64, sender: Pid) {
+    text.push_with(", value ", value);
+    text.push_with(", from ", sender.number());
 }
 
 /// Writes the queue of real-time signals: each with its value and its sender.
-fn put_queue(text: &mut String, own: &OwnPart) -> Result<(), AllocError> {
+fn put_queue(text: &mut Prose, own: &OwnPart) {
     for place in 0..MOST_QUEUED {
         let Some(signal) = own.signals.queued(place) else {
-            return Ok(());
+            return;
         };
-        text.push_str("    queued ")?;
-        put_signal(text, signal.sig)?;
-        let (value, sender) = (signal.carried.value, signal.carried.sender.number());
-        writeln!(text, ", value {value}, from {sender}")?;
+        text.push_str("    queued ");
+        put_signal(text, signal.sig);
+        let (value, sender) = (signal.carried.value, signal.carried.sender);
+        put_carried(text, value, sender);
+        text.push_str("\n");
     }
-    Ok(())
+}
+
+/// Writes three ids: the real one, the effective one, and the saved one.
+fn put_three(text: &mut Prose, name: &str, real: u32, effective: u32, saved: u32) {
+    text.push_with(name, real);
+    text.push_with(", effective ", effective);
+    text.push_with(", saved ", saved);
 }
 
 /// Writes the ids of a process, unless all are 0.
-fn put_ids(text: &mut String, it: &Snapshot) -> Result<(), AllocError> {
+fn put_ids(text: &mut Prose, it: &Snapshot) {
     let (user, group) = (it.creds.user(), it.creds.group());
     let (u, v, w) = (
         user.real.number(),
@@ -281,51 +264,50 @@ fn put_ids(text: &mut String, it: &Snapshot) -> Result<(), AllocError> {
         group.effective.number(),
         group.saved.number(),
     );
-    if (u, v, w, g, h, i) == (0, 0, 0, 0, 0, 0) {
-        return Ok(());
+    if (u, v, w, g, h, i) != (0, 0, 0, 0, 0, 0) {
+        put_three(text, "    user ", u, v, w);
+        put_three(text, "; group ", g, h, i);
+        text.push_str("\n");
     }
-    writeln!(
-        text,
-        "    user {u}, effective {v}, saved {w}; group {g}, effective {h}, saved {i}"
-    )
 }
 
 /// Writes the registers of a process.
-fn put_registers(text: &mut String, own: &OwnPart) -> Result<(), AllocError> {
-    text.push_str("   ")?;
+fn put_registers(text: &mut Prose, own: &OwnPart) {
+    text.push_str("   ");
     let registers = own.cpu.frame(SigSet::EMPTY).registers;
     for (number, value) in registers.iter().enumerate() {
-        write!(text, " r{number} {value}")?;
+        text.push_with(" r", number);
+        text.push_with(" ", *value);
     }
-    text.push_str("\n")
+    text.push_str("\n");
 }
 
 /// Writes what else is known of a process that hasn't ended.
 fn put_details(
     view: View<'_, '_>,
-    text: &mut String,
+    text: &mut Prose,
     shown: &Shown<'_, '_>,
     own: &OwnPart,
     ticks: u64,
-) -> Result<(), AllocError> {
-    put_catches(text, shown, own)?;
-    put_ignored(text, own)?;
-    put_queue(text, own)?;
+) {
+    put_catches(text, shown, own);
+    put_ignored(text, own);
+    put_queue(text, own);
     let handlers = own.signals.handlers();
     if handlers != 0 {
-        writeln!(text, "    handlers that haven't returned: {handlers}")?;
+        text.push_with("    handlers that haven't returned: ", handlers);
+        text.push_str("\n");
     }
     if let Some(due) = shown.it.alarm {
-        put_alarm(text, due.saturating_sub(ticks))?;
+        put_alarm(text, due.saturating_sub(ticks));
     }
-    put_ids(text, &shown.it)?;
+    put_ids(text, &shown.it);
     if shown.it.is_subreaper {
-        text.push_str("    is a subreaper\n")?;
+        text.push_str("    is a subreaper\n");
     }
-    if view.only.is_empty() {
-        return Ok(());
+    if !view.only.is_empty() {
+        put_registers(text, own);
     }
-    put_registers(text, own)
 }
 
 /// What is known of a process beside its fields.
@@ -341,11 +323,11 @@ pub struct Around {
 /// Writes a process that is there.
 pub fn put_process(
     view: View<'_, '_>,
-    text: &mut String,
+    text: &mut Prose,
     it: Snapshot,
     around: Around,
     own: &OwnPart,
-) -> Result<(), AllocError> {
+) {
     let is_zombie = matches!(it.life, Life::Zombie(_));
     let source = view.listing.program(usize::from(it.program));
     let shown = Shown {
@@ -353,12 +335,12 @@ pub fn put_process(
         times: around.times,
         source,
     };
-    put_row(text, &shown, own, view.listing)?;
+    put_row(text, &shown, own, view.listing);
     if is_zombie {
-        return Ok(());
+        return;
     }
     if around.sleeps {
-        put_wakers(text, &shown.it, own, around.terminal)?;
+        put_wakers(text, &shown.it, own, around.terminal);
     }
-    put_details(view, text, &shown, own, around.ticks)
+    put_details(view, text, &shown, own, around.ticks);
 }

@@ -3,9 +3,7 @@
 use bitflags::Flags;
 use posix::{Asked, Blocked, Life, Pid, Target, WaitCall, WaitidOptions};
 use proctable::{OwnPart, Snapshot};
-use std::alloc::AllocError;
-use std::fmt::Write;
-use wording::Arguments;
+use wording::{Arguments, Prose};
 
 /// The terminal of a process.
 #[derive(Clone, Copy)]
@@ -25,13 +23,13 @@ fn group_of(it: &Snapshot, asked: &Asked) -> Option<Pid> {
 }
 
 /// Writes the children that a wait is for.
-fn put_children(text: &mut String, it: &Snapshot, asked: &Asked) -> Result<(), AllocError> {
+fn put_children(text: &mut Prose, it: &Snapshot, asked: &Asked) {
     if let Target::Process(pid) = asked.target {
-        return write!(text, "by child {}", pid.number());
+        return text.push_with("by child ", pid.number());
     }
-    match group_of(it, asked) {
-        Some(group) => write!(text, "by a child in group {}", group.number()),
-        None => text.push_str("by a child"),
+    text.push_str("by a child");
+    if let Some(group) = group_of(it, asked) {
+        text.push_with(" in group ", group.number());
     }
 }
 
@@ -63,109 +61,83 @@ fn doings(it: &Snapshot, asked: &Asked, drops: bool) -> [(bool, &'static str); 5
 }
 
 /// Writes what a child does that lets a wait go on, where there is such.
-fn put_doings(
-    text: &mut String,
-    it: &Snapshot,
-    asked: &Asked,
-    drops: bool,
-) -> Result<(), AllocError> {
+fn put_doings(text: &mut Prose, it: &Snapshot, asked: &Asked, drops: bool) {
     let start = text.len();
     for (does, words) in doings(it, asked, drops) {
         if does {
             if text.len() == start {
-                put_children(text, it, asked)?;
-                text.push_str(" that ")?;
+                put_children(text, it, asked);
+                text.push_str(" that ");
             } else {
-                text.push_str(" or ")?;
+                text.push_str(" or ");
             }
-            text.push_str(words)?;
+            text.push_str(words);
         }
     }
-    if text.len() == start {
-        return Ok(());
+    if text.len() != start {
+        text.push_str(", ");
     }
-    text.push_str(", ")
 }
 
 /// Writes what else lets a wait go on: that it is for no child any more, or for others.
-fn put_losses(
-    text: &mut String,
-    it: &Snapshot,
-    asked: &Asked,
-    drops: bool,
-) -> Result<(), AllocError> {
+fn put_losses(text: &mut Prose, it: &Snapshot, asked: &Asked, drops: bool) {
     if let Some(group) = group_of(it, asked) {
-        let number = group.number();
-        write!(text, "once it has no child left in group {number}, ")?;
+        text.push_with("once it has no child left in group ", group.number());
+        text.push_str(", ");
     } else if drops && asked.target == Target::All {
-        text.push_str("once it has no child left, ")?;
+        text.push_str("once it has no child left, ");
     }
     if asked.target == Target::OwnGroup && it.session != it.pid && !it.ran_exec {
-        text.push_str("once it is moved to another group, ")?;
+        text.push_str("once it is moved to another group, ");
     }
-    Ok(())
 }
 
 /// Writes what lets a wait for children go on. One that is refused doesn't sleep.
-fn put_waiting(
-    text: &mut String,
-    it: &Snapshot,
-    own: &OwnPart,
-    call: WaitCall,
-) -> Result<(), AllocError> {
+fn put_waiting(text: &mut Prose, it: &Snapshot, own: &OwnPart, call: WaitCall) {
     let Some(asked) = Arguments::of(&own.cpu).asked(call) else {
-        return Ok(());
+        return;
     };
     let drops = own.signals.drops_children();
-    put_doings(text, it, &asked, drops)?;
-    put_losses(text, it, &asked, drops)
+    put_doings(text, it, &asked, drops);
+    put_losses(text, it, &asked, drops);
 }
 
 /// Writes what lets a read go on.
-fn put_reading(
-    text: &mut String,
-    it: &Snapshot,
-    terminal: Option<Terminal>,
-) -> Result<(), AllocError> {
+fn put_reading(text: &mut Prose, it: &Snapshot, terminal: Option<Terminal>) {
     let Some(terminal) = terminal else {
-        return Ok(());
+        return;
     };
-    write!(text, "by a finished line of console {}, ", terminal.number)?;
+    text.push_with("by a finished line of console ", terminal.number);
+    text.push_str(", ");
     if terminal.is_shared {
-        text.push_str("once it is in the background, ")?;
+        text.push_str("once it is in the background, ");
     }
     if it.session != it.pid {
-        text.push_str("once the console is released, ")?;
+        text.push_str("once the console is released, ");
     }
-    Ok(())
 }
 
 /// Writes by what a process that sleeps would be woken.
-pub fn put_wakers(
-    text: &mut String,
-    it: &Snapshot,
-    own: &OwnPart,
-    terminal: Option<Terminal>,
-) -> Result<(), AllocError> {
+pub fn put_wakers(text: &mut Prose, it: &Snapshot, own: &OwnPart, terminal: Option<Terminal>) {
     if matches!(it.life, Life::Stopped) {
         return text.push_str("    goes on by SIGCONT, and ends by SIGKILL\n");
     }
     let Some(blocked) = it.blocked else {
-        return Ok(());
+        return;
     };
-    text.push_str("    is woken ")?;
+    text.push_str("    is woken ");
     let start = text.len();
     match blocked {
-        Blocked::Wait(call) => put_waiting(text, it, own, call)?,
-        Blocked::Read => put_reading(text, it, terminal)?,
+        Blocked::Wait(call) => put_waiting(text, it, own, call),
+        Blocked::Read => put_reading(text, it, terminal),
         Blocked::Pause | Blocked::Sigsuspend(_) => {}
     }
     if text.len() != start {
-        text.push_str("or ")?;
+        text.push_str("or ");
     }
     text.push_str(if it.pid == Pid::INIT {
         "by a signal that it catches and doesn't block: process 1 gets no other\n"
     } else {
         "by a signal that it neither blocks nor ignores\n"
-    })
+    });
 }

@@ -1,10 +1,11 @@
 //! What a world and its machine are told by: names of signals, sets, errors, statuses and options, calls with their
-//! arguments, and the lines and labels of a world's text.
+//! arguments, the lines and labels of a world's text, and the text that is written.
 #![tactic(auto)]
 
 mod arguments;
 mod listing;
 mod names;
+mod prose;
 
 pub use arguments::{
     Arguments, place_of, put_address, put_call, put_label, put_look, put_moved, put_quoted,
@@ -12,3 +13,4 @@ pub use arguments::{
 };
 pub use listing::{Label, Listing, Source, Written};
 pub use names::{put_flags, put_set, put_set_or_none, put_signal, put_status, signal_in};
+pub use prose::Prose;

@@ -2,10 +2,9 @@
 
 ghost use Rattle.std.specs.Prelude.{◌≡◌, IfSome, pos};
 
+use crate::prose::Prose;
 use bitflags::Flags;
 use posix::{SaFlags, Sig, SigSet, Status, WaitOptions, WaitidOptions};
-use std::alloc::AllocError;
-use std::fmt::Write;
 
 /// The names of the standard signals, from 1 on (signal(7)).
 const SIGNALS: [&str; 31] = [
@@ -51,18 +50,24 @@ const SIGRTMAX: u8 = 64;
 /// So many signals there are.
 const SIGNAL_COUNT: usize = 62;
 
-/// Writes the name of a signal.
-pub fn put_signal(text: &mut String, sig: Sig) -> Result<(), AllocError> {
-    let number = sig.number();
-    match number {
-        SIGRTMIN => return text.push_str("SIGRTMIN"),
-        SIGRTMAX => return text.push_str("SIGRTMAX"),
-        35..=63 => return write!(text, "SIGRTMIN+{}", number - SIGRTMIN),
-        _ => {}
-    }
+/// Writes the name of a standard signal; the number where it is none.
+fn put_standard(text: &mut Prose, number: u8) {
     match SIGNALS.get(usize::from(number).saturating_sub(1)) {
         Some(name) => text.push_str(name),
-        None => write!(text, "{number}"),
+        None => text.push_number(number),
+    }
+}
+
+/// Writes the name of a signal.
+pub fn put_signal(text: &mut Prose, sig: Sig) {
+    let number = sig.number();
+    match number {
+        SIGRTMIN => text.push_str("SIGRTMIN"),
+        SIGRTMAX => text.push_str("SIGRTMAX"),
+        35..=63 => {
+            text.push_with("SIGRTMIN+", number - SIGRTMIN);
+        }
+        _ => put_standard(text, number),
     }
 }
 
@@ -74,26 +79,25 @@ pub fn signal_in(word: i64) -> Option<Sig>
 }
 
 /// Writes the name of the signal that a word is, or the word.
-pub fn put_signal_word(text: &mut String, word: i64) -> Result<(), AllocError> {
+pub fn put_signal_word(text: &mut Prose, word: i64) {
     match signal_in(word) {
         Some(sig) => put_signal(text, sig),
-        None => write!(text, "{word}"),
+        None => text.push_number(word),
     }
 }
 
 /// Writes the signals that are in a set, or that aren't, with blanks between them.
-fn put_signals(text: &mut String, set: SigSet, is_in: bool) -> Result<(), AllocError> {
+fn put_signals(text: &mut Prose, set: SigSet, is_in: bool) {
     let mut blank = "";
     for number in 1..65u8 {
         if let Some(sig) = Sig::new(number) {
             if set.contains(sig) == is_in {
-                text.push_str(blank)?;
-                put_signal(text, sig)?;
+                text.push_str(blank);
+                put_signal(text, sig);
                 blank = " ";
             }
         }
     }
-    Ok(())
 }
 
 /// How many signals are in a set.
@@ -108,19 +112,19 @@ fn count_of(set: SigSet) -> usize {
 }
 
 /// Writes a set of signals: `{SIGINT SIGCHLD}`, or `~{SIGKILL SIGSTOP}` for all but these, where most are in it.
-pub fn put_set(text: &mut String, set: SigSet) -> Result<(), AllocError> {
+pub fn put_set(text: &mut Prose, set: SigSet) {
     let most = count_of(set) > SIGNAL_COUNT / 2;
-    text.push_str(if most { "~{" } else { "{" })?;
-    put_signals(text, set, !most)?;
-    text.push_str("}")
+    text.push_str(if most { "~{" } else { "{" });
+    put_signals(text, set, !most);
+    text.push_str("}");
 }
 
 /// Writes a set of signals, and `-` for none.
-pub fn put_set_or_none(text: &mut String, set: SigSet) -> Result<(), AllocError> {
+pub fn put_set_or_none(text: &mut Prose, set: SigSet) {
     if count_of(set) == 0 {
-        text.push_str("-")
+        text.push_str("-");
     } else {
-        put_set(text, set)
+        put_set(text, set);
     }
 }
 
@@ -143,76 +147,80 @@ pub fn errno_name(number: i64) -> Option<&'static str> {
 }
 
 /// Writes a signal by its number, or the number where it is none.
-fn put_signal_number(text: &mut String, number: u16) -> Result<(), AllocError> {
-    put_signal_word(text, i64::from(number))
+fn put_signal_number(text: &mut Prose, number: u16) {
+    put_signal_word(text, i64::from(number));
 }
 
 /// Writes what a status word says of a process.
-pub fn put_status(text: &mut String, status: Status) -> Result<(), AllocError> {
+pub fn put_status(text: &mut Prose, status: Status) {
     let word = status.word();
     let (low, high) = (word % 256, word / 256);
-    if low == 0 {
-        return write!(text, "exit {high}");
+    match low {
+        0 => {
+            text.push_with("exit ", high);
+        }
+        127 => {
+            text.push_str("stopped by ");
+            put_signal_number(text, high);
+        }
+        255 => text.push_str("continued"),
+        _ => {
+            text.push_str("killed by ");
+            put_signal_number(text, low);
+        }
     }
-    if low == 127 {
-        text.push_str("stopped by ")?;
-        return put_signal_number(text, high);
-    }
-    if low == 255 {
-        return text.push_str("continued");
-    }
-    text.push_str("killed by ")?;
-    put_signal_number(text, low)
 }
 
 /// Writes the names of bits, joined by `|`; `0` for none.
-fn put_names<F: Flags>(text: &mut String, bits: &F) -> Result<(), AllocError> {
+fn put_names<F: Flags>(text: &mut Prose, bits: &F) {
     let mut is_empty = true;
     for (name, _) in bits.iter_names() {
         if !is_empty {
-            text.push_str("|")?;
+            text.push_str("|");
         }
-        text.push_str(name)?;
+        text.push_str(name);
         is_empty = false;
     }
-    if is_empty { text.push_str("0") } else { Ok(()) }
+    if is_empty {
+        text.push_str("0");
+    }
 }
 
 /// Writes the names of flags, joined by `|`; `0` for none.
-pub fn put_flags(text: &mut String, flags: SaFlags) -> Result<(), AllocError> {
-    put_names(text, &flags)
+pub fn put_flags(text: &mut Prose, flags: SaFlags) {
+    put_names(text, &flags);
 }
 
 /// Writes the names of the bits that a word is; the word where it isn't one.
-fn put_names_or<F: Flags>(text: &mut String, bits: Option<F>, word: i64) -> Result<(), AllocError> {
+fn put_names_or<F: Flags>(text: &mut Prose, bits: Option<F>, word: i64) {
     match bits {
         Some(bits) => put_names(text, &bits),
-        None => write!(text, "{word}"),
+        None => text.push_number(word),
     }
 }
 
 /// Writes the options of waitpid that a word is, or the word.
-pub fn put_waitpid_options(text: &mut String, word: i64) -> Result<(), AllocError> {
-    put_names_or(text, WaitOptions::from_bits(word.cast_unsigned()), word)
+pub fn put_waitpid_options(text: &mut Prose, word: i64) {
+    put_names_or(text, WaitOptions::from_bits(word.cast_unsigned()), word);
 }
 
 /// Writes by its name the kind of children that a word is for waitid, or the word.
-pub fn put_kind(text: &mut String, word: i64) -> Result<(), AllocError> {
+pub fn put_kind(text: &mut Prose, word: i64) {
     match word {
         0 => text.push_str("P_ALL"),
         1 => text.push_str("P_PID"),
         2 => text.push_str("P_PGID"),
-        _ => write!(text, "{word}"),
+        _ => text.push_number(word),
     }
 }
 
 /// Writes the options of waitid that a word is, or the word.
-pub fn put_waitid_options(text: &mut String, word: i64) -> Result<(), AllocError> {
-    put_names_or(text, WaitidOptions::from_bits(word.cast_unsigned()), word)
+pub fn put_waitid_options(text: &mut Prose, word: i64) {
+    put_names_or(text, WaitidOptions::from_bits(word.cast_unsigned()), word);
 }
 
 /// Writes the flags of an action that a word is, or the word.
-pub fn put_action_flags(text: &mut String, word: i64) -> Result<(), AllocError> {
+pub fn put_action_flags(text: &mut Prose, word: i64) {
     let flags = u32::try_from(word).ok().and_then(SaFlags::from_bits);
-    put_names_or(text, flags, word)
+    put_names_or(text, flags, word);
 }
