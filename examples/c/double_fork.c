@@ -1,0 +1,16 @@
+/* A daemon is born by two forks. It may ask for its parent before the one in the middle has ended. */
+#include "jobk.h"
+
+int main(void)
+{
+    pid_t middle = fork();
+    if (middle == 0) {
+        if (fork() != 0)
+            _exit(0);
+        note(getppid());
+        _exit(0);
+    }
+    while (waitpid(-1, NULL, 0) > 0)
+        ;
+    return 0;
+}

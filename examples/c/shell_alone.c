@@ -1,0 +1,33 @@
+/* The shell alone gives its job a process group and the terminal. */
+#include "jobk.h"
+
+static void run_job(void)
+{
+    signal(SIGTTOU, SIG_DFL);
+    execl("reader", "reader", (char *)NULL);
+    _exit(127);
+}
+
+static void shell(void)
+{
+    int status = 0;
+    setsid();
+    setctty(1);
+    signal(SIGTTOU, SIG_IGN);
+    pid_t job = fork();
+    if (job == 0)
+        run_job();
+    setpgid(job, job);
+    tcsetpgrp(0, job);
+    waitpid(job, &status, WUNTRACED);
+    note(status);
+    _exit(0);
+}
+
+int main(void)
+{
+    if (fork() == 0)
+        shell();
+    waitpid(-1, NULL, 0);
+    return 0;
+}

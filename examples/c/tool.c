@@ -1,0 +1,8 @@
+/* The program that exec.c runs: it exits with its argument. */
+#include "jobk.h"
+
+int main(int argc, char **argv)
+{
+    (void)argc;
+    return atoi(argv[1]);
+}

@@ -1,0 +1,28 @@
+/* A handler counts the children that ended. SIGCHLD is blocked but while the program waits in sigsuspend. */
+#include "jobk.h"
+
+static volatile sig_atomic_t ended;
+
+static void on_chld(int signal_number)
+{
+    (void)signal_number;
+    while (waitpid(-1, NULL, WNOHANG) > 0)
+        ended++;
+}
+
+int main(void)
+{
+    sigset_t chld, old;
+    struct sigaction action = { .sa_handler = on_chld, .sa_flags = SA_RESTART };
+    sigemptyset(&action.sa_mask);
+    sigaction(SIGCHLD, &action, NULL);
+    sigemptyset(&chld);
+    sigaddset(&chld, SIGCHLD);
+    sigprocmask(SIG_BLOCK, &chld, &old);
+    for (int i = 0; i < 2; i++)
+        if (fork() == 0)
+            _exit(3);
+    while (ended != 2)
+        sigsuspend(&old);
+    return 0;
+}

@@ -1,0 +1,259 @@
+"""From C files to a world."""
+from assembly import LONGEST_NAME, MOST_INSTRUCTIONS, Assembly, Frame
+from assignments import Assignments
+from calls import Calls
+from expressions import SCRATCH, Expressions, r
+from plan import lay_out, make_context, refuse_entered_again, refuse_recursion, refuse_too_much_memory
+from refusal import Refused, refuse
+from statements import Statements
+from symbols import Kind, Resolver
+
+
+class Writer(Statements, Assignments, Calls, Expressions):
+    """Writes one function at one place."""
+
+    def __init__(self, program, instance):
+        self.program = program
+        self.unit = program.unit
+        self.assembly = program.assembly
+        self.globals = program.globals
+        self.programs = program.programs
+        self.planted = program.planted
+        self.instance = instance
+        self.waits = []                 # registers whose values are needed later
+        self.free_slots = []
+        self.jumps = []                 # of each loop and switch, where continue and break go
+        self.texts = {}
+        self.kept = program.kept
+        self.end = None
+
+    def emit(self, operation, *operands):
+        self.program.comment_once(self.instance)
+        self.assembly.emit(operation, *operands)
+
+    def put(self, label):
+        self.assembly.place(label)
+
+    def new_label(self, text):
+        return self.assembly.label(text)
+
+    def at(self, node):
+        if node.coord is not None:
+            self.program.line = node.coord.line
+
+    def write_later(self, write):
+        line = self.program.line
+        self.program.later.append((self, line, write))
+
+    def label_of_handler(self, function):
+        return self.program.handlers[function].instances[function].label
+
+    def enter(self, instance):
+        """Goes to a function, whose parameters are set, and comes back with its result in r0."""
+        line = self.program.line
+        if instance.sites == 1:
+            Writer(self.program, instance).write_inline()
+        else:
+            back = self.new_label('back')
+            if not instance.returns:
+                instance.return_word = instance.frame.take()
+            self.set(0, len(instance.returns))
+            self.store(0, instance.return_word)
+            instance.returns.append(back)
+            self.emit('jmp', instance.label)
+            self.put(back)
+        self.program.line = line
+
+    def write_inline(self):
+        """The function at the place of its one call."""
+        self.end = self.new_label(f'end_{self.instance.function.name}')
+        self.put(self.instance.label)
+        self.statement(self.instance.function.node.body)
+        self.put(self.end)
+
+    def write_apart(self):
+        """The function on its own; behind it the places to which it returns are told apart."""
+        function = self.instance.function
+        self.end = self.new_label(f'end_{function.name}')
+        self.put(self.instance.label)
+        if self.instance.context.root is function:
+            self.begin_root(function)
+        self.statement(function.node.body)
+        if self.instance.context.root is function:
+            self.end_root(function)
+        else:
+            self.put(self.end)
+            self.write_returns()
+
+    def begin_root(self, function):
+        """What main and a handler get stands in r1, r2 and r3."""
+        self.at(function.node)
+        if function.name == 'main':
+            return
+        registers = (1, 3, 0)
+        for register, variable in zip(registers, function.parameters):
+            if variable.weight:
+                self.store(register, self.instance.places[variable])
+                if variable.kind is Kind.INFO:
+                    self.store(2, self.instance.places[variable] + 1)
+
+    def end_root(self, function):
+        if function.name == 'main':
+            self.emit('set', r(1), 0)
+            self.emit('sys', 'exit')
+        else:
+            self.put(self.end)
+            self.emit('sys', 'sigreturn')
+
+    def write_returns(self):
+        if len(self.instance.returns) > 1:
+            self.load(1, self.instance.return_word)
+            self.set(SCRATCH, 1)
+        for number, label in enumerate(self.instance.returns):
+            if number == len(self.instance.returns) - 1:
+                self.emit('jmp', label)
+            else:
+                self.emit('jz', r(1), label)
+                if number < len(self.instance.returns) - 2:
+                    self.emit('sub', r(1), r(SCRATCH))
+
+
+class Program:
+    """A C file that becomes a program of the world."""
+
+    def __init__(self, source, programs, planted=None):
+        self.unit = Resolver(source).run()
+        self.programs = programs
+        self.planted = planted
+        self.assembly = Assembly(program_name(source.name))
+        self.globals = {}
+        self.frame = Frame()
+        self.kept = []                  # nodes that were made here: their ids stay theirs
+        self.later = []
+        self.line = 0
+        self.commented = None
+        if 'main' not in self.unit.functions:
+            raise Refused(f'{source.name}.c', 1, 1, 'there is no main: write int main(void)')
+        refuse_recursion(self.unit)
+        for variable in self.unit.variables:
+            self.globals[variable] = self.frame.take(variable.words)
+        self.main = make_context(self.unit.functions['main'])
+        self.handlers = {}
+
+    def text(self):
+        self.check_main()
+        for function in self.unit.handlers:
+            self.handlers[function] = self.make_handler(function)
+        self.name_functions()
+        self.write_context(self.main)
+        for context in self.handlers.values():
+            self.write_context(context)
+        for context in self.handlers.values():
+            refuse_entered_again(self.unit, context)
+        self.check_unused()
+        refuse_too_much_memory(self.unit, lay_out(self.frame, [self.main, *self.handlers.values()]))
+        self.assembly.finish()
+        self.check_size()
+        return self.assembly.text()
+
+    def check_main(self):
+        main = self.unit.functions['main']
+        kinds = [variable.kind for variable in main.parameters]
+        if main.gives is not Kind.INT or kinds not in ([], [Kind.INT, Kind.ARGUMENTS]):
+            refuse(main.node, 'main is written int main(void) or int main(int argc, char **argv)')
+        if kinds and main.parameters[0].weight:
+            refuse(main.node, 'how many arguments there are is not known: write (void)argc')
+        for function in self.unit.functions.values():
+            for callee, node in function.calls:
+                if callee is main:
+                    refuse(node, 'main is called by nobody: write a function')
+
+    def make_handler(self, function):
+        kinds = [variable.kind for variable in function.parameters]
+        if function.gives is not Kind.VOID or kinds not in ([Kind.INT], [Kind.INT, Kind.INFO, Kind.CONTEXT]):
+            refuse(function.node, f'a handler is written void {function.name}(int signal_number), or with SA_SIGINFO '
+                   f'void {function.name}(int signal_number, siginfo_t *info, void *context)')
+        context = make_context(function)
+        if self.planted == 'frame':
+            for shared in context.instances.keys() & self.main.instances.keys():
+                context.instances[shared].frame = self.main.instances[shared].frame
+                context.instances[shared].places = self.main.instances[shared].places
+        return context
+
+    def name_functions(self):
+        for context in [self.main, *self.handlers.values()]:
+            for function, instance in context.instances.items():
+                instance.label = self.assembly.label(function.name, is_kept=True)
+
+    def check_unused(self):
+        """Functions that nobody calls are compiled, so that their faults are told, and left out."""
+        used = {function for context in [self.main, *self.handlers.values()] for function in context.instances}
+        lines, self.assembly.lines = self.assembly.lines, []
+        for function in self.unit.functions.values():
+            if function not in used:
+                context = make_context(function)
+                for instance in context.instances.values():
+                    instance.label = self.assembly.label('unused')
+                self.write_context(context)
+        self.assembly.lines = lines
+
+    def write_context(self, context):
+        for function, instance in context.instances.items():
+            if function is context.root or instance.sites > 1:
+                writer = Writer(self, instance)
+                if function is self.main.root and context is self.main:
+                    self.begin_globals(writer)
+                writer.write_apart()
+                self.write_failures()
+
+    def begin_globals(self, writer):
+        """Memory is 0 at the start; what begins with another value is set."""
+        main = self.unit.functions['main']
+        if main.parameters and main.parameters[1].weight:
+            self.line = main.node.coord.line
+            for number in range(2):
+                writer.store(1 + number, self.main.instances[main].places[main.parameters[1]] + number)
+        for variable in self.unit.variables:
+            if variable.node is not None and getattr(variable.node, 'init', None) is not None:
+                writer.at(variable.node)
+                writer.begin_variable(variable, variable.node.init)
+
+    def write_failures(self):
+        while self.later:
+            writer, line, write = self.later.pop(0)
+            self.line = line
+            write()
+
+    def comment_once(self, instance):
+        """The line of C from which an instruction comes, once before the first of them."""
+        now = self.line, instance.function.name
+        if now != self.commented:
+            self.commented = now
+            text = self.unit.source.lines[self.line - 1].strip() if self.line else ''
+            self.assembly.comment(f'{self.unit.source.name}.c:{self.line}, in {instance.function.name}: {text}')
+
+    def check_size(self):
+        if self.assembly.size > MOST_INSTRUCTIONS:
+            name, size = self.unit.source.name, self.assembly.size
+            raise Refused(f'{name}.c', 1, 1, f'{name} needs {size} instructions, {size - MOST_INSTRUCTIONS} more than '
+                          f'the {MOST_INSTRUCTIONS} of a program: move a part into a program of its own, for execl')
+
+
+def program_name(name):
+    """The name of a program: that of its file, as far as a world has it."""
+    return ''.join(letter if letter.isalnum() and letter.isascii() else '_' for letter in name.lower())[:LONGEST_NAME]
+
+
+def world(sources, pidmax=40, consoles=1, planted=None):
+    """The text of a world; process 1 runs the first of the files."""
+    names = set()
+    for source in sources:
+        name = program_name(source.name)
+        if name != source.name and source is not sources[0] or not name[:1].isalpha():
+            raise Refused(f'{source.name}.c', 1, 1, f'a program has a name of at most {LONGEST_NAME} letters a to z, '
+                          'digits and _, which is that of its file: rename it')
+        if name in names:
+            raise Refused(f'{source.name}.c', 1, 1, f'two programs are called {name}: rename a file')
+        names.add(name)
+    programs = [Program(source, names, planted).text() for source in sources]
+    return f'pidmax {pidmax}\nconsoles {consoles}\n' + ''.join(programs)

@@ -1,0 +1,141 @@
+"""Runs a C program on Linux as process 1, with a terminal at which keys are typed, and says what it notes.
+
+The program is the first process of a pid namespace and leads a session, as process 1 of a world does, so processes have
+the same numbers. Its files 0 and 1 are a pseudoterminal, which it may take by setctty, and 2 is a pipe for its notes.
+`step` of the events waits until all processes sleep, are stopped or have ended, `tick` some seconds, `key` types.
+"""
+import os
+import re
+import select
+import shutil
+import signal
+import subprocess
+import termios
+import time
+
+HERE = os.path.dirname(os.path.abspath(__file__))
+FLAGS = ['-Wall', '-Wextra', '-Werror', '-I', os.path.join(HERE, '..', 'c')]
+NOTE = re.compile(r'note (\d+) (-?\d+)')
+# Seconds between looks, how often a look has to be the same, and the seconds after which a program is given up.
+POLL, CALM, LONGEST = 0.004, 6, 30.0
+
+
+class NotHere(Exception):
+    """Why programs aren't run here."""
+
+
+def read_events(path):
+    """The lines of a file of events, with numbers for names; none, where there is no file."""
+    if not os.path.exists(path):
+        return []
+    done = subprocess.run([os.path.join(HERE, '..', 'names'), path], capture_output=True, text=True, check=True)
+    lines = (line.split('#')[0].strip() for line in done.stdout.split('\n'))
+    return [line for line in lines if line]
+
+
+def compile_file(path, folder):
+    """Compiles a C file to a program of its name in a folder; gives what the compiler says of faults."""
+    name = os.path.splitext(os.path.basename(path))[0]
+    done = subprocess.run(['gcc', *FLAGS, path, '-o', os.path.join(folder, name)], capture_output=True, text=True)
+    return done.stderr if done.returncode else ''
+
+
+def check():
+    """Refuses a machine on which programs can't be process 1."""
+    for name in ('unshare', 'setsid', 'gcc'):
+        if shutil.which(name) is None:
+            raise NotHere(f'there is no {name}')
+    if not os.path.exists(f'/proc/self/task/{os.getpid()}/children'):
+        raise NotHere('/proc does not tell the children of a process')
+    done = subprocess.run(['unshare', '--pid', '--fork', 'setsid', 'true'], capture_output=True, text=True)
+    if done.returncode != 0:
+        raise NotHere(done.stderr.strip().splitlines()[-1] if done.stderr else 'unshare fails')
+
+
+def children(process):
+    """All that descend from a process."""
+    try:
+        with open(f'/proc/{process}/task/{process}/children', encoding='ascii') as file:
+            direct = file.read().split()
+    except OSError:
+        return []
+    return [it for child in direct for it in (child, *children(child))]
+
+
+def state(process):
+    """What a process does, and how often it has waited."""
+    try:
+        with open(f'/proc/{process}/stat', encoding='ascii', errors='replace') as file:
+            letter = file.read().rpartition(')')[2].split()[0]
+        with open(f'/proc/{process}/status', encoding='ascii', errors='replace') as file:
+            return process, letter, re.findall(r'ctxt_switches:\s*(\d+)', file.read())
+    except OSError:
+        return process, 'gone', []
+
+
+class Run:
+    """A program that runs."""
+
+    def __init__(self, path):
+        self.master, slave = os.openpty()
+        modes = termios.tcgetattr(slave)
+        modes[3] &= ~termios.ECHO
+        termios.tcsetattr(slave, termios.TCSANOW, modes)
+        self.notes, write_end = os.pipe()
+        self.process = subprocess.Popen(
+            ['unshare', '--pid', '--fork', '--kill-child', 'setsid', os.path.abspath(path)], cwd=os.path.dirname(path),
+            stdin=slave, stdout=slave, stderr=write_end)
+        os.close(slave)
+        os.close(write_end)
+        self.ends = time.monotonic() + LONGEST
+
+    def wait_for_calm(self, calm=CALM):
+        """Waits until nothing acts, or the program has ended."""
+        before, same = None, 0
+        while same < calm and self.process.poll() is None and time.monotonic() < self.ends:
+            now = [state(process) for process in children(str(self.process.pid))]
+            is_calm = len(now) > 0 and all(letter in 'STtZ' for _, letter, _ in now)
+            same = same + 1 if is_calm and now == before else 0
+            before = now
+            time.sleep(POLL)
+
+    def take(self, event):
+        word, *rest = event.split()
+        if word == 'tick':
+            time.sleep(int(rest[0]) * 1.05)
+        self.wait_for_calm()
+        if word == 'key' and self.process.poll() is None:
+            os.write(self.master, bytes(int(byte, 16) for byte in rest[1:]))
+            self.wait_for_calm()
+
+    def finish(self):
+        """What was noted, and the status with which process 1 ended, or None where it rests."""
+        self.wait_for_calm(4 * CALM)
+        status = self.process.poll()
+        if status is None:
+            self.process.send_signal(signal.SIGKILL)
+            self.process.wait()
+        text = b''
+        while select.select([self.notes], [], [], 0.2)[0]:
+            part = os.read(self.notes, 65536)
+            if not part:
+                break
+            text += part
+        os.close(self.notes)
+        os.close(self.master)
+        return text.decode('ascii', 'replace'), status
+
+
+def outcome(text, status):
+    """The notes of each process, and how process 1 ends."""
+    notes = {}
+    for process, value in NOTE.findall(text):
+        notes.setdefault(int(process), []).append(int(value))
+    return tuple(sorted((process, tuple(values)) for process, values in notes.items())), status
+
+
+def run(path, events):
+    running = Run(path)
+    for event in events:
+        running.take(event)
+    return outcome(*running.finish())
