@@ -16,8 +16,9 @@ import time
 HERE = os.path.dirname(os.path.abspath(__file__))
 FLAGS = ['-Wall', '-Wextra', '-Werror', '-I', os.path.join(HERE, '..', 'c')]
 NOTE = re.compile(r'note (\d+) (-?\d+)')
-# Seconds between looks, how often a look has to be the same, and the seconds after which a program is given up.
-POLL, CALM, LONGEST = 0.004, 6, 30.0
+# Seconds between looks, how often a look has to be the same, the seconds in which a key is noticed, and those after which
+# a program is given up.
+POLL, CALM, NOTICED, LONGEST = 0.004, 6, 0.5, 30.0
 
 
 class NotHere(Exception):
@@ -89,11 +90,21 @@ class Run:
         os.close(write_end)
         self.ends = time.monotonic() + LONGEST
 
+    def states(self):
+        return [state(process) for process in children(str(self.process.pid))]
+
+    def type_keys(self, keys):
+        """Types keys, and waits until a process notices: the kernel hands them on as it finds time."""
+        before, until = self.states(), time.monotonic() + NOTICED
+        os.write(self.master, keys)
+        while self.states() == before and self.process.poll() is None and time.monotonic() < until:
+            time.sleep(POLL)
+
     def wait_for_calm(self, calm=CALM):
         """Waits until nothing acts, or the program has ended."""
         before, same = None, 0
         while same < calm and self.process.poll() is None and time.monotonic() < self.ends:
-            now = [state(process) for process in children(str(self.process.pid))]
+            now = self.states()
             is_calm = len(now) > 0 and all(letter in 'STtZ' for _, letter, _ in now)
             same = same + 1 if is_calm and now == before else 0
             before = now
@@ -105,7 +116,7 @@ class Run:
             time.sleep(int(rest[0]) * 1.05)
         self.wait_for_calm()
         if word == 'key' and self.process.poll() is None:
-            os.write(self.master, bytes(int(byte, 16) for byte in rest[1:]))
+            self.type_keys(bytes(int(byte, 16) for byte in rest[1:]))
             self.wait_for_calm()
 
     def finish(self):
