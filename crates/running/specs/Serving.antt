@@ -10,7 +10,7 @@ use Rattle.text.specs.declared.fault.Reason.TheVariants.{Memory}
 use Rattle.text.specs.declared.fault.TextFault.{TextFault}
 use Rattle.kernel.specs.declared.texts.RunError.TheVariants as error
 use Rattle.kernel.specs.Headline.{CutsShort, Traces}
-use Rattle.sink.specs.Sinks.{Seen, TakesAll}
+use Rattle.sink.specs.Sinks.{BreaksOff, Seen, TakesAll}
 use Rattle.audit.specs.Texts.{IsLawful}
 use Rattle.inputs.specs.Reads.{AreInFiles, Contents}
 use Rattle.running.specs.Words.{AsksAudit, AsksRun, request_of_words}
@@ -118,6 +118,6 @@ pub record Means {S : Type 0} (contents : Contents) (words : Words) (old new : S
   -- nothing was put, or a beginning of the printed trace of a run, or not all of an audit's answer
   pub cut_short : status ≡ 3 → (new ≡ old) ⊎ (OfTexts (Asked contents words) (λ world events. CutsShort world events before after) ⊎ OfTrace (AskedAudit contents words) (λ trace. Unit {0}))
 
--- A text of the program's own was put, or not all of it.
+-- A text of the program's own was put, or a put of it failed.
 abbrev pub IsToldAs : List ℕ → Seen → Seen → ℕ → Type 0
-IsToldAs text before after status = ((status ≡ 0) × TakesAll before after text) ⊎ (status ≡ 3)
+IsToldAs text before after status = ((status ≡ 0) × TakesAll before after text) ⊎ ((status ≡ 3) × BreaksOff before after text)

@@ -1,8 +1,8 @@
 //! What the program does: its texts and its statuses.
 
-ghost use Rattle.std.specs.Prelude.{◌≡◌, ◌≤◌, IfOk, IfErr, IfSome, OnOk, map};
+ghost use Rattle.std.specs.Prelude.{◌≡◌, ◌≤◌, IfOk, IfErr, IfSome, OnErr, OnOk, map};
 ghost use Rattle.host.specs.declared.files.FileFault.{FileFault};
-ghost use Rattle.sink.specs.Sinks.{TakesAll};
+ghost use Rattle.sink.specs.Sinks.{BreaksOff, TakesAll};
 ghost use Rattle.inputs.specs.Reads.{AreInFiles};
 ghost use Rattle.running.specs.Serving.{AreOther, AskFor, AskForAudit, Ends, IsToldAs, Means, answer_of, failure_of, status_of};
 
@@ -103,8 +103,12 @@ fn run_files<'a, F: ReadFiles, O: Sink>(
 fn put_answer<'a, O: Sink>(answer: &[u8], out: &mut O) -> Result<(), Failure<'a>>
     ensures ok { OnOk result (TakesAll (O.seen out.old) (O.seen out.new) answer.now) }
     ensures err { IfErr result (λ why. why ≡ Failure.Run RunError.Write) }
+    ensures cut { OnErr result (BreaksOff (O.seen out.old) (O.seen out.new) answer.now) }
 {
-    put_all(out, answer).map_err(|_| Failure::Run(RunError::Write))
+    match put_all(out, answer) {
+        Ok(()) => Ok(()),
+        Err(_) => Err(Failure::Run(RunError::Write)),
+    }
 }
 
 /// Tells the first fault of a trace. The longest of these texts has less than 40 bytes.
@@ -211,7 +215,7 @@ fn ended<E: Sink>(done: Result<(), Failure<'_>>, err: &mut E) -> u8
     }
 }
 
-/// Puts a text of the program's own, and gives the status of the program: 0, or 3 where not all of it was put.
+/// Puts a text of the program's own, and gives the status of the program: 0, or 3 where a put failed.
 pub fn put_own<O: Sink, E: Sink>(text: &[u8], out: &mut O, err: &mut E) -> u8
     ensures { IsToldAs text.now (O.seen out.old) (O.seen out.new) result }
 {
