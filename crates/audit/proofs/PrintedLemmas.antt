@@ -20,7 +20,7 @@ use Rattle.posix.specs.declared.waits.WaitCall.TheVariants as wait
 use Rattle.posix.specs.declared.entry.Entry.TheVariants.{Noted, Called, Moved, Reported, Looked, NoMemory, Marked, Handled, Discarded, Stopped, Returned, Ended, Halted}
 use Rattle.laws.specs.TraceLines.{is_i64, is_number, is_result, moves_bytes, asks_memory, is_entry, is_line}
 use Rattle.posix.specs.Statuses.{is_end_word}
-use Rattle.audit.specs.Texts.{is_one_line}
+use Rattle.traceline.specs.Lines.{is_one_line}
 
 -- ---- words
 

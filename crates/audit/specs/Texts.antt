@@ -1,5 +1,5 @@
 -- Whole traces as texts.
-use Rattle.std.specs.Prelude.{ℕ, ◌≡◌, ◌≢◌, ◌+◌, ◌==◌, ◌⊎◌, not, Bool, true, List, [], ◌∷◌, ◌++◌, length, Err}
+use Rattle.std.specs.Prelude.{ℕ, ◌≡◌, ◌≢◌, ◌+◌, ◌⊎◌, true, List, [], ◌∷◌, ◌++◌, length, Err}
 use Rattle.std.specs.List.{list_all}
 use Rattle.posix.specs.Entries.{Line}
 use Rattle.posix.specs.Printing.{print}
@@ -8,6 +8,7 @@ use Rattle.laws.specs.Lives.{Laws}
 use Rattle.audit.specs.declared.fault.AuditFault.{AuditFault}
 use Rattle.audit.specs.declared.fault.AuditFault.TheVariants.{NoLine}
 use Rattle.audit.specs.declared.texts.TraceFault.{TraceFault}
+use Rattle.traceline.specs.Lines.{IsCut, is_one_line}
 use Rattle.audit.specs.Knowing.{IsAnswer}
 
 -- A text is the print of lines, each of one of the forms, of which the laws of a trace hold.
@@ -25,17 +26,6 @@ pub record IsLawfulBefore (text : List ℕ) (number : ℕ) : Type 0 where
   pub forms : list_all is_line lines ≡ true
   pub laws : Laws lines
   pub counted : number ≡ length lines + 1
-
--- ---- lines of a text
-
--- no line feed stands in it
-abbrev pub is_one_line : List ℕ → Bool
-is_one_line text = list_all (λ b. not (b == 10)) text
-
--- a text is cut at its first line feed
-pub record IsCut (text line rest : List ℕ) : Type 0 where
-  pub is : text ≡ line ++ 10 ∷ rest
-  pub one : is_one_line line ≡ true
 
 -- ---- the first fault
 

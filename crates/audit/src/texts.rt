@@ -1,6 +1,6 @@
 //! Whole traces.
 
-ghost use Rattle.std.specs.Prelude.{◌≡◌, ◌≢◌, ◌<◌, ◌≤◌, length, true, List, MatchOption, IfSome, Err, OnOk};
+ghost use Rattle.std.specs.Prelude.{◌≡◌, ◌≢◌, ◌≤◌, length, List, Err, OnOk};
 ghost use Rattle.std.specs.List.{AllByRecursion};
 ghost use Rattle.posix.specs.declared.event.Event.{Event};
 ghost use Rattle.posix.specs.Entries.{Line};
@@ -9,14 +9,14 @@ ghost use Rattle.posix.specs.Runs.{Runs};
 ghost use Rattle.posix.specs.States.{State, World};
 ghost use Rattle.laws.specs.Kinds.{IsEvent, IsWorld};
 ghost use Rattle.audit.specs.declared.fault.AuditFault.TheVariants.{Memory};
-ghost use Rattle.audit.specs.Texts.{IsLawful, IsLawfulBefore, IsCut, IsFirstFault, is_one_line};
+ghost use Rattle.audit.specs.Texts.{IsLawful, IsLawfulBefore, IsFirstFault};
 
 use crate::audit::Audit;
 use crate::fault::AuditFault;
-use memchr::memchr;
 use std::alloc::Global;
 use std::hash::RandomState;
 use thiserror::Error;
+use traceline::next_line;
 
 /// The first faulty line of a trace.
 #[derive(Clone, Copy, Debug, PartialEq, Eq, Error)]
@@ -65,15 +65,6 @@ pub fn audit_text(alloc: Global, keys: RandomState, text: &[u8]) -> Result<(), T
         line: number,
         fault: AuditFault::NoLine,
     })
-}
-
-/// The first line of a text, without its line feed, and what follows that; none where no line feed comes.
-fn next_line(text: &[u8]) -> Option<(&[u8], &[u8])>
-    ensures cut { MatchOption result (is_one_line text.now ≡ true) (λ f. IsCut text.now f.0.now f.1.now) }
-    ensures less { IfSome result (λ f. length f.1.now < length text.now) }
-{
-    let end = memchr(b'\n', text)?;
-    Some((&text[..end], &text[end + 1..]))
 }
 
 /// The trace of each run is lawful.

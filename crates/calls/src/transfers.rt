@@ -110,6 +110,9 @@ fn read_span<K: ProcessTable>(
     requires room { length entries.old.items ≤ 1 }
     ensures { (r : Process) (c : Console) → process machine.old.state me.now.pid ≡ Some r → console_of r.session machine.old.state.consoles ≡ Some c → terminal.now ≡ terminal_of c → Comes machine.old.state (read_in machine.old.state r c (Ok span)) result entries.old.items entries.new.items machine.new.state }
 {
+    if terminal.hung_up {
+        return finish_with(machine, me.pid, Call::Read, 0, entries);
+    }
     match read_access(machine, me, terminal) {
         Access::Allowed if span.count == 0 => finish_with(machine, me.pid, Call::Read, 0, entries),
         Access::Allowed => read_line(machine, me, span, entries),
@@ -152,7 +155,12 @@ pub fn has_to_read<K: ProcessTable>(machine: &mut Machine<K>, pid: Pid, snapshot
         return false;
     };
     match machine.caller(pid).span() {
-        Ok(span) => snapshot.group == terminal.foreground && span.count != 0 && !terminal.has_line,
+        Ok(span) => {
+            snapshot.group == terminal.foreground
+                && span.count != 0
+                && !terminal.hung_up
+                && !terminal.has_line
+        }
         Err(_) => false,
     }
 }
@@ -174,6 +182,9 @@ fn write_span<K: ProcessTable>(
     requires room { length entries.old.items ≤ 1 }
     ensures { (r : Process) (c : Console) → process machine.old.state me.now.pid ≡ Some r → terminal.now ≡ terminal_of c → Comes machine.old.state (write_in machine.old.state r c (Ok span)) result entries.old.items entries.new.items machine.new.state }
 {
+    if terminal.hung_up {
+        return refuse(machine, me.pid, Call::Write, Errno::EIO, entries);
+    }
     match write_access(machine, me, terminal) {
         Access::Allowed => {
             let bytes = machine.look(me.pid).cpu.bytes(span);

@@ -6,13 +6,13 @@ use Rattle.std.proofs.lemmas.Bool.{lt-ltb}
 use Rattle.std.proofs.lemmas.Grind.{common_steps}
 use Rattle.std.proofs.lemmas.List.{replicate-append-replicate, take_all, take_more}
 use Rattle.posix.specs.declared.event.Event.{Event}
-use Rattle.posix.specs.declared.event.Event.TheVariants.{Key}
+use Rattle.posix.specs.declared.event.Event.TheVariants.{Key, Hangup}
 use Rattle.text.specs.EventLists.{CountedEvent, expanded}
 use Rattle.text.specs.EventTexts.{most_events}
 use Rattle.text.proofs.EventLemmas.{expanded_push}
 use Rattle.eventtext.specs.EventLines.{AddsLines, AddsFirst, AddsText, IsWordOf, two_digits}
 use Rattle.eventtext.proofs.LineLemmas.{line, spaced}
-use Rattle.eventtext.proofs.SayLemmas.{says_nothing, says_joined, stands, counted_says, key_words, keys_say}
+use Rattle.eventtext.proofs.SayLemmas.{says_nothing, says_joined, stands, counted_says, key_words, keys_say, hangup_says}
 
 pub adds_nothing : (a : List ℕ) → AddsLines a [] a
 adds_nothing a = ([], sym (append-nil a), says_nothing)
@@ -121,6 +121,21 @@ pub counted_put : (a b c : List ℕ) (u : List Event) (console n : ℕ) (bytes :
 counted_put a b c u console n [] event is h none same k =
     subst (λ (e : Event). AddsFirst a u (replicate n e) c []) (sym same) (first_joined a b c u [] [] [] (replicate n event) h (first_said b c (replicate n event) k))
 counted_put a b c u console n (x ∷ xs) event is h none same k = cc
+
+-- a hangup
+pub hangup_added : (a b : List ℕ) (console : ℕ) → console < 256 → b ≡ a ++ line (codes "hangup" ∷ decimal console ∷ []) → AddsLines a (Hangup console ∷ []) b
+hangup_added a b console small e = (line (codes "hangup" ∷ decimal console ∷ []), e, hangup_says console small)
+
+-- one more
+pub hangups_more : (a b c : List ℕ) (console i : ℕ) → AddsLines a (replicate i (Hangup console)) b → AddsLines b (Hangup console ∷ []) c → AddsLines a (replicate (i + 1) (Hangup console)) c
+hangups_more a b c console i p q = subst (λ (es : List Event). AddsLines a es c) (replicate-append-replicate i 1 (Hangup console)) (adds_joined a b c (replicate i (Hangup console)) (Hangup console ∷ []) p q)
+
+pub hangups_put_ok : {T E : Type 0} (r : Result T E) (a b c : List ℕ) (u : List Event) (console m n : ℕ) (bytes : List ℕ) (event is : Event)
+    → AddsFirst a u [] b (map (Key console) bytes) → bytes ≡ [] → is ≡ event → m ≡ n → OnOk r (AddsLines b (replicate m event) c)
+    → OnOk r (AddsFirst a u (replicate n is) c (map (Key console) bytes))
+hangups_put_ok (Ok x) a b c u console m n bytes event is h none same count k =
+    counted_put a b c u console n bytes event is h none same (subst (λ (i : ℕ). AddsLines b (replicate i event) c) count k)
+hangups_put_ok (Err e) a b c u console m n bytes event is h none same count k = k
 
 -- a run more
 pub run_put : (a b c : List ℕ) (u v : List Event) (runs : List CountedEvent) (i : ℕ) (d : CountedEvent) → i < length runs → AddsFirst a [] (expanded (take i runs)) b u

@@ -8,10 +8,10 @@ use Rattle.std.proofs.lemmas.Fmt.{length-decimal-le}
 use Rattle.std.proofs.lemmas.List.{length-replicate, length-map}
 use Rattle.std.proofs.lemmas.List.Folds.{list_all-append}
 use Rattle.posix.specs.declared.event.Event.{Event}
-use Rattle.posix.specs.declared.event.Event.TheVariants.{Step, Tick, Key}
+use Rattle.posix.specs.declared.event.Event.TheVariants.{Step, Tick, Key, Hangup}
 use Rattle.text.specs.Lines.{all_lines}
 use Rattle.text.specs.Reading.{◌>>=◌}
-use Rattle.text.specs.EventTexts.{read_lines, start, answer, event_text, event_words, judged, judged_line, counted, keys, most_events}
+use Rattle.text.specs.EventTexts.{read_lines, start, answer, event_text, event_words, judged, judged_line, counted, keys, hangup, most_events}
 use Rattle.eventtext.specs.EventLines.{Says, StandsFor, IsWordOf, read_well, is_possible, two_digits}
 use Rattle.eventtext.proofs.LineLemmas.{is_plain_word, spaced, line, line_first, words_back}
 use Rattle.eventtext.proofs.NumberLemmas.{decimal_plain, number_back, bytes_plain, bytes_back}
@@ -81,6 +81,24 @@ counted_says word Tick n is least most = rw is (
     (λ consoles room fine fits. counted_back room n Tick least most (omega (arith, length-replicate n Tick)))
     )
 counted_says word (Key console byte) n is least most = absurd is
+counted_says word (Hangup console) n is least most = absurd is
+
+-- ---- of hangups
+
+hangup_back : (consoles room console : ℕ) → console < 256 → is_possible consoles (Hangup console) ≡ true → 1 ≤ room → hangup consoles room (decimal console ∷ []) ≡ Ok (Hangup console ∷ [])
+unfolding hangup
+hangup_back consoles room console small fine fits =
+    let both = and_parts (nat_le 1 console) (nat_le console consoles) fine in
+    let there : nat_le 1 room ≡ true = grind (arith, nat_tests, fits) in
+    rw (number_back 1 consoles console (omega arith) (leb-true 1 console both.0) (leb-true console consoles both.1), there) refl
+
+pub hangup_says : (console : ℕ) → console < 256 → Says (line (codes "hangup" ∷ decimal console ∷ [])) (Hangup console ∷ [])
+hangup_says console small =
+    let plain : list_all is_plain_word (codes "hangup" ∷ decimal console ∷ []) ≡ true = rw (decimal_plain console (omega arith)) refl in
+    let digits : length (decimal console) ≤ 3 = length-decimal-le 3 console (omega arith) (omega arith) (omega arith) in
+    let short : length (spaced (codes "hangup" ∷ decimal console ∷ [])) ≤ 197 = omega (arith, length-append (decimal console) [], digits) in
+    line_says (codes "hangup" ∷ decimal console ∷ []) (Hangup console ∷ []) plain short
+    (λ consoles room fine fits. hangup_back consoles room console small (and_parts (is_possible consoles (Hangup console)) true fine).0 fits)
 
 -- ---- of keys
 

@@ -3,7 +3,7 @@ use Rattle.std.specs.Prelude.{◌≡◌, ℕ, ◌+◌, ◌/◌, ◌%◌, ◌≤�
 use Rattle.std.specs.List.{list_all}
 use Rattle.std.specs.Fmt.{digit_glyph}
 use Rattle.posix.specs.declared.event.Event.{Event}
-use Rattle.posix.specs.declared.event.Event.TheVariants.{Step, Tick, Key}
+use Rattle.posix.specs.declared.event.Event.TheVariants.{Step, Tick, Key, Hangup}
 use Rattle.text.specs.Lines.{all_lines}
 use Rattle.text.specs.EventTexts.{Reading, read_lines, event_text, most_events}
 
@@ -14,6 +14,7 @@ two_digits byte = digit_glyph true (byte / 16) ∷ digit_glyph true (byte % 16) 
 -- whether an event can happen where there are so many consoles
 abbrev pub is_possible : ℕ → Event → Bool
 is_possible consoles (Key console byte) = nat_le 1 console && nat_le console consoles
+is_possible consoles (Hangup console) = nat_le 1 console && nat_le console consoles
 is_possible consoles event = true
 
 -- This text stands for these events in each world where they can happen.
@@ -48,3 +49,4 @@ abbrev pub IsWordOf : Event → List ℕ → Type 0
 IsWordOf Step word = word ≡ codes "step"
 IsWordOf Tick word = word ≡ codes "tick"
 IsWordOf (Key console byte) word = ⊥
+IsWordOf (Hangup console) word = ⊥

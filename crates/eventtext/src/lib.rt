@@ -5,7 +5,7 @@ ghost use Rattle.std.specs.Prelude.{◌≡◌, ◌<◌, ◌≤◌, [], ◌∷◌
 ghost use Rattle.std.specs.String.{string_bytes};
 ghost use Rattle.arrayvec.specs.ArrayVec.{array_vec_len};
 ghost use Rattle.posix.specs.declared.event.Event.{Event as AnEvent};
-ghost use Rattle.posix.specs.declared.event.Event.TheVariants.{Key};
+ghost use Rattle.posix.specs.declared.event.Event.TheVariants.{Key, Hangup};
 ghost use Rattle.text.specs.EventTexts.{most_events};
 ghost use Rattle.eventtext.specs.EventLines.{AddsFirst, AddsLines, AddsText, IsWordOf, two_digits};
 
@@ -37,6 +37,24 @@ fn write_counted(text: &mut String, word: &str, count: u64) -> Result<(), AllocE
         let here = left.min(MOST_COUNTED);
         writeln!(text, "    {word} {here}")?;
         left -= here;
+    }
+    Ok(())
+}
+
+/// Writes a hangup.
+fn write_hangup(text: &mut String, console: u8) -> Result<(), AllocError>
+    ensures { OnOk result (AddsLines (string_bytes text.old) (Hangup console ∷ []) (string_bytes text.new)) }
+{
+    writeln!(text, "    hangup {console}")?;
+    Ok(())
+}
+
+/// Writes so many hangups.
+fn write_hangups(text: &mut String, console: u8, count: u64) -> Result<(), AllocError>
+    ensures { OnOk result (AddsLines (string_bytes text.old) (replicate count (Hangup console)) (string_bytes text.new)) }
+{
+    for _i in 0..count {
+        write_hangup(text, console)?;
     }
     Ok(())
 }
@@ -120,6 +138,10 @@ fn put_run(text: &mut String, keys: &mut Keys, run: EventRun) -> Result<(), Allo
             write_counted(text, "tick", run.count())
         }
         Event::Key { console, byte } => put_keys(text, keys, console, byte, run.count()),
+        Event::Hangup { console } => {
+            end_keys(text, keys)?;
+            write_hangups(text, console, run.count())
+        }
     }
 }
 

@@ -2,10 +2,10 @@
 use Rattle.std.specs.Prelude.{ℕ, ◌+◌, ◌*◌, ◌^◌, ◌-◌, ◌&&◌, ◌||◌, Bool, List, [], ◌∷◌, ◌++◌, length, map, fold, nat_le, Option, None, Some, codes, option_and_then, option_map, if◌then◌else◌}
 use Rattle.std.specs.Str.{bytes_eq}
 use Rattle.clap.specs.Lexer.{name_and_value}
-use Rattle.clap.specs.Words.{App, Kinds, Row, Text, fault_of, first_of, matches_of}
+use Rattle.clap.specs.Words.{App, Row, Text, fault_of, first_of, matches_of}
 use Rattle.clap.specs.declared.builder.action.ArgAction.TheVariants.{Set, SetTrue, Count}
 use Rattle.inputs.specs.Numbers.{number_of}
-use Rattle.inputs.specs.Words.{command_of, files_in, is_used}
+use Rattle.inputs.specs.Words.{command_of, files_in, is_used, unless_refused}
 use Rattle.schedules.specs.Families.{family}
 use Rattle.exploring.specs.declared.words.Next.{Next}
 use Rattle.exploring.specs.declared.words.Next.TheVariants.{Any, Sought, File}
@@ -86,11 +86,7 @@ asked_with finds rows (world, events) = record {
 abbrev pub asked_in : List Text → List Row → Option Asked
 asked_in finds rows = option_map (asked_with finds rows) (files_in rows)
 
--- what is asked for, where the words aren't refused
-abbrev pub unless_refused : Kinds → Option Asked → Option Asked
-unless_refused [] asked = asked
-unless_refused (kind ∷ more) asked = None
-
+-- what they ask for, where the other words aren't refused
 abbrev pub asked_of : List Text → List Text → Option Asked
 asked_of finds others = unless_refused (fault_of command_line others) (asked_in finds (matches_of command_line others))
 

@@ -1,3 +1,4 @@
 mod ReadLemmas
 mod NumberLemmas
-mod RowLemmas
+pub mod RowLemmas
+pub mod RequestLemmas

@@ -1,9 +1,9 @@
--- The command lines of programs that are given a world and its events, and what words have on them.
-use Rattle.std.specs.Prelude.{Bool, true, false, List, Option, Some, codes, fold, option_and_then, option_map}
+-- The command lines of programs that are given one file, or a world and its events, and what words have on them.
+use Rattle.std.specs.Prelude.{Bool, true, false, List, [], ◌∷◌, Option, Some, None, codes, fold, option_and_then, option_map}
 use Rattle.std.specs.Option.{option_map_or}
 use Rattle.std.specs.Str.{bytes_eq}
 use Rattle.clap.specs.Simple.{on_top}
-use Rattle.clap.specs.Words.{App, Row, Rule, Shape, Text, first_of, new_app, new_rule, with_rule}
+use Rattle.clap.specs.Words.{App, Kinds, Row, Rule, Shape, Text, fault_of, first_of, matches_of, new_app, new_rule, with_rule}
 use Rattle.clap.specs.declared.builder.action.ArgAction.{ArgAction}
 use Rattle.clap.specs.declared.builder.action.ArgAction.TheVariants.{Set}
 
@@ -17,6 +17,24 @@ option_rule option = record (new_rule option.0) { long = Some option.0; action =
 
 abbrev pub without_program_name : Shape → Shape
 without_program_name command = record command { no_binary_name = true }
+
+-- what is asked for, where the words aren't refused
+abbrev pub unless_refused : {A : Type 0} → Kinds → Option A → Option A
+unless_refused [] asked = asked
+unless_refused (kind ∷ more) asked = None
+
+-- ---- one file
+
+-- `PROGRAM FILE`, with this name of the file on the command line
+abbrev pub command_with_file : Text → Text → App
+command_with_file program file = with_rule (on_top without_program_name (new_app program)) (file_rule file)
+
+-- What words ask for, if they aren't refused: the name of a file.
+abbrev pub file_in_words : Text → Text → List Text → Option Text
+file_in_words program file words =
+    unless_refused (fault_of (command_with_file program file) words) (first_of file (matches_of (command_with_file program file) words))
+
+-- ---- a world and its events
 
 abbrev pub with_files : Text → App
 with_files program =

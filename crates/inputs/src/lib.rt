@@ -1,6 +1,7 @@
 //! What the programs beside `jobk` are given: words, a world and its events, by the names of their files, and numbers.
 #![tactic(auto)]
 
+mod failure;
 mod words;
 
 ghost use Rattle.std.specs.Prelude.{◌≡◌, ◌≤◌, Ok, IfOk, IfErr, IfSome, MatchResult, length};
@@ -11,11 +12,12 @@ ghost use Rattle.inputs.specs.Statuses.{status_of};
 ghost use Rattle.inputs.specs.Reads.{Reads, RefusesEvents, RefusesWorld, fault_of_file, unless_memory};
 ghost use Rattle.inputs.specs.Numbers.{number_of};
 
+pub use failure::{FileFailure, read_file};
 use host::{FileFault, ReadFiles};
 use std::alloc::Global;
 use text::{EventList, Reason, TextFault, World, read_events, read_world};
 use thiserror::Error;
-pub use words::{NoRequest, command, is_used, named_files, value_of, words_behind};
+pub use words::{NoRequest, command, is_used, named_file, named_files, value_of, words_behind};
 
 /// A world and its events.
 #[derive(Drop)]

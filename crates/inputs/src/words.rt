@@ -1,8 +1,8 @@
-//! The words of a command line that names a world and its events, and has options.
+//! The words of a command line that names one file, or a world and its events, and has options.
 
 ghost use Rattle.std.specs.Prelude.{◌≡◌, ◌≢◌, IfErr, IfOk, MatchResult, None, Some, false, map, option_map};
 ghost use Rattle.clap.specs.Words.{app_of, first_of, found_of, kind_of, rows_of, rule_of};
-ghost use Rattle.inputs.specs.Words.{command_of, file_rule, files_in, is_used as is_used_in, option_rule};
+ghost use Rattle.inputs.specs.Words.{command_of, command_with_file, file_in_words, file_rule, files_in, is_used as is_used_in, option_rule};
 
 use clap::error::ErrorKind;
 use clap::{Arg, ArgAction, ArgMatches, Command, Error};
@@ -111,6 +111,35 @@ pub fn named_files<'a>(matches: &ArgMatches<'a>) -> Result<(&'a str, &'a str), N
         (Some(world), Some(events)) => Ok((world, events)),
         _ => Err(NoRequest::Usage),
     }
+}
+
+/// The command line of a program that is given one file.
+fn command_with_file<'a>(
+    alloc: Global,
+    program: &'a str,
+    file_name: &'a str,
+) -> Result<Command<'a>, AllocError>
+    ensures { IfOk result (λ c. app_of c ≡ command_with_file program.entry.now file_name.entry.now) }
+{
+    Command::new(alloc, program)
+        .no_binary_name(true)
+        .arg(file(alloc, file_name))
+}
+
+/// The name of the one file that the words ask for, which is called `file` on the command line; the program's name isn't
+/// one of the words.
+pub fn named_file<'a>(
+    alloc: Global,
+    program: &'a str,
+    file: &'a str,
+    words: &'a [&'a str],
+) -> Result<&'a str, NoRequest>
+    ensures { MatchResult result
+        (λ name. file_in_words program.entry.now file.entry.now (map (λ w. w.now) words.entry.now) ≡ Some name.now)
+        (λ why. why ≡ NoRequest.Usage → file_in_words program.entry.now file.entry.now (map (λ w. w.now) words.entry.now) ≡ None) }
+{
+    let matches = command_with_file(alloc, program, file)?.try_get_matches_from(words)?;
+    value_of(&matches, file).ok_or(NoRequest::Usage)
 }
 
 /// What stands behind each use of an option, in the order of the words.

@@ -1,9 +1,7 @@
-//! `jobk`: runs a world of small programs over a list of events, and prints the trace; audits a trace; explores all
-//! schedules; shows the state at an event.
+//! `jobk`: runs a world of small programs over a list of events, and prints the trace; audits and explains a trace;
+//! explores all schedules; shows the state at an event.
 #![tactic(auto)]
 
-mod commands;
-mod help;
 mod person;
 
 use commands::serve;

@@ -7,7 +7,7 @@ use Rattle.std.proofs.lemmas.Bool.{leb-true, and_parts}
 use Rattle.std.proofs.lemmas.Bool.Decides.{nat_tests}
 use Rattle.posix.specs.declared.instr.Instr.{Instr}
 use Rattle.posix.specs.declared.instr.Instr.TheVariants as instr
-use Rattle.posix.specs.declared.event.Event.TheVariants.{Step, Tick, Key}
+use Rattle.posix.specs.declared.event.Event.TheVariants.{Step, Tick, Key, Hangup}
 use Rattle.posix.specs.States.{Program, World, State, boot}
 use Rattle.text.specs.Numbers.{is_i64 as is_i64_text}
 use Rattle.text.proofs.RangeLemmas.{BringsByte, text_events}
@@ -67,6 +67,7 @@ event_kind : (e : Event) → BringsByte e → IsEvent e
 event_kind Step h = tt
 event_kind Tick h = tt
 event_kind (Key console byte) h = h
+event_kind (Hangup console) h = tt
 
 events_kind : (es : List Event) → AllByRecursion BringsByte es → AllByRecursion IsEvent es
 events_kind [] h = tt

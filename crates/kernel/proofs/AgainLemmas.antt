@@ -51,8 +51,8 @@ signals_from s me span (line ∷ rest) = signals_moved s _ me.pid Read _
 signals_in : (s : State) (me : Process) (c : Console) (span : Result Span Errno) → Signals s (read_in s me c span)
 signals_in s me c (Err why) = tt
 signals_in s me c (Ok span) =
-    signals_if s (is_in_background me c) _ _ (signals_if s (blocks_or_ignores me TTIN || is_orphaned me.group s.processes) _ _ tt (TTIN, me.group, refl))
-    (signals_if s (span.count == 0) _ _ tt (signals_from s me span c.lines))
+    signals_if s c.hung_up _ _ tt (signals_if s (is_in_background me c) _ _ (signals_if s (blocks_or_ignores me TTIN || is_orphaned me.group s.processes) _ _ tt (TTIN, me.group, refl))
+    (signals_if s (span.count == 0) _ _ tt (signals_from s me span c.lines)))
 
 signals_on : (s : State) (me : Process) (o : Option Console) → Signals s (read_on s me o)
 signals_on s me None = tt

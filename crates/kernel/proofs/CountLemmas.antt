@@ -153,6 +153,15 @@ key_reads console byte old new rest read still h =
     let none = ap (λ u. count_by (is_unchecked u) new.state.consoles) (still ∙ rest.checked) ∙ none_unchecked new.state.consoles in
     omega (arith, read, slots, brief, few, none)
 
+-- and a hangup
+pub hangup_reads : (console : ℕ) (old new : MachineView) → IsAtRest old → new.visits ≤ old.visits + 2 → new.foregrounds_unchecked ≡ old.foregrounds_unchecked
+    → NeedNoChild new.state.processes new.to_recheck × (length new.to_recheck ≤ 1 + length (foreground_members console old.state)) → ReadsAtMost (4 + 2 * length (foreground_members console old.state)) old new
+hangup_reads console old new rest read still h =
+    let brief = rechecks_brief new.state.processes None new.to_recheck h.0 in
+    let few = h.1 in
+    let none = ap (λ u. count_by (is_unchecked u) new.state.consoles) (still ∙ rest.checked) ∙ none_unchecked new.state.consoles in
+    omega (arith, read, brief, few, none)
+
 -- ---- steps that are given at once
 
 -- they read two slots, and those of the step that follows them

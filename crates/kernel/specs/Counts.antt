@@ -1,7 +1,7 @@
 -- How many slots of the table of processes are read in an event, at most.
 use Rattle.std.specs.Prelude.{◌&&◌, ◌||◌, ◌==◌, not, Bool, false, option_map, count_by, ◌≡◌, ℕ, ◌+◌, ◌*◌, ◌≤◌, if◌then◌else◌, List, [], length, filter, Option, Some, None, is_some}
 use Rattle.posix.specs.declared.event.Event.{Event}
-use Rattle.posix.specs.declared.event.Event.TheVariants.{Step, Tick, Key}
+use Rattle.posix.specs.declared.event.Event.TheVariants.{Step, Tick, Key, Hangup}
 use Rattle.posix.specs.declared.process.Blocked.{Blocked}
 use Rattle.posix.specs.declared.waits.WaitCall.{WaitCall}
 use Rattle.posix.specs.declared.process.Blocked.TheVariants as blocked
@@ -98,11 +98,12 @@ alarms_due s = length (filter (λ r. is_due (s.ticks + 1) r.alarm) s.processes)
 -- sends a signal to one process by its number, or to nobody, seven, a real-time signal nine, and CONT 16, and two for each
 -- child of a process that CONT continues in a wait; and 14, and two for each child, where it attempts a wait and delivers no
 -- signal. A tick reads two for each alarm that is due, a key one, and five for each member of the console's foreground
--- process group.
+-- process group, a hangup four, and two for each such member.
 abbrev pub slots_of_event : Event → State → Option ℕ
 slots_of_event Step s = slots_of_step s (current_process s)
 slots_of_event Tick s = Some (2 * alarms_due s)
 slots_of_event (Key console byte) s = Some (1 + 5 * length (foreground_members console s))
+slots_of_event (Hangup console) s = Some (4 + 2 * length (foreground_members console s))
 
 -- ---- steps that are given at once
 

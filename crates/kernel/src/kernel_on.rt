@@ -273,7 +273,7 @@ impl<K: ProcessTable> KernelOn<K> {
     {
         match event {
             Event::Step => self.steps(last, notes, entries),
-            Event::Tick | Event::Key { .. } => {
+            Event::Tick | Event::Key { .. } | Event::Hangup { .. } => {
                 self.event_into(event, entries);
                 Pid::NONE
             }

@@ -251,6 +251,7 @@ fn happen<K: ProcessTable>(machine: &mut Machine<K>, event: Event, entries: &mut
         Event::Step => step(machine, entries),
         Event::Tick => tick(machine),
         Event::Key { console, byte } => machine.key(console, byte),
+        Event::Hangup { console } => machine.hangup(console),
     }
 }
 

@@ -172,8 +172,8 @@ signalled_read_from s me span (line ∷ rest) = signalled_moved s _ me Read (tak
 signalled_read_in : (s : State) (me : Process) (c : Console) (span : Result Span Errno) → SignalledIf s me (read_in s me c span)
 signalled_read_in s me c (Err why) = tt
 signalled_read_in s me c (Ok span) =
-    signalled_if s me (is_in_background me c) _ _ (signalled_if s me (blocks_or_ignores me TTIN || is_orphaned me.group s.processes) _ _ tt (inl refl))
-    (signalled_if s me (span.count == 0) _ _ tt (signalled_read_from s me span c.lines))
+    signalled_if s me c.hung_up _ _ tt (signalled_if s me (is_in_background me c) _ _ (signalled_if s me (blocks_or_ignores me TTIN || is_orphaned me.group s.processes) _ _ tt (inl refl))
+    (signalled_if s me (span.count == 0) _ _ tt (signalled_read_from s me span c.lines)))
 
 signalled_read_on : (s : State) (me : Process) (c : Option Console) → SignalledIf s me (read_on s me c)
 signalled_read_on s me None = tt
@@ -187,7 +187,7 @@ signalled_write_in : (s : State) (me : Process) (c : Console) (span : Result Spa
 signalled_write_in s me c (Err why) = tt
 signalled_write_in s me c (Ok span) =
     let done = signalled_moved s s me Write (bytes_in span me.cpu.memory) in
-    signalled_if s me c.tostop _ _ (signalled_allowed s me Write c _ done) done
+    signalled_if s me c.hung_up _ _ tt (signalled_if s me c.tostop _ _ (signalled_allowed s me Write c _ done) done)
 
 signalled_write_on : (s : State) (me : Process) (c : Option Console) → SignalledIf s me (write_on s me c)
 signalled_write_on s me None = tt

@@ -2,7 +2,7 @@
 use Rattle.std.proofs.Common.{◌≡◌, ◌≢◌, ℕ, ◌+◌, ◌≤◌, Bool, true, false, cond, refl, ap, sym, ◌∙◌, arith, subst, List, [], ◌∷◌, ◌++◌, append_assoc, append-nil, add-zero, length, Option, Some, None, option_and_then, ◌==◌, inl, inr, ◌⊎◌, ◌<◌}
 use Rattle.std.proofs.lemmas.Bool.{ne_eqb, cases_eq}
 use Rattle.posix.specs.declared.event.Event.{Event}
-use Rattle.posix.specs.declared.event.Event.TheVariants.{Step, Tick, Key}
+use Rattle.posix.specs.declared.event.Event.TheVariants.{Step, Tick, Key, Hangup}
 use Rattle.posix.specs.declared.entry.Entry.{Entry}
 use Rattle.posix.specs.Processes.{Process, first_process, is_zombie, is_stopped}
 use Rattle.posix.specs.Tables.{lookup}
@@ -29,7 +29,7 @@ use Rattle.posix.proofs.WakeLemmas.{next_awake}
 use Rattle.posix.proofs.RegularLemmas.{regular_first}
 use Rattle.laws.proofs.LawfulLemmas.{laws_none}
 use Rattle.laws.proofs.RegularStays.{happens_regular, step_regular}
-use Rattle.laws.proofs.QuietOperations.{quiet_tick, quiet_key, quiet_settle}
+use Rattle.laws.proofs.QuietOperations.{quiet_tick, quiet_key, quiet_hangup, quiet_settle}
 use Rattle.laws.proofs.ToldOutcomes.{IsTold, told_quiet, told_before}
 use Rattle.laws.proofs.QuietLemmas.{quiet_same}
 use Rattle.laws.proofs.AgreeStays.{told_act}
@@ -59,6 +59,7 @@ unfolding happens
 told_happens granted s Step awake i turns = told_step granted s (current s) awake i turns refl
 told_happens granted s Tick awake i turns = told_quiet s _ awake (quiet_tick s)
 told_happens granted s (Key console byte) awake i turns = told_quiet s _ awake (quiet_key s console byte)
+told_happens granted s (Hangup console) awake i turns = told_quiet s _ awake (quiet_hangup s console)
 
 -- and to settle after it
 told_next : (granted : Bool) (s : State) (event : Event) → s.halted ≡ false → IsRegular s → AreTurns s → IsTold s (next granted s event)

@@ -155,9 +155,9 @@ tells_read_from s me span (line ∷ rest) i =
 tells_read_in : (s : State) (me : Process) (c : Console) (span : Result Span Errno) → IsTaking s me → TellsIf s (read_in s me c span)
 tells_read_in s me c (Err why) i = tells_plain s me Read (refusal why) i refl
 tells_read_in s me c (Ok span) i =
-    cond_both (is_in_background me c) _ _ (TellsIf s)
+    cond_both c.hung_up _ _ (TellsIf s) (λ v. tells_plain s me Read (pos 0) i refl) (λ v. cond_both (is_in_background me c) _ _ (TellsIf s)
     (λ t. cond_both (blocks_or_ignores me TTIN || is_orphaned me.group s.processes) _ _ (TellsIf s) (λ u. tells_plain s me Read (refusal EIO) i refl) (λ u. quiet_group TTIN me.group s))
-    (λ t. cond_both (span.count == 0) _ _ (TellsIf s) (λ u. tells_plain s me Read (pos 0) i refl) (λ u. tells_read_from s me span c.lines i))
+    (λ t. cond_both (span.count == 0) _ _ (TellsIf s) (λ u. tells_plain s me Read (pos 0) i refl) (λ u. tells_read_from s me span c.lines i)))
 
 tells_read_on : (s : State) (me : Process) (c : Option Console) → IsTaking s me → TellsIf s (read_on s me c)
 tells_read_on s me None i = tells_plain s me Read (refusal ENOTTY) i refl
@@ -171,7 +171,7 @@ tells_write_in : (s : State) (me : Process) (c : Console) (span : Result Span Er
 tells_write_in s me c (Err why) i = tells_plain s me Write (refusal why) i refl
 tells_write_in s me c (Ok span) i =
     let written = tells_moved s s me Write (bytes_in span me.cpu.memory) i (quiet_same s) refl in
-    cond_both c.tostop _ _ (TellsIf s) (λ t. tells_allowed s me Write c _ i refl written) (λ t. written)
+    cond_both c.hung_up _ _ (TellsIf s) (λ v. tells_plain s me Write (refusal EIO) i refl) (λ v. cond_both c.tostop _ _ (TellsIf s) (λ t. tells_allowed s me Write c _ i refl written) (λ t. written))
 
 tells_write_on : (s : State) (me : Process) (c : Option Console) → IsTaking s me → TellsIf s (write_on s me c)
 tells_write_on s me None i = tells_plain s me Write (refusal ENOTTY) i refl

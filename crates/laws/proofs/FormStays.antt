@@ -7,7 +7,7 @@ use Rattle.posix.specs.declared.call.Call.TheVariants.{Exit, Fork, Waitpid, Wait
 use Rattle.posix.specs.declared.instr.Trap.{Trap}
 use Rattle.posix.specs.declared.instr.Trap.TheVariants as trap
 use Rattle.posix.specs.declared.event.Event.{Event}
-use Rattle.posix.specs.declared.event.Event.TheVariants.{Step, Tick, Key}
+use Rattle.posix.specs.declared.event.Event.TheVariants.{Step, Tick, Key, Hangup}
 use Rattle.posix.specs.declared.errno.Errno.{Errno}
 use Rattle.posix.specs.declared.errno.Errno.TheVariants.{EPERM, ESRCH, EAGAIN, EINVAL, ENOENT, EINTR}
 use Rattle.posix.specs.declared.entry.Entry.{Entry}
@@ -87,7 +87,7 @@ use Rattle.laws.proofs.QuietLemmas.{Untold}
 use Rattle.laws.proofs.AgreeStays.{untold_enter, untold_returned, untold_handles, untold_take_out, untold_set_cpu, untold_executed, untold_out, untold_ids, untold_action, untold_mask, untold_pending, untold_alarm_call}
 use Rattle.laws.proofs.KindLemmas.{and_both, all_get, all_set, all_found, all_same, small_i64, id_i64, cast_i64, rem_i64}
 use Rattle.laws.proofs.KindChanges.{kind_finished, KeepsKind, HasRoom, kind_argument, kind_stopped, kind_take_out, kind_written, kind_set_cpu, kind_child, kind_action, kind_handles, kind_frame, kind_returned, kind_enter, kind_out, kind_told, kind_alarm, kind_grouped, kind_led, kind_credentials, kind_give, kind_holding, kind_set_action, kind_mask, CredentialsIf, kind_setuid, kind_seteuid, kind_setgid, kind_setegid, kind_executed}
-use Rattle.laws.proofs.KindStates.{AllKind, IsThereWithRoom, kinds_changed, kinds_removed, kinds_inserted, kinds_stop_told, kinds_signalled, kinds_queued, kinds_as, kinds_change, kinds_end, end_small, kinds_key, kinds_tick, kinds_settled}
+use Rattle.laws.proofs.KindStates.{AllKind, IsThereWithRoom, kinds_changed, kinds_removed, kinds_inserted, kinds_stop_told, kinds_signalled, kinds_queued, kinds_as, kinds_change, kinds_end, end_small, kinds_key, kinds_hangup, kinds_tick, kinds_settled}
 use Rattle.laws.proofs.FormTerminals.{IsFormed, FormsIf, IsSaying, saying_kind, number_there, saying_number, group_there, refusal_i64, refusal_below, form_called, kinds_finished, form_gives, form_plain, form_answers, form_setctty, form_tcgetpgrp, form_tcsetpgrp, form_settostop, form_read, form_write}
 
 -- news of a stop or of a continue have a word
@@ -731,6 +731,7 @@ unfolding happens
 form_happens granted s Step b i k = form_step granted s (current s) i k
 form_happens granted s Tick b i k = silent_formed _ (kinds_tick s k)
 form_happens granted s (Key console byte) b i k = silent_formed _ (kinds_key s console byte b k)
+form_happens granted s (Hangup console) b i k = silent_formed _ (kinds_hangup s console k)
 
 form_next : (granted : Bool) (s : State) (event : Event) → IsEvent event → IsRegular s → AreKinds s → IsFormed (next granted s event)
 form_next granted s event b i k = by s.halted refl

@@ -265,10 +265,10 @@ form_read_in : (s : State) (me : Process) (c : Console) (span : Result Span Errn
 form_read_in s me c (Err why) k e i = form_plain s me Read (refusal why) i (refusal_i64 why) (refusal_below why)
 form_read_in s me c (Ok span) k e i =
     let p = and_parts (is_id c.foreground) (list_all (list_all is_byte) c.lines && list_all is_byte c.edited) k in
-    cond_both (is_in_background me c) _ _ FormsIf
+    cond_both c.hung_up _ _ FormsIf (λ v. form_plain s me Read (pos 0) i refl refl) (λ v. cond_both (is_in_background me c) _ _ FormsIf
     (λ t. cond_both (blocks_or_ignores me TTIN || is_orphaned me.group s.processes) _ _ FormsIf (λ u. form_plain s me Read (refusal EIO) i refl refl) (λ u. kinds_again s TTIN me.group refl i.kinds))
     (λ t. cond_both (span.count == 0) _ _ FormsIf (λ u. form_plain s me Read (pos 0) i refl refl)
-    (λ u. form_read_from s me span c.lines (and_parts (list_all (list_all is_byte) c.lines) (list_all is_byte c.edited) p.1).0 (span_few (argument me 1) (argument me 2) span e) i))
+    (λ u. form_read_from s me span c.lines (and_parts (list_all (list_all is_byte) c.lines) (list_all is_byte c.edited) p.1).0 (span_few (argument me 1) (argument me 2) span e) i)))
 
 form_read_on : (s : State) (me : Process) (c : Option Console) → terminal s me ≡ c → IsSaying s me → FormsIf (read_on s me c)
 form_read_on s me None e i = form_plain s me Read (refusal ENOTTY) i refl refl
@@ -302,7 +302,7 @@ form_write_in s me c (Ok span) e i =
     let few = span_few (argument me 1) (argument me 2) span e in
     let count = bytes_few span me.cpu.memory in
     let written = form_moved s s me Write (bytes_in span me.cpu.memory) i i.kinds refl refl (omega (arith, few, count)) (bytes_kind span me.cpu.memory) in
-    cond_both c.tostop _ _ FormsIf (λ t. form_allowed s me Write c _ i refl written) (λ t. written)
+    cond_both c.hung_up _ _ FormsIf (λ v. form_plain s me Write (refusal EIO) i refl refl) (λ v. cond_both c.tostop _ _ FormsIf (λ t. form_allowed s me Write c _ i refl written) (λ t. written))
 
 form_write_on : (s : State) (me : Process) (c : Option Console) → IsSaying s me → FormsIf (write_on s me c)
 form_write_on s me None i = form_plain s me Write (refusal ENOTTY) i refl refl

@@ -1,5 +1,5 @@
 -- States keep the kinds of their parts.
-use Rattle.std.proofs.Common.{◌≡◌, ◌≢◌, ℕ, zero, suc, ◌+◌, ◌-◌, ◌%◌, ◌≤◌, ◌<◌, true, false, cond, not, ◌&&◌, ◌==◌, refl, ap, sym, ◌∙◌, arith, subst, List, [], ◌∷◌, ◌++◌, map, filter, length, Option, Some, None, pos, nat_le, nat_lt, inl, inr}
+use Rattle.std.proofs.Common.{Bool, ◌≡◌, ◌≢◌, ℕ, zero, suc, ◌+◌, ◌-◌, ◌%◌, ◌≤◌, ◌<◌, true, false, cond, not, ◌&&◌, ◌==◌, refl, ap, sym, ◌∙◌, arith, subst, List, [], ◌∷◌, ◌++◌, map, filter, length, Option, Some, None, pos, nat_le, nat_lt, inl, inr}
 use Rattle.std.specs.List.{list_all, AllByRecursion}
 use Rattle.std.proofs.lemmas.Bool.{cond_both, and_parts, leb-true, eqb-true, ne_eqb, or_cases, cases_eq}
 use Rattle.std.proofs.lemmas.Bool.Decides.{nat_tests}
@@ -16,7 +16,7 @@ use Rattle.posix.specs.Outcomes.{Outcome}
 use Rattle.posix.specs.States.{State, change, current}
 use Rattle.posix.proofs.NoticeLemmas.{only_notice, only_told}
 use Rattle.laws.proofs.QuietOperations.{quiet_hung_up}
-use Rattle.posix.specs.Consoles.{Console, console_of, console_at, with_console, changed_at, changed_console, edit, finish_line, erased, with_byte, key_signal, keyed_by, keyed, flushed, has_room, lines_left, line_taken, released, with_foreground, most_edited}
+use Rattle.posix.specs.Consoles.{Console, console_of, console_at, with_console, changed_at, changed_console, edit, finish_line, erased, with_byte, key_signal, signal_typed, is_told, disconnected, keyed_by, keyed, flushed, has_room, lines_left, line_taken, released, with_foreground, most_edited}
 use Rattle.posix.specs.Generation.{effect_of, signalled}
 use Rattle.posix.specs.Choice.{from_kernel}
 use Rattle.posix.specs.Notices.{child_signal, noticed, noticed_of_change, told_of_change, resumed, acted_upon, generated_for, signalled_all}
@@ -27,7 +27,7 @@ use Rattle.posix.proofs.HeirLemmas.{heir_inherits}
 use Rattle.posix.specs.Ends.{ended, made_zombie, halt, leave_children_and_die, zombies_of, tell_of_all, status_of, is_dropping, drop_child, notice_of_end, signalled_members, signalled_group, hup_and_cont, hup_and_cont_all, hup_and_cont_orphans, hung_up, hang_up, end_process}
 use Rattle.posix.specs.Alarms.{ring_at, ring_all, pass_time}
 use Rattle.posix.specs.Settle.{is_fresh, refreshed, give_places, clear_foregrounds, settle}
-use Rattle.posix.specs.Step.{signalled_from, key_on, key, rotate, tick}
+use Rattle.posix.specs.Step.{signalled_from, key_on, key, hangup_on, hangup, rotate, tick}
 use Rattle.posix.specs.Terminals.{terminal}
 use Rattle.laws.specs.TraceLines.{is_i64}
 use Rattle.laws.specs.Kinds.{is_id, is_byte, is_carried, is_console, IsKind, IsWorld, AreKinds}
@@ -300,7 +300,7 @@ kind_edit byte c k h =
 
 kind_keyed : (byte : ℕ) (c : Console) → is_byte byte ≡ true → is_console c ≡ true → is_console (keyed byte c) ≡ true
 unfolding keyed flushed
-kind_keyed byte c k h = by (key_signal byte)
+kind_keyed byte c k h = cond_both c.hung_up c (keyed_by (key_signal byte) byte c) (λ d. is_console d ≡ true) (λ e. h) (λ e. by (key_signal byte))
   where
     by : (o : Option ℕ) → is_console (keyed_by o byte c) ≡ true
     by None = kind_edit byte c k h
@@ -323,6 +323,34 @@ kinds_from : (o : Option ℕ) (group : ℕ) (rs : List Process) → ((n : ℕ) �
 kinds_from None group rs standard h = h
 kinds_from (Some n) group rs standard h = kinds_group n group rs (standard n refl) h
 
+standard_typed : (byte : ℕ) (c : Console) (n : ℕ) → signal_typed byte c ≡ Some n → is_realtime n ≡ false
+unfolding signal_typed
+standard_typed byte c n e = by c.hung_up e
+  where
+    by : (b : Bool) → cond b None (key_signal byte) ≡ Some n → is_realtime n ≡ false
+    by true e = cc
+    by false e = (key_standard byte n e).0
+
+kind_disconnected : (c : Console) → is_console c ≡ true → is_console (disconnected c) ≡ true
+unfolding disconnected flushed
+kind_disconnected c h = cond_both c.hung_up c (record (flushed c) { hung_up = not (c.session == 0) }) (λ d. is_console d ≡ true) (λ e. h) (λ e. and_both (is_id c.foreground) _ (and_parts (is_id c.foreground) _ h).0 refl)
+
+pub kinds_hangup : (s : State) (console : ℕ) → AreKinds s → AreKinds (hangup s console)
+unfolding hangup
+kinds_hangup s console h = on (console_at console s.consoles) refl
+  where
+    put : (n : ℕ) (c : Console) → console_at n s.consoles ≡ Some c → list_all is_console (with_console n (disconnected c) s.consoles) ≡ true
+    put zero c e = absurd (cc)
+    put (suc i) c e = all_set is_console s.consoles i (disconnected c) h.consoles (kind_disconnected c (all_found is_console s.consoles i c h.consoles e))
+
+    on : (o : Option Console) → console_at console s.consoles ≡ o → AreKinds (hangup_on s console o)
+    on None e = h
+    on (Some c) e = record {
+      world = h.world;
+      records = cond_both (is_told c) (signalled_all (record { sig = HUP; carried = from_kernel }) (c.session ∷ []) s.processes) s.processes AllKind (λ t. kinds_signalled (record { sig = HUP; carried = from_kernel }) refl refl (c.session ∷ []) s.processes h.records) (λ t. h.records);
+      consoles = put console c e;
+    }
+
 pub kinds_key : (s : State) (console byte : ℕ) → byte < 256 → AreKinds s → AreKinds (key s console byte)
 unfolding key
 kinds_key s console byte small h = on (console_at console s.consoles) refl
@@ -336,7 +364,7 @@ kinds_key s console byte small h = on (console_at console s.consoles) refl
 
     on : (o : Option Console) → console_at console s.consoles ≡ o → AreKinds (key_on s console byte o)
     on None e = h
-    on (Some c) e = record { world = h.world; records = kinds_from (key_signal byte) c.foreground s.processes (λ n given. (key_standard byte n given).0) h.records; consoles = put console c e }
+    on (Some c) e = record { world = h.world; records = kinds_from (signal_typed byte c) c.foreground s.processes (standard_typed byte c) h.records; consoles = put console c e }
 
 -- ---- ticks, and to settle
 

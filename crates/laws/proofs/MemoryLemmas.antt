@@ -7,7 +7,7 @@ use Rattle.posix.specs.declared.call.Call.TheVariants.{Fork, Kill, Sigqueue}
 use Rattle.posix.specs.declared.instr.Trap.{Trap}
 use Rattle.posix.specs.declared.instr.Trap.TheVariants as trap
 use Rattle.posix.specs.declared.event.Event.{Event}
-use Rattle.posix.specs.declared.event.Event.TheVariants.{Step, Tick, Key}
+use Rattle.posix.specs.declared.event.Event.TheVariants.{Step, Tick, Key, Hangup}
 use Rattle.posix.specs.declared.entry.Entry.{Entry}
 use Rattle.posix.specs.declared.entry.Entry.TheVariants.{NoMemory}
 use Rattle.posix.specs.declared.process.Blocked.{Blocked}
@@ -116,6 +116,7 @@ unfolding happens
 granted_happens granted s Step = granted_step granted s (current_process s)
 granted_happens granted s Tick = inl refl
 granted_happens granted s (Key console byte) = inl refl
+granted_happens granted s (Hangup console) = inl refl
 
 -- to settle shows nothing
 granted_settled : (o all : Outcome) → AsGranted o all → AsGranted (settled o) (settled all)

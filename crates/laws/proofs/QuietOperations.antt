@@ -13,14 +13,14 @@ use Rattle.posix.specs.Statuses.{continued}
 use Rattle.posix.specs.Processes.{Process, Signals, is_zombie, is_running, is_stopped, is_living}
 use Rattle.posix.specs.Tables.{IsRising, lookup, changed, pids, members_in}
 use Rattle.posix.specs.States.{State, change, is_in, without, lose_place, go_last, current}
-use Rattle.posix.specs.Consoles.{Console, console_at, console_of, key_signal}
+use Rattle.posix.specs.Consoles.{Console, console_at, console_of, signal_typed, is_told}
 use Rattle.posix.specs.Generation.{has_sig, is_pending, with_pending, with_queue, make_pending, gets_no_signals, keeps, without_stops, after_discards, generated, effect_of, signalled}
 use Rattle.posix.specs.Choice.{from_kernel, chosen}
 use Rattle.posix.specs.Notices.{child_signal, ignores_children, noticed, ignores_stops, noticed_of_change, told_of_change, resumed, acted_upon, generated_for, signalled_all}
 use Rattle.posix.specs.Ends.{signalled_members, signalled_group, hup_and_cont, hup_and_cont_all, hung_up, hang_up, is_dropping, drop_child, notice_of_end, tell_of_all, status_of}
 use Rattle.posix.specs.Alarms.{is_due, with_alarm, rung, ring_at, ring_all, pass_time}
 use Rattle.posix.specs.Settle.{can_go_on, can_act, wakes, give_places, clear_foregrounds, settle}
-use Rattle.posix.specs.Step.{signalled_from, key_on, key, rotate, tick}
+use Rattle.posix.specs.Step.{signalled_from, key_on, key, with_leader_told, hangup_on, hangup, rotate, tick}
 use Rattle.posix.proofs.MemberLemmas.{in_append, is_other, in_last}
 use Rattle.posix.proofs.TableLemmas.{Above, lookup_changed}
 use Rattle.posix.proofs.WalkLemmas.{in_filter, pid_found}
@@ -250,7 +250,19 @@ quiet_key s console byte = on (console_at console s.consoles)
 
     on : (c : Option Console) → Quiet s (key_on s console byte c)
     on None = quiet_same s
-    on (Some c) = let one = record s { processes = signalled_from (key_signal byte) c.foreground s.processes } in quiet_then s one _ (from (key_signal byte) c.foreground) (quiet_as one _ refl refl refl refl refl)
+    on (Some c) = let one = record s { processes = signalled_from (signal_typed byte c) c.foreground s.processes } in quiet_then s one _ (from (signal_typed byte c) c.foreground) (quiet_as one _ refl refl refl refl refl)
+
+pub quiet_hangup : (s : State) (console : ℕ) → Quiet s (hangup s console)
+unfolding hangup
+quiet_hangup s console = on (console_at console s.consoles)
+  where
+    on : (c : Option Console) → Quiet s (hangup_on s console c)
+    on None = quiet_same s
+    on (Some c) =
+        let one = record s { processes = with_leader_told c s.processes } in
+        let told : Quiet s one = cond_both (is_told c) (signalled_all (record { sig = HUP; carried = from_kernel }) (c.session ∷ []) s.processes) s.processes (λ rs. Quiet s (record s { processes = rs }))
+        (λ t. quiet_signalled (record { sig = HUP; carried = from_kernel }) (c.session ∷ []) s) (λ t. quiet_same s) in
+        quiet_then s one _ told (quiet_as one _ refl refl refl refl refl)
 
 -- who can act runs, or has KILL pending
 act_runs : (s : State) (r : Process) → can_act s r ≡ true → is_stopped r.life ≡ true → is_pending r.signals KILL ≡ true

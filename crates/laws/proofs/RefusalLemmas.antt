@@ -7,7 +7,7 @@ use Rattle.posix.specs.declared.call.Call.TheVariants.{Exit, Fork, Waitpid, Wait
 use Rattle.posix.specs.declared.instr.Trap.{Trap}
 use Rattle.posix.specs.declared.instr.Trap.TheVariants as trap
 use Rattle.posix.specs.declared.event.Event.{Event}
-use Rattle.posix.specs.declared.event.Event.TheVariants.{Step, Tick, Key}
+use Rattle.posix.specs.declared.event.Event.TheVariants.{Step, Tick, Key, Hangup}
 use Rattle.posix.specs.declared.errno.Errno.{Errno}
 use Rattle.posix.specs.declared.errno.Errno.TheVariants.{EPERM, ENOENT, ESRCH, EINTR, EAGAIN, EINVAL}
 use Rattle.posix.specs.declared.entry.Entry.{Entry}
@@ -522,6 +522,7 @@ unfolding happens
 told_happens granted s Step = told_step granted s (current s) refl
 told_happens granted s Tick = tt
 told_happens granted s (Key console byte) = tt
+told_happens granted s (Hangup console) = tt
 
 -- the state before all are asked, and what an entry tells of it
 record Unsettled (granted : Bool) (s new : State) (e : Entry) : Type 0 where

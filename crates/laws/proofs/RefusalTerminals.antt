@@ -157,9 +157,9 @@ explained_read_from C s me span (line ∷ rest) = explained_moved C s _ me.pid R
 explained_read_in : (C : Terms) (s : State) (me : Process) (c : Console) (span : Result Span Errno) → ExplainedIf C s me.pid (read_in s me c span)
 explained_read_in C s me c (Err why) = explained_refused C s me.pid Read why
 explained_read_in C s me c (Ok span) =
-    explained_if C s me.pid (is_in_background me c) _ _
+    explained_if C s me.pid c.hung_up _ _ (tt, tt) (explained_if C s me.pid (is_in_background me c) _ _
     (explained_if C s me.pid (blocks_or_ignores me TTIN || is_orphaned me.group s.processes) _ _ (explained_refused C s me.pid Read EIO) tt)
-    (explained_if C s me.pid (span.count == 0) _ _ (tt, tt) (explained_read_from C s me span c.lines))
+    (explained_if C s me.pid (span.count == 0) _ _ (tt, tt) (explained_read_from C s me span c.lines)))
 
 explained_read_on : (C : Terms) (s : State) (me : Process) (c : Option Console) → ExplainedIf C s me.pid (read_on s me c)
 explained_read_on C s me None = explained_refused C s me.pid Read ENOTTY
@@ -173,7 +173,7 @@ explained_write_in : (C : Terms) (s : State) (me : Process) (c : Console) (span 
 explained_write_in C s me c (Err why) = explained_refused C s me.pid Write why
 explained_write_in C s me c (Ok span) =
     let done = explained_moved C s s me.pid Write (bytes_in span me.cpu.memory) refl in
-    explained_if C s me.pid c.tostop _ _ (explained_allowed C s me Write c _ done) done
+    explained_if C s me.pid c.hung_up _ _ (explained_refused C s me.pid Write EIO) (explained_if C s me.pid c.tostop _ _ (explained_allowed C s me Write c _ done) done)
 
 explained_write_on : (C : Terms) (s : State) (me : Process) (c : Option Console) → ExplainedIf C s me.pid (write_on s me c)
 explained_write_on C s me None = explained_refused C s me.pid Write ENOTTY

@@ -8,7 +8,7 @@ use Rattle.posix.specs.declared.call.Call.TheVariants.{Exit, Fork, Waitpid, Wait
 use Rattle.posix.specs.declared.instr.Trap.{Trap}
 use Rattle.posix.specs.declared.instr.Trap.TheVariants as trap
 use Rattle.posix.specs.declared.event.Event.{Event}
-use Rattle.posix.specs.declared.event.Event.TheVariants.{Step, Tick, Key}
+use Rattle.posix.specs.declared.event.Event.TheVariants.{Step, Tick, Key, Hangup}
 use Rattle.posix.specs.declared.errno.Errno.{Errno}
 use Rattle.posix.specs.declared.errno.Errno.TheVariants.{EPERM, ESRCH, EAGAIN, EINVAL, ENOENT}
 use Rattle.posix.specs.declared.entry.Entry.{Entry}
@@ -75,7 +75,7 @@ use Rattle.posix.proofs.NextLemmas.{new_number}
 use Rattle.posix.proofs.SettleLemmas.{wakes_placed}
 use Rattle.posix.proofs.CountLemmas.{next_halted}
 use Rattle.posix.proofs.WakeLemmas.{next_awake}
-use Rattle.posix.proofs.ConsoleLemmas.{regular_cleared, regular_hung_up, regular_key}
+use Rattle.posix.proofs.ConsoleLemmas.{regular_cleared, regular_hung_up, regular_key, regular_hangup}
 use Rattle.posix.proofs.WaitLemmas.{by_wait}
 use Rattle.laws.proofs.WokenLemmas.{given_places, distinct_given, all_wake}
 use Rattle.laws.proofs.RegularTerminals.{RegularIf, keeps_finished, regular_answers, regular_gives, regular_setctty, regular_tcgetpgrp, regular_tcsetpgrp, regular_settostop, regular_read, regular_write}
@@ -610,6 +610,7 @@ unfolding happens tick
 happens_regular granted s Step i awake = regular_step granted s (current s) i refl
 happens_regular granted s Tick i awake = regular_tick s (current s) i refl
 happens_regular granted s (Key console byte) i awake = regular_key s console byte i
+happens_regular granted s (Hangup console) i awake = regular_hangup s console i
 
 -- ---- to settle
 

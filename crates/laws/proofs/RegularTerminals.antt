@@ -139,9 +139,9 @@ regular_read_from s me span (line ∷ rest) i =
 regular_read_in : (s : State) (me : Process) (c : Console) (span : Result Span Errno) → IsRegular s → RegularIf (read_in s me c span)
 regular_read_in s me c (Err why) i = regular_gives s me.pid Read (refusal why) i
 regular_read_in s me c (Ok span) i =
-    cond_both (is_in_background me c) _ _ RegularIf
+    cond_both c.hung_up _ _ RegularIf (λ v. regular_gives s me.pid Read (pos 0) i) (λ v. cond_both (is_in_background me c) _ _ RegularIf
     (λ t. cond_both (blocks_or_ignores me TTIN || is_orphaned me.group s.processes) _ _ RegularIf (λ u. regular_gives s me.pid Read (refusal EIO) i) (λ u. regular_signalled_group TTIN me.group s i))
-    (λ t. cond_both (span.count == 0) _ _ RegularIf (λ u. regular_gives s me.pid Read (pos 0) i) (λ u. regular_read_from s me span c.lines i))
+    (λ t. cond_both (span.count == 0) _ _ RegularIf (λ u. regular_gives s me.pid Read (pos 0) i) (λ u. regular_read_from s me span c.lines i)))
 
 regular_read_on : (s : State) (me : Process) (c : Option Console) → IsRegular s → RegularIf (read_on s me c)
 regular_read_on s me None i = regular_gives s me.pid Read (refusal ENOTTY) i
@@ -155,7 +155,7 @@ regular_write_in : (s : State) (me : Process) (c : Console) (span : Result Span 
 regular_write_in s me c (Err why) i = regular_gives s me.pid Write (refusal why) i
 regular_write_in s me c (Ok span) i =
     let written = regular_bytes s me.pid Write (bytes_in span me.cpu.memory) i in
-    cond_both c.tostop _ _ RegularIf (λ t. regular_allowed s me Write c _ i written) (λ t. written)
+    cond_both c.hung_up _ _ RegularIf (λ v. regular_gives s me.pid Write (refusal EIO) i) (λ v. cond_both c.tostop _ _ RegularIf (λ t. regular_allowed s me Write c _ i written) (λ t. written))
 
 regular_write_on : (s : State) (me : Process) (c : Option Console) → IsRegular s → RegularIf (write_on s me c)
 regular_write_on s me None i = regular_gives s me.pid Write (refusal ENOTTY) i

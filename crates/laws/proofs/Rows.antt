@@ -2,19 +2,19 @@
 use Rattle.std.specs.Prelude.{Some, ℕ, ◌≡◌, ◌==◌, if◌then◌else◌, ◌+◌, Bool, true, false, refl, List, [], ◌∷◌, ◌++◌, replicate, Option, None, pos, negsuc, codes}
 use Rattle.std.specs.Fmt.{digits}
 use Rattle.posix.specs.declared.event.Event.{Event}
-use Rattle.posix.specs.declared.event.Event.TheVariants.{Step, Tick, Key}
+use Rattle.posix.specs.declared.event.Event.TheVariants.{Step, Tick, Key, Hangup}
 use Rattle.posix.specs.declared.waits.WaitCall.TheVariants as wait
 use Rattle.posix.specs.declared.entry.Entry.TheVariants.{Noted, Called, Moved, Reported, Looked, NoMemory, Marked, Handled, Discarded, Stopped, Returned, Ended, Halted}
 use Rattle.posix.specs.declared.instr.Instr.{Instr}
 use Rattle.posix.specs.declared.instr.Instr.TheVariants.{Set, Compute, Jump, JumpIf, Note, Sys}
 use Rattle.posix.specs.declared.instr.Operator.TheVariants.{Div, Rem}
 use Rattle.posix.specs.declared.instr.Condition.TheVariants.{Zero}
-use Rattle.posix.specs.declared.call.Call.TheVariants.{Exit, Fork, Waitpid, Waitid, Pause, SchedYield, Getpid, Setuid, Kill, Sigqueue, Sigaction, Sigprocmask, Sigpending, Sigsuspend, Sigreturn, Alarm, Exec, Setpgid, Setsid, Geteuid, Getuid, Setctty, Tcgetpgrp, Tcsetpgrp, Read, Subreaper}
+use Rattle.posix.specs.declared.call.Call.TheVariants.{Exit, Fork, Waitpid, Waitid, Pause, SchedYield, Getpid, Setuid, Kill, Sigqueue, Sigaction, Sigprocmask, Sigpending, Sigsuspend, Sigreturn, Alarm, Exec, Setpgid, Setsid, Geteuid, Getuid, Setctty, Tcgetpgrp, Tcsetpgrp, Read, Write, Subreaper}
 use Rattle.posix.specs.Processes.{nothing_pending, default_actions, zero_registers, zero_memory}
 use Rattle.posix.specs.Numbers.{with_number}
 use Rattle.posix.specs.Tables.{lookup, changed, inserted, removed, children_in, adopted, members_in}
 use Rattle.posix.specs.NextPid.{is_free, next_free}
-use Rattle.posix.specs.Consoles.{waiting, has_room, finish_line, erased, with_byte, edit, key_signal, flushed, keyed, line_taken, acquired, released, with_foreground, with_tostop, console_of, changed_console}
+use Rattle.posix.specs.Consoles.{waiting, has_room, finish_line, erased, with_byte, edit, key_signal, signal_typed, disconnected, flushed, keyed, line_taken, acquired, released, with_foreground, with_tostop, console_of, changed_console}
 use Rattle.posix.specs.Transfers.{stored, bytes_in}
 use Rattle.posix.specs.States.{Program, World, State, boot, is_in, without}
 use Rattle.posix.specs.Entries.{Line, line, numbered}
@@ -40,7 +40,7 @@ use Rattle.posix.specs.GroupCalls.{is_group_of, getpgid, getsid, in_group, setpg
 use Rattle.posix.specs.Terminals.{setctty, tcgetpgrp, tcsetpgrp, settostop, with_bytes, read, write}
 use Rattle.posix.specs.Attempts.{attempt, attempt_again}
 use Rattle.posix.specs.Settle.{can_act, give_places, clear_foregrounds, settle}
-use Rattle.posix.specs.Step.{set_cpu, enter, after_trap, out_of_call, act_in, act, step, tick, key, happens, next}
+use Rattle.posix.specs.Step.{set_cpu, enter, after_trap, out_of_call, act_in, act, step, tick, key, hangup, happens, next}
 use Rattle.posix.specs.Printing.{hex, print}
 
 abbrev pub program : Option ℕ → Option ℕ → List Instr → Program
@@ -61,7 +61,7 @@ trace w events = trace_from 1 (boot w) (λ k. true) events
 
 -- opens every definition of an operation
 unfoldable pub everything : Unit {0}
-unfolding nothing_pending default_actions zero_registers zero_memory exec_one digits lookup changed inserted removed children_in adopted members_in is_free next_free is_in without finished written setuid seteuid setgid setegid without_stops generated effect_of signalled noticed_of_change told_of_change stopped_by resumed signalled_all with_number is_anchor is_orphaned group_numbers has_stopped is_newly_orphaned newly_orphaned least_ready chosen first_carried without_first taken discarded entered at_handler handles returned set_action set_mask child_of fork_as ended made_zombie noticed notice_of_end zombies_of tell_of_all signalled_members hup_and_cont_all hang_up end_process nearest_marked marked_as subreaper report_of report news_told asked wait_by handle stop_process take_out deliver fault return_from_handler targets permitted sending queuers queuers_among sending_granted sent_among sent kill sigqueue give_credentials give_signals sigaction sigprocmask set_of pending_set sigpending attempt attempt_again can_act give_places clear_foregrounds settle set_cpu enter after_trap out_of_call act_in act step with_alarm rung ring_all alarm executed exec is_group_of getpgid getsid in_group setpgid in_session setsid waiting has_room finish_line erased with_byte edit key_signal flushed keyed line_taken acquired released with_foreground with_tostop console_of changed_console stored bytes_in setctty tcgetpgrp tcsetpgrp settostop with_bytes read write tick key happens next hex
+unfolding nothing_pending default_actions zero_registers zero_memory exec_one digits lookup changed inserted removed children_in adopted members_in is_free next_free is_in without finished written setuid seteuid setgid setegid without_stops generated effect_of signalled noticed_of_change told_of_change stopped_by resumed signalled_all with_number is_anchor is_orphaned group_numbers has_stopped is_newly_orphaned newly_orphaned least_ready chosen first_carried without_first taken discarded entered at_handler handles returned set_action set_mask child_of fork_as ended made_zombie noticed notice_of_end zombies_of tell_of_all signalled_members hup_and_cont_all hang_up end_process nearest_marked marked_as subreaper report_of report news_told asked wait_by handle stop_process take_out deliver fault return_from_handler targets permitted sending queuers queuers_among sending_granted sent_among sent kill sigqueue give_credentials give_signals sigaction sigprocmask set_of pending_set sigpending attempt attempt_again can_act give_places clear_foregrounds settle set_cpu enter after_trap out_of_call act_in act step with_alarm rung ring_all alarm executed exec is_group_of getpgid getsid in_group setpgid in_session setsid waiting has_room finish_line erased with_byte edit key_signal signal_typed disconnected flushed keyed line_taken acquired released with_foreground with_tostop console_of changed_console stored bytes_in setctty tcgetpgrp tcsetpgrp settostop with_bytes read write tick key hangup happens next hex
 everything = tt
 
 abbrev pub note_and_exit : World
@@ -302,3 +302,9 @@ row_reused_number_is_not_the_old_foreground : trace (world 3 1 (program None Non
     ≡ line 1 (Called 1 Fork (pos 2)) ∷ line 5 (Called 2 Setsid (pos 2)) ∷ line 7 (Called 2 Setctty (pos 0)) ∷ line 8 (Called 2 Fork (pos 3)) ∷ line 12 (Called 2 Setpgid (pos 0)) ∷ line 13 (Called 2 Tcsetpgrp (pos 0)) ∷ line 17 (Ended 3 256) ∷ line 18 (Reported 2 wait.Waitpid 3 256) ∷ line 19 (Called 2 Fork (pos 3)) ∷ line 23 (Called 2 Setpgid (pos 0)) ∷ line 24 (Called 2 Tcgetpgrp (pos 4)) ∷ []
 unfolding everything
 row_reused_number_is_not_the_old_foreground = refl
+
+-- a hangup wakes the reader, whose next read finds the end of file, and whose write is refused
+row_hangup : trace (world 40 1 (program None None (Sys Fork ∷ JumpIf Zero 0 20 ∷ Set 1 (negsuc 0) ∷ Sys Waitpid ∷ Sys Setsid ∷ Set 1 (pos 1) ∷ Sys Setctty ∷ Set 1 (pos 1) ∷ Set 2 (pos 32) ∷ Sys Sigaction ∷ Set 1 (pos 0) ∷ Set 2 (pos 16) ∷ Sys Read ∷ Sys Read ∷ Sys Write ∷ Sys Exit ∷ Sys Sigreturn ∷ []) ∷ [])) (replicate 14 Step ++ Hangup 1 ∷ [] ++ replicate 7 Step)
+    ≡ line 1 (Called 1 Fork (pos 2)) ∷ line 6 (Called 2 Setsid (pos 2)) ∷ line 8 (Called 2 Setctty (pos 0)) ∷ line 11 (Called 2 Sigaction (pos 0)) ∷ line 16 (Called 2 Read (pos 0)) ∷ line 17 (Handled 2 1 (pos 0) 0) ∷ line 18 (Returned 2) ∷ line 19 (Called 2 Read (pos 0)) ∷ line 20 (Called 2 Write (negsuc 4)) ∷ line 21 (Ended 2 0) ∷ line 22 (Reported 1 wait.Waitpid 2 0) ∷ []
+unfolding everything
+row_hangup = refl

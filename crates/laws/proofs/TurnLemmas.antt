@@ -3,7 +3,7 @@ use Rattle.std.proofs.Common.{◌≡◌, ◌≢◌, ℕ, zero, suc, add-zero, ap
 use Rattle.std.proofs.lemmas.Bool.{eqb-true, eq-eqb, ne_eqb, or_left}
 use Rattle.std.proofs.lemmas.List.Sums.{sum_by-cons}
 use Rattle.posix.specs.declared.event.Event.{Event}
-use Rattle.posix.specs.declared.event.Event.TheVariants.{Step, Tick, Key}
+use Rattle.posix.specs.declared.event.Event.TheVariants.{Step, Tick, Key, Hangup}
 use Rattle.posix.specs.declared.entry.Entry.{Entry}
 use Rattle.posix.specs.Processes.{Process}
 use Rattle.posix.specs.Tables.{lookup}
@@ -13,7 +13,7 @@ use Rattle.posix.specs.Consoles.{Console, console_at}
 use Rattle.posix.specs.Outcomes.{Outcome}
 use Rattle.posix.specs.Settle.{settle}
 use Rattle.posix.specs.Alarms.{pass_time}
-use Rattle.posix.specs.Step.{IsStep, next, happens, step, tick, rotate, key, key_on}
+use Rattle.posix.specs.Step.{IsStep, next, happens, step, tick, rotate, key, key_on, hangup, hangup_on}
 use Rattle.posix.specs.Entries.{Line, numbered}
 use Rattle.posix.specs.Runs.{RunsFrom}
 use Rattle.laws.specs.Turns.{places_before, is_tick, ticks_in, HasTurn}
@@ -57,12 +57,18 @@ turned_key : (s : State) (console byte : ℕ) (c : Option Console) → FirstTurn
 turned_key s console byte None = inl refl
 turned_key s console byte (Some c) = inl refl
 
+-- nor a hangup
+turned_hangup : (s : State) (console : ℕ) (c : Option Console) → FirstTurned s.order (hangup_on s console c).order
+turned_hangup s console None = inl refl
+turned_hangup s console (Some c) = inl refl
+
 -- before places are given an event turns nobody but the current process
 pub turned_first : (granted : Bool) (s : State) (event : Event) → FirstTurned s.order (happens granted s event).state.order
-unfolding happens tick key
+unfolding happens tick key hangup
 turned_first granted s Step = turned_step granted s (current s) refl
 turned_first granted s Tick = turned_rotate s (current s) refl
 turned_first granted s (Key console byte) = turned_key s console byte (console_at console s.consoles)
+turned_first granted s (Hangup console) = turned_hangup s console (console_at console s.consoles)
 
 -- one other than q may have turned
 abbrev OtherTurned : ℕ → List ℕ → List ℕ → Type 0
@@ -258,6 +264,9 @@ enough old new Step entries events h awake q e ne l =
     omega (arith, n, l)
 enough old new (Key console byte) entries events h awake q e ne l =
     let n = place_nears old new (Key console byte) entries h q e ne in
+    omega (arith, n, l)
+enough old new (Hangup console) entries events h awake q e ne l =
+    let n = place_nears old new (Hangup console) entries h q e ne in
     omega (arith, n, l)
 enough old new Tick entries events h awake q e ne l =
     let n = tick_lessens h.granted old q awake e ne in

@@ -2,7 +2,7 @@
 use Rattle.std.specs.Prelude.{◌≡◌, ℕ, ◌≤◌, ◌<◌, ◌&&◌, Bool, true, Option, Some, None, length, nat_le, nat_lt}
 use Rattle.std.specs.List.{list_all}
 use Rattle.posix.specs.declared.event.Event.{Event}
-use Rattle.posix.specs.declared.event.Event.TheVariants.{Step, Tick, Key}
+use Rattle.posix.specs.declared.event.Event.TheVariants.{Step, Tick, Key, Hangup}
 use Rattle.posix.specs.declared.ids.Ids.{Ids}
 use Rattle.posix.specs.declared.instr.Instr.{Instr}
 use Rattle.posix.specs.declared.instr.Instr.TheVariants.{Set, Move, Compute, Load, Store, Jump, JumpIf, Note, Sys}
@@ -127,3 +127,4 @@ abbrev pub IsEvent : Event → Type 0
 IsEvent Step = Unit {0}
 IsEvent Tick = Unit {0}
 IsEvent (Key console byte) = byte < 256
+IsEvent (Hangup console) = Unit {0}

@@ -1,7 +1,7 @@
 -- Who has a place, and how long a process waits for its turn.
 use Rattle.std.specs.Prelude.{◌≡◌, ℕ, ◌+◌, ◌==◌, Bool, true, false, if◌then◌else◌, List, [], ◌∷◌, ◌++◌, length, count_by, Some}
 use Rattle.posix.specs.declared.event.Event.{Event}
-use Rattle.posix.specs.declared.event.Event.TheVariants.{Step, Tick, Key}
+use Rattle.posix.specs.declared.event.Event.TheVariants.{Step, Tick, Key, Hangup}
 use Rattle.posix.specs.Entries.{Line}
 use Rattle.posix.specs.States.{State, current}
 use Rattle.posix.specs.Runs.{RunsFrom}
@@ -15,6 +15,7 @@ abbrev pub is_tick : Event → Bool
 is_tick Step = false
 is_tick Tick = true
 is_tick (Key console byte) = false
+is_tick (Hangup console) = false
 
 -- how many of the events are ticks
 abbrev pub ticks_in : List Event → ℕ

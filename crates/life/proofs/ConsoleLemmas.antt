@@ -1,5 +1,5 @@
 -- A machine that gets another console in the place of one.
-use Rattle.std.proofs.Common.{◌≡◌, ◌≢◌, ℕ, suc, ◌+◌, ◌*◌, ◌≤◌, ◌==◌, true, false, cond, not, ◌&&◌, ◌||◌, refl, ap, sym, ◌∙◌, arith, subst, List, [], Option, Some, None, is_some, length, nat_lt, slice_get, slice_set, slice_index_or, inl, inr, ⊎_elim, rules}
+use Rattle.std.proofs.Common.{◌≡◌, ◌≢◌, ℕ, Bool, suc, ◌+◌, ◌*◌, ◌≤◌, ◌==◌, true, false, cond, not, ◌&&◌, ◌||◌, refl, ap, sym, ◌∙◌, arith, subst, List, [], ◌∷◌, Option, Some, None, is_some, length, nat_lt, slice_get, slice_set, slice_index_or, inl, inr, ⊎_elim, rules}
 use Rattle.std.proofs.lemmas.Bool.{false_from_ne_true, true_from_ne_false, or_cases, eqb-true, eqb-false, and_parts, not-true, or_right, ltb-true, cond_both, both_ways}
 use Rattle.std.proofs.lemmas.Option.{get_or_from_slice_get, slice_get_read, same_Some}
 use Rattle.std.specs.Borrow.{MutBor}
@@ -9,12 +9,13 @@ use Rattle.posix.specs.declared.process.Blocked.TheVariants as blocked
 use Rattle.posix.specs.SignalNumbers.{HUP}
 use Rattle.posix.specs.Processes.{Process, is_running}
 use Rattle.posix.specs.States.{State, process, is_in, has_place}
-use Rattle.posix.specs.Consoles.{Console, console_of, changed_console, key_signal, keyed, edit, flushed, finish_line, released}
-use Rattle.posix.specs.Choice.{chosen}
+use Rattle.posix.specs.Consoles.{Console, console_of, changed_console, key_signal, signal_typed, keyed, edit, flushed, finish_line, session_told, disconnected, released}
+use Rattle.posix.specs.Choice.{chosen, from_kernel}
 use Rattle.posix.specs.Attempts.{attempt_again}
 use Rattle.posix.specs.Terminals.{is_reader, is_in_read, waits_on, waits_to_read}
 use Rattle.posix.specs.Ends.{signalled_group, hang_up, hung_up}
-use Rattle.posix.specs.Step.{signalled_from, key}
+use Rattle.posix.specs.Notices.{generated_for, signalled_all}
+use Rattle.posix.specs.Step.{signalled_from, key, hangup}
 use Rattle.posix.specs.Settle.{can_act, can_go_on}
 use Rattle.posix.specs.Regular.{IsRegular, AreConsoles}
 use Rattle.posix.proofs.TableLemmas.{pid_looked}
@@ -109,12 +110,12 @@ reader_is session r h =
 
 -- one with the same session and foreground process group, and no line where there was none
 pub put_unread : {readers : List PidSetView} (s : State) (l : PidSetView) (k : ℕ) (c d : Console) → IsRegular s → IsListed s l readers → slice_get s.consoles k ≡ Some c
-    → d.session ≡ c.session → d.foreground ≡ c.foreground → (c.lines ≡ [] → d.lines ≡ []) → CanPut s l.pids readers k d
+    → d.session ≡ c.session → d.foreground ≡ c.foreground → d.hung_up ≡ c.hung_up → (c.lines ≡ [] → d.lines ≡ []) → CanPut s l.pids readers k d
 unfolding is_in
-put_unread s l k c d i h at owner foreground lines = record {
+put_unread s l k c d i h at owner foreground hung lines = record {
   apart = consoles_set s.world.consoles s.consoles k c d at owner i.consoles;
   acts = λ p r found out unasked acts.
-      let u = touches_unread s k c d at owner foreground lines p r found refl in
+      let u = touches_unread s k c d at owner foreground hung lines p r found refl in
       let was = u.found in
       let same : u.old ≡ r = cc in
       ap (can_act s) (sym same) ∙ u.acts acts;
@@ -192,7 +193,7 @@ pub machine_became : {pids : Pids} {places : Places} {groups_at_risk : PidSetVie
     → IsMachine m.state pids places to_recheck groups_at_risk (record { readers = m.readers; foregrounds_unchecked = m.foregrounds_unchecked })
     → IsMachine (put m.state k d) pids places to_recheck groups_at_risk (record { readers = m.readers; foregrounds_unchecked = m.foregrounds_unchecked })
 machine_became m to_recheck k c d list at h i = machine_put _ _ _ _ _ _ _ _ k d i
-    (⊎_elim (λ quiet. put_unread _ _ k c d i.sound.regular i.listed at quiet.0.0 quiet.0.1 quiet.1) (λ those. rechecked (subst (AreReaders m.state k) (sym list) those)) h.readers)
+    (⊎_elim (λ quiet. put_unread _ _ k c d i.sound.regular i.listed at quiet.0.0 quiet.0.1 quiet.1 quiet.2) (λ those. rechecked (subst (AreReaders m.state k) (sym list) those)) h.readers)
     (⊎_elim (λ same. fresh_alike _ _ _ k c d at same.0 same.1 i.fresh) (fresh_put _ _ _ k d i.fresh) h.foreground)
   where
     rechecked : AreReaders m.state k to_recheck.pids → CanPut m.state to_recheck.pids m.readers k d
@@ -242,6 +243,16 @@ pub foreground_keyed : (byte : ℕ) (c : Console) → (keyed byte c).foreground 
 unfolding keyed edit finish_line flushed
 foreground_keyed byte c = grind arith
 
+-- and gives no line back that is lost
+pub hung_up_keyed : (byte : ℕ) (c : Console) → (keyed byte c).hung_up ≡ c.hung_up
+unfolding keyed edit finish_line flushed
+hung_up_keyed byte c = grind arith
+
+-- a signal that is typed is that of its key
+pub typed_key : (byte n : ℕ) (c : Console) → Some n ≡ signal_typed byte c → Some n ≡ key_signal byte
+unfolding signal_typed
+typed_key byte n c = elim c.hung_up as (λ b. Some n ≡ cond b None (key_signal byte) → Some n ≡ key_signal byte) [ true ↦ λ e. absurd (cc) | false ↦ λ e. e ]
+
 -- and finishes no line but by NL and EOF
 pub lines_keyed : (byte : ℕ) (c : Console) → (byte == 10) ≡ false → (byte == 4) ≡ false → c.lines ≡ [] → (keyed byte c).lines ≡ []
 unfolding keyed edit flushed
@@ -257,12 +268,46 @@ unfolding key
 key_past s console k byte number none = rw (number, none) refl
 
 -- on one that is, its input and the process group in its foreground
-pub key_on_it : (s : State) (console k byte : ℕ) (c : Console) (signal : Option ℕ) (group : ℕ) → console ≡ suc k → slice_get s.consoles k ≡ Some c → signal ≡ key_signal byte → group ≡ c.foreground
+pub key_on_it : (s : State) (console k byte : ℕ) (c : Console) (signal : Option ℕ) (group : ℕ) → console ≡ suc k → slice_get s.consoles k ≡ Some c → signal ≡ signal_typed byte c → group ≡ c.foreground
     → record (put s k (keyed byte c)) { processes = signalled_from signal group s.processes } ≡ key s console byte
 unfolding key
 key_on_it s console k byte c signal group number found same foreground = rw (number, found, same, foreground) refl
 
 -- ---- hangups
+
+-- on a console that isn't there nothing happens
+pub hangup_nowhere : (s : State) (console : ℕ) → console ≡ 0 → s ≡ hangup s console
+unfolding hangup
+hangup_nowhere s console none = rw none refl
+
+pub hangup_past : (s : State) (console k : ℕ) → console ≡ suc k → slice_get s.consoles k ≡ None → s ≡ hangup s console
+unfolding hangup
+hangup_past s console k number none = rw (number, none) refl
+
+-- on one that is, its input, and the leader of the session that is told
+pub hangup_told : (s : State) (console k : ℕ) (c : Console) (leader : ℕ) → console ≡ suc k → slice_get s.consoles k ≡ Some c → Some leader ≡ session_told c
+    → record (put s k (disconnected c)) { processes = generated_for (record { sig = HUP; carried = from_kernel }) (process s leader) s.processes } ≡ hangup s console
+unfolding hangup signalled_all
+hangup_told s console k c leader number found told = rw (number, found) (by (not c.hung_up && not (c.session == 0)) told)
+  where
+    by : (b : Bool) → Some leader ≡ cond b (Some c.session) None
+        → record (put s k (disconnected c)) { processes = generated_for (record { sig = HUP; carried = from_kernel }) (process s leader) s.processes }
+        ≡ record (put s k (disconnected c)) { processes = cond b (signalled_all (record { sig = HUP; carried = from_kernel }) (c.session ∷ []) s.processes) s.processes }
+    by true e = ap (λ n. record (put s k (disconnected c)) { processes = generated_for (record { sig = HUP; carried = from_kernel }) (process s n) s.processes }) (same_Some _ _ e)
+    by false e = absurd (cc)
+
+pub hangup_untold : (s : State) (console k : ℕ) (c : Console) → console ≡ suc k → slice_get s.consoles k ≡ Some c → None ≡ session_told c → put s k (disconnected c) ≡ hangup s console
+unfolding hangup
+hangup_untold s console k c number found told = rw (number, found) (by (not c.hung_up && not (c.session == 0)) told)
+  where
+    by : (b : Bool) → None ≡ cond b (Some c.session) None → put s k (disconnected c) ≡ record (put s k (disconnected c)) { processes = cond b (signalled_all (record { sig = HUP; carried = from_kernel }) (c.session ∷ []) s.processes) s.processes }
+    by true e = absurd (cc)
+    by false e = refl
+
+-- a hangup leaves a console to its session, with its foreground process group
+pub foreground_disconnected : (c : Console) → (disconnected c).foreground ≡ c.foreground
+unfolding disconnected flushed
+foreground_disconnected c = grind arith
 
 -- process 1 hangs up nothing, nor does another that leads no session, or one without a terminal
 pub others_stay : (s : State) (me : Process) → hangs_up (snapshot_of me) ≡ false → s ≡ hang_up s me
@@ -287,9 +332,11 @@ unfolding key_signal
 key_is_no_end byte some = false_from_ne_true _ (λ e. ⊎_elim (λ k. some (rw (eqb-true byte 10 k) refl)) (λ k. some (rw (eqb-true byte 4 k) refl)) (or_cases _ _ e))
 
 -- where a key gives a signal
-pub slots_of_signalled : (m : MachineView) (console k byte sig group : ℕ) (c : Console) (rs : List Process) → console ≡ suc k → slice_get m.state.consoles k ≡ Some c → Some sig ≡ key_signal byte → group ≡ c.foreground → rs ≡ m.state.processes
+pub slots_of_signalled : (m : MachineView) (console k byte sig group : ℕ) (c : Console) (rs : List Process) → console ≡ suc k → slice_get m.state.consoles k ≡ Some c → Some sig ≡ signal_typed byte c → group ≡ c.foreground → rs ≡ m.state.processes
     → 1 + (2 + slots_of_signal sig) * length (members_in group rs) ≤ slots_of_key console byte m
-slots_of_signalled m console k byte sig group c rs number found signal foreground same = rw (number, found, ← signal, foreground, same, (key_standard byte sig (sym signal)).1) (omega arith)
+slots_of_signalled m console k byte sig group c rs number found typed foreground same =
+    let signal = typed_key byte sig c typed in
+    rw (number, found, ← signal, foreground, same, (key_standard byte sig (sym signal)).1) (omega arith)
 
 -- where a session's terminal hangs up
 pub slots_hung_up : (m : MachineView) (me : Process) (k group : ℕ) (c : Console) (rs : List Process) → hangs_up (snapshot_of me) ≡ true → rs ≡ m.state.processes → slice_get m.state.consoles k ≡ Some c

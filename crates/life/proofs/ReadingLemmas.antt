@@ -12,7 +12,7 @@ use Rattle.posix.specs.States.{State, is_in, without}
 use Rattle.posix.specs.Consoles.{Console}
 use Rattle.posix.specs.Transfers.{span_in}
 use Rattle.posix.specs.Terminals.{is_in_read, waits_in, waits_on, waits_to_read}
-use Rattle.life.specs.Rechecks.{NeedNoChild, is_in_wait}
+use Rattle.life.specs.Rechecks.{NeedNoChild, WaitForNoChild, is_in_wait}
 use Rattle.posix.specs.Regular.{IsRegular, IsDistinct}
 use Rattle.posix.specs.Settle.{NoWakeIsLost}
 use Rattle.posix.proofs.MemberLemmas.{in_first, is_other}
@@ -61,7 +61,7 @@ few_members group (r ∷ rs) ns up h =
 -- who waits for a line is in the foreground
 in_foreground : (me : Process) (c : Console) (span : Result Span Errno) → waits_in me c span ≡ true → (me.group == c.foreground) ≡ true
 in_foreground me c (Err why) w = absurd (cc)
-in_foreground me c (Ok span) w = not-false _ (not-true _ (and_parts (not (not (me.group == c.foreground))) (not (span.count == 0) && length c.lines == 0) w).0)
+in_foreground me c (Ok span) w = not-false _ (not-true _ (and_parts (not (not (me.group == c.foreground))) (not (span.count == 0) && (not c.hung_up && length c.lines == 0)) w).0)
 
 -- Where each process that can act has a place, who is known by a console and needn't be rechecked is a member of the
 -- console's foreground process group: a read in the background doesn't block.
@@ -78,14 +78,14 @@ reader_member s to_recheck k p c i h awake at on off =
     record { what = w.reader; found = w.found; member = ap (λ (c : Console). w.reader.group == c.foreground) (same_Some _ _ (sym at ∙ w.at)) ∙ here }
 
 -- so where nobody was to be rechecked, and then those are who are known by a console
-pub readers_brief : {readers : List PidSetView} (s : State) (before ns : List ℕ) (k : ℕ) (c : Console) → IsRegular s → IsWatched s before readers → NoWakeIsLost s → before ≡ [] → slice_get s.consoles k ≡ Some c
-    → Rises ns → ((p : ℕ) → is_in p ns ≡ true → (is_in p before || is_in p (readers_at k readers)) ≡ true) → NeedNoChild s.processes ns × (length ns ≤ length (members_in c.foreground s.processes))
+pub readers_wait : {readers : List PidSetView} (s : State) (before ns : List ℕ) (k : ℕ) (c : Console) → IsRegular s → IsWatched s before readers → NoWakeIsLost s → before ≡ [] → slice_get s.consoles k ≡ Some c
+    → Rises ns → ((p : ℕ) → is_in p ns ≡ true → (is_in p before || is_in p (readers_at k readers)) ≡ true) → WaitForNoChild s.processes ns × (length ns ≤ length (members_in c.foreground s.processes))
 unfolding is_in
-readers_brief {readers = readers} s before ns k c i h awake none at up those = (
+readers_wait {readers = readers} s before ns k c i h awake none at up those = (
   λ p e.
       let w = h.waits k p (known p e) (off p) in
       let it = reader_is w.console.session w.reader w.reads in
-      (w.reader, w.found, or_right _ _ (reading w.reader.blocked it.visits)),
+      (w.reader, w.found, reading w.reader.blocked it.visits),
   few_members c.foreground s.processes ns up (λ p e. reader_member s before k p c i h awake at (known p e) (off p)),
 )
   where
@@ -95,7 +95,11 @@ readers_brief {readers = readers} s before ns k c i h awake none at up those = (
     known : (p : ℕ) → is_in p ns ≡ true → is_in p (readers_at k readers) ≡ true
     known p e = sym (ap (λ b. b || is_in p (readers_at k readers)) (off p)) ∙ those p e
 
-    reading : (b : Option Blocked) → is_in_read b ≡ true → not (is_in_wait b) ≡ true
+    reading : (b : Option Blocked) → is_in_read b ≡ true → is_in_wait b ≡ false
     reading None e = absurd (cc)
     reading (Some (blocked.Wait call)) e = absurd (cc)
     reading b e = refl
+
+-- who waits for no child needs none to be looked at
+pub need_no_child : (rs : List Process) (ns : List ℕ) → WaitForNoChild rs ns → NeedNoChild rs ns
+need_no_child rs ns h = λ p e. let it = h p e in (it.0, it.1, or_right _ _ (ap not it.2))

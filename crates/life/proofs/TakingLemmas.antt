@@ -1,7 +1,8 @@
 -- Signals that continue nobody are generated for several processes: who is rechecked then takes one.
-use Rattle.std.proofs.Common.{◌≡◌, ℕ, ◌+◌, ◌≤◌, Bool, true, false, cond, refl, ap, sym, ◌∙◌, arith, subst, List, [], ◌∷◌, length, Option, Some, None, ◌==◌, ◌||◌, ⊎_elim, rules}
-use Rattle.std.proofs.lemmas.Bool.{eqb-true, or_cases, or_left, or_parts}
+use Rattle.std.proofs.Common.{◌≡◌, ℕ, ◌+◌, ◌≤◌, Bool, true, false, cond, not, refl, ap, sym, ◌∙◌, arith, subst, List, [], ◌∷◌, length, Option, Some, None, ◌==◌, ◌||◌, ⊎_elim, rules}
+use Rattle.std.proofs.lemmas.Bool.{eqb-false, eqb-true, or_cases, or_left, or_parts, or_right}
 use Rattle.std.proofs.lemmas.List.{length-map}
+use Rattle.std.proofs.lemmas.Option.{same_Some}
 use Rattle.posix.specs.declared.process.Effect.TheVariants as effect
 use Rattle.posix.specs.declared.process.PendingSignal.{PendingSignal}
 use Rattle.posix.specs.SignalNumbers.{CONT}
@@ -21,7 +22,7 @@ use Rattle.posix.proofs.ChangeLemmas.{continued_cont, lookup_signalled}
 use Rattle.pidset.specs.Numbers.{with_number}
 use Rattle.pidset.proofs.NumberLemmas.{in_with}
 use Rattle.jobs.specs.IndexedTables.{takes_signal}
-use Rattle.life.specs.Rechecks.{AreTaking, NeedNoChild, rechecking_generated, rechecking_all, rechecking_members}
+use Rattle.life.specs.Rechecks.{AreTaking, NeedNoChild, WaitForNoChild, is_in_wait, rechecking_generated, rechecking_all, rechecking_members}
 use Rattle.life.proofs.RingLemmas.{one_more}
 
 -- it isn't among these, and a signal is chosen for it
@@ -106,6 +107,45 @@ brief_group n group rs ts order ns new plain up none does puts = by (group == 0)
         let all = taking_all (record { sig = n; carried = from_kernel }) (pids (members_in group rs)) order rs plain (distinct_pids (members_in group rs) (rising_filter (is_member group) rs up)) in
         let many = length-map (members_in group rs) (λ r. r.pid) in
         rw (does, puts, none) (λ q e. let it = all.0 q e in (it.0, it.1, or_left _ _ it.2), omega (arith, many, all.1))
+
+-- so where the kernel signals one process, and those who were to be rechecked wait for no child
+pub brief_one : (n p : ℕ) (order : List ℕ) (rs : List Process) (ns : List ℕ) → (n == CONT) ≡ false → WaitForNoChild rs ns
+    → NeedNoChild (generated_for (record { sig = n; carried = from_kernel }) (lookup p rs) rs) (rechecking_generated (record { sig = n; carried = from_kernel }) (lookup p rs) rs order ns)
+    × (length (rechecking_generated (record { sig = n; carried = from_kernel }) (lookup p rs) rs order ns) ≤ 1 + length ns)
+unfolding signalled
+brief_one n p order rs ns plain h = by (lookup p rs) refl
+  where
+    m : PendingSignal
+    m = record { sig = n; carried = from_kernel }
+
+    does : (r : Process) → effect_of r.pid r.life m r.signals ≡ effect.Nothing
+    does r = grind (arith, plain, continued_cont r.pid m r)
+
+    -- it itself waits for a child no more than before
+    before : (r : Process) → lookup p rs ≡ Some r → NeedNoChild (changed r.pid (signalled m) rs) ns
+    before r found q e = elim (q == r.pid) as (λ b. (q == r.pid) ≡ b → (x : Process) × (lookup q (changed r.pid (signalled m) rs) ≡ Some x) × ((takes_signal x || not (is_in_wait x.blocked)) ≡ true)) [
+      | true ↦ λ same.
+          let is = eqb-true q r.pid same in
+          let one : (h q e).0 ≡ r = same_Some _ _ (sym (h q e).1 ∙ ap (λ n. lookup n rs) (is ∙ pid_looked p rs r found) ∙ found) in
+          (signalled m r, ap (λ n. lookup n (changed r.pid (signalled m) rs)) is ∙ lookup_signalled m r p rs found, or_right _ _ (ap not (ap (λ (x : Process). is_in_wait x.blocked) (sym one) ∙ (h q e).2)))
+      | false ↦ λ other. let it = h q e in (it.0, lookup_other r.pid q (signalled m) (λ r. refl) (eqb-false _ _ other) rs it.0 it.1, or_right _ _ (ap not it.2))
+    ] refl
+
+    more : (r : Process) → lookup p rs ≡ Some r → takes_signal (signalled m r) ≡ true → NeedNoChild (changed r.pid (signalled m) rs) (with_number r.pid ns)
+    more r found takes q e = ⊎_elim
+        (λ k. (signalled m r, ap (λ n. lookup n (changed r.pid (signalled m) rs)) (sym (eqb-true r.pid q k)) ∙ lookup_signalled m r p rs found, or_left _ _ takes))
+        (λ k. before r found q k) (or_cases _ _ (sym (in_with q r.pid ns) ∙ e))
+
+    by : (o : Option Process) → lookup p rs ≡ o → NeedNoChild (generated_for m o rs) (rechecking_generated m o rs order ns) × (length (rechecking_generated m o rs order ns) ≤ 1 + length ns)
+    by None found = (λ q e. let it = h q e in (it.0, it.1, or_right _ _ (ap not it.2)), omega arith)
+    by (Some r) found = rw (does r) (elim (takes_signal (signalled m r)) as (λ b. takes_signal (signalled m r) ≡ b → NeedNoChild (changed r.pid (signalled m) rs) (cond b (cond (is_in r.pid order) ns (with_number r.pid ns)) ns)
+        × (length (cond b (cond (is_in r.pid order) ns (with_number r.pid ns)) ns) ≤ 1 + length ns)) [
+          | false ↦ λ takes. (before r found, omega arith)
+          | true ↦ λ takes. elim (is_in r.pid order) as (λ b. NeedNoChild (changed r.pid (signalled m) rs) (cond b ns (with_number r.pid ns)) × (length (cond b ns (with_number r.pid ns)) ≤ 1 + length ns)) [
+            | true ↦ (before r found, omega arith)
+            | false ↦ (more r found takes, let few = one_more r.pid ns in omega (arith, few))
+          ]
+        ] refl)
 
 -- who is asked by a signal that isn't CONT got it
 asked_one : (signal : PendingSignal) (q p : ℕ) (order : List ℕ) (rs : List Process) (ns : List ℕ) → (signal.sig == CONT) ≡ false → is_in p (rechecking_generated signal (lookup q rs) rs order ns) ≡ true → (is_in p ns || p == q) ≡ true

@@ -17,7 +17,7 @@ use Rattle.life.specs.Foregrounds.{is_unchecked}
 use Rattle.life.specs.Machines.{MachineView, with_consoles}
 
 abbrev pub terminal_of : Console → Terminal
-terminal_of c = record { foreground = c.foreground; tostop = c.tostop; has_line = not (length c.lines == 0) }
+terminal_of c = record { foreground = c.foreground; tostop = c.tostop; has_line = not (length c.lines == 0); hung_up = c.hung_up }
 
 -- a process other than process 1 that leads its session hangs its terminal up as it ends
 abbrev pub hangs_up : Snapshot → Bool
@@ -40,7 +40,7 @@ IsSameTerminal c d = (d.session ≡ c.session) × (d.foreground ≡ c.foreground
 -- is to be rechecked, and its foreground process group has a member where none is unchecked.
 pub record CanBecome (m : MachineView) (k : ℕ) (c d : Console) : Type 0 where
   pub session : (d.session ≡ c.session) ⊎ ((d.session ≡ 0) ⊎ ((c.session ≡ 0) × (console_of d.session m.state.consoles ≡ None)))
-  pub readers : (IsSameTerminal c d × (c.lines ≡ [] → d.lines ≡ [])) ⊎ AreReaders m.state k m.to_recheck
+  pub readers : (IsSameTerminal c d × (d.hung_up ≡ c.hung_up) × (c.lines ≡ [] → d.lines ≡ [])) ⊎ AreReaders m.state k m.to_recheck
   pub foreground : IsSameTerminal c d ⊎ ((is_unchecked m.foregrounds_unchecked d || is_fresh m.state.processes d) ≡ true)
 
 abbrev pub CanChange : {F T : Type 0} → Once F (MutBor Console × Unit {0}) (T × (MutBor Console × Unit {0})) → F → MachineView → ℕ → Type 0

@@ -121,6 +121,10 @@ AreTaking rs ns = (p : ℕ) → is_in p ns ≡ true → (r : Process) × (lookup
 abbrev pub NeedNoChild : List Process → List ℕ → Type 0
 NeedNoChild rs ns = (p : ℕ) → is_in p ns ≡ true → (r : Process) × (lookup p rs ≡ Some r) × ((takes_signal r || not (is_in_wait r.blocked)) ≡ true)
 
+-- none of these waits for a child
+abbrev pub WaitForNoChild : List Process → List ℕ → Type 0
+WaitForNoChild rs ns = (p : ℕ) → is_in p ns ≡ true → (r : Process) × (lookup p rs ≡ Some r) × (is_in_wait r.blocked ≡ false)
+
 -- how many slots are read where a signal is generated: CONT may continue its process, whose parent gets notice
 abbrev pub slots_of_signal : ℕ → ℕ
 slots_of_signal n = if n == CONT then 4 else 1

@@ -6,16 +6,16 @@ ghost use Rattle.std.specs.List.{AllByRecursion};
 ghost use Rattle.std.specs.Option.{option_copied};
 ghost use Rattle.posix.specs.Processes.{Process};
 ghost use Rattle.posix.specs.States.{process, is_in, without};
-ghost use Rattle.posix.specs.Consoles.{Console as ConsoleValue, unused_console, console_of, changed_console, keyed, key_signal, acquired, released, with_foreground, with_tostop, line_taken};
+ghost use Rattle.posix.specs.Consoles.{Console as ConsoleValue, unused_console, console_of, changed_console, keyed, key_signal, signal_typed, session_told, disconnected, acquired, released, with_foreground, with_tostop, line_taken};
 ghost use Rattle.posix.specs.GroupCalls.{is_group_of};
 ghost use Rattle.posix.specs.Ends.{hang_up as hanging_up};
 ghost use Rattle.posix.specs.Settle.{wakes, refreshed, clear_foregrounds as clearing_foregrounds, NoWakeIsLost};
-ghost use Rattle.posix.specs.Step.{key as keying};
+ghost use Rattle.posix.specs.Step.{key as keying, hangup as hanging};
 ghost use Rattle.posix.specs.Regular.{AreGrouped, IsRegular};
 ghost use Rattle.posix.specs.Tables.{members_in, pids};
 ghost use Rattle.pidset.specs.Numbers.{numbers_above, with_number};
 ghost use Rattle.life.specs.Machines.{Costs, Finds, IsThere, IfThere, with_consoles, IfConsole, AreWatched, HaveRoom, AreUnread, IsReaders, readers_at};
-ghost use Rattle.life.specs.Rechecks.{NeedNoChild};
+ghost use Rattle.life.specs.Rechecks.{NeedNoChild, WaitForNoChild};
 ghost use Rattle.proctable.specs.Records.{snapshot_of};
 ghost use Rattle.life.specs.Foregrounds.{after_loss as after_loss_of, is_unchecked as is_unchecked_by, refreshed_where};
 ghost use Rattle.life.specs.Consoles.{terminal_of, hangs_up as hangs_up_with, reads as reads_from, reads_in as reads_in_session, is_terminal_of as is_terminal, marked, IsMarked, IsTerminalIndex, IsForgottenAt, AreReaders, CanChange, HasChanged, foreground_members, slots_of_key, slots_of_hangup};
@@ -39,6 +39,8 @@ pub struct Terminal {
     pub tostop: bool,
     /// Whether a line is finished, and waits to be read.
     pub has_line: bool,
+    /// Whether its line is lost (XBD 11.1.10).
+    pub hung_up: bool,
 }
 
 /// Whose foreground process group may have lost its members since the last time that foregrounds were cleared.
@@ -251,6 +253,7 @@ impl<K: ProcessTable> Machine<K> {
             foreground: console.foreground(),
             tostop: console.tostop(),
             has_line: console.has_line(),
+            hung_up: console.is_hung_up(),
         })
     }
 
@@ -434,7 +437,7 @@ impl<K: ProcessTable> Machine<K> {
     fn type_byte(&mut self, console_index: usize, byte: u8) -> Option<KeyEffect>
         ensures none { slice_get self.old.state.consoles console_index ≡ None → (result ≡ None) × (self.new.state ≡ self.old.state) }
         ensures state { IfConsole console_index self.old (λ c. self.new.state ≡ with_consoles self.old.state (slice_set self.old.state.consoles console_index (keyed byte c))) }
-        ensures signal { MatchOption result (slice_get self.old.state.consoles console_index ≡ None) (λ e. e.signal ≡ key_signal byte) }
+        ensures signal { MatchOption result (slice_get self.old.state.consoles console_index ≡ None) (λ e. IfConsole console_index self.old (λ c. e.signal ≡ signal_typed byte c)) }
         ensures foregrounds_unchecked { self.new.foregrounds_unchecked ≡ self.old.foregrounds_unchecked }
         ensures quiet { key_signal byte ≢ None → self.new.to_recheck ≡ self.old.to_recheck }
         ensures readers { self.old.to_recheck ≡ [] → NoWakeIsLost self.old.state → IfConsole console_index self.old (λ c. NeedNoChild self.new.state.processes self.new.to_recheck × (length self.new.to_recheck ≤ length (members_in c.foreground self.old.state.processes))) }
@@ -447,7 +450,7 @@ impl<K: ProcessTable> Machine<K> {
 
     /// A byte comes on a console, which counts from 1. INTR, QUIT and SUSP discard all input, and each member of the
     /// foreground process group gets INT, QUIT or TSTP; any other byte is for the line that is edited. On a console
-    /// that isn't there nothing happens (XBD 11.1.9). Where the byte gives a signal, one slot is read, and three for
+    /// that isn't there, or is hung up, nothing happens (XBD 11.1.9). Where the byte gives a signal, one slot is read, and three for
     /// each member. Where nobody was to be rechecked, and no wake-up lost, each process that then is to be rechecked is a
     /// member of the foreground process group, and has a chosen signal or reads.
     pub fn key(&mut self, console: u8, byte: u8)
@@ -469,6 +472,45 @@ impl<K: ProcessTable> Machine<K> {
         };
         if let Some(sig) = effect.signal {
             self.signal_group(foreground, sig);
+        }
+    }
+
+    /// The line of the console with this index is lost. The session that is to be told, if there is one. Whoever waits to
+    /// read from it is to be rechecked.
+    fn lose_line(&mut self, console_index: usize) -> Option<Pid>
+        ensures none { slice_get self.old.state.consoles console_index ≡ None → (result ≡ None) × (self.new.state ≡ self.old.state) }
+        ensures state { IfConsole console_index self.old (λ c. self.new.state ≡ with_consoles self.old.state (slice_set self.old.state.consoles console_index (disconnected c))) }
+        ensures told { IfConsole console_index self.old (λ c. result ≡ session_told c) }
+        ensures foregrounds_unchecked { self.new.foregrounds_unchecked ≡ self.old.foregrounds_unchecked }
+        ensures readers { self.old.to_recheck ≡ [] → NoWakeIsLost self.old.state → IfConsole console_index self.old (λ c. WaitForNoChild self.new.state.processes self.new.to_recheck × (length self.new.to_recheck ≤ length (members_in c.foreground self.old.state.processes))) }
+        ensures costs { Costs 0 self.old self.new }
+    {
+        self.recheck_readers(console_index);
+        let _ = &self.table;
+        self.change_console(console_index, |console| console.hang_up())
+            .flatten()
+    }
+
+    /// The line of a console, which counts from 1, is lost: all input is discarded, and the leader of the session whose
+    /// terminal it is gets HUP. Whoever waits to read from it finds the end of file. On a console that isn't there, or
+    /// has lost its line already, nothing happens (XBD 11.1.10). Two slots are read. Where nobody was to be rechecked,
+    /// and no wake-up lost, each process that then is to be rechecked is the leader, which got a signal, or a member of
+    /// the foreground process group, which reads.
+    pub fn hangup(&mut self, console: u8)
+        ensures state { self.new.state ≡ hanging self.old.state console }
+        ensures foregrounds_unchecked { self.new.foregrounds_unchecked ≡ self.old.foregrounds_unchecked }
+        ensures brief { self.old.to_recheck ≡ [] → NoWakeIsLost self.old.state → NeedNoChild self.new.state.processes self.new.to_recheck × (length self.new.to_recheck ≤ 1 + length (foreground_members console self.old.state)) }
+        ensures costs { Costs 2 self.old self.new }
+    {
+        let _ = &self.table;
+        let Some(console_index) = usize::from(console).checked_sub(1) else {
+            return;
+        };
+        if self.session_at(console_index).is_none() {
+            return;
+        }
+        if let Some(leader) = self.lose_line(console_index) {
+            self.signal_process(leader, Sig::HUP);
         }
     }
 

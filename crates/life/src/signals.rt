@@ -61,6 +61,20 @@ impl<K: ProcessTable> Machine<K> {
         }
     }
 
+    /// A standard signal of the kernel is generated for the process with this number; nothing happens where it isn't there.
+    pub(crate) fn signal_process(&mut self, pid: Pid, sig: Sig)
+        requires { is_realtime sig ≡ false }
+        ensures { Changes (1 + slots_of_signal sig) self.old self.new (with_processes self.old.state (generated_for (record { sig = sig; carried = from_kernel }) (process self.old.state pid) self.old.state.processes)) (rechecking_generated (record { sig = sig; carried = from_kernel }) (process self.old.state pid) self.old.state.processes self.old.state.order self.old.to_recheck) }
+    {
+        if self.snapshot(pid).is_some() {
+            let signal = PendingSignal {
+                sig,
+                carried: Carried::FROM_KERNEL,
+            };
+            self.signal(pid, signal);
+        }
+    }
+
     /// A standard signal of the kernel is generated for each member of a process group, zombies included, in rising
     /// order.
     pub(crate) fn signal_members(&mut self, group: Pid, sig: Sig)

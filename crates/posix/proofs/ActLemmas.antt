@@ -309,9 +309,10 @@ acted_read_from s me span (line ∷ rest) = acted_moved me.pid s _ Read (take sp
 acted_read_in : (s : State) (me : Process) (c : Console) (span : Result Span Errno) → ActedIf me.pid s (read_in s me c span)
 acted_read_in s me c (Err why) = stays me.pid s _ refl refl refl
 acted_read_in s me c (Ok span) =
-    acted_if me.pid s (is_in_background me c) _ _
+    acted_if me.pid s c.hung_up _ _ (stays me.pid s _ refl refl refl)
+    (acted_if me.pid s (is_in_background me c) _ _
     (acted_if me.pid s (blocks_or_ignores me TTIN || is_orphaned me.group s.processes) _ _ (stays me.pid s _ refl refl refl) (stays me.pid s _ refl refl refl))
-    (acted_if me.pid s (span.count == 0) _ _ (stays me.pid s _ refl refl refl) (acted_read_from s me span c.lines))
+    (acted_if me.pid s (span.count == 0) _ _ (stays me.pid s _ refl refl refl) (acted_read_from s me span c.lines)))
 
 acted_read_on : (s : State) (me : Process) (c : Option Console) → ActedIf me.pid s (read_on s me c)
 acted_read_on s me None = stays me.pid s _ refl refl refl
@@ -325,7 +326,7 @@ acted_write_in : (s : State) (me : Process) (c : Console) (span : Result Span Er
 acted_write_in s me c (Err why) = stays me.pid s _ refl refl refl
 acted_write_in s me c (Ok span) =
     let done = acted_moved me.pid s s Write (bytes_in span me.cpu.memory) refl refl refl in
-    acted_if me.pid s c.tostop _ _ (acted_allowed s me Write c _ done) done
+    acted_if me.pid s c.hung_up _ _ (stays me.pid s _ refl refl refl) (acted_if me.pid s c.tostop _ _ (acted_allowed s me Write c _ done) done)
 
 acted_write_on : (s : State) (me : Process) (c : Option Console) → ActedIf me.pid s (write_on s me c)
 acted_write_on s me None = stays me.pid s _ refl refl refl

@@ -5,14 +5,15 @@ use Rattle.std.proofs.lemmas.List.{length-map, length-set}
 use Rattle.std.proofs.lemmas.Option.{slice_get-map}
 use Rattle.posix.specs.SignalNumbers.{HUP}
 use Rattle.posix.specs.Processes.{Process}
-use Rattle.posix.specs.Consoles.{Console, edit, finish_line, key_signal, flushed, keyed_by, keyed, released, with_foreground, is_of_session, console_of, changed_at, changed_console}
+use Rattle.posix.specs.Consoles.{Console, edit, finish_line, key_signal, signal_typed, is_told, disconnected, flushed, keyed_by, keyed, released, with_foreground, is_of_session, console_of, changed_at, changed_console}
 use Rattle.posix.specs.States.{State}
 use Rattle.posix.specs.Regular.{IsRegular, AreConsoles}
 use Rattle.posix.specs.Choice.{from_kernel}
+use Rattle.posix.specs.Notices.{signalled_all}
 use Rattle.posix.specs.Ends.{signalled_members, signalled_group, hung_up, hang_up}
 use Rattle.posix.specs.Settle.{is_fresh, refreshed, clear_foregrounds}
 use Rattle.posix.specs.Terminals.{change_console}
-use Rattle.posix.specs.Step.{signalled_from, key_on, key}
+use Rattle.posix.specs.Step.{signalled_from, key_on, key, with_leader_told, hangup_on, hangup}
 use Rattle.posix.proofs.ChangeLemmas.{regular_signalled}
 
 -- ---- one console in the place of another
@@ -219,10 +220,15 @@ regular_hung_up s r i = cond_both (not (r.pid == 1) && r.session == r.pid) (hung
 -- a key leaves a console to its session
 pub session_keyed : (byte : ℕ) (c : Console) → (keyed byte c).session ≡ c.session
 unfolding keyed edit finish_line flushed
-session_keyed byte c = elim (key_signal byte) as (λ o. (keyed_by o byte c).session ≡ c.session) [
+session_keyed byte c = cond_both c.hung_up c (keyed_by (key_signal byte) byte c) (λ d. d.session ≡ c.session) (λ e. refl) (λ e. elim (key_signal byte) as (λ o. (keyed_by o byte c).session ≡ c.session) [
   | None ↦ grind arith
   | Some n ↦ refl
-]
+])
+
+-- a lost line too
+pub session_disconnected : (c : Console) → (disconnected c).session ≡ c.session
+unfolding disconnected flushed
+session_disconnected c = cond_both c.hung_up c (record (flushed c) { hung_up = not (c.session == 0) }) (λ d. d.session ≡ c.session) (λ e. refl) (λ e. refl)
 
 -- where a key comes
 pub regular_key : (s : State) (console byte : ℕ) → IsRegular s → IsRegular (key s console byte)
@@ -231,10 +237,22 @@ regular_key s zero byte i = i
 regular_key s (suc k) byte i = elim (slice_get s.consoles k) as (λ o. slice_get s.consoles k ≡ o → IsRegular (key_on s (suc k) byte o)) [
   | None ↦ λ e. i
   | Some c ↦ λ e.
-      regular_consoles (record s { processes = signalled_from (key_signal byte) c.foreground s.processes }) _ (signalled (key_signal byte) c.foreground)
+      regular_consoles (record s { processes = signalled_from (signal_typed byte c) c.foreground s.processes }) _ (signalled (signal_typed byte c) c.foreground)
       (consoles_set s.world.consoles s.consoles k c (keyed byte c) e (session_keyed byte c) i.consoles)
 ] refl
   where
     signalled : (o : Option ℕ) (group : ℕ) → IsRegular (record s { processes = signalled_from o group s.processes })
     signalled None group = i
     signalled (Some n) group = regular_signalled_group n group s i
+
+-- where a line is lost
+pub regular_hangup : (s : State) (console : ℕ) → IsRegular s → IsRegular (hangup s console)
+unfolding hangup signalled_all
+regular_hangup s zero i = i
+regular_hangup s (suc k) i = elim (slice_get s.consoles k) as (λ o. slice_get s.consoles k ≡ o → IsRegular (hangup_on s (suc k) o)) [
+  | None ↦ λ e. i
+  | Some c ↦ λ e.
+      regular_consoles (record s { processes = with_leader_told c s.processes }) _
+      (cond_both (is_told c) (signalled_all (record { sig = HUP; carried = from_kernel }) (c.session ∷ []) s.processes) s.processes (λ rs. IsRegular (record s { processes = rs })) (λ t. regular_signalled (record { sig = HUP; carried = from_kernel }) (c.session ∷ []) s i) (λ t. i))
+      (consoles_set s.world.consoles s.consoles k c (disconnected c) e (session_disconnected c) i.consoles)
+] refl

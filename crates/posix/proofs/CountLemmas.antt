@@ -1,14 +1,14 @@
 -- An event raises the counts of births and of ticks by one at most.
 use Rattle.std.proofs.Common.{◌≡◌, ◌+◌, ◌≤◌, ℕ, Bool, true, false, cond, refl, arith, Option, Some, None}
 use Rattle.posix.specs.declared.event.Event.{Event}
-use Rattle.posix.specs.declared.event.Event.TheVariants.{Step, Tick, Key}
+use Rattle.posix.specs.declared.event.Event.TheVariants.{Step, Tick, Key, Hangup}
 use Rattle.posix.specs.Processes.{Process}
 use Rattle.posix.specs.States.{State, current, current_process}
 use Rattle.posix.specs.Consoles.{Console, console_at}
 use Rattle.posix.specs.Outcomes.{Outcome, silent}
 use Rattle.posix.specs.Settle.{give_places, clear_foregrounds, settle}
 use Rattle.posix.specs.Alarms.{pass_time}
-use Rattle.posix.specs.Step.{step, tick, rotate, key_on, key, happens, next}
+use Rattle.posix.specs.Step.{step, tick, rotate, key_on, key, hangup_on, hangup, happens, next}
 use Rattle.posix.proofs.ActLemmas.{acted}
 
 -- births and ticks are at most one more than before
@@ -36,12 +36,18 @@ counts_key : (s : State) (console byte : ℕ) (o : Option Console) → Counts s 
 counts_key s console byte None = same s
 counts_key s console byte (Some c) = record { births = omega arith; ticks = omega arith }
 
+-- a hangup, on a console that is there or not
+counts_hangup : (s : State) (console : ℕ) (o : Option Console) → Counts s (hangup_on s console o)
+counts_hangup s console None = same s
+counts_hangup s console (Some c) = record { births = omega arith; ticks = omega arith }
+
 -- what happens at any event
 counts_happens : (granted : Bool) (s : State) (event : Event) → Counts s (happens granted s event).state
-unfolding happens tick key
+unfolding happens tick key hangup
 counts_happens granted s Step = counts_step granted s (current_process s)
 counts_happens granted s Tick = counts_rotate s (current s)
 counts_happens granted s (Key console byte) = counts_key s console byte (console_at console s.consoles)
+counts_happens granted s (Hangup console) = counts_hangup s console (console_at console s.consoles)
 
 -- any event, after a halt too
 pub counts_next : (granted : Bool) (s : State) (event : Event) → Counts s (next granted s event).state

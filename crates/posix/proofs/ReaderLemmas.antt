@@ -40,39 +40,39 @@ abbrev pub IsOfOrFree : ℕ → Console → Type 0
 IsOfOrFree session c = (c.session ≡ session) ⊎ (c.session ≡ 0)
 
 -- who waits for a line waits for one still, where none has come
-waits_still : (me : Process) (c d : Console) (span : Result Span Errno) → d.foreground ≡ c.foreground → (c.lines ≡ [] → d.lines ≡ []) → waits_in me c span ≡ true → waits_in me d span ≡ true
-waits_still me c d (Err why) foreground lines w = w
-waits_still me c d (Ok span) foreground lines w = rw foreground (none c.lines d.lines _ (not (span.count == 0)) lines w)
+waits_still : (me : Process) (c d : Console) (span : Result Span Errno) → d.foreground ≡ c.foreground → d.hung_up ≡ c.hung_up → (c.lines ≡ [] → d.lines ≡ []) → waits_in me c span ≡ true → waits_in me d span ≡ true
+waits_still me c d (Err why) foreground hung lines w = w
+waits_still me c d (Ok span) foreground hung lines w = rw (foreground, hung) (none c.lines d.lines _ (not (span.count == 0)) (not c.hung_up) lines w)
   where
-    none : (xs ys : List (List ℕ)) (a b : Bool) → (xs ≡ [] → ys ≡ []) → (a && (b && length xs == 0)) ≡ true → (a && (b && length ys == 0)) ≡ true
-    none [] ys a b h w = rw (h refl) w
-    none (x ∷ xs) ys a b h w = grind (arith, w, ne_eqb)
+    none : (xs ys : List (List ℕ)) (a b l : Bool) → (xs ≡ [] → ys ≡ []) → (a && (b && (l && length xs == 0))) ≡ true → (a && (b && (l && length ys == 0))) ≡ true
+    none [] ys a b l h w = rw (h refl) w
+    none (x ∷ xs) ys a b l h w = grind (arith, w, ne_eqb)
 
 -- so on the consoles of a machine
-waits_set : (me : Process) (session k : ℕ) (c d : Console) (cs : List Console) → slice_get cs k ≡ Some c → d.session ≡ c.session → d.foreground ≡ c.foreground → (c.lines ≡ [] → d.lines ≡ [])
+waits_set : (me : Process) (session k : ℕ) (c d : Console) (cs : List Console) → slice_get cs k ≡ Some c → d.session ≡ c.session → d.foreground ≡ c.foreground → d.hung_up ≡ c.hung_up → (c.lines ≡ [] → d.lines ≡ [])
     → waits_on me (console_of session cs) ≡ true → waits_on me (console_of session (slice_set cs k d)) ≡ true
 unfolding console_of
-waits_set me session k c d [] e owner foreground lines w = absurd (cc)
-waits_set me session zero c d (x ∷ xs) e owner foreground lines w =
+waits_set me session k c d [] e owner foreground hung lines w = absurd (cc)
+waits_set me session zero c d (x ∷ xs) e owner foreground hung lines w =
     let same : x ≡ c = cc in
     let rest = find (is_of_session session) xs in
     subst (λ b. waits_on me (cond b (Some d) rest) ≡ true) (sym (ap (λ n. n == session) owner))
     (elim (c.session == session) as (λ b. waits_on me (cond b (Some c) rest) ≡ true → waits_on me (cond b (Some d) rest) ≡ true) [
-      | true ↦ λ w. waits_still me c d (span_in (argument me 1) (argument me 2)) foreground lines w
+      | true ↦ λ w. waits_still me c d (span_in (argument me 1) (argument me 2)) foreground hung lines w
       | false ↦ λ w. w
     ] (subst (λ x. waits_on me (find (is_of_session session) (x ∷ xs)) ≡ true) same w))
-waits_set me session (suc k) c d (x ∷ xs) e owner foreground lines w =
+waits_set me session (suc k) c d (x ∷ xs) e owner foreground hung lines w =
     elim (x.session == session) as (λ b. waits_on me (cond b (Some x) (find (is_of_session session) xs)) ≡ true → waits_on me (cond b (Some x) (find (is_of_session session) (slice_set xs k d))) ≡ true) [
       | true ↦ λ w. w
-      | false ↦ λ w. waits_set me session k c d xs e owner foreground lines w
+      | false ↦ λ w. waits_set me session k c d xs e owner foreground hung lines w
     ] w
 
 -- where it has the same session and foreground process group, and no line where there was none, nobody is touched
-pub touches_unread : (s : State) (k : ℕ) (c d : Console) → slice_get s.consoles k ≡ Some c → d.session ≡ c.session → d.foreground ≡ c.foreground → (c.lines ≡ [] → d.lines ≡ [])
+pub touches_unread : (s : State) (k : ℕ) (c d : Console) → slice_get s.consoles k ≡ Some c → d.session ≡ c.session → d.foreground ≡ c.foreground → d.hung_up ≡ c.hung_up → (c.lines ≡ [] → d.lines ≡ [])
     → Touches s (record s { consoles = slice_set s.consoles k d }) []
 unfolding waits_to_read
-touches_unread s k c d e owner foreground lines =
-    touches_waiting s (record s { consoles = slice_set s.consoles k d }) refl refl (λ p r found w. waits_set r r.session k c d s.consoles e owner foreground lines w)
+touches_unread s k c d e owner foreground hung lines =
+    touches_waiting s (record s { consoles = slice_set s.consoles k d }) refl refl (λ p r found w. waits_set r r.session k c d s.consoles e owner foreground hung lines w)
 
 -- ---- foregrounds that are cleared
 

@@ -1,6 +1,6 @@
 -- Consoles: the input of a terminal in canonical mode, XBD 11.1.6 and 11.1.9. No input is echoed, and nothing that
 -- is written is processed (own).
-use Rattle.std.specs.Prelude.{ℕ, zero, suc, ◌+◌, ◌-◌, Bool, false, ◌&&◌, if◌then◌else◌, ◌==◌, nat_le, nat_lt, List, [], ◌∷◌, ◌++◌, length, take, drop, map, find, sum_by, slice_get, slice_set, Option, Some, None}
+use Rattle.std.specs.Prelude.{ℕ, zero, suc, ◌+◌, ◌-◌, Bool, false, not, ◌&&◌, if◌then◌else◌, ◌==◌, nat_le, nat_lt, List, [], ◌∷◌, ◌++◌, length, take, drop, map, find, sum_by, slice_get, slice_set, Option, Some, None}
 use Rattle.posix.specs.SignalNumbers.{INT, QUIT, TSTP}
 
 -- a terminal, XBD 11.1 General Terminal Interface
@@ -10,6 +10,7 @@ pub record Console : Type 0 where
   pub lines : List (List ℕ)  -- finished, and not read yet
   pub edited : List ℕ
   pub tostop : Bool  -- TOSTOP, XBD 11.2.5
+  pub hung_up : Bool  -- its line is lost, XBD 11.1.10
 
 -- at most so many bytes are edited; a further one is dropped (own); in Linux beyond 4,095
 abbrev pub most_edited : ℕ
@@ -23,7 +24,7 @@ abbrev pub most_waiting : ℕ
 most_waiting = 1024
 
 abbrev pub unused_console : Console
-unused_console = record { session = 0; foreground = 0; lines = []; edited = []; tostop = false }
+unused_console = record { session = 0; foreground = 0; lines = []; edited = []; tostop = false; hung_up = false }
 
 -- ---- a byte comes in
 
@@ -75,13 +76,35 @@ keyed_by (Some sig) byte c = flushed c
 
 -- what a byte makes of a console
 unfoldable pub keyed : ℕ → Console → Console
-keyed byte c = keyed_by (key_signal byte) byte c
+keyed byte c = if c.hung_up then c else keyed_by (key_signal byte) byte c
 
--- a byte finishes a line that has room
-unfoldable pub finishes : ℕ → Console → Bool
-finishes byte c =
+-- the signal of a byte; none while the line is lost (own)
+unfoldable pub signal_typed : ℕ → Console → Option ℕ
+signal_typed byte c = if c.hung_up then None else key_signal byte
+
+-- a byte that is edited finishes a line that has room
+unfoldable pub ends_edited : ℕ → Console → Bool
+ends_edited byte c =
     if byte == 10 then has_room (c.edited ++ 10 ∷ []) c.lines
     else byte == 4 && has_room c.edited c.lines
+
+-- and so of a console that has its line
+unfoldable pub finishes : ℕ → Console → Bool
+finishes byte c = if c.hung_up then false else ends_edited byte c
+
+-- ---- its line is lost
+
+-- The session whose terminal it is is told of it, XBD 11.1.10, but for one that was told already (own).
+abbrev pub is_told : Console → Bool
+is_told c = not c.hung_up && not (c.session == 0)
+
+abbrev pub session_told : Console → Option ℕ
+session_told c = if is_told c then Some c.session else None
+
+-- The input is discarded, and the console is hung up; of one that is nobody's the input alone is discarded (own). Until it
+-- is somebody's again a further hangup does nothing (own).
+unfoldable pub disconnected : Console → Console
+disconnected c = if c.hung_up then c else record (flushed c) { hung_up = not (c.session == 0) }
 
 -- ---- a line is read
 
@@ -96,9 +119,10 @@ line_taken n c = record c { lines = lines_left n c.lines }
 
 -- ---- whose it is
 
--- It becomes the controlling terminal of a session, with a foreground process group; what was typed before stays (own).
+-- It becomes the controlling terminal of a session, with a foreground process group; what was typed before stays, and its
+-- line is there again (own).
 unfoldable pub acquired : ℕ → ℕ → Console → Console
-acquired session group c = record c { session = session; foreground = group }
+acquired session group c = record c { session = session; foreground = group; hung_up = false }
 
 -- it is nobody's any more
 unfoldable pub released : Console → Console

@@ -4,23 +4,24 @@ use Rattle.posix.specs.declared.instr.Instr.{Instr}
 use Rattle.posix.specs.declared.instr.Trap.{Trap}
 use Rattle.posix.specs.declared.instr.Trap.TheVariants as trap
 use Rattle.posix.specs.declared.event.Event.{Event}
-use Rattle.posix.specs.declared.event.Event.TheVariants.{Step, Tick, Key}
+use Rattle.posix.specs.declared.event.Event.TheVariants.{Step, Tick, Key, Hangup}
 use Rattle.posix.specs.declared.entry.Entry.{Entry}
 use Rattle.posix.specs.declared.entry.Entry.TheVariants.{Noted}
 use Rattle.posix.specs.declared.process.Blocked.{Blocked}
 use Rattle.posix.specs.declared.process.Blocked.TheVariants as blocked
 use Rattle.posix.specs.Statuses.{killed}
-use Rattle.posix.specs.SignalNumbers.{KILL}
+use Rattle.posix.specs.SignalNumbers.{HUP, KILL}
 use Rattle.posix.specs.SignalSets.{set_in}
 use Rattle.posix.specs.Processes.{Process, Signals, Cpu, argument}
 use Rattle.posix.specs.States.{Program, State, change, lose_place, go_last, current, current_process}
 use Rattle.posix.specs.Execute.{exec_one}
-use Rattle.posix.specs.Consoles.{Console, keyed, key_signal, console_at, with_console}
+use Rattle.posix.specs.Consoles.{Console, keyed, signal_typed, is_told, disconnected, console_at, with_console}
 use Rattle.posix.specs.Outcomes.{Outcome, silent, Attempted, Done, Block, Again}
 use Rattle.posix.specs.Alarms.{pass_time}
 use Rattle.posix.specs.Attempts.{attempt, attempt_again}
 use Rattle.posix.specs.Generation.{is_pending}
-use Rattle.posix.specs.Choice.{chosen}
+use Rattle.posix.specs.Choice.{chosen, from_kernel}
+use Rattle.posix.specs.Notices.{signalled_all}
 use Rattle.posix.specs.Handlers.{give_mask}
 use Rattle.posix.specs.Ends.{end_process, signalled_group}
 use Rattle.posix.specs.Delivery.{deliver, fault}
@@ -116,7 +117,7 @@ signalled_from (Some n) group rs = signalled_group n group rs
 abbrev pub key_on : State → ℕ → ℕ → Option Console → State
 key_on s console byte None = s
 key_on s console byte (Some c) = record s {
-  processes = signalled_from (key_signal byte) c.foreground s.processes;
+  processes = signalled_from (signal_typed byte c) c.foreground s.processes;
   consoles = with_console console (keyed byte c) s.consoles;
 }
 
@@ -124,12 +125,30 @@ key_on s console byte (Some c) = record s {
 unfoldable pub key : State → ℕ → ℕ → State
 key s console byte = key_on s console byte (console_at console s.consoles)
 
+-- ---- a hangup
+
+-- the leader of the session gets HUP
+abbrev pub with_leader_told : Console → List Process → List Process
+with_leader_told c rs = if is_told c then signalled_all (record { sig = HUP; carried = from_kernel }) (c.session ∷ []) rs else rs
+
+abbrev pub hangup_on : State → ℕ → Option Console → State
+hangup_on s console None = s
+hangup_on s console (Some c) = record s {
+  processes = with_leader_told c s.processes;
+  consoles = with_console console (disconnected c) s.consoles;
+}
+
+-- on a console that isn't there nothing happens
+unfoldable pub hangup : State → ℕ → State
+hangup s console = hangup_on s console (console_at console s.consoles)
+
 -- ---- an event
 
 unfoldable pub happens : Bool → State → Event → Outcome
 happens granted s Step = step granted s (current_process s)
 happens granted s Tick = silent (tick s)
 happens granted s (Key console byte) = silent (key s console byte)
+happens granted s (Hangup console) = silent (hangup s console)
 
 abbrev pub settled : Outcome → Outcome
 settled o = record o { state = settle o.state }

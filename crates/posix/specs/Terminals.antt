@@ -143,11 +143,13 @@ read_from s me span [] = Block blocked.Read
 read_from s me span (line ∷ rest) =
     finish_moved (change (change_console s me.session (line_taken span.count)) me.pid (with_bytes span.address (take span.count line))) me.pid Read (take span.count line)
 
--- A read from the background, XBD 11.1.4; a count of 0 takes nothing.
+-- A read of a terminal whose line is lost finds the end of file, XBD 11.1.10, in the background, too (own). A read from the
+-- background, XBD 11.1.4; a count of 0 takes nothing.
 abbrev pub read_in : State → Process → Console → Result Span Errno → Attempted
 read_in s me c (Err why) = refused s me.pid Read why
 read_in s me c (Ok span) =
-    if is_in_background me c then (
+    if c.hung_up then finish_with s me.pid Read (pos 0)
+    else if is_in_background me c then (
     if blocks_or_ignores me TTIN || is_orphaned me.group s.processes then refused s me.pid Read EIO
     else signal_own_group s me TTIN)
     else if span.count == 0 then finish_with s me.pid Read (pos 0)
@@ -163,13 +165,13 @@ read s me = read_on s me (terminal s me)
 
 abbrev pub waits_in : Process → Console → Result Span Errno → Bool
 waits_in me c (Err why) = false
-waits_in me c (Ok span) = not (is_in_background me c) && (not (span.count == 0) && length c.lines == 0)
+waits_in me c (Ok span) = not (is_in_background me c) && (not (span.count == 0) && (not c.hung_up && length c.lines == 0))
 
 abbrev pub waits_on : Process → Option Console → Bool
 waits_on me None = false
 waits_on me (Some c) = waits_in me c (span_in (argument me 1) (argument me 2))
 
--- a read of the process has to wait: it is in the foreground, and no line is finished
+-- a read of the process has to wait: its terminal has a line, it is in the foreground, and no line is finished
 unfoldable pub waits_to_read : List Console → Process → Bool
 waits_to_read cs me = waits_on me (console_of me.session cs)
 
@@ -184,12 +186,14 @@ is_in_read (Some (blocked.Sigsuspend earlier)) = false
 abbrev pub is_reader : ℕ → Process → Bool
 is_reader session r = is_running r.life && (is_in_read r.blocked && r.session == session)
 
--- A write from the background is judged where TOSTOP is set, XBD 11.1.4.
+-- A write to a terminal whose line is lost is refused, XSH write, before the rule for the background (own). A write from the
+-- background is judged where TOSTOP is set, XBD 11.1.4.
 abbrev pub write_in : State → Process → Console → Result Span Errno → Attempted
 write_in s me c (Err why) = refused s me.pid Write why
 write_in s me c (Ok span) =
     let written = finish_moved s me.pid Write (bytes_in span me.cpu.memory) in
-    if c.tostop then if_allowed s me Write c written else written
+    if c.hung_up then refused s me.pid Write EIO
+    else if c.tostop then if_allowed s me Write c written else written
 
 abbrev pub write_on : State → Process → Option Console → Attempted
 write_on s me None = refused s me.pid Write ENOTTY

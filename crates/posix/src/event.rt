@@ -9,4 +9,6 @@ pub enum Event {
     Tick,
     /// A byte comes on a console, which counts from 1.
     Key { console: u8, byte: u8 },
+    /// The line of a console, which counts from 1, is lost (XBD 11.1.10 Modem Disconnect).
+    Hangup { console: u8 },
 }

@@ -1,84 +1,35 @@
 -- What the words of the command line ask for.
-use Rattle.std.proofs.Common.{◌≡◌, ◌⊎◌, ◌∙◌, List, [], ◌∷◌, Option, Some, None, true, false, ap, ap₂, refl, sym, subst, inl, inr, Bor, codes, option_and_then, option_map, slice_get, find, Result, Ok, Err, IfErr, IfOk, unwrap_or}
+use Rattle.std.proofs.Common.{◌≡◌, ◌⊎◌, ◌∙◌, List, Option, Some, None, true, false, ap, ap₂, refl, sym, Bor, codes, option_and_then, option_map, Result, Ok, Err, IfErr, IfOk, unwrap_or}
 use Rattle.std.specs.Str.{bytes_eq}
-use Rattle.std.proofs.lemmas.Option.{slice_get-map}
 use Rattle.std.proofs.lemmas.Slice.Eq.{bytes_eq-Decides}
-use Rattle.clap.proofs.OnLiterals.{clap_on_literals}
-use Rattle.clap.proofs.WalkLemmas.{find_row}
-use Rattle.clap.specs.Facts.{Entry}
-use Rattle.clap.specs.Kinds.{FailsBy, HasKind, IsAmong, Kinds}
-use Rattle.clap.specs.Walk.{row_of}
-use Rattle.clap.specs.Words.{App, Row, Text, HasMatchesOf, fault_of, first_of, first_value, found_of, is_simple, is_simple_and_free, kind_of, rows_of, subcommand_rows, subcommand_name_of, subcommand_rows_of}
+use Rattle.clap.specs.Kinds.{FailsBy}
+use Rattle.clap.specs.Words.{App, Row, Text, HasMatchesOf, fault_of, first_of, first_value, found_of, is_simple_and_free, kind_of, rows_of, subcommand_rows, subcommand_name_of, subcommand_rows_of}
 use Rattle.std.specs.Prelude.{Box}
 use Rattle.std.specs.Box.{box_value}
 use Rattle.clap.specs.declared.parser.matches.ArgMatches.TheViews.{out-ArgMatches, out-SubCommand}
 use Rattle.clap.specs.declared.parser.matches.SubCommand.{SubCommand}
 use Rattle.clap.specs.declared.error.Error.{Error}
-use Rattle.clap.specs.declared.error.kind.ErrorKind.{ErrorKind}
 use Rattle.clap.specs.declared.error.kind.ErrorKind.TheVariants as kind
 use Rattle.clap.specs.declared.parser.matches.ArgMatches.{ArgMatches}
-use Rattle.clap.specs.declared.parser.matches.Found.{Found}
-use Rattle.running.specs.Words.{Asked, audit_asked, command_line, request_in, request_of_words, run_asked, unless_refused}
+use Rattle.inputs.proofs.RequestLemmas.{refused_words, taken_words}
+use Rattle.inputs.proofs.RowLemmas.{first_value_of_row}
+use Rattle.running.specs.Words.{audit_asked, command_line, request_in, request_of_words, run_asked}
 
-simple_and_free : is_simple_and_free command_line ≡ true
-unfolding clap_on_literals
-simple_and_free = refl
-
-simple : is_simple command_line ≡ true
-unfolding clap_on_literals
-simple = refl
-
-where_refused : (kinds : Kinds) (k : ErrorKind) (names : Option Asked) → IsAmong k kinds → unless_refused kinds names ≡ None
-where_refused [] k names h = absurd h
-where_refused (x ∷ xs) k names h = refl
-
--- words that are refused for their own sake are no run's
-refused_words : (a : App) (words : List Text) (e : Error) → a ≡ command_line
-    → (is_simple_and_free a ≡ true → HasKind (fault_of a words) e) → (kind_of e ≡ kind.OutOfMemory) ⊎ (request_of_words words ≡ None)
-refused_words a words e is_command fails =
-    let P : App → Type 0 = λ b. is_simple_and_free b ≡ true → HasKind (fault_of b words) e in
-    elim (subst P is_command fails simple_and_free) [
-      | inl memory ↦ inl memory
-      | inr among ↦ inr (where_refused (fault_of command_line words) (kind_of e) _ among)
-    ]
-
--- the names in the matches of words that are taken
-taken_words : (a : App) (words : List Text) (m : ArgMatches) → a ≡ command_line
-    → (is_simple_and_free a ≡ true → fault_of a words ≡ []) → HasMatchesOf a words m
-    → option_and_then request_in (subcommand_rows_of m) ≡ request_of_words words
-taken_words a words m is_command fails matches =
-    let P : App → Type 0 = λ b. is_simple_and_free b ≡ true → fault_of b words ≡ [] in
-    let Q : App → Type 0 = λ b. HasMatchesOf b words m in
-    let none : fault_of command_line words ≡ [] = subst P is_command fails simple_and_free in
-    let read = (subst Q is_command matches simple).1 in
-    let taken : (kinds : Kinds) → kinds ≡ [] → (names : Option Asked) → names ≡ unless_refused kinds names =
-    λ kinds h names. sym (ap (λ k. unless_refused k names) h) in
-    ap (option_and_then request_in) read ∙ taken (fault_of command_line words) none _
+is_simple : is_simple_and_free command_line ≡ true
+is_simple = refl
 
 -- what is asked for by matches, and why there are none
 pub asked_by_matches : (a : App) (words : List Text) (result : Result ArgMatches Error) → a ≡ command_line
     → (is_simple_and_free a ≡ true → FailsBy (fault_of a words) result) → IfOk result (HasMatchesOf a words)
     → IfOk result (λ m. option_and_then request_in (subcommand_rows_of m) ≡ request_of_words words)
-asked_by_matches a words (Ok m) is_command fails matches = taken_words a words m is_command fails matches
+asked_by_matches a words (Ok m) is_command fails matches = sym (taken_words a command_line words m (λ rows sub. option_and_then request_in sub) is_simple is_command fails matches)
 asked_by_matches a words (Err e) is_command fails matches = tt
 
 pub asked_by_none : (a : App) (words : List Text) (result : Result ArgMatches Error) → a ≡ command_line
     → (is_simple_and_free a ≡ true → FailsBy (fault_of a words) result)
     → IfErr result (λ e. (kind_of e ≡ kind.OutOfMemory) ⊎ (request_of_words words ≡ None))
 asked_by_none a words (Ok m) is_command fails = tt
-asked_by_none a words (Err e) is_command fails = refused_words a words e is_command fails
-
-value_of_row : (id : Text) (o : Option Entry)
-    → option_and_then (λ r. slice_get r.values 0) (option_map row_of o)
-    ≡ option_and_then (λ a. option_map (λ s. s.now) (slice_get a.vals.items 0)) (option_map (λ e. e.1) o)
-value_of_row id None = refl
-value_of_row id (Some e) = slice_get-map (λ s. s.now) e.1.vals.items 0
-
--- the first value of an argument is that of its row
-pub first_value_of_row : (f : Found) (id : Text) → first_of id (rows_of f) ≡ first_value f id
-first_value_of_row f id =
-    ap (option_and_then (λ r. slice_get r.values 0)) (find_row f.entries.items id)
-    ∙ value_of_row id (find (λ e. bytes_eq e.0.now id) f.entries.items)
+asked_by_none a words (Err e) is_command fails = refused_words a command_line words e _ is_simple is_command fails
 
 -- a subcommand's name and matches, together
 both_of : (a b : Option (Text × List Row)) → option_map (λ (p : Text × List Row). p.0) a ≡ option_map (λ (p : Text × List Row). p.0) b

@@ -1,9 +1,9 @@
 -- The words of the command line, and what they ask for.
-use Rattle.std.specs.Prelude.{◌≡◌, List, ◌∷◌, [], Option, Some, None, codes, true, option_and_then, option_map, if◌then◌else◌}
+use Rattle.std.specs.Prelude.{◌≡◌, List, Option, Some, None, codes, true, option_and_then, option_map, if◌then◌else◌}
 use Rattle.std.specs.Str.{bytes_eq}
 use Rattle.clap.specs.Simple.{on_top}
-use Rattle.clap.specs.Words.{App, Kinds, Row, Rule, Shape, Text, fault_of, first_of, new_app, new_rule, subcommand_of, with_rule, with_subcommand}
-use Rattle.clap.specs.declared.builder.ArgAction.TheVariants.{Set}
+use Rattle.clap.specs.Words.{App, Row, Shape, Text, fault_of, first_of, new_app, subcommand_of, with_rule, with_subcommand}
+use Rattle.inputs.specs.Words.{file_rule, unless_refused, without_program_name}
 use Rattle.running.specs.declared.words.Request.{Request}
 use Rattle.running.specs.declared.words.Request.TheVariants as request
 
@@ -13,17 +13,11 @@ pub data Asked : Type 0 where
   AsksAudit : Text → Asked  -- trace
 
 -- `run WORLD EVENTS` and `audit TRACE`
-abbrev pub required_rule : Text → Rule
-required_rule id = record (new_rule id) { required = true; action = Some Set }
-
 abbrev pub run_command : App
-run_command = with_rule (with_rule (new_app (codes "run")) (required_rule (codes "world"))) (required_rule (codes "events"))
+run_command = with_rule (with_rule (new_app (codes "run")) (file_rule (codes "world"))) (file_rule (codes "events"))
 
 abbrev pub audit_command : App
-audit_command = with_rule (new_app (codes "audit")) (required_rule (codes "trace"))
-
-abbrev pub without_program_name : Shape → Shape
-without_program_name command = record command { no_binary_name = true }
+audit_command = with_rule (new_app (codes "audit")) (file_rule (codes "trace"))
 
 abbrev pub with_required_subcommand : Shape → Shape
 with_required_subcommand command = record command { subcommand_required = true }
@@ -49,11 +43,6 @@ abbrev pub request_in : Text × List Row → Option Asked
 request_in read = if bytes_eq read.0 (codes "run") then run_asked (first_of (codes "world") read.1) (first_of (codes "events") read.1)
     else if bytes_eq read.0 (codes "audit") then audit_asked (first_of (codes "trace") read.1)
     else None
-
--- What is asked for, where the words aren't refused.
-abbrev pub unless_refused : Kinds → Option Asked → Option Asked
-unless_refused [] asked = asked
-unless_refused (kind ∷ more) asked = None
 
 -- What words ask for, if they aren't refused.
 abbrev pub request_of_words : List Text → Option Asked

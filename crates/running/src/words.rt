@@ -3,7 +3,8 @@
 ghost use Rattle.std.specs.Prelude.{◌≡◌, ◌⊎◌, IfOk, IfErr, None, false, map, option_and_then, option_map};
 ghost use Rattle.clap.specs.Words.{app_of, found_of, kind_of, rows_of, rule_of, subcommand_rows_of, with_rule};
 ghost use Rattle.clap.specs.declared.builder.command.Command.TheViews.{out-Command as fields_of};
-ghost use Rattle.running.specs.Words.{IsAskedBy, audit_asked, audit_command, bare_command, command_line, command_to_run, request_in, request_of_words, required_rule, run_asked, run_command, said};
+ghost use Rattle.inputs.specs.Words.{file_rule};
+ghost use Rattle.running.specs.Words.{IsAskedBy, audit_asked, audit_command, bare_command, command_line, command_to_run, request_in, request_of_words, run_asked, run_command, said};
 
 use clap::error::ErrorKind;
 use clap::{Arg, ArgAction, ArgMatches, Command, Error};
@@ -24,7 +25,7 @@ pub enum Request<'a> {
 
 /// A required argument.
 fn required<'a>(alloc: Global, name: &'a str) -> Arg<'a>
-    ensures rule { rule_of result ≡ required_rule name.entry.now }
+    ensures rule { rule_of result ≡ file_rule name.entry.now }
     ensures local { result.global ≡ false }
 {
     Arg::new(alloc, name).required(true).action(ArgAction::Set)
@@ -36,7 +37,7 @@ fn with_required<'a>(
     command: Command<'a>,
     name: &'a str,
 ) -> Result<Command<'a>, AllocError>
-    ensures rule { IfOk result (λ c. app_of c ≡ with_rule (app_of command.entry) (required_rule name.entry.now)) }
+    ensures rule { IfOk result (λ c. app_of c ≡ with_rule (app_of command.entry) (file_rule name.entry.now)) }
     ensures local { IfOk result (λ c. (fields_of command.entry).has_globals ≡ false → (fields_of c).has_globals ≡ false) }
 {
     command.arg(required(alloc, name))

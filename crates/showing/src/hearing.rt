@@ -13,6 +13,19 @@ use telling::{Actor, Reading, Sent, Teller};
 #[derive(Drop)]
 pub struct Telling<'l, 't> {
     pub teller: Teller<'l, 't>,
+    /// Whom the console tells of the event that is given: the foreground process group of a key, or the leader of a
+    /// hangup; number 0 for nobody.
+    told: Pid,
+}
+
+impl<'l, 't> Telling<'l, 't> {
+    /// No event is given yet.
+    pub fn new(teller: Teller<'l, 't>) -> Self {
+        Telling {
+            teller,
+            told: Pid::NONE,
+        }
+    }
 }
 
 /// Reads these processes, after an event that sent this, or before one.
@@ -78,14 +91,19 @@ fn actor_of(kernel: &mut Kernel) -> Option<Actor>
     Some(Actor::new(it, kernel.look(pid)))
 }
 
-/// The foreground process group of the console that an event is for.
-fn foreground_of(kernel: &Kernel, event: Event) -> Pid {
-    let Event::Key { console, .. } = event else {
-        return Pid::NONE;
+/// Whom a console tells of an event that is given next: the foreground process group of a key, or the leader of a
+/// hangup; number 0 for nobody.
+fn told_of(kernel: &Kernel, event: Event) -> Pid {
+    let number = match event {
+        Event::Key { console, .. } | Event::Hangup { console } => console,
+        Event::Step | Event::Tick => return Pid::NONE,
     };
-    match kernel.console(usize::from(console).saturating_sub(1)) {
-        Some(console) => console.foreground(),
-        None => Pid::NONE,
+    match kernel.console(usize::from(number).saturating_sub(1)) {
+        Some(console) if !console.is_hung_up() => match event {
+            Event::Hangup { .. } => console.session(),
+            _ => console.foreground(),
+        },
+        _ => Pid::NONE,
     }
 }
 
@@ -96,8 +114,9 @@ impl Observer for Telling<'_, '_> {
         }
         let actor = match event {
             Event::Step => actor_of(&mut replay.kernel),
-            Event::Tick | Event::Key { .. } => None,
+            Event::Tick | Event::Key { .. } | Event::Hangup { .. } => None,
         };
+        self.told = told_of(&replay.kernel, event);
         self.teller.begin(actor);
         Ok(())
     }
@@ -109,8 +128,7 @@ impl Observer for Telling<'_, '_> {
         entries: &[Entry],
     ) -> Result<(), AllocError> {
         let (alloc, kernel) = (self.teller.view.alloc, &mut replay.kernel);
-        let foreground = foreground_of(kernel, event);
-        let sent = self.teller.sent(event, entries, foreground, kernel.ticks());
+        let sent = self.teller.sent(event, entries, self.told, kernel.ticks());
         let mut reading = Reading::new(alloc, turns(alloc, kernel)?);
         read_concerned(&self.teller, kernel, entries, sent, &mut reading)?;
         self.teller

@@ -183,9 +183,7 @@ fn serve_calls<'a, 't, O: Sink>(
 ) -> Result<(), Failure<'a>>
     requires { length inputs.now.events ≤ most_events }
 {
-    let mut telling = Telling {
-        teller: Teller::new(view, inputs.world.programs()),
-    };
+    let mut telling = Telling::new(Teller::new(view, inputs.world.programs()));
     let done = put_events(replay, &mut telling, &inputs.events, last, out);
     drop(telling);
     done

@@ -161,9 +161,7 @@ impl<'l, 't> Steps<'l, 't> {
             view,
             world,
             events,
-            telling: Telling {
-                teller: Teller::new(view, world.programs()),
-            },
+            telling: Telling::new(Teller::new(view, world.programs())),
         }
     }
 

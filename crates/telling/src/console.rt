@@ -45,6 +45,9 @@ fn put_typed(text: &mut Prose, console: &Console) {
     if console.tostop() {
         text.push_str(", TOSTOP");
     }
+    if console.is_hung_up() {
+        text.push_str(", hung up");
+    }
     text.push_str("\n");
 }
 

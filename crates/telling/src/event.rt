@@ -274,6 +274,9 @@ impl<'l, 't> Teller<'l, 't> {
         match (event, self.actor) {
             (Event::Tick, _) => self.line.push_str("tick"),
             (Event::Key { console, byte }, _) => put_key(&mut self.line, console, byte),
+            (Event::Hangup { console }, _) => {
+                self.line.push_with("hangup ", console);
+            }
             (Event::Step, Some(actor)) => self.put_act(new, &actor, entries),
             (Event::Step, None) => self.line.push_str("nobody acts"),
         }
@@ -419,15 +422,10 @@ impl<'l, 't> Teller<'l, 't> {
         self.actor = actor;
     }
 
-    /// What an event sends, by the call of its actor, if that doesn't wait then; by a key, to this foreground process group;
-    /// or by the alarms that ring, as so many ticks have passed. The entries are those of the event.
-    pub fn sent(
-        &self,
-        event: Event,
-        entries: &[Entry],
-        foreground: Pid,
-        ticks: u64,
-    ) -> Option<Sent> {
+    /// What an event sends, by the call of its actor, if that doesn't wait then; by a key, to the foreground process group
+    /// `told`; by a hangup, to the leader `told`; or by the alarms that ring, as so many ticks have passed. The entries are
+    /// those of the event. Number 0 for nobody.
+    pub fn sent(&self, event: Event, entries: &[Entry], told: Pid, ticks: u64) -> Option<Sent> {
         match event {
             Event::Tick => Some(Sent {
                 sig: Sig::ALRM,
@@ -435,7 +433,11 @@ impl<'l, 't> Teller<'l, 't> {
             }),
             Event::Key { byte, .. } => Some(Sent {
                 sig: signal_of_key(byte)?,
-                whom: Whom::Group(foreground),
+                whom: Whom::Group(told),
+            }),
+            Event::Hangup { .. } => Some(Sent {
+                sig: Sig::HUP,
+                whom: Whom::Leader(told),
             }),
             Event::Step => match &self.actor {
                 Some(actor) => self.sent_by(actor, entries),

@@ -101,6 +101,8 @@ pub enum Whom {
     /// Those that a process with these fields names, if it may signal them.
     Named(Snapshot, Target),
     Group(Pid),
+    /// The leader of a session whose terminal hangs up.
+    Leader(Pid),
     /// Those whose alarm rings, as so many ticks have passed.
     Ringing(u64),
 }
@@ -137,7 +139,7 @@ impl Sent {
     /// The one process that is named; number 0 where it may be several.
     pub fn target(&self) -> Pid {
         match &self.whom {
-            Whom::Named(_, Target::Process(pid)) => *pid,
+            Whom::Named(_, Target::Process(pid)) | Whom::Leader(pid) => *pid,
             _ => Pid::NONE,
         }
     }
@@ -154,6 +156,7 @@ impl Sent {
                         .may_signal(&it.creds, Some(self.sig), same_session)
             }
             Whom::Group(group) => it.group == *group,
+            Whom::Leader(pid) => it.pid == *pid,
             Whom::Ringing(ticks) => it.alarm == Some(*ticks),
         }
     }

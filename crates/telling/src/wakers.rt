@@ -107,7 +107,10 @@ fn put_reading(text: &mut Prose, it: &Snapshot, terminal: Option<Terminal>) {
     let Some(terminal) = terminal else {
         return;
     };
-    text.push_with("by a finished line of console ", terminal.number);
+    text.push_with(
+        "by a finished line or a hangup of console ",
+        terminal.number,
+    );
     text.push_str(", ");
     if terminal.is_shared {
         text.push_str("once it is in the background, ");

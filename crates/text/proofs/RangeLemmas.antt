@@ -7,20 +7,21 @@ use Rattle.std.proofs.lemmas.Bool.{leb-true}
 use Rattle.std.proofs.lemmas.Bool.Decides.{nat_tests}
 use Rattle.std.proofs.lemmas.List.{length-replicate, length-map}
 use Rattle.posix.specs.declared.event.Event.{Event}
-use Rattle.posix.specs.declared.event.Event.TheVariants.{Step, Tick, Key}
+use Rattle.posix.specs.declared.event.Event.TheVariants.{Step, Tick, Key, Hangup}
 use Rattle.text.specs.declared.fault.Reason.{Reason}
 use Rattle.text.specs.declared.fault.Reason.TheVariants.{BadNumber, OutOfRange, UnknownWord}
 use Rattle.text.specs.declared.fault.TextFault.{TextFault}
 use Rattle.text.specs.Lines.{all_lines}
 use Rattle.text.specs.Numbers.{hex_digit, byte_in, number_in}
 use Rattle.text.specs.Reading.{◌>>=◌, Read, first, no_more, words_within, unless}
-use Rattle.text.specs.EventTexts.{most_events, run_within, counted, bytes_within, some_keys, keys, event_words, event_line, Reading, start, judged, next_line, read_lines, event_text}
+use Rattle.text.specs.EventTexts.{most_events, run_within, counted, bytes_within, some_keys, keys, hangup, event_words, event_line, Reading, start, judged, next_line, read_lines, event_text}
 
 -- a key brings a byte
 abbrev pub BringsByte : Event → Type 0
 BringsByte Step = Unit {0}
 BringsByte Tick = Unit {0}
 BringsByte (Key console byte) = byte < 256
+BringsByte (Hangup console) = Unit {0}
 
 -- events that bring bytes, so many at most
 pub record AreEvents (room : ℕ) (es : List Event) : Type 0 where
@@ -110,15 +111,34 @@ counted_small room event ws es b e = by (first (number_in 1 1000000) ws) e
     by (Ok n) e = run n.value n.rest (nat_le n.value room) refl e
     by (Err r) e = absurd (cc)
 
+hangup_small : (consoles room : ℕ) (ws : List (List ℕ)) (es : List Event) → hangup consoles room ws ≡ Ok es → AreEvents room es
+unfolding hangup
+hangup_small consoles room ws es e = by (first (number_in 1 consoles) ws) e
+  where
+    ends : (rest : List (List ℕ)) (more : List Event) → no_more rest more ≡ Ok es → more ≡ es
+    ends [] more e = cc
+    ends (w ∷ rest) more e = absurd (cc)
+
+    run : (c : ℕ) (rest : List (List ℕ)) (t : Bool) → nat_le 1 room ≡ t → (cond t (Ok (replicate 1 (Hangup c))) (Err OutOfRange) >>= λ events. no_more rest events) ≡ Ok es → AreEvents room es
+    run c rest true t e =
+        let l = leb-true 1 room t in
+        subst (AreEvents room) (ends rest (replicate 1 (Hangup c)) e) (record { bytes = (tt, tt); few = omega (arith, l) })
+    run c rest false t e = absurd (cc)
+
+    by : (x : Result (Read ℕ) Reason) → (x >>= λ console. run_within room (Hangup console.value) 1 >>= λ events. no_more console.rest events) ≡ Ok es → AreEvents room es
+    by (Ok c) e = run c.value c.rest (nat_le 1 room) refl e
+    by (Err r) e = absurd (cc)
+
 words_small : (consoles room : ℕ) (ws : List (List ℕ)) (es : List Event) → event_words consoles room ws ≡ Ok es → AreEvents room es
 words_small consoles room [] es e = let same : [] ≡ es = cc in subst (AreEvents room) same (record { bytes = tt; few = omega arith })
-words_small consoles room (w ∷ ws) es e = by (bytes_eq w (codes "step")) (bytes_eq w (codes "tick")) (bytes_eq w (codes "key")) e
+words_small consoles room (w ∷ ws) es e = by (bytes_eq w (codes "step")) (bytes_eq w (codes "tick")) (bytes_eq w (codes "key")) (bytes_eq w (codes "hangup")) e
   where
-    by : (a b c : Bool) → cond a (counted room Step ws) (cond b (counted room Tick ws) (cond c (keys consoles room ws) (Err UnknownWord))) ≡ Ok es → AreEvents room es
-    by true b c e = counted_small room Step ws es tt e
-    by false true c e = counted_small room Tick ws es tt e
-    by false false true e = keys_small consoles room ws es e
-    by false false false e = absurd (cc)
+    by : (a b c d : Bool) → cond a (counted room Step ws) (cond b (counted room Tick ws) (cond c (keys consoles room ws) (cond d (hangup consoles room ws) (Err UnknownWord)))) ≡ Ok es → AreEvents room es
+    by true b c d e = counted_small room Step ws es tt e
+    by false true c d e = counted_small room Tick ws es tt e
+    by false false true d e = keys_small consoles room ws es e
+    by false false false true e = hangup_small consoles room ws es e
+    by false false false false e = absurd (cc)
 
 line_small : (consoles room : ℕ) (line : List ℕ) (es : List Event) → event_line consoles room line ≡ Ok es → AreEvents room es
 line_small consoles room line es e = by (words_within line) e

@@ -1,7 +1,7 @@
 -- Event texts: what a line says, what a text says, and what a reader keeps of a text.
 use Rattle.std.specs.Prelude.{◌≡◌, ◌⊎◌, ℕ, ◌+◌, ◌-◌, List, [], ◌∷◌, ◌++◌, length, map, replicate, fold, codes, nat_le, nat_lt, if◌then◌else◌, Option, Some, None, Result, Ok, Err, take, bytes_eq}
 use Rattle.posix.specs.declared.event.Event.{Event}
-use Rattle.posix.specs.declared.event.Event.TheVariants.{Step, Tick, Key}
+use Rattle.posix.specs.declared.event.Event.TheVariants.{Step, Tick, Key, Hangup}
 use Rattle.text.specs.declared.fault.Reason.{Reason}
 use Rattle.text.specs.declared.fault.Reason.TheVariants.{UnknownWord, OutOfRange, Memory}
 use Rattle.text.specs.declared.fault.TextFault.{TextFault}
@@ -50,6 +50,13 @@ keys consoles room ws = do
   bytes ← bytes_within room console.rest
   some_keys console.value bytes
 
+-- `C` behind `hangup`, in a world of so many consoles
+unfoldable pub hangup : ℕ → ℕ → List (List ℕ) → Result (List Event) Reason
+hangup consoles room ws = do
+  console ← first (number_in 1 consoles) ws
+  events ← run_within room (Hangup console.value) 1
+  no_more console.rest events
+
 -- the events of a line's words
 abbrev pub event_words : ℕ → ℕ → List (List ℕ) → Result (List Event) Reason
 event_words consoles room [] = Ok []
@@ -57,6 +64,7 @@ event_words consoles room (w ∷ ws) =
     if bytes_eq w (codes "step") then counted room Step ws
     else if bytes_eq w (codes "tick") then counted room Tick ws
     else if bytes_eq w (codes "key") then keys consoles room ws
+    else if bytes_eq w (codes "hangup") then hangup consoles room ws
     else Err UnknownWord
 
 -- the events of one line, where there is room for so many

@@ -3,7 +3,7 @@
 ghost use Rattle.std.specs.Prelude.{◌≡◌, ◌≢◌, ◌-◌, ◌^◌, ◌<◌, ◌≤◌, [], ◌∷◌, ◌++◌, length, List, ℕ, Some, None, Ok, Err, MatchResult, IfOk, IfErr, IfSome, IsOk, IsSome};
 ghost use Rattle.text.specs.Words.{words};
 ghost use Rattle.text.specs.Reading.{Answers, IsFaultOf};
-ghost use Rattle.text.specs.EventTexts.{Adds, EndsLine, Meets, HasRead, event_line as event_line_of, counted as counted_of, keys as keys_of, bytes_within as bytes_within_of, event_text, most_events};
+ghost use Rattle.text.specs.EventTexts.{Adds, EndsLine, Meets, HasRead, event_line as event_line_of, counted as counted_of, keys as keys_of, hangup as hangup_of, bytes_within as bytes_within_of, event_text, most_events};
 
 use crate::event_list::EventList;
 use crate::fault::{Reason, TextFault};
@@ -82,6 +82,25 @@ fn add_keys(list: &mut EventList, consoles: u8, line: &[u8]) -> Result<(), Reaso
     Ok(())
 }
 
+/// Adds the event of `hangup C`, C from 1 to the number of consoles, where `line` is what stands behind the first
+/// word. A C that is one event more than a text may have is `OutOfRange`. After an error the list is unchanged.
+#[tactic(auto, unfolding(crate::specs::EventTexts::hangup))]
+fn add_hangup(list: &mut EventList, consoles: u8, line: &[u8]) -> Result<(), Reason>
+    requires { length list.old ≤ most_events }
+    ensures adds { Adds list.old list.new result (hangup_of consoles (most_events - length list.old) (words line.now)) }
+    ensures within { length list.new ≤ most_events }
+    ensures some { hangup_of consoles (most_events - length list.old) (words line.now) ≢ Ok [] }
+{
+    let (word, rest) = first_word(line)?;
+    let console = number_in(1, u32::from(consoles), word)? as u8;
+    if list.len() == MAX_EVENTS {
+        return Err(Reason::OutOfRange);
+    }
+    no_more_words(rest)?;
+    list.push(Event::Hangup { console }, 1)?;
+    Ok(())
+}
+
 /// Adds the events of a line in a world of so many consoles. After an error the list is unchanged. A line that
 /// stands for no events takes no memory, so it has no error.
 fn add_line(list: &mut EventList, consoles: u8, line: &[u8]) -> Result<(), Reason>
@@ -99,6 +118,8 @@ fn add_line(list: &mut EventList, consoles: u8, line: &[u8]) -> Result<(), Reaso
         add_counted(list, Event::Tick, rest)
     } else if word == b"key".as_slice() {
         add_keys(list, consoles, rest)
+    } else if word == b"hangup".as_slice() {
+        add_hangup(list, consoles, rest)
     } else {
         Err(Reason::UnknownWord)
     }
@@ -107,8 +128,8 @@ fn add_line(list: &mut EventList, consoles: u8, line: &[u8]) -> Result<(), Reaso
 /// Reads an event text that comes in pieces, however it is cut.
 ///
 /// A line is `step N` or `tick N`, N from 1 to 1,000,000: so many events; or `key C B ..`, C from 1 to the
-/// number of consoles, with one or more bytes B of two hexadecimal digits each: a key for each byte. A text
-/// has at most 1,000,000,000,000 events.
+/// number of consoles, with one or more bytes B of two hexadecimal digits each: a key for each byte; or
+/// `hangup C`, with such a C. A text has at most 1,000,000,000,000 events.
 #[derive(Drop)]
 pub struct EventReader {
     consoles: u8,

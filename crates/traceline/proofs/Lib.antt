@@ -5,3 +5,4 @@ pub mod CallLemmas
 pub mod FormLemmas
 pub mod EntryLemmas
 pub mod ReadingLemmas
+pub mod LineLemmas

@@ -1,7 +1,7 @@
 //! A console: the keys that are typed at it, the lines that they make, and whose terminal it is.
 
 ghost use Rattle.std.specs.Prelude.{◌≡◌, ◌≤◌, ◌==◌, ◌||◌, ◌++◌, not, length, IfOk};
-ghost use Rattle.posix.specs.Consoles.{unused_console, keyed, key_signal, edit as edited_by, finishes, finish_line, has_room, flushed, erased, with_byte, line_taken, acquired, released, with_foreground, with_tostop};
+ghost use Rattle.posix.specs.Consoles.{unused_console, keyed, keyed_by, key_signal, signal_typed, disconnected, session_told, edit as edited_by, finishes, ends_edited, finish_line, has_room, flushed, erased, with_byte, line_taken, acquired, released, with_foreground, with_tostop};
 ghost use Rattle.tty.specs.Limits.{IsWithinLimits};
 ghost use Rattle.tty.specs.Lines.{Takes};
 
@@ -48,6 +48,14 @@ pub struct KeyEffect {
     pub finished: bool,
 }
 
+impl KeyEffect {
+    /// No effect.
+    const NOTHING: KeyEffect = KeyEffect {
+        signal: None,
+        finished: false,
+    };
+}
+
 /// The signal that a key sends: INT for INTR, QUIT for QUIT, TSTP for SUSP (XBD 11.1.9).
 #[tactic(auto, unfolding(posix::specs::Consoles::key_signal))]
 fn signal_of(key: u8) -> Option<Sig>
@@ -73,6 +81,8 @@ pub struct Console {
     /// The line that is edited, at most 255 bytes.
     edited: ArrayVec<u8, 255>,
     tostop: bool,
+    /// Whether its line is lost.
+    hung_up: bool,
 }
 
 impl Model for Console {
@@ -81,7 +91,7 @@ impl Model for Console {
 
     ghost Value = { Console };
 
-    ghost view = { λ c. record { session = c.session; foreground = c.foreground; lines = c.lines; edited = c.edited.items; tostop = c.tostop } };
+    ghost view = { λ c. record { session = c.session; foreground = c.foreground; lines = c.lines; edited = c.edited.items; tostop = c.tostop; hung_up = c.hung_up } };
 
     ghost invariant = { λ c. AreWithinLimits c.lines c.edited.items };
 }
@@ -98,6 +108,7 @@ impl Console {
             lines,
             edited: ArrayVec::new(),
             tostop: false,
+            hung_up: false,
         })
     }
 
@@ -127,14 +138,42 @@ impl Console {
         self.tostop
     }
 
+    /// Whether its line is lost (XBD 11.1.10).
+    pub fn is_hung_up(&self) -> bool
+        ensures is { result ≡ self.now.hung_up }
+        ensures limits { IsWithinLimits self.now }
+    {
+        self.hung_up
+    }
+
     /// It becomes the controlling terminal of a session, with a foreground process group (XBD 11.1.3). What was typed
-    /// stays (own).
+    /// stays, and its line is there again (own).
     #[tactic(auto, unfolding(posix::specs::Consoles::acquired))]
     pub fn acquire(&mut self, session: Pid, group: Pid)
         ensures { self.new ≡ acquired session group self.old }
     {
         self.session = session;
         self.foreground = group;
+        self.hung_up = false;
+    }
+
+    /// Its line is lost: all input is discarded, and the console is hung up, where it is a session's terminal, until it is
+    /// acquired again. The session that is to be told, if there is one. Nothing happens where it is hung up already
+    /// (XBD 11.1.10; own).
+    #[tactic(auto, unfolding(posix::specs::Consoles::disconnected, posix::specs::Consoles::flushed))]
+    pub fn hang_up(&mut self) -> Option<Pid>
+        ensures console { self.new ≡ disconnected self.old }
+        ensures told { result ≡ session_told self.old }
+    {
+        if self.hung_up {
+            return None;
+        }
+        self.flush();
+        if self.session == Pid::NONE {
+            return None;
+        }
+        self.hung_up = true;
+        Some(self.session)
     }
 
     /// It is nobody's controlling terminal any more. What was typed stays (own).
@@ -181,11 +220,24 @@ impl Console {
     /// A key is pressed (XBD 11.1.6, 11.1.9). A signal key discards all input, edited and finished. ERASE and KILL
     /// edit the line; NL finishes it, and so does EOF, which isn't put into it. A line that has no room, as the 65th
     /// or beyond 1,024 bytes, is dropped whole (own). Any other byte is edited, and dropped where 255 are (own).
-    #[tactic(auto, unfolding(posix::specs::Consoles::keyed, posix::specs::Consoles::finishes))]
+    /// Nothing changes while it is hung up.
+    #[tactic(auto, unfolding(posix::specs::Consoles::keyed, posix::specs::Consoles::signal_typed, posix::specs::Consoles::finishes))]
     pub fn key(&mut self, byte: u8) -> KeyEffect
         ensures console { self.new ≡ keyed byte self.old }
-        ensures signal { result.signal ≡ key_signal byte }
+        ensures signal { result.signal ≡ signal_typed byte self.old }
         ensures finished { result.finished ≡ finishes byte self.old }
+    {
+        if self.hung_up {
+            return KeyEffect::NOTHING;
+        }
+        self.typed(byte)
+    }
+
+    /// A key of a console that has its line.
+    fn typed(&mut self, byte: u8) -> KeyEffect
+        ensures console { self.new ≡ keyed_by (key_signal byte) byte self.old }
+        ensures signal { result.signal ≡ key_signal byte }
+        ensures finished { result.finished ≡ ends_edited byte self.old }
     {
         let signal = signal_of(byte);
         let finished = match signal {
@@ -208,10 +260,10 @@ impl Console {
     }
 
     /// A byte of no signal key, and whether it finishes a line.
-    #[tactic(auto, unfolding(posix::specs::Consoles::edit, posix::specs::Consoles::finishes))]
+    #[tactic(auto, unfolding(posix::specs::Consoles::edit, posix::specs::Consoles::ends_edited))]
     fn edit(&mut self, byte: u8) -> bool
         ensures console { self.new ≡ edited_by byte self.old }
-        ensures finished { result ≡ finishes byte self.old }
+        ensures finished { result ≡ ends_edited byte self.old }
     {
         match byte {
             ERASE => self.erase(),

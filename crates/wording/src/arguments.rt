@@ -5,10 +5,11 @@ ghost use Rattle.posix.specs.Waits.{asked};
 
 use crate::listing::{Listing, Source};
 use crate::names::{
-    errno_name, put_action_flags, put_kind, put_set, put_signal_word, put_status,
+    errno_name, put_action_flags, put_kind, put_name, put_set, put_signal_word, put_status,
     put_waitid_options, put_waitpid_options,
 };
 use crate::prose::Prose;
+use crate::table::{Kind, name_of};
 use posix::{Asked, Bytes, Call, Register, SigSet, Status, WaitCall};
 use std::fmt::Write;
 use umach::Cpu;
@@ -83,21 +84,15 @@ pub fn put_address(text: &mut Prose, source: Option<&Source<'_>>, address: i64) 
 
 /// Writes the handler in r2 of sigaction.
 fn put_handler(text: &mut Prose, source: Option<&Source<'_>>, word: i64) {
-    match word {
-        0 => text.push_str("SIG_DFL"),
-        1 => text.push_str("SIG_IGN"),
-        _ => put_address(text, source, word),
+    match name_of(Kind::Handler, word) {
+        Some(name) => text.push_str(name),
+        None => put_address(text, source, word),
     }
 }
 
 /// Writes what sigprocmask does with its set.
 fn put_how(text: &mut Prose, word: i64) {
-    match word {
-        0 => text.push_str("SIG_BLOCK"),
-        1 => text.push_str("SIG_UNBLOCK"),
-        2 => text.push_str("SIG_SETMASK"),
-        _ => text.push_number(word),
-    }
+    put_name(text, Kind::How, word);
 }
 
 /// Writes the program that a word names.
@@ -230,7 +225,7 @@ pub fn put_result(text: &mut Prose, value: i64) {
 }
 
 /// Writes a byte as a key of a terminal is written: `^C`, or as a text in C has it.
-fn put_byte(text: &mut Prose, byte: u8) {
+pub fn put_byte(text: &mut Prose, byte: u8) {
     match byte {
         b'\n' => text.push_str("\\n"),
         b'\t' => text.push_str("\\t"),

@@ -6,11 +6,15 @@ mod arguments;
 mod listing;
 mod names;
 mod prose;
+mod table;
 
 pub use arguments::{
-    Arguments, place_of, put_address, put_call, put_label, put_look, put_moved, put_quoted,
-    put_report, put_result,
+    Arguments, place_of, put_address, put_byte, put_call, put_label, put_look, put_moved,
+    put_quoted, put_report, put_result,
 };
 pub use listing::{Label, Listing, Source, Written};
-pub use names::{put_flags, put_set, put_set_or_none, put_signal, put_status, signal_in};
+pub use names::{
+    errno_name, put_flags, put_set, put_set_or_none, put_signal, put_status, signal_in,
+};
 pub use prose::Prose;
+pub use table::{Kind, NAMES, SIGRTMIN};

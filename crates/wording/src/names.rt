@@ -3,56 +3,16 @@
 ghost use Rattle.std.specs.Prelude.{◌≡◌, IfSome, pos};
 
 use crate::prose::Prose;
+use crate::table::{Kind, SIGRTMIN, name_of};
 use bitflags::Flags;
 use posix::{SaFlags, Sig, SigSet, Status, WaitOptions, WaitidOptions};
-
-/// The names of the standard signals, from 1 on (signal(7)).
-const SIGNALS: [&str; 31] = [
-    "SIGHUP",
-    "SIGINT",
-    "SIGQUIT",
-    "SIGILL",
-    "SIGTRAP",
-    "SIGABRT",
-    "SIGBUS",
-    "SIGFPE",
-    "SIGKILL",
-    "SIGUSR1",
-    "SIGSEGV",
-    "SIGUSR2",
-    "SIGPIPE",
-    "SIGALRM",
-    "SIGTERM",
-    "SIGSTKFLT",
-    "SIGCHLD",
-    "SIGCONT",
-    "SIGSTOP",
-    "SIGTSTP",
-    "SIGTTIN",
-    "SIGTTOU",
-    "SIGURG",
-    "SIGXCPU",
-    "SIGXFSZ",
-    "SIGVTALRM",
-    "SIGPROF",
-    "SIGWINCH",
-    "SIGIO",
-    "SIGPWR",
-    "SIGSYS",
-];
-
-/// The first real-time signal.
-const SIGRTMIN: u8 = 34;
-
-/// The last one.
-const SIGRTMAX: u8 = 64;
 
 /// So many signals there are.
 const SIGNAL_COUNT: usize = 62;
 
-/// Writes the name of a standard signal; the number where it is none.
-fn put_standard(text: &mut Prose, number: u8) {
-    match SIGNALS.get(usize::from(number).saturating_sub(1)) {
+/// Writes the name of a number of a kind; the number where it has none.
+pub fn put_name(text: &mut Prose, kind: Kind, number: i64) {
+    match name_of(kind, number) {
         Some(name) => text.push_str(name),
         None => text.push_number(number),
     }
@@ -62,12 +22,10 @@ fn put_standard(text: &mut Prose, number: u8) {
 pub fn put_signal(text: &mut Prose, sig: Sig) {
     let number = sig.number();
     match number {
-        SIGRTMIN => text.push_str("SIGRTMIN"),
-        SIGRTMAX => text.push_str("SIGRTMAX"),
         35..=63 => {
             text.push_with("SIGRTMIN+", number - SIGRTMIN);
         }
-        _ => put_standard(text, number),
+        _ => put_name(text, Kind::Signal, i64::from(number)),
     }
 }
 
@@ -130,20 +88,7 @@ pub fn put_set_or_none(text: &mut Prose, set: SigSet) {
 
 /// The name of an error number; none where it has none.
 pub fn errno_name(number: i64) -> Option<&'static str> {
-    match number {
-        1 => Some("EPERM"),
-        2 => Some("ENOENT"),
-        3 => Some("ESRCH"),
-        4 => Some("EINTR"),
-        5 => Some("EIO"),
-        10 => Some("ECHILD"),
-        11 => Some("EAGAIN"),
-        13 => Some("EACCES"),
-        14 => Some("EFAULT"),
-        22 => Some("EINVAL"),
-        25 => Some("ENOTTY"),
-        _ => None,
-    }
+    name_of(Kind::Errno, number)
 }
 
 /// Writes a signal by its number, or the number where it is none.
@@ -206,12 +151,7 @@ pub fn put_waitpid_options(text: &mut Prose, word: i64) {
 
 /// Writes by its name the kind of children that a word is for waitid, or the word.
 pub fn put_kind(text: &mut Prose, word: i64) {
-    match word {
-        0 => text.push_str("P_ALL"),
-        1 => text.push_str("P_PID"),
-        2 => text.push_str("P_PGID"),
-        _ => text.push_number(word),
-    }
+    put_name(text, Kind::Children, word);
 }
 
 /// Writes the options of waitid that a word is, or the word.

@@ -1,8 +1,8 @@
 use Rattle.std.proofs.Common.{map, sym, ◌∙◌, refl}
 use Rattle.std.specs.Prelude.{codes}
 use Rattle.std.specs.String.{string_bytes}
-use Rattle.posix.specs.declared.event.Event.TheVariants.{Step, Tick, Key}
-use Rattle.eventtext.proofs.AddLemmas.{counted_put_ok}
+use Rattle.posix.specs.declared.event.Event.TheVariants.{Step, Tick, Key, Hangup}
+use Rattle.eventtext.proofs.AddLemmas.{counted_put_ok, hangups_put_ok}
 use Rattle.eventtext.proofs.put_run.Goals as goal
 
 pub returns-in_ok-end_keys-in-Step : goal.returns-in_ok-end_keys-in-Step
@@ -18,3 +18,10 @@ returns-in_ok-end_keys-in-Tick c =
     counted_put_ok c.write_counted-in-Tick.result (string_bytes c.args.text.now) (string_bytes c.end_keys-in-Tick.new.text) (string_bytes c.write_counted-in-Tick.new.text)
     (map (Key c.args.keys.now.console) c.args.keys.now.bytes.items) c.end_keys-in-Tick.new.keys.console c.count-in-Tick.result c.args.run.count c.end_keys-in-Tick.new.keys.bytes.items (codes "tick") Tick c.args.run.event refl
     ended.adds ended.none (sym c.event.ensures ∙ c.in-Tick.is) c.count-in-Tick.ensures c.write_counted-in-Tick.ensures
+
+pub returns-in_ok-end_keys-in-Hangup : goal.returns-in_ok-end_keys-in-Hangup
+returns-in_ok-end_keys-in-Hangup c =
+    let ended = c.in_ok-end_keys-in-Hangup.ensures in
+    hangups_put_ok c.write_hangups.result (string_bytes c.args.text.now) (string_bytes c.end_keys-in-Hangup.new.text) (string_bytes c.write_hangups.new.text)
+    (map (Key c.args.keys.now.console) c.args.keys.now.bytes.items) c.end_keys-in-Hangup.new.keys.console c.count-in-Hangup.result c.args.run.count c.end_keys-in-Hangup.new.keys.bytes.items (Hangup c.in-Hangup.console) c.args.run.event
+    ended.adds ended.none (sym c.event.ensures ∙ c.in-Hangup.is) c.count-in-Hangup.ensures c.write_hangups.ensures

@@ -6,13 +6,13 @@ pub returns-in_default-clause-value : goal.returns-in_default-clause-value
 unfolding waits_to_read
 returns-in_default-clause-value g c = search rules
 
-pub returns-then-span-ne0-clause-value : goal.returns-then-span-ne0-clause-value
+pub returns-then-not-terminal-clause-value : goal.returns-then-not-terminal-clause-value
 unfolding waits_to_read
-returns-then-span-ne0-clause-value g c = search rules
+returns-then-not-terminal-clause-value g c = search rules
 
-pub returns-else-span-ne0-clause-value : goal.returns-else-span-ne0-clause-value
+pub returns-else-not-terminal-clause-value : goal.returns-else-not-terminal-clause-value
 unfolding waits_to_read
-returns-else-span-ne0-clause-value g c = search rules
+returns-else-not-terminal-clause-value g c = search rules
 
 pub returns-in-Err-clause-value : goal.returns-in-Err-clause-value
 unfolding waits_to_read

@@ -3,8 +3,9 @@ use Rattle.std.proofs.Common.{◌≡◌, ◌≢◌, ◌∙◌, ap, false, sym, t
 use Rattle.clap.specs.Words.{Text}
 use Rattle.exploring.specs.contracts.words.Next.{the_type}
 use Rattle.exploring.specs.declared.words.Next.TheVariants.{Sought}
-use Rattle.exploring.specs.Words.{asked_by_parts, asked_of, parted_as}
-use Rattle.exploring.proofs.WordLemmas.{asked_alike, refused_alike, refused_words, taken_words, whole_words}
+use Rattle.inputs.proofs.RequestLemmas.{refused_words, taken_words, told_refused}
+use Rattle.exploring.specs.Words.{asked_by_parts, asked_in, asked_of, command_line, parted_as}
+use Rattle.exploring.proofs.WordLemmas.{asked_alike, is_simple, whole_words}
 use Rattle.exploring.proofs.words.requested.Goals as goal
 
 pub returns-in_err-matches : goal.returns-in_err-matches
@@ -13,9 +14,10 @@ returns-in_err-matches c =
     let more : p.next ≢ Sought = λ is. let alike : false ≡ true = c.if-eq.ensures ∙ ap (λ n. sameb the_type n Sought) is in cc in
     let others : List Text = map (λ w. w.now) c.as_slice.result.now in
     let same : others ≡ p.others = ap (map (λ w. w.now)) c.as_slice.ensures.value in
-    refused_alike c.from_residual-in_err-matches.result (asked_by_parts p) c.in_err-matches.field-0.0 c.from_residual-in_err-matches.ensures.1
-    (λ known. whole_words p.next p.finds p.others more ∙ ap (asked_of p.finds) (sym same)
-    ∙ refused_words _ p.finds others c.in_err-matches.field-0.0 c.in_ok-command_line.ensures c.in_err-matches.ensures.kinds known)
+    let is_asked : asked_by_parts p ≡ asked_of p.finds others = whole_words p.next p.finds p.others more ∙ ap (asked_of p.finds) (sym same) in
+    rw is_asked
+    (told_refused c.from_residual-in_err-matches.result _ (asked_of p.finds others) c.in_err-matches.field-0.0 c.from_residual-in_err-matches.ensures.1
+    (refused_words _ command_line others c.in_err-matches.field-0.0 _ is_simple c.in_ok-command_line.ensures c.in_err-matches.ensures.kinds))
 
 pub returns : goal.returns
 returns c =
@@ -25,5 +27,6 @@ returns c =
     let same : others ≡ p.others = ap (map (λ w. w.now)) c.as_slice.ensures.value in
     asked_alike c.request_of.result _ (asked_by_parts p)
     (whole_words p.next p.finds p.others more ∙ ap (asked_of p.finds) (sym same)
-    ∙ taken_words _ p.finds others c.in_ok-matches.matches c.in_ok-command_line.ensures c.in_ok-matches.ensures.kinds c.in_ok-matches.ensures.matches)
+    ∙ taken_words _ command_line others c.in_ok-matches.matches (λ rows sub. asked_in p.finds rows) is_simple c.in_ok-command_line.ensures c.in_ok-matches.ensures.kinds
+    c.in_ok-matches.ensures.matches)
     (rw c.as_slice-2.ensures.value at c.request_of.ensures)

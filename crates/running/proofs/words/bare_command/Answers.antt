@@ -1,6 +1,7 @@
 use Rattle.std.proofs.Common.{◌∙◌, ap}
 use Rattle.clap.specs.Simple.{app_of_fields, on_top}
-use Rattle.running.specs.Words.{with_required_subcommand, without_program_name}
+use Rattle.inputs.specs.Words.{without_program_name}
+use Rattle.running.specs.Words.{with_required_subcommand}
 use Rattle.running.proofs.words.bare_command.Goals as goal
 
 pub returns : goal.returns

@@ -4,7 +4,7 @@ use Rattle.posix.specs.States.{State}
 use Rattle.posix.specs.Step.{signalled_from}
 use Rattle.life.specs.Machines.{MachineView}
 use Rattle.life.proofs.TakingLemmas.{brief_none, brief_group}
-use Rattle.life.proofs.ConsoleLemmas.{lent_at, not_both, key_nowhere, key_past, key_on_it, slots_of_signalled}
+use Rattle.life.proofs.ConsoleLemmas.{lent_at, not_both, key_nowhere, key_past, key_on_it, slots_of_signalled, typed_key}
 use Rattle.posix.proofs.RealtimeLemmas.{key_standard}
 use Rattle.life.proofs.ViewLemmas.{state_is, costs_then, cost_more}
 use Rattle.life.proofs.machine.Machine.key.Goals as goal
@@ -15,7 +15,10 @@ there : {m n : MachineView} {cs : List Console} → m ≡ n → cs ≡ m.state.c
 there same all k c within is = ap (λ cs. slice_get cs k) (sym (all ∙ ap (λ (s : State). s.consoles) (state_is same))) ∙ lent_at _ k c within is
 
 pub signal_group-requires : goal.signal_group-requires
-signal_group-requires g c = (key_standard c.args.byte c.in-Some-signal.sig (sym c.in-Some-type_byte.ensures.signal ∙ c.in-Some-signal.is)).0
+signal_group-requires g c =
+    let it = c.in-Some-get.console.now in
+    let found = there c.self.view_is c.deref.ensures.value c.in-Some.console_index it c.in-Some-get.ensures.lookup.0 c.in-Some-get.ensures.lookup.1 in
+    (key_standard c.args.byte c.in-Some-signal.sig (sym (typed_key c.args.byte c.in-Some-signal.sig it (sym c.in-Some-signal.is ∙ c.in-Some-type_byte.ensures.signal it found)))).0
 
 pub returns-in_default-clause-state : goal.returns-in_default-clause-state
 returns-in_default-clause-state g c =
@@ -36,7 +39,7 @@ pub returns-in-Some-signal-clause-state : goal.returns-in-Some-signal-clause-sta
 returns-in-Some-signal-clause-state g c =
     let it = c.in-Some-get.console.now in
     let found = there c.self.view_is c.deref.ensures.value c.in-Some.console_index it c.in-Some-get.ensures.lookup.0 c.in-Some-get.ensures.lookup.1 in
-    let signal = sym c.in-Some-signal.is ∙ c.in-Some-type_byte.ensures.signal in
+    let signal = sym c.in-Some-signal.is ∙ c.in-Some-type_byte.ensures.signal it found in
     c.signal_group.ensures.state ∙ ap (λ (s : State). record s { processes = signalled_from (Some c.in-Some-signal.sig) c.foreground-foreground.result s.processes }) (c.type_byte.ensures.state it found)
     ∙ key_on_it c.args.self.now.state c.args.console c.in-Some.console_index c.args.byte it (Some c.in-Some-signal.sig) c.foreground-foreground.result (omega (arith, c.in-Some.ensures, c.from.ensures)) found signal c.foreground-foreground.ensures.is
 
@@ -44,7 +47,7 @@ pub returns-in_default-signal-clause-state : goal.returns-in_default-signal-clau
 returns-in_default-signal-clause-state g c =
     let it = c.in-Some-get.console.now in
     let found = there c.self.view_is c.deref.ensures.value c.in-Some.console_index it c.in-Some-get.ensures.lookup.0 c.in-Some-get.ensures.lookup.1 in
-    let signal = sym c.in_default-signal.is ∙ c.in-Some-type_byte.ensures.signal in
+    let signal = sym c.in_default-signal.is ∙ c.in-Some-type_byte.ensures.signal it found in
     c.type_byte.ensures.state it found ∙ key_on_it c.args.self.now.state c.args.console c.in-Some.console_index c.args.byte it None c.foreground-foreground.result (omega (arith, c.in-Some.ensures, c.from.ensures)) found signal c.foreground-foreground.ensures.is
 
 pub returns-in-Some-signal-clause-costs : goal.returns-in-Some-signal-clause-costs
@@ -52,7 +55,7 @@ returns-in-Some-signal-clause-costs g c =
     let console_index = c.in-Some.console_index in
     let it = c.in-Some-get.console.now in
     let found = there c.self.view_is c.deref.ensures.value console_index it c.in-Some-get.ensures.lookup.0 c.in-Some-get.ensures.lookup.1 in
-    let signal = sym c.in-Some-signal.is ∙ c.in-Some-type_byte.ensures.signal in
+    let signal = sym c.in-Some-signal.is ∙ c.in-Some-type_byte.ensures.signal it found in
     cost_more (costs_then c.type_byte.ensures.costs c.signal_group.ensures.costs)
     (let all = slots_of_signalled c.args.self.now c.args.console console_index c.args.byte c.in-Some-signal.sig c.foreground-foreground.result it _ (omega (arith, c.in-Some.ensures, c.from.ensures)) found signal c.foreground-foreground.ensures.is (ap (λ (s : State). s.processes) (c.type_byte.ensures.state it found)) in omega (arith, all))
 
@@ -70,8 +73,9 @@ pub returns-in-Some-signal-clause-brief : goal.returns-in-Some-signal-clause-bri
 returns-in-Some-signal-clause-brief g c = λ none awake.
     let console_index = c.in-Some.console_index in
     let number : c.args.console ≡ suc console_index = omega (arith, c.in-Some.ensures, c.from.ensures) in
-    let found = there c.self.view_is c.deref.ensures.value console_index c.in-Some-get.console.now c.in-Some-get.ensures.lookup.0 c.in-Some-get.ensures.lookup.1 in
-    let signal = sym c.in-Some-signal.is ∙ c.in-Some-type_byte.ensures.signal in
+    let it = c.in-Some-get.console.now in
+    let found = there c.self.view_is c.deref.ensures.value console_index it c.in-Some-get.ensures.lookup.0 c.in-Some-get.ensures.lookup.1 in
+    let signal = typed_key c.args.byte c.in-Some-signal.sig it (sym c.in-Some-signal.is ∙ c.in-Some-type_byte.ensures.signal it found) in
     let typed = ap (λ (s : State). s.processes) (c.type_byte.ensures.state c.in-Some-get.console.now found) in
     let quiet = c.type_byte.ensures.quiet (λ e. let no = signal ∙ e in absurd (cc)) in
     rw (number, found, ← c.foreground-foreground.ensures.is, ← typed)

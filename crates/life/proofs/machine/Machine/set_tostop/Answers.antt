@@ -9,7 +9,7 @@ pub change_console-requires-clause-can : goal.change_console-requires-clause-can
 unfolding with_tostop
 change_console-requires-clause-can g c = λ it d r at did.
     let is : d ≡ with_tostop c.args.tostop it = search rules in
-    rw is (record { session = inl refl; readers = inl ((refl, refl), λ e. e); foreground = inl (refl, refl) })
+    rw is (record { session = inl refl; readers = inl ((refl, refl), refl, λ e. e); foreground = inl (refl, refl) })
 
 pub returns-in-Some-clause-state : goal.returns-in-Some-clause-state
 returns-in-Some-clause-state g c =

@@ -24,7 +24,7 @@ invariant_of-self g c =
     let console_index = c.in_ok-console_index.console_index in
     let at = found_there _ _ c.deref.ensures.value it.1 c.index_mut.ensures.value in
     rw (c.take.ensures.console, at.1) (machine_put _ _ _ _ _ _ _ _ console_index (line_taken (length c.args.out.now) it.0) c.self.invariant
-    (put_unread _ _ console_index it.0 _ c.self.invariant.sound.regular c.self.invariant.listed at.0 refl refl (λ e. ap (lines_left (length c.args.out.now)) e))
+    (put_unread _ _ console_index it.0 _ c.self.invariant.sound.regular c.self.invariant.listed at.0 refl refl refl (λ e. ap (lines_left (length c.args.out.now)) e))
     (fresh_alike _ _ _ console_index it.0 _ at.0 refl refl c.self.invariant.fresh))
 
 pub returns-clause-taken : goal.returns-clause-taken

@@ -1,0 +1,29 @@
+//! What the program says of itself.
+
+/// What `--help` tells.
+pub const HELP: &[u8] =
+    b"jobk: processes, signals and job control of a Unix kernel, as an exact reference
+
+    jobk run WORLD EVENTS      prints the trace of a world over its events
+    jobk audit TRACE           says ok, or the first line at which a trace breaks a law
+    jobk explain TRACE         prints a trace, and behind each line what its numbers say
+    jobk explore WORLD EVENTS  runs all schedules: the events with a few ticks put in
+        --ticks K              at most K of them, 0 to 8; 2 if not named
+        --upto N               before the first N events alone
+        --find TEXT            counts the schedules that have a line with TEXT
+        --must-halt            status 4 where a schedule doesn't halt
+        --all                  runs more than 10000000 schedules, too
+    jobk show WORLD EVENTS     shows the state after the last event
+        --at E                 after event E
+        --calls                each event up to it, and what it did
+        --process P            of process P alone
+        --step                 goes through the run, at a terminal
+    jobk names TEXT            prints a world or events with numbers for names, as SIGTERM or ^C
+    jobk                       prints the trace of a small world of its own
+
+Status: 0 done, 1 a text is refused or a trace faulty, 2 other words, 3 a device or memory fails,
+4 explore found a TEXT, or a schedule that doesn't halt.
+";
+
+/// What `--version` tells.
+pub const VERSION: &[u8] = b"jobk 1.0\n";

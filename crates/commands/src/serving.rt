@@ -1,0 +1,109 @@
+//! The program's commands: what the words are for, and what each serves.
+
+ghost use Rattle.std.specs.Prelude.{◌≡◌, map};
+ghost use Rattle.commands.specs.Serving.{Serves, first_or_empty as first_or_empty_of, is_help as is_help_of, is_version as is_version_of, purpose_of, said};
+
+use crate::help::{HELP, VERSION};
+use explaining::serve as serve_explain;
+use exploring::{Progress, serve as serve_explore};
+use host::{ReadFiles, WordsFault};
+use kernel::Sink;
+use naming::serve as serve_names;
+use running::{put_own, serve as serve_run_or_audit};
+use showing::{Ask, serve as serve_show};
+use std::alloc::Global;
+use std::hash::RandomState;
+
+/// What the words are for.
+#[derive(Clone, Copy)]
+enum Command<'a> {
+    Help,
+    Version,
+    /// `explore`, and the words behind it.
+    Explore(&'a [&'a str]),
+    /// `show`, and the words behind it.
+    Show(&'a [&'a str]),
+    /// `explain`, and the words behind it.
+    Explain(&'a [&'a str]),
+    /// `names`, and the words behind it.
+    Names(&'a [&'a str]),
+    /// `run`, `audit`, no words, or any others.
+    RunOrAudit,
+}
+
+/// Whether a word asks for help.
+fn is_help(word: &str) -> bool
+    ensures { result ≡ is_help_of word.now }
+{
+    word == "--help" || word == "-h"
+}
+
+/// Whether a word asks for the program's version.
+fn is_version(word: &str) -> bool
+    ensures { result ≡ is_version_of word.now }
+{
+    word == "--version" || word == "-V"
+}
+
+/// The first word, or an empty one.
+fn first_or_empty<'a>(words: &[&'a str]) -> &'a str
+    ensures { result.now ≡ first_or_empty_of (map (λ w. w.now) words.now) }
+{
+    match words.first() {
+        Some(word) => word,
+        None => "",
+    }
+}
+
+/// What the words are for.
+fn command_in<'a>(words: &'a [&'a str]) -> Command<'a>
+    ensures { said result ≡ purpose_of (map (λ w. w.now) words.entry.now) }
+{
+    let Some((first, more)) = words.split_first() else {
+        return Command::RunOrAudit;
+    };
+    let second = first_or_empty(more);
+    if is_help(first) || is_help(second) {
+        Command::Help
+    } else if is_version(first) || is_version(second) {
+        Command::Version
+    } else if *first == "explore" {
+        Command::Explore(more)
+    } else if *first == "show" {
+        Command::Show(more)
+    } else if *first == "explain" {
+        Command::Explain(more)
+    } else if *first == "names" {
+        Command::Names(more)
+    } else {
+        Command::RunOrAudit
+    }
+}
+
+/// Does what the words of the command line ask for, without the program's name, and gives the status of the program.
+/// Where the first or the second word asks for help or for the version, that is told; `explore`, `show`, `explain` and
+/// `names` are served by the words behind them; all other words as [`serve_run_or_audit`] says.
+pub fn serve<'a, F: ReadFiles, O: Sink, E: Sink, P: Progress + Ask>(
+    alloc: Global,
+    words: Result<&'a [&'a str], WordsFault>,
+    files: &F,
+    keys: Option<RandomState>,
+    out: &mut O,
+    err: &mut E,
+    person: &mut P,
+) -> u8
+    ensures { Serves (F.contents files.now) words.entry out.old out.new (O.seen out.old) (O.seen out.new) result }
+{
+    let Ok(words) = words else {
+        return serve_run_or_audit(alloc, words, files, keys, out, err);
+    };
+    match command_in(words) {
+        Command::Help => put_own(HELP, out, err),
+        Command::Version => put_own(VERSION, out, err),
+        Command::Explore(more) => serve_explore(alloc, Ok(more), files, out, err, person),
+        Command::Show(more) => serve_show(alloc, Ok(more), files, out, err, person),
+        Command::Explain(more) => serve_explain(alloc, Ok(more), files, out, err),
+        Command::Names(more) => serve_names(alloc, Ok(more), files, out, err),
+        Command::RunOrAudit => serve_run_or_audit(alloc, Ok(words), files, keys, out, err),
+    }
+}

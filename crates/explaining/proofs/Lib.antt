@@ -1,0 +1,3 @@
+pub mod PutLemmas
+pub mod ExplanationLemmas
+pub mod ServingLemmas

@@ -1,0 +1,2 @@
+pub mod Explanations
+pub mod Serving

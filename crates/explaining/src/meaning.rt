@@ -1,0 +1,149 @@
+//! What a line of a trace says beyond what its numbers show.
+
+use crate::known::Known;
+use posix::{Bytes, Call, Entry, Pid, Sig, Status};
+use std::alloc::AllocError;
+use wording::{Prose, errno_name, put_byte, put_signal, put_status};
+
+/// Whether a status word is that of an end, of a stop by any signal, or of a continuation.
+fn is_status(status: Status) -> bool {
+    let word = status.word();
+    let by = u8::try_from(word / 256).ok().and_then(Sig::new);
+    status.is_end() || status.is_continuation() || (word % 256 == 127 && by.is_some())
+}
+
+/// Writes what a status word says, if it is one.
+fn put_if_status(text: &mut Prose, status: Status) {
+    if is_status(status) {
+        put_status(text, status);
+    }
+}
+
+/// Writes bytes between quotation marks, as a text in C has them, and a carriage return by its number.
+fn put_bytes(text: &mut Prose, bytes: &Bytes) {
+    text.push_str("\"");
+    for byte in bytes.as_slice() {
+        match byte {
+            b'\r' => text.push_str("\\x0d"),
+            _ => put_byte(text, *byte),
+        }
+    }
+    text.push_str("\"");
+}
+
+/// The process that a fork gave; none where it was refused.
+fn child_of(value: i64) -> Option<Pid> {
+    Pid::new(u32::try_from(value).ok()?)
+}
+
+/// Writes why a call was refused, if it was.
+fn put_refusal(text: &mut Prose, call: Call, value: i64) {
+    let Some(name) = errno_name(value.saturating_neg()) else {
+        return;
+    };
+    text.push_str(name);
+    if name == "EAGAIN" && matches!(call, Call::Kill | Call::Sigqueue) {
+        text.push_str(", a full queue");
+    }
+}
+
+/// Writes what the result of a call says.
+fn put_called(
+    text: &mut Prose,
+    known: &mut Known,
+    pid: Pid,
+    call: Call,
+    value: i64,
+) -> Result<(), AllocError> {
+    if value < 0 {
+        put_refusal(text, call, value);
+        return Ok(());
+    }
+    match call {
+        Call::Sigqueue if value == 0 => known.queue(pid)?,
+        Call::Waitpid | Call::Waitid if value == 0 => text.push_str("nothing to report"),
+        Call::Read if value == 0 => text.push_str("end of file, or count 0"),
+        Call::Fork => {
+            if let Some(child) = child_of(value) {
+                known.bear(pid, child)?;
+            }
+        }
+        _ => {}
+    }
+    Ok(())
+}
+
+/// Writes who sent a signal.
+fn put_sender(text: &mut Prose, sender: Pid) {
+    if sender == Pid::NONE {
+        text.push_str(" from the machine");
+    } else {
+        text.push_with(" from process ", sender.number());
+    }
+}
+
+/// Writes what the value of SIGCHLD says, where it may be a child's notice.
+fn put_notice(text: &mut Prose, value: i64, queues: bool) {
+    if value == 0 {
+        text.push_str(", exit 0 or sent by kill");
+        if queues {
+            text.push_str(" or sigqueue");
+        }
+        return;
+    }
+    let Ok(word) = u16::try_from(value) else {
+        return;
+    };
+    let status = Status::from_word(word);
+    if is_status(status) {
+        text.push_str(", ");
+        put_status(text, status);
+        if queues {
+            text.push_str(" or sent by sigqueue");
+        }
+    }
+}
+
+/// Writes which signal came from whom, and what its value says.
+fn put_handled(text: &mut Prose, known: &Known, pid: Pid, sig: Sig, value: i64, sender: Pid) {
+    put_signal(text, sig);
+    put_sender(text, sender);
+    if sig == Sig::CHLD && sender != pid && sender > Pid::INIT {
+        put_notice(text, value, known.queues(sender));
+    }
+}
+
+/// Writes what the mark of a process says.
+fn put_mark(text: &mut Prose, mark: bool) {
+    text.push_str(if mark { "a" } else { "no" });
+    text.push_str(" child subreaper");
+}
+
+/// Writes what a line says, if it says more than it shows, and keeps what later lines need.
+pub fn put_meaning(text: &mut Prose, known: &mut Known, entry: &Entry) -> Result<(), AllocError> {
+    match *entry {
+        Entry::Called { pid, call, result } => put_called(text, known, pid, call, result)?,
+        Entry::Moved { bytes, .. } => put_bytes(text, &bytes),
+        Entry::Reported { status, .. } | Entry::Looked { status, .. } => {
+            put_if_status(text, status);
+        }
+        Entry::NoMemory { .. } => text.push_str("EAGAIN, the host has no memory"),
+        Entry::Marked { pid, mark } => {
+            known.mark(pid, mark)?;
+            put_mark(text, mark);
+        }
+        Entry::Handled {
+            pid,
+            sig,
+            value,
+            sender,
+        } => put_handled(text, known, pid, sig, value, sender),
+        Entry::Discarded { sig, .. } | Entry::Stopped { sig, .. } => put_signal(text, sig),
+        Entry::Ended { pid, status } => {
+            put_if_status(text, status);
+            known.end(pid, text)?;
+        }
+        Entry::Noted { .. } | Entry::Returned { .. } | Entry::Halted => {}
+    }
+    Ok(())
+}

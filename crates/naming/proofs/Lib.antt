@@ -1,0 +1,4 @@
+pub mod LineLemmas
+pub mod CutLemmas
+pub mod TextLemmas
+pub mod ServingLemmas

@@ -1,0 +1,139 @@
+-- Lines without a line feed, and what stands for them.
+use Rattle.std.proofs.Common.{◌≡◌, ◌≢◌, ℕ, List, [], ◌∷◌, ◌++◌, Bor, length, not, take, drop, true, false, refl, ap, sym, subst, ◌∙◌, inl, inr, append_assoc, append-nil}
+use Rattle.std.specs.Prelude.{All, Err, IfOk, MatchOption, None, Ok, Option, Result, Some}
+use Rattle.std.proofs.Math.Seq.{take-append_seam, drop-append_seam}
+use Rattle.std.proofs.lemmas.List.Elements.{All-append, All-cons, All-drop, All-nil, All-push, All-take}
+use Rattle.std.specs.List.{position_or_len}
+use Rattle.text.specs.Words.{is_separator}
+use Rattle.naming.specs.Lines.{Grows, IsOneLine, from_word, is_plain, sort_of}
+use Rattle.naming.specs.Texts.{StandsFor}
+use Rattle.naming.specs.declared.line.Sort.TheVariants.{Key, Typed, Other}
+
+-- one line before another is one line
+pub both_one_line : (xs ys : List ℕ) → IsOneLine xs → IsOneLine ys → IsOneLine (xs ++ ys)
+both_one_line xs ys h k = All-append (λ b. b ≢ 10) xs ys h k
+
+-- and a part of one is one
+pub front_one_line : (whole xs ys : List ℕ) → whole ≡ xs ++ ys → IsOneLine whole → IsOneLine xs
+front_one_line whole xs ys e h =
+    let same : take (length xs) whole ≡ xs = ap (take (length xs)) e ∙ take-append_seam xs ys in
+    subst IsOneLine same (All-take (λ b. b ≢ 10) (length xs) whole h)
+
+pub rest_one_line : (whole xs ys : List ℕ) → whole ≡ xs ++ ys → IsOneLine whole → IsOneLine ys
+rest_one_line whole xs ys e h =
+    let same : drop (length xs) whole ≡ ys = ap (drop (length xs)) e ∙ drop-append_seam xs ys in
+    subst IsOneLine same (All-drop (λ b. b ≢ 10) (length xs) whole h)
+
+pub parts_one_line : (whole xs ys zs : List ℕ) → whole ≡ xs ++ (ys ++ zs) → IsOneLine whole → IsOneLine xs × IsOneLine ys × IsOneLine zs
+parts_one_line whole xs ys zs e h =
+    let more = rest_one_line whole xs (ys ++ zs) e h in
+    (front_one_line whole xs (ys ++ zs) e h, front_one_line (ys ++ zs) ys zs refl more, rest_one_line (ys ++ zs) ys zs refl more)
+
+pub range_one_line : (xs : List ℕ) (n k : ℕ) → IsOneLine xs → IsOneLine (take n (drop k xs))
+range_one_line xs n k h = All-take (λ b. b ≢ 10) n (drop k xs) (All-drop (λ b. b ≢ 10) k xs h)
+
+pub two_one_line : (a b : ℕ) → a ≢ 10 → b ≢ 10 → IsOneLine (a ∷ b ∷ [])
+two_one_line a b h k = All-cons (λ b. b ≢ 10) a (b ∷ []) h (All-cons (λ b. b ≢ 10) b [] k (All-nil (λ b. b ≢ 10)))
+
+pub pushed_one_line : (xs : List ℕ) (b : ℕ) → IsOneLine xs → b ≢ 10 → IsOneLine (xs ++ b ∷ [])
+pushed_one_line xs b h k = All-push (λ b. b ≢ 10) xs b h k
+
+pub from_word_one_line : (text : List ℕ) → IsOneLine text → IsOneLine (from_word text)
+from_word_one_line text h = All-drop (λ b. b ≢ 10) (position_or_len (λ b. not (is_separator b)) text) text h
+
+-- four texts that are one line each
+pub four_one_line : (a b c d : Bor (List ℕ)) → IsOneLine a.now → IsOneLine b.now → IsOneLine c.now → IsOneLine d.now → All (λ (t : Bor (List ℕ)). IsOneLine t.now) (a ∷ b ∷ c ∷ d ∷ [])
+four_one_line a b c d ha hb hc hd =
+    let P : Bor (List ℕ) → Type 0 = λ t. IsOneLine t.now in
+    All-cons P a (b ∷ c ∷ d ∷ []) ha (All-cons P b (c ∷ d ∷ []) hb (All-cons P c (d ∷ []) hc (All-cons P d [] hd (All-nil P))))
+
+-- what stands for a line, said in other words
+pub stands_weaker : {V E : Type 0} (r : Result (Option V) E) (A T : Type 0) (B C : V → Type 0) → ((v : V) → B v → C v)
+    → IfOk r (λ o. MatchOption o A (λ v. T × B v)) → IfOk r (λ o. MatchOption o A (λ v. T × C v))
+stands_weaker (Ok None) A T B C weaker h = h
+stands_weaker (Ok (Some v)) A T B C weaker h = (h.0, weaker v h.1)
+stands_weaker (Err e) A T B C weaker h = tt
+
+-- what was told so far, and more, and more again
+pub grows_then : (a b c : List ℕ) → Grows a b → Grows b c → Grows a c
+grows_then a b c (xs, g) (ys, h) = (xs ++ ys, h ∙ ap (λ (l : List ℕ). l ++ ys) g ∙ append_assoc a xs ys)
+
+pub grows_not : (a b : List ℕ) → b ≡ a → Grows a b
+grows_not a b e = ([], e ∙ sym (append-nil a))
+
+-- ---- what stands for a line
+
+-- a line without names stays
+pub plain_stays : (line told told_then : List ℕ) → IsOneLine line → (more : List ℕ) × (told_then ≡ told ++ more) × (sort_of line ≢ Typed → more ≡ []) → StandsFor line line told told_then
+plain_stays line told told_then one (more, g, quiet) = (
+  more,
+  g,
+  record {
+    given = one;
+    one_line = one;
+    other = λ e. (refl, quiet (λ k. let clash : Other ≡ Typed = sym e ∙ k in cc));
+    plain = λ e. refl;
+    quiet = λ e k. quiet k;
+    refused = λ k. inr refl;
+  },
+)
+
+-- so does one that is for nothing
+pub other_stays : (line told told_then : List ℕ) → IsOneLine line → told_then ≡ told → StandsFor line line told told_then
+other_stays line told told_then one same = (
+  [],
+  same ∙ sym (append-nil told),
+  record {
+    given = one;
+    one_line = one;
+    other = λ e. (refl, refl);
+    plain = λ e. refl;
+    quiet = λ e k. refl;
+    refused = λ k. inl refl;
+  },
+)
+
+-- and one that is refused, or in which no names stand
+pub refused_stays : (line told told_then : List ℕ) → is_plain line ≡ false → sort_of line ≢ Other → IsOneLine line → Grows told told_then → StandsFor line line told told_then
+refused_stays line told told_then some is_for one (more, g) = (
+  more,
+  g,
+  record {
+    given = one;
+    one_line = one;
+    other = λ e. absurd (is_for e);
+    plain = λ e. refl;
+    quiet = λ e k. let clash : true ≡ false = sym e ∙ some in cc;
+    refused = λ k. inr refl;
+  },
+)
+
+-- numbers stand for names
+pub names_replaced : (line named told told_then : List ℕ) → is_plain line ≡ false → sort_of line ≢ Other → IsOneLine line → IsOneLine named → told_then ≡ told → StandsFor line named told told_then
+names_replaced line named told told_then some is_for one still same = (
+  [],
+  same ∙ sym (append-nil told),
+  record {
+    given = one;
+    one_line = still;
+    other = λ e. absurd (is_for e);
+    plain = λ e. let clash : true ≡ false = sym e ∙ some in cc;
+    quiet = λ e k. refl;
+    refused = λ k. inl refl;
+  },
+)
+
+-- bytes stand for keys
+pub keys_replaced : (line named told told_then : List ℕ) → is_plain line ≡ false → sort_of line ≡ Key → IsOneLine line → IsOneLine named → Grows told told_then → StandsFor line named told told_then
+keys_replaced line named told told_then some is_key one still (more, g) = (
+  more,
+  g,
+  record {
+    given = one;
+    one_line = still;
+    other = λ e. let clash : Key ≡ Other = sym is_key ∙ e in cc;
+    plain = λ e. let clash : true ≡ false = sym e ∙ some in cc;
+    quiet = λ e k. let clash : true ≡ false = sym e ∙ some in cc;
+    refused = λ k. absurd (k is_key);
+  },
+)

@@ -1,0 +1,93 @@
+//! Lines `key C ^Z ..`.
+
+ghost use Rattle.std.specs.Prelude.{◌≡◌, ◌<◌, ◌++◌, IfOk, OnOk, true};
+ghost use Rattle.std.specs.Fmt.{digit_glyph};
+ghost use Rattle.naming.specs.Keys.{control as control_of, two_digits};
+ghost use Rattle.naming.specs.Lines.{Grows, IsOneLine};
+
+use crate::fault::{Fault, Told};
+use crate::line::{next_word, split_comment};
+use std::alloc::{AllocError, Global};
+
+/// The byte of a key that is pressed with Ctrl, as `^C`.
+fn control(key: &[u8]) -> Option<u8>
+    ensures { result ≡ control_of key.now }
+{
+    let [b'^', byte] = key else {
+        return None;
+    };
+    match byte.to_ascii_uppercase() {
+        b'?' => Some(0x7F),
+        capital @ b'@'..=b'_' => Some(capital - b'@'),
+        _ => None,
+    }
+}
+
+/// A digit to base 16.
+fn digit(number: u8) -> u8
+    requires { number < 16 }
+    ensures { result ≡ digit_glyph true number }
+{
+    if number < 10 {
+        b'0' + number
+    } else {
+        b'A' + (number - 10)
+    }
+}
+
+/// Adds a byte as a word of two digits.
+pub fn push_byte(text: &mut Vec<u8>, byte: u8) -> Result<(), AllocError>
+    ensures { OnOk result (text.new.items ≡ text.old.items ++ two_digits byte) }
+{
+    text.push(digit(byte / 16))?;
+    text.push(digit(byte % 16))?;
+    Ok(())
+}
+
+/// Adds a word: the byte of a key behind the console.
+fn push_word(
+    text: &mut Vec<u8>,
+    number: u64,
+    place: u64,
+    word: &[u8],
+    told: &mut Told,
+) -> Result<(), AllocError>
+    ensures text { IsOneLine text.old.items → IsOneLine word.now → OnOk result (IsOneLine text.new.items) }
+    ensures told { OnOk result (Grows told.old told.new) }
+{
+    if place < 2 || word.first() != Some(&b'^') {
+        return text.extend_from_slice(word);
+    }
+    match control(word) {
+        Some(byte) => push_byte(text, byte),
+        None => {
+            told.tell(number, Fault::NoKey(word))?;
+            text.extend_from_slice(word)
+        }
+    }
+}
+
+/// A line `key`, the `number`-th of its text, with the bytes of its keys. A key that is none stays, and is told.
+pub fn key_line(
+    alloc: Global,
+    number: u64,
+    line: &[u8],
+    told: &mut Told,
+) -> Result<Vec<u8>, AllocError>
+    ensures text { IsOneLine line.now → IfOk result (λ v. IsOneLine v.items) }
+    ensures told { OnOk result (Grows told.old told.new) }
+{
+    let (code, comment) = split_comment(line);
+    let mut text = Vec::new(alloc);
+    let mut rest = code;
+    let mut place: u64 = 0;
+    while let Some((separators, word, more)) = next_word(rest) {
+        text.extend_from_slice(separators)?;
+        push_word(&mut text, number, place, word, told)?;
+        place = place.saturating_add(1);
+        rest = more;
+    }
+    text.extend_from_slice(rest)?;
+    text.extend_from_slice(comment)?;
+    Ok(text)
+}

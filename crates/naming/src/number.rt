@@ -1,0 +1,175 @@
+//! What names stand for.
+
+ghost use Rattle.std.specs.Prelude.{◌<◌, IfSome, length};
+
+use crate::fault::Fault;
+use crate::line::is_separator;
+use posix::{Sig, SigSet};
+use wording::{Kind, NAMES, SIGRTMIN};
+
+/// How names stand together.
+#[derive(Clone, Copy, Debug, PartialEq, Eq)]
+pub enum Form {
+    /// One name, or several with `|` between them.
+    Joined,
+    /// Signals in braces.
+    Set,
+}
+
+impl Form {
+    /// Whether a byte divides names.
+    fn divides(self, byte: u8) -> bool {
+        byte == b'|' || (self == Form::Set && is_separator(byte))
+    }
+}
+
+/// The number of a real-time signal behind the first one.
+fn realtime(name: &[u8]) -> Option<i64> {
+    let behind = match name.strip_prefix(b"SIGRTMIN+") {
+        Some([digit @ b'0'..=b'9']) => *digit - b'0',
+        Some([tens @ b'1'..=b'2', digit @ b'0'..=b'9']) => (*tens - b'0') * 10 + (*digit - b'0'),
+        Some(b"30") => 30,
+        _ => return None,
+    };
+    Some(i64::from(SIGRTMIN) + i64::from(behind))
+}
+
+/// The number that a register holds for a number of a kind: of an error the negative one.
+fn given_number(kind: Kind, number: i64) -> i64 {
+    if kind == Kind::Errno {
+        number.wrapping_neg()
+    } else {
+        number
+    }
+}
+
+/// What a name stands for.
+#[derive(Clone, Copy)]
+pub struct Known {
+    kind: Kind,
+    number: i64,
+}
+
+/// What a name stands for; none where no number has it.
+fn known_as(word: &[u8]) -> Option<Known> {
+    for (kind, name, number) in &NAMES {
+        if name.as_bytes() == word {
+            let number = given_number(*kind, *number);
+            return Some(Known {
+                kind: *kind,
+                number,
+            });
+        }
+    }
+    let number = realtime(word)?;
+    Some(Known {
+        kind: Kind::Signal,
+        number,
+    })
+}
+
+/// The set of the signal that has a number.
+fn signal_of(number: i64) -> SigSet {
+    match u8::try_from(number).ok().and_then(Sig::new) {
+        Some(sig) => SigSet::just(sig),
+        None => SigSet::EMPTY,
+    }
+}
+
+/// What some names of one kind come to.
+#[derive(Clone, Copy)]
+struct Sum {
+    first: Option<Known>,
+    is_one: bool,
+    signals: SigSet,
+    bits: i64,
+}
+
+impl Sum {
+    /// No name.
+    const NONE: Sum = Sum {
+        first: None,
+        is_one: false,
+        signals: SigSet::EMPTY,
+        bits: 0,
+    };
+
+    /// Adds a name, unless it is of another kind. Whether it is of the same.
+    fn add(&mut self, known: Known) -> bool {
+        let first = self.first;
+        match first {
+            Some(first) if first.kind != known.kind => return false,
+            Some(_) => self.is_one = false,
+            None => {
+                self.first = Some(known);
+                self.is_one = true;
+            }
+        }
+        self.signals = self.signals.union(signal_of(known.number));
+        self.bits |= known.number;
+        true
+    }
+
+    /// The number that the names stand for; none where one of them can only stand alone.
+    fn number(&self, form: Form) -> Option<i64> {
+        match self.first {
+            Some(first) if form == Form::Joined && self.is_one => Some(first.number),
+            Some(first) => match first.kind {
+                Kind::Signal => Some(self.signals.word()),
+                Kind::WaitOption | Kind::Flag => Some(self.bits),
+                _ => None,
+            },
+            None => Some(self.signals.word()),
+        }
+    }
+}
+
+/// Adds a name to others, of which this is the first.
+fn add_name<'a>(
+    sum: &mut Sum,
+    form: Form,
+    first: &'a [u8],
+    name: &'a [u8],
+) -> Result<(), Fault<'a>> {
+    if name.is_empty() {
+        return Err(Fault::Missing);
+    }
+    let Some(known) = known_as(name) else {
+        return Err(Fault::Unknown(name));
+    };
+    if form == Form::Set && known.kind != Kind::Signal {
+        return Err(Fault::NoSignal(name));
+    }
+    if sum.add(known) {
+        Ok(())
+    } else {
+        Err(Fault::TwoKinds(first, name))
+    }
+}
+
+/// The first of some names, and those behind it, if there are more.
+fn first_name(form: Form, names: &[u8]) -> (&[u8], Option<&[u8]>)
+    ensures { IfSome result.1 (λ more. length more.now < length names.now) }
+{
+    match names.iter().position(|b| form.divides(*b)) {
+        Some(end) => (&names[..end], Some(&names[end + 1..])),
+        None => (names, None),
+    }
+}
+
+/// The number that names stand for: one alone, a set of signals, or options or flags that are joined.
+pub fn number_of<'a>(form: Form, names: &'a [u8]) -> Result<i64, Fault<'a>> {
+    let (first, _) = first_name(form, names);
+    let mut sum = Sum::NONE;
+    let mut rest = names;
+    loop {
+        let (name, more) = first_name(form, rest);
+        if form == Form::Joined || !name.is_empty() {
+            add_name(&mut sum, form, first, name)?;
+        }
+        match more {
+            Some(more) => rest = more,
+            None => return sum.number(form).ok_or(Fault::Alone(first)),
+        }
+    }
+}

@@ -1,0 +1,94 @@
+//! What the program does: a text with numbers for its names, and the statuses.
+
+ghost use Rattle.std.specs.Prelude.{◌≡◌, ◌≤◌, Err, map};
+ghost use Rattle.host.specs.declared.words.WordsFault.{WordsFault};
+ghost use Rattle.naming.specs.Serving.{Ends, EndsText, Means, answer_of, asked_by, text_in_words};
+
+use crate::fault::Told;
+use crate::texts::{Named, name_text};
+use host::{ReadFiles, WordsFault};
+use inputs::{FileFailure, named_file, read_file};
+use sink::{Sink, SinkFault, put_all};
+use std::alloc::Global;
+
+const USAGE: &[u8] = b"usage: jobk names TEXT\n";
+
+/// Puts a text with numbers for its names. What is wrong with names.
+fn serve_text<'a, O: Sink>(alloc: Global, text: &[u8], out: &mut O) -> Result<Told, FileFailure<'a>>
+    ensures { EndsText text.now out.old out.new (O.seen out.old) (O.seen out.new) result }
+{
+    let Named { text, told } = name_text(alloc, text)?;
+    put_all(out, text.as_slice())?;
+    Ok(told)
+}
+
+/// Does what the words ask for. What is wrong with names.
+fn serve_words<'a, F: ReadFiles, O: Sink>(
+    alloc: Global,
+    words: &'a [&'a str],
+    files: &F,
+    out: &mut O,
+) -> Result<Told, FileFailure<'a>>
+    ensures { Ends (F.contents files.now) (text_in_words (map (λ w. w.now) words.entry.now)) out.old out.new (O.seen out.old) (O.seen out.new) result }
+{
+    let name = named_file(alloc, "names", "text", words)?;
+    let text = read_file(files, name)?;
+    serve_text(alloc, text.as_slice(), out)
+}
+
+/// Tells a failure, as far as the error output takes it. It takes no memory.
+fn tell<E: Sink>(failure: FileFailure<'_>, err: &mut E) -> Result<(), SinkFault> {
+    match failure {
+        FileFailure::Usage => put_all(err, USAGE),
+        FileFailure::CannotRead(name) => {
+            put_all(err, b"jobk: cannot read ")?;
+            put_all(err, name.as_bytes())?;
+            put_all(err, b"\n")
+        }
+        FileFailure::Memory => put_all(err, b"jobk: out of memory\n"),
+        FileFailure::Write => put_all(err, b"jobk: cannot write\n"),
+    }
+}
+
+/// The status of the program. What is wrong with names is told, and so is a failure.
+fn ended<E: Sink>(done: Result<Told, FileFailure<'_>>, err: &mut E) -> u8
+    ensures status { result ≡ answer_of done.entry }
+    ensures silent { result ≡ 0 → err.new ≡ err.old }
+{
+    match done {
+        Ok(told) => {
+            if told.as_bytes().is_empty() {
+                return 0;
+            }
+            let _ = put_all(err, told.as_bytes());
+            1
+        }
+        Err(failure) => {
+            let _ = tell(failure, err);
+            failure.status()
+        }
+    }
+}
+
+/// Prints a text with numbers for its names, which the words of the command line name, without the program's name, and
+/// gives the status of the program: 0, or 1 where a name is refused, whose line stays as it is, 2 for other words, and 3
+/// for a device or memory. What is wrong with names goes to `err` behind the text. A failing `err` changes no status.
+pub fn serve<'a, F: ReadFiles, O: Sink, E: Sink>(
+    alloc: Global,
+    words: Result<&'a [&'a str], WordsFault>,
+    files: &F,
+    out: &mut O,
+    err: &mut E,
+) -> u8
+    ensures status { result ≤ 3 }
+    ensures meaning { Means (F.contents files.now) (asked_by words.entry) out.old out.new (O.seen out.old) (O.seen out.new) result }
+    ensures silent { result ≡ 0 → err.new ≡ err.old }
+    ensures not_text { words.entry ≡ Err WordsFault.NotText → result ≡ 2 }
+{
+    let done = match words {
+        Ok(words) => serve_words(alloc, words, files, out),
+        Err(WordsFault::NotText) => Err(FileFailure::Usage),
+        Err(WordsFault::Memory) => Err(FileFailure::Memory),
+    };
+    ended(done, err)
+}

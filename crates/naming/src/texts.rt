@@ -1,0 +1,97 @@
+//! A text with numbers for its names.
+
+ghost use Rattle.std.specs.Prelude.{◌≡◌, ◌≢◌, ◌++◌, ◌∷◌, ◌<◌, ℕ, List, [], IfOk, IfSome, MatchOption, OnOk, length};
+ghost use Rattle.naming.specs.Lines.{IsOneLine};
+ghost use Rattle.naming.specs.Texts.{AddsLine, IsNamed, StandsFor};
+
+use crate::fault::{Fault, Told};
+use crate::key_line::key_line;
+use crate::line::{Sort, is_plain, sort_of};
+use crate::set_line::set_line;
+use crate::type_line::type_line;
+use std::alloc::{AllocError, Global};
+
+/// A text with numbers for its names, and what is wrong with names.
+#[derive(Drop)]
+pub struct Named {
+    pub text: Vec<u8>,
+    /// A line for each fault; nothing where no name is refused.
+    pub told: Told,
+}
+
+/// Tells what is wrong with a line without names: one that is to have a text has none.
+fn tell_plain(number: u64, sort: Sort, told: &mut Told) -> Result<(), AllocError>
+    ensures { OnOk result ((more : List ℕ) × (told.new ≡ told.old ++ more) × (sort ≢ Sort.Typed → more ≡ [])) }
+{
+    match sort {
+        Sort::Typed => told.tell(number, Fault::NoText),
+        Sort::Set | Sort::Key | Sort::Other => Ok(()),
+    }
+}
+
+/// The line that stands for a line of a text, the `number`-th; none where it stays as it is.
+fn named_line(
+    alloc: Global,
+    number: u64,
+    line: &[u8],
+    told: &mut Told,
+) -> Result<Option<Vec<u8>>, AllocError>
+    requires { IsOneLine line.now }
+    ensures { IfOk result (λ o. MatchOption o (StandsFor line.now line.now told.old told.new) (λ v. StandsFor line.now v.items told.old told.new)) }
+{
+    let sort = sort_of(line);
+    if is_plain(line) {
+        tell_plain(number, sort, told)?;
+        return Ok(None);
+    }
+    match sort {
+        Sort::Set => set_line(alloc, number, line, told),
+        Sort::Key => Ok(Some(key_line(alloc, number, line, told)?)),
+        Sort::Typed => type_line(alloc, number, line, told),
+        Sort::Other => Ok(None),
+    }
+}
+
+/// Adds the line that stands for a line of a text, the `number`-th.
+fn push_line(
+    alloc: Global,
+    number: u64,
+    line: &[u8],
+    text: &mut Vec<u8>,
+    told: &mut Told,
+) -> Result<(), AllocError>
+    requires { IsOneLine line.now }
+    ensures { OnOk result (AddsLine line.now text.old.items text.new.items told.old told.new) }
+{
+    match named_line(alloc, number, line, told)? {
+        Some(named) => text.extend_from_slice(named.as_slice()),
+        None => text.extend_from_slice(line),
+    }
+}
+
+/// The first line of a text, and what follows its line feed; none where there is no line feed.
+fn first_line(text: &[u8]) -> Option<(&[u8], &[u8])>
+    ensures line { MatchOption result (IsOneLine text.now) (λ f. IsOneLine f.0.now × (text.now ≡ f.0.now ++ 10 ∷ f.1.now)) }
+    ensures shorter { IfSome result (λ f. length f.1.now < length text.now) }
+{
+    let end = text.iter().position(|b| *b == b'\n')?;
+    Some((&text[..end], &text[end + 1..]))
+}
+
+/// A text with numbers for its names.
+pub fn name_text(alloc: Global, text: &[u8]) -> Result<Named, AllocError>
+    ensures { IfOk result (λ n. IsNamed text.now n.text.items n.told) }
+{
+    let mut named = Vec::new(alloc);
+    let mut told = Told::new(alloc);
+    let mut rest = text;
+    let mut number: u64 = 1;
+    while let Some((line, more)) = first_line(rest) {
+        push_line(alloc, number, line, &mut named, &mut told)?;
+        named.push(b'\n')?;
+        number = number.saturating_add(1);
+        rest = more;
+    }
+    push_line(alloc, number, rest, &mut named, &mut told)?;
+    Ok(Named { text: named, told })
+}

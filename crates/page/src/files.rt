@@ -1,0 +1,49 @@
+//! The files of a page.
+
+ghost use Rattle.std.specs.Prelude.{◌≡◌, IfOk, IfSome, MatchResult, None, Some, option_map};
+ghost use Rattle.page.specs.Files.{files_of};
+
+use host::{FileFault, ReadFiles};
+use std::alloc::Global;
+
+/// Three texts in memory, as the files `trace`, `world` and `events`.
+#[derive(Drop)]
+pub struct TextFiles<'a> {
+    pub alloc: Global,
+    pub trace: &'a [u8],
+    pub world: &'a [u8],
+    pub events: &'a [u8],
+}
+
+impl TextFiles<'_> {
+    /// What the file with this name holds; none where there is no such file.
+    fn text(&self, name: &str) -> Option<&[u8]>
+        ensures { option_map (λ text. text.now) result ≡ files_of self.now.trace.now self.now.world.now self.now.events.now name.now }
+    {
+        match name {
+            "trace" => Some(self.trace),
+            "world" => Some(self.world),
+            "events" => Some(self.events),
+            _ => None,
+        }
+    }
+}
+
+impl ReadFiles for TextFiles<'_> {
+    ghost contents = { λ files name. files_of files.trace.now files.world.now files.events.now name };
+
+    fn read_file(&self, name: &str) -> Result<Vec<u8>, FileFault>
+        ensures known { IfOk result (λ read. IfSome (files_of self.now.trace.now self.now.world.now self.now.events.now name.now) (λ text. read.items ≡ text)) }
+        ensures exact { MatchResult result
+            (λ read. files_of self.now.trace.now self.now.world.now self.now.events.now name.now ≡ Some read.items)
+            (λ fault. fault ≡ FileFault.Device → files_of self.now.trace.now self.now.world.now self.now.events.now name.now ≡ None) }
+    {
+        let Some(text) = self.text(name) else {
+            return Err(FileFault::Device);
+        };
+        match Vec::from_slice(self.alloc, text) {
+            Ok(bytes) => Ok(bytes),
+            Err(_) => Err(FileFault::Memory),
+        }
+    }
+}

@@ -1,0 +1,22 @@
+//! Nobody is at a terminal.
+
+use exploring::Progress;
+use showing::{Ask, AskFault};
+
+/// Is told nothing, and asks for nothing.
+#[derive(Drop)]
+pub struct Nobody;
+
+impl Progress for Nobody {
+    fn update(&mut self, _done: u64, _size: u64) {}
+}
+
+impl Ask for Nobody {
+    fn is_terminal(&self) -> bool {
+        false
+    }
+
+    fn ask(&mut self, _line: &mut String) -> Result<bool, AskFault> {
+        Ok(false)
+    }
+}
