@@ -3,7 +3,7 @@
 # Standard input is a list of refusals. Each is the program's message, the name of the file, the number of consoles, the
 # number of lines, and then twice the lines, of events the refused one alone: as the program read them, and as the user
 # wrote them, with names. The message tells the line and the reason; the word is looked for here, by the rules of
-# docs/FORMATS.md. Bytes of zero, which not each awk can read, are 1 here. What tools/names told of the text are the lines
+# docs/FORMATS.md. Bytes of zero, which not each awk can read, are 1 here. What `jobk names` told of the text are the lines
 # of the file TOLD.
 
 BEGIN {
@@ -221,7 +221,7 @@ function no_call(word,    what) {
 function too_many(mine,    what, word) {
     word = words[mine + 1]
     if ((what = oddity(word)) != "") return what
-    if (word in is_instruction || word ~ /^(step|tick|key|consoles|program|end)$/)
+    if (word in is_instruction || word ~ /^(step|tick|key|hangup|consoles|program|end)$/)
         return word " begins a line of its own"
     if (words[1] == "sys") return "a call has no operands: its arguments stand in registers, r1 first"
     if (words[1] ~ /^[a-z]/ && words[1] in is_three) return words[1] " has two operands, the first takes the result"
@@ -274,7 +274,7 @@ function judge_header(n,    name, low, high) {
 function no_header(word, name,    what) {
     if ((what = oddity(word)) != "") return what
     if (word == name ":") return name " has no colon"
-    if (name == "pidmax" && word ~ /^(step|tick|key|type)$/) return "these are events; the world is named first"
+    if (name == "pidmax" && word ~ /^(step|tick|key|type|hangup)$/) return "these are events; the world is named first"
     if (name == "pidmax" && word ~ /^[0-9]+$/ && words[2] ~ /^(note|call|handle|discard|stop|return|end|halt)$/)
         return "this is a trace; a world begins with pidmax"
     what = name == "pidmax" ? "a world begins with pidmax N, and then consoles N" : "behind pidmax N stands consoles N"
@@ -401,6 +401,7 @@ function judge_event_line(n,    word) {
     if (!size) return 0
     word = words[1]
     if (word == "key") return judge_keys()
+    if (word == "hangup") return judge_hangup()
     if (word != "step" && word != "tick") return refuse("unknown word", 1, no_event(word))
     if (size < 2) return refuse("unknown word", 2, "a number is missing, 1 to 1000000")
     if (!is_number(words[2])) return refuse("bad number", 2, no_number(words[2], "a number stands here, 1 to 1000000"))
@@ -410,20 +411,33 @@ function judge_event_line(n,    word) {
     return 0
 }
 
-function judge_keys(    i, word) {
-    word = words[2]
+function judge_keys(    i) {
     if (size < 2) return refuse("unknown word", 2, "the console is missing, and a byte: key 1 0A")
-    if (!is_number(word))
-        return refuse("bad number", 2, no_number(word, "the number of a console stands here: key 1 .."))
-    if (!within(word, 1, consoles)) return refuse("out of range", 2, no_console(word))
-    if (size < 3) return refuse("unknown word", 3, "a byte is missing: key " word " 0A")
+    if (judge_console("key 1 ..")) return 1
+    if (size < 3) return refuse("unknown word", 3, "a byte is missing: key " words[2] " 0A")
     for (i = 3; i <= size; i++) if (!is_byte(words[i])) return refuse("bad number", i, no_byte(words[i]))
+    return 0
+}
+
+function judge_hangup() {
+    if (size < 2) return refuse("unknown word", 2, "the console is missing: hangup 1")
+    if (judge_console("hangup 1")) return 1
+    if (size > 2) return refuse("unknown word", 3, is_number(words[3]) ? "a line hangs up one console" : too_many(2))
+    return 0
+}
+
+# the second word, of a line like `example`
+function judge_console(example,    word) {
+    word = words[2]
+    if (!is_number(word))
+        return refuse("bad number", 2, no_number(word, "the number of a console stands here: " example))
+    if (!within(word, 1, consoles)) return refuse("out of range", 2, no_console(word))
     return 0
 }
 
 function no_console(word) {
     if (consoles == 0) return "this world has no console; write consoles 1 into it"
-    if (is_byte(word) && word + 0 != 0) return "the console comes first: key 1 " word
+    if (words[1] == "key" && is_byte(word) && word + 0 != 0) return "the console comes first: key 1 " word
     return consoles == 1 ? "this world has one console, 1" : "the consoles of this world are 1 to " consoles
 }
 
@@ -443,13 +457,13 @@ function no_byte(word,    what) {
 function no_event(word,    what) {
     if ((what = oddity(word)) != "") return what
     if (word == "pidmax") return "this is a world; the events are named second"
-    if (tolower(word) ~ /^(step|tick|key)$/) return "small letters: " tolower(word)
+    if (tolower(word) ~ /^(step|tick|key|hangup)$/) return "small letters: " tolower(word)
     if (word ~ /^(step|tick)[=:][0-9]+$/) return "a blank stands between: " substr(word, 1, 4) " " substr(word, 6)
     if (word in is_call) return "no event calls " word "; programs do"
-    what = "a line begins with step, tick or key"
+    what = "a line begins with step, tick, key or hangup"
     if (is_byte(word)) return what "; bytes stand behind key and a console"
     if (word ~ /^(run|steps)$/) return what "; did you mean step?"
-    return what meant(nearest(word, "step tick key type"))
+    return what meant(nearest(word, "step tick key type hangup"))
 }
 
 # A world from its top on, to the first line that is refused by itself: it, or 0.

@@ -1,4 +1,4 @@
-# What tools/names and tools/jobk know of words: the names in numbers.txt, and which of several words is nearest to one.
+# What tools/jobk knows of words: the names in numbers.txt, and which of several words is nearest to one.
 
 # reads the names and their numbers: false, with a message, where that fails
 function read_numbers(program,    line, word, got) {

@@ -21,7 +21,8 @@ EXAMPLES = os.path.join(TOP, 'examples', 'c')
 # Files in examples/c that others run by execl.
 PROGRAMS = {'cat', 'reader', 'tool'}
 RUNS, WORKERS = 20, 8
-SEED, MOMENTS, MOMENTARY, ENDS = 1, 200, ['tick 1', 'key 1 1A', 'key 1 03'], ['key 1 04', 'step 5000']
+SEED, MOMENTS, ENDS = 1, 200, ['key 1 04', 'step 5000']
+MOMENTARY = ['tick 1', 'key 1 1A', 'key 1 03', 'hangup 1']
 
 
 def read(*path):
@@ -129,7 +130,7 @@ def tools(program):
 
 
 def shell_at_any_moment(program):
-    """The shell, with ticks, ^Z and ^C at any moment: it ends once an end of file was typed often enough."""
+    """The shell, with ticks, ^Z, ^C and hangups at any moment: it ends once an end of file was typed often enough."""
     path, failures = os.path.join(EXAMPLES, 'shell.c'), []
     text, events = world_of(path), events_beside(path) + ENDS * 8
     chance = random.Random(SEED)

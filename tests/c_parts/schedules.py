@@ -36,7 +36,7 @@ def with_events(events, put_in):
     made, number, left = [], 1, list(put_in)
     for event in events:
         word, *rest = event.split()
-        count = int(rest[0]) if word in ('step', 'tick') else len(rest) - 1
+        count = int(rest[0]) if word in ('step', 'tick') else max(len(rest) - 1, 1)      # a hangup is one
         while left and left[0][0] < number + count:
             place, other = left.pop(0)
             before = place - number if word == 'step' else 0

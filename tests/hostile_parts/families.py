@@ -1,5 +1,6 @@
-"""Random worlds of deep families, with child subreapers, process groups, sessions and stops, beside the plain machine
-of tools/linux/machine.py; and their traces, damaged, beside the plain check of traces."""
+"""Random worlds of deep families, with child subreapers, process groups, sessions and stops, and such with a terminal
+that hangs up, beside the plain machine of tools/linux/machine.py; and traces of families, damaged, beside the plain check
+of traces."""
 
 import os
 import random
@@ -99,6 +100,26 @@ class Maker:
         return '\n'.join([*lines, ''])
 
 
+class Jobs(Maker):
+    """Makes a world with more of groups, stops and reads, and with hangups."""
+
+    def lines_of(self, block):
+        return self.one(super().lines_of(block), super().lines_of(block), self.call('read', 0, self.one(4, 4, 0)),
+                        self.group(), self.call('setpgid', 0, self.one(1, self.process())),
+                        self.call('tcsetpgrp', self.process()), self.call('kill', self.process(), self.one(18, 19)),
+                        ['sys sched_yield'], ['sys setsid', *self.call('setctty', 1)],
+                        self.one(self.call('write', 0, self.one(2, 0)), self.call('settostop', self.one(1, 1, 0))),
+                        self.call('waitpid', self.one(-1, 0, -self.process(), self.process()), self.one(8, 10)))
+
+    def world(self):
+        first = 'program init\n'
+        return super().world().replace(first, first + self.one('', 'set r1, 1\nsys setctty\n'))
+
+    def events(self):
+        more = [''] * 6 + ['\nkey 1 61 0A'] * 2 + ['\nhangup 1']
+        return ''.join(line + self.one(*more) + '\n' for line in super().events().splitlines())
+
+
 def trace(world, events):
     """What the plain machine shows."""
     plain, lines = machine.Machine(texts.World(world)), []
@@ -107,11 +128,12 @@ def trace(world, events):
     return '\n'.join([*lines, '']) if lines else ''
 
 
-def judge_run(seed):
-    maker = Maker(seed)
+def judge_run(item):
+    what, kind, seed = item
+    maker = kind(seed)
     world, events = maker.world(), maker.events()
     wanted = runs.Answer(0, trace(world, events).encode(), b'')
-    return runs.difference(f'family {seed}', wanted, runs.answer('run', world.encode(), events.encode()))
+    return runs.difference(f'{what} {seed}', wanted, runs.answer('run', world.encode(), events.encode()))
 
 
 def damaged(seed):
@@ -158,5 +180,6 @@ def judge_audit(seed):
 
 
 def check(checks):
-    checks.judge_each('random families', judge_run, range(WORLDS))
+    for what, kind in ('family', Maker), ('terminal', Jobs):
+        checks.judge_each(f'random worlds of a {what}', judge_run, [(what, kind, seed) for seed in range(WORLDS)])
     checks.judge_each('damaged traces of families', judge_audit, range(WORLDS, WORLDS + TRACES))

@@ -198,6 +198,10 @@ def take_events(words, consoles, count):
             count = number_in(b'%d' % (count + 1), 1, 10**12)
             if not words.words:
                 break
+    elif first == b'hangup':
+        words.number(1, consoles)
+        count = number_in(b'%d' % (count + 1), 1, 10**12)
+        words.end()
     else:
         raise Refused('unknown word')
     return count

@@ -1,5 +1,5 @@
 """The trace of a small world by plain rules. The world has one program, of `set`, `note`, jumps and `sys exit`, and
-plain_reader accepts it. One process has all turns, and it has no terminal, so ticks and keys show nothing.
+plain_reader accepts it. One process has all turns, and it has no terminal, so ticks, keys and hangups show nothing.
 """
 
 from hostile_parts.plain_reader import Words, lines_of
@@ -22,10 +22,11 @@ def instructions(world):
 
 
 def kinds(events):
-    """The kind of each event."""
+    """The kind of each event. A hangup is one event, and its words tell a console."""
     for words in (Words(line).words for line in lines_of(events)):
         if words:
-            yield from words[:1] * (len(words) - 2 if words[0] == b'key' else int(words[1]))
+            count = {b'key': len(words) - 2, b'hangup': 1}.get(words[0])
+            yield from words[:1] * (int(words[1]) if count is None else count)
 
 
 def value_of(word, labels):

@@ -33,12 +33,17 @@ FAULTS = (
     (PLAIN, b'step 1 2\n', b'jobk: events: line 1: unknown word\n'),
     (PLAIN, b'key 1 4\n', b'jobk: events: line 1: bad number\n'),
     (PLAIN, b'key 2 41\n', b'jobk: events: line 1: out of range\n'),
+    (PLAIN, b'hangup\n', b'jobk: events: line 1: unknown word\n'),
+    (PLAIN, b'step 1\nhangup 0\n', b'jobk: events: line 2: out of range\n'),
+    (PLAIN, b'hangup 2\n', b'jobk: events: line 1: out of range\n'),
+    (PLAIN, b'hangup 1 2\n', b'jobk: events: line 1: unknown word\n'),
+    (PLAIN, b'hangup x\n', b'jobk: events: line 1: bad number\n'),
     (PLAIN, b'#' * 201 + b'\n', b'jobk: events: line 1: line too long\n'))
 
 # Texts of which each byte is changed.
 WORLD = (b'pidmax 40\nconsoles 1\nprogram a setuid 7\nb:\nc:\nset r1, @b # c\nnote r1\njz r0, d\njmp b\nd:\n'
          b'sys exit\nend\n')
-EVENTS = b'step 9\nkey 1 0A 7f\ntick 2 # t\n'
+EVENTS = b'step 9\nkey 1 0A 7f\nhangup 1\ntick 2 # t\n'
 
 
 def case(name):

@@ -30,7 +30,9 @@
 /* Replay knows these numbers, and the layout of a page. */
 enum { PAGE = 4096, REPORTS = 40 };
 #define BASE ((char *)0x100000000000)
-enum order { CALL = 1, TERMINAL_CALL, RETURN, FAULT };  /* of TERMINAL_CALL the first argument becomes /dev/tty */
+/* The first argument becomes a descriptor: of TERMINAL_CALL that of /dev/tty, of OPENED_CALL that of a file named in
+ * `data`. */
+enum order { CALL = 1, TERMINAL_CALL, RETURN, FAULT, OPENED_CALL };
 enum report { RESULT = 1, RESTART, HANDLER, BEGUN };
 
 struct page {
@@ -110,11 +112,11 @@ static void take_page(void)
         _exit(98);
 }
 
-static void terminal_call(void)
+static void call_on_file(const char *name)
 {
     int64_t arguments[7];
     memcpy(arguments, page->arguments, sizeof arguments);
-    int file = open("/dev/tty", O_RDWR | O_NOCTTY);
+    int file = open(name, O_RDWR | O_NOCTTY);
     if (file < 0) {
         tell(RESULT, -6, 0, 0);
         return;
@@ -137,8 +139,8 @@ static void serve(void)
             return;
         if (page->order == FAULT) {
             make_fault(page->arguments[0]);
-        } else if (page->order == TERMINAL_CALL) {
-            terminal_call();
+        } else if (page->order == TERMINAL_CALL || page->order == OPENED_CALL) {
+            call_on_file(page->order == TERMINAL_CALL ? "/dev/tty" : page->data);
         } else {
             int64_t arguments[7];
             memcpy(arguments, page->arguments, sizeof arguments);

@@ -2,8 +2,10 @@
 
 The program is the first process of a pid namespace and leads a session, as process 1 of a world does, so processes have
 the same numbers. Its files 0 and 1 are a pseudoterminal, which it may take by setctty, and 2 is a pipe for its notes.
-`step` of the events waits until all processes sleep, are stopped or have ended, `tick` some seconds, `key` types.
+`step` of the events waits until all processes sleep, are stopped or have ended, `tick` some seconds, `key` types, and
+`hangup` closes the other side of the terminal, for good.
 """
+import fcntl
 import os
 import re
 import select
@@ -78,15 +80,14 @@ class Run:
     """A program that runs."""
 
     def __init__(self, path):
-        self.master, slave = os.openpty()
-        modes = termios.tcgetattr(slave)
+        self.master, self.slave = os.openpty()
+        modes = termios.tcgetattr(self.slave)
         modes[3] &= ~termios.ECHO
-        termios.tcsetattr(slave, termios.TCSANOW, modes)
+        termios.tcsetattr(self.slave, termios.TCSANOW, modes)
         self.notes, write_end = os.pipe()
         self.process = subprocess.Popen(
             ['unshare', '--pid', '--fork', '--kill-child', 'setsid', os.path.abspath(path)], cwd=os.path.dirname(path),
-            stdin=slave, stdout=slave, stderr=write_end)
-        os.close(slave)
+            stdin=self.slave, stdout=self.slave, stderr=write_end)
         os.close(write_end)
         self.ends = time.monotonic() + LONGEST
 
@@ -94,11 +95,20 @@ class Run:
         return [state(process) for process in children(str(self.process.pid))]
 
     def type_keys(self, keys):
-        """Types keys, and waits until a process notices: the kernel hands them on as it finds time."""
+        """Types keys, and waits until a process notices. They are put into the terminal at once, where the machine lets
+        one: what is written at its other side the kernel hands on as it finds time."""
         before, until = self.states(), time.monotonic() + NOTICED
-        os.write(self.master, keys)
+        try:
+            for key in keys:
+                fcntl.ioctl(self.slave, termios.TIOCSTI, bytes([key]))
+        except OSError:
+            os.write(self.master, keys)
         while self.states() == before and self.process.poll() is None and time.monotonic() < until:
             time.sleep(POLL)
+
+    def hang_up(self):
+        os.close(self.master)
+        self.master = None
 
     def wait_for_calm(self, calm=CALM):
         """Waits until nothing acts, or the program has ended."""
@@ -115,8 +125,8 @@ class Run:
         if word == 'tick':
             time.sleep(int(rest[0]) * 1.05)
         self.wait_for_calm()
-        if word == 'key' and self.process.poll() is None:
-            self.type_keys(bytes(int(byte, 16) for byte in rest[1:]))
+        if word in ('key', 'hangup') and self.master is not None and self.process.poll() is None:
+            self.type_keys(bytes(int(byte, 16) for byte in rest[1:])) if word == 'key' else self.hang_up()
             self.wait_for_calm()
 
     def finish(self):
@@ -133,7 +143,9 @@ class Run:
                 break
             text += part
         os.close(self.notes)
-        os.close(self.master)
+        os.close(self.slave)
+        if self.master is not None:
+            self.hang_up()
         return text.decode('ascii', 'replace'), status
 
 

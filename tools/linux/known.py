@@ -3,18 +3,20 @@ what has happened so far is followed from event to event, in the states of the p
 """
 
 import machine as rules
-from machine import CONT, CONTINUED, CONTINUED_WORD, EXITED, KILL, STOPPED, STOPS, bit
+from machine import CONT, CONTINUED, CONTINUED_WORD, EXITED, HUP, KILL, STOPPED, STOPS, bit
 
 IDS = {'setuid': 105, 'setgid': 106, 'seteuid': 117, 'setegid': 119}
 SENDS = 'kill', 'sigqueue'
 WAITS = 'waitpid', 'waitid'
 TERMINAL = ('tcgetpgrp', 'tcsetpgrp', 'settostop', 'read', 'write')
+REFUSED_AFTER_A_HANGUP = {'tcgetpgrp': '-5', 'settostop': '-5', 'tcsetpgrp': '-25'}
 FAULTS = 4, 5, 7, 8, 11, 31
 WITH_A_CORE = 3, 4, 5, 6, 7, 8, 11, 24, 25, 31
 # Headings where the result of a call differs, and nothing else comes of it.
 RESULTS_ALONE = {'a-bad-signal-for-nobody', 'kill-of-all-with-none-permitted', 'setctty-again', 'tcsetpgrp-of-no-group',
                  'tcsetpgrp-in-an-orphaned-group', 'tcgetpgrp-without-a-foreground', 'setpgid-of-a-negative-process',
-                 'waitpid-of-the-least-number', 'waitid-and-a-zombie-alone', 'seteuid-of-the-present-id'}
+                 'waitpid-of-the-least-number', 'waitid-and-a-zombie-alone', 'seteuid-of-the-present-id',
+                 'terminal-calls-after-a-hangup'}
 # Headings behind which the states can agree again, and all that is hidden in them, too.
 PASSING = {'a-foreground-group-made-again', 'tcsetpgrp-of-a-process', 'a-blocked-signal-of-process-1',
            'cont-pending-in-process-1', 'kill-of-a-stopped-process', 'notice-of-a-continue',
@@ -51,6 +53,7 @@ class Known:
         self.run, self.machine = run, run.machine
         self.lost = [0] * run.world.consoles    # of each console the foreground group that has lost its last member
         self.without = set()                    # who has no terminal in Linux, as the leader took it later
+        self.hung_up = {}                       # by the leader of a session the foreground as its terminal hung up
         self.born = [1]                         # all processes, the children of each in the order in which they came
         # The events in which a process changed its group, a child of a process did, and a child came to its parent.
         self.moved, self.child_moved, self.came = {}, {}, {}
@@ -74,6 +77,10 @@ class Known:
         if number in self.continued:
             self.continued.discard(number)
             self.told.add(number)
+
+    def note_hangup(self, console):
+        """The terminal of a session hangs up."""
+        self.hung_up[console.session] = console.foreground
 
     def look_before(self):
         """Before an event."""
@@ -111,7 +118,7 @@ class Known:
         self.born.append(q.number)
         for followed in self.without, self.stopped_in_call, self.continued, self.told:
             followed.discard(q.number)
-        for followed in self.moved, self.child_moved, self.came, self.begun, self.dying:
+        for followed in self.moved, self.child_moved, self.came, self.begun, self.dying, self.hung_up:
             followed.pop(q.number, None)
         if q.parent in self.without:
             self.without.add(q.number)
@@ -177,10 +184,16 @@ class Known:
             return 'unknown-flags' if r4 & ~rules.FLAGS and r1 in rules.SIGNALS else None
         if name == 'setpgid' and pair == ('-3', '-22') and r1 < 0 and r2 == 0:
             return 'setpgid-of-a-negative-process'
-        if name == 'setctty' and pair == ('-1', '0'):
-            p, console = self.run.p, self.machine.consoles[r1 - 1]
-            return 'setctty-again' if console is self.machine.console_of(p) and p.session == p.number else None
-        return None
+        return self.of_setctty(pair, r1) if name == 'setctty' else None
+
+    def of_setctty(self, pair, r1):
+        p, own = self.run.p, self.machine.console_of(self.run.p)
+        if pair != ('-1', '0') or p.session != p.number:
+            return None
+        console = self.machine.consoles[r1 - 1]
+        if console.is_hung_up or own and own.is_hung_up:
+            return 'setctty-after-a-hangup'
+        return 'setctty-again' if console is own else None
 
     def of_send(self, name, pair, r1, r2):
         p, others = self.run.p, [q for q in self.machine.rising() if q.number != 1]
@@ -272,6 +285,8 @@ class Known:
         console = machine.console_of(p)
         if there == '-6':
             return 'children-born-before-setctty' if console and p.number in self.without else None
+        if console and console.is_hung_up and there == REFUSED_AFTER_A_HANGUP.get(name):
+            return 'terminal-calls-after-a-hangup'
         if pair == ('begins again', '-4') and self.run.kind == 'call':
             is_caught = any(number in p.standard and interrupts(p, number) for number in (rules.TTIN, rules.TTOU))
             return 'ttin-or-ttou-caught' if is_caught else None
@@ -320,6 +335,8 @@ class Known:
             return 'a-stopped-waiter-that-is-ended' if run.p.number in self.stopped_in_call else None
         if not q:
             return None
+        if self.is_told_of_hangup(what, q, here, there):
+            return 'hup-and-cont-of-a-hangup'
         call, registers = (run.was_in, run.registers) if q is run.p else (q.call, q.r)
         if call == 'waitid' and there == '-10' and self.has_ends_alone(q, *registers[1:4]):
             return 'waitid-and-a-zombie-alone'
@@ -338,6 +355,20 @@ class Known:
         if not signals or is_of_another or what == 'status' and int(there) not in signals:
             return None
         return 'a-fatal-signal-that-comes-first'
+
+    def is_told_of_hangup(self, what, q, here, there):
+        """Whether Linux sends q a CONT, too: the leader at a hangup, and at its end what was the foreground then, which
+        may be another one here."""
+        p, run = self.run.p, self.run
+        is_end = p and p.number in self.hung_up and ['end', str(p.number)] in [words[:2] for words in run.lines]
+        is_now = is_end and (p.number, q.group) in self.foregrounds
+        is_told = q.group == self.hung_up[p.number] if is_end else run.kind == 'hangup' and q.number in self.hung_up
+        if what != 'pending':
+            return what == 'life' and is_told and here == 'stopped'
+        here, there = ({*map(int, text.split())} if text != 'none' else set() for text in (here, there))
+        may_lack = {CONT, *([HUP] if is_end and not is_now else [])} if is_told else set()
+        may_have = {*STOPS} if is_told else {HUP} if is_now else set()
+        return there - here <= may_lack and here - there <= may_have
 
     def is_orphaned_twice(self, what, q, here, there):
         """Whether a zombie of q's group, which was orphaned before, was a child of the process that ends."""

@@ -105,6 +105,7 @@ class Process:
 class Console:
     def __init__(self):
         self.session, self.foreground, self.lines, self.edited, self.tostop = 0, 0, [], b'', False
+        self.is_hung_up = False                             # until it is somebody's again
         self.has_dropped = False                            # a byte or a line had no room
 
     def finish(self, line):
@@ -185,6 +186,8 @@ class Machine:
                 self.tick()
             elif event[0] == 'key':
                 self.key(*event[1:])
+            elif event[0] == 'hangup':
+                self.hangup(*event[1:])
             if not self.halted:
                 self.settle()
         return self.lines
@@ -224,9 +227,20 @@ class Machine:
 
     def key(self, number, byte):
         console = self.consoles[number - 1]
+        if console.is_hung_up:
+            return
         console.key(byte)
         if byte in KEYS and console.foreground:
             self.generate_all(self.members(console.foreground), KEYS[byte])
+
+    def hangup(self, number):
+        console = self.consoles[number - 1]
+        if console.is_hung_up:
+            return
+        console.lines, console.edited = [], b''
+        if console.session:
+            console.is_hung_up = True
+            self.generate(self.processes[console.session], HUP, 0, 0)
 
     # ---- a step
 
@@ -688,6 +702,7 @@ class Machine:
         if p.session != p.number or self.console_of(p) or console.session:
             return -EPERM
         console.session, console.foreground = p.session, p.group
+        console.is_hung_up = False
         return 0
 
     def tcgetpgrp(self, p):
@@ -737,6 +752,8 @@ class Machine:
             return 'refused', -ENOTTY
         if self.span_fault(p):
             return 'refused', self.span_fault(p)
+        if console.is_hung_up:
+            return 'refused', 0
         if p.group != console.foreground:
             return ('refused', -EIO) if p.blocks_or_ignores(TTIN) or self.is_orphaned(p.group) else (AGAIN,)
         if p.r[2] == 0:
@@ -760,7 +777,7 @@ class Machine:
         console = self.console_of(p)
         if not console:
             return -ENOTTY
-        refusal = self.span_fault(p) or console.tostop and self.refusal(p, console)
+        refusal = self.span_fault(p) or -EIO * console.is_hung_up or console.tostop and self.refusal(p, console)
         return refusal or bytes(word % 256 for word in p.memory[p.r[1]:p.r[1] + p.r[2]])
 
 

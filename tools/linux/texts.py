@@ -37,11 +37,13 @@ class World:
 
 
 def read_events(text):
-    """The events of a text: ('step',), ('tick',) and ('key', console, byte)."""
+    """The events of a text: ('step',), ('tick',), ('key', console, byte) and ('hangup', console)."""
     for line in text.split('\n'):
         words = line.split('#')[0].replace(',', ' ').split()
         if words[:1] == ['key']:
             yield from (('key', int(words[1]), int(byte, 16)) for byte in words[2:])
+        elif words[:1] == ['hangup']:
+            yield 'hangup', int(words[1])
         elif words:
             for _ in range(int(words[1])):
                 yield words[0],
